@@ -1,0 +1,5 @@
+pub mod Fault
+pub mod MemShelf
+pub mod MemSink
+pub mod Shelf
+pub mod Sink
