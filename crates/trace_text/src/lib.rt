@@ -1,0 +1,5 @@
+//! The text of a run: the lines of a stop and of the registers, and the writer that puts each line into a sink.
+#![tactic(auto)]
+
+pub mod line;
+pub mod writer;

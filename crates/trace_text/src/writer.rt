@@ -1,0 +1,38 @@
+//! Whole lines into a sink.
+
+ghost use Rattle.std.specs.Prelude.{◌≡◌, ◌≤◌, OnOk, OnErr};
+ghost use Rattle.rp_ports.specs.Sink.{Appends};
+ghost use Rattle.rp_ports.specs.Fault.{Rose};
+ghost use Rattle.trace_text.specs.Sent.{AppendsPart};
+
+use rp_ports::sink::{Put, Sink};
+
+/// The sink failed; its count of faults rose.
+#[derive(Clone, Copy, Debug, PartialEq, Eq)]
+pub struct SinkFault;
+
+/// Writes whole lines into a sink.
+#[derive(Drop)]
+pub struct Writer<'a, O: Sink> {
+    /// The sink.
+    pub out: &'a mut O,
+}
+
+impl<'a, O: Sink> Writer<'a, O> {
+    /// Puts one piece, and what is left of it again where fewer bytes were taken.
+    pub fn line(&mut self, bytes: &[u8]) -> Result<(), SinkFault>
+        ensures ok { OnOk result (Appends (O.written self.old.out.now) (O.written self.new.out.now) bytes.now) }
+        ensures err { OnErr result (AppendsPart (O.written self.old.out.now) (O.written self.new.out.now) bytes.now) }
+        ensures cause { OnErr result (Rose (O.faults self.old.out.now) (O.faults self.new.out.now)) }
+        ensures count { O.faults self.old.out.now ≤ O.faults self.new.out.now }
+    {
+        let mut done = 0;
+        while done < bytes.len() {
+            match self.out.put(&bytes[done..]) {
+                Put::Took(n) => done += n,
+                Put::Failed => return Err(SinkFault),
+            }
+        }
+        Ok(())
+    }
+}
