@@ -1,6 +1,7 @@
 //! The types that the whole emulator shares: instructions, bus requests and the causes of a stop.
 #![tactic(auto)]
 
+pub mod map;
 pub mod op;
 
 /// The size of a bus access.
