@@ -1,6 +1,6 @@
 -- The address map of the RP2040 as one table of ranges (RP2040 Datasheet, 2.2 "Address Map" and 2.6.2 "SRAM"; the
 -- register blocks of the APB and AHB-Lite buses with their atomic aliases: 2.1.2 "Atomic Register Access").
-use Rattle.std.specs.Prelude.{ℕ, List, [], ◌∷◌, Option, Some, None, ◌+◌, ◌-◌, ◌*◌, ◌/◌, ◌%◌, nat_le, ◌&&◌, if◌then◌else◌}
+use Rattle.std.specs.Prelude.{ℕ, List, [], ◌∷◌, Option, Some, None, ◌+◌, ◌-◌, ◌*◌, ◌/◌, ◌%◌, ◌<◌, nat_le, ◌&&◌, if◌then◌else◌}
 use Rattle.rp_base.specs.declared.map.Spot.{Spot}
 use Rattle.rp_base.specs.declared.map.Spot.TheVariants.{Ram, Reg, Sio, Ppb, Outside}
 use Rattle.rp_base.specs.declared.map.Block.{Block}
@@ -65,6 +65,14 @@ place_by (r ∷ rs) address = if nat_le r.first address && nat_le address r.last
 -- the place of an address
 unfoldable pub place_of : ℕ → Spot
 place_of address = place_by ranges address
+
+-- the numbers of a place lie in the part of the machine that it names
+abbrev pub IsWithin : Spot → Type 0
+IsWithin (Ram index bank) = (index < 67584) × (bank < 6)
+IsWithin (Reg block offset alias) = (offset < 0x1000) × (alias < 4)
+IsWithin (Sio offset) = offset < 0x180
+IsWithin (Ppb offset) = offset < 0x1000
+IsWithin Outside = Unit {0}
 
 -- the port that a place is reached through: 0 to 5 for the banks of SRAM, 6 for APB, 7 for AHB-Lite
 -- (RP2040 Datasheet, 2.1 "Bus Fabric"); SIO and a core's private bus have none

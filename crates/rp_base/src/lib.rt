@@ -3,6 +3,8 @@
 
 pub mod map;
 pub mod op;
+#[cfg(test)]
+mod tests;
 
 /// The size of a bus access.
 #[derive(Clone, Copy, Debug, PartialEq, Eq)]

@@ -2,7 +2,7 @@
 #![tactic(auto)]
 
 ghost use Rattle.std.specs.Prelude.{◌≡◌, ◌/◌, ◌%◌, ◌<◌, ◌≤◌};
-ghost use Rattle.rp_base.specs.AddressMap.{place_of, port_of, registers};
+ghost use Rattle.rp_base.specs.AddressMap.{IsWithin, place_of, port_of, registers};
 
 /// A block of registers on the APB or the AHB-Lite bus.
 #[derive(Clone, Copy, Debug, PartialEq, Eq)]
@@ -65,7 +65,8 @@ pub enum Spot {
 /// The place that an address names; its two low bits do not matter.
 #[tactic(auto, unfolding(crate::specs::AddressMap::place_of))]
 pub fn place(address: u32) -> Spot
-    ensures { result ≡ place_of address }
+    ensures value { result ≡ place_of address }
+    ensures within { IsWithin result }
 {
     match address / 0x1000_0000 {
         2 => ram(address),
@@ -84,7 +85,8 @@ pub fn place(address: u32) -> Spot
 #[tactic(auto, unfolding(crate::specs::AddressMap::place_of))]
 fn ram(address: u32) -> Spot
     requires { address / 0x10000000 ≡ 2 }
-    ensures { result ≡ place_of address }
+    ensures value { result ≡ place_of address }
+    ensures within { IsWithin result }
 {
     let word = (address - 0x2000_0000) / 4;
     if word < 0x1_0000 {
@@ -118,7 +120,8 @@ fn ram(address: u32) -> Spot
 fn register(address: u32) -> Spot
     requires low { 0x40000000 ≤ address }
     requires high { address < 0x60000000 }
-    ensures { result ≡ place_of address }
+    ensures value { result ≡ place_of address }
+    ensures within { IsWithin result }
 {
     match address / 0x4000 {
         0x1_0003 => view(Block::Resets, address),
@@ -137,7 +140,8 @@ fn register(address: u32) -> Spot
 
 /// The word of a block that an address names, where the block's views begin at a multiple of 16 KiB.
 fn view(block: Block, address: u32) -> Spot
-    ensures { result ≡ registers block (address % 0x4000) }
+    ensures value { result ≡ registers block (address % 0x4000) }
+    ensures within { IsWithin result }
 {
     Spot::Reg {
         block,
