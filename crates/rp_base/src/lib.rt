@@ -1,7 +1,10 @@
 //! The types that the whole emulator shares: instructions, bus requests and the causes of a stop.
 #![tactic(auto)]
 
+pub mod map;
 pub mod op;
+#[cfg(test)]
+mod tests;
 
 /// The size of a bus access.
 #[derive(Clone, Copy, Debug, PartialEq, Eq)]

@@ -6,7 +6,7 @@
 
 /// One decoded instruction. Register fields are `d` (destination), `n` and `m` (operands) and `t` (transferred);
 /// `i` is the immediate number as encoded, `l` a register list, bit k for Rk.
-#[derive(Clone, Copy, Debug, PartialEq, Eq)]
+#[derive(Clone, Copy, PartialEq, Eq)]
 pub enum Op {
     /// LSLS Rd, Rm, #i; `i` is 0 to 31, and 0 is MOVS Rd, Rm.
     LslImm { i: u8, m: u8, d: u8 },
