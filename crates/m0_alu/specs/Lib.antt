@@ -1,0 +1,5 @@
+pub mod Extend
+pub mod Product
+pub mod Shift
+pub mod Sum
+pub mod Word

@@ -1,0 +1,6 @@
+pub mod Beats
+pub mod Conditions
+pub mod Effects
+pub mod Registers
+pub mod Rows
+pub mod Special

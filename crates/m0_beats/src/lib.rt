@@ -1,0 +1,12 @@
+//! What each ARMv6-M instruction does: the beats that it takes and the accesses that it makes, and what it leaves in the
+//! registers and flags. Each function is defined in `specs/`, row by row of the manual's encodings.
+#![tactic(auto)]
+
+pub mod effects;
+pub mod registers;
+pub mod rows;
+pub mod timing;
+
+pub use effects::effect;
+pub use registers::Regs;
+pub use timing::{Beat, beats};
