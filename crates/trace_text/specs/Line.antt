@@ -36,7 +36,11 @@ cause_words (Unbuilt master) = codes "unbuilt " ++ master_name master
 unfoldable pub stop_text : Why → ℕ → List ℕ
 stop_text why cycle = codes "stop " ++ cause_words why ++ codes " " ++ decimal cycle ++ codes "\n"
 
+-- a word after a space
+abbrev pub spaced_word : ℕ → List ℕ
+spaced_word w = 32 ∷ hex_word w
+
 -- the line of a core's registers, R0 to R12, SP, LR, PC and xPSR; a core that sleeps has none
 unfoldable pub register_text : ℕ → Option (List ℕ) → List ℕ
 register_text core None = core_name core ++ codes " asleep\n"
-register_text core (Some words) = core_name core ++ flat_map (λ w. 32 ∷ hex_word w) words ++ codes "\n"
+register_text core (Some words) = core_name core ++ flat_map spaced_word words ++ codes "\n"

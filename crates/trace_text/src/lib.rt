@@ -2,4 +2,6 @@
 #![tactic(auto)]
 
 pub mod line;
+#[cfg(test)]
+mod tests;
 pub mod writer;
