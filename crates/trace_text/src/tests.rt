@@ -29,7 +29,7 @@ fn each_stop_has_its_line(rt: HostRuntime) {
 fn registers_are_a_line(rt: HostRuntime) {
     let mut out = ArrayVec::<u8, 192>::new();
     register_line(1, None, &mut out);
-    assert!(rt; out.as_slice() == b"core1 asleep\n");
+    assert!(rt; out.as_slice() == b"core1 asleep\n".as_slice());
     let mut words = [0; 17];
     words[13] = 0x2004_2000;
     words[14] = 0xffff_ffff;
@@ -37,6 +37,6 @@ fn registers_are_a_line(rt: HostRuntime) {
     register_line(0, Some(words), &mut out);
     assert!(rt;
         out.as_slice()
-            == b"core0 00000000 00000000 00000000 00000000 00000000 00000000 00000000 00000000 00000000 00000000 00000000 00000000 00000000 20042000 ffffffff 00000000 00000000\n"
+            == b"core0 00000000 00000000 00000000 00000000 00000000 00000000 00000000 00000000 00000000 00000000 00000000 00000000 00000000 20042000 ffffffff 00000000 00000000\n".as_slice()
     );
 }

@@ -1,4 +1,4 @@
-use Rattle.std.proofs.Common.{arith, length, ◌≤◌, ◌+◌, drop, length-drop}
+use Rattle.std.proofs.Common.{arith, length, ◌≤◌, ◌+◌, length-drop}
 use Rattle.std.proofs.lemmas.List.{take_rest}
 use Rattle.rp_ports.proofs.Pieces.{appends_on}
 use Rattle.trace_text.proofs.writer.Writer.line.Goals as goal
