@@ -22,7 +22,7 @@ fn hex_digit_of(digit: u32) -> u8
 
 /// Appends a word as eight digits.
 #[tactic(auto, unfolding(crate::specs::Line::hex_word))]
-fn push_word<const N: usize>(word: u32, out: &mut ArrayVec<u8, N>)
+pub fn push_word<const N: usize>(word: u32, out: &mut ArrayVec<u8, N>)
     requires { array_vec_len out.old + 8 ≤ N }
     ensures digits { out.new.items ≡ out.old.items ++ hex_word word }
     ensures eight { length (hex_word word) ≡ 8 }
@@ -38,7 +38,7 @@ fn push_word<const N: usize>(word: u32, out: &mut ArrayVec<u8, N>)
 }
 
 /// Appends a text that fits.
-fn push_text<const N: usize>(text: &[u8], out: &mut ArrayVec<u8, N>)
+pub fn push_text<const N: usize>(text: &[u8], out: &mut ArrayVec<u8, N>)
     requires { array_vec_len out.old + length text.now ≤ N }
     ensures { out.new.items ≡ out.old.items ++ text.now }
 {
@@ -46,7 +46,7 @@ fn push_text<const N: usize>(text: &[u8], out: &mut ArrayVec<u8, N>)
 }
 
 /// Appends a number in decimal digits, at most 20.
-fn push_number<const N: usize>(number: u64, out: &mut ArrayVec<u8, N>)
+pub fn push_number<const N: usize>(number: u64, out: &mut ArrayVec<u8, N>)
     requires { array_vec_len out.old + 20 ≤ N }
     ensures text { out.new.items ≡ out.old.items ++ decimal number }
     ensures short { length (decimal number) ≤ 20 }

@@ -1,0 +1,57 @@
+-- Dialogues and their endings.
+use Rattle.std.proofs.Common.{◌≡◌, ◌⊎◌, ℕ, ◌+◌, ◌≤◌, List, [], ◌∷◌, ◌++◌, Option, Some, None, Result, Ok, Err, refl, sym, ap, inl, inr, ◌∙◌, subst, arith}
+use Rattle.std.proofs.Common.{Vec, Global}
+use Rattle.rp_ports.specs.Shelf.{Files}
+use Rattle.uf2_image.specs.Uf2.{image_of}
+use Rattle.uf2_image.specs.declared.parts.Image.{Image as Loaded}
+use Rattle.pico_top.specs.declared.open.Opened.{Opened}
+use Rattle.pico_top.specs.declared.open.Refusal.{Refusal}
+use Rattle.pico_top.specs.declared.open.Refusal.TheVariants.{Words, File, Large, Image, Memory}
+use Rattle.pico_top.specs.Words.{Run, reading}
+use Rattle.pico_top.specs.Machine.{State, start}
+use Rattle.pico_top.specs.RunText.{run_text}
+use Rattle.pico_top.specs.Refusals.{file_line, large_line}
+use Rattle.pico_top.specs.Opening.{OpensAs, LoadsAs, StartsAs}
+use Rattle.pico_top.specs.Dialogue.{dialogue, run_image}
+use Rattle.pico_top.specs.Dialogue.{Dialogue, Ending, Gave, LeadsTo, MayGive, failed_by}
+use Rattle.pico_top.specs.Dialogue.Dialogue.{Say, Load}
+use Rattle.pico_top.specs.Dialogue.Gave.{Bytes, TooLong, Refused}
+use Rattle.pico_top.specs.Dialogue.Ending.{Said, NoMemory}
+
+-- what holds of every ending holds where the shelf was not asked
+pub anywhere : (files : Option Files) (P : Ending → Type 0) (failed failed' : List (List ℕ)) (d : Dialogue) → failed' ≡ failed → ((e : Ending) → P e) → LeadsTo files P failed failed' d
+anywhere files P failed failed' (Say status text) same p = (same, p (Said status text))
+anywhere files P failed failed' (Load name limit next) same p = inr (same, p NoMemory)
+
+-- what follows from an ending follows from a dialogue that leads to it
+pub leads_on : (files : Option Files) (P Q : Ending → Type 0) (failed failed' : List (List ℕ)) (d : Dialogue) → ((e : Ending) → P e → Q e) → LeadsTo files P failed failed' d → LeadsTo files Q failed failed' d
+leads_on files P Q failed failed' (Say status text) f h = (h.0, f (Said status text) h.1)
+leads_on files P Q failed failed' (Load name limit next) f h = elim h [
+    inl w ↦ inl (w.0, w.1, leads_on files P Q (failed_by failed name w.0) failed' (next w.0) f w.2)
+  | inr w ↦ inr (w.0, f NoMemory w.1) ]
+
+-- the first state is that of cycle 0
+pub start_cycle : (image : Loaded) → (start image).cycle ≡ 0
+unfolding start
+start_cycle image = refl
+
+-- the words are read, and the load is refused
+pub after_refused : (files : Option Files) (failed failed' : List (List ℕ)) (words : List (List ℕ)) (run : Run) (refusal : Refusal) → reading words ≡ Some run → LoadsAs files failed failed' run.image (Err refusal) → LeadsTo files (OpensAs (Err refusal)) failed failed' (dialogue words)
+after_refused files failed failed' words run (File lost) e h = rw e (inl (Refused, tt, (h.1, (refl, ap file_line (sym h.0)))))
+after_refused files failed failed' words run (Large lost long) e h = rw e (inl (TooLong long, h.1, (h.2, (refl, ap (λ n. large_line n long) (sym h.0)))))
+after_refused files failed failed' words run Memory e h = rw e (elim h [ inl same ↦ inr (same, tt) | inr more ↦ inl (Refused, tt, (more, tt)) ])
+after_refused files failed failed' words run Words e h = absurd h
+after_refused files failed failed' words run (Image fault) e h = absurd h
+
+-- the words are read, and the file's bytes are an image or not
+pub after_loaded : (files : Option Files) (failed failed' : List (List ℕ)) (words : List (List ℕ)) (run : Run) (bytes : Vec ℕ Global) (result : Result Opened Refusal) → reading words ≡ Some run → LoadsAs files failed failed' run.image (Ok bytes) → StartsAs bytes.items run.cycles result → LeadsTo files (OpensAs result) failed failed' (dialogue words)
+after_loaded files failed failed' words run bytes (Ok opened) e h s =
+    let at_start : opened.machine.cycle ≡ 0 = ap (λ (m : State). m.cycle) s.2 ∙ start_cycle s.0 in
+    let text : run_text run.cycles (start s.0) ≡ run_text opened.limit opened.machine = ap (λ c. run_text c (start s.0)) (sym s.3) ∙ ap (λ m. run_text opened.limit m) (sym s.2) in
+    rw e (inl (Bytes bytes.items, h.0, rw s.1 (h.1, (refl, text, omega (arith, at_start)))))
+after_loaded files failed failed' words run bytes (Err (Image fault)) e h s = rw e (inl (Bytes bytes.items, h.0, rw s (h.1, (refl, refl))))
+after_loaded files failed failed' words run bytes (Err Memory) e h s =
+    rw e (inl (Bytes bytes.items, h.0, anywhere files (OpensAs (Err Memory)) failed failed' (run_image run.cycles (image_of bytes.items)) h.1 (λ e. tt)))
+after_loaded files failed failed' words run bytes (Err Words) e h s = absurd s
+after_loaded files failed failed' words run bytes (Err (File name)) e h s = absurd s
+after_loaded files failed failed' words run bytes (Err (Large name long)) e h s = absurd s

@@ -1,0 +1,33 @@
+-- What a call answered and wrote, by the ending of its dialogue.
+use Rattle.std.specs.Prelude.{◌≡◌, ◌⊎◌, ℕ, List, Option}
+use Rattle.rp_ports.specs.Fault.{Rose}
+use Rattle.rp_ports.specs.Sink.{Appends}
+use Rattle.trace_text.specs.Sent.{AppendsPart}
+use Rattle.pico_top.specs.Dialogue.{Ending}
+use Rattle.pico_top.specs.Dialogue.Ending.{Said, NoMemory}
+use Rattle.pico_top.specs.Refusals.{memory_line}
+
+-- the status, what the sink had written before the call and has written after it, and its counts of faults
+pub record Call : Type 0 where
+  pub status : ℕ
+  pub before : Option (List ℕ)
+  pub after : Option (List ℕ)
+  pub faults_before : ℕ
+  pub faults_after : ℕ
+
+-- this status, and the whole text was written
+abbrev pub Wrote : Call → ℕ → List ℕ → Type 0
+Wrote call status text = (call.status ≡ status) × Appends call.before call.after text
+
+-- status 7: the sink failed, and a prefix of the text was written
+abbrev pub SinkFailed : Call → List ℕ → Type 0
+SinkFailed call text = (call.status ≡ 7) × Rose call.faults_before call.faults_after × AppendsPart call.before call.after text
+
+-- status 9: memory ran out, and the line that says so was written alone; or the sink failed at that line
+abbrev pub RanOut : Call → Type 0
+RanOut call = Wrote call 9 memory_line ⊎ SinkFailed call memory_line
+
+-- the three cases of every return: the text was written, the sink failed at it, or memory ran out
+abbrev pub Ends : Call → Ending → Type 0
+Ends call (Said status text) = (Wrote call status text ⊎ SinkFailed call text) ⊎ RanOut call
+Ends call NoMemory = RanOut call

@@ -1,0 +1,9 @@
+pub mod Answer
+pub mod Dialogue
+pub mod Machine
+pub mod Opening
+pub mod Read
+pub mod Refusals
+pub mod RunText
+pub mod Sram
+pub mod Words

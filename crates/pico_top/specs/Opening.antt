@@ -1,0 +1,59 @@
+-- What stands when a call has loaded its files, by the ending of its dialogue.
+use Rattle.std.specs.Prelude.{◌≡◌, ◌⊎◌, ℕ, ◌≤◌, List, [], ◌∷◌, ◌++◌, Option, Some, None, Result, Ok, Err, Vec}
+use Rattle.std.specs.Global.{Global}
+use Rattle.std.specs.String.{string_bytes}
+use Rattle.rp_ports.specs.Shelf.{Files}
+use Rattle.uf2_image.specs.Uf2.{image_of}
+use Rattle.uf2_image.specs.declared.parts.Image.{Image as Loaded}
+use Rattle.pico_top.specs.declared.open.Opened.{Opened}
+use Rattle.pico_top.specs.declared.open.Refusal.{Refusal}
+use Rattle.pico_top.specs.declared.open.Refusal.TheVariants.{Words, File, Large, Image, Memory}
+use Rattle.pico_top.specs.Machine.{start}
+use Rattle.pico_top.specs.RunText.{run_text}
+use Rattle.pico_top.specs.Refusals.{words_line, file_line, large_line, image_line}
+use Rattle.pico_top.specs.Dialogue.{Gave, MayGive, Ending, image_limit}
+use Rattle.pico_top.specs.Dialogue.Gave.{Bytes, TooLong}
+use Rattle.pico_top.specs.Dialogue.Ending.{Said, NoMemory}
+
+-- the status and the line of a refusal; want of memory may come in the place of any text
+abbrev pub refusal_text : Refusal → Option (ℕ × List ℕ)
+refusal_text Words = Some (2, words_line)
+refusal_text (File name) = Some (3, file_line (string_bytes name))
+refusal_text (Large name long) = Some (3, large_line (string_bytes name) long)
+refusal_text (Image fault) = Some (4, image_line fault)
+refusal_text Memory = None
+
+-- the ending says what is refused
+abbrev pub RefusedAs : Option (ℕ × List ℕ) → Ending → Type 0
+RefusedAs None ending = Unit {0}
+RefusedAs (Some line) (Said status text) = (status ≡ line.0) × (text ≡ line.1)
+RefusedAs (Some line) NoMemory = ⊥
+
+-- the ending says the text of the machine's run
+abbrev pub RunsAs : Opened → Ending → Type 0
+RunsAs opened (Said status text) = (status ≡ 0) × (text ≡ run_text opened.limit opened.machine) × (opened.machine.cycle ≤ opened.limit)
+RunsAs opened NoMemory = ⊥
+
+abbrev pub OpensAs : Result Opened Refusal → Ending → Type 0
+OpensAs (Ok opened) ending = RunsAs opened ending
+OpensAs (Err refusal) ending = RefusedAs (refusal_text refusal) ending
+
+-- a load gave these bytes, or is refused for this cause; its name joined the failed ones where it failed
+abbrev pub LoadsAs : Option Files → List (List ℕ) → List (List ℕ) → List ℕ → Result (Vec ℕ Global) Refusal → Type 0
+LoadsAs files failed failed' name (Ok bytes) = MayGive files name image_limit (Bytes bytes.items) × (failed' ≡ failed)
+LoadsAs files failed failed' name (Err (Large long_name long)) =
+    (string_bytes long_name ≡ name) × MayGive files name image_limit (TooLong long) × (failed' ≡ failed)
+LoadsAs files failed failed' name (Err (File lost)) = (string_bytes lost ≡ name) × (failed' ≡ failed ++ name ∷ [])
+LoadsAs files failed failed' name (Err Memory) = (failed' ≡ failed) ⊎ (failed' ≡ failed ++ name ∷ [])
+LoadsAs files failed failed' name (Err Words) = ⊥
+LoadsAs files failed failed' name (Err (Image fault)) = ⊥
+
+-- the bytes are those of an image, whose first state the machine is in, or have this fault
+abbrev pub StartsAs : List ℕ → ℕ → Result Opened Refusal → Type 0
+StartsAs bytes limit (Ok opened) =
+    (image : Loaded) × (image_of bytes ≡ Ok image) × (opened.machine ≡ start image) × (opened.limit ≡ limit)
+StartsAs bytes limit (Err (Image fault)) = image_of bytes ≡ Err fault
+StartsAs bytes limit (Err Memory) = Unit {0}
+StartsAs bytes limit (Err Words) = ⊥
+StartsAs bytes limit (Err (File name)) = ⊥
+StartsAs bytes limit (Err (Large name long)) = ⊥

@@ -1,0 +1,48 @@
+-- The lines of what is refused.
+use Rattle.std.specs.Prelude.{ℕ, List, ◌++◌, codes, decimal}
+use Rattle.std.specs.String.{string_bytes}
+use Rattle.trace_text.specs.Line.{hex_word}
+use Rattle.uf2_image.specs.declared.fault.ImageFault.{ImageFault}
+use Rattle.uf2_image.specs.declared.fault.ImageFault.TheVariants.{Empty, Ragged, Magic, Payload, Count, Number, Repeat, Flash, Address, Overlap, Missing, Nothing, Memory}
+
+-- the words are refused
+abbrev pub words_line : List ℕ
+words_line = codes "error words\n"
+
+-- a file could not be loaded
+abbrev pub file_line : List ℕ → List ℕ
+file_line name = codes "error file " ++ name ++ codes "\n"
+
+-- a file is longer than its limit
+abbrev pub large_line : List ℕ → ℕ → List ℕ
+large_line name length = codes "error large " ++ name ++ codes " " ++ decimal length ++ codes "\n"
+
+-- memory ran out
+abbrev pub memory_line : List ℕ
+memory_line = codes "error memory\n"
+
+-- a number after a space, and an address
+abbrev pub then_number : ℕ → List ℕ
+then_number n = codes " " ++ decimal n
+
+abbrev pub then_address : ℕ → List ℕ
+then_address a = codes " " ++ hex_word a
+
+-- an image's fault: its number, its name and its numbers
+unfoldable pub fault_words : ImageFault → List ℕ
+fault_words Empty = codes "1 Empty"
+fault_words (Ragged length) = codes "2 Ragged" ++ then_number length
+fault_words (Magic block) = codes "3 Magic" ++ then_number block
+fault_words (Payload block size) = codes "4 Payload" ++ then_number block ++ then_number size
+fault_words (Count block) = codes "5 Count" ++ then_number block
+fault_words (Number block) = codes "6 Number" ++ then_number block
+fault_words (Repeat block) = codes "7 Repeat" ++ then_number block
+fault_words (Flash block target) = codes "8 Flash" ++ then_number block ++ then_address target
+fault_words (Address block target) = codes "9 Address" ++ then_number block ++ then_address target
+fault_words (Overlap block) = codes "10 Overlap" ++ then_number block
+fault_words (Missing number) = codes "11 Missing" ++ then_number number
+fault_words Nothing = codes "12 Nothing"
+fault_words Memory = codes "13 Memory"
+
+abbrev pub image_line : ImageFault → List ℕ
+image_line fault = codes "error image " ++ fault_words fault ++ codes "\n"
