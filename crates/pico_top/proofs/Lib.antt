@@ -1,3 +1,4 @@
 pub mod Leading
 pub mod Placing
+pub mod Refusing
 pub mod Runs

@@ -23,11 +23,15 @@ Wrote call status text = (call.status ≡ status) × Appends call.before call.af
 abbrev pub SinkFailed : Call → List ℕ → Type 0
 SinkFailed call text = (call.status ≡ 7) × Rose call.faults_before call.faults_after × AppendsPart call.before call.after text
 
+-- the text was written whole with its status, or the sink failed at it
+abbrev pub Says : Call → ℕ → List ℕ → Type 0
+Says call status text = Wrote call status text ⊎ SinkFailed call text
+
 -- status 9: memory ran out, and the line that says so was written alone; or the sink failed at that line
 abbrev pub RanOut : Call → Type 0
-RanOut call = Wrote call 9 memory_line ⊎ SinkFailed call memory_line
+RanOut call = Says call 9 memory_line
 
 -- the three cases of every return: the text was written, the sink failed at it, or memory ran out
 abbrev pub Ends : Call → Ending → Type 0
-Ends call (Said status text) = (Wrote call status text ⊎ SinkFailed call text) ⊎ RanOut call
+Ends call (Said status text) = Says call status text ⊎ RanOut call
 Ends call NoMemory = RanOut call

@@ -8,6 +8,7 @@ use Rattle.uf2_image.specs.declared.parts.Image.{Image as Loaded}
 use Rattle.pico_top.specs.declared.open.Opened.{Opened}
 use Rattle.pico_top.specs.declared.open.Refusal.{Refusal}
 use Rattle.pico_top.specs.declared.open.Refusal.TheVariants.{Words, File, Large, Image, Memory}
+use Rattle.pico_top.specs.Answer.{Call, Says, RanOut}
 use Rattle.pico_top.specs.Machine.{start}
 use Rattle.pico_top.specs.RunText.{run_text}
 use Rattle.pico_top.specs.Refusals.{words_line, file_line, large_line, image_line}
@@ -57,3 +58,8 @@ StartsAs bytes limit (Err Memory) = Unit {0}
 StartsAs bytes limit (Err Words) = ⊥
 StartsAs bytes limit (Err (File name)) = ⊥
 StartsAs bytes limit (Err (Large name long)) = ⊥
+
+-- the line of a refusal was written, or memory ran out
+abbrev pub Refuses : Call → Option (ℕ × List ℕ) → Type 0
+Refuses call None = RanOut call
+Refuses call (Some line) = Says call line.0 line.1 ⊎ RanOut call

@@ -19,9 +19,13 @@ abbrev pub stop_lines : Option Why → ℕ → List ℕ
 stop_lines None cycle = []
 stop_lines (Some why) cycle = stop_text why cycle
 
--- the lines of a state at which a run ended; core 1 sleeps
+-- the lines of both cores; core 1 sleeps
+abbrev pub core_lines : State → List ℕ
+core_lines s = register_text 0 (Some (register_words s.core0)) ++ register_text 1 None
+
+-- the lines of a state at which a run ended
 abbrev pub end_text : ℕ → State → List ℕ
-end_text limit s = stop_lines (stop limit s) s.cycle ++ register_text 0 (Some (register_words s.core0)) ++ register_text 1 None
+end_text limit s = stop_lines (stop limit s) s.cycle ++ core_lines s
 
 -- the text of the run from a state: the lines of the first state with a stop
 unfoldable pub run_text : ℕ → State → List ℕ

@@ -1,9 +1,7 @@
 //! Whole lines into a sink.
 
-ghost use Rattle.std.specs.Prelude.{◌≡◌, ◌≤◌, OnOk, OnErr};
-ghost use Rattle.rp_ports.specs.Sink.{Appends};
-ghost use Rattle.rp_ports.specs.Fault.{Rose};
-ghost use Rattle.trace_text.specs.Sent.{AppendsPart};
+ghost use Rattle.std.specs.Prelude.{◌≡◌};
+ghost use Rattle.trace_text.specs.Sent.{Sends};
 
 use rp_ports::sink::{Put, Sink};
 
@@ -21,10 +19,8 @@ pub struct Writer<'a, O: Sink> {
 impl<'a, O: Sink> Writer<'a, O> {
     /// Puts one piece, and what is left of it again where fewer bytes were taken.
     pub fn line(&mut self, bytes: &[u8]) -> Result<(), SinkFault>
-        ensures ok { OnOk result (Appends (O.written self.old.out.now) (O.written self.new.out.now) bytes.now) }
-        ensures err { OnErr result (AppendsPart (O.written self.old.out.now) (O.written self.new.out.now) bytes.now) }
-        ensures cause { OnErr result (Rose (O.faults self.old.out.now) (O.faults self.new.out.now)) }
-        ensures count { O.faults self.old.out.now ≤ O.faults self.new.out.now }
+        ensures sends { Sends (O.written self.old.out.now) (O.written self.new.out.now) (O.faults self.old.out.now) (O.faults self.new.out.now) bytes.now result }
+        ensures same_sink { self.new.out.ghost_name ≡ self.old.out.ghost_name }
     {
         let mut done = 0;
         while done < bytes.len() {

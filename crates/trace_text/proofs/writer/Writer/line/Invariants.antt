@@ -1,4 +1,4 @@
-use Rattle.std.proofs.Common.{length, take, ◌-◌, ◌≤◌}
+use Rattle.std.proofs.Common.{◌≡◌, length, take, ◌-◌, ◌≤◌}
 use Rattle.rp_ports.specs.Sink.{Appends}
 use Rattle.trace_text.proofs.writer.Writer.line.Given as goal
 
@@ -9,7 +9,9 @@ pub record Sent {O : Type 0} (written : O → Rattle.std.specs.Prelude.Option (R
   pub count : faults old ≤ faults new
 
 abbrev pub invariant-loop-done : goal.invariant-loop-done
-invariant-loop-done g l = Sent g.O.Sink.written g.O.Sink.faults l.initial.self.out.now l.self.out.now l.bytes l.done
+invariant-loop-done g l =
+    Sent g.O.Sink.written g.O.Sink.faults l.initial.self.out.now l.self.out.now l.bytes l.done
+    × (l.self.out.ghost_name ≡ l.initial.self.out.ghost_name)
 
 abbrev pub decreases-loop-done : goal.decreases-loop-done
 decreases-loop-done g l = length l.bytes - l.done

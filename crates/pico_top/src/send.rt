@@ -1,0 +1,51 @@
+//! The text of a run and of a refusal, line by line into the sink.
+
+ghost use Rattle.std.specs.Prelude.{◌≡◌, ◌++◌};
+ghost use Rattle.trace_text.specs.Line.{stop_text, register_text};
+ghost use Rattle.trace_text.specs.Sent.{Sends};
+ghost use Rattle.pico_top.specs.RunText.{core_lines};
+
+use crate::machine::Machine;
+use arrayvec::ArrayVec;
+use rp_base::Why;
+use rp_ports::sink::Sink;
+use trace_text::line::{register_line, stop_line};
+use trace_text::writer::{SinkFault, Writer};
+
+/// Puts the line of a stop.
+fn send_stop<O: Sink>(why: &Why, cycle: u64, writer: &mut Writer<'_, O>) -> Result<(), SinkFault>
+    ensures sends { Sends (O.written writer.old.out.now) (O.written writer.new.out.now) (O.faults writer.old.out.now) (O.faults writer.new.out.now) (stop_text why.now cycle) result }
+    ensures same_sink { writer.new.out.ghost_name ≡ writer.old.out.ghost_name }
+{
+    let mut line = ArrayVec::<u8, 192>::new();
+    stop_line(why, cycle, &mut line);
+    writer.line(&line)
+}
+
+/// Puts the line of a core's registers.
+fn send_registers<O: Sink>(core: u8, words: Option<[u32; 17]>, writer: &mut Writer<'_, O>) -> Result<(), SinkFault>
+    ensures sends { Sends (O.written writer.old.out.now) (O.written writer.new.out.now) (O.faults writer.old.out.now) (O.faults writer.new.out.now) (register_text core words) result }
+    ensures same_sink { writer.new.out.ghost_name ≡ writer.old.out.ghost_name }
+{
+    let mut line = ArrayVec::<u8, 192>::new();
+    register_line(core, words, &mut line);
+    writer.line(&line)
+}
+
+/// Puts the lines of both cores; core 1 sleeps.
+fn send_cores<O: Sink>(machine: &Machine, writer: &mut Writer<'_, O>) -> Result<(), SinkFault>
+    ensures sends { Sends (O.written writer.old.out.now) (O.written writer.new.out.now) (O.faults writer.old.out.now) (O.faults writer.new.out.now) (core_lines machine.now) result }
+    ensures same_sink { writer.new.out.ghost_name ≡ writer.old.out.ghost_name }
+{
+    send_registers(0, Some(machine.registers()), writer)?;
+    send_registers(1, None, writer)
+}
+
+/// Puts the lines of a machine at which a run ended.
+pub fn send_end<O: Sink>(why: &Why, machine: &Machine, writer: &mut Writer<'_, O>) -> Result<(), SinkFault>
+    ensures sends { Sends (O.written writer.old.out.now) (O.written writer.new.out.now) (O.faults writer.old.out.now) (O.faults writer.new.out.now) (stop_text why.now machine.now.cycle ++ core_lines machine.now) result }
+    ensures same_sink { writer.new.out.ghost_name ≡ writer.old.out.ghost_name }
+{
+    send_stop(why, machine.number(), writer)?;
+    send_cores(machine, writer)
+}
