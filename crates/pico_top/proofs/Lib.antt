@@ -1,4 +1,6 @@
+pub mod Causing
 pub mod Leading
+pub mod Origins
 pub mod Placing
 pub mod Refusing
 pub mod Runs

@@ -3,7 +3,8 @@ use Rattle.std.specs.Prelude.{◌≡◌, ◌⊎◌, ℕ, List, Option}
 use Rattle.rp_ports.specs.Fault.{Rose}
 use Rattle.rp_ports.specs.Sink.{Appends}
 use Rattle.trace_text.specs.Sent.{AppendsPart}
-use Rattle.pico_top.specs.Dialogue.{Ending}
+use Rattle.rp_ports.specs.Shelf.{Files}
+use Rattle.pico_top.specs.Dialogue.{Ending, LeadsTo, dialogue}
 use Rattle.pico_top.specs.Dialogue.Ending.{Said, NoMemory}
 use Rattle.pico_top.specs.Refusals.{memory_line}
 
@@ -35,3 +36,7 @@ RanOut call = Says call 9 memory_line
 abbrev pub Ends : Call → Ending → Type 0
 Ends call (Said status text) = Says call status text ⊎ RanOut call
 Ends call NoMemory = RanOut call
+
+-- a call whose dialogue ended so, with these files and failed names before it and these failed names after it
+abbrev pub Converses : Option Files → List (List ℕ) → List (List ℕ) → List (List ℕ) → Call → Type 0
+Converses files failed failed' words call = LeadsTo files (Ends call) failed failed' (dialogue words)

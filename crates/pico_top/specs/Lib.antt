@@ -1,4 +1,5 @@
 pub mod Answer
+pub mod Causes
 pub mod Dialogue
 pub mod Machine
 pub mod Opening

@@ -8,11 +8,13 @@ mod send;
 mod sram;
 mod words;
 
-ghost use Rattle.std.specs.Prelude.{◌≡◌, ◌≤◌, map};
+ghost use Rattle.std.specs.Prelude.{◌≡◌, ◌≤◌, None, map};
 ghost use Rattle.std.specs.String.{string_bytes};
-ghost use Rattle.pico_top.specs.Answer.{Says, RanOut, Ends};
+ghost use Rattle.pico_top.specs.Answer.{Says, RanOut, Converses};
+ghost use Rattle.rp_ports.specs.Fault.{Rose};
+ghost use Rattle.pico_top.specs.Causes.{AsksFor, FileCause, HasFault, IsStatus, Comes};
+ghost use Rattle.pico_top.specs.Words.{reading};
 ghost use Rattle.pico_top.specs.Opening.{Refuses, refusal_text};
-ghost use Rattle.pico_top.specs.Dialogue.{LeadsTo, dialogue};
 ghost use Rattle.pico_top.specs.RunText.{run_text};
 ghost use Rattle.pico_top.specs.Refusals.{memory_line};
 
@@ -95,17 +97,43 @@ fn refuse_into<O: Sink>(alloc: Global, refusal: &Refusal, out: &mut O) -> u8
     refuse(alloc, refusal, &mut writer)
 }
 
-/// Does what the words say: loads their files from the shelf, and writes the text to the sink.
-///
-/// The answer is the status: 0 where the text was written, 2 where the words are refused, 3 where a file could not be
-/// loaded or is too large, 4 where the image has a fault, 7 where the sink failed, 9 where memory ran out. A refusal has
-/// its one line, `error ..`, for its text.
-pub fn pico<F: Shelf, O: Sink>(alloc: Global, words: &[String], files: &mut F, out: &mut O) -> u8
-    ensures text { LeadsTo (F.files files.old) (Ends record { status = result; before = O.written out.old; after = O.written out.new; faults_before = O.faults out.old; faults_after = O.faults out.new }) (F.failed files.old) (F.failed files.new) (dialogue (map string_bytes words.now)) }
+/// Loads the files that the words name, and writes the text.
+fn converse<F: Shelf, O: Sink>(alloc: Global, words: &[String], files: &mut F, out: &mut O) -> u8
+    ensures text { Converses (F.files files.old) (F.failed files.old) (F.failed files.new) (map string_bytes words.now) record { status = result; before = O.written out.old; after = O.written out.new; faults_before = O.faults out.old; faults_after = O.faults out.new } }
     ensures kept { F.files files.new ≡ F.files files.old }
 {
     match open(alloc, words, files) {
         Ok(opened) => run_into(opened, out),
         Err(refusal) => refuse_into(alloc, &refusal, out),
     }
+}
+
+/// Does what the words say: loads their files from the shelf, and writes the text to the sink.
+///
+/// The answer is the status: 0 where the text was written, 2 where the words are refused, 3 where a file could not be
+/// loaded or is too large, 4 where the image has a fault, 7 where the sink failed, 9 where memory ran out. A refusal has
+/// its one line, `error ..`, for its text.
+pub fn pico<F: Shelf, O: Sink>(alloc: Global, words: &[String], files: &mut F, out: &mut O) -> u8
+    // The text of what was asked, written whole; or status 7 and a part of it, where the sink failed; or status 9 and the
+    // line of want of memory.
+    ensures text { Converses (F.files files.old) (F.failed files.old) (F.failed files.new) (map string_bytes words.now) record { status = result; before = O.written out.old; after = O.written out.new; faults_before = O.faults out.old; faults_after = O.faults out.new } }
+    ensures kept { F.files files.new ≡ F.files files.old }
+
+    // Status 2 comes exactly where the words are refused.
+    ensures words { result ≡ 2 → reading (map string_bytes words.now) ≡ None }
+    ensures refused { reading (map string_bytes words.now) ≡ None → IsStatus result 2 }
+
+    // Status 3 comes only where this call added the name to the failed ones, or the file is too large.
+    ensures file { result ≡ 3 → AsksFor (reading (map string_bytes words.now)) (λ run. FileCause (F.files files.old) (F.failed files.old) (F.failed files.new) run.image) }
+
+    // Status 4 comes only where the image has a fault.
+    ensures image { result ≡ 4 → AsksFor (reading (map string_bytes words.now)) (λ run. HasFault (F.files files.old) run.image) }
+
+    // Status 7 comes only where the sink's count of faults rose.
+    ensures sink { result ≡ 7 → Rose (O.faults out.old) (O.faults out.new) }
+
+    // Where the shelf tells the file and no load failed: 3 if it is too large, 4 if it has a fault, and else 0.
+    ensures held { Comes (F.files files.old) (F.failed files.old) (F.failed files.new) (reading (map string_bytes words.now)) result }
+{
+    converse(alloc, words, files, out)
 }

@@ -1,9 +1,27 @@
-use Rattle.pico_top.proofs.Leading.{leads_on}
-use Rattle.pico_top.proofs.Refusing.{refusal_ends, run_ends}
+use Rattle.pico_top.proofs.Origins.{origin}
+use Rattle.pico_top.proofs.Causing.{words_only, words_refused, file_only, image_only, sink_only, large_comes, fault_comes, run_comes}
 use Rattle.pico_top.proofs.pico.Goals as goal
 
-pub returns-in-Ok-clause-text : goal.returns-in-Ok-clause-text
-returns-in-Ok-clause-text g c = leads_on _ _ _ _ _ _ (λ e. run_ends _ c.in-Ok.opened e c.run_into.ensures) c.in-Ok.ensures.answer
+pub returns-clause-words : goal.returns-clause-words
+returns-clause-words g c = words_only _ _ _ _ _ (origin _ _ _ _ _ c.converse.ensures.text)
 
-pub returns-in-Err-clause-text : goal.returns-in-Err-clause-text
-returns-in-Err-clause-text g c = leads_on _ _ _ _ _ _ (λ e. refusal_ends _ _ e c.refuse_into.ensures) c.in-Err.ensures.answer
+pub returns-clause-refused : goal.returns-clause-refused
+returns-clause-refused g c = words_refused _ _ _ _ _ (origin _ _ _ _ _ c.converse.ensures.text)
+
+pub returns-clause-file : goal.returns-clause-file
+returns-clause-file g c = file_only _ _ _ _ _ (origin _ _ _ _ _ c.converse.ensures.text)
+
+pub returns-clause-image : goal.returns-clause-image
+returns-clause-image g c = image_only _ _ _ _ _ (origin _ _ _ _ _ c.converse.ensures.text)
+
+pub returns-clause-sink : goal.returns-clause-sink
+returns-clause-sink g c = sink_only _ _ _ _ _ (origin _ _ _ _ _ c.converse.ensures.text)
+
+pub returns-clause-held : goal.returns-clause-held
+returns-clause-held g c =
+    let from = origin _ _ _ _ _ c.converse.ensures.text in
+    record {
+      large = λ run held h long. large_comes _ _ _ _ _ run held from h long;
+      fault = λ run held f h fits e. fault_comes _ _ _ _ _ run held f from h fits e;
+      runs = λ run held image h fits e. run_comes _ _ _ _ _ run held image from h fits e;
+    }
