@@ -3,15 +3,18 @@
 
 mod long;
 mod short;
+#[cfg(test)]
+mod tests;
 
-ghost use Rattle.std.specs.Prelude.{◌≡◌};
+ghost use Rattle.std.specs.Prelude.{◌≡◌, ℕ, false};
 ghost use Rattle.thumb_rows.specs.Rows.{ExactlyOneFits, begins_long, operation_of};
 
 use rp_base::op::Op;
 
 /// The instruction of a pair of halfwords; a 16-bit instruction is the first alone, whatever the second is.
 pub fn decode(first: u16, second: u16) -> Op
-    ensures { result ≡ operation_of first second }
+    ensures value { result ≡ operation_of first second }
+    ensures short { begins_long first ≡ false → (other : ℕ) → result ≡ operation_of first other }
 {
     if is_long(first) {
         long::decode_long(first, second)
