@@ -16,91 +16,147 @@ not_equal : (a b : ℕ) → a ≢ b → (a == b) ≡ false
 not_equal a b other = unequal _ a b other refl
 
 -- a halfword other than one is not fitted by that one's pattern
-not_word : (word w : ℕ) → w < 65536 → w ≢ word → (bit_and w 65535 == word) ≡ false
+not_word : (word w : ℕ) → w < 65536 → w ≢ word → (bit_and w 0xFFFF == word) ≡ false
 not_word word w small other =
     let whole : bit_and w (2 ^ 16 - 1) ≡ w % 2 ^ 16 = and_mask w 16 in
     not_equal _ _ (λ e. other (omega (arith, whole, e)))
 
-is_word : (word w : ℕ) → w < 65536 → w ≡ word → half_fits (record { mask = 65535; value = word; left_out = [] }) w ≡ true
+is_word : (word w : ℕ) → w < 65536 → w ≡ word → half_fits
+    (record { mask = 0xFFFF; value = word; left_out = [] }) w ≡ true
 is_word word w small same =
     let whole : bit_and w (2 ^ 16 - 1) ≡ w % 2 ^ 16 = and_mask w 16 in
     and_both _ true (eqb_of _ _ (omega (arith, whole))) refl
 
-pub row_Push : (first second : ℕ) → first < 65536 → first / 512 ≡ 90 → first ≢ 46080 → operation_of first second ≡ Push (is_set first 8) (field first 7 0)
+pub row_Push : (first second : ℕ) → first < 65536 → first / 512 ≡ 90 → first ≢ 0xB400 →
+    operation_of first second ≡ Push (is_set first 8) (field first 7 0)
 unfolding rows
-row_Push first second small starts some = short_law 57 (leading_but 9 90 ((65535, 46080) ∷ [])) _ first second refl (leading_but_fits 9 90 ((65535, 46080) ∷ []) first (search rules) small starts (or_false _ _ (not_word 46080 first small some) refl))
+row_Push first second small starts some = short_law 57 (leading_but 9 90 ((0xFFFF, 0xB400) ∷ [])) _ first second refl
+    (leading_but_fits 9 90 ((0xFFFF, 0xB400) ∷ []) first (search rules) small starts
+    (or_false _ _ (not_word 0xB400 first small some) refl))
 
-pub undefined_Push : (first second : ℕ) → first ≡ 46080 → operation_of first second ≡ Undefined
+pub undefined_Push : (first second : ℕ) → first ≡ 0xB400 → operation_of first second ≡ Undefined
 unfolding rows
-undefined_Push first second same = undefined_law (record { mask = 65535; value = 46080; left_out = [] }) first second refl (is_word 46080 first (omega arith) same)
+undefined_Push first second same = undefined_law
+    (record { mask = 0xFFFF; value = 0xB400; left_out = [] }) first second refl (is_word 0xB400 first (omega arith) same)
 
-pub row_Pop : (first second : ℕ) → first < 65536 → first / 512 ≡ 94 → first ≢ 48128 → operation_of first second ≡ Pop (is_set first 8) (field first 7 0)
+pub row_Pop : (first second : ℕ) → first < 65536 → first / 512 ≡ 94 → first ≢ 0xBC00 → operation_of first second ≡ Pop
+    (is_set first 8) (field first 7 0)
 unfolding rows
-row_Pop first second small starts some = short_law 63 (leading_but 9 94 ((65535, 48128) ∷ [])) _ first second refl (leading_but_fits 9 94 ((65535, 48128) ∷ []) first (search rules) small starts (or_false _ _ (not_word 48128 first small some) refl))
+row_Pop first second small starts some = short_law 63 (leading_but 9 94 ((0xFFFF, 0xBC00) ∷ [])) _ first second refl
+    (leading_but_fits 9 94 ((0xFFFF, 0xBC00) ∷ []) first (search rules) small starts
+    (or_false _ _ (not_word 0xBC00 first small some) refl))
 
-pub undefined_Pop : (first second : ℕ) → first ≡ 48128 → operation_of first second ≡ Undefined
+pub undefined_Pop : (first second : ℕ) → first ≡ 0xBC00 → operation_of first second ≡ Undefined
 unfolding rows
-undefined_Pop first second same = undefined_law (record { mask = 65535; value = 48128; left_out = [] }) first second refl (is_word 48128 first (omega arith) same)
+undefined_Pop first second same = undefined_law
+    (record { mask = 0xFFFF; value = 0xBC00; left_out = [] }) first second refl (is_word 0xBC00 first (omega arith) same)
 
-pub undefined_state : (first second : ℕ) → first < 65536 → first / 256 ≡ 182 → first ≢ 46690 → first ≢ 46706 → operation_of first second ≡ Undefined
+pub undefined_state : (first second : ℕ) → first < 65536 → first / 256 ≡ 182 → first ≢ 0xB662 → first ≢ 0xB672 →
+    operation_of first second ≡ Undefined
 unfolding rows
 undefined_state first second small starts on off =
-    undefined_law (leading_but 8 182 ((65535, 46690) ∷ (65535, 46706) ∷ [])) first second refl
-    (leading_but_fits 8 182 ((65535, 46690) ∷ (65535, 46706) ∷ []) first (search rules) small starts (or_false _ _ (not_word 46690 first small on) (or_false _ _ (not_word 46706 first small off) refl)))
+    undefined_law (leading_but 8 182 ((0xFFFF, 0xB662) ∷ (0xFFFF, 0xB672) ∷ [])) first second refl
+    (leading_but_fits 8 182 ((0xFFFF, 0xB662) ∷ (0xFFFF, 0xB672) ∷ []) first (search rules) small starts
+    (or_false _ _ (not_word 0xB662 first small on) (or_false _ _ (not_word 0xB672 first small off) refl)))
 
 pub undefined_reverse : (first second : ℕ) → first < 65536 → first / 64 ≡ 746 → operation_of first second ≡ Undefined
 unfolding rows
 undefined_reverse first second small starts = leading_undefined 6 746 first second refl (search rules) small starts
 
-pub row_Nop : (first second : ℕ) → first < 65536 → first / 256 ≡ 191 → first % 16 ≡ 0 → first ≢ 48912 → first ≢ 48928 → first ≢ 48944 → first ≢ 48960 → operation_of first second ≡ Nop
+pub row_Nop : (first second : ℕ) → first < 65536 → first / 256 ≡ 191 → first % 16 ≡ 0 → first ≢ 0xBF10 →
+    first ≢ 0xBF20 → first ≢ 0xBF30 → first ≢ 0xBF40 → operation_of first second ≡ Nop
 unfolding rows
 row_Nop first second small starts ends yield wfe wfi sev =
-    let pattern : bit_and first 65295 ≡ 48896 = omega (arith, hint_bits first small) in
-    short_law 65 (record { mask = 65295; value = 48896; left_out = (65535, 48912) ∷ (65535, 48928) ∷ (65535, 48944) ∷ (65535, 48960) ∷ [] }) _ first second refl
-    (and_both _ _ (eqb_of _ _ pattern) (not_of_false _ (or_false _ _ (not_word 48912 first small yield) (or_false _ _ (not_word 48928 first small wfe) (or_false _ _ (not_word 48944 first small wfi) (or_false _ _ (not_word 48960 first small sev) refl))))))
+    let pattern : bit_and first 0xFF0F ≡ 0xBF00 = omega (arith, hint_bits first small) in
+    short_law 65
+    (record {
+      mask = 0xFF0F;
+      value = 0xBF00;
+      left_out = (0xFFFF, 0xBF10) ∷ (0xFFFF, 0xBF20) ∷ (0xFFFF, 0xBF30) ∷
+          (0xFFFF, 0xBF40) ∷ [];
+    }) _ first second refl
+    (and_both _ _ (eqb_of _ _ pattern)
+    (not_of_false _
+    (or_false _ _ (not_word 0xBF10 first small yield)
+    (or_false _ _ (not_word 0xBF20 first small wfe)
+    (or_false _ _ (not_word 0xBF30 first small wfi) (or_false _ _ (not_word 0xBF40 first small sev) refl))))))
 
-pub undefined_hint : (first second : ℕ) → first < 65536 → first / 256 ≡ 191 → first % 16 ≢ 0 → operation_of first second ≡ Undefined
+pub undefined_hint : (first second : ℕ) → first < 65536 → first / 256 ≡ 191 → first % 16 ≢ 0 →
+    operation_of first second ≡ Undefined
 unfolding rows
 undefined_hint first second small starts ends =
-    undefined_law (leading_but 8 191 ((65295, 48896) ∷ [])) first second refl
-    (leading_but_fits 8 191 ((65295, 48896) ∷ []) first (search rules) small starts (or_false _ _ (not_equal (bit_and first 65295) 48896 (λ (e : bit_and first 65295 ≡ 48896). ends (omega (arith, hint_bits first small, e)))) refl))
+    undefined_law (leading_but 8 191 ((0xFF0F, 0xBF00) ∷ [])) first second refl
+    (leading_but_fits 8 191 ((0xFF0F, 0xBF00) ∷ []) first (search rules) small starts
+    (or_false _ _
+    (not_equal (bit_and first 0xFF0F) 0xBF00
+    (λ (e : bit_and first 0xFF0F ≡ 0xBF00). ends (omega (arith, hint_bits first small, e)))) refl))
 
-pub row_Stm : (first second : ℕ) → first < 65536 → first / 2048 ≡ 24 → first % 256 ≢ 0 → operation_of first second ≡ Stm (field first 10 8) (field first 7 0)
+pub row_Stm : (first second : ℕ) → first < 65536 → first / 2048 ≡ 24 → first % 256 ≢ 0 →
+    operation_of first second ≡ Stm (field first 10 8) (field first 7 0)
 unfolding rows
 row_Stm first second small starts some =
-    short_law 70 (leading_but 11 24 ((63743, 49152) ∷ [])) _ first second refl
-    (leading_but_fits 11 24 ((63743, 49152) ∷ []) first (search rules) small starts (or_false _ _ (not_equal (bit_and first 63743) 49152 (λ (e : bit_and first 63743 ≡ 49152). some (omega (arith, list_bits first small, e)))) refl))
+    short_law 70 (leading_but 11 24 ((0xF8FF, 0xC000) ∷ [])) _ first second refl
+    (leading_but_fits 11 24 ((0xF8FF, 0xC000) ∷ []) first (search rules) small starts
+    (or_false _ _
+    (not_equal (bit_and first 0xF8FF) 0xC000
+    (λ (e : bit_and first 0xF8FF ≡ 0xC000). some (omega (arith, list_bits first small, e)))) refl))
 
-pub row_Ldm : (first second : ℕ) → first < 65536 → first / 2048 ≡ 25 → first % 256 ≢ 0 → operation_of first second ≡ Ldm (field first 10 8) (field first 7 0)
+pub row_Ldm : (first second : ℕ) → first < 65536 → first / 2048 ≡ 25 → first % 256 ≢ 0 →
+    operation_of first second ≡ Ldm (field first 10 8) (field first 7 0)
 unfolding rows
 row_Ldm first second small starts some =
-    short_law 71 (leading_but 11 25 ((63743, 51200) ∷ [])) _ first second refl
-    (leading_but_fits 11 25 ((63743, 51200) ∷ []) first (search rules) small starts (or_false _ _ (not_equal (bit_and first 63743) 51200 (λ (e : bit_and first 63743 ≡ 51200). some (omega (arith, list_bits first small, e)))) refl))
+    short_law 71 (leading_but 11 25 ((0xF8FF, 0xC800) ∷ [])) _ first second refl
+    (leading_but_fits 11 25 ((0xF8FF, 0xC800) ∷ []) first (search rules) small starts
+    (or_false _ _
+    (not_equal (bit_and first 0xF8FF) 0xC800
+    (λ (e : bit_and first 0xF8FF ≡ 0xC800). some (omega (arith, list_bits first small, e)))) refl))
 
-pub undefined_Stm : (first second : ℕ) → first < 65536 → first / 2048 ≡ 24 → first % 256 ≡ 0 → operation_of first second ≡ Undefined
+pub undefined_Stm : (first second : ℕ) → first < 65536 → first / 2048 ≡ 24 → first % 256 ≡ 0 →
+    operation_of first second ≡ Undefined
 unfolding rows
 undefined_Stm first second small starts none =
-    let pattern : bit_and first 63743 ≡ 49152 = omega (arith, list_bits first small) in
-    undefined_law (record { mask = 63743; value = 49152; left_out = [] }) first second refl (and_both _ true (eqb_of _ _ pattern) refl)
+    let pattern : bit_and first 0xF8FF ≡ 0xC000 = omega (arith, list_bits first small) in
+    undefined_law (record { mask = 0xF8FF; value = 0xC000; left_out = [] }) first second refl
+    (and_both _ true (eqb_of _ _ pattern) refl)
 
-pub undefined_Ldm : (first second : ℕ) → first < 65536 → first / 2048 ≡ 25 → first % 256 ≡ 0 → operation_of first second ≡ Undefined
+pub undefined_Ldm : (first second : ℕ) → first < 65536 → first / 2048 ≡ 25 → first % 256 ≡ 0 →
+    operation_of first second ≡ Undefined
 unfolding rows
 undefined_Ldm first second small starts none =
-    let pattern : bit_and first 63743 ≡ 51200 = omega (arith, list_bits first small) in
-    undefined_law (record { mask = 63743; value = 51200; left_out = [] }) first second refl (and_both _ true (eqb_of _ _ pattern) refl)
+    let pattern : bit_and first 0xF8FF ≡ 0xC800 = omega (arith, list_bits first small) in
+    undefined_law (record { mask = 0xF8FF; value = 0xC800; left_out = [] }) first second refl
+    (and_both _ true (eqb_of _ _ pattern) refl)
 
-pub row_BCond : (first second : ℕ) → first < 65536 → first / 4096 ≡ 13 → first / 256 ≢ 222 → first / 256 ≢ 223 → operation_of first second ≡ BCond (field first 11 8) (field first 7 0)
+pub row_BCond : (first second : ℕ) → first < 65536 → first / 4096 ≡ 13 → first / 256 ≢ 222 → first / 256 ≢ 223 →
+    operation_of first second ≡ BCond (field first 11 8) (field first 7 0)
 unfolding rows
 row_BCond first second small starts udf svc =
-    short_law 72 (leading_but 12 13 ((65280, 56832) ∷ (65280, 57088) ∷ [])) _ first second refl
-    (leading_but_fits 12 13 ((65280, 56832) ∷ (65280, 57088) ∷ []) first (search rules) small starts (or_false _ _ (otherwise 8 222 first (search rules) small udf) (or_false _ _ (otherwise 8 223 first (search rules) small svc) refl)))
+    short_law 72 (leading_but 12 13 ((0xFF00, 0xDE00) ∷ (0xFF00, 0xDF00) ∷ [])) _ first second refl
+    (leading_but_fits 12 13 ((0xFF00, 0xDE00) ∷ (0xFF00, 0xDF00) ∷ []) first (search rules) small starts
+    (or_false _ _ (otherwise 8 222 first (search rules) small udf)
+    (or_false _ _ (otherwise 8 223 first (search rules) small svc) refl)))
 
 -- the other pages of the miscellaneous instructions are empty
-pub undefined_pages : (first second : ℕ) → first < 65536 → first / 4096 ≡ 11 → first / 256 ≢ 176 → first / 256 ≢ 178 → first / 512 ≢ 90 → first / 256 ≢ 182 → first / 256 ≢ 186 → first / 512 ≢ 94 → first / 256 ≢ 190 → first / 256 ≢ 191 → operation_of first second ≡ Undefined
+pub undefined_pages : (first second : ℕ) → first < 65536 → first / 4096 ≡ 11 → first / 256 ≢ 176 → first / 256 ≢ 178 →
+    first / 512 ≢ 90 → first / 256 ≢ 182 → first / 256 ≢ 186 → first / 512 ≢ 94 → first / 256 ≢ 190 →
+    first / 256 ≢ 191 → operation_of first second ≡ Undefined
 unfolding rows
 undefined_pages first second small starts not_B0 not_B2 not_5A not_B6 not_BA not_5E not_BE not_BF =
-    undefined_law (leading_but 12 11 ((65280, 45056) ∷ (65280, 45568) ∷ (65024, 46080) ∷ (65280, 46592) ∷ (65280, 47616) ∷ (65024, 48128) ∷ (65280, 48640) ∷ (65280, 48896) ∷ [])) first second refl
-    (leading_but_fits 12 11 ((65280, 45056) ∷ (65280, 45568) ∷ (65024, 46080) ∷ (65280, 46592) ∷ (65280, 47616) ∷ (65024, 48128) ∷ (65280, 48640) ∷ (65280, 48896) ∷ []) first (search rules) small starts (or_false _ _ (otherwise 8 176 first (search rules) small not_B0) (or_false _ _ (otherwise 8 178 first (search rules) small not_B2) (or_false _ _ (otherwise 9 90 first (search rules) small not_5A) (or_false _ _ (otherwise 8 182 first (search rules) small not_B6) (or_false _ _ (otherwise 8 186 first (search rules) small not_BA) (or_false _ _ (otherwise 9 94 first (search rules) small not_5E) (or_false _ _ (otherwise 8 190 first (search rules) small not_BE) (or_false _ _ (otherwise 8 191 first (search rules) small not_BF) refl)))))))))
+    undefined_law
+    (leading_but 12 11
+    ((0xFF00, 0xB000) ∷ (0xFF00, 0xB200) ∷ (0xFE00, 0xB400) ∷ (0xFF00, 0xB600) ∷ (0xFF00, 0xBA00) ∷ (0xFE00, 0xBC00) ∷
+    (0xFF00, 0xBE00) ∷ (0xFF00, 0xBF00) ∷ [])) first second refl
+    (leading_but_fits 12 11
+    ((0xFF00, 0xB000) ∷ (0xFF00, 0xB200) ∷ (0xFE00, 0xB400) ∷ (0xFF00, 0xB600) ∷ (0xFF00, 0xBA00) ∷ (0xFE00, 0xBC00) ∷
+    (0xFF00, 0xBE00) ∷ (0xFF00, 0xBF00) ∷ []) first (search rules) small starts
+    (or_false _ _ (otherwise 8 176 first (search rules) small not_B0)
+    (or_false _ _ (otherwise 8 178 first (search rules) small not_B2)
+    (or_false _ _ (otherwise 9 90 first (search rules) small not_5A)
+    (or_false _ _ (otherwise 8 182 first (search rules) small not_B6)
+    (or_false _ _ (otherwise 8 186 first (search rules) small not_BA)
+    (or_false _ _ (otherwise 9 94 first (search rules) small not_5E)
+    (or_false _ _ (otherwise 8 190 first (search rules) small not_BE)
+    (or_false _ _ (otherwise 8 191 first (search rules) small not_BF) refl)))))))))
 
 pub undefined_E8 : (first second : ℕ) → first < 65536 → first / 2048 ≡ 29 → operation_of first second ≡ Undefined
 unfolding rows
@@ -110,83 +166,120 @@ pub undefined_F8 : (first second : ℕ) → first < 65536 → first / 2048 ≡ 3
 unfolding rows
 undefined_F8 first second small starts = leading_undefined 11 31 first second refl (search rules) small starts
 
-pub row_Bl : (first second : ℕ) → first < 65536 → first / 2048 ≡ 30 → bit_and second 53248 ≡ 53248 → operation_of first second ≡ Bl (is_set first 10) (field first 9 0 * 2 ^ 11 + field second 10 0) (2 * field second 13 13 + field second 11 11)
+pub row_Bl : (first second : ℕ) → first < 65536 → first / 2048 ≡ 30 → bit_and second 0xD000 ≡ 0xD000 →
+    operation_of first second ≡ Bl (is_set first 10) (field first 9 0 * 2 ^ 11 + field second 10 0)
+    (2 * field second 13 13 + field second 11 11)
 unfolding rows
-row_Bl first second small starts link = long_law 76 (leading 11 30) (record { mask = 53248; value = 53248; left_out = [] }) _ first second refl (leading_fits 11 30 first (search rules) small starts) (and_both _ true (eqb_of _ _ link) refl)
+row_Bl first second small starts link = long_law 76 (leading 11 30)
+    (record { mask = 0xD000; value = 0xD000; left_out = [] }) _ first second refl
+    (leading_fits 11 30 first (search rules) small starts) (and_both _ true (eqb_of _ _ link) refl)
 
-pub row_Msr : (first second : ℕ) → first < 65536 → second < 65536 → first / 16 ≡ 3896 → first ≢ 62349 → first ≢ 62351 → second / 256 ≡ 136 → operation_of first second ≡ Msr (field first 3 0) (field second 7 0)
+pub row_Msr : (first second : ℕ) → first < 65536 → second < 65536 → first / 16 ≡ 3896 → first ≢ 0xF38D →
+    first ≢ 0xF38F → second / 256 ≡ 136 → operation_of first second ≡ Msr (field first 3 0) (field second 7 0)
 unfolding rows
 row_Msr first second small below starts sp pc special =
-    long_law 77 (leading_but 4 3896 ((65535, 62349) ∷ (65535, 62351) ∷ [])) (leading 8 136) _ first second refl
-    (leading_but_fits 4 3896 ((65535, 62349) ∷ (65535, 62351) ∷ []) first (search rules) small starts (or_false _ _ (not_word 62349 first small sp) (or_false _ _ (not_word 62351 first small pc) refl)))
+    long_law 77 (leading_but 4 3896 ((0xFFFF, 0xF38D) ∷ (0xFFFF, 0xF38F) ∷ [])) (leading 8 136) _ first second refl
+    (leading_but_fits 4 3896 ((0xFFFF, 0xF38D) ∷ (0xFFFF, 0xF38F) ∷ []) first (search rules) small starts
+    (or_false _ _ (not_word 0xF38D first small sp) (or_false _ _ (not_word 0xF38F first small pc) refl)))
     (leading_fits 8 136 second (search rules) below special)
 
-pub row_Mrs : (second : ℕ) → second < 65536 → second / 4096 ≡ 8 → second / 256 ≢ 141 → second / 256 ≢ 143 → operation_of 62447 second ≡ Mrs (field second 11 8) (field second 7 0)
+pub row_Mrs : (second : ℕ) → second < 65536 → second / 4096 ≡ 8 → second / 256 ≢ 141 → second / 256 ≢ 143 →
+    operation_of 0xF3EF second ≡ Mrs (field second 11 8) (field second 7 0)
 unfolding rows
 row_Mrs second below starts sp pc =
-    long_law 78 (record { mask = 65535; value = 62447; left_out = [] }) (leading_but 12 8 ((65280, 36096) ∷ (65280, 36608) ∷ [])) _ 62447 second refl refl
-    (leading_but_fits 12 8 ((65280, 36096) ∷ (65280, 36608) ∷ []) second (search rules) below starts (or_false _ _ (otherwise 8 141 second (search rules) below sp) (or_false _ _ (otherwise 8 143 second (search rules) below pc) refl)))
+    long_law 78 (record { mask = 0xFFFF; value = 0xF3EF; left_out = [] })
+    (leading_but 12 8 ((0xFF00, 0x8D00) ∷ (0xFF00, 0x8F00) ∷ [])) _ 0xF3EF second refl refl
+    (leading_but_fits 12 8 ((0xFF00, 0x8D00) ∷ (0xFF00, 0x8F00) ∷ []) second (search rules) below starts
+    (or_false _ _ (otherwise 8 141 second (search rules) below sp)
+    (or_false _ _ (otherwise 8 143 second (search rules) below pc) refl)))
 
-pub row_Dsb : (second : ℕ) → second < 65536 → second / 16 ≡ 2292 → operation_of 62399 second ≡ Dsb
+pub row_Dsb : (second : ℕ) → second < 65536 → second / 16 ≡ 2292 → operation_of 0xF3BF second ≡ Dsb
 unfolding rows
-row_Dsb second below starts = long_law 79 (record { mask = 65535; value = 62399; left_out = [] }) (leading 4 2292) _ 62399 second refl refl (leading_fits 4 2292 second (search rules) below starts)
+row_Dsb second below starts = long_law 79 (record { mask = 0xFFFF; value = 0xF3BF; left_out = [] })
+    (leading 4 2292) _ 0xF3BF second refl refl (leading_fits 4 2292 second (search rules) below starts)
 
-pub row_Dmb : (second : ℕ) → second < 65536 → second / 16 ≡ 2293 → operation_of 62399 second ≡ Dmb
+pub row_Dmb : (second : ℕ) → second < 65536 → second / 16 ≡ 2293 → operation_of 0xF3BF second ≡ Dmb
 unfolding rows
-row_Dmb second below starts = long_law 80 (record { mask = 65535; value = 62399; left_out = [] }) (leading 4 2293) _ 62399 second refl refl (leading_fits 4 2293 second (search rules) below starts)
+row_Dmb second below starts = long_law 80 (record { mask = 0xFFFF; value = 0xF3BF; left_out = [] })
+    (leading 4 2293) _ 0xF3BF second refl refl (leading_fits 4 2293 second (search rules) below starts)
 
-pub row_Isb : (second : ℕ) → second < 65536 → second / 16 ≡ 2294 → operation_of 62399 second ≡ Isb
+pub row_Isb : (second : ℕ) → second < 65536 → second / 16 ≡ 2294 → operation_of 0xF3BF second ≡ Isb
 unfolding rows
-row_Isb second below starts = long_law 81 (record { mask = 65535; value = 62399; left_out = [] }) (leading 4 2294) _ 62399 second refl refl (leading_fits 4 2294 second (search rules) below starts)
+row_Isb second below starts = long_law 81 (record { mask = 0xFFFF; value = 0xF3BF; left_out = [] })
+    (leading 4 2294) _ 0xF3BF second refl refl (leading_fits 4 2294 second (search rules) below starts)
 
-no_link : (second : ℕ) → bit_and second 53248 ≢ 53248 → (bit_and second 53248 == 53248) ≡ false
+no_link : (second : ℕ) → bit_and second 0xD000 ≢ 0xD000 → (bit_and second 0xD000 == 0xD000) ≡ false
 no_link second other = not_equal _ _ other
 
-pub undefined_control : (first second : ℕ) → first < 65536 → first / 2048 ≡ 30 → bit_and second 53248 ≢ 53248 → first / 16 ≢ 3896 → first ≢ 62399 → first ≢ 62447 → operation_of first second ≡ Undefined
+pub undefined_control : (first second : ℕ) → first < 65536 → first / 2048 ≡ 30 → bit_and second 0xD000 ≢ 0xD000 →
+    first / 16 ≢ 3896 → first ≢ 0xF3BF → first ≢ 0xF3EF → operation_of first second ≡ Undefined
 unfolding rows
 undefined_control first second small starts link msr barrier mrs =
-    pair_undefined (leading_but 11 30 ((65520, 62336) ∷ (65535, 62399) ∷ (65535, 62447) ∷ [])) (any_but ((53248, 53248) ∷ [])) first second refl
-    (leading_but_fits 11 30 ((65520, 62336) ∷ (65535, 62399) ∷ (65535, 62447) ∷ []) first (search rules) small starts (or_false _ _ (otherwise 4 3896 first (search rules) small msr) (or_false _ _ (not_word 62399 first small barrier) (or_false _ _ (not_word 62447 first small mrs) refl))))
-    (any_but_fits ((53248, 53248) ∷ []) second (or_false _ _ (no_link second link) refl))
+    pair_undefined (leading_but 11 30 ((0xFFF0, 0xF380) ∷ (0xFFFF, 0xF3BF) ∷ (0xFFFF, 0xF3EF) ∷ []))
+    (any_but ((0xD000, 0xD000) ∷ [])) first second refl
+    (leading_but_fits 11 30 ((0xFFF0, 0xF380) ∷ (0xFFFF, 0xF3BF) ∷ (0xFFFF, 0xF3EF) ∷ []) first (search rules) small starts
+    (or_false _ _ (otherwise 4 3896 first (search rules) small msr)
+    (or_false _ _ (not_word 0xF3BF first small barrier) (or_false _ _ (not_word 0xF3EF first small mrs) refl))))
+    (any_but_fits ((0xD000, 0xD000) ∷ []) second (or_false _ _ (no_link second link) refl))
 
-pub undefined_Msr : (first second : ℕ) → first < 65536 → second < 65536 → first / 16 ≡ 3896 → bit_and second 53248 ≢ 53248 → second / 256 ≢ 136 → operation_of first second ≡ Undefined
+pub undefined_Msr : (first second : ℕ) → first < 65536 → second < 65536 → first / 16 ≡ 3896 →
+    bit_and second 0xD000 ≢ 0xD000 → second / 256 ≢ 136 → operation_of first second ≡ Undefined
 unfolding rows
 undefined_Msr first second small below starts link special =
-    pair_undefined (leading 4 3896) (any_but ((53248, 53248) ∷ (65280, 34816) ∷ [])) first second refl (leading_fits 4 3896 first (search rules) small starts)
-    (any_but_fits ((53248, 53248) ∷ (65280, 34816) ∷ []) second (or_false _ _ (no_link second link) (or_false _ _ (otherwise 8 136 second (search rules) below special) refl)))
+    pair_undefined (leading 4 3896) (any_but ((0xD000, 0xD000) ∷ (0xFF00, 0x8800) ∷ [])) first second refl
+    (leading_fits 4 3896 first (search rules) small starts)
+    (any_but_fits ((0xD000, 0xD000) ∷ (0xFF00, 0x8800) ∷ []) second
+    (or_false _ _ (no_link second link)
+    (or_false _ _ (otherwise 8 136 second (search rules) below special) refl)))
 
-pub undefined_Msr_sp : (first second : ℕ) → first ≡ 62349 → bit_and second 53248 ≢ 53248 → operation_of first second ≡ Undefined
+pub undefined_Msr_sp : (first second : ℕ) → first ≡ 0xF38D → bit_and second 0xD000 ≢ 0xD000 →
+    operation_of first second ≡ Undefined
 unfolding rows
 undefined_Msr_sp first second same link =
-    pair_undefined (record { mask = 65535; value = 62349; left_out = [] }) (any_but ((53248, 53248) ∷ [])) first second refl (is_word 62349 first (omega arith) same) (any_but_fits ((53248, 53248) ∷ []) second (or_false _ _ (no_link second link) refl))
+    pair_undefined (record { mask = 0xFFFF; value = 0xF38D; left_out = [] })
+    (any_but ((0xD000, 0xD000) ∷ [])) first second refl (is_word 0xF38D first (omega arith) same)
+    (any_but_fits ((0xD000, 0xD000) ∷ []) second (or_false _ _ (no_link second link) refl))
 
-pub undefined_Msr_pc : (first second : ℕ) → first ≡ 62351 → bit_and second 53248 ≢ 53248 → operation_of first second ≡ Undefined
+pub undefined_Msr_pc : (first second : ℕ) → first ≡ 0xF38F → bit_and second 0xD000 ≢ 0xD000 →
+    operation_of first second ≡ Undefined
 unfolding rows
 undefined_Msr_pc first second same link =
-    pair_undefined (record { mask = 65535; value = 62351; left_out = [] }) (any_but ((53248, 53248) ∷ [])) first second refl (is_word 62351 first (omega arith) same) (any_but_fits ((53248, 53248) ∷ []) second (or_false _ _ (no_link second link) refl))
+    pair_undefined (record { mask = 0xFFFF; value = 0xF38F; left_out = [] })
+    (any_but ((0xD000, 0xD000) ∷ [])) first second refl (is_word 0xF38F first (omega arith) same)
+    (any_but_fits ((0xD000, 0xD000) ∷ []) second (or_false _ _ (no_link second link) refl))
 
-pub undefined_Mrs : (second : ℕ) → second < 65536 → bit_and second 53248 ≢ 53248 → second / 4096 ≢ 8 → operation_of 62447 second ≡ Undefined
+pub undefined_Mrs : (second : ℕ) → second < 65536 → bit_and second 0xD000 ≢ 0xD000 → second / 4096 ≢ 8 →
+    operation_of 0xF3EF second ≡ Undefined
 unfolding rows
 undefined_Mrs second below link special =
-    pair_undefined (record { mask = 65535; value = 62447; left_out = [] }) (any_but ((53248, 53248) ∷ (61440, 32768) ∷ [])) 62447 second refl refl
-    (any_but_fits ((53248, 53248) ∷ (61440, 32768) ∷ []) second (or_false _ _ (no_link second link) (or_false _ _ (otherwise 12 8 second (search rules) below special) refl)))
+    pair_undefined (record { mask = 0xFFFF; value = 0xF3EF; left_out = [] })
+    (any_but ((0xD000, 0xD000) ∷ (0xF000, 0x8000) ∷ [])) 0xF3EF second refl refl
+    (any_but_fits ((0xD000, 0xD000) ∷ (0xF000, 0x8000) ∷ []) second
+    (or_false _ _ (no_link second link) (or_false _ _ (otherwise 12 8 second (search rules) below special) refl)))
 
-pub undefined_Mrs_sp : (second : ℕ) → second < 65536 → second / 256 ≡ 141 → operation_of 62447 second ≡ Undefined
+pub undefined_Mrs_sp : (second : ℕ) → second < 65536 → second / 256 ≡ 141 → operation_of 0xF3EF second ≡ Undefined
 unfolding rows
 undefined_Mrs_sp second below starts =
-    pair_undefined (record { mask = 65535; value = 62447; left_out = [] }) (leading 8 141) 62447 second refl refl (leading_fits 8 141 second (search rules) below starts)
+    pair_undefined (record { mask = 0xFFFF; value = 0xF3EF; left_out = [] }) (leading 8 141) 0xF3EF second refl refl
+    (leading_fits 8 141 second (search rules) below starts)
 
-pub undefined_Mrs_pc : (second : ℕ) → second < 65536 → second / 256 ≡ 143 → operation_of 62447 second ≡ Undefined
+pub undefined_Mrs_pc : (second : ℕ) → second < 65536 → second / 256 ≡ 143 → operation_of 0xF3EF second ≡ Undefined
 unfolding rows
 undefined_Mrs_pc second below starts =
-    pair_undefined (record { mask = 65535; value = 62447; left_out = [] }) (leading 8 143) 62447 second refl refl (leading_fits 8 143 second (search rules) below starts)
+    pair_undefined (record { mask = 0xFFFF; value = 0xF3EF; left_out = [] }) (leading 8 143) 0xF3EF second refl refl
+    (leading_fits 8 143 second (search rules) below starts)
 
-pub undefined_barrier : (second : ℕ) → second < 65536 → bit_and second 53248 ≢ 53248 → second / 16 ≢ 2292 → second / 16 ≢ 2293 → second / 16 ≢ 2294 → operation_of 62399 second ≡ Undefined
+pub undefined_barrier : (second : ℕ) → second < 65536 → bit_and second 0xD000 ≢ 0xD000 → second / 16 ≢ 2292 →
+    second / 16 ≢ 2293 → second / 16 ≢ 2294 → operation_of 0xF3BF second ≡ Undefined
 unfolding rows
 undefined_barrier second below link dsb dmb isb =
-    pair_undefined (record { mask = 65535; value = 62399; left_out = [] }) (any_but ((53248, 53248) ∷ (65520, 36672) ∷ (65520, 36688) ∷ (65520, 36704) ∷ [])) 62399 second refl refl
-    (any_but_fits ((53248, 53248) ∷ (65520, 36672) ∷ (65520, 36688) ∷ (65520, 36704) ∷ []) second (or_false _ _ (no_link second link)
-    (or_false _ _ (otherwise 4 2292 second (search rules) below dsb) (or_false _ _ (otherwise 4 2293 second (search rules) below dmb) (or_false _ _ (otherwise 4 2294 second (search rules) below isb) refl)))))
+    pair_undefined (record { mask = 0xFFFF; value = 0xF3BF; left_out = [] })
+    (any_but ((0xD000, 0xD000) ∷ (0xFFF0, 0x8F40) ∷ (0xFFF0, 0x8F50) ∷ (0xFFF0, 0x8F60) ∷ [])) 0xF3BF second refl refl
+    (any_but_fits ((0xD000, 0xD000) ∷ (0xFFF0, 0x8F40) ∷ (0xFFF0, 0x8F50) ∷ (0xFFF0, 0x8F60) ∷ []) second
+    (or_false _ _ (no_link second link)
+    (or_false _ _ (otherwise 4 2292 second (search rules) below dsb)
+    (or_false _ _ (otherwise 4 2293 second (search rules) below dmb)
+    (or_false _ _ (otherwise 4 2294 second (search rules) below isb) refl)))))
 
 pub ruleset miscellaneous_rows = (row_Bkpt, undefined_pages)
 

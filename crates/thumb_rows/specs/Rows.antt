@@ -14,9 +14,10 @@ abbrev pub is_set : ℕ → ℕ → Bool
 is_set w place = field w place place == 1
 
 -- A pattern is written as in the manual, from bit 15 down to bit 0: a digit is a bit that is fixed, and a letter is a
--- bit of the operand of that letter. The mask has a 1 at each fixed bit, and the value has the fixed bits.
+-- bit of the operand of that letter. The mask has a 1 at each fixed bit, and the value has the fixed bits. The codes of
+-- 0 and 1 are 48 and 49.
 abbrev pub mask_bit : ℕ → ℕ
-mask_bit c = if c == 48 then 1 else (if c == 49 then 1 else 0)
+mask_bit c = if c == 48 || c == 49 then 1 else 0
 
 abbrev pub value_bit : ℕ → ℕ
 value_bit c = if c == 49 then 1 else 0
@@ -41,7 +42,12 @@ abbrev pub bits : String → Half
 bits pattern = record { mask = mask_of pattern; value = value_of pattern; left_out = [] }
 
 abbrev pub bits_but : List String → String → Half
-bits_but others pattern = record { mask = mask_of pattern; value = value_of pattern; left_out = map (λ o. (mask_of o, value_of o)) others }
+bits_but others pattern = record {
+  mask = mask_of pattern;
+  value = value_of pattern;
+  left_out = map
+      (λ o. (mask_of o, value_of o)) others;
+}
 
 abbrev pub half_fits : Half → ℕ → Bool
 half_fits h w = (bit_and w h.mask == h.value) && not (list_any (λ o. bit_and w o.0 == o.1) h.left_out)
@@ -143,7 +149,9 @@ rows =
     ∷ short "1011101011mmmddd" (λ w. Revsh (field w 5 3) (field w 2 0))
     ∷ short_but ("1011110000000000" ∷ []) "1011110rllllllll" (λ w. Pop (is_set w 8) (field w 7 0))
     ∷ short "10111110iiiiiiii" (λ w. Bkpt (field w 7 0))
-    ∷ short_but ("1011111100010000" ∷ "1011111100100000" ∷ "1011111100110000" ∷ "1011111101000000" ∷ []) "10111111hhhh0000" (λ w. Nop)
+    ∷ short_but
+    ("1011111100010000" ∷ "1011111100100000" ∷ "1011111100110000" ∷ "1011111101000000" ∷ []) "10111111hhhh0000"
+    (λ w. Nop)
     ∷ short "1011111100010000" (λ w. Yield)
     ∷ short "1011111100100000" (λ w. Wfe)
     ∷ short "1011111100110000" (λ w. Wfi)
@@ -152,14 +160,19 @@ rows =
     ∷ short_but ("11000xxx00000000" ∷ []) "11000nnnllllllll" (λ w. Stm (field w 10 8) (field w 7 0))
     ∷ short_but ("11001xxx00000000" ∷ []) "11001nnnllllllll" (λ w. Ldm (field w 10 8) (field w 7 0))
     -- conditional branch and supervisor call (A5.2.6), branch (A5.2)
-    ∷ short_but ("11011110xxxxxxxx" ∷ "11011111xxxxxxxx" ∷ []) "1101cccciiiiiiii" (λ w. BCond (field w 11 8) (field w 7 0))
+    ∷ short_but ("11011110xxxxxxxx" ∷ "11011111xxxxxxxx" ∷ []) "1101cccciiiiiiii"
+    (λ w. BCond (field w 11 8) (field w 7 0))
     ∷ short "11011110iiiiiiii" (λ w. Udf (field w 7 0))
     ∷ short "11011111iiiiiiii" (λ w. Svc (field w 7 0))
     ∷ short "11100iiiiiiiiiii" (λ w. B (field w 10 0))
     -- branch with link, and miscellaneous control (A5.3.1)
-    ∷ long (bits "11110Siiiiiiiiii") (bits "11J1Jiiiiiiiiiii") (λ first second. Bl (is_set first 10) (field first 9 0 * 2 ^ 11 + field second 10 0) (2 * field second 13 13 + field second 11 11))
-    ∷ long (bits_but ("1111001110001101" ∷ "1111001110001111" ∷ []) "111100111000nnnn") (bits "10001000ssssssss") (λ first second. Msr (field first 3 0) (field second 7 0))
-    ∷ long (bits "1111001111101111") (bits_but ("10001101xxxxxxxx" ∷ "10001111xxxxxxxx" ∷ []) "1000ddddssssssss") (λ first second. Mrs (field second 11 8) (field second 7 0))
+    ∷ long (bits "11110Siiiiiiiiii") (bits "11J1Jiiiiiiiiiii")
+    (λ first second. Bl (is_set first 10) (field first 9 0 * 2 ^ 11 + field second 10 0)
+    (2 * field second 13 13 + field second 11 11))
+    ∷ long (bits_but ("1111001110001101" ∷ "1111001110001111" ∷ []) "111100111000nnnn") (bits "10001000ssssssss")
+    (λ first second. Msr (field first 3 0) (field second 7 0))
+    ∷ long (bits "1111001111101111") (bits_but ("10001101xxxxxxxx" ∷ "10001111xxxxxxxx" ∷ []) "1000ddddssssssss")
+    (λ first second. Mrs (field second 11 8) (field second 7 0))
     ∷ long (bits "1111001110111111") (bits "100011110100xxxx") (λ first second. Dsb)
     ∷ long (bits "1111001110111111") (bits "100011110101xxxx") (λ first second. Dmb)
     ∷ long (bits "1111001110111111") (bits "100011110110xxxx") (λ first second. Isb)
@@ -168,7 +181,8 @@ rows =
 -- the operation of the row of a list that fits a pair; Undefined is the row of all the rest
 abbrev pub operation_by : List Row → ℕ → ℕ → Op
 operation_by [] first second = Undefined
-operation_by (r ∷ rs) first second = if row_fits r first second then r.operation first second else operation_by rs first second
+operation_by
+    (r ∷ rs) first second = if row_fits r first second then r.operation first second else operation_by rs first second
 
 -- the operation of a pair of halfwords
 unfoldable pub operation_of : ℕ → ℕ → Op
@@ -176,12 +190,13 @@ operation_of first second = operation_by rows first second
 
 -- how many rows fit a pair, with Undefined, the row that fits where no other does
 abbrev pub fitting : List Row → ℕ → ℕ → ℕ
-fitting rs first second = let named = length (filter (λ r. row_fits r first second) rs) in named + (if named == 0 then 1 else 0)
+fitting rs first second = let named = length (filter (λ r. row_fits r first second) rs) in named +
+    (if named == 0 then 1 else 0)
 
 -- for every pair of halfwords exactly one row fits
 abbrev pub ExactlyOneFits : Type 0
 ExactlyOneFits = (first second : ℕ) → first < 2 ^ 16 → second < 2 ^ 16 → fitting rows first second ≡ 1
 
--- a first halfword that begins 11101, 11110 or 11111 has a second one (A5.1)
+-- a first halfword that begins 11101, 11110 or 11111 (29, 30 or 31) has a second one (A5.1)
 abbrev pub begins_long : ℕ → Bool
 begins_long first = let start = field first 15 11 in start == 29 || start == 30 || start == 31
