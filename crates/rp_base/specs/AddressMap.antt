@@ -60,7 +60,8 @@ ranges =
 -- the place of an address by a list of ranges; what is in none of them is outside
 abbrev pub place_by : List Range → ℕ → Spot
 place_by [] address = Outside
-place_by (r ∷ rs) address = if nat_le r.first address && nat_le address r.last then r.at (address - r.first) else place_by rs address
+place_by (r ∷ rs) address =
+    if nat_le r.first address && nat_le address r.last then r.at (address - r.first) else place_by rs address
 
 -- the place of an address
 unfoldable pub place_of : ℕ → Spot

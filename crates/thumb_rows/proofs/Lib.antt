@@ -1,0 +1,4 @@
+pub mod Apart
+pub mod Laws
+pub mod RowLaws
+pub mod LeftOut
