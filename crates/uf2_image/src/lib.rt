@@ -6,8 +6,10 @@
 ghost use Rattle.std.specs.Prelude.{◌≡◌, ◌≢◌, ◌≤◌, length, MatchResult, IfOk};
 ghost use Rattle.uf2_image.specs.Uf2.{image_of, FitsSram};
 
+mod blocks;
 pub mod fault;
 pub mod parts;
+mod reading;
 
 pub use fault::ImageFault;
 pub use parts::{Image, Part, PartBytes, PartList};
