@@ -1,2 +1,3 @@
-pub mod Ranges
 pub mod Loading
+pub mod Placing
+pub mod Ranges

@@ -1,11 +1,14 @@
 //! One block of a UF2 file, and its fields.
 
-ghost use Rattle.std.specs.Prelude.{◌≡◌, ◌≤◌, ◌<◌, not, length};
-ghost use Rattle.uf2_image.specs.Uf2.{any_address, count_of, family_of, flags_of, has_flag, has_magic, is_flash, is_kept, is_sram, number_of, payload_of, size_of, target_of, word};
+ghost use Rattle.std.specs.Prelude.{◌≡◌, ◌≤◌, ◌<◌, not, length, IfOk, IfErr};
+ghost use Rattle.uf2_image.specs.Uf2.{any_address, count_of, family_of, flags_of, has_flag, has_magic, is_flash, is_kept, is_sram, number_of, part_of, payload_of, size_of, target_of, word};
 ghost use Rattle.std.specs.Bool.{OnFalse};
 ghost use Rattle.uf2_image.specs.Reading.{HasPayload, LiesInSram};
 
+use crate::fault::ImageFault;
+use crate::parts::{Part, PartBytes};
 use byteorder::{ByteOrder, LittleEndian};
+use std::alloc::Global;
 use std::marker::Model;
 
 /// The bytes of a block.
@@ -122,6 +125,19 @@ impl<'a> Block<'a> {
         ensures long { length result.now ≡ size_of self.now }
     {
         &self.bytes[PAYLOAD_START..PAYLOAD_START + self.size() as usize]
+    }
+
+    /// What the block loads.
+    pub fn part(&self, alloc: Global) -> Result<Part, ImageFault>
+        requires { HasPayload self.now }
+        ensures part { IfOk result (λ part. part ≡ part_of self.now) }
+        ensures memory { IfErr result (λ fault. fault ≡ ImageFault.Memory) }
+    {
+        let bytes = self.payload().to_vec(alloc)?;
+        Ok(Part {
+            address: self.target(),
+            bytes: PartBytes::from_vec(bytes),
+        })
     }
 
     /// Whether a byte of the payload lies in flash.

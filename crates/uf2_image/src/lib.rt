@@ -8,6 +8,7 @@ ghost use Rattle.uf2_image.specs.Uf2.{image_of, FitsSram};
 
 mod blocks;
 pub mod fault;
+mod order;
 pub mod parts;
 mod reading;
 
