@@ -1,3 +1,5 @@
+pub mod Files
+pub mod Images
 pub mod Loading
 pub mod Placing
 pub mod Ranges

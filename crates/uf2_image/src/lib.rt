@@ -14,6 +14,9 @@ mod reading;
 
 pub use fault::ImageFault;
 pub use parts::{Image, Part, PartBytes, PartList};
+use blocks::BLOCK_SIZE;
+use order::image_of_blocks;
+use reading::read_blocks;
 use std::alloc::Global;
 
 /// The image of a UF2 file of at most 16 MiB.
@@ -28,7 +31,12 @@ pub fn read_image(alloc: Global, bytes: &[u8]) -> Result<Image, ImageFault>
     ensures image { MatchResult result (λ image. image_of bytes.now ≡ Ok image) (λ fault. fault ≢ ImageFault.Memory → image_of bytes.now ≡ Err fault) }
     ensures fits { IfOk result FitsSram }
 {
-    let _alloc = alloc;
-    let _bytes = bytes;
-    Err(ImageFault::Memory)
+    if bytes.is_empty() {
+        return Err(ImageFault::Empty);
+    }
+    if bytes.len() % BLOCK_SIZE != 0 {
+        return Err(ImageFault::Ragged(bytes.len() as u64));
+    }
+    let kept = read_blocks(alloc, bytes)?;
+    image_of_blocks(alloc, &kept)
 }

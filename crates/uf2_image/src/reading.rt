@@ -1,11 +1,11 @@
 //! The kept blocks of a file, one after the other.
 
-ghost use Rattle.std.specs.Prelude.{◌≡◌, ◌≢◌, ◌≤◌, ◌<◌, ◌+◌, ◌||◌, ◌&&◌, ◌++◌, ◌∷◌, [], ℕ, false, ◌==◌, nat_lt, nat_le, length, slice_index_or, slice_range, IfOk, OnOk, IfErr, IfNone};
+ghost use Rattle.std.specs.Prelude.{◌≡◌, ◌≢◌, ◌/◌, ◌≤◌, ◌<◌, ◌+◌, ◌||◌, ◌&&◌, ◌++◌, ◌∷◌, [], ℕ, false, ◌==◌, nat_lt, nat_le, length, slice_index_or, slice_range, IfOk, OnOk, IfErr, IfNone};
 ghost use Rattle.std.specs.List.{filter, list_any};
-ghost use Rattle.uf2_image.specs.Uf2.{any_address, block_fault, count_of, first_kept, has_number, is_kept, is_loaded, kept_fault};
+ghost use Rattle.uf2_image.specs.Uf2.{any_address, block_fault, count_of, first_fault, first_kept, has_number, is_kept, is_loaded, kept, kept_fault};
 ghost use Rattle.uf2_image.specs.Reading.{HasPayload, IsIndexed, LiesInSram};
 
-use crate::blocks::{Block, LARGEST_PAYLOAD, SRAM_END, SRAM_START};
+use crate::blocks::{Block, BLOCK_SIZE, LARGEST_PAYLOAD, SRAM_END, SRAM_START};
 use crate::fault::ImageFault;
 use std::alloc::Global;
 use std::collections::BTreeSet;
@@ -163,4 +163,21 @@ impl<'a> Kept<'a> {
         }
         self.keep(block)
     }
+}
+
+/// The kept blocks of a file whose length is a multiple of the block size.
+pub fn read_blocks<'a>(alloc: Global, bytes: &'a [u8]) -> Result<Kept<'a>, ImageFault>
+    requires { length bytes.now ≤ 16777216 }
+    ensures none { OnOk result (first_fault bytes.now (length bytes.now / 512) ≡ None) }
+    ensures blocks { IfOk result (λ read. read.blocks.items ≡ kept bytes.now (length bytes.now / 512)) }
+    ensures index { IfOk result IsIndexed }
+    ensures fault { IfErr result (λ fault. fault ≢ ImageFault.Memory → first_fault bytes.now (length bytes.now / 512) ≡ Some fault) }
+{
+    let mut kept = Kept::new(alloc)?;
+    for index in 0..bytes.len() / BLOCK_SIZE {
+        let start = index * BLOCK_SIZE;
+        let block = Block::new(&bytes[start..start + BLOCK_SIZE]);
+        kept.read(index as u32, block)?;
+    }
+    Ok(kept)
 }
