@@ -1,14 +1,12 @@
 -- The image that kept blocks make.
-use Rattle.std.proofs.Common.{◌≡◌, ◌≤◌, ◌<◌, ℕ, zero, suc, ◌+◌, ◌-◌, ◌%◌, min, List, [], ◌∷◌, ◌++◌, length, map, Option, Some, None, Ok, Err, refl, sym, ap, ◌∙◌, arith, slice_get}
+use Rattle.std.proofs.Common.{◌≡◌, ◌≤◌, ◌<◌, ℕ, ◌+◌, ◌-◌, ◌%◌, min, List, [], ◌∷◌, ◌++◌, length, map, Some, None, Ok, Err, refl, sym, ap, ◌∙◌, arith, slice_get}
 use Rattle.std.proofs.lemmas.List.{map-append}
 use Rattle.std.proofs.lemmas.List.Sums.{fold-append}
 use Rattle.std.proofs.lemmas.List.Elements.{recursion_from_All}
 use Rattle.std.specs.List.{All, AllByRecursion, enumerate_from, fold}
 use Rattle.uf2_image.specs.declared.parts.Part.{Part}
-use Rattle.uf2_image.specs.declared.parts.Image.{Image}
-use Rattle.uf2_image.specs.declared.fault.ImageFault.{ImageFault}
 use Rattle.uf2_image.specs.declared.fault.ImageFault.TheVariants.{Missing, Nothing}
-use Rattle.uf2_image.specs.Uf2.{count_of, entry_of, in_order, least, least_missing, loaded, pairs, part_of, payload_of, size_of, target_of, unless_missing, whole, FitsSram, LieFrom}
+use Rattle.uf2_image.specs.Uf2.{count_of, entry_of, in_order, least, least_missing, loaded, pairs, part_of, payload_of, target_of, unless_missing, whole, FitsSram}
 use Rattle.uf2_image.specs.Reading.{AreSpread, CanBePlaced, HasPayload, IsSolid}
 use Rattle.uf2_image.proofs.Placing.{LieFrom-all}
 use Rattle.uf2_image.proofs.Ranges.{length_payload}
@@ -50,7 +48,7 @@ entry_is : (b : List ℕ) (bs : List (List ℕ)) (low : ℕ) → AllByRecursion 
 unfolding entry_of
 entry_is b bs low h is =
     let same : least (map (λ pair. pair.0) (loaded (b ∷ bs))) ≡ low =
-        least_of_row (target_of b) (payload_of b) (loaded bs) (omega (arith, length_payload b h.0, h.0.some)) ∙ lowest_of_loaded (target_of b) (b ∷ bs) h ∙ sym is in
+    least_of_row (target_of b) (payload_of b) (loaded bs) (omega (arith, length_payload b h.0, h.0.some)) ∙ lowest_of_loaded (target_of b) (b ∷ bs) h ∙ sym is in
     ap (λ a. a - a % 2) same
 
 -- ## The answer

@@ -3,3 +3,4 @@ pub mod Images
 pub mod Loading
 pub mod Placing
 pub mod Ranges
+pub mod Spread

@@ -24,7 +24,8 @@ row_has : (a t : ℕ) (xs : List ℕ) → list_any (λ pair. eqb pair.0 a) (enum
 row_has a t [] = row_has_none a t
 row_has a t (x ∷ xs) = ap (λ b. eqb t a || b) (row_has a (t + 1) xs) ∙ row_has_step a t (length xs)
 
-row_has_long : (a t n : ℕ) (xs : List ℕ) → length xs ≡ n → list_any (λ pair. eqb pair.0 a) (enumerate_from t xs) ≡ (leb t a && ltb a (t + n))
+-- the same, by the number of addresses
+pub row_has_long : (a t n : ℕ) (xs : List ℕ) → length xs ≡ n → list_any (λ pair. eqb pair.0 a) (enumerate_from t xs) ≡ (leb t a && ltb a (t + n))
 row_has_long a t n xs e = row_has a t xs ∙ ap (λ m. leb t a && ltb a (t + m)) e
 
 pub is_loaded-push : (bs : List (List ℕ)) (b : List ℕ) (a : ℕ) → HasPayload b → is_loaded (bs ++ b ∷ []) a ≡ (is_loaded bs a || (leb (target_of b) a && ltb a (target_of b + size_of b)))
@@ -71,7 +72,7 @@ flags_of_row flags f t s n [] e h l = rw (← e) refl
 flags_of_row flags f t s n (x ∷ xs) e h l =
     let here : get_or flags s false ≡ f t = first_of_row flags f t s n (omega arith) h in
     let rest : list_any (λ flag. flag) (take (length xs) (drop (s + 1) flags)) ≡ list_any (λ pair. f pair.0) (enumerate_from (t + 1) xs) =
-        flags_of_row flags f (t + 1) (s + 1) (length xs) xs refl (rest_of_row flags f t s n (length xs) (omega arith) h) (omega arith) in
+    flags_of_row flags f (t + 1) (s + 1) (length xs) xs refl (rest_of_row flags f t s n (length xs) (omega arith) h) (omega arith) in
     flags_step flags f s t n (length xs) (list_any (λ pair. f pair.0) (enumerate_from (t + 1) xs)) (sym e) (omega arith) here rest
 
 overlap_row : (flags : List Bool) (bs : List (List ℕ)) (b : List ℕ) (s n : ℕ) → HasPayload b → LiesInSram b → length flags ≡ 0x42000
@@ -106,9 +107,9 @@ pub IsIndexed-push : (old new : Kept) (b : List ℕ) (flags slice : List Bool) (
     → t ≡ target_of b → n ≡ size_of b → m ≡ number_of b → IsIndexed new
 IsIndexed-push old new b flags slice t n m ix h lies blocks numbers same long was each et en em = record {
   numbers = λ q. numbers q ∙ adds_number (contains nat_cmp old.numbers q) m q ∙ ap (λ x. x || eqb m q) (ix.numbers q) ∙ ap (λ j. has_number old.blocks.items q || eqb j q) em
-    ∙ sym (ap (λ bs. has_number bs q) blocks ∙ has_number-push old.blocks.items b q);
+      ∙ sym (ap (λ bs. has_number bs q) blocks ∙ has_number-push old.blocks.items b q);
   long = ap length same ∙ long ∙ ix.long;
   loaded = λ k lt. ap (λ xs. get_or xs k false) same ∙ flags_after flags old.loaded.items old.blocks.items b (t - 0x20000000) (t - 0x20000000 + n) k h
-    (each k ∙ ap (λ xs. (leb (t - 0x20000000) k && ltb k (t - 0x20000000 + n)) || get_or xs k false) was) (ix.loaded k lt) (omega (arith, lies.start)) (ap (λ j. t - 0x20000000 + j) en)
-    ∙ sym (ap (λ bs. is_loaded bs (0x20000000 + k)) blocks);
+      (each k ∙ ap (λ xs. (leb (t - 0x20000000) k && ltb k (t - 0x20000000 + n)) || get_or xs k false) was) (ix.loaded k lt) (omega (arith, lies.start)) (ap (λ j. t - 0x20000000 + j) en)
+      ∙ sym (ap (λ bs. is_loaded bs (0x20000000 + k)) blocks);
 }

@@ -37,15 +37,17 @@ pub keyed_parts-place : (ps : List Part) (p : Part) → AllByRecursion (AreApart
 unfolding keyed_parts
 keyed_parts-place [] p h = refl
 keyed_parts-place (q ∷ qs) p h = elim h.0 [
-    inl before ↦ insert_before p q (keyed_parts qs) before.0 ∙ sym (ap keyed_parts (place_before p q qs before.0))
-  | inr behind ↦ insert_behind p q (keyed_parts qs) behind.0 ∙ ap (λ es. (q.address, q) ∷ es) (keyed_parts-place qs p h.1) ∙ sym (ap keyed_parts (place_behind p q qs behind.0)) ]
+  | inl before ↦ insert_before p q (keyed_parts qs) before.0 ∙ sym (ap keyed_parts (place_before p q qs before.0))
+  | inr behind ↦ insert_behind p q (keyed_parts qs) behind.0 ∙ ap (λ es. (q.address, q) ∷ es) (keyed_parts-place qs p h.1) ∙ sym (ap keyed_parts (place_behind p q qs behind.0))
+]
 
 -- parts without overlap stay so where one more is placed that is apart from each
 pub LieFrom-place : (low : ℕ) (ps : List Part) (p : Part) → LieFrom low ps → low ≤ p.address → p.address + length p.bytes ≤ 0x20042000 → AllByRecursion (AreApart p) ps → LieFrom low (place ps p)
 LieFrom-place low [] p lie from to h = (from, to)
 LieFrom-place low (q ∷ qs) p lie from to h = elim h.0 [
-    inl before ↦ subst (λ (xs : List Part). LieFrom low xs) (sym (place_before p q qs before.0)) (from, (before.1, lie.1))
-  | inr behind ↦ subst (λ (xs : List Part). LieFrom low xs) (sym (place_behind p q qs behind.0)) (lie.0, LieFrom-place (q.address + length q.bytes) qs p lie.1 behind.1 to h.1) ]
+  | inl before ↦ subst (λ (xs : List Part). LieFrom low xs) (sym (place_before p q qs before.0)) (from, (before.1, lie.1))
+  | inr behind ↦ subst (λ (xs : List Part). LieFrom low xs) (sym (place_behind p q qs behind.0)) (lie.0, LieFrom-place (q.address + length q.bytes) qs p lie.1 behind.1 to h.1)
+]
 
 pub LieFrom-all : (placed ps : List Part) → LieFrom 0x20000000 placed → CanBePlaced placed ps → LieFrom 0x20000000 (fold place placed ps)
 LieFrom-all placed [] lie can = lie
@@ -55,8 +57,9 @@ LieFrom-all placed (p ∷ ps) lie can = LieFrom-all (place placed p) ps (LieFrom
 pub All-place : (P : Part → Type 0) (ps : List Part) (p : Part) → P p → AllByRecursion P ps → AllByRecursion P (place ps p)
 All-place P [] p here h = (here, tt)
 All-place P (q ∷ qs) p here h = elim (leb (suc p.address) q.address) as (λ b. AllByRecursion P (cond b (p ∷ q ∷ qs) (q ∷ place qs p))) [
-    true ↦ (here, (h.0, h.1))
-  | false ↦ (h.0, All-place P qs p here h.1) ]
+  | true ↦ (here, (h.0, h.1))
+  | false ↦ (h.0, All-place P qs p here h.1)
+]
 
 pub All-fold : (P : Part → Type 0) (placed ps : List Part) → AllByRecursion P placed → AllByRecursion P ps → AllByRecursion P (fold place placed ps)
 All-fold P placed [] h t = h

@@ -12,10 +12,10 @@ mod order;
 pub mod parts;
 mod reading;
 
-pub use fault::ImageFault;
-pub use parts::{Image, Part, PartBytes, PartList};
 use blocks::BLOCK_SIZE;
+pub use fault::ImageFault;
 use order::image_of_blocks;
+pub use parts::{Image, Part, PartBytes, PartList};
 use reading::read_blocks;
 use std::alloc::Global;
 

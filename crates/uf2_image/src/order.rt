@@ -25,7 +25,9 @@ fn least_missing(kept: &Kept, count: u32) -> Option<u32>
 fn lowest_target(blocks: &[Block], first: u32) -> u32
     ensures { result ≡ fold (λ low block. min low (target_of block)) first blocks.now }
 {
-    blocks.iter().fold(first, |low, block| low.min(block.target()))
+    blocks
+        .iter()
+        .fold(first, |low, block| low.min(block.target()))
 }
 
 /// The values of a map in order of their keys.

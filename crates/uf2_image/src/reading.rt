@@ -5,7 +5,7 @@ ghost use Rattle.std.specs.List.{filter, list_any};
 ghost use Rattle.uf2_image.specs.Uf2.{any_address, block_fault, count_of, first_fault, first_kept, has_number, is_kept, is_loaded, kept, kept_fault};
 ghost use Rattle.uf2_image.specs.Reading.{HasPayload, IsIndexed, LiesInSram};
 
-use crate::blocks::{Block, BLOCK_SIZE, LARGEST_PAYLOAD, SRAM_END, SRAM_START};
+use crate::blocks::{BLOCK_SIZE, Block, LARGEST_PAYLOAD, SRAM_END, SRAM_START};
 use crate::fault::ImageFault;
 use std::alloc::Global;
 use std::collections::BTreeSet;
