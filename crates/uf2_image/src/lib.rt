@@ -28,7 +28,9 @@ use std::alloc::Global;
 pub fn read_image(alloc: Global, bytes: &[u8]) -> Result<Image, ImageFault>
     requires { length bytes.now ≤ 16777216 }
     // The answer is the definition's, unless memory ran out.
-    ensures image { MatchResult result (λ image. image_of bytes.now ≡ Ok image) (λ fault. fault ≢ ImageFault.Memory → image_of bytes.now ≡ Err fault) }
+    ensures image { MatchResult result (λ image. image_of bytes.now ≡ Ok image)
+        (λ fault. fault ≢ ImageFault.Memory → image_of bytes.now ≡ Err fault) }
+    // What holds of every image, for callers that place one.
     ensures fits { IfOk result FitsSram }
 {
     if bytes.is_empty() {

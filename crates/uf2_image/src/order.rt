@@ -56,7 +56,8 @@ fn parts_in_order(alloc: Global, blocks: &[Block]) -> Result<PartList, ImageFaul
 pub fn image_of_blocks(alloc: Global, kept: &Kept) -> Result<Image, ImageFault>
     requires index { IsIndexed kept.now }
     requires spread { AreSpread kept.now.blocks.items }
-    ensures image { MatchResult result (λ image. whole kept.now.blocks.items ≡ Ok image) (λ fault. fault ≢ ImageFault.Memory → whole kept.now.blocks.items ≡ Err fault) }
+    ensures image { MatchResult result (λ image. whole kept.now.blocks.items ≡ Ok image)
+        (λ fault. fault ≢ ImageFault.Memory → whole kept.now.blocks.items ≡ Err fault) }
     ensures fits { IfOk result FitsSram }
 {
     let Some(first) = kept.blocks.first() else {

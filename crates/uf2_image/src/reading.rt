@@ -34,7 +34,8 @@ fn clear_flags(alloc: Global, len: usize) -> Result<Vec<bool>, ImageFault>
 fn set_flags(flags: &mut [bool], start: usize, end: usize)
     requires order { start ≤ end }
     requires within { end ≤ length flags.old }
-    ensures { (k : ℕ) → slice_index_or flags.new k false ≡ ((nat_le start k && nat_lt k end) || slice_index_or flags.old k false) }
+    ensures { (k : ℕ) → slice_index_or flags.new k false
+        ≡ ((nat_le start k && nat_lt k end) || slice_index_or flags.old k false) }
 {
     flags[start..end].fill(true);
 }
@@ -150,7 +151,8 @@ impl<'a> Kept<'a> {
         ensures none { OnOk result (block_fault self.old.blocks.items index block.entry ≡ None) }
         ensures blocks { OnOk result (self.new.blocks.items ≡ self.old.blocks.items ++ filter is_kept (block.entry ∷ [])) }
         ensures index { OnOk result (IsIndexed self.new) }
-        ensures fault { IfErr result (λ fault. fault ≢ ImageFault.Memory → block_fault self.old.blocks.items index block.entry ≡ Some fault) }
+        ensures fault { IfErr result (λ fault. fault ≢ ImageFault.Memory
+            → block_fault self.old.blocks.items index block.entry ≡ Some fault) }
     {
         if !block.has_magic() {
             return Err(ImageFault::Magic(index));
@@ -171,7 +173,8 @@ pub fn read_blocks<'a>(alloc: Global, bytes: &'a [u8]) -> Result<Kept<'a>, Image
     ensures none { OnOk result (first_fault bytes.now (length bytes.now / 512) ≡ None) }
     ensures blocks { IfOk result (λ read. read.blocks.items ≡ kept bytes.now (length bytes.now / 512)) }
     ensures index { IfOk result IsIndexed }
-    ensures fault { IfErr result (λ fault. fault ≢ ImageFault.Memory → first_fault bytes.now (length bytes.now / 512) ≡ Some fault) }
+    ensures fault { IfErr result (λ fault. fault ≢ ImageFault.Memory
+        → first_fault bytes.now (length bytes.now / 512) ≡ Some fault) }
 {
     let mut kept = Kept::new(alloc)?;
     for index in 0..bytes.len() / BLOCK_SIZE {
