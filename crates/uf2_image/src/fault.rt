@@ -1,5 +1,9 @@
 //! Why a file is no image.
 
+ghost use Rattle.std.specs.Prelude.{◌≡◌};
+ghost use Rattle.uf2_image.specs.declared.fault.ImageFault.TheVariants.{Memory};
+
+use std::alloc::{AllocError, AllocFailed};
 use thiserror::Error;
 
 /// The first fault of a UF2 file. Blocks are counted from 0 in the order of the file, and blocks that are skipped
@@ -45,4 +49,20 @@ pub enum ImageFault {
     /// There was no memory left.
     #[error("out of memory")]
     Memory,
+}
+
+impl From<AllocError> for ImageFault {
+    ghost from_gives = { λ _ fault. fault ≡ Memory };
+
+    fn from(_error: AllocError) -> ImageFault {
+        ImageFault::Memory
+    }
+}
+
+impl<T: Drop> From<AllocFailed<T>> for ImageFault {
+    ghost from_gives = { λ _ fault. fault ≡ Memory };
+
+    fn from(_error: AllocFailed<T>) -> ImageFault {
+        ImageFault::Memory
+    }
 }

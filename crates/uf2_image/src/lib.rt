@@ -6,11 +6,17 @@
 ghost use Rattle.std.specs.Prelude.{◌≡◌, ◌≢◌, ◌≤◌, length, MatchResult, IfOk};
 ghost use Rattle.uf2_image.specs.Uf2.{image_of, FitsSram};
 
+mod blocks;
 pub mod fault;
+mod order;
 pub mod parts;
+mod reading;
 
+use blocks::BLOCK_SIZE;
 pub use fault::ImageFault;
+use order::image_of_blocks;
 pub use parts::{Image, Part, PartBytes, PartList};
+use reading::read_blocks;
 use std::alloc::Global;
 
 /// The image of a UF2 file of at most 16 MiB.
@@ -22,10 +28,20 @@ use std::alloc::Global;
 pub fn read_image(alloc: Global, bytes: &[u8]) -> Result<Image, ImageFault>
     requires { length bytes.now ≤ 16777216 }
     // The answer is the definition's, unless memory ran out.
-    ensures image { MatchResult result (λ image. image_of bytes.now ≡ Ok image) (λ fault. fault ≢ ImageFault.Memory → image_of bytes.now ≡ Err fault) }
+    ensures image { MatchResult result (λ image. image_of bytes.now ≡ Ok image)
+        (λ fault. fault ≢ ImageFault.Memory → image_of bytes.now ≡ Err fault) }
+    // What holds of every image, for callers that place one.
     ensures fits { IfOk result FitsSram }
 {
-    let _alloc = alloc;
-    let _bytes = bytes;
-    Err(ImageFault::Memory)
+    if bytes.is_empty() {
+        return Err(ImageFault::Empty);
+    }
+    if bytes.len() % BLOCK_SIZE != 0 {
+        return Err(ImageFault::Ragged(bytes.len() as u64));
+    }
+    let kept = read_blocks(alloc, bytes)?;
+    image_of_blocks(alloc, &kept)
 }
+
+#[cfg(test)]
+mod tests;

@@ -1,0 +1,6 @@
+pub mod Files
+pub mod Images
+pub mod Loading
+pub mod Placing
+pub mod Ranges
+pub mod Spread

@@ -1,0 +1,374 @@
+//! Whole files, and what each gives.
+
+use crate::fault::ImageFault;
+use crate::parts::Image;
+use crate::read_image;
+use std::alloc::{AllocError, Global};
+use std::process::Abort;
+use std::test::Fail;
+
+/// The fields of a block. Each byte of its payload is the low byte of its number, and each other byte is 238.
+#[derive(Clone, Copy)]
+struct Fields {
+    magic: (u32, u32, u32),
+    flags: u32,
+    target: u32,
+    size: u32,
+    number: u32,
+    count: u32,
+    family: u32,
+}
+
+const MAGIC: (u32, u32, u32) = (0x0A32_4655, 0x9E5D_5157, 0x0AB1_6F30);
+
+const RP2040: u32 = 0xE48B_FF56;
+
+const NONE: (u32, usize, u8) = (0, 0, 0);
+
+/// A block for the RP2040.
+fn plain(number: u32, count: u32, target: u32, size: u32) -> Fields {
+    Fields {
+        magic: MAGIC,
+        flags: 0x2000,
+        target,
+        size,
+        number,
+        count,
+        family: RP2040,
+    }
+}
+
+/// A block that is skipped, whose other fields are all wrong.
+fn skipped(flags: u32, family: u32) -> Fields {
+    Fields {
+        magic: MAGIC,
+        flags,
+        target: 0x1000_0000,
+        size: 0,
+        number: 9,
+        count: 0,
+        family,
+    }
+}
+
+/// A block with these magic words.
+fn with_magic(first: u32, second: u32, last: u32) -> Fields {
+    Fields {
+        magic: (first, second, last),
+        ..plain(0, 1, 0x2000_0000, 4)
+    }
+}
+
+/// Appends a word, little-endian.
+fn push_word(file: &mut Vec<u8>, word: u32) -> Result<(), AllocError> {
+    file.extend_from_slice(&word.to_le_bytes())
+}
+
+/// Appends a block to a file.
+fn push_block(file: &mut Vec<u8>, fields: Fields) -> Result<(), AllocError> {
+    let header = [
+        fields.magic.0,
+        fields.magic.1,
+        fields.flags,
+        fields.target,
+        fields.size,
+        fields.number,
+        fields.count,
+        fields.family,
+    ];
+    for word in header {
+        push_word(file, word)?;
+    }
+    let fill = (fields.number & 0xff) as u8;
+    for place in 0..476u32 {
+        file.push(if place < fields.size { fill } else { 238 })?;
+    }
+    push_word(file, fields.magic.2)
+}
+
+/// A file of three blocks.
+fn file_of(alloc: Global, blocks: [Fields; 3]) -> Result<Vec<u8>, AllocError> {
+    let mut file = Vec::new(alloc);
+    for fields in blocks {
+        push_block(&mut file, fields)?;
+    }
+    Ok(file)
+}
+
+/// What a file gives, where it is short enough to be asked.
+fn read(alloc: Global, file: &[u8]) -> Result<Image, ImageFault> {
+    if file.len() > 16_777_216 {
+        return Err(ImageFault::Memory);
+    }
+    read_image(alloc, file)
+}
+
+#[test]
+fn lengths(rt: HostRuntime) -> Result<(), Fail> {
+    let alloc = rt.alloc();
+    let cases = [
+        (0, ImageFault::Empty),
+        (511, ImageFault::Ragged(511)),
+        (513, ImageFault::Ragged(513)),
+    ];
+    for (len, want) in cases {
+        let file = vec![in alloc; 0u8; len]?;
+        assert_eq!(rt; read(alloc, &file).err(), Some(want), "at {len}");
+    }
+    Ok(())
+}
+
+#[test]
+fn faults_of_fields(rt: HostRuntime) -> Result<(), Fail> {
+    let alloc = rt.alloc();
+    let skip = skipped(0x2000, 7);
+    let cases = [
+        // Magic words.
+        (
+            [with_magic(0, MAGIC.1, MAGIC.2), skip, skip],
+            ImageFault::Magic(0),
+        ),
+        (
+            [
+                plain(0, 1, 0x2000_0000, 4),
+                with_magic(MAGIC.0, 0, MAGIC.2),
+                skip,
+            ],
+            ImageFault::Magic(1),
+        ),
+        (
+            [skip, skip, with_magic(MAGIC.0, MAGIC.1, 0)],
+            ImageFault::Magic(2),
+        ),
+        // Sizes and numbers.
+        (
+            [plain(0, 1, 0x2000_0000, 0), skip, skip],
+            ImageFault::Payload(0, 0),
+        ),
+        (
+            [skip, plain(0, 1, 0x2000_0000, 477), skip],
+            ImageFault::Payload(1, 477),
+        ),
+        (
+            [plain(0, 0, 0x2000_0000, 4), skip, skip],
+            ImageFault::Count(0),
+        ),
+        (
+            [
+                plain(0, 2, 0x2000_0000, 4),
+                skip,
+                plain(1, 3, 0x2000_0004, 4),
+            ],
+            ImageFault::Count(2),
+        ),
+        (
+            [plain(1, 1, 0x2000_0000, 4), skip, skip],
+            ImageFault::Number(0),
+        ),
+        (
+            [
+                plain(0, 3, 0x2000_0000, 4),
+                plain(1, 3, 0x2000_0100, 4),
+                plain(1, 3, 0x2000_0200, 4),
+            ],
+            ImageFault::Repeat(2),
+        ),
+    ];
+    for (blocks, want) in cases {
+        let file = file_of(alloc, blocks)?;
+        assert_eq!(rt; read(alloc, &file).err(), Some(want));
+    }
+    Ok(())
+}
+
+#[test]
+fn faults_of_places(rt: HostRuntime) -> Result<(), Fail> {
+    let alloc = rt.alloc();
+    let skip = skipped(0x2000, 7);
+    let cases = [
+        // Addresses.
+        (
+            [plain(0, 9, 0x1000_0000, 256), skip, skip],
+            ImageFault::Flash(0, 0x1000_0000),
+        ),
+        (
+            [plain(0, 9, 0x0FFF_FFFF, 2), skip, skip],
+            ImageFault::Flash(0, 0x0FFF_FFFF),
+        ),
+        (
+            [skip, plain(0, 9, 0x13FF_FFFF, 1), skip],
+            ImageFault::Flash(1, 0x13FF_FFFF),
+        ),
+        (
+            [plain(0, 9, 0x1400_0000, 4), skip, skip],
+            ImageFault::Address(0, 0x1400_0000),
+        ),
+        (
+            [plain(0, 9, 0x0FFF_FF00, 256), skip, skip],
+            ImageFault::Address(0, 0x0FFF_FF00),
+        ),
+        (
+            [plain(0, 9, 0x1FFF_FFFF, 2), skip, skip],
+            ImageFault::Address(0, 0x1FFF_FFFF),
+        ),
+        (
+            [plain(0, 9, 0x2004_1F01, 256), skip, skip],
+            ImageFault::Address(0, 0x2004_1F01),
+        ),
+        (
+            [plain(0, 9, 0xFFFF_FFFF, 476), skip, skip],
+            ImageFault::Address(0, 0xFFFF_FFFF),
+        ),
+        // Overlaps, which come before what the whole lacks.
+        (
+            [
+                plain(0, 2, 0x2000_0000, 256),
+                plain(1, 2, 0x2000_00FF, 256),
+                skip,
+            ],
+            ImageFault::Overlap(1),
+        ),
+        (
+            [
+                plain(0, 2, 0x2000_00FF, 256),
+                plain(1, 2, 0x2000_0000, 256),
+                skip,
+            ],
+            ImageFault::Overlap(1),
+        ),
+        (
+            [
+                plain(0, 3, 0x2000_0000, 256),
+                skip,
+                plain(2, 3, 0x2000_0080, 4),
+            ],
+            ImageFault::Overlap(2),
+        ),
+        // What the whole lacks.
+        (
+            [
+                plain(0, 3, 0x2000_0000, 4),
+                plain(2, 3, 0x2000_0100, 4),
+                skip,
+            ],
+            ImageFault::Missing(1),
+        ),
+        (
+            [
+                plain(2, 3, 0x2000_0000, 4),
+                skip,
+                plain(1, 3, 0x2000_0100, 4),
+            ],
+            ImageFault::Missing(0),
+        ),
+        (
+            [skip, skipped(0x1, 0), skipped(0x3000, RP2040)],
+            ImageFault::Nothing,
+        ),
+    ];
+    for (blocks, want) in cases {
+        let file = file_of(alloc, blocks)?;
+        assert_eq!(rt; read(alloc, &file).err(), Some(want));
+    }
+    Ok(())
+}
+
+/// The parts of an image are these, each an address, a size and a block number; `NONE` stands for no part.
+fn expect_parts(rt: &impl Abort, image: &Image, want: &[(u32, usize, u8)]) {
+    let parts = image.parts.as_slice();
+    assert!(rt; parts.len() <= want.len());
+    for (place, (address, size, number)) in want.iter().enumerate() {
+        if let Some(part) = parts.get(place) {
+            let bytes = part.bytes.as_slice();
+            assert_eq!(rt; part.address, *address);
+            assert_eq!(rt; bytes.len(), *size);
+            assert!(rt; bytes.iter().all(|byte| *byte == *number));
+        } else {
+            assert_eq!(rt; *size, 0);
+        }
+    }
+}
+
+#[test]
+fn images(rt: HostRuntime) -> Result<(), Fail> {
+    let alloc = rt.alloc();
+    let skip = skipped(0x2000, 7);
+    let no_family = Fields {
+        flags: 0x0,
+        family: 7,
+        ..plain(1, 2, 0x2000_0006, 6)
+    };
+    let cases = [
+        (
+            [plain(0, 1, 0x2000_0000, 6), skip, skip],
+            0x2000_0000,
+            [(0x2000_0000, 6, 0), NONE, NONE],
+        ),
+        (
+            [skip, plain(0, 1, 0x2004_1F00, 256), skip],
+            0x2004_1F00,
+            [(0x2004_1F00, 256, 0), NONE, NONE],
+        ),
+        (
+            [
+                plain(2, 3, 0x2000_0200, 256),
+                plain(0, 3, 0x2000_0000, 256),
+                plain(1, 3, 0x2000_0100, 256),
+            ],
+            0x2000_0000,
+            [
+                (0x2000_0000, 256, 0),
+                (0x2000_0100, 256, 1),
+                (0x2000_0200, 256, 2),
+            ],
+        ),
+        (
+            [
+                plain(1, 2, 0x2000_0300, 1),
+                skipped(0x1, 7),
+                plain(0, 2, 0x2000_0101, 476),
+            ],
+            0x2000_0100,
+            [(0x2000_0101, 476, 0), (0x2000_0300, 1, 1), NONE],
+        ),
+        (
+            [
+                plain(0, 2, 0x2000_0000, 6),
+                skipped(0x3000, RP2040),
+                no_family,
+            ],
+            0x2000_0000,
+            [(0x2000_0000, 6, 0), (0x2000_0006, 6, 1), NONE],
+        ),
+    ];
+    for (blocks, entry, parts) in cases {
+        let file = file_of(alloc, blocks)?;
+        let Ok(image) = read(alloc, &file) else {
+            panic!(rt; "no image at {entry:x}");
+        };
+        assert_eq!(rt; image.entry, entry);
+        expect_parts(&rt, &image, &parts);
+    }
+    Ok(())
+}
+
+#[test]
+fn largest_file(rt: HostRuntime) -> Result<(), Fail> {
+    let alloc = rt.alloc();
+    let mut file = Vec::with_capacity(alloc, 16_777_216)?;
+    for number in 0..32_768u32 {
+        let place = number.wrapping_mul(4097) % 32_768;
+        push_block(&mut file, plain(number, 32_768, 0x2000_0000 + 8 * place, 8))?;
+    }
+    let Ok(image) = read(alloc, &file) else {
+        panic!(rt; "no image");
+    };
+    assert_eq!(rt; image.entry, 0x2000_0000);
+    assert_eq!(rt; image.parts.as_slice().len(), 32_768);
+    let mut address = 0x2000_0000u32;
+    for part in image.parts.as_slice() {
+        assert_eq!(rt; part.address, address);
+        address = address.wrapping_add(8);
+    }
+    Ok(())
+}
