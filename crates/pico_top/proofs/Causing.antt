@@ -114,7 +114,7 @@ fault_comes files failed failed' call asked run held f (Large other read n gave 
 fault_comes files failed failed' call asked run held f (Faulty other read bytes gave fault is same ends) h fits e = ends_status call 4 _ ends
 fault_comes files failed failed' call asked run held f (Ran other read bytes gave image is same ends) h fits e =
     absurd (let m = subst (λ (r : Run). MayGive files r.image image_limit (Bytes bytes)) (same_run asked other run read h.read) gave in
-      let x : ◌≡◌ {A = Result Image ImageFault} (Err f) (Ok image) = sym e ∙ ap image_of (gave_held files run.image held bytes h.told m).0 ∙ is in cc x)
+    let x : ◌≡◌ {A = Result Image ImageFault} (Err f) (Ok image) = sym e ∙ ap image_of (gave_held files run.image held bytes h.told m).0 ∙ is in cc x)
 fault_comes files failed failed' call asked run held f (Empty other read same out) h fits e = out_status call 4 out
 
 pub run_comes : (files : Option Files) (failed failed' : List (List ℕ)) (call : Call) (asked : Option Run) (run : Run) (held : List ℕ) (loaded : Image) → Origin files failed failed' call asked → Held files failed failed' asked run held → length held ≤ 16777216 → image_of held ≡ Ok loaded → IsStatus call.status 0
@@ -124,6 +124,6 @@ run_comes files failed failed' call asked run held loaded (Large other read n ga
     absurd (let m = subst (λ (r : Run). MayGive files r.image image_limit (TooLong n)) (same_run asked other run read h.read) gave in omega (arith, long_held files run.image held n h.told m, fits))
 run_comes files failed failed' call asked run held loaded (Faulty other read bytes gave fault is same ends) h fits e =
     absurd (let m = subst (λ (r : Run). MayGive files r.image image_limit (Bytes bytes)) (same_run asked other run read h.read) gave in
-      let x : ◌≡◌ {A = Result Image ImageFault} (Ok loaded) (Err fault) = sym e ∙ ap image_of (gave_held files run.image held bytes h.told m).0 ∙ is in cc x)
+    let x : ◌≡◌ {A = Result Image ImageFault} (Ok loaded) (Err fault) = sym e ∙ ap image_of (gave_held files run.image held bytes h.told m).0 ∙ is in cc x)
 run_comes files failed failed' call asked run held loaded (Ran other read bytes gave image is same ends) h fits e = ends_status call 0 _ ends
 run_comes files failed failed' call asked run held loaded (Empty other read same out) h fits e = out_status call 0 out

@@ -27,8 +27,9 @@ anywhere files P failed failed' (Load name limit next) same p = inr (same, p NoM
 pub leads_on : (files : Option Files) (P Q : Ending → Type 0) (failed failed' : List (List ℕ)) (d : Dialogue) → ((e : Ending) → P e → Q e) → LeadsTo files P failed failed' d → LeadsTo files Q failed failed' d
 leads_on files P Q failed failed' (Say status text) f h = (h.0, f (Said status text) h.1)
 leads_on files P Q failed failed' (Load name limit next) f h = elim h [
-    inl w ↦ inl (w.0, w.1, leads_on files P Q (failed_by failed name w.0) failed' (next w.0) f w.2)
-  | inr w ↦ inr (w.0, f NoMemory w.1) ]
+  | inl w ↦ inl (w.0, w.1, leads_on files P Q (failed_by failed name w.0) failed' (next w.0) f w.2)
+  | inr w ↦ inr (w.0, f NoMemory w.1)
+]
 
 -- the first state is that of cycle 0
 pub start_cycle : (image : Loaded) → (start image).cycle ≡ 0

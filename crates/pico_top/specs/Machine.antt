@@ -25,10 +25,16 @@ pub record State : Type 0 where
 -- core 0 before its first instruction: its stack at the end of SRAM, all else 0
 abbrev pub first_core : ℕ → Core
 first_core entry = record {
-    r = 0 ∷ 0 ∷ 0 ∷ 0 ∷ 0 ∷ 0 ∷ 0 ∷ 0 ∷ 0 ∷ 0 ∷ 0 ∷ 0 ∷ 0 ∷ [];
-    sp = 0x20042000; lr = 0xFFFFFFFF; pc = entry;
-    n = false; z = false; c = false; v = false; target = None;
-  }
+  r = 0 ∷ 0 ∷ 0 ∷ 0 ∷ 0 ∷ 0 ∷ 0 ∷ 0 ∷ 0 ∷ 0 ∷ 0 ∷ 0 ∷ 0 ∷ [];
+  sp = 0x20042000;
+  lr = 0xFFFFFFFF;
+  pc = entry;
+  n = false;
+  z = false;
+  c = false;
+  v = false;
+  target = None;
+}
 
 -- the first state: SRAM holds the image, core 0 begins at the image's entry
 unfoldable pub start : Image → State
