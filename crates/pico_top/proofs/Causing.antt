@@ -1,16 +1,16 @@
 -- The causes of the statuses, from the ways in which a call goes.
-use Rattle.std.proofs.Common.{◌≡◌, ◌≢◌, ◌⊎◌, ℕ, ◌+◌, ◌<◌, ◌≤◌, List, [], ◌∷◌, ◌++◌, length, Option, Some, None, Result, Ok, Err, refl, sym, ap, inl, inr, ◌∙◌, subst, arith, length-append}
+use Rattle.std.proofs.Common.{◌≡◌, ◌≢◌, ℕ, ◌+◌, ◌<◌, ◌≤◌, List, [], ◌∷◌, length, Option, Some, None, Result, Ok, Err, sym, ap, inl, inr, ◌∙◌, subst, arith, length-append}
 use Rattle.rp_ports.specs.Shelf.{Files}
 use Rattle.rp_ports.specs.Fault.{Rose}
 use Rattle.uf2_image.specs.Uf2.{image_of}
 use Rattle.uf2_image.specs.declared.parts.Image.{Image}
 use Rattle.uf2_image.specs.declared.fault.ImageFault.{ImageFault}
-use Rattle.pico_top.specs.Words.{Run, reading}
+use Rattle.pico_top.specs.Words.{Run}
 use Rattle.pico_top.specs.Answer.{Call, Says, RanOut, Ends}
-use Rattle.pico_top.specs.Dialogue.{MayGive, image_limit, Ending}
+use Rattle.pico_top.specs.Dialogue.{MayGive, image_limit}
 use Rattle.pico_top.specs.Dialogue.Gave.{Bytes, TooLong}
-use Rattle.pico_top.specs.Dialogue.Ending.{Said, NoMemory}
-use Rattle.pico_top.specs.Causes.{AsksFor, LoadFailed, FileCause, HasFault, IsStatus, Holds, Held}
+use Rattle.pico_top.specs.Dialogue.Ending.{Said}
+use Rattle.pico_top.specs.Causes.{LoadFailed, FileCause, HasFault, IsStatus, Holds, Held}
 use Rattle.pico_top.proofs.Origins.{Origin, not_this, ends_status, ran_out_status}
 use Rattle.pico_top.proofs.Origins.Origin.{NoRun, Failing, Large, Faulty, Ran, Empty}
 

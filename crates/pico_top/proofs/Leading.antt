@@ -1,5 +1,5 @@
 -- Dialogues and their endings.
-use Rattle.std.proofs.Common.{◌≡◌, ◌⊎◌, ℕ, ◌+◌, ◌≤◌, List, [], ◌∷◌, ◌++◌, Option, Some, None, Result, Ok, Err, refl, sym, ap, inl, inr, ◌∙◌, subst, arith}
+use Rattle.std.proofs.Common.{◌≡◌, ℕ, List, Option, Some, Result, Ok, Err, refl, sym, ap, inl, inr, ◌∙◌, arith}
 use Rattle.std.proofs.Common.{Vec, Global}
 use Rattle.rp_ports.specs.Shelf.{Files}
 use Rattle.uf2_image.specs.Uf2.{image_of}
@@ -13,7 +13,7 @@ use Rattle.pico_top.specs.RunText.{run_text}
 use Rattle.pico_top.specs.Refusals.{file_line, large_line}
 use Rattle.pico_top.specs.Opening.{OpensAs, LoadsAs, StartsAs}
 use Rattle.pico_top.specs.Dialogue.{dialogue, run_image}
-use Rattle.pico_top.specs.Dialogue.{Dialogue, Ending, Gave, LeadsTo, MayGive, failed_by}
+use Rattle.pico_top.specs.Dialogue.{Dialogue, Ending, LeadsTo, failed_by}
 use Rattle.pico_top.specs.Dialogue.Dialogue.{Say, Load}
 use Rattle.pico_top.specs.Dialogue.Gave.{Bytes, TooLong, Refused}
 use Rattle.pico_top.specs.Dialogue.Ending.{Said, NoMemory}

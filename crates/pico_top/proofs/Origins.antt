@@ -1,7 +1,6 @@
 -- Where a status comes from.
-use Rattle.std.proofs.Common.{◌≡◌, ◌⊎◌, ℕ, ◌+◌, ◌<◌, ◌≤◌, List, [], ◌∷◌, ◌++◌, length, Option, Some, None, Result, Ok, Err, IfSome, IsSomeAnd, refl, sym, ap, inl, inr, ◌∙◌, subst, arith, ◌≢◌}
+use Rattle.std.proofs.Common.{◌≡◌, ◌⊎◌, ℕ, ◌<◌, List, Option, Some, None, Result, Ok, Err, refl, inl, inr, arith, ◌≢◌}
 use Rattle.rp_ports.specs.Shelf.{Files}
-use Rattle.rp_ports.specs.Fault.{Rose}
 use Rattle.uf2_image.specs.Uf2.{image_of}
 use Rattle.uf2_image.specs.declared.parts.Image.{Image}
 use Rattle.uf2_image.specs.declared.fault.ImageFault.{ImageFault}
@@ -10,10 +9,10 @@ use Rattle.pico_top.specs.Machine.{start}
 use Rattle.pico_top.specs.RunText.{run_text}
 use Rattle.pico_top.specs.Refusals.{words_line, file_line, large_line, image_line}
 use Rattle.pico_top.specs.Answer.{Call, Says, RanOut, Ends}
-use Rattle.pico_top.specs.Dialogue.{Dialogue, Ending, Gave, LeadsTo, MayGive, failed_by, dialogue, dialogue_of, run_image, with_file, image_limit}
+use Rattle.pico_top.specs.Dialogue.{Gave, LeadsTo, MayGive, failed_by, dialogue, dialogue_of, run_image, with_file, image_limit}
 use Rattle.pico_top.specs.Dialogue.Gave.{Bytes, TooLong, Refused}
-use Rattle.pico_top.specs.Dialogue.Ending.{Said, NoMemory}
-use Rattle.pico_top.specs.Causes.{AsksFor, LoadFailed, IsTooLarge, HasFault, IsStatus}
+use Rattle.pico_top.specs.Dialogue.Ending.{Said}
+use Rattle.pico_top.specs.Causes.{LoadFailed, IsStatus}
 
 -- the ways in which a call of the program goes
 pub data Origin (files : Option Files) (failed failed' : List (List ℕ)) (call : Call) (asked : Option Run) : Type 0 where

@@ -1,7 +1,7 @@
 -- Lines of refusals, and what a call's cases come to.
-use Rattle.std.proofs.Common.{◌≡◌, ◌⊎◌, ℕ, List, Option, Some, None, refl, inl, inr, subst, ◌∙◌, sym, ap}
+use Rattle.std.proofs.Common.{◌≡◌, ℕ, List, Option, Some, None, inl, inr, subst, sym}
 use Rattle.pico_top.specs.declared.open.Refusal.{Refusal}
-use Rattle.pico_top.specs.Answer.{Call, Says, RanOut, Ends}
+use Rattle.pico_top.specs.Answer.{Call, Says, Ends}
 use Rattle.pico_top.specs.Dialogue.{Ending}
 use Rattle.pico_top.specs.Dialogue.Ending.{Said, NoMemory}
 use Rattle.pico_top.specs.Opening.{Refuses, refusal_text, RefusedAs, RunsAs}
