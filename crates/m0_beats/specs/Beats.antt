@@ -43,7 +43,7 @@ abbrev pub access : ℕ → Size → Option ℕ → Beat
 access address size write = Access (record { address = address; size = size; write = write })
 
 -- the numbers of the registers of a list, ascending
-abbrev pub registers_of : ℕ → List ℕ
+unfoldable pub registers_of : ℕ → List ℕ
 registers_of list =
     filter (has_bit list) (0 ∷ 1 ∷ 2 ∷ 3 ∷ 4 ∷ 5 ∷ 6 ∷ 7 ∷ 8 ∷ 9 ∷ 10 ∷ 11 ∷ 12 ∷ 13 ∷ 14 ∷ 15 ∷ [])
 

@@ -70,6 +70,25 @@ after_shift d out s = with_register (record (with_sign (moved_on s 2) out.0) { c
 abbrev pub after_value : ℕ → ℕ → Regs → Regs
 after_value d value s = with_register (moved_on s 2) d value
 
+-- ---- branches
+
+-- the address of the next instruction with bit 0 set
+abbrev pub link_value : ℕ → Regs → ℕ
+link_value bytes s = (moved_on s bytes).pc / 2 * 2 + 1
+
+abbrev pub branched : ℕ → Regs → Regs
+branched offset s = with_pc s ((pc_of s + offset) % 2 ^ 32)
+
+-- a branch to a value whose bit 0 is the new T (BXWritePC). In Handler mode an exception return begins in its place, and
+-- the branch itself changes nothing
+abbrev pub exchanged : Regs → ℕ → Regs
+exchanged s value =
+    if is_exception_return s.ipsr value then s else record (with_pc s value) { t = has_bit value 0 }
+
+-- a branch to a value whose bit 0 is the new T, with the return address in LR (BLXWritePC)
+abbrev pub exchanged_link : Regs → ℕ → Regs
+exchanged_link s value = record (with_pc s value) { lr = link_value 2 s; t = has_bit value 0 }
+
 -- ---- loads and stores
 
 -- a narrow value as a word
@@ -77,12 +96,6 @@ abbrev pub loaded : Size → Bool → ℕ → ℕ
 loaded sizes.Byte sign value = extended (if sign then extends.Sxtb else extends.Uxtb) value
 loaded sizes.Half sign value = extended (if sign then extends.Sxth else extends.Uxth) value
 loaded sizes.Word sign value = value
-
--- a branch to a value whose bit 0 is the new T (BXWritePC). In Handler mode an exception return begins in its place, and
--- the branch itself changes nothing
-abbrev pub exchanged : Regs → ℕ → Regs
-exchanged s value =
-    if is_exception_return s.ipsr value then s else record (with_pc s value) { t = has_bit value 0 }
 
 -- a register of a list takes its word; PC takes it as a branch
 abbrev pub with_loaded : Regs → ℕ → ℕ → Regs
@@ -115,15 +128,6 @@ after_pop list read s =
     read
     0
 
--- ---- branches
-
--- the address of the next instruction with bit 0 set
-abbrev pub link_value : ℕ → Regs → ℕ
-link_value bytes s = (moved_on s bytes).pc / 2 * 2 + 1
-
-abbrev pub branched : ℕ → Regs → Regs
-branched offset s = with_pc s ((pc_of s + offset) % 2 ^ 32)
-
 -- ---- all rows
 
 abbrev pub effect_of_action : Action → Regs → List ℕ → Regs
@@ -146,8 +150,7 @@ effect_of_action (act.BranchIf condition offset) s read =
     if condition_holds condition s then branched offset s else moved_on s 2
 effect_of_action (act.BranchLink offset) s read = branched offset (record s { lr = link_value 4 s })
 effect_of_action (act.Exchange m) s read = exchanged s (register_of s m)
-effect_of_action (act.ExchangeLink m) s read =
-    record (with_pc s (register_of s m)) { lr = link_value 2 s; t = has_bit (register_of s m) 0 }
+effect_of_action (act.ExchangeLink m) s read = exchanged_link s (register_of s m)
 effect_of_action (act.ReadSpecial d number) s read = with_register (moved_on s 4) d (special_of s number)
 effect_of_action (act.WriteSpecial n number) s read = with_special (moved_on s 4) number (register_of s n)
 effect_of_action (act.Mask set) s read = record (moved_on s 2) { primask = set }

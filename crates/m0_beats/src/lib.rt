@@ -2,9 +2,11 @@
 //! registers and flags. Each function is defined in `specs/`, row by row of the manual's encodings.
 #![tactic(auto)]
 
+pub mod conditions;
 pub mod effects;
 pub mod registers;
 pub mod rows;
+pub mod special;
 pub mod timing;
 
 pub use effects::effect;
