@@ -6,8 +6,12 @@ use Rattle.std.proofs.Math.Nat.{div-eq_of_lt}
 use Rattle.std.proofs.lemmas.Nat.{shr-shr}
 use Rattle.std.proofs.lemmas.Bool.Decides.{nat_tests, eqb_tells}
 use Rattle.m0_alu.specs.Word.{has_bit}
-use Rattle.std.specs.Prelude.{slice_index}
-use Rattle.m0_beats.specs.Beats.{registers_of}
+use Rattle.std.specs.Prelude.{slice_index, map, ◌++◌, Option, Some, None}
+use Rattle.m0_beats.specs.Registers.{register_of}
+use Rattle.std.proofs.Common.{append_assoc}
+use Rattle.m0_beats.specs.Beats.{registers_of, access, accesses}
+use Rattle.m0_beats.specs.declared.timing.Beat.{Beat}
+use Rattle.rp_base.specs.declared.Size.TheVariants as sizes
 use Rattle.m0_beats.specs.Effects.{with_loaded, with_all_loaded}
 use Rattle.m0_beats.specs.declared.registers.Regs.{Regs}
 
@@ -86,3 +90,23 @@ load_listed s next list k value place read h is v e =
 
 pub load_other : (s : Regs) (list k place : ℕ) (read : List ℕ) → k < 16 → has_bit list k ≡ false → with_all_loaded s (rest_of list k) read place ≡ with_all_loaded s (rest_of list (k + 1)) read place
 load_other s list k place read h is = ap (λ ks. with_all_loaded s ks read place) (rest_other list k h is)
+
+-- ---- the accesses of the registers of a list
+
+pub access_listed : (f : ℕ → Option ℕ) (items new : List Beat) (beat : Beat) (list k address next : ℕ) → k < 16 → has_bit list k ≡ true → new ≡ items ++ beat ∷ [] → beat ≡ access address sizes.Word (f k) → next ≡ (address + 4) % 2 ^ 32 → items ++ accesses address (map f (rest_of list k)) ≡ new ++ accesses next (map f (rest_of list (k + 1)))
+access_listed f items new beat list k address next h is pushed made on =
+    ap (λ ks. items ++ accesses address (map f ks)) (rest_listed list k h is)
+    ∙ ap (λ b. items ++ b ∷ accesses ((address + 4) % 2 ^ 32) (map f (rest_of list (k + 1)))) (sym made)
+    ∙ ap (λ n. items ++ beat ∷ accesses n (map f (rest_of list (k + 1)))) (sym on)
+    ∙ sym (append_assoc items (beat ∷ []) (accesses next (map f (rest_of list (k + 1)))))
+    ∙ ap (λ bs. bs ++ accesses next (map f (rest_of list (k + 1)))) (sym pushed)
+
+pub access_other : (f : ℕ → Option ℕ) (items : List Beat) (list k address : ℕ) → k < 16 → has_bit list k ≡ false → items ++ accesses address (map f (rest_of list k)) ≡ items ++ accesses address (map f (rest_of list (k + 1)))
+access_other f items list k address h is = ap (λ ks. items ++ accesses address (map f ks)) (rest_other list k h is)
+
+-- what an access at a register's place writes: nothing where it reads
+abbrev pub no_write : ℕ → Option ℕ
+no_write k = None
+
+abbrev pub register_write : Regs → ℕ → Option ℕ
+register_write s k = Some (register_of s k)

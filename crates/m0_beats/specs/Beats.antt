@@ -37,7 +37,9 @@ bytes_of sizes.Word = 4
 
 -- what a store writes: the low bytes of the register
 abbrev pub stored : Size → ℕ → ℕ
-stored size value = value % 2 ^ (8 * bytes_of size)
+stored sizes.Byte value = value % 2 ^ 8
+stored sizes.Half value = value % 2 ^ 16
+stored sizes.Word value = value
 
 abbrev pub access : ℕ → Size → Option ℕ → Beat
 access address size write = Access (record { address = address; size = size; write = write })
@@ -79,6 +81,10 @@ inner count = replicate count Inner
 abbrev pub inner_to : ℕ → List Beat
 inner_to d = if nat_le 15 d then inner 2 else inner 1
 
+-- a POP of PC has two inner beats more
+abbrev pub pop_beats : ℕ → Regs → List Beat
+pop_beats list s = Inner ∷ (reads (sp_of s) (registers_of list) ++ (if has_bit list 15 then inner 2 else []))
+
 abbrev pub beats_of_action : Action → Regs → List Beat
 beats_of_action (act.Move d m) s = inner_to d
 beats_of_action (act.Place d x y) s = inner_to d
@@ -97,8 +103,7 @@ beats_of_action (act.Store t size x y) s =
 beats_of_action (act.LoadMany n list) s = Inner ∷ reads (register_of s n) (registers_of list)
 beats_of_action (act.StoreMany n list) s = Inner ∷ writes (register_of s n) (registers_of list) s
 beats_of_action (act.Push list) s = Inner ∷ writes (push_address list s) (registers_of list) s
-beats_of_action (act.Pop list) s =
-    Inner ∷ reads (sp_of s) (registers_of list) ++ (if has_bit list 15 then inner 2 else [])
+beats_of_action (act.Pop list) s = pop_beats list s
 beats_of_action _ s = inner 1
 
 abbrev pub beats_of : Op → Regs → List Beat
