@@ -1,12 +1,11 @@
 -- The beats of an instruction: its cycles inside the core and its accesses (ARM Cortex-M0+ Technical Reference Manual, 3.3,
 -- Instruction set summary, with the single-cycle port for the addresses that begin with hexadecimal D). The number N of
 -- registers in the timing of LDM, STM, PUSH and POP counts LR and PC.
-use Rattle.std.specs.Prelude.{ℕ, ◌+◌, ◌-◌, ◌*◌, ◌/◌, ◌%◌, ◌^◌, Bool, false, not, ◌==◌, nat_le, if◌then◌else◌, List, [], ◌∷◌, ◌++◌, length, Option, Some, None, count_ones, replicate, map, filter}
+use Rattle.std.specs.Prelude.{◌≡◌, ℕ, ◌+◌, ◌-◌, ◌*◌, ◌/◌, ◌%◌, ◌^◌, Bool, false, not, ◌==◌, nat_le, if◌then◌else◌, List, [], ◌∷◌, ◌++◌, length, Option, Some, None, replicate, map, filter}
 use Rattle.std.specs.List.{list_any}
 use Rattle.m0_alu.specs.Word.{has_bit}
 use Rattle.rp_base.specs.declared.Size.{Size}
 use Rattle.rp_base.specs.declared.Size.TheVariants as sizes
-use Rattle.rp_base.specs.declared.Request.{Request}
 use Rattle.rp_base.specs.declared.op.Op.{Op}
 use Rattle.m0_beats.specs.declared.registers.Regs.{Regs}
 use Rattle.m0_beats.specs.declared.rows.Action.{Action}
@@ -115,5 +114,13 @@ is_unaligned_beat Inner = false
 is_unaligned_beat (Access request) = not (request.address % bytes_of request.size == 0)
 
 -- an instruction faults where one of its accesses is unaligned (A3.2.1)
+abbrev pub is_unaligned_of_action : Action → Regs → Bool
+is_unaligned_of_action action s = list_any is_unaligned_beat (beats_of_action action s)
+
 abbrev pub is_unaligned_of : Op → Regs → Bool
-is_unaligned_of op s = list_any is_unaligned_beat (beats_of op s)
+is_unaligned_of op s = is_unaligned_of_action (action_of op) s
+
+-- the answer for the words of a list at ascending addresses, whatever they write
+abbrev pub TellsUnaligned : Bool → ℕ → ℕ → Type 0
+TellsUnaligned answer address list =
+    (write : ℕ → Option ℕ) → answer ≡ list_any is_unaligned_beat (accesses address (map write (registers_of list)))

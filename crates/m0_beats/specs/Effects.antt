@@ -1,6 +1,6 @@
 -- What an instruction leaves in registers and flags (ARMv6-M Architecture Reference Manual, A6.7). `read` has the values
 -- that its access beats read, in their order, a narrow one zero-extended; a value past its end counts as 0.
-use Rattle.std.specs.Prelude.{ℕ, ◌+◌, ◌-◌, ◌*◌, ◌/◌, ◌%◌, ◌^◌, Bool, true, false, not, ◌&&◌, ◌==◌, if◌then◌else◌, List, [], ◌∷◌, length, Option, Some, None, bit_and, bit_or, bit_xor, slice_index}
+use Rattle.std.specs.Prelude.{ℕ, ◌+◌, ◌-◌, ◌*◌, ◌/◌, ◌%◌, ◌^◌, Bool, true, false, ◌==◌, if◌then◌else◌, List, [], ◌∷◌, length, Option, Some, None, bit_and, bit_or, bit_xor, slice_index}
 use Rattle.std.specs.Int.{w32, bit_not}
 use Rattle.std.specs.Bool.{then_some}
 use Rattle.m0_alu.specs.Word.{has_bit}
@@ -8,7 +8,6 @@ use Rattle.m0_alu.specs.Sum.{add_with_carry}
 use Rattle.m0_alu.specs.Shift.{shifted}
 use Rattle.m0_alu.specs.Extend.{extended}
 use Rattle.m0_alu.specs.Product.{product_of}
-use Rattle.m0_alu.specs.declared.ShiftKind.{ShiftKind}
 use Rattle.m0_alu.specs.declared.ExtendKind.TheVariants as extends
 use Rattle.rp_base.specs.declared.Size.{Size}
 use Rattle.rp_base.specs.declared.Size.TheVariants as sizes
@@ -16,7 +15,6 @@ use Rattle.rp_base.specs.declared.op.Op.{Op}
 use Rattle.m0_beats.specs.declared.registers.Regs.{Regs}
 use Rattle.m0_beats.specs.declared.rows.Action.{Action}
 use Rattle.m0_beats.specs.declared.rows.Action.TheVariants as act
-use Rattle.m0_beats.specs.declared.rows.Operand.{Operand}
 use Rattle.m0_beats.specs.declared.rows.SumKind.{SumKind}
 use Rattle.m0_beats.specs.declared.rows.SumKind.TheVariants as sums
 use Rattle.m0_beats.specs.declared.rows.WordKind.{WordKind}
@@ -164,13 +162,17 @@ effect_of op s read = effect_of_action (action_of op) s read
 
 -- ---- exception returns
 
+-- the last value that the registers of a list take
+abbrev pub last_read : ℕ → List ℕ → ℕ
+last_read list read = slice_index read (length (registers_of list) - 1)
+
 -- the value with which an instruction begins an exception return, if it does
 abbrev pub return_of_action : Action → Regs → List ℕ → Option ℕ
 return_of_action (act.Exchange m) s read =
     then_some (is_exception_return s.ipsr (register_of s m)) (register_of s m)
 return_of_action (act.Pop list) s read =
-    let last = slice_index read (length (registers_of list) - 1) in
-    then_some (has_bit list 15 && is_exception_return s.ipsr last) last
+    if has_bit list 15 then
+    then_some (is_exception_return s.ipsr (last_read list read)) (last_read list read) else None
 return_of_action _ s read = None
 
 abbrev pub return_of : Op → Regs → List ℕ → Option ℕ

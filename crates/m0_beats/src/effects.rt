@@ -283,7 +283,7 @@ fn loaded(size: Size, signed: bool, value: u32) -> u32
 }
 
 /// The value at a place, 0 past the end.
-fn value_at(read: &[u32], place: usize) -> u32
+pub(crate) fn value_at(read: &[u32], place: usize) -> u32
     ensures { result ≡ slice_index read.now place }
 {
     if place < read.len() { read[place] } else { 0 }

@@ -4,11 +4,13 @@
 
 pub mod conditions;
 pub mod effects;
+pub mod faults;
 pub mod registers;
 pub mod rows;
 pub mod special;
 pub mod timing;
 
 pub use effects::effect;
+pub use faults::{exception_return, is_unaligned};
 pub use registers::Regs;
 pub use timing::{Beat, beats};

@@ -125,7 +125,7 @@ fn inner_to(d: u8) -> Beats
 }
 
 /// The address of a single load or store.
-fn address(x: Operand, y: Operand, regs: &Regs) -> u32
+pub(crate) fn address(x: Operand, y: Operand, regs: &Regs) -> u32
     ensures { result ≡ address_of x y regs.now }
 {
     x.value(regs).wrapping_add(y.value(regs))

@@ -1,7 +1,7 @@
-use Rattle.std.proofs.Common.{ap, sym, ◌∙◌, ◌≡◌, ◌≤◌, ℕ, ◌+◌, ◌++◌, [], length, arith}
+use Rattle.std.proofs.Common.{ap, sym, ◌∙◌, ◌≡◌, ◌+◌, ◌++◌, length, arith}
 use Rattle.std.proofs.lemmas.List.{append-nil}
 use Rattle.std.specs.Prelude.{map}
-use Rattle.m0_beats.specs.Beats.{registers_of, accesses}
+use Rattle.m0_beats.specs.Beats.{accesses}
 use Rattle.m0_beats.proofs.Lists.{rest_of, rest_start, rest_end, access_listed, access_other, no_write}
 use Rattle.m0_beats.proofs.timing.push_reads.Goals as goal
 use Rattle.m0_beats.proofs.timing.push_reads.Goals.{then-is_listed, else-is_listed}

@@ -1,7 +1,7 @@
-use Rattle.std.proofs.Common.{ap, sym, ◌∙◌, ◌≡◌, ◌≤◌, ℕ, ◌+◌, ◌++◌, [], length, arith}
+use Rattle.std.proofs.Common.{ap, sym, ◌∙◌, ◌≡◌, ℕ, ◌+◌, ◌++◌, length, arith}
 use Rattle.std.proofs.lemmas.List.{append-nil}
 use Rattle.std.specs.Prelude.{map, Some}
-use Rattle.m0_beats.specs.Beats.{registers_of, access, accesses}
+use Rattle.m0_beats.specs.Beats.{access, accesses}
 use Rattle.rp_base.specs.declared.Size.TheVariants as sizes
 use Rattle.m0_beats.proofs.Lists.{rest_of, rest_start, rest_end, access_listed, access_other, register_write}
 use Rattle.m0_beats.proofs.timing.push_writes.Goals as goal

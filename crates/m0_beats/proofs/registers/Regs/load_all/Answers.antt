@@ -1,4 +1,4 @@
-use Rattle.std.proofs.Common.{ap, sym, subst, ◌∙◌, ◌≡◌, ℕ, ◌+◌, List, arith}
+use Rattle.std.proofs.Common.{ap, sym, ◌∙◌, ◌≡◌, ◌+◌, arith}
 use Rattle.m0_beats.specs.Effects.{with_all_loaded}
 use Rattle.m0_beats.proofs.Lists.{rest_of, rest_start, rest_end, load_listed, load_other}
 use Rattle.m0_beats.proofs.registers.Regs.load_all.Goals as goal
