@@ -27,63 +27,61 @@ fn carry_out(action: &Action, regs: &mut Regs, read: &[u32])
     ensures { regs.new ≡ effect_of_action action.now regs.old read.now }
 {
     match *action {
-        Action::Shift { kind, d, m, by } => {
+        Action::Shift(kind, d, m, by) => {
             let amount = (by.value(regs) & 0xff) as u8;
             let out = shift(kind, regs.register(m), amount, regs.c);
             regs.after_shift(d, out);
         }
-        Action::Sum { kind, d, x, y } => regs.after_sum(kind, d, x.value(regs), y.value(regs)),
-        Action::Word { kind, d, x, y } => {
+        Action::Sum(kind, d, x, y) => regs.after_sum(kind, d, x.value(regs), y.value(regs)),
+        Action::Word(kind, d, x, y) => {
             regs.after_word(d, word_result(kind, x.value(regs), y.value(regs)));
         }
-        Action::Extend { kind, d, m } => regs.after_value(d, extend(kind, regs.register(m))),
-        Action::Move { d, m } => regs.after_value(d, regs.register(m)),
-        Action::Place { d, x, y } => regs.after_value(d, x.value(regs).wrapping_add(y.value(regs))),
-        Action::LowerSp { by } => regs.after_value(13, regs.active_sp().wrapping_sub(by)),
-        Action::Load {
+        Action::Extend(kind, d, m) => regs.after_value(d, extend(kind, regs.register(m))),
+        Action::Move(d, m) => regs.after_value(d, regs.register(m)),
+        Action::Place(d, x, y) => regs.after_value(d, x.value(regs).wrapping_add(y.value(regs))),
+        Action::LowerSp(by) => regs.after_value(13, regs.active_sp().wrapping_sub(by)),
+        Action::Load(t, size, signed, _, _) => regs.after_value(
             t,
-            size,
-            signed,
-            ..
-        } => regs.after_value(t, loaded(size, signed, value_at(read, 0))),
-        Action::LoadMany { n, list } => regs.after_load_many(n, list, read),
-        Action::StoreMany { n, list } => regs.after_store_many(n, list),
-        Action::Push { list } => {
+            loaded(size, signed, value_at(read, 0)),
+        ),
+        Action::LoadMany(n, list) => regs.after_load_many(n, list, read),
+        Action::StoreMany(n, list) => regs.after_store_many(n, list),
+        Action::Push(list) => {
             let sp = push_address(list, regs);
             regs.move_on(2);
             regs.set_active_sp(sp);
         }
-        Action::Pop { list } => regs.after_pop(list, read),
-        Action::Branch { offset } => regs.branch(offset),
-        Action::BranchIf { condition, offset } => {
+        Action::Pop(list) => regs.after_pop(list, read),
+        Action::Branch(offset) => regs.branch(offset),
+        Action::BranchIf(condition, offset) => {
             if regs.condition_holds(condition) {
                 regs.branch(offset);
             } else {
                 regs.move_on(2);
             }
         }
-        Action::BranchLink { offset } => {
+        Action::BranchLink(offset) => {
             regs.lr = regs.link_value(4);
             regs.branch(offset);
         }
-        Action::Exchange { m } => regs.exchange(regs.register(m)),
-        Action::ExchangeLink { m } => regs.exchange_link(regs.register(m)),
-        Action::ReadSpecial { d, s } => {
+        Action::Exchange(m) => regs.exchange(regs.register(m)),
+        Action::ExchangeLink(m) => regs.exchange_link(regs.register(m)),
+        Action::ReadSpecial(d, s) => {
             let value = regs.special(s);
             regs.move_on(4);
             regs.set_register(d, value);
         }
-        Action::WriteSpecial { n, s } => {
+        Action::WriteSpecial(n, s) => {
             let value = regs.register(n);
             regs.move_on(4);
             regs.set_special(s, value);
         }
-        Action::Mask { set } => {
+        Action::Mask(set) => {
             regs.move_on(2);
             regs.primask = set;
         }
         Action::Barrier => regs.move_on(4),
-        Action::Store { .. } | Action::Pause | Action::Nothing => regs.move_on(2),
+        Action::Store(..) | Action::Pause | Action::Nothing => regs.move_on(2),
         Action::Never => {}
     }
 }

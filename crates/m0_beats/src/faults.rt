@@ -28,30 +28,30 @@ fn action_is_unaligned(action: &Action, regs: &Regs) -> bool
     ensures { result ≡ is_unaligned_of_action action.now regs.now }
 {
     match *action {
-        Action::Load { size, x, y, .. } | Action::Store { size, x, y, .. } => {
+        Action::Load(_, size, _, x, y) | Action::Store(_, size, x, y) => {
             address(x, y, regs) % bytes(size) != 0
         }
-        Action::LoadMany { n, list } | Action::StoreMany { n, list } => are_unaligned(
+        Action::LoadMany(n, list) | Action::StoreMany(n, list) => are_unaligned(
             list,
             regs.register(n),
         ),
-        Action::Push { list } => are_unaligned(list, push_address(list, regs)),
-        Action::Pop { list } => are_unaligned(list, regs.active_sp()),
-        Action::Shift { .. }
-        | Action::Sum { .. }
-        | Action::Word { .. }
-        | Action::Extend { .. }
-        | Action::Move { .. }
-        | Action::Place { .. }
-        | Action::LowerSp { .. }
-        | Action::Branch { .. }
-        | Action::BranchIf { .. }
-        | Action::BranchLink { .. }
-        | Action::Exchange { .. }
-        | Action::ExchangeLink { .. }
-        | Action::ReadSpecial { .. }
-        | Action::WriteSpecial { .. }
-        | Action::Mask { .. }
+        Action::Push(list) => are_unaligned(list, push_address(list, regs)),
+        Action::Pop(list) => are_unaligned(list, regs.active_sp()),
+        Action::Shift(..)
+        | Action::Sum(..)
+        | Action::Word(..)
+        | Action::Extend(..)
+        | Action::Move(..)
+        | Action::Place(..)
+        | Action::LowerSp(..)
+        | Action::Branch(..)
+        | Action::BranchIf(..)
+        | Action::BranchLink(..)
+        | Action::Exchange(..)
+        | Action::ExchangeLink(..)
+        | Action::ReadSpecial(..)
+        | Action::WriteSpecial(..)
+        | Action::Mask(..)
         | Action::Barrier
         | Action::Pause
         | Action::Nothing
@@ -83,8 +83,8 @@ pub fn exception_return(op: &Op, regs: &Regs, read: &[u32]) -> Option<u32>
     ensures { result ≡ return_of op.now regs.now read.now }
 {
     match classify(op) {
-        Action::Exchange { m } => return_value(regs, regs.register(m)),
-        Action::Pop { list } if is_listed(list, 15) => return_value(regs, last_read(list, read)),
+        Action::Exchange(m) => return_value(regs, regs.register(m)),
+        Action::Pop(list) if is_listed(list, 15) => return_value(regs, last_read(list, read)),
         _ => None,
     }
 }

@@ -39,52 +39,50 @@ fn action_beats(action: &Action, regs: &Regs) -> Beats
     ensures { result.items ≡ beats_of_action action.now regs.now }
 {
     match *action {
-        Action::Move { d, .. } | Action::Place { d, .. } => inner_to(d),
-        Action::Branch { .. }
-        | Action::Exchange { .. }
-        | Action::ExchangeLink { .. }
-        | Action::Pause => inner_twice(),
-        Action::BranchIf { condition, .. } => {
+        Action::Move(d, _) | Action::Place(d, _, _) => inner_to(d),
+        Action::Branch(..) | Action::Exchange(..) | Action::ExchangeLink(..) | Action::Pause =>
+            inner_twice(),
+        Action::BranchIf(condition, _) => {
             if regs.condition_holds(condition) {
                 inner_twice()
             } else {
                 inner_once()
             }
         }
-        Action::BranchLink { .. }
-        | Action::ReadSpecial { .. }
-        | Action::WriteSpecial { .. }
+        Action::BranchLink(..)
+        | Action::ReadSpecial(..)
+        | Action::WriteSpecial(..)
         | Action::Barrier => inner_thrice(),
-        Action::Load { size, x, y, .. } => single(address(x, y, regs), size, None),
-        Action::Store { t, size, x, y } => {
+        Action::Load(_, size, _, x, y) => single(address(x, y, regs), size, None),
+        Action::Store(t, size, x, y) => {
             single(
                 address(x, y, regs),
                 size,
                 Some(stored(size, regs.register(t))),
             )
         }
-        Action::LoadMany { n, list } => {
+        Action::LoadMany(n, list) => {
             let mut out = inner_once();
             push_reads(&mut out, regs.register(n), list);
             out
         }
-        Action::StoreMany { n, list } => {
+        Action::StoreMany(n, list) => {
             let mut out = inner_once();
             push_writes(&mut out, regs.register(n), list, regs);
             out
         }
-        Action::Push { list } => {
+        Action::Push(list) => {
             let mut out = inner_once();
             push_writes(&mut out, push_address(list, regs), list, regs);
             out
         }
-        Action::Pop { list } => pop(list, regs),
-        Action::Shift { .. }
-        | Action::Sum { .. }
-        | Action::Word { .. }
-        | Action::Extend { .. }
-        | Action::LowerSp { .. }
-        | Action::Mask { .. }
+        Action::Pop(list) => pop(list, regs),
+        Action::Shift(..)
+        | Action::Sum(..)
+        | Action::Word(..)
+        | Action::Extend(..)
+        | Action::LowerSp(..)
+        | Action::Mask(..)
         | Action::Nothing
         | Action::Never => inner_once(),
     }
