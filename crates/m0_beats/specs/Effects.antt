@@ -77,6 +77,12 @@ link_value bytes s = (moved_on s bytes).pc / 2 * 2 + 1
 abbrev pub branched : ℕ → Regs → Regs
 branched offset s = with_pc s ((pc_of s + offset) % 2 ^ 32)
 
+abbrev pub branched_if : ℕ → ℕ → Regs → Regs
+branched_if condition offset s = if condition_holds condition s then branched offset s else moved_on s 2
+
+abbrev pub branched_link : ℕ → Regs → Regs
+branched_link offset s = branched offset (record s { lr = link_value 4 s })
+
 -- a branch to a value whose bit 0 is the new T (BXWritePC). In Handler mode an exception return begins in its place, and
 -- the branch itself changes nothing
 abbrev pub exchanged : Regs → ℕ → Regs
@@ -117,6 +123,9 @@ after_load_many n list read s =
 abbrev pub after_store_many : ℕ → ℕ → Regs → Regs
 after_store_many n list s = with_register (moved_on s 2) n (base_after (register_of s n) list)
 
+abbrev pub after_push : ℕ → Regs → Regs
+after_push list s = with_sp (moved_on s 2) (push_address list s)
+
 -- a POP of PC stays where it is until the branch
 abbrev pub after_pop : ℕ → List ℕ → Regs → Regs
 after_pop list read s =
@@ -125,6 +134,18 @@ after_pop list read s =
     (registers_of list)
     read
     0
+
+-- ---- special registers
+
+abbrev pub after_read_special : ℕ → ℕ → Regs → Regs
+after_read_special d number s = with_register (moved_on s 4) d (special_of s number)
+
+abbrev pub after_write_special : ℕ → ℕ → Regs → Regs
+after_write_special n number s = with_special (moved_on s 4) number (register_of s n)
+
+-- CPSID sets PRIMASK and CPSIE clears it
+abbrev pub after_mask : Bool → Regs → Regs
+after_mask set s = record (moved_on s 2) { primask = set }
 
 -- ---- all rows
 
@@ -141,17 +162,16 @@ effect_of_action (act.Load t size sign x y) s read = after_value t (loaded size 
 effect_of_action (act.Store t size x y) s read = moved_on s 2
 effect_of_action (act.LoadMany n list) s read = after_load_many n list read s
 effect_of_action (act.StoreMany n list) s read = after_store_many n list s
-effect_of_action (act.Push list) s read = with_sp (moved_on s 2) (push_address list s)
+effect_of_action (act.Push list) s read = after_push list s
 effect_of_action (act.Pop list) s read = after_pop list read s
 effect_of_action (act.Branch offset) s read = branched offset s
-effect_of_action (act.BranchIf condition offset) s read =
-    if condition_holds condition s then branched offset s else moved_on s 2
-effect_of_action (act.BranchLink offset) s read = branched offset (record s { lr = link_value 4 s })
+effect_of_action (act.BranchIf condition offset) s read = branched_if condition offset s
+effect_of_action (act.BranchLink offset) s read = branched_link offset s
 effect_of_action (act.Exchange m) s read = exchanged s (register_of s m)
 effect_of_action (act.ExchangeLink m) s read = exchanged_link s (register_of s m)
-effect_of_action (act.ReadSpecial d number) s read = with_register (moved_on s 4) d (special_of s number)
-effect_of_action (act.WriteSpecial n number) s read = with_special (moved_on s 4) number (register_of s n)
-effect_of_action (act.Mask set) s read = record (moved_on s 2) { primask = set }
+effect_of_action (act.ReadSpecial d number) s read = after_read_special d number s
+effect_of_action (act.WriteSpecial n number) s read = after_write_special n number s
+effect_of_action (act.Mask set) s read = after_mask set s
 effect_of_action act.Barrier s read = moved_on s 4
 effect_of_action act.Pause s read = moved_on s 2
 effect_of_action act.Nothing s read = moved_on s 2

@@ -2,7 +2,7 @@
 
 ghost use Rattle.std.specs.Prelude.{◌≡◌, slice_index};
 ghost use Rattle.m0_beats.specs.Beats.{value_of, registers_of, bytes_of_list, push_address};
-ghost use Rattle.m0_beats.specs.Effects.{with_result, sum_result, with_sum_flags, after_sum, word_result, after_word, after_shift, after_value, loaded, exchanged, exchanged_link, with_loaded, with_all_loaded, base_after, after_load_many, after_store_many, after_pop, link_value, branched, effect_of_action, effect_of, return_of};
+ghost use Rattle.m0_beats.specs.Effects.{with_result, sum_result, with_sum_flags, after_sum, word_result, after_word, after_shift, after_value, loaded, exchanged, exchanged_link, with_loaded, with_all_loaded, base_after, after_load_many, after_store_many, after_push, after_pop, link_value, branched, branched_if, branched_link, after_read_special, after_write_special, after_mask, effect_of_action, effect_of, return_of};
 ghost use Rattle.m0_beats.specs.Registers.{register_of};
 ghost use Rattle.m0_alu.specs.Word.{has_bit};
 
@@ -29,13 +29,13 @@ fn carry_out(action: &Action, regs: &mut Regs, read: &[u32])
     match *action {
         Action::Shift(kind, d, m, by) => {
             let amount = (by.value(regs) & 0xff) as u8;
-            let out = shift(kind, regs.register(m), amount, regs.c);
-            regs.after_shift(d, out);
+            regs.after_shift(d, shift(kind, regs.register(m), amount, regs.c));
         }
         Action::Sum(kind, d, x, y) => regs.after_sum(kind, d, x.value(regs), y.value(regs)),
-        Action::Word(kind, d, x, y) => {
-            regs.after_word(d, word_result(kind, x.value(regs), y.value(regs)));
-        }
+        Action::Word(kind, d, x, y) => regs.after_word(
+            d,
+            word_result(kind, x.value(regs), y.value(regs)),
+        ),
         Action::Extend(kind, d, m) => regs.after_value(d, extend(kind, regs.register(m))),
         Action::Move(d, m) => regs.after_value(d, regs.register(m)),
         Action::Place(d, x, y) => regs.after_value(d, x.value(regs).wrapping_add(y.value(regs))),
@@ -46,40 +46,16 @@ fn carry_out(action: &Action, regs: &mut Regs, read: &[u32])
         ),
         Action::LoadMany(n, list) => regs.after_load_many(n, list, read),
         Action::StoreMany(n, list) => regs.after_store_many(n, list),
-        Action::Push(list) => {
-            let sp = push_address(list, regs);
-            regs.move_on(2);
-            regs.set_active_sp(sp);
-        }
+        Action::Push(list) => regs.after_push(list),
         Action::Pop(list) => regs.after_pop(list, read),
         Action::Branch(offset) => regs.branch(offset),
-        Action::BranchIf(condition, offset) => {
-            if regs.condition_holds(condition) {
-                regs.branch(offset);
-            } else {
-                regs.move_on(2);
-            }
-        }
-        Action::BranchLink(offset) => {
-            regs.lr = regs.link_value(4);
-            regs.branch(offset);
-        }
+        Action::BranchIf(condition, offset) => regs.branch_if(condition, offset),
+        Action::BranchLink(offset) => regs.branch_link(offset),
         Action::Exchange(m) => regs.exchange(regs.register(m)),
         Action::ExchangeLink(m) => regs.exchange_link(regs.register(m)),
-        Action::ReadSpecial(d, s) => {
-            let value = regs.special(s);
-            regs.move_on(4);
-            regs.set_register(d, value);
-        }
-        Action::WriteSpecial(n, s) => {
-            let value = regs.register(n);
-            regs.move_on(4);
-            regs.set_special(s, value);
-        }
-        Action::Mask(set) => {
-            regs.move_on(2);
-            regs.primask = set;
-        }
+        Action::ReadSpecial(d, s) => regs.after_read_special(d, s),
+        Action::WriteSpecial(n, s) => regs.after_write_special(n, s),
+        Action::Mask(set) => regs.after_mask(set),
         Action::Barrier => regs.move_on(4),
         Action::Store(..) | Action::Pause | Action::Nothing => regs.move_on(2),
         Action::Never => {}
@@ -182,6 +158,51 @@ impl Regs {
         self.set_pc(self.read_pc().wrapping_add(offset));
     }
 
+    /// B on a condition.
+    fn branch_if(&mut self, condition: u8, offset: u32)
+        ensures { self.new ≡ branched_if condition offset self.old }
+    {
+        if self.condition_holds(condition) {
+            self.branch(offset);
+        } else {
+            self.move_on(2);
+        }
+    }
+
+    /// BL.
+    fn branch_link(&mut self, offset: u32)
+        ensures { self.new ≡ branched_link offset self.old }
+    {
+        self.lr = self.link_value(4);
+        self.branch(offset);
+    }
+
+    /// MRS.
+    fn after_read_special(&mut self, d: u8, number: u8)
+        ensures { self.new ≡ after_read_special d number self.old }
+    {
+        let value = self.special(number);
+        self.move_on(4);
+        self.set_register(d, value);
+    }
+
+    /// MSR.
+    fn after_write_special(&mut self, n: u8, number: u8)
+        ensures { self.new ≡ after_write_special n number self.old }
+    {
+        let value = self.register(n);
+        self.move_on(4);
+        self.set_special(number, value);
+    }
+
+    /// CPSID and CPSIE.
+    fn after_mask(&mut self, set: bool)
+        ensures { self.new ≡ after_mask set self.old }
+    {
+        self.move_on(2);
+        self.primask = set;
+    }
+
     /// A register of a list takes its word.
     fn load(&mut self, k: u8, value: u32)
         ensures { self.new ≡ with_loaded self.old k value }
@@ -225,6 +246,15 @@ impl Regs {
         let base = self.register(n).wrapping_add(bytes_of_list(list));
         self.move_on(2);
         self.set_register(n, base);
+    }
+
+    /// PUSH.
+    fn after_push(&mut self, list: u16)
+        ensures { self.new ≡ after_push list self.old }
+    {
+        let sp = push_address(list, self);
+        self.move_on(2);
+        self.set_active_sp(sp);
     }
 
     /// POP.
