@@ -81,8 +81,11 @@ abbrev pub inner_to : ℕ → List Beat
 inner_to d = if nat_le 15 d then inner 2 else inner 1
 
 -- a POP of PC has two inner beats more
+abbrev pub pop_end : ℕ → List Beat
+pop_end list = if has_bit list 15 then inner 2 else []
+
 abbrev pub pop_beats : ℕ → Regs → List Beat
-pop_beats list s = Inner ∷ (reads (sp_of s) (registers_of list) ++ (if has_bit list 15 then inner 2 else []))
+pop_beats list s = Inner ∷ (reads (sp_of s) (registers_of list) ++ pop_end list)
 
 abbrev pub beats_of_action : Action → Regs → List Beat
 beats_of_action (act.Move d m) s = inner_to d

@@ -5,12 +5,16 @@
 pub mod conditions;
 pub mod effects;
 pub mod faults;
+pub mod one_beat;
 pub mod registers;
 pub mod rows;
 pub mod special;
+#[cfg(test)]
+mod tests;
 pub mod timing;
 
 pub use effects::effect;
 pub use faults::{exception_return, is_unaligned};
+pub use one_beat::beat_at;
 pub use registers::Regs;
 pub use timing::{Beat, beats};

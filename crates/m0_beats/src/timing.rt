@@ -130,7 +130,7 @@ pub(crate) fn address(x: Operand, y: Operand, regs: &Regs) -> u32
 }
 
 /// The low bytes of a register.
-fn stored(size: Size, value: u32) -> u32
+pub(crate) fn stored(size: Size, value: u32) -> u32
     ensures { result ≡ stored size value }
 {
     match size {
@@ -141,7 +141,7 @@ fn stored(size: Size, value: u32) -> u32
 }
 
 /// An access.
-fn access(address: u32, size: Size, write: Option<u32>) -> Beat
+pub(crate) fn access(address: u32, size: Size, write: Option<u32>) -> Beat
     ensures { result ≡ access address size write }
 {
     Beat::Access(Request {
