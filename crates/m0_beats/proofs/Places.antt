@@ -5,7 +5,12 @@ use Rattle.std.specs.Option.{option_map}
 use Rattle.std.proofs.lemmas.Option.{slice_get-map}
 use Rattle.std.proofs.lemmas.List.{length-map}
 use Rattle.rp_base.specs.declared.Size.TheVariants as sizes
-use Rattle.m0_beats.specs.Beats.{access, accesses, reads, registers_of}
+use Rattle.std.proofs.Common.{true, false, cond, length-append}
+use Rattle.m0_alu.specs.Word.{has_bit}
+use Rattle.m0_beats.specs.Registers.{sp_of}
+use Rattle.m0_beats.specs.declared.registers.Regs.{Regs}
+use Rattle.m0_beats.specs.declared.timing.Beat.TheVariants.{Inner}
+use Rattle.m0_beats.specs.Beats.{access, accesses, reads, registers_of, inner, pop_end, pop_beats}
 use Rattle.std.specs.Int.Count.{ones}
 use Rattle.m0_beats.proofs.Lists.{no_write, registers_count}
 use Rattle.m0_beats.specs.declared.timing.Beat.{Beat}
@@ -65,4 +70,28 @@ register_next k ks (suc i) h = ap (slice_get ks) (omega arith)
 
 pub reads_count : (from list : ℕ) → list < 2 ^ 16 → length (reads from (registers_of list)) ≡ ones list
 reads_count from list fits =
-    length_accesses from (map no_write (registers_of list)) ∙ simp length-map (registers_count list fits)
+    length_accesses from (map no_write (registers_of list)) ∙ length-map (registers_of list) no_write ∙ registers_count list fits
+
+-- ---- how many beats
+
+pub many_count : (f : ℕ → Option ℕ) (from list : ℕ) → 1 + length (registers_of list) ≡ length (Inner ∷ accesses from (map f (registers_of list)))
+many_count f from list =
+    let all : length (accesses from (map f (registers_of list))) ≡ length (registers_of list) =
+    length_accesses from (map f (registers_of list)) ∙ length-map (registers_of list) f in
+    omega (arith, all)
+
+pub pop_count_pc : (list : ℕ) (s : Regs) → has_bit list 15 ≡ true → 3 + length (registers_of list) ≡ length (pop_beats list s)
+pop_count_pc list s is =
+    let all : length (reads (sp_of s) (registers_of list)) ≡ length (registers_of list) =
+    length_accesses (sp_of s) (map no_write (registers_of list)) ∙ length-map (registers_of list) no_write in
+    let tail : length (pop_end list) ≡ 2 = ap (λ b. length (cond b (inner 2) [])) is in
+    let joined = length-append (reads (sp_of s) (registers_of list)) (pop_end list) in
+    omega (arith, all, tail, joined)
+
+pub pop_count_low : (list : ℕ) (s : Regs) → has_bit list 15 ≡ false → 1 + length (registers_of list) ≡ length (pop_beats list s)
+pop_count_low list s is =
+    let all : length (reads (sp_of s) (registers_of list)) ≡ length (registers_of list) =
+    length_accesses (sp_of s) (map no_write (registers_of list)) ∙ length-map (registers_of list) no_write in
+    let tail : length (pop_end list) ≡ 0 = ap (λ b. length (cond b (inner 2) [])) is in
+    let joined = length-append (reads (sp_of s) (registers_of list)) (pop_end list) in
+    omega (arith, all, tail, joined)

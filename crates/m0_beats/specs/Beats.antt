@@ -108,7 +108,7 @@ beats_of_action (act.Push list) s = Inner ∷ writes (push_address list s) (regi
 beats_of_action (act.Pop list) s = pop_beats list s
 beats_of_action _ s = inner 1
 
-abbrev pub beats_of : Op → Regs → List Beat
+unfoldable pub beats_of : Op → Regs → List Beat
 beats_of op s = beats_of_action (action_of op) s
 
 -- an access whose address is no multiple of its size
@@ -120,7 +120,7 @@ is_unaligned_beat (Access request) = not (request.address % bytes_of request.siz
 abbrev pub is_unaligned_of_action : Action → Regs → Bool
 is_unaligned_of_action action s = list_any is_unaligned_beat (beats_of_action action s)
 
-abbrev pub is_unaligned_of : Op → Regs → Bool
+unfoldable pub is_unaligned_of : Op → Regs → Bool
 is_unaligned_of op s = is_unaligned_of_action (action_of op) s
 
 -- the answer for the words of a list at ascending addresses, whatever they write

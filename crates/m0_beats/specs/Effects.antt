@@ -177,7 +177,7 @@ effect_of_action act.Pause s read = moved_on s 2
 effect_of_action act.Nothing s read = moved_on s 2
 effect_of_action act.Never s read = s
 
-abbrev pub effect_of : Op → Regs → List ℕ → Regs
+unfoldable pub effect_of : Op → Regs → List ℕ → Regs
 effect_of op s read = effect_of_action (action_of op) s read
 
 -- ---- exception returns
@@ -195,5 +195,5 @@ return_of_action (act.Pop list) s read =
     then_some (is_exception_return s.ipsr (last_read list read)) (last_read list read) else None
 return_of_action _ s read = None
 
-abbrev pub return_of : Op → Regs → List ℕ → Option ℕ
+unfoldable pub return_of : Op → Regs → List ℕ → Option ℕ
 return_of op s read = return_of_action (action_of op) s read

@@ -15,6 +15,7 @@ use rp_base::op::Op;
 
 /// What the instruction at `regs.pc` leaves in registers and flags. `read` has the values that its access beats read, in
 /// their order, a narrow one zero-extended.
+#[tactic(auto, unfolding(crate::specs::Effects::effect_of))]
 pub fn effect(op: &Op, regs: &mut Regs, read: &[u32])
     ensures { regs.new ≡ effect_of op.now regs.old read.now }
 {

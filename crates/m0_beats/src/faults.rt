@@ -16,6 +16,7 @@ use rp_base::op::Op;
 
 /// The instruction makes an access whose address is no multiple of its size, and so faults (ARMv6-M Architecture Reference
 /// Manual, A3.2.1).
+#[tactic(auto, unfolding(crate::specs::Beats::is_unaligned_of))]
 pub fn is_unaligned(op: &Op, regs: &Regs) -> bool
     ensures { result ≡ is_unaligned_of op.now regs.now }
 {
@@ -79,6 +80,7 @@ fn are_unaligned(list: u16, address: u32) -> bool
 
 /// The value with which the instruction begins an exception return, if it does: it is a BX or a POP of PC in Handler mode
 /// whose value stands for no address. `read` is as for `effect`, which then leaves PC at the instruction.
+#[tactic(auto, unfolding(crate::specs::Effects::return_of))]
 pub fn exception_return(op: &Op, regs: &Regs, read: &[u32]) -> Option<u32>
     ensures { result ≡ return_of op.now regs.now read.now }
 {

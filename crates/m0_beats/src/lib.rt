@@ -3,6 +3,7 @@
 #![tactic(auto)]
 
 pub mod conditions;
+pub mod cycles;
 pub mod effects;
 pub mod faults;
 pub mod one_beat;
@@ -13,6 +14,7 @@ pub mod special;
 mod tests;
 pub mod timing;
 
+pub use cycles::beat_count;
 pub use effects::effect;
 pub use faults::{exception_return, is_unaligned};
 pub use one_beat::beat_at;

@@ -13,6 +13,7 @@ use rp_base::op::Op;
 
 /// The beat at a place of the list that `beats` gives, 0 the first; `None` past the last. It takes the time of that beat
 /// alone, for a core that goes through an instruction a cycle at a time.
+#[tactic(auto, unfolding(crate::specs::Beats::beats_of))]
 pub fn beat_at(op: &Op, regs: &Regs, place: usize) -> Option<Beat>
     ensures { result ≡ slice_get (beats_of op.now regs.now) place }
 {

@@ -1,6 +1,6 @@
 //! Outside vectors: programs worked by hand, and the manual's timing and results.
 
-use crate::{Beat, Regs, beat_at, beats, effect, exception_return, is_unaligned};
+use crate::{Beat, Regs, beat_at, beat_count, beats, effect, exception_return, is_unaligned};
 use rp_base::op::Op;
 use rp_base::{Request, Size};
 
@@ -151,6 +151,7 @@ const COUNTS: [(Op, usize); 18] = [
 fn timing_and_results(rt: HostRuntime) {
     for (op, count) in COUNTS {
         assert_eq!(rt; beats(&op, &AMID).len(), count);
+        assert_eq!(rt; beat_count(&op, &AMID), count);
         assert!(rt; beat_at(&op, &AMID, count - 1).is_some());
         assert!(rt; beat_at(&op, &AMID, count).is_none());
     }

@@ -27,6 +27,7 @@ type Beats = ArrayVec<Beat, 32>;
 
 /// The beats of the instruction at `regs.pc`, in order: how many cycles it takes inside the core, and which accesses it
 /// makes. An access has the address as the instruction computes it, also an unaligned one.
+#[tactic(auto, unfolding(crate::specs::Beats::beats_of))]
 pub fn beats(op: &Op, regs: &Regs) -> ArrayVec<Beat, 32>
     ensures { result.items ≡ beats_of op.now regs.now }
 {
