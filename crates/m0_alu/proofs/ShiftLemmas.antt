@@ -1,13 +1,12 @@
 -- Facts on shifts by powers of two.
-use Rattle.std.proofs.Common.{◌≡◌, ℕ, suc, ◌+◌, ◌-◌, ◌*◌, ◌/◌, ◌%◌, ◌^◌, ◌<◌, ◌≤◌, Bool, true, false, nat_eq, nat_le, ◌==◌, refl, sym, ap, subst, ◌∙◌, arith, rules, add_comm, add-zero}
+use Rattle.std.proofs.Common.{◌≡◌, ℕ, suc, ◌+◌, ◌-◌, ◌*◌, ◌/◌, ◌%◌, ◌^◌, ◌<◌, false, nat_eq, nat_le, refl, sym, ap, subst, ◌∙◌, arith, add_comm, add-zero}
 use Rattle.std.proofs.Math.Nat.{mul_assoc, mul-mod_left, div-eq_of_lt, lt_trans}
 use Rattle.std.specs.Int.Bits.{shifted_even}
 use Rattle.std.proofs.lemmas.Bool.Decides.{nat_tests}
 use Rattle.std.specs.Prelude.{bit_and, bit_or}
 use Rattle.std.proofs.lemmas.Nat.{pow-add, shl-shr, shr-shr, pow_pos, or_shifted, shr_below, mod_below, mul-add-lt, pow_below, mod-pow-add}
 use Rattle.std.proofs.lemmas.Nat.Bits.{shr_and_one, bit_at_above}
-use Rattle.std.proofs.lemmas.Grind.{common_steps}
-use Rattle.m0_alu.specs.Shift.{shifted_left, shifted_right, rotated, rotated_right}
+use Rattle.m0_alu.specs.Shift.{shifted_left, shifted_right, rotated}
 
 -- what a shift to the left puts above bit 31 is what a shift to the right keeps
 pub left_above : (x a b : ℕ) → a + b ≡ 32 → x * 2 ^ a / 2 ^ 32 ≡ x / 2 ^ b

@@ -1,6 +1,6 @@
 -- Shifts and rotations with the carry that they leave (ARMv6-M Architecture Reference Manual, A2.2.1 and A6.4.2). Each
 -- shift is of an unbounded number, and the carry is the last bit that leaves the word.
-use Rattle.std.specs.Prelude.{◌≡◌, ℕ, ◌+◌, ◌-◌, ◌*◌, ◌/◌, ◌%◌, ◌^◌, Bool, ◌==◌, ℤ, pos, if◌then◌else◌}
+use Rattle.std.specs.Prelude.{ℕ, ◌+◌, ◌-◌, ◌*◌, ◌/◌, ◌%◌, ◌^◌, Bool, ◌==◌, pos, if◌then◌else◌}
 use Rattle.std.specs.Int.{w32, cast_signed, int_div_euclid}
 use Rattle.m0_alu.specs.Word.{word_of, has_bit, has_signed_bit}
 use Rattle.m0_alu.specs.declared.ShiftKind.{ShiftKind}

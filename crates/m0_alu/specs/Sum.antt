@@ -1,6 +1,6 @@
 -- Sums with carry and overflow (ARMv6-M Architecture Reference Manual, A2.2.1, AddWithCarry): the sums are of unbounded
 -- numbers, once of the words and once of the signed numbers that they stand for.
-use Rattle.std.specs.Prelude.{◌≡◌, ℕ, ◌+◌, ◌%◌, ◌^◌, Bool, not, ◌==◌, ℤ, pos, ◌+ℤ◌}
+use Rattle.std.specs.Prelude.{ℕ, ◌+◌, ◌%◌, ◌^◌, Bool, not, ◌==◌, ℤ, pos, ◌+ℤ◌}
 use Rattle.std.specs.Int.{w32, cast_signed}
 use Rattle.std.specs.Ordering.{int_eq}
 use Rattle.m0_alu.specs.Word.{bit_number}

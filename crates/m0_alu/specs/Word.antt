@@ -1,6 +1,6 @@
 -- Words of 32 bits as whole numbers (ARMv6-M Architecture Reference Manual, A2.2.1). A word is a number below 2 ^ 32,
 -- and the signed number that it stands for is `cast_signed w32` of it, an integer.
-use Rattle.std.specs.Prelude.{◌≡◌, ℕ, ◌+◌, ◌-◌, ◌/◌, ◌%◌, ◌^◌, Bool, not, nat_le, ◌==◌, ℤ, pos, negsuc, if◌then◌else◌}
+use Rattle.std.specs.Prelude.{ℕ, ◌-◌, ◌%◌, ◌^◌, Bool, not, nat_le, ◌==◌, ℤ, pos, negsuc, if◌then◌else◌}
 use Rattle.std.specs.Int.{bit_at}
 
 -- the word that an integer leaves in two's complement

@@ -1,12 +1,11 @@
 -- The beats of an instruction: its cycles inside the core and its accesses (ARM Cortex-M0+ Technical Reference Manual, 3.3,
 -- Instruction set summary, with the single-cycle port for the addresses that begin with hexadecimal D). The number N of
 -- registers in the timing of LDM, STM, PUSH and POP counts LR and PC.
-use Rattle.std.specs.Prelude.{ℕ, ◌+◌, ◌-◌, ◌*◌, ◌/◌, ◌%◌, ◌^◌, Bool, false, not, ◌==◌, nat_le, if◌then◌else◌, List, [], ◌∷◌, ◌++◌, length, Option, Some, None, count_ones, replicate, map, filter}
+use Rattle.std.specs.Prelude.{◌≡◌, ℕ, ◌+◌, ◌-◌, ◌*◌, ◌/◌, ◌%◌, ◌^◌, Bool, false, not, ◌==◌, nat_le, if◌then◌else◌, List, [], ◌∷◌, ◌++◌, length, Option, Some, None, replicate, map, filter}
 use Rattle.std.specs.List.{list_any}
 use Rattle.m0_alu.specs.Word.{has_bit}
 use Rattle.rp_base.specs.declared.Size.{Size}
 use Rattle.rp_base.specs.declared.Size.TheVariants as sizes
-use Rattle.rp_base.specs.declared.Request.{Request}
 use Rattle.rp_base.specs.declared.op.Op.{Op}
 use Rattle.m0_beats.specs.declared.registers.Regs.{Regs}
 use Rattle.m0_beats.specs.declared.rows.Action.{Action}
@@ -37,13 +36,15 @@ bytes_of sizes.Word = 4
 
 -- what a store writes: the low bytes of the register
 abbrev pub stored : Size → ℕ → ℕ
-stored size value = value % 2 ^ (8 * bytes_of size)
+stored sizes.Byte value = value % 2 ^ 8
+stored sizes.Half value = value % 2 ^ 16
+stored sizes.Word value = value
 
 abbrev pub access : ℕ → Size → Option ℕ → Beat
 access address size write = Access (record { address = address; size = size; write = write })
 
 -- the numbers of the registers of a list, ascending
-abbrev pub registers_of : ℕ → List ℕ
+unfoldable pub registers_of : ℕ → List ℕ
 registers_of list =
     filter (has_bit list) (0 ∷ 1 ∷ 2 ∷ 3 ∷ 4 ∷ 5 ∷ 6 ∷ 7 ∷ 8 ∷ 9 ∷ 10 ∷ 11 ∷ 12 ∷ 13 ∷ 14 ∷ 15 ∷ [])
 
@@ -79,6 +80,13 @@ inner count = replicate count Inner
 abbrev pub inner_to : ℕ → List Beat
 inner_to d = if nat_le 15 d then inner 2 else inner 1
 
+-- a POP of PC has two inner beats more
+abbrev pub pop_end : ℕ → List Beat
+pop_end list = if has_bit list 15 then inner 2 else []
+
+abbrev pub pop_beats : ℕ → Regs → List Beat
+pop_beats list s = Inner ∷ (reads (sp_of s) (registers_of list) ++ pop_end list)
+
 abbrev pub beats_of_action : Action → Regs → List Beat
 beats_of_action (act.Move d m) s = inner_to d
 beats_of_action (act.Place d x y) s = inner_to d
@@ -97,11 +105,10 @@ beats_of_action (act.Store t size x y) s =
 beats_of_action (act.LoadMany n list) s = Inner ∷ reads (register_of s n) (registers_of list)
 beats_of_action (act.StoreMany n list) s = Inner ∷ writes (register_of s n) (registers_of list) s
 beats_of_action (act.Push list) s = Inner ∷ writes (push_address list s) (registers_of list) s
-beats_of_action (act.Pop list) s =
-    Inner ∷ reads (sp_of s) (registers_of list) ++ (if has_bit list 15 then inner 2 else [])
+beats_of_action (act.Pop list) s = pop_beats list s
 beats_of_action _ s = inner 1
 
-abbrev pub beats_of : Op → Regs → List Beat
+unfoldable pub beats_of : Op → Regs → List Beat
 beats_of op s = beats_of_action (action_of op) s
 
 -- an access whose address is no multiple of its size
@@ -110,5 +117,13 @@ is_unaligned_beat Inner = false
 is_unaligned_beat (Access request) = not (request.address % bytes_of request.size == 0)
 
 -- an instruction faults where one of its accesses is unaligned (A3.2.1)
-abbrev pub is_unaligned_of : Op → Regs → Bool
-is_unaligned_of op s = list_any is_unaligned_beat (beats_of op s)
+abbrev pub is_unaligned_of_action : Action → Regs → Bool
+is_unaligned_of_action action s = list_any is_unaligned_beat (beats_of_action action s)
+
+unfoldable pub is_unaligned_of : Op → Regs → Bool
+is_unaligned_of op s = is_unaligned_of_action (action_of op) s
+
+-- the answer for the words of a list at ascending addresses, whatever they write
+abbrev pub TellsUnaligned : Bool → ℕ → ℕ → Type 0
+TellsUnaligned answer address list =
+    (write : ℕ → Option ℕ) → answer ≡ list_any is_unaligned_beat (accesses address (map write (registers_of list)))

@@ -1,6 +1,6 @@
 -- What an instruction leaves in registers and flags (ARMv6-M Architecture Reference Manual, A6.7). `read` has the values
 -- that its access beats read, in their order, a narrow one zero-extended; a value past its end counts as 0.
-use Rattle.std.specs.Prelude.{ℕ, ◌+◌, ◌-◌, ◌*◌, ◌/◌, ◌%◌, ◌^◌, Bool, true, false, not, ◌&&◌, ◌==◌, if◌then◌else◌, List, [], ◌∷◌, length, Option, Some, None, bit_and, bit_or, bit_xor, slice_index}
+use Rattle.std.specs.Prelude.{ℕ, ◌+◌, ◌-◌, ◌*◌, ◌/◌, ◌%◌, ◌^◌, Bool, true, false, ◌==◌, if◌then◌else◌, List, [], ◌∷◌, length, Option, Some, None, bit_and, bit_or, bit_xor, slice_index}
 use Rattle.std.specs.Int.{w32, bit_not}
 use Rattle.std.specs.Bool.{then_some}
 use Rattle.m0_alu.specs.Word.{has_bit}
@@ -8,7 +8,6 @@ use Rattle.m0_alu.specs.Sum.{add_with_carry}
 use Rattle.m0_alu.specs.Shift.{shifted}
 use Rattle.m0_alu.specs.Extend.{extended}
 use Rattle.m0_alu.specs.Product.{product_of}
-use Rattle.m0_alu.specs.declared.ShiftKind.{ShiftKind}
 use Rattle.m0_alu.specs.declared.ExtendKind.TheVariants as extends
 use Rattle.rp_base.specs.declared.Size.{Size}
 use Rattle.rp_base.specs.declared.Size.TheVariants as sizes
@@ -16,7 +15,6 @@ use Rattle.rp_base.specs.declared.op.Op.{Op}
 use Rattle.m0_beats.specs.declared.registers.Regs.{Regs}
 use Rattle.m0_beats.specs.declared.rows.Action.{Action}
 use Rattle.m0_beats.specs.declared.rows.Action.TheVariants as act
-use Rattle.m0_beats.specs.declared.rows.Operand.{Operand}
 use Rattle.m0_beats.specs.declared.rows.SumKind.{SumKind}
 use Rattle.m0_beats.specs.declared.rows.SumKind.TheVariants as sums
 use Rattle.m0_beats.specs.declared.rows.WordKind.{WordKind}
@@ -70,6 +68,31 @@ after_shift d out s = with_register (record (with_sign (moved_on s 2) out.0) { c
 abbrev pub after_value : ℕ → ℕ → Regs → Regs
 after_value d value s = with_register (moved_on s 2) d value
 
+-- ---- branches
+
+-- the address of the next instruction with bit 0 set
+abbrev pub link_value : ℕ → Regs → ℕ
+link_value bytes s = (moved_on s bytes).pc / 2 * 2 + 1
+
+abbrev pub branched : ℕ → Regs → Regs
+branched offset s = with_pc s ((pc_of s + offset) % 2 ^ 32)
+
+abbrev pub branched_if : ℕ → ℕ → Regs → Regs
+branched_if condition offset s = if condition_holds condition s then branched offset s else moved_on s 2
+
+abbrev pub branched_link : ℕ → Regs → Regs
+branched_link offset s = branched offset (record s { lr = link_value 4 s })
+
+-- a branch to a value whose bit 0 is the new T (BXWritePC). In Handler mode an exception return begins in its place, and
+-- the branch itself changes nothing
+abbrev pub exchanged : Regs → ℕ → Regs
+exchanged s value =
+    if is_exception_return s.ipsr value then s else record (with_pc s value) { t = has_bit value 0 }
+
+-- a branch to a value whose bit 0 is the new T, with the return address in LR (BLXWritePC)
+abbrev pub exchanged_link : Regs → ℕ → Regs
+exchanged_link s value = record (with_pc s value) { lr = link_value 2 s; t = has_bit value 0 }
+
 -- ---- loads and stores
 
 -- a narrow value as a word
@@ -77,12 +100,6 @@ abbrev pub loaded : Size → Bool → ℕ → ℕ
 loaded sizes.Byte sign value = extended (if sign then extends.Sxtb else extends.Uxtb) value
 loaded sizes.Half sign value = extended (if sign then extends.Sxth else extends.Uxth) value
 loaded sizes.Word sign value = value
-
--- a branch to a value whose bit 0 is the new T (BXWritePC). In Handler mode an exception return begins in its place, and
--- the branch itself changes nothing
-abbrev pub exchanged : Regs → ℕ → Regs
-exchanged s value =
-    if is_exception_return s.ipsr value then s else record (with_pc s value) { t = has_bit value 0 }
 
 -- a register of a list takes its word; PC takes it as a branch
 abbrev pub with_loaded : Regs → ℕ → ℕ → Regs
@@ -106,6 +123,9 @@ after_load_many n list read s =
 abbrev pub after_store_many : ℕ → ℕ → Regs → Regs
 after_store_many n list s = with_register (moved_on s 2) n (base_after (register_of s n) list)
 
+abbrev pub after_push : ℕ → Regs → Regs
+after_push list s = with_sp (moved_on s 2) (push_address list s)
+
 -- a POP of PC stays where it is until the branch
 abbrev pub after_pop : ℕ → List ℕ → Regs → Regs
 after_pop list read s =
@@ -115,14 +135,17 @@ after_pop list read s =
     read
     0
 
--- ---- branches
+-- ---- special registers
 
--- the address of the next instruction with bit 0 set
-abbrev pub link_value : ℕ → Regs → ℕ
-link_value bytes s = (moved_on s bytes).pc / 2 * 2 + 1
+abbrev pub after_read_special : ℕ → ℕ → Regs → Regs
+after_read_special d number s = with_register (moved_on s 4) d (special_of s number)
 
-abbrev pub branched : ℕ → Regs → Regs
-branched offset s = with_pc s ((pc_of s + offset) % 2 ^ 32)
+abbrev pub after_write_special : ℕ → ℕ → Regs → Regs
+after_write_special n number s = with_special (moved_on s 4) number (register_of s n)
+
+-- CPSID sets PRIMASK and CPSIE clears it
+abbrev pub after_mask : Bool → Regs → Regs
+after_mask set s = record (moved_on s 2) { primask = set }
 
 -- ---- all rows
 
@@ -139,36 +162,38 @@ effect_of_action (act.Load t size sign x y) s read = after_value t (loaded size 
 effect_of_action (act.Store t size x y) s read = moved_on s 2
 effect_of_action (act.LoadMany n list) s read = after_load_many n list read s
 effect_of_action (act.StoreMany n list) s read = after_store_many n list s
-effect_of_action (act.Push list) s read = with_sp (moved_on s 2) (push_address list s)
+effect_of_action (act.Push list) s read = after_push list s
 effect_of_action (act.Pop list) s read = after_pop list read s
 effect_of_action (act.Branch offset) s read = branched offset s
-effect_of_action (act.BranchIf condition offset) s read =
-    if condition_holds condition s then branched offset s else moved_on s 2
-effect_of_action (act.BranchLink offset) s read = branched offset (record s { lr = link_value 4 s })
+effect_of_action (act.BranchIf condition offset) s read = branched_if condition offset s
+effect_of_action (act.BranchLink offset) s read = branched_link offset s
 effect_of_action (act.Exchange m) s read = exchanged s (register_of s m)
-effect_of_action (act.ExchangeLink m) s read =
-    record (with_pc s (register_of s m)) { lr = link_value 2 s; t = has_bit (register_of s m) 0 }
-effect_of_action (act.ReadSpecial d number) s read = with_register (moved_on s 4) d (special_of s number)
-effect_of_action (act.WriteSpecial n number) s read = with_special (moved_on s 4) number (register_of s n)
-effect_of_action (act.Mask set) s read = record (moved_on s 2) { primask = set }
+effect_of_action (act.ExchangeLink m) s read = exchanged_link s (register_of s m)
+effect_of_action (act.ReadSpecial d number) s read = after_read_special d number s
+effect_of_action (act.WriteSpecial n number) s read = after_write_special n number s
+effect_of_action (act.Mask set) s read = after_mask set s
 effect_of_action act.Barrier s read = moved_on s 4
 effect_of_action act.Pause s read = moved_on s 2
 effect_of_action act.Nothing s read = moved_on s 2
 effect_of_action act.Never s read = s
 
-abbrev pub effect_of : Op → Regs → List ℕ → Regs
+unfoldable pub effect_of : Op → Regs → List ℕ → Regs
 effect_of op s read = effect_of_action (action_of op) s read
 
 -- ---- exception returns
+
+-- the last value that the registers of a list take
+abbrev pub last_read : ℕ → List ℕ → ℕ
+last_read list read = slice_index read (length (registers_of list) - 1)
 
 -- the value with which an instruction begins an exception return, if it does
 abbrev pub return_of_action : Action → Regs → List ℕ → Option ℕ
 return_of_action (act.Exchange m) s read =
     then_some (is_exception_return s.ipsr (register_of s m)) (register_of s m)
 return_of_action (act.Pop list) s read =
-    let last = slice_index read (length (registers_of list) - 1) in
-    then_some (has_bit list 15 && is_exception_return s.ipsr last) last
+    if has_bit list 15 then
+    then_some (is_exception_return s.ipsr (last_read list read)) (last_read list read) else None
 return_of_action _ s read = None
 
-abbrev pub return_of : Op → Regs → List ℕ → Option ℕ
+unfoldable pub return_of : Op → Regs → List ℕ → Option ℕ
 return_of op s read = return_of_action (action_of op) s read

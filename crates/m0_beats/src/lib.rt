@@ -2,11 +2,21 @@
 //! registers and flags. Each function is defined in `specs/`, row by row of the manual's encodings.
 #![tactic(auto)]
 
+pub mod conditions;
+pub mod cycles;
 pub mod effects;
+pub mod faults;
+pub mod one_beat;
 pub mod registers;
 pub mod rows;
+pub mod special;
+#[cfg(test)]
+mod tests;
 pub mod timing;
 
+pub use cycles::beat_count;
 pub use effects::effect;
+pub use faults::{exception_return, is_unaligned};
+pub use one_beat::beat_at;
 pub use registers::Regs;
 pub use timing::{Beat, beats};

@@ -1,6 +1,16 @@
 //! The beats of an instruction: how many cycles it takes and which accesses it makes.
 
-use rp_base::Request;
+ghost use Rattle.std.specs.Prelude.{◌≡◌, ◌≤◌, ◌++◌, ◌∷◌, [], ◌+◌, length};
+ghost use Rattle.arrayvec.specs.ArrayVec.{array_vec_len};
+ghost use Rattle.m0_beats.specs.Beats.{address_of, stored, access, registers_of, reads, writes, single, inner, inner_to, pop_beats, beats_of_action, beats_of};
+ghost use Rattle.m0_beats.specs.Registers.{register_of};
+
+use crate::effects::{is_listed, push_address};
+use crate::registers::Regs;
+use crate::rows::{Action, Operand, classify};
+use arrayvec::ArrayVec;
+use rp_base::op::Op;
+use rp_base::{Request, Size};
 
 /// One step of an instruction.
 #[derive(Clone, Copy, PartialEq, Eq, Default)]
@@ -12,6 +22,186 @@ pub enum Beat {
     Access(Request),
 }
 
-pub fn beats() -> Beat {
-    Beat::Inner
+/// The beats of an instruction, in order.
+type Beats = ArrayVec<Beat, 32>;
+
+/// The beats of the instruction at `regs.pc`, in order: how many cycles it takes inside the core, and which accesses it
+/// makes. An access has the address as the instruction computes it, also an unaligned one.
+#[tactic(auto, unfolding(crate::specs::Beats::beats_of))]
+pub fn beats(op: &Op, regs: &Regs) -> ArrayVec<Beat, 32>
+    ensures { result.items ≡ beats_of op.now regs.now }
+{
+    let action = classify(op);
+    action_beats(&action, regs)
+}
+
+/// The beats of an action.
+fn action_beats(action: &Action, regs: &Regs) -> Beats
+    ensures { result.items ≡ beats_of_action action.now regs.now }
+{
+    match *action {
+        Action::Move(d, _) | Action::Place(d, _, _) => inner_to(d),
+        Action::Branch(..) | Action::Exchange(..) | Action::ExchangeLink(..) | Action::Pause =>
+            inner_twice(),
+        Action::BranchIf(condition, _) => {
+            if regs.condition_holds(condition) {
+                inner_twice()
+            } else {
+                inner_once()
+            }
+        }
+        Action::BranchLink(..)
+        | Action::ReadSpecial(..)
+        | Action::WriteSpecial(..)
+        | Action::Barrier => inner_thrice(),
+        Action::Load(_, size, _, x, y) => single(address(x, y, regs), size, None),
+        Action::Store(t, size, x, y) => {
+            single(
+                address(x, y, regs),
+                size,
+                Some(stored(size, regs.register(t))),
+            )
+        }
+        Action::LoadMany(n, list) => {
+            let mut out = inner_once();
+            push_reads(&mut out, regs.register(n), list);
+            out
+        }
+        Action::StoreMany(n, list) => {
+            let mut out = inner_once();
+            push_writes(&mut out, regs.register(n), list, regs);
+            out
+        }
+        Action::Push(list) => {
+            let mut out = inner_once();
+            push_writes(&mut out, push_address(list, regs), list, regs);
+            out
+        }
+        Action::Pop(list) => pop(list, regs),
+        Action::Shift(..)
+        | Action::Sum(..)
+        | Action::Word(..)
+        | Action::Extend(..)
+        | Action::LowerSp(..)
+        | Action::Mask(..)
+        | Action::Nothing
+        | Action::Never => inner_once(),
+    }
+}
+
+/// One inner beat.
+fn inner_once() -> Beats
+    ensures { result.items ≡ inner 1 }
+{
+    let mut out = ArrayVec::new();
+    out.push(Beat::Inner);
+    out
+}
+
+/// Two inner beats.
+fn inner_twice() -> Beats
+    ensures { result.items ≡ inner 2 }
+{
+    let mut out = inner_once();
+    out.push(Beat::Inner);
+    out
+}
+
+/// Three inner beats.
+fn inner_thrice() -> Beats
+    ensures { result.items ≡ inner 3 }
+{
+    let mut out = inner_twice();
+    out.push(Beat::Inner);
+    out
+}
+
+/// One inner beat, and two where PC is written.
+fn inner_to(d: u8) -> Beats
+    ensures { result.items ≡ inner_to d }
+{
+    if d >= 15 { inner_twice() } else { inner_once() }
+}
+
+/// The address of a single load or store.
+pub(crate) fn address(x: Operand, y: Operand, regs: &Regs) -> u32
+    ensures { result ≡ address_of x y regs.now }
+{
+    x.value(regs).wrapping_add(y.value(regs))
+}
+
+/// The low bytes of a register.
+pub(crate) fn stored(size: Size, value: u32) -> u32
+    ensures { result ≡ stored size value }
+{
+    match size {
+        Size::Byte => value & 0xff,
+        Size::Half => value & 0xffff,
+        Size::Word => value,
+    }
+}
+
+/// An access.
+pub(crate) fn access(address: u32, size: Size, write: Option<u32>) -> Beat
+    ensures { result ≡ access address size write }
+{
+    Beat::Access(Request {
+        address,
+        size,
+        write,
+    })
+}
+
+/// One load or store: the single-cycle port, at the addresses that begin with hexadecimal D, takes the inner beat away.
+fn single(address: u32, size: Size, write: Option<u32>) -> Beats
+    ensures { result.items ≡ single address (access address size write) }
+{
+    let mut out = ArrayVec::new();
+    if address >> 28 != 0xd {
+        out.push(Beat::Inner);
+    }
+    out.push(access(address, size, write));
+    out
+}
+
+/// The reads of the registers of a list, upwards from an address.
+fn push_reads(out: &mut Beats, from: u32, list: u16)
+    requires { array_vec_len out.old ≤ 1 }
+    ensures beats { out.new.items ≡ out.old.items ++ reads from (registers_of list) }
+    ensures room { array_vec_len out.new ≤ 17 }
+{
+    let mut address = from;
+    for k in 0..16 {
+        if is_listed(list, k) {
+            out.push(access(address, Size::Word, None));
+            address = address.wrapping_add(4);
+        }
+    }
+}
+
+/// The writes of the registers of a list, upwards from an address.
+fn push_writes(out: &mut Beats, from: u32, list: u16, regs: &Regs)
+    requires { array_vec_len out.old ≤ 1 }
+    ensures { out.new.items ≡ out.old.items ++ writes from (registers_of list) regs.now }
+{
+    let mut address = from;
+    for k in 0..16 {
+        if is_listed(list, k) {
+            out.push(access(address, Size::Word, Some(regs.register(k))));
+            address = address.wrapping_add(4);
+        }
+    }
+}
+
+/// POP.
+fn pop(list: u16, regs: &Regs) -> Beats
+    ensures { result.items ≡ pop_beats list regs.now }
+{
+    let mut out = inner_once();
+    push_reads(&mut out, regs.active_sp(), list);
+    if is_listed(list, 15) {
+        out.push(Beat::Inner);
+        out.push(Beat::Inner);
+    }
+    out
 }

@@ -1,0 +1,3 @@
+pub mod Lists
+pub mod Unaligned
+pub mod Places

@@ -1,0 +1,111 @@
+//! Which instructions fault at their addresses, and which begin an exception return.
+
+ghost use Rattle.std.specs.Prelude.{◌≡◌};
+ghost use Rattle.m0_beats.specs.Beats.{bytes_of, TellsUnaligned, is_unaligned_of_action, is_unaligned_of};
+ghost use Rattle.m0_beats.specs.Effects.{return_of, last_read};
+ghost use Rattle.m0_beats.specs.Conditions.{is_exception_return};
+ghost use Rattle.std.specs.Bool.{then_some};
+
+use crate::conditions::is_exception_return;
+use crate::effects::{is_listed, push_address, value_at};
+use crate::registers::Regs;
+use crate::rows::{Action, classify};
+use crate::timing::address;
+use rp_base::Size;
+use rp_base::op::Op;
+
+/// The instruction makes an access whose address is no multiple of its size, and so faults (ARMv6-M Architecture Reference
+/// Manual, A3.2.1).
+#[tactic(auto, unfolding(crate::specs::Beats::is_unaligned_of))]
+pub fn is_unaligned(op: &Op, regs: &Regs) -> bool
+    ensures { result ≡ is_unaligned_of op.now regs.now }
+{
+    let action = classify(op);
+    action_is_unaligned(&action, regs)
+}
+
+/// An action makes such an access.
+fn action_is_unaligned(action: &Action, regs: &Regs) -> bool
+    ensures { result ≡ is_unaligned_of_action action.now regs.now }
+{
+    match *action {
+        Action::Load(_, size, _, x, y) | Action::Store(_, size, x, y) => {
+            address(x, y, regs) % bytes(size) != 0
+        }
+        Action::LoadMany(n, list) | Action::StoreMany(n, list) => are_unaligned(
+            list,
+            regs.register(n),
+        ),
+        Action::Push(list) => are_unaligned(list, push_address(list, regs)),
+        Action::Pop(list) => are_unaligned(list, regs.active_sp()),
+        Action::Shift(..)
+        | Action::Sum(..)
+        | Action::Word(..)
+        | Action::Extend(..)
+        | Action::Move(..)
+        | Action::Place(..)
+        | Action::LowerSp(..)
+        | Action::Branch(..)
+        | Action::BranchIf(..)
+        | Action::BranchLink(..)
+        | Action::Exchange(..)
+        | Action::ExchangeLink(..)
+        | Action::ReadSpecial(..)
+        | Action::WriteSpecial(..)
+        | Action::Mask(..)
+        | Action::Barrier
+        | Action::Pause
+        | Action::Nothing
+        | Action::Never => false,
+    }
+}
+
+/// How many bytes an access has.
+fn bytes(size: Size) -> u32
+    ensures { result ≡ bytes_of size }
+{
+    match size {
+        Size::Byte => 1,
+        Size::Half => 2,
+        Size::Word => 4,
+    }
+}
+
+/// The words of a list are unaligned: there are some, and the first is.
+fn are_unaligned(list: u16, address: u32) -> bool
+    ensures { TellsUnaligned result address list }
+{
+    list != 0 && address % 4 != 0
+}
+
+/// The value with which the instruction begins an exception return, if it does: it is a BX or a POP of PC in Handler mode
+/// whose value stands for no address. `read` is as for `effect`, which then leaves PC at the instruction.
+#[tactic(auto, unfolding(crate::specs::Effects::return_of))]
+pub fn exception_return(op: &Op, regs: &Regs, read: &[u32]) -> Option<u32>
+    ensures { result ≡ return_of op.now regs.now read.now }
+{
+    match classify(op) {
+        Action::Exchange(m) => return_value(regs, regs.register(m)),
+        Action::Pop(list) if is_listed(list, 15) => return_value(regs, last_read(list, read)),
+        _ => None,
+    }
+}
+
+/// A value, where it begins an exception return.
+fn return_value(regs: &Regs, value: u32) -> Option<u32>
+    ensures { result ≡ then_some (is_exception_return regs.now.ipsr value) value }
+{
+    if is_exception_return(regs.ipsr, value) {
+        Some(value)
+    } else {
+        None
+    }
+}
+
+/// The last value that the registers of a list take.
+fn last_read(list: u16, read: &[u32]) -> u32
+    ensures { result ≡ last_read list read.now }
+{
+    let count = list.count_ones() as usize;
+    value_at(read, count.saturating_sub(1))
+}
