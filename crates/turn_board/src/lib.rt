@@ -1,0 +1,4 @@
+//! The board on which the workers of a window draw their tickets.
+#![tactic(auto)]
+
+pub mod laws;
