@@ -1,19 +1,20 @@
 -- Each legal event keeps a good state good.
-use Rattle.std.proofs.Common.{◌≡◌, ℕ, ◌+◌, ◌<◌, ◌≤◌, ◌⊎◌, List, [], ◌∷◌, length, set, Bool, true, false, ◌&&◌, ◌||◌, sym, refl, ap, ◌∙◌, subst, inl, inr, ⊎_elim, arith, eqb, ltb, eq-eqb, ne_eqb, lt-ltb, le-ltb}
+use Rattle.std.proofs.Common.{◌≡◌, ℕ, ◌+◌, ◌<◌, ◌≤◌, ◌⊎◌, List, [], ◌∷◌, ◌++◌, length, set, Bool, true, false, ◌&&◌, ◌||◌, sym, refl, ap, ◌∙◌, subst, inl, inr, ⊎_elim, arith, eqb, ltb, eq-eqb, ne_eqb, lt-ltb, le-ltb}
 use mathlib.Core.Bool.{false≢true}
 use mathlib.Core.Logic.{dite}
 use native.Mathlib.Decide.{ℕ_discrete, dec_le}
 use mathlib.Core.Option.{some}
 use lib.ListN.{get_elem?}
-use Rattle.atomic_table.proofs.Lists.{at_set}
+use Rattle.atomic_table.proofs.Lists.{at_set, at_snoc}
 use Rattle.turn_board.specs.Tickets.{times, SeatState, BoardState, IsUnfinished, GoodSeat, Good, is_due, drew, saw, did, change}
 use Rattle.turn_board.specs.Tickets.Event.{Draw, SeeOpen, Finish, Open, Close, SeeDone}
 use Rattle.turn_board.specs.Laws.{EventsKeepGood}
-use Rattle.turn_board.proofs.Sums.{change-set, total-set, one_below, at_same, at_other, below_next, times-snoc, length-snoc}
+use Rattle.turn_board.specs.Rule.{fresh}
+use Rattle.turn_board.proofs.Sums.{change-set, total-set, total-snoc, one_below, at_same, at_other, below_next, times-snoc, length-snoc}
 use Rattle.turn_board.proofs.Follows.{done_opened, all_finished}
 
 -- the board, with another state of the seat i
-abbrev reseat : BoardState → ℕ → ℕ → ℕ → SeatState → BoardState
+abbrev pub reseat : BoardState → ℕ → ℕ → ℕ → SeatState → BoardState
 reseat b ticket done i t = record b { ticket = ticket; done = done; seats = set b.seats i t }
 
 reseated : (b : BoardState) → Good b → (ticket done i : ℕ) (s t : SeatState) → get_elem? b.seats i ≡ some s
@@ -133,6 +134,28 @@ close_keeps b g = record { drawn_once = g.drawn_once; each_seat = g.each_seat; d
 
 pub gather_keeps : (b : BoardState) → Good b → Good (record b { known = b.done; polls = b.polls + 1 })
 gather_keeps b g = record { drawn_once = g.drawn_once; each_seat = g.each_seat; done_finished = g.done_finished; known_done = omega arith; by_sixes = g.by_sixes; opened_fits = g.opened_fits; earlier_finished = g.earlier_finished }
+
+good_fresh : {opened : ℕ} → GoodSeat opened fresh
+good_fresh = record {
+  finished_drawn = λ n. omega arith;
+  finished_once = λ n. omega arith;
+  one_unfinished = λ m n x y. absurd (let x₀ = x.0 in omega arith);
+  finished_seen = λ n h. absurd (omega arith);
+  seen_opened = omega arith;
+  holding_due = λ holds. absurd (false≢true holds);
+}
+
+-- a new seat, which has done nothing
+pub sit_keeps : (b : BoardState) → Good b → Good (record b { seats = b.seats ++ fresh ∷ [] })
+sit_keeps b g = record {
+  drawn_once = λ n. omega (arith, total-snoc (λ (u : SeatState). times n u.drawn) b.seats fresh, g.drawn_once n);
+  each_seat = λ i s at. ⊎_elim (λ before. g.each_seat i s before) (λ e. subst (GoodSeat b.opened) e good_fresh) (at_snoc b.seats fresh s i at);
+  done_finished = omega (arith, total-snoc (λ (u : SeatState). length u.finished) b.seats fresh, g.done_finished);
+  known_done = g.known_done;
+  by_sixes = g.by_sixes;
+  opened_fits = g.opened_fits;
+  earlier_finished = λ n h. omega (arith, total-snoc (λ (u : SeatState). times n u.finished) b.seats fresh, g.earlier_finished n h);
+}
 
 changed : (b : BoardState) (ticket done i : ℕ) (f : SeatState → SeatState) (s : SeatState) → get_elem? b.seats i ≡ some s → Good (reseat b ticket done i (f s)) → Good (with_seats b ticket done (change f i b.seats))
 changed b ticket done i f s at = subst (λ seats. Good (with_seats b ticket done seats)) (sym (change-set f b.seats i s at))

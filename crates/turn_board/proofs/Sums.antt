@@ -18,6 +18,10 @@ module _ {A : Type 0} where
     total-set (x ∷ xs) zero v w e = omega (arith, ap g (some-injective x v e))
     total-set (x ∷ xs) (suc j) v w e = omega (arith, total-set xs j v w e)
 
+    pub total-snoc : (l : List A) (a : A) → total g (l ++ a ∷ []) ≡ total g l + g a
+    total-snoc [] a = omega arith
+    total-snoc (x ∷ xs) a = omega (arith, total-snoc xs a)
+
     pub term_le : (l : List A) (j : ℕ) (v : A) → get_elem? l j ≡ some v → g v ≤ total g l
     term_le [] j v e = absurd (some-ne-none v (sym e))
     term_le (x ∷ xs) zero v e = omega (arith, ap g (some-injective x v e))
@@ -82,7 +86,7 @@ pub times-snoc : (n : ℕ) (l : List ℕ) (x : ℕ) → times n (l ++ x ∷ []) 
 times-snoc n [] x = omega arith
 times-snoc n (y ∷ ys) x = omega (arith, times-snoc n ys x)
 
-pub length-snoc : (l : List ℕ) (x : ℕ) → length (l ++ x ∷ []) ≡ length l + 1
+pub length-snoc : {A : Type 0} (l : List A) (x : A) → length (l ++ x ∷ []) ≡ length l + 1
 length-snoc [] x = refl
 length-snoc (y ∷ ys) x = omega (arith, length-snoc ys x)
 

@@ -1,2 +1,4 @@
 pub mod Tickets
 pub mod Laws
+pub mod Rule
+pub mod Plays

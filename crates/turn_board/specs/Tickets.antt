@@ -32,6 +32,16 @@ pub record BoardState : Type 0 where
   pub polls : ℕ
   pub seats : List SeatState
 
+-- What the master of a board has done.
+pub record MasterState : Type 0 where
+  pub opened : ℕ
+  pub closed : Bool
+  pub known : ℕ
+  pub polls : ℕ
+
+abbrev pub master_of : BoardState → MasterState
+master_of b = record { opened = b.opened; closed = b.closed; known = b.known; polls = b.polls }
+
 -- the seat drew the number and has not finished it
 abbrev pub IsUnfinished : SeatState → ℕ → Type 0
 IsUnfinished s n = (0 < times n s.drawn) × (times n s.finished ≡ 0)

@@ -2,3 +2,7 @@
 #![tactic(auto)]
 
 pub mod laws;
+mod rule;
+mod slot;
+mod steps;
+mod view;
