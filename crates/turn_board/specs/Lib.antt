@@ -1,4 +1,5 @@
 pub mod Tickets
 pub mod Laws
+pub mod Slots
 pub mod Rule
 pub mod Plays

@@ -1,11 +1,15 @@
 -- What each step on a word tells: of the step, the seat before, the number found and the seat after.
-use Rattle.std.specs.Prelude.{◌≡◌, ℕ, ◌+◌, ◌^◌, ◌≤◌, Bool, true}
+use Rattle.std.specs.Prelude.{◌≡◌, ◌≢◌, ℕ, ◌+◌, ◌^◌, ◌<◌, ◌≤◌, Bool, false, true, not, ◌&&◌, List, [], ◌∷◌, length}
 use mathlib.Core.Option.{some}
 use lib.ListN.{get_elem?}
 use Rattle.atomic_table.specs.Table.{Me, Step}
+use Rattle.atomic_table.specs.Seated.{TableId}
 use Rattle.turn_board.specs.Tickets.{SeatState, MasterState, BoardState, master_of, IsUnfinished, Good, Event, drew, saw, did, IsLegal, after}
 use Rattle.turn_board.specs.Tickets.Event.{Draw, SeeOpen, Finish, Open, Close, SeeDone}
+use Rattle.turn_board.specs.Slots.{job_slot, found_slot, numbered, FitsFirst, AllFit, AllFound}
 use Rattle.turn_board.specs.Rule.{open_word, seat_view, master_view}
+use Rattle.turn_board.specs.declared.slot.Slot.{Slot}
+use Rattle.turn_board.specs.declared.slot.Slot.TheVariants.{Empty, Job, Found}
 use Rattle.turn_board.specs.declared.view.View.{View}
 
 -- The seat stands in a good board at which the event is legal, and the event changes its state from s to t.
@@ -42,21 +46,53 @@ IsPoll m word n = Leads SeeDone m n (λ b. word ≡ b.done)
 abbrev pub one_more : {W : Type 0} → View W → View W
 one_more v = master_view v.made_for v.master (v.seats + 1)
 
-module _ {S W : Type 0} where
-  abbrev pub drawn : Step S → Me S (View W) → ℕ → Me S (View W) → Type 0
+-- a board's table has three words and two slots for each of six lanes
+abbrev pub IsSized : TableId → Type 0
+IsSized z = (z.words ≡ 3) × (z.slots ≡ 12)
+
+abbrev pub Sat : Type 0 → Type 0 → Type 0 → Type 0
+Sat J R W = Me (Slot J R) (View W)
+
+module _ {J R : Type 0} where
+  -- the twelve slots of six jobs
+  abbrev pub laden : (j0 j1 j2 j3 j4 j5 : J) → List (Slot J R)
+  laden j0 j1 j2 j3 j4 j5 = Job j0 ∷ Empty ∷ Job j1 ∷ Empty ∷ Job j2 ∷ Empty ∷ Job j3 ∷ Empty ∷ Job j4 ∷ Empty ∷ Job j5 ∷ Empty ∷ []
+
+  -- a seat that begins to hold its lane finds a job in the first slot and the second empty
+  abbrev pub Gains : (J → Type 0) → SeatState → Bool → List (ℕ × Slot J R) → List (ℕ × Slot J R) → Type 0
+  Gains fits s false held held' = held' ≡ held
+  Gains fits s true held held' = (number : ℕ) → IsUnfinished s number → (job : J) × (held' ≡ (job_slot number, Job job) ∷ (found_slot number, Empty) ∷ held) × fits job
+
+module _ {J R W : Type 0} where
+  abbrev pub drawn : Step (Slot J R) → Sat J R W → ℕ → Sat J R W → Type 0
   drawn st m r n = (n ≡ (seat_view m.0.made_for (drew r m.0.worker), m.1)) × IsDraw m.0.worker r (drew r m.0.worker)
 
-  abbrev pub looked : Step S → Me S (View W) → ℕ → Me S (View W) → Type 0
-  looked st m r n = (opened : ℕ) × (closed : Bool) × (r ≡ open_word opened closed) × (opened ≤ 2 ^ 62) × (n ≡ (seat_view m.0.made_for (saw opened closed m.0.worker), m.1)) × IsLook m.0.worker r (saw opened closed m.0.worker)
+  abbrev pub opened : Step (Slot J R) → Sat J R W → ℕ → Sat J R W → Type 0
+  opened st m r n = let after = record m.0.master { opened = m.0.master.opened + 6 } in (n ≡ (master_view m.0.made_for after m.0.seats, [])) × IsOpen m.0.master after
 
-  abbrev pub finished : Step S → Me S (View W) → ℕ → Me S (View W) → Type 0
-  finished st m r n = (number : ℕ) → IsUnfinished m.0.worker number → (n ≡ (seat_view m.0.made_for (did number m.0.worker), m.1)) × IsFinish m.0.worker number (did number m.0.worker)
+  -- the master holds all slots, with a job in the first of each lane
+  abbrev pub BringsJobs : (W → J → Type 0) → Sat J R W → Type 0
+  BringsJobs fits m = (j0 j1 j2 j3 j4 j5 : J) × (m.1 ≡ numbered 0 (laden j0 j1 j2 j3 j4 j5))
+      × fits m.0.made_for j0 × fits m.0.made_for j1 × fits m.0.made_for j2 × fits m.0.made_for j3 × fits m.0.made_for j4 × fits m.0.made_for j5
 
-  abbrev pub opened : Step S → Me S (View W) → ℕ → Me S (View W) → Type 0
-  opened st m r n = let after = record m.0.master { opened = m.0.master.opened + 6 } in (n ≡ (master_view m.0.made_for after m.0.seats, m.1)) × IsOpen m.0.master after
+  -- the seat holds the slots of its number's lane, with a result in the second
+  abbrev pub Brings : (W → J → Type 0) → (W → R → Type 0) → Sat J R W → Type 0
+  Brings job_fits found_fits m = (m.0.worker.holding ≡ true) × (first : Slot J R) × (result : R) × ((number : ℕ) → IsUnfinished m.0.worker number → m.1 ≡ (job_slot number, first) ∷ (found_slot number, Found result) ∷ [])
+      × FitsFirst (job_fits m.0.made_for) (found_fits m.0.made_for) first × found_fits m.0.made_for result
 
-  abbrev pub closed : Step S → Me S (View W) → ℕ → Me S (View W) → Type 0
+  abbrev pub closed : Step (Slot J R) → Sat J R W → ℕ → Sat J R W → Type 0
   closed st m r n = let after = record m.0.master { closed = true } in (n ≡ (master_view m.0.made_for after m.0.seats, m.1)) × IsClose m.0.master after
 
-  abbrev pub polled : Step S → Me S (View W) → ℕ → Me S (View W) → Type 0
-  polled st m r n = let after = record m.0.master { known = r; polls = m.0.master.polls + 1 } in (r ≤ m.0.master.opened) × (n ≡ (master_view m.0.made_for after m.0.seats, m.1)) × IsPoll m.0.master r after
+  abbrev pub finished : Step (Slot J R) → Sat J R W → ℕ → Sat J R W → Type 0
+  finished st m r n = (number : ℕ) → IsUnfinished m.0.worker number → (n ≡ (seat_view m.0.made_for (did number m.0.worker), [])) × IsFinish m.0.worker number (did number m.0.worker)
+
+  abbrev pub looked : (W → J → Type 0) → Step (Slot J R) → Sat J R W → ℕ → Sat J R W → Type 0
+  looked fits st m r n = (opened : ℕ) × (closed : Bool) × (r ≡ open_word opened closed) × (opened ≤ 2 ^ 62) × (n.0 ≡ seat_view m.0.made_for (saw opened closed m.0.worker)) × IsLook m.0.worker r (saw opened closed m.0.worker)
+      × Gains (fits m.0.made_for) m.0.worker (not m.0.worker.holding && n.0.worker.holding) m.1 n.1
+
+  -- the master takes all slots where all open numbers are finished, and then finds a result for each
+  abbrev pub polled : (W → J → Type 0) → (W → R → Type 0) → Step (Slot J R) → Sat J R W → ℕ → Sat J R W → Type 0
+  polled job_fits found_fits st m r n = let after = record m.0.master { known = r; polls = m.0.master.polls + 1 } in
+      (r ≤ m.0.master.opened) × (n.0 ≡ master_view m.0.made_for after m.0.seats) × IsPoll m.0.master r after
+      × (r ≢ m.0.master.opened → n.1 ≡ m.1)
+      × (r ≡ m.0.master.opened → (slots : List (Slot J R)) × (length slots ≡ 12) × (n.1 ≡ numbered 0 slots) × AllFit (job_fits m.0.made_for) (found_fits m.0.made_for) slots × (0 < r → AllFound slots))

@@ -1,7 +1,9 @@
 -- The rule of the table. Word 0 is the next number to draw, word 1 how many numbers are open, with bit 63 where the board is closed, and word 2 how many are finished. The first view is the master's, and the others are the seats'.
-use Rattle.std.specs.Prelude.{◌≡◌, ℕ, ◌+◌, ◌≤◌, Bool, true, false, cond, [], ◌∷◌, map, length}
+use Rattle.std.specs.Prelude.{◌≡◌, ℕ, ◌+◌, ◌<◌, ◌≤◌, Bool, true, false, cond, [], ◌∷◌, map, length}
 use Rattle.atomic_table.specs.Table.{State}
 use Rattle.turn_board.specs.Tickets.{SeatState, MasterState, BoardState, master_of, Good}
+use Rattle.turn_board.specs.Slots.{IsOut, Stocked}
+use Rattle.turn_board.specs.declared.slot.Slot.{Slot}
 use Rattle.turn_board.specs.declared.view.View.{View}
 
 -- a seat that has done nothing, and so a master
@@ -25,10 +27,11 @@ module _ {W : Type 0} where
   abbrev pub first_view : W → View W
   first_view w = master_view w idle 0
 
-  -- the words and the views are those of a good board
-  pub record Ruled {S : Type 0} (key : W) (s : State S (View W)) : Type 0 where
-    pub board : BoardState
-    pub good : Good board
-    pub few : length board.seats ≤ 9
-    pub words : s.words ≡ board.ticket ∷ open_word board.opened board.closed ∷ board.done ∷ []
-    pub views : s.views ≡ master_view key (master_of board) (length board.seats) ∷ map (seat_view key) board.seats
+-- The words and the views are those of a good board. The slots of a lane are at home unless they are out with the master or a seat, and then they have what they should, made for the key.
+pub record Ruled {J R W : Type 0} (job_fits : W → J → Type 0) (found_fits : W → R → Type 0) (key : W) (s : State (Slot J R) (View W)) : Type 0 where
+  pub board : BoardState
+  pub good : Good board
+  pub few : length board.seats ≤ 9
+  pub words : s.words ≡ board.ticket ∷ open_word board.opened board.closed ∷ board.done ∷ []
+  pub views : s.views ≡ master_view key (master_of board) (length board.seats) ∷ map (seat_view key) board.seats
+  pub lanes : (lane : ℕ) → lane < 6 → ¬ IsOut board lane → Stocked (job_fits key) (found_fits key) board s.homes lane

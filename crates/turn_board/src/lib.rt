@@ -2,6 +2,7 @@
 #![tactic(auto)]
 
 pub mod laws;
+mod kept;
 mod rule;
 mod slot;
 mod steps;

@@ -1,18 +1,20 @@
-//! The rule of the table: between any two steps its words and views are a good state of the board.
+//! The rule of the table, and the names of its steps.
 ghost use Rattle.turn_board.specs.Rule.{Ruled, first_view, seat_view, fresh};
 ghost use Rattle.turn_board.specs.Plays.{drawn, looked, finished, opened, closed, polled, one_more};
 
+use crate::kept::Kept;
 use crate::slot::Slot;
 use crate::view::View;
 use atomic_table::{Play, Split, TableRule};
 use std::marker::PhantomData;
 
+/// Between any two steps of any threads the words and the views of a table are a good state of the board.
 pub struct Rule<J, R, W> {
     marker: PhantomData<(J, R, W)>,
 }
 
-impl<J, R, W> TableRule<Slot<J, R>, View<W>, W> for Rule<J, R, W> {
-    ghost holds = { Ruled };
+impl<J: Kept<W>, R: Kept<W>, W> TableRule<Slot<J, R>, View<W>, W> for Rule<J, R, W> {
+    ghost holds = { Ruled J.made_for R.made_for };
 
     ghost first = { first_view };
 }
@@ -33,8 +35,8 @@ impl<J, R, W> Play<Slot<J, R>, View<W>> for Draw {
 
 pub struct SeeOpen;
 
-impl<J, R, W> Play<Slot<J, R>, View<W>> for SeeOpen {
-    ghost then = { looked };
+impl<J: Kept<W>, R, W> Play<Slot<J, R>, View<W>> for SeeOpen {
+    ghost then = { looked J.made_for };
 }
 
 pub struct Finish;
@@ -57,6 +59,6 @@ impl<J, R, W> Play<Slot<J, R>, View<W>> for Close {
 
 pub struct SeeDone;
 
-impl<J, R, W> Play<Slot<J, R>, View<W>> for SeeDone {
-    ghost then = { polled };
+impl<J: Kept<W>, R: Kept<W>, W> Play<Slot<J, R>, View<W>> for SeeDone {
+    ghost then = { polled J.made_for R.made_for };
 }
