@@ -5,3 +5,4 @@ pub mod Bits
 pub mod Taking
 pub mod Stock
 pub mod Moves
+pub mod Seen

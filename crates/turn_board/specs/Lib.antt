@@ -3,3 +3,5 @@ pub mod Laws
 pub mod Slots
 pub mod Rule
 pub mod Plays
+pub mod Shown
+pub mod Answers

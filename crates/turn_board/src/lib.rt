@@ -2,6 +2,9 @@
 #![tactic(auto)]
 
 pub mod laws;
+mod answers;
+mod calls;
+mod hands;
 mod kept;
 mod rule;
 mod slot;

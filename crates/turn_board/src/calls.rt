@@ -1,0 +1,74 @@
+//! The calls on the board.
+ghost use Rattle.std.specs.Prelude.{◌≡◌, ℕ, ◌+◌, ◌<◌, ◌≤◌, true, false, [], None, Some, IsSome, IfOk, IfSome, length, replicate};
+ghost use Rattle.turn_board.specs.Tickets.{IsUnfinished, saw, drew, did};
+ghost use Rattle.turn_board.specs.Slots.{job_slot};
+ghost use Rattle.turn_board.specs.Plays.{IsDraw, IsFinish};
+ghost use Rattle.turn_board.specs.Answers.{Answers, Looks};
+
+use crate::answers::See;
+use crate::hands::{Seat, Ticket};
+use crate::kept::Kept;
+use crate::rule::Rule;
+use crate::slot::Slot;
+use crate::steps;
+use crate::view::View;
+use atomic_table::Table;
+use std::alloc::Global;
+use std::marker::Model;
+
+/// The board: what the master and the workers share.
+#[derive(Drop)]
+pub struct Board<J: Kept<W>, R: Kept<W>, W> {
+    table: Table<Slot<J, R>, View<W>, W, Rule<J, R, W>, Global>,
+}
+
+impl<J: Kept<W>, R: Kept<W>, W> Model for Board<J, R, W> {
+    ghost use Rattle.atomic_table.specs.Seated.{TableId, table_id_coded};
+    ghost use Rattle.turn_board.specs.Plays.{IsSized};
+
+    ghost Value = { TableId };
+
+    ghost coded = { table_id_coded };
+
+    ghost view = { λ b. b.table.shared.table_id };
+
+    ghost invariant = { λ b. IsSized b.table.shared.table_id };
+}
+
+// Where a lane's two slots are.
+fn job_slot_of(ticket: &Ticket) -> usize
+    ensures { result ≡ job_slot ticket.now }
+{
+    2 * (ticket.number() % 6) as usize
+}
+
+impl<J: Kept<W>, R: Kept<W>, W> Board<J, R, W> {
+    /// Draws the next number, which no other seat draws. The seat has no ticket that is not done.
+    pub fn draw(&self, seat: &mut Seat<J, R, W>) -> Ticket
+        requires board { seat.old.board ≡ self.now }
+        requires free { (n : ℕ) → ¬ IsUnfinished seat.old.state n }
+        ensures seat { seat.new ≡ record seat.old { state = drew result seat.old.state } }
+        ensures event { IsDraw seat.old.state result seat.new.state }
+    {
+        Ticket::of(steps::draw(&self.table.shared, &mut seat.place))
+    }
+
+    /// Looks whether the ticket is open. A seat that finds it open holds the slots of its lane from then on.
+    pub fn look(&self, seat: &mut Seat<J, R, W>, ticket: &Ticket) -> See
+        requires board { seat.old.board ≡ self.now }
+        requires own { IsUnfinished seat.old.state ticket.now }
+        ensures same { (seat.new.board ≡ seat.old.board) × (seat.new.made_for ≡ seat.old.made_for) }
+        ensures event { Looks seat.old.state seat.new.state }
+        ensures answer { Answers J.made_for ticket.now seat.old seat.new result }
+    {
+        let word = steps::see_open(&self.table.shared, &mut seat.place);
+        let opened = word % steps::CLOSED;
+        if ticket.number() < opened {
+            See::Open
+        } else if word >= steps::CLOSED {
+            See::Closed
+        } else {
+            See::NotYet(opened)
+        }
+    }
+}
