@@ -6,3 +6,4 @@ pub mod Taking
 pub mod Stock
 pub mod Moves
 pub mod Seen
+pub mod Swaps

@@ -71,4 +71,63 @@ impl<J: Kept<W>, R: Kept<W>, W> Board<J, R, W> {
             See::NotYet(opened)
         }
     }
+
+    /// The job of the ticket, which was not taken before.
+    pub fn take(&self, seat: &mut Seat<J, R, W>, ticket: &Ticket) -> J
+        requires board { seat.old.board ≡ self.now }
+        requires own { IsUnfinished seat.old.state ticket.now }
+        requires holding { seat.old.state.holding ≡ true }
+        requires there { IsSome seat.old.job }
+        ensures job { seat.old.job ≡ Some result }
+        ensures made_for { J.made_for seat.old.made_for result }
+        ensures seat { seat.new ≡ record seat.old { job = None } }
+    {
+        let slot = job_slot_of(ticket);
+        let taken = self
+            .table
+            .shared
+            .exchange(&mut seat.place, slot, Slot::Empty);
+        match taken {
+            Slot::Job(job) => job,
+            Slot::Empty => unreachable!(),
+            Slot::Found(_) => unreachable!(),
+        }
+    }
+
+    /// Puts the result of the ticket, and gives back the one that was put before.
+    pub fn put(&self, seat: &mut Seat<J, R, W>, ticket: &Ticket, found: R) -> Option<R>
+        requires board { seat.old.board ≡ self.now }
+        requires own { IsUnfinished seat.old.state ticket.now }
+        requires holding { seat.old.state.holding ≡ true }
+        requires made_for { R.made_for seat.old.made_for found }
+        ensures before { result ≡ seat.old.found }
+        ensures made_for { IfSome result (R.made_for seat.old.made_for) }
+        ensures seat { seat.new ≡ record seat.old { found = Some found } }
+    {
+        let slot = job_slot_of(ticket) + 1;
+        seat.place.turn();
+        let before = self
+            .table
+            .shared
+            .exchange(&mut seat.place, slot, Slot::Found(found));
+        seat.place.turn();
+        match before {
+            Slot::Found(before) => Some(before),
+            Slot::Empty => None,
+            Slot::Job(_) => unreachable!(),
+        }
+    }
+
+    /// Finishes the ticket, for which a result was put.
+    pub fn done(&self, seat: &mut Seat<J, R, W>, ticket: Ticket)
+        requires board { seat.old.board ≡ self.now }
+        requires own { IsUnfinished seat.old.state ticket }
+        requires holding { seat.old.state.holding ≡ true }
+        requires there { IsSome seat.old.found }
+        ensures seat { seat.new ≡ record seat.old { state = did ticket seat.old.state; job = None; found = None } }
+        ensures event { IsFinish seat.old.state ticket seat.new.state }
+    {
+        steps::finish(&self.table.shared, &mut seat.place);
+        self.table.shared.wake_all(steps::DONE);
+    }
 }
