@@ -9,7 +9,7 @@ use Rattle.atomic_table.specs.Table.{State, Me, Act, keeps, takes, gives, chain,
 use Rattle.atomic_table.proofs.Lists.{set_here, set_else, at_longer}
 use Rattle.turn_board.specs.Tickets.{times, SeatState, MasterState, BoardState, master_of, IsUnfinished, Good, GoodSeat, Event, is_due, drew, saw, did, change, IsLegal, after}
 use Rattle.turn_board.specs.Tickets.Event.{Draw, SeeOpen, Finish, Open, Close, SeeDone}
-use Rattle.turn_board.specs.Slots.{MasterHolds, HoldsLane, IsOut, IsLast, IsJob, IsFound, numbered, FitsFirst, FitsSecond, Stocked, AllFit, AllFound}
+use Rattle.turn_board.specs.Slots.{MasterHolds, HoldsLane, IsOut, IsLast, IsJob, IsFound, numbered, FitsFirst, FitsSecond, Stocked}
 use Rattle.turn_board.specs.Slots as slots
 use Rattle.turn_board.specs.Rule.{fresh, idle, open_word, seat_view, master_view, first_view, Ruled}
 use Rattle.turn_board.specs.Plays.{Sat, laden, Gains, Brings, BringsJobs, drawn, looked, finished, opened, closed, polled, one_more, IsDraw, IsLook, IsFinish, IsOpen, IsClose, IsPoll}
@@ -323,9 +323,23 @@ module _ {J R W : Type 0} (job_fits : W → J → Type 0) (found_fits : W → R 
           views = refl;
           lanes = λ lane in_range home'. absurd (home' (inl (omega arith, full)));
         },
-        (done_opened b g, refl, (b, g, tt, refl, refl, refl), (λ ne. absurd (ne full)), λ _. (slots, refl, refl,
-          (k₀.first_fits, k₀.second_fits, (k₁.first_fits, k₁.second_fits, (k₂.first_fits, k₂.second_fits, (k₃.first_fits, k₃.second_fits, (k₄.first_fits, k₄.second_fits, (k₅.first_fits, k₅.second_fits, tt)))))),
-          λ some_open. let f = each some_open in (f 0 (omega arith) k₀, (f 1 (omega arith) k₁, (f 2 (omega arith) k₂, (f 3 (omega arith) k₃, (f 4 (omega arith) k₄, (f 5 (omega arith) k₅, tt)))))))),
+        (done_opened b g, refl, (b, g, tt, refl, refl, refl), (λ ne. absurd (ne full)), λ _. record {
+          first0 = k₀.first;
+          second0 = k₀.second;
+          first1 = k₁.first;
+          second1 = k₁.second;
+          first2 = k₂.first;
+          second2 = k₂.second;
+          first3 = k₃.first;
+          second3 = k₃.second;
+          first4 = k₄.first;
+          second4 = k₄.second;
+          first5 = k₅.first;
+          second5 = k₅.second;
+          are = refl;
+          fit = (k₀.second_fits, k₁.second_fits, k₂.second_fits, k₃.second_fits, k₄.second_fits, k₅.second_fits);
+          found = λ some_open. let f = each some_open in (f 0 (omega arith) k₀, f 1 (omega arith) k₁, f 2 (omega arith) k₂, f 3 (omega arith) k₃, f 4 (omega arith) k₄, f 5 (omega arith) k₅);
+        }),
       )
 
   waits : (n : ℕ) (b : BoardState) → Good b → length b.seats ≤ 9 → (homes : Homes) → Lanes b homes → b.done ≢ b.opened

@@ -6,7 +6,7 @@ use Rattle.atomic_table.specs.Table.{Me, Step}
 use Rattle.atomic_table.specs.Seated.{TableId}
 use Rattle.turn_board.specs.Tickets.{SeatState, MasterState, BoardState, master_of, IsUnfinished, Good, Event, drew, saw, did, IsLegal, after}
 use Rattle.turn_board.specs.Tickets.Event.{Draw, SeeOpen, Finish, Open, Close, SeeDone}
-use Rattle.turn_board.specs.Slots.{job_slot, found_slot, numbered, FitsFirst, AllFit, AllFound}
+use Rattle.turn_board.specs.Slots.{job_slot, found_slot, numbered, IsFound, FitsFirst, FitsSecond}
 use Rattle.turn_board.specs.Rule.{open_word, seat_view, master_view}
 use Rattle.turn_board.specs.declared.slot.Slot.{Slot}
 use Rattle.turn_board.specs.declared.slot.Slot.TheVariants.{Empty, Job, Found}
@@ -63,6 +63,24 @@ module _ {J R : Type 0} where
   Gains fits s false held held' = held' ≡ held
   Gains fits s true held held' = (number : ℕ) → IsUnfinished s number → (job : J) × (held' ≡ (job_slot number, Job job) ∷ (found_slot number, Empty) ∷ held) × fits job
 
+-- the master has taken all twelve slots, the two of each lane in turn, and where so many numbers are finished that there is one, it finds a result in each second one
+pub record Collects {J R : Type 0} (job_fits : J → Type 0) (found_fits : R → Type 0) (done : ℕ) (held : List (ℕ × Slot J R)) : Type 0 where
+  pub first0 : Slot J R
+  pub second0 : Slot J R
+  pub first1 : Slot J R
+  pub second1 : Slot J R
+  pub first2 : Slot J R
+  pub second2 : Slot J R
+  pub first3 : Slot J R
+  pub second3 : Slot J R
+  pub first4 : Slot J R
+  pub second4 : Slot J R
+  pub first5 : Slot J R
+  pub second5 : Slot J R
+  pub are : held ≡ numbered 0 (first0 ∷ second0 ∷ first1 ∷ second1 ∷ first2 ∷ second2 ∷ first3 ∷ second3 ∷ first4 ∷ second4 ∷ first5 ∷ second5 ∷ [])
+  pub fit : FitsSecond job_fits found_fits second0 × FitsSecond job_fits found_fits second1 × FitsSecond job_fits found_fits second2 × FitsSecond job_fits found_fits second3 × FitsSecond job_fits found_fits second4 × FitsSecond job_fits found_fits second5
+  pub found : 0 < done → IsFound second0 × IsFound second1 × IsFound second2 × IsFound second3 × IsFound second4 × IsFound second5
+
 module _ {J R W : Type 0} where
   abbrev pub drawn : Step (Slot J R) → Sat J R W → ℕ → Sat J R W → Type 0
   drawn st m r n = (n ≡ (seat_view m.0.made_for (drew r m.0.worker), m.1)) × IsDraw m.0.worker r (drew r m.0.worker)
@@ -95,4 +113,4 @@ module _ {J R W : Type 0} where
   polled job_fits found_fits st m r n = let after = record m.0.master { known = r; polls = m.0.master.polls + 1 } in
       (r ≤ m.0.master.opened) × (n.0 ≡ master_view m.0.made_for after m.0.seats) × IsPoll m.0.master r after
       × (r ≢ m.0.master.opened → n.1 ≡ m.1)
-      × (r ≡ m.0.master.opened → (slots : List (Slot J R)) × (length slots ≡ 12) × (n.1 ≡ numbered 0 slots) × AllFit (job_fits m.0.made_for) (found_fits m.0.made_for) slots × (0 < r → AllFound slots))
+      × (r ≡ m.0.master.opened → Collects (job_fits m.0.made_for) (found_fits m.0.made_for) r n.1)

@@ -42,12 +42,6 @@ module _ {J R : Type 0} where
   IsFound (Job j) = ⊥
   IsFound (Found r) = Unit {0}
 
-  -- each second slot has a result
-  abbrev pub AllFound : List (Slot J R) → Type 0
-  AllFound [] = Unit {0}
-  AllFound (x ∷ []) = ⊥
-  AllFound (x ∷ y ∷ more) = IsFound y × AllFound more
-
   -- the slots from the one numbered i on, with their values
   abbrev pub numbered : ℕ → List (Slot J R) → List (ℕ × Slot J R)
   numbered i [] = []
@@ -76,9 +70,3 @@ module _ {J R : Type 0} (job_fits : J → Type 0) (found_fits : R → Type 0) wh
     pub second_fits : FitsSecond second
     pub waiting : (n : ℕ) → IsLast b n → n % 6 ≡ lane → finishes b n ≡ 0 → IsJob first × (second ≡ Empty)
     pub finished : (n : ℕ) → IsLast b n → n % 6 ≡ lane → 0 < finishes b n → IsFound second
-
-  -- first and second slots in turn, each with what it may have
-  abbrev pub AllFit : List (Slot J R) → Type 0
-  AllFit [] = Unit {0}
-  AllFit (x ∷ []) = ⊥
-  AllFit (x ∷ y ∷ more) = FitsFirst x × FitsSecond y × AllFit more
