@@ -7,3 +7,4 @@ pub mod Stock
 pub mod Moves
 pub mod Seen
 pub mod Swaps
+pub mod Refills

@@ -28,3 +28,16 @@ Answers fits number s t Closed = (t.state.shut ≡ true) × (t.state.seen ≤ nu
 -- the state after one look: it is what the load of the look told
 abbrev pub Looks : SeatState → SeatState → Type 0
 Looks s t = (t ≡ saw t.seen t.shut s) × IsLook s (open_word t.seen t.shut) t
+
+-- each lane's value
+abbrev pub EachLane : {T : Type 0} → (T → Type 0) → Six T → Type 0
+EachLane P x = P x.l0 × P x.l1 × P x.l2 × P x.l3 × P x.l4 × P x.l5
+
+-- what an answer tells of a look at the finished numbers
+abbrev pub Gathered : {R W : Type 0} → (W → R → Type 0) → MasterView W → MasterView W → Gather R → Type 0
+Gathered fits m n (All results) = (n.state.known ≡ n.state.opened) × EachLane (fits m.made_for) results
+Gathered fits m n (Part done) = (done ≡ n.state.known) × (done < n.state.opened)
+
+-- the master's state after one look
+abbrev pub Polls : MasterState → MasterState → Type 0
+Polls m n = (n ≡ record m { known = n.known; polls = m.polls + 1 }) × IsPoll m n.known n

@@ -5,3 +5,4 @@ pub mod Rule
 pub mod Plays
 pub mod Shown
 pub mod Answers
+pub mod Holding

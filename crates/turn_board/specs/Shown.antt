@@ -1,5 +1,6 @@
 -- What clauses see of a seat and of a master.
-use Rattle.std.specs.Prelude.{◌≡◌, ◌≢◌, ℕ, ◌+◌, ◌<◌, ◌≤◌, Bool, true, false, List, [], ◌∷◌, Option, Some, None}
+use Rattle.std.specs.Prelude.{◌≡◌, ◌≢◌, ℕ, ◌+◌, ◌*◌, ◌<◌, ◌≤◌, Bool, true, false, List, [], ◌∷◌, Option, Some, None}
+use Rattle.atomic_table.specs.Table.{rest, turned}
 use Rattle.atomic_table.specs.Seated.{TableId}
 use Rattle.turn_board.specs.Tickets.{SeatState, MasterState, IsUnfinished, saw}
 use Rattle.turn_board.specs.Slots.{job_slot, found_slot, numbered, FitsFirst, FitsSecond}
@@ -44,6 +45,10 @@ module _ {J R : Type 0} where
   -- the twelve slots with nothing in them
   abbrev pub vacant : List (Slot J R)
   vacant = Empty ∷ Empty ∷ Empty ∷ Empty ∷ Empty ∷ Empty ∷ Empty ∷ Empty ∷ Empty ∷ Empty ∷ Empty ∷ Empty ∷ []
+
+  -- the first two slots of the list, which are a lane's, have other values and go behind the others
+  abbrev pub refilled : ℕ → Slot J R → List (ℕ × Slot J R) → List (ℕ × Slot J R)
+  refilled lane x held = turned ((2 * lane + 1, Empty) ∷ rest (turned ((2 * lane, x) ∷ rest held)))
 
 module _ {J R W : Type 0} where
   abbrev pub seat_shown : TableId → Sat J R W → SeatView J R W

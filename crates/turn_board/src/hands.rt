@@ -25,16 +25,18 @@ impl<J: Kept<W>, R: Kept<W>, W> Model for Seat<J, R, W> {
 #[derive(Drop)]
 pub struct Master<J: Kept<W>, R: Kept<W>, W> {
     pub(crate) place: Place<J, R, W>,
+    pub(crate) opened: u64,
 }
 
 impl<J: Kept<W>, R: Kept<W>, W> Model for Master<J, R, W> {
+    ghost use Rattle.std.specs.Prelude.{◌≡◌};
     ghost use Rattle.turn_board.specs.Shown.{MasterView, master_shown, IsMaster};
 
     ghost Value = { MasterView W };
 
     ghost view = { λ m. master_shown m.place.table_id m.place.me };
 
-    ghost invariant = { λ m. IsMaster m.place.me };
+    ghost invariant = { λ m. IsMaster m.place.me × (m.opened ≡ m.place.me.0.master.opened) };
 }
 
 /// A number that a seat drew. It is neither copied nor cloned.

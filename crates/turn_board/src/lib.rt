@@ -4,6 +4,7 @@
 pub mod laws;
 mod answers;
 mod calls;
+mod collect;
 mod hands;
 mod kept;
 mod rule;
