@@ -1,12 +1,13 @@
 //! The calls on the board.
-ghost use Rattle.std.specs.Prelude.{◌≡◌, ℕ, ◌+◌, ◌<◌, ◌≤◌, true, false, [], None, Some, IsSome, IfOk, IfSome, length, replicate};
+ghost use Rattle.std.specs.Prelude.{◌≡◌, ℕ, ◌+◌, ◌^◌, ◌<◌, ◌≤◌, true, false, [], None, Some, IsSome, IfOk, IfSome, length, replicate};
 ghost use Rattle.turn_board.specs.Tickets.{IsUnfinished, saw, drew, did};
 ghost use Rattle.turn_board.specs.Slots.{job_slot};
-ghost use Rattle.turn_board.specs.Plays.{IsDraw, IsFinish};
-ghost use Rattle.turn_board.specs.Answers.{Answers, Looks};
+ghost use Rattle.turn_board.specs.Plays.{IsDraw, IsFinish, IsOpen, IsClose};
+ghost use Rattle.turn_board.specs.Answers.{Answers, Looks, EachLane, Gathered, Polls};
 
-use crate::answers::See;
-use crate::hands::{Seat, Ticket};
+use crate::answers::{Gather, See, Six};
+use crate::collect::{jobs_in, nothing, refill_all, results_in};
+use crate::hands::{Master, Seat, Ticket};
 use crate::kept::Kept;
 use crate::rule::Rule;
 use crate::slot::Slot;
@@ -42,7 +43,7 @@ fn job_slot_of(ticket: &Ticket) -> usize
     2 * (ticket.number() % 6) as usize
 }
 
-impl<J: Kept<W>, R: Kept<W>, W> Board<J, R, W> {
+impl<J: Kept<W> + Drop, R: Kept<W> + Drop, W> Board<J, R, W> {
     /// Draws the next number, which no other seat draws. The seat has no ticket that is not done.
     pub fn draw(&self, seat: &mut Seat<J, R, W>) -> Ticket
         requires board { seat.old.board ≡ self.now }
@@ -129,5 +130,48 @@ impl<J: Kept<W>, R: Kept<W>, W> Board<J, R, W> {
     {
         steps::finish(&self.table.shared, &mut seat.place);
         self.table.shared.wake_all(steps::DONE);
+    }
+
+    /// Opens six more numbers, one for each lane, with their jobs. The master has gathered all earlier ones.
+    pub fn offer(&self, master: &mut Master<J, R, W>, jobs: Six<J>)
+        requires board { master.old.board ≡ self.now }
+        requires gathered { master.old.state.known ≡ master.old.state.opened }
+        requires unclosed { master.old.state.closed ≡ false }
+        requires room { master.old.state.opened + 6 ≤ 2 ^ 62 }
+        requires made_for { EachLane (J.made_for master.old.made_for) jobs }
+        ensures master { master.new ≡ record master.old { state = record master.old.state { opened = master.old.state.opened + 6 } } }
+        ensures event { IsOpen master.old.state master.new.state }
+    {
+        refill_all(&self.table.shared, &mut master.place, jobs_in(jobs));
+        steps::open(&self.table.shared, &mut master.place);
+        master.opened += 6;
+        self.table.shared.wake_all(steps::OPEN);
+    }
+
+    /// Gathers the results, if all open numbers are finished. Some are open that the master has not gathered.
+    pub fn gathered(&self, master: &mut Master<J, R, W>) -> Gather<R>
+        requires board { master.old.board ≡ self.now }
+        requires offered { master.old.state.known < master.old.state.opened }
+        ensures same { (master.new.board ≡ master.old.board) × (master.new.made_for ≡ master.old.made_for) }
+        ensures event { Polls master.old.state master.new.state }
+        ensures answer { Gathered R.made_for master.old master.new result }
+    {
+        let done = steps::see_done(&self.table.shared, &mut master.place);
+        if done < master.opened {
+            return Gather::Part(done);
+        }
+        let found = refill_all(&self.table.shared, &mut master.place, nothing());
+        Gather::All(results_in(found))
+    }
+
+    /// Closes the board: a worker whose ticket is not open is told so.
+    pub fn close(&self, master: &mut Master<J, R, W>)
+        requires board { master.old.board ≡ self.now }
+        requires gathered { master.old.state.known ≡ master.old.state.opened }
+        ensures master { master.new ≡ record master.old { state = record master.old.state { closed = true } } }
+        ensures event { IsClose master.old.state master.new.state }
+    {
+        steps::close(&self.table.shared, &mut master.place);
+        self.table.shared.wake_all(steps::OPEN);
     }
 }

@@ -3,6 +3,7 @@ ghost use Rattle.std.specs.Prelude.{◌≡◌, ◌+◌, ◌*◌, ◌<◌, [], �
 ghost use Rattle.atomic_table.specs.Table.{rest, turned};
 ghost use Rattle.turn_board.specs.Slots.{IsFound};
 ghost use Rattle.turn_board.specs.Shown.{refilled};
+ghost use Rattle.turn_board.specs.Answers.{EachLane};
 ghost use Rattle.turn_board.specs.Holding.{HoldsAll, filled};
 ghost use Rattle.turn_board.specs.declared.slot.Slot.TheVariants.{Empty, Job, Found};
 
@@ -34,8 +35,44 @@ fn refill<J: Kept<W> + Drop, R: Kept<W> + Drop, W>(
     second
 }
 
+// Nothing for each lane.
+pub fn nothing<J, R>() -> Six<Slot<J, R>>
+    ensures { result ≡ record { l0 = Empty; l1 = Empty; l2 = Empty; l3 = Empty; l4 = Empty; l5 = Empty } }
+{
+    Six {
+        l0: Slot::Empty,
+        l1: Slot::Empty,
+        l2: Slot::Empty,
+        l3: Slot::Empty,
+        l4: Slot::Empty,
+        l5: Slot::Empty,
+    }
+}
+
+// What the first slots get for these jobs.
+pub fn jobs_in<J, R>(jobs: Six<J>) -> Six<Slot<J, R>>
+    ensures { result ≡ record { l0 = Job jobs.l0; l1 = Job jobs.l1; l2 = Job jobs.l2; l3 = Job jobs.l3; l4 = Job jobs.l4; l5 = Job jobs.l5 } }
+{
+    let Six {
+        l0,
+        l1,
+        l2,
+        l3,
+        l4,
+        l5,
+    } = jobs;
+    Six {
+        l0: Slot::Job(l0),
+        l1: Slot::Job(l1),
+        l2: Slot::Job(l2),
+        l3: Slot::Job(l3),
+        l4: Slot::Job(l4),
+        l5: Slot::Job(l5),
+    }
+}
+
 // The result in a slot that has one.
-pub fn result_in<J: Drop, R>(slot: Slot<J, R>) -> R
+fn result_in<J: Drop, R>(slot: Slot<J, R>) -> R
     requires { IsFound slot }
     ensures { slot ≡ Found result }
 {
@@ -79,5 +116,28 @@ pub fn refill_all<J: Kept<W> + Drop, R: Kept<W> + Drop, W>(
         l3,
         l4,
         l5,
+    }
+}
+
+// The results in slots that have one each.
+pub fn results_in<J: Drop, R>(slots: Six<Slot<J, R>>) -> Six<R>
+    requires { EachLane IsFound slots }
+    ensures { slots ≡ record { l0 = Found result.l0; l1 = Found result.l1; l2 = Found result.l2; l3 = Found result.l3; l4 = Found result.l4; l5 = Found result.l5 } }
+{
+    let Six {
+        l0,
+        l1,
+        l2,
+        l3,
+        l4,
+        l5,
+    } = slots;
+    Six {
+        l0: result_in(l0),
+        l1: result_in(l1),
+        l2: result_in(l2),
+        l3: result_in(l3),
+        l4: result_in(l4),
+        l5: result_in(l5),
     }
 }
