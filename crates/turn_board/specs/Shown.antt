@@ -22,6 +22,10 @@ pub record MasterView (W : Type 0) : Type 0 where
   pub made_for : W
   pub state : MasterState
 
+-- the master of a new board has looked once
+abbrev pub new_master : {W : Type 0} → TableId → W → MasterView W
+new_master z w = record { board = z; made_for = w; state = record { opened = 0; closed = false; known = 0; polls = 1 } }
+
 module _ {J R : Type 0} where
   abbrev pub job_of : Slot J R → Option J
   job_of Empty = None

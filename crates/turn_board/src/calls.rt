@@ -3,18 +3,20 @@ ghost use Rattle.std.specs.Prelude.{◌≡◌, ℕ, ◌+◌, ◌^◌, ◌<◌, �
 ghost use Rattle.turn_board.specs.Tickets.{IsUnfinished, saw, drew, did};
 ghost use Rattle.turn_board.specs.Slots.{job_slot};
 ghost use Rattle.turn_board.specs.Plays.{IsDraw, IsFinish, IsOpen, IsClose};
+ghost use Rattle.turn_board.specs.Shown.{new_seat, new_master};
 ghost use Rattle.turn_board.specs.Answers.{Answers, Looks, EachLane, Gathered, Polls};
 
 use crate::answers::{Gather, See, Six};
 use crate::collect::{jobs_in, nothing, refill_all, results_in};
 use crate::hands::{Master, Seat, Ticket};
 use crate::kept::Kept;
+use crate::opening::{empty_slots, seat_workers};
 use crate::rule::Rule;
 use crate::slot::Slot;
 use crate::steps;
 use crate::view::View;
-use atomic_table::Table;
-use std::alloc::Global;
+use atomic_table::{Refused, Table};
+use std::alloc::{AllocError, Global};
 use std::marker::Model;
 
 /// The board: what the master and the workers share.
@@ -44,6 +46,29 @@ fn job_slot_of(ticket: &Ticket) -> usize
 }
 
 impl<J: Kept<W> + Drop, R: Kept<W> + Drop, W> Board<J, R, W> {
+    /// A board with so many seats, whose values are made for `made_for`.
+    pub fn new(
+        alloc: Global,
+        made_for: W,
+        seats: usize,
+    ) -> Result<(Board<J, R, W>, Master<J, R, W>, Vec<Seat<J, R, W>>), AllocError>
+    where
+        W: Drop,
+        requires { (0 < seats) × (seats ≤ 9) }
+        ensures master { IfOk result (λ made. made.1 ≡ new_master made.0 made_for) }
+        ensures seats { IfOk result (λ made. made.2.items ≡ replicate seats (new_seat made.0 made_for)) }
+    {
+        let slots = empty_slots(alloc)?;
+        let (table, mut place) = match Table::new(alloc, &[0, 0, 0], slots, &made_for) {
+            Ok(made) => made,
+            Err(Refused { slots: _ }) => return Err(AllocError),
+        };
+        let workers = seat_workers(&table.shared, &mut place, alloc, seats)?;
+        steps::see_done(&table.shared, &mut place);
+        refill_all(&table.shared, &mut place, nothing());
+        Ok((Board { table }, Master { place, opened: 0 }, workers))
+    }
+
     /// Draws the next number, which no other seat draws. The seat has no ticket that is not done.
     pub fn draw(&self, seat: &mut Seat<J, R, W>) -> Ticket
         requires board { seat.old.board ≡ self.now }

@@ -7,6 +7,7 @@ mod calls;
 mod collect;
 mod hands;
 mod kept;
+mod opening;
 mod rule;
 mod slot;
 mod steps;
