@@ -8,3 +8,4 @@ pub mod Moves
 pub mod Seen
 pub mod Swaps
 pub mod Refills
+pub mod Awaits

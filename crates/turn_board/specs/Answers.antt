@@ -41,3 +41,21 @@ Gathered fits m n (Part done) = (done ≡ n.state.known) × (done < n.state.open
 -- the master's state after one look
 abbrev pub Polls : MasterState → MasterState → Type 0
 Polls m n = (n ≡ record m { known = n.known; polls = m.polls + 1 }) × IsPoll m n.known n
+
+-- the state after one look or more, of which the last told what it is
+abbrev pub LooksAgain : SeatState → SeatState → Type 0
+LooksAgain s t = (before : SeatState) × (before.drawn ≡ s.drawn) × (before.finished ≡ s.finished) × (s.loads ≤ before.loads) × Looks before t
+
+abbrev pub PollsAgain : MasterState → MasterState → Type 0
+PollsAgain m n = (before : MasterState) × (before.opened ≡ m.opened) × (before.closed ≡ m.closed) × (m.polls ≤ before.polls) × Polls before n
+
+-- the ticket is open, or the board is closed
+abbrev pub IsSettled : See → Type 0
+IsSettled Open = Unit {0}
+IsSettled (NotYet n) = ⊥
+IsSettled Closed = Unit {0}
+
+-- the results are all there
+abbrev pub IsWhole : {R : Type 0} → Gather R → Type 0
+IsWhole (All results) = Unit {0}
+IsWhole (Part done) = ⊥

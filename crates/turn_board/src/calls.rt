@@ -4,7 +4,7 @@ ghost use Rattle.turn_board.specs.Tickets.{IsUnfinished, saw, drew, did};
 ghost use Rattle.turn_board.specs.Slots.{job_slot};
 ghost use Rattle.turn_board.specs.Plays.{IsDraw, IsFinish, IsOpen, IsClose};
 ghost use Rattle.turn_board.specs.Shown.{new_seat, new_master};
-ghost use Rattle.turn_board.specs.Answers.{Answers, Looks, EachLane, Gathered, Polls};
+ghost use Rattle.turn_board.specs.Answers.{Answers, Looks, LooksAgain, EachLane, Gathered, Polls, PollsAgain, IsSettled, IsWhole};
 
 use crate::answers::{Gather, See, Six};
 use crate::collect::{jobs_in, nothing, refill_all, results_in};
@@ -18,6 +18,8 @@ use crate::view::View;
 use atomic_table::{Refused, Table};
 use std::alloc::{AllocError, Global};
 use std::marker::Model;
+use std::sync::Wait;
+use std::time::Duration;
 
 /// The board: what the master and the workers share.
 #[derive(Drop)]
@@ -198,5 +200,55 @@ impl<J: Kept<W> + Drop, R: Kept<W> + Drop, W> Board<J, R, W> {
     {
         steps::close(&self.table.shared, &mut master.place);
         self.table.shared.wake_all(steps::OPEN);
+    }
+
+    /// Looks until the ticket is open or the board is closed, and sleeps between.
+    pub fn await_open<H: Wait>(&self, rt: &H, seat: &mut Seat<J, R, W>, ticket: &Ticket) -> See
+        requires board { seat.old.board ≡ self.now }
+        requires own { IsUnfinished seat.old.state ticket.now }
+        ensures same { (seat.new.board ≡ seat.old.board) × (seat.new.made_for ≡ seat.old.made_for) }
+        ensures event { LooksAgain seat.old.state seat.new.state }
+        ensures answer { Answers J.made_for ticket.now seat.old seat.new result }
+        ensures settled { IsSettled result }
+    {
+        for _ in rt.forever() {
+            match self.look(seat, ticket) {
+                See::NotYet(opened) => self.sleep_open(rt, opened),
+                See::Open => return See::Open,
+                See::Closed => return See::Closed,
+            }
+        }
+        unreachable!()
+    }
+
+    /// Gathers once all open numbers are finished, and sleeps until then.
+    pub fn await_all<H: Wait>(&self, rt: &H, master: &mut Master<J, R, W>) -> Gather<R>
+        requires board { master.old.board ≡ self.now }
+        requires offered { master.old.state.known < master.old.state.opened }
+        ensures same { (master.new.board ≡ master.old.board) × (master.new.made_for ≡ master.old.made_for) }
+        ensures event { PollsAgain master.old.state master.new.state }
+        ensures answer { Gathered R.made_for master.old master.new result }
+        ensures whole { IsWhole result }
+    {
+        for _ in rt.forever() {
+            match self.gathered(master) {
+                Gather::Part(done) => self.sleep_done(rt, done),
+                Gather::All(results) => return Gather::All(results),
+            }
+        }
+        unreachable!()
+    }
+
+    // A close changes no low bit of the word, so a wake for it may come before the sleep: it does not last.
+    fn sleep_open<H: Wait>(&self, rt: &H, opened: u64) {
+        let low = (opened % (1 << 32)) as u32;
+        self.table
+            .shared
+            .park_timeout(rt, steps::OPEN, low, Duration::from_millis(1));
+    }
+
+    fn sleep_done<H: Wait>(&self, rt: &H, done: u64) {
+        let low = (done % (1 << 32)) as u32;
+        self.table.shared.park(rt, steps::DONE, low);
     }
 }
