@@ -319,8 +319,8 @@ module _ {J R W : Type 0} (job_fits : W → J → Type 0) (found_fits : W → R 
           board = c;
           good = gather_keeps b g;
           few = few;
-          words = refl;
-          views = refl;
+          words = refl {a = b.ticket ∷ open_word b.opened b.closed ∷ b.done ∷ []};
+          views = refl {a = lead c ∷ map (seat_view key) b.seats};
           lanes = λ lane in_range home'. absurd (home' (inl (omega arith, full)));
         },
         (done_opened b g, refl, (b, g, tt, refl, refl, refl), (λ ne. absurd (ne full)), λ _. record {
@@ -336,7 +336,7 @@ module _ {J R W : Type 0} (job_fits : W → J → Type 0) (found_fits : W → R 
           second4 = k₄.second;
           first5 = k₅.first;
           second5 = k₅.second;
-          are = refl;
+          are = refl {a = numbered 0 slots};
           fit = (k₀.second_fits, k₁.second_fits, k₂.second_fits, k₃.second_fits, k₄.second_fits, k₅.second_fits);
           found = λ some_open. let f = each some_open in (f 0 (omega arith) k₀, f 1 (omega arith) k₁, f 2 (omega arith) k₂, f 3 (omega arith) k₃, f 4 (omega arith) k₄, f 5 (omega arith) k₅);
         }),
