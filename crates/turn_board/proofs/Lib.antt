@@ -9,3 +9,4 @@ pub mod Seen
 pub mod Swaps
 pub mod Refills
 pub mod Awaits
+pub mod Owning

@@ -1,5 +1,5 @@
 -- What a seat has and is told after it looked.
-use Rattle.std.proofs.Common.{◌≡◌, ℕ, zero, suc, ◌+◌, ◌%◌, ◌^◌, ◌<◌, ◌≤◌, ◌≢◌, ◌⊎◌, List, [], ◌∷◌, Bool, true, false, not, ◌&&◌, ◌||◌, sym, refl, ap, ◌∙◌, subst, ⊎_elim, arith, Option, Some, None}
+use Rattle.std.proofs.Common.{◌≡◌, ℕ, ◌%◌, ◌^◌, ◌<◌, ◌≤◌, ◌⊎◌, List, ◌∷◌, Bool, true, false, not, ◌&&◌, ◌||◌, sym, refl, ap, ◌∙◌, subst, ⊎_elim, arith}
 use mathlib.Core.Bool.{false≢true}
 use mathlib.Core.Option.{none}
 use Rattle.atomic_table.specs.Table.{step}
@@ -9,11 +9,11 @@ use Rattle.turn_board.specs.Slots.{job_slot, found_slot}
 use Rattle.turn_board.specs.Rule.{open_word, seat_view}
 use Rattle.turn_board.specs.Plays.{Sat, Gains, looked, IsLook}
 use Rattle.turn_board.specs.Shown.{SeatView, seat_shown, job_in, found_in, IsSeat}
-use Rattle.turn_board.specs.Answers.{SlotsStay, Takes, Answers, Looks}
+use Rattle.turn_board.specs.Answers.{SlotsStay, Takes, Answers}
 use Rattle.turn_board.specs.declared.answers.See.{See}
 use Rattle.turn_board.specs.declared.answers.See.TheVariants.{Open, NotYet, Closed}
 use Rattle.turn_board.specs.declared.slot.Slot.{Slot}
-use Rattle.turn_board.specs.declared.slot.Slot.TheVariants.{Empty, Job, Found}
+use Rattle.turn_board.specs.declared.slot.Slot.TheVariants.{Empty, Job}
 use Rattle.turn_board.specs.declared.view.View.{View}
 use Rattle.turn_board.proofs.Keeps.{due_below, due_yes}
 
@@ -145,5 +145,5 @@ module _ {J R W : Type 0} (job_fits : W → J → Type 0) (found_fits : W → R 
       (subst (λ (x : SeatView J R W). Answers job_fits number x (seat_shown z n) result) is
       (⊎_elim (λ t. subst (Answers job_fits number (seat_shown z m) (seat_shown z n)) (sym t.1) (answers_open z m n r number k p mine t.0))
       (λ u. ⊎_elim (λ t. subst (Answers job_fits number (seat_shown z m) (seat_shown z n)) (sym t.2) (answers_closed z m n r number p mine t.0 t.1))
-          (λ t. subst (Answers job_fits number (seat_shown z m) (seat_shown z n)) (sym t.2) (answers_not_yet z m n r number p mine t.0 t.1)) u)
+      (λ t. subst (Answers job_fits number (seat_shown z m) (seat_shown z n)) (sym t.2) (answers_not_yet z m n r number p mine t.0 t.1)) u)
       chosen))

@@ -1,15 +1,15 @@
 -- What a step does to the slots that are at home.
-use Rattle.std.proofs.Common.{◌≡◌, ℕ, zero, suc, ◌+◌, ◌*◌, ◌%◌, ◌<◌, ◌≤◌, ◌≢◌, ◌⊎◌, List, [], ◌∷◌, ◌++◌, length, set, Bool, true, false, sym, refl, ap, ◌∙◌, subst, inl, inr, ⊎_elim, arith}
+use Rattle.std.proofs.Common.{◌≡◌, ℕ, zero, suc, ◌+◌, ◌*◌, ◌%◌, ◌<◌, List, [], ◌∷◌, length, true, false, sym, ap, ◌∙◌, subst, inl, inr, ⊎_elim, arith}
 use mathlib.Core.Logic.{dite}
 use native.Mathlib.Decide.{ℕ_discrete, dec_le}
 use mathlib.Core.Option.{Option, none, some, some-injective}
 use lib.ListN.{get_elem?}
-use Rattle.atomic_table.proofs.Lists.{set_here, set_else, at_longer, one_turn}
-use Rattle.turn_board.specs.Tickets.{total, times, SeatState, BoardState, master_of, IsUnfinished, GoodSeat, Good}
-use Rattle.turn_board.specs.Slots.{MasterHolds, HoldsLane, IsOut, IsLast, finishes, Stocked}
+use Rattle.atomic_table.proofs.Lists.{set_here, set_else, one_turn}
+use Rattle.turn_board.specs.Tickets.{times, SeatState, BoardState, IsUnfinished, Good}
+use Rattle.turn_board.specs.Slots.{HoldsLane, IsOut, IsLast, finishes, Stocked}
 use Rattle.turn_board.specs.declared.slot.Slot.{Slot}
 use Rattle.turn_board.proofs.Sums.{total-set, some_term}
-use Rattle.turn_board.proofs.Follows.{draws, done_opened, all_finished, unfinished_nowhere, held_last, not_twice}
+use Rattle.turn_board.proofs.Follows.{done_opened, all_finished, unfinished_nowhere, held_last, not_twice}
 use Rattle.turn_board.proofs.Keeps.{reseat}
 
 pub six : (P : ℕ → Type 0) → P 0 → P 1 → P 2 → P 3 → P 4 → P 5 → (k : ℕ) → k < 6 → P k
@@ -43,8 +43,8 @@ pub still_out : (b : BoardState) (ticket done j lane : ℕ) (s t : SeatState) �
     → IsOut b lane → IsOut (reseat b ticket done j t) lane
 still_out b ticket done j lane s t at room keep out = ⊎_elim (λ m. inl m)
     (λ x. dite (ℕ_discrete x.0 j)
-        (λ e. let same : s ≡ x.1 = some-injective s x.1 (sym at ∙ (ap (λ i. get_elem? b.seats i) (sym e) ∙ x.2)) in inr (j, t, set_here b.seats j t room, keep (subst (λ u. HoldsLane u lane) (sym same) x.3)))
-        (λ ne. inr (x.0, x.1, set_else b.seats j x.0 t ne ∙ x.2, x.3)))
+    (λ e. let same : s ≡ x.1 = some-injective s x.1 (sym at ∙ (ap (λ i. get_elem? b.seats i) (sym e) ∙ x.2)) in inr (j, t, set_here b.seats j t room, keep (subst (λ u. HoldsLane u lane) (sym same) x.3)))
+    (λ ne. inr (x.0, x.1, set_else b.seats j x.0 t ne ∙ x.2, x.3)))
     out
 
 pub index_below : {A : Type 0} (l : List A) (j : ℕ) (a : A) → get_elem? l j ≡ some a → j < length l
@@ -78,7 +78,7 @@ pub lane_home : (b : BoardState) → Good b → (j : ℕ) (s : SeatState) → ge
 lane_home b g j s at idle n due low out = let none = unfinished_nowhere b g j s at n due in let last = unfinished_last b g n low none in
     ⊎_elim (λ m. let known : b.known ≡ b.opened = m.1 in let full : b.done ≡ b.opened = omega (arith, g.known_done, done_opened b g) in omega (arith, all_finished b g full n low))
     (λ x. dite (ℕ_discrete x.0 j)
-        (λ e. let same : s ≡ x.1 = some-injective s x.1 (sym at ∙ (ap (λ i. get_elem? b.seats i) (sym e) ∙ x.2)) in mathlib.Core.Bool.false≢true (sym idle ∙ (ap (λ (u : SeatState). u.holding) same ∙ x.3.0)))
-        (λ ne. let y = x.3.1 in let m = y.0 in let e : m ≡ n = one_last b m n (held_last b g x.0 x.1 x.2 x.3.0 m y.1) last y.2 in let d = due.0 in let d' = y.1.0 in
-            omega (arith, not_twice b g j x.0 s x.1 ne at x.2 n, ap (λ z. times z x.1.drawn) e)))
+    (λ e. let same : s ≡ x.1 = some-injective s x.1 (sym at ∙ (ap (λ i. get_elem? b.seats i) (sym e) ∙ x.2)) in mathlib.Core.Bool.false≢true (sym idle ∙ (ap (λ (u : SeatState). u.holding) same ∙ x.3.0)))
+    (λ ne. let y = x.3.1 in let m = y.0 in let e : m ≡ n = one_last b m n (held_last b g x.0 x.1 x.2 x.3.0 m y.1) last y.2 in let d = due.0 in let d' = y.1.0 in
+    omega (arith, not_twice b g j x.0 s x.1 ne at x.2 n, ap (λ z. times z x.1.drawn) e)))
     out

@@ -1,9 +1,8 @@
 -- A seat exchanges the value of a slot that it holds.
-use Rattle.std.proofs.Common.{◌≡◌, ℕ, ◌+◌, List, [], ◌∷◌, Bool, true, false, sym, refl, ap, ◌∙◌, subst, arith, get_or, Option, Some, None}
+use Rattle.std.proofs.Common.{◌≡◌, ℕ, List, [], ◌∷◌, true, sym, refl, ap, ◌∙◌, subst, get_or}
 use Rattle.std.specs.Prelude.{IsSome}
 use mathlib.Core.Bool.{false≢true}
 use Rattle.atomic_table.specs.Table.{rest, turned}
-use Rattle.turn_board.specs.Tickets.{IsUnfinished}
 use Rattle.turn_board.specs.Slots.{job_slot, found_slot, FitsFirst, FitsSecond}
 use Rattle.turn_board.specs.Plays.{Sat, Brings}
 use Rattle.turn_board.specs.Shown.{found_of, found_in, IsSeat}
@@ -32,9 +31,15 @@ module _ {J R W : Type 0} (job_fits : W → J → Type 0) (found_fits : W → R 
         follows = k.follows;
         due = k.due;
         bare = λ no. absurd (false≢true (sym no ∙ holds));
-        carries = λ _. (t.0, new, (λ y u. let lit = t.2 y u in
-            let at = head_of slot (found_slot y) old t.1 (rest a.1) ((job_slot y, t.0) ∷ []) (sym had ∙ (ap (λ (x : Sat J R W). x.1) ea ∙ ap turned lit)) in
-            λ q. turned ((at q, new) ∷ rest (turned (lit q)))), t.3, fits);
+        carries = λ _. (
+          t.0,
+          new,
+          (λ y u. let lit = t.2 y u in
+              let at = head_of slot (found_slot y) old t.1 (rest a.1) ((job_slot y, t.0) ∷ []) (sym had ∙ (ap (λ (x : Sat J R W). x.1) ea ∙ ap turned lit)) in
+              λ q. turned ((at q, new) ∷ rest (turned (lit q)))),
+          t.3,
+          fits,
+        );
       }
 
   found_there : (x : Slot J R) (w : W) → IsSome (found_of x) → FitsSecond (job_fits w) (found_fits w) x → (r : R) × (x ≡ Found r) × found_fits w r

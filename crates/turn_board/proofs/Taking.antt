@@ -1,8 +1,8 @@
 -- Acts that take many slots, and that give them back.
-use Rattle.std.proofs.Common.{◌≡◌, ℕ, zero, suc, ◌+◌, ◌<◌, ◌≤◌, List, [], ◌∷◌, length, set, sym, refl, ◌∙◌, arith, length-set}
+use Rattle.std.proofs.Common.{◌≡◌, ℕ, suc, ◌+◌, ◌<◌, ◌≤◌, List, [], ◌∷◌, length, set, refl, ◌∙◌, arith, length-set}
 use mathlib.Core.Option.{Option, none, some}
 use lib.ListN.{get_elem?}
-use Rattle.atomic_table.specs.Table.{Act, keeps, takes, gives, chain, Valid, carried_after, homes_after}
+use Rattle.atomic_table.specs.Table.{Act, keeps, takes, gives, chain, Valid, homes_after}
 use Rattle.atomic_table.proofs.Lists.{set_here, set_else}
 
 module _ {S : Type 0} where

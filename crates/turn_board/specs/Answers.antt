@@ -1,6 +1,6 @@
 -- What the answers of the calls mean.
-use Rattle.std.specs.Prelude.{◌≡◌, ℕ, ◌+◌, ◌<◌, ◌≤◌, Bool, true, false, Option, Some, None}
-use Rattle.turn_board.specs.Tickets.{SeatState, MasterState, IsUnfinished, saw}
+use Rattle.std.specs.Prelude.{◌≡◌, ℕ, ◌+◌, ◌<◌, ◌≤◌, Bool, true, false, Some, None}
+use Rattle.turn_board.specs.Tickets.{SeatState, MasterState, saw}
 use Rattle.turn_board.specs.Rule.{open_word}
 use Rattle.turn_board.specs.Plays.{IsLook, IsPoll}
 use Rattle.turn_board.specs.Shown.{SeatView, MasterView}

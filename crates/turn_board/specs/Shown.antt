@@ -1,11 +1,11 @@
 -- What clauses see of a seat and of a master.
-use Rattle.std.specs.Prelude.{◌≡◌, ◌≢◌, ℕ, ◌+◌, ◌*◌, ◌<◌, ◌≤◌, Bool, true, false, List, [], ◌∷◌, Option, Some, None}
+use Rattle.std.specs.Prelude.{◌≡◌, ◌≢◌, ℕ, ◌+◌, ◌*◌, ◌<◌, true, false, List, [], ◌∷◌, Option, Some, None}
 use Rattle.atomic_table.specs.Table.{rest, turned}
 use Rattle.atomic_table.specs.Seated.{TableId}
-use Rattle.turn_board.specs.Tickets.{SeatState, MasterState, IsUnfinished, saw}
+use Rattle.turn_board.specs.Tickets.{SeatState, MasterState, IsUnfinished}
 use Rattle.turn_board.specs.Slots.{job_slot, found_slot, numbered, FitsFirst, FitsSecond}
-use Rattle.turn_board.specs.Rule.{open_word, fresh, idle}
-use Rattle.turn_board.specs.Plays.{Sat, IsLook}
+use Rattle.turn_board.specs.Rule.{fresh}
+use Rattle.turn_board.specs.Plays.{Sat}
 use Rattle.turn_board.specs.declared.slot.Slot.{Slot}
 use Rattle.turn_board.specs.declared.slot.Slot.TheVariants.{Empty, Job, Found}
 

@@ -76,6 +76,7 @@ impl<J: Kept<W> + Drop, R: Kept<W> + Drop, W> Board<J, R, W> {
         requires board { seat.old.board ≡ self.now }
         requires free { (n : ℕ) → ¬ IsUnfinished seat.old.state n }
         ensures seat { seat.new ≡ record seat.old { state = drew result seat.old.state } }
+        ensures own { IsUnfinished seat.new.state result }
         ensures event { IsDraw seat.old.state result seat.new.state }
     {
         Ticket::of(steps::draw(&self.table.shared, &mut seat.place))
@@ -86,6 +87,7 @@ impl<J: Kept<W> + Drop, R: Kept<W> + Drop, W> Board<J, R, W> {
         requires board { seat.old.board ≡ self.now }
         requires own { IsUnfinished seat.old.state ticket.now }
         ensures same { (seat.new.board ≡ seat.old.board) × (seat.new.made_for ≡ seat.old.made_for) }
+        ensures own { IsUnfinished seat.new.state ticket.now }
         ensures event { Looks seat.old.state seat.new.state }
         ensures answer { Answers J.made_for ticket.now seat.old seat.new result }
     {
@@ -153,6 +155,7 @@ impl<J: Kept<W> + Drop, R: Kept<W> + Drop, W> Board<J, R, W> {
         requires holding { seat.old.state.holding ≡ true }
         requires there { IsSome seat.old.found }
         ensures seat { seat.new ≡ record seat.old { state = did ticket seat.old.state; job = None; found = None } }
+        ensures free { (n : ℕ) → ¬ IsUnfinished seat.new.state n }
         ensures event { IsFinish seat.old.state ticket seat.new.state }
     {
         steps::finish(&self.table.shared, &mut seat.place);
@@ -207,6 +210,7 @@ impl<J: Kept<W> + Drop, R: Kept<W> + Drop, W> Board<J, R, W> {
         requires board { seat.old.board ≡ self.now }
         requires own { IsUnfinished seat.old.state ticket.now }
         ensures same { (seat.new.board ≡ seat.old.board) × (seat.new.made_for ≡ seat.old.made_for) }
+        ensures own { IsUnfinished seat.new.state ticket.now }
         ensures event { LooksAgain seat.old.state seat.new.state }
         ensures answer { Answers J.made_for ticket.now seat.old seat.new result }
         ensures settled { IsSettled result }

@@ -38,20 +38,14 @@ pub fn sit<J: Kept<W>, R: Kept<W>, W>(
     words.split_seat::<Sit>(master)
 }
 
-pub fn draw<J: Kept<W>, R: Kept<W>, W>(
-    words: &Words<J, R, W>,
-    seat: &mut Place<J, R, W>,
-) -> u64
+pub fn draw<J: Kept<W>, R: Kept<W>, W>(words: &Words<J, R, W>, seat: &mut Place<J, R, W>) -> u64
     requires { (seat.old.table_id ≡ words.now.table_id) × IsSized words.now.table_id × (seat.old.me.0.leads ≡ false) × ((n : ℕ) → ¬ IsUnfinished seat.old.me.0.worker n) }
     ensures { (seat.new.table_id ≡ seat.old.table_id) × drawn (step words.now.table_id.slots 0 1 0 none) seat.old.me result seat.new.me }
 {
     words.fetch_add::<Draw>(seat, TICKET, 1)
 }
 
-pub fn see_open<J: Kept<W>, R: Kept<W>, W>(
-    words: &Words<J, R, W>,
-    seat: &mut Place<J, R, W>,
-) -> u64
+pub fn see_open<J: Kept<W>, R: Kept<W>, W>(words: &Words<J, R, W>, seat: &mut Place<J, R, W>) -> u64
     requires { (seat.old.table_id ≡ words.now.table_id) × IsSized words.now.table_id × (seat.old.me.0.leads ≡ false) }
     ensures { (seat.new.table_id ≡ seat.old.table_id) × looked J.made_for (step words.now.table_id.slots 1 0 0 none) seat.old.me result seat.new.me }
 {

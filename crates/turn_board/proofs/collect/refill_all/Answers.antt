@@ -1,4 +1,4 @@
-use Rattle.std.proofs.Common.{rules, ◌≡◌, ap, ◌∙◌, ◌∷◌, []}
+use Rattle.std.proofs.Common.{◌∙◌, ◌∷◌, []}
 use Rattle.turn_board.specs.Slots.{numbered}
 use Rattle.turn_board.proofs.Refills.{next0, next1, next2, next3, next4, next5, then0, then1, then2, then3, then4, found0, found1, found2, found3, found4, found5}
 use Rattle.turn_board.proofs.collect.refill_all.Goals as goal
