@@ -1,0 +1,5 @@
+use Rattle.pio_words.proofs.Unique.{word-unique}
+use Rattle.pio_words.proofs.encoding.encoded_decodes.Goals as goal
+
+pub returns-clause-unique : goal.returns-clause-unique
+returns-clause-unique c = word-unique
