@@ -1,5 +1,4 @@
-use Rattle.std.proofs.Common.{◌≡◌, ◌==◌, ℕ, ◌+◌, List, [], ◌∷◌, Option, None, Some, Bool, true, false, ◌&&◌, suc, zero, arith, sym, ap, ◌∙◌, refl, cond}
-use Rattle.std.proofs.lemmas.Bool.Decides.{eqb_tells}
+use Rattle.std.proofs.Common.{◌≡◌, ◌==◌, ℕ, ◌+◌, List, [], ◌∷◌, Option, None, Some, Bool, true, false, ◌&&◌, suc, zero, arith, sym, ap, refl}
 use Rattle.pio_words.specs.Table.{entry}
 
 -- each named entry of a table has its place, counted from `base`, as its code

@@ -8,3 +8,4 @@ pub mod OfMovDestination
 pub mod OfMovOperation
 pub mod OfMovSource
 pub mod OfSetDestination
+pub mod SideBack

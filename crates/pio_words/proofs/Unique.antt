@@ -1,4 +1,4 @@
-use Rattle.std.proofs.Common.{◌≡◌, ℕ, ◌+◌, ◌*◌, ◌/◌, ◌%◌, ◌<◌, ◌≤◌, Option, None, Some, Bool, MatchBool, true, false, arith, refl}
+use Rattle.std.proofs.Common.{◌≡◌, ℕ, ◌/◌, ◌%◌, Option, None, Some, Bool, MatchBool, true, false, arith}
 use Rattle.pio_words.specs.declared.op.WaitSource.{WaitSource}
 use Rattle.pio_words.specs.declared.op.WaitSource.TheVariants.{Gpio, Pin, Irq as WaitIrq}
 use Rattle.pio_words.specs.declared.op.PioOp.{PioOp}
@@ -6,7 +6,7 @@ use Rattle.pio_words.specs.declared.op.PioOp.TheVariants.{Jmp, Wait, In, Out, Pu
 use Rattle.pio_words.specs.declared.side.SideConfig.{SideConfig}
 use Rattle.pio_words.specs.Operation.{HasFields, IsWaitSource}
 use Rattle.pio_words.specs.Side.{IsSideField, IsOptionalSide, IsPlainSide}
-use Rattle.pio_words.specs.Word.{IsWord, IsOneWord}
+use Rattle.pio_words.specs.Word.{IsOneWord}
 use Rattle.pio_words.proofs.OfJmpCondition.{conditions-unique}
 use Rattle.pio_words.proofs.OfInSource.{in_sources-unique}
 use Rattle.pio_words.proofs.OfOutDestination.{out_destinations-unique}

@@ -1,7 +1,7 @@
 use Rattle.std.proofs.Common.{arith, ◌<◌}
 use Rattle.pio_words.proofs.Scaled.{scaled_bounds}
 use Rattle.pio_words.proofs.side.scaled.Goals as goal
-use Rattle.std.proofs.Common.{◌≡◌, ◌-◌, ◌^◌, ℕ, ◌*◌, ◌+◌}
+use Rattle.std.proofs.Common.{◌^◌, ◌*◌, ◌+◌}
 
 bounds : (c : goal.After-power_of_two) → (c.args.value * c.power_of_two.result + c.args.delay < 32) × (c.args.value * c.power_of_two.result + c.args.delay < 2 ^ c.args.width)
 bounds c =
