@@ -11,7 +11,7 @@ use rp_base::Size;
 use rp_base::op::Op;
 
 /// A value that an instruction works on.
-#[derive(Clone, Copy, PartialEq, Eq)]
+#[derive(Clone, Copy)]
 pub enum Operand {
     /// A register by its number: 13 is the active stack pointer, 14 LR, 15 the instruction's address plus 4.
     Register(u8),
@@ -22,7 +22,7 @@ pub enum Operand {
 }
 
 /// How a sum is made of two operands.
-#[derive(Clone, Copy, PartialEq, Eq)]
+#[derive(Clone, Copy)]
 pub enum SumKind {
     /// Their sum.
     Add,
@@ -35,7 +35,7 @@ pub enum SumKind {
 }
 
 /// How a word whose sign and zero alone set flags is made of two operands.
-#[derive(Clone, Copy, PartialEq, Eq)]
+#[derive(Clone, Copy)]
 pub enum WordKind {
     /// The bits of both.
     And,
@@ -55,7 +55,7 @@ pub enum WordKind {
 
 /// What the instructions of some rows do. A destination that is `None` is a comparison's. A list has bit k for Rk, bit 14
 /// for LR and bit 15 for PC.
-#[derive(Clone, Copy, PartialEq, Eq)]
+#[derive(Clone, Copy)]
 pub enum Action {
     /// Shifts the second register by the low byte of the operand into the first; sets N, Z and C.
     Shift(ShiftKind, u8, u8, Operand),

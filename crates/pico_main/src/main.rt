@@ -10,8 +10,8 @@ use file_shelf::FileShelf;
 use pico_top::pico;
 use std::alloc::{AllocError, Global};
 use std::env;
-use std::rt::Env;
 use std::process::ExitCode;
+use std::rt::Env;
 use stdout_sink::StdoutSink;
 
 /// The words after the program's name; none where the system does not give them as text.

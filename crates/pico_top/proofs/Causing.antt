@@ -1,16 +1,16 @@
 -- The causes of the statuses, from the ways in which a call goes.
-use Rattle.std.proofs.Common.{◌≡◌, ◌≢◌, ◌⊎◌, ℕ, ◌+◌, ◌<◌, ◌≤◌, List, [], ◌∷◌, ◌++◌, length, Option, Some, None, Result, Ok, Err, refl, sym, ap, inl, inr, ◌∙◌, subst, arith, length-append}
+use Rattle.std.proofs.Common.{◌≡◌, ◌≢◌, ℕ, ◌+◌, ◌<◌, ◌≤◌, List, [], ◌∷◌, length, Option, Some, None, Result, Ok, Err, sym, ap, inl, inr, ◌∙◌, subst, arith, length-append}
 use Rattle.rp_ports.specs.Shelf.{Files}
 use Rattle.rp_ports.specs.Fault.{Rose}
 use Rattle.uf2_image.specs.Uf2.{image_of}
 use Rattle.uf2_image.specs.declared.parts.Image.{Image}
 use Rattle.uf2_image.specs.declared.fault.ImageFault.{ImageFault}
-use Rattle.pico_top.specs.Words.{Run, reading}
+use Rattle.pico_top.specs.Words.{Run}
 use Rattle.pico_top.specs.Answer.{Call, Says, RanOut, Ends}
-use Rattle.pico_top.specs.Dialogue.{MayGive, image_limit, Ending}
+use Rattle.pico_top.specs.Dialogue.{MayGive, image_limit}
 use Rattle.pico_top.specs.Dialogue.Gave.{Bytes, TooLong}
-use Rattle.pico_top.specs.Dialogue.Ending.{Said, NoMemory}
-use Rattle.pico_top.specs.Causes.{AsksFor, LoadFailed, FileCause, HasFault, IsStatus, Holds, Held}
+use Rattle.pico_top.specs.Dialogue.Ending.{Said}
+use Rattle.pico_top.specs.Causes.{LoadFailed, FileCause, HasFault, IsStatus, Holds, Held}
 use Rattle.pico_top.proofs.Origins.{Origin, not_this, ends_status, ran_out_status}
 use Rattle.pico_top.proofs.Origins.Origin.{NoRun, Failing, Large, Faulty, Ran, Empty}
 
@@ -114,7 +114,7 @@ fault_comes files failed failed' call asked run held f (Large other read n gave 
 fault_comes files failed failed' call asked run held f (Faulty other read bytes gave fault is same ends) h fits e = ends_status call 4 _ ends
 fault_comes files failed failed' call asked run held f (Ran other read bytes gave image is same ends) h fits e =
     absurd (let m = subst (λ (r : Run). MayGive files r.image image_limit (Bytes bytes)) (same_run asked other run read h.read) gave in
-      let x : ◌≡◌ {A = Result Image ImageFault} (Err f) (Ok image) = sym e ∙ ap image_of (gave_held files run.image held bytes h.told m).0 ∙ is in cc x)
+    let x : ◌≡◌ {A = Result Image ImageFault} (Err f) (Ok image) = sym e ∙ ap image_of (gave_held files run.image held bytes h.told m).0 ∙ is in cc x)
 fault_comes files failed failed' call asked run held f (Empty other read same out) h fits e = out_status call 4 out
 
 pub run_comes : (files : Option Files) (failed failed' : List (List ℕ)) (call : Call) (asked : Option Run) (run : Run) (held : List ℕ) (loaded : Image) → Origin files failed failed' call asked → Held files failed failed' asked run held → length held ≤ 16777216 → image_of held ≡ Ok loaded → IsStatus call.status 0
@@ -124,6 +124,6 @@ run_comes files failed failed' call asked run held loaded (Large other read n ga
     absurd (let m = subst (λ (r : Run). MayGive files r.image image_limit (TooLong n)) (same_run asked other run read h.read) gave in omega (arith, long_held files run.image held n h.told m, fits))
 run_comes files failed failed' call asked run held loaded (Faulty other read bytes gave fault is same ends) h fits e =
     absurd (let m = subst (λ (r : Run). MayGive files r.image image_limit (Bytes bytes)) (same_run asked other run read h.read) gave in
-      let x : ◌≡◌ {A = Result Image ImageFault} (Ok loaded) (Err fault) = sym e ∙ ap image_of (gave_held files run.image held bytes h.told m).0 ∙ is in cc x)
+    let x : ◌≡◌ {A = Result Image ImageFault} (Ok loaded) (Err fault) = sym e ∙ ap image_of (gave_held files run.image held bytes h.told m).0 ∙ is in cc x)
 run_comes files failed failed' call asked run held loaded (Ran other read bytes gave image is same ends) h fits e = ends_status call 0 _ ends
 run_comes files failed failed' call asked run held loaded (Empty other read same out) h fits e = out_status call 0 out

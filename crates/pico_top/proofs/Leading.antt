@@ -1,5 +1,5 @@
 -- Dialogues and their endings.
-use Rattle.std.proofs.Common.{◌≡◌, ◌⊎◌, ℕ, ◌+◌, ◌≤◌, List, [], ◌∷◌, ◌++◌, Option, Some, None, Result, Ok, Err, refl, sym, ap, inl, inr, ◌∙◌, subst, arith}
+use Rattle.std.proofs.Common.{◌≡◌, ℕ, List, Option, Some, Result, Ok, Err, refl, sym, ap, inl, inr, ◌∙◌, arith}
 use Rattle.std.proofs.Common.{Vec, Global}
 use Rattle.rp_ports.specs.Shelf.{Files}
 use Rattle.uf2_image.specs.Uf2.{image_of}
@@ -13,7 +13,7 @@ use Rattle.pico_top.specs.RunText.{run_text}
 use Rattle.pico_top.specs.Refusals.{file_line, large_line}
 use Rattle.pico_top.specs.Opening.{OpensAs, LoadsAs, StartsAs}
 use Rattle.pico_top.specs.Dialogue.{dialogue, run_image}
-use Rattle.pico_top.specs.Dialogue.{Dialogue, Ending, Gave, LeadsTo, MayGive, failed_by}
+use Rattle.pico_top.specs.Dialogue.{Dialogue, Ending, LeadsTo, failed_by}
 use Rattle.pico_top.specs.Dialogue.Dialogue.{Say, Load}
 use Rattle.pico_top.specs.Dialogue.Gave.{Bytes, TooLong, Refused}
 use Rattle.pico_top.specs.Dialogue.Ending.{Said, NoMemory}
@@ -27,8 +27,9 @@ anywhere files P failed failed' (Load name limit next) same p = inr (same, p NoM
 pub leads_on : (files : Option Files) (P Q : Ending → Type 0) (failed failed' : List (List ℕ)) (d : Dialogue) → ((e : Ending) → P e → Q e) → LeadsTo files P failed failed' d → LeadsTo files Q failed failed' d
 leads_on files P Q failed failed' (Say status text) f h = (h.0, f (Said status text) h.1)
 leads_on files P Q failed failed' (Load name limit next) f h = elim h [
-    inl w ↦ inl (w.0, w.1, leads_on files P Q (failed_by failed name w.0) failed' (next w.0) f w.2)
-  | inr w ↦ inr (w.0, f NoMemory w.1) ]
+  | inl w ↦ inl (w.0, w.1, leads_on files P Q (failed_by failed name w.0) failed' (next w.0) f w.2)
+  | inr w ↦ inr (w.0, f NoMemory w.1)
+]
 
 -- the first state is that of cycle 0
 pub start_cycle : (image : Loaded) → (start image).cycle ≡ 0

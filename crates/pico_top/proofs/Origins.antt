@@ -1,7 +1,6 @@
 -- Where a status comes from.
-use Rattle.std.proofs.Common.{◌≡◌, ◌⊎◌, ℕ, ◌+◌, ◌<◌, ◌≤◌, List, [], ◌∷◌, ◌++◌, length, Option, Some, None, Result, Ok, Err, IfSome, IsSomeAnd, refl, sym, ap, inl, inr, ◌∙◌, subst, arith, ◌≢◌}
+use Rattle.std.proofs.Common.{◌≡◌, ◌⊎◌, ℕ, ◌<◌, List, Option, Some, None, Result, Ok, Err, refl, inl, inr, arith, ◌≢◌}
 use Rattle.rp_ports.specs.Shelf.{Files}
-use Rattle.rp_ports.specs.Fault.{Rose}
 use Rattle.uf2_image.specs.Uf2.{image_of}
 use Rattle.uf2_image.specs.declared.parts.Image.{Image}
 use Rattle.uf2_image.specs.declared.fault.ImageFault.{ImageFault}
@@ -10,10 +9,10 @@ use Rattle.pico_top.specs.Machine.{start}
 use Rattle.pico_top.specs.RunText.{run_text}
 use Rattle.pico_top.specs.Refusals.{words_line, file_line, large_line, image_line}
 use Rattle.pico_top.specs.Answer.{Call, Says, RanOut, Ends}
-use Rattle.pico_top.specs.Dialogue.{Dialogue, Ending, Gave, LeadsTo, MayGive, failed_by, dialogue, dialogue_of, run_image, with_file, image_limit}
+use Rattle.pico_top.specs.Dialogue.{Gave, LeadsTo, MayGive, failed_by, dialogue, dialogue_of, run_image, with_file, image_limit}
 use Rattle.pico_top.specs.Dialogue.Gave.{Bytes, TooLong, Refused}
-use Rattle.pico_top.specs.Dialogue.Ending.{Said, NoMemory}
-use Rattle.pico_top.specs.Causes.{AsksFor, LoadFailed, IsTooLarge, HasFault, IsStatus}
+use Rattle.pico_top.specs.Dialogue.Ending.{Said}
+use Rattle.pico_top.specs.Causes.{LoadFailed, IsStatus}
 
 -- the ways in which a call of the program goes
 pub data Origin (files : Option Files) (failed failed' : List (List ℕ)) (call : Call) (asked : Option Run) : Type 0 where
@@ -36,8 +35,9 @@ of_gave files failed failed' call run Refused may h = Failing run refl h.0 h.1
 of_asked : (files : Option Files) (failed failed' : List (List ℕ)) (call : Call) (asked : Option Run) → LeadsTo files (Ends call) failed failed' (dialogue_of asked) → Origin files failed failed' call asked
 of_asked files failed failed' call None h = NoRun refl h.0 h.1
 of_asked files failed failed' call (Some run) h = elim h [
-    inl w ↦ of_gave files failed failed' call run w.0 w.1 w.2
-  | inr w ↦ Empty run refl w.0 w.1 ]
+  | inl w ↦ of_gave files failed failed' call run w.0 w.1 w.2
+  | inr w ↦ Empty run refl w.0 w.1
+]
 
 pub origin : (files : Option Files) (failed failed' : List (List ℕ)) (call : Call) (words : List (List ℕ)) → LeadsTo files (Ends call) failed failed' (dialogue words) → Origin files failed failed' call (reading words)
 origin files failed failed' call words h = of_asked files failed failed' call (reading words) h
@@ -52,11 +52,13 @@ ran_out_status call h = says_status call 9 _ h
 
 pub ends_status : (call : Call) (status : ℕ) (text : List ℕ) → Ends call (Said status text) → IsStatus call.status status
 ends_status call status text h = elim h [
-    inl w ↦ elim (says_status call status text w) [ inl e ↦ inl e | inr e ↦ inr (inl e) ]
-  | inr w ↦ elim (ran_out_status call w) [ inl e ↦ inr (inr e) | inr e ↦ inr (inl e) ] ]
+  | inl w ↦ elim (says_status call status text w) [ inl e ↦ inl e | inr e ↦ inr (inl e) ]
+  | inr w ↦ elim (ran_out_status call w) [ inl e ↦ inr (inr e) | inr e ↦ inr (inl e) ]
+]
 
 -- another status than the wanted one, 7 and 9 does not come
 pub not_this : {Q : Type 0} (call : Call) (status wanted : ℕ) (text : List ℕ) → Ends call (Said status text) → call.status ≡ wanted → wanted < 7 → status < 7 → status ≢ wanted → Q
 not_this call status wanted text h e small low ne = absurd (elim (ends_status call status text h) [
-    inl w ↦ omega (arith, w, e, ne)
-  | inr w ↦ elim w [ inl x ↦ omega (arith, x, e) | inr x ↦ omega (arith, x, e, small) ] ])
+  | inl w ↦ omega (arith, w, e, ne)
+  | inr w ↦ elim w [ inl x ↦ omega (arith, x, e) | inr x ↦ omega (arith, x, e, small) ]
+])

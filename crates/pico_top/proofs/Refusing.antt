@@ -1,7 +1,7 @@
 -- Lines of refusals, and what a call's cases come to.
-use Rattle.std.proofs.Common.{◌≡◌, ◌⊎◌, ℕ, List, Option, Some, None, refl, inl, inr, subst, ◌∙◌, sym, ap}
+use Rattle.std.proofs.Common.{◌≡◌, ℕ, List, Option, Some, None, inl, inr, subst, sym}
 use Rattle.pico_top.specs.declared.open.Refusal.{Refusal}
-use Rattle.pico_top.specs.Answer.{Call, Says, RanOut, Ends}
+use Rattle.pico_top.specs.Answer.{Call, Says, Ends}
 use Rattle.pico_top.specs.Dialogue.{Ending}
 use Rattle.pico_top.specs.Dialogue.Ending.{Said, NoMemory}
 use Rattle.pico_top.specs.Opening.{Refuses, refusal_text, RefusedAs, RunsAs}
@@ -17,8 +17,9 @@ pub refusal_ends : (call : Call) (line : Option (ℕ × List ℕ)) (e : Ending) 
 refusal_ends call None (Said status text) r h = inr r
 refusal_ends call None NoMemory r h = r
 refusal_ends call (Some line) (Said status text) r h = elim r [
-    inl says ↦ inl (subst (λ x. Says call status x) (sym h.1) (subst (λ s. Says call s line.1) (sym h.0) says))
-  | inr out ↦ inr out ]
+  | inl says ↦ inl (subst (λ x. Says call status x) (sym h.1) (subst (λ s. Says call s line.1) (sym h.0) says))
+  | inr out ↦ inr out
+]
 refusal_ends call (Some line) NoMemory r h = absurd h
 
 -- a run ends the dialogue that it comes from

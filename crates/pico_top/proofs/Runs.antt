@@ -1,6 +1,6 @@
 -- Runs up to the first state with a stop.
 use Rattle.std.proofs.lemmas.Bool.Decides.{eqb_tells}
-use Rattle.std.proofs.Common.{inl, inr, ◌≢◌, ◌≡◌, ℕ, zero, suc, ◌+◌, ◌-◌, ◌<◌, ◌≤◌, Option, Some, None, refl, sym, ap, arith, ◌∙◌}
+use Rattle.std.proofs.Common.{inl, inr, ◌≢◌, ◌≡◌, ℕ, zero, suc, ◌+◌, ◌-◌, ◌<◌, ◌≤◌, Some, None, refl, sym, ap, arith, ◌∙◌}
 use Rattle.pico_top.specs.Machine.{State, stop, next, states, last_state}
 
 -- a state with a stop is the last one
@@ -32,8 +32,9 @@ last_on limit s h lt =
 pub below_limit : (limit : ℕ) (s : State) → stop limit s ≡ None → s.cycle ≤ limit → s.cycle < limit
 unfolding stop
 below_limit limit s h le = elim (eqb_tells s.cycle limit) [
-    inl e ↦ absurd (let h2 = rw e.0 at h in cc h2)
-  | inr e ↦ let ne : s.cycle ≢ limit = e.1 in omega arith ]
+  | inl e ↦ absurd (let h2 = rw e.0 at h in cc h2)
+  | inr e ↦ let ne : s.cycle ≢ limit = e.1 in omega arith
+]
 
 -- a step comes nearer to the limit, and goes on with the same run
 pub step_nearer : (limit : ℕ) (s t : State) → stop limit s ≡ None → t ≡ next s → s.cycle ≤ limit → limit - t.cycle < limit - s.cycle

@@ -1,12 +1,10 @@
 -- Why a call answers each status.
-use Rattle.std.specs.Prelude.{◌≡◌, ◌⊎◌, ℕ, ◌<◌, ◌≤◌, List, [], ◌∷◌, ◌++◌, length, Option, Some, None, IfSome, IsSomeAnd, Ok, Err}
+use Rattle.std.specs.Prelude.{◌≡◌, ◌⊎◌, ℕ, ◌<◌, ◌≤◌, List, [], ◌∷◌, ◌++◌, length, Option, Some, None, Ok, Err}
 use Rattle.rp_ports.specs.Shelf.{Files}
 use Rattle.uf2_image.specs.Uf2.{image_of}
 use Rattle.uf2_image.specs.declared.parts.Image.{Image}
 use Rattle.uf2_image.specs.declared.fault.ImageFault.{ImageFault}
-use Rattle.pico_top.specs.Words.{Run, reading}
-use Rattle.pico_top.specs.Machine.{start}
-use Rattle.pico_top.specs.RunText.{run_text}
+use Rattle.pico_top.specs.Words.{Run}
 use Rattle.pico_top.specs.Dialogue.{MayGive, image_limit}
 use Rattle.pico_top.specs.Dialogue.Gave.{Bytes, TooLong}
 

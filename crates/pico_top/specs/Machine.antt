@@ -2,8 +2,7 @@
 --
 -- So far it is core 0 with five instructions (ARMv6-M Architecture Reference Manual, A6.7: ADD (immediate), B, BKPT, MOV
 -- (immediate), NOP), with the cycles of the Cortex-M0+ Technical Reference Manual, 3.3: one each, and two of B.
-use Rattle.std.specs.Prelude.{ℕ, zero, suc, ◌+◌, ◌-◌, ◌*◌, ◌/◌, ◌%◌, ◌^◌, ◌==◌, nat_lt, Bool, true, false, if◌then◌else◌, List, [], ◌∷◌, ◌++◌, slice_index, slice_set, Option, Some, None}
-use Rattle.std.specs.Option.{unwrap_or}
+use Rattle.std.specs.Prelude.{ℕ, zero, suc, ◌+◌, ◌-◌, ◌*◌, ◌/◌, ◌%◌, ◌^◌, ◌==◌, nat_lt, false, if◌then◌else◌, List, [], ◌∷◌, slice_index, slice_set, Option, Some, None}
 use Rattle.m0_alu.specs.Word.{is_negative_word, is_zero_word}
 use Rattle.m0_alu.specs.Sum.{add_with_carry}
 use Rattle.rp_base.specs.AddressMap.{place_of}
@@ -25,10 +24,16 @@ pub record State : Type 0 where
 -- core 0 before its first instruction: its stack at the end of SRAM, all else 0
 abbrev pub first_core : ℕ → Core
 first_core entry = record {
-    r = 0 ∷ 0 ∷ 0 ∷ 0 ∷ 0 ∷ 0 ∷ 0 ∷ 0 ∷ 0 ∷ 0 ∷ 0 ∷ 0 ∷ 0 ∷ [];
-    sp = 0x20042000; lr = 0xFFFFFFFF; pc = entry;
-    n = false; z = false; c = false; v = false; target = None;
-  }
+  r = 0 ∷ 0 ∷ 0 ∷ 0 ∷ 0 ∷ 0 ∷ 0 ∷ 0 ∷ 0 ∷ 0 ∷ 0 ∷ 0 ∷ 0 ∷ [];
+  sp = 0x20042000;
+  lr = 0xFFFFFFFF;
+  pc = entry;
+  n = false;
+  z = false;
+  c = false;
+  v = false;
+  target = None;
+}
 
 -- the first state: SRAM holds the image, core 0 begins at the image's entry
 unfoldable pub start : Image → State

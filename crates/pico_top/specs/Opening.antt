@@ -12,7 +12,7 @@ use Rattle.pico_top.specs.Answer.{Call, Says, RanOut}
 use Rattle.pico_top.specs.Machine.{start}
 use Rattle.pico_top.specs.RunText.{run_text}
 use Rattle.pico_top.specs.Refusals.{words_line, file_line, large_line, image_line}
-use Rattle.pico_top.specs.Dialogue.{Gave, MayGive, Ending, image_limit}
+use Rattle.pico_top.specs.Dialogue.{MayGive, Ending, image_limit}
 use Rattle.pico_top.specs.Dialogue.Gave.{Bytes, TooLong}
 use Rattle.pico_top.specs.Dialogue.Ending.{Said, NoMemory}
 

@@ -1,5 +1,5 @@
 -- What a reader of the words answers.
-use Rattle.std.specs.Prelude.{◌≡◌, ℕ, List, Option, Some, None, Result, Ok, Err}
+use Rattle.std.specs.Prelude.{◌≡◌, Option, Some, None, Result, Ok, Err}
 use Rattle.std.specs.String.{string_bytes}
 use Rattle.pico_top.specs.declared.words.Reading.{Reading}
 use Rattle.pico_top.specs.declared.words.WordsFault.{WordsFault}

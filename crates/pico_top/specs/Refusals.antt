@@ -1,6 +1,5 @@
 -- The lines of what is refused.
 use Rattle.std.specs.Prelude.{ℕ, List, ◌++◌, codes, decimal}
-use Rattle.std.specs.String.{string_bytes}
 use Rattle.trace_text.specs.Line.{hex_word}
 use Rattle.uf2_image.specs.declared.fault.ImageFault.{ImageFault}
 use Rattle.uf2_image.specs.declared.fault.ImageFault.TheVariants.{Empty, Ragged, Magic, Payload, Count, Number, Repeat, Flash, Address, Overlap, Missing, Nothing, Memory}

@@ -1,5 +1,5 @@
 -- The text of a run.
-use Rattle.std.specs.Prelude.{ℕ, ◌+◌, ◌*◌, ◌^◌, Bool, List, [], ◌∷◌, ◌++◌, Option, Some, None}
+use Rattle.std.specs.Prelude.{ℕ, ◌+◌, ◌*◌, ◌^◌, List, [], ◌∷◌, ◌++◌, Option, Some, None}
 use Rattle.m0_alu.specs.Word.{bit_number}
 use Rattle.rp_base.specs.declared.Why.{Why}
 use Rattle.trace_text.specs.Line.{stop_text, register_text}

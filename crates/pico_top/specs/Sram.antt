@@ -1,5 +1,5 @@
 -- SRAM as words: six banks of 67,584 words together (RP2040 Datasheet, 2.6.2 "SRAM").
-use Rattle.std.specs.Prelude.{ℕ, ◌+◌, ◌-◌, ◌*◌, ◌/◌, ◌%◌, ◌^◌, ◌==◌, if◌then◌else◌, List, [], ◌∷◌, ◌++◌, length, take, drop, map, replicate, slice_index, Option, Some, None}
+use Rattle.std.specs.Prelude.{ℕ, ◌+◌, ◌-◌, ◌*◌, ◌/◌, ◌%◌, ◌^◌, ◌==◌, if◌then◌else◌, List, ◌++◌, length, take, drop, map, replicate, slice_index, Option, Some, None}
 use Rattle.std.specs.List.{range_with_len, fold}
 use Rattle.byteorder.specs.Endian.{little_number}
 use Rattle.rp_base.specs.declared.map.Spot.{Spot}

@@ -137,3 +137,6 @@ pub fn pico<F: Shelf, O: Sink>(alloc: Global, words: &[String], files: &mut F, o
 {
     converse(alloc, words, files, out)
 }
+
+#[cfg(test)]
+mod tests;

@@ -5,10 +5,10 @@ ghost use Rattle.pico_top.specs.Sram.{half_of};
 ghost use Rattle.pico_top.specs.Machine.{instruction_of, target_of, after_movs, after_adds, cause_at, core_after, first_core};
 ghost use Rattle.pico_top.specs.RunText.{xpsr, register_words};
 
+use crate::sram::words_of;
 use m0_alu::add_carry;
 use rp_base::map::{Spot, place};
 use rp_base::{Master, Why};
-use crate::sram::words_of;
 use std::alloc::{AllocError, Global};
 use std::marker::Model;
 use uf2_image::Image;
@@ -79,7 +79,11 @@ fn decode(half: u16) -> Instruction
 fn half_at(word: u32, address: u32) -> u16
     ensures { result ≡ half_of word address }
 {
-    if address / 2 % 2 == 0 { (word % 0x1_0000) as u16 } else { (word / 0x1_0000) as u16 }
+    if address / 2 % 2 == 0 {
+        (word % 0x1_0000) as u16
+    } else {
+        (word / 0x1_0000) as u16
+    }
 }
 
 /// The target of a B at an address; PC reads as that address plus 4.
@@ -87,7 +91,11 @@ fn target(i: u16, pc: u32) -> u32
     requires { i < 2048 }
     ensures { result ≡ target_of i pc }
 {
-    let offset = if i < 1024 { 2 * u32::from(i) } else { u32::MAX - 4095 + 2 * u32::from(i) };
+    let offset = if i < 1024 {
+        2 * u32::from(i)
+    } else {
+        u32::MAX - 4095 + 2 * u32::from(i)
+    };
     pc.wrapping_add(4).wrapping_add(offset)
 }
 

@@ -23,7 +23,11 @@ fn send_stop<O: Sink>(why: &Why, cycle: u64, writer: &mut Writer<'_, O>) -> Resu
 }
 
 /// Puts the line of a core's registers.
-fn send_registers<O: Sink>(core: u8, words: Option<[u32; 17]>, writer: &mut Writer<'_, O>) -> Result<(), SinkFault>
+fn send_registers<O: Sink>(
+    core: u8,
+    words: Option<[u32; 17]>,
+    writer: &mut Writer<'_, O>,
+) -> Result<(), SinkFault>
     ensures sends { Sends (O.written writer.old.out.now) (O.written writer.new.out.now) (O.faults writer.old.out.now) (O.faults writer.new.out.now) (register_text core words) result }
     ensures same_sink { writer.new.out.ghost_name ≡ writer.old.out.ghost_name }
 {
@@ -42,7 +46,11 @@ fn send_cores<O: Sink>(machine: &Machine, writer: &mut Writer<'_, O>) -> Result<
 }
 
 /// Puts the lines of a machine at which a run ended.
-pub fn send_end<O: Sink>(why: &Why, machine: &Machine, writer: &mut Writer<'_, O>) -> Result<(), SinkFault>
+pub fn send_end<O: Sink>(
+    why: &Why,
+    machine: &Machine,
+    writer: &mut Writer<'_, O>,
+) -> Result<(), SinkFault>
     ensures sends { Sends (O.written writer.old.out.now) (O.written writer.new.out.now) (O.faults writer.old.out.now) (O.faults writer.new.out.now) (stop_text why.now machine.now.cycle ++ core_lines machine.now) result }
     ensures same_sink { writer.new.out.ghost_name ≡ writer.old.out.ghost_name }
 {

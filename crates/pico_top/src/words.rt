@@ -60,7 +60,11 @@ fn cycles(word: &str) -> Option<u64>
     ensures { result ≡ cycles_of word.now }
 {
     let cycles = number(word)?;
-    if cycles >= 1 && cycles <= 1_000_000_000 { Some(cycles) } else { None }
+    if cycles >= 1 && cycles <= 1_000_000_000 {
+        Some(cycles)
+    } else {
+        None
+    }
 }
 
 /// Whether these are the words of a run, but for the limit; a name does not begin with a dash.
@@ -74,7 +78,11 @@ fn is_run(command: &str, image: &str, name: &str) -> bool
 fn cycles_asked(command: &str, image: &str, name: &str, value: &str) -> Option<u64>
     ensures { run_of command.now image.now name.now value.now ≡ option_map (run_with image.now) result }
 {
-    if is_run(command, image, name) { cycles(value) } else { None }
+    if is_run(command, image, name) {
+        cycles(value)
+    } else {
+        None
+    }
 }
 
 /// Reads `run <image> --cycles N`.
@@ -85,7 +93,12 @@ pub fn read_words(alloc: Global, words: &[String]) -> Result<Reading, WordsFault
     let [command, image, name, value] = words else {
         return Err(WordsFault::Words);
     };
-    match cycles_asked(command.as_str(), image.as_str(), name.as_str(), value.as_str()) {
+    match cycles_asked(
+        command.as_str(),
+        image.as_str(),
+        name.as_str(),
+        value.as_str(),
+    ) {
         None => Err(WordsFault::Words),
         Some(cycles) => owned(alloc, image.as_str(), cycles),
     }

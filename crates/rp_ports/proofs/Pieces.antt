@@ -1,5 +1,5 @@
 -- Pieces written one after another.
-use Rattle.std.proofs.Common.{◌≡◌, ℕ, ◌+◌, List, ◌++◌, take, drop, Option, Some, None, refl, ap, append_assoc, sym, ◌∙◌}
+use Rattle.std.proofs.Common.{ℕ, ◌+◌, List, ◌++◌, take, drop, Option, Some, None, ap, append_assoc, ◌∙◌}
 use Rattle.std.proofs.Math.Seq.{take-add}
 use Rattle.rp_ports.specs.Sink.{Appends}
 

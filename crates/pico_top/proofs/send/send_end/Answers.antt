@@ -1,4 +1,3 @@
-use Rattle.std.proofs.Common.{◌∙◌}
 use Rattle.trace_text.proofs.Sending.{sends_then}
 use Rattle.pico_top.proofs.send.send_end.Goals as goal
 

@@ -1,4 +1,4 @@
-use Rattle.std.proofs.Common.{arith, ◌∙◌}
+use Rattle.std.proofs.Common.{arith}
 use Rattle.pico_top.proofs.Placing.{words_more}
 use Rattle.pico_top.proofs.sram.first_words.Goals as goal
 

@@ -1,4 +1,4 @@
-use Rattle.std.proofs.Common.{◌∙◌, sym, refl}
+use Rattle.std.proofs.Common.{◌∙◌, sym}
 use Rattle.pico_top.proofs.Runs.{last_here, step_nearer, step_goes_on}
 use Rattle.pico_top.proofs.machine.Machine.run.Goals as goal
 

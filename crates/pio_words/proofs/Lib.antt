@@ -1,0 +1,11 @@
+pub mod Scaled
+pub mod Codes
+pub mod Unique
+pub mod OfJmpCondition
+pub mod OfInSource
+pub mod OfOutDestination
+pub mod OfMovDestination
+pub mod OfMovOperation
+pub mod OfMovSource
+pub mod OfSetDestination
+pub mod SideBack

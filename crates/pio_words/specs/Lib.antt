@@ -1,0 +1,11 @@
+pub mod Table
+pub mod JmpCondition
+pub mod InSource
+pub mod OutDestination
+pub mod MovDestination
+pub mod MovOperation
+pub mod MovSource
+pub mod SetDestination
+pub mod Operation
+pub mod Side
+pub mod Word

@@ -1,0 +1,12 @@
+pub mod Sums
+pub mod Follows
+pub mod Keeps
+pub mod Bits
+pub mod Taking
+pub mod Stock
+pub mod Moves
+pub mod Seen
+pub mod Swaps
+pub mod Refills
+pub mod Awaits
+pub mod Owning

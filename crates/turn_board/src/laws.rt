@@ -1,0 +1,28 @@
+//! The laws of the board of tickets, each the contract of a function without arguments.
+ghost use Rattle.turn_board.specs.Laws.{EventsKeepGood, AllDone, TicketsBounded, LanesDiffer, NoneHolding};
+
+/// Each legal event keeps a good state good.
+pub fn events_keep_good()
+    ensures { EventsKeepGood }
+{}
+
+/// Where as many numbers are finished as are open, every open number stands once in the finished list of the one
+/// seat that drew it.
+pub fn all_done()
+    ensures { AllDone }
+{}
+
+/// No more numbers are finished than are open, and no more are drawn than that and one for each seat.
+pub fn tickets_bounded()
+    ensures { TicketsBounded }
+{}
+
+/// Two seats that are holding have numbers of different lanes.
+pub fn lanes_differ()
+    ensures { LanesDiffer }
+{}
+
+/// No seat is holding where the master knows that all open numbers are finished.
+pub fn none_holding()
+    ensures { NoneHolding }
+{}
