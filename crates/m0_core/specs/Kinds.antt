@@ -1,5 +1,5 @@
 -- The instructions that a core treats by themselves (ARMv6-M Architecture Reference Manual, A6.7).
-use Rattle.std.specs.Prelude.{ℕ, Bool, true, false, Option, Some, None}
+use Rattle.std.specs.Prelude.{Bool, true, false}
 use Rattle.rp_base.specs.declared.op.Op.{Op}
 use Rattle.rp_base.specs.declared.op.Op.TheVariants.{Bkpt, Sev, Wfe, Wfi, Svc, Udf, Undefined}
 
