@@ -97,6 +97,74 @@ fn a_run_prints_its_end(rt: HostRuntime) -> Result<(), Fail> {
     Ok(())
 }
 
+/// The register line of core 0: R0 to R12 as given and 0 for the rest, then SP, LR, PC and xPSR.
+fn core_line(alloc: Global, low: &str, high: &str) -> Result<Vec<u8>, AllocError> {
+    let mut text = Vec::new(alloc);
+    text.extend_from_slice(b"core0")?;
+    text.extend_from_slice(low.as_bytes())?;
+    let zeros = 13usize.saturating_sub(low.len() / 9);
+    for _ in 0..zeros {
+        text.extend_from_slice(b" 00000000")?;
+    }
+    text.extend_from_slice(high.as_bytes())?;
+    text.extend_from_slice(b"\ncore1 asleep\n")?;
+    Ok(text)
+}
+
+/// Whether the code stops with this line and these registers.
+fn ends(
+    alloc: Global,
+    code: &[u16],
+    stop: &[u8],
+    low: &str,
+    high: &str,
+) -> Result<bool, AllocError> {
+    let words = ["run", "a.uf2", "--cycles", "50"];
+    let text = joined(alloc, &[stop, core_line(alloc, low, high)?.as_slice()])?;
+    gives(alloc, &words, block(alloc, code)?, 0, &text)
+}
+
+#[test]
+fn instructions_and_their_cycles(rt: HostRuntime) -> Result<(), Fail> {
+    let alloc = rt.alloc();
+    // ADCS of two greatest words with a carry.
+    let code = [0x2000, 0x43c0, 0x2100, 0x43c9, 0x4288, 0x4148, 0xbe00];
+    let low = " ffffffff ffffffff";
+    let high = " 20042000 ffffffff 2000000c a1000000";
+    assert!(rt; ends(alloc, &code, b"stop bkpt core0 6\n", low, high)?);
+    // LSRS by 32 and ASRS by 255.
+    let code = [0x2001, 0x07c0, 0x22ff, 0x0001, 0x0800, 0x4111, 0xbe00];
+    let low = " 00000000 ffffffff 000000ff";
+    assert!(rt; ends(alloc, &code, b"stop bkpt core0 6\n", low, high)?);
+    // BL has three cycles, PUSH of two registers three, POP with PC five.
+    let code = [0x2003, 0xf000, 0xf801, 0xbe00, 0xb501, 0xbd02];
+    let low = " 00000003 00000003";
+    let high = " 20042000 20000007 20000006 01000000";
+    assert!(rt; ends(alloc, &code, b"stop bkpt core0 12\n", low, high)?);
+    // Narrow stores and loads: LDR, LDR, STRB, STRH, LDR, LDRB, LDRH, each of two cycles.
+    let code = [
+        0x4803, 0x4904, 0x7041, 0x8041, 0x6802, 0x7843, 0x8844, 0xbe00, 0x0014, 0x2000, 0x3210,
+        0x7654,
+    ];
+    let low = " 20000014 76543210 32101010 00000010 00003210";
+    let high = " 20042000 ffffffff 2000000e 01000000";
+    assert!(rt; ends(alloc, &code, b"stop bkpt core0 14\n", low, high)?);
+    // SEV sets the event register for the first WFE alone, and the second waits.
+    let code = [0xbf40, 0xbf20, 0xbf20, 0xbe00];
+    let high = " 20042000 ffffffff 20000004 01000000";
+    assert!(rt; ends(alloc, &code, b"stop limit 50\n", "", high)?);
+    // A load outside the machine, and one of what is not built: the first cycle of the access stops.
+    let code = [0x2001, 0x0780, 0x6800];
+    let low = " 40000000";
+    let high = " 20042000 ffffffff 20000004 01000000";
+    assert!(rt; ends(alloc, &code, b"stop outside core0 40000000 3\n", low, high)?);
+    let code = [0x200d, 0x0700, 0x6800];
+    let low = " d0000000";
+    let high = " 20042000 ffffffff 20000004 81000000";
+    assert!(rt; ends(alloc, &code, b"stop unbuilt core0 2\n", low, high)?);
+    Ok(())
+}
+
 #[test]
 fn a_refusal_is_one_line(rt: HostRuntime) -> Result<(), Fail> {
     let alloc = rt.alloc();
