@@ -1,124 +1,118 @@
 -- The machine, cycle by cycle: a state, its stop and its next state, on numbers without bound.
 --
--- So far it is core 0 with five instructions (ARMv6-M Architecture Reference Manual, A6.7: ADD (immediate), B, BKPT, MOV
--- (immediate), NOP), with the cycles of the Cortex-M0+ Technical Reference Manual, 3.3: one each, and two of B.
-use Rattle.std.specs.Prelude.{ℕ, zero, suc, ◌+◌, ◌-◌, ◌*◌, ◌/◌, ◌%◌, ◌^◌, ◌==◌, nat_lt, false, if◌then◌else◌, List, [], ◌∷◌, slice_index, slice_set, Option, Some, None}
-use Rattle.m0_alu.specs.Word.{is_negative_word, is_zero_word}
-use Rattle.m0_alu.specs.Sum.{add_with_carry}
+-- So far it is SRAM and core 0: each access to SRAM is done in its cycle, the interrupt lines are 0, and an access to what
+-- is not built stops the run.
+use Rattle.std.specs.Prelude.{ℕ, zero, suc, ◌+◌, ◌-◌, ◌==◌, true, if◌then◌else◌, List, [], ◌∷◌, Option, Some, None, bit_or}
 use Rattle.rp_base.specs.AddressMap.{place_of}
 use Rattle.rp_base.specs.declared.Master.TheVariants.{Core0}
+use Rattle.rp_base.specs.declared.Request.{Request}
 use Rattle.rp_base.specs.declared.Why.{Why}
-use Rattle.rp_base.specs.declared.Why.TheVariants.{Limit, Bkpt, Outside, Unbuilt}
+use Rattle.rp_base.specs.declared.Why.TheVariants as why
+use Rattle.rp_base.specs.declared.map.Spot.{Spot}
+use Rattle.rp_base.specs.declared.map.Spot.TheVariants as spot
 use Rattle.uf2_image.specs.declared.parts.Image.{Image}
-use Rattle.pico_top.specs.declared.machine.Core.{Core}
-use Rattle.pico_top.specs.declared.machine.Instruction.{Instruction}
-use Rattle.pico_top.specs.declared.machine.Instruction.TheVariants as act
-use Rattle.pico_top.specs.Sram.{loaded_sram, half_in}
+use Rattle.lane_look.specs.declared.lane.Ask.{Ask}
+use Rattle.lane_look.specs.declared.lane.Ask.TheVariants as ask
+use Rattle.lane_look.specs.declared.lane.Want.{Want}
+use Rattle.lane_look.specs.declared.lane.Want.TheVariants as want
+use Rattle.lane_look.specs.declared.lane.Turn.{Turn}
+use Rattle.lane_look.specs.declared.lane.Turn.TheVariants as turn
+use Rattle.lane_look.specs.Asking.{answered}
+use Rattle.m0_core.specs.declared.doing.Doing.{Doing}
+use Rattle.m0_core.specs.State.{State as CoreState}
+use Rattle.m0_core.specs.Start.{sleeping, started}
+use Rattle.m0_core.specs.Fetch.{asks}
+use Rattle.m0_core.specs.Cycle as core
+use Rattle.pico_top.specs.Sram.{loaded_sram, half_of, word_in, written_at}
 
 -- a state of the machine: the cycle's number, the words of SRAM, core 0
 pub record State : Type 0 where
   pub cycle : ℕ
   pub sram : List ℕ
-  pub core0 : Core
+  pub core0 : CoreState
 
--- core 0 before its first instruction: its stack at the end of SRAM, all else 0
-abbrev pub first_core : ℕ → Core
-first_core entry = record {
-  r = 0 ∷ 0 ∷ 0 ∷ 0 ∷ 0 ∷ 0 ∷ 0 ∷ 0 ∷ 0 ∷ 0 ∷ 0 ∷ 0 ∷ 0 ∷ [];
-  sp = 0x20042000;
-  lr = 0xFFFFFFFF;
-  pc = entry;
-  n = false;
-  z = false;
-  c = false;
-  v = false;
-  target = None;
-}
+-- core 0 before its first instruction, in Thumb state, with its stack at the end of SRAM
+abbrev pub first_core : ℕ → CoreState
+first_core entry = started 0 0x20042000 (bit_or entry 1) (sleeping 0)
 
 -- the first state: SRAM holds the image, core 0 begins at the image's entry
 unfoldable pub start : Image → State
 start image = record { cycle = 0; sram = loaded_sram image.parts; core0 = first_core image.entry }
 
--- the halfword that core 0 fetches, where its address is in SRAM
-abbrev pub fetched : State → Option ℕ
-fetched s = half_in s.sram s.core0.pc (place_of s.core0.pc)
+-- ---- answers
 
--- the instruction of a halfword (A5.2): its top bits, then the register and the number
-abbrev pub instruction_of : ℕ → Instruction
-instruction_of h =
-    if h / 2 ^ 11 == 4 then act.Movs (h / 2 ^ 8 % 8) (h % 2 ^ 8) else
-    if h / 2 ^ 11 == 6 then act.Adds (h / 2 ^ 8 % 8) (h % 2 ^ 8) else
-    if h / 2 ^ 11 == 28 then act.B (h % 2 ^ 11) else
-    if h == 0xBF00 then act.Nop else
-    if h / 2 ^ 8 == 0xBE then act.Bkpt else act.Unbuilt
+-- what SRAM answers a core; the interrupt lines are 0
+abbrev pub answer_of : List ℕ → Ask → ℕ
+answer_of sram ask.Lines = 0
+answer_of sram (ask.Half address) = half_of (word_in sram (place_of address)) address
+answer_of sram (ask.Word address) = word_in sram (place_of address)
+answer_of sram ask.Pacing = 0
+answer_of sram ask.Inputs = 0
+answer_of sram (ask.Outs block) = 0
+
+-- what core 0 begins
+unfoldable pub begun : State → Doing
+begun s = answered (answer_of s.sram) (asks s.core0)
+
+-- what core 0 wants
+abbrev pub wish : State → Want
+wish s = core.want_of (begun s)
 
 -- ---- stops
 
--- the cause at which core 0 stops before an instruction
-abbrev pub cause_of : Instruction → Option Why
-cause_of act.Bkpt = Some (Bkpt 0)
-cause_of act.Unbuilt = Some (Unbuilt Core0)
-cause_of _ = None
+-- an access that is not to SRAM stops: it is outside, or its place is not built
+abbrev pub cause_outward : Spot → ℕ → Why
+cause_outward spot.Outside address = why.Outside Core0 address
+cause_outward _ address = why.Unbuilt Core0
 
--- the cause at which core 0 stops where it fetched this, or found no SRAM there
-abbrev pub cause_at : ℕ → Option ℕ → Option Why
-cause_at pc None = Some (Outside Core0 pc)
-cause_at pc (Some h) = cause_of (instruction_of h)
+abbrev pub cause_of : Want → Option Why
+cause_of want.Nothing = None
+cause_of (want.Ram request) = None
+cause_of (want.Outward request) = Some (cause_outward (place_of request.address) request.address)
+cause_of want.Signal = None
+cause_of (want.Stopped cause) = Some cause
 
-abbrev pub unless_branching : Option ℕ → Option Why → Option Why
-unless_branching (Some target) cause = None
-unless_branching None cause = cause
-
--- the first cause for which the machine stops before this cycle: the limit, then core 0, which fetches where no branch
--- is in progress
+-- the first cause for which the machine stops before this cycle: the limit, then core 0
 unfoldable pub stop : ℕ → State → Option Why
-stop limit s =
-    if s.cycle == limit then Some Limit else
-    unless_branching s.core0.target (cause_at s.core0.pc (fetched s))
+stop limit s = if s.cycle == limit then Some why.Limit else cause_of (wish s)
 
 -- ---- steps
 
-abbrev pub moved_on : Core → Core
-moved_on core = record core { pc = (core.pc + 2) % 2 ^ 32 }
+-- each access to SRAM is done at once
+abbrev pub turn_of : Want → Turn
+turn_of (want.Ram request) = turn.Done 0
+turn_of _ = turn.Nothing
 
--- MOVS sets N and Z alone
-abbrev pub after_movs : ℕ → ℕ → Core → Core
-after_movs d i core =
-    record (moved_on core) { r = slice_set core.r d i; n = is_negative_word i; z = is_zero_word i }
+-- SEV sets the event register
+abbrev pub with_signal : Want → CoreState → CoreState
+with_signal want.Signal s = record s { event = true }
+with_signal _ s = s
 
-abbrev pub after_adds : ℕ → ℕ → Core → Core
-after_adds d i core =
-    let sum = add_with_carry (slice_index core.r d) i false in
-    record (moved_on core) { r = slice_set core.r d sum.0; n = is_negative_word sum.0; z = is_zero_word sum.0; c = sum.1; v = sum.2 }
+-- a write has its value
+abbrev pub with_access : Request → Option ℕ → List ℕ → List ℕ
+with_access request None sram = sram
+with_access request (Some value) sram = written_at sram (place_of request.address) request.size request.address value
 
--- the target of B: PC reads as the instruction's address plus 4, and the number is signed, in halfwords
-abbrev pub target_of : ℕ → ℕ → ℕ
-target_of i pc = (pc + 4 + (if nat_lt i 1024 then 2 * i else 2 ^ 32 + 2 * i - 2 ^ 12)) % 2 ^ 32
+abbrev pub with_want : Want → List ℕ → List ℕ
+with_want (want.Ram request) sram = with_access request request.write sram
+with_want _ sram = sram
 
--- what the first cycle of an instruction leaves; it is the only one of all but B
-abbrev pub after : Instruction → Core → Core
-after (act.Movs d i) core = after_movs d i core
-after (act.Adds d i) core = after_adds d i core
-after (act.B i) core = record core { target = Some (target_of i core.pc) }
-after act.Nop core = moved_on core
-after act.Bkpt core = core
-after act.Unbuilt core = core
-
--- core 0 after a cycle: the end of a branch, or the first cycle of what was fetched
-abbrev pub core_after : Option ℕ → Option ℕ → Core → Core
-core_after (Some target) h core = record core { pc = target; target = None }
-core_after None None core = core
-core_after None (Some h) core = after (instruction_of h) core
+-- core 0 ends what it began, then SEV has its effect and the write is applied
+abbrev pub stepped : Doing → Want → State → State
+stepped doing wanted s = record s {
+  sram = with_want wanted s.sram;
+  core0 = with_signal wanted (core.next s.core0 doing (turn_of wanted ∷ turn.Nothing ∷ []));
+}
 
 -- the state after a cycle
 unfoldable pub next : State → State
-next s = record s { cycle = s.cycle + 1; core0 = core_after s.core0.target (fetched s) s.core0 }
+next s = record (stepped (begun s) (wish s) s) { cycle = s.cycle + 1 }
 
 -- ---- runs
 
 -- the state that a cycle leads to, unless there is a cause to stop
 abbrev pub unless_stopped : Option Why → State → State → State
-unless_stopped (Some why) stopped stepped = stopped
+unless_stopped (Some cause) stopped stepped = stopped
 unless_stopped None stopped stepped = stepped
 
 -- the state after n cycles, or the first one with a stop

@@ -1,18 +1,9 @@
 -- The text of a run.
-use Rattle.std.specs.Prelude.{ℕ, ◌+◌, ◌*◌, ◌^◌, List, [], ◌∷◌, ◌++◌, Option, Some, None}
-use Rattle.m0_alu.specs.Word.{bit_number}
+use Rattle.std.specs.Prelude.{ℕ, List, [], ◌++◌, Option, Some, None}
 use Rattle.rp_base.specs.declared.Why.{Why}
 use Rattle.trace_text.specs.Line.{stop_text, register_text}
-use Rattle.pico_top.specs.declared.machine.Core.{Core}
+use Rattle.m0_beats.specs.Registers.{register_words}
 use Rattle.pico_top.specs.Machine.{State, stop, last_state}
-
--- xPSR: N, Z, C, V in bits 31 to 28, T in bit 24 (ARMv6-M Architecture Reference Manual, B1.4.2)
-abbrev pub xpsr : Core → ℕ
-xpsr core = bit_number core.n * 2 ^ 31 + bit_number core.z * 2 ^ 30 + bit_number core.c * 2 ^ 29 + bit_number core.v * 2 ^ 28 + 2 ^ 24
-
--- R0 to R12, SP, LR, PC, xPSR
-abbrev pub register_words : Core → List ℕ
-register_words core = core.r ++ core.sp ∷ core.lr ∷ core.pc ∷ xpsr core ∷ []
 
 -- the line of the stop at a cycle
 abbrev pub stop_lines : Option Why → ℕ → List ℕ
@@ -21,7 +12,7 @@ stop_lines (Some why) cycle = stop_text why cycle
 
 -- the lines of both cores; core 1 sleeps
 abbrev pub core_lines : State → List ℕ
-core_lines s = register_text 0 (Some (register_words s.core0)) ++ register_text 1 None
+core_lines s = register_text 0 (Some (register_words s.core0.regs)) ++ register_text 1 None
 
 -- the lines of a state at which a run ended
 abbrev pub end_text : ℕ → State → List ℕ

@@ -1,193 +1,57 @@
-//! A machine of one core and five instructions.
+//! A machine of SRAM and core 0.
 
-ghost use Rattle.std.specs.Prelude.{◌≡◌, ◌<◌, if◌then◌else◌, is_some, None};
-ghost use Rattle.pico_top.specs.Sram.{half_of};
-ghost use Rattle.pico_top.specs.Machine.{instruction_of, target_of, after_movs, after_adds, cause_at, core_after, first_core};
-ghost use Rattle.pico_top.specs.RunText.{xpsr, register_words};
+ghost use Rattle.std.specs.Prelude.{◌≡◌};
+ghost use Rattle.rp_base.specs.AddressMap.{place_of};
+ghost use Rattle.pico_top.specs.Machine.{first_core, cause_outward, cause_of, turn_of};
 
-use crate::sram::words_of;
-use m0_alu::add_carry;
+use crate::sram::{SramLook, words_of, write_at};
+use lane_look::{Lane, Marks, Turn, Want};
+use m0_core::{Core, Doing};
 use rp_base::map::{Spot, place};
-use rp_base::{Master, Why};
+use rp_base::{Master, Request, Why};
 use std::alloc::{AllocError, Global};
 use std::marker::Model;
 use uf2_image::Image;
 
-/// Core 0: its registers and flags (ARMv6-M Architecture Reference Manual, B1.4), and the branch in progress.
-#[derive(Drop)]
-pub struct Core {
-    /// R0 to R12.
-    pub r: [u32; 13],
-    /// The stack pointer.
-    pub sp: u32,
-    /// The link register.
-    pub lr: u32,
-    /// The address of the instruction in progress, or of the next one.
-    pub pc: u32,
-    /// The negative flag.
-    pub n: bool,
-    /// The zero flag.
-    pub z: bool,
-    /// The carry flag.
-    pub c: bool,
-    /// The overflow flag.
-    pub v: bool,
-    /// Where the branch goes whose first cycle is over.
-    pub target: Option<u32>,
-}
-
-/// The instructions that are built.
-#[derive(Clone, Copy)]
-pub enum Instruction {
-    /// MOVS Rd, #i.
-    Movs { d: u8, i: u8 },
-    /// ADDS Rd, #i.
-    Adds { d: u8, i: u8 },
-    /// B, with a signed number of 11 bits, in halfwords.
-    B { i: u16 },
-    /// NOP.
-    Nop,
-    /// BKPT.
-    Bkpt,
-    /// Every other halfword.
-    Unbuilt,
-}
-
-/// The instruction of a halfword (ARMv6-M Architecture Reference Manual, A5.2).
-fn decode(half: u16) -> Instruction
-    ensures { result ≡ instruction_of half }
+/// Core 0 before its first instruction, in Thumb state, with its stack at the end of SRAM.
+fn first_core(entry: u32) -> Core
+    ensures { result ≡ first_core entry }
 {
-    let low = (half % 256) as u8;
-    let d = (half / 256 % 8) as u8;
-    match half / 2048 {
-        4 => Instruction::Movs { d, i: low },
-        6 => Instruction::Adds { d, i: low },
-        28 => Instruction::B { i: half % 2048 },
-        _ => {
-            if half == 0xbf00 {
-                Instruction::Nop
-            } else if half / 256 == 0xbe {
-                Instruction::Bkpt
-            } else {
-                Instruction::Unbuilt
-            }
-        }
-    }
+    let mut core = Core::new(0);
+    core.start(0, 0x2004_2000, entry | 1);
+    core
 }
 
-/// The halfword of a word at an address.
-fn half_at(word: u32, address: u32) -> u16
-    ensures { result ≡ half_of word address }
+/// The cause of an access that is not to SRAM.
+fn cause_outward(address: u32) -> Why
+    ensures { result ≡ cause_outward (place_of address) address }
 {
-    if address / 2 % 2 == 0 {
-        (word % 0x1_0000) as u16
-    } else {
-        (word / 0x1_0000) as u16
+    match place(address) {
+        Spot::Outside => Why::Outside(Master::Core0, address),
+        Spot::Ram { .. } | Spot::Reg { .. } | Spot::Sio { .. } | Spot::Ppb { .. } => Why::Unbuilt(
+            Master::Core0,
+        ),
     }
 }
 
-/// The target of a B at an address; PC reads as that address plus 4.
-fn target(i: u16, pc: u32) -> u32
-    requires { i < 2048 }
-    ensures { result ≡ target_of i pc }
+/// The cause for which a cycle with that want does not happen.
+fn cause_of(want: &Want) -> Option<Why>
+    ensures { result ≡ cause_of want.now }
 {
-    let offset = if i < 1024 {
-        2 * u32::from(i)
-    } else {
-        u32::MAX - 4095 + 2 * u32::from(i)
-    };
-    pc.wrapping_add(4).wrapping_add(offset)
+    match *want {
+        Want::Nothing | Want::Ram(_) | Want::Signal => None,
+        Want::Outward(request) => Some(cause_outward(request.address)),
+        Want::Stopped(why) => Some(why),
+    }
 }
 
-impl Core {
-    /// Core 0 before its first instruction, with its stack at the end of SRAM.
-    fn new(entry: u32) -> Core
-        ensures { result ≡ first_core entry }
-    {
-        Core {
-            r: [0; 13],
-            sp: 0x2004_2000,
-            lr: 0xffff_ffff,
-            pc: entry,
-            n: false,
-            z: false,
-            c: false,
-            v: false,
-            target: None,
-        }
-    }
-
-    /// R0 to R12, SP, LR, PC and xPSR.
-    fn registers(&self) -> [u32; 17]
-        ensures { result ≡ register_words self.now }
-    {
-        let mut words = [0; 17];
-        words[..13].copy_from_slice(&self.r);
-        words[13] = self.sp;
-        words[14] = self.lr;
-        words[15] = self.pc;
-        words[16] = self.xpsr();
-        words
-    }
-
-    /// The program status register, with T set.
-    fn xpsr(&self) -> u32
-        ensures { result ≡ xpsr self.now }
-    {
-        let sign = u32::from(self.n) * 0x8000_0000 + u32::from(self.z) * 0x4000_0000;
-        sign + u32::from(self.c) * 0x2000_0000 + u32::from(self.v) * 0x1000_0000 + 0x0100_0000
-    }
-
-    /// MOVS: N and Z alone change.
-    fn movs(&mut self, d: u8, i: u8)
-        requires { d < 8 }
-        ensures { self.new ≡ after_movs d i self.old }
-    {
-        self.r[d as usize] = u32::from(i);
-        self.n = false;
-        self.z = i == 0;
-        self.pc = self.pc.wrapping_add(2);
-    }
-
-    /// The second cycle of a branch.
-    fn end_branch(&mut self, target: u32)
-        ensures { self.new ≡ record self.old { pc = target; target = None } }
-    {
-        self.pc = target;
-        self.target = None;
-    }
-
-    /// The first cycle of what was fetched, or the cause for which it does not happen; nothing changes then.
-    fn begin(&mut self, half: Option<u16>) -> Option<Why>
-        ensures cause { result ≡ cause_at self.old.pc half }
-        ensures state { self.new ≡ (if is_some result then self.old else core_after None half self.old) }
-    {
-        let Some(half) = half else {
-            return Some(Why::Outside(Master::Core0, self.pc));
-        };
-        match decode(half) {
-            Instruction::Movs { d, i } => self.movs(d, i),
-            Instruction::Adds { d, i } => self.adds(d, i),
-            Instruction::B { i } => self.target = Some(target(i, self.pc)),
-            Instruction::Nop => self.pc = self.pc.wrapping_add(2),
-            Instruction::Bkpt => return Some(Why::Bkpt(0)),
-            Instruction::Unbuilt => return Some(Why::Unbuilt(Master::Core0)),
-        }
-        None
-    }
-
-    /// ADDS: all four flags change.
-    fn adds(&mut self, d: u8, i: u8)
-        requires { d < 8 }
-        ensures { self.new ≡ after_adds d i self.old }
-    {
-        let (sum, carry, overflow) = add_carry(self.r[d as usize], u32::from(i), false);
-        self.r[d as usize] = sum;
-        self.n = sum >= 0x8000_0000;
-        self.z = sum == 0;
-        self.c = carry;
-        self.v = overflow;
-        self.pc = self.pc.wrapping_add(2);
+/// What the core is given for a want: each access to SRAM is done at once.
+fn turn_of(want: &Want) -> Turn
+    ensures { result ≡ turn_of want.now }
+{
+    match want {
+        Want::Ram(_) => Turn::Done(0),
+        Want::Nothing | Want::Outward(_) | Want::Signal | Want::Stopped(_) => Turn::Nothing,
     }
 }
 
@@ -197,6 +61,8 @@ pub struct Machine {
     cycle: u64,
     sram: Vec<u32>,
     core0: Core,
+    /// A core leaves none.
+    marks: Marks,
 }
 
 impl Model for Machine {
@@ -212,8 +78,9 @@ impl Model for Machine {
 
 impl Machine {
     ghost use Rattle.std.specs.Prelude.{◌≡◌, ◌<◌, ◌≤◌, if◌then◌else◌, is_some, Some, IfOk};
+    ghost use Rattle.m0_beats.specs.Registers.{register_words};
     ghost use Rattle.uf2_image.specs.Uf2.{FitsSram};
-    ghost use Rattle.pico_top.specs.Machine.{start, fetched, stop, next, last_state};
+    ghost use Rattle.pico_top.specs.Machine.{start, begun, with_access, with_want, stepped, stop, next, last_state};
 
     /// The first state: SRAM holds the image and is 0 elsewhere, and core 0 begins at the entry.
     #[tactic(auto, unfolding(crate::specs::Machine::start))]
@@ -225,7 +92,8 @@ impl Machine {
         Ok(Machine {
             cycle: 0,
             sram,
-            core0: Core::new(image.entry),
+            core0: first_core(image.entry),
+            marks: Marks::new(),
         })
     }
 
@@ -236,14 +104,44 @@ impl Machine {
         self.cycle
     }
 
-    /// The halfword at core 0's PC, where that is in SRAM.
-    fn fetch(&self) -> Option<u16>
-        ensures { result ≡ fetched self.now }
+    /// What core 0 begins.
+    fn begin(&self) -> Doing
+        ensures { result ≡ begun self.now }
     {
-        match place(self.core0.pc) {
-            Spot::Ram { index, .. } => Some(half_at(self.sram[index as usize], self.core0.pc)),
-            _ => None,
+        let mut look = SramLook {
+            sram: self.sram.as_slice(),
+        };
+        self.core0.begin(&(), self.cycle, &mut look)
+    }
+
+    /// The effect of a want on SRAM.
+    fn apply(&mut self, want: &Want)
+        ensures { self.new ≡ record self.old { sram = with_want want.now self.old.sram } }
+    {
+        if let Want::Ram(request) = want {
+            self.access(request);
         }
+    }
+
+    /// A write to SRAM.
+    fn access(&mut self, request: &Request)
+        ensures { self.new ≡ record self.old { sram = with_access request.now request.now.write self.old.sram } }
+    {
+        if let Some(value) = request.write {
+            write_at(&mut self.sram, request.address, request.size, value);
+        }
+    }
+
+    /// The end of a cycle in which core 0 began this and wants this.
+    fn step(&mut self, doing: &Doing, want: &Want)
+        ensures { self.new ≡ stepped doing.now want.now self.old }
+    {
+        let turns = [turn_of(want), Turn::Nothing];
+        self.core0.finish(&(), doing, turns, &mut self.marks);
+        if matches!(want, Want::Signal) {
+            self.core0.signal();
+        }
+        self.apply(want);
     }
 
     /// One cycle, or the first cause for which it does not happen; nothing changes then.
@@ -256,14 +154,12 @@ impl Machine {
         if self.cycle == limit {
             return Some(Why::Limit);
         }
-        if let Some(target) = self.core0.target {
-            self.core0.end_branch(target);
-        } else {
-            let half = self.fetch();
-            if let Some(why) = self.core0.begin(half) {
-                return Some(why);
-            }
+        let doing = self.begin();
+        let [want, _] = Core::wants(&doing);
+        if let Some(why) = cause_of(&want) {
+            return Some(why);
         }
+        self.step(&doing, &want);
         self.cycle += 1;
         None
     }
@@ -283,7 +179,7 @@ impl Machine {
 
     /// R0 to R12, SP, LR, PC and xPSR of core 0.
     pub fn registers(&self) -> [u32; 17]
-        ensures { result ≡ register_words self.now.core0 }
+        ensures { result ≡ register_words self.now.core0.regs }
     {
         self.core0.registers()
     }

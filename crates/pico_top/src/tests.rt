@@ -93,7 +93,7 @@ fn a_run_prints_its_end(rt: HostRuntime) -> Result<(), Fail> {
     assert!(rt; gives(alloc, &one, block(alloc, &FIVE)?, 0, text)?);
     let text =
         b"stop unbuilt core0 0\ncore0 00000000 00000000 00000000 00000000 00000000 00000000 00000000 00000000 00000000 00000000 00000000 00000000 00000000 20042000 ffffffff 20000000 01000000\ncore1 asleep\n";
-    assert!(rt; gives(alloc, &TEN, block(alloc, &[0x4770])?, 0, text)?);
+    assert!(rt; gives(alloc, &TEN, block(alloc, &[0xde00])?, 0, text)?);
     Ok(())
 }
 

@@ -1,0 +1,14 @@
+//! What a lane of the machine asks about the rest, what it wants of the bus, and how it steps by what it was given.
+//!
+//! The machine has six lanes: the two cores, the DMA engine, the two PIO blocks, and the peripherals. In each cycle a
+//! lane begins, from the state at the start and the answers to its questions; it names what it wants; and it finishes
+//! by what the bus gave it.
+#![tactic(auto)]
+
+pub mod lane;
+pub mod marks;
+#[cfg(test)]
+mod tests;
+
+pub use lane::{Ask, Lane, Look, Turn, Want};
+pub use marks::{Mark, Marks};

@@ -1,0 +1,30 @@
+-- The instructions that a core treats by themselves (ARMv6-M Architecture Reference Manual, A6.7).
+use Rattle.std.specs.Prelude.{Bool, true, false}
+use Rattle.rp_base.specs.declared.op.Op.{Op}
+use Rattle.rp_base.specs.declared.op.Op.TheVariants.{Bkpt, Sev, Wfe, Wfi, Svc, Udf, Undefined}
+
+abbrev pub is_breakpoint : Op → Bool
+is_breakpoint (Bkpt i) = true
+is_breakpoint _ = false
+
+-- SEV
+abbrev pub is_signal : Op → Bool
+is_signal Sev = true
+is_signal _ = false
+
+-- WFE
+abbrev pub awaits_event : Op → Bool
+awaits_event Wfe = true
+awaits_event _ = false
+
+-- WFI
+abbrev pub awaits_interrupt : Op → Bool
+awaits_interrupt Wfi = true
+awaits_interrupt _ = false
+
+-- an instruction that an exception takes the place of: it is undefined, or it is SVC
+abbrev pub is_trap : Op → Bool
+is_trap (Svc i) = true
+is_trap (Udf i) = true
+is_trap Undefined = true
+is_trap _ = false

@@ -1,0 +1,41 @@
+//! The instructions that a core treats by themselves.
+
+ghost use Rattle.std.specs.Prelude.{◌≡◌};
+ghost use Rattle.m0_core.specs.Kinds.{is_breakpoint, is_signal, awaits_event, awaits_interrupt, is_trap};
+
+use rp_base::op::Op;
+
+/// BKPT.
+pub(crate) fn is_breakpoint(op: &Op) -> bool
+    ensures { result ≡ is_breakpoint op.now }
+{
+    matches!(op, Op::Bkpt { .. })
+}
+
+/// SEV.
+pub(crate) fn is_signal(op: &Op) -> bool
+    ensures { result ≡ is_signal op.now }
+{
+    matches!(op, Op::Sev)
+}
+
+/// WFE.
+pub(crate) fn awaits_event(op: &Op) -> bool
+    ensures { result ≡ awaits_event op.now }
+{
+    matches!(op, Op::Wfe)
+}
+
+/// WFI.
+pub(crate) fn awaits_interrupt(op: &Op) -> bool
+    ensures { result ≡ awaits_interrupt op.now }
+{
+    matches!(op, Op::Wfi)
+}
+
+/// An instruction that an exception takes the place of.
+pub(crate) fn is_trap(op: &Op) -> bool
+    ensures { result ≡ is_trap op.now }
+{
+    matches!(op, Op::Svc { .. } | Op::Udf { .. } | Op::Undefined)
+}

@@ -1,0 +1,278 @@
+//! Programs worked by hand, over a small memory: their results by the manual, their cycles by its timing table.
+
+use crate::Core;
+use lane_look::{Ask, Lane, Look, Marks, Turn, Want};
+use rp_base::map::{Spot, place};
+use rp_base::{Master, Request, Size, Why};
+use std::process::Abort;
+
+/// The first 64 words of SRAM and the last 16.
+#[derive(Drop)]
+struct Memory {
+    low: [u32; 64],
+    high: [u32; 16],
+}
+
+impl Look for Memory {
+    ghost answers = { λ old ask answer new. Unit {0} };
+
+    fn ask(&mut self, ask: Ask) -> u128 {
+        match ask {
+            Ask::Half(address) => {
+                u128::from((self.word(address) >> (16 * (address / 2 % 2))) & 0xffff)
+            }
+            Ask::Word(address) => u128::from(self.word(address)),
+            _ => 0,
+        }
+    }
+}
+
+impl Memory {
+    /// Code from the start of SRAM.
+    fn with_code(code: &[u16]) -> Memory {
+        let mut memory = Memory {
+            low: [0; 64],
+            high: [0; 16],
+        };
+        for (k, half) in code.iter().enumerate() {
+            if k < 128 {
+                memory.low[k / 2] |= u32::from(*half) << (16 * (k % 2));
+            }
+        }
+        memory
+    }
+
+    /// The word of an address.
+    fn word(&self, address: u32) -> u32 {
+        match place(address) {
+            Spot::Ram { index, .. } if index < 64 => self.low[index as usize],
+            Spot::Ram { index, .. } if index >= 67_568 && index < 67_584 => self.high[index as usize
+                - 67_568],
+            _ => 0,
+        }
+    }
+
+    /// Writes a word.
+    fn set_word(&mut self, address: u32, value: u32) {
+        match place(address) {
+            Spot::Ram { index, .. } if index < 64 => self.low[index as usize] = value,
+            Spot::Ram { index, .. } if index >= 67_568 && index < 67_584 => self.high[index as usize
+                - 67_568] = value,
+            _ => {}
+        }
+    }
+
+    /// Does the write of a request.
+    fn write(&mut self, request: &Request) {
+        let Some(value) = request.write else {
+            return;
+        };
+        let (mask, shift) = match request.size {
+            Size::Byte => (0xff, 8 * (request.address % 4)),
+            Size::Half => (0xffff, 16 * (request.address / 2 % 2)),
+            Size::Word => (0xffff_ffff, 0),
+        };
+        let kept = self.word(request.address) & !(mask << shift);
+        self.set_word(request.address, kept | (value & mask) << shift);
+    }
+}
+
+/// One cycle: accesses to SRAM are done at once, all others by `outward`.
+fn cycle(core: &mut Core, memory: &mut Memory, outward: Turn) -> Option<Why> {
+    let mut marks = Marks::new();
+    let begun = core.begin(&(), 0, memory);
+    let wants = Core::wants(&begun);
+    let turn = match wants[0] {
+        Want::Stopped(why) => return Some(why),
+        Want::Ram(request) => {
+            memory.write(&request);
+            Turn::Done(0)
+        }
+        Want::Outward(_) => outward,
+        Want::Signal | Want::Nothing => Turn::Nothing,
+    };
+    core.finish(&(), &begun, [turn, Turn::Nothing], &mut marks);
+    if wants[0] == Want::Signal {
+        core.signal();
+    }
+    None
+}
+
+/// A run of at most 100 cycles up to a stop, and how many cycles it has.
+fn run(core: &mut Core, memory: &mut Memory) -> (u32, Option<Why>) {
+    for count in 0..100 {
+        if let Some(why) = cycle(core, memory, Turn::Done(0x1122_3344)) {
+            return (count, Some(why));
+        }
+    }
+    (100, None)
+}
+
+/// Core 0 at the start of SRAM, its stack at the end.
+fn first() -> Core {
+    let mut core = Core::new(0);
+    core.start(0, 0x2004_2000, 0x2000_0001);
+    core
+}
+
+/// Code stops at that cycle by that cause, with these registers.
+fn stops(rt: &impl Abort, code: &[u16], count: u32, why: Why, registers: &[(usize, u32)]) {
+    let mut core = first();
+    let mut memory = Memory::with_code(code);
+    let (cycles, cause) = run(&mut core, &mut memory);
+    assert_eq!(rt; cycles, count);
+    assert!(rt; cause == Some(why));
+    let words = core.registers();
+    for (k, word) in registers {
+        if *k < 17 {
+            assert_eq!(rt; words[*k], *word, "register {k}");
+        }
+    }
+}
+
+#[test]
+fn programs(rt: HostRuntime) {
+    let bkpt = Why::Bkpt(0);
+    // ADCS of two greatest words with a carry.
+    let code = [0x2000, 0x43c0, 0x2100, 0x43c9, 0x4288, 0x4148, 0xbe00];
+    let registers = [
+        (0, 0xffff_ffff),
+        (1, 0xffff_ffff),
+        (15, 0x2000_000c),
+        (16, 0xa100_0000),
+    ];
+    stops(&rt, &code, 6, bkpt, &registers);
+    // LSRS by 32 and ASRS by 255.
+    let code = [0x2001, 0x07c0, 0x22ff, 0x0001, 0x0800, 0x4111, 0xbe00];
+    let registers = [(0, 0), (1, 0xffff_ffff), (2, 0xff), (16, 0xa100_0000)];
+    stops(&rt, &code, 6, bkpt, &registers);
+    // BL has three cycles, PUSH of two registers three, POP with PC five.
+    let code = [0x2003, 0xf000, 0xf801, 0xbe00, 0xb501, 0xbd02];
+    let registers = [
+        (0, 3),
+        (1, 3),
+        (13, 0x2004_2000),
+        (14, 0x2000_0007),
+        (15, 0x2000_0006),
+    ];
+    stops(&rt, &code, 12, bkpt, &registers);
+    // BLX and BX have two cycles each.
+    let code = [0x4b02, 0x4798, 0xbe00, 0, 0x2007, 0x4770, 0x0009, 0x2000];
+    let registers = [(0, 7), (14, 0x2000_0005), (15, 0x2000_0004)];
+    stops(&rt, &code, 7, bkpt, &registers);
+    // PUSH and POP of two registers have three cycles each.
+    let code = [0x2001, 0x2102, 0xb403, 0xbc0c, 0xbe00];
+    stops(&rt, &code, 8, bkpt, &[(2, 1), (3, 2), (13, 0x2004_2000)]);
+}
+
+#[test]
+fn loads_and_stores(rt: HostRuntime) {
+    let bkpt = Why::Bkpt(0);
+    // Words, halfwords and bytes: 11 loads and stores of two cycles each, and two MOVS.
+    let code = [
+        0x4806, 0x4907, 0x6001, 0x7842, 0x8843, 0x2503, 0x5744, 0x2502, 0x5f46, 0x7041, 0x8081,
+        0x6807, 0x6840, 0xbe00, 0x0080, 0x2000, 0x5432, 0x87f6,
+    ];
+    let registers = [
+        (0, 0x5432),
+        (1, 0x87f6_5432),
+        (2, 0x54),
+        (3, 0x87f6),
+        (4, 0xffff_ff87),
+        (6, 0xffff_87f6),
+        (7, 0x87f6_3232),
+    ];
+    stops(&rt, &code, 24, bkpt, &registers);
+    // Address 21010004 is word 1 of bank 1, which is word 5 of the striped order.
+    let code = [
+        0x4802, 0x4903, 0x6001, 0x4a03, 0xbe00, 0, 0x0004, 0x2101, 0xbeef, 0xcafe,
+    ];
+    stops(&rt, &code, 8, bkpt, &[(2, 0xcafe_beef)]);
+    // STM and LDM of three registers have four cycles each, LDM of two with its base in the list three.
+    let code = [
+        0x4805, 0x2111, 0x2222, 0x2333, 0xc00e, 0x380c, 0xc870, 0x380c, 0xc881, 0xbe00, 0, 0,
+        0x0040, 0x2000,
+    ];
+    let registers = [
+        (0, 0x11),
+        (4, 0x11),
+        (5, 0x22),
+        (6, 0x33),
+        (7, 0x22),
+        (16, 0x2100_0000),
+    ];
+    stops(&rt, &code, 18, bkpt, &registers);
+    // A load from SIO has one cycle.
+    stops(
+        &rt,
+        &[0x27d0, 0x063f, 0x6838, 0xbe00],
+        3,
+        bkpt,
+        &[(0, 0x1122_3344)],
+    );
+    // A byte of an APB register has its lane of the word.
+    let code = [0x2740, 0x063f, 0x7878, 0xbe00];
+    stops(&rt, &code, 4, bkpt, &[(0, 0x33)]);
+}
+
+#[test]
+fn stops_and_waits(rt: HostRuntime) {
+    // SEV sets the event register, and WFE clears it: a second WFE waits until it is set again.
+    let mut core = first();
+    let mut memory = Memory::with_code(&[0xbf40, 0xbf20, 0xbf20, 0xbe00]);
+    assert!(rt; run(&mut core, &mut memory) == (100, None));
+    assert_eq!(rt; core.registers()[15], 0x2000_0004);
+    core.signal();
+    assert!(rt; run(&mut core, &mut memory) == (1, Some(Why::Bkpt(0))));
+    // WFI waits.
+    let mut core = first();
+    let mut memory = Memory::with_code(&[0xbf30, 0xbe00]);
+    assert!(rt; run(&mut core, &mut memory) == (100, None));
+    // An access lasts until it is done.
+    let mut core = first();
+    let mut memory = Memory::with_code(&[0x2740, 0x063f, 0x6838, 0xbe00]);
+    for _ in 0..9 {
+        assert!(rt; cycle(&mut core, &mut memory, Turn::Wait).is_none());
+    }
+    assert_eq!(rt; core.registers()[15], 0x2000_0004);
+    assert!(rt; run(&mut core, &mut memory) == (1, Some(Why::Bkpt(0))));
+    // Fetches outside SRAM: BX to 0, and the second halfword of BL behind the end.
+    stops(
+        &rt,
+        &[0x2001, 0x4700],
+        3,
+        Why::Outside(Master::Core0, 0),
+        &[],
+    );
+    let mut core = Core::new(1);
+    core.start(0, 0x2004_2000, 0x2004_1fff);
+    memory.set_word(0x2004_1ffc, 0xf000_0000);
+    assert!(rt; run(&mut core, &mut memory) == (0, Some(Why::Outside(Master::Core1, 0x2004_2000))));
+    // Faults and SVC are not built: UDF, an unaligned word, T clear, the private bus.
+    let unbuilt = Why::Unbuilt(Master::Core0);
+    stops(&rt, &[0xde00], 0, unbuilt, &[]);
+    stops(&rt, &[0xdf00], 0, unbuilt, &[]);
+    stops(&rt, &[0x2001, 0x6800], 1, unbuilt, &[]);
+    stops(
+        &rt,
+        &[0x4801, 0x4700, 0, 0, 0x0006, 0x2000],
+        4,
+        unbuilt,
+        &[],
+    );
+    stops(
+        &rt,
+        &[0x4801, 0x6800, 0, 0, 0xe000, 0xe000],
+        3,
+        unbuilt,
+        &[],
+    );
+    // A copy goes on as the core does, and a core that was not started is asleep.
+    let mut core = Core::new(1);
+    assert!(rt; core.is_asleep() && !core.has_offer());
+    core.set_offer(true);
+    core.copy_from(&first());
+    assert!(rt; !core.is_asleep() && !core.has_offer());
+    assert!(rt; cycle(&mut core, &mut Memory::with_code(&[0xbf00]), Turn::Wait).is_none());
+    assert_eq!(rt; core.registers()[15], 0x2000_0002);
+}
