@@ -46,6 +46,10 @@ master_of b = record { opened = b.opened; closed = b.closed; known = b.known; po
 abbrev pub IsUnfinished : SeatState → ℕ → Type 0
 IsUnfinished s n = (0 < times n s.drawn) × (times n s.finished ≡ 0)
 
+-- the seat has no number that it drew and has not finished
+abbrev pub IsFree : SeatState → Type 0
+IsFree s = (n : ℕ) → ¬ IsUnfinished s n
+
 -- where so many numbers are open, this is true of a seat
 pub record GoodSeat (opened : ℕ) (s : SeatState) : Type 0 where
   -- the finished numbers are among the drawn ones, each once
@@ -103,7 +107,7 @@ change f (suc i) (x ∷ xs) = x ∷ change f i xs
 
 -- what may happen: a seat draws where it has no unfinished number, and finishes its number where it is holding; the master opens six more where it knows that all are finished and the board is not closed
 abbrev pub IsLegal : BoardState → Event → Type 0
-IsLegal b (Draw i) = (s : SeatState) × (get_elem? b.seats i ≡ some s) × ((n : ℕ) → ¬ IsUnfinished s n)
+IsLegal b (Draw i) = (s : SeatState) × (get_elem? b.seats i ≡ some s) × IsFree s
 IsLegal b (SeeOpen i) = (s : SeatState) × (get_elem? b.seats i ≡ some s)
 IsLegal b (Finish i n) = (s : SeatState) × (get_elem? b.seats i ≡ some s) × IsUnfinished s n × (s.holding ≡ true)
 IsLegal b Open = (b.known ≡ b.opened) × (b.closed ≡ false) × (b.opened + 6 ≤ 2 ^ 62)

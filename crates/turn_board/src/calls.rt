@@ -1,6 +1,6 @@
 //! The calls on the board.
 ghost use Rattle.std.specs.Prelude.{◌≡◌, ℕ, ◌+◌, ◌^◌, ◌<◌, ◌≤◌, true, false, [], None, Some, IsSome, IfOk, IfSome, length, replicate};
-ghost use Rattle.turn_board.specs.Tickets.{IsUnfinished, saw, drew, did};
+ghost use Rattle.turn_board.specs.Tickets.{IsUnfinished, IsFree, saw, drew, did};
 ghost use Rattle.turn_board.specs.Slots.{job_slot};
 ghost use Rattle.turn_board.specs.Plays.{IsDraw, IsFinish, IsOpen, IsClose};
 ghost use Rattle.turn_board.specs.Shown.{new_seat, new_master};
@@ -21,7 +21,10 @@ use std::marker::Model;
 use std::sync::Wait;
 use std::time::Duration;
 
-/// The board: what the master and the workers share.
+/// The board, which the master and the workers share by `&`. Clauses see which board it is.
+///
+/// A number is open where it is below the number opened, and its lane is the number modulo 6. No call but the two
+/// that await takes a handle, none takes a lock, and none but `new` takes memory.
 #[derive(Drop)]
 pub struct Board<J: Kept<W>, R: Kept<W>, W> {
     table: Table<Slot<J, R>, View<W>, W, Rule<J, R, W>, Global>,
@@ -40,7 +43,7 @@ impl<J: Kept<W>, R: Kept<W>, W> Model for Board<J, R, W> {
     ghost invariant = { λ b. IsSized b.table.shared.table_id };
 }
 
-// Where a lane's two slots are.
+// The first of the two slots of the ticket's lane.
 fn job_slot_of(ticket: &Ticket) -> usize
     ensures { result ≡ job_slot ticket.now }
 {
@@ -48,7 +51,8 @@ fn job_slot_of(ticket: &Ticket) -> usize
 }
 
 impl<J: Kept<W> + Drop, R: Kept<W> + Drop, W> Board<J, R, W> {
-    /// A board with so many seats, whose values are made for `made_for`.
+    /// A board with 1 to 9 seats for workers, whose values are made for `made_for`. No number is drawn or open, and
+    /// the master holds the slots. An error comes only where memory ran out.
     pub fn new(
         alloc: Global,
         made_for: W,
@@ -71,18 +75,20 @@ impl<J: Kept<W> + Drop, R: Kept<W> + Drop, W> Board<J, R, W> {
         Ok((Board { table }, Master { place, opened: 0 }, workers))
     }
 
-    /// Draws the next number, which no other seat draws. The seat has no ticket that is not done.
+    /// Draws the next number: each number comes once, whichever seat draws. The seat has no ticket that is not done.
     pub fn draw(&self, seat: &mut Seat<J, R, W>) -> Ticket
         requires board { seat.old.board ≡ self.now }
-        requires free { (n : ℕ) → ¬ IsUnfinished seat.old.state n }
+        requires free { IsFree seat.old.state }
         ensures seat { seat.new ≡ record seat.old { state = drew result seat.old.state } }
         ensures own { IsUnfinished seat.new.state result }
+        ensures idle { seat.new.state.holding ≡ false }
         ensures event { IsDraw seat.old.state result seat.new.state }
     {
         Ticket::of(steps::draw(&self.table.shared, &mut seat.place))
     }
 
-    /// Looks whether the ticket is open. A seat that finds it open holds the slots of its lane from then on.
+    /// Looks whether the seat's own ticket is open. A seat that finds it open holds the slots of its lane from then
+    /// on: at first there is a job, and no result.
     pub fn look(&self, seat: &mut Seat<J, R, W>, ticket: &Ticket) -> See
         requires board { seat.old.board ≡ self.now }
         requires own { IsUnfinished seat.old.state ticket.now }
@@ -102,7 +108,7 @@ impl<J: Kept<W> + Drop, R: Kept<W> + Drop, W> Board<J, R, W> {
         }
     }
 
-    /// The job of the ticket, which was not taken before.
+    /// The job of the ticket, which is open and whose job was not taken before.
     pub fn take(&self, seat: &mut Seat<J, R, W>, ticket: &Ticket) -> J
         requires board { seat.old.board ≡ self.now }
         requires own { IsUnfinished seat.old.state ticket.now }
@@ -124,7 +130,7 @@ impl<J: Kept<W> + Drop, R: Kept<W> + Drop, W> Board<J, R, W> {
         }
     }
 
-    /// Puts the result of the ticket, and gives back the one that was put before.
+    /// Puts a result of the ticket, which is open, and gives back the one that was put under it before, if any.
     pub fn put(&self, seat: &mut Seat<J, R, W>, ticket: &Ticket, found: R) -> Option<R>
         requires board { seat.old.board ≡ self.now }
         requires own { IsUnfinished seat.old.state ticket.now }
@@ -148,21 +154,22 @@ impl<J: Kept<W> + Drop, R: Kept<W> + Drop, W> Board<J, R, W> {
         }
     }
 
-    /// Finishes the ticket, for which a result was put.
+    /// Finishes the ticket, under which a result was put. A job that was not taken is lost.
     pub fn done(&self, seat: &mut Seat<J, R, W>, ticket: Ticket)
         requires board { seat.old.board ≡ self.now }
         requires own { IsUnfinished seat.old.state ticket }
         requires holding { seat.old.state.holding ≡ true }
         requires there { IsSome seat.old.found }
         ensures seat { seat.new ≡ record seat.old { state = did ticket seat.old.state; job = None; found = None } }
-        ensures free { (n : ℕ) → ¬ IsUnfinished seat.new.state n }
+        ensures free { IsFree seat.new.state }
         ensures event { IsFinish seat.old.state ticket seat.new.state }
     {
         steps::finish(&self.table.shared, &mut seat.place);
         self.table.shared.wake_all(steps::DONE);
     }
 
-    /// Opens six more numbers, one for each lane, with their jobs. The master has gathered all earlier ones.
+    /// Opens six more numbers, one for each lane, with their jobs. The master has gathered all earlier ones, and has
+    /// not closed the board. At most 2^62 numbers are ever open.
     pub fn offer(&self, master: &mut Master<J, R, W>, jobs: Six<J>)
         requires board { master.old.board ≡ self.now }
         requires gathered { master.old.state.known ≡ master.old.state.opened }
@@ -178,7 +185,7 @@ impl<J: Kept<W> + Drop, R: Kept<W> + Drop, W> Board<J, R, W> {
         self.table.shared.wake_all(steps::OPEN);
     }
 
-    /// Gathers the results, if all open numbers are finished. Some are open that the master has not gathered.
+    /// Gathers the six results, if all open numbers are finished. The master has not gathered those that it offered.
     pub fn gathered(&self, master: &mut Master<J, R, W>) -> Gather<R>
         requires board { master.old.board ≡ self.now }
         requires offered { master.old.state.known < master.old.state.opened }
@@ -194,7 +201,8 @@ impl<J: Kept<W> + Drop, R: Kept<W> + Drop, W> Board<J, R, W> {
         Gather::All(results_in(found))
     }
 
-    /// Closes the board: a worker whose ticket is not open is told so.
+    /// Closes the board: a worker whose ticket is not open is told so from then on. The master has gathered all that
+    /// it offered.
     pub fn close(&self, master: &mut Master<J, R, W>)
         requires board { master.old.board ≡ self.now }
         requires gathered { master.old.state.known ≡ master.old.state.opened }
@@ -205,7 +213,7 @@ impl<J: Kept<W> + Drop, R: Kept<W> + Drop, W> Board<J, R, W> {
         self.table.shared.wake_all(steps::OPEN);
     }
 
-    /// Looks until the ticket is open or the board is closed, and sleeps between.
+    /// Looks until the ticket is open or the board is closed, and sleeps between: the answer is never `NotYet`.
     pub fn await_open<H: Wait>(&self, rt: &H, seat: &mut Seat<J, R, W>, ticket: &Ticket) -> See
         requires board { seat.old.board ≡ self.now }
         requires own { IsUnfinished seat.old.state ticket.now }
@@ -225,7 +233,7 @@ impl<J: Kept<W> + Drop, R: Kept<W> + Drop, W> Board<J, R, W> {
         unreachable!()
     }
 
-    /// Gathers once all open numbers are finished, and sleeps until then.
+    /// Gathers once all open numbers are finished, and sleeps until then: the answer is never `Part`.
     pub fn await_all<H: Wait>(&self, rt: &H, master: &mut Master<J, R, W>) -> Gather<R>
         requires board { master.old.board ≡ self.now }
         requires offered { master.old.state.known < master.old.state.opened }

@@ -39,7 +39,8 @@ impl<J: Kept<W>, R: Kept<W>, W> Model for Master<J, R, W> {
     ghost invariant = { λ m. IsMaster m.place.me × (m.opened ≡ m.place.me.0.master.opened) };
 }
 
-/// A number that a seat drew. It is neither copied nor cloned.
+/// A number that a seat drew. It is neither copied nor cloned. Where it is let go and not done, its number stays
+/// unfinished, and its seat draws no more.
 #[derive(Drop)]
 pub struct Ticket {
     number: u64,
@@ -60,7 +61,7 @@ impl Ticket {
         Ticket { number }
     }
 
-    /// The number, which is the only one of its kind on the board.
+    /// The number. The lane is the number modulo 6.
     pub fn number(&self) -> u64
         ensures { result ≡ self.now }
     {

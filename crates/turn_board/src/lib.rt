@@ -15,6 +15,8 @@ mod opening;
 mod rule;
 mod slot;
 mod steps;
+#[cfg(test)]
+mod tests;
 mod view;
 
 pub use answers::{Gather, See, Six};

@@ -1,0 +1,301 @@
+ghost use Rattle.std.specs.Prelude.{◌≡◌, ◌*◌, ◌+◌, ◌<◌, ◌≤◌, ℕ, false, IfSome};
+ghost use denote.Param.Send.{IsSync};
+ghost use Rattle.turn_board.specs.Tickets.{IsFree};
+ghost use Rattle.turn_board.specs.Answers.{IsReady};
+ghost use Rattle.turn_board.specs.Answers.{EachLane};
+
+use crate::{Board, Gather, Kept, Master, Seat, See, Six};
+use std::sync::Wait;
+use std::test::Fail;
+use std::thread;
+use std::thread::Threads;
+
+const LIMIT: u64 = 1 << 20;
+
+const WINDOWS: u64 = 1000;
+
+// A job, made for a limit where its number is below it.
+#[derive(Drop)]
+struct Piece {
+    number: u64,
+}
+
+impl Kept<u64> for Piece {
+    ghost made_for = { λ limit p. p.number < limit };
+}
+
+// Its result.
+#[derive(Drop)]
+struct Next {
+    number: u64,
+}
+
+impl Kept<u64> for Next {
+    ghost made_for = { λ limit n. n.number ≤ limit };
+}
+
+type Numbers = Board<Piece, Next, u64>;
+
+type Worker = Seat<Piece, Next, u64>;
+
+type Leader = Master<Piece, Next, u64>;
+
+fn pieces(window: u64) -> Six<Piece>
+    requires { window < WINDOWS }
+    ensures { EachLane (λ p. p.number < LIMIT) result }
+{
+    let first = 6 * window;
+    Six {
+        l0: Piece { number: first },
+        l1: Piece { number: first + 1 },
+        l2: Piece { number: first + 2 },
+        l3: Piece { number: first + 3 },
+        l4: Piece { number: first + 4 },
+        l5: Piece { number: first + 5 },
+    }
+}
+
+// Whether each lane has its own result.
+fn is_right(window: u64, results: &Six<Next>) -> bool
+    requires { window < WINDOWS }
+{
+    let first = 6 * window;
+    results.l0.number == first + 1
+        && results.l1.number == first + 2
+        && results.l2.number == first + 3
+        && results.l3.number == first + 4
+        && results.l4.number == first + 5
+        && results.l5.number == first + 6
+}
+
+// Serves tickets until the board is closed, and says how many.
+fn serve<H: Wait>(rt: &H, board: &Numbers, mut seat: Worker) -> u64
+    requires { IsReady board.now LIMIT seat }
+{
+    let mut served: u64 = 0;
+    for _ in rt.forever() {
+        let ticket = board.draw(&mut seat);
+        match board.await_open(rt, &mut seat, &ticket) {
+            See::Open => {}
+            See::NotYet(_) => return served,
+            See::Closed => return served,
+        }
+        let piece = board.take(&mut seat, &ticket);
+        let next = Next {
+            number: piece.number + 1,
+        };
+        board.put(&mut seat, &ticket, next);
+        board.done(&mut seat, ticket);
+        served = served.wrapping_add(1);
+    }
+    unreachable!()
+}
+
+// Passes all windows, closes the board, and says in how many windows each lane had its result.
+fn lead<H: Wait>(rt: &H, board: &Numbers, mut master: Leader) -> u64
+    requires board { (master.board ≡ board.now) × (master.made_for ≡ LIMIT) }
+    requires new { (master.state.opened ≡ 0) × (master.state.known ≡ 0) × (master.state.closed ≡ false) }
+{
+    let mut right: u64 = 0;
+    for window in 0..WINDOWS {
+        board.offer(&mut master, pieces(window));
+        if let Gather::All(results) = board.await_all(rt, &mut master) {
+            if is_right(window, &results) {
+                right = right.wrapping_add(1);
+            }
+        }
+    }
+    board.close(&mut master);
+    right
+}
+
+// Draws the next number and does it, where it is open.
+fn serve_one(board: &Numbers, seat: &mut Worker) -> Option<u64>
+    requires { IsReady board.now LIMIT seat.old }
+    ensures board { (seat.new.board ≡ seat.old.board) × (seat.new.made_for ≡ seat.old.made_for) }
+    ensures free { IfSome result (λ _. IsFree seat.new.state) }
+{
+    let ticket = board.draw(seat);
+    match board.look(seat, &ticket) {
+        See::Open => {}
+        See::NotYet(_) => return None,
+        See::Closed => return None,
+    }
+    let number = ticket.number();
+    let piece = board.take(seat, &ticket);
+    board.put(seat, &ticket, Next { number: 0 });
+    let next = Next {
+        number: piece.number + 1,
+    };
+    board.put(seat, &ticket, next);
+    board.done(seat, ticket);
+    Some(number)
+}
+
+// Passes all windows in one thread, and says in how many windows each lane had its number and its result.
+fn alone(board: &Numbers, mut master: Leader, mut seat: Worker) -> u64
+    requires master { (master.board ≡ board.now) × (master.made_for ≡ LIMIT) × (master.state.opened ≡ 0) × (master.state.known ≡ 0) × (master.state.closed ≡ false) }
+    requires seat { IsReady board.now LIMIT seat }
+{
+    let mut right: u64 = 0;
+    for window in 0..WINDOWS {
+        board.offer(&mut master, pieces(window));
+        for lane in 0..6 {
+            match serve_one(board, &mut seat) {
+                Some(number) => {
+                    if number != 6 * window + lane {
+                        return right;
+                    }
+                }
+                None => return right,
+            }
+        }
+        match board.gathered(&mut master) {
+            Gather::All(results) => {
+                if is_right(window, &results) {
+                    right = right.wrapping_add(1);
+                }
+            }
+            Gather::Part(_) => return right,
+        }
+    }
+    right
+}
+
+#[test]
+fn one_thread_passes_many_windows(rt: HostRuntime) -> Result<(), Fail> {
+    let (board, master, mut seats) = Numbers::new(rt.alloc(), LIMIT, 1)?;
+    let Some(seat) = seats.pop() else {
+        panic!(rt; "no seat")
+    };
+    assert!(rt; alone(&board, master, seat) == WINDOWS);
+    Ok(())
+}
+
+// Two seats serve in two threads. Says how many tickets both have served.
+fn serve_two<H: Threads + Wait + Sync>(
+    rt: &H,
+    board: &Numbers,
+    first: Worker,
+    second: Worker,
+) -> u64
+    requires first { IsReady board.now LIMIT first }
+    requires second { IsReady board.now LIMIT second }
+{
+    let (a, b) = thread::join(
+        rt,
+        move || -> u64
+            requires { IsSync H.row × IsReady board.now LIMIT first }
+        { serve(rt, board, first) },
+        move || -> u64
+            requires { IsSync H.row × IsReady board.now LIMIT second }
+        { serve(rt, board, second) },
+    );
+    a.wrapping_add(b)
+}
+
+#[test]
+fn three_threads_pass_many_windows(rt: HostRuntime) -> Result<(), Fail> {
+    let (board, master, mut seats) = Numbers::new(rt.alloc(), LIMIT, 3)?;
+    let (Some(first), Some(second), Some(third)) = (seats.pop(), seats.pop(), seats.pop()) else {
+        panic!(rt; "no seat")
+    };
+    let (rt, board) = (&rt, &board);
+    let (right, (a, b)) = thread::join(
+        rt,
+        move || lead(rt, board, master),
+        move || -> (u64, u64)
+            requires { IsReady board.now LIMIT first × IsReady board.now LIMIT second × IsReady board.now LIMIT third }
+        {
+            thread::join(
+                rt,
+                move || -> u64
+                    requires { IsReady board.now LIMIT first }
+                { serve(rt, board, first) },
+                move || -> u64
+                    requires { IsReady board.now LIMIT second × IsReady board.now LIMIT third }
+                { serve_two(rt, board, second, third) },
+            )
+        },
+    );
+    assert!(rt; right == WINDOWS && a.wrapping_add(b) == 6 * WINDOWS);
+    Ok(())
+}
+
+#[test]
+fn a_close_ends_the_wait(rt: HostRuntime) -> Result<(), Fail> {
+    let (board, mut master, mut seats) = Numbers::new(rt.alloc(), LIMIT, 2)?;
+    let (Some(first), Some(second)) = (seats.pop(), seats.pop()) else {
+        panic!(rt; "no seat")
+    };
+    let (rt, board) = (&rt, &board);
+    let ((), served) = thread::join(
+        rt,
+        || board.close(&mut master),
+        move || -> u64
+            requires { IsReady board.now LIMIT first × IsReady board.now LIMIT second }
+        { serve_two(rt, board, first, second) },
+    );
+    assert!(rt; served == 0);
+    Ok(())
+}
+
+// What values are made for, where they are lent.
+#[derive(Drop)]
+struct Bound {
+    top: u64,
+}
+
+// A value that was made for a bound that was lent.
+#[derive(Drop)]
+struct Lent {
+    number: u64,
+}
+
+impl<'a> Kept<&'a Bound> for Lent {
+    ghost made_for = { λ bound p. p.number < bound.now.top };
+}
+
+// One worker passes a job on, within what it was made for.
+fn pass_on<'a>(
+    board: &Board<Lent, Lent, &'a Bound>,
+    seat: &mut Seat<Lent, Lent, &'a Bound>,
+) -> Option<u64>
+    requires board { seat.old.board ≡ board.now }
+    requires free { IsFree seat.old.state }
+    ensures { IfSome result (λ n. n < seat.old.made_for.now.top) }
+{
+    let ticket = board.draw(seat);
+    match board.look(seat, &ticket) {
+        See::Open => {}
+        See::NotYet(_) => return None,
+        See::Closed => return None,
+    }
+    let piece = board.take(seat, &ticket);
+    let number = piece.number;
+    board.put(seat, &ticket, piece);
+    board.done(seat, ticket);
+    Some(number)
+}
+
+#[test]
+fn values_are_made_for_what_was_lent(rt: HostRuntime) -> Result<(), Fail> {
+    let bound = Bound { top: 7 };
+    let (board, mut master, mut seats) = Board::<Lent, Lent, &Bound>::new(rt.alloc(), &bound, 1)?;
+    let Some(mut seat) = seats.pop() else {
+        panic!(rt; "no seat")
+    };
+    let jobs = Six {
+        l0: Lent { number: 5 },
+        l1: Lent { number: 1 },
+        l2: Lent { number: 2 },
+        l3: Lent { number: 3 },
+        l4: Lent { number: 4 },
+        l5: Lent { number: 6 },
+    };
+    board.offer(&mut master, jobs);
+    assert!(rt; pass_on(&board, &mut seat) == Some(5));
+    let part = matches!(board.gathered(&mut master), Gather::Part(1));
+    assert!(rt; part);
+    Ok(())
+}
