@@ -1,0 +1,9 @@
+pub mod Outcome
+pub mod Words
+pub mod Scan
+pub mod Cursor
+pub mod Expression
+pub mod Registers
+pub mod Instruction
+pub mod Statement
+pub mod Source

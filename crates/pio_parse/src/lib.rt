@@ -1,0 +1,21 @@
+//! The source language of the programmable input/output blocks (RP2040 Datasheet, 3.3): characters,
+//! tokens and the grammar of a line.
+#![tactic(auto)]
+
+mod cursor;
+mod expression;
+mod fault;
+mod instruction;
+mod name;
+mod parser;
+mod scan;
+mod statement;
+mod syntax;
+mod token;
+mod words;
+
+pub use expression::{Expression, Operator, Term};
+pub use fault::PioFault;
+pub use name::Name;
+pub use parser::parse;
+pub use syntax::{Instruction, Line, Lines, Operation, Programs, Source, SourceProgram, Statement};
