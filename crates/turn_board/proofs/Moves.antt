@@ -5,7 +5,7 @@ use mathlib.Core.Logic.{dite}
 use native.Mathlib.Decide.{ℕ_discrete}
 use mathlib.Core.Option.{Option, none, some, some-injective, some-ne-none}
 use lib.ListN.{get_elem?}
-use Rattle.atomic_table.specs.Table.{State, Act, keeps, takes, gives, chain, Valid, carried_after, stepped, step, Allows, Splits, opening}
+use Rattle.atomic_table.specs.Table.{State, Act, keeps, takes, gives, chain, Valid, carried_after, homes_after, stepped, step, Allows, Splits, opening}
 use Rattle.atomic_table.proofs.Lists.{set_here, set_else, at_longer}
 use Rattle.turn_board.specs.Tickets.{times, SeatState, BoardState, master_of, IsUnfinished, Good, is_due, drew, saw, did, change}
 use Rattle.turn_board.specs.Slots.{MasterHolds, HoldsLane, IsOut, IsLast, IsJob, IsFound, numbered, FitsFirst, FitsSecond, Stocked}
@@ -313,6 +313,10 @@ module _ {J R W : Type 0} (job_fits : W → J → Type 0) (found_fits : W → R 
         (refl, (b, g, tt, refl, refl, tt)),
       )) s r (wide ∙ twelve) id m at leads tt
 
+  -- no slot is at home while the master holds them
+  all_out : (b : BoardState) (homes : Homes) → MasterHolds (master_of b) → Lanes b homes
+  all_out b homes m lane in_range home = absurd (home (inl m))
+
   -- the master finds all open numbers finished, and takes all slots
   gathers : (n : ℕ) (b : BoardState) → Good b → length b.seats ≤ 9 → (homes : Homes) → Lanes b homes → ¬ MasterHolds (master_of b) → b.done ≡ b.opened
       → Goes 2 (λ y. y) (polled job_fits found_fits (step n 2 0 0 none)) (shown b homes) 0 (lead b, [])
@@ -334,7 +338,7 @@ module _ {J R W : Type 0} (job_fits : W → J → Type 0) (found_fits : W → R 
           few = few;
           words = refl {a = b.ticket ∷ open_word b.opened b.closed ∷ b.done ∷ []};
           views = refl {a = lead c ∷ map (seat_view key) b.seats};
-          lanes = λ lane in_range home'. absurd (home' (inl (omega arith, full)));
+          lanes = all_out c (homes_after homes [] (grab 0 slots)) (omega arith, full);
         },
         (
           done_opened b g,

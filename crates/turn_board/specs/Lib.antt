@@ -4,5 +4,6 @@ pub mod Slots
 pub mod Rule
 pub mod Plays
 pub mod Shown
+pub mod Kinds
 pub mod Answers
 pub mod Holding

@@ -1,5 +1,8 @@
 //! The laws of the board of tickets, each the contract of a function without arguments.
 ghost use Rattle.turn_board.specs.Laws.{EventsKeepGood, AllDone, TicketsBounded, LanesDiffer, NoneHolding};
+ghost use Rattle.turn_board.specs.Kinds.{StepsKeepRule};
+
+use crate::kept::Kept;
 
 /// Each legal event keeps a good state good.
 pub fn events_keep_good()
@@ -25,4 +28,10 @@ pub fn lanes_differ()
 /// No seat is holding where the master knows that all open numbers are finished.
 pub fn none_holding()
     ensures { NoneHolding }
+{}
+
+/// Each of the seven kinds of step keeps the rule of the table: between any two steps the words and the views are a
+/// good state, and each step is the event of its name.
+pub fn steps_keep_the_rule<J: Kept<W>, R: Kept<W>, W>()
+    ensures { (key : W) → StepsKeepRule J.made_for R.made_for key }
 {}
