@@ -4,15 +4,20 @@ use Rattle.std.proofs.Common.{Vec, Global}
 use Rattle.rp_ports.specs.Shelf.{Files}
 use Rattle.uf2_image.specs.Uf2.{image_of}
 use Rattle.uf2_image.specs.declared.parts.Image.{Image as Loaded}
+use Rattle.pico_top.specs.declared.open.Started.{Started}
 use Rattle.pico_top.specs.declared.open.Opened.{Opened}
+use Rattle.pico_top.specs.declared.open.Opened.TheVariants.{Machine, Text}
+use Rattle.pio_words.specs.declared.side.SideConfig.{SideConfig}
+use Rattle.pio_disasm.specs.Text.{source_text}
 use Rattle.pico_top.specs.declared.open.Refusal.{Refusal}
 use Rattle.pico_top.specs.declared.open.Refusal.TheVariants.{Words, File, Large, Image, Memory}
-use Rattle.pico_top.specs.Words.{Run, reading}
+use Rattle.pico_top.specs.Words.{Run, Command}
+use Rattle.pico_top.specs.Words.Command.{RunImage, Disassemble}
 use Rattle.pico_top.specs.Machine.{State, start}
 use Rattle.pico_top.specs.RunText.{run_text}
 use Rattle.pico_top.specs.Refusals.{file_line, large_line}
-use Rattle.pico_top.specs.Opening.{OpensAs, LoadsAs, StartsAs}
-use Rattle.pico_top.specs.Dialogue.{dialogue, run_image}
+use Rattle.pico_top.specs.Opening.{OpensAs, LoadsAs, StartsAs, WritesAs}
+use Rattle.pico_top.specs.Dialogue.{dialogue_of, run_image}
 use Rattle.pico_top.specs.Dialogue.{Dialogue, Ending, LeadsTo, failed_by}
 use Rattle.pico_top.specs.Dialogue.Dialogue.{Say, Load}
 use Rattle.pico_top.specs.Dialogue.Gave.{Bytes, TooLong, Refused}
@@ -36,23 +41,35 @@ pub start_cycle : (image : Loaded) → (start image).cycle ≡ 0
 unfolding start
 start_cycle image = refl
 
--- the words are read, and the load is refused
-pub after_refused : (files : Option Files) (failed failed' : List (List ℕ)) (words : List (List ℕ)) (run : Run) (refusal : Refusal) → reading words ≡ Some run → LoadsAs files failed failed' run.image (Err refusal) → LeadsTo files (OpensAs (Err refusal)) failed failed' (dialogue words)
-after_refused files failed failed' words run (File lost) e h = rw e (inl (Refused, tt, (h.1, (refl, ap file_line (sym h.0)))))
-after_refused files failed failed' words run (Large lost long) e h = rw e (inl (TooLong long, h.1, (h.2, (refl, ap (λ n. large_line n long) (sym h.0)))))
-after_refused files failed failed' words run Memory e h = rw e (elim h [ inl same ↦ inr (same, tt) | inr more ↦ inl (Refused, tt, (more, tt)) ])
-after_refused files failed failed' words run Words e h = absurd h
-after_refused files failed failed' words run (Image fault) e h = absurd h
+-- the load of a run is refused
+pub after_refused : (files : Option Files) (failed failed' : List (List ℕ)) (run : Run) (refusal : Refusal) → LoadsAs files failed failed' run.image (Err refusal) → LeadsTo files (OpensAs (Err refusal)) failed failed' (dialogue_of (Some (RunImage run)))
+after_refused files failed failed' run (File lost) h = inl (Refused, tt, (h.1, (refl, ap file_line (sym h.0))))
+after_refused files failed failed' run (Large lost long) h = inl (TooLong long, h.1, (h.2, (refl, ap (λ n. large_line n long) (sym h.0))))
+after_refused files failed failed' run Memory h = elim h [ inl same ↦ inr (same, tt) | inr more ↦ inl (Refused, tt, (more, tt)) ]
+after_refused files failed failed' run Words h = absurd h
+after_refused files failed failed' run (Image fault) h = absurd h
 
--- the words are read, and the file's bytes are an image or not
-pub after_loaded : (files : Option Files) (failed failed' : List (List ℕ)) (words : List (List ℕ)) (run : Run) (bytes : Vec ℕ Global) (result : Result Opened Refusal) → reading words ≡ Some run → LoadsAs files failed failed' run.image (Ok bytes) → StartsAs bytes.items run.cycles result → LeadsTo files (OpensAs result) failed failed' (dialogue words)
-after_loaded files failed failed' words run bytes (Ok opened) e h s =
-    let at_start : opened.machine.cycle ≡ 0 = ap (λ (m : State). m.cycle) s.2 ∙ start_cycle s.0 in
-    let text : run_text run.cycles (start s.0) ≡ run_text opened.limit opened.machine = ap (λ c. run_text c (start s.0)) (sym s.3) ∙ ap (λ m. run_text opened.limit m) (sym s.2) in
-    rw e (inl (Bytes bytes.items, h.0, rw s.1 (h.1, (refl, text, omega (arith, at_start)))))
-after_loaded files failed failed' words run bytes (Err (Image fault)) e h s = rw e (inl (Bytes bytes.items, h.0, rw s (h.1, (refl, refl))))
-after_loaded files failed failed' words run bytes (Err Memory) e h s =
-    rw e (inl (Bytes bytes.items, h.0, anywhere files (OpensAs (Err Memory)) failed failed' (run_image run.cycles (image_of bytes.items)) h.1 (λ e. tt)))
-after_loaded files failed failed' words run bytes (Err Words) e h s = absurd s
-after_loaded files failed failed' words run bytes (Err (File name)) e h s = absurd s
-after_loaded files failed failed' words run bytes (Err (Large name long)) e h s = absurd s
+-- the file's bytes are an image
+pub after_started : (files : Option Files) (failed failed' : List (List ℕ)) (run : Run) (bytes : Vec ℕ Global) (started : Started) → LoadsAs files failed failed' run.image (Ok bytes) → StartsAs bytes.items run.cycles (Ok started) → LeadsTo files (OpensAs (Ok (Machine started))) failed failed' (dialogue_of (Some (RunImage run)))
+after_started files failed failed' run bytes started h s =
+    let at_start : started.machine.cycle ≡ 0 = ap (λ (m : State). m.cycle) s.2 ∙ start_cycle s.0 in
+    let text : run_text run.cycles (start s.0) ≡ run_text started.limit started.machine = ap (λ c. run_text c (start s.0)) (sym s.3) ∙ ap (λ m. run_text started.limit m) (sym s.2) in
+    inl (Bytes bytes.items, h.0, rw s.1 (h.1, (refl, text, omega (arith, at_start))))
+
+-- the file's bytes are no image, or memory ran out
+pub after_fault : (files : Option Files) (failed failed' : List (List ℕ)) (run : Run) (bytes : Vec ℕ Global) (refusal : Refusal) → LoadsAs files failed failed' run.image (Ok bytes) → StartsAs bytes.items run.cycles (Err refusal) → LeadsTo files (OpensAs (Err refusal)) failed failed' (dialogue_of (Some (RunImage run)))
+after_fault files failed failed' run bytes (Image fault) h s = inl (Bytes bytes.items, h.0, rw s (h.1, (refl, refl)))
+after_fault files failed failed' run bytes Memory h s =
+    inl (Bytes bytes.items, h.0, anywhere files (OpensAs (Err Memory)) failed failed' (run_image run.cycles (image_of bytes.items)) h.1 (λ e. tt))
+after_fault files failed failed' run bytes Words h s = absurd s
+after_fault files failed failed' run bytes (File name) h s = absurd s
+after_fault files failed failed' run bytes (Large name long) h s = absurd s
+
+-- the source text of instruction words is said
+pub after_text : (files : Option Files) (failed : List (List ℕ)) (words : List ℕ) (side : SideConfig) (result : Result Opened Refusal) → WritesAs (source_text side words) result → LeadsTo files (OpensAs result) failed failed (dialogue_of (Some (Disassemble words side)))
+after_text files failed words side (Ok opened) h = (refl, (refl, sym h.0, h.1))
+after_text files failed words side (Err Memory) h = (refl, tt)
+after_text files failed words side (Err Words) h = absurd h
+after_text files failed words side (Err (File name)) h = absurd h
+after_text files failed words side (Err (Large name long)) h = absurd h
+after_text files failed words side (Err (Image fault)) h = absurd h

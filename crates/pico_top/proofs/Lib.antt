@@ -1,5 +1,6 @@
 pub mod Causing
 pub mod Leading
+pub mod OptionSteps
 pub mod Origins
 pub mod Placing
 pub mod Refusing

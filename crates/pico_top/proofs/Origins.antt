@@ -4,7 +4,10 @@ use Rattle.rp_ports.specs.Shelf.{Files}
 use Rattle.uf2_image.specs.Uf2.{image_of}
 use Rattle.uf2_image.specs.declared.parts.Image.{Image}
 use Rattle.uf2_image.specs.declared.fault.ImageFault.{ImageFault}
-use Rattle.pico_top.specs.Words.{Run, reading}
+use Rattle.pico_top.specs.Words.{Run, Command, reading}
+use Rattle.pico_top.specs.Words.Command.{RunImage, Disassemble}
+use Rattle.pio_words.specs.declared.side.SideConfig.{SideConfig}
+use Rattle.pio_disasm.specs.Text.{source_text}
 use Rattle.pico_top.specs.Machine.{start}
 use Rattle.pico_top.specs.RunText.{run_text}
 use Rattle.pico_top.specs.Refusals.{words_line, file_line, large_line, image_line}
@@ -15,26 +18,28 @@ use Rattle.pico_top.specs.Dialogue.Ending.{Said}
 use Rattle.pico_top.specs.Causes.{LoadFailed, IsStatus}
 
 -- the ways in which a call of the program goes
-pub data Origin (files : Option Files) (failed failed' : List (List ℕ)) (call : Call) (asked : Option Run) : Type 0 where
+pub data Origin (files : Option Files) (failed failed' : List (List ℕ)) (call : Call) (asked : Option Command) : Type 0 where
   NoRun : (refused : asked ≡ None) → (same : failed' ≡ failed) → (ends : Ends call (Said 2 words_line)) → Origin files failed failed' call asked
-  Failing : (run : Run) → (read : asked ≡ Some run) → (lost : LoadFailed failed failed' run.image) → (ends : Ends call (Said 3 (file_line run.image))) → Origin files failed failed' call asked
-  Large : (run : Run) → (read : asked ≡ Some run) → (long : ℕ) → (gave : MayGive files run.image image_limit (TooLong long)) → (same : failed' ≡ failed) → (ends : Ends call (Said 3 (large_line run.image long))) → Origin files failed failed' call asked
-  Faulty : (run : Run) → (read : asked ≡ Some run) → (bytes : List ℕ) → (gave : MayGive files run.image image_limit (Bytes bytes)) → (fault : ImageFault) → (is : image_of bytes ≡ Err fault) → (same : failed' ≡ failed) → (ends : Ends call (Said 4 (image_line fault))) → Origin files failed failed' call asked
-  Ran : (run : Run) → (read : asked ≡ Some run) → (bytes : List ℕ) → (gave : MayGive files run.image image_limit (Bytes bytes)) → (image : Image) → (is : image_of bytes ≡ Ok image) → (same : failed' ≡ failed) → (ends : Ends call (Said 0 (run_text run.cycles (start image)))) → Origin files failed failed' call asked
-  Empty : (run : Run) → (read : asked ≡ Some run) → (same : failed' ≡ failed) → (out : RanOut call) → Origin files failed failed' call asked
+  Failing : (run : Run) → (read : asked ≡ Some (RunImage run)) → (lost : LoadFailed failed failed' run.image) → (ends : Ends call (Said 3 (file_line run.image))) → Origin files failed failed' call asked
+  Large : (run : Run) → (read : asked ≡ Some (RunImage run)) → (long : ℕ) → (gave : MayGive files run.image image_limit (TooLong long)) → (same : failed' ≡ failed) → (ends : Ends call (Said 3 (large_line run.image long))) → Origin files failed failed' call asked
+  Faulty : (run : Run) → (read : asked ≡ Some (RunImage run)) → (bytes : List ℕ) → (gave : MayGive files run.image image_limit (Bytes bytes)) → (fault : ImageFault) → (is : image_of bytes ≡ Err fault) → (same : failed' ≡ failed) → (ends : Ends call (Said 4 (image_line fault))) → Origin files failed failed' call asked
+  Ran : (run : Run) → (read : asked ≡ Some (RunImage run)) → (bytes : List ℕ) → (gave : MayGive files run.image image_limit (Bytes bytes)) → (image : Image) → (is : image_of bytes ≡ Ok image) → (same : failed' ≡ failed) → (ends : Ends call (Said 0 (run_text run.cycles (start image)))) → Origin files failed failed' call asked
+  Listed : (words : List ℕ) → (side : SideConfig) → (read : asked ≡ Some (Disassemble words side)) → (same : failed' ≡ failed) → (ends : Ends call (Said 0 (source_text side words))) → Origin files failed failed' call asked
+  Empty : (run : Run) → (read : asked ≡ Some (RunImage run)) → (same : failed' ≡ failed) → (out : RanOut call) → Origin files failed failed' call asked
 
-of_image : (files : Option Files) (failed failed' : List (List ℕ)) (call : Call) (run : Run) (bytes : List ℕ) → MayGive files run.image image_limit (Bytes bytes) → (r : Result Image ImageFault) → image_of bytes ≡ r → LeadsTo files (Ends call) failed failed' (run_image run.cycles r) → Origin files failed failed' call (Some run)
+of_image : (files : Option Files) (failed failed' : List (List ℕ)) (call : Call) (run : Run) (bytes : List ℕ) → MayGive files run.image image_limit (Bytes bytes) → (r : Result Image ImageFault) → image_of bytes ≡ r → LeadsTo files (Ends call) failed failed' (run_image run.cycles r) → Origin files failed failed' call (Some (RunImage run))
 of_image files failed failed' call run bytes gave (Ok image) e h = Ran run refl bytes gave image e h.0 h.1
 of_image files failed failed' call run bytes gave (Err fault) e h = Faulty run refl bytes gave fault e h.0 h.1
 
-of_gave : (files : Option Files) (failed failed' : List (List ℕ)) (call : Call) (run : Run) (gave : Gave) → MayGive files run.image image_limit gave → LeadsTo files (Ends call) (failed_by failed run.image gave) failed' (with_file run gave) → Origin files failed failed' call (Some run)
+of_gave : (files : Option Files) (failed failed' : List (List ℕ)) (call : Call) (run : Run) (gave : Gave) → MayGive files run.image image_limit gave → LeadsTo files (Ends call) (failed_by failed run.image gave) failed' (with_file run gave) → Origin files failed failed' call (Some (RunImage run))
 of_gave files failed failed' call run (Bytes bytes) may h = of_image files failed failed' call run bytes may (image_of bytes) refl h
 of_gave files failed failed' call run (TooLong long) may h = Large run refl long may h.0 h.1
 of_gave files failed failed' call run Refused may h = Failing run refl h.0 h.1
 
-of_asked : (files : Option Files) (failed failed' : List (List ℕ)) (call : Call) (asked : Option Run) → LeadsTo files (Ends call) failed failed' (dialogue_of asked) → Origin files failed failed' call asked
+of_asked : (files : Option Files) (failed failed' : List (List ℕ)) (call : Call) (asked : Option Command) → LeadsTo files (Ends call) failed failed' (dialogue_of asked) → Origin files failed failed' call asked
 of_asked files failed failed' call None h = NoRun refl h.0 h.1
-of_asked files failed failed' call (Some run) h = elim h [
+of_asked files failed failed' call (Some (Disassemble words side)) h = Listed words side refl h.0 h.1
+of_asked files failed failed' call (Some (RunImage run)) h = elim h [
   | inl w ↦ of_gave files failed failed' call run w.0 w.1 w.2
   | inr w ↦ Empty run refl w.0 w.1
 ]

@@ -4,9 +4,8 @@ use Rattle.pico_top.specs.declared.open.Refusal.{Refusal}
 use Rattle.pico_top.specs.Answer.{Call, Says, Ends}
 use Rattle.pico_top.specs.Dialogue.{Ending}
 use Rattle.pico_top.specs.Dialogue.Ending.{Said, NoMemory}
-use Rattle.pico_top.specs.Opening.{Refuses, refusal_text, RefusedAs, RunsAs}
+use Rattle.pico_top.specs.Opening.{Refuses, refusal_text, RefusedAs, RunsAs, opened_text}
 use Rattle.pico_top.specs.declared.open.Opened.{Opened}
-use Rattle.pico_top.specs.RunText.{run_text}
 
 -- a line that is the refusal's was written
 pub refuses_by : (call : Call) (refusal : Refusal) (status : ℕ) (t u : List ℕ) → refusal_text refusal ≡ Some (status, u) → t ≡ u → Says call status t → Refuses call (refusal_text refusal)
@@ -23,6 +22,6 @@ refusal_ends call (Some line) (Said status text) r h = elim r [
 refusal_ends call (Some line) NoMemory r h = absurd h
 
 -- a run ends the dialogue that it comes from
-pub run_ends : (call : Call) (opened : Opened) (e : Ending) → Says call 0 (run_text opened.limit opened.machine) → RunsAs opened e → Ends call e
-run_ends call opened (Said status text) says h = inl (subst (λ x. Says call status x) (sym h.1) (subst (λ s. Says call s (run_text opened.limit opened.machine)) (sym h.0) says))
+pub run_ends : (call : Call) (opened : Opened) (e : Ending) → Says call 0 (opened_text opened) → RunsAs opened e → Ends call e
+run_ends call opened (Said status text) says h = inl (subst (λ x. Says call status x) (sym h.1) (subst (λ s. Says call s (opened_text opened)) (sym h.0) says))
 run_ends call opened NoMemory says h = absurd h

@@ -4,13 +4,14 @@ use Rattle.rp_ports.specs.Shelf.{Files}
 use Rattle.uf2_image.specs.Uf2.{image_of}
 use Rattle.uf2_image.specs.declared.parts.Image.{Image}
 use Rattle.uf2_image.specs.declared.fault.ImageFault.{ImageFault}
-use Rattle.pico_top.specs.Words.{Run}
+use Rattle.pico_top.specs.Words.{Run, Command}
+use Rattle.pico_top.specs.Words.Command.{RunImage}
 use Rattle.pico_top.specs.Dialogue.{MayGive, image_limit}
 use Rattle.pico_top.specs.Dialogue.Gave.{Bytes, TooLong}
 
 -- a run is asked for, and P holds of it
-abbrev pub AsksFor : Option Run → (Run → Type 0) → Type 0
-AsksFor asked P = (run : Run) × (asked ≡ Some run) × P run
+abbrev pub AsksFor : Option Command → (Run → Type 0) → Type 0
+AsksFor asked P = (run : Run) × (asked ≡ Some (RunImage run)) × P run
 
 -- the load of this name failed: the name joined the failed ones
 abbrev pub LoadFailed : List (List ℕ) → List (List ℕ) → List ℕ → Type 0
@@ -39,13 +40,13 @@ Holds None name bytes = ⊥
 Holds (Some files) name bytes = files name ≡ Some bytes
 
 -- this run is asked for, the shelf tells that it holds these bytes for its image, and no load failed
-pub record Held (files : Option Files) (failed failed' : List (List ℕ)) (asked : Option Run) (run : Run) (held : List ℕ) : Type 0 where
-  pub read : asked ≡ Some run
+pub record Held (files : Option Files) (failed failed' : List (List ℕ)) (asked : Option Command) (run : Run) (held : List ℕ) : Type 0 where
+  pub read : asked ≡ Some (RunImage run)
   pub told : Holds files run.image held
   pub same : failed' ≡ failed
 
 -- what the file that the shelf holds leads to: too large, a fault of its image, or a run
-pub record Comes (files : Option Files) (failed failed' : List (List ℕ)) (asked : Option Run) (status : ℕ) : Type 0 where
+pub record Comes (files : Option Files) (failed failed' : List (List ℕ)) (asked : Option Command) (status : ℕ) : Type 0 where
   pub large : (run : Run) (held : List ℕ) → Held files failed failed' asked run held → image_limit < length held → IsStatus status 3
   pub fault : (run : Run) (held : List ℕ) (fault : ImageFault) → Held files failed failed' asked run held → length held ≤ image_limit → image_of held ≡ Err fault → IsStatus status 4
   pub runs : (run : Run) (held : List ℕ) (image : Image) → Held files failed failed' asked run held → length held ≤ image_limit → image_of held ≡ Ok image → IsStatus status 0

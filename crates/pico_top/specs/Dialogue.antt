@@ -4,7 +4,9 @@ use Rattle.rp_ports.specs.Shelf.{Files}
 use Rattle.uf2_image.specs.Uf2.{image_of}
 use Rattle.uf2_image.specs.declared.parts.Image.{Image}
 use Rattle.uf2_image.specs.declared.fault.ImageFault.{ImageFault}
-use Rattle.pico_top.specs.Words.{Run, reading}
+use Rattle.pico_top.specs.Words.{Run, Command, reading}
+use Rattle.pico_top.specs.Words.Command.{RunImage, Disassemble}
+use Rattle.pio_disasm.specs.Text.{source_text}
 use Rattle.pico_top.specs.Machine.{start}
 use Rattle.pico_top.specs.RunText.{run_text}
 use Rattle.pico_top.specs.Refusals.{words_line, file_line, large_line, image_line}
@@ -36,9 +38,11 @@ with_file run Refused = Say 3 (file_line run.image)
 with_file run (TooLong long) = Say 3 (large_line run.image long)
 with_file run (Bytes bytes) = run_image run.cycles (image_of bytes)
 
-abbrev pub dialogue_of : Option Run → Dialogue
+-- a run loads its image; the source text of instruction words needs no file
+abbrev pub dialogue_of : Option Command → Dialogue
 dialogue_of None = Say 2 words_line
-dialogue_of (Some run) = Load run.image image_limit (with_file run)
+dialogue_of (Some (RunImage run)) = Load run.image image_limit (with_file run)
+dialogue_of (Some (Disassemble words side)) = Say 0 (source_text side words)
 
 -- what is to be done for the words
 abbrev pub dialogue : List (List ℕ) → Dialogue

@@ -1,7 +1,9 @@
 pub mod Answer
 pub mod Causes
 pub mod Dialogue
+pub mod Dis
 pub mod Machine
+pub mod Numbers
 pub mod Opening
 pub mod Read
 pub mod Refusals

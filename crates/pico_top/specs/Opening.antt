@@ -5,7 +5,9 @@ use Rattle.std.specs.String.{string_bytes}
 use Rattle.rp_ports.specs.Shelf.{Files}
 use Rattle.uf2_image.specs.Uf2.{image_of}
 use Rattle.uf2_image.specs.declared.parts.Image.{Image as Loaded}
+use Rattle.pico_top.specs.declared.open.Started.{Started}
 use Rattle.pico_top.specs.declared.open.Opened.{Opened}
+use Rattle.pico_top.specs.declared.open.Opened.TheVariants.{Machine, Text}
 use Rattle.pico_top.specs.declared.open.Refusal.{Refusal}
 use Rattle.pico_top.specs.declared.open.Refusal.TheVariants.{Words, File, Large, Image, Memory}
 use Rattle.pico_top.specs.Answer.{Call, Says, RanOut}
@@ -30,9 +32,19 @@ RefusedAs None ending = Unit {0}
 RefusedAs (Some line) (Said status text) = (status ≡ line.0) × (text ≡ line.1)
 RefusedAs (Some line) NoMemory = ⊥
 
--- the ending says the text of the machine's run
+-- the text of what was opened
+abbrev pub opened_text : Opened → List ℕ
+opened_text (Machine started) = run_text started.limit started.machine
+opened_text (Text text) = text.items
+
+-- a machine has not passed its limit
+abbrev pub IsReady : Opened → Type 0
+IsReady (Machine started) = started.machine.cycle ≤ started.limit
+IsReady (Text text) = Unit {0}
+
+-- the ending says the text of what was opened
 abbrev pub RunsAs : Opened → Ending → Type 0
-RunsAs opened (Said status text) = (status ≡ 0) × (text ≡ run_text opened.limit opened.machine) × (opened.machine.cycle ≤ opened.limit)
+RunsAs opened (Said status text) = (status ≡ 0) × (text ≡ opened_text opened) × IsReady opened
 RunsAs opened NoMemory = ⊥
 
 abbrev pub OpensAs : Result Opened Refusal → Ending → Type 0
@@ -50,9 +62,9 @@ LoadsAs files failed failed' name (Err Words) = ⊥
 LoadsAs files failed failed' name (Err (Image fault)) = ⊥
 
 -- the bytes are those of an image, whose first state the machine is in, or have this fault
-abbrev pub StartsAs : List ℕ → ℕ → Result Opened Refusal → Type 0
-StartsAs bytes limit (Ok opened) =
-    (image : Loaded) × (image_of bytes ≡ Ok image) × (opened.machine ≡ start image) × (opened.limit ≡ limit)
+abbrev pub StartsAs : List ℕ → ℕ → Result Started Refusal → Type 0
+StartsAs bytes limit (Ok started) =
+    (image : Loaded) × (image_of bytes ≡ Ok image) × (started.machine ≡ start image) × (started.limit ≡ limit)
 StartsAs bytes limit (Err (Image fault)) = image_of bytes ≡ Err fault
 StartsAs bytes limit (Err Memory) = Unit {0}
 StartsAs bytes limit (Err Words) = ⊥
@@ -63,3 +75,12 @@ StartsAs bytes limit (Err (Large name long)) = ⊥
 abbrev pub Refuses : Call → Option (ℕ × List ℕ) → Type 0
 Refuses call None = RanOut call
 Refuses call (Some line) = Says call line.0 line.1 ⊎ RanOut call
+
+-- the text was made, or memory ran out
+abbrev pub WritesAs : List ℕ → Result Opened Refusal → Type 0
+WritesAs text (Ok opened) = (opened_text opened ≡ text) × IsReady opened
+WritesAs text (Err Memory) = Unit {0}
+WritesAs text (Err Words) = ⊥
+WritesAs text (Err (File name)) = ⊥
+WritesAs text (Err (Large name long)) = ⊥
+WritesAs text (Err (Image fault)) = ⊥

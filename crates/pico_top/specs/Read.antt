@@ -1,17 +1,31 @@
 -- What a reader of the words answers.
 use Rattle.std.specs.Prelude.{◌≡◌, Option, Some, None, Result, Ok, Err}
 use Rattle.std.specs.String.{string_bytes}
+use Rattle.pico_top.specs.declared.words.RunWords.{RunWords}
+use Rattle.pico_top.specs.declared.dis.DisWords.{DisWords}
 use Rattle.pico_top.specs.declared.words.Reading.{Reading}
+use Rattle.pico_top.specs.declared.words.Reading.TheVariants as readings
 use Rattle.pico_top.specs.declared.words.WordsFault.{WordsFault}
 use Rattle.pico_top.specs.declared.words.WordsFault.TheVariants.{Words, Memory}
-use Rattle.pico_top.specs.Words.{Run}
+use Rattle.pico_top.specs.Words.{Run, Command}
+use Rattle.pico_top.specs.Words.Command.{RunImage, Disassemble}
 
--- the run that a reading stands for
-abbrev pub run_in : Reading → Run
+-- the run that the words of one stand for
+abbrev pub run_in : RunWords → Run
 run_in r = record { image = string_bytes r.image; cycles = r.cycles }
 
--- the answer is the reading, or Words where there is none; Memory says nothing
-abbrev pub ReadsAs : Option Run → Result Reading WordsFault → Type 0
-ReadsAs run (Ok r) = run ≡ Some (run_in r)
-ReadsAs run (Err Words) = run ≡ None
-ReadsAs run (Err Memory) = Unit {0}
+-- the command that a reading stands for
+abbrev pub command_in : Reading → Command
+command_in (readings.Run r) = RunImage (run_in r)
+command_in (readings.Dis d) = Disassemble d.words.items d.side
+
+-- the answer is what was asked for, or Words where that is none; Memory says nothing
+abbrev pub ReadsRun : Option Run → Result RunWords WordsFault → Type 0
+ReadsRun run (Ok r) = run ≡ Some (run_in r)
+ReadsRun run (Err Words) = run ≡ None
+ReadsRun run (Err Memory) = Unit {0}
+
+abbrev pub ReadsAs : Option Command → Result Reading WordsFault → Type 0
+ReadsAs command (Ok r) = command ≡ Some (command_in r)
+ReadsAs command (Err Words) = command ≡ None
+ReadsAs command (Err Memory) = Unit {0}

@@ -1,33 +1,15 @@
--- The words of a command line, and what they ask for: `run <image> --cycles N`.
-use Rattle.std.specs.Prelude.{ℕ, ◌+◌, ◌-◌, ◌*◌, nat_le, ◌==◌, Bool, false, not, ◌&&◌, ◌||◌, if◌then◌else◌, List, [], ◌∷◌, length, Option, Some, None, codes}
+-- The words of a command line, and what they ask for: `run <image> --cycles N` or `dis <hex> [--side S] [--opt T]`.
+use Rattle.std.specs.Prelude.{ℕ, Bool, not, ◌&&◌, if◌then◌else◌, List, [], ◌∷◌, Option, Some, None, codes}
 use Rattle.std.specs.Option.{option_map, option_and_then}
-use Rattle.std.specs.Char.{is_ascii_digit}
 use Rattle.std.specs.Str.{bytes_eq}
+use Rattle.pio_words.specs.declared.side.SideConfig.{SideConfig}
+use Rattle.pico_top.specs.Numbers.{begins_with, number_of, within}
+use Rattle.pico_top.specs.Dis.{words_of, side_of}
 
 -- a run: the image's name, and how many cycles it may have
 pub record Run : Type 0 where
   pub image : List ℕ
   pub cycles : ℕ
-
--- the number of decimal digits, where those before them stand for n
-abbrev pub digits_from : ℕ → List ℕ → Option ℕ
-digits_from n [] = Some n
-digits_from n (d ∷ ds) = if is_ascii_digit d then digits_from (10 * n + (d - 48)) ds else None
-
--- a word that begins with this byte
-abbrev pub begins_with : ℕ → List ℕ → Bool
-begins_with byte [] = false
-begins_with byte (x ∷ xs) = x == byte
-
--- a number of 1 to 10 decimal digits, and no 0 before other digits
-abbrev pub number_of : List ℕ → Option ℕ
-number_of word =
-    if nat_le 1 (length word) && nat_le (length word) 10 && (not (begins_with 48 word) || length word == 1)
-    then digits_from 0 word else None
-
--- what is kept where it lies in a range
-abbrev pub within : ℕ → ℕ → ℕ → Option ℕ
-within low high n = if nat_le low n && nat_le n high then Some n else None
 
 -- a limit of cycles: 1 to 1,000,000,000
 abbrev pub cycles_of : List ℕ → Option ℕ
@@ -45,7 +27,28 @@ abbrev pub run_of : List ℕ → List ℕ → List ℕ → List ℕ → Option R
 run_of command image name value =
     if is_run_of command image name then option_map (run_with image) (cycles_of value) else None
 
+-- `run <image> --cycles N`
+unfoldable pub run_reading : List (List ℕ) → Option Run
+run_reading (command ∷ image ∷ name ∷ value ∷ []) = run_of command image name value
+run_reading _ = None
+
+-- what the words may ask for: a run, or the source text of instruction words
+pub data Command : Type 0 where
+  RunImage : (run : Run) → Command
+  Disassemble : (words : List ℕ) → (side : SideConfig) → Command
+
+abbrev pub disassemble : Option (List ℕ) → Option SideConfig → Option Command
+disassemble (Some words) (Some side) = Some (Disassemble words side)
+disassemble (Some words) None = None
+disassemble None side = None
+
+-- `<hex> [--side S] [--opt T]`
+unfoldable pub dis_reading : List (List ℕ) → Option Command
+dis_reading [] = None
+dis_reading (hex ∷ options) = disassemble (words_of hex) (side_of options)
+
 -- the reading of the words, or none where they are refused
-unfoldable pub reading : List (List ℕ) → Option Run
-reading (command ∷ image ∷ name ∷ value ∷ []) = run_of command image name value
-reading _ = None
+unfoldable pub reading : List (List ℕ) → Option Command
+reading [] = None
+reading (command ∷ words) =
+    if bytes_eq command (codes "dis") then dis_reading words else option_map RunImage (run_reading (command ∷ words))

@@ -1,6 +1,7 @@
 //! The top call: the words of a command line, the files and the sink that are handed in, and the text that is written.
 #![tactic(auto)]
 
+mod dis;
 pub mod machine;
 mod open;
 mod refusal;
@@ -14,15 +15,15 @@ ghost use Rattle.pico_top.specs.Answer.{Says, RanOut, Converses};
 ghost use Rattle.rp_ports.specs.Fault.{Rose};
 ghost use Rattle.pico_top.specs.Causes.{AsksFor, FileCause, HasFault, IsStatus, Comes};
 ghost use Rattle.pico_top.specs.Words.{reading};
-ghost use Rattle.pico_top.specs.Opening.{Refuses, refusal_text};
+ghost use Rattle.pico_top.specs.Opening.{Refuses, refusal_text, opened_text, IsReady};
 ghost use Rattle.pico_top.specs.RunText.{run_text};
 ghost use Rattle.pico_top.specs.Refusals.{memory_line};
 
-use open::{Opened, Refusal, open};
+use open::{Opened, Refusal, Started, open};
 use refusal::{file_fault_line, image_fault_line, large_file_line};
 use rp_ports::shelf::Shelf;
 use rp_ports::sink::Sink;
-use send::send_end;
+use send::{send_end, send_text};
 use std::alloc::Global;
 use trace_text::writer::Writer;
 
@@ -39,16 +40,39 @@ fn say<O: Sink>(status: u8, line: &[u8], writer: &mut Writer<'_, O>) -> u8
 
 /// Runs a machine and puts the lines of its end.
 #[tactic(auto, unfolding(crate::specs::RunText::run_text))]
-fn run<O: Sink>(opened: Opened, writer: &mut Writer<'_, O>) -> u8
-    requires { opened.machine.cycle ≤ opened.limit }
-    ensures says { Says record { status = result; before = O.written writer.old.out.now; after = O.written writer.new.out.now; faults_before = O.faults writer.old.out.now; faults_after = O.faults writer.new.out.now } 0 (run_text opened.limit opened.machine) }
+fn run<O: Sink>(started: Started, writer: &mut Writer<'_, O>) -> u8
+    requires { started.machine.cycle ≤ started.limit }
+    ensures says { Says record { status = result; before = O.written writer.old.out.now; after = O.written writer.new.out.now; faults_before = O.faults writer.old.out.now; faults_after = O.faults writer.new.out.now } 0 (run_text started.limit started.machine) }
     ensures same_sink { writer.new.out.ghost_name ≡ writer.old.out.ghost_name }
 {
-    let Opened { mut machine, limit } = opened;
+    let Started { mut machine, limit } = started;
     let why = machine.run(limit);
     match send_end(&why, &machine, writer) {
         Ok(()) => 0,
         Err(_) => 7,
+    }
+}
+
+/// Puts a text line by line.
+fn list<O: Sink>(text: &[u8], writer: &mut Writer<'_, O>) -> u8
+    ensures says { Says record { status = result; before = O.written writer.old.out.now; after = O.written writer.new.out.now; faults_before = O.faults writer.old.out.now; faults_after = O.faults writer.new.out.now } 0 text.now }
+    ensures same_sink { writer.new.out.ghost_name ≡ writer.old.out.ghost_name }
+{
+    match send_text(text, writer) {
+        Ok(()) => 0,
+        Err(_) => 7,
+    }
+}
+
+/// Puts the text of what was opened.
+fn tell<O: Sink>(opened: Opened, writer: &mut Writer<'_, O>) -> u8
+    requires { IsReady opened }
+    ensures says { Says record { status = result; before = O.written writer.old.out.now; after = O.written writer.new.out.now; faults_before = O.faults writer.old.out.now; faults_after = O.faults writer.new.out.now } 0 (opened_text opened) }
+    ensures same_sink { writer.new.out.ghost_name ≡ writer.old.out.ghost_name }
+{
+    match opened {
+        Opened::Machine(started) => run(started, writer),
+        Opened::Text(text) => list(&text, writer),
     }
 }
 
@@ -80,13 +104,13 @@ fn refuse<O: Sink>(alloc: Global, refusal: &Refusal, writer: &mut Writer<'_, O>)
     }
 }
 
-/// Runs a machine into a sink.
-fn run_into<O: Sink>(opened: Opened, out: &mut O) -> u8
-    requires { opened.machine.cycle ≤ opened.limit }
-    ensures { Says record { status = result; before = O.written out.old; after = O.written out.new; faults_before = O.faults out.old; faults_after = O.faults out.new } 0 (run_text opened.limit opened.machine) }
+/// Puts the text of what was opened into a sink.
+fn tell_into<O: Sink>(opened: Opened, out: &mut O) -> u8
+    requires { IsReady opened }
+    ensures { Says record { status = result; before = O.written out.old; after = O.written out.new; faults_before = O.faults out.old; faults_after = O.faults out.new } 0 (opened_text opened) }
 {
     let mut writer = Writer { out };
-    run(opened, &mut writer)
+    tell(opened, &mut writer)
 }
 
 /// Puts the line of a refusal into a sink.
@@ -103,7 +127,7 @@ fn converse<F: Shelf, O: Sink>(alloc: Global, words: &[String], files: &mut F, o
     ensures kept { F.files files.new ≡ F.files files.old }
 {
     match open(alloc, words, files) {
-        Ok(opened) => run_into(opened, out),
+        Ok(opened) => tell_into(opened, out),
         Err(refusal) => refuse_into(alloc, &refusal, out),
     }
 }

@@ -1,15 +1,19 @@
 //! From the words to a machine that can run, or to what is refused.
 
-ghost use Rattle.std.specs.Prelude.{◌≡◌, ◌≤◌, length, map};
+ghost use Rattle.std.specs.Prelude.{◌≡◌, ◌≤◌, Some, length, map};
 ghost use Rattle.std.specs.String.{string_bytes};
 ghost use Rattle.rp_ports.specs.Shelf.{Files};
 ghost use Rattle.pico_top.specs.Dialogue.{LeadsTo, dialogue, dialogue_of, with_file, image_limit, failed_by};
 ghost use Rattle.pico_top.specs.Words.{Run};
 ghost use Rattle.pico_top.specs.Read.{run_in};
-ghost use Rattle.pico_top.specs.Opening.{OpensAs, LoadsAs, StartsAs};
+ghost use Rattle.pico_top.specs.Opening.{OpensAs, LoadsAs, StartsAs, WritesAs};
+ghost use Rattle.pico_top.specs.Words.Command.{RunImage};
+ghost use Rattle.pio_disasm.specs.Text.{source_text};
 
+use crate::dis::DisWords;
 use crate::machine::Machine;
-use crate::words::{Reading, WordsFault, read_words};
+use crate::words::{Reading, RunWords, WordsFault, read_words};
+use pio_disasm::write_source;
 use rp_ports::shelf::{Loaded, Shelf};
 use std::alloc::Global;
 use uf2_image::{ImageFault, read_image};
@@ -34,11 +38,20 @@ pub enum Refusal {
 
 /// A machine that can run, and its limit of cycles.
 #[derive(Drop)]
-pub struct Opened {
+pub struct Started {
     /// The machine before its first cycle.
     pub machine: Machine,
     /// The limit, 1 to 1,000,000,000.
     pub limit: u64,
+}
+
+/// What stands when the files are loaded.
+#[derive(Drop)]
+pub enum Opened {
+    /// A machine that can run.
+    Machine(Started),
+    /// A text that needs no machine.
+    Text(Vec<u8>),
 }
 
 /// Loads the file of an image.
@@ -62,7 +75,7 @@ fn load<F: Shelf>(alloc: Global, name: &str, files: &mut F) -> Result<Vec<u8>, R
 }
 
 /// The machine of an image file.
-fn start(alloc: Global, bytes: &[u8], limit: u64) -> Result<Opened, Refusal>
+fn start(alloc: Global, bytes: &[u8], limit: u64) -> Result<Started, Refusal>
     requires { length bytes.now ≤ IMAGE_LIMIT }
     ensures { StartsAs bytes.now limit result }
 {
@@ -70,24 +83,45 @@ fn start(alloc: Global, bytes: &[u8], limit: u64) -> Result<Opened, Refusal>
         Err(ImageFault::Memory) => Err(Refusal::Memory),
         Err(fault) => Err(Refusal::Image(fault)),
         Ok(image) => match Machine::boot(alloc, &image) {
-            Ok(machine) => Ok(Opened { machine, limit }),
+            Ok(machine) => Ok(Started { machine, limit }),
             Err(_) => Err(Refusal::Memory),
         },
     }
 }
 
-/// Reads the words, loads the file and boots the machine.
+/// Loads the image of a run and boots the machine.
+fn open_run<F: Shelf>(alloc: Global, run: &RunWords, files: &mut F) -> Result<Opened, Refusal>
+    ensures kept { F.files files.new ≡ F.files files.old }
+    ensures answer { LeadsTo (F.files files.old) (OpensAs result) (F.failed files.old) (F.failed files.new) (dialogue_of (Some (RunImage (run_in run.now)))) }
+{
+    match load(alloc, run.image.as_str(), files) {
+        Ok(bytes) => match start(alloc, &bytes, run.cycles) {
+            Ok(started) => Ok(Opened::Machine(started)),
+            Err(refusal) => Err(refusal),
+        },
+        Err(refusal) => Err(refusal),
+    }
+}
+
+/// The source text of instruction words.
+fn open_text(alloc: Global, asked: &DisWords) -> Result<Opened, Refusal>
+    ensures { WritesAs (source_text asked.now.side asked.now.words.items) result }
+{
+    match write_source(alloc, &asked.words, &asked.side) {
+        Ok(text) => Ok(Opened::Text(text)),
+        Err(_) => Err(Refusal::Memory),
+    }
+}
+
+/// Reads the words, loads their file, and boots the machine or makes the text.
 pub fn open<F: Shelf>(alloc: Global, words: &[String], files: &mut F) -> Result<Opened, Refusal>
     ensures kept { F.files files.new ≡ F.files files.old }
     ensures answer { LeadsTo (F.files files.old) (OpensAs result) (F.failed files.old) (F.failed files.new) (dialogue (map string_bytes words.now)) }
 {
-    let reading = match read_words(alloc, words) {
-        Ok(reading) => reading,
-        Err(WordsFault::Words) => return Err(Refusal::Words),
-        Err(WordsFault::Memory) => return Err(Refusal::Memory),
-    };
-    match load(alloc, reading.image.as_str(), files) {
-        Ok(bytes) => start(alloc, &bytes, reading.cycles),
-        Err(refusal) => Err(refusal),
+    match read_words(alloc, words) {
+        Ok(Reading::Run(run)) => open_run(alloc, &run, files),
+        Ok(Reading::Dis(asked)) => open_text(alloc, &asked),
+        Err(WordsFault::Words) => Err(Refusal::Words),
+        Err(WordsFault::Memory) => Err(Refusal::Memory),
     }
 }

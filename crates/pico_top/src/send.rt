@@ -1,6 +1,6 @@
 //! The text of a run and of a refusal, line by line into the sink.
 
-ghost use Rattle.std.specs.Prelude.{◌≡◌, ◌++◌};
+ghost use Rattle.std.specs.Prelude.{◌≡◌, ◌<◌, ◌≤◌, length, ◌++◌};
 ghost use Rattle.trace_text.specs.Line.{stop_text, register_text};
 ghost use Rattle.trace_text.specs.Sent.{Sends};
 ghost use Rattle.pico_top.specs.RunText.{core_lines};
@@ -56,4 +56,33 @@ pub fn send_end<O: Sink>(
 {
     send_stop(why, machine.number(), writer)?;
     send_cores(machine, writer)
+}
+
+/// The place behind the first line that begins at a place.
+fn line_end(text: &[u8], from: usize) -> usize
+    requires { from < length text.now }
+    ensures after { from < result }
+    ensures within { result ≤ length text.now }
+{
+    let (_, rest) = text.split_at(from);
+    match rest.iter().position(|byte| *byte == b'\n') {
+        Some(place) => from + place + 1,
+        None => text.len(),
+    }
+}
+
+/// Puts a text line by line.
+pub fn send_text<O: Sink>(text: &[u8], writer: &mut Writer<'_, O>) -> Result<(), SinkFault>
+    ensures sends { Sends (O.written writer.old.out.now) (O.written writer.new.out.now) (O.faults writer.old.out.now) (O.faults writer.new.out.now) text.now result }
+    ensures same_sink { writer.new.out.ghost_name ≡ writer.old.out.ghost_name }
+{
+    let mut done = 0;
+    while done < text.len() {
+        let end = line_end(text, done);
+        match writer.line(&text[done..end]) {
+            Ok(()) => done = end,
+            Err(fault) => return Err(fault),
+        }
+    }
+    Ok(())
 }

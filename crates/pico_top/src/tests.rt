@@ -166,6 +166,22 @@ fn instructions_and_their_cycles(rt: HostRuntime) -> Result<(), Fail> {
 }
 
 #[test]
+fn words_are_disassembled(rt: HostRuntime) -> Result<(), Fail> {
+    let alloc = rt.alloc();
+    let text =
+        b".program code\n.side_set 1\nout x, 1 side 0 [2]\njmp !x 3 side 1 [1]\njmp 0 side 1 [4]\nnop side 0 [4]\n";
+    let words = ["dis", "622111231400a442", "--side", "1"];
+    assert!(rt; gives(alloc, &words, Vec::new(alloc), 0, text)?);
+    let words = ["dis", "a042", "--opt", "1", "--side", "5"];
+    assert!(rt; gives(alloc, &words, Vec::new(alloc), 2, b"error words\n")?);
+    let words = ["dis", "a042a"];
+    assert!(rt; gives(alloc, &words, Vec::new(alloc), 2, b"error words\n")?);
+    let words = ["dis", "a04g"];
+    assert!(rt; gives(alloc, &words, Vec::new(alloc), 2, b"error words\n")?);
+    Ok(())
+}
+
+#[test]
 fn a_refusal_is_one_line(rt: HostRuntime) -> Result<(), Fail> {
     let alloc = rt.alloc();
     let none = ["run", "a.uf2", "--cycles", "0"];

@@ -2,19 +2,30 @@
 
 ghost use Rattle.std.specs.Prelude.{◌≡◌, ◌≤◌, List, ℕ, Option, Some, None, map, length};
 ghost use Rattle.std.specs.String.{string_bytes};
-ghost use Rattle.pico_top.specs.Words.{digits_from, number_of, cycles_of, is_run_of, run_of, run_with, reading};
+ghost use Rattle.pico_top.specs.Numbers.{digits_from, number_of};
+ghost use Rattle.pico_top.specs.Words.{cycles_of, is_run_of, run_of, run_with, run_reading, dis_reading, reading};
 ghost use Rattle.std.specs.Option.{option_map};
-ghost use Rattle.pico_top.specs.Read.{ReadsAs};
+ghost use Rattle.pico_top.specs.Read.{ReadsAs, ReadsRun};
 
+use crate::dis::{DisWords, instruction_words, side_config};
 use std::alloc::Global;
 
-/// What the words ask for: a run.
+/// The words of a run.
 #[derive(Drop)]
-pub struct Reading {
+pub struct RunWords {
     /// The name of the image file.
     pub image: String,
     /// The limit of cycles, 1 to 1,000,000,000.
     pub cycles: u64,
+}
+
+/// What the words ask for.
+#[derive(Drop)]
+pub enum Reading {
+    /// A run of an image.
+    Run(RunWords),
+    /// The source text of instruction words.
+    Dis(DisWords),
 }
 
 /// Why there is no reading.
@@ -42,7 +53,7 @@ fn value_of(digits: &[u8]) -> Option<u64>
 }
 
 /// A number of 1 to 10 decimal digits, and no 0 before other digits.
-fn number(word: &str) -> Option<u64>
+pub fn number(word: &str) -> Option<u64>
     ensures { result ≡ number_of word.now }
 {
     let digits = word.as_bytes();
@@ -86,9 +97,9 @@ fn cycles_asked(command: &str, image: &str, name: &str, value: &str) -> Option<u
 }
 
 /// Reads `run <image> --cycles N`.
-#[tactic(auto, unfolding(crate::specs::Words::reading))]
-pub fn read_words(alloc: Global, words: &[String]) -> Result<Reading, WordsFault>
-    ensures { ReadsAs (reading (map string_bytes words.now)) result }
+#[tactic(auto, unfolding(crate::specs::Words::run_reading))]
+fn read_run(alloc: Global, words: &[String]) -> Result<RunWords, WordsFault>
+    ensures { ReadsRun (run_reading (map string_bytes words.now)) result }
 {
     let [command, image, name, value] = words else {
         return Err(WordsFault::Words);
@@ -104,12 +115,47 @@ pub fn read_words(alloc: Global, words: &[String]) -> Result<Reading, WordsFault
     }
 }
 
-/// The reading with its own copy of the name.
-fn owned(alloc: Global, image: &str, cycles: u64) -> Result<Reading, WordsFault>
-    ensures { ReadsAs (Some (run_with image.now cycles)) result }
+/// The words of a run with their own copy of the name.
+fn owned(alloc: Global, image: &str, cycles: u64) -> Result<RunWords, WordsFault>
+    ensures { ReadsRun (Some (run_with image.now cycles)) result }
 {
     match String::from_str(alloc, image) {
-        Ok(image) => Ok(Reading { image, cycles }),
+        Ok(image) => Ok(RunWords { image, cycles }),
         Err(_) => Err(WordsFault::Memory),
+    }
+}
+
+/// Reads the words after `dis`.
+#[tactic(auto, unfolding(crate::specs::Words::dis_reading))]
+fn read_dis(alloc: Global, words: &[String]) -> Result<Reading, WordsFault>
+    ensures { ReadsAs (dis_reading (map string_bytes words.now)) result }
+{
+    let [hex, options @ ..] = words else {
+        return Err(WordsFault::Words);
+    };
+    let Some(side) = side_config(options) else {
+        return Err(WordsFault::Words);
+    };
+    match instruction_words(alloc, hex.as_str()) {
+        Ok(Some(words)) => Ok(Reading::Dis(DisWords { words, side })),
+        Ok(None) => Err(WordsFault::Words),
+        Err(_) => Err(WordsFault::Memory),
+    }
+}
+
+/// Reads `run <image> --cycles N` or `dis <hex> [--side S] [--opt T]`.
+#[tactic(auto, unfolding(crate::specs::Words::reading))]
+pub fn read_words(alloc: Global, words: &[String]) -> Result<Reading, WordsFault>
+    ensures { ReadsAs (reading (map string_bytes words.now)) result }
+{
+    let [command, rest @ ..] = words else {
+        return Err(WordsFault::Words);
+    };
+    if command.as_str() == "dis" {
+        return read_dis(alloc, rest);
+    }
+    match read_run(alloc, words) {
+        Ok(run) => Ok(Reading::Run(run)),
+        Err(fault) => Err(fault),
     }
 }

@@ -1,10 +1,10 @@
 -- Texts sent one after another.
-use Rattle.std.proofs.Common.{ℕ, ◌+◌, ◌≤◌, List, ◌++◌, length, take, Option, Result, Ok, Err, arith, length-append}
-use Rattle.std.proofs.Math.Seq.{take-append-add}
-use Rattle.std.proofs.lemmas.List.{take-append-le}
+use Rattle.std.proofs.Common.{◌≡◌, ℕ, ◌+◌, ◌-◌, ◌<◌, ◌≤◌, List, ◌++◌, length, take, drop, Option, Result, Ok, Err, arith, length-append, ap, sym, subst, ◌∙◌}
+use Rattle.std.proofs.Math.Seq.{take-append-add, take-add}
+use Rattle.std.proofs.lemmas.List.{take-append-le, take-append-drop}
 use Rattle.rp_ports.specs.Fault.{Rose}
 use Rattle.rp_ports.specs.Sink.{Appends}
-use Rattle.rp_ports.proofs.Pieces.{appends_both}
+use Rattle.rp_ports.proofs.Pieces.{appends_both, appends_on}
 use Rattle.trace_text.specs.Sent.{AppendsPart, Sends}
 
 -- a part of a text is a part of a longer one
@@ -29,3 +29,29 @@ sends_then a b c f g h xs ys (Err e) first le s = record { ok = tt; err = part_b
 -- the first text was sent in part
 pub sends_part : {T E : Type 0} (a b : Option (List ℕ)) (f g : ℕ) (xs ys : List ℕ) (e : E) → Sends {T = T} a b f g xs (Err e) → Sends {T = T} a b f g (xs ++ ys) (Err e)
 sends_part a b f g xs ys e s = record { ok = tt; err = part_of_longer a b xs ys s.err; cause = s.cause; count = s.count }
+
+-- the first bytes of a text were sent, and the count has not fallen
+pub record SentTo (old new : Option (List ℕ)) (before now : ℕ) (text : List ℕ) (done : ℕ) : Type 0 where
+  pub within : done ≤ length text
+  pub appended : Appends old new (take done text)
+  pub count : before ≤ now
+
+-- one more piece, up to a place e
+pub sent_on : (a b c : Option (List ℕ)) (f g h : ℕ) (text : List ℕ) (d e : ℕ) → SentTo a b f g text d → d < e → e ≤ length text → Appends b c (take (e - d) (drop d text)) → g ≤ h → SentTo a c f h text e
+sent_on a b c f g h text d e so_far lt le piece count =
+    let there : d + (e - d) ≡ e = omega arith in
+    let sent : Appends a c (take (d + (e - d)) text) = appends_on a b c text d (e - d) so_far.appended piece in
+    record { within = le; appended = subst (λ n. Appends a c (take n text)) there sent; count = omega (arith, so_far.count, count) }
+
+-- one more piece was sent in part
+pub sent_part : {T E : Type 0} (a b c : Option (List ℕ)) (f g h : ℕ) (text : List ℕ) (d e : ℕ) (x : E) → SentTo a b f g text d → d < e → e ≤ length text → Sends {T = T} b c g h (take (e - d) (drop d text)) (Err x) → Sends {T = T} a c f h text (Err x)
+sent_part a b c f g h text d e x so_far lt le piece =
+    let there : d + (e - d) ≡ e = omega arith in
+    let whole : take d text ++ take (e - d) (drop d text) ≡ take e text = sym (take-add d (e - d) text) ∙ ap (λ n. take n text) there in
+    let part : AppendsPart a c (take e text) = subst (λ t. AppendsPart a c t) whole (part_behind a b c (take d text) (take (e - d) (drop d text)) so_far.appended piece.err) in
+    record {
+      ok = tt;
+      err = subst (λ t. AppendsPart a c t) (take-append-drop e text) (part_of_longer a c (take e text) (drop e text) part);
+      cause = rose_later f g h so_far.count piece.cause;
+      count = omega (arith, so_far.count, piece.count);
+    }

@@ -1,5 +1,5 @@
 use Rattle.std.proofs.Common.{◌≡◌, ◌^◌, ◌<◌, drop}
-use Rattle.pico_top.specs.Words.{digits_from}
+use Rattle.pico_top.specs.Numbers.{digits_from}
 use Rattle.pico_top.proofs.words.value_of.Given as goal
 
 abbrev pub invariant-loop-digit : goal.invariant-loop-digit
