@@ -1,29 +1,48 @@
 -- What a core wants in a cycle, and what the cycle leaves.
-use Rattle.std.specs.Prelude.{ℕ, ◌+◌, ◌==◌, ◌&&◌, ◌||◌, Bool, not, nat_lt, if◌then◌else◌, List, [], ◌∷◌, ◌++◌, length, Option, Some, None, slice_get}
+use Rattle.std.specs.Prelude.{ℕ, ◌+◌, ◌==◌, ◌&&◌, ◌||◌, Bool, true, false, not, nat_lt, if◌then◌else◌, List, [], ◌∷◌, ◌++◌, length, Option, Some, None, slice_get}
 use Rattle.rp_base.specs.declared.Request.{Request}
 use Rattle.rp_base.specs.declared.op.Op.{Op}
 use Rattle.m0_beats.specs.Beats.{beats_of}
-use Rattle.m0_beats.specs.Effects.{effect_of}
+use Rattle.m0_beats.specs.Effects.{effect_of, return_of}
+use Rattle.m0_nvic.specs.State.{Exceptions}
+use Rattle.m0_nvic.specs.Changes.{pended}
+use Rattle.m0_nvic.specs.Priority.{wakes_of}
+use Rattle.m0_nvic.specs.Cycle as nvic
 use Rattle.lane_look.specs.declared.lane.Want.{Want}
 use Rattle.lane_look.specs.declared.lane.Want.TheVariants as want
 use Rattle.lane_look.specs.declared.lane.Turn.{Turn}
 use Rattle.lane_look.specs.declared.lane.Turn.TheVariants.{Done}
+use Rattle.m0_core.specs.declared.doing.Act.{Act}
+use Rattle.m0_core.specs.declared.doing.Act.TheVariants as act
+use Rattle.m0_core.specs.declared.doing.Work.{Work}
+use Rattle.m0_core.specs.declared.doing.Work.TheVariants as works
 use Rattle.m0_core.specs.declared.doing.Doing.{Doing}
-use Rattle.m0_core.specs.declared.doing.Doing.TheVariants as doing
-use Rattle.m0_core.specs.Kinds.{is_signal, awaits_event, awaits_interrupt}
+use Rattle.m0_core.specs.Kinds.{is_signal, awaits_event, awaits_interrupt, is_call}
+use Rattle.m0_core.specs.Entry.{taken_first, entry_ended}
+use Rattle.m0_core.specs.Return.{return_ended}
+use Rattle.m0_core.specs.Private.{private_value, accessed}
 use Rattle.m0_core.specs.Lanes.{lanes_of}
 use Rattle.m0_core.specs.State.{State}
 
 -- ---- wants
 
+abbrev pub signals : Work → Bool
+signals (works.Instruction op) = is_signal op
+signals _ = false
+
 -- a core has at most one want
+abbrev pub want_of_act : Act → Want
+want_of_act act.Asleep = want.Nothing
+want_of_act (act.Stopped cause) = want.Stopped cause
+want_of_act act.Fault = want.Nothing
+want_of_act (act.Inner work) = if signals work then want.Signal else want.Nothing
+want_of_act (act.Read work request word) = want.Ram request
+want_of_act (act.Write work request) = want.Ram request
+want_of_act (act.Outward work request) = want.Outward request
+want_of_act (act.Private work request offset) = want.Nothing
+
 abbrev pub want_of : Doing → Want
-want_of doing.Asleep = want.Nothing
-want_of (doing.Stopped cause) = want.Stopped cause
-want_of (doing.Inner op) = if is_signal op then want.Signal else want.Nothing
-want_of (doing.Read op request word) = want.Ram request
-want_of (doing.Write op request) = want.Ram request
-want_of (doing.Outward op request) = want.Outward request
+want_of begun = want_of_act begun.act
 
 abbrev pub wanted : Doing → List Want
 wanted begun = want_of begun ∷ want.Nothing ∷ []
@@ -36,33 +55,74 @@ with_value read None = read
 with_value read (Some value) = if nat_lt (length read) 16 then read ++ value ∷ [] else read
 
 -- the beat is not over
-abbrev pub waiting : Op → State → State
-waiting op s = record s { op = Some op }
+abbrev pub waiting : Work → State → State
+waiting work s = record s { work = Some work }
 
--- the last beat is over: registers and flags change, and WFE clears the event register
-unfoldable pub ended : Op → List ℕ → State → State
-ended op read s = record s {
-  regs = effect_of op s.regs read;
+-- a beat is over, and another one follows
+abbrev pub followed : Work → State → State
+followed work s = record s { work = Some work; place = s.place + 1 }
+
+abbrev pub with_read : Option ℕ → State → State
+with_read value s = record s { read = with_value s.read value }
+
+-- BX and POP may begin an exception return
+abbrev pub returning : Option ℕ → Option Work
+returning None = None
+returning (Some value) = Some (works.Return value)
+
+-- SVC makes its exception pending
+abbrev pub called : Op → Exceptions → Exceptions
+called op e = if is_call op then pended 11 e else e
+
+-- the last beat of an instruction is over: registers and flags change, and WFE clears the event register
+unfoldable pub ended : Op → State → State
+ended op s = record s {
+  regs = effect_of op s.regs s.read;
+  nvic = called op s.nvic;
   event = s.event && not (awaits_event op);
-  op = None;
+  work = returning (return_of op s.regs s.read);
   place = 0;
   read = [];
 }
 
+-- so many beats in all
+abbrev pub passed_of : Work → ℕ → State → State → State
+passed_of work count last s = if nat_lt (s.place + 1) count then followed work s else last
+
+unfoldable pub passed_instruction : Op → State → State
+passed_instruction op s = passed_of (works.Instruction op) (length (beats_of op s.regs)) (ended op s) s
+
+unfoldable pub passed_entry : ℕ → State → State
+passed_entry n s = passed_of (works.Entry n) 15 (entry_ended n s) s
+
+unfoldable pub passed_return : ℕ → State → State
+passed_return value s = passed_of (works.Return value) 13 (return_ended value s) s
+
+abbrev pub passed_work : Work → State → State
+passed_work (works.Instruction op) s = passed_instruction op s
+passed_work (works.Entry n) s = passed_entry n (taken_first n s)
+passed_work (works.Return value) s = passed_return value s
+
 -- a beat that may have read a value is over
-unfoldable pub passed : Op → Option ℕ → State → State
-passed op value s =
-    if nat_lt (s.place + 1) (length (beats_of op s.regs))
-    then record s { op = Some op; place = s.place + 1; read = with_value s.read value }
-    else ended op (with_value s.read value) s
+unfoldable pub passed : Work → Option ℕ → State → State
+passed work value s = passed_work work (with_read value s)
 
--- the second beat of WFE lasts until the event register is set, that of WFI until an exception wakes, of which none is
--- built yet
-abbrev pub is_held : Op → State → Bool
-is_held op s = (s.place == 1) && (awaits_interrupt op || awaits_event op && not s.event)
+-- the second beat of WFE lasts until the event register is set, that of WFI lasts on, and both end where an exception
+-- wakes
+abbrev pub is_held_op : Op → State → Bool
+is_held_op op s =
+    (s.place == 1) && ((awaits_interrupt op || awaits_event op && not s.event) && not (wakes_of s.nvic))
 
-unfoldable pub after_inner : Op → State → State
-after_inner op s = if is_held op s then waiting op s else passed op None s
+abbrev pub is_held : Work → State → Bool
+is_held (works.Instruction op) s = is_held_op op s
+is_held _ s = false
+
+unfoldable pub after_inner : Work → State → State
+after_inner work s = if is_held work s then waiting work s else passed work None s
+
+-- a fault changes nothing but HardFault's pending bit, and what was in progress is over
+unfoldable pub faulted : State → State
+faulted s = record s { nvic = pended 3 s.nvic; work = None; place = 0; read = [] }
 
 -- ---- the end of an access
 
@@ -76,9 +136,9 @@ done_word None = None
 done_word (Some turn) = word_of turn
 
 -- an access lasts until it is done; a read has a value then
-abbrev pub after_access : Option ℕ → Op → Option ℕ → State → State
-after_access None op value s = waiting op s
-after_access (Some word) op value s = passed op value s
+abbrev pub after_access : Option ℕ → Work → Option ℕ → State → State
+after_access None work value s = waiting work s
+after_access (Some word) work value s = passed work value s
 
 -- a read has its lanes of the word, and a write has no value
 abbrev pub value_of : Request → Option ℕ → ℕ → Option ℕ
@@ -86,19 +146,42 @@ value_of request None word = Some (lanes_of request.size request.address word)
 value_of request (Some write) word = None
 
 -- an access outside SRAM has its word when it is done
-abbrev pub after_outward : Option ℕ → Op → Request → State → State
-after_outward None op request s = waiting op s
-after_outward (Some word) op request s = passed op (value_of request request.write word) s
+abbrev pub after_outward : Option ℕ → Work → Request → State → State
+after_outward None work request s = waiting work s
+after_outward (Some word) work request s = passed work (value_of request request.write word) s
+
+-- one of the private bus is done at once
+unfoldable pub after_private : Work → Request → ℕ → State → State
+after_private work request offset s =
+    passed work (private_value request request.write offset s) (accessed request offset s)
 
 -- ---- the cycle
 
-abbrev pub after : Doing → Option ℕ → State → State
-after doing.Asleep word s = s
-after (doing.Stopped cause) word s = s
-after (doing.Inner op) word s = after_inner op s
-after (doing.Read op request told) word s = after_access word op (Some (lanes_of request.size request.address told)) s
-after (doing.Write op request) word s = after_access word op None s
-after (doing.Outward op request) word s = after_outward word op request s
+abbrev pub after : Act → Option ℕ → State → State
+after act.Asleep word s = s
+after (act.Stopped cause) word s = s
+after act.Fault word s = faulted s
+after (act.Inner work) word s = after_inner work s
+after (act.Read work request told) word s =
+    after_access word work (Some (lanes_of request.size request.address told)) s
+after (act.Write work request) word s = after_access word work None s
+after (act.Outward work request) word s = after_outward word work request s
+after (act.Private work request offset) word s = after_private work request offset s
+
+-- then the system timer and the interrupt lines have their turn
+unfoldable pub closed : ℕ → ℕ → State → State
+closed lines cycle s = record s {
+  nvic = nvic.after_cycle lines cycle s.nvic;
+  event = s.event || nvic.is_event lines cycle s.nvic;
+}
+
+-- nothing happens to a core that is asleep, and nothing where the cycle does not happen
+abbrev pub is_idle : Act → Bool
+is_idle act.Asleep = true
+is_idle (act.Stopped cause) = true
+is_idle _ = false
 
 unfoldable pub next : State → Doing → List Turn → State
-next s begun turns = after begun (done_word (slice_get turns 0)) s
+next s begun turns =
+    if is_idle begun.act then s else
+    closed begun.lines begun.cycle (after begun.act (done_word (slice_get turns 0)) s)

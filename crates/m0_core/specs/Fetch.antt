@@ -1,7 +1,7 @@
 -- What a core asks in a cycle, and what it has begun then. A core that is not asleep asks for its interrupt lines. At a
--- boundary between two instructions it fetches and decodes the next one, which begins with its first beat; elsewhere the
--- next beat of the instruction in progress begins.
-use Rattle.std.specs.Prelude.{ℕ, ◌+◌, ◌%◌, ◌^◌, ◌==◌, ◌||◌, Bool, true, false, not, if◌then◌else◌, slice_get, Option, Some, None, unwrap_or}
+-- boundary between two instructions it takes an exception or fetches and decodes the next instruction, which begins with
+-- its first beat; elsewhere the next beat of what is in progress begins.
+use Rattle.std.specs.Prelude.{ℕ, ◌+◌, ◌%◌, ◌^◌, ◌==◌, ◌||◌, ◌&&◌, Bool, true, false, not, if◌then◌else◌, slice_get, slice_index, Option, Some, None, unwrap_or, pos, int_lt}
 use Rattle.rp_base.specs.declared.Master.{Master}
 use Rattle.rp_base.specs.declared.Master.TheVariants.{Core0, Core1}
 use Rattle.rp_base.specs.declared.Request.{Request}
@@ -15,20 +15,28 @@ use Rattle.thumb_rows.specs.Rows.{begins_long, operation_of}
 use Rattle.m0_beats.specs.declared.timing.Beat.{Beat}
 use Rattle.m0_beats.specs.declared.timing.Beat.TheVariants.{Inner, Access}
 use Rattle.m0_beats.specs.Beats.{beats_of, is_unaligned_of}
+use Rattle.m0_nvic.specs.Priority.{best_of, priority_of, comes_before, rank_of}
+use Rattle.m0_nvic.specs.Words.{is_allowed}
 use Rattle.lane_look.specs.declared.lane.Ask.TheVariants.{Lines, Half, Word}
 use Rattle.lane_look.specs.Asking.{Asking}
 use Rattle.lane_look.specs.Asking.Asking.{Ready, Question}
+use Rattle.m0_core.specs.declared.doing.Act.{Act}
+use Rattle.m0_core.specs.declared.doing.Act.TheVariants as act
+use Rattle.m0_core.specs.declared.doing.Work.{Work}
+use Rattle.m0_core.specs.declared.doing.Work.TheVariants as works
 use Rattle.m0_core.specs.declared.doing.Doing.{Doing}
-use Rattle.m0_core.specs.declared.doing.Doing.TheVariants as doing
-use Rattle.m0_core.specs.Kinds.{is_breakpoint, is_trap}
+use Rattle.m0_core.specs.Kinds.{is_breakpoint, is_call, is_undefined}
+use Rattle.m0_core.specs.Entry.{entry_beat}
+use Rattle.m0_core.specs.Return.{return_beat, is_bad, is_misfit}
+use Rattle.m0_core.specs.Private.{word_written}
 use Rattle.m0_core.specs.State.{State}
 
 abbrev pub master_of : ℕ → Master
 master_of number = if number == 0 then Core0 else Core1
 
 -- the cycle does not happen
-abbrev pub stopped : Why → Asking Doing
-stopped cause = Ready (doing.Stopped cause)
+abbrev pub stopped : Why → Asking Act
+stopped cause = Ready (act.Stopped cause)
 
 abbrev pub is_ram_spot : Spot → Bool
 is_ram_spot (spot.Ram index bank) = true
@@ -38,66 +46,130 @@ is_ram_spot _ = false
 unfoldable pub is_ram : ℕ → Bool
 is_ram address = is_ram_spot (place_of address)
 
+-- ---- faults
+
+-- the execution priority is -1 or lower: a fault locks the core up (B1.5.15)
+unfoldable pub is_locked : State → Bool
+is_locked s = int_lt (priority_of s.nvic s.regs.primask) (pos 0)
+
+abbrev pub asks_fault : State → Asking Act
+asks_fault s = if is_locked s then stopped (why.Lockup s.number) else Ready act.Fault
+
+-- SVC has an exception that can be taken at once (B1.5.4)
+unfoldable pub is_callable : State → Bool
+is_callable s = int_lt (rank_of s.nvic 11) (priority_of s.nvic s.regs.primask)
+
+-- no instruction, one without T, one with an unaligned access, and SVC where its exception would wait
+abbrev pub is_faulty : Op → State → Bool
+is_faulty op s =
+    is_undefined op || (not s.regs.t || (is_unaligned_of op s.regs || (is_call op && not (is_callable s))))
+
 -- ---- beats
 
--- the beat that is next
+-- the beat of an instruction that is next
 unfoldable pub beat_of : Op → State → Beat
 beat_of op s = unwrap_or (slice_get (beats_of op s.regs) s.place) Inner
 
+abbrev pub beat_of_work : Work → State → Beat
+beat_of_work (works.Instruction op) s = beat_of op s
+beat_of_work (works.Entry n) s = entry_beat n s
+beat_of_work (works.Return value) s = return_beat value s
+
 -- a read of SRAM asks for the word as it is at the start of the cycle
-abbrev pub in_ram : Op → Request → Option ℕ → Asking Doing
-in_ram op request None = Question (Word request.address) (λ word. Ready (doing.Read op request (word % 2 ^ 32)))
-in_ram op request (Some value) = Ready (doing.Write op request)
+abbrev pub in_ram : Work → Request → Option ℕ → Asking Act
+in_ram work request None = Question (Word request.address) (λ word. Ready (act.Read work request (word % 2 ^ 32)))
+in_ram work request (Some value) = Ready (act.Write work request)
 
--- an access goes to SRAM, to the core's private bus, which is not built yet, or outwards
-abbrev pub at_spot : Op → Request → State → Spot → Asking Doing
-at_spot op request s (spot.Ram index bank) = in_ram op request request.write
-at_spot op request s (spot.Ppb offset) = stopped (why.Unbuilt (master_of s.number))
-at_spot op request s _ = Ready (doing.Outward op request)
+-- the private bus has words that can be accessed; a write that asks for a reset of the system is none of them
+abbrev pub in_private : Work → Request → ℕ → State → Asking Act
+in_private work request offset s =
+    if is_allowed s.nvic offset (word_written request.size request.write)
+    then Ready (act.Private work request offset)
+    else stopped (why.Outside (master_of s.number) request.address)
 
-abbrev pub in_beat : Op → State → Beat → Asking Doing
-in_beat op s Inner = Ready (doing.Inner op)
-in_beat op s (Access request) = at_spot op request s (place_of request.address)
+-- an access goes to SRAM, to the core's private bus, or outwards
+abbrev pub at_spot : Work → Request → State → Spot → Asking Act
+at_spot work request s (spot.Ram index bank) = in_ram work request request.write
+at_spot work request s (spot.Ppb offset) = in_private work request offset s
+at_spot work request s _ = Ready (act.Outward work request)
 
-unfoldable pub asks_beat : Op → State → Asking Doing
-asks_beat op s = in_beat op s (beat_of op s)
+abbrev pub in_beat : Work → State → Beat → Asking Act
+in_beat work s Inner = Ready (act.Inner work)
+in_beat work s (Access request) = at_spot work request s (place_of request.address)
+
+unfoldable pub asks_beat : Work → State → Asking Act
+asks_beat work s = in_beat work s (beat_of_work work s)
+
+-- a return with a bad value faults in its first beat, and one whose stacked exception number does not fit the mode at its
+-- end
+abbrev pub locks_last : ℕ → State → Bool
+locks_last value s = (s.place == 12) && (is_misfit value (slice_index s.read 7) && is_locked s)
+
+unfoldable pub asks_return : ℕ → State → Asking Act
+asks_return value s =
+    if s.place == 0 && is_bad value s then asks_fault s else
+    if locks_last value s then stopped (why.Lockup s.number) else asks_beat (works.Return value) s
 
 -- ---- fetches
 
--- an instruction that an exception takes the place of: a trap, one without T, and one with an unaligned access
-abbrev pub is_faulty : Op → State → Bool
-is_faulty op s = is_trap op || not s.regs.t || is_unaligned_of op s.regs
-
--- BKPT stops, and so does, since exceptions are not built yet, what one takes the place of
-unfoldable pub asks_decoded : Op → State → Asking Doing
+-- BKPT stops
+unfoldable pub asks_decoded : Op → State → Asking Act
 asks_decoded op s =
     if is_breakpoint op then stopped (why.Bkpt s.number) else
-    if is_faulty op s then stopped (why.Unbuilt (master_of s.number)) else asks_beat op s
+    if is_faulty op s then asks_fault s else asks_beat (works.Instruction op) s
 
 -- a halfword of the program, or the stop of a fetch outside SRAM
-abbrev pub asks_half : ℕ → State → (ℕ → Asking Doing) → Asking Doing
+abbrev pub asks_half : ℕ → State → (ℕ → Asking Act) → Asking Act
 asks_half address s next =
     if is_ram address then Question (Half address) (λ half. next (half % 2 ^ 16)) else
     stopped (why.Outside (master_of s.number) address)
 
 -- an instruction of two halfwords has its second one behind the first
-unfoldable pub asks_second : ℕ → State → Asking Doing
+unfoldable pub asks_second : ℕ → State → Asking Act
 asks_second first s =
     if begins_long first
     then asks_half ((s.regs.pc + 2) % 2 ^ 32) s (λ second. asks_decoded (operation_of first second) s)
     else asks_decoded (operation_of first 0) s
 
-unfoldable pub asks_first : State → Asking Doing
+unfoldable pub asks_first : State → Asking Act
 asks_first s = asks_half s.regs.pc s (λ first. asks_second first s)
+
+-- ---- boundaries
+
+-- the exception that is taken: the best one, where it comes before the execution priority
+unfoldable pub taken_of : State → Option ℕ
+taken_of s = if comes_before s.nvic (priority_of s.nvic s.regs.primask) (best_of s.nvic) then best_of s.nvic else None
+
+abbrev pub asks_taken : Option ℕ → State → Asking Act
+asks_taken None s = asks_first s
+asks_taken (Some n) s = asks_beat (works.Entry n) s
+
+unfoldable pub asks_boundary : State → Asking Act
+asks_boundary s = asks_taken (taken_of s) s
 
 -- ---- the cycle
 
-abbrev pub asks_next : Option Op → State → Asking Doing
-asks_next None s = asks_first s
-asks_next (Some op) s = asks_beat op s
+abbrev pub asks_work : Work → State → Asking Act
+asks_work (works.Instruction op) s = asks_beat (works.Instruction op) s
+asks_work (works.Entry n) s = asks_beat (works.Entry n) s
+asks_work (works.Return value) s = asks_return value s
 
-unfoldable pub asks_awake : State → Asking Doing
-asks_awake s = asks_next s.op s
+abbrev pub asks_next : Option Work → State → Asking Act
+asks_next None s = asks_boundary s
+asks_next (Some work) s = asks_work work s
 
-unfoldable pub asks : State → Asking Doing
-asks s = if s.asleep then Ready doing.Asleep else Question Lines (λ lines. asks_awake s)
+unfoldable pub asks_awake : State → Asking Act
+asks_awake s = asks_next s.work s
+
+-- the lines and the cycle go with what was begun, for its end
+abbrev pub ends_with : ℕ → ℕ → Act → Doing
+ends_with lines cycle begun = record { act = begun; lines = lines; cycle = cycle }
+
+unfoldable pub carried : ℕ → ℕ → Asking Act → Asking Doing
+carried lines cycle (Ready begun) = Ready (ends_with lines cycle begun)
+carried lines cycle (Question ask next) = Question ask (λ answer. carried lines cycle (next answer))
+
+unfoldable pub asks : State → ℕ → Asking Doing
+asks s cycle =
+    if s.asleep then Ready (ends_with 0 cycle act.Asleep) else
+    Question Lines (λ lines. carried (lines % 2 ^ 32) cycle (asks_awake s))

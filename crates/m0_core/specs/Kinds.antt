@@ -22,9 +22,13 @@ abbrev pub awaits_interrupt : Op → Bool
 awaits_interrupt Wfi = true
 awaits_interrupt _ = false
 
--- an instruction that an exception takes the place of: it is undefined, or it is SVC
-abbrev pub is_trap : Op → Bool
-is_trap (Svc i) = true
-is_trap (Udf i) = true
-is_trap Undefined = true
-is_trap _ = false
+-- SVC
+abbrev pub is_call : Op → Bool
+is_call (Svc i) = true
+is_call _ = false
+
+-- UDF, or no instruction
+abbrev pub is_undefined : Op → Bool
+is_undefined (Udf i) = true
+is_undefined Undefined = true
+is_undefined _ = false

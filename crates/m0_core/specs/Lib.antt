@@ -1,6 +1,9 @@
 pub mod Cycle
+pub mod Entry
 pub mod Fetch
 pub mod Kinds
 pub mod Lanes
+pub mod Private
+pub mod Return
 pub mod Start
 pub mod State

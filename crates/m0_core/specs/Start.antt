@@ -2,6 +2,7 @@
 use Rattle.std.specs.Prelude.{ℕ, ◌-◌, ◌*◌, ◌/◌, ◌^◌, Bool, true, false, [], None, replicate}
 use Rattle.m0_alu.specs.Word.{has_bit}
 use Rattle.m0_beats.specs.declared.registers.Regs.{Regs}
+use Rattle.m0_nvic.specs.State.{Exceptions, at_reset}
 use Rattle.m0_core.specs.State.{State}
 
 -- registers and flags that are 0, but for MSP, LR, PC and T
@@ -28,22 +29,26 @@ sleeping number = record {
   number = number;
   asleep = true;
   regs = clear_registers 0 0 0 false;
-  vtor = 0;
+  nvic = at_reset;
   event = false;
   offer = false;
-  op = None;
+  work = None;
   place = 0;
   read = [];
 }
 
--- the core starts at an entry whose bit 0 is T; the vector table is a multiple of 256, and the stack one of 4
+-- no exception is pending or active; the vector table is a multiple of 256
+abbrev pub with_vectors : ℕ → Exceptions
+with_vectors vtor = record at_reset { vtor = vtor / 2 ^ 8 * 2 ^ 8 }
+
+-- the core starts at an entry whose bit 0 is T; the stack is a multiple of 4
 abbrev pub started : ℕ → ℕ → ℕ → State → State
 started vtor sp entry s = record s {
   asleep = false;
   regs = clear_registers (sp / 4 * 4) (2 ^ 32 - 1) (entry / 2 * 2) (has_bit entry 0);
-  vtor = vtor / 2 ^ 8 * 2 ^ 8;
+  nvic = with_vectors vtor;
   event = false;
-  op = None;
+  work = None;
   place = 0;
   read = [];
 }

@@ -1,7 +1,8 @@
 -- What a core is between two cycles (ARMv6-M Architecture Reference Manual, B1.4).
 use Rattle.std.specs.Prelude.{ℕ, Bool, List, Option}
-use Rattle.rp_base.specs.declared.op.Op.{Op}
 use Rattle.m0_beats.specs.declared.registers.Regs.{Regs}
+use Rattle.m0_nvic.specs.State.{Exceptions}
+use Rattle.m0_core.specs.declared.doing.Work.{Work}
 
 pub record State : Type 0 where
   -- 0 or 1
@@ -9,14 +10,13 @@ pub record State : Type 0 where
   -- it was not started
   pub asleep : Bool
   pub regs : Regs
-  -- the vector table's address
-  pub vtor : ℕ
+  pub nvic : Exceptions
   -- the event register (B1.5.18)
   pub event : Bool
   -- the launcher has a word for it
   pub offer : Bool
-  -- the instruction in progress; none at a boundary between two
-  pub op : Option Op
+  -- the instruction, entry or return in progress; none at a boundary between two instructions
+  pub work : Option Work
   -- how many of its beats are over
   pub place : ℕ
   -- the values that these read, a narrow one zero-extended

@@ -3,19 +3,45 @@
 use rp_base::op::Op;
 use rp_base::{Request, Why};
 
-/// What a core has begun in a cycle, once its questions are answered.
+/// What has beats.
 #[derive(Clone, Copy)]
-pub enum Doing {
+pub enum Work {
+    /// An instruction.
+    Instruction(Op),
+    /// The entry to the exception of that number.
+    Entry(u8),
+    /// The return from an exception that began with that value.
+    Return(u32),
+}
+
+/// What a core does in a cycle.
+#[derive(Clone, Copy)]
+pub enum Act {
     /// Nothing: the core is asleep.
     Asleep,
     /// Nothing: the machine stops before this cycle.
     Stopped(Why),
+    /// A fault: HardFault becomes pending.
+    Fault,
     /// A beat inside the core.
-    Inner(Op),
+    Inner(Work),
     /// A read of SRAM, whose word is this at the start of the cycle.
-    Read(Op, Request, u32),
+    Read(Work, Request, u32),
     /// A write to SRAM.
-    Write(Op, Request),
+    Write(Work, Request),
     /// An access that is neither to SRAM nor to the private bus.
-    Outward(Op, Request),
+    Outward(Work, Request),
+    /// An access to the word of the private bus at that offset.
+    Private(Work, Request, u16),
+}
+
+/// What a core has begun in a cycle, once its questions are answered.
+#[derive(Clone, Copy)]
+pub struct Doing {
+    /// What it does.
+    pub act: Act,
+    /// Its interrupt lines at the start of the cycle.
+    pub lines: u32,
+    /// The cycle's number.
+    pub cycle: u64,
 }

@@ -3,11 +3,14 @@
 ghost use Rattle.std.specs.Prelude.{◌≡◌, ◌%◌, ◌^◌};
 ghost use Rattle.rp_base.specs.AddressMap.{place_of};
 ghost use Rattle.lane_look.specs.Asking.{Runs};
-ghost use Rattle.m0_core.specs.Fetch.{master_of, is_ram, beat_of, is_faulty, in_ram, at_spot, asks_beat, asks_decoded, asks_second, asks_first, asks_awake};
+ghost use Rattle.lane_look.specs.Asking.Asking.{Ready};
+ghost use Rattle.m0_core.specs.Fetch.{master_of, is_ram, is_locked, asks_fault, is_callable, is_faulty, beat_of, beat_of_work, in_ram, in_private, at_spot, asks_beat, locks_last, asks_return, asks_decoded, asks_second, asks_first, taken_of, asks_boundary, asks_work, asks_awake};
 
-use crate::doing::Doing;
-use crate::kinds::{is_breakpoint, is_trap};
+use crate::doing::{Act, Work};
+use crate::kinds::{is_breakpoint, is_call, is_undefined};
+use crate::private::written;
 use crate::processor::Core;
+use crate::returns::{is_misfit, value_at};
 use lane_look::{Ask, Look};
 use m0_beats::{Beat, beat_at, is_unaligned};
 use rp_base::map::{Spot, place};
@@ -31,22 +34,22 @@ fn half_of(answer: u128) -> u16
 }
 
 /// The word of an answer.
-fn word_of(answer: u128) -> u32
+pub(crate) fn word_of(answer: u128) -> u32
     ensures { result ≡ answer % 2 ^ 32 }
 {
     (answer % 0x1_0000_0000) as u32
 }
 
 /// An access to SRAM; a read asks for its word.
-fn begin_ram<K: Look>(op: Op, request: Request, look: &mut K) -> Doing
-    ensures { Runs K.answers look.old (in_ram op request request.write) result look.new }
+fn begin_ram<K: Look>(work: Work, request: Request, look: &mut K) -> Act
+    ensures { Runs K.answers look.old (in_ram work request request.write) result look.new }
 {
     match request.write {
         None => {
             let answer = look.ask(Ask::Word(request.address));
-            Doing::Read(op, request, word_of(answer))
+            Act::Read(work, request, word_of(answer))
         }
-        Some(_) => Doing::Write(op, request),
+        Some(_) => Act::Write(work, request),
     }
 }
 
@@ -70,59 +73,134 @@ impl Core {
         beat_at(op, &self.regs, self.place).unwrap_or(Beat::Inner)
     }
 
+    /// The next beat of what is in progress.
+    fn beat_of_work(&self, work: &Work) -> Beat
+        ensures { result ≡ beat_of_work work.now self.now }
+    {
+        match *work {
+            Work::Instruction(op) => self.beat(&op),
+            Work::Entry(number) => self.entry_beat(number),
+            Work::Return(value) => self.return_beat(value),
+        }
+    }
+
+    /// An access to the private bus, or the stop at it.
+    fn begin_private(&self, work: Work, request: Request, offset: u16) -> Act
+        ensures { Ready result ≡ in_private work request offset self.now }
+    {
+        if self.nvic.allows(offset, written(request.size, request.write)) {
+            Act::Private(work, request, offset)
+        } else {
+            self.outside(request.address)
+        }
+    }
+
     /// An access, by the place that it goes to.
-    fn begin_access<K: Look>(&self, op: Op, request: Request, look: &mut K) -> Doing
-        ensures { Runs K.answers look.old (at_spot op request self.now (place_of request.address)) result look.new }
+    fn begin_access<K: Look>(&self, work: Work, request: Request, look: &mut K) -> Act
+        ensures { Runs K.answers look.old (at_spot work request self.now (place_of request.address)) result look.new }
     {
         match place(request.address) {
-            Spot::Ram { .. } => begin_ram(op, request, look),
-            Spot::Ppb { .. } => Doing::Stopped(Why::Unbuilt(self.master())),
-            Spot::Reg { .. } | Spot::Sio { .. } | Spot::Outside => Doing::Outward(op, request),
+            Spot::Ram { .. } => begin_ram(work, request, look),
+            Spot::Ppb { offset } => self.begin_private(work, request, offset),
+            Spot::Reg { .. } | Spot::Sio { .. } | Spot::Outside => Act::Outward(work, request),
         }
     }
 
     /// A beat.
     #[tactic(auto, unfolding(crate::specs::Fetch::asks_beat))]
-    fn begin_beat<K: Look>(&self, op: Op, look: &mut K) -> Doing
-        ensures { Runs K.answers look.old (asks_beat op self.now) result look.new }
+    fn begin_beat<K: Look>(&self, work: Work, look: &mut K) -> Act
+        ensures { Runs K.answers look.old (asks_beat work self.now) result look.new }
     {
-        match self.beat(&op) {
-            Beat::Inner => Doing::Inner(op),
-            Beat::Access(request) => self.begin_access(op, request, look),
+        match self.beat_of_work(&work) {
+            Beat::Inner => Act::Inner(work),
+            Beat::Access(request) => self.begin_access(work, request, look),
         }
     }
 
-    /// An exception takes the place of the instruction.
+    /// The execution priority is -1 or lower.
+    #[tactic(auto, unfolding(crate::specs::Fetch::is_locked))]
+    fn is_locked(&self) -> bool
+        ensures { result ≡ is_locked self.now }
+    {
+        self.nvic.priority(self.regs.primask) < 0
+    }
+
+    /// A fault, or the stop at it.
+    fn begin_fault(&self) -> Act
+        ensures { Ready result ≡ asks_fault self.now }
+    {
+        if self.is_locked() {
+            Act::Stopped(Why::Lockup(self.number()))
+        } else {
+            Act::Fault
+        }
+    }
+
+    /// SVC has an exception that can be taken at once.
+    #[tactic(auto, unfolding(crate::specs::Fetch::is_callable))]
+    fn is_callable(&self) -> bool
+        ensures { result ≡ is_callable self.now }
+    {
+        self.nvic.rank(11) < self.nvic.priority(self.regs.primask)
+    }
+
+    /// The instruction faults.
     fn is_faulty(&self, op: &Op) -> bool
         ensures { result ≡ is_faulty op.now self.now }
     {
-        is_trap(op) || !self.regs.t || is_unaligned(op, &self.regs)
+        is_undefined(op)
+            || !self.regs.t
+            || is_unaligned(op, &self.regs)
+            || is_call(op) && !self.is_callable()
+    }
+
+    /// The last beat of a return faults, and the core is locked up by it.
+    fn locks_last(&self, value: u32) -> bool
+        ensures { result ≡ locks_last value self.now }
+    {
+        self.place == 12
+            && is_misfit(value, value_at(self.read.as_slice(), 7))
+            && self.is_locked()
+    }
+
+    /// The next beat of a return.
+    #[tactic(auto, unfolding(crate::specs::Fetch::asks_return))]
+    fn begin_return<K: Look>(&self, value: u32, look: &mut K) -> Act
+        ensures { Runs K.answers look.old (asks_return value self.now) result look.new }
+    {
+        if self.place == 0 && self.is_bad(value) {
+            self.begin_fault()
+        } else if self.locks_last(value) {
+            Act::Stopped(Why::Lockup(self.number()))
+        } else {
+            self.begin_beat(Work::Return(value), look)
+        }
     }
 
     /// The first beat of an instruction, or the stop at it.
     #[tactic(auto, unfolding(crate::specs::Fetch::asks_decoded))]
-    fn begin_decoded<K: Look>(&self, op: Op, look: &mut K) -> Doing
+    fn begin_decoded<K: Look>(&self, op: Op, look: &mut K) -> Act
         ensures { Runs K.answers look.old (asks_decoded op self.now) result look.new }
     {
         if is_breakpoint(&op) {
-            Doing::Stopped(Why::Bkpt(self.number()))
+            Act::Stopped(Why::Bkpt(self.number()))
         } else if self.is_faulty(&op) {
-            Doing::Stopped(Why::Unbuilt(self.master()))
+            self.begin_fault()
         } else {
-            self.begin_beat(op, look)
+            self.begin_beat(Work::Instruction(op), look)
         }
     }
 
     /// A fetch outside SRAM.
-    fn outside(&self, address: u32) -> Doing
-        ensures { result ≡ Doing.Stopped (Why.Outside (master_of self.now.number) address) }
+    fn outside(&self, address: u32) -> Act
+        ensures { result ≡ Act.Stopped (Why.Outside (master_of self.now.number) address) }
     {
-        Doing::Stopped(Why::Outside(self.master(), address))
+        Act::Stopped(Why::Outside(self.master(), address))
     }
 
     /// An instruction whose first halfword is this.
     #[tactic(auto, unfolding(crate::specs::Fetch::asks_second))]
-    fn begin_second<K: Look>(&self, first: u16, look: &mut K) -> Doing
+    fn begin_second<K: Look>(&self, first: u16, look: &mut K) -> Act
         ensures { Runs K.answers look.old (asks_second first self.now) result look.new }
     {
         if !is_long(first) {
@@ -138,7 +216,7 @@ impl Core {
 
     /// The next instruction.
     #[tactic(auto, unfolding(crate::specs::Fetch::asks_first))]
-    fn begin_first<K: Look>(&self, look: &mut K) -> Doing
+    fn begin_first<K: Look>(&self, look: &mut K) -> Act
         ensures { Runs K.answers look.old (asks_first self.now) result look.new }
     {
         let address = self.regs.pc;
@@ -149,14 +227,46 @@ impl Core {
         self.begin_second(half_of(answer), look)
     }
 
-    /// The next beat of the instruction in progress, or the next instruction.
+    /// The exception that is taken.
+    #[tactic(auto, unfolding(crate::specs::Fetch::taken_of))]
+    fn taken(&self) -> Option<u8>
+        ensures { result ≡ taken_of self.now }
+    {
+        match self.nvic.best() {
+            Some(number) if self.nvic.rank(number) < self.nvic.priority(self.regs.primask) => Some(number),
+            _ => None,
+        }
+    }
+
+    /// The entry to an exception, or the next instruction.
+    #[tactic(auto, unfolding(crate::specs::Fetch::asks_boundary))]
+    fn begin_boundary<K: Look>(&self, look: &mut K) -> Act
+        ensures { Runs K.answers look.old (asks_boundary self.now) result look.new }
+    {
+        match self.taken() {
+            None => self.begin_first(look),
+            Some(number) => self.begin_beat(Work::Entry(number), look),
+        }
+    }
+
+    /// The next beat of what is in progress.
+    fn begin_work<K: Look>(&self, work: Work, look: &mut K) -> Act
+        ensures { Runs K.answers look.old (asks_work work self.now) result look.new }
+    {
+        match work {
+            Work::Instruction(_) | Work::Entry(_) => self.begin_beat(work, look),
+            Work::Return(value) => self.begin_return(value, look),
+        }
+    }
+
+    /// The next beat of what is in progress, or what a boundary begins.
     #[tactic(auto, unfolding(crate::specs::Fetch::asks_awake))]
-    pub(crate) fn begin_awake<K: Look>(&self, look: &mut K) -> Doing
+    pub(crate) fn begin_awake<K: Look>(&self, look: &mut K) -> Act
         ensures { Runs K.answers look.old (asks_awake self.now) result look.new }
     {
-        match self.op {
-            None => self.begin_first(look),
-            Some(op) => self.begin_beat(op, look),
+        match self.work {
+            None => self.begin_boundary(look),
+            Some(work) => self.begin_work(work, look),
         }
     }
 }

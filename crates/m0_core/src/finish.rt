@@ -1,34 +1,52 @@
 //! What a core wants in a cycle, and how the cycle ends.
 
-ghost use Rattle.std.specs.Prelude.{◌≡◌, slice_get};
-ghost use Rattle.m0_core.specs.Cycle.{want_of, with_value, waiting, ended, passed, is_held, after_inner, word_of, done_word, after_access, value_of, after_outward};
+ghost use Rattle.std.specs.Prelude.{◌≡◌, ◌<◌, ℕ, length, Some, slice_get};
+ghost use Rattle.m0_beats.specs.Beats.{beats_of};
+ghost use Rattle.m0_core.specs.Cycle.{signals, want_of, with_value, waiting, followed, with_read, returning, called, ended, passed_instruction, passed_entry, passed_return, passed_work, passed, is_held_op, is_held, after_inner, faulted, word_of, done_word, after_access, value_of, after_outward, after_private, after, closed, is_idle};
 
-use crate::doing::Doing;
-use crate::kinds::{awaits_event, awaits_interrupt, is_signal};
+use crate::doing::{Act, Doing, Work};
+use crate::kinds::{awaits_event, awaits_interrupt, is_call, is_signal};
 use crate::lanes::lanes;
 use crate::processor::Core;
 use lane_look::{Turn, Want};
-use m0_beats::{beat_count, effect};
+use m0_beats::{beat_count, effect, exception_return};
 use rp_base::Request;
 use rp_base::op::Op;
+
+/// SEV.
+fn signals(work: &Work) -> bool
+    ensures { result ≡ signals work.now }
+{
+    match work {
+        Work::Instruction(op) => is_signal(op),
+        Work::Entry(_) | Work::Return(_) => false,
+    }
+}
 
 /// What a core wants.
 pub(crate) fn want(begun: &Doing) -> Want
     ensures { result ≡ want_of begun.now }
 {
-    match *begun {
-        Doing::Asleep => Want::Nothing,
-        Doing::Stopped(why) => Want::Stopped(why),
-        Doing::Inner(op) => {
-            if is_signal(&op) {
+    match begun.act {
+        Act::Asleep | Act::Fault | Act::Private(..) => Want::Nothing,
+        Act::Stopped(why) => Want::Stopped(why),
+        Act::Inner(work) => {
+            if signals(&work) {
                 Want::Signal
             } else {
                 Want::Nothing
             }
         }
-        Doing::Read(_, request, _) | Doing::Write(_, request) => Want::Ram(request),
-        Doing::Outward(_, request) => Want::Outward(request),
+        Act::Read(_, request, _) | Act::Write(_, request) => Want::Ram(request),
+        Act::Outward(_, request) => Want::Outward(request),
     }
+}
+
+/// Nothing happens to the core.
+pub(crate) fn is_idle(act: &Act) -> bool
+    ensures { result ≡ is_idle act.now }
+{
+    matches!(act, Act::Asleep | Act::Stopped(_))
 }
 
 /// The word of an access that is done.
@@ -51,17 +69,36 @@ fn value_of(request: &Request, word: u32) -> Option<u32>
     }
 }
 
+/// The exception return that begins.
+fn returning(value: Option<u32>) -> Option<Work>
+    ensures { result ≡ returning value }
+{
+    match value {
+        None => None,
+        Some(value) => Some(Work::Return(value)),
+    }
+}
+
 impl Core {
     /// The beat is not over.
-    fn wait(&mut self, op: &Op)
-        ensures { self.new ≡ waiting op.now self.old }
+    fn wait(&mut self, work: &Work)
+        ensures { self.new ≡ waiting work.now self.old }
     {
-        self.op = Some(*op);
+        self.work = Some(*work);
+    }
+
+    /// Another beat follows.
+    fn follow(&mut self, work: Work)
+        requires { self.old.place < 32 }
+        ensures { self.new ≡ followed work self.old }
+    {
+        self.work = Some(work);
+        self.place += 1;
     }
 
     /// Keeps a value that was read.
     fn keep(&mut self, value: Option<u32>)
-        ensures { self.new ≡ record self.old { read = with_value self.old.read value } }
+        ensures { self.new ≡ with_read value self.old }
     {
         if let Some(value) = value {
             if self.read.len() < 16 {
@@ -70,70 +107,187 @@ impl Core {
         }
     }
 
-    /// The last beat is over.
+    /// SVC makes its exception pending.
+    fn call(&mut self, op: &Op)
+        ensures { self.new ≡ record self.old { nvic = called op.now self.old.nvic } }
+    {
+        if is_call(op) {
+            self.nvic.pend(11);
+        }
+    }
+
+    /// The last beat of an instruction is over.
     #[tactic(auto, unfolding(crate::specs::Cycle::ended))]
     fn end(&mut self, op: &Op)
-        ensures { self.new ≡ ended op.now self.old.read self.old }
+        ensures { self.new ≡ ended op.now self.old }
     {
+        let value = exception_return(op, &self.regs, self.read.as_slice());
         effect(op, &mut self.regs, self.read.as_slice());
+        self.call(op);
         self.event = self.event && !awaits_event(op);
-        self.op = None;
+        self.work = returning(value);
         self.place = 0;
         self.read.clear();
     }
 
-    /// A beat is over that may have read a value.
-    #[tactic(auto, unfolding(crate::specs::Cycle::passed, crate::specs::Cycle::ended))]
-    fn pass(&mut self, op: &Op, value: Option<u32>)
-        ensures { self.new ≡ passed op.now value self.old }
+    /// A beat of an instruction is over.
+    #[tactic(auto, unfolding(crate::specs::Cycle::passed_instruction))]
+    fn pass_instruction(&mut self, op: &Op)
+        ensures { self.new ≡ passed_instruction op.now self.old }
     {
         let count = beat_count(op, &self.regs);
-        self.keep(value);
         if count > 1 && self.place < count - 1 {
-            self.op = Some(*op);
+            self.work = Some(Work::Instruction(*op));
             self.place += 1;
         } else {
             self.end(op);
         }
     }
 
-    /// The second beat of WFE or WFI lasts on.
-    fn is_held(&self, op: &Op) -> bool
-        ensures { result ≡ is_held op.now self.now }
+    /// A beat of an entry is over.
+    #[tactic(auto, unfolding(crate::specs::Cycle::passed_entry))]
+    fn pass_entry(&mut self, number: u8)
+        ensures { self.new ≡ passed_entry number self.old }
     {
-        self.place == 1 && (awaits_interrupt(op) || awaits_event(op) && !self.event)
+        if self.place < 14 {
+            self.follow(Work::Entry(number));
+        } else {
+            self.end_entry(number);
+        }
+    }
+
+    /// A beat of a return is over.
+    #[tactic(auto, unfolding(crate::specs::Cycle::passed_return))]
+    fn pass_return(&mut self, value: u32)
+        ensures { self.new ≡ passed_return value self.old }
+    {
+        if self.place < 12 {
+            self.follow(Work::Return(value));
+        } else {
+            self.end_return(value);
+        }
+    }
+
+    /// A beat is over, and its value was kept.
+    fn pass_work(&mut self, work: &Work)
+        ensures { self.new ≡ passed_work work.now self.old }
+    {
+        match *work {
+            Work::Instruction(op) => self.pass_instruction(&op),
+            Work::Entry(number) => {
+                self.take_first(number);
+                self.pass_entry(number);
+            }
+            Work::Return(value) => self.pass_return(value),
+        }
+    }
+
+    /// A beat is over that may have read a value.
+    #[tactic(auto, unfolding(crate::specs::Cycle::passed))]
+    fn pass(&mut self, work: &Work, value: Option<u32>)
+        ensures { self.new ≡ passed work.now value self.old }
+    {
+        self.keep(value);
+        self.pass_work(work);
+    }
+
+    /// The second beat of WFE or WFI lasts on.
+    fn is_held_op(&self, op: &Op) -> bool
+        ensures { result ≡ is_held_op op.now self.now }
+    {
+        self.place == 1
+            && (awaits_interrupt(op) || awaits_event(op) && !self.event)
+            && !self.nvic.wakes()
+    }
+
+    /// The beat lasts on.
+    fn is_held(&self, work: &Work) -> bool
+        ensures { result ≡ is_held work.now self.now }
+    {
+        match work {
+            Work::Instruction(op) => self.is_held_op(op),
+            Work::Entry(_) | Work::Return(_) => false,
+        }
     }
 
     /// The end of a cycle inside the core.
     #[tactic(auto, unfolding(crate::specs::Cycle::after_inner))]
-    pub(crate) fn after_inner(&mut self, op: &Op)
-        ensures { self.new ≡ after_inner op.now self.old }
+    fn after_inner(&mut self, work: &Work)
+        ensures { self.new ≡ after_inner work.now self.old }
     {
-        if self.is_held(op) {
-            self.wait(op);
+        if self.is_held(work) {
+            self.wait(work);
         } else {
-            self.pass(op, None);
+            self.pass(work, None);
         }
     }
 
+    /// The end of a cycle with a fault.
+    #[tactic(auto, unfolding(crate::specs::Cycle::faulted))]
+    fn fault(&mut self)
+        ensures { self.new ≡ faulted self.old }
+    {
+        self.nvic.pend(3);
+        self.work = None;
+        self.place = 0;
+        self.read.clear();
+    }
+
     /// The end of a cycle of an access, which has this value where it is done.
-    pub(crate) fn after_access(&mut self, word: Option<u32>, op: &Op, value: Option<u32>)
-        ensures { self.new ≡ after_access word op.now value self.old }
+    fn after_access(&mut self, word: Option<u32>, work: &Work, value: Option<u32>)
+        ensures { self.new ≡ after_access word work.now value self.old }
     {
         if word.is_some() {
-            self.pass(op, value);
+            self.pass(work, value);
         } else {
-            self.wait(op);
+            self.wait(work);
         }
     }
 
     /// The end of a cycle of an access that is not to SRAM, which has this word where it is done.
-    pub(crate) fn after_outward(&mut self, word: Option<u32>, op: &Op, request: &Request)
-        ensures { self.new ≡ after_outward word op.now request.now self.old }
+    fn after_outward(&mut self, word: Option<u32>, work: &Work, request: &Request)
+        ensures { self.new ≡ after_outward word work.now request.now self.old }
     {
         match word {
-            None => self.wait(op),
-            Some(word) => self.pass(op, value_of(request, word)),
+            None => self.wait(work),
+            Some(word) => self.pass(work, value_of(request, word)),
         }
+    }
+
+    /// The end of a cycle of an access to the private bus.
+    #[tactic(auto, unfolding(crate::specs::Cycle::after_private))]
+    fn after_private(&mut self, work: &Work, request: &Request, offset: u16)
+        ensures { self.new ≡ after_private work.now request.now offset self.old }
+    {
+        let value = self.private_value(request, offset);
+        self.access(request, offset);
+        self.pass(work, value);
+    }
+
+    /// The end of what was begun.
+    pub(crate) fn after(&mut self, act: &Act, word: Option<u32>)
+        ensures { self.new ≡ after act.now word self.old }
+    {
+        match *act {
+            Act::Asleep | Act::Stopped(_) => {}
+            Act::Fault => self.fault(),
+            Act::Inner(work) => self.after_inner(&work),
+            Act::Read(work, request, told) => {
+                let value = lanes(request.size, request.address, told);
+                self.after_access(word, &work, Some(value));
+            }
+            Act::Write(work, _) => self.after_access(word, &work, None),
+            Act::Outward(work, request) => self.after_outward(word, &work, &request),
+            Act::Private(work, request, offset) => self.after_private(&work, &request, offset),
+        }
+    }
+
+    /// The system timer and the interrupt lines have their turn.
+    #[tactic(auto, unfolding(crate::specs::Cycle::closed))]
+    pub(crate) fn close(&mut self, lines: u32, cycle: u64)
+        ensures { self.new ≡ closed lines cycle self.old }
+    {
+        let event = self.nvic.end_cycle(lines, cycle);
+        self.event = self.event || event;
     }
 }

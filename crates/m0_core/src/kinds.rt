@@ -1,7 +1,7 @@
 //! The instructions that a core treats by themselves.
 
 ghost use Rattle.std.specs.Prelude.{◌≡◌};
-ghost use Rattle.m0_core.specs.Kinds.{is_breakpoint, is_signal, awaits_event, awaits_interrupt, is_trap};
+ghost use Rattle.m0_core.specs.Kinds.{is_breakpoint, is_signal, awaits_event, awaits_interrupt, is_call, is_undefined};
 
 use rp_base::op::Op;
 
@@ -33,9 +33,16 @@ pub(crate) fn awaits_interrupt(op: &Op) -> bool
     matches!(op, Op::Wfi)
 }
 
-/// An instruction that an exception takes the place of.
-pub(crate) fn is_trap(op: &Op) -> bool
-    ensures { result ≡ is_trap op.now }
+/// SVC.
+pub(crate) fn is_call(op: &Op) -> bool
+    ensures { result ≡ is_call op.now }
 {
-    matches!(op, Op::Svc { .. } | Op::Udf { .. } | Op::Undefined)
+    matches!(op, Op::Svc { .. })
+}
+
+/// UDF, or no instruction.
+pub(crate) fn is_undefined(op: &Op) -> bool
+    ensures { result ≡ is_undefined op.now }
+{
+    matches!(op, Op::Udf { .. } | Op::Undefined)
 }

@@ -1,18 +1,22 @@
-//! A Cortex-M0+ core, a cycle at a time, without exceptions.
+//! A Cortex-M0+ core, a cycle at a time, with its exceptions and its private bus.
 //!
 //! In its first cycle an instruction is fetched and decoded, and its first beat begins; each further beat takes a cycle,
-//! and one that makes an access lasts until the bus has done it. Registers and flags change at the end of the last beat.
+//! and one that makes an access lasts until the bus has done it. Registers and flags change at the end of the last beat. The entry to an exception and the return from it
+//! have beats of the same kind.
 #![tactic(auto)]
 
 pub mod doing;
+mod entry;
 mod fetch;
 mod finish;
 mod kinds;
 mod lanes;
+mod private;
 pub mod processor;
+mod returns;
 mod step;
 #[cfg(test)]
 mod tests;
 
-pub use doing::Doing;
+pub use doing::{Act, Doing, Work};
 pub use processor::Core;

@@ -1,11 +1,12 @@
 //! The core: its state, how it starts, and its readers.
 
 ghost use Rattle.std.specs.Prelude.{◌≡◌};
-ghost use Rattle.m0_core.specs.Start.{clear_registers};
+ghost use Rattle.m0_core.specs.Start.{clear_registers, with_vectors};
 
+use crate::doing::Work;
 use arrayvec::ArrayVec;
 use m0_beats::Regs;
-use rp_base::op::Op;
+use m0_nvic::Nvic;
 use std::marker::Model;
 
 /// One core of the RP2040 (ARMv6-M Architecture Reference Manual, B1), between two cycles.
@@ -14,10 +15,10 @@ pub struct Core {
     number: u8,
     asleep: bool,
     pub(crate) regs: Regs,
-    vtor: u32,
+    pub(crate) nvic: Nvic,
     pub(crate) event: bool,
     offer: bool,
-    pub(crate) op: Option<Op>,
+    pub(crate) work: Option<Work>,
     pub(crate) place: usize,
     pub(crate) read: ArrayVec<u32, 16>,
 }
@@ -27,7 +28,7 @@ impl Model for Core {
 
     ghost Value = { State };
 
-    ghost view = { λ c. record { number = c.number; asleep = c.asleep; regs = c.regs; vtor = c.vtor; event = c.event; offer = c.offer; op = c.op; place = c.place; read = c.read.items } };
+    ghost view = { λ c. record { number = c.number; asleep = c.asleep; regs = c.regs; nvic = c.nvic; event = c.event; offer = c.offer; work = c.work; place = c.place; read = c.read.items } };
 }
 
 /// Registers and flags that are 0, but for MSP, LR, PC and T.
@@ -51,6 +52,15 @@ fn clear_registers(sp: u32, lr: u32, pc: u32, t: bool) -> Regs
     }
 }
 
+/// No exception is pending or active, and the vector table is there.
+fn with_vectors(vtor: u32) -> Nvic
+    ensures { result ≡ with_vectors vtor }
+{
+    let mut nvic = Nvic::new();
+    let _ = nvic.effect(0xd08, Some(vtor));
+    nvic
+}
+
 impl Core {
     ghost use Rattle.std.specs.Prelude.{◌≡◌, true};
     ghost use Rattle.m0_beats.specs.Registers.{register_words};
@@ -64,10 +74,10 @@ impl Core {
             number,
             asleep: true,
             regs: clear_registers(0, 0, 0, false),
-            vtor: 0,
+            nvic: Nvic::new(),
             event: false,
             offer: false,
-            op: None,
+            work: None,
             place: 0,
             read: ArrayVec::new(),
         }
@@ -80,9 +90,9 @@ impl Core {
     {
         self.asleep = false;
         self.regs = clear_registers(sp & !3, 0xffff_ffff, entry & !1, entry & 1 == 1);
-        self.vtor = vtor & !0xff;
+        self.nvic = with_vectors(vtor);
         self.event = false;
-        self.op = None;
+        self.work = None;
         self.place = 0;
         self.read.clear();
     }
@@ -136,10 +146,10 @@ impl Core {
         self.number = other.number;
         self.asleep = other.asleep;
         self.regs = other.regs;
-        self.vtor = other.vtor;
+        self.nvic = other.nvic;
         self.event = other.event;
         self.offer = other.offer;
-        self.op = other.op;
+        self.work = other.work;
         self.place = other.place;
         self.read.clear();
         let _ = self.read.try_extend_from_slice(other.read.as_slice());

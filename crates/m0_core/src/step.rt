@@ -4,16 +4,16 @@ ghost use Rattle.std.specs.Prelude.{None};
 ghost use Rattle.m0_core.specs.Fetch.{asks};
 ghost use Rattle.m0_core.specs.Cycle.{wanted, next};
 
-use crate::doing::Doing;
-use crate::finish::{done_word, want};
-use crate::lanes::lanes;
+use crate::doing::{Act, Doing};
+use crate::fetch::word_of;
+use crate::finish::{done_word, is_idle, want};
 use crate::processor::Core;
 use lane_look::{Ask, Lane, Look, Marks, Turn, Want};
 
 impl Lane<()> for Core {
     type Begun = Doing;
 
-    ghost asks = { λ _ s cycle. asks s };
+    ghost asks = { λ _ s cycle. asks s cycle };
 
     ghost wanted = { wanted };
 
@@ -21,13 +21,18 @@ impl Lane<()> for Core {
 
     ghost marked = { λ _ s begun turns. None };
 
-    #[tactic(auto, unfolding(crate::specs::Fetch::asks))]
-    fn begin<K: Look>(&self, _env: &(), _cycle: u64, look: &mut K) -> Doing {
+    #[tactic(auto, unfolding(crate::specs::Fetch::asks), using(crate::proofs::Carrying::carrying))]
+    fn begin<K: Look>(&self, _env: &(), cycle: u64, look: &mut K) -> Doing {
         if self.is_asleep() {
-            return Doing::Asleep;
+            return Doing {
+                act: Act::Asleep,
+                lines: 0,
+                cycle,
+            };
         }
-        let _lines = look.ask(Ask::Lines);
-        self.begin_awake(look)
+        let lines = word_of(look.ask(Ask::Lines));
+        let act = self.begin_awake(look);
+        Doing { act, lines, cycle }
     }
 
     fn wants(begun: &Doing) -> [Want; 2] {
@@ -36,16 +41,9 @@ impl Lane<()> for Core {
 
     #[tactic(auto, unfolding(crate::specs::Cycle::next))]
     fn finish(&mut self, _env: &(), begun: &Doing, turns: [Turn; 2], _marks: &mut Marks) {
-        let word = done_word(&turns);
-        match *begun {
-            Doing::Asleep | Doing::Stopped(_) => {}
-            Doing::Inner(op) => self.after_inner(&op),
-            Doing::Read(op, request, told) => {
-                let value = lanes(request.size, request.address, told);
-                self.after_access(word, &op, Some(value));
-            }
-            Doing::Write(op, _) => self.after_access(word, &op, None),
-            Doing::Outward(op, request) => self.after_outward(word, &op, &request),
+        if !is_idle(&begun.act) {
+            self.after(&begun.act, done_word(&turns));
+            self.close(begun.lines, begun.cycle);
         }
     }
 

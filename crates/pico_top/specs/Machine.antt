@@ -52,7 +52,7 @@ answer_of sram (ask.Outs block) = 0
 
 -- what core 0 begins
 unfoldable pub begun : State → Doing
-begun s = answered (answer_of s.sram) (asks s.core0)
+begun s = answered (answer_of s.sram) (asks s.core0 s.cycle)
 
 -- what core 0 wants
 abbrev pub wish : State → Want

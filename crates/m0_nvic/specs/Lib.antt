@@ -1,0 +1,6 @@
+pub mod Changes
+pub mod Cycle
+pub mod Numbers
+pub mod Priority
+pub mod State
+pub mod Words
