@@ -1,0 +1,5 @@
+pub mod Changes
+pub mod Cycle
+pub mod Numbers
+pub mod Priority
+pub mod State

@@ -1,0 +1,51 @@
+-- Priorities (ARMv6-M Architecture Reference Manual, B1.5.4): a lower number comes first.
+use Rattle.std.specs.Prelude.{ℕ, Bool, false, ◌||◌, ◌&&◌, ◌==◌, nat_lt, ℤ, pos, negsuc, int_lt, int_min, if◌then◌else◌, List, [], ◌∷◌, Option, Some, None, bit_and, slice_index}
+use Rattle.std.specs.Ordering.{int_eq}
+use Rattle.m0_nvic.specs.State.{Exceptions}
+use Rattle.m0_nvic.specs.Numbers.{members}
+
+-- the priority of an exception: NMI and HardFault have fixed ones
+abbrev pub rank_of : Exceptions → ℕ → ℤ
+rank_of s n = if n == 2 then negsuc 1 else if n == 3 then negsuc 0 else pos (slice_index s.priorities n)
+
+-- pairs of priority and number in their order
+abbrev pub precedes : Exceptions → ℕ → ℕ → Bool
+precedes s n m = int_lt (rank_of s n) (rank_of s m) || (int_eq (rank_of s n) (rank_of s m) && nat_lt n m)
+
+-- the number whose pair is the least
+abbrev pub nearer : Exceptions → ℕ → Option ℕ → Option ℕ
+nearer s n None = Some n
+nearer s n (Some m) = if precedes s m n then Some m else Some n
+
+abbrev pub least : Exceptions → List ℕ → Option ℕ
+least s [] = None
+least s (n ∷ ns) = nearer s n (least s ns)
+
+-- the least member of a set
+unfoldable pub least_of : Exceptions → ℕ → Option ℕ
+least_of s set = least s (members set)
+
+-- the best exception: the least one that is pending and enabled
+abbrev pub best_of : Exceptions → Option ℕ
+best_of s = least_of s (bit_and s.pending s.enabled)
+
+-- the priority of the least active exception, 256 where none is active (B1.5.4, ExecutionPriority)
+abbrev pub rank_or_none : Exceptions → Option ℕ → ℤ
+rank_or_none s None = pos 256
+rank_or_none s (Some n) = rank_of s n
+
+abbrev pub active_priority : Exceptions → ℤ
+active_priority s = rank_or_none s (least_of s s.active)
+
+-- PRIMASK raises it to 0
+abbrev pub priority_of : Exceptions → Bool → ℤ
+priority_of s primask = if primask then int_min (active_priority s) (pos 0) else active_priority s
+
+-- the best exception comes before the execution priority
+abbrev pub comes_before : Exceptions → ℤ → Option ℕ → Bool
+comes_before s priority None = false
+comes_before s priority (Some n) = int_lt (rank_of s n) priority
+
+-- it wakes whatever PRIMASK is (B1.5.19)
+abbrev pub wakes_of : Exceptions → Bool
+wakes_of s = comes_before s (priority_of s false) (best_of s)
