@@ -4,7 +4,7 @@ use Rattle.std.specs.Prelude.{ℕ, ◌+◌, ◌-◌, ◌%◌, ◌^◌, Bool, tru
 use Rattle.m0_alu.specs.Word.{has_bit}
 use Rattle.m0_nvic.specs.declared.systick.SysTick.{SysTick}
 use Rattle.m0_nvic.specs.State.{Exceptions}
-use Rattle.m0_nvic.specs.Numbers.{minus, interrupts, of_interrupts}
+use Rattle.m0_nvic.specs.Numbers.{minus, of_interrupts}
 use Rattle.m0_nvic.specs.Changes.{with_pending, pended}
 
 -- the timer counts each cycle of the core's clock, or each microsecond
@@ -34,13 +34,13 @@ after_timer cycle s =
 
 -- an interrupt becomes pending where its line is high, unless it was high before and the interrupt is active
 abbrev pub risen : ℕ → Exceptions → ℕ
-risen lines s = minus lines (bit_and s.lines (interrupts s.active))
+risen lines s = minus (of_interrupts lines) (bit_and (of_interrupts s.lines) s.active)
 
 abbrev pub with_lines : ℕ → Exceptions → Exceptions
 with_lines lines s = record s { lines = lines }
 
 abbrev pub after_lines : ℕ → Exceptions → Exceptions
-after_lines lines s = with_lines lines (with_pending (of_interrupts (risen lines s)) s)
+after_lines lines s = with_pending (risen lines s) (with_lines lines s)
 
 -- a new span begins, in which nothing has arrived yet
 abbrev pub with_none_arrived : Exceptions → Exceptions

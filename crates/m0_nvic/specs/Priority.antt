@@ -1,5 +1,6 @@
 -- Priorities (ARMv6-M Architecture Reference Manual, B1.5.4): a lower number comes first.
-use Rattle.std.specs.Prelude.{ℕ, Bool, false, ◌||◌, ◌&&◌, ◌==◌, nat_lt, ℤ, pos, negsuc, int_lt, int_min, if◌then◌else◌, List, [], ◌∷◌, Option, Some, None, bit_and, slice_index}
+use Rattle.std.specs.Prelude.{ℕ, Bool, false, ◌||◌, ◌&&◌, ◌==◌, nat_lt, ℤ, pos, negsuc, int_lt, if◌then◌else◌, List, [], ◌∷◌, Option, Some, None, bit_and, slice_index}
+use Rattle.std.specs.Int.{int_min}
 use Rattle.std.specs.Ordering.{int_eq}
 use Rattle.m0_nvic.specs.State.{Exceptions}
 use Rattle.m0_nvic.specs.Numbers.{members}

@@ -1,6 +1,6 @@
 -- The exceptions of a core as sets (ARMv6-M Architecture Reference Manual, B1.5.1 and B3.4): an exception has a number,
 -- Reset 1, NMI 2, HardFault 3, SVCall 11, PendSV 14, SysTick 15, and 16 + n for interrupt n.
-use Rattle.std.specs.Prelude.{ℕ, Bool, List}
+use Rattle.std.specs.Prelude.{ℕ, ◌+◌, ◌^◌, Bool, false, List, replicate}
 use Rattle.m0_nvic.specs.declared.systick.SysTick.{SysTick}
 
 -- a set of exceptions is a number whose bit n tells whether exception n is in it
@@ -18,3 +18,22 @@ pub record Exceptions : Type 0 where
   -- the words VTOR and SCR (B3.2.5 and B3.2.7)
   pub vtor : ℕ
   pub scr : ℕ
+
+abbrev pub timer_at_reset : SysTick
+timer_at_reset =
+    record { enable = false; interrupt = false; core_clock = false; counted = false; reload = 0; current = 0 }
+
+-- at reset the system's exceptions alone are enabled, which always are: NMI, HardFault, SVCall, PendSV and SysTick
+abbrev pub at_reset : Exceptions
+at_reset =
+    record {
+        pending = 0;
+        active = 0;
+        enabled = 2 ^ 2 + 2 ^ 3 + 2 ^ 11 + 2 ^ 14 + 2 ^ 15;
+        priorities = replicate 48 0;
+        lines = 0;
+        arrived = false;
+        systick = timer_at_reset;
+        vtor = 0;
+        scr = 0
+    }

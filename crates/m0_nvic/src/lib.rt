@@ -3,8 +3,9 @@
 #![tactic(auto)]
 
 ghost use Rattle.std.specs.Prelude.{◌≡◌, ◌^◌, ◌<◌, false};
-ghost use Rattle.m0_nvic.specs.Numbers.{is_member, is_number, minus, interrupts};
-ghost use Rattle.m0_nvic.specs.Priority.{rank_of, precedes, least_of, best_of, priority_of, wakes_of, active_priority};
+ghost use Rattle.m0_nvic.specs.State.{at_reset};
+ghost use Rattle.m0_nvic.specs.Numbers.{is_member, interrupts, of_interrupts};
+ghost use Rattle.m0_nvic.specs.Priority.{rank_of, precedes, nearer, least_of, best_of, priority_of, wakes_of, active_priority};
 ghost use Rattle.m0_nvic.specs.Changes.{pended, entered, left, with_pending};
 ghost use Rattle.m0_nvic.specs.Cycle.{after_timer, after_lines, after_cycle, is_event};
 
@@ -66,6 +67,128 @@ impl Model for Nvic {
 }
 
 impl Nvic {
+    /// No exception is pending or active, no interrupt is enabled, and all else is 0.
+    pub fn new() -> Nvic
+        ensures { result ≡ at_reset }
+    {
+        Nvic {
+            pending: 0,
+            active: 0,
+            enabled: 0xc80c,
+            priorities: [0; 48],
+            lines: 0,
+            arrived: false,
+            systick: SysTick {
+                enable: false,
+                interrupt: false,
+                core_clock: false,
+                counted: false,
+                reload: 0,
+                current: 0,
+            },
+            vtor: 0,
+            scr: 0,
+        }
+    }
+
+    /// The best exception: of those that are pending and enabled, the one of the least priority, and of equal ones that
+    /// of the least number. None where no enabled exception is pending.
+    pub fn best(&self) -> Option<u8>
+        ensures { result ≡ best_of self.now }
+    {
+        self.least(self.pending & self.enabled)
+    }
+
+    /// The execution priority: the least of the active exceptions' priorities, 256 where none is active, and at most 0
+    /// with PRIMASK.
+    pub fn priority(&self, primask: bool) -> i32
+        ensures { result ≡ priority_of self.now primask }
+    {
+        let active = match self.least(self.active) {
+            Some(number) => self.rank(number),
+            None => 256,
+        };
+        if primask { active.min(0) } else { active }
+    }
+
+    /// The best exception wakes a core that sleeps: its priority is below the execution priority without PRIMASK.
+    pub fn wakes(&self) -> bool
+        ensures { result ≡ wakes_of self.now }
+    {
+        match self.best() {
+            Some(number) => self.rank(number) < self.priority(false),
+            None => false,
+        }
+    }
+
+    /// The least member of a set by priority, then by number.
+    #[tactic(auto, using(crate::proofs::Members::passing))]
+    fn least(&self, set: u64) -> Option<u8>
+        ensures { result ≡ least_of self.now set }
+    {
+        if set == 0 {
+            return None;
+        }
+        let mut best = None;
+        for passed in 0..NUMBERS {
+            let number = NUMBERS - 1 - passed;
+            if is_member(set, number) {
+                best = Some(self.nearer(number, best));
+            }
+        }
+        best
+    }
+
+    /// The one of two exceptions that comes first.
+    fn nearer(&self, number: u8, other: Option<u8>) -> u8
+        ensures { Some result ≡ nearer self.now number other }
+    {
+        match other {
+            Some(other) if self.precedes(other, number) => other,
+            _ => number,
+        }
+    }
+
+    /// One exception comes before another: by priority, then by number.
+    fn precedes(&self, number: u8, other: u8) -> bool
+        ensures { result ≡ precedes self.now number other }
+    {
+        let (first, second) = (self.rank(number), self.rank(other));
+        first < second || (first == second && number < other)
+    }
+
+    /// Ends a cycle: the system timer counts, then interrupt n becomes pending where bit n of `lines` is high and was low
+    /// in the cycle before or the interrupt is not active. True exactly where SEVONPEND is set and an exception became
+    /// pending since the call before.
+    pub fn end_cycle(&mut self, lines: u32, cycle: u64) -> bool
+        ensures after { self.new ≡ after_cycle lines cycle self.old }
+        ensures event { result ≡ is_event lines cycle self.old }
+    {
+        self.end_timer(cycle);
+        self.end_lines(lines);
+        let event = (self.scr >> 4) & 1 == 1 && self.arrived;
+        self.arrived = false;
+        event
+    }
+
+    /// The system timer counts.
+    fn end_timer(&mut self, cycle: u64)
+        ensures { self.new ≡ after_timer cycle self.old }
+    {
+        if self.systick.end_cycle(cycle) {
+            self.pend(15);
+        }
+    }
+
+    /// The interrupt lines make interrupts pending.
+    fn end_lines(&mut self, lines: u32)
+        ensures { self.new ≡ after_lines lines self.old }
+    {
+        let held = of_interrupts(self.lines) & self.active;
+        self.lines = lines;
+        self.add_pending(of_interrupts(lines) & !held);
+    }
+
     /// The priority of an exception: -2 for NMI, -1 for HardFault, and 0, 64, 128 or 192 for the others.
     pub fn rank(&self, number: u8) -> i32
         ensures { result ≡ rank_of self.now number }
@@ -128,6 +251,20 @@ fn bit(number: u8) -> u64
     ensures { result ≡ 2 ^ number }
 {
     1 << number
+}
+
+/// The set of a word of interrupts.
+fn of_interrupts(word: u32) -> u64
+    ensures { result ≡ of_interrupts word }
+{
+    u64::from(word) << 16
+}
+
+/// The interrupts of a set as a word.
+fn interrupts(set: u64) -> u32
+    ensures { result ≡ interrupts set }
+{
+    ((set >> 16) & 0xffff_ffff) as u32
 }
 
 /// An exception is in a set.
