@@ -3,3 +3,4 @@ pub mod Cycle
 pub mod Numbers
 pub mod Priority
 pub mod State
+pub mod Words

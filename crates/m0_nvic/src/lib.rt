@@ -10,6 +10,7 @@ ghost use Rattle.m0_nvic.specs.Changes.{pended, entered, left, with_pending};
 ghost use Rattle.m0_nvic.specs.Cycle.{after_timer, after_lines, after_cycle, is_event};
 
 pub mod systick;
+mod words;
 
 use std::marker::Model;
 use systick::SysTick;
