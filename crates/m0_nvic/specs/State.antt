@@ -27,13 +27,13 @@ timer_at_reset =
 abbrev pub at_reset : Exceptions
 at_reset =
     record {
-        pending = 0;
-        active = 0;
-        enabled = 2 ^ 2 + 2 ^ 3 + 2 ^ 11 + 2 ^ 14 + 2 ^ 15;
-        priorities = replicate 48 0;
-        lines = 0;
-        arrived = false;
-        systick = timer_at_reset;
-        vtor = 0;
-        scr = 0
+      pending = 0;
+      active = 0;
+      enabled = 2 ^ 2 + 2 ^ 3 + 2 ^ 11 + 2 ^ 14 + 2 ^ 15;
+      priorities = replicate 48 0;
+      lines = 0;
+      arrived = false;
+      systick = timer_at_reset;
+      vtor = 0;
+      scr = 0;
     }

@@ -134,7 +134,7 @@ cleared_if asked n s = if asked then without_pending (2 ^ n) s else s
 abbrev pub icsr_written : ℕ → Exceptions → Exceptions
 icsr_written w s =
     cleared_if (has_bit w 25) 15 (cleared_if (has_bit w 27) 14
-        (pended_if (has_bit w 26) 15 (pended_if (has_bit w 28) 14 (pended_if (has_bit w 31) 2 s))))
+    (pended_if (has_bit w 26) 15 (pended_if (has_bit w 28) 14 (pended_if (has_bit w 31) 2 s))))
 
 abbrev pub control_written : ℕ → ℕ → Exceptions → Exceptions
 control_written offset w s =

@@ -10,6 +10,8 @@ ghost use Rattle.m0_nvic.specs.Changes.{pended, entered, left, with_pending};
 ghost use Rattle.m0_nvic.specs.Cycle.{after_timer, after_lines, after_cycle, is_event};
 
 pub mod systick;
+#[cfg(test)]
+mod tests;
 mod words;
 
 use std::marker::Model;
@@ -38,33 +40,29 @@ impl Model for Nvic {
 
     ghost Value = { Exceptions };
 
-    ghost view = {
-        λ a. record {
-            pending = a.pending;
-            active = a.active;
-            enabled = a.enabled;
-            priorities = a.priorities;
-            lines = a.lines;
-            arrived = a.arrived;
-            systick = a.systick;
-            vtor = a.vtor;
-            scr = a.scr
-        }
-    };
+    ghost view = { λ a. record {
+      pending = a.pending;
+      active = a.active;
+      enabled = a.enabled;
+      priorities = a.priorities;
+      lines = a.lines;
+      arrived = a.arrived;
+      systick = a.systick;
+      vtor = a.vtor;
+      scr = a.scr;
+    } };
 
-    ghost inverse = {
-        λ a. record {
-            pending = a.pending;
-            active = a.active;
-            enabled = a.enabled;
-            priorities = a.priorities;
-            lines = a.lines;
-            arrived = a.arrived;
-            systick = a.systick;
-            vtor = a.vtor;
-            scr = a.scr
-        }
-    };
+    ghost inverse = { λ a. record {
+      pending = a.pending;
+      active = a.active;
+      enabled = a.enabled;
+      priorities = a.priorities;
+      lines = a.lines;
+      arrived = a.arrived;
+      systick = a.systick;
+      vtor = a.vtor;
+      scr = a.scr;
+    } };
 }
 
 impl Nvic {

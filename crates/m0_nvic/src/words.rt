@@ -118,7 +118,10 @@ impl Nvic {
             0xd10 => Some(self.scr),
             0xd1c => Some(u32::from(self.priorities[11]) * 0x100_0000),
             0xd20 => {
-                Some(u32::from(self.priorities[15]) * 0x100_0000 + u32::from(self.priorities[14]) * 0x1_0000)
+                Some(
+                    u32::from(self.priorities[15]) * 0x100_0000
+                        + u32::from(self.priorities[14]) * 0x1_0000,
+                )
             }
             _ => fixed_word(offset),
         }
@@ -200,7 +203,10 @@ impl SysTick {
     fn csr(&self) -> u32
         ensures { result ≡ csr_of self.now }
     {
-        one(self.enable) + one(self.interrupt) * 2 + one(self.core_clock) * 4 + one(self.counted) * 0x1_0000
+        one(self.enable)
+            + one(self.interrupt) * 2
+            + one(self.core_clock) * 4
+            + one(self.counted) * 0x1_0000
     }
 
     /// What a read does.

@@ -1,0 +1,75 @@
+//! Words as the manual gives them, and a run of the system timer.
+
+use crate::Nvic;
+
+/// Offsets, what is written there, and what is read after.
+const WORDS: [(u16, u32, u32); 22] = [
+    (0x014, 0xffff_ffff, 0x00ff_ffff),
+    (0x018, 0x0000_1234, 0x0000_0000),
+    (0x01c, 0xffff_ffff, 0x0000_0000),
+    (0x100, 0x8000_0003, 0x8000_0003),
+    (0x180, 0x0000_0001, 0x8000_0002),
+    (0x200, 0x8000_0030, 0x8000_0030),
+    (0x280, 0x0000_0010, 0x8000_0020),
+    (0x400, 0xffff_ffff, 0xc0c0_c0c0),
+    (0x400, 0x0000_4080, 0x0000_4080),
+    (0x41c, 0x80ff_c07f, 0x80c0_c040),
+    (0xd00, 0x0000_0000, 0x410c_c601),
+    (0xd04, 0x9400_0000, 0x9440_2000),
+    (0xd04, 0x0a00_0000, 0x8040_2000),
+    (0xd04, 0x1800_0000, 0x8040_2000),
+    (0xd08, 0x2000_01ff, 0x2000_0100),
+    (0xd0c, 0x05fa_0000, 0xfa05_0000),
+    (0xd0c, 0x0000_0004, 0xfa05_0000),
+    (0xd10, 0xffff_ffff, 0x0000_0016),
+    (0xd14, 0xffff_ffff, 0x0000_0208),
+    (0xd1c, 0xffff_ffff, 0xc000_0000),
+    (0xd20, 0xffff_ffff, 0xc0c0_0000),
+    (0xd20, 0x4080_0000, 0x4080_0000),
+];
+
+/// Offsets of no word.
+const MISSING: [u16; 8] = [0x000, 0x00c, 0x020, 0x104, 0x402, 0x420, 0xd18, 0xd24];
+
+#[test]
+fn words(rt: HostRuntime) {
+    let mut nvic = Nvic::new();
+    for (offset, written, read) in WORDS {
+        assert!(rt; nvic.effect(offset, Some(written)), "{offset:x}");
+        assert_eq!(rt; nvic.read(offset, 0), Some(read), "{offset:x}");
+    }
+    for offset in MISSING {
+        assert_eq!(rt; nvic.read(offset, 0), None, "{offset:x}");
+        assert!(rt; !nvic.effect(offset, None), "{offset:x}");
+    }
+    assert!(rt; !nvic.effect(0xd0c, Some(0x05fa_0004)));
+}
+
+#[test]
+fn timer_and_priorities(rt: HostRuntime) {
+    let mut nvic = Nvic::new();
+    // a reload value of 2 gives a period of 3 cycles
+    assert!(rt; nvic.effect(0x014, Some(2)) && nvic.effect(0x010, Some(7)));
+    let mut seen = 0;
+    for cycle in 0..10 {
+        nvic.end_cycle(0, cycle);
+        seen = seen * 4 + nvic.read(0x018, 0).unwrap_or(3) as u64 % 4;
+    }
+    assert_eq!(rt; seen, 0b10_01_00_10_01_00_10_01_00_10);
+    assert_eq!(rt; nvic.best(), Some(15));
+    assert_eq!(rt; nvic.read(0x010, 0), Some(0x1_0007));
+    assert!(rt; nvic.effect(0x010, None));
+    assert_eq!(rt; nvic.read(0x010, 0), Some(7));
+    // interrupt 3 has a lower priority than SysTick, then a higher one
+    assert!(rt; nvic.effect(0x100, Some(8)) && nvic.effect(0x400, Some(0x4000_0000)));
+    nvic.end_cycle(8, 10);
+    assert_eq!(rt; nvic.best(), Some(15));
+    nvic.enter(15);
+    assert_eq!(rt; nvic.best(), Some(19));
+    assert!(rt; !nvic.wakes());
+    nvic.leave(15);
+    assert!(rt; nvic.wakes());
+    nvic.enter(19);
+    assert_eq!(rt; nvic.priority(false), 64);
+    assert_eq!(rt; nvic.priority(true), 0);
+}
