@@ -1,6 +1,6 @@
 -- The end of a cycle: the system timer, then the interrupt lines (ARMv6-M Architecture Reference Manual, B3.3, SysTick,
 -- and B3.4.1, level-sensitive and pulse interrupts; RP2040 Datasheet, 2.4.5.1.1 and 4.7.5 for the tick).
-use Rattle.std.specs.Prelude.{ℕ, ◌+◌, ◌-◌, ◌%◌, ◌^◌, Bool, true, false, ◌||◌, ◌&&◌, ◌==◌, if◌then◌else◌, bit_and}
+use Rattle.std.specs.Prelude.{ℕ, ◌+◌, ◌-◌, ◌%◌, Bool, true, false, ◌||◌, ◌&&◌, ◌==◌, if◌then◌else◌, bit_and}
 use Rattle.m0_alu.specs.Word.{has_bit}
 use Rattle.m0_nvic.specs.declared.systick.SysTick.{SysTick}
 use Rattle.m0_nvic.specs.State.{Exceptions}

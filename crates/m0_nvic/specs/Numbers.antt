@@ -1,6 +1,5 @@
 -- Sets of exception numbers as numbers of bits.
 use Rattle.std.specs.Prelude.{ℕ, zero, suc, ◌+◌, ◌-◌, ◌*◌, ◌/◌, ◌%◌, ◌^◌, Bool, ◌&&◌, nat_lt, List, [], ◌∷◌, bit_and, filter}
-use Rattle.std.specs.Int.{bit_at}
 use Rattle.m0_alu.specs.Word.{has_bit}
 
 -- there are 48 exception numbers: 16 of the system and 32 interrupts
