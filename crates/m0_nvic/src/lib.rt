@@ -2,10 +2,10 @@
 //! the private bus that show them. Everything is defined in `specs/` on sets of exception numbers.
 #![tactic(auto)]
 
-ghost use Rattle.std.specs.Prelude.{◌≡◌, ◌^◌, ◌<◌, false};
+ghost use Rattle.std.specs.Prelude.{bit_and, ◌≡◌, ◌^◌, ◌<◌, false};
 ghost use Rattle.m0_nvic.specs.State.{at_reset};
 ghost use Rattle.m0_nvic.specs.Numbers.{is_member, interrupts, of_interrupts};
-ghost use Rattle.m0_nvic.specs.Priority.{rank_of, precedes, nearer, least_of, best_of, priority_of, wakes_of, active_priority};
+ghost use Rattle.m0_nvic.specs.Priority.{rank_of, precedes, nearer, least_of, IsLeast, best_of, priority_of, wakes_of, active_priority};
 ghost use Rattle.m0_nvic.specs.Changes.{pended, entered, left, with_pending};
 ghost use Rattle.m0_nvic.specs.Cycle.{after_timer, after_lines, after_cycle, is_event};
 
@@ -92,8 +92,10 @@ impl Nvic {
 
     /// The best exception: of those that are pending and enabled, the one of the least priority, and of equal ones that
     /// of the least number. None where no enabled exception is pending.
+    #[tactic(auto, using(crate::proofs::Least::least_laws))]
     pub fn best(&self) -> Option<u8>
-        ensures { result ≡ best_of self.now }
+        ensures value { result ≡ best_of self.now }
+        ensures least { IsLeast self.now (bit_and self.now.pending self.now.enabled) result }
     {
         self.least(self.pending & self.enabled)
     }
