@@ -1,9 +1,10 @@
 -- The least member of a set is a member that no member precedes.
-use Rattle.std.proofs.Common.{◌≡◌, ℕ, zero, suc, ◌+◌, ◌<◌, ◌≤◌, Bool, true, false, ◌||◌, ◌&&◌, nat_lt, ℤ, List, ◌∷◌, refl, subst, cond, inl, inr, ◌⊎◌, arith, Option, Some, None}
+use Rattle.std.proofs.Common.{ap, sym, ◌≢◌, ◌^◌, ◌≡◌, ℕ, zero, suc, ◌+◌, ◌<◌, ◌≤◌, Bool, true, false, ◌||◌, ◌&&◌, nat_lt, ℤ, List, ◌∷◌, refl, subst, cond, inl, inr, ◌⊎◌, arith, Option, Some, None}
 use Rattle.std.specs.Prelude.{filter, int_lt}
 use Rattle.std.specs.Ordering.{int_eq}
 use Rattle.std.proofs.lemmas.Grind.{common_steps}
 use Rattle.std.proofs.lemmas.Int.{ints}
+use Rattle.std.proofs.lemmas.Nat.Bits.{bit_at-pow_same, bit_at-pow_other}
 use Rattle.std.proofs.lemmas.Bool.Decides.{nat_tests, Decides-int_eq}
 use Rattle.m0_alu.specs.Word.{has_bit}
 use Rattle.m0_nvic.specs.State.{Exceptions}
@@ -165,5 +166,39 @@ whole s set (Some m) h = (
 -- what is found is the least member
 pub least_of-is : (s : Exceptions) (set : ℕ) → IsLeast s set (least_of s set)
 least_of-is s set = whole s set (least_of s set) (least_whole s set)
+
+before-equal : (a : ℤ) (n : ℕ) (b : ℤ) (m : ℕ) → before a n b m ≡ false → before b m a n ≡ false → n ≡ m
+before-equal a n b m h i = grind (arith, ints, nat_tests, Decides-int_eq)
+
+-- there is one least member
+only_one : (s : Exceptions) (set : ℕ) (o p : Option ℕ) → IsLeast s set o → IsLeast s set p → o ≡ p
+only_one s set None None h i = refl
+only_one s set None (Some n) h i = contrary (is_member n set) i.0 (h n)
+only_one s set (Some m) None h i = contrary (is_member m set) h.0 (i m)
+only_one s set (Some m) (Some n) h i =
+    ap Some (before-equal (rank_of s m) m (rank_of s n) n (i.1 m h.0) (h.1 n i.0))
+
+pow_same : (k : ℕ) → has_bit (2 ^ k) k ≡ true
+pow_same k = rw (bit_at-pow_same k) refl
+
+pow_other : (k n : ℕ) → n ≢ k → has_bit (2 ^ k) n ≡ true → ⊥
+pow_other k n ne h = contrary (has_bit (2 ^ k) n) h (rw (bit_at-pow_other k n ne) refl)
+
+eq_or_ne : (n k : ℕ) → (n ≡ k) ⊎ (n ≢ k)
+eq_or_ne n k = grind arith
+
+bit-of_pow : (k n : ℕ) → has_bit (2 ^ k) n ≡ true → n ≡ k
+bit-of_pow k n h =
+    elim (eq_or_ne n k) [ inl same ↦ same | inr other ↦ absurd (pow_other k n other h) ]
+
+one-least : (s : Exceptions) (k : ℕ) → k < 48 → IsLeast s (2 ^ k) (Some k)
+one-least s k h = (
+  is_member-true k (2 ^ k) h (pow_same k),
+  λ n member. subst (λ i. precedes s i k ≡ false) (sym (bit-of_pow k n (is_member-bit n (2 ^ k) member))) (precedes-self s k),
+)
+
+-- the least member of a set of one
+pub least_of-one : (s : Exceptions) (k set : ℕ) → k < 48 → set ≡ 2 ^ k → least_of s set ≡ Some k
+least_of-one s k set h e = rw e (only_one s (2 ^ k) (least_of s (2 ^ k)) (Some k) (least_of-is s (2 ^ k)) (one-least s k h))
 
 pub ruleset least_laws = (least_of-is)

@@ -35,7 +35,7 @@ IsLeast s set (Some m) = (is_member m set ≡ true) × ((n : ℕ) → is_member 
 abbrev pub best_of : Exceptions → Option ℕ
 best_of s = least_of s (bit_and s.pending s.enabled)
 
--- the priority of the least active exception, 256 where none is active (B1.5.4, ExecutionPriority)
+-- the priority of the least active exception, 256 where none is active (B1.5.4)
 abbrev pub rank_or_none : Exceptions → Option ℕ → ℤ
 rank_or_none s None = pos 256
 rank_or_none s (Some n) = rank_of s n
@@ -52,6 +52,6 @@ abbrev pub comes_before : Exceptions → ℤ → Option ℕ → Bool
 comes_before s priority None = false
 comes_before s priority (Some n) = int_lt (rank_of s n) priority
 
--- it wakes whatever PRIMASK is (B1.5.19)
+-- it wakes a sleeping core whatever PRIMASK is (A6.7.76, WFI)
 abbrev pub wakes_of : Exceptions → Bool
 wakes_of s = comes_before s (priority_of s false) (best_of s)

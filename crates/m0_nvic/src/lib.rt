@@ -21,7 +21,7 @@ use systick::SysTick;
 const NUMBERS: u8 = 48;
 
 /// The exceptions of a core. A `number` is an exception number: Reset 1, NMI 2, HardFault 3, SVCall 11, PendSV 14,
-/// SysTick 15, and 16 + n for interrupt n, 0 to 31 (ARMv6-M Architecture Reference Manual, B1.5.1).
+/// SysTick 15, and 16 + n for interrupt n, 0 to 31 (ARMv6-M Architecture Reference Manual, B1.5.2).
 #[derive(Clone, Copy)]
 pub struct Nvic {
     pending: u64,
@@ -122,6 +122,13 @@ impl Nvic {
         }
     }
 
+    /// VTOR: the address of the vector table, a multiple of 256.
+    pub fn vtor(&self) -> u32
+        ensures { result ≡ self.now.vtor }
+    {
+        self.vtor
+    }
+
     /// The least member of a set by priority, then by number.
     #[tactic(auto, using(crate::proofs::Members::passing))]
     fn least(&self, set: u64) -> Option<u8>
@@ -129,6 +136,10 @@ impl Nvic {
     {
         if set == 0 {
             return None;
+        }
+        let lowest = set.trailing_zeros() as u8;
+        if lowest < NUMBERS && set == bit(lowest) {
+            return Some(lowest);
         }
         let mut best = None;
         for passed in 0..NUMBERS {
