@@ -24,10 +24,10 @@ numbers_from-next p h =
 is_member-bit : (n set : ℕ) → n < 48 → is_member n set ≡ has_bit set n
 is_member-bit n set h = grind (arith, common_steps)
 
-filter-member : (p : ℕ → Bool) (x : ℕ) (xs : List ℕ) → p x ≡ true → filter p (x ∷ xs) ≡ x ∷ filter p xs
+pub filter-member : (p : ℕ → Bool) (x : ℕ) (xs : List ℕ) → p x ≡ true → filter p (x ∷ xs) ≡ x ∷ filter p xs
 filter-member p x xs e = grind (arith, common_steps)
 
-filter-other : (p : ℕ → Bool) (x : ℕ) (xs : List ℕ) → p x ≡ false → filter p (x ∷ xs) ≡ filter p xs
+pub filter-other : (p : ℕ → Bool) (x : ℕ) (xs : List ℕ) → p x ≡ false → filter p (x ∷ xs) ≡ filter p xs
 filter-other p x xs e = grind (arith, common_steps)
 
 pub least_passed-member : (s : Exceptions) (set p : ℕ) → p < 48 → is_member (47 - p) set ≡ true →

@@ -1,5 +1,5 @@
 -- The end of a cycle: the system timer, then the interrupt lines (ARMv6-M Architecture Reference Manual, B3.3, SysTick,
--- and B3.4.1, level-sensitive and pulse interrupts; RP2040 Datasheet, 2.4.5.1.1 and 4.7.5 for the tick).
+-- and B3.4.1, level-sensitive and pulse interrupts; RP2040 Datasheet, 4.7.2, Tick Generation).
 use Rattle.std.specs.Prelude.{ℕ, ◌+◌, ◌-◌, ◌%◌, Bool, true, false, ◌||◌, ◌&&◌, ◌==◌, if◌then◌else◌, bit_and}
 use Rattle.m0_alu.specs.Word.{has_bit}
 use Rattle.m0_nvic.specs.declared.systick.SysTick.{SysTick}
@@ -7,7 +7,8 @@ use Rattle.m0_nvic.specs.State.{Exceptions}
 use Rattle.m0_nvic.specs.Numbers.{minus, of_interrupts}
 use Rattle.m0_nvic.specs.Changes.{with_pending, pended}
 
--- the timer counts each cycle of the core's clock, or each microsecond
+-- the timer counts each cycle of the core's clock, or each microsecond, which ends with a cycle whose number plus 1 is a
+-- multiple of 125
 abbrev pub counts_in : ℕ → SysTick → Bool
 counts_in cycle t = t.enable && (t.core_clock || (cycle + 1) % 125 == 0)
 

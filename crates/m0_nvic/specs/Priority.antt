@@ -1,9 +1,9 @@
 -- Priorities (ARMv6-M Architecture Reference Manual, B1.5.4): a lower number comes first.
-use Rattle.std.specs.Prelude.{ℕ, Bool, false, ◌||◌, ◌&&◌, ◌==◌, nat_lt, ℤ, pos, negsuc, int_lt, if◌then◌else◌, List, [], ◌∷◌, Option, Some, None, bit_and, slice_index}
+use Rattle.std.specs.Prelude.{◌≡◌, ℕ, Bool, true, false, ◌||◌, ◌&&◌, ◌==◌, nat_lt, ℤ, pos, negsuc, int_lt, if◌then◌else◌, List, [], ◌∷◌, Option, Some, None, bit_and, slice_index}
 use Rattle.std.specs.Int.{int_min}
 use Rattle.std.specs.Ordering.{int_eq}
 use Rattle.m0_nvic.specs.State.{Exceptions}
-use Rattle.m0_nvic.specs.Numbers.{members}
+use Rattle.m0_nvic.specs.Numbers.{members, is_member}
 
 -- the priority of an exception: NMI and HardFault have fixed ones
 abbrev pub rank_of : Exceptions → ℕ → ℤ
@@ -22,15 +22,20 @@ abbrev pub least : Exceptions → List ℕ → Option ℕ
 least s [] = None
 least s (n ∷ ns) = nearer s n (least s ns)
 
--- the least member of a set
+-- the least member of a set; IsLeast says that it is one
 unfoldable pub least_of : Exceptions → ℕ → Option ℕ
 least_of s set = least s (members set)
+
+-- a member of a set that no member precedes, or none, where the set has no member
+abbrev pub IsLeast : Exceptions → ℕ → Option ℕ → Type 0
+IsLeast s set None = (n : ℕ) → is_member n set ≡ false
+IsLeast s set (Some m) = (is_member m set ≡ true) × ((n : ℕ) → is_member n set ≡ true → precedes s n m ≡ false)
 
 -- the best exception: the least one that is pending and enabled
 abbrev pub best_of : Exceptions → Option ℕ
 best_of s = least_of s (bit_and s.pending s.enabled)
 
--- the priority of the least active exception, 256 where none is active (B1.5.4, ExecutionPriority)
+-- the priority of the least active exception, 256 where none is active (B1.5.4)
 abbrev pub rank_or_none : Exceptions → Option ℕ → ℤ
 rank_or_none s None = pos 256
 rank_or_none s (Some n) = rank_of s n
@@ -47,6 +52,6 @@ abbrev pub comes_before : Exceptions → ℤ → Option ℕ → Bool
 comes_before s priority None = false
 comes_before s priority (Some n) = int_lt (rank_of s n) priority
 
--- it wakes whatever PRIMASK is (B1.5.19)
+-- it wakes a sleeping core whatever PRIMASK is (A6.7.76, WFI)
 abbrev pub wakes_of : Exceptions → Bool
 wakes_of s = comes_before s (priority_of s false) (best_of s)

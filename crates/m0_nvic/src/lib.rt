@@ -2,10 +2,10 @@
 //! the private bus that show them. Everything is defined in `specs/` on sets of exception numbers.
 #![tactic(auto)]
 
-ghost use Rattle.std.specs.Prelude.{◌≡◌, ◌^◌, ◌<◌, false};
+ghost use Rattle.std.specs.Prelude.{bit_and, ◌≡◌, ◌^◌, ◌<◌, false};
 ghost use Rattle.m0_nvic.specs.State.{at_reset};
 ghost use Rattle.m0_nvic.specs.Numbers.{is_member, interrupts, of_interrupts};
-ghost use Rattle.m0_nvic.specs.Priority.{rank_of, precedes, nearer, least_of, best_of, priority_of, wakes_of, active_priority};
+ghost use Rattle.m0_nvic.specs.Priority.{rank_of, precedes, nearer, least_of, IsLeast, best_of, priority_of, wakes_of, active_priority};
 ghost use Rattle.m0_nvic.specs.Changes.{pended, entered, left, with_pending};
 ghost use Rattle.m0_nvic.specs.Cycle.{after_timer, after_lines, after_cycle, is_event};
 
@@ -21,7 +21,7 @@ use systick::SysTick;
 const NUMBERS: u8 = 48;
 
 /// The exceptions of a core. A `number` is an exception number: Reset 1, NMI 2, HardFault 3, SVCall 11, PendSV 14,
-/// SysTick 15, and 16 + n for interrupt n, 0 to 31 (ARMv6-M Architecture Reference Manual, B1.5.1).
+/// SysTick 15, and 16 + n for interrupt n, 0 to 31 (ARMv6-M Architecture Reference Manual, B1.5.2).
 #[derive(Clone, Copy)]
 pub struct Nvic {
     pending: u64,
@@ -92,8 +92,10 @@ impl Nvic {
 
     /// The best exception: of those that are pending and enabled, the one of the least priority, and of equal ones that
     /// of the least number. None where no enabled exception is pending.
+    #[tactic(auto, using(crate::proofs::Least::least_laws))]
     pub fn best(&self) -> Option<u8>
-        ensures { result ≡ best_of self.now }
+        ensures value { result ≡ best_of self.now }
+        ensures least { IsLeast self.now (bit_and self.now.pending self.now.enabled) result }
     {
         self.least(self.pending & self.enabled)
     }
@@ -120,6 +122,13 @@ impl Nvic {
         }
     }
 
+    /// VTOR: the address of the vector table, a multiple of 256.
+    pub fn vtor(&self) -> u32
+        ensures { result ≡ self.now.vtor }
+    {
+        self.vtor
+    }
+
     /// The least member of a set by priority, then by number.
     #[tactic(auto, using(crate::proofs::Members::passing))]
     fn least(&self, set: u64) -> Option<u8>
@@ -127,6 +136,10 @@ impl Nvic {
     {
         if set == 0 {
             return None;
+        }
+        let lowest = set.trailing_zeros() as u8;
+        if lowest < NUMBERS && set == bit(lowest) {
+            return Some(lowest);
         }
         let mut best = None;
         for passed in 0..NUMBERS {
