@@ -88,7 +88,10 @@ impl Core {
     fn begin_private(&self, work: Work, request: Request, offset: u16) -> Act
         ensures { Ready result ≡ in_private work request offset self.now }
     {
-        if self.nvic.allows(offset, written(request.size, request.write)) {
+        if self
+            .nvic
+            .allows(offset, written(request.size, request.write))
+        {
             Act::Private(work, request, offset)
         } else {
             self.outside(request.address)
@@ -158,9 +161,7 @@ impl Core {
     fn locks_last(&self, value: u32) -> bool
         ensures { result ≡ locks_last value self.now }
     {
-        self.place == 12
-            && is_misfit(value, value_at(self.read.as_slice(), 7))
-            && self.is_locked()
+        self.place == 12 && is_misfit(value, value_at(self.read.as_slice(), 7)) && self.is_locked()
     }
 
     /// The next beat of a return.
@@ -233,7 +234,9 @@ impl Core {
         ensures { result ≡ taken_of self.now }
     {
         match self.nvic.best() {
-            Some(number) if self.nvic.rank(number) < self.nvic.priority(self.regs.primask) => Some(number),
+            Some(number) if self.nvic.rank(number) < self.nvic.priority(self.regs.primask) => Some(
+                number,
+            ),
             _ => None,
         }
     }

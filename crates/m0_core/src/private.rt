@@ -41,11 +41,7 @@ impl Core {
         ensures { result ≡ private_value request.now request.now.write offset self.now }
     {
         match request.write {
-            None => Some(lanes(
-                request.size,
-                request.address,
-                self.private_word(offset),
-            )),
+            None => Some(lanes(request.size, request.address, self.private_word(offset))),
             Some(_) => None,
         }
     }
@@ -54,6 +50,8 @@ impl Core {
     pub(crate) fn access(&mut self, request: &Request, offset: u16)
         ensures { self.new ≡ accessed request.now offset self.old }
     {
-        let _ = self.nvic.effect(offset, written(request.size, request.write));
+        let _ = self
+            .nvic
+            .effect(offset, written(request.size, request.write));
     }
 }

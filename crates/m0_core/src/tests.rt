@@ -6,11 +6,12 @@ use rp_base::map::{Spot, place};
 use rp_base::{Master, Request, Size, Why};
 use std::process::Abort;
 
-/// The first 64 words of SRAM and the last 16.
+/// The first 64 words of SRAM and the last 16, and the core's interrupt lines.
 #[derive(Drop)]
 struct Memory {
     low: [u32; 64],
     high: [u32; 16],
+    lines: u32,
 }
 
 impl Look for Memory {
@@ -22,6 +23,7 @@ impl Look for Memory {
                 u128::from((self.word(address) >> (16 * (address / 2 % 2))) & 0xffff)
             }
             Ask::Word(address) => u128::from(self.word(address)),
+            Ask::Lines => u128::from(self.lines),
             _ => 0,
         }
     }
@@ -33,11 +35,27 @@ impl Memory {
         let mut memory = Memory {
             low: [0; 64],
             high: [0; 16],
+            lines: 0,
         };
         for (k, half) in code.iter().enumerate() {
             if k < 128 {
                 memory.low[k / 2] |= u32::from(*half) << (16 * (k % 2));
             }
+        }
+        memory
+    }
+
+    /// Vectors from the start of SRAM, by their numbers, and code behind 32 of them.
+    fn with_vectors(vectors: &[(u32, u32)], code: &[u16]) -> Memory {
+        let mut halves = [0; 128];
+        for (k, half) in code.iter().enumerate() {
+            if k < 64 {
+                halves[64 + k] = *half;
+            }
+        }
+        let mut memory = Memory::with_code(&halves);
+        for (number, vector) in vectors {
+            memory.set_word(0x2000_0000 + 4 * (*number % 64), *vector);
         }
         memory
     }
@@ -248,23 +266,25 @@ fn stops_and_waits(rt: HostRuntime) {
     core.start(0, 0x2004_2000, 0x2004_1fff);
     memory.set_word(0x2004_1ffc, 0xf000_0000);
     assert!(rt; run(&mut core, &mut memory) == (0, Some(Why::Outside(Master::Core1, 0x2004_2000))));
-    // Faults and SVC are not built: UDF, an unaligned word, T clear, the private bus.
-    let unbuilt = Why::Unbuilt(Master::Core0);
-    stops(&rt, &[0xde00], 0, unbuilt, &[]);
-    stops(&rt, &[0xdf00], 0, unbuilt, &[]);
-    stops(&rt, &[0x2001, 0x6800], 1, unbuilt, &[]);
+    // Faults and SVC take 16 cycles up to a vector, here one outside SRAM without T: UDF, SVC, an unaligned word, T clear.
+    let vector = Why::Outside(Master::Core0, 0x1122_3344);
+    let fault = [(13, 0x2004_1fe0), (14, 0xffff_fff9), (16, 3)];
+    stops(&rt, &[0xde00], 16, vector, &fault);
+    stops(&rt, &[0xdf00], 16, vector, &[(16, 11)]);
+    stops(&rt, &[0x2001, 0x6800], 17, vector, &fault);
     stops(
         &rt,
         &[0x4801, 0x4700, 0, 0, 0x0006, 0x2000],
-        4,
-        unbuilt,
-        &[],
+        20,
+        vector,
+        &fault,
     );
+    // A word that the private bus does not have.
     stops(
         &rt,
         &[0x4801, 0x6800, 0, 0, 0xe000, 0xe000],
         3,
-        unbuilt,
+        Why::Outside(Master::Core0, 0xe000_e000),
         &[],
     );
     // A copy goes on as the core does, and a core that was not started is asleep.
@@ -275,4 +295,142 @@ fn stops_and_waits(rt: HostRuntime) {
     assert!(rt; !core.is_asleep() && !core.has_offer());
     assert!(rt; cycle(&mut core, &mut Memory::with_code(&[0xbf00]), Turn::Wait).is_none());
     assert_eq!(rt; core.registers()[15], 0x2000_0002);
+}
+
+/// Core 0 behind the vectors.
+fn behind(sp: u32) -> Core {
+    let mut core = Core::new(0);
+    core.start(0x2000_0000, sp, 0x2000_0081);
+    core
+}
+
+/// So many cycles with no stop.
+fn pass(rt: &impl Abort, core: &mut Core, memory: &mut Memory, count: u32) {
+    for _ in 0..count {
+        assert!(rt; cycle(core, memory, Turn::Wait).is_none());
+    }
+}
+
+/// The core has these registers.
+fn has(rt: &impl Abort, core: &Core, registers: &[(usize, u32)]) {
+    let words = core.registers();
+    for (k, word) in registers {
+        if *k < 17 {
+            assert_eq!(rt; words[*k], *word, "register {k}");
+        }
+    }
+}
+
+#[test]
+fn handlers(rt: HostRuntime) {
+    let bkpt = Some(Why::Bkpt(0));
+    // SVC, whose handler makes PendSV pending; that one reads ICSR.
+    let code = [
+        0x4805, 0x4906, 0xdf00, 0xbe00, 0x6001, 0x4770, 0x2407, 0x6805, 0x4770, 0, 0, 0, 0xed04,
+        0xe000, 0x0000, 0x1000,
+    ];
+    let mut memory = Memory::with_vectors(&[(11, 0x2000_0089), (14, 0x2000_008d)], &code);
+    let mut core = behind(0x2004_2000);
+    assert!(rt; run(&mut core, &mut memory) == (70, bkpt));
+    let registers = [
+        (4, 7),
+        (5, 14),
+        (13, 0x2004_2000),
+        (14, 0xffff_ffff),
+        (16, 0x100_0000),
+    ];
+    has(&rt, &core, &registers);
+    // A frame of a stack that is no multiple of 8.
+    let mut memory = Memory::with_vectors(&[(11, 0x2000_0085)], &[0xdf00, 0xbe00, 0x4770]);
+    let mut core = behind(0x2004_1ffc);
+    assert!(rt; run(&mut core, &mut memory) == (31, bkpt));
+    has(
+        &rt,
+        &core,
+        &[(13, 0x2004_1ffc), (15, 0x2000_0082), (16, 0x100_0000)],
+    );
+    assert_eq!(rt; memory.word(0x2004_1ff4), 0x100_0200);
+    assert_eq!(rt; memory.word(0x2004_1ff0), 0x2000_0082);
+    // SysTick each 40 cycles.
+    let code = [
+        0x4804, 0x2127, 0x6041, 0x2107, 0x6001, 0xe7fe, 0x3401, 0x4770, 0, 0, 0xe010, 0xe000,
+    ];
+    let mut memory = Memory::with_vectors(&[(15, 0x2000_008d)], &code);
+    let mut core = behind(0x2004_2000);
+    for (count, total) in [(63, 0), (1, 1), (38, 1), (1, 2)] {
+        pass(&rt, &mut core, &mut memory, count);
+        has(&rt, &core, &[(4, total)]);
+    }
+    // A byte that is written to the private bus is written to all lanes of the word, and one that is read has its own.
+    let code = [
+        0x4803, 0x21c5, 0x7041, 0x6802, 0x78c3, 0xbe00, 0, 0, 0xe400, 0xe000,
+    ];
+    let mut memory = Memory::with_vectors(&[], &code);
+    let mut core = behind(0x2004_2000);
+    assert!(rt; run(&mut core, &mut memory) == (9, bkpt));
+    has(&rt, &core, &[(2, 0xc0c0_c0c0), (3, 0xc0)]);
+}
+
+#[test]
+fn interrupts(rt: HostRuntime) {
+    let bkpt = Some(Why::Bkpt(0));
+    // With PRIMASK an interrupt ends WFI, and is taken after CPSIE.
+    let code = [
+        0x4804, 0x2101, 0x6001, 0xb672, 0xbf30, 0x2201, 0xb662, 0xbe00, 0x2309, 0x4770, 0xe100,
+        0xe000,
+    ];
+    let mut memory = Memory::with_vectors(&[(16, 0x2000_0091)], &code);
+    let mut core = behind(0x2004_2000);
+    pass(&rt, &mut core, &mut memory, 40);
+    has(&rt, &core, &[(2, 0), (15, 0x2000_0088)]);
+    memory.lines = 1;
+    pass(&rt, &mut core, &mut memory, 1);
+    memory.lines = 0;
+    pass(&rt, &mut core, &mut memory, 2);
+    has(&rt, &core, &[(2, 1), (3, 0)]);
+    assert!(rt; run(&mut core, &mut memory) == (32, bkpt));
+    has(&rt, &core, &[(3, 9), (15, 0x2000_008e)]);
+    // Interrupt 0 comes before interrupt 1, into whose entry it falls.
+    let code = [
+        0x4807, 0x4908, 0x2203, 0x6002, 0x2240, 0x0212, 0x600a, 0xbf30, 0xbe00, 0x2401, 0x002e,
+        0x4770, 0x2505, 0x0027, 0x4770, 0, 0xe100, 0xe000, 0xe400, 0xe000,
+    ];
+    let mut memory = Memory::with_vectors(&[(16, 0x2000_0099), (17, 0x2000_0093)], &code);
+    let mut core = behind(0x2004_2000);
+    pass(&rt, &mut core, &mut memory, 40);
+    for lines in [2, 0, 0, 0, 1, 0] {
+        memory.lines = lines;
+        pass(&rt, &mut core, &mut memory, 1);
+    }
+    assert!(rt; run(&mut core, &mut memory).1 == bkpt);
+    has(
+        &rt,
+        &core,
+        &[(4, 1), (5, 5), (6, 5), (7, 0), (13, 0x2004_2000)],
+    );
+}
+
+#[test]
+fn faults(rt: HostRuntime) {
+    // A return with a value that no entry gives is a HardFault, and PC is that of the BX.
+    let vectors = [(3, 0x2000_0089), (11, 0x2000_0083)];
+    let code = [0xdf00, 0x2000, 0x43c0, 0x4700, 0xbe00];
+    let mut memory = Memory::with_vectors(&vectors, &code);
+    let mut core = behind(0x2004_2000);
+    assert!(rt; run(&mut core, &mut memory) == (36, Some(Why::Bkpt(0))));
+    has(
+        &rt,
+        &core,
+        &[(13, 0x2004_1fc0), (14, 0xffff_fff1), (16, 0x8100_0003)],
+    );
+    assert_eq!(rt; memory.word(0x2004_1fd8), 0x2000_0086);
+    // A fault inside HardFault.
+    let mut memory = Memory::with_vectors(&[(3, 0x2000_0083)], &[0xde00, 0xde01]);
+    let mut core = behind(0x2004_2000);
+    assert!(rt; run(&mut core, &mut memory) == (16, Some(Why::Lockup(0))));
+    has(
+        &rt,
+        &core,
+        &[(13, 0x2004_1fe0), (15, 0x2000_0082), (16, 0x100_0003)],
+    );
 }

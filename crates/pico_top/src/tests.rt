@@ -92,8 +92,9 @@ fn a_run_prints_its_end(rt: HostRuntime) -> Result<(), Fail> {
         b"stop limit 1\ncore0 00000005 00000000 00000000 00000000 00000000 00000000 00000000 00000000 00000000 00000000 00000000 00000000 00000000 20042000 ffffffff 20000002 01000000\ncore1 asleep\n";
     assert!(rt; gives(alloc, &one, block(alloc, &FIVE)?, 0, text)?);
     let text =
-        b"stop unbuilt core0 0\ncore0 00000000 00000000 00000000 00000000 00000000 00000000 00000000 00000000 00000000 00000000 00000000 00000000 00000000 20042000 ffffffff 20000000 01000000\ncore1 asleep\n";
-    assert!(rt; gives(alloc, &TEN, block(alloc, &[0xde00])?, 0, text)?);
+        b"stop outside core0 0000002c 10\ncore0 00000000 00000000 00000000 00000000 00000000 00000000 00000000 00000000 00000000 00000000 00000000 00000000 00000000 20042000 ffffffff 20000002 01000000\ncore1 asleep\n";
+    let more = ["run", "a.uf2", "--cycles", "11"];
+    assert!(rt; gives(alloc, &more, block(alloc, &[0xdf00])?, 0, text)?);
     Ok(())
 }
 
