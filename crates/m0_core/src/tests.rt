@@ -376,7 +376,7 @@ fn interrupts(rt: HostRuntime) {
     let bkpt = Some(Why::Bkpt(0));
     // With PRIMASK an interrupt ends WFI, and is taken after CPSIE.
     let code = [
-        0x4804, 0x2101, 0x6001, 0xb672, 0xbf30, 0x2201, 0xb662, 0xbe00, 0x2309, 0x4770, 0xe100,
+        0x4804, 0x2101, 0x6001, 0xb672, 0xbf30, 0x2201, 0xb662, 0xbe00, 0x2409, 0x4770, 0xe100,
         0xe000,
     ];
     let mut memory = Memory::with_vectors(&[(16, 0x2000_0091)], &code);
@@ -387,9 +387,9 @@ fn interrupts(rt: HostRuntime) {
     pass(&rt, &mut core, &mut memory, 1);
     memory.lines = 0;
     pass(&rt, &mut core, &mut memory, 2);
-    has(&rt, &core, &[(2, 1), (3, 0)]);
+    has(&rt, &core, &[(2, 1), (4, 0)]);
     assert!(rt; run(&mut core, &mut memory) == (32, bkpt));
-    has(&rt, &core, &[(3, 9), (15, 0x2000_008e)]);
+    has(&rt, &core, &[(4, 9), (15, 0x2000_008e)]);
     // Interrupt 0 comes before interrupt 1, into whose entry it falls.
     let code = [
         0x4807, 0x4908, 0x2203, 0x6002, 0x2240, 0x0212, 0x600a, 0xbf30, 0xbe00, 0x2401, 0x002e,
