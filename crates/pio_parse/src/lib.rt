@@ -1,0 +1,10 @@
+//! The source language of the programmable input/output blocks (RP2040 Datasheet, 3.3): characters,
+//! tokens and the grammar of a line.
+#![tactic(auto)]
+
+mod fault;
+mod scan;
+mod token;
+mod words;
+
+pub use fault::PioFault;

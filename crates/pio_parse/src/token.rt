@@ -1,0 +1,102 @@
+/// A place in a file: lines and columns count from 1, and a column is a byte.
+#[derive(Clone, Copy)]
+pub struct Place {
+    /// The line.
+    pub line: u64,
+    /// The byte of the line.
+    pub column: u64,
+}
+
+/// A range of a file's bytes.
+#[derive(Clone, Copy)]
+pub struct Span {
+    pub start: usize,
+    pub end: usize,
+}
+
+/// A word of the language that names nothing else (RP2040 Datasheet, 3.3).
+#[derive(Clone, Copy)]
+pub enum Keyword {
+    Public,
+    Opt,
+    Pindirs,
+    Jmp,
+    Wait,
+    In,
+    Out,
+    Push,
+    Pull,
+    Mov,
+    Irq,
+    Set,
+    Nop,
+    Side,
+    Gpio,
+    Pin,
+    Rel,
+    Pins,
+    X,
+    Y,
+    Null,
+    Isr,
+    Osr,
+    Pc,
+    Exec,
+    Status,
+    IfFull,
+    IfEmpty,
+    Block,
+    NoBlock,
+    NoWait,
+    Clear,
+    Osre,
+}
+
+/// A word that begins with a point (RP2040 Datasheet, 3.3.2).
+#[derive(Clone, Copy)]
+pub enum Directive {
+    Program,
+    Define,
+    Origin,
+    SideSet,
+    WrapTarget,
+    Wrap,
+    Word,
+    LangOpt,
+    PioVersion,
+}
+
+/// What a token is.
+#[derive(Clone, Copy)]
+pub enum TokenKind {
+    /// A name, by its place in the file.
+    Name(Span),
+    Keyword(Keyword),
+    Directive(Directive),
+    /// A number; one above 2^32 - 1 is kept as 2^32.
+    Number(u64),
+    /// A run of letters and digits that is none of these.
+    Unfit,
+    Comma,
+    Colon,
+    DoubleColon,
+    OpenBracket,
+    CloseBracket,
+    OpenParenthesis,
+    CloseParenthesis,
+    Plus,
+    Minus,
+    Star,
+    Bang,
+    NotEqual,
+    Tilde,
+    LineEnd,
+    FileEnd,
+}
+
+/// A token and the place of its first character.
+#[derive(Clone, Copy)]
+pub struct Token {
+    pub kind: TokenKind,
+    pub place: Place,
+}

@@ -1,0 +1,240 @@
+ghost use Rattle.std.specs.Prelude.{◌≡◌, ◌<◌, ◌≤◌, find, length, Some, None};
+ghost use Rattle.pio_parse.specs.Words.{digit_of, digits_value, directive_kind_of, directive_name, directive_of, directives, is_word_char, keyword_name, keyword_of, keywords, name_kind_of, number_kind_of, number_of, same_word, word_kind};
+
+use crate::token::{Directive, Keyword, Span, TokenKind};
+
+const KEYWORDS: [Keyword; 33] = [
+    Keyword::Public,
+    Keyword::Opt,
+    Keyword::Pindirs,
+    Keyword::Jmp,
+    Keyword::Wait,
+    Keyword::In,
+    Keyword::Out,
+    Keyword::Push,
+    Keyword::Pull,
+    Keyword::Mov,
+    Keyword::Irq,
+    Keyword::Set,
+    Keyword::Nop,
+    Keyword::Side,
+    Keyword::Gpio,
+    Keyword::Pin,
+    Keyword::Rel,
+    Keyword::Pins,
+    Keyword::X,
+    Keyword::Y,
+    Keyword::Null,
+    Keyword::Isr,
+    Keyword::Osr,
+    Keyword::Pc,
+    Keyword::Exec,
+    Keyword::Status,
+    Keyword::IfFull,
+    Keyword::IfEmpty,
+    Keyword::Block,
+    Keyword::NoBlock,
+    Keyword::NoWait,
+    Keyword::Clear,
+    Keyword::Osre,
+];
+
+const DIRECTIVES: [Directive; 9] = [
+    Directive::Program,
+    Directive::Define,
+    Directive::Origin,
+    Directive::SideSet,
+    Directive::WrapTarget,
+    Directive::Wrap,
+    Directive::Word,
+    Directive::LangOpt,
+    Directive::PioVersion,
+];
+
+/// The value that a number above 2^32 - 1 is kept as.
+const TOO_LARGE: u64 = 4294967296;
+
+fn keyword_text(keyword: Keyword) -> &'static [u8]
+    ensures { result.now ≡ keyword_name keyword }
+{
+    match keyword {
+        Keyword::Public => b"public",
+        Keyword::Opt => b"opt",
+        Keyword::Pindirs => b"pindirs",
+        Keyword::Jmp => b"jmp",
+        Keyword::Wait => b"wait",
+        Keyword::In => b"in",
+        Keyword::Out => b"out",
+        Keyword::Push => b"push",
+        Keyword::Pull => b"pull",
+        Keyword::Mov => b"mov",
+        Keyword::Irq => b"irq",
+        Keyword::Set => b"set",
+        Keyword::Nop => b"nop",
+        Keyword::Side => b"side",
+        Keyword::Gpio => b"gpio",
+        Keyword::Pin => b"pin",
+        Keyword::Rel => b"rel",
+        Keyword::Pins => b"pins",
+        Keyword::X => b"x",
+        Keyword::Y => b"y",
+        Keyword::Null => b"null",
+        Keyword::Isr => b"isr",
+        Keyword::Osr => b"osr",
+        Keyword::Pc => b"pc",
+        Keyword::Exec => b"exec",
+        Keyword::Status => b"status",
+        Keyword::IfFull => b"iffull",
+        Keyword::IfEmpty => b"ifempty",
+        Keyword::Block => b"block",
+        Keyword::NoBlock => b"noblock",
+        Keyword::NoWait => b"nowait",
+        Keyword::Clear => b"clear",
+        Keyword::Osre => b"osre",
+    }
+}
+
+fn directive_text(directive: Directive) -> &'static [u8]
+    ensures { result.now ≡ directive_name directive }
+{
+    match directive {
+        Directive::Program => b"program",
+        Directive::Define => b"define",
+        Directive::Origin => b"origin",
+        Directive::SideSet => b"side_set",
+        Directive::WrapTarget => b"wrap_target",
+        Directive::Wrap => b"wrap",
+        Directive::Word => b"word",
+        Directive::LangOpt => b"lang_opt",
+        Directive::PioVersion => b"pio_version",
+    }
+}
+
+/// Whether a word is this name, which has no upper-case letter, in any case.
+fn is_same_word(name: &[u8], word: &[u8]) -> bool
+    ensures { result ≡ same_word name.now word.now }
+{
+    match name {
+        [] => word.is_empty(),
+        [letter, name @ ..] => match word {
+            [] => false,
+            [byte, word @ ..] => {
+                *letter == byte.to_ascii_lowercase() && is_same_word(name, word)
+            }
+        },
+    }
+}
+
+fn find_keyword(word: &[u8]) -> Option<Keyword>
+    ensures { result ≡ keyword_of word.now }
+{
+    KEYWORDS
+        .iter()
+        .copied()
+        .find(|keyword| is_same_word(keyword_text(*keyword), word))
+}
+
+fn find_directive(word: &[u8]) -> Option<Directive>
+    ensures { result ≡ directive_of word.now }
+{
+    DIRECTIVES
+        .iter()
+        .copied()
+        .find(|directive| is_same_word(directive_text(*directive), word))
+}
+
+/// Whether a byte goes on with a word that has begun.
+pub(crate) fn is_word_byte(byte: u8) -> bool
+    ensures { result ≡ is_word_char byte }
+{
+    matches!(byte, b'a'..=b'z' | b'A'..=b'Z' | b'0'..=b'9' | b'_')
+}
+
+fn digit(byte: u8) -> Option<u64>
+    ensures { result ≡ digit_of byte }
+{
+    match byte {
+        b'0'..=b'9' => Some((byte - b'0') as u64),
+        b'a'..=b'f' => Some((byte - b'a' + 10) as u64),
+        b'A'..=b'F' => Some((byte - b'A' + 10) as u64),
+        _ => None,
+    }
+}
+
+/// The value of digits to a base of at most 16, which begins at `value`.
+fn value_of_digits(base: u64, digits: &[u8]) -> Option<u64>
+    requires { base ≤ 16 }
+    ensures { result ≡ digits_value base 0 digits.now }
+{
+    let mut value: u64 = 0;
+    for byte in digits {
+        let next = digit(*byte)?;
+        if next >= base {
+            return None;
+        }
+        value = (value * base + next).min(TOO_LARGE);
+    }
+    Some(value)
+}
+
+fn find_number(word: &[u8]) -> Option<u64>
+    ensures { result ≡ number_of word.now }
+{
+    match word {
+        [first, second, _, ..] => {
+            if *first == b'0' && *second == b'x' {
+                value_of_digits(16, &word[2..])
+            } else if *first == b'0' && *second == b'b' {
+                value_of_digits(2, &word[2..])
+            } else {
+                value_of_digits(10, word)
+            }
+        }
+        _ => value_of_digits(10, word),
+    }
+}
+
+fn directive_kind(name: &[u8]) -> TokenKind
+    ensures { result ≡ directive_kind_of name.now }
+{
+    match find_directive(name) {
+        Some(directive) => TokenKind::Directive(directive),
+        None => TokenKind::Unfit,
+    }
+}
+
+fn number_kind(word: &[u8]) -> TokenKind
+    ensures { result ≡ number_kind_of word.now }
+{
+    match find_number(word) {
+        Some(number) => TokenKind::Number(number),
+        None => TokenKind::Unfit,
+    }
+}
+
+fn name_kind(word: &[u8], span: Span) -> TokenKind
+    ensures { result ≡ name_kind_of word.now span }
+{
+    match find_keyword(word) {
+        Some(keyword) => TokenKind::Keyword(keyword),
+        None => TokenKind::Name(span),
+    }
+}
+
+/// What a run of letters, digits and underscores is, perhaps with a point before it.
+pub(crate) fn classify(word: &[u8], span: Span) -> TokenKind
+    ensures { result ≡ word_kind word.now span }
+{
+    match word {
+        [] => TokenKind::Name(span),
+        [first, rest @ ..] => {
+            if *first == b'.' {
+                directive_kind(rest)
+            } else if first.is_ascii_digit() {
+                number_kind(word)
+            } else {
+                name_kind(word, span)
+            }
+        }
+    }
+}
