@@ -1,3 +1,5 @@
 pub mod Outcome
 pub mod Words
 pub mod Scan
+pub mod Cursor
+pub mod Expression

@@ -2,9 +2,13 @@
 //! tokens and the grammar of a line.
 #![tactic(auto)]
 
+mod cursor;
+mod expression;
 mod fault;
+mod name;
 mod scan;
 mod token;
 mod words;
 
 pub use fault::PioFault;
+pub use name::Name;

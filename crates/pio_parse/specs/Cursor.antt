@@ -1,0 +1,37 @@
+use Rattle.std.specs.Prelude.{◌≡◌, ℕ, Bool, if◌then◌else◌, List, [], ◌∷◌, Result, Ok, Err, ⊤}
+use Rattle.pio_parse.specs.declared.token.Place.{Place}
+use Rattle.pio_parse.specs.declared.token.Token.{Token}
+use Rattle.pio_parse.specs.declared.token.TokenKind.{TokenKind}
+use Rattle.pio_parse.specs.declared.token.TokenKind.TheVariants.{FileEnd}
+use Rattle.pio_parse.specs.declared.cursor.Stop.{Stop}
+use Rattle.pio_parse.specs.declared.cursor.Stop.TheVariants.{Syntax, Memory}
+
+-- what is read from the front of a line's tokens and the tokens after it, or the place of the first token that fits nothing
+abbrev pub Outcome : Type 0 → Type 0
+Outcome X = Result (X × List Token) Place
+
+abbrev pub head_kind : List Token → TokenKind
+head_kind [] = FileEnd
+head_kind (token ∷ tokens) = token.kind
+
+abbrev pub head_place : List Token → Place
+head_place [] = record { line = 0; column = 0 }
+head_place (token ∷ tokens) = token.place
+
+abbrev pub after_head : List Token → List Token
+after_head [] = []
+after_head (token ∷ tokens) = tokens
+
+-- the next token fits nothing
+abbrev pub misfit : {X : Type 0} → List Token → Outcome X
+misfit tokens = Err (head_place tokens)
+
+-- one token that has to fit
+abbrev pub expected : Bool → List Token → Outcome (Unit {0})
+expected fits tokens = if fits then Ok (tt, after_head tokens) else misfit tokens
+
+-- a call read this; memory may run out at any time
+abbrev pub Reads : {X : Type 0} → Result X Stop → List Token → Outcome X → Type 0
+Reads (Ok x) rest outcome = outcome ≡ Ok (x, rest)
+Reads (Err (Syntax place)) rest outcome = outcome ≡ Err place
+Reads (Err Memory) rest outcome = ⊤

@@ -1,0 +1,122 @@
+use Rattle.std.specs.Prelude.{◌≡◌, ◌==◌, ℕ, suc, zero, ◌+◌, ◌-◌, nat_le, Bool, true, false, if◌then◌else◌, List, [], ◌∷◌, ◌++◌, Option, None, Some, Result, Ok, Err, ⊤, ◌&&◌, length, slice_range}
+use Rattle.std.specs.Option.{option_map_or}
+use Rattle.pio_parse.specs.declared.token.Span.{Span}
+use Rattle.pio_parse.specs.declared.token.Token.{Token}
+use Rattle.pio_parse.specs.declared.token.TokenKind.{TokenKind}
+use Rattle.pio_parse.specs.declared.token.TokenKind.TheVariants.{Name, Number, DoubleColon, OpenParenthesis, CloseParenthesis, Plus, Minus, Star}
+use Rattle.pio_parse.specs.declared.expression.Operator.{Operator}
+use Rattle.pio_parse.specs.declared.expression.Operator.TheVariants.{Add, Subtract, Multiply, Negate, Reverse}
+use Rattle.pio_parse.specs.declared.expression.Term.{Term}
+use Rattle.pio_parse.specs.declared.expression.Term.TheVariants.{Number as NumberTerm, Name as NameTerm, Operator as OperatorTerm}
+use Rattle.pio_parse.specs.declared.expression.Pending.{Pending}
+use Rattle.pio_parse.specs.declared.expression.Pending.TheVariants.{Parenthesis, Operator as OperatorPending}
+use Rattle.pio_parse.specs.declared.expression.Reading.{Reading}
+use Rattle.pio_parse.specs.declared.token.Place.{Place}
+use Rattle.pio_parse.specs.declared.cursor.Stop.{Stop}
+use Rattle.pio_parse.specs.declared.cursor.Stop.TheVariants.{Syntax, Memory}
+use Rattle.pio_parse.specs.Outcome.{and_then, map_ok}
+use Rattle.pio_parse.specs.Cursor.{Outcome, after_head, expected, head_kind, misfit}
+
+-- the newest of what waits was taken off, if anything waited
+abbrev pub HasPopped : Option Pending → List Pending → List Pending → Type 0
+HasPopped None old new = (old ≡ []) × (new ≡ [])
+HasPopped (Some pending) old new = old ≡ pending ∷ new
+
+abbrev pub newest : List Pending → Option Pending
+newest [] = None
+newest (pending ∷ stack) = Some pending
+
+-- how tightly an operator binds: `*` before `+` and `-`. A minus before its operand takes the product to its right, and `::` the sum
+abbrev pub level_of : Operator → ℕ
+level_of Multiply = 2
+level_of Add = 1
+level_of Subtract = 1
+level_of Negate = 1
+level_of Reverse = 0
+
+-- the operators that wait since the last open parenthesis, and bind at least so tightly, have their last operand: they follow it
+abbrev pub reduced : ℕ → List Pending → List Term → List Pending × List Term
+reduced least [] output = ([], output)
+reduced least (Parenthesis ∷ stack) output = (Parenthesis ∷ stack, output)
+reduced least (OperatorPending operator ∷ stack) output =
+    if nat_le least (level_of operator) then reduced least stack (output ++ OperatorTerm operator ∷ []) else (OperatorPending operator ∷ stack, output)
+
+-- the name that stands at a span of a file
+abbrev pub name_at : List ℕ → Span → List ℕ
+name_at text span = if nat_le span.start span.end && nat_le span.end (length text) then slice_range text span.start span.end else []
+
+-- a token where an operand comes next
+abbrev pub operand_step : List ℕ → TokenKind → Place → Reading → Result Reading Place
+operand_step text (Number number) place reading = Ok (record reading { output = reading.output ++ NumberTerm number ∷ []; awaited = false })
+operand_step text (Name span) place reading = Ok (record reading { output = reading.output ++ NameTerm (name_at text span) ∷ []; awaited = false })
+operand_step text Minus place reading = Ok (record reading { stack = OperatorPending Negate ∷ reading.stack })
+operand_step text DoubleColon place reading = Ok (record reading { stack = OperatorPending Reverse ∷ reading.stack })
+operand_step text OpenParenthesis place reading = Ok (record reading { stack = Parenthesis ∷ reading.stack; depth = reading.depth + 1 })
+operand_step text kind place reading = Err place
+
+-- an operator between two operands
+abbrev pub with_binary : Operator → Reading → Reading
+with_binary operator reading =
+    let parts = reduced (level_of operator) reading.stack reading.output in
+    record reading { stack = OperatorPending operator ∷ parts.0; output = parts.1; awaited = true }
+
+abbrev pub after_newest : List Pending → List Pending
+after_newest [] = []
+after_newest (pending ∷ stack) = stack
+
+-- the end of an open parenthesis
+abbrev pub with_closed : Reading → Reading
+with_closed reading = let parts = reduced 0 reading.stack reading.output in record reading { stack = after_newest parts.0; output = parts.1; depth = reading.depth - 1 }
+
+-- a token after an operand: the expression goes on, or it is over before the token. It is not over within parentheses
+abbrev pub operator_step : TokenKind → Place → Reading → Result (Option Reading) Place
+operator_step Star place reading = Ok (Some (with_binary Multiply reading))
+operator_step Plus place reading = Ok (Some (with_binary Add reading))
+operator_step Minus place reading = Ok (Some (with_binary Subtract reading))
+operator_step CloseParenthesis place reading = if reading.depth == 0 then Ok None else Ok (Some (with_closed reading))
+operator_step kind place reading = if reading.depth == 0 then Ok None else Err place
+
+-- a token of an expression
+abbrev pub token_step : List ℕ → TokenKind → Place → Reading → Result (Option Reading) Place
+token_step text kind place reading = if reading.awaited then map_ok (λ next. Some next) (operand_step text kind place reading) else operator_step kind place reading
+
+-- the expression that goes on with these tokens, in postfix order
+abbrev pub expression_from : List ℕ → Reading → List Token → Outcome (List Term)
+expression_from text reading [] = misfit []
+expression_from text reading (token ∷ tokens) = and_then
+    (λ next. option_map_or (λ reading. expression_from text reading tokens) next (Ok ((reduced 0 reading.stack reading.output).1, token ∷ tokens)))
+    (token_step text token.kind token.place reading)
+
+abbrev pub nothing_read : Reading
+nothing_read = record { stack = []; output = []; awaited = true; depth = 0 }
+
+-- the longest expression at the front of these tokens
+abbrev pub expression_at : List ℕ → List Token → Outcome (List Term)
+expression_at text tokens = expression_from text nothing_read tokens
+
+abbrev pub is_close_parenthesis : TokenKind → Bool
+is_close_parenthesis CloseParenthesis = true
+is_close_parenthesis kind = false
+
+abbrev pub operand_of_kind : List ℕ → TokenKind → List Token → Outcome (List Term)
+operand_of_kind text (Number number) tokens = Ok (NumberTerm number ∷ [], after_head tokens)
+operand_of_kind text (Name span) tokens = Ok (NameTerm (name_at text span) ∷ [], after_head tokens)
+operand_of_kind text OpenParenthesis tokens = and_then
+    (λ inner. map_ok (λ close. (inner.0, close.1)) (expected (is_close_parenthesis (head_kind inner.1)) inner.1)) (expression_at text (after_head tokens))
+operand_of_kind text kind tokens = misfit tokens
+
+-- an operand outside brackets and directives: a number, a name or an expression in parentheses
+abbrev pub operand_at : List ℕ → List Token → Outcome (List Term)
+operand_at text tokens = operand_of_kind text (head_kind tokens) tokens
+
+-- what a call made of one token
+abbrev pub ReadsOperand : Result (Unit {0}) Stop → Reading → Result Reading Place → Type 0
+ReadsOperand (Ok x) new expected = expected ≡ Ok new
+ReadsOperand (Err (Syntax place)) new expected = expected ≡ Err place
+ReadsOperand (Err Memory) new expected = ⊤
+
+abbrev pub ReadsOperator : Result Bool Stop → Reading → Reading → Result (Option Reading) Place → Type 0
+ReadsOperator (Ok true) old new expected = expected ≡ Ok (Some new)
+ReadsOperator (Ok false) old new expected = (expected ≡ Ok None) × (new ≡ old)
+ReadsOperator (Err (Syntax place)) old new expected = expected ≡ Err place
+ReadsOperator (Err Memory) old new expected = ⊤

@@ -1,0 +1,95 @@
+ghost use Rattle.std.specs.Prelude.{◌≡◌, if◌then◌else◌};
+ghost use Rattle.pio_parse.specs.Cursor.{after_head, head_kind, head_place, Reads, expected};
+ghost use Rattle.pio_parse.specs.declared.cursor.Stop.TheVariants.{Memory};
+
+use crate::token::{Place, Token, TokenKind};
+use std::alloc::{AllocError, AllocFailed};
+
+/// Why a line is not read to its end.
+#[derive(Drop)]
+pub(crate) enum Stop {
+    /// The token at this place fits nothing.
+    Syntax(Place),
+    /// Memory ran out.
+    Memory,
+}
+
+impl From<AllocError> for Stop {
+    ghost from_gives = { λ _ stop. stop ≡ Memory };
+
+    fn from(_error: AllocError) -> Stop {
+        Stop::Memory
+    }
+}
+
+impl<T: Drop> From<AllocFailed<T>> for Stop {
+    ghost from_gives = { λ _ stop. stop ≡ Memory };
+
+    fn from(_error: AllocFailed<T>) -> Stop {
+        Stop::Memory
+    }
+}
+
+/// The tokens of a line that have not been read.
+pub(crate) struct Cursor<'a> {
+    pub(crate) rest: &'a [Token],
+}
+
+impl Cursor<'_> {
+    /// What the next token is.
+    pub(crate) fn peek(&self) -> TokenKind
+        ensures { result ≡ head_kind self.now.rest.now }
+    {
+        match self.rest {
+            [] => TokenKind::FileEnd,
+            [token, ..] => token.kind,
+        }
+    }
+
+    /// Where the next token stands.
+    pub(crate) fn place(&self) -> Place
+        ensures { result ≡ head_place self.now.rest.now }
+    {
+        match self.rest {
+            [] => Place { line: 0, column: 0 },
+            [token, ..] => token.place,
+        }
+    }
+
+    /// Reads one token.
+    pub(crate) fn skip(&mut self)
+        ensures { self.new.rest.now ≡ after_head self.old.rest.now }
+    {
+        if let [_, rest @ ..] = self.rest {
+            self.rest = rest;
+        }
+    }
+
+    /// The next token fits nothing.
+    pub(crate) fn fault(&self) -> Stop
+        ensures { result ≡ Stop.Syntax (head_place self.now.rest.now) }
+    {
+        Stop::Syntax(self.place())
+    }
+
+    /// Reads one token, which has to fit.
+    pub(crate) fn expect(&mut self, fits: bool) -> Result<(), Stop>
+        ensures { Reads result self.new.rest.now (expected fits self.old.rest.now) }
+    {
+        if fits {
+            self.skip();
+            Ok(())
+        } else {
+            Err(self.fault())
+        }
+    }
+
+    /// Reads one token if it fits.
+    pub(crate) fn skip_if(&mut self, fits: bool)
+        ensures { self.new.rest.now ≡ (if fits then after_head self.old.rest.now else self.old.rest.now) }
+    {
+        if fits {
+            self.skip();
+        }
+    }
+}
