@@ -5,8 +5,10 @@
 mod cursor;
 mod expression;
 mod fault;
+mod instruction;
 mod name;
 mod scan;
+mod syntax;
 mod token;
 mod words;
 
