@@ -5,3 +5,5 @@ pub mod Cursor
 pub mod Expression
 pub mod Registers
 pub mod Instruction
+pub mod Statement
+pub mod Source

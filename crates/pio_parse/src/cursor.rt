@@ -31,6 +31,7 @@ impl<T: Drop> From<AllocFailed<T>> for Stop {
 }
 
 /// The tokens of a line that have not been read.
+#[derive(Drop)]
 pub(crate) struct Cursor<'a> {
     pub(crate) rest: &'a [Token],
 }

@@ -98,7 +98,7 @@ fn read_jmp(file: &File, cursor: &mut Cursor) -> Result<Operation, Stop>
 }
 
 /// Whether this word stands next; it is read if it does.
-fn read_flag(cursor: &mut Cursor, stands: bool) -> Result<bool, Stop>
+pub(crate) fn read_flag(cursor: &mut Cursor, stands: bool) -> Result<bool, Stop>
     ensures { Reads result cursor.new.rest.now (flag_at stands cursor.old.rest.now) }
 {
     cursor.skip_if(stands);

@@ -7,10 +7,15 @@ mod expression;
 mod fault;
 mod instruction;
 mod name;
+mod parser;
 mod scan;
+mod statement;
 mod syntax;
 mod token;
 mod words;
 
+pub use expression::{Expression, Operator, Term};
 pub use fault::PioFault;
 pub use name::Name;
+pub use parser::{Source, parse};
+pub use syntax::{Instruction, Line, Operation, Statement};
