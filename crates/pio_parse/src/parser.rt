@@ -111,3 +111,72 @@ pub fn parse(alloc: Global, text: &[u8]) -> Result<Source, PioFault>
         Err(Stop::Memory) => Err(PioFault::Memory),
     }
 }
+
+#[cfg(test)]
+mod tests {
+    use super::*;
+
+    fn fault_of(alloc: Global, text: &str) -> Option<PioFault> {
+        match parse(alloc, text.as_bytes()) {
+            Ok(_) => None,
+            Err(fault) => Some(fault),
+        }
+    }
+
+    // Sources with the fault that each has, and sources without one.
+    #[test]
+    fn faults_of_sources(rt: HostRuntime) {
+        let syntax = |line: u64, column: u64| Some(PioFault::Syntax(line, column));
+        let char = |line: u64, column: u64| Some(PioFault::Char(line, column));
+        let table = [
+            ("", syntax(1, 1)),
+            ("; x\n", syntax(1, 5)),
+            ("\n\n", syntax(2, 2)),
+            (".program p", None),
+            (".program p\nnop nop\n", syntax(2, 5)),
+            (".program p\n/* x", char(2, 1)),
+            (".program p\nset pins, ?\n", char(2, 11)),
+            (".program p\nset pins,\n", syntax(2, 10)),
+            (".program p\nset pins, \r\n", syntax(2, 12)),
+            (".program p\nset pins,", syntax(2, 10)),
+            ("nop\n.program p\n", syntax(1, 1)),
+            ("x: .program p\n", syntax(1, 1)),
+            (".program p\nfoo bar\n", syntax(2, 5)),
+            (".program p\njmp x 3\n", syntax(2, 7)),
+            (".program p\njmp x - - 3\n", syntax(2, 9)),
+            (
+                ".program p\njmp x!=y, 3\njmp !osre l\nl: jmp y--, (1 + 2)\n",
+                None,
+            ),
+            (".program p\n.word 12ab\n", syntax(2, 7)),
+            (".program p\n.word 0x\n", syntax(2, 7)),
+            (".program p\n.word ((1)\n", syntax(2, 11)),
+            (".program p\n.word 1 2\n", syntax(2, 9)),
+            (".PROGRAM p\n.pio_version 1\n", syntax(2, 14)),
+            (
+                ".pio_version 0\n.lang_opt python ??? %\n.define a 1\n.program p\n",
+                None,
+            ),
+            (".program p\n% c-sdk {\n ?? \n%} nop ?\n", char(4, 8)),
+            (".program p\n% {\n%}\n", char(2, 1)),
+            (
+                ".program p\nNOP SIDE 1 [2]\npublic l: wait irq 3 rel [1] side 0\n",
+                None,
+            ),
+            (
+                ".program p\nirq set 3 rel\nmov pins, ~null\nmov x !y\nmov isr ::osr\n",
+                None,
+            ),
+            (
+                ".program p\npush iffull noblock\npull block\nin pins 32\nout pc, 5 // x\n",
+                None,
+            ),
+            (".program p\nin pc, 3\n", syntax(2, 4)),
+            (".program p\nwait 1 side 0\n", syntax(2, 8)),
+        ];
+        for (text, want) in table {
+            let found = fault_of(rt.alloc(), text);
+            assert!(rt; found == want, "{text}");
+        }
+    }
+}
