@@ -1,16 +1,11 @@
-use Rattle.std.specs.Prelude.{◌==◌, ◌&&◌, ℕ, ◌-◌, Bool, true, false, if◌then◌else◌, List, Option, None, Some, Result, Ok, Err}
+use Rattle.std.specs.Prelude.{◌==◌, ◌&&◌, ℕ, ◌-◌, Bool, true, false, if◌then◌else◌, List, Option, None, Some, Ok}
 use Rattle.std.specs.Option.{option_map_or}
 use Rattle.pio_words.specs.declared.op.JmpCondition.{JmpCondition}
 use Rattle.pio_words.specs.declared.op.JmpCondition.TheVariants.{Always, XZero, XDecrement, YZero, YDecrement, XNotY, Pin as PinHigh, OsrNotEmpty}
-use Rattle.pio_words.specs.declared.op.InSource.{InSource}
-use Rattle.pio_words.specs.declared.op.OutDestination.{OutDestination}
-use Rattle.pio_words.specs.declared.op.MovDestination.{MovDestination}
 use Rattle.pio_words.specs.declared.op.MovDestination.TheVariants.{Y as MovToY}
 use Rattle.pio_words.specs.declared.op.MovOperation.{MovOperation}
 use Rattle.pio_words.specs.declared.op.MovOperation.TheVariants.{Plain, Invert, Reverse}
-use Rattle.pio_words.specs.declared.op.MovSource.{MovSource}
 use Rattle.pio_words.specs.declared.op.MovSource.TheVariants.{Y as MovFromY}
-use Rattle.pio_words.specs.declared.op.SetDestination.{SetDestination}
 use Rattle.pio_parse.specs.declared.token.Token.{Token}
 use Rattle.pio_parse.specs.declared.token.Place.{Place}
 use Rattle.pio_parse.specs.declared.token.Keyword.{Keyword}

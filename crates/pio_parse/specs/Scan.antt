@@ -1,4 +1,4 @@
-use Rattle.std.specs.Prelude.{◌==◌, ◌≡◌, ◌≤◌, ◌<◌, ◌||◌, ◌&&◌, not, ℕ, ◌+◌, Bool, true, false, if◌then◌else◌, List, [], ◌∷◌, ◌++◌, Option, None, Some, Result, Ok, Err, ⊤, length, slice_range, drop, option_to_list}
+use Rattle.std.specs.Prelude.{◌==◌, ◌≡◌, ◌≤◌, ◌<◌, ◌||◌, ◌&&◌, not, ℕ, ◌+◌, false, if◌then◌else◌, List, [], ◌∷◌, ◌++◌, Option, None, Some, Result, Ok, Err, ⊤, length, slice_range, drop, option_to_list}
 use Rattle.std.specs.Option.{option_map_or}
 use Rattle.pio_parse.specs.Outcome.{and_then, map_ok}
 use Rattle.pio_parse.specs.declared.fault.PioFault.{PioFault}

@@ -17,5 +17,5 @@ mod words;
 pub use expression::{Expression, Operator, Term};
 pub use fault::PioFault;
 pub use name::Name;
-pub use parser::{Source, parse};
-pub use syntax::{Instruction, Line, Operation, Statement};
+pub use parser::parse;
+pub use syntax::{Instruction, Line, Lines, Operation, Programs, Source, SourceProgram, Statement};

@@ -1,39 +1,23 @@
-ghost use Rattle.std.specs.Prelude.{◌≡◌, Ok, IfOk, IfErr, OnOk};
+ghost use Rattle.std.specs.Prelude.{◌≡◌, Ok, Some, IfOk, IfErr, OnOk, []};
 ghost use Rattle.pio_parse.specs.Statement.{is_end};
-ghost use Rattle.pio_parse.specs.Source.{IsFault, IsStopOf, kept, line_step, lines_of, names_program, parsed};
+ghost use Rattle.pio_parse.specs.Source.{IsFault, IsStopOf, grouped, line_step, parsed, source_of, source_of_groups, with_line, with_program};
 
 use crate::cursor::{Cursor, Stop};
 use crate::expression::File;
 use crate::fault::PioFault;
+use crate::name::Name;
 use crate::scan::scan;
 use crate::statement::read_line;
-use crate::syntax::{Line, Statement};
+use crate::syntax::{Line, Lines, Programs, Source, SourceProgram, Statement};
 use crate::token::{Token, TokenKind};
 use std::alloc::{AllocError, Global};
-use std::marker::Model;
 
-/// The lines of a file that have a label or a statement, in order.
+/// The lines so far: those before the first program, the programs that are over, and the present one.
 #[derive(Drop)]
-pub struct Source {
-    lines: Vec<Line>,
-}
-
-impl Model for Source {
-    ghost use Rattle.std.specs.Prelude.{List};
-    ghost use Rattle.pio_parse.specs.declared.syntax.Line.{Line};
-
-    ghost Value = { List Line };
-
-    ghost view = { λ source. source.lines.items };
-}
-
-impl Source {
-    /// The lines in order.
-    pub fn as_slice(&self) -> &[Line]
-        ensures { result.now ≡ self.now }
-    {
-        self.lines.as_slice()
-    }
+struct Groups {
+    globals: Lines,
+    programs: Programs,
+    current: Option<SourceProgram>,
 }
 
 fn ends_line(kind: TokenKind) -> bool
@@ -42,56 +26,131 @@ fn ends_line(kind: TokenKind) -> bool
     matches!(kind, TokenKind::LineEnd | TokenKind::FileEnd)
 }
 
-fn is_program(line: &Line) -> bool
-    ensures { result ≡ names_program line.now }
+fn add(groups: &mut Groups, line: Line) -> Result<(), AllocError>
+    ensures { OnOk result (groups.new ≡ with_line line groups.old) }
 {
-    matches!(line.statement, Some(Statement::Program(_)))
-}
-
-fn keep(lines: &mut Vec<Line>, line: Line) -> Result<(), AllocError>
-    ensures { OnOk result (lines.new.items ≡ kept lines.old.items line) }
-{
-    if line.label.is_some() || line.statement.is_some() {
-        lines.push(line)?;
+    match groups.current.take() {
+        None => groups.globals.push(line)?,
+        Some(mut program) => {
+            program.lines.push(line)?;
+            groups.current = Some(program);
+        }
     }
     Ok(())
 }
 
-/// Reads the tokens of one line: whether a program has begun by now.
-fn add_line(
-    file: &File,
-    tokens: &[Token],
-    is_started: bool,
-    lines: &mut Vec<Line>,
-) -> Result<bool, Stop>
-    ensures ok { IfOk result (λ now. line_step file.now.text.now is_started lines.old.items tokens.now ≡ Ok (now, lines.new.items)) }
-    ensures err { IfErr result (IsStopOf (line_step file.now.text.now is_started lines.old.items tokens.now)) }
+/// Begins a program. A label of its line is the last line of the program before it.
+fn begin(
+    groups: &mut Groups,
+    number: u64,
+    label: Option<Name>,
+    name: Name,
+    lines: Lines,
+) -> Result<(), AllocError>
+    requires { lines ≡ [] }
+    ensures { OnOk result (groups.new ≡ with_program number label name groups.old) }
 {
-    let mut cursor = Cursor { rest: tokens };
-    let line = read_line(file, is_started, &mut cursor)?;
-    let now = is_started || is_program(&line);
-    keep(lines, line)?;
-    Ok(now)
+    if let Some(label) = label {
+        add(
+            groups,
+            Line {
+                number,
+                label: Some(label),
+                statement: None,
+            },
+        )?;
+    }
+    if let Some(program) = groups.current.take() {
+        groups.programs.push(program)?;
+    }
+    groups.current = Some(SourceProgram {
+        name,
+        number,
+        lines,
+    });
+    Ok(())
 }
 
-#[tactic(auto, using(crate::proofs::Lines::line_laws))]
-fn read_lines(file: &File, tokens: &[Token]) -> Result<Vec<Line>, Stop>
-    ensures ok { IfOk result (λ lines. lines_of file.now.text.now tokens.now ≡ Ok lines.items) }
-    ensures err { IfErr result (IsStopOf (lines_of file.now.text.now tokens.now)) }
+fn group(alloc: Global, groups: &mut Groups, line: Line) -> Result<(), AllocError>
+    ensures { OnOk result (groups.new ≡ grouped groups.old line) }
 {
-    let mut lines = Vec::new(file.alloc);
-    let mut is_started = false;
+    let Line {
+        number,
+        label,
+        statement,
+    } = line;
+    match statement {
+        Some(Statement::Program(name)) => begin(groups, number, label, name, Lines::new(alloc)),
+        Some(statement) => add(
+            groups,
+            Line {
+                number,
+                label,
+                statement: Some(statement),
+            },
+        ),
+        None => {
+            if label.is_some() {
+                add(
+                    groups,
+                    Line {
+                        number,
+                        label,
+                        statement: None,
+                    },
+                )
+            } else {
+                Ok(())
+            }
+        }
+    }
+}
+
+/// Reads the tokens of one line.
+fn add_line(file: &File, tokens: &[Token], groups: &mut Groups) -> Result<(), Stop>
+    ensures ok { OnOk result (line_step file.now.text.now groups.old tokens.now ≡ Ok groups.new) }
+    ensures err { IfErr result (IsStopOf (line_step file.now.text.now groups.old tokens.now)) }
+{
+    let mut cursor = Cursor { rest: tokens };
+    let line = read_line(file, groups.current.is_some(), &mut cursor)?;
+    group(file.alloc, groups, line)?;
+    Ok(())
+}
+
+fn finish(groups: Groups) -> Result<Source, AllocError>
+    ensures { IfOk result (λ source. source ≡ source_of_groups groups) }
+{
+    let Groups {
+        globals,
+        mut programs,
+        current,
+    } = groups;
+    if let Some(program) = current {
+        programs.push(program)?;
+    }
+    Ok(Source { globals, programs })
+}
+
+#[tactic(auto, using(crate::proofs::SourceLines::line_laws))]
+fn read_lines(file: &File, tokens: &[Token]) -> Result<Source, Stop>
+    ensures ok { IfOk result (λ source. source_of file.now.text.now tokens.now ≡ Ok source) }
+    ensures err { IfErr result (IsStopOf (source_of file.now.text.now tokens.now)) }
+{
+    let mut groups = Groups {
+        globals: Lines::new(file.alloc),
+        programs: Programs::new(file.alloc),
+        current: None,
+    };
     let mut start = 0;
     for (index, token) in tokens.iter().enumerate() {
         if ends_line(token.kind) {
-            match add_line(file, &tokens[start..index + 1], is_started, &mut lines) {
-                Ok(now) => is_started = now,
+            match add_line(file, &tokens[start..index + 1], &mut groups) {
+                Ok(()) => start = index + 1,
                 Err(stop) => return Err(stop),
             }
-            start = index + 1;
         }
     }
-    Ok(lines)
+    Ok(finish(groups)?)
 }
 
 /// The source that a file holds, or its first fault: the first character that has no meaning where it
@@ -106,7 +165,7 @@ pub fn parse(alloc: Global, text: &[u8]) -> Result<Source, PioFault>
     let tokens = scan(alloc, text)?;
     let file = File { alloc, text };
     match read_lines(&file, tokens.as_slice()) {
-        Ok(lines) => Ok(Source { lines }),
+        Ok(source) => Ok(source),
         Err(Stop::Syntax(place)) => Err(PioFault::Syntax(place.line, place.column)),
         Err(Stop::Memory) => Err(PioFault::Memory),
     }
