@@ -1,0 +1,5 @@
+//! The assembler of the programmable input/output blocks (RP2040 Datasheet, 3.3): the programs of a
+//! source, with their words, or the source's first fault.
+#![tactic(auto)]
+
+mod symbols;
