@@ -20,5 +20,5 @@ not_here false v rest h = (refl, h)
 pub insert-new : (name : Bor (List ℕ)) (value : Option ℤ) (entries : List (Bor (List ℕ) × Option ℤ)) → found name.now (named entries) ≡ None → named (insert_entry (λ x y. bytes_eq x.now y.now) entries name value) ≡ named entries ++ (name.now, value) ∷ []
 insert-new name value [] h = refl
 insert-new name value (e ∷ es) h =
-  let parts = not_here (bytes_eq name.now e.0.now) e.1 (found name.now (named es)) h in
-  rw parts.0 (ap (λ rest. (e.0.now, e.1) ∷ rest) (insert-new name value es parts.1))
+    let parts = not_here (bytes_eq name.now e.0.now) e.1 (found name.now (named es)) h in
+    rw parts.0 (ap (λ rest. (e.0.now, e.1) ∷ rest) (insert-new name value es parts.1))

@@ -3,3 +3,4 @@
 #![tactic(auto)]
 
 mod symbols;
+mod value;
