@@ -2,5 +2,6 @@
 //! source, with their words, or the source's first fault.
 #![tactic(auto)]
 
+mod operand;
 mod symbols;
 mod value;
