@@ -1,3 +1,4 @@
 pub mod Symbols
 pub mod Value
 pub mod Operand
+pub mod Plan

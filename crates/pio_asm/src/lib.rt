@@ -3,5 +3,6 @@
 #![tactic(auto)]
 
 mod operand;
+mod plan;
 mod symbols;
 mod value;

@@ -1,4 +1,4 @@
-ghost use Rattle.std.specs.Prelude.{◌≡◌, IfOk};
+ghost use Rattle.std.specs.Prelude.{◌≡◌, ◌≤◌, IfOk, IfSome};
 ghost use Rattle.pio_asm.specs.Value.{evaluated};
 ghost use Rattle.pio_asm.specs.Operand.{field_in, field_of, number_within, part_in, part_of, polarity_in};
 
@@ -52,7 +52,8 @@ pub(crate) struct Part {
 
 /// The number that a value is, if it is in this range.
 pub(crate) fn small_number(value: i64, low: u8, high: u8) -> Option<u8>
-    ensures { result ≡ number_within low high value }
+    ensures value { result ≡ number_within low high value }
+    ensures inside { IfSome result (λ n. (low ≤ n) × (n ≤ high)) }
 {
     if low as i64 <= value && value <= high as i64 {
         Some(value as u8)
@@ -73,7 +74,8 @@ pub(crate) fn half_number(value: i64) -> Option<u16>
 }
 
 fn field_for(evaluated: Evaluated, low: u8, high: u8) -> Field
-    ensures { result ≡ field_of low high evaluated }
+    ensures value { result ≡ field_of low high evaluated }
+    ensures inside { IfSome result.value (λ n. (low ≤ n) × (n ≤ high)) }
 {
     let Evaluated {
         value,
@@ -108,13 +110,17 @@ pub(crate) fn read_field(
     low: u8,
     high: u8,
 ) -> Result<Field, AllocError>
-    ensures { IfOk result (λ f. f ≡ field_in scope.now.locals.now scope.now.globals.now low high expression.now) }
+    ensures value { IfOk result (λ f. f ≡ field_in scope.now.locals.now scope.now.globals.now low high expression.now) }
+    ensures inside { IfOk result (λ f. IfSome f.value (λ n. (low ≤ n) × (n ≤ high))) }
 {
     Ok(field_for(scope.evaluate(expression)?, low, high))
 }
 
 /// A polarity, which is 1 where none is written.
-pub(crate) fn read_polarity(scope: &Scope, expression: &Option<Expression>) -> Result<Field, AllocError>
+pub(crate) fn read_polarity(
+    scope: &Scope,
+    expression: &Option<Expression>,
+) -> Result<Field, AllocError>
     ensures { IfOk result (λ f. f ≡ polarity_in scope.now.locals.now scope.now.globals.now expression.now) }
 {
     match expression {
@@ -128,7 +134,8 @@ pub(crate) fn read_polarity(scope: &Scope, expression: &Option<Expression>) -> R
 }
 
 fn part_for(evaluated: Evaluated, greatest: u8) -> Part
-    ensures { result ≡ part_of greatest evaluated }
+    ensures value { result ≡ part_of greatest evaluated }
+    ensures inside { result.value ≤ greatest }
 {
     let Evaluated {
         value,
@@ -163,8 +170,13 @@ fn part_for(evaluated: Evaluated, greatest: u8) -> Part
 }
 
 /// A side-set value or a delay of at most `greatest`.
-pub(crate) fn read_part(scope: &Scope, expression: &Expression, greatest: u8) -> Result<Part, AllocError>
-    ensures { IfOk result (λ p. p ≡ part_in scope.now.locals.now scope.now.globals.now greatest expression.now) }
+pub(crate) fn read_part(
+    scope: &Scope,
+    expression: &Expression,
+    greatest: u8,
+) -> Result<Part, AllocError>
+    ensures value { IfOk result (λ p. p ≡ part_in scope.now.locals.now scope.now.globals.now greatest expression.now) }
+    ensures inside { IfOk result (λ p. p.value ≤ greatest) }
 {
     Ok(part_for(scope.evaluate(expression)?, greatest))
 }

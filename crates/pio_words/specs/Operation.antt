@@ -1,4 +1,4 @@
-use Rattle.std.specs.Prelude.{◌≡◌, ◌==◌, ℕ, ◌+◌, ◌*◌, ◌/◌, ◌%◌, ◌<◌, ◌≤◌, Bool, true, false, [], ◌∷◌, Option, None, Some, if◌then◌else◌, option_map, option_and_then, ⊤}
+use Rattle.std.specs.Prelude.{◌≡◌, ◌==◌, ℕ, ◌+◌, ◌*◌, ◌/◌, ◌%◌, ◌<◌, ◌≤◌, Bool, true, false, [], ◌∷◌, Option, None, Some, if◌then◌else◌, option_map, option_and_then}
 use Rattle.pio_words.specs.declared.op.IrqIndex.{IrqIndex}
 use Rattle.pio_words.specs.declared.op.WaitSource.{WaitSource}
 use Rattle.pio_words.specs.declared.op.WaitSource.TheVariants.{Gpio, Pin, Irq as WaitIrq}
@@ -50,23 +50,6 @@ HasFields Reserved major middle low = ⊥
 -- a word has the fields of an operation
 abbrev pub HasOperation : PioOp → ℕ → Type 0
 HasOperation op word = HasFields op (word / 8192) (word / 32 % 8) (word % 32)
-
--- the source of a WAIT fits its bits
-abbrev pub IsWaitInRange : WaitSource → Type 0
-IsWaitInRange (Gpio n) = n < 32
-IsWaitInRange (Pin n) = n < 32
-IsWaitInRange (WaitIrq index) = index.number < 8
-
--- the operands of an operation fit their bits
-abbrev pub IsInRange : PioOp → Type 0
-IsInRange (Jmp condition address) = address < 32
-IsInRange (Wait polarity source) = IsWaitInRange source
-IsInRange (In source count) = (0 < count) × (count ≤ 32)
-IsInRange (Out destination count) = (0 < count) × (count ≤ 32)
-IsInRange (Irq clear wait index) = index.number < 8
-IsInRange (Set destination value) = value < 32
-IsInRange Reserved = ⊥
-IsInRange op = ⊤
 
 -- an operation, or none where a field names nothing
 abbrev pub or_reserved : Option PioOp → PioOp

@@ -19,20 +19,6 @@ IsPlainSide count (Some value) delay field =
 abbrev pub IsSideField : SideConfig → Option ℕ → ℕ → ℕ → Type 0
 IsSideField side value delay field = MatchBool side.opt (IsOptionalSide side.count value delay field) (IsPlainSide side.count value delay field)
 
--- a side-set value, or none, and a delay fit the bits that an enable bit leaves
-abbrev pub FitsOptionalSide : ℕ → Option ℕ → ℕ → Type 0
-FitsOptionalSide count None delay = (count ≤ 4) × (delay < 2 ^ (4 - count))
-FitsOptionalSide count (Some value) delay = (count ≤ 4) × (delay < 2 ^ (4 - count)) × (value < 2 ^ count)
-
--- the same without an enable bit
-abbrev pub FitsPlainSide : ℕ → Option ℕ → ℕ → Type 0
-FitsPlainSide count None delay = (count ≡ 0) × (delay < 32)
-FitsPlainSide count (Some value) delay = (0 < count) × (count ≤ 5) × (delay < 2 ^ (5 - count)) × (value < 2 ^ count)
-
--- a side-set value, or none, and a delay fit bits 12:8
-abbrev pub FitsSide : SideConfig → Option ℕ → ℕ → Type 0
-FitsSide side value delay = MatchBool side.opt (FitsOptionalSide side.count value delay) (FitsPlainSide side.count value delay)
-
 -- a value of `count` bits above a delay, in `width` bits
 abbrev pub scaled_side : ℕ → ℕ → ℕ → SideDelay
 scaled_side field count width = record { value = Some (field / 2 ^ (width - count)); delay = field % 2 ^ (width - count) }

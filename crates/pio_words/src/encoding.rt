@@ -1,4 +1,4 @@
-ghost use Rattle.std.specs.Prelude.{◌≡◌, ℕ, ◌<◌, ◌≤◌, ◌+◌, ◌*◌, ◌/◌, ◌%◌, IfSome, IsSome, Some};
+ghost use Rattle.std.specs.Prelude.{◌≡◌, ℕ, ◌<◌, ◌≤◌, ◌+◌, ◌*◌, ◌/◌, ◌%◌, IfSome, Some};
 ghost use Rattle.pio_words.specs.Table.{entry};
 ghost use Rattle.pio_words.specs.JmpCondition.{conditions};
 ghost use Rattle.pio_words.specs.InSource.{in_sources};
@@ -7,8 +7,7 @@ ghost use Rattle.pio_words.specs.MovDestination.{mov_destinations};
 ghost use Rattle.pio_words.specs.MovOperation.{mov_operations};
 ghost use Rattle.pio_words.specs.MovSource.{mov_sources};
 ghost use Rattle.pio_words.specs.SetDestination.{set_destinations};
-ghost use Rattle.pio_words.specs.Operation.{HasFields, IsIrqIndex, IsWaitSource, IsCount, IsInRange, IsWaitInRange, bit};
-ghost use Rattle.pio_words.specs.Side.{FitsSide};
+ghost use Rattle.pio_words.specs.Operation.{HasFields, IsIrqIndex, IsWaitSource, IsCount, bit};
 ghost use Rattle.pio_words.specs.Word.{IsWord, DecodesBack, IsOneWord, SideDecodesBack};
 
 use crate::op::{
@@ -118,7 +117,6 @@ fn set_destination_code(named: SetDestination) -> u8
 
 fn irq_index_bits(index: IrqIndex) -> Option<u8>
     ensures some { IfSome result (λ low. IsIrqIndex index low × (low < 32)) }
-    ensures fits { index.number < 8 → IsSome result }
     ensures none { result ≡ None → (low : ℕ) → IsIrqIndex index low → ⊥ }
 {
     if index.number < 8 {
@@ -142,7 +140,6 @@ struct Fields {
 
 fn five_bits(major: u8, middle: u8, low: u8) -> Option<Fields>
     ensures some { IfSome result (λ f. (f.major ≡ major) × (f.middle ≡ middle) × (f.low ≡ low) × (low < 32)) }
-    ensures fits { low < 32 → IsSome result }
     ensures none { result ≡ None → 32 ≤ low }
 {
     if low < 32 {
@@ -154,7 +151,6 @@ fn five_bits(major: u8, middle: u8, low: u8) -> Option<Fields>
 
 fn count_fields(major: u8, middle: u8, count: u8) -> Option<Fields>
     ensures some { IfSome result (λ f. (f.major ≡ major) × (f.middle ≡ middle) × IsCount count f.low × (f.low < 32)) }
-    ensures fits { 0 < count → count ≤ 32 → IsSome result }
     ensures none { result ≡ None → (low : ℕ) → IsCount count low → ⊥ }
 {
     if 0 < count && count <= 32 {
@@ -170,7 +166,6 @@ fn count_fields(major: u8, middle: u8, count: u8) -> Option<Fields>
 
 fn wait_fields(polarity: bool, source: WaitSource) -> Option<Fields>
     ensures some { IfSome result (λ f. HasFields (PioOp.Wait polarity source) f.major f.middle f.low × (f.major < 8) × (f.middle < 8) × (f.low < 32)) }
-    ensures fits { IsWaitInRange source → IsSome result }
     ensures none { result ≡ None → (major middle low : ℕ) → HasFields (PioOp.Wait polarity source) major middle low → ⊥ }
 {
     let top = if polarity { 4 } else { 0 };
@@ -233,7 +228,6 @@ fn joined(fields: Fields, side: u8) -> u16
 
 fn fields_of(op: &PioOp) -> Option<Fields>
     ensures some { IfSome result (λ f. HasFields op.now f.major f.middle f.low × (f.major < 8) × (f.middle < 8) × (f.low < 32)) }
-    ensures fits { IsInRange op.now → IsSome result }
     ensures none { result ≡ None → (major middle low : ℕ) → HasFields op.now major middle low → ⊥ }
 {
     match *op {
@@ -284,7 +278,6 @@ fn fields_of(op: &PioOp) -> Option<Fields>
 /// does not fit its field, a value is missing or has no bits, or the operation is `Reserved`.
 pub fn encode(op: &PioOp, side: &SideConfig, value: Option<u8>, delay: u8) -> Option<u16>
     ensures word { IfSome result (IsWord op.now side.now value delay) }
-    ensures fits { IsInRange op.now → FitsSide side.now value delay → IsSome result }
     ensures none { result ≡ None → (word : ℕ) → IsWord op.now side.now value delay word → ⊥ }
 {
     let fields = fields_of(op)?;

@@ -1,5 +1,5 @@
-ghost use Rattle.std.specs.Prelude.{◌≡◌, ℕ, ◌<◌, ◌≤◌, ◌^◌, ◌+◌, ◌-◌, ◌*◌, ◌/◌, ◌%◌, IfSome, IsSome, Option};
-ghost use Rattle.pio_words.specs.Side.{FitsOptionalSide, FitsPlainSide, FitsSide, IsOptionalSide, IsPlainSide, IsSideField, IsScaledSide, optional_side_at, plain_side_at, scaled_side, side_at};
+ghost use Rattle.std.specs.Prelude.{◌≡◌, ℕ, ◌<◌, ◌≤◌, ◌^◌, ◌+◌, ◌-◌, ◌*◌, ◌/◌, ◌%◌, IfSome, Option};
+ghost use Rattle.pio_words.specs.Side.{IsOptionalSide, IsPlainSide, IsSideField, IsScaledSide, optional_side_at, plain_side_at, scaled_side, side_at};
 
 /// How a program uses the five bits that its instructions share between side-set and delay
 /// (RP2040 Datasheet, 3.5.1).
@@ -67,7 +67,6 @@ fn split(field: u8, count: u8, width: u8) -> SideDelay
 
 fn optional_field(count: u8, value: Option<u8>, delay: u8) -> Option<u8>
     ensures some { IfSome result (λ field. IsOptionalSide count value delay field × (field < 32)) }
-    ensures fits { FitsOptionalSide count value delay → IsSome result }
     ensures none { result ≡ None → (field : ℕ) → IsOptionalSide count value delay field → ⊥ }
 {
     if count > 4 || delay >= power_of_two(4 - count) {
@@ -87,7 +86,6 @@ fn optional_field(count: u8, value: Option<u8>, delay: u8) -> Option<u8>
 
 fn plain_field(count: u8, value: Option<u8>, delay: u8) -> Option<u8>
     ensures some { IfSome result (λ field. IsPlainSide count value delay field × (field < 32)) }
-    ensures fits { FitsPlainSide count value delay → IsSome result }
     ensures none { result ≡ None → (field : ℕ) → IsPlainSide count value delay field → ⊥ }
 {
     if count > 5 || delay >= power_of_two(5 - count) {
@@ -108,7 +106,6 @@ fn plain_field(count: u8, value: Option<u8>, delay: u8) -> Option<u8>
 /// Bits 12:8 of an instruction with this side-set value, or none, and this delay.
 pub(crate) fn side_field(side: &SideConfig, value: Option<u8>, delay: u8) -> Option<u8>
     ensures some { IfSome result (λ field. IsSideField side.now value delay field × (field < 32)) }
-    ensures fits { FitsSide side.now value delay → IsSome result }
     ensures none { result ≡ None → (field : ℕ) → IsSideField side.now value delay field → ⊥ }
 {
     if side.opt {

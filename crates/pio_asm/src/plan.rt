@@ -1,0 +1,238 @@
+ghost use Rattle.std.specs.Prelude.{◌≡◌, ◌≤◌, ◌+◌, ◌^◌, ◌&&◌, IfOk, IfSome, true, false, Some, None, option_map};
+ghost use Rattle.pio_words.specs.Operation.{IsInRange, IsWaitInRange};
+ghost use Rattle.pio_asm.specs.Plan.{IsConfig, IsSound, config_of, delay_bits, delay_part_in, instruction_in, member_of, operation_in, planned_of, side_part_in, side_value_of, waited};
+
+use crate::operand::{Field, Part, Scope, read_field, read_part, read_polarity};
+use pio_parse::{Expression, Instruction, Operation};
+use pio_words::{IrqIndex, PioOp, SideConfig, WaitSource};
+use std::alloc::AllocError;
+
+/// What an instruction or a `.word` puts into a program.
+#[derive(Clone, Copy)]
+pub(crate) enum Member {
+    /// The value of a `.word`.
+    Word(u16),
+    /// An operation with its side-set value, or none, and its delay under a side-set configuration.
+    Coded {
+        op: PioOp,
+        side: SideConfig,
+        value: Option<u8>,
+        delay: u8,
+    },
+    /// An instruction that uses a name whose definition has a fault. The line of that definition is
+    /// refused.
+    Lost,
+}
+
+/// The operation of an instruction.
+#[derive(Clone, Copy)]
+struct Planned {
+    /// The operation, unless an operand has no value.
+    op: Option<PioOp>,
+    unknown: bool,
+    range: bool,
+}
+
+/// An instruction with the faults that it has by itself.
+#[derive(Clone, Copy)]
+pub(crate) struct Judged {
+    pub(crate) member: Member,
+    pub(crate) unknown: bool,
+    pub(crate) range: bool,
+    pub(crate) delay: bool,
+    pub(crate) side: bool,
+}
+
+fn plan(op: Option<PioOp>, field: Field) -> Planned
+    ensures { result ≡ planned_of op field }
+{
+    Planned {
+        op,
+        unknown: field.unknown,
+        range: field.range,
+    }
+}
+
+/// An operation with no operand that could have a fault.
+fn sure(op: PioOp) -> Planned
+    ensures { result ≡ record { op = Some op; unknown = false; range = false } }
+{
+    Planned {
+        op: Some(op),
+        unknown: false,
+        range: false,
+    }
+}
+
+/// A `wait` for a source, which an operand may have left without a value.
+fn plan_wait(polarity: Field, source: Option<WaitSource>, number: Field) -> Planned
+    requires { IfSome source IsWaitInRange }
+    ensures value { result ≡ waited polarity source number }
+    ensures fits { IfSome result.op IsInRange }
+{
+    let op = match polarity.value {
+        None => None,
+        Some(polarity) => match source {
+            None => None,
+            Some(source) => Some(PioOp::Wait {
+                polarity: polarity == 1,
+                source,
+            }),
+        },
+    };
+    Planned {
+        op,
+        unknown: polarity.unknown || number.unknown,
+        range: polarity.range || number.range,
+    }
+}
+
+fn wait_for_irq(number: Option<u8>, relative: bool) -> Option<WaitSource>
+    requires { IfSome number (λ n. n ≤ 7) }
+    ensures value { result ≡ option_map (λ n. WaitSource.Irq (record { number = n; relative = relative })) number }
+    ensures fits { IfSome result IsWaitInRange }
+{
+    match number {
+        None => None,
+        Some(number) => Some(WaitSource::Irq(IrqIndex { number, relative })),
+    }
+}
+
+fn wait_for_pin(number: Option<u8>, is_gpio: bool) -> Option<WaitSource>
+    requires { IfSome number (λ n. n ≤ 31) }
+    ensures value { result ≡ option_map (λ n. if is_gpio then WaitSource.Gpio n else WaitSource.Pin n) number }
+    ensures fits { IfSome result IsWaitInRange }
+{
+    match number {
+        None => None,
+        Some(number) => Some(if is_gpio {
+            WaitSource::Gpio(number)
+        } else {
+            WaitSource::Pin(number)
+        }),
+    }
+}
+
+/// The operation of an instruction, with its operands where this scope's names are seen.
+fn plan_operation(scope: &Scope, operation: &Operation) -> Result<Planned, AllocError>
+    ensures value { IfOk result (λ p. p ≡ operation_in scope.now.locals.now scope.now.globals.now operation.now) }
+    ensures fits { IfOk result (λ p. IfSome p.op IsInRange) }
+{
+    match operation {
+        Operation::Jmp { condition, target } => {
+            let field = read_field(scope, target, 0, 31)?;
+            let condition = *condition;
+            Ok(plan(
+                field.value.map(|address| PioOp::Jmp { condition, address }),
+                field,
+            ))
+        }
+        Operation::WaitGpio { polarity, number } => {
+            let polarity = read_polarity(scope, polarity)?;
+            let field = read_field(scope, number, 0, 31)?;
+            Ok(plan_wait(polarity, wait_for_pin(field.value, true), field))
+        }
+        Operation::WaitPin { polarity, number } => {
+            let polarity = read_polarity(scope, polarity)?;
+            let field = read_field(scope, number, 0, 31)?;
+            Ok(plan_wait(polarity, wait_for_pin(field.value, false), field))
+        }
+        Operation::WaitIrq {
+            polarity,
+            number,
+            relative,
+        } => {
+            let polarity = read_polarity(scope, polarity)?;
+            let field = read_field(scope, number, 0, 7)?;
+            Ok(plan_wait(polarity, wait_for_irq(field.value, *relative), field))
+        }
+        Operation::In { source, count } => {
+            let field = read_field(scope, count, 1, 32)?;
+            let source = *source;
+            Ok(plan(field.value.map(|count| PioOp::In { source, count }), field))
+        }
+        Operation::Out { destination, count } => {
+            let field = read_field(scope, count, 1, 32)?;
+            let destination = *destination;
+            Ok(plan(
+                field.value.map(|count| PioOp::Out { destination, count }),
+                field,
+            ))
+        }
+        Operation::Push { if_full, block } => {
+            Ok(sure(PioOp::Push {
+                if_full: *if_full,
+                block: *block,
+            }))
+        }
+        Operation::Pull { if_empty, block } => {
+            Ok(sure(PioOp::Pull {
+                if_empty: *if_empty,
+                block: *block,
+            }))
+        }
+        Operation::Mov {
+            destination,
+            operation,
+            source,
+        } => Ok(sure(PioOp::Mov {
+            destination: *destination,
+            operation: *operation,
+            source: *source,
+        })),
+        Operation::Irq {
+            clear,
+            wait,
+            number,
+            relative,
+        } => {
+            let field = read_field(scope, number, 0, 7)?;
+            let (clear, wait, relative) = (*clear, *wait, *relative);
+            let op = match field.value {
+                None => None,
+                Some(number) => Some(PioOp::Irq {
+                    clear,
+                    wait,
+                    index: IrqIndex { number, relative },
+                }),
+            };
+            Ok(plan(op, field))
+        }
+        Operation::Set { destination, value } => {
+            let field = read_field(scope, value, 0, 31)?;
+            let destination = *destination;
+            Ok(plan(
+                field.value.map(|value| PioOp::Set { destination, value }),
+                field,
+            ))
+        }
+    }
+}
+
+/// The greatest number of so many bits.
+fn greatest_of(bits: u8) -> u8
+    requires { bits ≤ 5 }
+    ensures { result + 1 ≡ 2 ^ bits }
+{
+    match bits {
+        0 => 0,
+        1 => 1,
+        2 => 3,
+        3 => 7,
+        4 => 15,
+        _ => 31,
+    }
+}
+
+/// The bits of a delay.
+fn bits_of_delay(config: &SideConfig) -> u8
+    requires { IsConfig config.now }
+    ensures value { result ≡ delay_bits config.now }
+    ensures small { result ≤ 5 }
+{
+    if config.opt {
+        4 - config.count
+    } else {
+        5 - config.count
+    }
+}
