@@ -1,2 +1,4 @@
 pub mod SymbolLaws
 pub mod Bounds
+pub mod Codes
+pub mod Words

@@ -1,4 +1,5 @@
 pub mod Symbols
 pub mod Value
 pub mod Operand
+pub mod Fits
 pub mod Plan

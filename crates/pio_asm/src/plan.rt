@@ -1,10 +1,11 @@
 ghost use Rattle.std.specs.Prelude.{◌≡◌, ◌≤◌, ◌+◌, ◌^◌, ◌&&◌, IfOk, IfSome, true, false, Some, None, option_map};
-ghost use Rattle.pio_words.specs.Operation.{IsInRange, IsWaitInRange};
-ghost use Rattle.pio_asm.specs.Plan.{IsConfig, IsSound, config_of, delay_bits, delay_part_in, instruction_in, member_of, operation_in, planned_of, side_part_in, side_value_of, waited};
+ghost use Rattle.pio_words.specs.Word.{IsWord};
+ghost use Rattle.pio_asm.specs.Fits.{FitsSide, IsInRange, IsWaitInRange};
+ghost use Rattle.pio_asm.specs.Plan.{IsConfig, IsOptionalConfig, IsSound, config_of, delay_bits, delay_part_in, greatest, instruction_in, judged_of, member_of, operation_in, planned_of, side_part_in, side_value_of, waited, with_fault};
 
 use crate::operand::{Field, Part, Scope, read_field, read_part, read_polarity};
 use pio_parse::{Expression, Instruction, Operation};
-use pio_words::{IrqIndex, PioOp, SideConfig, WaitSource};
+use pio_words::{IrqIndex, PioOp, SideConfig, WaitSource, encode};
 use std::alloc::AllocError;
 
 /// What an instruction or a `.word` puts into a program.
@@ -212,7 +213,7 @@ fn plan_operation(scope: &Scope, operation: &Operation) -> Result<Planned, Alloc
 /// The greatest number of so many bits.
 fn greatest_of(bits: u8) -> u8
     requires { bits ≤ 5 }
-    ensures { result + 1 ≡ 2 ^ bits }
+    ensures { result ≡ greatest bits }
 {
     match bits {
         0 => 0,
@@ -234,5 +235,82 @@ fn bits_of_delay(config: &SideConfig) -> u8
         4 - config.count
     } else {
         5 - config.count
+    }
+}
+
+const NO_PART: Part = Part {
+    value: 0,
+    lost: false,
+    unknown: false,
+    outside: false,
+    fault: false,
+};
+
+const NO_SIDE: SideConfig = SideConfig {
+    count: 0,
+    opt: false,
+    pindirs: false,
+};
+
+/// The side-set configuration of a program, which may have none.
+pub(crate) fn config_or_none(config: Option<SideConfig>) -> SideConfig
+    requires { IsOptionalConfig config }
+    ensures value { result ≡ config_of config }
+    ensures fits { IsConfig result }
+{
+    config.unwrap_or(NO_SIDE)
+}
+
+fn side_part(
+    scope: &Scope,
+    config: Option<SideConfig>,
+    side: &Option<Expression>,
+) -> Result<Part, AllocError>
+    requires { IsOptionalConfig config }
+    ensures value { IfOk result (λ p. p ≡ side_part_in scope.now.locals.now scope.now.globals.now config side.now) }
+    ensures inside { IfOk result (λ p. p.value ≤ greatest (config_of config).count) }
+{
+    match config {
+        None => match side {
+            None => Ok(NO_PART),
+            Some(side) => {
+                let mut part = read_part(scope, side, 0)?;
+                part.fault = true;
+                Ok(part)
+            }
+        },
+        Some(config) => match side {
+            None => Ok(Part {
+                fault: !config.opt,
+                ..NO_PART
+            }),
+            Some(side) => read_part(scope, side, greatest_of(config.count)),
+        },
+    }
+}
+
+fn delay_part(
+    scope: &Scope,
+    config: &SideConfig,
+    delay: &Option<Expression>,
+) -> Result<Part, AllocError>
+    requires { IsConfig config.now }
+    ensures value { IfOk result (λ p. p ≡ delay_part_in scope.now.locals.now scope.now.globals.now config.now delay.now) }
+    ensures inside { IfOk result (λ p. p.value ≤ greatest (delay_bits config.now)) }
+{
+    match delay {
+        None => Ok(NO_PART),
+        Some(delay) => read_part(scope, delay, greatest_of(bits_of_delay(config))),
+    }
+}
+
+/// The value that the word has, if it has bits for one.
+fn side_value(config: &SideConfig, given: bool, value: u8) -> Option<u8>
+    ensures { result ≡ side_value_of config.now given value }
+{
+    if given && (config.opt || config.count != 0) {
+        Some(value)
+    } else {
+        None
     }
 }
