@@ -2,3 +2,4 @@ pub mod SymbolLaws
 pub mod Bounds
 pub mod Codes
 pub mod Words
+pub mod Sides

@@ -81,18 +81,19 @@ side_of true n (Some v) d h = (16 + v * 2 ^ (4 - n) + d, omega (arith, scaled-lt
 side_of false n None d h = (d, h.1, (h.0, h.1, refl))
 side_of false n (Some v) d h = (v * 2 ^ (5 - n) + d, scaled-lt 5 n v d h.1 h.3 h.2, (h.0, h.1, h.2, h.3, refl))
 
+-- the word of three fields and a side-set field
+word_of : (op : PioOp) (side : SideConfig) (value : Option ℕ) (delay a f b c : ℕ) → a < 8 → f < 32 → b < 8 → c < 32 → HasFields op a b c → IsSideField side value delay f → (w : ℕ) × IsWord op side value delay w
+word_of op side value delay a f b c la lf lb lc has side_has =
+  let half : 8192 * a + 256 * f + 32 * b + c < 65536 = omega arith in
+  let ea : (8192 * a + 256 * f + 32 * b + c) / 8192 ≡ a = omega arith in
+  let eb : (8192 * a + 256 * f + 32 * b + c) / 32 % 8 ≡ b = omega arith in
+  let ec : (8192 * a + 256 * f + 32 * b + c) % 32 ≡ c = omega arith in
+  let ef : (8192 * a + 256 * f + 32 * b + c) / 256 % 32 ≡ f = omega arith in
+  (8192 * a + 256 * f + 32 * b + c, record { is_half = half; has_operation = rw (ea, eb, ec) has; has_side = rw ef side_has })
+
 -- what fits has a word
 pub word-exists : (op : PioOp) (side : SideConfig) (value : Option ℕ) (delay : ℕ) → IsInRange op → FitsSide side value delay → (w : ℕ) × IsWord op side value delay w
 word-exists op side value delay in_range fits =
   let k = fields_of op in_range in
   let s = side_of side.opt side.count value delay fits in
   word_of op side value delay k.major s.0 k.middle k.low k.major_small s.1 k.middle_small k.low_small k.fields s.2
-  where
-  word_of : (op : PioOp) (side : SideConfig) (value : Option ℕ) (delay a f b c : ℕ) → a < 8 → f < 32 → b < 8 → c < 32 → HasFields op a b c → IsSideField side value delay f → (w : ℕ) × IsWord op side value delay w
-  word_of op side value delay a f b c as fs bs cs has side_has =
-    let half : 8192 * a + 256 * f + 32 * b + c < 65536 = omega arith in
-    let ea : (8192 * a + 256 * f + 32 * b + c) / 8192 ≡ a = omega arith in
-    let eb : (8192 * a + 256 * f + 32 * b + c) / 32 % 8 ≡ b = omega arith in
-    let ec : (8192 * a + 256 * f + 32 * b + c) % 32 ≡ c = omega arith in
-    let ef : (8192 * a + 256 * f + 32 * b + c) / 256 % 32 ≡ f = omega arith in
-    (8192 * a + 256 * f + 32 * b + c, record { is_half = half; has_operation = rw (ea, eb, ec) has; has_side = rw ef side_has })

@@ -7,6 +7,7 @@ use Rattle.pio_words.specs.declared.op.PioOp.{PioOp}
 use Rattle.pio_words.specs.declared.op.PioOp.TheVariants.{Jmp as JmpOp, Wait as WaitOp, In as InOp, Out as OutOp, Push as PushOp, Pull as PullOp, Mov as MovOp, Irq as IrqOp, Set as SetOp}
 use Rattle.pio_words.specs.declared.side.SideConfig.{SideConfig}
 use Rattle.pio_words.specs.Operation.{bit}
+use Rattle.pio_words.specs.Word.{IsWord}
 use Rattle.pio_parse.specs.declared.expression.Term.{Term}
 use Rattle.pio_parse.specs.declared.syntax.Operation.{Operation}
 use Rattle.pio_parse.specs.declared.syntax.Operation.TheVariants.{Jmp, WaitGpio, WaitPin, WaitIrq, In, Out, Push, Pull, Mov, Irq, Set}
@@ -122,3 +123,10 @@ IsSound Lost = ⊤
 abbrev pub IsOptionalConfig : Option SideConfig → Type 0
 IsOptionalConfig None = ⊤
 IsOptionalConfig (Some config) = IsConfig config
+
+-- the word of a member: a `.word` value stands for itself, and an operation has its word with its side-set value and its delay.
+-- A lost member is in no program, since the line of a definition is refused that it uses
+abbrev pub StandsFor : Member → ℕ → Type 0
+StandsFor (Word n) word = word ≡ n
+StandsFor (Coded op side value delay) word = IsWord op side value delay word
+StandsFor Lost word = word ≡ 0

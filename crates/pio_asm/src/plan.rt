@@ -1,7 +1,7 @@
-ghost use Rattle.std.specs.Prelude.{◌≡◌, ◌≤◌, ◌+◌, ◌^◌, ◌&&◌, IfOk, IfSome, true, false, Some, None, option_map};
+ghost use Rattle.std.specs.Prelude.{◌≡◌, ◌≤◌, ◌+◌, ◌^◌, ◌&&◌, IfOk, IfSome, true, false, Some, None, option_map, is_some, if◌then◌else◌, ◌||◌, ◌==◌};
 ghost use Rattle.pio_words.specs.Word.{IsWord};
 ghost use Rattle.pio_asm.specs.Fits.{FitsSide, IsInRange, IsWaitInRange};
-ghost use Rattle.pio_asm.specs.Plan.{IsConfig, IsOptionalConfig, IsSound, config_of, delay_bits, delay_part_in, greatest, instruction_in, judged_of, member_of, operation_in, planned_of, side_part_in, side_value_of, waited, with_fault};
+ghost use Rattle.pio_asm.specs.Plan.{IsConfig, IsOptionalConfig, IsSound, StandsFor, config_of, delay_bits, delay_part_in, greatest, instruction_in, judged_of, member_of, operation_in, planned_of, side_part_in, side_value_of, waited, with_fault};
 
 use crate::operand::{Field, Part, Scope, read_field, read_part, read_polarity};
 use pio_parse::{Expression, Instruction, Operation};
@@ -269,6 +269,7 @@ fn side_part(
     requires { IsOptionalConfig config }
     ensures value { IfOk result (λ p. p ≡ side_part_in scope.now.locals.now scope.now.globals.now config side.now) }
     ensures inside { IfOk result (λ p. p.value ≤ greatest (config_of config).count) }
+    ensures fault { IfOk result (λ p. p.fault ≡ false → (is_some side.now || (config_of config).opt || (config_of config).count == 0) ≡ true) }
 {
     match config {
         None => match side {
@@ -313,4 +314,85 @@ fn side_value(config: &SideConfig, given: bool, value: u8) -> Option<u8>
     } else {
         None
     }
+}
+
+/// What an instruction puts into its program.
+#[tactic(auto, using(crate::proofs::Sides::side_fits))]
+fn choose_member(config: &SideConfig, given: bool, op: Option<PioOp>, side: Part, delay: Part) -> Member
+    requires config { IsConfig config.now }
+    requires op { IfSome op IsInRange }
+    requires side { side.value ≤ greatest config.now.count }
+    requires delay { delay.value ≤ greatest (delay_bits config.now) }
+    ensures value { result ≡ member_of config.now given op side delay }
+    ensures sound { (given || config.now.opt || config.now.count == 0) ≡ true → IsSound result }
+{
+    match op {
+        None => Member::Lost,
+        Some(op) => {
+            if side.lost || delay.lost {
+                Member::Lost
+            } else {
+                let value = side_value(config, given, side.value);
+                Member::Coded {
+                    op,
+                    side: *config,
+                    value,
+                    delay: delay.value,
+                }
+            }
+        }
+    }
+}
+
+/// The word of an operation that fits.
+fn word_of_operation(op: &PioOp, side: &SideConfig, value: Option<u8>, delay: u8) -> u16
+    requires op { IsInRange op.now }
+    requires side { FitsSide side.now value delay }
+    ensures { IsWord op.now side.now value delay result }
+{
+    match encode(op, side, value, delay) {
+        Some(word) => word,
+        None => 0,
+    }
+}
+
+/// The word of a member.
+pub(crate) fn word_of_member(member: &Member) -> u16
+    requires { IsSound member.now }
+    ensures { StandsFor member.now result }
+{
+    match member {
+        Member::Word(word) => *word,
+        Member::Coded {
+            op,
+            side,
+            value,
+            delay,
+        } => word_of_operation(op, side, *value, *delay),
+        Member::Lost => 0,
+    }
+}
+
+/// An instruction with the faults that it has by itself, where this scope's names are seen.
+pub(crate) fn judge_instruction(
+    scope: &Scope,
+    config: Option<SideConfig>,
+    instruction: &Instruction,
+) -> Result<Judged, AllocError>
+    requires { IsOptionalConfig config }
+    ensures value { IfOk result (λ j. j ≡ instruction_in scope.now.locals.now scope.now.globals.now config instruction.now) }
+    ensures sound { IfOk result (λ j. j.side ≡ false → IsSound j.member) }
+{
+    let planned = plan_operation(scope, &instruction.operation)?;
+    let side = side_part(scope, config, &instruction.side)?;
+    let given = instruction.side.is_some();
+    let config = config_or_none(config);
+    let delay = delay_part(scope, &config, &instruction.delay)?;
+    Ok(Judged {
+        member: choose_member(&config, given, planned.op, side, delay),
+        unknown: planned.unknown || side.unknown || delay.unknown,
+        range: planned.range || side.outside || delay.outside,
+        delay: delay.fault,
+        side: side.fault,
+    })
 }
