@@ -3,3 +3,4 @@ pub mod Bounds
 pub mod Codes
 pub mod Words
 pub mod Sides
+pub mod CodeLaws

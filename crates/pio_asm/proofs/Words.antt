@@ -59,12 +59,12 @@ fields_of (Out d n) h = let k = out_destinations-code d in record { major = 3; m
 fields_of (Push f b) h = record { major = 4; middle = 2 * bit f + bit b; low = 0; fields = (refl, refl, refl); major_small = lit< tt; middle_small = omega (arith, pair_small f b); low_small = lit< tt }
 fields_of (Pull f b) h = record { major = 4; middle = 4 + 2 * bit f + bit b; low = 0; fields = (refl, refl, refl); major_small = lit< tt; middle_small = omega (arith, pair_small f b); low_small = lit< tt }
 fields_of (Mov d o s) h =
-  let k = mov_destinations-code d in
-  let m = mov_operations-code o in
-  let n = mov_sources-code s in
-  let high : entry mov_operations ((8 * m.code + n.code) / 8) ≡ Some o = rw (high_part m.code n.code n.small) m.stands in
-  let low : entry mov_sources ((8 * m.code + n.code) % 8) ≡ Some s = rw (low_part m.code n.code n.small) n.stands in
-  record { major = 5; middle = k.code; low = 8 * m.code + n.code; fields = (refl, k.stands, high, low); major_small = lit< tt; middle_small = k.small; low_small = omega (arith, m.small, n.small) }
+    let k = mov_destinations-code d in
+    let m = mov_operations-code o in
+    let n = mov_sources-code s in
+    let high : entry mov_operations ((8 * m.code + n.code) / 8) ≡ Some o = rw (high_part m.code n.code n.small) m.stands in
+    let low : entry mov_sources ((8 * m.code + n.code) % 8) ≡ Some s = rw (low_part m.code n.code n.small) n.stands in
+    record { major = 5; middle = k.code; low = 8 * m.code + n.code; fields = (refl, k.stands, high, low); major_small = lit< tt; middle_small = k.small; low_small = omega (arith, m.small, n.small) }
 fields_of (Irq f g i) h = record { major = 6; middle = 2 * bit f + bit g; low = 16 * bit i.relative + i.number; fields = (refl, refl, (refl, h)); major_small = lit< tt; middle_small = omega (arith, pair_small f g); low_small = index_small i.relative i.number h }
 fields_of (Set d v) h = let k = set_destinations-code d in record { major = 7; middle = k.code; low = v; fields = (refl, k.stands, refl, h); major_small = lit< tt; middle_small = k.small; low_small = h }
 fields_of Reserved h = absurd h
@@ -84,16 +84,16 @@ side_of false n (Some v) d h = (v * 2 ^ (5 - n) + d, scaled-lt 5 n v d h.1 h.3 h
 -- the word of three fields and a side-set field
 word_of : (op : PioOp) (side : SideConfig) (value : Option ℕ) (delay a f b c : ℕ) → a < 8 → f < 32 → b < 8 → c < 32 → HasFields op a b c → IsSideField side value delay f → (w : ℕ) × IsWord op side value delay w
 word_of op side value delay a f b c la lf lb lc has side_has =
-  let half : 8192 * a + 256 * f + 32 * b + c < 65536 = omega arith in
-  let ea : (8192 * a + 256 * f + 32 * b + c) / 8192 ≡ a = omega arith in
-  let eb : (8192 * a + 256 * f + 32 * b + c) / 32 % 8 ≡ b = omega arith in
-  let ec : (8192 * a + 256 * f + 32 * b + c) % 32 ≡ c = omega arith in
-  let ef : (8192 * a + 256 * f + 32 * b + c) / 256 % 32 ≡ f = omega arith in
-  (8192 * a + 256 * f + 32 * b + c, record { is_half = half; has_operation = rw (ea, eb, ec) has; has_side = rw ef side_has })
+    let half : 8192 * a + 256 * f + 32 * b + c < 65536 = omega arith in
+    let ea : (8192 * a + 256 * f + 32 * b + c) / 8192 ≡ a = omega arith in
+    let eb : (8192 * a + 256 * f + 32 * b + c) / 32 % 8 ≡ b = omega arith in
+    let ec : (8192 * a + 256 * f + 32 * b + c) % 32 ≡ c = omega arith in
+    let ef : (8192 * a + 256 * f + 32 * b + c) / 256 % 32 ≡ f = omega arith in
+    (8192 * a + 256 * f + 32 * b + c, record { is_half = half; has_operation = rw (ea, eb, ec) has; has_side = rw ef side_has })
 
 -- what fits has a word
 pub word-exists : (op : PioOp) (side : SideConfig) (value : Option ℕ) (delay : ℕ) → IsInRange op → FitsSide side value delay → (w : ℕ) × IsWord op side value delay w
 word-exists op side value delay in_range fits =
-  let k = fields_of op in_range in
-  let s = side_of side.opt side.count value delay fits in
-  word_of op side value delay k.major s.0 k.middle k.low k.major_small s.1 k.middle_small k.low_small k.fields s.2
+    let k = fields_of op in_range in
+    let s = side_of side.opt side.count value delay fits in
+    word_of op side value delay k.major s.0 k.middle k.low k.major_small s.1 k.middle_small k.low_small k.fields s.2

@@ -3,3 +3,5 @@ pub mod Value
 pub mod Operand
 pub mod Fits
 pub mod Plan
+pub mod Code
+pub mod Verdict

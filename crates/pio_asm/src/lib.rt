@@ -2,6 +2,7 @@
 //! source, with their words, or the source's first fault.
 #![tactic(auto)]
 
+mod building;
 mod operand;
 mod plan;
 mod symbols;

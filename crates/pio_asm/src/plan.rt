@@ -318,7 +318,13 @@ fn side_value(config: &SideConfig, given: bool, value: u8) -> Option<u8>
 
 /// What an instruction puts into its program.
 #[tactic(auto, using(crate::proofs::Sides::side_fits))]
-fn choose_member(config: &SideConfig, given: bool, op: Option<PioOp>, side: Part, delay: Part) -> Member
+fn choose_member(
+    config: &SideConfig,
+    given: bool,
+    op: Option<PioOp>,
+    side: Part,
+    delay: Part,
+) -> Member
     requires config { IsConfig config.now }
     requires op { IfSome op IsInRange }
     requires side { side.value ≤ greatest config.now.count }
