@@ -5,3 +5,4 @@ pub mod Fits
 pub mod Plan
 pub mod Code
 pub mod Verdict
+pub mod Step

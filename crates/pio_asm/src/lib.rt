@@ -3,6 +3,7 @@
 #![tactic(auto)]
 
 mod building;
+mod line;
 mod operand;
 mod plan;
 mod symbols;
