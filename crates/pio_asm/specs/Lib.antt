@@ -6,3 +6,4 @@ pub mod Plan
 pub mod Code
 pub mod Verdict
 pub mod Step
+pub mod Assembly

@@ -93,18 +93,16 @@ abbrev pub ends_outside : ℕ → Option ℕ → Bool
 ends_outside total None = false
 ends_outside total (Some origin) = nat_lt (32 - origin) total
 
+-- an origin is repeated, comes after an instruction, is no place, or is one from which the program ends outside
+abbrev pub is_origin_fault : ℕ → Option ℤ → Building → Bool
+is_origin_fault total value b = is_some b.origin || nat_lt 0 (length b.code) || misfits 0 31 value || ends_outside total (fitting 0 31 value)
+
 -- .origin place
 abbrev pub origin_step : Names → ℕ → ℕ → Bool → List Term → Building → Result Building PioFault
 origin_step globals total number twice value b =
     let e = evaluated b.seen globals value in
-    let place = fitting 0 31 e.value in
-    checked number (record no_fault {
-      unknown = e.unknown;
-      twice = twice;
-      range = e.outside;
-      origin = is_some b.origin || nat_lt 0 (length b.code) || misfits 0 31 e.value || ends_outside total place;
-    })
-    (record b { origin = place })
+    checked number (record no_fault { unknown = e.unknown; twice = twice; range = e.outside; origin = is_origin_fault total e.value b })
+    (record b { origin = fitting 0 31 e.value })
 
 -- .side_set count [opt] [pindirs]
 abbrev pub side_set_step : Names → ℕ → Bool → List Term → Bool → Bool → Building → Result Building PioFault

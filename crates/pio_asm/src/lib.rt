@@ -6,5 +6,8 @@ mod building;
 mod line;
 mod operand;
 mod plan;
+mod program;
 mod symbols;
 mod value;
+
+pub use program::Program;

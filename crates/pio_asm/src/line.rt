@@ -2,7 +2,7 @@ ghost use Rattle.std.specs.Prelude.{◌≡◌, ◌≤◌, ◌<◌, ◌-◌, OnOk
 ghost use Rattle.pio_asm.specs.Plan.{IsOptionalConfig, IsSound};
 ghost use Rattle.pio_words.specs.Operation.{bit};
 ghost use Rattle.pio_asm.specs.Value.{evaluated};
-ghost use Rattle.pio_asm.specs.Step.{Makes, define_step, definition_value, ends_outside, fitting, instruction_step, is_label_twice, is_member, is_seen, label_value, line_step, misfits, origin_step, side_set_step, statement_step, target_step, with_definition, with_label, with_line_names, with_name, word_member, word_step, wrap_step};
+ghost use Rattle.pio_asm.specs.Step.{Makes, define_step, definition_value, ends_outside, fitting, instruction_step, is_label_twice, is_member, is_origin_fault, is_seen, label_value, line_step, misfits, origin_step, side_set_step, statement_step, target_step, with_definition, with_label, with_line_names, with_name, word_member, word_step, wrap_step};
 
 use crate::building::{Building, NO_FAULT, Verdict, check, or_memory};
 use crate::operand::{Scope, half_number, small_number};
@@ -212,6 +212,17 @@ fn is_past_end(total: usize, origin: Option<u8>) -> bool
     }
 }
 
+/// Whether an origin is repeated, comes after an instruction, is no place, or is one from which the
+/// program ends outside the 32 places.
+fn has_origin_fault(total: usize, value: Value, building: &Building) -> bool
+    ensures { result ≡ is_origin_fault total value building.now }
+{
+    building.origin.is_some()
+        || building.code.len() > 0
+        || fits_not(0, 31, value)
+        || is_past_end(total, fitting_number(0, 31, value))
+}
+
 /// `.origin place`.
 fn take_origin(
     context: &Context,
@@ -224,11 +235,7 @@ fn take_origin(
     ensures side { building.new.side ≡ building.old.side }
 {
     let found = or_memory(evaluate_in(context.alloc, &building.seen, context.globals, value))?;
-    let place = fitting_number(0, 31, found.value);
-    let origin = building.origin.is_some()
-        || building.code.len() > 0
-        || fits_not(0, 31, found.value)
-        || is_past_end(context.total, place);
+    let origin = has_origin_fault(context.total, found.value, building);
     check(
         Verdict {
             unknown: found.unknown,
@@ -239,7 +246,7 @@ fn take_origin(
         },
         number,
     )?;
-    building.origin = place;
+    building.origin = fitting_number(0, 31, found.value);
     Ok(())
 }
 
