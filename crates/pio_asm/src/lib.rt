@@ -10,4 +10,4 @@ mod program;
 mod symbols;
 mod value;
 
-pub use program::Program;
+pub use program::{Program, assemble};
