@@ -4,3 +4,4 @@ pub mod Codes
 pub mod Words
 pub mod Sides
 pub mod CodeLaws
+pub mod ProgramLaws

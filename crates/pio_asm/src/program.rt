@@ -122,6 +122,21 @@ fn take_program<'a>(
     Ok(finish(name, building))
 }
 
+fn add_program<'a>(
+    taken: &mut Symbols<'a>,
+    made: &mut Vec<Program>,
+    name: &'a [u8],
+    program: Program,
+) -> Result<(), AllocError>
+    requires { found name.now taken.old ≡ None }
+    ensures taken { OnOk result (taken.new ≡ taken.old ++ (name.now, None) ∷ []) }
+    ensures made { OnOk result (made.new.items ≡ made.old.items ++ program ∷ []) }
+{
+    taken.define(name, None)?;
+    made.push(program)?;
+    Ok(())
+}
+
 fn take_programs<'a>(
     alloc: Global,
     globals: &Symbols<'a>,
@@ -134,8 +149,10 @@ fn take_programs<'a>(
     let mut taken = Symbols::new(alloc);
     for program in programs {
         let next = take_program(alloc, globals, &taken, program)?;
-        or_memory(taken.define(program.name.as_slice(), None))?;
-        or_memory(made.push(next).map_err(AllocError::from))?;
+        match add_program(&mut taken, &mut made, program.name.as_slice(), next) {
+            Ok(()) => {}
+            Err(_) => return Err(PioFault::Memory),
+        }
     }
     Ok(made)
 }

@@ -1,10 +1,23 @@
-use Rattle.std.proofs.Common.{rules, ◌≡◌, ◌≤◌, ◌<◌, [], ◌∷◌, ◌++◌, Ok, None, OnOk, IfOk, IfErr, IsOkAnd, ℕ, ◌+◌, ◌-◌, ◌*◌, length, ◌/◌, ◌%◌, Bool, true, false, nat_eq, nat_lt, List, slice_index_or, slice_set, bit_and, bit_or, Fits, w8, w32, w64, Bor, MutBor}
-use Rattle.pio_asm.specs.Plan.{IsOptionalConfig}
-use Rattle.pio_asm.specs.Step.{names_of}
-use Rattle.pio_asm.specs.Symbols.{found}
-use Rattle.pio_asm.specs.Assembly.{Assembles, IsFaultOf, IsProgram, assembled, lines_from, lines_of, plan_of, program_plan, programs_from}
+use Rattle.std.proofs.Common.{◌≡◌, ◌+◌, ◌++◌, ◌∷◌, [], drop, get_or, None, ap, sym, ◌∙◌}
+use Rattle.pio_asm.specs.Assembly.{programs_from}
+use Rattle.pio_asm.proofs.ProgramLaws.{drop_next, goes_on}
 use Rattle.pio_asm.proofs.program.take_programs.Goals as goal
 
--- src/program.rt:135:5
 pub loop-program-preserved : goal.loop-program-preserved
-loop-program-preserved c = ?
+loop-program-preserved c =
+  let globals = c.args.globals.now in
+  let programs = c.args.programs.now in
+  let index = c.loop-program.program-index in
+  let item = c.program-item.result in
+  let taken = c.loop-program.taken in
+  let g = goes_on globals taken c.loop-program.invariant.plans c.loop-program.made.items item (drop (index + 1) programs) c.in_ok-next.next c.loop-program.invariant.are c.in_ok-next.ensures.ok in
+  let here : drop index programs ≡ item ∷ drop (index + 1) programs =
+    drop_next programs index item c.loop-program-test.true ∙ ap (λ x. x ∷ drop (index + 1) programs) (sym c.program-item.is) in
+  let names : c.add_program.new.taken ≡ taken ++ (item.name, None) ∷ [] = c.in-Ok.ensures.taken ∙ ap (λ n. taken ++ (n, None) ∷ []) c.as_slice.ensures in
+  record {
+    plans = g.after;
+    are = rw c.in-Ok.ensures.made g.are;
+    rest = c.loop-program.invariant.rest
+      ∙ ap (λ ps. programs_from globals taken c.loop-program.invariant.plans ps) here
+      ∙ g.goes
+      ∙ ap (λ t. programs_from globals t g.after (drop (index + 1) programs)) (sym names) }
