@@ -2,7 +2,7 @@ ghost use Rattle.std.specs.Prelude.{◌≡◌, ◌≤◌, ◌<◌, [], ◌∷◌
 ghost use Rattle.pio_asm.specs.Plan.{IsOptionalConfig};
 ghost use Rattle.pio_asm.specs.Step.{names_of};
 ghost use Rattle.pio_asm.specs.Symbols.{found};
-ghost use Rattle.pio_asm.specs.Assembly.{Assembles, IsFaultOf, IsProgram, assembled, lines_from, lines_of, plan_of, program_plan, programs_from};
+ghost use Rattle.pio_asm.specs.Assembly.{Assembles, IsFaultOf, IsProgram, assembled, lines_from, lines_of, plan_of, program_lines, program_plan, programs_from};
 
 use crate::building::{Building, Code, or_memory};
 use crate::line::{Context, add_line_names, makes_member, take_line};
@@ -92,6 +92,19 @@ fn finish(name: Name, building: Building) -> Program
     }
 }
 
+/// A program whose names and number of instructions are known.
+fn take_body<'a>(context: &Context<'_, 'a>, program: &'a SourceProgram) -> Result<Program, PioFault>
+    ensures ok { IfOk result (λ made. IsOkAnd (program_lines context.now.globals.now program.now (context.now.whole.now, context.now.total)) (λ plan. IsProgram plan made)) }
+    ensures err { IfErr result (IsFaultOf (program_lines context.now.globals.now program.now (context.now.whole.now, context.now.total))) }
+{
+    if context.total == 0 {
+        return Err(PioFault::Wrap(program.number));
+    }
+    let building = take_lines(context, program.lines.as_slice())?;
+    let name = or_memory(Name::from_slice(context.alloc, program.name.as_slice()))?;
+    Ok(finish(name, building))
+}
+
 /// A program, where programs of the names `taken` stand before it.
 fn take_program<'a>(
     alloc: Global,
@@ -104,22 +117,18 @@ fn take_program<'a>(
     ensures err { IfErr result (IsFaultOf (program_plan globals.now taken.now program.now)) }
 {
     match taken.get(program.name.as_slice()) {
-        Some(_) => return Err(PioFault::Twice(program.number)),
-        None => {}
+        Some(_) => Err(PioFault::Twice(program.number)),
+        None => {
+            let (whole, total) = or_memory(read_names(alloc, globals, program.lines.as_slice()))?;
+            let context = Context {
+                alloc,
+                whole: &whole,
+                globals,
+                total,
+            };
+            take_body(&context, program)
+        }
     }
-    let (whole, total) = or_memory(read_names(alloc, globals, program.lines.as_slice()))?;
-    if total == 0 {
-        return Err(PioFault::Wrap(program.number));
-    }
-    let context = Context {
-        alloc,
-        whole: &whole,
-        globals,
-        total,
-    };
-    let building = take_lines(&context, program.lines.as_slice())?;
-    let name = or_memory(Name::from_slice(alloc, program.name.as_slice()))?;
-    Ok(finish(name, building))
 }
 
 fn add_program<'a>(
