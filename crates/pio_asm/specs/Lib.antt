@@ -7,3 +7,4 @@ pub mod Code
 pub mod Verdict
 pub mod Step
 pub mod Assembly
+pub mod Place

@@ -5,9 +5,11 @@
 mod building;
 mod line;
 mod operand;
+mod place;
 mod plan;
 mod program;
 mod symbols;
 mod value;
 
+pub use place::place_program;
 pub use program::{Program, assemble};
