@@ -1,5 +1,4 @@
-use Rattle.std.proofs.Common.{◌≡◌, ℕ, ◌+◌, ◌-◌, ◌*◌, ◌/◌, ◌%◌, ◌^◌, ◌<◌, ◌≤◌, Bool, true, false, Option, None, Some, MatchBool, refl, sym, arith, lit<}
-use Rattle.pio_words.specs.declared.op.IrqIndex.{IrqIndex}
+use Rattle.std.proofs.Common.{◌≡◌, ℕ, ◌+◌, ◌-◌, ◌*◌, ◌/◌, ◌%◌, ◌^◌, ◌<◌, ◌≤◌, Bool, true, false, Option, None, Some, MatchBool, refl, arith, lit<}
 use Rattle.pio_words.specs.declared.op.WaitSource.{WaitSource}
 use Rattle.pio_words.specs.declared.op.WaitSource.TheVariants.{Gpio, Pin, Irq as WaitIrq}
 use Rattle.pio_words.specs.declared.op.PioOp.{PioOp}
@@ -8,7 +7,7 @@ use Rattle.pio_words.specs.declared.side.SideConfig.{SideConfig}
 use Rattle.pio_words.specs.Table.{entry}
 use Rattle.pio_words.specs.MovOperation.{mov_operations}
 use Rattle.pio_words.specs.MovSource.{mov_sources}
-use Rattle.pio_words.specs.Operation.{HasFields, IsWaitSource, IsIrqIndex, bit}
+use Rattle.pio_words.specs.Operation.{HasFields, bit}
 use Rattle.pio_words.specs.Side.{IsOptionalSide, IsPlainSide, IsSideField}
 use Rattle.pio_words.specs.Word.{IsWord}
 use Rattle.pio_words.proofs.Scaled.{scaled-lt}

@@ -1,4 +1,4 @@
-use Rattle.std.specs.Prelude.{◌==◌, ◌≡◌, ℕ, ◌-◌, ◌+◌, Bool, true, false, if◌then◌else◌, List, [], ◌∷◌, ◌++◌, length, Option, None, Some, is_some, unwrap_or, Result, Ok, Err, IsOkAnd, ⊤}
+use Rattle.std.specs.Prelude.{◌==◌, ◌≡◌, ℕ, ◌-◌, if◌then◌else◌, List, [], ◌∷◌, ◌++◌, length, Option, None, is_some, unwrap_or, Result, Ok, Err, IsOkAnd, ⊤}
 use Rattle.pio_words.specs.declared.side.SideConfig.{SideConfig}
 use Rattle.pio_parse.specs.declared.fault.PioFault.{PioFault}
 use Rattle.pio_parse.specs.declared.fault.PioFault.TheVariants.{Memory, Twice, Wrap}

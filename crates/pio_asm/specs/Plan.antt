@@ -1,6 +1,4 @@
 use Rattle.std.specs.Prelude.{◌==◌, ◌≡◌, ◌||◌, ◌&&◌, not, ℕ, ◌+◌, ◌-◌, ◌^◌, ◌≤◌, Bool, true, false, if◌then◌else◌, List, Option, None, Some, option_map, option_and_then, is_some, ◌<◌, ⊤}
-use Rattle.std.specs.Option.{option_map_or}
-use Rattle.pio_words.specs.declared.op.IrqIndex.{IrqIndex}
 use Rattle.pio_words.specs.declared.op.WaitSource.{WaitSource}
 use Rattle.pio_words.specs.declared.op.WaitSource.TheVariants.{Gpio, Pin, Irq as WaitFlag}
 use Rattle.pio_words.specs.declared.op.PioOp.{PioOp}

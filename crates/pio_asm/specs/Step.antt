@@ -1,5 +1,4 @@
-use Rattle.std.specs.Prelude.{◌==◌, ◌≡◌, ◌||◌, ◌&&◌, not, ℕ, ◌+◌, ◌-◌, nat_le, nat_lt, ℤ, pos, Bool, true, false, if◌then◌else◌, List, [], ◌∷◌, ◌++◌, length, Option, None, Some, is_some, is_none, unwrap_or, option_map, option_and_then, Result, Ok, Err, ⊤}
-use Rattle.pio_words.specs.declared.side.SideConfig.{SideConfig}
+use Rattle.std.specs.Prelude.{◌==◌, ◌≡◌, ◌||◌, ℕ, ◌+◌, ◌-◌, nat_le, nat_lt, ℤ, pos, Bool, true, false, if◌then◌else◌, List, [], ◌∷◌, ◌++◌, length, Option, None, Some, is_some, is_none, unwrap_or, option_and_then, Result, Ok, Err, ⊤}
 use Rattle.pio_words.specs.Operation.{bit}
 use Rattle.pio_parse.specs.declared.expression.Term.{Term}
 use Rattle.pio_parse.specs.declared.fault.PioFault.{PioFault}

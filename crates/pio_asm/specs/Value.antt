@@ -1,8 +1,7 @@
-use Rattle.std.specs.Prelude.{◌==◌, ◌&&◌, not, ℕ, ◌%◌, nat_le, ℤ, pos, negsuc, ◌+ℤ◌, ◌-ℤ◌, ◌*ℤ◌, neg_ℤ, int_lt, Bool, true, false, if◌then◌else◌, List, [], ◌∷◌, Option, None, Some}
+use Rattle.std.specs.Prelude.{◌&&◌, not, ℕ, ◌%◌, nat_le, ℤ, pos, negsuc, ◌+ℤ◌, ◌-ℤ◌, ◌*ℤ◌, neg_ℤ, int_lt, Bool, true, false, if◌then◌else◌, List, [], ◌∷◌, Option, None, Some}
 use Rattle.std.specs.Int.{cast_unsigned, reverse_bits, w32, w64}
-use Rattle.std.specs.Option.{option_and_then}
 use Rattle.pio_parse.specs.declared.expression.Operator.{Operator}
-use Rattle.pio_parse.specs.declared.expression.Operator.TheVariants.{Add, Subtract, Multiply, Negate, Reverse}
+use Rattle.pio_parse.specs.declared.expression.Operator.TheVariants.{Add, Subtract, Negate, Reverse}
 use Rattle.pio_parse.specs.declared.expression.Term.{Term}
 use Rattle.pio_parse.specs.declared.expression.Term.TheVariants.{Number, Name, Operator as OperatorTerm}
 use Rattle.pio_asm.specs.declared.value.Evaluation.{Evaluation}

@@ -180,13 +180,13 @@ fn take_define<'a>(
     ensures step { Makes result building.new (define_step context.now.globals.now number twice name.now value.now building.old) }
     ensures side { building.new.side ≡ building.old.side }
 {
-    let found = or_memory(evaluate_in(context.alloc, &building.seen, context.globals, value))?;
+    let defined = or_memory(evaluate_in(context.alloc, &building.seen, context.globals, value))?;
     let again = has_name(&building.seen, context.globals, name.as_slice());
     check(
         Verdict {
-            unknown: found.unknown,
+            unknown: defined.unknown,
             twice: twice || again,
-            range: found.outside,
+            range: defined.outside,
             ..NO_FAULT
         },
         number,
@@ -195,7 +195,7 @@ fn take_define<'a>(
         context.globals,
         &mut building.seen,
         name.as_slice(),
-        value_of_definition(found),
+        value_of_definition(defined),
     ))
 }
 

@@ -197,6 +197,7 @@ pub fn assemble(alloc: Global, source: &Source) -> Result<Vec<Program>, PioFault
 #[cfg(test)]
 mod tests {
     use super::*;
+    use crate::place::place_program;
     use pio_parse::parse;
 
     fn fault_of(alloc: Global, text: &str) -> Option<PioFault> {
@@ -300,6 +301,36 @@ mod tests {
         ];
         for (text, fault) in table {
             assert!(rt; fault_of(rt.alloc(), text) == Some(fault), "{text}");
+        }
+    }
+
+    fn place_of(alloc: Global, text: &str, used: u32) -> Option<Result<u8, PioFault>> {
+        match parse(alloc, text.as_bytes()) {
+            Ok(source) => match assemble(alloc, &source) {
+                Ok(programs) => match programs.as_slice() {
+                    [program] => Some(place_program(used, program)),
+                    _ => None,
+                },
+                Err(_) => None,
+            },
+            Err(_) => None,
+        }
+    }
+
+    #[test]
+    fn places_of_programs(rt: HostRuntime) {
+        let table = [
+            (".program p\nnop\n", 0xffffffff, Err(PioFault::NoRoom(1))),
+            (".program p\nnop\nnop\n", 0b1011, Ok(4)),
+            (".program p\n.origin 3\nnop\n", 0b0111, Ok(3)),
+            (
+                ".program p\n.origin 3\nnop\nnop\n",
+                0b10000,
+                Err(PioFault::NoRoom(2)),
+            ),
+        ];
+        for (text, used, want) in table {
+            assert!(rt; place_of(rt.alloc(), text, used) == Some(want), "{text}");
         }
     }
 }

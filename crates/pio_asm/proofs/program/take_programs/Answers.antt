@@ -1,4 +1,4 @@
-use Rattle.std.proofs.Common.{◌≡◌, ◌+◌, ◌++◌, ◌∷◌, [], drop, get_or, None, ap, sym, ◌∙◌}
+use Rattle.std.proofs.Common.{◌≡◌, ◌+◌, ◌++◌, ◌∷◌, [], drop, None, ap, sym, ◌∙◌}
 use Rattle.pio_asm.specs.Assembly.{programs_from}
 use Rattle.pio_asm.proofs.ProgramLaws.{drop_next, goes_on}
 use Rattle.pio_asm.proofs.program.take_programs.Goals as goal

@@ -1,4 +1,4 @@
-use Rattle.std.proofs.Common.{ap, sym, ◌∙◌, ◌++◌, ◌∷◌, []}
+use Rattle.std.proofs.Common.{ap, ◌∙◌, ◌++◌, ◌∷◌, []}
 use Rattle.pio_asm.specs.Symbols.{found}
 use Rattle.pio_asm.proofs.SymbolLaws.{insert-new, named}
 use Rattle.pio_asm.proofs.symbols.Symbols.define.Goals as goal
