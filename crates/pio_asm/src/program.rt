@@ -198,6 +198,7 @@ pub fn assemble(alloc: Global, source: &Source) -> Result<Vec<Program>, PioFault
 mod tests {
     use super::*;
     use crate::place::place_program;
+    use pio_disasm::write_source;
     use pio_parse::parse;
 
     fn fault_of(alloc: Global, text: &str) -> Option<PioFault> {
@@ -331,6 +332,58 @@ mod tests {
         ];
         for (text, used, want) in table {
             assert!(rt; place_of(rt.alloc(), text, used) == Some(want), "{text}");
+        }
+    }
+
+    // Whether the source of these words assembles to one program with the same words and side-set.
+    fn returns_to(alloc: Global, words: &[u16], side: &SideConfig) -> bool {
+        match write_source(alloc, words, side) {
+            Ok(text) => match parse(alloc, text.as_slice()) {
+                Ok(source) => match assemble(alloc, &source) {
+                    Ok(programs) => match programs.as_slice() {
+                        [program] => program.words.as_slice() == words && program.side == *side,
+                        _ => false,
+                    },
+                    Err(_) => false,
+                },
+                Err(_) => false,
+            },
+            Err(_) => false,
+        }
+    }
+
+    // Every word under this configuration, in programs of 32.
+    fn all_return(alloc: Global, side: &SideConfig) -> bool {
+        for start in 0..2048u16 {
+            let mut words = [0u16; 32];
+            for index in 0..32usize {
+                words[index] = start * 32 + index as u16;
+            }
+            if !returns_to(alloc, &words, side) {
+                return false;
+            }
+        }
+        true
+    }
+
+    // Every word under every side-set configuration of at most five bits goes through its source.
+    #[test]
+    fn every_word_returns(rt: HostRuntime) {
+        for count in 0..6u8 {
+            let side = SideConfig {
+                count,
+                opt: false,
+                pindirs: count == 3,
+            };
+            assert!(rt; all_return(rt.alloc(), &side), "{count}");
+        }
+        for count in 0..5u8 {
+            let side = SideConfig {
+                count,
+                opt: true,
+                pindirs: count == 2,
+            };
+            assert!(rt; all_return(rt.alloc(), &side), "{count} opt");
         }
     }
 }
