@@ -120,7 +120,7 @@ fn ends(
     low: &str,
     high: &str,
 ) -> Result<bool, AllocError> {
-    let words = ["run", "a.uf2", "--cycles", "50"];
+    let words = ["run", "a.uf2", "--cycles", "100"];
     let text = joined(alloc, &[stop, core_line(alloc, low, high)?.as_slice()])?;
     gives(alloc, &words, block(alloc, code)?, 0, &text)
 }
@@ -153,7 +153,7 @@ fn instructions_and_their_cycles(rt: HostRuntime) -> Result<(), Fail> {
     // SEV sets the event register for the first WFE alone, and the second waits.
     let code = [0xbf40, 0xbf20, 0xbf20, 0xbe00];
     let high = " 20042000 ffffffff 20000004 01000000";
-    assert!(rt; ends(alloc, &code, b"stop limit 50\n", "", high)?);
+    assert!(rt; ends(alloc, &code, b"stop limit 100\n", "", high)?);
     // A load outside the machine, and one of what is not built: the first cycle of the access stops.
     let code = [0x2001, 0x0780, 0x6800];
     let low = " 40000000";
@@ -163,6 +163,102 @@ fn instructions_and_their_cycles(rt: HostRuntime) -> Result<(), Fail> {
     let low = " d0000000";
     let high = " 20042000 ffffffff 20000004 81000000";
     assert!(rt; ends(alloc, &code, b"stop unbuilt core0 2\n", low, high)?);
+    Ok(())
+}
+
+/// The code, and a vector at this many halfwords from its begin.
+fn with_vector(
+    alloc: Global,
+    code: &[u16],
+    place: usize,
+    target: u16,
+) -> Result<Vec<u16>, AllocError> {
+    let mut halves = Vec::new(alloc);
+    halves.extend_from_slice(code)?;
+    for _ in halves.len()..place {
+        halves.push(0)?;
+    }
+    halves.extend_from_slice(&[target, 0x2000])?;
+    Ok(halves)
+}
+
+#[test]
+fn exceptions_and_their_returns(rt: HostRuntime) -> Result<(), Fail> {
+    let alloc = rt.alloc();
+    // SVC, whose handler at 20000014 returns.
+    let code = [
+        0x4802, 0x4903, 0x6001, 0xdf05, 0xbe00, 0, 0xed08, 0xe000, 0x0100, 0x2000, 0x2407, 0x4770,
+    ];
+    let code = with_vector(alloc, &code, 150, 0x15)?;
+    let low = " e000ed08 20000100 00000000 00000000 00000007";
+    let high = " 20042000 ffffffff 20000008 01000000";
+    assert!(rt; ends(alloc, &code, b"stop bkpt core0 38\n", low, high)?);
+    // A load at an odd address inside HardFault.
+    let code = [
+        0x4802, 0x4903, 0x6001, 0xde00, 0xbe00, 0, 0xed08, 0xe000, 0x0100, 0x2000, 0x2301, 0x681b,
+    ];
+    let code = with_vector(alloc, &code, 134, 0x15)?;
+    let low = " e000ed08 20000100 00000000 00000001";
+    let high = " 20041fe0 fffffff9 20000016 01000003";
+    assert!(rt; ends(alloc, &code, b"stop lockup core0 23\n", low, high)?);
+    // A return to another handler, where no other exception is active: HardFault, whose handler is at 20000002.
+    let code = [
+        0xe006, 0xbe00, 0, 0, 0, 0, 0x0003, 0x2000, 0x4807, 0x2101, 0x0749, 0x6001, 0xdf00, 0xbe00,
+        0x240e, 0x43e4, 0x4720, 0, 0, 0, 0, 0, 0x001d, 0x2000, 0xed08, 0xe000,
+    ];
+    let low = " e000ed08 20000000 00000000 00000000 fffffff1";
+    let high = " 20041fc0 fffffff1 20000002 81000003";
+    assert!(rt; ends(alloc, &code, b"stop bkpt core0 44\n", low, high)?);
+    Ok(())
+}
+
+/// SVC with the lowest priority, whose handler at 20000022 makes PendSV pending. Its handler at 20000030 returns to
+/// the thread, by the value whose complement is given.
+fn nested(complement: u16) -> [u16; 32] {
+    [
+        0xe006,
+        0xbe00,
+        0,
+        0,
+        0,
+        0,
+        0x0003,
+        0x2000,
+        0x480a,
+        0x2101,
+        0x0749,
+        0x6001,
+        0x2203,
+        0x0792,
+        0x6142,
+        0xdf00,
+        0xbe00,
+        0x2301,
+        0x071b,
+        0x3804,
+        0x6003,
+        0xbe01,
+        0x0023,
+        0x2000,
+        0x2400 | complement,
+        0x43e4,
+        0x4720,
+        0xbe02,
+        0x0031,
+        0x2000,
+        0xed08,
+        0xe000,
+    ]
+}
+
+#[test]
+fn a_nested_handler_returns_to_no_thread(rt: HostRuntime) -> Result<(), Fail> {
+    let alloc = rt.alloc();
+    let high = " 20041fa0 fffffff1 20000002 a1000003";
+    let low = " e000ed04 20000000 c0000000 10000000 fffffff9";
+    assert!(rt; ends(alloc, &nested(6), b"stop bkpt core0 68\n", low, high)?);
+    let low = " e000ed04 20000000 c0000000 10000000 fffffffd";
+    assert!(rt; ends(alloc, &nested(2), b"stop bkpt core0 68\n", low, high)?);
     Ok(())
 }
 
