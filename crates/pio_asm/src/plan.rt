@@ -1,11 +1,15 @@
 ghost use Rattle.std.specs.Prelude.{◌≡◌, ◌≤◌, ◌+◌, ◌^◌, ◌&&◌, IfOk, IfSome, true, false, Some, None, option_map, is_some, if◌then◌else◌, ◌||◌, ◌==◌};
 ghost use Rattle.pio_words.specs.Word.{IsWord};
 ghost use Rattle.pio_asm.specs.Fits.{FitsSide, IsInRange, IsWaitInRange};
-ghost use Rattle.pio_asm.specs.Plan.{IsConfig, IsOptionalConfig, IsSound, StandsFor, config_of, delay_bits, delay_part_in, greatest, instruction_in, judged_of, member_of, operation_in, planned_of, side_part_in, side_value_of, waited, with_fault};
+ghost use Rattle.pio_asm.specs.Operand.{field_in, polarity_in};
+ghost use Rattle.pio_asm.specs.Plan.{IsConfig, IsOptionalConfig, IsSound, StandsFor, config_of, delay_bits, delay_part_in, greatest, instruction_in, judged_of, member_of, operation_in, planned_by, planned_of, side_part_in, side_value_of, waited, waited_for, with_fault};
 
 use crate::operand::{Field, Part, Scope, read_field, read_part, read_polarity};
 use pio_parse::{Expression, Instruction, Operation};
-use pio_words::{IrqIndex, PioOp, SideConfig, WaitSource, encode};
+use pio_words::{
+    InSource, IrqIndex, JmpCondition, OutDestination, PioOp, SetDestination, SideConfig,
+    WaitSource, encode,
+};
 use std::alloc::AllocError;
 
 /// What an instruction or a `.word` puts into a program.
@@ -114,52 +118,125 @@ fn wait_for_pin(number: Option<u8>, is_gpio: bool) -> Option<WaitSource>
     }
 }
 
+fn plan_jmp(
+    scope: &Scope,
+    condition: JmpCondition,
+    target: &Expression,
+) -> Result<Planned, AllocError>
+    ensures value { IfOk result (λ p. p ≡ planned_by (λ n. PioOp.Jmp condition n) (field_in scope.now.locals.now scope.now.globals.now 0 31 target.now)) }
+    ensures fits { IfOk result (λ p. IfSome p.op IsInRange) }
+{
+    let field = read_field(scope, target, 0, 31)?;
+    Ok(plan(
+        field.value.map(|address| PioOp::Jmp { condition, address }),
+        field,
+    ))
+}
+
+fn plan_wait_pin(
+    scope: &Scope,
+    polarity: &Option<Expression>,
+    number: &Expression,
+    is_gpio: bool,
+) -> Result<Planned, AllocError>
+    ensures value { IfOk result (λ p. p ≡ waited_for (λ n. if is_gpio then WaitSource.Gpio n else WaitSource.Pin n) (polarity_in scope.now.locals.now scope.now.globals.now polarity.now) (field_in scope.now.locals.now scope.now.globals.now 0 31 number.now)) }
+    ensures fits { IfOk result (λ p. IfSome p.op IsInRange) }
+{
+    let polarity = read_polarity(scope, polarity)?;
+    let field = read_field(scope, number, 0, 31)?;
+    Ok(plan_wait(polarity, wait_for_pin(field.value, is_gpio), field))
+}
+
+fn plan_wait_irq(
+    scope: &Scope,
+    polarity: &Option<Expression>,
+    number: &Expression,
+    relative: bool,
+) -> Result<Planned, AllocError>
+    ensures value { IfOk result (λ p. p ≡ waited_for (λ n. WaitSource.Irq (record { number = n; relative = relative })) (polarity_in scope.now.locals.now scope.now.globals.now polarity.now) (field_in scope.now.locals.now scope.now.globals.now 0 7 number.now)) }
+    ensures fits { IfOk result (λ p. IfSome p.op IsInRange) }
+{
+    let polarity = read_polarity(scope, polarity)?;
+    let field = read_field(scope, number, 0, 7)?;
+    Ok(plan_wait(polarity, wait_for_irq(field.value, relative), field))
+}
+
+fn plan_in(scope: &Scope, source: InSource, count: &Expression) -> Result<Planned, AllocError>
+    ensures value { IfOk result (λ p. p ≡ planned_by (λ n. PioOp.In source n) (field_in scope.now.locals.now scope.now.globals.now 1 32 count.now)) }
+    ensures fits { IfOk result (λ p. IfSome p.op IsInRange) }
+{
+    let field = read_field(scope, count, 1, 32)?;
+    Ok(plan(field.value.map(|count| PioOp::In { source, count }), field))
+}
+
+fn plan_out(
+    scope: &Scope,
+    destination: OutDestination,
+    count: &Expression,
+) -> Result<Planned, AllocError>
+    ensures value { IfOk result (λ p. p ≡ planned_by (λ n. PioOp.Out destination n) (field_in scope.now.locals.now scope.now.globals.now 1 32 count.now)) }
+    ensures fits { IfOk result (λ p. IfSome p.op IsInRange) }
+{
+    let field = read_field(scope, count, 1, 32)?;
+    Ok(plan(
+        field.value.map(|count| PioOp::Out { destination, count }),
+        field,
+    ))
+}
+
+fn plan_irq(
+    scope: &Scope,
+    clear: bool,
+    wait: bool,
+    number: &Expression,
+    relative: bool,
+) -> Result<Planned, AllocError>
+    ensures value { IfOk result (λ p. p ≡ planned_by (λ n. PioOp.Irq clear wait (record { number = n; relative = relative })) (field_in scope.now.locals.now scope.now.globals.now 0 7 number.now)) }
+    ensures fits { IfOk result (λ p. IfSome p.op IsInRange) }
+{
+    let field = read_field(scope, number, 0, 7)?;
+    let op = match field.value {
+        None => None,
+        Some(number) => Some(PioOp::Irq {
+            clear,
+            wait,
+            index: IrqIndex { number, relative },
+        }),
+    };
+    Ok(plan(op, field))
+}
+
+fn plan_set(
+    scope: &Scope,
+    destination: SetDestination,
+    value: &Expression,
+) -> Result<Planned, AllocError>
+    ensures value { IfOk result (λ p. p ≡ planned_by (λ n. PioOp.Set destination n) (field_in scope.now.locals.now scope.now.globals.now 0 31 value.now)) }
+    ensures fits { IfOk result (λ p. IfSome p.op IsInRange) }
+{
+    let field = read_field(scope, value, 0, 31)?;
+    Ok(plan(
+        field.value.map(|value| PioOp::Set { destination, value }),
+        field,
+    ))
+}
+
 /// The operation of an instruction, with its operands where this scope's names are seen.
 fn plan_operation(scope: &Scope, operation: &Operation) -> Result<Planned, AllocError>
     ensures value { IfOk result (λ p. p ≡ operation_in scope.now.locals.now scope.now.globals.now operation.now) }
     ensures fits { IfOk result (λ p. IfSome p.op IsInRange) }
 {
     match operation {
-        Operation::Jmp { condition, target } => {
-            let field = read_field(scope, target, 0, 31)?;
-            let condition = *condition;
-            Ok(plan(
-                field.value.map(|address| PioOp::Jmp { condition, address }),
-                field,
-            ))
-        }
-        Operation::WaitGpio { polarity, number } => {
-            let polarity = read_polarity(scope, polarity)?;
-            let field = read_field(scope, number, 0, 31)?;
-            Ok(plan_wait(polarity, wait_for_pin(field.value, true), field))
-        }
-        Operation::WaitPin { polarity, number } => {
-            let polarity = read_polarity(scope, polarity)?;
-            let field = read_field(scope, number, 0, 31)?;
-            Ok(plan_wait(polarity, wait_for_pin(field.value, false), field))
-        }
+        Operation::Jmp { condition, target } => plan_jmp(scope, *condition, target),
+        Operation::WaitGpio { polarity, number } => plan_wait_pin(scope, polarity, number, true),
+        Operation::WaitPin { polarity, number } => plan_wait_pin(scope, polarity, number, false),
         Operation::WaitIrq {
             polarity,
             number,
             relative,
-        } => {
-            let polarity = read_polarity(scope, polarity)?;
-            let field = read_field(scope, number, 0, 7)?;
-            Ok(plan_wait(polarity, wait_for_irq(field.value, *relative), field))
-        }
-        Operation::In { source, count } => {
-            let field = read_field(scope, count, 1, 32)?;
-            let source = *source;
-            Ok(plan(field.value.map(|count| PioOp::In { source, count }), field))
-        }
-        Operation::Out { destination, count } => {
-            let field = read_field(scope, count, 1, 32)?;
-            let destination = *destination;
-            Ok(plan(
-                field.value.map(|count| PioOp::Out { destination, count }),
-                field,
-            ))
-        }
+        } => { plan_wait_irq(scope, polarity, number, *relative) }
+        Operation::In { source, count } => plan_in(scope, *source, count),
+        Operation::Out { destination, count } => plan_out(scope, *destination, count),
         Operation::Push { if_full, block } => {
             Ok(sure(PioOp::Push {
                 if_full: *if_full,
@@ -186,27 +263,8 @@ fn plan_operation(scope: &Scope, operation: &Operation) -> Result<Planned, Alloc
             wait,
             number,
             relative,
-        } => {
-            let field = read_field(scope, number, 0, 7)?;
-            let (clear, wait, relative) = (*clear, *wait, *relative);
-            let op = match field.value {
-                None => None,
-                Some(number) => Some(PioOp::Irq {
-                    clear,
-                    wait,
-                    index: IrqIndex { number, relative },
-                }),
-            };
-            Ok(plan(op, field))
-        }
-        Operation::Set { destination, value } => {
-            let field = read_field(scope, value, 0, 31)?;
-            let destination = *destination;
-            Ok(plan(
-                field.value.map(|value| PioOp::Set { destination, value }),
-                field,
-            ))
-        }
+        } => { plan_irq(scope, *clear, *wait, number, *relative) }
+        Operation::Set { destination, value } => plan_set(scope, *destination, value),
     }
 }
 
