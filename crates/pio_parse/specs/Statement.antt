@@ -125,15 +125,30 @@ is_end LineEnd = true
 is_end FileEnd = true
 is_end kind = false
 
+abbrev pub is_program : Option Statement → Bool
+is_program None = false
+is_program (Some (ProgramStatement name)) = true
+is_program (Some statement) = false
+
+-- a line ends at LF, or at the end of a file that has a program
+abbrev pub is_end_after : Bool → TokenKind → Bool
+is_end_after has_program LineEnd = true
+is_end_after has_program FileEnd = has_program
+is_end_after has_program kind = false
+
+-- the end of a line with this statement
+abbrev pub end_at : Bool → Option Statement → List Token → Outcome (Unit {0})
+end_at is_started statement tokens = expected (is_end_after (is_started || is_program statement) (head_kind tokens)) tokens
+
 -- [[public] name:] [directive or instruction], up to the end of the line
-abbrev pub whole_line_at : List ℕ → List Token → Outcome Line
-whole_line_at text tokens = and_then
+abbrev pub whole_line_at : List ℕ → Bool → List Token → Outcome Line
+whole_line_at text is_started tokens = and_then
     (λ label. and_then
     (λ statement. map_ok (λ end. (record { number = (head_place tokens).line; label = label.0; statement = statement.0 }, end.1))
-    (expected (is_end (head_kind statement.1)) statement.1))
+    (end_at is_started statement.0 statement.1))
     (statement_at text label.1))
     (label_at text tokens)
 
 -- a line, which may be any after the first `.program`
 abbrev pub line_at : List ℕ → Bool → List Token → Outcome Line
-line_at text is_started tokens = if is_started || is_first (head_kind tokens) then whole_line_at text tokens else misfit tokens
+line_at text is_started tokens = if is_started || is_first (head_kind tokens) then whole_line_at text is_started tokens else misfit tokens

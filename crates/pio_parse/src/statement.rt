@@ -1,6 +1,6 @@
 ghost use Rattle.std.specs.Prelude.{◌≡◌};
 ghost use Rattle.pio_parse.specs.Cursor.{Reads};
-ghost use Rattle.pio_parse.specs.Statement.{define_at, directive_at, is_first, label_at, line_at, name_token_at, side_set_at, statement_at, version_at};
+ghost use Rattle.pio_parse.specs.Statement.{define_at, directive_at, end_at, is_end_after, is_first, is_program, label_at, line_at, name_token_at, side_set_at, statement_at, version_at};
 
 use crate::cursor::{Cursor, Stop};
 use crate::expression::{File, read_expression};
@@ -124,6 +124,36 @@ fn may_be_first(kind: TokenKind) -> bool
     )
 }
 
+/// Whether a statement is a `.program`.
+fn begins_program(statement: &Option<Statement>) -> bool
+    ensures { result ≡ is_program statement.now }
+{
+    matches!(statement, Some(Statement::Program(_)))
+}
+
+/// Whether a line may end so: a file with no program may not end.
+fn may_end(has_program: bool, kind: TokenKind) -> bool
+    ensures { result ≡ is_end_after has_program kind }
+{
+    match kind {
+        TokenKind::LineEnd => true,
+        TokenKind::FileEnd => has_program,
+        _ => false,
+    }
+}
+
+/// The end of a line.
+fn read_end(
+    is_started: bool,
+    statement: &Option<Statement>,
+    cursor: &mut Cursor,
+) -> Result<(), Stop>
+    ensures { Reads result cursor.new.rest.now (end_at is_started statement.now cursor.old.rest.now) }
+{
+    let has_program = is_started || begins_program(statement);
+    cursor.expect(may_end(has_program, cursor.peek()))
+}
+
 /// A line up to its end. Before the first `.program` few lines may stand.
 pub(crate) fn read_line(file: &File, is_started: bool, cursor: &mut Cursor) -> Result<Line, Stop>
     ensures { Reads result cursor.new.rest.now (line_at file.now.text.now is_started cursor.old.rest.now) }
@@ -134,7 +164,7 @@ pub(crate) fn read_line(file: &File, is_started: bool, cursor: &mut Cursor) -> R
     let number = cursor.place().line;
     let label = read_label(file, cursor)?;
     let statement = read_statement(file, cursor)?;
-    cursor.expect(matches!(cursor.peek(), TokenKind::LineEnd | TokenKind::FileEnd))?;
+    read_end(is_started, &statement, cursor)?;
     Ok(Line {
         number,
         label,

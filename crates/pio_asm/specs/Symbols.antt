@@ -1,0 +1,11 @@
+use Rattle.std.specs.Prelude.{ℕ, ℤ, List, [], ◌∷◌, Option, None, Some, if◌then◌else◌}
+use Rattle.std.specs.Str.{bytes_eq}
+
+-- names with their values; a name whose definition has a fault has no value
+abbrev pub Names : Type 0
+Names = List (List ℕ × Option ℤ)
+
+-- the value of a name, if it is there
+abbrev pub found : List ℕ → Names → Option (Option ℤ)
+found name [] = None
+found name (symbol ∷ symbols) = if bytes_eq name symbol.0 then Some symbol.1 else found name symbols

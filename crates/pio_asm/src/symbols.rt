@@ -1,0 +1,49 @@
+ghost use Rattle.std.specs.Prelude.{◌≡◌, ◌++◌, ◌∷◌, [], None, OnOk};
+ghost use Rattle.pio_asm.specs.Symbols.{found};
+
+use indexmap::IndexMap;
+use std::alloc::{AllocError, Global};
+use std::marker::Model;
+
+/// The value of a name, or none where its definition has a fault.
+pub(crate) type Value = Option<i64>;
+
+/// Names with their values, in the order in which they were defined. No name is there twice.
+#[derive(Drop)]
+pub(crate) struct Symbols<'a> {
+    table: IndexMap<&'a [u8], Value>,
+}
+
+impl<'a> Model for Symbols<'a> {
+    ghost use Rattle.std.specs.Prelude.{List, ℕ, ℤ, Option, map};
+
+    ghost Value = { List (List ℕ × Option ℤ) };
+
+    ghost view = { λ symbols. map (λ entry. (entry.0.now, entry.1)) symbols.table.entries };
+}
+
+impl<'a> Symbols<'a> {
+    pub(crate) fn new(alloc: Global) -> Symbols<'a>
+        ensures { result ≡ [] }
+    {
+        Symbols {
+            table: IndexMap::new(alloc),
+        }
+    }
+
+    /// The value of a name, if it is there.
+    pub(crate) fn get(&self, name: &[u8]) -> Option<Value>
+        ensures { result ≡ found name.now self.now }
+    {
+        self.table.get(name).copied()
+    }
+
+    /// Adds a name that is not there.
+    pub(crate) fn define(&mut self, name: &'a [u8], value: Value) -> Result<(), AllocError>
+        requires { found name.now self.old ≡ None }
+        ensures { OnOk result (self.new ≡ self.old ++ (name.now, value) ∷ []) }
+    {
+        self.table.insert(name, value)?;
+        Ok(())
+    }
+}
