@@ -1,1 +1,4 @@
 pub mod SourceLines
+pub mod Pieces
+pub mod Runs
+pub mod PieceScan
