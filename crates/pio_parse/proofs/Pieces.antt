@@ -1,5 +1,5 @@
 -- A source as the pieces that it is made of: words, signs, blanks and line ends.
-use Rattle.std.proofs.Common.{◌≡◌, ◌==◌, ◌&&◌, ◌||◌, ℕ, ◌+◌, Bool, true, false, List, [], ◌∷◌, ◌++◌, length}
+use Rattle.std.proofs.Common.{◌≡◌, ◌==◌, ◌&&◌, ◌||◌, not, ℕ, ◌+◌, Bool, true, false, List, [], ◌∷◌, ◌++◌, length}
 use Rattle.std.specs.Prelude.{⊤}
 use Rattle.pio_parse.specs.declared.token.Span.{Span}
 use Rattle.pio_parse.specs.declared.token.Token.{Token}
@@ -8,6 +8,7 @@ use Rattle.pio_parse.specs.declared.token.Directive.TheVariants.{LangOpt}
 use Rattle.pio_parse.specs.declared.token.TokenKind.{TokenKind}
 use Rattle.pio_parse.specs.declared.token.TokenKind.TheVariants.{Directive as DirectiveToken, Comma as CommaToken, Minus as MinusToken, OpenBracket, CloseBracket, Bang as BangToken, DoubleColon, NotEqual as NotEqualToken, LineEnd}
 use Rattle.pio_parse.specs.Words.{is_word_char, word_kind}
+use Rattle.pio_parse.specs.Statement.{is_end}
 
 pub data Piece : Type 0 where
   Blank : Piece
@@ -110,4 +111,5 @@ AreApart (p ∷ ps) = AreApart ps
 abbrev pub is_open : List Piece → Bool
 is_open [] = true
 is_open (End ∷ ps) = false
+is_open (Run w kind ∷ ps) = not (is_end kind) && is_open ps
 is_open (p ∷ ps) = is_open ps
