@@ -8,3 +8,5 @@ pub mod ProgramLaws
 pub mod LinePieces
 pub mod LineText
 pub mod LineRuns
+pub mod LineApart
+pub mod LineParse
