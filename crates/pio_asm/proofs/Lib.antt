@@ -10,3 +10,5 @@ pub mod LineText
 pub mod LineRuns
 pub mod LineApart
 pub mod LineParse
+pub mod Decoded
+pub mod LineSteps
