@@ -12,3 +12,4 @@ pub mod LineApart
 pub mod LineParse
 pub mod Decoded
 pub mod LineSteps
+pub mod Returning

@@ -1,5 +1,5 @@
 -- The pieces of a source of words are read one by one.
-use Rattle.std.proofs.Common.{◌≡◌, ◌==◌, ◌&&◌, not, ℕ, ◌+◌, ◌/◌, ◌%◌, ◌<◌, ◌≤◌, Bool, true, false, List, [], ◌∷◌, ◌++◌, map, length, Option, None, Some, append_assoc, arith, lit<, refl, ap}
+use Rattle.std.proofs.Common.{◌≡◌, ◌==◌, ◌&&◌, not, ℕ, ◌+◌, ◌/◌, ◌%◌, ◌<◌, ◌≤◌, Bool, true, false, List, [], ◌∷◌, ◌++◌, map, length, Option, None, Some, append_assoc, arith, lit<, refl, ap, ◌∙◌}
 use Rattle.pio_words.specs.declared.op.IrqIndex.{IrqIndex}
 use Rattle.pio_words.specs.declared.op.JmpCondition.{JmpCondition}
 use Rattle.pio_words.specs.declared.op.JmpCondition.TheVariants.{Always, XZero, XDecrement, YZero, YDecrement, XNotY, Pin as PinHigh, OsrNotEmpty}
@@ -119,3 +119,61 @@ flags_apart false false n rest lt a = (decimal_run n lt, refl, a)
 
 pub side_set_apart : (side : SideConfig) (rest : List Piece) → side.count < 100 → AreApart rest → AreApart (side_set_pieces side ++ End ∷ rest)
 side_set_apart side rest lt a = (side_set_run, refl, flags_apart side.opt side.pindirs side.count rest lt a)
+
+-- no line ends within a line
+condition_open : (c : JmpCondition) (n : ℕ) (ps : List Piece) → is_open ((condition_pieces c ++ num n ∷ []) ++ ps) ≡ is_open ps
+condition_open Always n ps = refl
+condition_open XZero n ps = refl
+condition_open XDecrement n ps = refl
+condition_open YZero n ps = refl
+condition_open YDecrement n ps = refl
+condition_open XNotY n ps = refl
+condition_open PinHigh n ps = refl
+condition_open OsrNotEmpty n ps = refl
+
+rel_open : (r : Bool) (ps : List Piece) → is_open (rel_pieces r ++ ps) ≡ is_open ps
+rel_open true ps = refl
+rel_open false ps = refl
+
+wait_open : (s : WaitSource) (ps : List Piece) → is_open (wait_pieces s ++ ps) ≡ is_open ps
+wait_open (Gpio n) ps = refl
+wait_open (Pin n) ps = refl
+wait_open (Flag i) ps = rel_open i.relative ps
+
+mov_open : (b : Bool) (d : MovDestination) (o : MovOperation) (s : MovSource) (ps : List Piece) → is_open (mov_pieces b d o s ++ ps) ≡ is_open ps
+mov_open true d o s ps = refl
+mov_open false d Plain s ps = refl
+mov_open false d Invert s ps = refl
+mov_open false d Reverse s ps = refl
+
+operation_open : (op : PioOp) (ps : List Piece) → is_open (operation_pieces op ++ ps) ≡ is_open ps
+operation_open (Jmp c n) ps = condition_open c n ps
+operation_open (Wait p s) ps = wait_open s ps
+operation_open (In s n) ps = refl
+operation_open (Out d n) ps = refl
+operation_open (Push true b) ps = refl
+operation_open (Push false b) ps = refl
+operation_open (Pull true b) ps = refl
+operation_open (Pull false b) ps = refl
+operation_open (Mov d o s) ps = mov_open (is_nop d o s) d o s ps
+operation_open (Irq c w i) ps = rel_open i.relative ps
+operation_open (Set d n) ps = refl
+operation_open Reserved ps = refl
+
+tail_open : (v : Option ℕ) (b : Bool) (d : ℕ) → is_open (side_pieces v ++ delay_if b d) ≡ true
+tail_open None true d = refl
+tail_open None false d = refl
+tail_open (Some v) true d = refl
+tail_open (Some v) false d = refl
+
+pub instruction_open : (op : PioOp) (side : SideDelay) → is_open (operation_pieces op ++ tail_pieces side) ≡ true
+instruction_open op side = operation_open op (tail_pieces side) ∙ tail_open side.value (side.delay == 0) side.delay
+
+flags_open : (opt pindirs : Bool) → is_open (flag_pieces opt KOpt ++ flag_pieces pindirs KPindirs) ≡ true
+flags_open true true = refl
+flags_open true false = refl
+flags_open false true = refl
+flags_open false false = refl
+
+pub side_set_open : (side : SideConfig) → is_open (side_set_pieces side) ≡ true
+side_set_open side = flags_open side.opt side.pindirs

@@ -84,7 +84,7 @@ value_or_zero None = 0
 value_or_zero (Some v) = v
 
 -- where there is a side-set, it has bits
-abbrev HasBits : Option SideConfig → Type 0
+abbrev pub HasBits : Option SideConfig → Type 0
 HasBits None = Unit {0}
 HasBits (Some config) = ((config.count == 0) && not config.opt) ≡ false
 
