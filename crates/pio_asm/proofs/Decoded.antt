@@ -1,7 +1,6 @@
 -- The operation and the side-set value that a word is read as are those of its fields.
-use Rattle.std.proofs.Common.{◌≡◌, ◌==◌, ◌&&◌, ◌||◌, not, ℕ, suc, zero, ◌+◌, ◌-◌, ◌*◌, ◌/◌, ◌%◌, ◌^◌, ◌<◌, ◌≤◌, nat_le, nat_lt, Bool, true, false, cond, List, [], ◌∷◌, Option, None, Some, MatchBool, option_map, option_and_then, is_some, subst, arith, refl, ap, sym, inl, inr, ◌∙◌}
-use Rattle.std.proofs.lemmas.Bool.Decides.{eqb_tells, leb_tells, nat_tests}
-use Rattle.std.proofs.lemmas.Nat.{pow_pos}
+use Rattle.std.proofs.Common.{◌≡◌, ◌==◌, ℕ, suc, zero, ◌+◌, ◌-◌, ◌*◌, ◌/◌, ◌%◌, ◌^◌, ◌<◌, ◌≤◌, Bool, true, false, cond, Option, None, Some, MatchBool, option_map, option_and_then, subst, arith, refl, inl, inr}
+use Rattle.std.proofs.lemmas.Bool.Decides.{eqb_tells, leb_tells}
 use Rattle.pio_words.specs.declared.op.IrqIndex.{IrqIndex}
 use Rattle.pio_words.specs.declared.op.JmpCondition.{JmpCondition}
 use Rattle.pio_words.specs.declared.op.InSource.{InSource}
@@ -13,7 +12,7 @@ use Rattle.pio_words.specs.declared.op.SetDestination.{SetDestination}
 use Rattle.pio_words.specs.declared.op.WaitSource.{WaitSource}
 use Rattle.pio_words.specs.declared.op.WaitSource.TheVariants.{Gpio, Pin, Irq as Flag}
 use Rattle.pio_words.specs.declared.op.PioOp.{PioOp}
-use Rattle.pio_words.specs.declared.op.PioOp.TheVariants.{Jmp, Wait, In, Out, Push, Pull, Mov, Irq, Set, Reserved}
+use Rattle.pio_words.specs.declared.op.PioOp.TheVariants.{Jmp, Wait, In, Out, Mov, Irq, Set}
 use Rattle.pio_words.specs.declared.side.SideConfig.{SideConfig}
 use Rattle.pio_words.specs.declared.side.SideDelay.{SideDelay}
 use Rattle.pio_words.specs.Table.{entry}
@@ -24,9 +23,8 @@ use Rattle.pio_words.specs.MovDestination.{mov_destinations}
 use Rattle.pio_words.specs.MovOperation.{mov_operations}
 use Rattle.pio_words.specs.MovSource.{mov_sources}
 use Rattle.pio_words.specs.SetDestination.{set_destinations}
-use Rattle.pio_words.specs.Operation.{HasFields, HasOperation, IsCount, IsIrqIndex, IsWaitSource, bit, count_at, in_at, irq_at, irq_index_at, jmp_at, mov_at, named_at, operation_of, or_reserved, out_at, push_pull_at, set_at, wait_at, wait_source_at}
+use Rattle.pio_words.specs.Operation.{HasFields, HasOperation, IsCount, IsIrqIndex, IsWaitSource, bit, count_at, irq_at, irq_index_at, named_at, operation_of, or_reserved, push_pull_at, wait_source_at}
 use Rattle.pio_words.specs.Side.{IsOptionalSide, IsPlainSide, IsSideField, optional_side_at, plain_side_at, scaled_side, side_at}
-use Rattle.pio_words.specs.Word.{IsWord}
 use Rattle.pio_words.proofs.Scaled.{high-lt, joined, low-lt, power_le}
 use Rattle.pio_disasm.specs.Text.{is_written}
 use Rattle.pio_asm.proofs.LineApart.{IsSmall}

@@ -1,18 +1,9 @@
 -- The pieces of a source of words are read one by one.
-use Rattle.std.proofs.Common.{◌≡◌, ◌==◌, ◌&&◌, not, ℕ, ◌+◌, ◌/◌, ◌%◌, ◌<◌, ◌≤◌, Bool, true, false, List, [], ◌∷◌, ◌++◌, map, length, Option, None, Some, append_assoc, arith, lit<, refl, ap, ◌∙◌}
-use Rattle.pio_words.specs.declared.op.IrqIndex.{IrqIndex}
+use Rattle.std.proofs.Common.{◌≡◌, ◌==◌, ℕ, ◌%◌, ◌<◌, ◌≤◌, Bool, true, false, List, [], ◌∷◌, ◌++◌, Option, None, Some, append_assoc, arith, lit<, refl, ◌∙◌}
 use Rattle.pio_words.specs.declared.op.JmpCondition.{JmpCondition}
 use Rattle.pio_words.specs.declared.op.JmpCondition.TheVariants.{Always, XZero, XDecrement, YZero, YDecrement, XNotY, Pin as PinHigh, OsrNotEmpty}
-use Rattle.pio_words.specs.declared.op.InSource.{InSource}
-use Rattle.pio_words.specs.declared.op.InSource.TheVariants.{Pins as InPins, X as InX, Y as InY, Null as InNull, Isr as InIsr, Osr as InOsr}
-use Rattle.pio_words.specs.declared.op.OutDestination.{OutDestination}
-use Rattle.pio_words.specs.declared.op.OutDestination.TheVariants.{Pins as OutPins, X as OutX, Y as OutY, Null as OutNull, Pindirs as OutPindirs, Pc as OutPc, Isr as OutIsr, Exec as OutExec}
 use Rattle.pio_words.specs.declared.op.MovDestination.{MovDestination}
-use Rattle.pio_words.specs.declared.op.MovDestination.TheVariants.{Pins as ToPins, X as ToX, Y as ToY, Exec as ToExec, Pc as ToPc, Isr as ToIsr, Osr as ToOsr}
 use Rattle.pio_words.specs.declared.op.MovSource.{MovSource}
-use Rattle.pio_words.specs.declared.op.MovSource.TheVariants.{Pins as FromPins, X as FromX, Y as FromY, Null as FromNull, Status as FromStatus, Isr as FromIsr, Osr as FromOsr}
-use Rattle.pio_words.specs.declared.op.SetDestination.{SetDestination}
-use Rattle.pio_words.specs.declared.op.SetDestination.TheVariants.{Pins as SetPins, X as SetX, Y as SetY, Pindirs as SetPindirs}
 use Rattle.pio_words.specs.declared.op.MovOperation.{MovOperation}
 use Rattle.pio_words.specs.declared.op.MovOperation.TheVariants.{Plain, Invert, Reverse}
 use Rattle.pio_words.specs.declared.op.WaitSource.{WaitSource}
@@ -21,16 +12,14 @@ use Rattle.pio_words.specs.declared.op.PioOp.{PioOp}
 use Rattle.pio_words.specs.declared.op.PioOp.TheVariants.{Jmp, Wait, In, Out, Push, Pull, Mov, Irq, Set, Reserved}
 use Rattle.pio_words.specs.declared.side.SideConfig.{SideConfig}
 use Rattle.pio_words.specs.declared.side.SideDelay.{SideDelay}
-use Rattle.pio_words.specs.Operation.{HasFields, IsWaitSource, bit, operation_of}
-use Rattle.pio_words.specs.Side.{side_at}
-use Rattle.pio_parse.specs.declared.token.Keyword.TheVariants.{Opt as KOpt, Pindirs as KPindirs, Jmp as KJmp, Wait as KWait, In as KIn, Out as KOut, Push as KPush, Pull as KPull, Mov as KMov, Irq as KIrq, Set as KSet, Nop as KNop, Side as KSide, Gpio as KGpio, Pin as KPin, Rel as KRel, Pins as KPins, X as KX, Y as KY, Null as KNull, Isr as KIsr, Osr as KOsr, Pc as KPc, Exec as KExec, Status as KStatus, IfFull as KIfFull, IfEmpty as KIfEmpty, Block as KBlock, NoBlock as KNoBlock, NoWait as KNoWait, Clear as KClear, Osre as KOsre}
+use Rattle.pio_words.specs.Operation.{HasFields, IsWaitSource}
+use Rattle.pio_parse.specs.declared.token.Keyword.TheVariants.{Opt as KOpt, Pindirs as KPindirs, Jmp as KJmp, Wait as KWait, In as KIn, Out as KOut, Push as KPush, Pull as KPull, Mov as KMov, Irq as KIrq, Set as KSet, Nop as KNop, Side as KSide, Gpio as KGpio, Pin as KPin, Rel as KRel, X as KX, Y as KY, IfFull as KIfFull, IfEmpty as KIfEmpty, Block as KBlock, NoBlock as KNoBlock, Osre as KOsre}
 use Rattle.pio_parse.specs.declared.token.TokenKind.TheVariants.{Directive as DirectiveToken}
 use Rattle.pio_parse.specs.declared.token.Directive.TheVariants.{SideSet, Word as WordDirective}
 use Rattle.pio_parse.specs.Words.{directive_name}
 use Rattle.pio_parse.proofs.Pieces.{AreApart, IsRun, Piece, ends_word, is_open}
-use Rattle.pio_parse.proofs.Pieces.Piece.{Blank, End}
-use Rattle.pio_disasm.specs.Text.{is_written}
-use Rattle.pio_asm.proofs.LinePieces.{condition_pieces, delay_if, delay_pieces, flag_pieces, from_key, in_key, index_pieces, instruction_if, instruction_pieces, is_nop, line_pieces, mode_key, mov_pieces, num, operation_pieces, out_key, rel_pieces, set_key, side_pieces, side_set_pieces, tail_pieces, to_key, wait_pieces, word_pieces}
+use Rattle.pio_parse.proofs.Pieces.Piece.{End}
+use Rattle.pio_asm.proofs.LinePieces.{condition_pieces, delay_if, delay_pieces, flag_pieces, from_key, in_key, is_nop, mode_key, mov_pieces, num, operation_pieces, out_key, rel_pieces, set_key, side_pieces, side_set_pieces, tail_pieces, to_key, wait_pieces, word_pieces}
 use Rattle.pio_asm.proofs.LineRuns.{decimal_run, hex_run, key_run}
 
 -- a number of at most five bits before what ends it

@@ -1,5 +1,5 @@
 -- How the line of an instruction word is parsed.
-use Rattle.std.proofs.Common.{◌≡◌, ◌==◌, ◌&&◌, ◌||◌, not, ℕ, ◌+◌, ◌-◌, ◌/◌, ◌%◌, ◌<◌, ◌≤◌, Bool, true, false, if◌then◌else◌, List, [], ◌∷◌, ◌++◌, map, length, Option, None, Some, Result, Ok, option_map, append_assoc, arith, refl, ap, sym, ◌∙◌}
+use Rattle.std.proofs.Common.{◌≡◌, ◌==◌, ◌&&◌, not, ℕ, ◌+◌, Bool, true, false, if◌then◌else◌, List, [], ◌∷◌, ◌++◌, length, Option, None, Some, Ok, append_assoc, refl, ap, ◌∙◌}
 use Rattle.std.proofs.lemmas.Bool.{eq-eqb}
 use Rattle.pio_words.specs.declared.op.IrqIndex.{IrqIndex}
 use Rattle.pio_words.specs.declared.op.JmpCondition.{JmpCondition}
@@ -22,10 +22,7 @@ use Rattle.pio_words.specs.declared.op.PioOp.{PioOp}
 use Rattle.pio_words.specs.declared.op.PioOp.TheVariants.{Jmp, Wait, In, Out, Push, Pull, Mov, Irq, Set, Reserved}
 use Rattle.pio_words.specs.declared.side.SideConfig.{SideConfig}
 use Rattle.pio_words.specs.declared.side.SideDelay.{SideDelay}
-use Rattle.pio_words.specs.Operation.{bit, operation_of}
-use Rattle.pio_words.specs.Side.{side_at}
-use Rattle.pio_parse.specs.declared.token.Keyword.TheVariants.{Opt as KOpt, Pindirs as KPindirs, Jmp as KJmp, Wait as KWait, In as KIn, Out as KOut, Push as KPush, Pull as KPull, Mov as KMov, Irq as KIrq, Set as KSet, Nop as KNop, Side as KSide, Gpio as KGpio, Pin as KPin, Rel as KRel, Pins as KPins, X as KX, Y as KY, Null as KNull, Isr as KIsr, Osr as KOsr, Pc as KPc, Exec as KExec, Status as KStatus, IfFull as KIfFull, IfEmpty as KIfEmpty, Block as KBlock, NoBlock as KNoBlock, NoWait as KNoWait, Clear as KClear, Osre as KOsre}
-use Rattle.pio_parse.specs.declared.token.Place.{Place}
+use Rattle.pio_words.specs.Operation.{bit}
 use Rattle.pio_parse.specs.declared.token.Token.{Token}
 use Rattle.pio_parse.specs.declared.token.TokenKind.TheVariants.{LineEnd}
 use Rattle.pio_parse.specs.declared.expression.Term.{Term}
@@ -38,15 +35,15 @@ use Rattle.pio_parse.specs.declared.syntax.Statement.TheVariants.{SideSet as Sid
 use Rattle.pio_parse.specs.declared.syntax.Line.{Line}
 use Rattle.pio_parse.specs.Outcome.{and_then, map_ok}
 use Rattle.pio_parse.specs.Cursor.{Outcome, after_head, head_kind}
-use Rattle.pio_parse.specs.Registers.{in_source_of_word, mov_destination_of_word, mov_source_of_word, out_destination_of_word, set_destination_of_word}
+use Rattle.pio_parse.specs.Registers.{mov_destination_of_word, mov_source_of_word}
 use Rattle.pio_parse.specs.Instruction.{is_rel, modified_at}
 use Rattle.pio_parse.specs.Statement.{end_at, line_at}
 use Rattle.pio_parse.proofs.Pieces.{Piece, token_at, tokens_of}
-use Rattle.pio_parse.proofs.Pieces.Piece.{Blank, End}
+use Rattle.pio_parse.proofs.Pieces.Piece.{End}
 use Rattle.pio_parse.specs.Words.{keyword_name}
 use Rattle.pio_disasm.specs.Text.{decimal, is_from_y, is_plain, is_to_y, is_written}
 use Rattle.pio_parse.proofs.Runs.{both}
-use Rattle.pio_asm.proofs.LinePieces.{condition_pieces, delay_if, delay_pieces, from_key, in_key, index_pieces, instruction_if, instruction_pieces, is_nop, line_pieces, mode_key, mov_pieces, num, operation_pieces, out_key, rel_pieces, set_key, side_pieces, side_set_pieces, tail_pieces, to_key, wait_pieces, word_pieces}
+use Rattle.pio_asm.proofs.LinePieces.{delay_if, from_key, instruction_if, instruction_pieces, is_nop, mov_pieces, operation_pieces, rel_pieces, side_pieces, side_set_pieces, tail_pieces, to_key, word_pieces}
 
 abbrev pub number_terms : ℕ → List Term
 number_terms n = NumberTerm n ∷ []

@@ -1,12 +1,12 @@
 -- The words of a line are tokens wherever they stand.
-use Rattle.std.proofs.Common.{◌≡◌, ◌==◌, ◌&&◌, ◌||◌, ℕ, suc, zero, ◌+◌, ◌*◌, ◌/◌, ◌%◌, ◌<◌, ◌≤◌, min, Bool, true, false, nat_le, cond, List, [], ◌∷◌, Option, None, Some, option_and_then, arith, refl, ap, inl, inr, ◌∙◌}
+use Rattle.std.proofs.Common.{◌≡◌, ◌==◌, ◌&&◌, ℕ, suc, zero, ◌+◌, ◌*◌, ◌/◌, ◌%◌, ◌<◌, min, Bool, true, false, nat_le, cond, List, [], ◌∷◌, Option, None, Some, arith, refl, ap, inl, inr, ◌∙◌}
 use Rattle.std.proofs.lemmas.Bool.Decides.{eqb_tells, nat_tests}
 use Rattle.pio_parse.specs.declared.token.Span.{Span}
 use Rattle.pio_parse.specs.declared.token.Keyword.{Keyword}
 use Rattle.pio_parse.specs.declared.token.Keyword.TheVariants.{Public, Opt, Pindirs, Jmp, Wait, In, Out, Push, Pull, Mov, Irq, Set, Nop, Side, Gpio, Pin, Rel, Pins, X, Y, Null, Isr, Osr, Pc, Exec, Status, IfFull, IfEmpty, Block, NoBlock, NoWait, Clear, Osre}
 use Rattle.pio_parse.specs.declared.token.TokenKind.TheVariants.{Keyword as KeywordToken, Number}
 use Rattle.pio_parse.specs.Words.{digit_of, digits_value, is_digit, is_word_char, keyword_name, number_of, word_kind}
-use Rattle.pio_parse.proofs.Pieces.{IsRun, all_word, is_run}
+use Rattle.pio_parse.proofs.Pieces.{IsRun, is_run}
 use Rattle.pio_parse.proofs.Runs.{both}
 use Rattle.pio_disasm.specs.Text.{decimal, hex_digit, hex_half}
 

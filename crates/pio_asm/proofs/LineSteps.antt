@@ -1,36 +1,26 @@
 -- The lines of a source of words are assembled to members that stand for them.
-use Rattle.std.proofs.Common.{◌≡◌, ◌==◌, ◌&&◌, ◌||◌, not, ℕ, suc, zero, ◌+◌, ◌-◌, ◌/◌, ◌%◌, ◌^◌, ◌<◌, ◌≤◌, nat_le, nat_lt, Bool, true, false, cond, List, [], ◌∷◌, ◌++◌, map, length, Option, None, Some, Result, Ok, MatchBool, is_some, append_assoc, append-nil, length-append, arith, lit<, refl, ap, sym, inl, inr, ◌∙◌}
-use Rattle.std.specs.Prelude.{All}
+use Rattle.std.proofs.Common.{◌≡◌, ◌==◌, ◌&&◌, not, ℕ, ◌+◌, ◌-◌, ◌%◌, ◌<◌, ◌≤◌, nat_le, Bool, true, false, List, [], ◌∷◌, ◌++◌, length, Option, None, Some, Ok, MatchBool, is_some, arith, refl, inl, inr}
 use Rattle.std.proofs.lemmas.Bool.Decides.{eqb_tells, nat_tests}
 use Rattle.std.proofs.lemmas.Bool.{le-leb}
-use Rattle.std.proofs.lemmas.Nat.{pow_pos}
 use Rattle.pio_words.specs.declared.op.WaitSource.{WaitSource}
 use Rattle.pio_words.specs.declared.op.WaitSource.TheVariants.{Gpio, Pin, Irq as Flag}
 use Rattle.pio_words.specs.declared.op.PioOp.{PioOp}
 use Rattle.pio_words.specs.declared.op.PioOp.TheVariants.{Jmp, Wait, In, Out, Push, Pull, Mov, Irq, Set, Reserved}
 use Rattle.pio_words.specs.declared.side.SideConfig.{SideConfig}
 use Rattle.pio_words.specs.declared.side.SideDelay.{SideDelay}
-use Rattle.pio_words.specs.Operation.{HasFields, IsWaitSource, bit, operation_of}
-use Rattle.pio_words.specs.Side.{IsOptionalSide, IsPlainSide, IsSideField, side_at}
-use Rattle.pio_words.specs.Word.{IsWord}
-use Rattle.pio_parse.specs.declared.fault.PioFault.{PioFault}
-use Rattle.pio_parse.specs.declared.expression.Term.{Term}
-use Rattle.pio_parse.specs.declared.syntax.Statement.{Statement}
-use Rattle.pio_parse.specs.declared.syntax.Statement.TheVariants.{SideSet as SideSetStatement, Word as WordStatement, Instruction as InstructionStatement}
-use Rattle.pio_parse.specs.declared.syntax.Line.{Line}
-use Rattle.pio_disasm.specs.Text.{is_written}
-use Rattle.pio_asm.specs.declared.operand.Field.{Field}
+use Rattle.pio_words.specs.Operation.{HasFields, IsWaitSource, bit}
+use Rattle.pio_words.specs.Side.{IsOptionalSide, IsPlainSide, IsSideField}
+use Rattle.pio_parse.specs.declared.syntax.Statement.TheVariants.{SideSet as SideSetStatement, Word as WordStatement}
 use Rattle.pio_asm.specs.declared.operand.Part.{Part}
-use Rattle.pio_asm.specs.declared.plan.Planned.{Planned}
 use Rattle.pio_asm.specs.declared.plan.Member.{Member}
 use Rattle.pio_asm.specs.declared.plan.Member.TheVariants.{Word as WordMember, Coded}
 use Rattle.pio_asm.specs.declared.building.Building.{Building}
 use Rattle.pio_asm.specs.Symbols.{Names}
 use Rattle.pio_asm.specs.Operand.{field_in, part_in}
-use Rattle.pio_asm.specs.Plan.{IsConfig, StandsFor, config_of, delay_bits, delay_part_in, greatest, operation_in, side_part_in, side_value_of, sure_op}
+use Rattle.pio_asm.specs.Plan.{IsConfig, config_of, delay_bits, delay_part_in, greatest, operation_in, side_part_in, side_value_of, sure_op}
 use Rattle.pio_asm.specs.Step.{line_step}
 use Rattle.pio_asm.proofs.LineApart.{IsSmall}
-use Rattle.pio_asm.proofs.LineParse.{delay_terms, delay_terms_if, line_with, number_terms, side_terms, statement_if, statement_of, syntax_of, wait_syntax}
+use Rattle.pio_asm.proofs.LineParse.{delay_terms, line_with, number_terms, side_terms, statement_if, syntax_of, wait_syntax}
 
 -- a number is an operand that fits
 field_number : (locals globals : Names) (low high n : ℕ) → low ≤ n → n ≤ high → high ≤ 4294967295 → field_in locals globals low high (number_terms n) ≡ record { value = Some n; unknown = false; range = false }

@@ -1,5 +1,5 @@
 -- The text of a source of words is that of its pieces.
-use Rattle.std.proofs.Common.{◌≡◌, ◌==◌, ◌&&◌, not, ℕ, ◌+◌, ◌/◌, ◌%◌, Bool, true, false, if◌then◌else◌, cond, List, [], ◌∷◌, ◌++◌, map, Option, None, Some, codes, flat_map, append-nil, append_assoc, refl, sym, ap, ◌∙◌}
+use Rattle.std.proofs.Common.{◌≡◌, ◌==◌, ◌&&◌, not, ℕ, ◌/◌, ◌%◌, Bool, true, false, if◌then◌else◌, List, [], ◌∷◌, ◌++◌, map, Option, None, Some, codes, flat_map, append-nil, append_assoc, refl, sym, ap, ◌∙◌}
 use Rattle.pio_words.specs.declared.op.IrqIndex.{IrqIndex}
 use Rattle.pio_words.specs.declared.op.JmpCondition.{JmpCondition}
 use Rattle.pio_words.specs.declared.op.JmpCondition.TheVariants.{Always, XZero, XDecrement, YZero, YDecrement, XNotY, Pin as PinHigh, OsrNotEmpty}
@@ -21,16 +21,16 @@ use Rattle.pio_words.specs.declared.op.PioOp.{PioOp}
 use Rattle.pio_words.specs.declared.op.PioOp.TheVariants.{Jmp, Wait, In, Out, Push, Pull, Mov, Irq, Set, Reserved}
 use Rattle.pio_words.specs.declared.side.SideConfig.{SideConfig}
 use Rattle.pio_words.specs.declared.side.SideDelay.{SideDelay}
-use Rattle.pio_words.specs.Operation.{bit, operation_of}
+use Rattle.pio_words.specs.Operation.{operation_of}
 use Rattle.pio_words.specs.Side.{side_at}
 use Rattle.pio_parse.specs.Words.{keyword_name}
 use Rattle.pio_parse.specs.declared.token.Keyword.TheVariants.{Opt as KOpt, Pindirs as KPindirs}
 use Rattle.pio_parse.proofs.Pieces.{Piece, chars_of, joined}
-use Rattle.pio_parse.proofs.Pieces.Piece.{Blank, End, Run, Comma, Minus, Open, Close, Bang, Colons, NotEqual}
+use Rattle.pio_parse.proofs.Pieces.Piece.{End}
 use Rattle.pio_parse.proofs.PieceLines.{all_lines, header}
 use Rattle.pio_disasm.specs.Names.{condition_name, in_source_name, mov_destination_name, mov_operation_name, mov_source_name, out_destination_name, set_destination_name}
-use Rattle.pio_disasm.specs.Text.{decimal, delay_text, index_text, instruction_text, is_written, line_text, mov_text, operation_text, side_set_text, side_text, source_text, wait_source_text, word_text}
-use Rattle.pio_asm.proofs.LinePieces.{condition_pieces, delay_if, delay_pieces, from_key, in_key, flag_pieces, index_pieces, instruction_if, instruction_pieces, is_nop, key, line_pieces, mov_operation_pieces, mov_pieces, num, operation_pieces, out_key, program_lines, rel_pieces, set_key, side_pieces, side_set_lines, side_set_pieces, tail_pieces, to_key, wait_pieces, word_pieces}
+use Rattle.pio_disasm.specs.Text.{decimal, delay_text, index_text, instruction_text, is_written, line_text, operation_text, side_text, source_text, wait_source_text, word_text}
+use Rattle.pio_asm.proofs.LinePieces.{condition_pieces, delay_if, delay_pieces, from_key, in_key, flag_pieces, index_pieces, instruction_if, instruction_pieces, is_nop, key, line_pieces, mov_operation_pieces, mov_pieces, num, operation_pieces, out_key, program_lines, rel_pieces, set_key, side_pieces, side_set_lines, side_set_pieces, tail_pieces, to_key, wait_pieces}
 
 joined-append : (ps qs : List Piece) → joined (ps ++ qs) ≡ joined ps ++ joined qs
 joined-append [] qs = refl

@@ -1,23 +1,21 @@
 -- A source of words is read back as these words.
-use Rattle.std.proofs.Common.{◌≡◌, ◌==◌, ◌&&◌, ◌||◌, not, ℕ, suc, zero, ◌+◌, ◌-◌, ◌/◌, ◌%◌, ◌<◌, ◌≤◌, Bool, true, false, cond, if◌then◌else◌, List, [], ◌∷◌, ◌++◌, map, length, Option, None, Some, Result, Ok, MatchBool, append_assoc, append-nil, length-append, arith, codes, refl, ap, sym, subst, inl, inr, ◌∙◌}
+use Rattle.std.proofs.Common.{◌≡◌, ◌==◌, ◌&&◌, not, ℕ, ◌+◌, ◌/◌, ◌%◌, ◌<◌, ◌≤◌, Bool, true, false, List, [], ◌∷◌, ◌++◌, map, length, Option, None, Some, Result, Ok, append_assoc, append-nil, length-append, arith, codes, refl, ap, sym, ◌∙◌}
 use Rattle.std.specs.Prelude.{All}
 use Rattle.std.proofs.lemmas.List.{length-map}
 use Rattle.std.proofs.lemmas.List.Elements.{All-head, All-tail}
-use Rattle.std.proofs.lemmas.Bool.Decides.{eqb_tells, nat_tests}
+use Rattle.std.proofs.lemmas.Bool.Decides.{nat_tests}
 use Rattle.pio_words.specs.declared.op.PioOp.{PioOp}
 use Rattle.pio_words.specs.declared.side.SideConfig.{SideConfig}
 use Rattle.pio_words.specs.declared.side.SideDelay.{SideDelay}
-use Rattle.pio_words.specs.Operation.{HasOperation, bit, operation_of}
+use Rattle.pio_words.specs.Operation.{operation_of}
 use Rattle.pio_words.specs.Side.{IsSideField, side_at}
-use Rattle.pio_words.specs.Word.{IsWord}
 use Rattle.pio_parse.specs.declared.fault.PioFault.{PioFault}
 use Rattle.pio_parse.specs.Outcome.{and_then}
 use Rattle.pio_parse.specs.declared.syntax.Statement.{Statement}
 use Rattle.pio_parse.specs.declared.syntax.Statement.TheVariants.{SideSet as SideSetStatement}
 use Rattle.pio_parse.specs.declared.syntax.Line.{Line}
-use Rattle.pio_parse.specs.Statement.{line_at}
 use Rattle.pio_parse.specs.Source.{parsed}
-use Rattle.pio_parse.proofs.Pieces.{AreApart, Piece, is_open, joined, tokens_of}
+use Rattle.pio_parse.proofs.Pieces.{AreApart, Piece, is_open, joined}
 use Rattle.pio_parse.proofs.Pieces.Piece.{End}
 use Rattle.pio_parse.proofs.Runs.{both}
 use Rattle.pio_parse.proofs.PieceLines.{AreLines, all_lines, header, program_parses, source_of_lines, stays}
@@ -29,10 +27,10 @@ use Rattle.pio_asm.specs.Symbols.{Names}
 use Rattle.pio_asm.specs.Plan.{IsConfig, StandsFor, config_of}
 use Rattle.pio_asm.specs.Step.{is_member, line_step, names_of, with_definition}
 use Rattle.pio_asm.specs.Code.{AreWordsOf}
-use Rattle.pio_asm.specs.Assembly.{Plan, assembled, lines_from, plan_of}
+use Rattle.pio_asm.specs.Assembly.{assembled, lines_from, plan_of}
 use Rattle.pio_asm.specs.Returns.{ReadsBack, SourcesReturn, named_side}
 use Rattle.pio_asm.proofs.Decoded.{has_operation, has_side, small_side}
-use Rattle.pio_asm.proofs.LinePieces.{instruction_if, instruction_pieces, line_pieces, program_lines, side_set_lines, side_set_pieces}
+use Rattle.pio_asm.proofs.LinePieces.{instruction_if, instruction_pieces, line_pieces, program_lines, side_set_lines}
 use Rattle.pio_asm.proofs.LineText.{source_is}
 use Rattle.pio_asm.proofs.LineApart.{instruction_apart, instruction_open, side_set_apart, side_set_open, word_apart}
 use Rattle.pio_asm.proofs.LineParse.{line_parses, line_with, number_terms, side_set_parses, statement_if, statement_of}
@@ -77,25 +75,25 @@ module _ (side : SideConfig) (set : Option SideConfig) (same : IsSameSide side s
         stands = record { is_half = lt; has_operation = has; has_side = there };
       }
   written word s false lt e h = record {
-      apart = λ rest a. word_apart word rest lt a;
-      opened = refl;
-      kept = refl;
-      counted = refl;
-      nameless = λ globals seen. refl;
-      assembles = λ whole globals total number code room. word_assembles whole globals total number set word code lt room;
-      stands = refl;
-    }
+    apart = λ rest a. word_apart word rest lt a;
+    opened = refl;
+    kept = refl;
+    counted = refl;
+    nameless = λ globals seen. refl;
+    assembles = λ whole globals total number code room. word_assembles whole globals total number set word code lt room;
+    stands = refl;
+  }
 
   line_of : (word : ℕ) (o : Option SideDelay) → word < 65536 → side_at side (word / 256 % 32) ≡ o → IsLineOf set word (instruction_pieces (operation_of word) o word) (statement_of (operation_of word) o word) (member_of set (operation_of word) o word)
   line_of word None lt e = record {
-      apart = λ rest a. word_apart word rest lt a;
-      opened = refl;
-      kept = refl;
-      counted = refl;
-      nameless = λ globals seen. refl;
-      assembles = λ whole globals total number code room. word_assembles whole globals total number set word code lt room;
-      stands = refl;
-    }
+    apart = λ rest a. word_apart word rest lt a;
+    opened = refl;
+    kept = refl;
+    counted = refl;
+    nameless = λ globals seen. refl;
+    assembles = λ whole globals total number code room. word_assembles whole globals total number set word code lt room;
+    stands = refl;
+  }
   line_of word (Some s) lt e = written word s (is_written (operation_of word)) lt e refl
 
 abbrev word_statement : SideConfig → ℕ → Statement
@@ -137,15 +135,15 @@ lines_of side set same bits (word ∷ words) h =
       apart = line.apart (all_lines (map (line_pieces side) words)) rest.apart;
       lines = λ text number. (line.opened, line.kept, line_parses text number (operation_of word) (side_at side (word / 256 % 32)) word, rest.lines text (number + 1));
       names = λ globals seen count number.
-        let e : count + 1 + length words ≡ count + length (word ∷ words) = omega arith in
-        names_step globals seen count number (word_statement side word) (word_lines side (number + 1) words) line.counted (line.nameless globals seen)
-        ∙ rest.names globals seen (count + 1) (number + 1) ∙ rw e refl;
+          let e : count + 1 + length words ≡ count + length (word ∷ words) = omega arith in
+          names_step globals seen count number (word_statement side word) (word_lines side (number + 1) words) line.counted (line.nameless globals seen)
+          ∙ rest.names globals seen (count + 1) (number + 1) ∙ rw e refl;
       assembles = λ whole globals total number code room.
-        let here : length code < 32 = omega arith in
-        let more : length (code ++ word_member set side word ∷ []) + length words ≤ 32 = omega (arith, length-append code (word_member set side word ∷ [])) in
-        lines_step whole globals total (line_with number (word_statement side word)) (word_lines side (number + 1) words) (built code set) (built (code ++ word_member set side word ∷ []) set) (line.assembles whole globals total number code here)
-        ∙ rest.assembles whole globals total (number + 1) (code ++ word_member set side word ∷ []) more
-        ∙ ap (λ (members : List Member). Ok (built members set)) (append_assoc code (word_member set side word ∷ []) (map (word_member set side) words));
+          let here : length code < 32 = omega arith in
+          let more : length (code ++ word_member set side word ∷ []) + length words ≤ 32 = omega (arith, length-append code (word_member set side word ∷ [])) in
+          lines_step whole globals total (line_with number (word_statement side word)) (word_lines side (number + 1) words) (built code set) (built (code ++ word_member set side word ∷ []) set) (line.assembles whole globals total number code here)
+          ∙ rest.assembles whole globals total (number + 1) (code ++ word_member set side word ∷ []) more
+          ∙ ap (λ (members : List Member). Ok (built members set)) (append_assoc code (word_member set side word ∷ []) (map (word_member set side) words));
       stand = (line.stands, rest.stand);
     }
 
@@ -170,6 +168,7 @@ module _ (side : SideConfig) where
       not_true : (b : Bool) → not b ≡ true → b ≡ false
       not_true true h = cc
       not_true false h = refl
+
       zero_is : (n : ℕ) → (n == 0) ≡ true → n ≡ 0
       zero_is n h = grind (arith, nat_tests)
 
@@ -195,8 +194,8 @@ program_of true side words h fits some few halves =
       apart = rest.apart;
       lines = λ text. rest.lines text 2;
       assembles = assembles_alone None (map (word_member None side) words) (length words) (word_lines side 2 words) some
-        (rest.names [] [] 0 2 ∙ rw (from_zero (length words)) refl)
-        (rest.assembles [] [] (length words) 2 [] (rw (from_zero (length words)) few));
+          (rest.names [] [] 0 2 ∙ rw (from_zero (length words)) refl)
+          (rest.assembles [] [] (length words) 2 [] (rw (from_zero (length words)) few));
       stand = rest.stand;
     }
 program_of false side words h fits some few halves =
@@ -206,9 +205,9 @@ program_of false side words h fits some few halves =
       apart = side_set_apart side (all_lines (map (line_pieces side) words)) low rest.apart;
       lines = λ text. (side_set_open side, refl, side_set_parses text 2 side, rest.lines text 3);
       assembles = assembles_alone (Some side) (map (word_member (Some side) side) words) (length words) (line_with 2 (SideSetStatement (number_terms side.count) side.opt side.pindirs) ∷ word_lines side 3 words) some
-        (rest.names [] [] 0 3 ∙ rw (from_zero (length words)) refl)
-        (lines_step [] [] (length words) (line_with 2 (SideSetStatement (number_terms side.count) side.opt side.pindirs)) (word_lines side 3 words) (built [] None) (built [] (Some side)) (side_set_assembles [] [] (length words) 2 side fits)
-        ∙ rest.assembles [] [] (length words) 3 [] (rw (from_zero (length words)) few));
+          (rest.names [] [] 0 3 ∙ rw (from_zero (length words)) refl)
+          (lines_step [] [] (length words) (line_with 2 (SideSetStatement (number_terms side.count) side.opt side.pindirs)) (word_lines side 3 words) (built [] None) (built [] (Some side)) (side_set_assembles [] [] (length words) 2 side fits)
+          ∙ rest.assembles [] [] (length words) 3 [] (rw (from_zero (length words)) few));
       stand = rest.stand;
     }
 

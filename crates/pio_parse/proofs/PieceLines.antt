@@ -1,11 +1,10 @@
 -- A program whose lines are read one by one.
-use Rattle.std.proofs.Common.{◌≡◌, ◌&&◌, not, nat_le, ℕ, ◌+◌, Bool, true, false, List, [], ◌∷◌, ◌++◌, length, Option, None, Some, Result, Ok, append-nil, append_assoc, codes, arith, refl, sym, ap, ◌∙◌}
+use Rattle.std.proofs.Common.{◌≡◌, not, nat_le, ℕ, ◌+◌, Bool, true, false, List, [], ◌∷◌, ◌++◌, length, Option, None, Some, Ok, append-nil, append_assoc, codes, arith, refl, ap, ◌∙◌}
 use Rattle.std.specs.Prelude.{⊤}
 use Rattle.std.proofs.lemmas.Bool.{le-leb}
 use Rattle.pio_parse.specs.declared.token.Place.{Place}
 use Rattle.pio_parse.specs.declared.token.Token.{Token}
 use Rattle.pio_parse.specs.declared.token.Directive.TheVariants.{Program as ProgramDirective}
-use Rattle.pio_parse.specs.declared.token.TokenKind.{TokenKind}
 use Rattle.pio_parse.specs.declared.token.TokenKind.TheVariants.{Directive as DirectiveToken, Name, FileEnd, LineEnd}
 use Rattle.pio_parse.specs.declared.scan.Mode.TheVariants.{Between}
 use Rattle.pio_parse.specs.declared.syntax.Statement.{Statement}
@@ -14,11 +13,11 @@ use Rattle.pio_parse.specs.declared.syntax.Line.{Line}
 use Rattle.pio_parse.specs.declared.syntax.SourceProgram.{SourceProgram}
 use Rattle.pio_parse.specs.declared.syntax.Source.{Source}
 use Rattle.pio_parse.specs.declared.parser.Groups.{Groups}
-use Rattle.pio_parse.specs.Outcome.{and_then, map_ok}
+use Rattle.pio_parse.specs.Outcome.{and_then}
 use Rattle.pio_parse.specs.Scan.{scanned, scanned_from}
 use Rattle.pio_parse.specs.Expression.{name_at}
 use Rattle.pio_parse.specs.Statement.{is_end, line_at}
-use Rattle.pio_parse.specs.Source.{grouped, grouped_by, line_step, no_groups, parsed, parsed_tokens, source_from, source_of, with_syntax}
+use Rattle.pio_parse.specs.Source.{grouped_by, line_step, parsed, source_from, source_of, with_syntax}
 use Rattle.pio_parse.proofs.Pieces.{AreApart, Piece, chars_of, is_open, joined, kind_of, token_at, tokens_of}
 use Rattle.pio_parse.proofs.Pieces.Piece.{Blank, End, Run}
 use Rattle.pio_parse.proofs.Runs.{both, place_at}
@@ -75,7 +74,7 @@ lines_read (ps ∷ pss) (line ∷ lines) text number program last a =
     let next = record program { lines = program.lines ++ line ∷ [] } in
     let reads = a.2 in
     let step : line_step text (in_program program) (tokens_of number 1 (ps ++ End ∷ [])) ≡ Ok (in_program (record program { lines = program.lines ++ line ∷ [] }))
-        = rw reads (ap (λ (g : Groups). Ok g) (grouped_stays line.number line.label line.statement program a.1)) in
+    = rw reads (ap (λ (g : Groups). Ok g) (grouped_stays line.number line.label line.statement program a.1)) in
     splits ps (all_lines pss) text (in_program program) [] (record { kind = FileEnd; place = last } ∷ []) number 1 a.0
     ∙ rw step (lines_read pss lines text (number + 1) (record program { lines = program.lines ++ line ∷ [] }) last a.3
     ∙ rw (append_assoc program.lines (line ∷ []) lines) refl)

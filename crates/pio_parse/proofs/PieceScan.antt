@@ -1,12 +1,12 @@
 -- The tokens of a source are those of its pieces.
-use Rattle.std.proofs.Common.{◌≡◌, ℕ, ◌+◌, Bool, true, false, List, [], ◌∷◌, ◌++◌, length, Option, None, Some, Ok, append-nil, append_assoc, length-append, arith, refl, sym, ap, ◌∙◌}
+use Rattle.std.proofs.Common.{◌≡◌, ℕ, ◌+◌, true, false, List, [], ◌∷◌, ◌++◌, length, None, Some, Ok, append-nil, append_assoc, length-append, arith, refl, sym, ◌∙◌}
 use Rattle.pio_parse.specs.declared.token.Place.{Place}
 use Rattle.pio_parse.specs.declared.token.Token.{Token}
 use Rattle.pio_parse.specs.declared.token.TokenKind.{TokenKind}
 use Rattle.pio_parse.specs.declared.token.TokenKind.TheVariants.{FileEnd, LineEnd, Comma as CommaToken, Minus as MinusToken, OpenBracket, CloseBracket, Bang as BangToken, DoubleColon, NotEqual as NotEqualToken}
 use Rattle.pio_parse.specs.declared.scan.Mode.TheVariants.{Between, Bang as BangMode}
 use Rattle.pio_parse.specs.Scan.{scanned_from}
-use Rattle.pio_parse.proofs.Pieces.{AreApart, IsRun, Piece, begins_run, chars_of, ends_word, joined, kind_of, token_at, tokens_of}
+use Rattle.pio_parse.proofs.Pieces.{AreApart, Piece, begins_run, ends_word, joined, token_at, tokens_of}
 use Rattle.pio_parse.proofs.Pieces.Piece.{Blank, End, Run, Comma, Minus, Open, Close, Bang, Colons, NotEqual}
 use Rattle.pio_parse.proofs.Runs.{IsEnding, bang_reads, place_at, run_reads}
 

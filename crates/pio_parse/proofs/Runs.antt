@@ -1,5 +1,5 @@
 -- How a word of a source is read.
-use Rattle.std.proofs.Common.{◌≡◌, ◌==◌, ◌&&◌, ◌||◌, ℕ, ◌+◌, ◌-◌, Bool, true, false, cond, List, [], ◌∷◌, ◌++◌, length, take, drop, Option, None, Some, Result, Ok, Err, slice_range, option_to_list, append-nil, append_assoc, length-append, take_at, drop_at, ◌⊎◌, inl, inr, arith, refl, sym, ap, ◌∙◌}
+use Rattle.std.proofs.Common.{◌≡◌, ◌==◌, ◌&&◌, ◌||◌, ℕ, ◌+◌, ◌-◌, Bool, true, false, cond, List, [], ◌∷◌, ◌++◌, length, Option, None, Result, Ok, slice_range, option_to_list, append-nil, take_at, drop_at, ◌⊎◌, inl, inr, arith, refl, ap, ◌∙◌}
 use Rattle.std.proofs.lemmas.Bool.Decides.{eqb_tells}
 use Rattle.pio_parse.specs.declared.token.Place.{Place}
 use Rattle.pio_parse.specs.declared.token.Token.{Token}
@@ -9,9 +9,9 @@ use Rattle.pio_parse.specs.declared.token.TokenKind.{TokenKind}
 use Rattle.pio_parse.specs.declared.token.TokenKind.TheVariants.{Bang as BangToken, Directive as DirectiveToken}
 use Rattle.pio_parse.specs.declared.scan.Mode.{Mode}
 use Rattle.pio_parse.specs.declared.scan.Step.{Step}
-use Rattle.pio_parse.specs.declared.scan.Mode.TheVariants.{Between, Word, Bang}
+use Rattle.pio_parse.specs.declared.scan.Mode.TheVariants.{Between, Word}
 use Rattle.pio_parse.specs.Outcome.{and_then}
-use Rattle.pio_parse.specs.Words.{is_word_char, word_kind}
+use Rattle.pio_parse.specs.Words.{is_word_char}
 use Rattle.pio_parse.specs.Scan.{begins, ends, next_place, quietly, scanned_from, steps, word_ends, word_token_ends}
 use Rattle.pio_parse.proofs.Pieces.{IsRun, all_word, is_lang_opt, is_run, skips_line, token_at}
 
@@ -99,10 +99,10 @@ word_over w rest text kind start index begun here toks e n s =
     let same = e.is in
     let c = e.next in
     let over : steps text index (Word start begun) c here ≡ ends (record { kind = kind; place = begun }) index c here
-        = cond_false (is_word_char c) (Ok (quietly (Word start begun))) (word_ends (slice_range text start index) start begun c index here) other
-        ∙ ap (λ (x : List ℕ). word_ends x start begun c index here) s
-        ∙ ap (λ (k : TokenKind). word_token_ends k begun c index here) (n.names (record { start = start; end = index }))
-        ∙ kind_over kind begun c index here n.plain in
+    = cond_false (is_word_char c) (Ok (quietly (Word start begun))) (word_ends (slice_range text start index) start begun c index here) other
+    ∙ ap (λ (x : List ℕ). word_ends x start begun c index here) s
+    ∙ ap (λ (k : TokenKind). word_token_ends k begun c index here) (n.names (record { start = start; end = index }))
+    ∙ kind_over kind begun c index here n.plain in
     rw same (ap (λ (r : Result Step Place). and_then (λ step. scanned_from text e.rest (index + 1) step.mode (next_place c here) (record { line = here.line; column = here.column + 1 }) (toks ++ option_to_list step.first ++ option_to_list step.second)) r) over
     ∙ token_ends text e.rest index c here (record { kind = kind; place = begun }) toks e.quiet)
 
@@ -126,9 +126,9 @@ run_reads (c ∷ cs) rest text pre kind index line column after toks ending name
     let f : column + 1 + length cs ≡ column + length (c ∷ cs) = omega arith in
     let slice : slice_range text index (index + length (c ∷ cs)) ≡ c ∷ cs = rw (whole, at) (slice_middle pre (c ∷ cs) rest (length pre + length (c ∷ cs)) refl) in
     let first : scanned_from text ((c ∷ cs) ++ rest) index Between (place_at line column) after toks ≡ scanned_from text (cs ++ rest) (index + 1) (Word index (place_at line column)) (place_at line (column + 1)) (place_at line (column + 1)) toks
-        = rw (start.starts index (place_at line column), start.inside, append-nil, append-nil) refl in
+    = rw (start.starts index (place_at line column), start.inside, append-nil, append-nil) refl in
     let second : scanned_from text (cs ++ rest) (index + 1) (Word index (place_at line column)) (place_at line (column + 1)) (place_at line (column + 1)) toks ≡ scanned_from text rest (index + length (c ∷ cs)) (Word index (place_at line column)) (place_at line (column + length (c ∷ cs))) (place_at line (column + length (c ∷ cs))) toks
-        = word_goes cs rest text (index + 1) index line (column + 1) (place_at line column) toks parts.1 ∙ rw (e, f) refl in
+    = word_goes cs rest text (index + 1) index line (column + 1) (place_at line column) toks parts.1 ∙ rw (e, f) refl in
     first ∙ second ∙ word_over (c ∷ cs) rest text kind index (index + length (c ∷ cs)) (place_at line column) (place_at line (column + length (c ∷ cs))) toks ending named slice
 
 -- a `!` before a run is a token
