@@ -9,6 +9,7 @@ use Rattle.pio_words.specs.declared.side.SideConfig.{SideConfig}
 use Rattle.pio_words.specs.declared.side.SideDelay.{SideDelay}
 use Rattle.pio_words.specs.Operation.{operation_of}
 use Rattle.pio_words.specs.Side.{IsSideField, side_at}
+use Rattle.pio_words.proofs.Unique.{word-unique}
 use Rattle.pio_parse.specs.declared.fault.PioFault.{PioFault}
 use Rattle.pio_parse.specs.Outcome.{and_then}
 use Rattle.pio_parse.specs.declared.syntax.Statement.{Statement}
@@ -21,7 +22,7 @@ use Rattle.pio_parse.proofs.Runs.{both}
 use Rattle.pio_parse.proofs.PieceLines.{AreLines, all_lines, header, program_parses, source_of_lines, stays}
 use Rattle.pio_disasm.specs.Text.{is_written, source_text}
 use Rattle.pio_asm.specs.declared.plan.Member.{Member}
-use Rattle.pio_asm.specs.declared.plan.Member.TheVariants.{Word as WordMember, Coded}
+use Rattle.pio_asm.specs.declared.plan.Member.TheVariants.{Word as WordMember, Coded, Lost}
 use Rattle.pio_asm.specs.declared.building.Building.{Building}
 use Rattle.pio_asm.specs.Symbols.{Names}
 use Rattle.pio_asm.specs.Plan.{IsConfig, StandsFor, config_of}
@@ -216,6 +217,22 @@ unfolding set_if
 named_if true side h = rw h refl
 named_if false side h = rw h refl
 
+same_member : (member : Member) (word other : ℕ) → StandsFor member word → StandsFor member other → word ≡ other
+same_member (WordMember n) word other h k = h ∙ sym k
+same_member (Coded op side value delay) word other h k = word-unique op side value delay word other h k
+same_member Lost word other h k = h ∙ sym k
+
+-- members have one list of words
+same_words : (members : List Member) (words others : List ℕ) → AreWordsOf members words → AreWordsOf members others → others ≡ words
+same_words [] [] [] h k = refl
+same_words [] [] (other ∷ others) h k = absurd k
+same_words [] (word ∷ words) others h k = absurd h
+same_words (member ∷ members) [] others h k = absurd h
+same_words (member ∷ members) (word ∷ words) [] h k = absurd k
+same_words (member ∷ members) (word ∷ words) (other ∷ others) h k =
+    let first = same_member member other word k.0 h.0 in
+    let rest = same_words members words others h.1 k.1 in cc
+
 reads_back : (b : Bool) (side : SideConfig) (words : List ℕ) → ((side.count == 0) && not side.opt) ≡ b → IsConfig side → 0 < length words → length words ≤ 32 → All (λ word. word < 65536) words → ReadsBack side words
 reads_back b side words h fits some few halves =
     let program = program_of b side words h fits some few halves in
@@ -227,6 +244,7 @@ reads_back b side words h fits some few halves =
       parses = ap parsed text ∙ program_parses (side_set_lines b side ++ map (line_pieces side) words) (lines_if b side words) program.apart (program.lines (header ++ joined (all_lines (side_set_lines b side ++ map (line_pieces side) words))));
       assembles = program.assembles;
       same_words = program.stand;
+      no_others = λ others are. same_words (map (word_member (set_if b side) side) words) words others program.stand are;
       same_side = named_if b side h;
       name = refl;
       origin = refl;

@@ -12,13 +12,14 @@ use Rattle.pio_asm.specs.Assembly.{Plan, assembled}
 abbrev pub named_side : SideConfig → SideConfig
 named_side side = if (side.count == 0) && not side.opt then record { count = 0; opt = false; pindirs = false } else side
 
--- the source of words is one program of these words, named `code`, which wraps from its last instruction to its first
+-- the source of words is one program of these words and no others, named `code`, which wraps from its last instruction to its first
 pub record ReadsBack (side : SideConfig) (words : List ℕ) : Type 0 where
   pub source : Source
   pub plan : Plan
   pub parses : parsed (source_text side words) ≡ Ok source
   pub assembles : assembled source ≡ Ok (plan ∷ [])
   pub same_words : AreWordsOf plan.members words
+  pub no_others : (others : List ℕ) → AreWordsOf plan.members others → others ≡ words
   pub same_side : plan.side ≡ named_side side
   pub name : plan.name ≡ codes "code"
   pub origin : plan.origin ≡ None
