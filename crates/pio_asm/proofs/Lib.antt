@@ -5,3 +5,11 @@ pub mod Words
 pub mod Sides
 pub mod CodeLaws
 pub mod ProgramLaws
+pub mod LinePieces
+pub mod LineText
+pub mod LineRuns
+pub mod LineApart
+pub mod LineParse
+pub mod Decoded
+pub mod LineSteps
+pub mod Returning

@@ -8,3 +8,4 @@ pub mod Verdict
 pub mod Step
 pub mod Assembly
 pub mod Place
+pub mod Returns

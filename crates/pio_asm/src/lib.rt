@@ -3,6 +3,7 @@
 #![tactic(auto)]
 
 mod building;
+pub mod laws;
 mod line;
 mod operand;
 mod place;

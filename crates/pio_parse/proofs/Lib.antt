@@ -1,1 +1,5 @@
 pub mod SourceLines
+pub mod Pieces
+pub mod Runs
+pub mod PieceScan
+pub mod PieceLines

@@ -1,0 +1,153 @@
+-- The words of a line are tokens wherever they stand.
+use Rattle.std.proofs.Common.{◌≡◌, ◌==◌, ◌&&◌, ℕ, suc, zero, ◌+◌, ◌*◌, ◌/◌, ◌%◌, ◌<◌, min, Bool, true, false, nat_le, cond, List, [], ◌∷◌, Option, None, Some, arith, refl, ap, inl, inr, ◌∙◌}
+use Rattle.std.proofs.lemmas.Bool.Decides.{eqb_tells, nat_tests}
+use Rattle.pio_parse.specs.declared.token.Span.{Span}
+use Rattle.pio_parse.specs.declared.token.Keyword.{Keyword}
+use Rattle.pio_parse.specs.declared.token.Keyword.TheVariants.{Public, Opt, Pindirs, Jmp, Wait, In, Out, Push, Pull, Mov, Irq, Set, Nop, Side, Gpio, Pin, Rel, Pins, X, Y, Null, Isr, Osr, Pc, Exec, Status, IfFull, IfEmpty, Block, NoBlock, NoWait, Clear, Osre}
+use Rattle.pio_parse.specs.declared.token.TokenKind.TheVariants.{Keyword as KeywordToken, Number}
+use Rattle.pio_parse.specs.Words.{digit_of, digits_value, is_digit, is_word_char, keyword_name, number_of, word_kind}
+use Rattle.pio_parse.proofs.Pieces.{IsRun, is_run}
+use Rattle.pio_parse.proofs.Runs.{both}
+use Rattle.pio_disasm.specs.Text.{decimal, hex_digit, hex_half}
+
+pub key_run : (keyword : Keyword) → IsRun (keyword_name keyword) (KeywordToken keyword)
+key_run Public = record { run = refl; plain = refl; names = λ span. refl }
+key_run Opt = record { run = refl; plain = refl; names = λ span. refl }
+key_run Pindirs = record { run = refl; plain = refl; names = λ span. refl }
+key_run Jmp = record { run = refl; plain = refl; names = λ span. refl }
+key_run Wait = record { run = refl; plain = refl; names = λ span. refl }
+key_run In = record { run = refl; plain = refl; names = λ span. refl }
+key_run Out = record { run = refl; plain = refl; names = λ span. refl }
+key_run Push = record { run = refl; plain = refl; names = λ span. refl }
+key_run Pull = record { run = refl; plain = refl; names = λ span. refl }
+key_run Mov = record { run = refl; plain = refl; names = λ span. refl }
+key_run Irq = record { run = refl; plain = refl; names = λ span. refl }
+key_run Set = record { run = refl; plain = refl; names = λ span. refl }
+key_run Nop = record { run = refl; plain = refl; names = λ span. refl }
+key_run Side = record { run = refl; plain = refl; names = λ span. refl }
+key_run Gpio = record { run = refl; plain = refl; names = λ span. refl }
+key_run Pin = record { run = refl; plain = refl; names = λ span. refl }
+key_run Rel = record { run = refl; plain = refl; names = λ span. refl }
+key_run Pins = record { run = refl; plain = refl; names = λ span. refl }
+key_run X = record { run = refl; plain = refl; names = λ span. refl }
+key_run Y = record { run = refl; plain = refl; names = λ span. refl }
+key_run Null = record { run = refl; plain = refl; names = λ span. refl }
+key_run Isr = record { run = refl; plain = refl; names = λ span. refl }
+key_run Osr = record { run = refl; plain = refl; names = λ span. refl }
+key_run Pc = record { run = refl; plain = refl; names = λ span. refl }
+key_run Exec = record { run = refl; plain = refl; names = λ span. refl }
+key_run Status = record { run = refl; plain = refl; names = λ span. refl }
+key_run IfFull = record { run = refl; plain = refl; names = λ span. refl }
+key_run IfEmpty = record { run = refl; plain = refl; names = λ span. refl }
+key_run Block = record { run = refl; plain = refl; names = λ span. refl }
+key_run NoBlock = record { run = refl; plain = refl; names = λ span. refl }
+key_run NoWait = record { run = refl; plain = refl; names = λ span. refl }
+key_run Clear = record { run = refl; plain = refl; names = λ span. refl }
+key_run Osre = record { run = refl; plain = refl; names = λ span. refl }
+
+-- what is tested of each number below n
+abbrev all_below : (ℕ → Bool) → ℕ → Bool
+all_below p zero = true
+all_below p (suc n) = p n && all_below p n
+
+all_below-at : (p : ℕ → Bool) (n m : ℕ) → all_below p n ≡ true → m < n → p m ≡ true
+all_below-at p zero m h lt = absurd (omega arith)
+all_below-at p (suc n) m h lt = elim (eqb_tells m n) [
+  | inl e ↦ let same = e.1 in rw same (both (p n) (all_below p n) h).0
+  | inr e ↦ let other = e.1 in all_below-at p n m (both (p n) (all_below p n) h).1 (omega (arith, other))
+]
+
+abbrev is_that : Option ℕ → ℕ → Bool
+is_that None n = false
+is_that (Some m) n = m == n
+
+that_is : (o : Option ℕ) (n : ℕ) → is_that o n ≡ true → o ≡ Some n
+that_is None n h = cc
+that_is (Some m) n h = elim (eqb_tells m n) [
+  | inl e ↦ ap (λ k. Some k) e.1
+  | inr e ↦ absurd (let f : (m == n) ≡ false = e.0 in let g : (m == n) ≡ true = h in cc)
+]
+
+abbrev not_point : ℕ → Bool
+not_point c = cond (c == 46) false true
+
+abbrev begins_digit : List ℕ → Bool
+begins_digit [] = false
+begins_digit (c ∷ cs) = is_digit c && not_point c
+
+no_point : (c : ℕ) → not_point c ≡ true → (c == 46) ≡ false
+no_point c h = elim (eqb_tells c 46) [
+  | inl e ↦ let f = e.0 in absurd (let g : false ≡ true = rw f at h in cc)
+  | inr e ↦ e.0
+]
+
+digits_kind : (w : List ℕ) (n : ℕ) (span : Span) → begins_digit w ≡ true → number_of w ≡ Some n → word_kind w span ≡ Number n
+digits_kind [] n span h e = cc
+digits_kind (c ∷ cs) n span h e = let parts = both (is_digit c) (not_point c) h in rw (no_point c parts.1, parts.0, e) refl
+
+abbrev is_number : List ℕ → ℕ → Bool
+is_number w n = is_run w && (begins_digit w && is_that (number_of w) n)
+
+number_run : (w : List ℕ) (n : ℕ) → is_number w n ≡ true → IsRun w (Number n)
+number_run w n h =
+    let a = both (is_run w) (begins_digit w && is_that (number_of w) n) h in
+    let b = both (begins_digit w) (is_that (number_of w) n) a.1 in
+    record { run = a.0; plain = refl; names = λ span. digits_kind w n span b.0 (that_is (number_of w) n b.1) }
+
+decimals : all_below (λ n. is_number (decimal n) n) 100 ≡ true
+decimals = refl
+
+pub decimal_run : (n : ℕ) → n < 100 → IsRun (decimal n) (Number n)
+decimal_run n lt = number_run (decimal n) n (all_below-at (λ n. is_number (decimal n) n) 100 n decimals lt)
+
+-- hexadecimal digits
+hex_digits : all_below (λ d. is_word_char (hex_digit d) && is_that (digit_of (hex_digit d)) d) 16 ≡ true
+hex_digits = refl
+
+record IsHex (d : ℕ) : Type 0 where
+  char : is_word_char (hex_digit d) ≡ true
+  value : digit_of (hex_digit d) ≡ Some d
+
+hex_is : (d : ℕ) → d < 16 → IsHex d
+hex_is d lt =
+    let h = both (is_word_char (hex_digit d)) (is_that (digit_of (hex_digit d)) d) (all_below-at (λ d. is_word_char (hex_digit d) && is_that (digit_of (hex_digit d)) d) 16 d hex_digits lt) in
+    record { char = h.0; value = that_is (digit_of (hex_digit d)) d h.1 }
+
+next_digit : (d value : ℕ) (cs : List ℕ) → d < 16 → value < 4096 → digits_value 16 value (hex_digit d ∷ cs) ≡ digits_value 16 (value * 16 + d) cs
+next_digit d value cs lt small =
+    let is = (hex_is d lt).value in
+    let fits : nat_le 16 d ≡ false = not_le d lt in
+    let bound : min (value * 16 + d) 4294967296 ≡ value * 16 + d = omega arith in
+    rw (is, fits, bound) refl
+  where
+    not_le : (d : ℕ) → d < 16 → nat_le 16 d ≡ false
+    not_le d lt = grind (arith, nat_tests)
+
+four_digits : (a b c d : ℕ) → a < 16 → b < 16 → c < 16 → d < 16 → digits_value 16 0 (hex_digit a ∷ hex_digit b ∷ hex_digit c ∷ hex_digit d ∷ []) ≡ Some ((((0 * 16 + a) * 16 + b) * 16 + c) * 16 + d)
+four_digits a b c d la lb lc ld =
+    next_digit a 0 (hex_digit b ∷ hex_digit c ∷ hex_digit d ∷ []) la (omega arith)
+    ∙ next_digit b (0 * 16 + a) (hex_digit c ∷ hex_digit d ∷ []) lb (omega arith)
+    ∙ next_digit c ((0 * 16 + a) * 16 + b) (hex_digit d ∷ []) lc (omega arith)
+    ∙ next_digit d (((0 * 16 + a) * 16 + b) * 16 + c) [] ld (omega arith)
+
+digit_lt : (n : ℕ) → n % 16 < 16
+digit_lt n = omega arith
+
+half_value : (n : ℕ) → n < 65536 → (((0 * 16 + n / 4096 % 16) * 16 + n / 256 % 16) * 16 + n / 16 % 16) * 16 + n % 16 ≡ n
+half_value n lt = omega arith
+
+half_run : (a b c d : ℕ) → is_word_char a ≡ true → is_word_char b ≡ true → is_word_char c ≡ true → is_word_char d ≡ true → is_run (48 ∷ 120 ∷ a ∷ b ∷ c ∷ d ∷ []) ≡ true
+half_run a b c d ha hb hc hd = rw (ha, hb, hc, hd) refl
+
+pub hex_run : (n : ℕ) → n < 65536 → IsRun (48 ∷ 120 ∷ hex_half n) (Number n)
+hex_run n lt =
+    let a = hex_is (n / 4096 % 16) (digit_lt (n / 4096)) in
+    let b = hex_is (n / 256 % 16) (digit_lt (n / 256)) in
+    let c = hex_is (n / 16 % 16) (digit_lt (n / 16)) in
+    let d = hex_is (n % 16) (digit_lt n) in
+    let value : number_of (48 ∷ 120 ∷ hex_half n) ≡ Some n = four_digits (n / 4096 % 16) (n / 256 % 16) (n / 16 % 16) (n % 16) (digit_lt (n / 4096)) (digit_lt (n / 256)) (digit_lt (n / 16)) (digit_lt n) ∙ ap (λ k. Some k) (half_value n lt) in
+    record {
+      run = half_run (hex_digit (n / 4096 % 16)) (hex_digit (n / 256 % 16)) (hex_digit (n / 16 % 16)) (hex_digit (n % 16)) a.char b.char c.char d.char;
+      plain = refl;
+      names = λ span. digits_kind (48 ∷ 120 ∷ hex_half n) n span refl value;
+    }

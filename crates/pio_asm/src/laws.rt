@@ -1,0 +1,8 @@
+//! The laws of the assembler, each the contract of a function without arguments.
+ghost use Rattle.pio_asm.specs.Returns.{SourcesReturn};
+
+/// The source that the disassembler writes for 1 to 32 words under a side-set configuration is parsed
+/// and assembled to one program of these words under this configuration.
+pub fn sources_return()
+    ensures { SourcesReturn }
+{}
