@@ -1,0 +1,32 @@
+-- What holds of the expressions that are read (RP2040 Datasheet, 3.3.4 Expressions): they are those of the grammar.
+use Rattle.std.specs.Prelude.{◌≡◌, ◌↔◌, ◌≤◌, ℕ, Bool, true, false, List, [], ◌∷◌, ◌++◌, length, Ok, Err}
+use Rattle.pio_parse.specs.declared.token.Place.{Place}
+use Rattle.pio_parse.specs.declared.token.Token.{Token}
+use Rattle.pio_parse.specs.declared.expression.Term.{Term}
+use Rattle.pio_parse.specs.Expression.{expression_at}
+use Rattle.pio_parse.specs.Statement.{is_end}
+use Rattle.pio_parse.specs.Grammar.{BeginsExpression, Expr, IsExpression, IsSum, postfix}
+
+-- what is read at the front of the tokens is an expression of the grammar in postfix order, and each expression of the grammar is read
+abbrev pub ReadsGrammar : Type 0
+ReadsGrammar = (text : List ℕ) (tokens : List Token) (terms : List Term) (rest : List Token)
+    → (expression_at text tokens ≡ Ok (terms, rest)) ↔ ((tree : Expr) × IsExpression text tokens tree rest × (postfix tree ≡ terms))
+
+-- the grammar gives tokens one expression at most: one tree and one end
+abbrev pub OneExpression : Type 0
+OneExpression = (text : List ℕ) (tokens : List Token) (tree other : Expr) (rest rest' : List Token)
+    → IsExpression text tokens tree rest → IsExpression text tokens other rest' → (tree ≡ other) × (rest ≡ rest')
+
+-- the last of the tokens ends a line
+abbrev pub ends_line : List Token → Bool
+ends_line [] = false
+ends_line (token ∷ []) = is_end token.kind
+ends_line (token ∷ next ∷ tokens) = ends_line (next ∷ tokens)
+
+-- a line is refused at the place of the first token with which no expression begins as the tokens up to it do
+abbrev pub FaultsAtFirst : Type 0
+FaultsAtFirst = (text : List ℕ) (tokens : List Token) (place : Place) → ends_line tokens ≡ true
+    → (expression_at text tokens ≡ Err place)
+    ↔ ((before : List Token) × (token : Token) × (after : List Token)
+        × (tokens ≡ before ++ token ∷ after) × (token.place ≡ place)
+        × BeginsExpression text before × ¬ BeginsExpression text (before ++ token ∷ []))

@@ -1,0 +1,18 @@
+//! The laws of the expressions, each the contract of a function without arguments.
+ghost use Rattle.pio_parse.specs.Laws.{FaultsAtFirst, OneExpression, ReadsGrammar};
+
+/// What is read at the front of a line's tokens is the longest expression of the grammar there, in postfix order,
+/// and each expression of the grammar is read.
+pub fn reads_grammar()
+    ensures { ReadsGrammar }
+{}
+
+/// The grammar gives tokens one tree at most, and one end.
+pub fn one_expression()
+    ensures { OneExpression }
+{}
+
+/// A line is refused at the first token with which no expression begins as the tokens up to it do.
+pub fn faults_at_first()
+    ensures { FaultsAtFirst }
+{}
