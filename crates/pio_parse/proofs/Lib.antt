@@ -1,1 +1,3 @@
 pub mod SourceLines
+pub mod Follows
+pub mod Finds
