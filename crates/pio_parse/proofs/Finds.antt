@@ -1,5 +1,5 @@
 -- Where the stack of waiting operators accepts tokens, the grammar has a tree for them.
-use Rattle.std.proofs.Common.{◌≡◌, ◌≢◌, ◌==◌, ◌⊎◌, inl, inr, ℕ, zero, suc, ◌+◌, ◌<◌, ◌≤◌, Bool, true, false, List, [], ◌∷◌, ◌++◌, length, Result, Ok, Err, arith, refl, sym, ap, ◌∙◌, subst}
+use Rattle.std.proofs.Common.{◌≡◌, ◌≢◌, ◌==◌, ◌⊎◌, inl, inr, ℕ, zero, suc, ◌+◌, ◌<◌, ◌≤◌, Bool, true, false, List, [], ◌∷◌, ◌++◌, length, Option, None, Result, Ok, Err, arith, refl, sym, ap, ◌∙◌, subst}
 use mathlib.Core.Bool.{false≢true}
 use Rattle.pio_parse.specs.declared.token.Place.{Place}
 use Rattle.pio_parse.specs.declared.token.Span.{Span}
@@ -13,8 +13,8 @@ use Rattle.pio_parse.specs.declared.expression.Pending.{Pending}
 use Rattle.pio_parse.specs.declared.expression.Pending.TheVariants.{Parenthesis, Operator as OperatorPending}
 use Rattle.pio_parse.specs.declared.expression.Reading.{Reading}
 use Rattle.pio_parse.specs.Cursor.{Outcome, head_kind}
-use Rattle.pio_parse.specs.Expression.{expression_from, name_at, operand_step, operator_step}
-use Rattle.pio_parse.specs.Grammar.{EndsProduct, EndsSum, Expr, IsOperand, IsProduct, IsSum, postfix}
+use Rattle.pio_parse.specs.Expression.{expression_at, expression_from, name_at, operand_step, operator_step}
+use Rattle.pio_parse.specs.Grammar.{EndsProduct, EndsSum, Expr, IsExpression, IsOperand, IsProduct, IsSum, postfix}
 use Rattle.pio_parse.specs.Grammar.Expr.{Number, Name, Negate, Reverse, Sum, Difference, Product}
 use Rattle.pio_parse.specs.Grammar.IsSum.{product, plus, minus}
 use Rattle.pio_parse.specs.Grammar.IsProduct.{operand, times}
@@ -27,6 +27,10 @@ is_accepted (Err e) = false
 
 pub refused : {X E : Type 0} {e : E} {x : X} → Err e ≡ Ok x → ⊥
 refused q = false≢true (ap is_accepted q)
+
+abbrev is_none_left : List Token → Bool
+is_none_left [] = true
+is_none_left (token ∷ tokens) = false
 
 abbrev is_plus : TokenKind → Bool
 is_plus Plus = true
@@ -65,6 +69,13 @@ first_of_kind OpenParenthesis = first_open refl
 first_of_kind Minus = first_minus refl
 first_of_kind DoubleColon = first_colons refl
 first_of_kind kind = first_other (λ text place reading. refl)
+
+-- what a token after a whole expression comes to
+over_or : (kind : TokenKind) → kind ≢ Star → kind ≢ Plus → kind ≢ Minus → (place : Place) (reading : Reading) → (reading.depth == 0) ≡ true → operator_step kind place reading ≡ Ok None
+over_or Star h i j place reading e = absurd (h refl)
+over_or Plus h i j place reading e = absurd (i refl)
+over_or Minus h i j place reading e = absurd (j refl)
+over_or kind h i j place reading e = rw e refl
 
 -- within parentheses an expression goes on or is closed
 close_or : (kind : TokenKind) → kind ≢ Star → kind ≢ Plus → kind ≢ Minus
@@ -108,6 +119,19 @@ module _ (text : List ℕ) (answer : List Term × List Token) where
       close (inl is) = is
       close (inr other) = absurd (refused (rw (other token.place (record { stack = stack; output = output; awaited = false; depth = depth + 1 }) (suc-not_zero depth)) at e))
 
+  -- a sum in parentheses, and what is left after it
+  closed_sum : (token : Token) (tokens middle : List Token) (tree : Expr) → token.kind ≡ OpenParenthesis → IsSum text tokens tree middle → length middle < length tokens
+      → (close : Token) × (rest : List Token) × (middle ≡ close ∷ rest) × (close.kind ≡ CloseParenthesis) → OperandFound (token ∷ tokens)
+  closed_sum token tokens middle tree is sum lt (close, rest, same, close_is) =
+      let shorter : length middle ≡ suc (length rest) = ap (λ (m : List Token). length m) same in
+      (tree, rest, parentheses is (subst (IsSum text tokens tree) same sum) close_is, omega (arith, shorter, lt))
+
+  in_parentheses : (token : Token) (tokens : List Token) (stack : List Pending) (output : List Term) (depth : ℕ) → token.kind ≡ OpenParenthesis
+      → SumFound tokens → before_operand text (Parenthesis ∷ stack) output (depth + 1) tokens ≡ Ok answer → OperandFound (token ∷ tokens)
+  in_parentheses token tokens stack output depth is (tree, middle, sum, over, lt) e =
+      closed_sum token tokens middle tree is sum lt
+          (found_close (Parenthesis ∷ stack) (output ++ postfix tree) depth middle over (sym (follows_sum sum (Parenthesis ∷ stack) output (depth + 1) refl over.0) ∙ e))
+
   -- an operand by its first token
   operand_by : (bound : ℕ) → FindsProduct bound → FindsSum bound
       → (token : Token) (tokens : List Token) (stack : List Pending) (output : List Term) (depth : ℕ) → length tokens ≤ bound
@@ -115,11 +139,8 @@ module _ (text : List ℕ) (answer : List Term × List Token) where
   operand_by bound products sums token tokens stack output depth le e (first_number n is) = (Number n, tokens, number is, omega arith)
   operand_by bound products sums token tokens stack output depth le e (first_name span is) = (Name (name_at text span), tokens, name is, omega arith)
   operand_by bound products sums token tokens stack output depth le e (first_open is) =
-      let found = sums tokens (Parenthesis ∷ stack) output (depth + 1) le refl (sym (goes_in text stack output depth token tokens is) ∙ e) in
-      let after = sym (follows_sum found.2 (Parenthesis ∷ stack) output (depth + 1) refl found.3.0) ∙ sym (goes_in text stack output depth token tokens is) ∙ e in
-      let close = found_close (Parenthesis ∷ stack) (output ++ postfix found.0) depth found.1 found.3 after in
-      let shorter : length found.1 ≡ suc (length close.1) = ap length close.2 in
-      (found.0, close.1, parentheses is (subst (IsSum text tokens found.0) close.2 found.2) close.3, omega (arith, shorter, found.4))
+      let inside = sym (goes_in text stack output depth token tokens is) ∙ e in
+      in_parentheses token tokens stack output depth is (sums tokens (Parenthesis ∷ stack) output (depth + 1) le refl inside) inside
   operand_by bound products sums token tokens stack output depth le e (first_minus is) =
       let found = products tokens (OperatorPending NegateOperator ∷ stack) output depth le refl (sym (goes_in_negate text stack output depth token tokens is) ∙ e) in
       (Negate found.0, found.1, negate is found.2 found.3, omega (arith, found.4))
@@ -133,3 +154,157 @@ module _ (text : List ℕ) (answer : List Term × List Token) where
   operand_more bound products sums [] stack output depth le e = absurd (refused e)
   operand_more bound products sums (token ∷ tokens) stack output depth le e =
       operand_by bound products sums token tokens stack output depth (omega (arith, le)) e (first_of_kind token.kind)
+
+  -- what is found where a product stands at the front of the tokens already
+  abbrev ProductOn : ℕ → ℕ → Type 0
+  ProductOn bound left = (tokens middle : List Token) (tree : Expr) (stack : List Pending) (output : List Term) (depth : ℕ)
+      → length middle ≤ left → length middle ≤ bound → length middle < length tokens → binds_less 2 stack ≡ true
+      → IsProduct text tokens tree middle → after_operand text stack output depth middle ≡ Ok answer → ProductFound tokens
+
+  product_none : (bound : ℕ) → ProductOn bound zero
+  product_none bound tokens [] tree stack output depth few le lt h is e = absurd (refused e)
+  product_none bound tokens (sign ∷ middle) tree stack output depth few le lt h is e = absurd (omega (arith, few))
+
+  -- one more `*` and its operand
+  product_times : (bound left : ℕ) → ProductOn bound left → (tokens middle : List Token) (sign : Token) (tree : Expr) (stack : List Pending) (output : List Term) (depth : ℕ)
+      → length middle ≤ left → length middle < bound → length middle < length tokens → binds_less 2 stack ≡ true
+      → IsProduct text tokens tree (sign ∷ middle) → sign.kind ≡ Star
+      → before_operand text (OperatorPending Multiply ∷ stack) output depth middle ≡ Ok answer → OperandFound middle → ProductFound tokens
+  product_times bound left on tokens middle sign tree stack output depth few le lt h is star e (right, rest, more, shorter) =
+      on tokens rest (Product tree right) stack ((output ++ postfix right) ++ OperatorTerm Multiply ∷ []) depth (omega (arith, few, shorter)) (omega (arith, le, shorter)) (omega (arith, lt, shorter)) h
+          (times is star more)
+          (sym (settled text Multiply stack (output ++ postfix right) depth rest (level_for_operand (head_kind rest)))
+              ∙ sym (follows_operand more (OperatorPending Multiply ∷ stack) output depth) ∙ e)
+
+  product_step : (bound left : ℕ) → FindsOperand bound → ProductOn bound left → ProductOn bound (suc left)
+  product_step bound left operands on tokens [] tree stack output depth few le lt h is e = absurd (refused e)
+  product_step bound left operands on tokens (sign ∷ middle) tree stack output depth few le lt h is e = go (next_of sign.kind)
+    where
+      go : Next sign.kind → ProductFound tokens
+      go (next_times star) =
+          let after = sym (goes_on_times text stack output depth sign middle star h) ∙ e in
+          product_times bound left on tokens middle sign tree stack output depth (omega (arith, few)) (omega (arith, le)) (omega (arith, lt)) h is star after
+              (operands middle (OperatorPending Multiply ∷ stack) output depth (omega (arith, le)) after)
+      go (next_plus is_next) = (tree, sign ∷ middle, is, (λ q. false≢true (ap is_star (sym is_next ∙ q))), lt)
+      go (next_minus is_next) = (tree, sign ∷ middle, is, (λ q. false≢true (ap is_star (sym is_next ∙ q))), lt)
+      go (next_other no_star no_plus no_minus) = (tree, sign ∷ middle, is, no_star, lt)
+
+  product_on : (bound : ℕ) → FindsOperand bound → (left : ℕ) → ProductOn bound left
+  product_on bound operands zero = product_none bound
+  product_on bound operands (suc left) = product_step bound left operands (product_on bound operands left)
+
+  finds_product : (bound : ℕ) → FindsOperand bound → FindsProduct bound
+  finds_product bound operands tokens stack output depth le h e = go (operands tokens stack output depth le e)
+    where
+      go : OperandFound tokens → ProductFound tokens
+      go (tree, rest, is, lt) = product_on bound operands (length rest) tokens rest tree stack (output ++ postfix tree) depth (omega arith) (omega (arith, le, lt)) lt h (operand is)
+          (sym (follows_operand is stack output depth) ∙ e)
+
+  -- what is found where a sum stands at the front of the tokens already
+  abbrev SumOn : ℕ → ℕ → Type 0
+  SumOn bound left = (tokens middle : List Token) (tree : Expr) (stack : List Pending) (output : List Term) (depth : ℕ)
+      → length middle ≤ left → length middle ≤ bound → length middle < length tokens → binds_less 1 stack ≡ true → head_kind middle ≢ Star
+      → IsSum text tokens tree middle → after_operand text stack output depth middle ≡ Ok answer → SumFound tokens
+
+  sum_none : (bound : ℕ) → SumOn bound zero
+  sum_none bound tokens [] tree stack output depth few le lt h no_star is e = absurd (refused e)
+  sum_none bound tokens (sign ∷ middle) tree stack output depth few le lt h no_star is e = absurd (omega (arith, few))
+
+  -- one more `+` or `-` and its product
+  sum_plus : (bound left : ℕ) → SumOn bound left → (tokens middle : List Token) (sign : Token) (tree : Expr) (stack : List Pending) (output : List Term) (depth : ℕ)
+      → length middle ≤ left → length middle < bound → length middle < length tokens → binds_less 1 stack ≡ true
+      → IsSum text tokens tree (sign ∷ middle) → sign.kind ≡ Plus
+      → before_operand text (OperatorPending Add ∷ stack) output depth middle ≡ Ok answer → ProductFound middle → SumFound tokens
+  sum_plus bound left on tokens middle sign tree stack output depth few le lt h is sign_is e (right, rest, more, over, shorter) =
+      on tokens rest (Sum tree right) stack ((output ++ postfix right) ++ OperatorTerm Add ∷ []) depth (omega (arith, few, shorter)) (omega (arith, le, shorter)) (omega (arith, lt, shorter)) h over
+          (plus is sign_is more)
+          (sym (settled text Add stack (output ++ postfix right) depth rest (level_for_product (head_kind rest) over))
+              ∙ sym (follows_product more (OperatorPending Add ∷ stack) output depth refl) ∙ e)
+
+  sum_minus : (bound left : ℕ) → SumOn bound left → (tokens middle : List Token) (sign : Token) (tree : Expr) (stack : List Pending) (output : List Term) (depth : ℕ)
+      → length middle ≤ left → length middle < bound → length middle < length tokens → binds_less 1 stack ≡ true
+      → IsSum text tokens tree (sign ∷ middle) → sign.kind ≡ Minus
+      → before_operand text (OperatorPending Subtract ∷ stack) output depth middle ≡ Ok answer → ProductFound middle → SumFound tokens
+  sum_minus bound left on tokens middle sign tree stack output depth few le lt h is sign_is e (right, rest, more, over, shorter) =
+      on tokens rest (Difference tree right) stack ((output ++ postfix right) ++ OperatorTerm Subtract ∷ []) depth (omega (arith, few, shorter)) (omega (arith, le, shorter)) (omega (arith, lt, shorter)) h over
+          (minus is sign_is more)
+          (sym (settled text Subtract stack (output ++ postfix right) depth rest (level_for_product (head_kind rest) over))
+              ∙ sym (follows_product more (OperatorPending Subtract ∷ stack) output depth refl) ∙ e)
+
+  sum_step : (bound left : ℕ) → FindsProduct bound → SumOn bound left → SumOn bound (suc left)
+  sum_step bound left products on tokens [] tree stack output depth few le lt h no_star is e = absurd (refused e)
+  sum_step bound left products on tokens (sign ∷ middle) tree stack output depth few le lt h no_star is e = go (next_of sign.kind)
+    where
+      go : Next sign.kind → SumFound tokens
+      go (next_times star) = absurd (no_star star)
+      go (next_plus sign_is) =
+          let after = sym (goes_on_plus text stack output depth sign middle sign_is h) ∙ e in
+          sum_plus bound left on tokens middle sign tree stack output depth (omega (arith, few)) (omega (arith, le)) (omega (arith, lt)) h is sign_is after
+              (products middle (OperatorPending Add ∷ stack) output depth (omega (arith, le)) refl after)
+      go (next_minus sign_is) =
+          let after = sym (goes_on_minus text stack output depth sign middle sign_is h) ∙ e in
+          sum_minus bound left on tokens middle sign tree stack output depth (omega (arith, few)) (omega (arith, le)) (omega (arith, lt)) h is sign_is after
+              (products middle (OperatorPending Subtract ∷ stack) output depth (omega (arith, le)) refl after)
+      go (next_other no_times no_plus no_minus) = (tree, sign ∷ middle, is, (no_times, no_plus, no_minus), lt)
+
+  sum_on : (bound : ℕ) → FindsProduct bound → (left : ℕ) → SumOn bound left
+  sum_on bound products zero = sum_none bound
+  sum_on bound products (suc left) = sum_step bound left products (sum_on bound products left)
+
+  finds_sum : (bound : ℕ) → FindsProduct bound → FindsSum bound
+  finds_sum bound products tokens stack output depth le h e = go (products tokens stack output depth le (binds_less-two stack h) e)
+    where
+      go : ProductFound tokens → SumFound tokens
+      go (tree, rest, is, over, lt) = sum_on bound products (length rest) tokens rest tree stack (output ++ postfix tree) depth (omega arith) (omega (arith, le, lt)) lt h over (product is)
+          (sym (follows_product is stack output depth (binds_less-two stack h)) ∙ e)
+
+  -- operands of any length
+  finds_none : FindsOperand zero
+  finds_none [] stack output depth le e = absurd (refused e)
+  finds_none (token ∷ tokens) stack output depth le e = absurd (omega (arith, le))
+
+  finds_operand : (bound : ℕ) → FindsOperand bound
+  finds_operand zero = finds_none
+  finds_operand (suc bound) = operand_more bound (finds_product bound (finds_operand bound)) (finds_sum bound (finds_product bound (finds_operand bound)))
+
+  pub finds : (tokens : List Token) → before_operand text [] [] 0 tokens ≡ Ok answer → SumFound tokens
+  finds tokens e = let bound = length tokens in finds_sum bound (finds_product bound (finds_operand bound)) tokens [] [] 0 (omega arith) refl e
+
+-- an expression is over at a token with which it does not go on
+over : (text : List ℕ) (output : List Term) (token : Token) (rest : List Token) → EndsSum (token ∷ rest) → after_operand text [] output 0 (token ∷ rest) ≡ Ok (output, token ∷ rest)
+over text output token rest ends =
+    rw (over_or token.kind ends.0 ends.1 ends.2 token.place (record { stack = []; output = output; awaited = false; depth = 0 }) refl) refl
+
+-- each expression of the grammar is read
+pub reads : (text : List ℕ) (tokens : List Token) (tree : Expr) (rest : List Token) → IsExpression text tokens tree rest → expression_at text tokens ≡ Ok (postfix tree, rest)
+reads text tokens tree [] is = absurd (is.2 refl)
+reads text tokens tree (token ∷ rest) is = follows_sum is.0 [] [] 0 refl is.1.0 ∙ over text (postfix tree) token rest is.1
+
+terms_of : Outcome (List Term) → List Term
+terms_of (Ok answer) = answer.0
+terms_of (Err place) = []
+
+rest_of : Outcome (List Term) → List Token
+rest_of (Ok answer) = answer.1
+rest_of (Err place) = []
+
+same_terms : {terms other : List Term} {rest rest' : List Token} → Path (Outcome (List Term)) (Ok (terms, rest)) (Ok (other, rest')) → terms ≡ other
+unfolding terms_of
+same_terms e = ap terms_of e
+
+same_rest : {terms other : List Term} {rest rest' : List Token} → Path (Outcome (List Term)) (Ok (terms, rest)) (Ok (other, rest')) → rest ≡ rest'
+unfolding rest_of
+same_rest e = ap rest_of e
+
+module _ (text : List ℕ) (tokens : List Token) (terms : List Term) (rest : List Token) (e : expression_at text tokens ≡ Ok (terms, rest)) where
+  found_whole : (tree : Expr) (end : List Token) → IsSum text tokens tree end → EndsSum end → (tree : Expr) × IsExpression text tokens tree rest × (postfix tree ≡ terms)
+  found_whole tree [] is ends = absurd (refused (sym (follows_sum is [] [] 0 refl ends.0) ∙ e))
+  found_whole tree (token ∷ end) is ends =
+      let same = sym (follows_sum is [] [] 0 refl ends.0 ∙ over text (postfix tree) token end ends) ∙ e in
+      (tree, subst (IsExpression text tokens tree) (same_rest same) (is, ends, not_none), same_terms same)
+    where
+      not_none : token ∷ end ≢ []
+      not_none q = false≢true (ap is_none_left q)
+
+  pub finds_tree : (tree : Expr) × IsExpression text tokens tree rest × (postfix tree ≡ terms)
+  finds_tree = let found = finds text (terms, rest) tokens e in found_whole found.0 found.1 found.2 found.3
