@@ -288,11 +288,11 @@ rest_of : Outcome (List Term) → List Token
 rest_of (Ok answer) = answer.1
 rest_of (Err place) = []
 
-same_terms : {terms other : List Term} {rest rest' : List Token} → Path (Outcome (List Term)) (Ok (terms, rest)) (Ok (other, rest')) → terms ≡ other
+pub same_terms : {terms other : List Term} {rest rest' : List Token} → Path (Outcome (List Term)) (Ok (terms, rest)) (Ok (other, rest')) → terms ≡ other
 unfolding terms_of
 same_terms e = ap terms_of e
 
-same_rest : {terms other : List Term} {rest rest' : List Token} → Path (Outcome (List Term)) (Ok (terms, rest)) (Ok (other, rest')) → rest ≡ rest'
+pub same_rest : {terms other : List Term} {rest rest' : List Token} → Path (Outcome (List Term)) (Ok (terms, rest)) (Ok (other, rest')) → rest ≡ rest'
 unfolding rest_of
 same_rest e = ap rest_of e
 

@@ -1,3 +1,4 @@
 pub mod SourceLines
 pub mod Follows
 pub mod Finds
+pub mod Trees
