@@ -2,3 +2,4 @@ pub mod SourceLines
 pub mod Follows
 pub mod Finds
 pub mod Trees
+pub mod Faults
