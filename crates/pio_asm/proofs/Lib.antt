@@ -5,3 +5,4 @@ pub mod Words
 pub mod Sides
 pub mod CodeLaws
 pub mod ProgramLaws
+pub mod TreeValues
