@@ -90,11 +90,18 @@ module _ (text : List ℕ) (answer : List Term × List Token) where
   abbrev OperandFound : List Token → Type 0
   OperandFound tokens = (tree : Expr) × (rest : List Token) × IsOperand text tokens tree rest × (length rest < length tokens)
 
-  abbrev ProductFound : List Token → Type 0
-  ProductFound tokens = (tree : Expr) × (rest : List Token) × IsProduct text tokens tree rest × EndsProduct rest × (length rest < length tokens)
+  -- a product and a sum that go no further, with fewer tokens left than this
+  abbrev ProductFound : ℕ → List Token → Type 0
+  ProductFound few tokens = (tree : Expr) × (rest : List Token) × IsProduct text tokens tree rest × EndsProduct rest × (length rest < few)
 
-  abbrev SumFound : List Token → Type 0
-  SumFound tokens = (tree : Expr) × (rest : List Token) × IsSum text tokens tree rest × EndsSum rest × (length rest < length tokens)
+  abbrev pub SumFound : ℕ → List Token → Type 0
+  SumFound few tokens = (tree : Expr) × (rest : List Token) × IsSum text tokens tree rest × EndsSum rest × (length rest < few)
+
+  product_within : (few many : ℕ) (tokens : List Token) → few ≤ many → ProductFound few tokens → ProductFound many tokens
+  product_within few many tokens le (tree, rest, is, over, lt) = (tree, rest, is, over, omega (arith, le, lt))
+
+  sum_within : (few many : ℕ) (tokens : List Token) → few ≤ many → SumFound few tokens → SumFound many tokens
+  sum_within few many tokens le (tree, rest, is, over, lt) = (tree, rest, is, over, omega (arith, le, lt))
 
   -- what is found at the front of tokens that are accepted, where there are not more of them than this
   abbrev FindsOperand : ℕ → Type 0
@@ -103,11 +110,11 @@ module _ (text : List ℕ) (answer : List Term × List Token) where
 
   abbrev FindsProduct : ℕ → Type 0
   FindsProduct bound = (tokens : List Token) (stack : List Pending) (output : List Term) (depth : ℕ) → length tokens ≤ bound → binds_less 2 stack ≡ true
-      → before_operand text stack output depth tokens ≡ Ok answer → ProductFound tokens
+      → before_operand text stack output depth tokens ≡ Ok answer → ProductFound (length tokens) tokens
 
   abbrev FindsSum : ℕ → Type 0
   FindsSum bound = (tokens : List Token) (stack : List Pending) (output : List Term) (depth : ℕ) → length tokens ≤ bound → binds_less 1 stack ≡ true
-      → before_operand text stack output depth tokens ≡ Ok answer → SumFound tokens
+      → before_operand text stack output depth tokens ≡ Ok answer → SumFound (length tokens) tokens
 
   found_close : (stack : List Pending) (output : List Term) (depth : ℕ) (tokens : List Token) → EndsSum tokens
       → after_operand text stack output (depth + 1) tokens ≡ Ok answer
@@ -127,7 +134,7 @@ module _ (text : List ℕ) (answer : List Term × List Token) where
       (tree, rest, parentheses is (subst (IsSum text tokens tree) same sum) close_is, omega (arith, shorter, lt))
 
   in_parentheses : (token : Token) (tokens : List Token) (stack : List Pending) (output : List Term) (depth : ℕ) → token.kind ≡ OpenParenthesis
-      → SumFound tokens → before_operand text (Parenthesis ∷ stack) output (depth + 1) tokens ≡ Ok answer → OperandFound (token ∷ tokens)
+      → SumFound (length tokens) tokens → before_operand text (Parenthesis ∷ stack) output (depth + 1) tokens ≡ Ok answer → OperandFound (token ∷ tokens)
   in_parentheses token tokens stack output depth is (tree, middle, sum, over, lt) e =
       closed_sum token tokens middle tree is sum lt
           (found_close (Parenthesis ∷ stack) (output ++ postfix tree) depth middle over (sym (follows_sum sum (Parenthesis ∷ stack) output (depth + 1) refl over.0) ∙ e))
@@ -158,36 +165,36 @@ module _ (text : List ℕ) (answer : List Term × List Token) where
   -- what is found where a product stands at the front of the tokens already
   abbrev ProductOn : ℕ → ℕ → Type 0
   ProductOn bound left = (tokens middle : List Token) (tree : Expr) (stack : List Pending) (output : List Term) (depth : ℕ)
-      → length middle ≤ left → length middle ≤ bound → length middle < length tokens → binds_less 2 stack ≡ true
-      → IsProduct text tokens tree middle → after_operand text stack output depth middle ≡ Ok answer → ProductFound tokens
+      → length middle ≤ left → length middle ≤ bound → binds_less 2 stack ≡ true
+      → IsProduct text tokens tree middle → after_operand text stack output depth middle ≡ Ok answer → ProductFound (suc (length middle)) tokens
 
   product_none : (bound : ℕ) → ProductOn bound zero
-  product_none bound tokens [] tree stack output depth few le lt h is e = absurd (refused e)
-  product_none bound tokens (sign ∷ middle) tree stack output depth few le lt h is e = absurd (omega (arith, few))
+  product_none bound tokens [] tree stack output depth few le h is e = absurd (refused e)
+  product_none bound tokens (sign ∷ middle) tree stack output depth few le h is e = absurd (omega (arith, few))
 
   -- one more `*` and its operand
   product_times : (bound left : ℕ) → ProductOn bound left → (tokens middle : List Token) (sign : Token) (tree : Expr) (stack : List Pending) (output : List Term) (depth : ℕ)
-      → length middle ≤ left → length middle < bound → length middle < length tokens → binds_less 2 stack ≡ true
+      → length middle ≤ left → length middle < bound → binds_less 2 stack ≡ true
       → IsProduct text tokens tree (sign ∷ middle) → sign.kind ≡ Star
-      → before_operand text (OperatorPending Multiply ∷ stack) output depth middle ≡ Ok answer → OperandFound middle → ProductFound tokens
-  product_times bound left on tokens middle sign tree stack output depth few le lt h is star e (right, rest, more, shorter) =
-      on tokens rest (Product tree right) stack ((output ++ postfix right) ++ OperatorTerm Multiply ∷ []) depth (omega (arith, few, shorter)) (omega (arith, le, shorter)) (omega (arith, lt, shorter)) h
+      → before_operand text (OperatorPending Multiply ∷ stack) output depth middle ≡ Ok answer → OperandFound middle → ProductFound (suc (suc (length middle))) tokens
+  product_times bound left on tokens middle sign tree stack output depth few le h is star e (right, rest, more, shorter) =
+      product_within (suc (length rest)) (suc (suc (length middle))) tokens (omega (arith, shorter)) (on tokens rest (Product tree right) stack ((output ++ postfix right) ++ OperatorTerm Multiply ∷ []) depth (omega (arith, few, shorter)) (omega (arith, le, shorter)) h
           (times is star more)
           (sym (settled text Multiply stack (output ++ postfix right) depth rest (level_for_operand (head_kind rest)))
-              ∙ sym (follows_operand more (OperatorPending Multiply ∷ stack) output depth) ∙ e)
+              ∙ sym (follows_operand more (OperatorPending Multiply ∷ stack) output depth) ∙ e))
 
   product_step : (bound left : ℕ) → FindsOperand bound → ProductOn bound left → ProductOn bound (suc left)
-  product_step bound left operands on tokens [] tree stack output depth few le lt h is e = absurd (refused e)
-  product_step bound left operands on tokens (sign ∷ middle) tree stack output depth few le lt h is e = go (next_of sign.kind)
+  product_step bound left operands on tokens [] tree stack output depth few le h is e = absurd (refused e)
+  product_step bound left operands on tokens (sign ∷ middle) tree stack output depth few le h is e = go (next_of sign.kind)
     where
-      go : Next sign.kind → ProductFound tokens
+      go : Next sign.kind → ProductFound (suc (suc (length middle))) tokens
       go (next_times star) =
           let after = sym (goes_on_times text stack output depth sign middle star h) ∙ e in
-          product_times bound left on tokens middle sign tree stack output depth (omega (arith, few)) (omega (arith, le)) (omega (arith, lt)) h is star after
+          product_times bound left on tokens middle sign tree stack output depth (omega (arith, few)) (omega (arith, le)) h is star after
               (operands middle (OperatorPending Multiply ∷ stack) output depth (omega (arith, le)) after)
-      go (next_plus is_next) = (tree, sign ∷ middle, is, (λ q. false≢true (ap is_star (sym is_next ∙ q))), lt)
-      go (next_minus is_next) = (tree, sign ∷ middle, is, (λ q. false≢true (ap is_star (sym is_next ∙ q))), lt)
-      go (next_other no_star no_plus no_minus) = (tree, sign ∷ middle, is, no_star, lt)
+      go (next_plus is_next) = (tree, sign ∷ middle, is, (λ q. false≢true (ap is_star (sym is_next ∙ q))), omega arith)
+      go (next_minus is_next) = (tree, sign ∷ middle, is, (λ q. false≢true (ap is_star (sym is_next ∙ q))), omega arith)
+      go (next_other no_star no_plus no_minus) = (tree, sign ∷ middle, is, no_star, omega arith)
 
   product_on : (bound : ℕ) → FindsOperand bound → (left : ℕ) → ProductOn bound left
   product_on bound operands zero = product_none bound
@@ -196,56 +203,57 @@ module _ (text : List ℕ) (answer : List Term × List Token) where
   finds_product : (bound : ℕ) → FindsOperand bound → FindsProduct bound
   finds_product bound operands tokens stack output depth le h e = go (operands tokens stack output depth le e)
     where
-      go : OperandFound tokens → ProductFound tokens
-      go (tree, rest, is, lt) = product_on bound operands (length rest) tokens rest tree stack (output ++ postfix tree) depth (omega arith) (omega (arith, le, lt)) lt h (operand is)
-          (sym (follows_operand is stack output depth) ∙ e)
+      go : OperandFound tokens → ProductFound (length tokens) tokens
+      go (tree, rest, is, lt) = product_within (suc (length rest)) (length tokens) tokens lt
+          (product_on bound operands (length rest) tokens rest tree stack (output ++ postfix tree) depth (omega arith) (omega (arith, le, lt)) h (operand is)
+              (sym (follows_operand is stack output depth) ∙ e))
 
   -- what is found where a sum stands at the front of the tokens already
   abbrev SumOn : ℕ → ℕ → Type 0
   SumOn bound left = (tokens middle : List Token) (tree : Expr) (stack : List Pending) (output : List Term) (depth : ℕ)
-      → length middle ≤ left → length middle ≤ bound → length middle < length tokens → binds_less 1 stack ≡ true → head_kind middle ≢ Star
-      → IsSum text tokens tree middle → after_operand text stack output depth middle ≡ Ok answer → SumFound tokens
+      → length middle ≤ left → length middle ≤ bound → binds_less 1 stack ≡ true → head_kind middle ≢ Star
+      → IsSum text tokens tree middle → after_operand text stack output depth middle ≡ Ok answer → SumFound (suc (length middle)) tokens
 
   sum_none : (bound : ℕ) → SumOn bound zero
-  sum_none bound tokens [] tree stack output depth few le lt h no_star is e = absurd (refused e)
-  sum_none bound tokens (sign ∷ middle) tree stack output depth few le lt h no_star is e = absurd (omega (arith, few))
+  sum_none bound tokens [] tree stack output depth few le h no_star is e = absurd (refused e)
+  sum_none bound tokens (sign ∷ middle) tree stack output depth few le h no_star is e = absurd (omega (arith, few))
 
   -- one more `+` or `-` and its product
   sum_plus : (bound left : ℕ) → SumOn bound left → (tokens middle : List Token) (sign : Token) (tree : Expr) (stack : List Pending) (output : List Term) (depth : ℕ)
-      → length middle ≤ left → length middle < bound → length middle < length tokens → binds_less 1 stack ≡ true
+      → length middle ≤ left → length middle < bound → binds_less 1 stack ≡ true
       → IsSum text tokens tree (sign ∷ middle) → sign.kind ≡ Plus
-      → before_operand text (OperatorPending Add ∷ stack) output depth middle ≡ Ok answer → ProductFound middle → SumFound tokens
-  sum_plus bound left on tokens middle sign tree stack output depth few le lt h is sign_is e (right, rest, more, over, shorter) =
-      on tokens rest (Sum tree right) stack ((output ++ postfix right) ++ OperatorTerm Add ∷ []) depth (omega (arith, few, shorter)) (omega (arith, le, shorter)) (omega (arith, lt, shorter)) h over
+      → before_operand text (OperatorPending Add ∷ stack) output depth middle ≡ Ok answer → ProductFound (length middle) middle → SumFound (suc (suc (length middle))) tokens
+  sum_plus bound left on tokens middle sign tree stack output depth few le h is sign_is e (right, rest, more, over, shorter) =
+      sum_within (suc (length rest)) (suc (suc (length middle))) tokens (omega (arith, shorter)) (on tokens rest (Sum tree right) stack ((output ++ postfix right) ++ OperatorTerm Add ∷ []) depth (omega (arith, few, shorter)) (omega (arith, le, shorter)) h over
           (plus is sign_is more)
           (sym (settled text Add stack (output ++ postfix right) depth rest (level_for_product (head_kind rest) over))
-              ∙ sym (follows_product more (OperatorPending Add ∷ stack) output depth refl) ∙ e)
+              ∙ sym (follows_product more (OperatorPending Add ∷ stack) output depth refl) ∙ e))
 
   sum_minus : (bound left : ℕ) → SumOn bound left → (tokens middle : List Token) (sign : Token) (tree : Expr) (stack : List Pending) (output : List Term) (depth : ℕ)
-      → length middle ≤ left → length middle < bound → length middle < length tokens → binds_less 1 stack ≡ true
+      → length middle ≤ left → length middle < bound → binds_less 1 stack ≡ true
       → IsSum text tokens tree (sign ∷ middle) → sign.kind ≡ Minus
-      → before_operand text (OperatorPending Subtract ∷ stack) output depth middle ≡ Ok answer → ProductFound middle → SumFound tokens
-  sum_minus bound left on tokens middle sign tree stack output depth few le lt h is sign_is e (right, rest, more, over, shorter) =
-      on tokens rest (Difference tree right) stack ((output ++ postfix right) ++ OperatorTerm Subtract ∷ []) depth (omega (arith, few, shorter)) (omega (arith, le, shorter)) (omega (arith, lt, shorter)) h over
+      → before_operand text (OperatorPending Subtract ∷ stack) output depth middle ≡ Ok answer → ProductFound (length middle) middle → SumFound (suc (suc (length middle))) tokens
+  sum_minus bound left on tokens middle sign tree stack output depth few le h is sign_is e (right, rest, more, over, shorter) =
+      sum_within (suc (length rest)) (suc (suc (length middle))) tokens (omega (arith, shorter)) (on tokens rest (Difference tree right) stack ((output ++ postfix right) ++ OperatorTerm Subtract ∷ []) depth (omega (arith, few, shorter)) (omega (arith, le, shorter)) h over
           (minus is sign_is more)
           (sym (settled text Subtract stack (output ++ postfix right) depth rest (level_for_product (head_kind rest) over))
-              ∙ sym (follows_product more (OperatorPending Subtract ∷ stack) output depth refl) ∙ e)
+              ∙ sym (follows_product more (OperatorPending Subtract ∷ stack) output depth refl) ∙ e))
 
   sum_step : (bound left : ℕ) → FindsProduct bound → SumOn bound left → SumOn bound (suc left)
-  sum_step bound left products on tokens [] tree stack output depth few le lt h no_star is e = absurd (refused e)
-  sum_step bound left products on tokens (sign ∷ middle) tree stack output depth few le lt h no_star is e = go (next_of sign.kind)
+  sum_step bound left products on tokens [] tree stack output depth few le h no_star is e = absurd (refused e)
+  sum_step bound left products on tokens (sign ∷ middle) tree stack output depth few le h no_star is e = go (next_of sign.kind)
     where
-      go : Next sign.kind → SumFound tokens
+      go : Next sign.kind → SumFound (suc (suc (length middle))) tokens
       go (next_times star) = absurd (no_star star)
       go (next_plus sign_is) =
           let after = sym (goes_on_plus text stack output depth sign middle sign_is h) ∙ e in
-          sum_plus bound left on tokens middle sign tree stack output depth (omega (arith, few)) (omega (arith, le)) (omega (arith, lt)) h is sign_is after
+          sum_plus bound left on tokens middle sign tree stack output depth (omega (arith, few)) (omega (arith, le)) h is sign_is after
               (products middle (OperatorPending Add ∷ stack) output depth (omega (arith, le)) refl after)
       go (next_minus sign_is) =
           let after = sym (goes_on_minus text stack output depth sign middle sign_is h) ∙ e in
-          sum_minus bound left on tokens middle sign tree stack output depth (omega (arith, few)) (omega (arith, le)) (omega (arith, lt)) h is sign_is after
+          sum_minus bound left on tokens middle sign tree stack output depth (omega (arith, few)) (omega (arith, le)) h is sign_is after
               (products middle (OperatorPending Subtract ∷ stack) output depth (omega (arith, le)) refl after)
-      go (next_other no_times no_plus no_minus) = (tree, sign ∷ middle, is, (no_times, no_plus, no_minus), lt)
+      go (next_other no_times no_plus no_minus) = (tree, sign ∷ middle, is, (no_times, no_plus, no_minus), omega arith)
 
   sum_on : (bound : ℕ) → FindsProduct bound → (left : ℕ) → SumOn bound left
   sum_on bound products zero = sum_none bound
@@ -254,9 +262,10 @@ module _ (text : List ℕ) (answer : List Term × List Token) where
   finds_sum : (bound : ℕ) → FindsProduct bound → FindsSum bound
   finds_sum bound products tokens stack output depth le h e = go (products tokens stack output depth le (binds_less-two stack h) e)
     where
-      go : ProductFound tokens → SumFound tokens
-      go (tree, rest, is, over, lt) = sum_on bound products (length rest) tokens rest tree stack (output ++ postfix tree) depth (omega arith) (omega (arith, le, lt)) lt h over (product is)
-          (sym (follows_product is stack output depth (binds_less-two stack h)) ∙ e)
+      go : ProductFound (length tokens) tokens → SumFound (length tokens) tokens
+      go (tree, rest, is, over, lt) = sum_within (suc (length rest)) (length tokens) tokens lt
+          (sum_on bound products (length rest) tokens rest tree stack (output ++ postfix tree) depth (omega arith) (omega (arith, le, lt)) h over (product is)
+              (sym (follows_product is stack output depth (binds_less-two stack h)) ∙ e))
 
   -- operands of any length
   finds_none : FindsOperand zero
@@ -267,8 +276,47 @@ module _ (text : List ℕ) (answer : List Term × List Token) where
   finds_operand zero = finds_none
   finds_operand (suc bound) = operand_more bound (finds_product bound (finds_operand bound)) (finds_sum bound (finds_product bound (finds_operand bound)))
 
-  pub finds : (tokens : List Token) → before_operand text [] [] 0 tokens ≡ Ok answer → SumFound tokens
+  -- products and sums of any length
+  products_on : (bound : ℕ) → ProductOn bound bound
+  products_on bound = product_on bound (finds_operand bound) bound
+
+  sums_on : (bound : ℕ) → SumOn bound bound
+  sums_on bound = sum_on bound (finds_product bound (finds_operand bound)) bound
+
+  pub finds : (tokens : List Token) → before_operand text [] [] 0 tokens ≡ Ok answer → SumFound (length tokens) tokens
   finds tokens e = let bound = length tokens in finds_sum bound (finds_product bound (finds_operand bound)) tokens [] [] 0 (omega arith) refl e
+
+  -- a sum at the front of tokens that are accepted goes on to one that goes no further
+  sum_to_end : (tokens middle : List Token) (tree : Expr) (few : ℕ) → length middle < few → head_kind middle ≢ Star → IsSum text tokens tree middle
+      → before_operand text [] [] 0 tokens ≡ Ok answer → SumFound few tokens
+  sum_to_end tokens middle tree few lt no_star is e = sum_within (suc (length middle)) few tokens lt
+      (sums_on (length middle) tokens middle tree [] (postfix tree) 0 (omega arith) (omega arith) refl no_star is (sym (follows_sum is [] [] 0 refl no_star) ∙ e))
+
+  product_to_end : (tokens : List Token) (few : ℕ) → before_operand text [] [] 0 tokens ≡ Ok answer → ProductFound few tokens → SumFound few tokens
+  product_to_end tokens few e (tree, rest, is, over, lt) = sum_to_end tokens rest tree few lt over (product is) e
+
+  plus_to_end : (tokens middle : List Token) (sign : Token) (left : Expr) (few : ℕ) → IsSum text tokens left (sign ∷ middle) → sign.kind ≡ Plus
+      → before_operand text [] [] 0 tokens ≡ Ok answer → ProductFound few middle → SumFound few tokens
+  plus_to_end tokens middle sign left few is sign_is e (right, rest, more, over, lt) = sum_to_end tokens rest (Sum left right) few lt over (plus is sign_is more) e
+
+  minus_to_end : (tokens middle : List Token) (sign : Token) (left : Expr) (few : ℕ) → IsSum text tokens left (sign ∷ middle) → sign.kind ≡ Minus
+      → before_operand text [] [] 0 tokens ≡ Ok answer → ProductFound few middle → SumFound few tokens
+  minus_to_end tokens middle sign left few is sign_is e (right, rest, more, over, lt) = sum_to_end tokens rest (Difference left right) few lt over (minus is sign_is more) e
+
+  reaches_end : {tokens rest : List Token} {tree : Expr} → IsSum text tokens tree rest → before_operand text [] [] 0 tokens ≡ Ok answer → SumFound (suc (length rest)) tokens
+  reaches_end (product {tokens = tokens} {rest = rest} {tree = tree} is) e =
+      product_to_end tokens (suc (length rest)) e
+          (products_on (length rest) tokens rest tree [] (postfix tree) 0 (omega arith) (omega arith) refl is (sym (follows_product is [] [] 0 refl) ∙ e))
+  reaches_end (plus {tokens = tokens} {middle = middle} {rest = rest} {left = left} {right = right} {sign = sign} is sign_is more) e =
+      let after = sym (goes_on_plus text [] (postfix left) 0 sign middle sign_is refl) ∙ sym (follows_sum is [] [] 0 refl (λ q. false≢true (ap is_star (sym sign_is ∙ q)))) ∙ e in
+      plus_to_end tokens middle sign left (suc (length rest)) is sign_is e
+          (products_on (length rest) middle rest right (OperatorPending Add ∷ []) (postfix left ++ postfix right) 0 (omega arith) (omega arith) refl more
+              (sym (follows_product more (OperatorPending Add ∷ []) (postfix left) 0 refl) ∙ after))
+  reaches_end (minus {tokens = tokens} {middle = middle} {rest = rest} {left = left} {right = right} {sign = sign} is sign_is more) e =
+      let after = sym (goes_on_minus text [] (postfix left) 0 sign middle sign_is refl) ∙ sym (follows_sum is [] [] 0 refl (λ q. false≢true (ap is_star (sym sign_is ∙ q)))) ∙ e in
+      minus_to_end tokens middle sign left (suc (length rest)) is sign_is e
+          (products_on (length rest) middle rest right (OperatorPending Subtract ∷ []) (postfix left ++ postfix right) 0 (omega arith) (omega arith) refl more
+              (sym (follows_product more (OperatorPending Subtract ∷ []) (postfix left) 0 refl) ∙ after))
 
 -- an expression is over at a token with which it does not go on
 over : (text : List ℕ) (output : List Term) (token : Token) (rest : List Token) → EndsSum (token ∷ rest) → after_operand text [] output 0 (token ∷ rest) ≡ Ok (output, token ∷ rest)
@@ -308,3 +356,14 @@ module _ (text : List ℕ) (tokens : List Token) (terms : List Term) (rest : Lis
 
   pub finds_tree : (tree : Expr) × IsExpression text tokens tree rest × (postfix tree ≡ terms)
   finds_tree = let found = finds text (terms, rest) tokens e in found_whole found.0 found.1 found.2 found.3
+
+  -- a sum that goes no further leaves what is left
+  left_after : (tree : Expr) (end : List Token) → IsSum text tokens tree end → EndsSum end → end ≡ rest
+  left_after tree [] is ends = absurd (refused (sym (follows_sum is [] [] 0 refl ends.0) ∙ e))
+  left_after tree (token ∷ end) is ends = same_rest (sym (follows_sum is [] [] 0 refl ends.0 ∙ over text (postfix tree) token end ends) ∙ e)
+
+  none_longer_by : (few : ℕ) → SumFound text (terms, rest) few tokens → length rest < few
+  none_longer_by few (tree, end, is, ends, lt) = subst (λ (l : List Token). length l < few) (left_after tree end is ends) lt
+
+  pub none_longer : (other : Expr) (end : List Token) → IsSum text tokens other end → length rest ≤ length end
+  none_longer other end is = omega (arith, none_longer_by (suc (length end)) (reaches_end text (terms, rest) is e))

@@ -1,11 +1,13 @@
 -- What holds of the expressions that are read (RP2040 Datasheet, 3.3.4 Expressions): they are those of the grammar.
-use Rattle.std.specs.Prelude.{◌≡◌, ◌↔◌, ◌≤◌, ℕ, Bool, true, false, List, [], ◌∷◌, ◌++◌, length, Ok, Err}
+use Rattle.std.specs.Prelude.{◌≡◌, ◌≢◌, ◌↔◌, ◌≤◌, ℕ, Bool, true, false, List, [], ◌∷◌, ◌++◌, length, Ok, Err}
 use Rattle.pio_parse.specs.declared.token.Place.{Place}
 use Rattle.pio_parse.specs.declared.token.Token.{Token}
+use Rattle.pio_parse.specs.declared.token.TokenKind.TheVariants.{DoubleColon, Minus}
 use Rattle.pio_parse.specs.declared.expression.Term.{Term}
-use Rattle.pio_parse.specs.Expression.{expression_at}
+use Rattle.pio_parse.specs.Cursor.{head_kind}
+use Rattle.pio_parse.specs.Expression.{expression_at, operand_at}
 use Rattle.pio_parse.specs.Statement.{is_end}
-use Rattle.pio_parse.specs.Grammar.{BeginsExpression, Expr, IsExpression, IsSum, postfix}
+use Rattle.pio_parse.specs.Grammar.{BeginsExpression, Expr, IsExpression, IsOperand, IsSum, postfix}
 
 -- what is read at the front of the tokens is an expression of the grammar in postfix order, and each expression of the grammar is read
 abbrev pub ReadsGrammar : Type 0
@@ -16,6 +18,17 @@ ReadsGrammar = (text : List ℕ) (tokens : List Token) (terms : List Term) (rest
 abbrev pub OneExpression : Type 0
 OneExpression = (text : List ℕ) (tokens : List Token) (tree other : Expr) (rest rest' : List Token)
     → IsExpression text tokens tree rest → IsExpression text tokens other rest' → (tree ≡ other) × (rest ≡ rest')
+
+-- no sum at the front of the tokens goes further than their expression
+abbrev pub NoneLonger : Type 0
+NoneLonger = (text : List ℕ) (tokens : List Token) (tree other : Expr) (rest rest' : List Token)
+    → IsExpression text tokens tree rest → IsSum text tokens other rest' → length rest ≤ length rest'
+
+-- what is read outside brackets and directives is an operand of the grammar without an operator before it, and each such operand is read
+abbrev pub ReadsOperands : Type 0
+ReadsOperands = (text : List ℕ) (tokens : List Token) (terms : List Term) (rest : List Token)
+    → (operand_at text tokens ≡ Ok (terms, rest))
+    ↔ ((tree : Expr) × IsOperand text tokens tree rest × (head_kind tokens ≢ Minus) × (head_kind tokens ≢ DoubleColon) × (postfix tree ≡ terms))
 
 -- the last of the tokens ends a line
 abbrev pub ends_line : List Token → Bool

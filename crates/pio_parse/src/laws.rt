@@ -1,5 +1,5 @@
 //! The laws of the expressions, each the contract of a function without arguments.
-ghost use Rattle.pio_parse.specs.Laws.{FaultsAtFirst, OneExpression, ReadsGrammar};
+ghost use Rattle.pio_parse.specs.Laws.{FaultsAtFirst, NoneLonger, OneExpression, ReadsGrammar, ReadsOperands};
 
 /// What is read at the front of a line's tokens is the longest expression of the grammar there, in postfix order,
 /// and each expression of the grammar is read.
@@ -10,6 +10,16 @@ pub fn reads_grammar()
 /// The grammar gives tokens one tree at most, and one end.
 pub fn one_expression()
     ensures { OneExpression }
+{}
+
+/// No sum at the front of the tokens goes further than their expression: it is the longest.
+pub fn none_longer()
+    ensures { NoneLonger }
+{}
+
+/// What is read outside brackets and directives is a number, a name or an expression in parentheses.
+pub fn reads_operands()
+    ensures { ReadsOperands }
 {}
 
 /// A line is refused at the first token with which no expression begins as the tokens up to it do.
