@@ -28,15 +28,15 @@ is_accepted (Err e) = false
 pub refused : {X E : Type 0} {e : E} {x : X} → Err e ≡ Ok x → ⊥
 refused q = false≢true (ap is_accepted q)
 
-abbrev is_none_left : List Token → Bool
+abbrev pub is_none_left : List Token → Bool
 is_none_left [] = true
 is_none_left (token ∷ tokens) = false
 
-abbrev is_plus : TokenKind → Bool
+abbrev pub is_plus : TokenKind → Bool
 is_plus Plus = true
 is_plus kind = false
 
-abbrev is_minus : TokenKind → Bool
+abbrev pub is_minus : TokenKind → Bool
 is_minus Minus = true
 is_minus kind = false
 
@@ -54,7 +54,7 @@ next_of Minus = next_minus refl
 next_of kind = next_other (λ e. false≢true (ap is_star e)) (λ e. false≢true (ap is_plus e)) (λ e. false≢true (ap is_minus e))
 
 -- how an operand begins
-data First (kind : TokenKind) : Type 0 where
+pub data First (kind : TokenKind) : Type 0 where
   first_number : (n : ℕ) → kind ≡ NumberToken n → First kind
   first_name : (span : Span) → kind ≡ NameToken span → First kind
   first_open : kind ≡ OpenParenthesis → First kind
@@ -62,7 +62,7 @@ data First (kind : TokenKind) : Type 0 where
   first_colons : kind ≡ DoubleColon → First kind
   first_other : ((text : List ℕ) (place : Place) (reading : Reading) → operand_step text kind place reading ≡ Err place) → First kind
 
-first_of_kind : (kind : TokenKind) → First kind
+pub first_of_kind : (kind : TokenKind) → First kind
 first_of_kind (NumberToken n) = first_number n refl
 first_of_kind (NameToken span) = first_name span refl
 first_of_kind OpenParenthesis = first_open refl

@@ -3,3 +3,4 @@ pub mod Follows
 pub mod Finds
 pub mod Trees
 pub mod Faults
+pub mod Operands

@@ -1,5 +1,5 @@
 -- A tree can be told from its terms in postfix order, so tokens have one tree at most.
-use Rattle.std.proofs.Common.{◌≡◌, ℕ, List, [], ◌∷◌, ◌++◌, Ok, refl, sym, ap, ◌∙◌, append_assoc, append-nil}
+use Rattle.std.proofs.Common.{◌≡◌, ℕ, List, [], ◌∷◌, ◌++◌, Ok, refl, sym, ap, ◌∙◌, subst, append_assoc, append-nil}
 use Rattle.pio_parse.specs.declared.token.Token.{Token}
 use Rattle.pio_parse.specs.declared.expression.Operator.{Operator}
 use Rattle.pio_parse.specs.declared.expression.Operator.TheVariants.{Add, Subtract, Multiply, Negate as NegateOperator, Reverse as ReverseOperator}
@@ -8,7 +8,7 @@ use Rattle.pio_parse.specs.declared.expression.Term.TheVariants.{Number as Numbe
 use Rattle.pio_parse.specs.Expression.{expression_at}
 use Rattle.pio_parse.specs.Grammar.{Expr, IsExpression, postfix}
 use Rattle.pio_parse.specs.Grammar.Expr.{Number, Name, Negate, Reverse, Sum, Difference, Product}
-use Rattle.pio_parse.proofs.Finds.{reads, same_rest, same_terms}
+use Rattle.pio_parse.proofs.Finds.{finds_tree, reads, same_rest, same_terms}
 
 abbrev top : List Expr → Expr
 top [] = Number 0
@@ -71,3 +71,8 @@ pub one_expression : (text : List ℕ) (tokens : List Token) (tree other : Expr)
     → IsExpression text tokens tree rest → IsExpression text tokens other rest' → (tree ≡ other) × (rest ≡ rest')
 one_expression text tokens tree other rest rest' is is' =
     let same = sym (reads text tokens tree rest is) ∙ reads text tokens other rest' is' in (same_tree tree other (same_terms same), same_rest same)
+
+-- tokens that are read as the terms of a tree have it
+pub has_tree : (text : List ℕ) (tokens : List Token) (tree : Expr) (rest : List Token) → expression_at text tokens ≡ Ok (postfix tree, rest) → IsExpression text tokens tree rest
+has_tree text tokens tree rest e =
+    let found = finds_tree text tokens (postfix tree) rest e in subst (λ (tree : Expr). IsExpression text tokens tree rest) (same_tree found.0 tree found.2) found.1

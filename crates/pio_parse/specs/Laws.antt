@@ -2,12 +2,14 @@
 use Rattle.std.specs.Prelude.{◌≡◌, ◌≢◌, ◌↔◌, ◌≤◌, ℕ, Bool, true, false, List, [], ◌∷◌, ◌++◌, length, Ok, Err}
 use Rattle.pio_parse.specs.declared.token.Place.{Place}
 use Rattle.pio_parse.specs.declared.token.Token.{Token}
-use Rattle.pio_parse.specs.declared.token.TokenKind.TheVariants.{DoubleColon, Minus}
+use Rattle.pio_parse.specs.declared.token.TokenKind.{TokenKind}
+use Rattle.pio_parse.specs.declared.token.TokenKind.TheVariants.{CloseParenthesis, DoubleColon, LineEnd, Minus, Number as NumberToken, OpenParenthesis, Plus, Star}
 use Rattle.pio_parse.specs.declared.expression.Term.{Term}
 use Rattle.pio_parse.specs.Cursor.{head_kind}
 use Rattle.pio_parse.specs.Expression.{expression_at, operand_at}
 use Rattle.pio_parse.specs.Statement.{is_end}
 use Rattle.pio_parse.specs.Grammar.{BeginsExpression, Expr, IsExpression, IsOperand, IsSum, postfix}
+use Rattle.pio_parse.specs.Grammar.Expr.{Number, Negate, Reverse, Sum, Difference, Product}
 
 -- what is read at the front of the tokens is an expression of the grammar in postfix order, and each expression of the grammar is read
 abbrev pub ReadsGrammar : Type 0
@@ -43,3 +45,27 @@ FaultsAtFirst = (text : List ℕ) (tokens : List Token) (place : Place) → ends
     ↔ ((before : List Token) × (token : Token) × (after : List Token)
         × (tokens ≡ before ++ token ∷ after) × (token.place ≡ place)
         × BeginsExpression text before × ¬ BeginsExpression text (before ++ token ∷ []))
+
+-- tokens of these kinds
+abbrev pub tokens_of : List TokenKind → List Token
+tokens_of [] = []
+tokens_of (kind ∷ kinds) = record { kind = kind; place = record { line = 1; column = 1 } } ∷ tokens_of kinds
+
+-- tokens of these kinds, and nothing more of their line, are an expression with this tree
+abbrev pub IsTreeOf : Expr → List TokenKind → Type 0
+IsTreeOf tree kinds = (text : List ℕ) → IsExpression text (tokens_of (kinds ++ LineEnd ∷ [])) tree (tokens_of (LineEnd ∷ []))
+
+-- what the operators take
+abbrev pub Examples : Type 0
+Examples =
+    -- 1 - 2 - 3 and 1 + 2 * 3
+    IsTreeOf (Difference (Difference (Number 1) (Number 2)) (Number 3)) (NumberToken 1 ∷ Minus ∷ NumberToken 2 ∷ Minus ∷ NumberToken 3 ∷ [])
+    × IsTreeOf (Sum (Number 1) (Product (Number 2) (Number 3))) (NumberToken 1 ∷ Plus ∷ NumberToken 2 ∷ Star ∷ NumberToken 3 ∷ [])
+    -- -1 * 2 + 3 and 1 * -2 * 3 + 4
+    × IsTreeOf (Sum (Negate (Product (Number 1) (Number 2))) (Number 3)) (Minus ∷ NumberToken 1 ∷ Star ∷ NumberToken 2 ∷ Plus ∷ NumberToken 3 ∷ [])
+    × IsTreeOf (Sum (Product (Number 1) (Negate (Product (Number 2) (Number 3)))) (Number 4))
+        (NumberToken 1 ∷ Star ∷ Minus ∷ NumberToken 2 ∷ Star ∷ NumberToken 3 ∷ Plus ∷ NumberToken 4 ∷ [])
+    -- ::1 + 2, 1 * ::2 + 3 and (::1) + 2
+    × IsTreeOf (Reverse (Sum (Number 1) (Number 2))) (DoubleColon ∷ NumberToken 1 ∷ Plus ∷ NumberToken 2 ∷ [])
+    × IsTreeOf (Product (Number 1) (Reverse (Sum (Number 2) (Number 3)))) (NumberToken 1 ∷ Star ∷ DoubleColon ∷ NumberToken 2 ∷ Plus ∷ NumberToken 3 ∷ [])
+    × IsTreeOf (Sum (Reverse (Number 1)) (Number 2)) (OpenParenthesis ∷ DoubleColon ∷ NumberToken 1 ∷ CloseParenthesis ∷ Plus ∷ NumberToken 2 ∷ [])

@@ -1,5 +1,5 @@
 //! The laws of the expressions, each the contract of a function without arguments.
-ghost use Rattle.pio_parse.specs.Laws.{FaultsAtFirst, NoneLonger, OneExpression, ReadsGrammar, ReadsOperands};
+ghost use Rattle.pio_parse.specs.Laws.{Examples, FaultsAtFirst, NoneLonger, OneExpression, ReadsGrammar, ReadsOperands};
 
 /// What is read at the front of a line's tokens is the longest expression of the grammar there, in postfix order,
 /// and each expression of the grammar is read.
@@ -25,4 +25,9 @@ pub fn reads_operands()
 /// A line is refused at the first token with which no expression begins as the tokens up to it do.
 pub fn faults_at_first()
     ensures { FaultsAtFirst }
+{}
+
+/// Some expressions, with their trees.
+pub fn examples()
+    ensures { Examples }
 {}
