@@ -111,12 +111,12 @@ module _ (locals globals : Names) where
 
   flags : (left right : Expr) (value : Option ℤ) (out : Bool) (e : Evaluation)
       → Path Evaluation
-          (record { stack = value ∷ e.stack; unknown = (after right (after left e)).unknown; outside = out || (after right (after left e)).outside })
-          (record {
-            stack = value ∷ e.stack;
-            unknown = uses_undefined locals globals left || uses_undefined locals globals right || e.unknown;
-            outside = leaves_bounds locals globals left || leaves_bounds locals globals right || out || e.outside;
-          })
+      (record { stack = value ∷ e.stack; unknown = (after right (after left e)).unknown; outside = out || (after right (after left e)).outside })
+      (record {
+        stack = value ∷ e.stack;
+        unknown = uses_undefined locals globals left || uses_undefined locals globals right || e.unknown;
+        outside = leaves_bounds locals globals left || leaves_bounds locals globals right || out || e.outside;
+      })
   flags left right value out e = λ i. record {
     stack = value ∷ e.stack;
     unknown = or_moved (uses_undefined locals globals left) (uses_undefined locals globals right) e.unknown i;
@@ -125,13 +125,13 @@ module _ (locals globals : Names) where
 
   joined : {operator : Operator} → Binary operator → (left right whole : Expr)
       → ((e : Evaluation) → Path Evaluation
-          (record {
-            stack = value_of_two (operation_of operator) (tree_value locals globals left) (tree_value locals globals right) ∷ e.stack;
-            unknown = uses_undefined locals globals left || uses_undefined locals globals right || e.unknown;
-            outside = leaves_bounds locals globals left || leaves_bounds locals globals right
-                || two_leave (operation_of operator) (tree_value locals globals left) (tree_value locals globals right) || e.outside;
-          })
-          (after whole e))
+      (record {
+        stack = value_of_two (operation_of operator) (tree_value locals globals left) (tree_value locals globals right) ∷ e.stack;
+        unknown = uses_undefined locals globals left || uses_undefined locals globals right || e.unknown;
+        outside = leaves_bounds locals globals left || leaves_bounds locals globals right
+            || two_leave (operation_of operator) (tree_value locals globals left) (tree_value locals globals right) || e.outside;
+      })
+      (after whole e))
       → (e : Evaluation) → operator_step operator (after right (after left e)) ≡ after whole e
   joined {operator} binary left right whole same e =
       let value = value_of_two (operation_of operator) (tree_value locals globals left) (tree_value locals globals right) in
@@ -145,7 +145,7 @@ module _ (locals globals : Names) where
   leaves (Name name) more e = ap (evaluation_of locals globals more) (defined (value_in locals globals name) e.stack e.unknown e.outside)
   leaves (Negate tree) more e = unary NegateOperator (postfix tree) tree (Negate tree)
       (λ e. negated (tree_value locals globals tree) e.stack (after tree e).unknown (after tree e).outside
-          ∙ (λ i. record { stack = (after (Negate tree) e).stack; unknown = (after tree e).unknown; outside = or_moved (leaves_bounds locals globals tree) (one_leaves neg_ℤ (tree_value locals globals tree)) e.outside i }))
+      ∙ (λ i. record { stack = (after (Negate tree) e).stack; unknown = (after tree e).unknown; outside = or_moved (leaves_bounds locals globals tree) (one_leaves neg_ℤ (tree_value locals globals tree)) e.outside i }))
       (leaves tree) more e
   leaves (Reverse tree) more e = unary ReverseOperator (postfix tree) tree (Reverse tree)
       (λ e. reversed (tree_value locals globals tree) e.stack (after tree e).unknown (after tree e).outside) (leaves tree) more e
@@ -163,7 +163,7 @@ values_of_trees locals globals tree =
     ap (λ terms. outcome_of (evaluation_of locals globals terms nothing)) (sym (append-nil (postfix tree)))
     ∙ ap outcome_of (leaves locals globals tree [] nothing)
     ∙ (λ i. record {
-        value = tree_value locals globals tree;
-        unknown = or_false (uses_undefined locals globals tree) i;
-        outside = or_false (leaves_bounds locals globals tree) i;
+      value = tree_value locals globals tree;
+      unknown = or_false (uses_undefined locals globals tree) i;
+      outside = or_false (leaves_bounds locals globals tree) i;
     })

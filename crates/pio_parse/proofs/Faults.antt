@@ -1,5 +1,5 @@
 -- A line is refused at the first token with which no expression begins as the tokens up to it do.
-use Rattle.std.proofs.Common.{◌≡◌, ◌==◌, ◌↔◌, ℕ, zero, suc, ◌+◌, ◌-◌, Bool, true, false, if◌then◌else◌, List, [], ◌∷◌, ◌++◌, Option, Some, None, Result, Ok, Err, arith, refl, sym, ap, ◌∙◌, subst, append_assoc, append-nil}
+use Rattle.std.proofs.Common.{◌≡◌, ◌==◌, ℕ, zero, suc, ◌-◌, Bool, true, false, if◌then◌else◌, List, [], ◌∷◌, ◌++◌, Option, Some, None, Result, Ok, Err, arith, refl, sym, ap, ◌∙◌, subst}
 use mathlib.Core.Bool.{false≢true}
 use Rattle.std.specs.Prelude.{⊤}
 use Rattle.pio_parse.specs.declared.token.Place.{Place}
@@ -182,7 +182,9 @@ module _ (text : List ℕ) where
       (before, token, after, whole, at, begins before on, λ begins. let goes = begun (before ++ token ∷ []) begins in refused (sym (stays goes.0) ∙ goes.2))
 
 pub faults_at_first : FaultsAtFirst
-faults_at_first text tokens place h = (faults text tokens place h,
-    λ found. ap (expression_at text) found.3
-        ∙ refuses text found.1 found.2 found.0 nothing_read (begun text found.0 found.5) (λ goes. found.6 (begins text (found.0 ++ found.1 ∷ []) goes))
-        ∙ ap Err found.4)
+faults_at_first text tokens place h = (
+  faults text tokens place h,
+  λ found. ap (expression_at text) found.3
+      ∙ refuses text found.1 found.2 found.0 nothing_read (begun text found.0 found.5) (λ goes. found.6 (begins text (found.0 ++ found.1 ∷ []) goes))
+      ∙ ap Err found.4,
+)

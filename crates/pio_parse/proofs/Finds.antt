@@ -1,5 +1,5 @@
 -- Where the stack of waiting operators accepts tokens, the grammar has a tree for them.
-use Rattle.std.proofs.Common.{◌≡◌, ◌≢◌, ◌==◌, ◌⊎◌, inl, inr, ℕ, zero, suc, ◌+◌, ◌<◌, ◌≤◌, Bool, true, false, List, [], ◌∷◌, ◌++◌, length, Option, None, Result, Ok, Err, arith, refl, sym, ap, ◌∙◌, subst}
+use Rattle.std.proofs.Common.{◌≡◌, ◌≢◌, ◌==◌, ◌⊎◌, inl, inr, ℕ, zero, suc, ◌+◌, ◌<◌, ◌≤◌, Bool, true, false, List, [], ◌∷◌, ◌++◌, length, None, Result, Ok, Err, arith, refl, sym, ap, ◌∙◌, subst}
 use mathlib.Core.Bool.{false≢true}
 use Rattle.pio_parse.specs.declared.token.Place.{Place}
 use Rattle.pio_parse.specs.declared.token.Span.{Span}
@@ -13,7 +13,7 @@ use Rattle.pio_parse.specs.declared.expression.Pending.{Pending}
 use Rattle.pio_parse.specs.declared.expression.Pending.TheVariants.{Parenthesis, Operator as OperatorPending}
 use Rattle.pio_parse.specs.declared.expression.Reading.{Reading}
 use Rattle.pio_parse.specs.Cursor.{Outcome, head_kind}
-use Rattle.pio_parse.specs.Expression.{expression_at, expression_from, name_at, operand_step, operator_step}
+use Rattle.pio_parse.specs.Expression.{expression_at, name_at, operand_step, operator_step}
 use Rattle.pio_parse.specs.Grammar.{EndsProduct, EndsSum, Expr, IsExpression, IsOperand, IsProduct, IsSum, postfix}
 use Rattle.pio_parse.specs.Grammar.Expr.{Number, Name, Negate, Reverse, Sum, Difference, Product}
 use Rattle.pio_parse.specs.Grammar.IsSum.{product, plus, minus}
@@ -137,7 +137,7 @@ module _ (text : List ℕ) (answer : List Term × List Token) where
       → SumFound (length tokens) tokens → before_operand text (Parenthesis ∷ stack) output (depth + 1) tokens ≡ Ok answer → OperandFound (token ∷ tokens)
   in_parentheses token tokens stack output depth is (tree, middle, sum, over, lt) e =
       closed_sum token tokens middle tree is sum lt
-          (found_close (Parenthesis ∷ stack) (output ++ postfix tree) depth middle over (sym (follows_sum sum (Parenthesis ∷ stack) output (depth + 1) refl over.0) ∙ e))
+      (found_close (Parenthesis ∷ stack) (output ++ postfix tree) depth middle over (sym (follows_sum sum (Parenthesis ∷ stack) output (depth + 1) refl over.0) ∙ e))
 
   -- an operand by its first token
   operand_by : (bound : ℕ) → FindsProduct bound → FindsSum bound
@@ -179,9 +179,9 @@ module _ (text : List ℕ) (answer : List Term × List Token) where
       → before_operand text (OperatorPending Multiply ∷ stack) output depth middle ≡ Ok answer → OperandFound middle → ProductFound (suc (suc (length middle))) tokens
   product_times bound left on tokens middle sign tree stack output depth few le h is star e (right, rest, more, shorter) =
       product_within (suc (length rest)) (suc (suc (length middle))) tokens (omega (arith, shorter)) (on tokens rest (Product tree right) stack ((output ++ postfix right) ++ OperatorTerm Multiply ∷ []) depth (omega (arith, few, shorter)) (omega (arith, le, shorter)) h
-          (times is star more)
-          (sym (settled text Multiply stack (output ++ postfix right) depth rest (level_for_operand (head_kind rest)))
-              ∙ sym (follows_operand more (OperatorPending Multiply ∷ stack) output depth) ∙ e))
+      (times is star more)
+      (sym (settled text Multiply stack (output ++ postfix right) depth rest (level_for_operand (head_kind rest)))
+      ∙ sym (follows_operand more (OperatorPending Multiply ∷ stack) output depth) ∙ e))
 
   product_step : (bound left : ℕ) → FindsOperand bound → ProductOn bound left → ProductOn bound (suc left)
   product_step bound left operands on tokens [] tree stack output depth few le h is e = absurd (refused e)
@@ -191,7 +191,7 @@ module _ (text : List ℕ) (answer : List Term × List Token) where
       go (next_times star) =
           let after = sym (goes_on_times text stack output depth sign middle star h) ∙ e in
           product_times bound left on tokens middle sign tree stack output depth (omega (arith, few)) (omega (arith, le)) h is star after
-              (operands middle (OperatorPending Multiply ∷ stack) output depth (omega (arith, le)) after)
+          (operands middle (OperatorPending Multiply ∷ stack) output depth (omega (arith, le)) after)
       go (next_plus is_next) = (tree, sign ∷ middle, is, (λ q. false≢true (ap is_star (sym is_next ∙ q))), omega arith)
       go (next_minus is_next) = (tree, sign ∷ middle, is, (λ q. false≢true (ap is_star (sym is_next ∙ q))), omega arith)
       go (next_other no_star no_plus no_minus) = (tree, sign ∷ middle, is, no_star, omega arith)
@@ -206,7 +206,7 @@ module _ (text : List ℕ) (answer : List Term × List Token) where
       go : OperandFound tokens → ProductFound (length tokens) tokens
       go (tree, rest, is, lt) = product_within (suc (length rest)) (length tokens) tokens lt
           (product_on bound operands (length rest) tokens rest tree stack (output ++ postfix tree) depth (omega arith) (omega (arith, le, lt)) h (operand is)
-              (sym (follows_operand is stack output depth) ∙ e))
+          (sym (follows_operand is stack output depth) ∙ e))
 
   -- what is found where a sum stands at the front of the tokens already
   abbrev SumOn : ℕ → ℕ → Type 0
@@ -225,9 +225,9 @@ module _ (text : List ℕ) (answer : List Term × List Token) where
       → before_operand text (OperatorPending Add ∷ stack) output depth middle ≡ Ok answer → ProductFound (length middle) middle → SumFound (suc (suc (length middle))) tokens
   sum_plus bound left on tokens middle sign tree stack output depth few le h is sign_is e (right, rest, more, over, shorter) =
       sum_within (suc (length rest)) (suc (suc (length middle))) tokens (omega (arith, shorter)) (on tokens rest (Sum tree right) stack ((output ++ postfix right) ++ OperatorTerm Add ∷ []) depth (omega (arith, few, shorter)) (omega (arith, le, shorter)) h over
-          (plus is sign_is more)
-          (sym (settled text Add stack (output ++ postfix right) depth rest (level_for_product (head_kind rest) over))
-              ∙ sym (follows_product more (OperatorPending Add ∷ stack) output depth refl) ∙ e))
+      (plus is sign_is more)
+      (sym (settled text Add stack (output ++ postfix right) depth rest (level_for_product (head_kind rest) over))
+      ∙ sym (follows_product more (OperatorPending Add ∷ stack) output depth refl) ∙ e))
 
   sum_minus : (bound left : ℕ) → SumOn bound left → (tokens middle : List Token) (sign : Token) (tree : Expr) (stack : List Pending) (output : List Term) (depth : ℕ)
       → length middle ≤ left → length middle < bound → binds_less 1 stack ≡ true
@@ -235,9 +235,9 @@ module _ (text : List ℕ) (answer : List Term × List Token) where
       → before_operand text (OperatorPending Subtract ∷ stack) output depth middle ≡ Ok answer → ProductFound (length middle) middle → SumFound (suc (suc (length middle))) tokens
   sum_minus bound left on tokens middle sign tree stack output depth few le h is sign_is e (right, rest, more, over, shorter) =
       sum_within (suc (length rest)) (suc (suc (length middle))) tokens (omega (arith, shorter)) (on tokens rest (Difference tree right) stack ((output ++ postfix right) ++ OperatorTerm Subtract ∷ []) depth (omega (arith, few, shorter)) (omega (arith, le, shorter)) h over
-          (minus is sign_is more)
-          (sym (settled text Subtract stack (output ++ postfix right) depth rest (level_for_product (head_kind rest) over))
-              ∙ sym (follows_product more (OperatorPending Subtract ∷ stack) output depth refl) ∙ e))
+      (minus is sign_is more)
+      (sym (settled text Subtract stack (output ++ postfix right) depth rest (level_for_product (head_kind rest) over))
+      ∙ sym (follows_product more (OperatorPending Subtract ∷ stack) output depth refl) ∙ e))
 
   sum_step : (bound left : ℕ) → FindsProduct bound → SumOn bound left → SumOn bound (suc left)
   sum_step bound left products on tokens [] tree stack output depth few le h no_star is e = absurd (refused e)
@@ -248,11 +248,11 @@ module _ (text : List ℕ) (answer : List Term × List Token) where
       go (next_plus sign_is) =
           let after = sym (goes_on_plus text stack output depth sign middle sign_is h) ∙ e in
           sum_plus bound left on tokens middle sign tree stack output depth (omega (arith, few)) (omega (arith, le)) h is sign_is after
-              (products middle (OperatorPending Add ∷ stack) output depth (omega (arith, le)) refl after)
+          (products middle (OperatorPending Add ∷ stack) output depth (omega (arith, le)) refl after)
       go (next_minus sign_is) =
           let after = sym (goes_on_minus text stack output depth sign middle sign_is h) ∙ e in
           sum_minus bound left on tokens middle sign tree stack output depth (omega (arith, few)) (omega (arith, le)) h is sign_is after
-              (products middle (OperatorPending Subtract ∷ stack) output depth (omega (arith, le)) refl after)
+          (products middle (OperatorPending Subtract ∷ stack) output depth (omega (arith, le)) refl after)
       go (next_other no_times no_plus no_minus) = (tree, sign ∷ middle, is, (no_times, no_plus, no_minus), omega arith)
 
   sum_on : (bound : ℕ) → FindsProduct bound → (left : ℕ) → SumOn bound left
@@ -265,7 +265,7 @@ module _ (text : List ℕ) (answer : List Term × List Token) where
       go : ProductFound (length tokens) tokens → SumFound (length tokens) tokens
       go (tree, rest, is, over, lt) = sum_within (suc (length rest)) (length tokens) tokens lt
           (sum_on bound products (length rest) tokens rest tree stack (output ++ postfix tree) depth (omega arith) (omega (arith, le, lt)) h over (product is)
-              (sym (follows_product is stack output depth (binds_less-two stack h)) ∙ e))
+          (sym (follows_product is stack output depth (binds_less-two stack h)) ∙ e))
 
   -- operands of any length
   finds_none : FindsOperand zero
@@ -306,17 +306,17 @@ module _ (text : List ℕ) (answer : List Term × List Token) where
   reaches_end : {tokens rest : List Token} {tree : Expr} → IsSum text tokens tree rest → before_operand text [] [] 0 tokens ≡ Ok answer → SumFound (suc (length rest)) tokens
   reaches_end (product {tokens = tokens} {rest = rest} {tree = tree} is) e =
       product_to_end tokens (suc (length rest)) e
-          (products_on (length rest) tokens rest tree [] (postfix tree) 0 (omega arith) (omega arith) refl is (sym (follows_product is [] [] 0 refl) ∙ e))
+      (products_on (length rest) tokens rest tree [] (postfix tree) 0 (omega arith) (omega arith) refl is (sym (follows_product is [] [] 0 refl) ∙ e))
   reaches_end (plus {tokens = tokens} {middle = middle} {rest = rest} {left = left} {right = right} {sign = sign} is sign_is more) e =
       let after = sym (goes_on_plus text [] (postfix left) 0 sign middle sign_is refl) ∙ sym (follows_sum is [] [] 0 refl (λ q. false≢true (ap is_star (sym sign_is ∙ q)))) ∙ e in
       plus_to_end tokens middle sign left (suc (length rest)) is sign_is e
-          (products_on (length rest) middle rest right (OperatorPending Add ∷ []) (postfix left ++ postfix right) 0 (omega arith) (omega arith) refl more
-              (sym (follows_product more (OperatorPending Add ∷ []) (postfix left) 0 refl) ∙ after))
+      (products_on (length rest) middle rest right (OperatorPending Add ∷ []) (postfix left ++ postfix right) 0 (omega arith) (omega arith) refl more
+      (sym (follows_product more (OperatorPending Add ∷ []) (postfix left) 0 refl) ∙ after))
   reaches_end (minus {tokens = tokens} {middle = middle} {rest = rest} {left = left} {right = right} {sign = sign} is sign_is more) e =
       let after = sym (goes_on_minus text [] (postfix left) 0 sign middle sign_is refl) ∙ sym (follows_sum is [] [] 0 refl (λ q. false≢true (ap is_star (sym sign_is ∙ q)))) ∙ e in
       minus_to_end tokens middle sign left (suc (length rest)) is sign_is e
-          (products_on (length rest) middle rest right (OperatorPending Subtract ∷ []) (postfix left ++ postfix right) 0 (omega arith) (omega arith) refl more
-              (sym (follows_product more (OperatorPending Subtract ∷ []) (postfix left) 0 refl) ∙ after))
+      (products_on (length rest) middle rest right (OperatorPending Subtract ∷ []) (postfix left ++ postfix right) 0 (omega arith) (omega arith) refl more
+      (sym (follows_product more (OperatorPending Subtract ∷ []) (postfix left) 0 refl) ∙ after))
 
 -- an expression is over at a token with which it does not go on
 over : (text : List ℕ) (output : List Term) (token : Token) (rest : List Token) → EndsSum (token ∷ rest) → after_operand text [] output 0 (token ∷ rest) ≡ Ok (output, token ∷ rest)

@@ -1,23 +1,22 @@
 -- The stack of waiting operators follows the grammar: where tokens are a sum, a product or an operand, it comes to the terms of its tree.
-use Rattle.std.proofs.Common.{◌≡◌, ◌≢◌, ◌==◌, ℕ, zero, suc, ◌+◌, ◌-◌, nat_le, Bool, true, false, not, if◌then◌else◌, List, [], ◌∷◌, ◌++◌, Option, Some, None, Result, Ok, Err, arith, refl, sym, ap, ◌∙◌, subst, append_assoc, add-one}
+use Rattle.std.proofs.Common.{◌≡◌, ◌≢◌, ◌==◌, ℕ, ◌+◌, ◌-◌, nat_le, Bool, true, false, not, if◌then◌else◌, List, [], ◌∷◌, ◌++◌, Option, Some, None, Result, Ok, Err, arith, refl, sym, ap, ◌∙◌, append_assoc}
 use mathlib.Core.Bool.{false≢true}
 use Rattle.std.specs.Option.{option_map_or}
 use Rattle.pio_parse.specs.declared.token.Place.{Place}
 use Rattle.pio_parse.specs.declared.token.Token.{Token}
 use Rattle.pio_parse.specs.declared.token.TokenKind.{TokenKind}
-use Rattle.pio_parse.specs.declared.token.TokenKind.TheVariants.{Name as NameToken, Number as NumberToken, DoubleColon, OpenParenthesis, CloseParenthesis, Plus, Minus, Star}
+use Rattle.pio_parse.specs.declared.token.TokenKind.TheVariants.{DoubleColon, OpenParenthesis, CloseParenthesis, Plus, Minus, Star}
 use Rattle.pio_parse.specs.declared.expression.Operator.{Operator}
 use Rattle.pio_parse.specs.declared.expression.Operator.TheVariants.{Add, Subtract, Multiply, Negate as NegateOperator, Reverse as ReverseOperator}
 use Rattle.pio_parse.specs.declared.expression.Term.{Term}
-use Rattle.pio_parse.specs.declared.expression.Term.TheVariants.{Number as NumberTerm, Name as NameTerm, Operator as OperatorTerm}
+use Rattle.pio_parse.specs.declared.expression.Term.TheVariants.{Operator as OperatorTerm}
 use Rattle.pio_parse.specs.declared.expression.Pending.{Pending}
 use Rattle.pio_parse.specs.declared.expression.Pending.TheVariants.{Parenthesis, Operator as OperatorPending}
 use Rattle.pio_parse.specs.declared.expression.Reading.{Reading}
 use Rattle.pio_parse.specs.Outcome.{and_then}
 use Rattle.pio_parse.specs.Cursor.{Outcome, head_kind}
 use Rattle.pio_parse.specs.Expression.{expression_from, level_of, operator_step, reduced, with_closed}
-use Rattle.pio_parse.specs.Grammar.{EndsProduct, EndsSum, Expr, IsOperand, IsProduct, IsSum, postfix}
-use Rattle.pio_parse.specs.Grammar.Expr.{Number, Name, Negate, Reverse, Sum, Difference, Product}
+use Rattle.pio_parse.specs.Grammar.{Expr, IsOperand, IsProduct, IsSum, postfix}
 use Rattle.pio_parse.specs.Grammar.IsSum.{product, plus, minus}
 use Rattle.pio_parse.specs.Grammar.IsProduct.{operand, times}
 use Rattle.pio_parse.specs.Grammar.IsOperand.{number, name, parentheses, negate, reverse}
@@ -61,9 +60,9 @@ ended text operator stack output depth token rest false = refl
 
 closed : (text : List ℕ) (operator : Operator) (stack : List Pending) (output : List Term) (depth : ℕ) (token : Token) (rest : List Token) (test : Bool)
     → onwards text rest token (record { stack = OperatorPending operator ∷ stack; output = output; awaited = false; depth = depth })
-        (if test then Ok None else Ok (Some (with_closed (record { stack = OperatorPending operator ∷ stack; output = output; awaited = false; depth = depth }))))
+    (if test then Ok None else Ok (Some (with_closed (record { stack = OperatorPending operator ∷ stack; output = output; awaited = false; depth = depth }))))
     ≡ onwards text rest token (record { stack = stack; output = output ++ OperatorTerm operator ∷ []; awaited = false; depth = depth })
-        (if test then Ok None else Ok (Some (with_closed (record { stack = stack; output = output ++ OperatorTerm operator ∷ []; awaited = false; depth = depth }))))
+    (if test then Ok None else Ok (Some (with_closed (record { stack = stack; output = output ++ OperatorTerm operator ∷ []; awaited = false; depth = depth }))))
 closed text operator stack output depth token rest true = rw (reduced_more 0 operator stack output (ended_all operator)) refl
 closed text operator stack output depth token rest false = rw (reduced_more 0 operator stack output (ended_all operator)) refl
 
@@ -71,9 +70,9 @@ closed text operator stack output depth token rest false = rw (reduced_more 0 op
 settled_by : (text : List ℕ) (operator : Operator) (stack : List Pending) (output : List Term) (depth : ℕ) (kind : TokenKind) (token : Token) (rest : List Token)
     → nat_le (ended_level kind) (level_of operator) ≡ true
     → onwards text rest token (record { stack = OperatorPending operator ∷ stack; output = output; awaited = false; depth = depth })
-        (operator_step kind token.place (record { stack = OperatorPending operator ∷ stack; output = output; awaited = false; depth = depth }))
+    (operator_step kind token.place (record { stack = OperatorPending operator ∷ stack; output = output; awaited = false; depth = depth }))
     ≡ onwards text rest token (record { stack = stack; output = output ++ OperatorTerm operator ∷ []; awaited = false; depth = depth })
-        (operator_step kind token.place (record { stack = stack; output = output ++ OperatorTerm operator ∷ []; awaited = false; depth = depth }))
+    (operator_step kind token.place (record { stack = stack; output = output ++ OperatorTerm operator ∷ []; awaited = false; depth = depth }))
 settled_by text operator stack output depth Star token rest h = rw (reduced_more 2 operator stack output h) refl
 settled_by text operator stack output depth Plus token rest h = rw (reduced_more 1 operator stack output h) refl
 settled_by text operator stack output depth Minus token rest h = rw (reduced_more 1 operator stack output h) refl

@@ -1,17 +1,16 @@
 -- What is read outside brackets and directives is an operand of the grammar without an operator before it.
-use Rattle.std.proofs.Common.{◌≡◌, ◌≢◌, ℕ, Bool, true, false, List, [], ◌∷◌, Result, Ok, Err, refl, sym, ap, ◌∙◌, subst}
+use Rattle.std.proofs.Common.{◌≡◌, ◌≢◌, ℕ, Bool, true, false, List, [], ◌∷◌, Ok, Err, refl, sym, ap, ◌∙◌, subst}
 use mathlib.Core.Bool.{false≢true}
 use Rattle.pio_parse.specs.declared.token.Place.{Place}
 use Rattle.pio_parse.specs.declared.token.Token.{Token}
 use Rattle.pio_parse.specs.declared.token.TokenKind.{TokenKind}
 use Rattle.pio_parse.specs.declared.token.TokenKind.TheVariants.{Name as NameToken, Number as NumberToken, DoubleColon, OpenParenthesis, CloseParenthesis, Plus, Minus, Star}
 use Rattle.pio_parse.specs.declared.expression.Term.{Term}
-use Rattle.pio_parse.specs.declared.expression.Term.TheVariants.{Number as NumberTerm, Name as NameTerm}
 use Rattle.pio_parse.specs.declared.expression.Reading.{Reading}
 use Rattle.pio_parse.specs.Outcome.{and_then, map_ok}
 use Rattle.pio_parse.specs.Cursor.{Outcome, expected, head_kind, misfit}
 use Rattle.pio_parse.specs.Expression.{expression_at, is_close_parenthesis, name_at, nothing_read, operand_at, operand_of_kind, operand_step}
-use Rattle.pio_parse.specs.Grammar.{EndsSum, Expr, IsExpression, IsOperand, IsSum, postfix}
+use Rattle.pio_parse.specs.Grammar.{Expr, IsOperand, postfix}
 use Rattle.pio_parse.specs.Grammar.Expr.{Number, Name}
 use Rattle.pio_parse.specs.Grammar.IsOperand.{number, name, parentheses, negate, reverse}
 use Rattle.pio_parse.specs.Laws.{ReadsOperands}
@@ -95,5 +94,7 @@ read_operand (negate is more ends) no_minus no_colons = absurd (no_minus is)
 read_operand (reverse is more ends) no_minus no_colons = absurd (no_colons is)
 
 pub reads_operands : ReadsOperands
-reads_operands text tokens terms rest = (found_operand text terms rest tokens,
-    λ found. read_operand found.1 found.2 found.3 ∙ ap (λ terms. Ok (terms, rest)) found.4)
+reads_operands text tokens terms rest = (
+  found_operand text terms rest tokens,
+  λ found. read_operand found.1 found.2 found.3 ∙ ap (λ terms. Ok (terms, rest)) found.4,
+)

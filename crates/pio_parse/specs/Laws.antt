@@ -43,8 +43,8 @@ abbrev pub FaultsAtFirst : Type 0
 FaultsAtFirst = (text : List ℕ) (tokens : List Token) (place : Place) → ends_line tokens ≡ true
     → (expression_at text tokens ≡ Err place)
     ↔ ((before : List Token) × (token : Token) × (after : List Token)
-        × (tokens ≡ before ++ token ∷ after) × (token.place ≡ place)
-        × BeginsExpression text before × ¬ BeginsExpression text (before ++ token ∷ []))
+    × (tokens ≡ before ++ token ∷ after) × (token.place ≡ place)
+    × BeginsExpression text before × ¬ BeginsExpression text (before ++ token ∷ []))
 
 -- tokens of these kinds
 abbrev pub tokens_of : List TokenKind → List Token
@@ -64,7 +64,7 @@ Examples =
     -- -1 * 2 + 3 and 1 * -2 * 3 + 4
     × IsTreeOf (Sum (Negate (Product (Number 1) (Number 2))) (Number 3)) (Minus ∷ NumberToken 1 ∷ Star ∷ NumberToken 2 ∷ Plus ∷ NumberToken 3 ∷ [])
     × IsTreeOf (Sum (Product (Number 1) (Negate (Product (Number 2) (Number 3)))) (Number 4))
-        (NumberToken 1 ∷ Star ∷ Minus ∷ NumberToken 2 ∷ Star ∷ NumberToken 3 ∷ Plus ∷ NumberToken 4 ∷ [])
+    (NumberToken 1 ∷ Star ∷ Minus ∷ NumberToken 2 ∷ Star ∷ NumberToken 3 ∷ Plus ∷ NumberToken 4 ∷ [])
     -- ::1 + 2, 1 * ::2 + 3 and (::1) + 2
     × IsTreeOf (Reverse (Sum (Number 1) (Number 2))) (DoubleColon ∷ NumberToken 1 ∷ Plus ∷ NumberToken 2 ∷ [])
     × IsTreeOf (Product (Number 1) (Reverse (Sum (Number 2) (Number 3)))) (NumberToken 1 ∷ Star ∷ DoubleColon ∷ NumberToken 2 ∷ Plus ∷ NumberToken 3 ∷ [])

@@ -4,11 +4,11 @@ use Rattle.pio_parse.proofs.laws.examples.Goals as goal
 
 pub returns : goal.returns
 returns c = (
-    λ text. has_tree text _ _ _ refl,
-    λ text. has_tree text _ _ _ refl,
-    λ text. has_tree text _ _ _ refl,
-    λ text. has_tree text _ _ _ refl,
-    λ text. has_tree text _ _ _ refl,
-    λ text. has_tree text _ _ _ refl,
-    λ text. has_tree text _ _ _ refl,
+  λ text. has_tree text _ _ _ refl,
+  λ text. has_tree text _ _ _ refl,
+  λ text. has_tree text _ _ _ refl,
+  λ text. has_tree text _ _ _ refl,
+  λ text. has_tree text _ _ _ refl,
+  λ text. has_tree text _ _ _ refl,
+  λ text. has_tree text _ _ _ refl,
 )
