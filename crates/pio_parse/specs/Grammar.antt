@@ -70,14 +70,14 @@ mutual
     number : {rest : List Token} {token : Token} {n : ℕ} → token.kind ≡ NumberToken n → IsOperand text (token ∷ rest) (Number n) rest
     -- name
     name : {rest : List Token} {token : Token} {span : Span} → token.kind ≡ NameToken span → IsOperand text (token ∷ rest) (Name (name_at text span)) rest
-    -- `(` sum `)`
+    -- `(` expression `)`
     parentheses : {inner rest : List Token} {tree : Expr} {open_token close_token : Token}
         → open_token.kind ≡ OpenParenthesis → IsSum text inner tree (close_token ∷ rest) → close_token.kind ≡ CloseParenthesis
         → IsOperand text (open_token ∷ inner) tree rest
-    -- `-` and the longest product to its right
+    -- `-` product: the longest one, with no `*` after it
     negate : {inner rest : List Token} {tree : Expr} {sign : Token}
         → sign.kind ≡ Minus → IsProduct text inner tree rest → EndsProduct rest → IsOperand text (sign ∷ inner) (Negate tree) rest
-    -- `::` and the longest sum to its right
+    -- `::` sum: the longest one, with none of `*`, `+` and `-` after it
     reverse : {inner rest : List Token} {tree : Expr} {sign : Token}
         → sign.kind ≡ DoubleColon → IsSum text inner tree rest → EndsSum rest → IsOperand text (sign ∷ inner) (Reverse tree) rest
 

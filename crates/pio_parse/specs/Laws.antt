@@ -32,13 +32,13 @@ ReadsOperands = (text : List ℕ) (tokens : List Token) (terms : List Term) (res
     → (operand_at text tokens ≡ Ok (terms, rest))
     ↔ ((tree : Expr) × IsOperand text tokens tree rest × (head_kind tokens ≢ Minus) × (head_kind tokens ≢ DoubleColon) × (postfix tree ≡ terms))
 
--- the last of the tokens ends a line
+-- the last of the tokens ends a line, as that of each line and of each part of one up to its end does
 abbrev pub ends_line : List Token → Bool
 ends_line [] = false
 ends_line (token ∷ []) = is_end token.kind
 ends_line (token ∷ next ∷ tokens) = ends_line (next ∷ tokens)
 
--- a line is refused at the place of the first token with which no expression begins as the tokens up to it do
+-- where an expression has to stand, a line is refused at the first token with which none begins as the tokens up to it do
 abbrev pub FaultsAtFirst : Type 0
 FaultsAtFirst = (text : List ℕ) (tokens : List Token) (place : Place) → ends_line tokens ≡ true
     → (expression_at text tokens ≡ Err place)
