@@ -13,3 +13,4 @@ pub mod LineParse
 pub mod Decoded
 pub mod LineSteps
 pub mod Returning
+pub mod TreeValues

@@ -1,5 +1,6 @@
 pub mod Symbols
 pub mod Value
+pub mod Tree
 pub mod Operand
 pub mod Fits
 pub mod Plan

@@ -11,6 +11,7 @@ mod plan;
 mod program;
 mod symbols;
 mod value;
+pub mod value_law;
 
 pub use place::place_program;
 pub use program::{Program, assemble};

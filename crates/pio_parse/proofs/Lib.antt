@@ -3,3 +3,8 @@ pub mod Pieces
 pub mod Runs
 pub mod PieceScan
 pub mod PieceLines
+pub mod Follows
+pub mod Finds
+pub mod Trees
+pub mod Faults
+pub mod Operands

@@ -7,3 +7,5 @@ pub mod Registers
 pub mod Instruction
 pub mod Statement
 pub mod Source
+pub mod Grammar
+pub mod Laws

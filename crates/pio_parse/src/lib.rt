@@ -6,6 +6,7 @@ mod cursor;
 mod expression;
 mod fault;
 mod instruction;
+pub mod laws;
 mod name;
 mod parser;
 mod scan;

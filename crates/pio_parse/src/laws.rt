@@ -1,0 +1,33 @@
+//! The laws of the expressions, each the contract of a function without arguments.
+ghost use Rattle.pio_parse.specs.Laws.{Examples, FaultsAtFirst, NoneLonger, OneExpression, ReadsGrammar, ReadsOperands};
+
+/// What is read at the front of a line's tokens is the longest expression of the grammar there, in postfix order,
+/// and each expression of the grammar is read.
+pub fn reads_grammar()
+    ensures { ReadsGrammar }
+{}
+
+/// The grammar gives tokens one tree at most, and one end.
+pub fn one_expression()
+    ensures { OneExpression }
+{}
+
+/// No sum at the front of the tokens goes further than their expression: it is the longest.
+pub fn none_longer()
+    ensures { NoneLonger }
+{}
+
+/// What is read outside brackets and directives is a number, a name or an expression in parentheses.
+pub fn reads_operands()
+    ensures { ReadsOperands }
+{}
+
+/// A line is refused at the first token with which no expression begins as the tokens up to it do.
+pub fn faults_at_first()
+    ensures { FaultsAtFirst }
+{}
+
+/// Some expressions, with their trees.
+pub fn examples()
+    ensures { Examples }
+{}
