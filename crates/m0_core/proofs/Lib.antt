@@ -1,3 +1,3 @@
 pub mod Carrying
-mod Reads
+mod ReadCount
 mod TakesBeats

@@ -31,7 +31,7 @@ use Rattle.m0_core.specs.Fetch.{master_of, stopped, asks, asks_awake, asks_next,
 use Rattle.m0_core.specs.Cycle.{want_of, want_of_act, with_value, waiting, followed, with_read, returning, ended, passed_instruction, passed, is_held_op, after_inner, done_word, value_of, after_private, after, closed, is_idle, next}
 use Rattle.m0_core.specs.State.{State}
 use Rattle.m0_core.specs.Law.{Given, turn_of, begun_in, wanted_in, after_cycle, after_cycles, is_stop, GoesOn, read_at, read_in, reads_in, IsAtBoundary, half_at, IsEncoded, IsFetched, IsPlain, IsInProgress, IsOver, AnInstructionTakesItsBeats}
-use Rattle.m0_core.proofs.Reads.{reads_one, is_read, reading, reading-le}
+use Rattle.m0_core.proofs.ReadCount.{reads_one, is_read, reading, reading-le}
 
 -- ---- states in the middle of an instruction
 
@@ -72,7 +72,7 @@ lands_passed op value t awake =
       goes_on = λ h. subst (λ b. Stands t.regs (t.place + 1) (with_value t.read value) (cond b (followed (works.Instruction op) u) (ended op u)) × ((cond b (followed (works.Instruction op) u) (ended op u)).work ≡ Some (works.Instruction op)))
           (sym (lt-ltb (t.place + 1) n h)) (stands_followed op value t awake, refl);
       ends = λ h. subst (λ b. Ends op t.regs (with_value t.read value) (cond b (followed (works.Instruction op) u) (ended op u)))
-          (sym (le-ltb n (t.place + 1) h)) (ends_ended op value t awake);
+          (sym (le-ltb (t.place + 1) n h)) (ends_ended op value t awake);
     }
 
 -- the end of the cycle changes only the exceptions and the event register
@@ -325,7 +325,7 @@ comes op regs e i (b ∷ c ∷ rest) g (g' ∷ gs) done read cycle s split stand
 pub an_instruction_takes_its_beats : AnInstructionTakesItsBeats
 an_instruction_takes_its_beats op s cycle g gs at fetched plain goes =
     let stands : Stands s.regs 0 [] s = record { awake = at.awake; kept = refl; so_far = at.first; values = at.fresh } in
-    let all = comes op s.regs plain.no_event plain.no_interrupt (beats_of op s.regs) g gs [] [] cycle s refl stands (reading-le op s.regs) (begins_boundary op g s at fetched plain) goes in (
+    let all = comes op s.regs plain.no_event plain.no_interrupt (beats_of op s.regs) g gs [] [] cycle s refl stands (omega (arith, reading-le op s.regs)) (begins_boundary op g s at fetched plain) goes in (
       λ h. all.0 h,
       λ h. let x = all.1 h in record { awake = x.awake; effect = x.effect; then_returns = x.then_returns; first = x.first; fresh = x.fresh },
     )

@@ -1,5 +1,5 @@
 -- No instruction reads more than 16 values.
-use Rattle.std.proofs.Common.{◌≡◌, ℕ, zero, suc, ◌+◌, ◌≤◌, ◌==◌, ◌/◌, ◌^◌, Bool, true, false, cond, nat_le, List, [], ◌∷◌, ◌++◌, length, refl, ap, arith, subst}
+use Rattle.std.proofs.Common.{◌≡◌, ℕ, zero, suc, ◌+◌, ◌≤◌, ◌==◌, ◌/◌, ◌%◌, ◌^◌, Bool, true, false, cond, nat_le, List, [], ◌∷◌, ◌++◌, length, refl, ap, arith, subst}
 use Rattle.std.specs.Prelude.{Option, Some, None, map, filter, replicate}
 use Rattle.m0_alu.specs.Word.{has_bit}
 use Rattle.rp_base.specs.declared.Request.{Request}
@@ -12,7 +12,8 @@ use Rattle.m0_beats.specs.declared.timing.Beat.{Beat}
 use Rattle.m0_beats.specs.declared.timing.Beat.TheVariants.{Inner, Access}
 use Rattle.m0_beats.specs.Conditions.{condition_holds}
 use Rattle.m0_beats.specs.Rows.{action_of}
-use Rattle.m0_beats.specs.Beats.{beats_of, beats_of_action, registers_of, accesses, access, single, pop_end, address_of}
+use Rattle.m0_beats.specs.Beats.{beats_of, beats_of_action, registers_of, accesses, access, single, pop_end, address_of, push_address}
+use Rattle.m0_beats.specs.Registers.{register_of, sp_of}
 
 -- how many of these beats read
 abbrev pub is_read : Option ℕ → ℕ
@@ -33,7 +34,7 @@ is_read-le (Some write) = omega arith
 
 reading-accesses : (writes : List (Option ℕ)) (address : ℕ) → reading (accesses address writes) ≤ length writes
 reading-accesses [] address = omega arith
-reading-accesses (w ∷ ws) address = omega (arith, is_read-le w, reading-accesses ws _)
+reading-accesses (w ∷ ws) address = omega (arith, is_read-le w, reading-accesses ws ((address + 4) % 2 ^ 32))
 
 reading-append : (xs ys : List Beat) → reading (xs ++ ys) ≡ reading xs + reading ys
 reading-append [] ys = omega arith
@@ -59,6 +60,10 @@ registers-le list = filter-le (has_bit list) (0 ∷ 1 ∷ 2 ∷ 3 ∷ 4 ∷ 5 �
 reading-list : (f : ℕ → Option ℕ) (list address : ℕ) → reading (accesses address (map f (registers_of list))) ≤ 16
 reading-list f list address =
     omega (arith, reading-accesses (map f (registers_of list)) address, map-length f (registers_of list), registers-le list)
+
+-- one inner beat, and the accesses of a list
+reading-many : (f : ℕ → Option ℕ) (list address : ℕ) → reading (Inner ∷ accesses address (map f (registers_of list))) ≤ 16
+reading-many f list address = omega (arith, reading-list f list address)
 
 reading-single : (address : ℕ) (request : Request) → reading (single address (Access request)) ≤ 16
 reading-single address request =
@@ -86,10 +91,10 @@ reading-action (act.Place d x y) s = reading-to (nat_le 15 d)
 reading-action (act.BranchIf c offset) s = reading-to (condition_holds c s)
 reading-action (act.Load t size sign x y) s = reading-single (address_of x y s) _
 reading-action (act.Store t size x y) s = reading-single (address_of x y s) _
-reading-action (act.LoadMany n list) s = reading-list (λ k. None) list _
-reading-action (act.StoreMany n list) s = reading-list _ list _
-reading-action (act.Push list) s = reading-list _ list _
-reading-action (act.Pop list) s = reading-pop _ list
+reading-action (act.LoadMany n list) s = reading-many (λ k. None) list (register_of s n)
+reading-action (act.StoreMany n list) s = reading-many (λ k. Some (register_of s k)) list (register_of s n)
+reading-action (act.Push list) s = reading-many (λ k. Some (register_of s k)) list (push_address list s)
+reading-action (act.Pop list) s = reading-pop (sp_of s) list
 reading-action _ s = omega arith
 
 pub reading-le : (op : Op) (s : Regs) → reading (beats_of op s) ≤ 16
