@@ -1,9 +1,8 @@
 -- No instruction reads more than 16 values.
-use Rattle.std.proofs.Common.{◌≡◌, ℕ, zero, suc, ◌+◌, ◌≤◌, ◌==◌, ◌/◌, ◌%◌, ◌^◌, Bool, true, false, cond, nat_le, List, [], ◌∷◌, ◌++◌, length, refl, ap, arith, subst}
-use Rattle.std.specs.Prelude.{Option, Some, None, map, filter, replicate}
+use Rattle.std.proofs.Common.{◌≡◌, ℕ, suc, ◌+◌, ◌≤◌, ◌==◌, ◌/◌, ◌%◌, ◌^◌, Bool, true, false, cond, nat_le, List, [], ◌∷◌, ◌++◌, length, refl, ap, arith}
+use Rattle.std.specs.Prelude.{Option, Some, None, map, filter}
 use Rattle.m0_alu.specs.Word.{has_bit}
 use Rattle.rp_base.specs.declared.Request.{Request}
-use Rattle.rp_base.specs.declared.Size.TheVariants as sizes
 use Rattle.rp_base.specs.declared.op.Op.{Op}
 use Rattle.m0_beats.specs.declared.registers.Regs.{Regs}
 use Rattle.m0_beats.specs.declared.rows.Action.{Action}
@@ -12,7 +11,7 @@ use Rattle.m0_beats.specs.declared.timing.Beat.{Beat}
 use Rattle.m0_beats.specs.declared.timing.Beat.TheVariants.{Inner, Access}
 use Rattle.m0_beats.specs.Conditions.{condition_holds}
 use Rattle.m0_beats.specs.Rows.{action_of}
-use Rattle.m0_beats.specs.Beats.{beats_of, beats_of_action, registers_of, accesses, access, single, pop_end, address_of, push_address}
+use Rattle.m0_beats.specs.Beats.{beats_of, beats_of_action, registers_of, accesses, single, pop_end, address_of, push_address}
 use Rattle.m0_beats.specs.Registers.{register_of, sp_of}
 
 -- how many of these beats read

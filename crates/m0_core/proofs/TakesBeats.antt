@@ -1,6 +1,6 @@
 -- An instruction takes its beats: one cycle, then all of them.
-use Rattle.std.proofs.Common.{◌≡◌, ℕ, zero, suc, ◌+◌, ◌%◌, ◌^◌, ◌<◌, ◌≤◌, ◌==◌, ◌&&◌, ◌||◌, not, Bool, true, false, cond, List, [], ◌∷◌, ◌++◌, length, refl, sym, ap, ap₂, subst, ◌∙◌, arith, append_assoc, append-nil, length-append, true≢false, lt-ltb, le-ltb}
-use Rattle.std.specs.Prelude.{Option, Some, None, option_to_list, slice_get, unwrap_or}
+use Rattle.std.proofs.Common.{◌≡◌, ℕ, ◌+◌, ◌%◌, ◌^◌, ◌<◌, ◌≤◌, ◌==◌, ◌&&◌, ◌||◌, not, Bool, true, false, cond, List, [], ◌∷◌, ◌++◌, length, refl, sym, ap, ap₂, subst, ◌∙◌, arith, append_assoc, append-nil, length-append, true≢false, lt-ltb, le-ltb}
+use Rattle.std.specs.Prelude.{Option, Some, None, option_to_list, map, slice_get, unwrap_or}
 use Rattle.rp_base.specs.declared.Request.{Request}
 use Rattle.rp_base.specs.declared.map.Spot.{Spot}
 use Rattle.rp_base.specs.declared.map.Spot.TheVariants as spot
@@ -18,19 +18,18 @@ use Rattle.m0_nvic.specs.Words.{is_allowed}
 use Rattle.lane_look.specs.declared.lane.Ask.{Ask}
 use Rattle.lane_look.specs.declared.lane.Ask.TheVariants.{Lines, Half}
 use Rattle.lane_look.specs.declared.lane.Turn.TheVariants as turn
+use Rattle.lane_look.specs.declared.lane.Want.TheVariants as want
 use Rattle.lane_look.specs.Asking.{Asking, answered}
 use Rattle.lane_look.specs.Asking.Asking.{Ready, Question}
 use Rattle.m0_core.specs.declared.doing.Act.{Act}
 use Rattle.m0_core.specs.declared.doing.Act.TheVariants as act
-use Rattle.m0_core.specs.declared.doing.Doing.{Doing}
-use Rattle.m0_core.specs.declared.doing.Work.{Work}
 use Rattle.m0_core.specs.declared.doing.Work.TheVariants as works
-use Rattle.m0_core.specs.Kinds.{is_breakpoint, awaits_event, awaits_interrupt}
+use Rattle.m0_core.specs.Kinds.{awaits_event, awaits_interrupt}
 use Rattle.m0_core.specs.Private.{word_written, private_value, accessed}
-use Rattle.m0_core.specs.Fetch.{master_of, stopped, asks, asks_awake, asks_next, asks_boundary, asks_taken, asks_first, asks_half, asks_second, asks_decoded, asks_fault, asks_beat, beat_of, in_beat, in_ram, in_private, at_spot, carried, ends_with, is_ram, is_faulty, taken_of}
-use Rattle.m0_core.specs.Cycle.{want_of, want_of_act, with_value, waiting, followed, with_read, returning, ended, passed_instruction, passed, is_held_op, after_inner, done_word, value_of, after_private, after, closed, is_idle, next}
+use Rattle.m0_core.specs.Fetch.{master_of, stopped, asks, asks_awake, asks_next, asks_boundary, asks_taken, asks_first, asks_half, asks_second, asks_decoded, asks_fault, asks_beat, beat_of, in_beat, in_ram, at_spot, carried, ends_with, is_faulty}
+use Rattle.m0_core.specs.Cycle.{signals, want_of, want_of_act, with_value, waiting, followed, with_read, returning, ended, passed_instruction, passed, is_held_op, after_inner, done_word, value_of, after_private, after, closed, is_idle, next}
 use Rattle.m0_core.specs.State.{State}
-use Rattle.m0_core.specs.Law.{Given, turn_of, begun_in, wanted_in, after_cycle, after_cycles, is_stop, GoesOn, read_at, read_in, reads_in, IsAtBoundary, half_at, IsEncoded, IsFetched, IsPlain, IsInProgress, IsOver, AnInstructionTakesItsBeats}
+use Rattle.m0_core.specs.Law.{Given, turn_of, begun_in, wanted_in, after_cycle, after_cycles, is_stop, GoesOn, want_at, want_of_beat, wants_in, read_at, read_in, reads_in, IsAtBoundary, half_at, IsEncoded, IsFetched, IsPlain, AnInstructionTakesItsBeats, LastsOn, is_access, AnAccessLastsUntilItIsDone}
 use Rattle.m0_core.proofs.ReadCount.{reads_one, is_read, reading, reading-le}
 
 -- ---- states in the middle of an instruction
@@ -234,14 +233,19 @@ beat_at : (op : Op) (s : State) (b : Beat) → slice_get (beats_of op s.regs) s.
 unfolding beat_of
 beat_at op s b e = ap (λ o. unwrap_or o Inner) e
 
+begun_beat : (op : Op) (g : Given) (cycle : ℕ) (s : State) (b : Beat) → s.asleep ≡ false → Begins op g s → slice_get (beats_of op s.regs) s.place ≡ Some b
+    → begun_in cycle g s ≡ ends_with (g.answers Lines % 2 ^ 32) cycle (answered g.answers (in_beat (works.Instruction op) s b))
+begun_beat op g cycle s b awake begins at =
+    begun_awake g cycle s awake
+    ∙ ap (ends_with (g.answers Lines % 2 ^ 32) cycle) (begins ∙ ap (answered g.answers) (asks_beat_in op s b (beat_at op s b at)))
+
 lands_cycle : (op : Op) (g : Given) (cycle : ℕ) (s : State) (b : Beat) → s.asleep ≡ false → awaits_event op ≡ false → awaits_interrupt op ≡ false → Begins op g s
     → slice_get (beats_of op s.regs) s.place ≡ Some b → is_stop (wanted_in cycle g s) ≡ false → Lands op s.regs s.place (with_value s.read (read_in b g s)) (after_cycle cycle g s)
 lands_cycle op g cycle s b awake e i begins at goes =
-    let lines = g.answers Lines % 2 ^ 32 in
     let a = answered g.answers (in_beat (works.Instruction op) s b) in
-    let begun = begun_awake g cycle s awake ∙ ap (ends_with lines cycle) (begins ∙ ap (answered g.answers) (asks_beat_in op s b (beat_at op s b at))) in
+    let begun = begun_beat op g cycle s b awake begins at in
     subst (λ u. Lands op s.regs s.place (with_value s.read (read_in b g s)) u) (sym (after_begun g cycle s a begun))
-    (lands_beat op g s lines cycle b awake e i (sym (ap (λ d. is_stop (want_of d)) begun) ∙ goes))
+    (lands_beat op g s (g.answers Lines % 2 ^ 32) cycle b awake e i (sym (ap (λ d. is_stop (want_of d)) begun) ∙ goes))
 
 -- at the place where the instruction stands
 lands_standing : (op : Op) (regs : Regs) (place : ℕ) (read next_read : List ℕ) (g : Given) (cycle : ℕ) (s : State) (b : Beat) → Stands regs place read s → awaits_event op ≡ false → awaits_interrupt op ≡ false → Begins op g s
@@ -277,35 +281,87 @@ at_place (x ∷ xs) b ys = at_place xs b ys
 long_as : (beats done rest : List Beat) → beats ≡ done ++ rest → length beats ≡ length done + length rest
 long_as beats done rest e = ap length e ∙ length-append done rest
 
+-- ---- what a beat wants
+
+wants_ram : (op : Op) (g : Given) (request : Request) (w : Option ℕ) → want_of_act (answered g.answers (in_ram (works.Instruction op) request w)) ≡ want.Ram request
+wants_ram op g request None = refl
+wants_ram op g request (Some write) = refl
+
+wants_private : (op : Op) (g : Given) (s : State) (offset : ℕ) (request : Request) (b : Bool)
+    → is_stop (want_of_act (answered g.answers (cond b (Ready (act.Private (works.Instruction op) request offset)) (stopped (why.Outside (master_of s.number) request.address))))) ≡ false
+    → want_of_act (answered g.answers (cond b (Ready (act.Private (works.Instruction op) request offset)) (stopped (why.Outside (master_of s.number) request.address)))) ≡ want.Nothing
+wants_private op g s offset request true goes = refl
+wants_private op g s offset request false goes = absurd (true≢false goes)
+
+wants_place : (op : Op) (g : Given) (s : State) (request : Request) (place : Spot)
+    → is_stop (want_of_act (answered g.answers (at_spot (works.Instruction op) request s place))) ≡ false
+    → want_of_act (answered g.answers (at_spot (works.Instruction op) request s place)) ≡ want_at place request
+wants_place op g s request (spot.Ram index bank) goes = wants_ram op g request request.write
+wants_place op g s request (spot.Ppb offset) goes = wants_private op g s offset request (is_allowed s.nvic offset (word_written request.size request.write)) goes
+wants_place op g s request (spot.Sio offset) goes = refl
+wants_place op g s request (spot.Reg block offset alias) goes = refl
+wants_place op g s request spot.Outside goes = refl
+
+wants_beat : (op : Op) (g : Given) (s : State) (b : Beat)
+    → is_stop (want_of_act (answered g.answers (in_beat (works.Instruction op) s b))) ≡ false
+    → want_of_act (answered g.answers (in_beat (works.Instruction op) s b)) ≡ want_of_beat op b
+wants_beat op g s Inner goes = refl
+wants_beat op g s (Access request) goes = wants_place op g s request (place_of request.address) goes
+
+wants_cycle : (op : Op) (g : Given) (cycle : ℕ) (s : State) (b : Beat) → s.asleep ≡ false → Begins op g s
+    → slice_get (beats_of op s.regs) s.place ≡ Some b → is_stop (wanted_in cycle g s) ≡ false → wanted_in cycle g s ≡ want_of_beat op b
+wants_cycle op g cycle s b awake begins at goes =
+    let e = ap want_of (begun_beat op g cycle s b awake begins at) in
+    e ∙ wants_beat op g s b (sym (ap is_stop e) ∙ goes)
+
+wants_standing : (op : Op) (regs : Regs) (place : ℕ) (read : List ℕ) (g : Given) (cycle : ℕ) (s : State) (b : Beat) → Stands regs place read s → Begins op g s
+    → slice_get (beats_of op regs) place ≡ Some b → is_stop (wanted_in cycle g s) ≡ false → wanted_in cycle g s ≡ want_of_beat op b
+wants_standing op regs place read g cycle s b stands begins at goes =
+    wants_cycle op g cycle s b stands.awake begins (ap₂ (λ (r : Regs) (k : ℕ). slice_get (beats_of op r) k) stands.kept stands.so_far ∙ at) goes
+
 -- ---- all cycles
 
-abbrev Comes : Op → Regs → List Beat → List Given → List ℕ → ℕ → State → Type 0
-Comes op regs rest gs read cycle s =
-    (length gs < length rest → ((after_cycles cycle gs s).regs ≡ regs) × ((after_cycles cycle gs s).work ≡ Some (works.Instruction op)))
-    × (length gs ≡ length rest → Ends op regs (read ++ reads_in cycle rest gs s) (after_cycles cycle gs s))
+record Comes (op : Op) (regs : Regs) (rest : List Beat) (gs : List Given) (read : List ℕ) (cycle : ℕ) (s : State) : Type 0 where
+  in_progress : length gs < length rest → ((after_cycles cycle gs s).regs ≡ regs) × ((after_cycles cycle gs s).work ≡ Some (works.Instruction op))
+  wants : length gs ≡ length rest → wants_in cycle gs s ≡ map (want_of_beat op) rest
+  over : length gs ≡ length rest → Ends op regs (read ++ reads_in cycle rest gs s) (after_cycles cycle gs s)
 
 comes : (op : Op) (regs : Regs) → awaits_event op ≡ false → awaits_interrupt op ≡ false
     → (rest : List Beat) (g : Given) (gs : List Given) (done : List Beat) (read : List ℕ) (cycle : ℕ) (s : State)
     → beats_of op regs ≡ done ++ rest → Stands regs (length done) read s → length read + reading rest ≤ 16 → Begins op g s → GoesOn cycle (g ∷ gs) s
     → Comes op regs rest (g ∷ gs) read cycle s
-comes op regs e i [] g gs done read cycle s split stands count begins goes = (λ h. absurd (omega arith), λ h. absurd (omega (arith, h)))
+comes op regs e i [] g gs done read cycle s split stands count begins goes = record {
+  in_progress = λ h. absurd (omega (arith, h));
+  wants = λ h. absurd (omega (arith, h));
+  over = λ h. absurd (omega (arith, h));
+}
 comes op regs e i (b ∷ []) g [] done read cycle s split stands count begins goes =
     let v = read_in b g s in
     let reads : with_value read v ≡ read ++ option_to_list v = value_kept read v (omega (arith, reads_beat b g s)) in
     let at : slice_get (beats_of op regs) (length done) ≡ Some b = ap (λ bs. slice_get bs (length done)) split ∙ at_place done b [] in
-    let lands = lands_standing op regs (length done) read (read ++ option_to_list v) g cycle s b stands e i begins at goes.0 reads in (
-      λ h. absurd (omega arith),
-      λ h. subst (λ xs. Ends op regs (read ++ xs) (after_cycle cycle g s)) (sym (append-nil (option_to_list v)))
-          (lands.ends (omega (arith, long_as (beats_of op regs) done (b ∷ []) split))),
-    )
-comes op regs e i (b ∷ []) g (g' ∷ gs) done read cycle s split stands count begins goes = (λ h. absurd (omega arith), λ h. absurd (omega (arith, h)))
+    let lands = lands_standing op regs (length done) read (read ++ option_to_list v) g cycle s b stands e i begins at goes.0 reads in
+    record {
+      in_progress = λ h. absurd (omega (arith, h));
+      wants = λ h. ap (λ w. w ∷ []) (wants_standing op regs (length done) read g cycle s b stands begins at goes.0);
+      over = λ h. subst (λ xs. Ends op regs (read ++ xs) (after_cycle cycle g s)) (sym (append-nil (option_to_list v)))
+          (lands.ends (omega (arith, long_as (beats_of op regs) done (b ∷ []) split)));
+    }
+comes op regs e i (b ∷ []) g (g' ∷ gs) done read cycle s split stands count begins goes = record {
+  in_progress = λ h. absurd (omega (arith, h));
+  wants = λ h. absurd (omega (arith, h));
+  over = λ h. absurd (omega (arith, h));
+}
 comes op regs e i (b ∷ c ∷ rest) g [] done read cycle s split stands count begins goes =
     let v = read_in b g s in
     let reads : with_value read v ≡ read ++ option_to_list v = value_kept read v (omega (arith, reads_beat b g s)) in
     let at : slice_get (beats_of op regs) (length done) ≡ Some b = ap (λ bs. slice_get bs (length done)) split ∙ at_place done b (c ∷ rest) in
     let lands = lands_standing op regs (length done) read (read ++ option_to_list v) g cycle s b stands e i begins at goes.0 reads in
     let more = lands.goes_on (omega (arith, long_as (beats_of op regs) done (b ∷ c ∷ rest) split)) in
-    (λ h. (more.0.kept, more.1), λ h. absurd (omega (arith, h)))
+    record {
+      in_progress = λ h. (more.0.kept, more.1);
+      wants = λ h. absurd (omega (arith, h));
+      over = λ h. absurd (omega (arith, h));
+    }
 comes op regs e i (b ∷ c ∷ rest) g (g' ∷ gs) done read cycle s split stands count begins goes =
     let v = read_in b g s in
     let u = after_cycle cycle g s in
@@ -316,16 +372,44 @@ comes op regs e i (b ∷ c ∷ rest) g (g' ∷ gs) done read cycle s split stand
     let stands' : Stands regs (length (done ++ b ∷ [])) (read ++ option_to_list v) u = subst (λ n. Stands regs n (read ++ option_to_list v) u) (sym (length-append done (b ∷ []))) more.0 in
     let split' : beats_of op regs ≡ (done ++ b ∷ []) ++ c ∷ rest = split ∙ sym (append_assoc done (b ∷ []) (c ∷ rest)) in
     let count' : length (read ++ option_to_list v) + reading (c ∷ rest) ≤ 16 = omega (arith, length-append read (option_to_list v), reads_beat b g s, count) in
-    let all = comes op regs e i (c ∷ rest) g' gs (done ++ b ∷ []) (read ++ option_to_list v) (cycle + 1) u split' stands' count' (begins_on op g' u more.1) goes.1 in (
-      λ h. all.0 (omega (arith, h)),
-      λ h. subst (λ xs. Ends op regs xs (after_cycles (cycle + 1) (g' ∷ gs) u)) (append_assoc read (option_to_list v) (reads_in (cycle + 1) (c ∷ rest) (g' ∷ gs) u))
-          (all.1 (omega (arith, h))),
-    )
+    let all = comes op regs e i (c ∷ rest) g' gs (done ++ b ∷ []) (read ++ option_to_list v) (cycle + 1) u split' stands' count' (begins_on op g' u more.1) goes.1 in
+    record {
+      in_progress = λ h. all.in_progress (omega (arith, h));
+      wants = λ h. ap₂ (λ w ws. w ∷ ws) (wants_standing op regs (length done) read g cycle s b stands begins at goes.0) (all.wants (omega (arith, h)));
+      over = λ h. subst (λ xs. Ends op regs xs (after_cycles (cycle + 1) (g' ∷ gs) u)) (append_assoc read (option_to_list v) (reads_in (cycle + 1) (c ∷ rest) (g' ∷ gs) u))
+          (all.over (omega (arith, h)));
+    }
 
 pub an_instruction_takes_its_beats : AnInstructionTakesItsBeats
 an_instruction_takes_its_beats op s cycle g gs at fetched plain goes =
     let stands : Stands s.regs 0 [] s = record { awake = at.awake; kept = refl; so_far = at.first; values = at.fresh } in
-    let all = comes op s.regs plain.no_event plain.no_interrupt (beats_of op s.regs) g gs [] [] cycle s refl stands (omega (arith, reading-le op s.regs)) (begins_boundary op g s at fetched plain) goes in (
-      λ h. all.0 h,
-      λ h. let x = all.1 h in record { awake = x.awake; effect = x.effect; then_returns = x.then_returns; first = x.first; fresh = x.fresh },
-    )
+    let all = comes op s.regs plain.no_event plain.no_interrupt (beats_of op s.regs) g gs [] [] cycle s refl stands (omega (arith, reading-le op s.regs)) (begins_boundary op g s at fetched plain) goes in
+    record {
+      in_progress = all.in_progress;
+      wants = all.wants;
+      over = λ h. let x = all.over h in record { awake = x.awake; effect = x.effect; then_returns = x.then_returns; first = x.first; fresh = x.fresh };
+    }
+
+-- ---- accesses that wait
+
+lasts_closed : (lines cycle : ℕ) (s t : State) → LastsOn s t → LastsOn s (closed lines cycle t)
+unfolding closed
+lasts_closed lines cycle s t h = record { awake = h.awake; kept = h.kept; so_far = h.so_far; values = h.values }
+
+lasts_inner : (signals : Bool) {A : Type 0} → is_access (cond signals want.Signal want.Nothing) ≡ true → A
+lasts_inner true e = absurd (true≢false (sym e))
+lasts_inner false e = absurd (true≢false (sym e))
+
+lasts_act : (s : State) (lines cycle : ℕ) (a : Act) → is_access (want_of_act a) ≡ true → LastsOn s (next s (ends_with lines cycle a) (turn.Wait ∷ turn.Nothing ∷ []))
+unfolding next
+lasts_act s lines cycle act.Asleep e = absurd (true≢false (sym e))
+lasts_act s lines cycle (act.Stopped cause) e = absurd (true≢false (sym e))
+lasts_act s lines cycle act.Fault e = absurd (true≢false (sym e))
+lasts_act s lines cycle (act.Inner work) e = lasts_inner (signals work) e
+lasts_act s lines cycle (act.Read work request told) e = lasts_closed lines cycle s (waiting work s) (record { awake = refl; kept = refl; so_far = refl; values = refl })
+lasts_act s lines cycle (act.Write work request) e = lasts_closed lines cycle s (waiting work s) (record { awake = refl; kept = refl; so_far = refl; values = refl })
+lasts_act s lines cycle (act.Outward work request) e = lasts_closed lines cycle s (waiting work s) (record { awake = refl; kept = refl; so_far = refl; values = refl })
+lasts_act s lines cycle (act.Private work request offset) e = absurd (true≢false (sym e))
+
+pub an_access_lasts_until_it_is_done : AnAccessLastsUntilItIsDone
+an_access_lasts_until_it_is_done s begun e = lasts_act s begun.lines begun.cycle begun.act e

@@ -1,7 +1,7 @@
 -- An instruction takes its beats: what the cycles of a core come to, instruction by instruction (ARMv6-M Architecture Reference
 -- Manual, A6.7, Operation, for registers and flags, and B1.5.8, ExceptionReturn, for what BX and POP begin; ARM Cortex-M0+
 -- Technical Reference Manual, 3.3, for the number of cycles).
-use Rattle.std.specs.Prelude.{◌≡◌, ℕ, ◌+◌, ◌%◌, ◌^◌, ◌<◌, Bool, true, false, List, [], ◌∷◌, ◌++◌, length, Option, Some, None, option_to_list}
+use Rattle.std.specs.Prelude.{◌≡◌, ℕ, ◌+◌, ◌%◌, ◌^◌, ◌<◌, Bool, true, false, List, [], ◌∷◌, ◌++◌, length, map, if◌then◌else◌, Option, Some, None, option_to_list}
 use Rattle.rp_base.specs.declared.Request.{Request}
 use Rattle.rp_base.specs.declared.map.Spot.{Spot}
 use Rattle.rp_base.specs.declared.map.Spot.TheVariants as spot
@@ -20,9 +20,8 @@ use Rattle.lane_look.specs.declared.lane.Turn.{Turn}
 use Rattle.lane_look.specs.declared.lane.Turn.TheVariants as turn
 use Rattle.lane_look.specs.Asking.{answered}
 use Rattle.m0_core.specs.declared.doing.Doing.{Doing}
-use Rattle.m0_core.specs.declared.doing.Work.{Work}
 use Rattle.m0_core.specs.declared.doing.Work.TheVariants as works
-use Rattle.m0_core.specs.Kinds.{is_breakpoint, awaits_event, awaits_interrupt}
+use Rattle.m0_core.specs.Kinds.{is_breakpoint, is_signal, awaits_event, awaits_interrupt}
 use Rattle.m0_core.specs.Lanes.{lanes_of}
 use Rattle.m0_core.specs.Private.{private_word}
 use Rattle.m0_core.specs.Fetch.{asks, is_ram, is_faulty, taken_of}
@@ -95,6 +94,24 @@ reads_in cycle (beat ∷ beats) (g ∷ gs) s =
     option_to_list (read_in beat g s) ++ reads_in (cycle + 1) beats gs (after_cycle cycle g s)
 reads_in cycle _ _ s = []
 
+-- ---- what is wanted
+
+-- an access goes to SRAM or outwards; one of the private bus is the core's own
+abbrev pub want_at : Spot → Request → Want
+want_at (spot.Ram index bank) request = want.Ram request
+want_at (spot.Ppb offset) request = want.Nothing
+want_at _ request = want.Outward request
+
+-- a beat wants its access, and that of SEV signals
+abbrev pub want_of_beat : Op → Beat → Want
+want_of_beat op Inner = if is_signal op then want.Signal else want.Nothing
+want_of_beat op (Access request) = want_at (place_of request.address) request
+
+-- what the core wants in these cycles
+abbrev pub wants_in : ℕ → List Given → State → List Want
+wants_in cycle [] s = []
+wants_in cycle (g ∷ gs) s = wanted_in cycle g s ∷ wants_in (cycle + 1) gs (after_cycle cycle g s)
+
 -- ---- the beginning
 
 -- an awake core is at a boundary between two instructions, and takes no exception there
@@ -134,7 +151,8 @@ pub record IsPlain (op : Op) (s : State) : Type 0 where
 abbrev pub IsInProgress : Op → State → State → Type 0
 IsInProgress op s t = (t.regs ≡ s.regs) × (t.work ≡ Some (works.Instruction op))
 
--- it is over: registers and flags are what it leaves; the core is at a boundary, or begins the return that BX or POP asks for
+-- it is over: registers and flags are what it leaves, and the core is at a boundary, or begins the return that BX or POP asks
+-- for
 pub record IsOver (op : Op) (reads : List ℕ) (s t : State) : Type 0 where
   pub awake : t.asleep ≡ false
   pub effect : t.regs ≡ effect_of op s.regs reads
@@ -142,8 +160,15 @@ pub record IsOver (op : Op) (reads : List ℕ) (s t : State) : Type 0 where
   pub first : t.place ≡ 0
   pub fresh : t.read ≡ []
 
--- an instruction takes its beats: in fewer cycles than it has beats it changes neither registers nor flags, and in as many
--- it is over. This holds whatever the interrupt lines and the system timer do
+-- after these cycles: where they are fewer than the beats, the instruction is in progress; where they are as many, each wanted
+-- what its beat wants, and the instruction is over
+pub record TakesItsBeats (op : Op) (cycle : ℕ) (gs : List Given) (s : State) : Type 0 where
+  pub in_progress : length gs < length (beats_of op s.regs) → IsInProgress op s (after_cycles cycle gs s)
+  pub wants : length gs ≡ length (beats_of op s.regs) → wants_in cycle gs s ≡ map (want_of_beat op) (beats_of op s.regs)
+  pub over : length gs ≡ length (beats_of op s.regs) → IsOver op (reads_in cycle (beats_of op s.regs) gs s) s (after_cycles cycle gs s)
+
+-- an instruction that a core begins at a boundary takes its beats, one a cycle where each access is done in the cycle in which
+-- it is asked for. This holds whatever the interrupt lines and the system timer do
 abbrev pub AnInstructionTakesItsBeats : Type 0
 AnInstructionTakesItsBeats =
     (op : Op) (s : State) (cycle : ℕ) (g : Given) (gs : List Given)
@@ -151,6 +176,24 @@ AnInstructionTakesItsBeats =
     → IsFetched g.answers s.regs.pc op
     → IsPlain op s
     → GoesOn cycle (g ∷ gs) s
-    → (length (g ∷ gs) < length (beats_of op s.regs) → IsInProgress op s (after_cycles cycle (g ∷ gs) s))
-    × (length (g ∷ gs) ≡ length (beats_of op s.regs)
-    → IsOver op (reads_in cycle (beats_of op s.regs) (g ∷ gs) s) s (after_cycles cycle (g ∷ gs) s))
+    → TakesItsBeats op cycle (g ∷ gs) s
+
+-- ---- accesses that wait
+
+-- a core has an access that is not done in the cycle: the beat lasts on, and registers and flags are as they were
+pub record LastsOn (s t : State) : Type 0 where
+  pub awake : t.asleep ≡ s.asleep
+  pub kept : t.regs ≡ s.regs
+  pub so_far : t.place ≡ s.place
+  pub values : t.read ≡ s.read
+
+abbrev pub is_access : Want → Bool
+is_access (want.Ram request) = true
+is_access (want.Outward request) = true
+is_access _ = false
+
+abbrev pub AnAccessLastsUntilItIsDone : Type 0
+AnAccessLastsUntilItIsDone =
+    (s : State) (begun : Doing)
+    → is_access (want_of begun) ≡ true
+    → LastsOn s (next s begun (turn.Wait ∷ turn.Nothing ∷ []))
