@@ -35,24 +35,24 @@ use Rattle.m0_core.proofs.ReadCount.{reads_one, is_read, reading, reading-le}
 -- ---- states in the middle of an instruction
 
 -- so many beats are over, and these values were read
-record Stands (regs : Regs) (place : ℕ) (read : List ℕ) (s : State) : Type 0 where
-  awake : s.asleep ≡ false
-  kept : s.regs ≡ regs
-  so_far : s.place ≡ place
-  values : s.read ≡ read
+pub record Stands (regs : Regs) (place : ℕ) (read : List ℕ) (s : State) : Type 0 where
+  pub awake : s.asleep ≡ false
+  pub kept : s.regs ≡ regs
+  pub so_far : s.place ≡ place
+  pub values : s.read ≡ read
 
 -- the instruction is over
-record Ends (op : Op) (regs : Regs) (read : List ℕ) (s : State) : Type 0 where
-  awake : s.asleep ≡ false
-  effect : s.regs ≡ effect_of op regs read
-  then_returns : s.work ≡ returning (return_of op regs read)
-  first : s.place ≡ 0
-  fresh : s.read ≡ []
+pub record Ends (op : Op) (regs : Regs) (read : List ℕ) (s : State) : Type 0 where
+  pub awake : s.asleep ≡ false
+  pub effect : s.regs ≡ effect_of op regs read
+  pub then_returns : s.work ≡ returning (return_of op regs read)
+  pub first : s.place ≡ 0
+  pub fresh : s.read ≡ []
 
 -- after the beat of that place
-record Lands (op : Op) (regs : Regs) (place : ℕ) (read : List ℕ) (s : State) : Type 0 where
-  goes_on : place + 1 < length (beats_of op regs) → Stands regs (place + 1) read s × (s.work ≡ Some (works.Instruction op))
-  ends : length (beats_of op regs) ≤ place + 1 → Ends op regs read s
+pub record Lands (op : Op) (regs : Regs) (place : ℕ) (read : List ℕ) (s : State) : Type 0 where
+  pub goes_on : place + 1 < length (beats_of op regs) → Stands regs (place + 1) read s × (s.work ≡ Some (works.Instruction op))
+  pub ends : length (beats_of op regs) ≤ place + 1 → Ends op regs read s
 
 stands_followed : (op : Op) (value : Option ℕ) (t : State) → t.asleep ≡ false → Stands t.regs (t.place + 1) (with_value t.read value) (followed (works.Instruction op) (with_read value t))
 stands_followed op value t awake = record { awake = awake; kept = refl; so_far = refl; values = refl }
@@ -178,10 +178,10 @@ begun_awake g cycle s awake =
     ∙ answered_carried g.answers (g.answers Lines % 2 ^ 32) cycle (asks_awake s)
 
 -- the cycle begins the next beat of the instruction
-abbrev Begins : Op → Given → State → Type 0
+abbrev pub Begins : Op → Given → State → Type 0
 Begins op g s = answered g.answers (asks_awake s) ≡ answered g.answers (asks_beat (works.Instruction op) s)
 
-begins_on : (op : Op) (g : Given) (s : State) → s.work ≡ Some (works.Instruction op) → Begins op g s
+pub begins_on : (op : Op) (g : Given) (s : State) → s.work ≡ Some (works.Instruction op) → Begins op g s
 unfolding asks_awake
 begins_on op g s e = ap (λ w. answered g.answers (asks_next w s)) e
 
@@ -211,7 +211,7 @@ begins_first op g s fetched =
     ap (λ b. answered g.answers (cond b (Question (Half s.regs.pc) (λ half. asks_second (half % 2 ^ 16) s)) (stopped (why.Outside (master_of s.number) s.regs.pc)))) fetched.0
     ∙ begins_second op g s (begins_long (half_at g.answers s.regs.pc)) refl fetched.1
 
-begins_boundary : (op : Op) (g : Given) (s : State) → IsAtBoundary s → IsFetched g.answers s.regs.pc op → IsPlain op s → Begins op g s
+pub begins_boundary : (op : Op) (g : Given) (s : State) → IsAtBoundary s → IsFetched g.answers s.regs.pc op → IsPlain op s → Begins op g s
 unfolding asks_awake asks_boundary
 begins_boundary op g s at fetched plain =
     ap (λ w. answered g.answers (asks_next w s)) at.between
@@ -233,7 +233,7 @@ beat_at : (op : Op) (s : State) (b : Beat) → slice_get (beats_of op s.regs) s.
 unfolding beat_of
 beat_at op s b e = ap (λ o. unwrap_or o Inner) e
 
-begun_beat : (op : Op) (g : Given) (cycle : ℕ) (s : State) (b : Beat) → s.asleep ≡ false → Begins op g s → slice_get (beats_of op s.regs) s.place ≡ Some b
+pub begun_beat : (op : Op) (g : Given) (cycle : ℕ) (s : State) (b : Beat) → s.asleep ≡ false → Begins op g s → slice_get (beats_of op s.regs) s.place ≡ Some b
     → begun_in cycle g s ≡ ends_with (g.answers Lines % 2 ^ 32) cycle (answered g.answers (in_beat (works.Instruction op) s b))
 begun_beat op g cycle s b awake begins at =
     begun_awake g cycle s awake
@@ -248,7 +248,7 @@ lands_cycle op g cycle s b awake e i begins at goes =
     (lands_beat op g s (g.answers Lines % 2 ^ 32) cycle b awake e i (sym (ap (λ d. is_stop (want_of d)) begun) ∙ goes))
 
 -- at the place where the instruction stands
-lands_standing : (op : Op) (regs : Regs) (place : ℕ) (read next_read : List ℕ) (g : Given) (cycle : ℕ) (s : State) (b : Beat) → Stands regs place read s → awaits_event op ≡ false → awaits_interrupt op ≡ false → Begins op g s
+pub lands_standing : (op : Op) (regs : Regs) (place : ℕ) (read next_read : List ℕ) (g : Given) (cycle : ℕ) (s : State) (b : Beat) → Stands regs place read s → awaits_event op ≡ false → awaits_interrupt op ≡ false → Begins op g s
     → slice_get (beats_of op regs) place ≡ Some b → is_stop (wanted_in cycle g s) ≡ false → with_value read (read_in b g s) ≡ next_read → Lands op regs place next_read (after_cycle cycle g s)
 lands_standing op regs place read next_read g cycle s b stands e i begins at goes reads =
     let here : slice_get (beats_of op s.regs) s.place ≡ Some b = ap₂ (λ (r : Regs) (k : ℕ). slice_get (beats_of op r) k) stands.kept stands.so_far ∙ at in
@@ -260,7 +260,7 @@ lands_standing op regs place read next_read g cycle s b stands e i begins at goe
 
 -- ---- the values that are read
 
-value_kept : (read : List ℕ) (v : Option ℕ) → length read + length (option_to_list v) ≤ 16 → with_value read v ≡ read ++ option_to_list v
+pub value_kept : (read : List ℕ) (v : Option ℕ) → length read + length (option_to_list v) ≤ 16 → with_value read v ≡ read ++ option_to_list v
 value_kept read None h = sym (append-nil read)
 value_kept read (Some x) h = ap (λ b. cond b (read ++ x ∷ []) read) (lt-ltb (length read) 16 (omega arith))
 
@@ -268,17 +268,17 @@ reads_access : (place : Spot) (request : Request) (w : Option ℕ) (g : Given) (
 reads_access place request None g s = refl
 reads_access place request (Some write) g s = refl
 
-reads_beat : (b : Beat) (g : Given) (s : State) → length (option_to_list (read_in b g s)) ≡ reads_one b
+pub reads_beat : (b : Beat) (g : Given) (s : State) → length (option_to_list (read_in b g s)) ≡ reads_one b
 reads_beat Inner g s = refl
 reads_beat (Access request) g s = reads_access (place_of request.address) request request.write g s
 
 -- ---- places in a list
 
-at_place : (xs : List Beat) (b : Beat) (ys : List Beat) → slice_get (xs ++ b ∷ ys) (length xs) ≡ Some b
+pub at_place : (xs : List Beat) (b : Beat) (ys : List Beat) → slice_get (xs ++ b ∷ ys) (length xs) ≡ Some b
 at_place [] b ys = refl
 at_place (x ∷ xs) b ys = at_place xs b ys
 
-long_as : (beats done rest : List Beat) → beats ≡ done ++ rest → length beats ≡ length done + length rest
+pub long_as : (beats done rest : List Beat) → beats ≡ done ++ rest → length beats ≡ length done + length rest
 long_as beats done rest e = ap length e ∙ length-append done rest
 
 -- ---- what a beat wants
@@ -302,7 +302,7 @@ wants_place op g s request (spot.Sio offset) goes = refl
 wants_place op g s request (spot.Reg block offset alias) goes = refl
 wants_place op g s request spot.Outside goes = refl
 
-wants_beat : (op : Op) (g : Given) (s : State) (b : Beat)
+pub wants_beat : (op : Op) (g : Given) (s : State) (b : Beat)
     → is_stop (want_of_act (answered g.answers (in_beat (works.Instruction op) s b))) ≡ false
     → want_of_act (answered g.answers (in_beat (works.Instruction op) s b)) ≡ want_of_beat op b
 wants_beat op g s Inner goes = refl
@@ -314,7 +314,7 @@ wants_cycle op g cycle s b awake begins at goes =
     let e = ap want_of (begun_beat op g cycle s b awake begins at) in
     e ∙ wants_beat op g s b (sym (ap is_stop e) ∙ goes)
 
-wants_standing : (op : Op) (regs : Regs) (place : ℕ) (read : List ℕ) (g : Given) (cycle : ℕ) (s : State) (b : Beat) → Stands regs place read s → Begins op g s
+pub wants_standing : (op : Op) (regs : Regs) (place : ℕ) (read : List ℕ) (g : Given) (cycle : ℕ) (s : State) (b : Beat) → Stands regs place read s → Begins op g s
     → slice_get (beats_of op regs) place ≡ Some b → is_stop (wanted_in cycle g s) ≡ false → wanted_in cycle g s ≡ want_of_beat op b
 wants_standing op regs place read g cycle s b stands begins at goes =
     wants_cycle op g cycle s b stands.awake begins (ap₂ (λ (r : Regs) (k : ℕ). slice_get (beats_of op r) k) stands.kept stands.so_far ∙ at) goes
@@ -396,7 +396,7 @@ lasts_closed : (lines cycle : ℕ) (s t : State) → LastsOn s t → LastsOn s (
 unfolding closed
 lasts_closed lines cycle s t h = record { awake = h.awake; kept = h.kept; so_far = h.so_far; values = h.values }
 
-lasts_inner : (signals : Bool) {A : Type 0} → is_access (cond signals want.Signal want.Nothing) ≡ true → A
+pub lasts_inner : (signals : Bool) {A : Type 0} → is_access (cond signals want.Signal want.Nothing) ≡ true → A
 lasts_inner true e = absurd (true≢false (sym e))
 lasts_inner false e = absurd (true≢false (sym e))
 

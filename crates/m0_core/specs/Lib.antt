@@ -8,3 +8,4 @@ pub mod Private
 pub mod Return
 pub mod Start
 pub mod State
+pub mod Waiting
