@@ -1,5 +1,5 @@
 -- An instruction takes its beats also where its accesses wait.
-use Rattle.std.proofs.Common.{◌≡◌, ℕ, zero, suc, ◌+◌, ◌%◌, ◌^◌, ◌<◌, ◌≤◌, Bool, true, false, cond, List, [], ◌∷◌, ◌++◌, length, refl, sym, ap, ap₂, subst, ◌∙◌, arith, append_assoc, append-nil, length-append, true≢false}
+use Rattle.std.proofs.Common.{◌≡◌, ℕ, ◌+◌, ◌%◌, ◌^◌, ◌≤◌, Bool, true, false, cond, List, [], ◌∷◌, ◌++◌, length, refl, sym, ap, ap₂, subst, ◌∙◌, arith, append_assoc, append-nil, length-append, true≢false}
 use Rattle.std.specs.Prelude.{Option, Some, None, option_to_list, slice_get}
 use Rattle.rp_base.specs.declared.Request.{Request}
 use Rattle.rp_base.specs.declared.map.Spot.{Spot}
@@ -18,7 +18,7 @@ use Rattle.lane_look.specs.Asking.{answered}
 use Rattle.m0_core.specs.declared.doing.Work.TheVariants as works
 use Rattle.m0_core.specs.Kinds.{is_signal, awaits_event, awaits_interrupt}
 use Rattle.m0_core.specs.Fetch.{in_beat, in_ram, at_spot, ends_with}
-use Rattle.m0_core.specs.Cycle.{with_value, closed, next}
+use Rattle.m0_core.specs.Cycle.{closed, next}
 use Rattle.m0_core.specs.State.{State}
 use Rattle.m0_core.specs.Law.{Given, turn_of, begun_in, wanted_in, after_cycle, is_stop, is_access, read_in, want_at, want_of_beat}
 use Rattle.m0_core.specs.Waiting.{Served, wait_of, turn_served, after_served, after_all_served, GoesOnServed, is_over, left_after, reads_served, AnInstructionTakesItsBeatsAndWaits}

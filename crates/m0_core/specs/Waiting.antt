@@ -5,7 +5,6 @@ use Rattle.rp_base.specs.declared.op.Op.{Op}
 use Rattle.m0_beats.specs.declared.timing.Beat.{Beat}
 use Rattle.m0_beats.specs.Beats.{beats_of}
 use Rattle.lane_look.specs.declared.lane.Want.{Want}
-use Rattle.lane_look.specs.declared.lane.Want.TheVariants as want
 use Rattle.lane_look.specs.declared.lane.Turn.{Turn}
 use Rattle.lane_look.specs.declared.lane.Turn.TheVariants as turn
 use Rattle.m0_core.specs.Cycle.{next}
