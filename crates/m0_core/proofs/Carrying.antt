@@ -1,10 +1,9 @@
 -- What was begun is carried to the end of the cycle with the lines and the cycle's number.
-use Rattle.std.proofs.Common.{◌≡◌, ℕ, refl, ap}
+use Rattle.std.proofs.Common.{ℕ, ap}
 use Rattle.lane_look.specs.declared.lane.Ask.{Ask}
 use Rattle.lane_look.specs.Asking.{Asking, Runs}
 use Rattle.lane_look.specs.Asking.Asking.{Ready, Question}
 use Rattle.m0_core.specs.declared.doing.Act.{Act}
-use Rattle.m0_core.specs.declared.doing.Doing.{Doing}
 use Rattle.m0_core.specs.Fetch.{carried, ends_with}
 
 pub runs_carried : {K : Type 0} (answers : K → Ask → ℕ → K → Type 0) (lines cycle : ℕ) (tree : Asking Act) (old new : K) (begun : Act) → Runs answers old tree begun new → Runs answers old (carried lines cycle tree) (ends_with lines cycle begun) new

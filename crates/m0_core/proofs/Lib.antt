@@ -1,1 +1,4 @@
 pub mod Carrying
+mod ReadCount
+mod TakesBeats
+mod Waits

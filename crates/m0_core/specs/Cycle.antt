@@ -1,4 +1,6 @@
--- What a core wants in a cycle, and what the cycle leaves.
+-- What a core wants in a cycle, and what the cycle leaves (ARMv6-M Architecture Reference Manual, A6.7, SEV, WFE, WFI and
+-- SVC, B1.5.4, how an exception becomes pending, and B1.5.18, the event register; ARM Cortex-M0+ Technical Reference Manual,
+-- 3.3, cycle counts).
 use Rattle.std.specs.Prelude.{ℕ, ◌+◌, ◌==◌, ◌&&◌, ◌||◌, Bool, true, false, not, nat_lt, if◌then◌else◌, List, [], ◌∷◌, ◌++◌, length, Option, Some, None, slice_get}
 use Rattle.rp_base.specs.declared.Request.{Request}
 use Rattle.rp_base.specs.declared.op.Op.{Op}

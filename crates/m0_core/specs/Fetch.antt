@@ -1,6 +1,7 @@
 -- What a core asks in a cycle, and what it has begun then. A core that is not asleep asks for its interrupt lines. At a
 -- boundary between two instructions it takes an exception or fetches and decodes the next instruction, which begins with
--- its first beat; elsewhere the next beat of what is in progress begins.
+-- its first beat; elsewhere the next beat of what is in progress begins (ARMv6-M Architecture Reference Manual, A5.1,
+-- instruction set encoding, A6.7, BKPT, SVC and UDF, B1.5.4, which exception is taken, and B1.5.15, lockup).
 use Rattle.std.specs.Prelude.{ℕ, ◌+◌, ◌%◌, ◌^◌, ◌==◌, ◌||◌, ◌&&◌, Bool, true, false, not, if◌then◌else◌, slice_get, slice_index, Option, Some, None, unwrap_or, pos, int_lt}
 use Rattle.rp_base.specs.declared.Master.{Master}
 use Rattle.rp_base.specs.declared.Master.TheVariants.{Core0, Core1}

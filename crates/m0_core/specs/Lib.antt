@@ -3,7 +3,9 @@ pub mod Entry
 pub mod Fetch
 pub mod Kinds
 pub mod Lanes
+pub mod Law
 pub mod Private
 pub mod Return
 pub mod Start
 pub mod State
+pub mod Waiting

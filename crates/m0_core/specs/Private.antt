@@ -4,7 +4,6 @@ use Rattle.std.specs.Prelude.{ℕ, ◌*◌, ◌%◌, ◌^◌, Option, Some, None
 use Rattle.rp_base.specs.declared.Request.{Request}
 use Rattle.rp_base.specs.declared.Size.{Size}
 use Rattle.rp_base.specs.declared.Size.TheVariants as sizes
-use Rattle.m0_nvic.specs.State.{Exceptions}
 use Rattle.m0_nvic.specs.Words.{word_of, effect_of}
 use Rattle.m0_core.specs.Lanes.{lanes_of}
 use Rattle.m0_core.specs.State.{State}

@@ -1,7 +1,6 @@
 -- Exception return in 13 beats (ARMv6-M Architecture Reference Manual, B1.5.8, ExceptionReturn and PopStack): the first is
 -- inner, eight words are read, and four beats are inner.
-use Rattle.std.specs.Prelude.{ℕ, ◌+◌, ◌-◌, ◌*◌, ◌/◌, ◌^◌, ◌%◌, Bool, true, false, not, ◌==◌, ◌||◌, ◌&&◌, nat_lt, if◌then◌else◌, List, [], Option, Some, None, bit_or, slice_index, slice_set, pos}
-use Rattle.std.specs.Ordering.{int_eq}
+use Rattle.std.specs.Prelude.{ℕ, ◌+◌, ◌-◌, ◌*◌, ◌/◌, ◌^◌, ◌%◌, Bool, true, not, ◌==◌, ◌||◌, nat_lt, if◌then◌else◌, List, [], None, bit_or, slice_index, slice_set}
 use Rattle.m0_alu.specs.Word.{has_bit}
 use Rattle.rp_base.specs.declared.Size.TheVariants as sizes
 use Rattle.m0_beats.specs.declared.registers.Regs.{Regs}
@@ -11,7 +10,7 @@ use Rattle.m0_beats.specs.Beats.{access}
 use Rattle.m0_beats.specs.Registers.{with_flags_word}
 use Rattle.m0_nvic.specs.State.{Exceptions}
 use Rattle.m0_nvic.specs.Changes.{pended, left}
-use Rattle.m0_nvic.specs.Priority.{priority_of}
+use Rattle.m0_nvic.specs.Changes as nvic
 use Rattle.m0_core.specs.State.{State}
 
 -- ---- values: to Handler mode, to Thread mode on the main stack, to Thread mode on the process stack
@@ -25,9 +24,9 @@ is_to_process value = value == 0xFFFFFFFD
 abbrev pub is_to_thread : ℕ → Bool
 is_to_thread value = value == 0xFFFFFFF9 || is_to_process value
 
--- no other exception is active: without the current one the execution priority is that of none
+-- no other exception than the current one is active
 unfoldable pub is_alone : State → Bool
-is_alone s = int_eq (priority_of (left s.regs.ipsr s.nvic) false) (pos 256)
+is_alone s = nvic.is_alone s.regs.ipsr s.nvic
 
 -- another value, one to Handler mode with no other exception active, one to Thread mode with another one active
 unfoldable pub is_bad : ℕ → State → Bool

@@ -87,8 +87,7 @@ impl Core {
     fn vector_address(&self, number: u8) -> u32
         ensures { result ≡ vector_address number self.now.nvic }
     {
-        let vtor = self.nvic.read(0xd08, 0).unwrap_or(0);
-        vtor.wrapping_add(4 * u32::from(number))
+        self.nvic.vtor().wrapping_add(4 * u32::from(number))
     }
 
     /// The next beat of an entry.

@@ -9,8 +9,11 @@ pub mod doing;
 mod entry;
 mod fetch;
 mod finish;
+#[cfg(test)]
+mod frame_tests;
 mod kinds;
 mod lanes;
+pub mod laws;
 mod private;
 pub mod processor;
 mod returns;

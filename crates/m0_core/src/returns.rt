@@ -132,9 +132,7 @@ impl Core {
     fn is_alone(&self) -> bool
         ensures { result ≡ is_alone self.now }
     {
-        let mut others = self.nvic;
-        others.leave(self.regs.ipsr);
-        others.priority(false) == 256
+        self.nvic.is_alone(self.regs.ipsr)
     }
 
     /// A value with which no return is possible.

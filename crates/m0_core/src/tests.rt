@@ -8,10 +8,10 @@ use std::process::Abort;
 
 /// The first 64 words of SRAM and the last 16, and the core's interrupt lines.
 #[derive(Drop)]
-struct Memory {
+pub(crate) struct Memory {
     low: [u32; 64],
     high: [u32; 16],
-    lines: u32,
+    pub(crate) lines: u32,
 }
 
 impl Look for Memory {
@@ -46,7 +46,7 @@ impl Memory {
     }
 
     /// Vectors from the start of SRAM, by their numbers, and code behind 32 of them.
-    fn with_vectors(vectors: &[(u32, u32)], code: &[u16]) -> Memory {
+    pub(crate) fn with_vectors(vectors: &[(u32, u32)], code: &[u16]) -> Memory {
         let mut halves = [0; 128];
         for (k, half) in code.iter().enumerate() {
             if k < 64 {
@@ -61,7 +61,7 @@ impl Memory {
     }
 
     /// The word of an address.
-    fn word(&self, address: u32) -> u32 {
+    pub(crate) fn word(&self, address: u32) -> u32 {
         match place(address) {
             Spot::Ram { index, .. } if index < 64 => self.low[index as usize],
             Spot::Ram { index, .. } if index >= 67_568 && index < 67_584 => self.high[index as usize
@@ -117,7 +117,7 @@ fn cycle(core: &mut Core, memory: &mut Memory, outward: Turn) -> Option<Why> {
 }
 
 /// A run of at most 100 cycles up to a stop, and how many cycles it has.
-fn run(core: &mut Core, memory: &mut Memory) -> (u32, Option<Why>) {
+pub(crate) fn run(core: &mut Core, memory: &mut Memory) -> (u32, Option<Why>) {
     for count in 0..100 {
         if let Some(why) = cycle(core, memory, Turn::Done(0x1122_3344)) {
             return (count, Some(why));
@@ -298,21 +298,21 @@ fn stops_and_waits(rt: HostRuntime) {
 }
 
 /// Core 0 behind the vectors.
-fn behind(sp: u32) -> Core {
+pub(crate) fn behind(sp: u32) -> Core {
     let mut core = Core::new(0);
     core.start(0x2000_0000, sp, 0x2000_0081);
     core
 }
 
 /// So many cycles with no stop.
-fn pass(rt: &impl Abort, core: &mut Core, memory: &mut Memory, count: u32) {
+pub(crate) fn pass(rt: &impl Abort, core: &mut Core, memory: &mut Memory, count: u32) {
     for _ in 0..count {
         assert!(rt; cycle(core, memory, Turn::Wait).is_none());
     }
 }
 
 /// The core has these registers.
-fn has(rt: &impl Abort, core: &Core, registers: &[(usize, u32)]) {
+pub(crate) fn has(rt: &impl Abort, core: &Core, registers: &[(usize, u32)]) {
     let words = core.registers();
     for (k, word) in registers {
         if *k < 17 {

@@ -1,5 +1,5 @@
 -- How exceptions become pending and active (ARMv6-M Architecture Reference Manual, B1.5.6 and B1.5.8).
-use Rattle.std.specs.Prelude.{ℕ, ◌^◌, not, ◌||◌, ◌==◌, if◌then◌else◌, bit_or}
+use Rattle.std.specs.Prelude.{ℕ, Bool, ◌^◌, not, ◌||◌, ◌==◌, if◌then◌else◌, bit_or}
 use Rattle.m0_nvic.specs.State.{Exceptions}
 use Rattle.m0_nvic.specs.Numbers.{is_number, minus}
 
@@ -26,3 +26,7 @@ entered n s =
 -- it has returned
 abbrev pub left : ℕ → Exceptions → Exceptions
 left n s = if is_number n then record s { active = minus s.active (2 ^ n) } else s
+
+-- no exception but this one is active
+abbrev pub is_alone : ℕ → Exceptions → Bool
+is_alone n s = (left n s).active == 0

@@ -6,7 +6,7 @@ ghost use Rattle.std.specs.Prelude.{bit_and, ◌≡◌, ◌^◌, ◌<◌, false}
 ghost use Rattle.m0_nvic.specs.State.{at_reset};
 ghost use Rattle.m0_nvic.specs.Numbers.{is_member, interrupts, of_interrupts};
 ghost use Rattle.m0_nvic.specs.Priority.{rank_of, precedes, nearer, least_of, IsLeast, best_of, priority_of, wakes_of, active_priority};
-ghost use Rattle.m0_nvic.specs.Changes.{pended, entered, left, with_pending};
+ghost use Rattle.m0_nvic.specs.Changes.{pended, entered, left, is_alone, with_pending};
 ghost use Rattle.m0_nvic.specs.Cycle.{after_timer, after_lines, after_cycle, is_event};
 
 pub mod systick;
@@ -246,6 +246,17 @@ impl Nvic {
         ensures { result ≡ is_member number self.now.active }
     {
         is_member(self.active, number)
+    }
+
+    /// No exception but this one is active.
+    pub fn is_alone(&self, number: u8) -> bool
+        ensures { result ≡ is_alone number self.now }
+    {
+        let mut others = self.active;
+        if number < NUMBERS {
+            others &= !bit(number);
+        }
+        others == 0
     }
 
     /// Makes the exceptions of a set pending.

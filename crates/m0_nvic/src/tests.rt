@@ -69,7 +69,9 @@ fn timer_and_priorities(rt: HostRuntime) {
     assert!(rt; !nvic.wakes());
     nvic.leave(15);
     assert!(rt; nvic.wakes());
+    assert!(rt; nvic.is_alone(3));
     nvic.enter(19);
+    assert!(rt; nvic.is_alone(19) && !nvic.is_alone(3));
     assert_eq!(rt; nvic.priority(false), 64);
     assert_eq!(rt; nvic.priority(true), 0);
 }

@@ -1,4 +1,5 @@
--- What a reader of blocks keeps beside the kept blocks.
+-- What a reader of blocks keeps beside the kept blocks (Microsoft, "USB Flashing Format (UF2)", section File format: the
+-- payload of a block, its number, and the number of blocks).
 use Rattle.std.specs.Prelude.{◌≡◌, ◌<◌, ◌≤◌, ◌+◌, ◌⊎◌, ℕ, List, [], ◌∷◌, false, length, map, slice_index_or}
 use Rattle.std.specs.Ordering.{nat_cmp}
 use Rattle.std.specs.BTreeSet.{contains}

@@ -1,0 +1,101 @@
+-- No instruction reads more than 16 values.
+use Rattle.std.proofs.Common.{◌≡◌, ℕ, suc, ◌+◌, ◌≤◌, ◌==◌, ◌/◌, ◌%◌, ◌^◌, Bool, true, false, cond, nat_le, List, [], ◌∷◌, ◌++◌, length, refl, ap, arith}
+use Rattle.std.specs.Prelude.{Option, Some, None, map, filter}
+use Rattle.m0_alu.specs.Word.{has_bit}
+use Rattle.rp_base.specs.declared.Request.{Request}
+use Rattle.rp_base.specs.declared.op.Op.{Op}
+use Rattle.m0_beats.specs.declared.registers.Regs.{Regs}
+use Rattle.m0_beats.specs.declared.rows.Action.{Action}
+use Rattle.m0_beats.specs.declared.rows.Action.TheVariants as act
+use Rattle.m0_beats.specs.declared.timing.Beat.{Beat}
+use Rattle.m0_beats.specs.declared.timing.Beat.TheVariants.{Inner, Access}
+use Rattle.m0_beats.specs.Conditions.{condition_holds}
+use Rattle.m0_beats.specs.Rows.{action_of}
+use Rattle.m0_beats.specs.Beats.{beats_of, beats_of_action, registers_of, accesses, single, pop_end, address_of, push_address}
+use Rattle.m0_beats.specs.Registers.{register_of, sp_of}
+
+-- how many of these beats read
+abbrev pub is_read : Option ℕ → ℕ
+is_read None = 1
+is_read (Some write) = 0
+
+abbrev pub reads_one : Beat → ℕ
+reads_one Inner = 0
+reads_one (Access request) = is_read request.write
+
+abbrev pub reading : List Beat → ℕ
+reading [] = 0
+reading (beat ∷ beats) = reads_one beat + reading beats
+
+is_read-le : (w : Option ℕ) → is_read w ≤ 1
+is_read-le None = omega arith
+is_read-le (Some write) = omega arith
+
+reading-accesses : (writes : List (Option ℕ)) (address : ℕ) → reading (accesses address writes) ≤ length writes
+reading-accesses [] address = omega arith
+reading-accesses (w ∷ ws) address = omega (arith, is_read-le w, reading-accesses ws ((address + 4) % 2 ^ 32))
+
+reading-append : (xs ys : List Beat) → reading (xs ++ ys) ≡ reading xs + reading ys
+reading-append [] ys = omega arith
+reading-append (x ∷ xs) ys = omega (arith, reading-append xs ys)
+
+map-length : (f : ℕ → Option ℕ) (ks : List ℕ) → length (map f ks) ≡ length ks
+map-length f [] = refl
+map-length f (k ∷ ks) = ap suc (map-length f ks)
+
+filter-le : (p : ℕ → Bool) (ks : List ℕ) → length (filter p ks) ≤ length ks
+filter-le p [] = omega arith
+filter-le p (k ∷ ks) =
+    let rest = filter-le p ks in
+    elim (p k) as (λ b. length (cond b (k ∷ filter p ks) (filter p ks)) ≤ length (k ∷ ks)) [
+      | true ↦ omega (arith, rest)
+      | false ↦ omega (arith, rest)
+    ]
+
+registers-le : (list : ℕ) → length (registers_of list) ≤ 16
+unfolding registers_of
+registers-le list = filter-le (has_bit list) (0 ∷ 1 ∷ 2 ∷ 3 ∷ 4 ∷ 5 ∷ 6 ∷ 7 ∷ 8 ∷ 9 ∷ 10 ∷ 11 ∷ 12 ∷ 13 ∷ 14 ∷ 15 ∷ [])
+
+reading-list : (f : ℕ → Option ℕ) (list address : ℕ) → reading (accesses address (map f (registers_of list))) ≤ 16
+reading-list f list address =
+    omega (arith, reading-accesses (map f (registers_of list)) address, map-length f (registers_of list), registers-le list)
+
+-- one inner beat, and the accesses of a list
+reading-many : (f : ℕ → Option ℕ) (list address : ℕ) → reading (Inner ∷ accesses address (map f (registers_of list))) ≤ 16
+reading-many f list address = omega (arith, reading-list f list address)
+
+reading-single : (address : ℕ) (request : Request) → reading (single address (Access request)) ≤ 16
+reading-single address request =
+    let one = is_read-le request.write in
+    elim (address / 2 ^ 28 == 13) as (λ b. reading (cond b (Access request ∷ []) (Inner ∷ Access request ∷ [])) ≤ 16) [
+      | true ↦ omega (arith, one)
+      | false ↦ omega (arith, one)
+    ]
+
+reading-to : (b : Bool) → reading (cond b (Inner ∷ Inner ∷ []) (Inner ∷ [])) ≤ 16
+reading-to true = omega arith
+reading-to false = omega arith
+
+reading-end : (b : Bool) → reading (cond b (Inner ∷ Inner ∷ []) []) ≡ 0
+reading-end true = refl
+reading-end false = refl
+
+reading-pop : (address list : ℕ) → reading (Inner ∷ (accesses address (map (λ k. None) (registers_of list)) ++ pop_end list)) ≤ 16
+reading-pop address list =
+    omega (arith, reading-append (accesses address (map (λ k. None) (registers_of list))) (pop_end list), reading-list (λ k. None) list address, reading-end (has_bit list 15))
+
+reading-action : (a : Action) (s : Regs) → reading (beats_of_action a s) ≤ 16
+reading-action (act.Move d m) s = reading-to (nat_le 15 d)
+reading-action (act.Place d x y) s = reading-to (nat_le 15 d)
+reading-action (act.BranchIf c offset) s = reading-to (condition_holds c s)
+reading-action (act.Load t size sign x y) s = reading-single (address_of x y s) _
+reading-action (act.Store t size x y) s = reading-single (address_of x y s) _
+reading-action (act.LoadMany n list) s = reading-many (λ k. None) list (register_of s n)
+reading-action (act.StoreMany n list) s = reading-many (λ k. Some (register_of s k)) list (register_of s n)
+reading-action (act.Push list) s = reading-many (λ k. Some (register_of s k)) list (push_address list s)
+reading-action (act.Pop list) s = reading-pop (sp_of s) list
+reading-action _ s = omega arith
+
+pub reading-le : (op : Op) (s : Regs) → reading (beats_of op s) ≤ 16
+unfolding beats_of
+reading-le op s = reading-action (action_of op) s

@@ -1,0 +1,415 @@
+-- An instruction takes its beats: one cycle, then all of them.
+use Rattle.std.proofs.Common.{◌≡◌, ℕ, ◌+◌, ◌%◌, ◌^◌, ◌<◌, ◌≤◌, ◌==◌, ◌&&◌, ◌||◌, not, Bool, true, false, cond, List, [], ◌∷◌, ◌++◌, length, refl, sym, ap, ap₂, subst, ◌∙◌, arith, append_assoc, append-nil, length-append, true≢false, lt-ltb, le-ltb}
+use Rattle.std.specs.Prelude.{Option, Some, None, option_to_list, map, slice_get, unwrap_or}
+use Rattle.rp_base.specs.declared.Request.{Request}
+use Rattle.rp_base.specs.declared.map.Spot.{Spot}
+use Rattle.rp_base.specs.declared.map.Spot.TheVariants as spot
+use Rattle.rp_base.specs.declared.op.Op.{Op}
+use Rattle.rp_base.specs.declared.Why.TheVariants as why
+use Rattle.rp_base.specs.AddressMap.{place_of}
+use Rattle.thumb_rows.specs.Rows.{begins_long, operation_of}
+use Rattle.m0_beats.specs.declared.registers.Regs.{Regs}
+use Rattle.m0_beats.specs.declared.timing.Beat.{Beat}
+use Rattle.m0_beats.specs.declared.timing.Beat.TheVariants.{Inner, Access}
+use Rattle.m0_beats.specs.Beats.{beats_of}
+use Rattle.m0_beats.specs.Effects.{effect_of, return_of}
+use Rattle.m0_nvic.specs.Priority.{wakes_of}
+use Rattle.m0_nvic.specs.Words.{is_allowed}
+use Rattle.lane_look.specs.declared.lane.Ask.{Ask}
+use Rattle.lane_look.specs.declared.lane.Ask.TheVariants.{Lines, Half}
+use Rattle.lane_look.specs.declared.lane.Turn.TheVariants as turn
+use Rattle.lane_look.specs.declared.lane.Want.TheVariants as want
+use Rattle.lane_look.specs.Asking.{Asking, answered}
+use Rattle.lane_look.specs.Asking.Asking.{Ready, Question}
+use Rattle.m0_core.specs.declared.doing.Act.{Act}
+use Rattle.m0_core.specs.declared.doing.Act.TheVariants as act
+use Rattle.m0_core.specs.declared.doing.Work.TheVariants as works
+use Rattle.m0_core.specs.Kinds.{awaits_event, awaits_interrupt}
+use Rattle.m0_core.specs.Private.{word_written, private_value, accessed}
+use Rattle.m0_core.specs.Fetch.{master_of, stopped, asks, asks_awake, asks_next, asks_boundary, asks_taken, asks_first, asks_half, asks_second, asks_decoded, asks_fault, asks_beat, beat_of, in_beat, in_ram, at_spot, carried, ends_with, is_faulty}
+use Rattle.m0_core.specs.Cycle.{signals, want_of, want_of_act, with_value, waiting, followed, with_read, returning, ended, passed_instruction, passed, is_held_op, after_inner, done_word, value_of, after_private, after, closed, is_idle, next}
+use Rattle.m0_core.specs.State.{State}
+use Rattle.m0_core.specs.Law.{Given, turn_of, begun_in, wanted_in, after_cycle, after_cycles, is_stop, GoesOn, want_at, want_of_beat, wants_in, read_at, read_in, reads_in, IsAtBoundary, half_at, IsEncoded, IsFetched, IsPlain, AnInstructionTakesItsBeats, LastsOn, is_access, AnAccessLastsUntilItIsDone}
+use Rattle.m0_core.proofs.ReadCount.{reads_one, is_read, reading, reading-le}
+
+-- ---- states in the middle of an instruction
+
+-- so many beats are over, and these values were read
+pub record Stands (regs : Regs) (place : ℕ) (read : List ℕ) (s : State) : Type 0 where
+  pub awake : s.asleep ≡ false
+  pub kept : s.regs ≡ regs
+  pub so_far : s.place ≡ place
+  pub values : s.read ≡ read
+
+-- the instruction is over
+pub record Ends (op : Op) (regs : Regs) (read : List ℕ) (s : State) : Type 0 where
+  pub awake : s.asleep ≡ false
+  pub effect : s.regs ≡ effect_of op regs read
+  pub then_returns : s.work ≡ returning (return_of op regs read)
+  pub first : s.place ≡ 0
+  pub fresh : s.read ≡ []
+
+-- after the beat of that place
+pub record Lands (op : Op) (regs : Regs) (place : ℕ) (read : List ℕ) (s : State) : Type 0 where
+  pub goes_on : place + 1 < length (beats_of op regs) → Stands regs (place + 1) read s × (s.work ≡ Some (works.Instruction op))
+  pub ends : length (beats_of op regs) ≤ place + 1 → Ends op regs read s
+
+stands_followed : (op : Op) (value : Option ℕ) (t : State) → t.asleep ≡ false → Stands t.regs (t.place + 1) (with_value t.read value) (followed (works.Instruction op) (with_read value t))
+stands_followed op value t awake = record { awake = awake; kept = refl; so_far = refl; values = refl }
+
+ends_ended : (op : Op) (value : Option ℕ) (t : State) → t.asleep ≡ false → Ends op t.regs (with_value t.read value) (ended op (with_read value t))
+unfolding ended
+ends_ended op value t awake = record { awake = awake; effect = refl; then_returns = refl; first = refl; fresh = refl }
+
+-- a beat is over
+lands_passed : (op : Op) (value : Option ℕ) (t : State) → t.asleep ≡ false → Lands op t.regs t.place (with_value t.read value) (passed (works.Instruction op) value t)
+unfolding passed passed_instruction
+lands_passed op value t awake =
+    let u = with_read value t in
+    let n = length (beats_of op t.regs) in
+    record {
+      goes_on = λ h. subst (λ b. Stands t.regs (t.place + 1) (with_value t.read value) (cond b (followed (works.Instruction op) u) (ended op u)) × ((cond b (followed (works.Instruction op) u) (ended op u)).work ≡ Some (works.Instruction op)))
+          (sym (lt-ltb (t.place + 1) n h)) (stands_followed op value t awake, refl);
+      ends = λ h. subst (λ b. Ends op t.regs (with_value t.read value) (cond b (followed (works.Instruction op) u) (ended op u)))
+          (sym (le-ltb (t.place + 1) n h)) (ends_ended op value t awake);
+    }
+
+-- the end of the cycle changes only the exceptions and the event register
+lands_closed : (op : Op) (regs : Regs) (place : ℕ) (read : List ℕ) (s : State) (lines cycle : ℕ) → Lands op regs place read s → Lands op regs place read (closed lines cycle s)
+unfolding closed
+lands_closed op regs place read s lines cycle h = record {
+  goes_on = λ lt. let x = h.goes_on lt in (record { awake = x.0.awake; kept = x.0.kept; so_far = x.0.so_far; values = x.0.values }, x.1);
+  ends = λ le. let x = h.ends le in record { awake = x.awake; effect = x.effect; then_returns = x.then_returns; first = x.first; fresh = x.fresh };
+}
+
+-- ---- the end of a cycle, by what it began
+
+abbrev step_by : ℕ → ℕ → ℕ → State → Act → State
+step_by lines cycle word s a =
+    cond (is_idle a) s (closed lines cycle (after a (done_word (slice_get (turn_of (want_of_act a) word ∷ turn.Nothing ∷ []) 0)) s))
+
+step_next : (lines cycle word : ℕ) (s : State) (a : Act) → next s (ends_with lines cycle a) (turn_of (want_of (ends_with lines cycle a)) word ∷ turn.Nothing ∷ []) ≡ step_by lines cycle word s a
+unfolding next
+step_next lines cycle word s a = refl
+
+and_false : (b : Bool) → (b && false) ≡ false
+and_false true = refl
+and_false false = refl
+
+is_not_held : (op : Op) (s : State) → awaits_event op ≡ false → awaits_interrupt op ≡ false → is_held_op op s ≡ false
+is_not_held op s e i =
+    ap₂ (λ x y. (s.place == 1) && ((x || y && not s.event) && not (wakes_of s.nvic))) i e ∙ and_false (s.place == 1)
+
+lands_inner : (op : Op) (s : State) → s.asleep ≡ false → awaits_event op ≡ false → awaits_interrupt op ≡ false → Lands op s.regs s.place s.read (after_inner (works.Instruction op) s)
+unfolding after_inner
+lands_inner op s awake e i =
+    subst (λ b. Lands op s.regs s.place s.read (cond b (waiting (works.Instruction op) s) (passed (works.Instruction op) None s)))
+    (sym (is_not_held op s e i)) (lands_passed op None s awake)
+
+-- ---- accesses
+
+lands_outward : (op : Op) (s : State) (lines cycle word : ℕ) (request : Request) (v : Option ℕ) → s.asleep ≡ false → value_of request request.write word ≡ v
+    → Lands op s.regs s.place (with_value s.read v) (step_by lines cycle word s (act.Outward (works.Instruction op) request))
+lands_outward op s lines cycle word request v awake e =
+    subst (λ x. Lands op s.regs s.place (with_value s.read x) (step_by lines cycle word s (act.Outward (works.Instruction op) request))) e
+    (lands_closed op s.regs s.place (with_value s.read (value_of request request.write word)) _ lines cycle (lands_passed op (value_of request request.write word) s awake))
+
+lands_ram : (op : Op) (g : Given) (s : State) (lines cycle index bank : ℕ) (request : Request) (w : Option ℕ) → s.asleep ≡ false
+    → Lands op s.regs s.place (with_value s.read (read_at (spot.Ram index bank) request w g s)) (step_by lines cycle g.word s (answered g.answers (in_ram (works.Instruction op) request w)))
+lands_ram op g s lines cycle index bank request None awake = lands_closed op s.regs s.place _ _ lines cycle (lands_passed op _ s awake)
+lands_ram op g s lines cycle index bank request (Some write) awake = lands_closed op s.regs s.place _ _ lines cycle (lands_passed op None s awake)
+
+private_read : (request : Request) (w : Option ℕ) (offset : ℕ) (g : Given) (s : State) → private_value request w offset s ≡ read_at (spot.Ppb offset) request w g s
+private_read request None offset g s = refl
+private_read request (Some write) offset g s = refl
+
+lands_private : (op : Op) (g : Given) (s : State) (lines cycle offset : ℕ) (request : Request) → s.asleep ≡ false
+    → Lands op s.regs s.place (with_value s.read (read_at (spot.Ppb offset) request request.write g s)) (step_by lines cycle g.word s (act.Private (works.Instruction op) request offset))
+unfolding after_private
+lands_private op g s lines cycle offset request awake =
+    subst (λ x. Lands op s.regs s.place (with_value s.read x) (step_by lines cycle g.word s (act.Private (works.Instruction op) request offset)))
+    (private_read request request.write offset g s)
+    (lands_closed op s.regs s.place _ _ lines cycle (lands_passed op (private_value request request.write offset s) (accessed request offset s) awake))
+
+private_allowed : (op : Op) (g : Given) (s : State) (lines cycle offset : ℕ) (request : Request) (b : Bool) → s.asleep ≡ false
+    → is_stop (want_of_act (answered g.answers (cond b (Ready (act.Private (works.Instruction op) request offset)) (stopped (why.Outside (master_of s.number) request.address))))) ≡ false
+    → Lands op s.regs s.place (with_value s.read (read_at (spot.Ppb offset) request request.write g s)) (step_by lines cycle g.word s (answered g.answers (cond b (Ready (act.Private (works.Instruction op) request offset)) (stopped (why.Outside (master_of s.number) request.address)))))
+private_allowed op g s lines cycle offset request true awake goes = lands_private op g s lines cycle offset request awake
+private_allowed op g s lines cycle offset request false awake goes = absurd (true≢false goes)
+
+outward_read : (request : Request) (w : Option ℕ) (g : Given) (s : State) → value_of request w g.word ≡ read_at spot.Outside request w g s
+outward_read request None g s = refl
+outward_read request (Some write) g s = refl
+
+sio_read : (offset : ℕ) (request : Request) (w : Option ℕ) (g : Given) (s : State) → value_of request w g.word ≡ read_at (spot.Sio offset) request w g s
+sio_read offset request None g s = refl
+sio_read offset request (Some write) g s = refl
+
+lands_at : (op : Op) (g : Given) (s : State) (lines cycle : ℕ) (request : Request) (place : Spot) → s.asleep ≡ false
+    → is_stop (want_of_act (answered g.answers (at_spot (works.Instruction op) request s place))) ≡ false
+    → Lands op s.regs s.place (with_value s.read (read_at place request request.write g s)) (step_by lines cycle g.word s (answered g.answers (at_spot (works.Instruction op) request s place)))
+lands_at op g s lines cycle request (spot.Ram index bank) awake goes = lands_ram op g s lines cycle index bank request request.write awake
+lands_at op g s lines cycle request (spot.Ppb offset) awake goes = private_allowed op g s lines cycle offset request (is_allowed s.nvic offset (word_written request.size request.write)) awake goes
+lands_at op g s lines cycle request (spot.Sio offset) awake goes = lands_outward op s lines cycle g.word request _ awake (sio_read offset request request.write g s)
+lands_at op g s lines cycle request (spot.Reg block offset alias) awake goes = lands_outward op s lines cycle g.word request _ awake (go request.write)
+  where
+    go : (w : Option ℕ) → value_of request w g.word ≡ read_at (spot.Reg block offset alias) request w g s
+    go None = refl
+    go (Some write) = refl
+lands_at op g s lines cycle request spot.Outside awake goes = lands_outward op s lines cycle g.word request _ awake (outward_read request request.write g s)
+
+lands_beat : (op : Op) (g : Given) (s : State) (lines cycle : ℕ) (b : Beat) → s.asleep ≡ false → awaits_event op ≡ false → awaits_interrupt op ≡ false
+    → is_stop (want_of_act (answered g.answers (in_beat (works.Instruction op) s b))) ≡ false
+    → Lands op s.regs s.place (with_value s.read (read_in b g s)) (step_by lines cycle g.word s (answered g.answers (in_beat (works.Instruction op) s b)))
+lands_beat op g s lines cycle Inner awake e i goes = lands_closed op s.regs s.place s.read _ lines cycle (lands_inner op s awake e i)
+lands_beat op g s lines cycle (Access request) awake e i goes = lands_at op g s lines cycle request (place_of request.address) awake goes
+
+-- ---- what a cycle begins
+
+answered_carried : (f : Ask → ℕ) (lines cycle : ℕ) (tree : Asking Act) → answered f (carried lines cycle tree) ≡ ends_with lines cycle (answered f tree)
+unfolding carried
+answered_carried f lines cycle (Ready a) = refl
+answered_carried f lines cycle (Question ask rest) = answered_carried f lines cycle (rest (f ask))
+
+begun_awake : (g : Given) (cycle : ℕ) (s : State) → s.asleep ≡ false → begun_in cycle g s ≡ ends_with (g.answers Lines % 2 ^ 32) cycle (answered g.answers (asks_awake s))
+unfolding asks
+begun_awake g cycle s awake =
+    ap (λ b. answered g.answers (cond b (Ready (ends_with 0 cycle act.Asleep)) (Question Lines (λ lines. carried (lines % 2 ^ 32) cycle (asks_awake s))))) awake
+    ∙ answered_carried g.answers (g.answers Lines % 2 ^ 32) cycle (asks_awake s)
+
+-- the cycle begins the next beat of the instruction
+abbrev pub Begins : Op → Given → State → Type 0
+Begins op g s = answered g.answers (asks_awake s) ≡ answered g.answers (asks_beat (works.Instruction op) s)
+
+pub begins_on : (op : Op) (g : Given) (s : State) → s.work ≡ Some (works.Instruction op) → Begins op g s
+unfolding asks_awake
+begins_on op g s e = ap (λ w. answered g.answers (asks_next w s)) e
+
+begins_decoded : (op : Op) (g : Given) (s : State) → IsPlain op s → answered g.answers (asks_decoded op s) ≡ answered g.answers (asks_beat (works.Instruction op) s)
+unfolding asks_decoded
+begins_decoded op g s plain =
+    ap (λ b. answered g.answers (cond b (stopped (why.Bkpt s.number)) (cond (is_faulty op s) (asks_fault s) (asks_beat (works.Instruction op) s)))) plain.unbroken
+    ∙ ap (λ b. answered g.answers (cond b (asks_fault s) (asks_beat (works.Instruction op) s))) plain.unfaulted
+
+begins_second : (op : Op) (g : Given) (s : State) (long : Bool) → begins_long (half_at g.answers s.regs.pc) ≡ long → IsEncoded long g.answers s.regs.pc op
+    → answered g.answers (asks_second (half_at g.answers s.regs.pc) s) ≡ answered g.answers (asks_decoded op s)
+unfolding asks_second
+begins_second op g s false e is =
+    let first = half_at g.answers s.regs.pc in
+    ap (λ b. answered g.answers (cond b (asks_half ((s.regs.pc + 2) % 2 ^ 32) s (λ second. asks_decoded (operation_of first second) s)) (asks_decoded (operation_of first 0) s))) e
+    ∙ ap (λ o. answered g.answers (asks_decoded o s)) is
+begins_second op g s true e is =
+    let first = half_at g.answers s.regs.pc in
+    let address = (s.regs.pc + 2) % 2 ^ 32 in
+    ap (λ b. answered g.answers (cond b (asks_half address s (λ second. asks_decoded (operation_of first second) s)) (asks_decoded (operation_of first 0) s))) e
+    ∙ ap (λ b. answered g.answers (cond b (Question (Half address) (λ half. asks_decoded (operation_of first (half % 2 ^ 16)) s)) (stopped (why.Outside (master_of s.number) address)))) is.0
+    ∙ ap (λ o. answered g.answers (asks_decoded o s)) is.1
+
+begins_first : (op : Op) (g : Given) (s : State) → IsFetched g.answers s.regs.pc op → answered g.answers (asks_first s) ≡ answered g.answers (asks_decoded op s)
+unfolding asks_first
+begins_first op g s fetched =
+    ap (λ b. answered g.answers (cond b (Question (Half s.regs.pc) (λ half. asks_second (half % 2 ^ 16) s)) (stopped (why.Outside (master_of s.number) s.regs.pc)))) fetched.0
+    ∙ begins_second op g s (begins_long (half_at g.answers s.regs.pc)) refl fetched.1
+
+pub begins_boundary : (op : Op) (g : Given) (s : State) → IsAtBoundary s → IsFetched g.answers s.regs.pc op → IsPlain op s → Begins op g s
+unfolding asks_awake asks_boundary
+begins_boundary op g s at fetched plain =
+    ap (λ w. answered g.answers (asks_next w s)) at.between
+    ∙ ap (λ t. answered g.answers (asks_taken t s)) at.untaken
+    ∙ begins_first op g s fetched
+    ∙ begins_decoded op g s plain
+
+-- ---- one cycle
+
+after_begun : (g : Given) (cycle : ℕ) (s : State) (a : Act) → begun_in cycle g s ≡ ends_with (g.answers Lines % 2 ^ 32) cycle a → after_cycle cycle g s ≡ step_by (g.answers Lines % 2 ^ 32) cycle g.word s a
+after_begun g cycle s a e =
+    ap (λ d. next s d (turn_of (want_of d) g.word ∷ turn.Nothing ∷ [])) e ∙ step_next (g.answers Lines % 2 ^ 32) cycle g.word s a
+
+asks_beat_in : (op : Op) (s : State) (b : Beat) → beat_of op s ≡ b → asks_beat (works.Instruction op) s ≡ in_beat (works.Instruction op) s b
+unfolding asks_beat
+asks_beat_in op s b e = ap (in_beat (works.Instruction op) s) e
+
+beat_at : (op : Op) (s : State) (b : Beat) → slice_get (beats_of op s.regs) s.place ≡ Some b → beat_of op s ≡ b
+unfolding beat_of
+beat_at op s b e = ap (λ o. unwrap_or o Inner) e
+
+pub begun_beat : (op : Op) (g : Given) (cycle : ℕ) (s : State) (b : Beat) → s.asleep ≡ false → Begins op g s → slice_get (beats_of op s.regs) s.place ≡ Some b
+    → begun_in cycle g s ≡ ends_with (g.answers Lines % 2 ^ 32) cycle (answered g.answers (in_beat (works.Instruction op) s b))
+begun_beat op g cycle s b awake begins at =
+    begun_awake g cycle s awake
+    ∙ ap (ends_with (g.answers Lines % 2 ^ 32) cycle) (begins ∙ ap (answered g.answers) (asks_beat_in op s b (beat_at op s b at)))
+
+lands_cycle : (op : Op) (g : Given) (cycle : ℕ) (s : State) (b : Beat) → s.asleep ≡ false → awaits_event op ≡ false → awaits_interrupt op ≡ false → Begins op g s
+    → slice_get (beats_of op s.regs) s.place ≡ Some b → is_stop (wanted_in cycle g s) ≡ false → Lands op s.regs s.place (with_value s.read (read_in b g s)) (after_cycle cycle g s)
+lands_cycle op g cycle s b awake e i begins at goes =
+    let a = answered g.answers (in_beat (works.Instruction op) s b) in
+    let begun = begun_beat op g cycle s b awake begins at in
+    subst (λ u. Lands op s.regs s.place (with_value s.read (read_in b g s)) u) (sym (after_begun g cycle s a begun))
+    (lands_beat op g s (g.answers Lines % 2 ^ 32) cycle b awake e i (sym (ap (λ d. is_stop (want_of d)) begun) ∙ goes))
+
+-- at the place where the instruction stands
+pub lands_standing : (op : Op) (regs : Regs) (place : ℕ) (read next_read : List ℕ) (g : Given) (cycle : ℕ) (s : State) (b : Beat) → Stands regs place read s → awaits_event op ≡ false → awaits_interrupt op ≡ false → Begins op g s
+    → slice_get (beats_of op regs) place ≡ Some b → is_stop (wanted_in cycle g s) ≡ false → with_value read (read_in b g s) ≡ next_read → Lands op regs place next_read (after_cycle cycle g s)
+lands_standing op regs place read next_read g cycle s b stands e i begins at goes reads =
+    let here : slice_get (beats_of op s.regs) s.place ≡ Some b = ap₂ (λ (r : Regs) (k : ℕ). slice_get (beats_of op r) k) stands.kept stands.so_far ∙ at in
+    let values : with_value s.read (read_in b g s) ≡ next_read = ap (λ xs. with_value xs (read_in b g s)) stands.values ∙ reads in
+    subst (λ xs. Lands op regs place xs (after_cycle cycle g s)) values
+    (subst (λ k. Lands op regs k (with_value s.read (read_in b g s)) (after_cycle cycle g s)) stands.so_far
+    (subst (λ r. Lands op r s.place (with_value s.read (read_in b g s)) (after_cycle cycle g s)) stands.kept
+    (lands_cycle op g cycle s b stands.awake e i begins here goes)))
+
+-- ---- the values that are read
+
+pub value_kept : (read : List ℕ) (v : Option ℕ) → length read + length (option_to_list v) ≤ 16 → with_value read v ≡ read ++ option_to_list v
+value_kept read None h = sym (append-nil read)
+value_kept read (Some x) h = ap (λ b. cond b (read ++ x ∷ []) read) (lt-ltb (length read) 16 (omega arith))
+
+reads_access : (place : Spot) (request : Request) (w : Option ℕ) (g : Given) (s : State) → length (option_to_list (read_at place request w g s)) ≡ is_read w
+reads_access place request None g s = refl
+reads_access place request (Some write) g s = refl
+
+pub reads_beat : (b : Beat) (g : Given) (s : State) → length (option_to_list (read_in b g s)) ≡ reads_one b
+reads_beat Inner g s = refl
+reads_beat (Access request) g s = reads_access (place_of request.address) request request.write g s
+
+-- ---- places in a list
+
+pub at_place : (xs : List Beat) (b : Beat) (ys : List Beat) → slice_get (xs ++ b ∷ ys) (length xs) ≡ Some b
+at_place [] b ys = refl
+at_place (x ∷ xs) b ys = at_place xs b ys
+
+pub long_as : (beats done rest : List Beat) → beats ≡ done ++ rest → length beats ≡ length done + length rest
+long_as beats done rest e = ap length e ∙ length-append done rest
+
+-- ---- what a beat wants
+
+wants_ram : (op : Op) (g : Given) (request : Request) (w : Option ℕ) → want_of_act (answered g.answers (in_ram (works.Instruction op) request w)) ≡ want.Ram request
+wants_ram op g request None = refl
+wants_ram op g request (Some write) = refl
+
+wants_private : (op : Op) (g : Given) (s : State) (offset : ℕ) (request : Request) (b : Bool)
+    → is_stop (want_of_act (answered g.answers (cond b (Ready (act.Private (works.Instruction op) request offset)) (stopped (why.Outside (master_of s.number) request.address))))) ≡ false
+    → want_of_act (answered g.answers (cond b (Ready (act.Private (works.Instruction op) request offset)) (stopped (why.Outside (master_of s.number) request.address)))) ≡ want.Nothing
+wants_private op g s offset request true goes = refl
+wants_private op g s offset request false goes = absurd (true≢false goes)
+
+wants_place : (op : Op) (g : Given) (s : State) (request : Request) (place : Spot)
+    → is_stop (want_of_act (answered g.answers (at_spot (works.Instruction op) request s place))) ≡ false
+    → want_of_act (answered g.answers (at_spot (works.Instruction op) request s place)) ≡ want_at place request
+wants_place op g s request (spot.Ram index bank) goes = wants_ram op g request request.write
+wants_place op g s request (spot.Ppb offset) goes = wants_private op g s offset request (is_allowed s.nvic offset (word_written request.size request.write)) goes
+wants_place op g s request (spot.Sio offset) goes = refl
+wants_place op g s request (spot.Reg block offset alias) goes = refl
+wants_place op g s request spot.Outside goes = refl
+
+pub wants_beat : (op : Op) (g : Given) (s : State) (b : Beat)
+    → is_stop (want_of_act (answered g.answers (in_beat (works.Instruction op) s b))) ≡ false
+    → want_of_act (answered g.answers (in_beat (works.Instruction op) s b)) ≡ want_of_beat op b
+wants_beat op g s Inner goes = refl
+wants_beat op g s (Access request) goes = wants_place op g s request (place_of request.address) goes
+
+wants_cycle : (op : Op) (g : Given) (cycle : ℕ) (s : State) (b : Beat) → s.asleep ≡ false → Begins op g s
+    → slice_get (beats_of op s.regs) s.place ≡ Some b → is_stop (wanted_in cycle g s) ≡ false → wanted_in cycle g s ≡ want_of_beat op b
+wants_cycle op g cycle s b awake begins at goes =
+    let e = ap want_of (begun_beat op g cycle s b awake begins at) in
+    e ∙ wants_beat op g s b (sym (ap is_stop e) ∙ goes)
+
+pub wants_standing : (op : Op) (regs : Regs) (place : ℕ) (read : List ℕ) (g : Given) (cycle : ℕ) (s : State) (b : Beat) → Stands regs place read s → Begins op g s
+    → slice_get (beats_of op regs) place ≡ Some b → is_stop (wanted_in cycle g s) ≡ false → wanted_in cycle g s ≡ want_of_beat op b
+wants_standing op regs place read g cycle s b stands begins at goes =
+    wants_cycle op g cycle s b stands.awake begins (ap₂ (λ (r : Regs) (k : ℕ). slice_get (beats_of op r) k) stands.kept stands.so_far ∙ at) goes
+
+-- ---- all cycles
+
+record Comes (op : Op) (regs : Regs) (rest : List Beat) (gs : List Given) (read : List ℕ) (cycle : ℕ) (s : State) : Type 0 where
+  in_progress : length gs < length rest → ((after_cycles cycle gs s).regs ≡ regs) × ((after_cycles cycle gs s).work ≡ Some (works.Instruction op))
+  wants : length gs ≡ length rest → wants_in cycle gs s ≡ map (want_of_beat op) rest
+  over : length gs ≡ length rest → Ends op regs (read ++ reads_in cycle rest gs s) (after_cycles cycle gs s)
+
+comes : (op : Op) (regs : Regs) → awaits_event op ≡ false → awaits_interrupt op ≡ false
+    → (rest : List Beat) (g : Given) (gs : List Given) (done : List Beat) (read : List ℕ) (cycle : ℕ) (s : State)
+    → beats_of op regs ≡ done ++ rest → Stands regs (length done) read s → length read + reading rest ≤ 16 → Begins op g s → GoesOn cycle (g ∷ gs) s
+    → Comes op regs rest (g ∷ gs) read cycle s
+comes op regs e i [] g gs done read cycle s split stands count begins goes = record {
+  in_progress = λ h. absurd (omega (arith, h));
+  wants = λ h. absurd (omega (arith, h));
+  over = λ h. absurd (omega (arith, h));
+}
+comes op regs e i (b ∷ []) g [] done read cycle s split stands count begins goes =
+    let v = read_in b g s in
+    let reads : with_value read v ≡ read ++ option_to_list v = value_kept read v (omega (arith, reads_beat b g s)) in
+    let at : slice_get (beats_of op regs) (length done) ≡ Some b = ap (λ bs. slice_get bs (length done)) split ∙ at_place done b [] in
+    let lands = lands_standing op regs (length done) read (read ++ option_to_list v) g cycle s b stands e i begins at goes.0 reads in
+    record {
+      in_progress = λ h. absurd (omega (arith, h));
+      wants = λ h. ap (λ w. w ∷ []) (wants_standing op regs (length done) read g cycle s b stands begins at goes.0);
+      over = λ h. subst (λ xs. Ends op regs (read ++ xs) (after_cycle cycle g s)) (sym (append-nil (option_to_list v)))
+          (lands.ends (omega (arith, long_as (beats_of op regs) done (b ∷ []) split)));
+    }
+comes op regs e i (b ∷ []) g (g' ∷ gs) done read cycle s split stands count begins goes = record {
+  in_progress = λ h. absurd (omega (arith, h));
+  wants = λ h. absurd (omega (arith, h));
+  over = λ h. absurd (omega (arith, h));
+}
+comes op regs e i (b ∷ c ∷ rest) g [] done read cycle s split stands count begins goes =
+    let v = read_in b g s in
+    let reads : with_value read v ≡ read ++ option_to_list v = value_kept read v (omega (arith, reads_beat b g s)) in
+    let at : slice_get (beats_of op regs) (length done) ≡ Some b = ap (λ bs. slice_get bs (length done)) split ∙ at_place done b (c ∷ rest) in
+    let lands = lands_standing op regs (length done) read (read ++ option_to_list v) g cycle s b stands e i begins at goes.0 reads in
+    let more = lands.goes_on (omega (arith, long_as (beats_of op regs) done (b ∷ c ∷ rest) split)) in
+    record {
+      in_progress = λ h. (more.0.kept, more.1);
+      wants = λ h. absurd (omega (arith, h));
+      over = λ h. absurd (omega (arith, h));
+    }
+comes op regs e i (b ∷ c ∷ rest) g (g' ∷ gs) done read cycle s split stands count begins goes =
+    let v = read_in b g s in
+    let u = after_cycle cycle g s in
+    let reads : with_value read v ≡ read ++ option_to_list v = value_kept read v (omega (arith, reads_beat b g s)) in
+    let at : slice_get (beats_of op regs) (length done) ≡ Some b = ap (λ bs. slice_get bs (length done)) split ∙ at_place done b (c ∷ rest) in
+    let lands = lands_standing op regs (length done) read (read ++ option_to_list v) g cycle s b stands e i begins at goes.0 reads in
+    let more = lands.goes_on (omega (arith, long_as (beats_of op regs) done (b ∷ c ∷ rest) split)) in
+    let stands' : Stands regs (length (done ++ b ∷ [])) (read ++ option_to_list v) u = subst (λ n. Stands regs n (read ++ option_to_list v) u) (sym (length-append done (b ∷ []))) more.0 in
+    let split' : beats_of op regs ≡ (done ++ b ∷ []) ++ c ∷ rest = split ∙ sym (append_assoc done (b ∷ []) (c ∷ rest)) in
+    let count' : length (read ++ option_to_list v) + reading (c ∷ rest) ≤ 16 = omega (arith, length-append read (option_to_list v), reads_beat b g s, count) in
+    let all = comes op regs e i (c ∷ rest) g' gs (done ++ b ∷ []) (read ++ option_to_list v) (cycle + 1) u split' stands' count' (begins_on op g' u more.1) goes.1 in
+    record {
+      in_progress = λ h. all.in_progress (omega (arith, h));
+      wants = λ h. ap₂ (λ w ws. w ∷ ws) (wants_standing op regs (length done) read g cycle s b stands begins at goes.0) (all.wants (omega (arith, h)));
+      over = λ h. subst (λ xs. Ends op regs xs (after_cycles (cycle + 1) (g' ∷ gs) u)) (append_assoc read (option_to_list v) (reads_in (cycle + 1) (c ∷ rest) (g' ∷ gs) u))
+          (all.over (omega (arith, h)));
+    }
+
+pub an_instruction_takes_its_beats : AnInstructionTakesItsBeats
+an_instruction_takes_its_beats op s cycle g gs at fetched plain goes =
+    let stands : Stands s.regs 0 [] s = record { awake = at.awake; kept = refl; so_far = at.first; values = at.fresh } in
+    let all = comes op s.regs plain.no_event plain.no_interrupt (beats_of op s.regs) g gs [] [] cycle s refl stands (omega (arith, reading-le op s.regs)) (begins_boundary op g s at fetched plain) goes in
+    record {
+      in_progress = all.in_progress;
+      wants = all.wants;
+      over = λ h. let x = all.over h in record { awake = x.awake; effect = x.effect; then_returns = x.then_returns; first = x.first; fresh = x.fresh };
+    }
+
+-- ---- accesses that wait
+
+lasts_closed : (lines cycle : ℕ) (s t : State) → LastsOn s t → LastsOn s (closed lines cycle t)
+unfolding closed
+lasts_closed lines cycle s t h = record { awake = h.awake; kept = h.kept; so_far = h.so_far; values = h.values }
+
+pub lasts_inner : (signals : Bool) {A : Type 0} → is_access (cond signals want.Signal want.Nothing) ≡ true → A
+lasts_inner true e = absurd (true≢false (sym e))
+lasts_inner false e = absurd (true≢false (sym e))
+
+lasts_act : (s : State) (lines cycle : ℕ) (a : Act) → is_access (want_of_act a) ≡ true → LastsOn s (next s (ends_with lines cycle a) (turn.Wait ∷ turn.Nothing ∷ []))
+unfolding next
+lasts_act s lines cycle act.Asleep e = absurd (true≢false (sym e))
+lasts_act s lines cycle (act.Stopped cause) e = absurd (true≢false (sym e))
+lasts_act s lines cycle act.Fault e = absurd (true≢false (sym e))
+lasts_act s lines cycle (act.Inner work) e = lasts_inner (signals work) e
+lasts_act s lines cycle (act.Read work request told) e = lasts_closed lines cycle s (waiting work s) (record { awake = refl; kept = refl; so_far = refl; values = refl })
+lasts_act s lines cycle (act.Write work request) e = lasts_closed lines cycle s (waiting work s) (record { awake = refl; kept = refl; so_far = refl; values = refl })
+lasts_act s lines cycle (act.Outward work request) e = lasts_closed lines cycle s (waiting work s) (record { awake = refl; kept = refl; so_far = refl; values = refl })
+lasts_act s lines cycle (act.Private work request offset) e = absurd (true≢false (sym e))
+
+pub an_access_lasts_until_it_is_done : AnAccessLastsUntilItIsDone
+an_access_lasts_until_it_is_done s begun e = lasts_act s begun.lines begun.cycle begun.act e
