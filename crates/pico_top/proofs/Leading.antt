@@ -14,7 +14,7 @@ use Rattle.pico_top.specs.declared.open.Refusal.TheVariants.{Words, File, Large,
 use Rattle.pio_parse.specs.declared.fault.PioFault.{PioFault}
 use Rattle.pio_asm.specs.Assembly.{Plan, Assembles}
 use Rattle.pio_asm.specs.declared.program.Program.{Program}
-use Rattle.pico_top.specs.Words.{Run, Command}
+use Rattle.pico_top.specs.Words.{Run}
 use Rattle.pico_top.specs.Words.Command.{RunImage, Disassemble, Assemble}
 use Rattle.pico_top.specs.Machine.{State, start}
 use Rattle.pico_top.specs.RunText.{run_text}
@@ -93,7 +93,7 @@ lists files P failed failed' (Err fault) programs words same p = absurd words
 
 pub source_listed : (files : Option Files) (failed failed' : List (List ℕ)) (name : List ℕ) (bytes text : Vec ℕ Global) → LoadsAs files failed failed' name source_limit (Ok bytes) → ListsAs bytes.items (Ok text) → LeadsTo files (OpensAs (Ok (Text text))) failed failed' (dialogue_of (Some (Assemble name)))
 source_listed files failed failed' name bytes text h s =
-    inl (Bytes bytes.items, h.0, lists files (OpensAs (Ok (Text text))) failed failed' (plans_of bytes.items) s.0 s.1 h.1 (refl, (sym s.2, tt)))
+    inl (Bytes bytes.items, h.0, lists files (OpensAs (Ok (Text text))) failed failed' (plans_of bytes.items) s.0 s.1 h.1 (refl, sym s.2, tt))
 
 -- the file's bytes have a fault, or memory ran out
 pub source_fault : (files : Option Files) (failed failed' : List (List ℕ)) (name : List ℕ) (bytes : Vec ℕ Global) (refusal : Refusal) → LoadsAs files failed failed' name source_limit (Ok bytes) → ListsAs bytes.items (Err refusal) → LeadsTo files (OpensAs (Err refusal)) failed failed' (dialogue_of (Some (Assemble name)))

@@ -1,16 +1,16 @@
 -- Where a status comes from.
-use Rattle.std.proofs.Common.{◌≡◌, ◌⊎◌, ℕ, ◌<◌, List, [], Option, Some, None, Result, Ok, Err, refl, inl, inr}
+use Rattle.std.proofs.Common.{◌≡◌, ℕ, List, [], Option, Some, None, Result, Ok, Err, refl, inl, inr}
 use Rattle.rp_ports.specs.Shelf.{Files}
 use Rattle.uf2_image.specs.Uf2.{image_of}
 use Rattle.uf2_image.specs.declared.parts.Image.{Image}
 use Rattle.uf2_image.specs.declared.fault.ImageFault.{ImageFault}
 use Rattle.pio_parse.specs.declared.fault.PioFault.{PioFault}
 use Rattle.pio_asm.specs.Assembly.{Plan}
-use Rattle.pico_top.specs.Words.{Run, Command, reading}
+use Rattle.pico_top.specs.Words.{Command, reading}
 use Rattle.pico_top.specs.Words.Command.{RunImage, Disassemble, Assemble}
 use Rattle.pico_top.specs.Listing.{plans_of}
 use Rattle.pico_top.specs.Answer.{Call, RanOut, Ends}
-use Rattle.pico_top.specs.Dialogue.{Dialogue, Gave, LeadsTo, MayGive, failed_by, dialogue, dialogue_of, run_image, list_source, with_file, on_load, image_limit, source_limit}
+use Rattle.pico_top.specs.Dialogue.{Dialogue, Gave, LeadsTo, MayGive, failed_by, dialogue, dialogue_of, run_image, list_source, with_file, on_load}
 use Rattle.pico_top.specs.Dialogue.Gave.{Bytes, TooLong, Refused}
 use Rattle.pico_top.specs.Dialogue.Ending.{Said}
 use Rattle.pico_top.specs.Causes.{Asked, image_file, source_file, file_of, LoadFailed, image_status, source_status, status_of}

@@ -1,5 +1,5 @@
 -- The first fault of a source file.
-use Rattle.std.proofs.Common.{◌≡◌, List, ℕ, Result, Ok, Err, refl, ap}
+use Rattle.std.proofs.Common.{◌≡◌, List, ℕ, Result, Ok, ap}
 use Rattle.pio_parse.specs.declared.syntax.Source.{Source}
 use Rattle.pio_parse.specs.declared.fault.PioFault.{PioFault}
 use Rattle.pio_parse.specs.declared.fault.PioFault.TheVariants.{Char, Syntax, Memory, Unknown, Twice, Range, Delay, Side, TooLong, Wrap, Origin, NoRoom}

@@ -1,8 +1,7 @@
 -- What a status says of the text with which a call ended.
 use Rattle.std.proofs.Common.{◌≡◌, ◌≢◌, ◌⊎◌, ℕ, ◌<◌, List, sym, inl, inr, ◌∙◌, arith}
 use Rattle.rp_ports.specs.Fault.{Rose}
-use Rattle.pico_top.specs.Answer.{Call, Says, RanOut, Ends}
-use Rattle.pico_top.specs.Dialogue.Ending.{Said}
+use Rattle.pico_top.specs.Answer.{Call, Says}
 use Rattle.pico_top.specs.Causes.{IsStatus}
 use Rattle.pico_top.proofs.Origins.{Told}
 

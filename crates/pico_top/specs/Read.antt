@@ -2,7 +2,6 @@
 use Rattle.std.specs.Prelude.{◌≡◌, Option, Some, None, Result, Ok, Err}
 use Rattle.std.specs.String.{string_bytes}
 use Rattle.pico_top.specs.declared.words.RunWords.{RunWords}
-use Rattle.pico_top.specs.declared.dis.DisWords.{DisWords}
 use Rattle.pico_top.specs.declared.words.Reading.{Reading}
 use Rattle.pico_top.specs.declared.words.Reading.TheVariants as readings
 use Rattle.pico_top.specs.declared.words.WordsFault.{WordsFault}
