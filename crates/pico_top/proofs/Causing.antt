@@ -1,88 +1,139 @@
 -- The causes of the statuses, from the ways in which a call goes.
-use Rattle.std.proofs.Common.{◌≡◌, ◌≢◌, ℕ, ◌+◌, ◌<◌, ◌≤◌, List, [], ◌∷◌, length, Option, Some, None, Result, Ok, Err, sym, ap, inl, inr, ◌∙◌, subst, arith, length-append}
+use Rattle.std.proofs.Common.{◌≡◌, ◌≢◌, ◌⊎◌, ℕ, ◌+◌, ◌<◌, ◌≤◌, List, [], ◌∷◌, length, Option, Some, None, Result, Ok, Err, refl, sym, ap, inl, inr, ◌∙◌, subst, arith, length-append}
 use Rattle.rp_ports.specs.Shelf.{Files}
 use Rattle.rp_ports.specs.Fault.{Rose}
 use Rattle.uf2_image.specs.Uf2.{image_of}
 use Rattle.uf2_image.specs.declared.parts.Image.{Image}
 use Rattle.uf2_image.specs.declared.fault.ImageFault.{ImageFault}
-use Rattle.pico_top.specs.Words.{Run, Command}
-use Rattle.pico_top.specs.Words.Command.{RunImage, Disassemble}
-use Rattle.pico_top.specs.Answer.{Call, Says, RanOut, Ends}
-use Rattle.pico_top.specs.Dialogue.{MayGive, image_limit}
+use Rattle.pio_parse.specs.declared.fault.PioFault.{PioFault}
+use Rattle.pio_asm.specs.Assembly.{Plan}
+use Rattle.pico_top.specs.Words.{Command}
+use Rattle.pico_top.specs.Words.Command.{RunImage, Disassemble, Assemble}
+use Rattle.pico_top.specs.Listing.{plans_of}
+use Rattle.pico_top.specs.Answer.{Call}
+use Rattle.pico_top.specs.Dialogue.{MayGive}
 use Rattle.pico_top.specs.Dialogue.Gave.{Bytes, TooLong}
-use Rattle.pico_top.specs.Dialogue.Ending.{Said}
-use Rattle.pico_top.specs.Causes.{LoadFailed, FileCause, HasFault, IsStatus, Holds, Held}
-use Rattle.pico_top.proofs.Origins.{Origin, not_this, ends_status, ran_out_status}
-use Rattle.pico_top.proofs.Origins.Origin.{NoRun, Failing, Large, Faulty, Ran, Listed, Empty}
+use Rattle.pico_top.specs.Causes.{Asked, image_file, source_file, file_of, LoadFailed, FileCause, ImageCause, SourceCause, IsStatus, Holds, Held, image_status, source_status, status_of}
+use Rattle.pico_top.proofs.Origins.{Origin}
+use Rattle.pico_top.proofs.Origins.Origin.{NoFile, Failing, Large, Judged, Empty}
+use Rattle.pico_top.proofs.Statuses.{told_status, told_any, told_is, told_sink}
 
--- a call that only ran out of memory has no other status
-not_out : {Q : Type 0} (call : Call) (wanted : ℕ) → RanOut call → call.status ≡ wanted → wanted < 7 → Q
-not_out call wanted out e small = absurd (elim (ran_out_status call out) [ inl x ↦ omega (arith, x, e, small) | inr x ↦ omega (arith, x, e, small) ])
+-- ---- the status of bytes
 
-out_status : (call : Call) (wanted : ℕ) → RanOut call → IsStatus call.status wanted
-out_status call wanted out = elim (ran_out_status call out) [ inl x ↦ inr (inr x) | inr x ↦ inr (inl x) ]
+image_fault : (r : Result Image ImageFault) → image_status r ≡ 4 → (fault : ImageFault) × (r ≡ Err fault)
+image_fault (Ok image) e = absurd (omega (arith, e))
+image_fault (Err fault) e = (fault, refl)
+
+source_fault : (r : Result (List Plan) PioFault) → source_status r ≡ 5 → (fault : PioFault) × (r ≡ Err fault)
+source_fault (Ok plans) e = absurd (omega (arith, e))
+source_fault (Err fault) e = (fault, refl)
+
+image_statuses : (r : Result Image ImageFault) → (image_status r ≡ 0) ⊎ (image_status r ≡ 4)
+image_statuses (Ok image) = inl refl
+image_statuses (Err fault) = inr refl
+
+source_statuses : (r : Result (List Plan) PioFault) → (source_status r ≡ 0) ⊎ (source_status r ≡ 5)
+source_statuses (Ok plans) = inl refl
+source_statuses (Err fault) = inr refl
+
+no_image : {Q : Type 0} (r : Result Image ImageFault) (status : ℕ) → image_status r ≡ status → status ≢ 0 → status ≢ 4 → Q
+no_image r status e zero four = absurd (elim (image_statuses r) [ inl x ↦ zero (sym e ∙ x) | inr x ↦ four (sym e ∙ x) ])
+
+no_source : {Q : Type 0} (r : Result (List Plan) PioFault) (status : ℕ) → source_status r ≡ status → status ≢ 0 → status ≢ 5 → Q
+no_source r status e zero five = absurd (elim (source_statuses r) [ inl x ↦ zero (sym e ∙ x) | inr x ↦ five (sym e ∙ x) ])
+
+-- 2 is the status of refused words
+refused_words : (asked : Option Command) (bytes : List ℕ) → status_of asked bytes ≡ 2 → asked ≡ None
+refused_words None bytes e = refl
+refused_words (Some (RunImage run)) bytes e = no_image (image_of bytes) 2 e (omega arith) (omega arith)
+refused_words (Some (Disassemble words side)) bytes e = absurd (omega (arith, e))
+refused_words (Some (Assemble name)) bytes e = no_source (plans_of bytes) 2 e (omega arith) (omega arith)
+
+-- 3 and 7 are the status of no bytes
+never : {Q : Type 0} (asked : Option Command) (bytes : List ℕ) (status : ℕ) → status_of asked bytes ≡ status → (status ≡ 3) ⊎ (status ≡ 7) → Q
+never None bytes status e w = absurd (elim w [ inl x ↦ omega (arith, e, x) | inr x ↦ omega (arith, e, x) ])
+never (Some (RunImage run)) bytes status e w =
+    elim w [ inl x ↦ no_image (image_of bytes) status e (omega (arith, x)) (omega (arith, x)) | inr x ↦ no_image (image_of bytes) status e (omega (arith, x)) (omega (arith, x)) ]
+never (Some (Disassemble words side)) bytes status e w = absurd (elim w [ inl x ↦ omega (arith, e, x) | inr x ↦ omega (arith, e, x) ])
+never (Some (Assemble name)) bytes status e w =
+    elim w [ inl x ↦ no_source (plans_of bytes) status e (omega (arith, x)) (omega (arith, x)) | inr x ↦ no_source (plans_of bytes) status e (omega (arith, x)) (omega (arith, x)) ]
+
+-- a command without a file has a status of at most 2
+no_file_low : {Q : Type 0} (asked : Option Command) (bytes : List ℕ) (status : ℕ) → file_of asked ≡ None → status_of asked bytes ≡ status → 2 < status → Q
+no_file_low None bytes status none e high = absurd (omega (arith, e, high))
+no_file_low (Some (RunImage run)) bytes status none e high = absurd (cc none)
+no_file_low (Some (Disassemble words side)) bytes status none e high = absurd (omega (arith, e, high))
+no_file_low (Some (Assemble name)) bytes status none e high = absurd (cc none)
+
+-- 4 is the status of an image's fault, and 5 that of a source's
+image_cause : (files : Option Files) (asked : Option Command) (file : Asked) (bytes : List ℕ) → file_of asked ≡ Some file → MayGive files file.name file.limit (Bytes bytes) → status_of asked bytes ≡ 4 → ImageCause files asked
+image_cause files None file bytes wanted gave e = absurd (omega (arith, e))
+image_cause files (Some (RunImage run)) file bytes wanted gave e =
+    let same : image_file run ≡ file = cc wanted in
+    let f = image_fault (image_of bytes) e in
+    record { run = run; reads = refl; bytes = bytes; gave = subst (λ (a : Asked). MayGive files a.name a.limit (Bytes bytes)) (sym same) gave; fault = f.0; is = f.1 }
+image_cause files (Some (Disassemble words side)) file bytes wanted gave e = absurd (omega (arith, e))
+image_cause files (Some (Assemble name)) file bytes wanted gave e = no_source (plans_of bytes) 4 e (omega arith) (omega arith)
+
+source_cause : (files : Option Files) (asked : Option Command) (file : Asked) (bytes : List ℕ) → file_of asked ≡ Some file → MayGive files file.name file.limit (Bytes bytes) → status_of asked bytes ≡ 5 → SourceCause files asked
+source_cause files None file bytes wanted gave e = absurd (omega (arith, e))
+source_cause files (Some (RunImage run)) file bytes wanted gave e = no_image (image_of bytes) 5 e (omega arith) (omega arith)
+source_cause files (Some (Disassemble words side)) file bytes wanted gave e = absurd (omega (arith, e))
+source_cause files (Some (Assemble name)) file bytes wanted gave e =
+    let same : source_file name ≡ file = cc wanted in
+    let f = source_fault (plans_of bytes) e in
+    record { name = name; reads = refl; bytes = bytes; gave = subst (λ (a : Asked). MayGive files a.name a.limit (Bytes bytes)) (sym same) gave; fault = f.0; is = f.1 }
 
 -- ---- words
 
 pub words_only : (files : Option Files) (failed failed' : List (List ℕ)) (call : Call) (asked : Option Command) → Origin files failed failed' call asked → call.status ≡ 2 → asked ≡ None
-words_only files failed failed' call asked (NoRun refused same ends) e = refused
-words_only files failed failed' call asked (Failing run read lost ends) e = not_this call 3 2 _ ends e (omega arith) (omega arith) (omega arith)
-words_only files failed failed' call asked (Large run read long gave same ends) e = not_this call 3 2 _ ends e (omega arith) (omega arith) (omega arith)
-words_only files failed failed' call asked (Faulty run read bytes gave fault is same ends) e = not_this call 4 2 _ ends e (omega arith) (omega arith) (omega arith)
-words_only files failed failed' call asked (Ran run read bytes gave image is same ends) e = not_this call 0 2 _ ends e (omega arith) (omega arith) (omega arith)
-words_only files failed failed' call asked (Listed words side read same ends) e = not_this call 0 2 _ ends e (omega arith) (omega arith) (omega arith)
-words_only files failed failed' call asked (Empty run read same out) e = not_out call 2 out e (omega arith)
+words_only files failed failed' call asked (NoFile none same told) e = refused_words asked [] (told_is call _ 2 told e (omega arith))
+words_only files failed failed' call asked (Failing file wanted lost told) e = absurd (let x = told_is call 3 2 told e (omega arith) in omega (arith, x))
+words_only files failed failed' call asked (Large file wanted long gave told) e = absurd (let x = told_is call 3 2 told e (omega arith) in omega (arith, x))
+words_only files failed failed' call asked (Judged file wanted bytes gave told) e = refused_words asked bytes (told_is call _ 2 told e (omega arith))
+words_only files failed failed' call asked (Empty file wanted told) e = absurd (let x = told_is call 9 2 told e (omega arith) in omega (arith, x))
+
+no_words : {Q : Type 0} (asked : Option Command) (file : Asked) → file_of asked ≡ Some file → asked ≡ None → Q
+no_words asked file wanted none = absurd (let x : Some file ≡ None = sym wanted ∙ ap file_of none in cc x)
 
 pub words_refused : (files : Option Files) (failed failed' : List (List ℕ)) (call : Call) (asked : Option Command) → Origin files failed failed' call asked → asked ≡ None → IsStatus call.status 2
-words_refused files failed failed' call asked (NoRun refused same ends) e = ends_status call 2 _ ends
-words_refused files failed failed' call asked (Failing run read lost ends) e = absurd (let x : Some (RunImage run) ≡ None = sym read ∙ e in cc x)
-words_refused files failed failed' call asked (Large run read long gave same ends) e = absurd (let x : Some (RunImage run) ≡ None = sym read ∙ e in cc x)
-words_refused files failed failed' call asked (Faulty run read bytes gave fault is same ends) e = absurd (let x : Some (RunImage run) ≡ None = sym read ∙ e in cc x)
-words_refused files failed failed' call asked (Ran run read bytes gave image is same ends) e = absurd (let x : Some (RunImage run) ≡ None = sym read ∙ e in cc x)
-words_refused files failed failed' call asked (Listed words side read same ends) e = absurd (let x : Some (Disassemble words side) ≡ None = sym read ∙ e in cc x)
-words_refused files failed failed' call asked (Empty run read same out) e = absurd (let x : Some (RunImage run) ≡ None = sym read ∙ e in cc x)
+words_refused files failed failed' call asked (NoFile none same told) e = subst (λ (a : Option Command). IsStatus call.status (status_of a [])) e (told_status call _ told)
+words_refused files failed failed' call asked (Failing file wanted lost told) e = no_words asked file wanted e
+words_refused files failed failed' call asked (Large file wanted long gave told) e = no_words asked file wanted e
+words_refused files failed failed' call asked (Judged file wanted bytes gave told) e = no_words asked file wanted e
+words_refused files failed failed' call asked (Empty file wanted told) e = no_words asked file wanted e
 
--- ---- files
+-- ---- files and their faults
 
-pub file_only : (files : Option Files) (failed failed' : List (List ℕ)) (call : Call) (asked : Option Command) → Origin files failed failed' call asked → call.status ≡ 3 → (run : Run) × (asked ≡ Some (RunImage run)) × FileCause files failed failed' run.image
-file_only files failed failed' call asked (NoRun refused same ends) e = not_this call 2 3 _ ends e (omega arith) (omega arith) (omega arith)
-file_only files failed failed' call asked (Failing run read lost ends) e = (run, read, inl lost)
-file_only files failed failed' call asked (Large run read long gave same ends) e = (run, read, inr (long, gave))
-file_only files failed failed' call asked (Faulty run read bytes gave fault is same ends) e = not_this call 4 3 _ ends e (omega arith) (omega arith) (omega arith)
-file_only files failed failed' call asked (Ran run read bytes gave image is same ends) e = not_this call 0 3 _ ends e (omega arith) (omega arith) (omega arith)
-file_only files failed failed' call asked (Listed words side read same ends) e = not_this call 0 3 _ ends e (omega arith) (omega arith) (omega arith)
-file_only files failed failed' call asked (Empty run read same out) e = not_out call 3 out e (omega arith)
+pub file_only : (files : Option Files) (failed failed' : List (List ℕ)) (call : Call) (asked : Option Command) → Origin files failed failed' call asked → call.status ≡ 3 → FileCause files failed failed' (file_of asked)
+file_only files failed failed' call asked (NoFile none same told) e = never asked [] 3 (told_is call _ 3 told e (omega arith)) (inl refl)
+file_only files failed failed' call asked (Failing file wanted lost told) e = (file, wanted, inl lost)
+file_only files failed failed' call asked (Large file wanted long gave told) e = (file, wanted, inr (long, gave))
+file_only files failed failed' call asked (Judged file wanted bytes gave told) e = never asked bytes 3 (told_is call _ 3 told e (omega arith)) (inl refl)
+file_only files failed failed' call asked (Empty file wanted told) e = absurd (let x = told_is call 9 3 told e (omega arith) in omega (arith, x))
 
--- ---- images
+pub image_only : (files : Option Files) (failed failed' : List (List ℕ)) (call : Call) (asked : Option Command) → Origin files failed failed' call asked → call.status ≡ 4 → ImageCause files asked
+image_only files failed failed' call asked (NoFile none same told) e = no_file_low asked [] 4 none (told_is call _ 4 told e (omega arith)) (omega arith)
+image_only files failed failed' call asked (Failing file wanted lost told) e = absurd (let x = told_is call 3 4 told e (omega arith) in omega (arith, x))
+image_only files failed failed' call asked (Large file wanted long gave told) e = absurd (let x = told_is call 3 4 told e (omega arith) in omega (arith, x))
+image_only files failed failed' call asked (Judged file wanted bytes gave told) e = image_cause files asked file bytes wanted gave (told_is call _ 4 told e (omega arith))
+image_only files failed failed' call asked (Empty file wanted told) e = absurd (let x = told_is call 9 4 told e (omega arith) in omega (arith, x))
 
-pub image_only : (files : Option Files) (failed failed' : List (List ℕ)) (call : Call) (asked : Option Command) → Origin files failed failed' call asked → call.status ≡ 4 → (run : Run) × (asked ≡ Some (RunImage run)) × HasFault files run.image
-image_only files failed failed' call asked (NoRun refused same ends) e = not_this call 2 4 _ ends e (omega arith) (omega arith) (omega arith)
-image_only files failed failed' call asked (Failing run read lost ends) e = not_this call 3 4 _ ends e (omega arith) (omega arith) (omega arith)
-image_only files failed failed' call asked (Large run read long gave same ends) e = not_this call 3 4 _ ends e (omega arith) (omega arith) (omega arith)
-image_only files failed failed' call asked (Faulty run read bytes gave fault is same ends) e = (run, read, (bytes, fault, gave, is))
-image_only files failed failed' call asked (Ran run read bytes gave image is same ends) e = not_this call 0 4 _ ends e (omega arith) (omega arith) (omega arith)
-image_only files failed failed' call asked (Listed words side read same ends) e = not_this call 0 4 _ ends e (omega arith) (omega arith) (omega arith)
-image_only files failed failed' call asked (Empty run read same out) e = not_out call 4 out e (omega arith)
+pub source_only : (files : Option Files) (failed failed' : List (List ℕ)) (call : Call) (asked : Option Command) → Origin files failed failed' call asked → call.status ≡ 5 → SourceCause files asked
+source_only files failed failed' call asked (NoFile none same told) e = no_file_low asked [] 5 none (told_is call _ 5 told e (omega arith)) (omega arith)
+source_only files failed failed' call asked (Failing file wanted lost told) e = absurd (let x = told_is call 3 5 told e (omega arith) in omega (arith, x))
+source_only files failed failed' call asked (Large file wanted long gave told) e = absurd (let x = told_is call 3 5 told e (omega arith) in omega (arith, x))
+source_only files failed failed' call asked (Judged file wanted bytes gave told) e = source_cause files asked file bytes wanted gave (told_is call _ 5 told e (omega arith))
+source_only files failed failed' call asked (Empty file wanted told) e = absurd (let x = told_is call 9 5 told e (omega arith) in omega (arith, x))
 
 -- ---- the sink
 
-says_sink : (call : Call) (status : ℕ) (text : List ℕ) → Says call status text → call.status ≡ 7 → status ≢ 7 → Rose call.faults_before call.faults_after
-says_sink call status text h e ne = elim h [ inl w ↦ absurd (ne (sym w.0 ∙ e)) | inr w ↦ w.1 ]
-
-out_sink : (call : Call) → RanOut call → call.status ≡ 7 → Rose call.faults_before call.faults_after
-out_sink call h e = says_sink call 9 _ h e (omega arith)
-
-ends_sink : (call : Call) (status : ℕ) (text : List ℕ) → Ends call (Said status text) → call.status ≡ 7 → status ≢ 7 → Rose call.faults_before call.faults_after
-ends_sink call status text h e ne = elim h [ inl w ↦ says_sink call status text w e ne | inr w ↦ out_sink call w e ]
-
 pub sink_only : (files : Option Files) (failed failed' : List (List ℕ)) (call : Call) (asked : Option Command) → Origin files failed failed' call asked → call.status ≡ 7 → Rose call.faults_before call.faults_after
-sink_only files failed failed' call asked (NoRun refused same ends) e = ends_sink call 2 _ ends e (omega arith)
-sink_only files failed failed' call asked (Failing run read lost ends) e = ends_sink call 3 _ ends e (omega arith)
-sink_only files failed failed' call asked (Large run read long gave same ends) e = ends_sink call 3 _ ends e (omega arith)
-sink_only files failed failed' call asked (Faulty run read bytes gave fault is same ends) e = ends_sink call 4 _ ends e (omega arith)
-sink_only files failed failed' call asked (Ran run read bytes gave image is same ends) e = ends_sink call 0 _ ends e (omega arith)
-sink_only files failed failed' call asked (Listed words side read same ends) e = ends_sink call 0 _ ends e (omega arith)
-sink_only files failed failed' call asked (Empty run read same out) e = out_sink call out e
+sink_only files failed failed' call asked (NoFile none same told) e = told_sink call _ told e (λ x. never asked [] 7 x (inr refl))
+sink_only files failed failed' call asked (Failing file wanted lost told) e = told_sink call 3 told e (omega arith)
+sink_only files failed failed' call asked (Large file wanted long gave told) e = told_sink call 3 told e (omega arith)
+sink_only files failed failed' call asked (Judged file wanted bytes gave told) e = told_sink call _ told e (λ x. never asked bytes 7 x (inr refl))
+sink_only files failed failed' call asked (Empty file wanted told) e = told_sink call 9 told e (omega arith)
 
 -- ---- where the shelf tells the file
 
@@ -90,49 +141,40 @@ sink_only files failed failed' call asked (Empty run read same out) e = out_sink
 not_longer : {Q : Type 0} (failed failed' : List (List ℕ)) (name : List ℕ) → LoadFailed failed failed' name → failed' ≡ failed → Q
 not_longer failed failed' name lost same = absurd (let e : length failed' ≡ length failed + 1 = ap length lost ∙ length-append failed (name ∷ []) in omega (arith, e, ap length same))
 
-same_run : (asked : Option Command) (run other : Run) → asked ≡ Some (RunImage run) → asked ≡ Some (RunImage other) → run ≡ other
-same_run asked run other a b = let e : Some (RunImage run) ≡ Some (RunImage other) = sym a ∙ b in cc e
+-- a command has one file
+same_file : (asked : Option Asked) (file other : Asked) → asked ≡ Some file → asked ≡ Some other → other ≡ file
+same_file asked file other a b = let e : Some other ≡ Some file = sym b ∙ a in cc e
 
--- the bytes that a load gave are those that the shelf tells
-gave_held : (files : Option Files) (name held bytes : List ℕ) → Holds files name held → MayGive files name image_limit (Bytes bytes) → (held ≡ bytes) × (length held ≤ 16777216)
-gave_held None name held bytes h m = absurd h
-gave_held (Some f) name held bytes h m = let e : Some held ≡ Some bytes = sym h ∙ m.1 in let same : held ≡ bytes = cc e in (same, omega (arith, m.0, ap length same))
+no_file : {Q : Type 0} (asked : Option Asked) (file : Asked) → asked ≡ None → asked ≡ Some file → Q
+no_file asked file none wanted = absurd (let x : Some file ≡ None = sym wanted ∙ none in cc x)
 
-long_held : (files : Option Files) (name held : List ℕ) (long : ℕ) → Holds files name held → MayGive files name image_limit (TooLong long) → 16777216 < length held
-long_held None name held long h m = absurd h
-long_held (Some f) name held long h m = let told = rw h at m.1 in omega (arith, m.0, told)
+-- what a load gave is what the shelf tells
+gave_held : (files : Option Files) (file other : Asked) (held bytes : List ℕ) → Holds files file.name held → other ≡ file → MayGive files other.name other.limit (Bytes bytes) → (bytes ≡ held) × (length held ≤ file.limit)
+gave_held None file other held bytes h same m = absurd h
+gave_held (Some f) file other held bytes h same m =
+    let here = subst (λ (a : Asked). MayGive (Some f) a.name a.limit (Bytes bytes)) same m in
+    let e : Some bytes ≡ Some held = sym here.1 ∙ h in let is : bytes ≡ held = cc e in (is, omega (arith, here.0, ap length is))
 
-pub large_comes : (files : Option Files) (failed failed' : List (List ℕ)) (call : Call) (asked : Option Command) (run : Run) (held : List ℕ) → Origin files failed failed' call asked → Held files failed failed' asked run held → 16777216 < length held → IsStatus call.status 3
-large_comes files failed failed' call asked run held (NoRun refused same ends) h long = absurd (let x : Some (RunImage run) ≡ None = sym h.read ∙ refused in cc x)
-large_comes files failed failed' call asked run held (Failing other read lost ends) h long = not_longer failed failed' other.image lost h.same
-large_comes files failed failed' call asked run held (Large other read n gave same ends) h long = ends_status call 3 _ ends
-large_comes files failed failed' call asked run held (Faulty other read bytes gave fault is same ends) h long =
-    absurd (let m = subst (λ (r : Run). MayGive files r.image image_limit (Bytes bytes)) (same_run asked other run read h.read) gave in omega (arith, (gave_held files run.image held bytes h.told m).1, long))
-large_comes files failed failed' call asked run held (Ran other read bytes gave image is same ends) h long =
-    absurd (let m = subst (λ (r : Run). MayGive files r.image image_limit (Bytes bytes)) (same_run asked other run read h.read) gave in omega (arith, (gave_held files run.image held bytes h.told m).1, long))
-large_comes files failed failed' call asked run held (Listed words side read same ends) h long = absurd (let x : Some (RunImage run) ≡ Some (Disassemble words side) = sym h.read ∙ read in cc x)
-large_comes files failed failed' call asked run held (Empty other read same out) h long = out_status call 3 out
+long_held : (files : Option Files) (file other : Asked) (held : List ℕ) (long : ℕ) → Holds files file.name held → other ≡ file → MayGive files other.name other.limit (TooLong long) → file.limit < length held
+long_held None file other held long h same m = absurd h
+long_held (Some f) file other held long h same m =
+    let here = subst (λ (a : Asked). MayGive (Some f) a.name a.limit (TooLong long)) same m in
+    let told = rw h at here.1 in omega (arith, here.0, told)
 
-pub fault_comes : (files : Option Files) (failed failed' : List (List ℕ)) (call : Call) (asked : Option Command) (run : Run) (held : List ℕ) (f : ImageFault) → Origin files failed failed' call asked → Held files failed failed' asked run held → length held ≤ 16777216 → image_of held ≡ Err f → IsStatus call.status 4
-fault_comes files failed failed' call asked run held f (NoRun refused same ends) h fits e = absurd (let x : Some (RunImage run) ≡ None = sym h.read ∙ refused in cc x)
-fault_comes files failed failed' call asked run held f (Failing other read lost ends) h fits e = not_longer failed failed' other.image lost h.same
-fault_comes files failed failed' call asked run held f (Large other read n gave same ends) h fits e =
-    absurd (let m = subst (λ (r : Run). MayGive files r.image image_limit (TooLong n)) (same_run asked other run read h.read) gave in omega (arith, long_held files run.image held n h.told m, fits))
-fault_comes files failed failed' call asked run held f (Faulty other read bytes gave fault is same ends) h fits e = ends_status call 4 _ ends
-fault_comes files failed failed' call asked run held f (Ran other read bytes gave image is same ends) h fits e =
-    absurd (let m = subst (λ (r : Run). MayGive files r.image image_limit (Bytes bytes)) (same_run asked other run read h.read) gave in
-    let x : ◌≡◌ {A = Result Image ImageFault} (Err f) (Ok image) = sym e ∙ ap image_of (gave_held files run.image held bytes h.told m).0 ∙ is in cc x)
-fault_comes files failed failed' call asked run held f (Listed words side read same ends) h fits e = absurd (let x : Some (RunImage run) ≡ Some (Disassemble words side) = sym h.read ∙ read in cc x)
-fault_comes files failed failed' call asked run held f (Empty other read same out) h fits e = out_status call 4 out
+pub large_comes : (files : Option Files) (failed failed' : List (List ℕ)) (call : Call) (asked : Option Command) (file : Asked) (held : List ℕ) → Origin files failed failed' call asked → Held files failed failed' (file_of asked) file held → file.limit < length held → IsStatus call.status 3
+large_comes files failed failed' call asked file held (NoFile none same told) h long = no_file (file_of asked) file none h.wanted
+large_comes files failed failed' call asked file held (Failing other wanted lost told) h long = not_longer failed failed' other.name lost h.same
+large_comes files failed failed' call asked file held (Large other wanted n gave told) h long = told_status call 3 told
+large_comes files failed failed' call asked file held (Judged other wanted bytes gave told) h long =
+    absurd (let fits = gave_held files file other held bytes h.told (same_file (file_of asked) file other h.wanted wanted) gave in omega (arith, fits.1, long))
+large_comes files failed failed' call asked file held (Empty other wanted told) h long = told_any call 3 told
 
-pub run_comes : (files : Option Files) (failed failed' : List (List ℕ)) (call : Call) (asked : Option Command) (run : Run) (held : List ℕ) (loaded : Image) → Origin files failed failed' call asked → Held files failed failed' asked run held → length held ≤ 16777216 → image_of held ≡ Ok loaded → IsStatus call.status 0
-run_comes files failed failed' call asked run held loaded (NoRun refused same ends) h fits e = absurd (let x : Some (RunImage run) ≡ None = sym h.read ∙ refused in cc x)
-run_comes files failed failed' call asked run held loaded (Failing other read lost ends) h fits e = not_longer failed failed' other.image lost h.same
-run_comes files failed failed' call asked run held loaded (Large other read n gave same ends) h fits e =
-    absurd (let m = subst (λ (r : Run). MayGive files r.image image_limit (TooLong n)) (same_run asked other run read h.read) gave in omega (arith, long_held files run.image held n h.told m, fits))
-run_comes files failed failed' call asked run held loaded (Faulty other read bytes gave fault is same ends) h fits e =
-    absurd (let m = subst (λ (r : Run). MayGive files r.image image_limit (Bytes bytes)) (same_run asked other run read h.read) gave in
-    let x : ◌≡◌ {A = Result Image ImageFault} (Ok loaded) (Err fault) = sym e ∙ ap image_of (gave_held files run.image held bytes h.told m).0 ∙ is in cc x)
-run_comes files failed failed' call asked run held loaded (Ran other read bytes gave image is same ends) h fits e = ends_status call 0 _ ends
-run_comes files failed failed' call asked run held loaded (Listed words side read same ends) h fits e = absurd (let x : Some (RunImage run) ≡ Some (Disassemble words side) = sym h.read ∙ read in cc x)
-run_comes files failed failed' call asked run held loaded (Empty other read same out) h fits e = out_status call 0 out
+pub fits_comes : (files : Option Files) (failed failed' : List (List ℕ)) (call : Call) (asked : Option Command) (file : Asked) (held : List ℕ) → Origin files failed failed' call asked → Held files failed failed' (file_of asked) file held → length held ≤ file.limit → IsStatus call.status (status_of asked held)
+fits_comes files failed failed' call asked file held (NoFile none same told) h fits = no_file (file_of asked) file none h.wanted
+fits_comes files failed failed' call asked file held (Failing other wanted lost told) h fits = not_longer failed failed' other.name lost h.same
+fits_comes files failed failed' call asked file held (Large other wanted n gave told) h fits =
+    absurd (let long = long_held files file other held n h.told (same_file (file_of asked) file other h.wanted wanted) gave in omega (arith, long, fits))
+fits_comes files failed failed' call asked file held (Judged other wanted bytes gave told) h fits =
+    let is = gave_held files file other held bytes h.told (same_file (file_of asked) file other h.wanted wanted) gave in
+    subst (λ (bs : List ℕ). IsStatus call.status (status_of asked bs)) is.0 (told_status call _ told)
+fits_comes files failed failed' call asked file held (Empty other wanted told) h fits = told_any call (status_of asked held) told

@@ -5,3 +5,5 @@ pub mod Origins
 pub mod Placing
 pub mod Refusing
 pub mod Runs
+pub mod Sources
+pub mod Statuses

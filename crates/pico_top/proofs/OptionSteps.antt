@@ -1,8 +1,7 @@
 -- Options that words give, pair by pair.
-use Rattle.std.proofs.Common.{◌≡◌, ◌≤◌, ◌-◌, ◌+◌, ℕ, List, [], ◌∷◌, length, take, drop, get_or, map, Option, Some, None, refl, sym, ap, arith, ◌∙◌, String, Global}
+use Rattle.std.proofs.Common.{◌≡◌, ◌≤◌, ◌-◌, ℕ, List, [], ◌∷◌, length, take, drop, get_or, map, Some, refl, sym, ap, arith, ◌∙◌, String, Global}
 use Rattle.std.proofs.lemmas.List.{take_rest}
 use Rattle.std.specs.String.{string_bytes}
-use Rattle.std.specs.Option.{option_and_then}
 use Rattle.pico_top.specs.declared.dis.Options.{Options}
 use Rattle.pico_top.specs.Dis.{take_option, options_from}
 

@@ -1,69 +1,65 @@
 -- Where a status comes from.
-use Rattle.std.proofs.Common.{◌≡◌, ◌⊎◌, ℕ, ◌<◌, List, Option, Some, None, Result, Ok, Err, refl, inl, inr, arith, ◌≢◌}
+use Rattle.std.proofs.Common.{◌≡◌, ℕ, List, [], Option, Some, None, Result, Ok, Err, refl, inl, inr}
 use Rattle.rp_ports.specs.Shelf.{Files}
 use Rattle.uf2_image.specs.Uf2.{image_of}
 use Rattle.uf2_image.specs.declared.parts.Image.{Image}
 use Rattle.uf2_image.specs.declared.fault.ImageFault.{ImageFault}
-use Rattle.pico_top.specs.Words.{Run, Command, reading}
-use Rattle.pico_top.specs.Words.Command.{RunImage, Disassemble}
-use Rattle.pio_words.specs.declared.side.SideConfig.{SideConfig}
-use Rattle.pio_disasm.specs.Text.{source_text}
-use Rattle.pico_top.specs.Machine.{start}
-use Rattle.pico_top.specs.RunText.{run_text}
-use Rattle.pico_top.specs.Refusals.{words_line, file_line, large_line, image_line}
-use Rattle.pico_top.specs.Answer.{Call, Says, RanOut, Ends}
-use Rattle.pico_top.specs.Dialogue.{Gave, LeadsTo, MayGive, failed_by, dialogue, dialogue_of, run_image, with_file, image_limit}
+use Rattle.pio_parse.specs.declared.fault.PioFault.{PioFault}
+use Rattle.pio_asm.specs.Assembly.{Plan}
+use Rattle.pico_top.specs.Words.{Command, reading}
+use Rattle.pico_top.specs.Words.Command.{RunImage, Disassemble, Assemble}
+use Rattle.pico_top.specs.Listing.{plans_of}
+use Rattle.pico_top.specs.Answer.{Call, RanOut, Ends}
+use Rattle.pico_top.specs.Dialogue.{Dialogue, Gave, LeadsTo, MayGive, failed_by, dialogue, dialogue_of, run_image, list_source, with_file, on_load}
 use Rattle.pico_top.specs.Dialogue.Gave.{Bytes, TooLong, Refused}
 use Rattle.pico_top.specs.Dialogue.Ending.{Said}
-use Rattle.pico_top.specs.Causes.{LoadFailed, IsStatus}
+use Rattle.pico_top.specs.Causes.{Asked, image_file, source_file, file_of, LoadFailed, image_status, source_status, status_of}
+
+-- the call ended as a text with this status does
+abbrev pub Told : Call → ℕ → Type 0
+Told call status = (text : List ℕ) × Ends call (Said status text)
+
+-- memory ran out, in the place of any text
+pub told_out : (call : Call) (status : ℕ) → RanOut call → Told call status
+told_out call status out = ([], inr out)
 
 -- the ways in which a call of the program goes
 pub data Origin (files : Option Files) (failed failed' : List (List ℕ)) (call : Call) (asked : Option Command) : Type 0 where
-  NoRun : (refused : asked ≡ None) → (same : failed' ≡ failed) → (ends : Ends call (Said 2 words_line)) → Origin files failed failed' call asked
-  Failing : (run : Run) → (read : asked ≡ Some (RunImage run)) → (lost : LoadFailed failed failed' run.image) → (ends : Ends call (Said 3 (file_line run.image))) → Origin files failed failed' call asked
-  Large : (run : Run) → (read : asked ≡ Some (RunImage run)) → (long : ℕ) → (gave : MayGive files run.image image_limit (TooLong long)) → (same : failed' ≡ failed) → (ends : Ends call (Said 3 (large_line run.image long))) → Origin files failed failed' call asked
-  Faulty : (run : Run) → (read : asked ≡ Some (RunImage run)) → (bytes : List ℕ) → (gave : MayGive files run.image image_limit (Bytes bytes)) → (fault : ImageFault) → (is : image_of bytes ≡ Err fault) → (same : failed' ≡ failed) → (ends : Ends call (Said 4 (image_line fault))) → Origin files failed failed' call asked
-  Ran : (run : Run) → (read : asked ≡ Some (RunImage run)) → (bytes : List ℕ) → (gave : MayGive files run.image image_limit (Bytes bytes)) → (image : Image) → (is : image_of bytes ≡ Ok image) → (same : failed' ≡ failed) → (ends : Ends call (Said 0 (run_text run.cycles (start image)))) → Origin files failed failed' call asked
-  Listed : (words : List ℕ) → (side : SideConfig) → (read : asked ≡ Some (Disassemble words side)) → (same : failed' ≡ failed) → (ends : Ends call (Said 0 (source_text side words))) → Origin files failed failed' call asked
-  Empty : (run : Run) → (read : asked ≡ Some (RunImage run)) → (same : failed' ≡ failed) → (out : RanOut call) → Origin files failed failed' call asked
+  NoFile : (none : file_of asked ≡ None) → (same : failed' ≡ failed) → (told : Told call (status_of asked [])) → Origin files failed failed' call asked
+  Failing : (file : Asked) → (wanted : file_of asked ≡ Some file) → (lost : LoadFailed failed failed' file.name) → (told : Told call 3) → Origin files failed failed' call asked
+  Large : (file : Asked) → (wanted : file_of asked ≡ Some file) → (long : ℕ) → (gave : MayGive files file.name file.limit (TooLong long)) → (told : Told call 3) → Origin files failed failed' call asked
+  Judged : (file : Asked) → (wanted : file_of asked ≡ Some file) → (bytes : List ℕ) → (gave : MayGive files file.name file.limit (Bytes bytes)) → (told : Told call (status_of asked bytes)) → Origin files failed failed' call asked
+  Empty : (file : Asked) → (wanted : file_of asked ≡ Some file) → (told : Told call 9) → Origin files failed failed' call asked
 
-of_image : (files : Option Files) (failed failed' : List (List ℕ)) (call : Call) (run : Run) (bytes : List ℕ) → MayGive files run.image image_limit (Bytes bytes) → (r : Result Image ImageFault) → image_of bytes ≡ r → LeadsTo files (Ends call) failed failed' (run_image run.cycles r) → Origin files failed failed' call (Some (RunImage run))
-of_image files failed failed' call run bytes gave (Ok image) e h = Ran run refl bytes gave image e h.0 h.1
-of_image files failed failed' call run bytes gave (Err fault) e h = Faulty run refl bytes gave fault e h.0 h.1
+-- the text of a file's bytes has the status of the bytes
+of_image : (files : Option Files) (failed failed' : List (List ℕ)) (call : Call) (cycles : ℕ) (r : Result Image ImageFault) → LeadsTo files (Ends call) failed failed' (run_image cycles r) → Told call (image_status r)
+of_image files failed failed' call cycles (Ok image) h = (_, h.1)
+of_image files failed failed' call cycles (Err fault) h = (_, h.1)
 
-of_gave : (files : Option Files) (failed failed' : List (List ℕ)) (call : Call) (run : Run) (gave : Gave) → MayGive files run.image image_limit gave → LeadsTo files (Ends call) (failed_by failed run.image gave) failed' (with_file run gave) → Origin files failed failed' call (Some (RunImage run))
-of_gave files failed failed' call run (Bytes bytes) may h = of_image files failed failed' call run bytes may (image_of bytes) refl h
-of_gave files failed failed' call run (TooLong long) may h = Large run refl long may h.0 h.1
-of_gave files failed failed' call run Refused may h = Failing run refl h.0 h.1
+of_source : (files : Option Files) (failed failed' : List (List ℕ)) (call : Call) (r : Result (List Plan) PioFault) → LeadsTo files (Ends call) failed failed' (list_source r) → Told call (source_status r)
+of_source files failed failed' call (Err fault) h = (_, h.1)
+of_source files failed failed' call (Ok plans) h = elim h [ inl w ↦ (_, w.2.1) | inr w ↦ told_out call 0 w.1 ]
+
+of_gave : (files : Option Files) (failed failed' : List (List ℕ)) (call : Call) (asked : Option Command) (file : Asked) (next : List ℕ → Dialogue) (gave : Gave) → file_of asked ≡ Some file → ((f : List (List ℕ)) (bytes : List ℕ) → LeadsTo files (Ends call) f failed' (next bytes) → Told call (status_of asked bytes)) → MayGive files file.name file.limit gave → LeadsTo files (Ends call) (failed_by failed file.name gave) failed' (on_load file.name next gave) → Origin files failed failed' call asked
+of_gave files failed failed' call asked file next (Bytes bytes) wanted told may h = Judged file wanted bytes may (told failed bytes h)
+of_gave files failed failed' call asked file next (TooLong long) wanted told may h = Large file wanted long may (_, h.1)
+of_gave files failed failed' call asked file next Refused wanted told may h = Failing file wanted h.0 (_, h.1)
+
+of_file : (files : Option Files) (failed failed' : List (List ℕ)) (call : Call) (asked : Option Command) (file : Asked) (next : List ℕ → Dialogue) → file_of asked ≡ Some file → ((f : List (List ℕ)) (bytes : List ℕ) → LeadsTo files (Ends call) f failed' (next bytes) → Told call (status_of asked bytes)) → LeadsTo files (Ends call) failed failed' (with_file file.name file.limit next) → Origin files failed failed' call asked
+of_file files failed failed' call asked file next wanted told h = elim h [
+  | inl w ↦ of_gave files failed failed' call asked file next w.0 wanted told w.1 w.2
+  | inr w ↦ Empty file wanted (told_out call 9 w.1)
+]
 
 of_asked : (files : Option Files) (failed failed' : List (List ℕ)) (call : Call) (asked : Option Command) → LeadsTo files (Ends call) failed failed' (dialogue_of asked) → Origin files failed failed' call asked
-of_asked files failed failed' call None h = NoRun refl h.0 h.1
-of_asked files failed failed' call (Some (Disassemble words side)) h = Listed words side refl h.0 h.1
-of_asked files failed failed' call (Some (RunImage run)) h = elim h [
-  | inl w ↦ of_gave files failed failed' call run w.0 w.1 w.2
-  | inr w ↦ Empty run refl w.0 w.1
-]
+of_asked files failed failed' call None h = NoFile refl h.0 (_, h.1)
+of_asked files failed failed' call (Some (Disassemble words side)) h = NoFile refl h.0 (_, h.1)
+of_asked files failed failed' call (Some (RunImage run)) h =
+    of_file files failed failed' call (Some (RunImage run)) (image_file run) (λ bytes. run_image run.cycles (image_of bytes)) refl
+    (λ f bytes d. of_image files f failed' call run.cycles (image_of bytes) d) h
+of_asked files failed failed' call (Some (Assemble name)) h =
+    of_file files failed failed' call (Some (Assemble name)) (source_file name) (λ bytes. list_source (plans_of bytes)) refl
+    (λ f bytes d. of_source files f failed' call (plans_of bytes) d) h
 
 pub origin : (files : Option Files) (failed failed' : List (List ℕ)) (call : Call) (words : List (List ℕ)) → LeadsTo files (Ends call) failed failed' (dialogue words) → Origin files failed failed' call (reading words)
 origin files failed failed' call words h = of_asked files failed failed' call (reading words) h
-
--- ---- statuses
-
-pub says_status : (call : Call) (status : ℕ) (text : List ℕ) → Says call status text → (call.status ≡ status) ⊎ (call.status ≡ 7)
-says_status call status text h = elim h [ inl w ↦ inl w.0 | inr w ↦ inr w.0 ]
-
-pub ran_out_status : (call : Call) → RanOut call → (call.status ≡ 9) ⊎ (call.status ≡ 7)
-ran_out_status call h = says_status call 9 _ h
-
-pub ends_status : (call : Call) (status : ℕ) (text : List ℕ) → Ends call (Said status text) → IsStatus call.status status
-ends_status call status text h = elim h [
-  | inl w ↦ elim (says_status call status text w) [ inl e ↦ inl e | inr e ↦ inr (inl e) ]
-  | inr w ↦ elim (ran_out_status call w) [ inl e ↦ inr (inr e) | inr e ↦ inr (inl e) ]
-]
-
--- another status than the wanted one, 7 and 9 does not come
-pub not_this : {Q : Type 0} (call : Call) (status wanted : ℕ) (text : List ℕ) → Ends call (Said status text) → call.status ≡ wanted → wanted < 7 → status < 7 → status ≢ wanted → Q
-not_this call status wanted text h e small low ne = absurd (elim (ends_status call status text h) [
-  | inl w ↦ omega (arith, w, e, ne)
-  | inr w ↦ elim w [ inl x ↦ omega (arith, x, e) | inr x ↦ omega (arith, x, e, small) ]
-])

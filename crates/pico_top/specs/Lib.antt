@@ -2,6 +2,7 @@ pub mod Answer
 pub mod Causes
 pub mod Dialogue
 pub mod Dis
+pub mod Listing
 pub mod Machine
 pub mod Numbers
 pub mod Opening

@@ -9,12 +9,15 @@ use Rattle.pico_top.specs.declared.open.Started.{Started}
 use Rattle.pico_top.specs.declared.open.Opened.{Opened}
 use Rattle.pico_top.specs.declared.open.Opened.TheVariants.{Machine, Text}
 use Rattle.pico_top.specs.declared.open.Refusal.{Refusal}
-use Rattle.pico_top.specs.declared.open.Refusal.TheVariants.{Words, File, Large, Image, Memory}
+use Rattle.pico_top.specs.declared.open.Refusal.TheVariants.{Words, File, Large, Image, Source, Memory}
 use Rattle.pico_top.specs.Answer.{Call, Says, RanOut}
 use Rattle.pico_top.specs.Machine.{start}
 use Rattle.pico_top.specs.RunText.{run_text}
-use Rattle.pico_top.specs.Refusals.{words_line, file_line, large_line, image_line}
-use Rattle.pico_top.specs.Dialogue.{MayGive, Ending, image_limit}
+use Rattle.pico_top.specs.Refusals.{words_line, file_line, large_line, image_line, pio_line}
+use Rattle.pico_top.specs.Listing.{plans_of, listing}
+use Rattle.pio_asm.specs.Assembly.{Assembles}
+use Rattle.pio_asm.specs.declared.program.Program.{Program}
+use Rattle.pico_top.specs.Dialogue.{MayGive, Ending}
 use Rattle.pico_top.specs.Dialogue.Gave.{Bytes, TooLong}
 use Rattle.pico_top.specs.Dialogue.Ending.{Said, NoMemory}
 
@@ -24,6 +27,7 @@ refusal_text Words = Some (2, words_line)
 refusal_text (File name) = Some (3, file_line (string_bytes name))
 refusal_text (Large name long) = Some (3, large_line (string_bytes name) long)
 refusal_text (Image fault) = Some (4, image_line fault)
+refusal_text (Source fault) = Some (5, pio_line fault)
 refusal_text Memory = None
 
 -- the ending says what is refused
@@ -52,14 +56,15 @@ OpensAs (Ok opened) ending = RunsAs opened ending
 OpensAs (Err refusal) ending = RefusedAs (refusal_text refusal) ending
 
 -- a load gave these bytes, or is refused for this cause; its name joined the failed ones where it failed
-abbrev pub LoadsAs : Option Files → List (List ℕ) → List (List ℕ) → List ℕ → Result (Vec ℕ Global) Refusal → Type 0
-LoadsAs files failed failed' name (Ok bytes) = MayGive files name image_limit (Bytes bytes.items) × (failed' ≡ failed)
-LoadsAs files failed failed' name (Err (Large long_name long)) =
-    (string_bytes long_name ≡ name) × MayGive files name image_limit (TooLong long) × (failed' ≡ failed)
-LoadsAs files failed failed' name (Err (File lost)) = (string_bytes lost ≡ name) × (failed' ≡ failed ++ name ∷ [])
-LoadsAs files failed failed' name (Err Memory) = (failed' ≡ failed) ⊎ (failed' ≡ failed ++ name ∷ [])
-LoadsAs files failed failed' name (Err Words) = ⊥
-LoadsAs files failed failed' name (Err (Image fault)) = ⊥
+abbrev pub LoadsAs : Option Files → List (List ℕ) → List (List ℕ) → List ℕ → ℕ → Result (Vec ℕ Global) Refusal → Type 0
+LoadsAs files failed failed' name limit (Ok bytes) = MayGive files name limit (Bytes bytes.items) × (failed' ≡ failed)
+LoadsAs files failed failed' name limit (Err (Large long_name long)) =
+    (string_bytes long_name ≡ name) × MayGive files name limit (TooLong long) × (failed' ≡ failed)
+LoadsAs files failed failed' name limit (Err (File lost)) = (string_bytes lost ≡ name) × (failed' ≡ failed ++ name ∷ [])
+LoadsAs files failed failed' name limit (Err Memory) = (failed' ≡ failed) ⊎ (failed' ≡ failed ++ name ∷ [])
+LoadsAs files failed failed' name limit (Err Words) = ⊥
+LoadsAs files failed failed' name limit (Err (Image fault)) = ⊥
+LoadsAs files failed failed' name limit (Err (Source fault)) = ⊥
 
 -- the bytes are those of an image, whose first state the machine is in, or have this fault
 abbrev pub StartsAs : List ℕ → ℕ → Result Started Refusal → Type 0
@@ -70,6 +75,17 @@ StartsAs bytes limit (Err Memory) = Unit {0}
 StartsAs bytes limit (Err Words) = ⊥
 StartsAs bytes limit (Err (File name)) = ⊥
 StartsAs bytes limit (Err (Large name long)) = ⊥
+StartsAs bytes limit (Err (Source fault)) = ⊥
+
+-- the text is the listing of the bytes' programs, or the bytes have this fault
+abbrev pub ListsAs : List ℕ → Result (Vec ℕ Global) Refusal → Type 0
+ListsAs bytes (Ok text) = (programs : List Program) × Assembles programs (plans_of bytes) × (text.items ≡ listing programs)
+ListsAs bytes (Err (Source fault)) = plans_of bytes ≡ Err fault
+ListsAs bytes (Err Memory) = Unit {0}
+ListsAs bytes (Err Words) = ⊥
+ListsAs bytes (Err (File name)) = ⊥
+ListsAs bytes (Err (Large name long)) = ⊥
+ListsAs bytes (Err (Image fault)) = ⊥
 
 -- the line of a refusal was written, or memory ran out
 abbrev pub Refuses : Call → Option (ℕ × List ℕ) → Type 0
@@ -84,3 +100,4 @@ WritesAs text (Err Words) = ⊥
 WritesAs text (Err (File name)) = ⊥
 WritesAs text (Err (Large name long)) = ⊥
 WritesAs text (Err (Image fault)) = ⊥
+WritesAs text (Err (Source fault)) = ⊥

@@ -2,13 +2,12 @@
 use Rattle.std.specs.Prelude.{◌≡◌, Option, Some, None, Result, Ok, Err}
 use Rattle.std.specs.String.{string_bytes}
 use Rattle.pico_top.specs.declared.words.RunWords.{RunWords}
-use Rattle.pico_top.specs.declared.dis.DisWords.{DisWords}
 use Rattle.pico_top.specs.declared.words.Reading.{Reading}
 use Rattle.pico_top.specs.declared.words.Reading.TheVariants as readings
 use Rattle.pico_top.specs.declared.words.WordsFault.{WordsFault}
 use Rattle.pico_top.specs.declared.words.WordsFault.TheVariants.{Words, Memory}
 use Rattle.pico_top.specs.Words.{Run, Command}
-use Rattle.pico_top.specs.Words.Command.{RunImage, Disassemble}
+use Rattle.pico_top.specs.Words.Command.{RunImage, Disassemble, Assemble}
 
 -- the run that the words of one stand for
 abbrev pub run_in : RunWords → Run
@@ -18,6 +17,7 @@ run_in r = record { image = string_bytes r.image; cycles = r.cycles }
 abbrev pub command_in : Reading → Command
 command_in (readings.Run r) = RunImage (run_in r)
 command_in (readings.Dis d) = Disassemble d.words.items d.side
+command_in (readings.Asm name) = Assemble (string_bytes name)
 
 -- the answer is what was asked for, or Words where that is none; Memory says nothing
 abbrev pub ReadsRun : Option Run → Result RunWords WordsFault → Type 0

@@ -3,6 +3,8 @@ use Rattle.std.specs.Prelude.{ℕ, List, ◌++◌, codes, decimal}
 use Rattle.trace_text.specs.Line.{hex_word}
 use Rattle.uf2_image.specs.declared.fault.ImageFault.{ImageFault}
 use Rattle.uf2_image.specs.declared.fault.ImageFault.TheVariants.{Empty, Ragged, Magic, Payload, Count, Number, Repeat, Flash, Address, Overlap, Missing, Nothing, Memory}
+use Rattle.pio_parse.specs.declared.fault.PioFault.{PioFault}
+use Rattle.pio_parse.specs.declared.fault.PioFault.TheVariants as pio
 
 -- the words are refused
 abbrev pub words_line : List ℕ
@@ -45,3 +47,21 @@ fault_words Memory = codes "13 Memory"
 
 abbrev pub image_line : ImageFault → List ℕ
 image_line fault = codes "error image " ++ fault_words fault ++ codes "\n"
+
+-- a PIO fault: its number, its name, then its line and column, or its line
+unfoldable pub pio_fault_words : PioFault → List ℕ
+pio_fault_words (pio.Char line column) = codes "1 Char" ++ then_number line ++ then_number column
+pio_fault_words (pio.Syntax line column) = codes "2 Syntax" ++ then_number line ++ then_number column
+pio_fault_words pio.Memory = codes "3 Memory"
+pio_fault_words (pio.Unknown line) = codes "4 Unknown" ++ then_number line
+pio_fault_words (pio.Twice line) = codes "5 Twice" ++ then_number line
+pio_fault_words (pio.Range line) = codes "6 Range" ++ then_number line
+pio_fault_words (pio.Delay line) = codes "7 Delay" ++ then_number line
+pio_fault_words (pio.Side line) = codes "8 Side" ++ then_number line
+pio_fault_words (pio.TooLong line) = codes "9 TooLong" ++ then_number line
+pio_fault_words (pio.Wrap line) = codes "10 Wrap" ++ then_number line
+pio_fault_words (pio.Origin line) = codes "11 Origin" ++ then_number line
+pio_fault_words (pio.NoRoom count) = codes "12 NoRoom" ++ then_number count
+
+abbrev pub pio_line : PioFault → List ℕ
+pio_line fault = codes "error pio " ++ pio_fault_words fault ++ codes "\n"

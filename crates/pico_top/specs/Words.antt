@@ -1,4 +1,4 @@
--- The words of a command line, and what they ask for: `run <image> --cycles N` or `dis <hex> [--side S] [--opt T]`.
+-- The words of a command line, and what they ask for: `run <image> --cycles N`, `dis <hex> [--side S] [--opt T]` or `asm <file>`.
 use Rattle.std.specs.Prelude.{ℕ, Bool, not, ◌&&◌, if◌then◌else◌, List, [], ◌∷◌, Option, Some, None, codes}
 use Rattle.std.specs.Option.{option_map, option_and_then}
 use Rattle.std.specs.Str.{bytes_eq}
@@ -32,10 +32,11 @@ unfoldable pub run_reading : List (List ℕ) → Option Run
 run_reading (command ∷ image ∷ name ∷ value ∷ []) = run_of command image name value
 run_reading _ = None
 
--- what the words may ask for: a run, or the source text of instruction words
+-- what the words may ask for: a run, the source text of instruction words, or the listing of a source
 pub data Command : Type 0 where
   RunImage : (run : Run) → Command
   Disassemble : (words : List ℕ) → (side : SideConfig) → Command
+  Assemble : (source : List ℕ) → Command
 
 abbrev pub disassemble : Option (List ℕ) → Option SideConfig → Option Command
 disassemble (Some words) (Some side) = Some (Disassemble words side)
@@ -47,8 +48,14 @@ unfoldable pub dis_reading : List (List ℕ) → Option Command
 dis_reading [] = None
 dis_reading (hex ∷ options) = disassemble (words_of hex) (side_of options)
 
+-- `<file>`: one word, which does not begin with a dash
+unfoldable pub asm_reading : List (List ℕ) → Option Command
+asm_reading (name ∷ []) = if begins_with 45 name then None else Some (Assemble name)
+asm_reading _ = None
+
 -- the reading of the words, or none where they are refused
 unfoldable pub reading : List (List ℕ) → Option Command
 reading [] = None
 reading (command ∷ words) =
-    if bytes_eq command (codes "dis") then dis_reading words else option_map RunImage (run_reading (command ∷ words))
+    if bytes_eq command (codes "dis") then dis_reading words
+    else if bytes_eq command (codes "asm") then asm_reading words else option_map RunImage (run_reading (command ∷ words))

@@ -1,6 +1,7 @@
 //! The top call: the words of a command line, the files and the sink that are handed in, and the text that is written.
 #![tactic(auto)]
 
+mod asm;
 mod dis;
 pub mod machine;
 mod open;
@@ -13,14 +14,14 @@ ghost use Rattle.std.specs.Prelude.{◌≡◌, ◌≤◌, None, map};
 ghost use Rattle.std.specs.String.{string_bytes};
 ghost use Rattle.pico_top.specs.Answer.{Says, RanOut, Converses};
 ghost use Rattle.rp_ports.specs.Fault.{Rose};
-ghost use Rattle.pico_top.specs.Causes.{AsksFor, FileCause, HasFault, IsStatus, Comes};
+ghost use Rattle.pico_top.specs.Causes.{FileCause, ImageCause, SourceCause, IsStatus, Comes, file_of};
 ghost use Rattle.pico_top.specs.Words.{reading};
 ghost use Rattle.pico_top.specs.Opening.{Refuses, refusal_text, opened_text, IsReady};
 ghost use Rattle.pico_top.specs.RunText.{run_text};
 ghost use Rattle.pico_top.specs.Refusals.{memory_line};
 
 use open::{Opened, Refusal, Started, open};
-use refusal::{file_fault_line, image_fault_line, large_file_line};
+use refusal::{file_fault_line, image_fault_line, large_file_line, pio_fault_line};
 use rp_ports::shelf::Shelf;
 use rp_ports::sink::Sink;
 use send::{send_end, send_text};
@@ -100,6 +101,7 @@ fn refuse<O: Sink>(alloc: Global, refusal: &Refusal, writer: &mut Writer<'_, O>)
             Err(_) => run_out(writer),
         },
         Refusal::Image(fault) => say(4, &image_fault_line(fault), writer),
+        Refusal::Source(fault) => say(5, &pio_fault_line(fault), writer),
         Refusal::Memory => run_out(writer),
     }
 }
@@ -135,8 +137,8 @@ fn converse<F: Shelf, O: Sink>(alloc: Global, words: &[String], files: &mut F, o
 /// Does what the words say: loads their files from the shelf, and writes the text to the sink.
 ///
 /// The answer is the status: 0 where the text was written, 2 where the words are refused, 3 where a file could not be
-/// loaded or is too large, 4 where the image has a fault, 7 where the sink failed, 9 where memory ran out. A refusal has
-/// its one line, `error ..`, for its text.
+/// loaded or is too large, 4 where the image has a fault, 5 where the PIO source has one, 7 where the sink failed, 9 where
+/// memory ran out. A refusal has its one line, `error ..`, for its text.
 pub fn pico<F: Shelf, O: Sink>(alloc: Global, words: &[String], files: &mut F, out: &mut O) -> u8
     // The text of what was asked, written whole; or status 7 and a part of it, where the sink failed; or status 9 and the
     // line of want of memory.
@@ -148,19 +150,25 @@ pub fn pico<F: Shelf, O: Sink>(alloc: Global, words: &[String], files: &mut F, o
     ensures refused { reading (map string_bytes words.now) ≡ None → IsStatus result 2 }
 
     // Status 3 comes only where this call added the name to the failed ones, or the file is too large.
-    ensures file { result ≡ 3 → AsksFor (reading (map string_bytes words.now)) (λ run. FileCause (F.files files.old) (F.failed files.old) (F.failed files.new) run.image) }
+    ensures file { result ≡ 3 → FileCause (F.files files.old) (F.failed files.old) (F.failed files.new) (file_of (reading (map string_bytes words.now))) }
 
     // Status 4 comes only where the image has a fault.
-    ensures image { result ≡ 4 → AsksFor (reading (map string_bytes words.now)) (λ run. HasFault (F.files files.old) run.image) }
+    ensures image { result ≡ 4 → ImageCause (F.files files.old) (reading (map string_bytes words.now)) }
+
+    // Status 5 comes only where the source has a fault.
+    ensures source { result ≡ 5 → SourceCause (F.files files.old) (reading (map string_bytes words.now)) }
 
     // Status 7 comes only where the sink's count of faults rose.
     ensures sink { result ≡ 7 → Rose (O.faults out.old) (O.faults out.new) }
 
-    // Where the shelf tells the file and no load failed: 3 if it is too large, 4 if it has a fault, and else 0.
+    // Where the shelf tells the file and no load failed: 3 if it is too large, 4 if it is an image with a fault, 5 if it is
+    // a source with one, and else 0.
     ensures held { Comes (F.files files.old) (F.failed files.old) (F.failed files.new) (reading (map string_bytes words.now)) result }
 {
     converse(alloc, words, files, out)
 }
 
+#[cfg(test)]
+mod asm_tests;
 #[cfg(test)]
 mod tests;

@@ -2,16 +2,17 @@
 
 ghost use Rattle.std.specs.Prelude.{◌≡◌, ◌+◌, ◌≤◌, ◌++◌, length, IfOk};
 ghost use Rattle.arrayvec.specs.ArrayVec.{array_vec_len};
-ghost use Rattle.pico_top.specs.Refusals.{file_line, large_line, fault_words, image_line, then_number, then_address};
+ghost use Rattle.pico_top.specs.Refusals.{file_line, large_line, fault_words, image_line, pio_fault_words, pio_line, then_number, then_address};
 ghost use Rattle.std.specs.String.{string_bytes};
 
 use arrayvec::ArrayVec;
 use itoa::Buffer;
+use pio_parse::PioFault;
 use std::alloc::{AllocError, Global};
 use trace_text::line::{push_number, push_text, push_word};
 use uf2_image::ImageFault;
 
-/// How many bytes the line of an image fault has at most.
+/// How many bytes the line of a fault has at most.
 const FAULT: usize = 96;
 
 /// Appends a number after a space.
@@ -32,6 +33,28 @@ fn then_address(address: u32, out: &mut ArrayVec<u8, FAULT>)
 {
     push_text(b" ", out);
     push_word(address, out);
+}
+
+/// Appends a short text and a number.
+fn push_one(text: &[u8], number: u64, out: &mut ArrayVec<u8, FAULT>)
+    requires room { array_vec_len out.old + 43 ≤ FAULT }
+    requires small { length text.now ≤ 22 }
+    ensures text { out.new.items ≡ out.old.items ++ text.now ++ then_number number }
+    ensures short { array_vec_len out.new ≤ array_vec_len out.old + 43 }
+{
+    push_text(text, out);
+    then_number(number, out);
+}
+
+/// Appends a short text and two numbers.
+fn push_two(text: &[u8], first: u64, second: u64, out: &mut ArrayVec<u8, FAULT>)
+    requires room { array_vec_len out.old + 64 ≤ FAULT }
+    requires small { length text.now ≤ 22 }
+    ensures text { out.new.items ≡ out.old.items ++ text.now ++ then_number first ++ then_number second }
+    ensures short { array_vec_len out.new ≤ array_vec_len out.old + 64 }
+{
+    push_one(text, first, out);
+    then_number(second, out);
 }
 
 /// Appends an image fault's number, its name and its numbers.
@@ -98,6 +121,40 @@ pub fn image_fault_line(fault: &ImageFault) -> ArrayVec<u8, FAULT>
     let mut line = ArrayVec::new();
     push_text(b"error image ", &mut line);
     push_fault(fault, &mut line);
+    push_text(b"\n", &mut line);
+    line
+}
+
+/// Appends a PIO fault's number and its name, then its line and column, or its line.
+#[tactic(auto, unfolding(crate::specs::Refusals::pio_fault_words))]
+fn push_pio_fault(fault: &PioFault, out: &mut ArrayVec<u8, FAULT>)
+    requires { array_vec_len out.old + 64 ≤ FAULT }
+    ensures text { out.new.items ≡ out.old.items ++ pio_fault_words fault.now }
+    ensures short { array_vec_len out.new ≤ array_vec_len out.old + 64 }
+{
+    match *fault {
+        PioFault::Char(line, column) => push_two(b"1 Char", line, column, out),
+        PioFault::Syntax(line, column) => push_two(b"2 Syntax", line, column, out),
+        PioFault::Memory => push_text(b"3 Memory", out),
+        PioFault::Unknown(line) => push_one(b"4 Unknown", line, out),
+        PioFault::Twice(line) => push_one(b"5 Twice", line, out),
+        PioFault::Range(line) => push_one(b"6 Range", line, out),
+        PioFault::Delay(line) => push_one(b"7 Delay", line, out),
+        PioFault::Side(line) => push_one(b"8 Side", line, out),
+        PioFault::TooLong(line) => push_one(b"9 TooLong", line, out),
+        PioFault::Wrap(line) => push_one(b"10 Wrap", line, out),
+        PioFault::Origin(line) => push_one(b"11 Origin", line, out),
+        PioFault::NoRoom(count) => push_one(b"12 NoRoom", count, out),
+    }
+}
+
+/// The line of a PIO fault.
+pub fn pio_fault_line(fault: &PioFault) -> ArrayVec<u8, FAULT>
+    ensures { result.items ≡ pio_line fault.now }
+{
+    let mut line = ArrayVec::new();
+    push_text(b"error pio ", &mut line);
+    push_pio_fault(fault, &mut line);
     push_text(b"\n", &mut line);
     line
 }

@@ -7,6 +7,7 @@ ghost use Rattle.pico_top.specs.Words.{cycles_of, is_run_of, run_of, run_with, r
 ghost use Rattle.std.specs.Option.{option_map};
 ghost use Rattle.pico_top.specs.Read.{ReadsAs, ReadsRun};
 
+use crate::asm::read_asm;
 use crate::dis::{DisWords, instruction_words, side_config};
 use std::alloc::Global;
 
@@ -26,6 +27,8 @@ pub enum Reading {
     Run(RunWords),
     /// The source text of instruction words.
     Dis(DisWords),
+    /// The listing of the source file of this name.
+    Asm(String),
 }
 
 /// Why there is no reading.
@@ -143,7 +146,7 @@ fn read_dis(alloc: Global, words: &[String]) -> Result<Reading, WordsFault>
     }
 }
 
-/// Reads `run <image> --cycles N` or `dis <hex> [--side S] [--opt T]`.
+/// Reads `run <image> --cycles N`, `dis <hex> [--side S] [--opt T]` or `asm <file>`.
 #[tactic(auto, unfolding(crate::specs::Words::reading))]
 pub fn read_words(alloc: Global, words: &[String]) -> Result<Reading, WordsFault>
     ensures { ReadsAs (reading (map string_bytes words.now)) result }
@@ -153,6 +156,9 @@ pub fn read_words(alloc: Global, words: &[String]) -> Result<Reading, WordsFault
     };
     if command.as_str() == "dis" {
         return read_dis(alloc, rest);
+    }
+    if command.as_str() == "asm" {
+        return read_asm(alloc, rest);
     }
     match read_run(alloc, words) {
         Ok(run) => Ok(Reading::Run(run)),

@@ -1,5 +1,5 @@
 use Rattle.pico_top.proofs.Origins.{origin}
-use Rattle.pico_top.proofs.Causing.{words_only, words_refused, file_only, image_only, sink_only, large_comes, fault_comes, run_comes}
+use Rattle.pico_top.proofs.Causing.{words_only, words_refused, file_only, image_only, source_only, sink_only, large_comes, fits_comes}
 use Rattle.pico_top.proofs.pico.Goals as goal
 
 pub returns-clause-words : goal.returns-clause-words
@@ -14,6 +14,9 @@ returns-clause-file g c = file_only _ _ _ _ _ (origin _ _ _ _ _ c.converse.ensur
 pub returns-clause-image : goal.returns-clause-image
 returns-clause-image g c = image_only _ _ _ _ _ (origin _ _ _ _ _ c.converse.ensures.text)
 
+pub returns-clause-source : goal.returns-clause-source
+returns-clause-source g c = source_only _ _ _ _ _ (origin _ _ _ _ _ c.converse.ensures.text)
+
 pub returns-clause-sink : goal.returns-clause-sink
 returns-clause-sink g c = sink_only _ _ _ _ _ (origin _ _ _ _ _ c.converse.ensures.text)
 
@@ -21,7 +24,6 @@ pub returns-clause-held : goal.returns-clause-held
 returns-clause-held g c =
     let from = origin _ _ _ _ _ c.converse.ensures.text in
     record {
-      large = λ run held h long. large_comes _ _ _ _ _ run held from h long;
-      fault = λ run held f h fits e. fault_comes _ _ _ _ _ run held f from h fits e;
-      runs = λ run held image h fits e. run_comes _ _ _ _ _ run held image from h fits e;
+      large = λ file held h long. large_comes _ _ _ _ _ file held from h long;
+      fits = λ file held h fits. fits_comes _ _ _ _ _ file held from h fits;
     }

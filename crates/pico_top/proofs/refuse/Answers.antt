@@ -15,3 +15,7 @@ returns-in-Ok-large_file_line-clause-says g c =
 pub returns-in-Image-clause-says : goal.returns-in-Image-clause-says
 returns-in-Image-clause-says g c =
     refuses_by _ _ _ _ _ (ap refusal_text c.in-Image.is) (c.deref.ensures.0 ∙ c.image_fault_line.ensures) c.say-in-Image.ensures.says
+
+pub returns-in-Source-clause-says : goal.returns-in-Source-clause-says
+returns-in-Source-clause-says g c =
+    refuses_by _ _ _ _ _ (ap refusal_text c.in-Source.is) (c.deref-in-Source.ensures.0 ∙ c.pio_fault_line.ensures) c.say-in-Source.ensures.says

@@ -1,4 +1,4 @@
-use Rattle.std.proofs.Common.{◌≡◌, ℕ, List, subst, sym}
+use Rattle.std.proofs.Common.{◌≡◌, ℕ, List, subst}
 use Rattle.lane_look.specs.Asking.{answered}
 use Rattle.lane_look.proofs.Answers.{runs_answered}
 use Rattle.m0_core.specs.Fetch.{asks}

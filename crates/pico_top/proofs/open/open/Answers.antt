@@ -1,2 +1,0 @@
-use Rattle.pico_top.proofs.Leading.{after_text}
-use Rattle.pico_top.proofs.open.open.Goals as goal
