@@ -1,3 +1,5 @@
+-- What an instruction makes: its operation, its side-set value and its delay, with the faults that it has by itself
+-- (RP2040 Datasheet, 3.4; side-set: 3.5.1). A side-set and a delay share five bits (3.4.1).
 use Rattle.std.specs.Prelude.{◌==◌, ◌≡◌, ◌||◌, ◌&&◌, not, ℕ, ◌+◌, ◌-◌, ◌^◌, ◌≤◌, Bool, true, false, if◌then◌else◌, List, Option, None, Some, option_map, option_and_then, is_some, ◌<◌, ⊤}
 use Rattle.pio_words.specs.declared.op.WaitSource.{WaitSource}
 use Rattle.pio_words.specs.declared.op.WaitSource.TheVariants.{Gpio, Pin, Irq as WaitFlag}

@@ -1,3 +1,4 @@
+-- What an expression comes to (RP2040 Datasheet, 3.3, Values and Expressions). The bounds of its steps are the project's own.
 use Rattle.std.specs.Prelude.{◌&&◌, not, ℕ, ◌%◌, nat_le, ℤ, pos, negsuc, ◌+ℤ◌, ◌-ℤ◌, ◌*ℤ◌, neg_ℤ, int_lt, Bool, true, false, if◌then◌else◌, List, [], ◌∷◌, Option, None, Some}
 use Rattle.std.specs.Int.{cast_unsigned, reverse_bits, w32, w64}
 use Rattle.pio_parse.specs.declared.expression.Operator.{Operator}

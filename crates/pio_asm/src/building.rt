@@ -3,8 +3,9 @@ ghost use Rattle.pio_asm.specs.Plan.{IsSound};
 ghost use Rattle.pio_asm.specs.Code.{AreWordsOf};
 ghost use Rattle.pio_asm.specs.Verdict.{verdict_result};
 
-use crate::plan::{Member, word_of_member};
+use crate::plan::Member;
 use crate::symbols::Symbols;
+use crate::word::word_of_member;
 use arrayvec::ArrayVec;
 use pio_parse::PioFault;
 use pio_words::SideConfig;

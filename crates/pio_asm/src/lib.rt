@@ -3,13 +3,20 @@
 #![tactic(auto)]
 
 mod building;
+mod directive;
 mod line;
+mod names;
 mod operand;
+mod operation;
 mod place;
 mod plan;
 mod program;
+mod sides;
 mod symbols;
+#[cfg(test)]
+mod tests;
 mod value;
+mod word;
 
 pub use place::place_program;
 pub use program::{Program, assemble};

@@ -1,3 +1,5 @@
+-- The source of a program of given words (RP2040 Datasheet, 3.4.2 to 3.4.10, Assembler Syntax; 3.3, Directives). Which of the
+-- forms of an instruction is written is the project's own.
 use Rattle.std.specs.Prelude.{◌==◌, ◌&&◌, not, ℕ, ◌+◌, ◌/◌, ◌%◌, nat_lt, Bool, true, false, if◌then◌else◌, List, [], ◌∷◌, ◌++◌, Option, None, Some, codes, flat_map}
 use Rattle.pio_words.specs.declared.op.IrqIndex.{IrqIndex}
 use Rattle.pio_words.specs.declared.op.WaitSource.{WaitSource}
