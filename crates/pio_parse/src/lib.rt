@@ -6,12 +6,17 @@ mod cursor;
 mod expression;
 mod fault;
 mod instruction;
+mod jump;
 mod name;
+mod operands;
 mod parser;
+mod registers;
 mod scan;
 mod statement;
 mod syntax;
 mod token;
+mod transfer;
+mod wait;
 mod words;
 
 pub use expression::{Expression, Operator, Term};
