@@ -5,3 +5,6 @@ pub mod Words
 pub mod Sides
 pub mod CodeLaws
 pub mod ProgramLaws
+pub mod Valued
+pub mod Planning
+pub mod Keeping

@@ -125,8 +125,8 @@ IsOptionalConfig None = ⊤
 IsOptionalConfig (Some config) = IsConfig config
 
 -- the word of a member: a `.word` value stands for itself, and an operation has its word with its side-set value and its delay.
--- A lost member is in no program, since the line of a definition is refused that it uses
+-- A lost member has no word, so no program has one
 abbrev pub StandsFor : Member → ℕ → Type 0
 StandsFor (Word n) word = word ≡ n
 StandsFor (Coded op side value delay) word = IsWord op side value delay word
-StandsFor Lost word = word ≡ 0
+StandsFor Lost word = ⊥

@@ -5,13 +5,13 @@
 mod building;
 mod directive;
 mod line;
+mod modifiers;
 mod names;
 mod operand;
 mod operation;
 mod place;
 mod plan;
 mod program;
-mod sides;
 mod symbols;
 #[cfg(test)]
 mod tests;

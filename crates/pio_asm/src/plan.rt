@@ -2,9 +2,9 @@ ghost use Rattle.std.specs.Prelude.{◌≡◌, ◌≤◌, IfOk, IfSome, true, fa
 ghost use Rattle.pio_asm.specs.Fits.{IsInRange};
 ghost use Rattle.pio_asm.specs.Plan.{IsConfig, IsOptionalConfig, IsSound, delay_bits, greatest, instruction_in, member_of};
 
+use crate::modifiers::{config_or_none, delay_part, side_part, side_value};
 use crate::operand::{Part, Scope};
 use crate::operation::plan_operation;
-use crate::sides::{config_or_none, delay_part, side_part, side_value};
 use pio_parse::Instruction;
 use pio_words::{PioOp, SideConfig};
 use std::alloc::AllocError;

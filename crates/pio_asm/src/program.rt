@@ -2,12 +2,13 @@ ghost use Rattle.std.specs.Prelude.{◌≡◌, ◌≤◌, ◌<◌, [], ◌∷◌
 ghost use Rattle.pio_asm.specs.Plan.{IsOptionalConfig};
 ghost use Rattle.pio_asm.specs.Step.{names_of};
 ghost use Rattle.pio_asm.specs.Symbols.{found};
+ghost use Rattle.pio_asm.specs.Kept.{AllValued, AreKept};
 ghost use Rattle.pio_asm.specs.Assembly.{Assembles, IsFaultOf, IsProgram, assembled, lines_from, lines_of, plan_of, program_lines, program_plan, programs_from};
 
 use crate::building::{Building, Code, or_memory};
 use crate::line::{Context, take_line};
+use crate::modifiers::config_or_none;
 use crate::names::{add_line_names, makes_member};
-use crate::sides::config_or_none;
 use crate::symbols::Symbols;
 use arrayvec::ArrayVec;
 use pio_parse::{Line, Name, PioFault, Source, SourceProgram};
@@ -71,7 +72,8 @@ fn take_lines<'a>(context: &Context<'_, 'a>, lines: &'a [Line]) -> Result<Buildi
 
 /// The parts of a program that is built.
 fn finish(name: Name, building: Building) -> Program
-    requires { IsOptionalConfig building.side }
+    requires side { IsOptionalConfig building.side }
+    requires kept { AreKept building.code }
     ensures { IsProgram (plan_of name building.entry) result }
 {
     let Building {
@@ -94,7 +96,10 @@ fn finish(name: Name, building: Building) -> Program
 }
 
 /// A program whose names and number of instructions are known.
+#[tactic(auto, using(crate::proofs::Keeping::program_kept))]
 fn take_body<'a>(context: &Context<'_, 'a>, program: &'a SourceProgram) -> Result<Program, PioFault>
+    requires names { (context.now.whole.now, context.now.total) ≡ names_of context.now.globals.now [] 0 program.now.lines }
+    requires valued { AllValued context.now.globals.now }
     ensures ok { IfOk result (λ made. IsOkAnd (program_lines context.now.globals.now program.now (context.now.whole.now, context.now.total)) (λ plan. IsProgram plan made)) }
     ensures err { IfErr result (IsFaultOf (program_lines context.now.globals.now program.now (context.now.whole.now, context.now.total))) }
 {
@@ -113,6 +118,7 @@ fn take_program<'a>(
     taken: &Symbols<'a>,
     program: &'a SourceProgram,
 ) -> Result<Program, PioFault>
+    requires { AllValued globals.now }
     ensures ok { IfOk result (λ made. IsOkAnd (program_plan globals.now taken.now program.now) (λ plan. IsProgram plan made)) }
     ensures new { IfOk result (λ made. found program.now.name taken.now ≡ None) }
     ensures err { IfErr result (IsFaultOf (program_plan globals.now taken.now program.now)) }
@@ -152,6 +158,7 @@ fn take_programs<'a>(
     globals: &Symbols<'a>,
     programs: &'a [SourceProgram],
 ) -> Result<Vec<Program>, PioFault>
+    requires { AllValued globals.now }
     ensures ok { IfOk result (λ made. Assembles made.items (programs_from globals.now [] [] programs.now)) }
     ensures err { IfErr result (IsFaultOf (programs_from globals.now [] [] programs.now)) }
 {
@@ -171,6 +178,7 @@ fn take_programs<'a>(
 /// first line that has a fault, the one with the least number.
 ///
 /// Memory may run out at any time.
+#[tactic(auto, using(crate::proofs::Keeping::names_valued))]
 pub fn assemble(alloc: Global, source: &Source) -> Result<Vec<Program>, PioFault>
     ensures ok { IfOk result (λ programs. Assembles programs.items (assembled source.now)) }
     ensures err { IfErr result (IsFaultOf (assembled source.now)) }

@@ -1,6 +1,7 @@
 ghost use Rattle.pio_words.specs.Word.{IsWord};
 ghost use Rattle.pio_asm.specs.Fits.{FitsSide, IsInRange};
-ghost use Rattle.pio_asm.specs.Plan.{IsSound, StandsFor};
+ghost use Rattle.pio_asm.specs.Plan.{IsSound};
+ghost use Rattle.pio_asm.specs.Kept.{StandsIfKept};
 
 use crate::plan::Member;
 use pio_words::{PioOp, SideConfig, encode};
@@ -17,10 +18,10 @@ fn word_of_operation(op: &PioOp, side: &SideConfig, value: Option<u8>, delay: u8
     }
 }
 
-/// The word of a member.
+/// The word of a member. One that uses a name whose definition has a fault has none, and is in no program.
 pub(crate) fn word_of_member(member: &Member) -> u16
     requires { IsSound member.now }
-    ensures { StandsFor member.now result }
+    ensures { StandsIfKept member.now result }
 {
     match member {
         Member::Word(word) => *word,
