@@ -14,3 +14,6 @@ pub mod Decoded
 pub mod LineSteps
 pub mod Returning
 pub mod TreeValues
+pub mod Valued
+pub mod Planning
+pub mod Keeping

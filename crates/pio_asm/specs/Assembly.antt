@@ -1,3 +1,5 @@
+-- The programs that a source makes, or the source's first fault (RP2040 Datasheet, 3.3 PIO Assembler; program wrapping: 3.5.2).
+-- The order in which faults are told is the project's own: the first line that has one, and on a line the least number.
 use Rattle.std.specs.Prelude.{◌==◌, ◌≡◌, ℕ, ◌-◌, if◌then◌else◌, List, [], ◌∷◌, ◌++◌, length, Option, None, is_some, unwrap_or, Result, Ok, Err, IsOkAnd, ⊤}
 use Rattle.pio_words.specs.declared.side.SideConfig.{SideConfig}
 use Rattle.pio_parse.specs.declared.fault.PioFault.{PioFault}

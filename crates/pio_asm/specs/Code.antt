@@ -1,3 +1,4 @@
+-- The words of a program, one for each instruction and each `.word` (RP2040 Datasheet, 3.4.1).
 use Rattle.std.specs.Prelude.{ℕ, List, [], ◌∷◌, ⊤}
 use Rattle.pio_asm.specs.declared.plan.Member.{Member}
 use Rattle.pio_asm.specs.Plan.{StandsFor}

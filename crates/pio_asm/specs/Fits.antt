@@ -1,3 +1,4 @@
+-- What the fields of an instruction word can hold (RP2040 Datasheet, 3.4.1 to 3.4.10; side-set and delay: 3.4.1 and 3.5.1).
 use Rattle.std.specs.Prelude.{◌≡◌, ℕ, ◌-◌, ◌^◌, ◌<◌, ◌≤◌, Option, None, Some, MatchBool, ⊤}
 use Rattle.pio_words.specs.declared.op.WaitSource.{WaitSource}
 use Rattle.pio_words.specs.declared.op.WaitSource.TheVariants.{Gpio, Pin, Irq as WaitIrq}

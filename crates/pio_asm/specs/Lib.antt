@@ -5,6 +5,7 @@ pub mod Operand
 pub mod Fits
 pub mod Plan
 pub mod Code
+pub mod Kept
 pub mod Verdict
 pub mod Step
 pub mod Assembly

@@ -1,3 +1,4 @@
+-- The operands of instructions: values within the range of their field (RP2040 Datasheet, 3.3, Values; the ranges: 3.4.2 to 3.4.10).
 use Rattle.std.specs.Prelude.{◌&&◌, nat_le, ℕ, ℤ, pos, negsuc, Bool, true, false, if◌then◌else◌, List, Option, None, Some}
 use Rattle.pio_parse.specs.declared.expression.Term.{Term}
 use Rattle.pio_asm.specs.declared.value.Evaluated.{Evaluated}

@@ -1,3 +1,5 @@
+-- Where a program goes in the 32 places of the instruction memory (RP2040 Datasheet, 3.2.1; `.origin`: 3.3, Directives). That a
+-- program without an origin takes the least free place is the project's own.
 use Rattle.std.specs.Prelude.{◌≡◌, ℕ, ◌+◌, ◌/◌, ◌%◌, ◌^◌, ◌<◌, Option, None, Some}
 
 -- a place of the instruction memory is free where its bit is 0; one above 31 is never free

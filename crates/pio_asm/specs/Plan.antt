@@ -1,3 +1,5 @@
+-- What an instruction makes: its operation, its side-set value and its delay, with the faults that it has by itself
+-- (RP2040 Datasheet, 3.4; side-set: 3.5.1). A side-set and a delay share five bits (3.4.1).
 use Rattle.std.specs.Prelude.{◌==◌, ◌≡◌, ◌||◌, ◌&&◌, not, ℕ, ◌+◌, ◌-◌, ◌^◌, ◌≤◌, Bool, true, false, if◌then◌else◌, List, Option, None, Some, option_map, option_and_then, is_some, ◌<◌, ⊤}
 use Rattle.pio_words.specs.declared.op.WaitSource.{WaitSource}
 use Rattle.pio_words.specs.declared.op.WaitSource.TheVariants.{Gpio, Pin, Irq as WaitFlag}
@@ -123,8 +125,8 @@ IsOptionalConfig None = ⊤
 IsOptionalConfig (Some config) = IsConfig config
 
 -- the word of a member: a `.word` value stands for itself, and an operation has its word with its side-set value and its delay.
--- A lost member is in no program, since the line of a definition is refused that it uses
+-- A lost member has no word, so no program has one
 abbrev pub StandsFor : Member → ℕ → Type 0
 StandsFor (Word n) word = word ≡ n
 StandsFor (Coded op side value delay) word = IsWord op side value delay word
-StandsFor Lost word = word ≡ 0
+StandsFor Lost word = ⊥

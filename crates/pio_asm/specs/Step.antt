@@ -1,3 +1,5 @@
+-- What a line of a program does: labels, directives and instructions (RP2040 Datasheet, 3.3, Directives, Labels and Instructions).
+-- Which fault each case is, and that a definition sees earlier ones alone, is the project's own.
 use Rattle.std.specs.Prelude.{◌==◌, ◌≡◌, ◌||◌, ℕ, ◌+◌, ◌-◌, nat_le, nat_lt, ℤ, pos, Bool, true, false, if◌then◌else◌, List, [], ◌∷◌, ◌++◌, length, Option, None, Some, is_some, is_none, unwrap_or, option_and_then, Result, Ok, Err, ⊤}
 use Rattle.pio_words.specs.Operation.{bit}
 use Rattle.pio_parse.specs.declared.expression.Term.{Term}

@@ -1,3 +1,4 @@
+-- Names with their values: those of `.define` and of labels (RP2040 Datasheet, 3.3, Values and Labels).
 use Rattle.std.specs.Prelude.{ℕ, ℤ, List, [], ◌∷◌, Option, None, Some, if◌then◌else◌}
 use Rattle.std.specs.Str.{bytes_eq}
 

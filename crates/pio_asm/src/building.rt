@@ -1,10 +1,12 @@
 ghost use Rattle.std.specs.Prelude.{◌≡◌, ◌++◌, ◌∷◌, [], ◌<◌, ◌≤◌, length, MatchResult, Ok, Err};
 ghost use Rattle.pio_asm.specs.Plan.{IsSound};
 ghost use Rattle.pio_asm.specs.Code.{AreWordsOf};
+ghost use Rattle.pio_asm.specs.Kept.{AreKept};
 ghost use Rattle.pio_asm.specs.Verdict.{verdict_result};
 
-use crate::plan::{Member, word_of_member};
+use crate::plan::Member;
 use crate::symbols::Symbols;
+use crate::word::word_of_member;
 use arrayvec::ArrayVec;
 use pio_parse::PioFault;
 use pio_words::SideConfig;
@@ -27,13 +29,13 @@ pub(crate) struct Code {
 impl Model for Code {
     ghost use Rattle.std.specs.Prelude.{List};
     ghost use Rattle.pio_asm.specs.declared.plan.Member.{Member};
-    ghost use Rattle.pio_asm.specs.Code.{AreWordsOf};
+    ghost use Rattle.pio_asm.specs.Kept.{AreWordsIfKept};
 
     ghost Value = { List Member };
 
     ghost view = { λ code. code.members.items };
 
-    ghost invariant = { λ code. AreWordsOf code.members.items code.words.items };
+    ghost invariant = { λ code. AreWordsIfKept code.members.items code.words.items };
 }
 
 impl Code {
@@ -64,7 +66,10 @@ impl Code {
         self.words.push(word);
     }
 
+    /// The words, where no member uses a name whose definition has a fault.
+    #[tactic(auto, using(crate::proofs::CodeLaws::words_kept))]
     pub(crate) fn into_words(self) -> ArrayVec<u16, 32>
+        requires { AreKept self }
         ensures { AreWordsOf self result.items }
     {
         let Code { members: _, words } = self;

@@ -4,14 +4,21 @@
 
 mod building;
 pub mod laws;
+mod directive;
 mod line;
+mod modifiers;
+mod names;
 mod operand;
+mod operation;
 mod place;
 mod plan;
 mod program;
 mod symbols;
+#[cfg(test)]
+mod tests;
 mod value;
 pub mod value_law;
+mod word;
 
 pub use place::place_program;
 pub use program::{Program, assemble};

@@ -2,11 +2,13 @@ ghost use Rattle.std.specs.Prelude.{◌≡◌, ◌≤◌, ◌<◌, [], ◌∷◌
 ghost use Rattle.pio_asm.specs.Plan.{IsOptionalConfig};
 ghost use Rattle.pio_asm.specs.Step.{names_of};
 ghost use Rattle.pio_asm.specs.Symbols.{found};
+ghost use Rattle.pio_asm.specs.Kept.{AllValued, AreKept};
 ghost use Rattle.pio_asm.specs.Assembly.{Assembles, IsFaultOf, IsProgram, assembled, lines_from, lines_of, plan_of, program_lines, program_plan, programs_from};
 
 use crate::building::{Building, Code, or_memory};
-use crate::line::{Context, add_line_names, makes_member, take_line};
-use crate::plan::config_or_none;
+use crate::line::{Context, take_line};
+use crate::modifiers::config_or_none;
+use crate::names::{add_line_names, makes_member};
 use crate::symbols::Symbols;
 use arrayvec::ArrayVec;
 use pio_parse::{Line, Name, PioFault, Source, SourceProgram};
@@ -70,7 +72,8 @@ fn take_lines<'a>(context: &Context<'_, 'a>, lines: &'a [Line]) -> Result<Buildi
 
 /// The parts of a program that is built.
 fn finish(name: Name, building: Building) -> Program
-    requires { IsOptionalConfig building.side }
+    requires side { IsOptionalConfig building.side }
+    requires kept { AreKept building.code }
     ensures { IsProgram (plan_of name building.entry) result }
 {
     let Building {
@@ -93,7 +96,10 @@ fn finish(name: Name, building: Building) -> Program
 }
 
 /// A program whose names and number of instructions are known.
+#[tactic(auto, using(crate::proofs::Keeping::program_kept))]
 fn take_body<'a>(context: &Context<'_, 'a>, program: &'a SourceProgram) -> Result<Program, PioFault>
+    requires names { (context.now.whole.now, context.now.total) ≡ names_of context.now.globals.now [] 0 program.now.lines }
+    requires valued { AllValued context.now.globals.now }
     ensures ok { IfOk result (λ made. IsOkAnd (program_lines context.now.globals.now program.now (context.now.whole.now, context.now.total)) (λ plan. IsProgram plan made)) }
     ensures err { IfErr result (IsFaultOf (program_lines context.now.globals.now program.now (context.now.whole.now, context.now.total))) }
 {
@@ -112,6 +118,7 @@ fn take_program<'a>(
     taken: &Symbols<'a>,
     program: &'a SourceProgram,
 ) -> Result<Program, PioFault>
+    requires { AllValued globals.now }
     ensures ok { IfOk result (λ made. IsOkAnd (program_plan globals.now taken.now program.now) (λ plan. IsProgram plan made)) }
     ensures new { IfOk result (λ made. found program.now.name taken.now ≡ None) }
     ensures err { IfErr result (IsFaultOf (program_plan globals.now taken.now program.now)) }
@@ -151,6 +158,7 @@ fn take_programs<'a>(
     globals: &Symbols<'a>,
     programs: &'a [SourceProgram],
 ) -> Result<Vec<Program>, PioFault>
+    requires { AllValued globals.now }
     ensures ok { IfOk result (λ made. Assembles made.items (programs_from globals.now [] [] programs.now)) }
     ensures err { IfErr result (IsFaultOf (programs_from globals.now [] [] programs.now)) }
 {
@@ -170,6 +178,7 @@ fn take_programs<'a>(
 /// first line that has a fault, the one with the least number.
 ///
 /// Memory may run out at any time.
+#[tactic(auto, using(crate::proofs::Keeping::names_valued))]
 pub fn assemble(alloc: Global, source: &Source) -> Result<Vec<Program>, PioFault>
     ensures ok { IfOk result (λ programs. Assembles programs.items (assembled source.now)) }
     ensures err { IfErr result (IsFaultOf (assembled source.now)) }
@@ -192,198 +201,4 @@ pub fn assemble(alloc: Global, source: &Source) -> Result<Vec<Program>, PioFault
         wrap: _,
     } = building;
     take_programs(alloc, &seen, source.programs.as_slice())
-}
-
-#[cfg(test)]
-mod tests {
-    use super::*;
-    use crate::place::place_program;
-    use pio_disasm::write_source;
-    use pio_parse::parse;
-
-    fn fault_of(alloc: Global, text: &str) -> Option<PioFault> {
-        match parse(alloc, text.as_bytes()) {
-            Ok(source) => match assemble(alloc, &source) {
-                Ok(_) => None,
-                Err(fault) => Some(fault),
-            },
-            Err(fault) => Some(fault),
-        }
-    }
-
-    fn has_words(alloc: Global, text: &str, words: &[u16]) -> bool {
-        match parse(alloc, text.as_bytes()) {
-            Ok(source) => match assemble(alloc, &source) {
-                Ok(programs) => match programs.as_slice() {
-                    [program] => program.words.as_slice() == words,
-                    _ => false,
-                },
-                Err(_) => false,
-            },
-            Err(_) => false,
-        }
-    }
-
-    // Programs with the words that pioasm makes of them.
-    #[test]
-    fn words_of_programs(rt: HostRuntime) {
-        let table: [(&str, &[u16]); 7] = [
-            (
-                ".program ws2812\n.side_set 1\n.define public T1 2\n.define public T2 5\n.define public T3 3\n.wrap_target\nbitloop:\nout x, 1 side 0 [T3 - 1]\njmp !x do_zero side 1 [T1 - 1]\njmp bitloop side 1 [T2 - 1]\ndo_zero:\nnop side 0 [T2 - 1]\n.wrap\n",
-                &[0x6221, 0x1123, 0x1400, 0xa442],
-            ),
-            (
-                ".program uart_tx\n.side_set 1 opt\npull side 1 [7]\nset x, 7 side 0 [7]\nbitloop:\nout pins, 1\njmp x-- bitloop [6]\n",
-                &[0x9fa0, 0xf727, 0x6001, 0x0642],
-            ),
-            (
-                ".program uart_rx\nstart:\nwait 0 pin 0\nset x, 7 [10]\nbitloop:\nin pins, 1\njmp x-- bitloop [6]\njmp pin good_stop\nirq 4 rel\nwait 1 pin 0\njmp start\ngood_stop:\npush\n",
-                &[
-                    0x2020, 0xea27, 0x4001, 0x0642, 0x00c8, 0xc014, 0x20a0, 0x0000, 0x8020,
-                ],
-            ),
-            (
-                ".program squarewave\nset pindirs, 1\nagain:\nset pins, 1 [1]\nset pins, 0\njmp again\n",
-                &[0xe081, 0xe101, 0xe000, 0x0001],
-            ),
-            (
-                ".program spi\n.side_set 1\nout pins, 1 side 0 [1]\nin pins, 1 side 1 [1]\n",
-                &[0x6101, 0x5101],
-            ),
-            (
-                ".define two 2\n.program values\n.word two * 3 + 1\n.word ::(0x7fff0000 + 1) + 0xffff\nl: .word l\nmov isr ~osr\nmov exec, ::null\nirq wait 7\nwait irq 2 rel\nout pc 32\n",
-                &[7, 1, 2, 0xa0cf, 0xa093, 0xc027, 0x20d2, 0x60a0],
-            ),
-            (
-                ".program sides\n.side_set 2 opt pindirs\nnop [3] side 1\nnop\n.word 65535\n",
-                &[0xb742, 0xa042, 0xffff],
-            ),
-        ];
-        for (text, words) in table {
-            assert!(rt; has_words(rt.alloc(), text, words), "{text}");
-        }
-    }
-
-    // Sources with the first fault of each.
-    #[test]
-    fn faults_of_programs(rt: HostRuntime) {
-        let table = [
-            (".program p\n", PioFault::Wrap(1)),
-            (
-                ".program p\n.side_set 1\nnop side 0 [16]\n",
-                PioFault::Delay(3),
-            ),
-            (".program p\njmp there\n", PioFault::Unknown(2)),
-            (".program p\nset pins, 32\n", PioFault::Range(2)),
-            (".program p\nnop\n.program p\nnop\n", PioFault::Twice(3)),
-            (".program p\na: nop\na: nop\n", PioFault::Twice(3)),
-            (
-                ".define a 1\n.program p\n.define a 2\nnop\n",
-                PioFault::Twice(3),
-            ),
-            (
-                ".program p\n.define a b\n.define b 1\nnop\n",
-                PioFault::Unknown(2),
-            ),
-            (
-                ".program p\njmp b\n.define b 0xffffffff + 1\n",
-                PioFault::Range(3),
-            ),
-            (".program p\nnop\n.side_set 1\n", PioFault::Side(3)),
-            (".program p\n.side_set 5 opt\nnop\n", PioFault::Side(2)),
-            (".program p\n.side_set 1\nnop\n", PioFault::Side(3)),
-            (".program p\nnop side 0\n", PioFault::Side(2)),
-            (".program p\n.origin 32\nnop\n", PioFault::Origin(2)),
-            (".program p\n.origin 31\nnop\nnop\n", PioFault::Origin(2)),
-            (".program p\nnop\n.wrap_target\n", PioFault::Wrap(3)),
-            (".program p\n.wrap\nnop\n", PioFault::Wrap(2)),
-            (".program p\nin x, 0\n", PioFault::Range(2)),
-            (".program p\n.word -1\n", PioFault::Range(2)),
-        ];
-        for (text, fault) in table {
-            assert!(rt; fault_of(rt.alloc(), text) == Some(fault), "{text}");
-        }
-    }
-
-    fn place_of(alloc: Global, text: &str, used: u32) -> Option<Result<u8, PioFault>> {
-        match parse(alloc, text.as_bytes()) {
-            Ok(source) => match assemble(alloc, &source) {
-                Ok(programs) => match programs.as_slice() {
-                    [program] => Some(place_program(used, program)),
-                    _ => None,
-                },
-                Err(_) => None,
-            },
-            Err(_) => None,
-        }
-    }
-
-    #[test]
-    fn places_of_programs(rt: HostRuntime) {
-        let table = [
-            (".program p\nnop\n", 0xffffffff, Err(PioFault::NoRoom(1))),
-            (".program p\nnop\nnop\n", 0b1011, Ok(4)),
-            (".program p\n.origin 3\nnop\n", 0b0111, Ok(3)),
-            (
-                ".program p\n.origin 3\nnop\nnop\n",
-                0b10000,
-                Err(PioFault::NoRoom(2)),
-            ),
-        ];
-        for (text, used, want) in table {
-            assert!(rt; place_of(rt.alloc(), text, used) == Some(want), "{text}");
-        }
-    }
-
-    // Whether the source of these words assembles to one program with the same words and side-set.
-    fn returns_to(alloc: Global, words: &[u16], side: &SideConfig) -> bool {
-        match write_source(alloc, words, side) {
-            Ok(text) => match parse(alloc, text.as_slice()) {
-                Ok(source) => match assemble(alloc, &source) {
-                    Ok(programs) => match programs.as_slice() {
-                        [program] => program.words.as_slice() == words && program.side == *side,
-                        _ => false,
-                    },
-                    Err(_) => false,
-                },
-                Err(_) => false,
-            },
-            Err(_) => false,
-        }
-    }
-
-    // Every word under this configuration, in programs of 32.
-    fn all_return(alloc: Global, side: &SideConfig) -> bool {
-        for start in 0..2048u16 {
-            let mut words = [0u16; 32];
-            for index in 0..32usize {
-                words[index] = start * 32 + index as u16;
-            }
-            if !returns_to(alloc, &words, side) {
-                return false;
-            }
-        }
-        true
-    }
-
-    // Every word under every side-set configuration of at most five bits goes through its source.
-    #[test]
-    fn every_word_returns(rt: HostRuntime) {
-        for count in 0..6u8 {
-            let side = SideConfig {
-                count,
-                opt: false,
-                pindirs: count == 3,
-            };
-            assert!(rt; all_return(rt.alloc(), &side), "{count}");
-        }
-        for count in 0..5u8 {
-            let side = SideConfig {
-                count,
-                opt: true,
-                pindirs: count == 2,
-            };
-            assert!(rt; all_return(rt.alloc(), &side), "{count} opt");
-        }
-    }
 }

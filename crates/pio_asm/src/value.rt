@@ -42,14 +42,14 @@ impl ValueStack {
         Ok(())
     }
 
-    /// Takes the newest value; where there is none, it has none.
+    /// Takes the newest value; where there is none, 0.
     fn pop(&mut self) -> Value
         ensures value { result ≡ top_of self.old }
         ensures rest { self.new ≡ rest_of self.old }
     {
         match self.items.pop() {
             Some(value) => value,
-            None => None,
+            None => Some(0),
         }
     }
 }

@@ -1,3 +1,4 @@
+-- The words of the source language for the fields of an instruction (RP2040 Datasheet, 3.4.2 to 3.4.10, Assembler Syntax).
 use Rattle.std.specs.Prelude.{ℕ, List, [], codes}
 use Rattle.pio_words.specs.declared.op.JmpCondition.{JmpCondition}
 use Rattle.pio_words.specs.declared.op.JmpCondition.TheVariants.{Always as JmpConditionAlways, XZero as JmpConditionXZero, XDecrement as JmpConditionXDecrement, YZero as JmpConditionYZero, YDecrement as JmpConditionYDecrement, XNotY as JmpConditionXNotY, Pin as JmpConditionPin, OsrNotEmpty as JmpConditionOsrNotEmpty}

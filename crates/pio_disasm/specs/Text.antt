@@ -1,3 +1,5 @@
+-- The source of a program of given words (RP2040 Datasheet, 3.4.2 to 3.4.10, Assembler Syntax; 3.3, Directives). Which of the
+-- forms of an instruction is written is the project's own.
 use Rattle.std.specs.Prelude.{◌==◌, ◌&&◌, not, ℕ, ◌+◌, ◌/◌, ◌%◌, nat_lt, Bool, true, false, if◌then◌else◌, List, [], ◌∷◌, ◌++◌, Option, None, Some, codes, flat_map}
 use Rattle.pio_words.specs.declared.op.IrqIndex.{IrqIndex}
 use Rattle.pio_words.specs.declared.op.WaitSource.{WaitSource}
@@ -101,7 +103,7 @@ instruction_text op (Some side) word = if is_written op then operation_text op +
 abbrev pub line_text : SideConfig → ℕ → List ℕ
 line_text side word = instruction_text (operation_of word) (side_at side (word / 256 % 32)) word ++ codes "\n"
 
--- the side-set directive (RP2040 Datasheet, 3.3.2); without a side-set there is none
+-- the side-set directive (RP2040 Datasheet, 3.3, Directives); without a side-set there is none
 abbrev pub side_set_text : SideConfig → List ℕ
 side_set_text side =
     if (side.count == 0) && not side.opt

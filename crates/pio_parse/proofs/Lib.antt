@@ -8,3 +8,4 @@ pub mod Finds
 pub mod Trees
 pub mod Faults
 pub mod Operands
+pub mod Modifiers

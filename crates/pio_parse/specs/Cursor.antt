@@ -1,3 +1,5 @@
+-- How a line is read: from the front of its tokens, up to the first token that fits nothing. The grammar is that of the RP2040
+-- Datasheet, 3.3; the place of a fault is the project's own.
 use Rattle.std.specs.Prelude.{◌≡◌, Bool, if◌then◌else◌, List, [], ◌∷◌, Result, Ok, Err, ⊤}
 use Rattle.pio_parse.specs.declared.token.Place.{Place}
 use Rattle.pio_parse.specs.declared.token.Token.{Token}

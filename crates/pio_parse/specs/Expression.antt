@@ -1,3 +1,5 @@
+-- Expressions and operands (RP2040 Datasheet, 3.3, Values and Expressions). How tightly an operator binds is the project's own where
+-- the manual is silent.
 use Rattle.std.specs.Prelude.{◌≡◌, ◌==◌, ℕ, ◌+◌, ◌-◌, nat_le, Bool, true, false, if◌then◌else◌, List, [], ◌∷◌, ◌++◌, Option, None, Some, Result, Ok, Err, ⊤, ◌&&◌, length, slice_range}
 use Rattle.std.specs.Option.{option_map_or}
 use Rattle.pio_parse.specs.declared.token.Span.{Span}

@@ -1,3 +1,5 @@
+-- The grammar of an instruction (RP2040 Datasheet, 3.3, Instructions; 3.4.2 to 3.4.10, Assembler Syntax). Where a comma may be
+-- missing is as pioasm has it.
 use Rattle.std.specs.Prelude.{◌==◌, ◌&&◌, ℕ, ◌-◌, Bool, true, false, if◌then◌else◌, List, Option, None, Some, Ok}
 use Rattle.std.specs.Option.{option_map_or}
 use Rattle.pio_words.specs.declared.op.JmpCondition.{JmpCondition}
@@ -295,6 +297,13 @@ modified_at text operation tokens =
     if is_open_bracket (head_kind tokens)
     then and_then (λ delay. map_ok (λ side. (record { operation = operation; side = side.0; delay = delay.0 }, side.1)) (side_at text delay.1)) (delay_at text tokens)
     else and_then (λ side. map_ok (λ delay. (record { operation = operation; side = side.0; delay = delay.0 }, delay.1)) (delay_at text side.1)) (side_at text tokens)
+
+-- the same without the operation
+abbrev pub modifiers_at : List ℕ → List Token → Outcome (Option (List Term) × Option (List Term))
+modifiers_at text tokens =
+    if is_open_bracket (head_kind tokens)
+    then and_then (λ delay. map_ok (λ side. ((side.0, delay.0), side.1)) (side_at text delay.1)) (delay_at text tokens)
+    else and_then (λ side. map_ok (λ delay. ((side.0, delay.0), delay.1)) (delay_at text side.1)) (side_at text tokens)
 
 -- an instruction with its side-set value and its delay, whose first word is `keyword`
 abbrev pub instruction_at : List ℕ → Keyword → List Token → Outcome Instruction

@@ -1,3 +1,4 @@
+-- What is read next, unless there is a fault: the project's own.
 use Rattle.std.specs.Prelude.{Result, Ok, Err}
 
 -- what is made of a value, unless there is a fault

@@ -1,3 +1,4 @@
+-- A source: lines before the first program, then programs (RP2040 Datasheet, 3.3, Directives). Which fault comes first is the project's own.
 use Rattle.std.specs.Prelude.{◌≡◌, ℕ, if◌then◌else◌, List, [], ◌∷◌, ◌++◌, Option, None, Some, is_some, option_to_list, Result, Ok, Err, ⊤}
 use Rattle.pio_parse.specs.declared.token.Place.{Place}
 use Rattle.pio_parse.specs.declared.token.Token.{Token}

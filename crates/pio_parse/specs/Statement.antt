@@ -1,3 +1,4 @@
+-- The grammar of a line: a label, then a directive or an instruction (RP2040 Datasheet, 3.3, Directives, Labels and Instructions).
 use Rattle.std.specs.Prelude.{◌==◌, ◌||◌, ℕ, Bool, true, false, if◌then◌else◌, List, Option, None, Some, Ok}
 use Rattle.pio_parse.specs.declared.token.Token.{Token}
 use Rattle.pio_parse.specs.declared.token.Keyword.{Keyword}
@@ -69,7 +70,7 @@ is_zero kind = false
 abbrev pub version_at : List Token → Outcome (Option Statement)
 version_at tokens = map_ok (λ zero. (None, zero.1)) (expected (is_zero (head_kind tokens)) tokens)
 
--- what follows the word of a directive (RP2040 Datasheet, 3.3.2). `.lang_opt` and `.pio_version` say nothing about a program
+-- what follows the word of a directive (RP2040 Datasheet, 3.3, Directives). `.lang_opt` and `.pio_version` say nothing about a program
 abbrev pub directive_at : List ℕ → Directive → List Token → Outcome (Option Statement)
 directive_at text Program tokens = map_ok (λ name. (Some (ProgramStatement name.0), name.1)) (name_token_at text tokens)
 directive_at text Define tokens = map_ok (λ define. (Some define.0, define.1)) (define_at text tokens)

@@ -1,3 +1,4 @@
+-- Keywords, names and numbers (RP2040 Datasheet, 3.3, Directives and Values; 3.4). Which words are no names is the project's own.
 use Rattle.std.specs.Prelude.{◌==◌, ◌&&◌, ◌||◌, nat_le, ℕ, ◌+◌, ◌-◌, ◌*◌, min, Bool, true, false, if◌then◌else◌, List, [], ◌∷◌, Option, None, Some, find, codes, option_and_then}
 use Rattle.std.specs.Option.{option_map_or}
 use Rattle.std.specs.Char.{to_ascii_lowercase}
@@ -49,7 +50,7 @@ abbrev pub keywords : List Keyword
 keywords =
     Public ∷ Opt ∷ Pindirs ∷ Jmp ∷ Wait ∷ In ∷ Out ∷ Push ∷ Pull ∷ Mov ∷ Irq ∷ Set ∷ Nop ∷ Side ∷ Gpio ∷ Pin ∷ Rel ∷ Pins ∷ X ∷ Y ∷ Null ∷ Isr ∷ Osr ∷ Pc ∷ Exec ∷ Status ∷ IfFull ∷ IfEmpty ∷ Block ∷ NoBlock ∷ NoWait ∷ Clear ∷ Osre ∷ []
 
--- the directives, without their point (RP2040 Datasheet, 3.3.2)
+-- the directives, without their point (RP2040 Datasheet, 3.3, Directives)
 abbrev pub directive_name : Directive → List ℕ
 directive_name Program = codes "program"
 directive_name Define = codes "define"

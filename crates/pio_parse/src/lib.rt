@@ -7,12 +7,17 @@ mod expression;
 mod fault;
 mod instruction;
 pub mod laws;
+mod jump;
 mod name;
+mod operands;
 mod parser;
+mod registers;
 mod scan;
 mod statement;
 mod syntax;
 mod token;
+mod transfer;
+mod wait;
 mod words;
 
 pub use expression::{Expression, Operator, Term};

@@ -4,7 +4,7 @@ ghost use Rattle.pio_parse.specs.Statement.{define_at, directive_at, end_at, is_
 
 use crate::cursor::{Cursor, Stop};
 use crate::expression::{File, read_expression};
-use crate::instruction::{read_flag, read_instruction};
+use crate::instruction::read_instruction;
 use crate::name::Name;
 use crate::syntax::{Line, Statement};
 use crate::token::{Directive, Keyword, TokenKind};
@@ -34,14 +34,10 @@ fn read_side_set(file: &File, cursor: &mut Cursor) -> Result<Statement, Stop>
     ensures { Reads result cursor.new.rest.now (side_set_at file.now.text.now cursor.old.rest.now) }
 {
     let count = read_expression(file, cursor)?;
-    let opt = read_flag(
-        cursor,
-        matches!(cursor.peek(), TokenKind::Keyword(Keyword::Opt)),
-    )?;
-    let pindirs = read_flag(
-        cursor,
-        matches!(cursor.peek(), TokenKind::Keyword(Keyword::Pindirs)),
-    )?;
+    let opt = matches!(cursor.peek(), TokenKind::Keyword(Keyword::Opt));
+    cursor.skip_if(opt);
+    let pindirs = matches!(cursor.peek(), TokenKind::Keyword(Keyword::Pindirs));
+    cursor.skip_if(pindirs);
     Ok(Statement::SideSet {
         count,
         opt,

@@ -72,7 +72,7 @@ pub struct Instruction {
     pub delay: Option<Expression>,
 }
 
-/// What a line says after its label (RP2040 Datasheet, 3.3.2).
+/// What a line says after its label (RP2040 Datasheet, 3.3, Directives).
 #[derive(Drop)]
 pub enum Statement {
     /// `.program name`.

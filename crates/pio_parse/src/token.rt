@@ -52,7 +52,7 @@ pub enum Keyword {
     Osre,
 }
 
-/// A word that begins with a point (RP2040 Datasheet, 3.3.2).
+/// A word that begins with a point (RP2040 Datasheet, 3.3, Directives).
 #[derive(Clone, Copy)]
 pub enum Directive {
     Program,

@@ -1,3 +1,4 @@
+-- The sources of IN (RP2040 Datasheet, 3.4.4).
 use Rattle.std.specs.Prelude.{List, [], ◌∷◌, Option, Some, None}
 use Rattle.pio_words.specs.declared.op.InSource.{InSource}
 use Rattle.pio_words.specs.declared.op.InSource.TheVariants.{Pins, X, Y, Null, Isr, Osr}

@@ -1,3 +1,4 @@
+-- The destinations of MOV (RP2040 Datasheet, 3.4.8).
 use Rattle.std.specs.Prelude.{List, [], ◌∷◌, Option, Some, None}
 use Rattle.pio_words.specs.declared.op.MovDestination.{MovDestination}
 use Rattle.pio_words.specs.declared.op.MovDestination.TheVariants.{Pins, X, Y, Exec, Pc, Isr, Osr}

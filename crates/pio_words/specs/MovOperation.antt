@@ -1,3 +1,4 @@
+-- The operations of MOV (RP2040 Datasheet, 3.4.8).
 use Rattle.std.specs.Prelude.{List, [], ◌∷◌, Option, Some}
 use Rattle.pio_words.specs.declared.op.MovOperation.{MovOperation}
 use Rattle.pio_words.specs.declared.op.MovOperation.TheVariants.{Plain, Invert, Reverse}

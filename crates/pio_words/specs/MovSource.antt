@@ -1,3 +1,4 @@
+-- The sources of MOV (RP2040 Datasheet, 3.4.8).
 use Rattle.std.specs.Prelude.{List, [], ◌∷◌, Option, Some, None}
 use Rattle.pio_words.specs.declared.op.MovSource.{MovSource}
 use Rattle.pio_words.specs.declared.op.MovSource.TheVariants.{Pins, X, Y, Null, Status, Isr, Osr}

@@ -1,3 +1,5 @@
+-- The operations of instruction words and the fields that say them (RP2040 Datasheet, 3.4.1 to 3.4.10). A word with another bit
+-- pattern is reserved: the project's own.
 use Rattle.std.specs.Prelude.{◌≡◌, ◌==◌, ℕ, ◌+◌, ◌*◌, ◌/◌, ◌%◌, ◌<◌, ◌≤◌, Bool, true, false, [], ◌∷◌, Option, None, Some, if◌then◌else◌, option_map, option_and_then}
 use Rattle.pio_words.specs.declared.op.IrqIndex.{IrqIndex}
 use Rattle.pio_words.specs.declared.op.WaitSource.{WaitSource}

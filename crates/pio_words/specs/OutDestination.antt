@@ -1,3 +1,4 @@
+-- The destinations of OUT (RP2040 Datasheet, 3.4.5).
 use Rattle.std.specs.Prelude.{List, [], ◌∷◌, Option, Some}
 use Rattle.pio_words.specs.declared.op.OutDestination.{OutDestination}
 use Rattle.pio_words.specs.declared.op.OutDestination.TheVariants.{Pins, X, Y, Null, Pindirs, Pc, Isr, Exec}

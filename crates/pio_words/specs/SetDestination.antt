@@ -1,3 +1,4 @@
+-- The destinations of SET (RP2040 Datasheet, 3.4.10).
 use Rattle.std.specs.Prelude.{List, [], ◌∷◌, Option, Some, None}
 use Rattle.pio_words.specs.declared.op.SetDestination.{SetDestination}
 use Rattle.pio_words.specs.declared.op.SetDestination.TheVariants.{Pins, X, Y, Pindirs}

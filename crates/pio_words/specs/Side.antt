@@ -1,3 +1,4 @@
+-- Bits 12:8 of an instruction: the side-set value and the delay (RP2040 Datasheet, 3.4.1 and 3.5.1).
 use Rattle.std.specs.Prelude.{◌≡◌, ◌==◌, nat_lt, nat_le, if◌then◌else◌, ℕ, ◌/◌, ◌%◌, ◌+◌, ◌-◌, ◌*◌, ◌^◌, ◌<◌, ◌≤◌, Option, None, Some, MatchBool, IsSomeAnd}
 use Rattle.pio_words.specs.declared.side.SideConfig.{SideConfig}
 use Rattle.pio_words.specs.declared.side.SideDelay.{SideDelay}

@@ -1,3 +1,4 @@
+-- Instruction words (RP2040 Datasheet, 3.4.1), and the laws that take a word back to what it was made from.
 use Rattle.std.specs.Prelude.{◌≡◌, ℕ, ◌/◌, ◌%◌, ◌<◌, Option, Some}
 use Rattle.pio_words.specs.declared.op.PioOp.{PioOp}
 use Rattle.pio_words.specs.declared.side.SideConfig.{SideConfig}

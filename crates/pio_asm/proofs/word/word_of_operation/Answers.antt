@@ -1,6 +1,6 @@
 use Rattle.std.proofs.Common.{refl}
 use Rattle.pio_asm.proofs.Words.{word-exists}
-use Rattle.pio_asm.proofs.plan.word_of_operation.Goals as goal
+use Rattle.pio_asm.proofs.word.word_of_operation.Goals as goal
 
 pub returns-in-None : goal.returns-in-None
 returns-in-None c =

@@ -1,0 +1,621 @@
+//! Whole sources: the words that each gives, and the first fault of those that have one.
+
+use crate::place::place_program;
+use crate::program::assemble;
+use pio_disasm::write_source;
+use pio_parse::{PioFault, parse};
+use pio_words::SideConfig;
+use std::alloc::{AllocError, Global};
+
+fn fault_in(alloc: Global, text: &[u8]) -> Option<PioFault> {
+    match parse(alloc, text) {
+        Ok(source) => match assemble(alloc, &source) {
+            Ok(_) => None,
+            Err(fault) => Some(fault),
+        },
+        Err(fault) => Some(fault),
+    }
+}
+
+fn fault_of(alloc: Global, text: &str) -> Option<PioFault> {
+    fault_in(alloc, text.as_bytes())
+}
+
+// Whether a source has one program, with these words and these places of its wrap.
+fn has_words(alloc: Global, text: &[u8], words: &[u16], target: u8, wrap: u8) -> bool {
+    match parse(alloc, text) {
+        Ok(source) => match assemble(alloc, &source) {
+            Ok(programs) => match programs.as_slice() {
+                [program] => {
+                    program.words.as_slice() == words
+                        && program.target == target
+                        && program.wrap == wrap
+                }
+                _ => false,
+            },
+            Err(_) => false,
+        },
+        Err(_) => false,
+    }
+}
+
+// Programs with the words that the table of instructions gives, and the places of their wrap.
+#[test]
+fn words_of_programs(rt: HostRuntime) {
+    let table: [(&str, &[u16], u8, u8); 11] = [
+        (
+            ".program ws2812\n.side_set 1\n.define public T1 2\n.define public T2 5\n.define public T3 3\n.wrap_target\nbitloop:\nout x, 1 side 0 [T3 - 1]\njmp !x do_zero side 1 [T1 - 1]\njmp bitloop side 1 [T2 - 1]\ndo_zero:\nnop side 0 [T2 - 1]\n.wrap\n",
+            &[0x6221, 0x1123, 0x1400, 0xa442],
+            0,
+            3,
+        ),
+        (
+            ".program uart_tx\n.side_set 1 opt\npull side 1 [7]\nset x, 7 side 0 [7]\nbitloop:\nout pins, 1\njmp x-- bitloop [6]\n",
+            &[0x9fa0, 0xf727, 0x6001, 0x0642],
+            0,
+            3,
+        ),
+        (
+            ".program uart_rx\nstart:\nwait 0 pin 0\nset x, 7 [10]\nbitloop:\nin pins, 1\njmp x-- bitloop [6]\njmp pin good_stop\nirq 4 rel\nwait 1 pin 0\njmp start\ngood_stop:\npush\n",
+            &[
+                0x2020, 0xea27, 0x4001, 0x0642, 0x00c8, 0xc014, 0x20a0, 0x0000, 0x8020,
+            ],
+            0,
+            8,
+        ),
+        (
+            ".program squarewave\nset pindirs, 1\nagain:\nset pins, 1 [1]\nset pins, 0\njmp again\n",
+            &[0xe081, 0xe101, 0xe000, 0x0001],
+            0,
+            3,
+        ),
+        (
+            ".program spi\n.side_set 1\nout pins, 1 side 0 [1]\nin pins, 1 side 1 [1]\n",
+            &[0x6101, 0x5101],
+            0,
+            1,
+        ),
+        (
+            ".program i2c\n.side_set 1 opt pindirs\nno_ack:\njmp y-- entry\nirq wait 0 rel\nbyte:\nset x, 7\nbit:\nout pindirs, 1 [7]\nnop side 1 [2]\nwait 1 pin, 1 [4]\nin pins, 1 [7]\njmp x-- bit side 0 [7]\nout pindirs, 1 [7]\nnop side 1 [7]\nwait 1 pin, 1 [7]\njmp pin no_ack side 0 [2]\npublic entry:\n.wrap_target\nout x, 6\nout y, 1\njmp !x byte\nout null, 32\nrun:\nout exec, 16\njmp x-- run\n.wrap\n",
+            &[
+                0x008c, 0xc030, 0xe027, 0x6781, 0xba42, 0x24a1, 0x4701, 0x1743, 0x6781, 0xbf42,
+                0x27a1, 0x12c0, 0x6026, 0x6041, 0x0022, 0x6060, 0x60f0, 0x0050,
+            ],
+            12,
+            17,
+        ),
+        (
+            ".program quadrature\n.origin 0\njmp update\njmp down\njmp up\njmp update\njmp up\njmp update\njmp update\njmp down\njmp down\njmp update\njmp update\njmp up\njmp update\njmp up\ndown:\njmp y--, update\n.wrap_target\nupdate:\nmov isr, y\npush noblock\nout isr, 2\nin pins, 2\nmov osr, isr\nmov pc, isr\nup:\nmov y, ~y\njmp y--, up_end\nup_end:\nmov y, ~y\n.wrap\n",
+            &[
+                0x000f, 0x000e, 0x0015, 0x000f, 0x0015, 0x000f, 0x000f, 0x000e, 0x000e, 0x000f,
+                0x000f, 0x0015, 0x000f, 0x0015, 0x008f, 0xa0c2, 0x8000, 0x60c2, 0x4002, 0xa0e6,
+                0xa0a6, 0xa04a, 0x0097, 0xa04a,
+            ],
+            15,
+            23,
+        ),
+        (
+            ".program manchester_tx\n.side_set 1 opt\n.wrap_target\none:\nnop side 0 [5]\njmp next side 1 [3]\nzero:\nnop side 1 [5]\nnop side 0 [3]\npublic start:\nnext:\nout x, 1\njmp !x zero\n.wrap\n",
+            &[0xb542, 0x1b04, 0xbd42, 0xb342, 0x6021, 0x0022],
+            0,
+            5,
+        ),
+        (
+            ".program manchester_rx\nzero:\nwait 0 pin 0\nin y, 1 [8]\njmp pin zero\n.wrap_target\none:\nwait 1 pin 0\nin x, 1 [8]\njmp pin zero\n.wrap\n",
+            &[0x2020, 0x4841, 0x00c0, 0x20a0, 0x4821, 0x00c0],
+            3,
+            5,
+        ),
+        (
+            ".define two 2\n.program values\n.word two * 3 + 1\n.word ::(0x7fff0000 + 1) + 0xffff\nl: .word l\nmov isr ~osr\nmov exec, ::null\nirq wait 7\nwait irq 2 rel\nout pc 32\n",
+            &[7, 1, 2, 0xa0cf, 0xa093, 0xc027, 0x20d2, 0x60a0],
+            0,
+            7,
+        ),
+        (
+            ".program sides\n.side_set 2 opt pindirs\nnop [3] side 1\nnop\n.word 65535\n",
+            &[0xb742, 0xa042, 0xffff],
+            0,
+            2,
+        ),
+    ];
+    for (text, words, target, wrap) in table {
+        assert!(rt;
+            has_words(rt.alloc(), text.as_bytes(), words, target, wrap),
+            "{text}"
+        );
+    }
+}
+
+// Sources with the first fault of each.
+#[test]
+fn faults_of_programs(rt: HostRuntime) {
+    let table = [
+        (".program p\n", PioFault::Wrap(1)),
+        (
+            ".program p\n.side_set 1\nnop side 0 [16]\n",
+            PioFault::Delay(3),
+        ),
+        (".program p\njmp there\n", PioFault::Unknown(2)),
+        (".program p\nset pins, 32\n", PioFault::Range(2)),
+        (".program p\nnop\n.program p\nnop\n", PioFault::Twice(3)),
+        (".program p\na: nop\na: nop\n", PioFault::Twice(3)),
+        (
+            ".define a 1\n.program p\n.define a 2\nnop\n",
+            PioFault::Twice(3),
+        ),
+        (
+            ".program p\n.define a b\n.define b 1\nnop\n",
+            PioFault::Unknown(2),
+        ),
+        (
+            ".program p\njmp b\n.define b 0xffffffff + 1\n",
+            PioFault::Range(3),
+        ),
+        (".program p\nnop\n.side_set 1\n", PioFault::Side(3)),
+        (".program p\n.side_set 5 opt\nnop\n", PioFault::Side(2)),
+        (".program p\n.side_set 1\nnop\n", PioFault::Side(3)),
+        (".program p\nnop side 0\n", PioFault::Side(2)),
+        (".program p\n.origin 32\nnop\n", PioFault::Origin(2)),
+        (".program p\n.origin 31\nnop\nnop\n", PioFault::Origin(2)),
+        (".program p\nnop\n.wrap_target\n", PioFault::Wrap(3)),
+        (".program p\n.wrap\nnop\n", PioFault::Wrap(2)),
+        (".program p\nin x, 0\n", PioFault::Range(2)),
+        (".program p\n.word -1\n", PioFault::Range(2)),
+        (
+            ".program p\n.word late\n.define late 1\n",
+            PioFault::Unknown(2),
+        ),
+        (".program p\n.define a a\nnop\n", PioFault::Unknown(2)),
+        (".program p\nwait 2 pin 0\n", PioFault::Range(2)),
+        (".program p\nirq 8\n", PioFault::Range(2)),
+        (".program p\nnop [0 - 1]\n", PioFault::Delay(2)),
+        (".program p\nnop [4294967295 + 1]\n", PioFault::Range(2)),
+        (".program p\n.side_set 0 - 1\nnop\n", PioFault::Side(2)),
+        (
+            ".program p\n.side_set 1\n.side_set 1\nnop side 0\n",
+            PioFault::Side(3),
+        ),
+        (".program p\n.side_set 2\nnop side 4\n", PioFault::Side(3)),
+        (".program p\n.word 0\n.origin 1\n", PioFault::Origin(3)),
+        (
+            ".program p\n.origin 1\n.origin 1\nnop\n",
+            PioFault::Origin(3),
+        ),
+        (".program p\nnop\n.wrap\n.wrap\n", PioFault::Wrap(4)),
+        (
+            ".program p\n.wrap_target\n.wrap_target\nnop\n",
+            PioFault::Wrap(3),
+        ),
+        (
+            ".program p\n.side_set 1\nj: jmp k side 0\nk: nop side 2\n",
+            PioFault::Side(4),
+        ),
+        (
+            ".define a 1\n.define a b\n.program p\n",
+            PioFault::Unknown(2),
+        ),
+        (".program p\nnop\n.program q\n", PioFault::Wrap(3)),
+    ];
+    for (text, fault) in table {
+        assert!(rt; fault_of(rt.alloc(), text) == Some(fault), "{text}");
+    }
+}
+
+fn place_of(alloc: Global, text: &str, used: u32) -> Option<Result<u8, PioFault>> {
+    match parse(alloc, text.as_bytes()) {
+        Ok(source) => match assemble(alloc, &source) {
+            Ok(programs) => match programs.as_slice() {
+                [program] => Some(place_program(used, program)),
+                _ => None,
+            },
+            Err(_) => None,
+        },
+        Err(_) => None,
+    }
+}
+
+#[test]
+fn places_of_programs(rt: HostRuntime) {
+    let table = [
+        (".program p\nnop\n", 0xffffffff, Err(PioFault::NoRoom(1))),
+        (".program p\nnop\nnop\n", 0b1011, Ok(4)),
+        (".program p\n.origin 3\nnop\n", 0b0111, Ok(3)),
+        (
+            ".program p\n.origin 3\nnop\nnop\n",
+            0b10000,
+            Err(PioFault::NoRoom(2)),
+        ),
+    ];
+    for (text, used, want) in table {
+        assert!(rt; place_of(rt.alloc(), text, used) == Some(want), "{text}");
+    }
+}
+
+// Whether the source of these words assembles to one program with the same words and side-set.
+fn returns_to(alloc: Global, words: &[u16], side: &SideConfig) -> bool {
+    match write_source(alloc, words, side) {
+        Ok(text) => match parse(alloc, text.as_slice()) {
+            Ok(source) => match assemble(alloc, &source) {
+                Ok(programs) => match programs.as_slice() {
+                    [program] => program.words.as_slice() == words && program.side == *side,
+                    _ => false,
+                },
+                Err(_) => false,
+            },
+            Err(_) => false,
+        },
+        Err(_) => false,
+    }
+}
+
+// Every word under this configuration, in programs of 32.
+fn all_return(alloc: Global, side: &SideConfig) -> bool {
+    for start in 0..2048u16 {
+        let mut words = [0u16; 32];
+        for index in 0..32usize {
+            words[index] = start * 32 + index as u16;
+        }
+        if !returns_to(alloc, &words, side) {
+            return false;
+        }
+    }
+    true
+}
+
+// Every word under every side-set configuration of at most five bits goes through its source.
+#[test]
+fn every_word_returns(rt: HostRuntime) {
+    for count in 0..6u8 {
+        let side = SideConfig {
+            count,
+            opt: false,
+            pindirs: count == 3,
+        };
+        assert!(rt; all_return(rt.alloc(), &side), "{count}");
+    }
+    for count in 0..5u8 {
+        let side = SideConfig {
+            count,
+            opt: true,
+            pindirs: count == 2,
+        };
+        assert!(rt; all_return(rt.alloc(), &side), "{count} opt");
+    }
+}
+
+const NO_SIDE: SideConfig = SideConfig {
+    count: 0,
+    opt: false,
+    pindirs: false,
+};
+
+fn is_source(alloc: Global, words: &[u16], side: &SideConfig, text: &[u8]) -> bool {
+    match write_source(alloc, words, side) {
+        Ok(written) => written.as_slice() == text,
+        Err(_) => false,
+    }
+}
+
+// The source of a program with one more line.
+fn with_line(alloc: Global, head: &str, line: &str) -> Result<Vec<u8>, AllocError> {
+    let mut text = Vec::from_slice(alloc, head.as_bytes())?;
+    text.extend_from_slice(line.as_bytes())?;
+    text.push(b'\n')?;
+    Ok(text)
+}
+
+// Each form of each instruction as it is written, and the word that the table gives for it.
+#[test]
+fn each_form_both_ways(rt: HostRuntime) -> Result<(), AllocError> {
+    let table = [
+        ("jmp 5", 0x0005),
+        ("jmp !x 5", 0x0025),
+        ("jmp x-- 5", 0x0045),
+        ("jmp !y 5", 0x0065),
+        ("jmp y-- 5", 0x0085),
+        ("jmp x!=y 5", 0x00a5),
+        ("jmp pin 5", 0x00c5),
+        ("jmp !osre 31", 0x00ff),
+        ("wait 0 gpio 31", 0x201f),
+        ("wait 1 gpio 31", 0x209f),
+        ("wait 0 pin 3", 0x2023),
+        ("wait 1 pin 3", 0x20a3),
+        ("wait 0 irq 5", 0x2045),
+        ("wait 1 irq 5", 0x20c5),
+        ("wait 0 irq 5 rel", 0x2055),
+        ("wait 1 irq 5 rel", 0x20d5),
+        ("in pins, 32", 0x4000),
+        ("in x, 1", 0x4021),
+        ("in y, 1", 0x4041),
+        ("in null, 31", 0x407f),
+        ("in isr, 1", 0x40c1),
+        ("in osr, 1", 0x40e1),
+        ("out pins, 32", 0x6000),
+        ("out x, 1", 0x6021),
+        ("out y, 1", 0x6041),
+        ("out null, 31", 0x607f),
+        ("out pindirs, 1", 0x6081),
+        ("out pc, 1", 0x60a1),
+        ("out isr, 1", 0x60c1),
+        ("out exec, 1", 0x60e1),
+        ("push noblock", 0x8000),
+        ("push block", 0x8020),
+        ("push iffull noblock", 0x8040),
+        ("push iffull block", 0x8060),
+        ("pull noblock", 0x8080),
+        ("pull block", 0x80a0),
+        ("pull ifempty noblock", 0x80c0),
+        ("pull ifempty block", 0x80e0),
+        ("mov pins, x", 0xa001),
+        ("mov x, pins", 0xa020),
+        ("mov y, null", 0xa043),
+        ("mov exec, status", 0xa085),
+        ("mov pc, isr", 0xa0a6),
+        ("mov isr, osr", 0xa0c7),
+        ("mov osr, y", 0xa0e2),
+        ("mov x, !y", 0xa02a),
+        ("mov x, ::y", 0xa032),
+        ("nop", 0xa042),
+        ("irq nowait 3", 0xc003),
+        ("irq wait 3", 0xc023),
+        ("irq clear 3", 0xc043),
+        ("irq nowait 3 rel", 0xc013),
+        ("irq wait 3 rel", 0xc033),
+        ("irq clear 3 rel", 0xc053),
+        ("set pins, 31", 0xe01f),
+        ("set x, 0", 0xe020),
+        ("set y, 1", 0xe041),
+        ("set pindirs, 1", 0xe081),
+        ("nop [31]", 0xbf42),
+        (".word 0x2060", 0x2060),
+        (".word 0x4080", 0x4080),
+        (".word 0x8001", 0x8001),
+        (".word 0xa060", 0xa060),
+        (".word 0xa018", 0xa018),
+        (".word 0xa004", 0xa004),
+        (".word 0xc008", 0xc008),
+        (".word 0xc080", 0xc080),
+        (".word 0xc063", 0xc063),
+        (".word 0xe060", 0xe060),
+    ];
+    for (line, word) in table {
+        let text = with_line(rt.alloc(), ".program code\n", line)?;
+        assert!(rt;
+            has_words(rt.alloc(), text.as_slice(), &[word], 0, 0),
+            "{line}"
+        );
+        assert!(rt;
+            is_source(rt.alloc(), &[word], &NO_SIDE, text.as_slice()),
+            "{line}"
+        );
+    }
+    Ok(())
+}
+
+// Forms that are read and never written.
+#[test]
+fn other_forms(rt: HostRuntime) -> Result<(), AllocError> {
+    let table = [
+        ("JMP X--, (2 + 3)", 0x0045),
+        ("jmp x != y, 5", 0x00a5),
+        ("wait gpio 31", 0x209f),
+        ("wait 0 pin, 3", 0x2023),
+        ("wait (1) irq, 5 rel", 0x20d5),
+        ("in x 1", 0x4021),
+        ("out pindirs 1", 0x6081),
+        ("push", 0x8020),
+        ("push iffull", 0x8060),
+        ("pull", 0x80a0),
+        ("pull ifempty", 0x80e0),
+        ("mov x ~y", 0xa02a),
+        ("mov x, ! y", 0xa02a),
+        ("mov y, y", 0xa042),
+        ("irq 3", 0xc003),
+        ("irq set 3 rel", 0xc013),
+        ("set pins 31", 0xe01f),
+        ("l: jmp l", 0x0000),
+        ("public l: jmp l // again", 0x0000),
+        ("nop [7 * (3 + 1) + 3] /* all */ ; of it", 0xbf42),
+    ];
+    for (line, word) in table {
+        let text = with_line(rt.alloc(), ".program code\n", line)?;
+        assert!(rt;
+            has_words(rt.alloc(), text.as_slice(), &[word], 0, 0),
+            "{line}"
+        );
+    }
+    Ok(())
+}
+
+// Side-set values and delays as they are written, under a side-set, with the word of each.
+#[test]
+fn each_side_both_ways(rt: HostRuntime) -> Result<(), AllocError> {
+    let table = [
+        (
+            ".program code\n.side_set 1\n",
+            1,
+            false,
+            false,
+            "nop side 1 [15]",
+            0xbf42,
+        ),
+        (
+            ".program code\n.side_set 1\n",
+            1,
+            false,
+            false,
+            "nop side 0 [3]",
+            0xa342,
+        ),
+        (
+            ".program code\n.side_set 5\n",
+            5,
+            false,
+            false,
+            "nop side 21",
+            0xb542,
+        ),
+        (
+            ".program code\n.side_set 0 opt\n",
+            0,
+            true,
+            false,
+            "nop side 0 [15]",
+            0xbf42,
+        ),
+        (
+            ".program code\n.side_set 0 opt\n",
+            0,
+            true,
+            false,
+            "nop [15]",
+            0xaf42,
+        ),
+        (
+            ".program code\n.side_set 2 opt\n",
+            2,
+            true,
+            false,
+            "nop side 3 [1]",
+            0xbd42,
+        ),
+        (
+            ".program code\n.side_set 2 opt pindirs\n",
+            2,
+            true,
+            true,
+            "nop [2]",
+            0xa242,
+        ),
+        (
+            ".program code\n.side_set 4 opt\n",
+            4,
+            true,
+            false,
+            "nop side 9",
+            0xb942,
+        ),
+        (
+            ".program code\n.side_set 3 pindirs\n",
+            3,
+            false,
+            true,
+            "nop side 5 [2]",
+            0xb642,
+        ),
+        (
+            ".program code\n.side_set 1 opt\n",
+            1,
+            true,
+            false,
+            ".word 0xa842",
+            0xa842,
+        ),
+    ];
+    for (head, count, opt, pindirs, line, word) in table {
+        let side = SideConfig {
+            count,
+            opt,
+            pindirs,
+        };
+        let text = with_line(rt.alloc(), head, line)?;
+        assert!(rt;
+            has_words(rt.alloc(), text.as_slice(), &[word], 0, 0),
+            "{line}"
+        );
+        assert!(rt;
+            is_source(rt.alloc(), &[word], &side, text.as_slice()),
+            "{line}"
+        );
+    }
+    Ok(())
+}
+
+// `head`, then a byte so many times, then `tail`.
+fn with_run(
+    alloc: Global,
+    head: &str,
+    byte: u8,
+    count: usize,
+    tail: &[u8],
+) -> Result<Vec<u8>, AllocError> {
+    let mut text = Vec::from_slice(alloc, head.as_bytes())?;
+    for _ in 0..count {
+        text.push(byte)?;
+    }
+    text.extend_from_slice(tail)?;
+    Ok(text)
+}
+
+// Sources of half a megabyte.
+#[test]
+fn large_sources(rt: HostRuntime) -> Result<(), AllocError> {
+    let alloc = rt.alloc();
+    let open = with_run(alloc, ".program p\n.word ", b'(', 200000, b"")?;
+    assert!(rt; fault_in(alloc, open.as_slice()) == Some(PioFault::Syntax(2, 200007)));
+    let close = with_run(alloc, "1", b')', 200000, b"\n")?;
+    let nested = with_run(alloc, ".program p\n.word ", b'(', 200000, close.as_slice())?;
+    assert!(rt; has_words(alloc, nested.as_slice(), &[1], 0, 0));
+    let comment = with_run(alloc, ".program p\n /*", b'*', 500000, b"\n")?;
+    assert!(rt; fault_in(alloc, comment.as_slice()) == Some(PioFault::Char(2, 2)));
+    let block = with_run(alloc, ".program p\nnop\n% c {", b'%', 500000, b"")?;
+    assert!(rt; fault_in(alloc, block.as_slice()) == Some(PioFault::Char(3, 1)));
+    let signs = with_run(alloc, ".program p\n.word 7 ", b'-', 500000, b"1\n")?;
+    assert!(rt; has_words(alloc, signs.as_slice(), &[8], 0, 0));
+    let name = with_run(alloc, "", b'a', 500000, b"\n")?;
+    let jump = with_run(alloc, ": jmp ", b'a', 500000, b"\n")?;
+    let label = with_run(alloc, ".program p\nnop\n", b'a', 500000, jump.as_slice())?;
+    assert!(rt; has_words(alloc, label.as_slice(), &[0xa042, 1], 0, 1));
+    let program = with_run(
+        alloc,
+        ".program p\nnop\n.word ",
+        b'a',
+        499999,
+        name.as_slice(),
+    )?;
+    assert!(rt; fault_in(alloc, program.as_slice()) == Some(PioFault::Unknown(3)));
+    Ok(())
+}
+
+// 50,000 programs, named by five letters each.
+#[test]
+fn many_programs(rt: HostRuntime) -> Result<(), AllocError> {
+    let mut text = Vec::new(rt.alloc());
+    for index in 0..50000u32 {
+        text.extend_from_slice(b".program p")?;
+        for place in [10000u32, 1000, 100, 10, 1] {
+            text.push(b'a' + (index / place % 10) as u8)?;
+        }
+        text.extend_from_slice(b"\nnop\n")?;
+    }
+    assert!(rt; fault_in(rt.alloc(), text.as_slice()) == None);
+    text.extend_from_slice(b".program paaaaa\nnop\n")?;
+    assert!(rt; fault_in(rt.alloc(), text.as_slice()) == Some(PioFault::Twice(100001)));
+    Ok(())
+}
+
+fn fault_of_byte(byte: u8) -> Option<PioFault> {
+    match byte {
+        b'\t' | b'\n' | b'\r' | b' ' | b';' => None,
+        b'[' => Some(PioFault::Syntax(2, 6)),
+        b'!' | b'(' | b')' | b'*' | b'+' | b',' | b'-' | b'.' | b':' | b']' | b'_' | b'~' => {
+            Some(PioFault::Syntax(2, 5))
+        }
+        b'0'..=b'9' | b'A'..=b'Z' | b'a'..=b'z' => Some(PioFault::Syntax(2, 5)),
+        _ => Some(PioFault::Char(2, 5)),
+    }
+}
+
+// Each byte after an instruction, at the end of a file.
+#[test]
+fn each_byte(rt: HostRuntime) -> Result<(), AllocError> {
+    for byte in 0..=255u8 {
+        let text = with_run(rt.alloc(), ".program p\nnop ", byte, 1, b"")?;
+        assert!(rt;
+            fault_in(rt.alloc(), text.as_slice()) == fault_of_byte(byte),
+            "{byte}"
+        );
+    }
+    Ok(())
+}
