@@ -7,5 +7,5 @@ pub mod Follows
 pub mod Finds
 pub mod Trees
 pub mod Faults
-pub mod Operands
+pub mod LoneOperands
 pub mod Modifiers

@@ -1,4 +1,4 @@
-use Rattle.pio_parse.proofs.Operands.{reads_operands}
+use Rattle.pio_parse.proofs.LoneOperands.{reads_operands}
 use Rattle.pio_parse.proofs.laws.reads_operands.Goals as goal
 
 pub returns : goal.returns
