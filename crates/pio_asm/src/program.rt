@@ -54,6 +54,7 @@ fn read_names<'a>(
 fn take_lines<'a>(context: &Context<'_, 'a>, lines: &'a [Line]) -> Result<Building<'a>, PioFault>
     ensures ok { IfOk result (λ building. lines_of context.now.globals.now lines.now (context.now.whole.now, context.now.total) ≡ Ok building) }
     ensures side { IfOk result (λ building. IsOptionalConfig building.side) }
+    ensures valued { AllValued context.now.globals.now → IfOk result (λ building. AllValued building.seen) }
     ensures err { IfErr result (IsFaultOf (lines_of context.now.globals.now lines.now (context.now.whole.now, context.now.total))) }
 {
     let mut building = Building {
@@ -178,7 +179,6 @@ fn take_programs<'a>(
 /// first line that has a fault, the one with the least number.
 ///
 /// Memory may run out at any time.
-#[tactic(auto, using(crate::proofs::Keeping::names_valued))]
 pub fn assemble(alloc: Global, source: &Source) -> Result<Vec<Program>, PioFault>
     ensures ok { IfOk result (λ programs. Assembles programs.items (assembled source.now)) }
     ensures err { IfErr result (IsFaultOf (assembled source.now)) }
