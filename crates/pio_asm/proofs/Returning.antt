@@ -220,7 +220,7 @@ named_if false side h = rw h refl
 same_member : (member : Member) (word other : ℕ) → StandsFor member word → StandsFor member other → word ≡ other
 same_member (WordMember n) word other h k = h ∙ sym k
 same_member (Coded op side value delay) word other h k = word-unique op side value delay word other h k
-same_member Lost word other h k = h ∙ sym k
+same_member Lost word other h k = absurd h
 
 -- members have one list of words
 same_words : (members : List Member) (words others : List ℕ) → AreWordsOf members words → AreWordsOf members others → others ≡ words

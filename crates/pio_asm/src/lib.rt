@@ -17,7 +17,6 @@ mod symbols;
 #[cfg(test)]
 mod tests;
 mod value;
-pub mod value_law;
 mod word;
 
 pub use place::place_program;
