@@ -150,6 +150,14 @@ fn instructions_and_their_cycles(rt: HostRuntime) -> Result<(), Fail> {
     let low = " 20000014 76543210 32101010 00000010 00003210";
     let high = " 20042000 ffffffff 2000000e 01000000";
     assert!(rt; ends(alloc, &code, b"stop bkpt core0 14\n", low, high)?);
+    // STM and LDM of two registers, each of three cycles, and the same words in the view that has one bank after another.
+    let code = [
+        0x2101, 0x2202, 0x4802, 0xc006, 0x4802, 0x6803, 0xc830, 0xbe00, 0x0040, 0x2000, 0x0010,
+        0x2100,
+    ];
+    let low = " 21000018 00000001 00000002 00000001 00000001";
+    let high = " 20042000 ffffffff 2000000e 01000000";
+    assert!(rt; ends(alloc, &code, b"stop bkpt core0 14\n", low, high)?);
     // SEV sets the event register for the first WFE alone, and the second waits.
     let code = [0xbf40, 0xbf20, 0xbf20, 0xbe00];
     let high = " 20042000 ffffffff 20000004 01000000";

@@ -3,8 +3,8 @@
 #![tactic(auto)]
 
 mod building;
-pub mod laws;
 mod directive;
+pub mod laws;
 mod line;
 mod modifiers;
 mod names;
