@@ -176,8 +176,9 @@ impl File<'_> {
     pub(crate) fn name(&self, span: Span) -> Result<Name, AllocError>
         ensures { IfOk result (λ name. name ≡ name_at self.now.text.now span) }
     {
-        if span.start <= span.end && span.end <= self.text.len() {
-            Name::from_slice(self.alloc, &self.text[span.start..span.end])
+        let (start, end) = (span.start as usize, span.end as usize);
+        if start <= end && end <= self.text.len() {
+            Name::from_slice(self.alloc, &self.text[start..end])
         } else {
             Name::from_slice(self.alloc, &[])
         }

@@ -166,7 +166,10 @@ pub fn parse(alloc: Global, text: &[u8]) -> Result<Source, PioFault>
     let file = File { alloc, text };
     match read_lines(&file, tokens.as_slice()) {
         Ok(source) => Ok(source),
-        Err(Stop::Syntax(place)) => Err(PioFault::Syntax(place.line, place.column)),
+        Err(Stop::Syntax(place)) => Err(PioFault::Syntax(
+            u64::from(place.line),
+            u64::from(place.column),
+        )),
         Err(Stop::Memory) => Err(PioFault::Memory),
     }
 }

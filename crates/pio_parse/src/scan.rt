@@ -2,7 +2,7 @@ ghost use Rattle.std.specs.Prelude.{◌≡◌, ◌≤◌, ◌<◌, ◌+◌, ◌-
 ghost use Rattle.pio_parse.specs.Scan.{begins, ends, finishes, IsCharFault, IsPlaceBelow, IsStarted, next_place, quietly, scanned, sign_of, single_token, skips, steps, word_ends};
 
 use crate::fault::PioFault;
-use crate::token::{Directive, Place, Span, Token, TokenKind};
+use crate::token::{Directive, Place, Token, TokenKind, span_of};
 use crate::words::{classify, is_word_byte};
 use std::alloc::Global;
 
@@ -123,10 +123,12 @@ fn end_word(
     index: usize,
     place: Place,
 ) -> Result<Step, Place>
+    requires begun { start ≤ index }
+    requires short { index < 2 ^ 32 }
     ensures value { result ≡ word_ends word.now start begun byte index place }
     ensures started { IfOk result (λ s. IsStarted s.mode (index + 1)) }
 {
-    let kind = classify(word, Span { start, end: index });
+    let kind = classify(word, span_of(start, index));
     let token = Token { kind, place: begun };
     match kind {
         TokenKind::Directive(Directive::LangOpt) => {
@@ -147,6 +149,7 @@ fn end_word(
 /// What the character at `index` does in this mode.
 fn advance(text: &[u8], index: usize, mode: Mode, byte: u8, place: Place) -> Result<Step, Place>
     requires inside { index ≤ length text.now }
+    requires short { length text.now < 2 ^ 32 }
     requires started { IsStarted mode index }
     ensures value { result ≡ steps text.now index mode byte place }
     ensures started { IfOk result (λ s. IsStarted s.mode (index + 1)) }
@@ -240,19 +243,14 @@ fn skip(index: usize, mode: Mode, byte: u8, place: Place) -> Result<Step, Place>
 
 /// What the end of the file does: the last token, if one ends there.
 fn finish(text: &[u8], mode: Mode) -> Result<Option<Token>, Place>
-    requires { IsStarted mode (length text.now) }
+    requires short { length text.now < 2 ^ 32 }
+    requires started { IsStarted mode (length text.now) }
     ensures { result ≡ finishes text.now mode }
 {
     match mode {
         Mode::Between | Mode::LineComment => Ok(None),
         Mode::Word(start, begun) => {
-            let kind = classify(
-                &text[start..],
-                Span {
-                    start,
-                    end: text.len(),
-                },
-            );
+            let kind = classify(&text[start..], span_of(start, text.len()));
             Ok(Some(Token { kind, place: begun }))
         }
         Mode::Colon(begun) => Ok(Some(Token {
@@ -272,7 +270,7 @@ fn finish(text: &[u8], mode: Mode) -> Result<Option<Token>, Place>
 
 /// The place of the character after this one.
 fn place_after(byte: u8, place: Place) -> Place
-    requires { IsPlaceBelow place (2 ^ 64 - 1) }
+    requires { IsPlaceBelow place (2 ^ 32 - 1) }
     ensures { result ≡ next_place byte place }
 {
     if byte == b'\n' {
@@ -288,6 +286,13 @@ fn place_after(byte: u8, place: Place) -> Place
     }
 }
 
+/// The fault of a character that has no meaning at this place.
+fn char_fault(place: Place) -> PioFault
+    ensures { result ≡ PioFault.Char place.line place.column }
+{
+    PioFault::Char(u64::from(place.line), u64::from(place.column))
+}
+
 fn add(tokens: &mut Vec<Token>, token: Option<Token>) -> Result<(), PioFault>
     ensures ok { OnOk result (tokens.new.items ≡ tokens.old.items ++ option_to_list token) }
     ensures err { IfErr result (λ fault. fault ≡ PioFault.Memory) }
@@ -301,11 +306,17 @@ fn add(tokens: &mut Vec<Token>, token: Option<Token>) -> Result<(), PioFault>
     Ok(())
 }
 
+/// A place has 32 bits for its line and its column. There is no memory for the tokens of a longer file.
+const LONGEST: usize = 0xffff_fff0;
+
 /// The tokens of a file, the last of which is its end.
 pub(crate) fn scan(alloc: Global, text: &[u8]) -> Result<Vec<Token>, PioFault>
     ensures ok { IfOk result (λ tokens. scanned text.now ≡ Ok tokens.items) }
     ensures err { IfErr result (IsCharFault (scanned text.now)) }
 {
+    if text.len() > LONGEST {
+        return Err(PioFault::Memory);
+    }
     let mut tokens = Vec::new(alloc);
     let mut mode = Mode::Between;
     let mut here = Place { line: 1, column: 1 };
@@ -313,7 +324,7 @@ pub(crate) fn scan(alloc: Global, text: &[u8]) -> Result<Vec<Token>, PioFault>
     for (index, byte) in text.iter().enumerate() {
         let done = match advance(text, index, mode, *byte, here) {
             Ok(done) => done,
-            Err(place) => return Err(PioFault::Char(place.line, place.column)),
+            Err(place) => return Err(char_fault(place)),
         };
         add(&mut tokens, done.first)?;
         add(&mut tokens, done.second)?;
@@ -326,7 +337,7 @@ pub(crate) fn scan(alloc: Global, text: &[u8]) -> Result<Vec<Token>, PioFault>
     }
     match finish(text, mode) {
         Ok(last) => add(&mut tokens, last)?,
-        Err(place) => return Err(PioFault::Char(place.line, place.column)),
+        Err(place) => return Err(char_fault(place)),
     }
     add(
         &mut tokens,

@@ -1,17 +1,33 @@
-/// A place in a file: lines and columns count from 1, and a column is a byte.
+ghost use Rattle.std.specs.Prelude.{◌≡◌, ◌<◌, ◌^◌};
+
+/// A place in a file of less than 4 GiB: lines and columns count from 1, and a column is a byte.
 #[derive(Clone, Copy)]
 pub struct Place {
     /// The line.
-    pub line: u64,
+    pub line: u32,
     /// The byte of the line.
-    pub column: u64,
+    pub column: u32,
 }
 
 /// A range of a file's bytes.
 #[derive(Clone, Copy)]
 pub struct Span {
-    pub start: usize,
-    pub end: usize,
+    /// The first byte.
+    pub start: u32,
+    /// The byte behind the last one.
+    pub end: u32,
+}
+
+/// The bytes from `start` up to `end`.
+pub(crate) fn span_of(start: usize, end: usize) -> Span
+    requires start { start < 2 ^ 32 }
+    requires end { end < 2 ^ 32 }
+    ensures { result ≡ record { start = start; end = end } }
+{
+    Span {
+        start: start as u32,
+        end: end as u32,
+    }
 }
 
 /// A word of the language that names nothing else (RP2040 Datasheet, 3.3).
