@@ -4,6 +4,8 @@
 
 mod building;
 mod directive;
+#[cfg(test)]
+mod form_tests;
 mod line;
 mod modifiers;
 mod names;
@@ -12,6 +14,8 @@ mod operation;
 mod place;
 mod plan;
 mod program;
+#[cfg(test)]
+mod source_tests;
 mod symbols;
 #[cfg(test)]
 mod tests;
