@@ -1,13 +1,11 @@
-use Rattle.std.proofs.Common.{◌≡◌, ℕ, suc, ℤ, ◌+◌, ◌-◌, ◌<◌, ◌≤◌, List, [], ◌∷◌, ◌++◌, length, Bool, true, false, cond, Option, None, Some, refl, sym, ap, subst, ◌∙◌, ◌||◌, arith, inl, inr}
+use Rattle.std.proofs.Common.{◌≡◌, ℕ, suc, ℤ, ◌+◌, ◌-◌, ◌≤◌, List, [], ◌∷◌, ◌++◌, length, Bool, true, false, cond, Option, None, Some, refl, sym, ap, subst, ◌∙◌, ◌||◌, arith, inl, inr}
 use Rattle.std.specs.Prelude.{Result, Ok, Err, if◌then◌else◌, is_some, is_none, nat_le, nat_lt, unwrap_or, ◌==◌, ◌⊎◌}
 use Rattle.std.proofs.lemmas.Bool.Decides.{nat_tests}
 use Rattle.pio_words.specs.Operation.{bit}
-use Rattle.pio_parse.specs.declared.expression.Term.{Term}
 use Rattle.pio_parse.specs.declared.fault.PioFault.{PioFault}
 use Rattle.pio_parse.specs.declared.fault.PioFault.TheVariants.{Unknown, Twice, Range, Delay, Side, TooLong}
 use Rattle.pio_parse.specs.declared.syntax.Statement.{Statement}
 use Rattle.pio_parse.specs.declared.syntax.Statement.TheVariants.{Program, Define, Origin, SideSet, WrapTarget, Wrap, Word, Instruction as InstructionStatement}
-use Rattle.pio_parse.specs.declared.syntax.Instruction.{Instruction}
 use Rattle.pio_parse.specs.declared.syntax.Line.{Line}
 use Rattle.pio_asm.specs.declared.value.Evaluated.{Evaluated}
 use Rattle.pio_asm.specs.declared.plan.Member.{Member}
@@ -20,7 +18,7 @@ use Rattle.pio_asm.specs.Value.{evaluated}
 use Rattle.pio_asm.specs.Operand.{number_within}
 use Rattle.pio_asm.specs.Plan.{instruction_in}
 use Rattle.pio_asm.specs.Verdict.{no_fault, verdict_result}
-use Rattle.pio_asm.specs.Step.{checked, definition_value, fitting, instruction_verdict, is_member, is_origin_fault, is_seen, label_value, line_step, misfits, names_of, statement_step, with_definition, with_label, with_line_names, with_name, word_member}
+use Rattle.pio_asm.specs.Step.{checked, definition_value, fitting, instruction_verdict, is_member, is_origin_fault, is_seen, label_value, line_step, misfits, names_of, statement_step, with_definition, with_label, with_name, word_member}
 use Rattle.pio_asm.specs.Assembly.{lines_from, lines_of, nothing_built}
 use Rattle.pio_asm.proofs.Valued.{IsValued, evaluated-valued}
 use Rattle.pio_asm.proofs.Planning.{instruction-kept, or-parts}

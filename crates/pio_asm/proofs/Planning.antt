@@ -1,4 +1,4 @@
-use Rattle.std.proofs.Common.{◌≡◌, ℕ, ◌==◌, List, [], Bool, true, false, cond, Option, None, Some, refl, ◌||◌}
+use Rattle.std.proofs.Common.{◌≡◌, ℕ, ◌==◌, List, Bool, true, false, Option, None, Some, refl, ◌||◌}
 use Rattle.std.specs.Prelude.{is_some, option_map, option_and_then}
 use Rattle.pio_words.specs.declared.op.WaitSource.{WaitSource}
 use Rattle.pio_words.specs.declared.op.WaitSource.TheVariants.{Gpio, Pin, Irq as WaitFlag}
@@ -12,7 +12,6 @@ use Rattle.pio_parse.specs.declared.syntax.Instruction.{Instruction}
 use Rattle.pio_asm.specs.declared.operand.Field.{Field}
 use Rattle.pio_asm.specs.declared.operand.Part.{Part}
 use Rattle.pio_asm.specs.declared.plan.Planned.{Planned}
-use Rattle.pio_asm.specs.declared.plan.Judged.{Judged}
 use Rattle.pio_asm.specs.Symbols.{Names}
 use Rattle.pio_asm.specs.Kept.{AllValued, is_kept}
 use Rattle.pio_asm.specs.Operand.{field_in, polarity_in}

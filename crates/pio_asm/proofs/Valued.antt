@@ -1,4 +1,4 @@
-use Rattle.std.proofs.Common.{◌≡◌, ℕ, ℤ, pos, ◌∷◌, ◌++◌, List, [], Bool, true, false, cond, Option, None, Some, refl, sym, ap, ◌∙◌, ◌||◌, inl, inr}
+use Rattle.std.proofs.Common.{◌≡◌, ℕ, ℤ, ◌∷◌, List, [], Bool, true, false, cond, Option, None, Some, refl, sym, ◌∙◌, inl, inr}
 use Rattle.std.specs.Prelude.{is_some, ◌⊎◌, ⊤}
 use Rattle.std.specs.Str.{bytes_eq}
 use Rattle.pio_parse.specs.declared.expression.Operator.{Operator}
@@ -11,8 +11,8 @@ use Rattle.pio_asm.specs.declared.operand.Field.{Field}
 use Rattle.pio_asm.specs.declared.operand.Part.{Part}
 use Rattle.pio_asm.specs.Symbols.{Names, found}
 use Rattle.pio_asm.specs.Kept.{AllValued}
-use Rattle.pio_asm.specs.Value.{after_binary, after_unary, binary_step, evaluated, evaluation_of, name_step, number_step, one_operand, operator_step, rest_of, term_step, top_of, two_operands, unary_step, value_in, with_result}
-use Rattle.pio_asm.specs.Operand.{field_by, field_in, field_of, field_with, number_within, part_by, part_in, part_of, part_with, polarity_in}
+use Rattle.pio_asm.specs.Value.{after_binary, after_unary, binary_step, evaluated, evaluation_of, name_step, one_operand, operator_step, rest_of, term_step, top_of, two_operands, unary_step, value_in, with_result}
+use Rattle.pio_asm.specs.Operand.{field_by, field_in, field_with, number_within, part_by, part_in, part_with, polarity_in}
 
 pub option_cases : {X : Type 0} (o : Option X) → (o ≡ None) ⊎ ((x : X) × (o ≡ Some x))
 option_cases None = inl refl

@@ -5,6 +5,8 @@
 mod building;
 mod directive;
 pub mod laws;
+#[cfg(test)]
+mod form_tests;
 mod line;
 mod modifiers;
 mod names;
@@ -13,6 +15,8 @@ mod operation;
 mod place;
 mod plan;
 mod program;
+#[cfg(test)]
+mod source_tests;
 mod symbols;
 #[cfg(test)]
 mod tests;

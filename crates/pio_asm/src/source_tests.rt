@@ -1,0 +1,160 @@
+//! Sources of every kind, large ones too, with the first fault of each.
+
+use crate::tests::{fault_in, has_words};
+use pio_parse::{PioFault, parse};
+use std::alloc::{AllocError, Global};
+
+fn grammar_fault_of(alloc: Global, text: &str) -> Option<PioFault> {
+    match parse(alloc, text.as_bytes()) {
+        Ok(_) => None,
+        Err(fault) => Some(fault),
+    }
+}
+
+// Sources with the fault that each has, and sources without one.
+#[test]
+fn faults_of_sources(rt: HostRuntime) {
+    let syntax = |line: u64, column: u64| Some(PioFault::Syntax(line, column));
+    let char = |line: u64, column: u64| Some(PioFault::Char(line, column));
+    let table = [
+        ("", syntax(1, 1)),
+        ("; x\n", syntax(1, 5)),
+        ("\n\n", syntax(2, 2)),
+        (".define a 1", syntax(1, 12)),
+        (".define a 1\n", syntax(1, 13)),
+        (".lang_opt x", syntax(1, 12)),
+        (".program p", None),
+        (".program p\nnop nop\n", syntax(2, 5)),
+        (".program p\n/* x", char(2, 1)),
+        (".program p\nset pins, ?\n", char(2, 11)),
+        (".program p\nset pins,\n", syntax(2, 10)),
+        (".program p\nset pins, \r\n", syntax(2, 12)),
+        (".program p\nset pins,", syntax(2, 10)),
+        ("nop\n.program p\n", syntax(1, 1)),
+        ("x: .program p\n", syntax(1, 1)),
+        (".program p\nfoo bar\n", syntax(2, 5)),
+        (".program p\njmp x 3\n", syntax(2, 7)),
+        (".program p\njmp x - - 3\n", syntax(2, 9)),
+        (
+            ".program p\njmp x!=y, 3\njmp !osre l\nl: jmp y--, (1 + 2)\n",
+            None,
+        ),
+        (".program p\n.word 12ab\n", syntax(2, 7)),
+        (".program p\n.word 0x\n", syntax(2, 7)),
+        (".program p\n.word ((1)\n", syntax(2, 11)),
+        (".program p\n.word 1 2\n", syntax(2, 9)),
+        (".PROGRAM p\n.pio_version 1\n", syntax(2, 14)),
+        (
+            ".pio_version 0\n.lang_opt python ??? %\n.define a 1\n.program p\n",
+            None,
+        ),
+        (".program p\n% c-sdk {\n ?? \n%} nop ?\n", char(4, 8)),
+        (".program p\n% {\n%}\n", char(2, 1)),
+        (
+            ".program p\nNOP SIDE 1 [2]\npublic l: wait irq 3 rel [1] side 0\n",
+            None,
+        ),
+        (
+            ".program p\nirq set 3 rel\nmov pins, ~null\nmov x !y\nmov isr ::osr\n",
+            None,
+        ),
+        (
+            ".program p\npush iffull noblock\npull block\nin pins 32\nout pc, 5 // x\n",
+            None,
+        ),
+        (".program p\nin pc, 3\n", syntax(2, 4)),
+        (".program p\nwait 1 side 0\n", syntax(2, 8)),
+    ];
+    for (text, want) in table {
+        let found = grammar_fault_of(rt.alloc(), text);
+        assert!(rt; found == want, "{text}");
+    }
+}
+
+// `head`, then a byte so many times, then `tail`.
+fn with_run(
+    alloc: Global,
+    head: &str,
+    byte: u8,
+    count: usize,
+    tail: &[u8],
+) -> Result<Vec<u8>, AllocError> {
+    let mut text = Vec::from_slice(alloc, head.as_bytes())?;
+    for _ in 0..count {
+        text.push(byte)?;
+    }
+    text.extend_from_slice(tail)?;
+    Ok(text)
+}
+
+// Sources of half a megabyte.
+#[test]
+fn large_sources(rt: HostRuntime) -> Result<(), AllocError> {
+    let alloc = rt.alloc();
+    let open = with_run(alloc, ".program p\n.word ", b'(', 200000, b"")?;
+    assert!(rt; fault_in(alloc, open.as_slice()) == Some(PioFault::Syntax(2, 200007)));
+    let close = with_run(alloc, "1", b')', 200000, b"\n")?;
+    let nested = with_run(alloc, ".program p\n.word ", b'(', 200000, close.as_slice())?;
+    assert!(rt; has_words(alloc, nested.as_slice(), &[1], 0, 0));
+    let comment = with_run(alloc, ".program p\n /*", b'*', 500000, b"\n")?;
+    assert!(rt; fault_in(alloc, comment.as_slice()) == Some(PioFault::Char(2, 2)));
+    let block = with_run(alloc, ".program p\nnop\n% c {", b'%', 500000, b"")?;
+    assert!(rt; fault_in(alloc, block.as_slice()) == Some(PioFault::Char(3, 1)));
+    let signs = with_run(alloc, ".program p\n.word 7 ", b'-', 500000, b"1\n")?;
+    assert!(rt; has_words(alloc, signs.as_slice(), &[8], 0, 0));
+    let name = with_run(alloc, "", b'a', 500000, b"\n")?;
+    let jump = with_run(alloc, ": jmp ", b'a', 500000, b"\n")?;
+    let label = with_run(alloc, ".program p\nnop\n", b'a', 500000, jump.as_slice())?;
+    assert!(rt; has_words(alloc, label.as_slice(), &[0xa042, 1], 0, 1));
+    let program = with_run(
+        alloc,
+        ".program p\nnop\n.word ",
+        b'a',
+        499999,
+        name.as_slice(),
+    )?;
+    assert!(rt; fault_in(alloc, program.as_slice()) == Some(PioFault::Unknown(3)));
+    Ok(())
+}
+
+// 50,000 programs, named by five letters each.
+#[test]
+fn many_programs(rt: HostRuntime) -> Result<(), AllocError> {
+    let mut text = Vec::new(rt.alloc());
+    for index in 0..50000u32 {
+        text.extend_from_slice(b".program p")?;
+        for place in [10000u32, 1000, 100, 10, 1] {
+            text.push(b'a' + (index / place % 10) as u8)?;
+        }
+        text.extend_from_slice(b"\nnop\n")?;
+    }
+    assert!(rt; fault_in(rt.alloc(), text.as_slice()) == None);
+    text.extend_from_slice(b".program paaaaa\nnop\n")?;
+    assert!(rt; fault_in(rt.alloc(), text.as_slice()) == Some(PioFault::Twice(100001)));
+    Ok(())
+}
+
+fn fault_of_byte(byte: u8) -> Option<PioFault> {
+    match byte {
+        b'\t' | b'\n' | b'\r' | b' ' | b';' => None,
+        b'[' => Some(PioFault::Syntax(2, 6)),
+        b'!' | b'(' | b')' | b'*' | b'+' | b',' | b'-' | b'.' | b':' | b']' | b'_' | b'~' => {
+            Some(PioFault::Syntax(2, 5))
+        }
+        b'0'..=b'9' | b'A'..=b'Z' | b'a'..=b'z' => Some(PioFault::Syntax(2, 5)),
+        _ => Some(PioFault::Char(2, 5)),
+    }
+}
+
+// Each byte after an instruction, at the end of a file.
+#[test]
+fn each_byte(rt: HostRuntime) -> Result<(), AllocError> {
+    for byte in 0..=255u8 {
+        let text = with_run(rt.alloc(), ".program p\nnop ", byte, 1, b"")?;
+        assert!(rt;
+            fault_in(rt.alloc(), text.as_slice()) == fault_of_byte(byte),
+            "{byte}"
+        );
+    }
+    Ok(())
+}
