@@ -4,9 +4,9 @@
 
 mod building;
 mod directive;
-pub mod laws;
 #[cfg(test)]
 mod form_tests;
+pub mod laws;
 mod line;
 mod modifiers;
 mod names;
