@@ -1,4 +1,4 @@
--- The value of an expression by its tree (RP2040 Datasheet, 3.3.4 Expressions). The bounds of the values, -2^31 to 2^32 - 1, are the project's own.
+-- The value of an expression by its tree (RP2040 Datasheet, 3.3, Expressions). The bounds of the values, -2^31 to 2^32 - 1, are the project's own.
 use Rattle.std.specs.Prelude.{◌≡◌, ◌||◌, not, ℤ, pos, ◌+ℤ◌, ◌-ℤ◌, ◌*ℤ◌, neg_ℤ, Bool, true, false, Option, None, Some}
 use Rattle.std.specs.Option.{option_map}
 use Rattle.pio_parse.specs.Grammar.{Expr, postfix}

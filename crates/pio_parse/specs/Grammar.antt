@@ -1,4 +1,4 @@
--- The grammar of expressions (RP2040 Datasheet, 3.3.4 Expressions), which knows nothing of how a program reads them:
+-- The grammar of expressions (RP2040 Datasheet, 3.3, Expressions), which knows nothing of how a program reads them:
 --
 --   expression ::= sum
 --   sum        ::= product | sum `+` product | sum `-` product

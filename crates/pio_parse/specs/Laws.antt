@@ -1,4 +1,4 @@
--- What holds of the expressions that are read (RP2040 Datasheet, 3.3.4 Expressions): they are those of the grammar.
+-- What holds of the expressions that are read (RP2040 Datasheet, 3.3, Expressions): they are those of the grammar.
 use Rattle.std.specs.Prelude.{◌≡◌, ◌≢◌, ◌↔◌, ◌≤◌, ℕ, Bool, true, false, List, [], ◌∷◌, ◌++◌, length, Ok, Err}
 use Rattle.pio_parse.specs.declared.token.Place.{Place}
 use Rattle.pio_parse.specs.declared.token.Token.{Token}
