@@ -1,9 +1,8 @@
 //! `asm`: the word that names a source, the source's programs, and their listing.
 
-ghost use Rattle.std.specs.Prelude.{◌≡◌, ◌++◌, ◌<◌, length, map, flat_map, take, IfOk, IfErr, OnOk, decimal};
+ghost use Rattle.std.specs.Prelude.{◌≡◌, ◌++◌, length, map, flat_map, take, IfOk, IfErr, OnOk, decimal};
 ghost use Rattle.std.specs.String.{string_bytes};
 ghost use Rattle.pio_asm.specs.Assembly.{Assembles, IsFaultOf};
-ghost use Rattle.pio_disasm.specs.Text.{hex_digit, hex_half};
 ghost use Rattle.pico_top.specs.Words.{asm_reading};
 ghost use Rattle.pico_top.specs.Read.{ReadsAs};
 ghost use Rattle.pico_top.specs.Listing.{plans_of, origin_text, flag_text, wrap_text, side_text, program_line, word_line, program_text, listing};
@@ -11,6 +10,7 @@ ghost use Rattle.pico_top.specs.Listing.{plans_of, origin_text, flag_text, wrap_
 use crate::words::{Reading, WordsFault};
 use itoa::Buffer;
 use pio_asm::{Program, assemble};
+use pio_disasm::put_hex;
 use pio_parse::{PioFault, parse};
 use pio_words::SideConfig;
 use std::alloc::{AllocError, Global};
@@ -106,31 +106,12 @@ fn put_line(program: &Program, out: &mut Vec<u8>) -> Result<(), AllocError>
     put(b"\n", out)
 }
 
-/// The hexadecimal digit of a number below 16.
-fn digit(value: u16) -> u8
-    requires { value < 16 }
-    ensures { result ≡ hex_digit value }
-{
-    let value = value as u8;
-    if value < 10 {
-        b'0' + value
-    } else {
-        b'a' - 10 + value
-    }
-}
-
 /// Appends the line of a word.
 fn put_word(word: u16, out: &mut Vec<u8>) -> Result<(), AllocError>
     ensures { OnOk result (out.new.items ≡ out.old.items ++ word_line word) }
 {
-    let line = [
-        digit(word / 0x1000 % 16),
-        digit(word / 0x100 % 16),
-        digit(word / 0x10 % 16),
-        digit(word % 16),
-        b'\n',
-    ];
-    put(&line, out)
+    put_hex(out, word)?;
+    put(b"\n", out)
 }
 
 /// Appends a program: its line, then its words.

@@ -55,6 +55,7 @@ fn put_decimal(out: &mut Vec<u8>, number: u8) -> Result<(), AllocError>
     put_byte(out, b'0' + number % 10)
 }
 
+/// The lower-case hexadecimal digit of a number below 16.
 fn digit(value: u16) -> u8
     requires { value < 16 }
     ensures { result ≡ hex_digit value }
@@ -67,7 +68,8 @@ fn digit(value: u16) -> u8
     }
 }
 
-fn put_hex(out: &mut Vec<u8>, word: u16) -> Result<(), AllocError>
+/// Appends a word in four lower-case hexadecimal digits.
+pub fn put_hex(out: &mut Vec<u8>, word: u16) -> Result<(), AllocError>
     ensures { OnOk result (out.new.items ≡ out.old.items ++ hex_half word) }
 {
     put_byte(out, digit(word / 4096 % 16))?;
