@@ -1,4 +1,4 @@
--- What a call answered and wrote, by the ending of its dialogue.
+-- What a call answered and wrote, by the ending of its dialogue: the project's own.
 use Rattle.std.specs.Prelude.{◌≡◌, ◌⊎◌, ℕ, List, Option}
 use Rattle.rp_ports.specs.Fault.{Rose}
 use Rattle.rp_ports.specs.Sink.{Appends}

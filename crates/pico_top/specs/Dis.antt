@@ -1,4 +1,4 @@
--- The words of `dis <hex> [--side S] [--opt T]`: the instruction words, and the side-set configuration.
+-- The words of `dis <hex> [--side S] [--opt T]`: the instruction words, and the side-set configuration. The project's own.
 use Rattle.std.specs.Prelude.{ℕ, ◌+◌, ◌*◌, ◌%◌, nat_le, ◌==◌, false, ◌&&◌, is_none, if◌then◌else◌, List, [], ◌∷◌, length, Option, Some, None, Result, Ok, Err, unwrap_or, codes}
 use Rattle.std.specs.Option.{option_map, option_and_then}
 use Rattle.std.specs.Str.{bytes_eq}

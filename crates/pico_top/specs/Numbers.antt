@@ -1,4 +1,4 @@
--- Numbers among the words of a command line.
+-- Numbers among the words of a command line: the project's own.
 use Rattle.std.specs.Prelude.{ℕ, ◌+◌, ◌-◌, ◌*◌, nat_le, ◌==◌, Bool, false, not, ◌&&◌, ◌||◌, if◌then◌else◌, List, [], ◌∷◌, length, Option, Some, None}
 use Rattle.std.specs.Char.{is_ascii_digit}
 

@@ -1,4 +1,4 @@
--- What stands when a call has loaded its files, by the ending of its dialogue.
+-- What stands when a call has loaded its files, by the ending of its dialogue: the project's own.
 use Rattle.std.specs.Prelude.{◌≡◌, ◌⊎◌, ℕ, ◌≤◌, List, [], ◌∷◌, ◌++◌, Option, Some, None, Result, Ok, Err, Vec}
 use Rattle.std.specs.Global.{Global}
 use Rattle.std.specs.String.{string_bytes}

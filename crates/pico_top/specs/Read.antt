@@ -1,4 +1,4 @@
--- What a reader of the words answers.
+-- What a reader of the words answers: the project's own.
 use Rattle.std.specs.Prelude.{◌≡◌, Option, Some, None, Result, Ok, Err}
 use Rattle.std.specs.String.{string_bytes}
 use Rattle.pico_top.specs.declared.words.RunWords.{RunWords}

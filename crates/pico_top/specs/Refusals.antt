@@ -1,4 +1,4 @@
--- The lines of what is refused.
+-- The lines of what is refused: the project's own.
 use Rattle.std.specs.Prelude.{ℕ, List, ◌++◌, codes, decimal}
 use Rattle.trace_text.specs.Line.{hex_word}
 use Rattle.uf2_image.specs.declared.fault.ImageFault.{ImageFault}

@@ -1,4 +1,4 @@
--- The text of a run.
+-- The text of a run: the project's own.
 use Rattle.std.specs.Prelude.{ℕ, List, [], ◌++◌, Option, Some, None}
 use Rattle.rp_base.specs.declared.Why.{Why}
 use Rattle.trace_text.specs.Line.{stop_text, register_text}

@@ -1,4 +1,5 @@
 -- The words of a command line, and what they ask for: `run <image> --cycles N`, `dis <hex> [--side S] [--opt T]` or `asm <file>`.
+-- The project's own.
 use Rattle.std.specs.Prelude.{ℕ, Bool, not, ◌&&◌, if◌then◌else◌, List, [], ◌∷◌, Option, Some, None, codes}
 use Rattle.std.specs.Option.{option_map, option_and_then}
 use Rattle.std.specs.Str.{bytes_eq}

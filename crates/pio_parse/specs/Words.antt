@@ -65,7 +65,7 @@ directive_name PioVersion = codes "pio_version"
 abbrev pub directives : List Directive
 directives = Program ∷ Define ∷ Origin ∷ SideSet ∷ WrapTarget ∷ Wrap ∷ Word ∷ LangOpt ∷ PioVersion ∷ []
 
--- a word is a name in any case, where the name itself has no upper-case letter
+-- a word spells a keyword or a directive in any case: the first list has no upper-case letter
 abbrev pub same_word : List ℕ → List ℕ → Bool
 same_word [] [] = true
 same_word [] (y ∷ ys) = false

@@ -19,6 +19,6 @@ DecodesBack = (op : PioOp) (side : SideConfig) (value : Option ℕ) (delay word 
 abbrev pub IsOneWord : Type 0
 IsOneWord = (op : PioOp) (side : SideConfig) (value : Option ℕ) (delay word other : ℕ) → IsWord op side value delay word → IsWord op side value delay other → word ≡ other
 
--- so are its side-set value and its delay
+-- a word's side-set value and its delay are those that it was made from
 abbrev pub SideDecodesBack : Type 0
 SideDecodesBack = (op : PioOp) (side : SideConfig) (value : Option ℕ) (delay word : ℕ) → IsWord op side value delay word → side_at side (word / 256 % 32) ≡ Some (record { value = value; delay = delay })
