@@ -78,8 +78,10 @@ fn the_first_fault_is_one_line(rt: HostRuntime) -> Result<(), Fail> {
     let alloc = rt.alloc();
     let source = repeated(alloc, b".program p\n", b"nop\n", 33)?;
     assert!(rt; gives(alloc, &source, 5, b"error pio 9 TooLong 34\n")?);
-    let table: [(&[u8], &[u8]); 10] = [
+    let table: [(&[u8], &[u8]); 12] = [
         (b"", b"error pio 2 Syntax 1 1\n"),
+        (b"\x7fELF\x00\xff\n", b"error pio 1 Char 1 1\n"),
+        (b".program p\nnop nop\n", b"error pio 2 Syntax 2 5\n"),
         (
             b".program p\n.side_set 1\nnop side 0 [16]\n",
             b"error pio 7 Delay 3\n",

@@ -347,6 +347,10 @@ fn a_failing_call_ends_the_text(rt: HostRuntime) -> Result<(), Fail> {
     let mut out = MemSink::new(alloc, Vec::new(alloc));
     assert_eq!(rt; pico(alloc, &words, &mut files, &mut out), 3);
     assert!(rt; out.bytes.as_slice() == b"error file a.uf2\n".as_slice());
+    let mut files = MemShelf::new(alloc, Vec::new(alloc), Vec::new(alloc));
+    let mut out = MemSink::new(alloc, Vec::new(alloc));
+    assert_eq!(rt; pico(alloc, &words, &mut files, &mut out), 3);
+    assert!(rt; out.bytes.as_slice() == b"error file a.uf2\n".as_slice());
     Ok(())
 }
 

@@ -87,41 +87,41 @@ fn with_run(
     Ok(text)
 }
 
-// Sources of half a megabyte.
+// Sources of a megabyte.
 #[test]
 fn large_sources(rt: HostRuntime) -> Result<(), AllocError> {
     let alloc = rt.alloc();
-    let open = with_run(alloc, ".program p\n.word ", b'(', 200000, b"")?;
-    assert!(rt; fault_in(alloc, open.as_slice()) == Some(PioFault::Syntax(2, 200007)));
-    let close = with_run(alloc, "1", b')', 200000, b"\n")?;
-    let nested = with_run(alloc, ".program p\n.word ", b'(', 200000, close.as_slice())?;
+    let open = with_run(alloc, ".program p\n.word ", b'(', 1000000, b"")?;
+    assert!(rt; fault_in(alloc, open.as_slice()) == Some(PioFault::Syntax(2, 1000007)));
+    let close = with_run(alloc, "1", b')', 500000, b"\n")?;
+    let nested = with_run(alloc, ".program p\n.word ", b'(', 500000, close.as_slice())?;
     assert!(rt; has_words(alloc, nested.as_slice(), &[1], 0, 0));
-    let comment = with_run(alloc, ".program p\n /*", b'*', 500000, b"\n")?;
+    let comment = with_run(alloc, ".program p\n /*", b'*', 1000000, b"\n")?;
     assert!(rt; fault_in(alloc, comment.as_slice()) == Some(PioFault::Char(2, 2)));
-    let block = with_run(alloc, ".program p\nnop\n% c {", b'%', 500000, b"")?;
+    let block = with_run(alloc, ".program p\nnop\n% c {", b'%', 1000000, b"")?;
     assert!(rt; fault_in(alloc, block.as_slice()) == Some(PioFault::Char(3, 1)));
-    let signs = with_run(alloc, ".program p\n.word 7 ", b'-', 500000, b"1\n")?;
+    let signs = with_run(alloc, ".program p\n.word 7 ", b'-', 1000000, b"1\n")?;
     assert!(rt; has_words(alloc, signs.as_slice(), &[8], 0, 0));
-    let name = with_run(alloc, "", b'a', 500000, b"\n")?;
-    let jump = with_run(alloc, ": jmp ", b'a', 500000, b"\n")?;
-    let label = with_run(alloc, ".program p\nnop\n", b'a', 500000, jump.as_slice())?;
+    let name = with_run(alloc, "", b'a', 1000000, b"\n")?;
+    let jump = with_run(alloc, ": jmp ", b'a', 1000000, b"\n")?;
+    let label = with_run(alloc, ".program p\nnop\n", b'a', 1000000, jump.as_slice())?;
     assert!(rt; has_words(alloc, label.as_slice(), &[0xa042, 1], 0, 1));
     let program = with_run(
         alloc,
         ".program p\nnop\n.word ",
         b'a',
-        499999,
+        999999,
         name.as_slice(),
     )?;
     assert!(rt; fault_in(alloc, program.as_slice()) == Some(PioFault::Unknown(3)));
     Ok(())
 }
 
-// 50,000 programs, named by five letters each.
+// 100,000 programs, named by five letters each.
 #[test]
 fn many_programs(rt: HostRuntime) -> Result<(), AllocError> {
     let mut text = Vec::new(rt.alloc());
-    for index in 0..50000u32 {
+    for index in 0..100000u32 {
         text.extend_from_slice(b".program p")?;
         for place in [10000u32, 1000, 100, 10, 1] {
             text.push(b'a' + (index / place % 10) as u8)?;
@@ -130,7 +130,7 @@ fn many_programs(rt: HostRuntime) -> Result<(), AllocError> {
     }
     assert!(rt; fault_in(rt.alloc(), text.as_slice()) == None);
     text.extend_from_slice(b".program paaaaa\nnop\n")?;
-    assert!(rt; fault_in(rt.alloc(), text.as_slice()) == Some(PioFault::Twice(100001)));
+    assert!(rt; fault_in(rt.alloc(), text.as_slice()) == Some(PioFault::Twice(200001)));
     Ok(())
 }
 

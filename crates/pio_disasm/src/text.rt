@@ -11,16 +11,6 @@ use pio_words::{
 };
 use std::alloc::{AllocError, Global};
 
-/// Memory ran out.
-#[derive(Clone, Copy)]
-pub struct Memory;
-
-impl From<AllocError> for Memory {
-    fn from(_error: AllocError) -> Memory {
-        Memory
-    }
-}
-
 fn put_byte(out: &mut Vec<u8>, byte: u8) -> Result<(), AllocError>
     ensures { OnOk result (out.new.items ≡ out.old.items ++ byte ∷ []) }
 {
@@ -288,7 +278,7 @@ fn put_side_set(out: &mut Vec<u8>, side: &SideConfig) -> Result<(), AllocError>
 /// The source of a program of these words under a side-set configuration: `.program code`, the
 /// `.side_set` line where there is a side-set, and one instruction a line. A word that no instruction
 /// stands with is written as `.word`.
-pub fn write_source(alloc: Global, words: &[u16], side: &SideConfig) -> Result<Vec<u8>, Memory>
+pub fn write_source(alloc: Global, words: &[u16], side: &SideConfig) -> Result<Vec<u8>, AllocError>
     ensures { IfOk result (λ text. text.items ≡ source_text side.now words.now) }
 {
     let mut out = Vec::new(alloc);
