@@ -161,6 +161,13 @@ long_held (Some f) file other held long h same m =
     let here = subst (λ (a : Asked). MayGive (Some f) a.name a.limit (TooLong long)) same m in
     let told = rw h at here.1 in omega (arith, here.0, told)
 
+pub alone_comes : (files : Option Files) (failed failed' : List (List ℕ)) (call : Call) (asked : Option Command) → Origin files failed failed' call asked → file_of asked ≡ None → IsStatus call.status (status_of asked [])
+alone_comes files failed failed' call asked (NoFile none same told) h = told_status call _ told
+alone_comes files failed failed' call asked (Failing file wanted lost told) h = no_file (file_of asked) file h wanted
+alone_comes files failed failed' call asked (Large file wanted long gave told) h = no_file (file_of asked) file h wanted
+alone_comes files failed failed' call asked (Judged file wanted bytes gave told) h = no_file (file_of asked) file h wanted
+alone_comes files failed failed' call asked (Empty file wanted told) h = no_file (file_of asked) file h wanted
+
 pub large_comes : (files : Option Files) (failed failed' : List (List ℕ)) (call : Call) (asked : Option Command) (file : Asked) (held : List ℕ) → Origin files failed failed' call asked → Held files failed failed' (file_of asked) file held → file.limit < length held → IsStatus call.status 3
 large_comes files failed failed' call asked file held (NoFile none same told) h long = no_file (file_of asked) file none h.wanted
 large_comes files failed failed' call asked file held (Failing other wanted lost told) h long = not_longer failed failed' other.name lost h.same

@@ -98,7 +98,9 @@ status_of (Some (RunImage run)) bytes = image_status (image_of bytes)
 status_of (Some (Disassemble words side)) bytes = 0
 status_of (Some (Assemble name)) bytes = source_status (plans_of bytes)
 
--- what the file that the shelf holds leads to: 3 where it is too large, else the status of its bytes
+-- the status of a command without a file, and of refused words; and what the file that the shelf holds leads to: 3 where it is too
+-- large, else the status of its bytes
 pub record Comes (files : Option Files) (failed failed' : List (List ℕ)) (asked : Option Command) (status : ℕ) : Type 0 where
+  pub alone : file_of asked ≡ None → IsStatus status (status_of asked [])
   pub large : (file : Asked) (held : List ℕ) → Held files failed failed' (file_of asked) file held → file.limit < length held → IsStatus status 3
   pub fits : (file : Asked) (held : List ℕ) → Held files failed failed' (file_of asked) file held → length held ≤ file.limit → IsStatus status (status_of asked held)

@@ -10,7 +10,7 @@ ghost use Rattle.pico_top.specs.Listing.{plans_of, origin_text, flag_text, wrap_
 use crate::words::{Reading, WordsFault};
 use itoa::Buffer;
 use pio_asm::{Program, assemble};
-use pio_disasm::put_hex;
+use pio_disasm::hex_digits;
 use pio_parse::{PioFault, parse};
 use pio_words::SideConfig;
 use std::alloc::{AllocError, Global};
@@ -110,7 +110,7 @@ fn put_line(program: &Program, out: &mut Vec<u8>) -> Result<(), AllocError>
 fn put_word(word: u16, out: &mut Vec<u8>) -> Result<(), AllocError>
     ensures { OnOk result (out.new.items ≡ out.old.items ++ word_line word) }
 {
-    put_hex(out, word)?;
+    put(&hex_digits(word), out)?;
     put(b"\n", out)
 }
 

@@ -70,6 +70,10 @@ fn programs_are_listed(rt: HostRuntime) -> Result<(), Fail> {
         32,
     )?;
     assert!(rt; gives(alloc, &source, 0, &text)?);
+    // The longest source.
+    let source = repeated(alloc, b".program p\nnop\n", b"\n", 1_048_561)?;
+    let text = b"program p 1 origin - wrap 0 0 side 0 opt 0 pindirs 0\na042\n";
+    assert!(rt; gives(alloc, &source, 0, text)?);
     Ok(())
 }
 

@@ -161,8 +161,8 @@ pub fn pico<F: Shelf, O: Sink>(alloc: Global, words: &[String], files: &mut F, o
     // Status 7 comes only where the sink's count of faults rose.
     ensures sink { result ≡ 7 → Rose (O.faults out.old) (O.faults out.new) }
 
-    // Where the shelf tells the file and no load failed: 3 if it is too large, 4 if it is an image with a fault, 5 if it is
-    // a source with one, and else 0.
+    // 0 for a command without a file. Where the shelf tells the file and no load failed: 3 if it is too large, 4 if it is
+    // an image with a fault, 5 if it is a source with one, and else 0.
     ensures held { Comes (F.files files.old) (F.failed files.old) (F.failed files.new) (reading (map string_bytes words.now)) result }
 {
     converse(alloc, words, files, out)

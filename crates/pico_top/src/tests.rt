@@ -283,6 +283,23 @@ fn words_are_disassembled(rt: HostRuntime) -> Result<(), Fail> {
     assert!(rt; gives(alloc, &words, Vec::new(alloc), 2, b"error words\n")?);
     let words = ["dis", "a04g"];
     assert!(rt; gives(alloc, &words, Vec::new(alloc), 2, b"error words\n")?);
+    let words = ["dis", "a042", "--opt", "1"];
+    let text = b".program code\n.side_set 0 opt\nnop\n";
+    assert!(rt; gives(alloc, &words, Vec::new(alloc), 0, text)?);
+    let words = ["dis", "a042", "--opt", "1", "--opt", "1"];
+    assert!(rt; gives(alloc, &words, Vec::new(alloc), 2, b"error words\n")?);
+    // The most words.
+    let mut digits = String::new(alloc);
+    let mut text = joined(alloc, &[b".program code\n"])?;
+    for _ in 0..32 {
+        digits.push_str("A042")?;
+        text.extend_from_slice(b"nop\n")?;
+    }
+    let words = ["dis", digits.as_str()];
+    assert!(rt; gives(alloc, &words, Vec::new(alloc), 0, &text)?);
+    digits.push_str("a042")?;
+    let words = ["dis", digits.as_str()];
+    assert!(rt; gives(alloc, &words, Vec::new(alloc), 2, b"error words\n")?);
     Ok(())
 }
 

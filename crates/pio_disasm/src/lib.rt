@@ -5,4 +5,4 @@
 mod names;
 mod text;
 
-pub use text::{put_hex, write_source};
+pub use text::{hex_digits, write_source};

@@ -58,14 +58,16 @@ fn digit(value: u16) -> u8
     }
 }
 
-/// Appends a word in four lower-case hexadecimal digits.
-pub fn put_hex(out: &mut Vec<u8>, word: u16) -> Result<(), AllocError>
-    ensures { OnOk result (out.new.items ≡ out.old.items ++ hex_half word) }
+/// A word in four lower-case hexadecimal digits.
+pub fn hex_digits(word: u16) -> [u8; 4]
+    ensures { result ≡ hex_half word }
 {
-    put_byte(out, digit(word / 4096 % 16))?;
-    put_byte(out, digit(word / 256 % 16))?;
-    put_byte(out, digit(word / 16 % 16))?;
-    put_byte(out, digit(word % 16))
+    [
+        digit(word / 4096 % 16),
+        digit(word / 256 % 16),
+        digit(word / 16 % 16),
+        digit(word % 16),
+    ]
 }
 
 fn put_index(out: &mut Vec<u8>, index: IrqIndex) -> Result<(), AllocError>
@@ -231,7 +233,7 @@ fn put_word(out: &mut Vec<u8>, word: u16) -> Result<(), AllocError>
     ensures { OnOk result (out.new.items ≡ out.old.items ++ word_text word) }
 {
     put(out, b".word 0x")?;
-    put_hex(out, word)
+    put(out, &hex_digits(word))
 }
 
 fn put_instruction(

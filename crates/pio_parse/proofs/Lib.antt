@@ -8,4 +8,3 @@ pub mod Finds
 pub mod Trees
 pub mod Faults
 pub mod LoneOperands
-pub mod Modifiers

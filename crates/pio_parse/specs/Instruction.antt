@@ -292,18 +292,16 @@ delay_at text tokens =
     else Ok (None, tokens)
 
 -- a side-set value and a delay, in either order
-abbrev pub modified_at : List ℕ → Operation → List Token → Outcome Instruction
-modified_at text operation tokens =
-    if is_open_bracket (head_kind tokens)
-    then and_then (λ delay. map_ok (λ side. (record { operation = operation; side = side.0; delay = delay.0 }, side.1)) (side_at text delay.1)) (delay_at text tokens)
-    else and_then (λ side. map_ok (λ delay. (record { operation = operation; side = side.0; delay = delay.0 }, delay.1)) (delay_at text side.1)) (side_at text tokens)
-
--- the same without the operation
 abbrev pub modifiers_at : List ℕ → List Token → Outcome (Option (List Term) × Option (List Term))
 modifiers_at text tokens =
     if is_open_bracket (head_kind tokens)
     then and_then (λ delay. map_ok (λ side. ((side.0, delay.0), side.1)) (side_at text delay.1)) (delay_at text tokens)
     else and_then (λ side. map_ok (λ delay. ((side.0, delay.0), delay.1)) (delay_at text side.1)) (side_at text tokens)
+
+-- an operation with the side-set value and the delay that follow it
+abbrev pub modified_at : List ℕ → Operation → List Token → Outcome Instruction
+modified_at text operation tokens =
+    map_ok (λ both. (record { operation = operation; side = both.0.0; delay = both.0.1 }, both.1)) (modifiers_at text tokens)
 
 -- an instruction with its side-set value and its delay, whose first word is `keyword`
 abbrev pub instruction_at : List ℕ → Keyword → List Token → Outcome Instruction

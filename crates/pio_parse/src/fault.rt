@@ -25,16 +25,17 @@ pub enum PioFault {
     /// 7: a delay on this line does not fit.
     #[error("line {0}: the delay does not fit")]
     Delay(u64),
-    /// 8: a side-set on this line does not fit.
+    /// 8: a side-set on this line does not fit, or stands after an instruction.
     #[error("line {0}: the side-set does not fit")]
     Side(u64),
     /// 9: the 33rd instruction is on this line.
     #[error("line {0}: the program has more than 32 instructions")]
     TooLong(u64),
-    /// 10: a wrap on this line has no instruction, or is not the first.
+    /// 10: a wrap on this line has no instruction or is not the first, or the program of this line is
+    /// empty.
     #[error("line {0}: the wrap has no instruction, or is not the first")]
     Wrap(u64),
-    /// 11: an origin on this line does not fit, or is not the first.
+    /// 11: an origin on this line does not fit, is not the first, or stands after an instruction.
     #[error("line {0}: the origin does not fit, or is not the first")]
     Origin(u64),
     /// 12: no run of this many places is free.

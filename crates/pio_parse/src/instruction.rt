@@ -99,7 +99,6 @@ fn read_modifiers(
 }
 
 /// An instruction, whose first word is `keyword`.
-#[tactic(auto, using(crate::proofs::Modifiers::modified_ok, crate::proofs::Modifiers::modified_err))]
 pub(crate) fn read_instruction(
     file: &File,
     keyword: Keyword,

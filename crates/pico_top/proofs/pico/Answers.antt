@@ -1,5 +1,5 @@
 use Rattle.pico_top.proofs.Origins.{origin}
-use Rattle.pico_top.proofs.Causing.{words_only, words_refused, file_only, image_only, source_only, sink_only, large_comes, fits_comes}
+use Rattle.pico_top.proofs.Causing.{words_only, words_refused, file_only, image_only, source_only, sink_only, alone_comes, large_comes, fits_comes}
 use Rattle.pico_top.proofs.pico.Goals as goal
 
 pub returns-clause-words : goal.returns-clause-words
@@ -24,6 +24,7 @@ pub returns-clause-held : goal.returns-clause-held
 returns-clause-held g c =
     let from = origin _ _ _ _ _ c.converse.ensures.text in
     record {
+      alone = λ none. alone_comes _ _ _ _ _ from none;
       large = λ file held h long. large_comes _ _ _ _ _ file held from h long;
       fits = λ file held h fits. fits_comes _ _ _ _ _ file held from h fits;
     }
