@@ -16,7 +16,7 @@ use Rattle.pio_asm.specs.Assembly.{Plan, Assembles}
 use Rattle.pio_asm.specs.declared.program.Program.{Program}
 use Rattle.pico_top.specs.Words.{Run}
 use Rattle.pico_top.specs.Words.Command.{RunImage, Disassemble, Assemble}
-use Rattle.pico_top.specs.Machine.{State, start}
+use Rattle.rp_machine.specs.State.{State, start}
 use Rattle.pico_top.specs.RunText.{run_text}
 use Rattle.pico_top.specs.Listing.{plans_of, listing}
 use Rattle.pico_top.specs.Refusals.{file_line, large_line}

@@ -2,8 +2,6 @@ pub mod Causing
 pub mod Leading
 pub mod OptionSteps
 pub mod Origins
-pub mod Placing
 pub mod Refusing
-pub mod Runs
 pub mod Sources
 pub mod Statuses

@@ -10,7 +10,7 @@ use Rattle.pio_parse.specs.declared.fault.PioFault.{PioFault}
 use Rattle.pio_asm.specs.Assembly.{Plan, ArePrograms}
 use Rattle.pio_asm.specs.declared.program.Program.{Program}
 use Rattle.pio_disasm.specs.Text.{source_text}
-use Rattle.pico_top.specs.Machine.{start}
+use Rattle.rp_machine.specs.State.{start}
 use Rattle.pico_top.specs.RunText.{run_text}
 use Rattle.pico_top.specs.Listing.{plans_of, listing}
 use Rattle.pico_top.specs.Refusals.{words_line, file_line, large_line, image_line, pio_line}

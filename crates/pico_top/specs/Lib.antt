@@ -3,11 +3,9 @@ pub mod Causes
 pub mod Dialogue
 pub mod Dis
 pub mod Listing
-pub mod Machine
 pub mod Numbers
 pub mod Opening
 pub mod Read
 pub mod Refusals
 pub mod RunText
-pub mod Sram
 pub mod Words

@@ -11,7 +11,7 @@ use Rattle.pico_top.specs.declared.open.Opened.TheVariants.{Machine, Text}
 use Rattle.pico_top.specs.declared.open.Refusal.{Refusal}
 use Rattle.pico_top.specs.declared.open.Refusal.TheVariants.{Words, File, Large, Image, Source, Memory}
 use Rattle.pico_top.specs.Answer.{Call, Says, RanOut}
-use Rattle.pico_top.specs.Machine.{start}
+use Rattle.rp_machine.specs.State.{start}
 use Rattle.pico_top.specs.RunText.{run_text}
 use Rattle.pico_top.specs.Refusals.{words_line, file_line, large_line, image_line, pio_line}
 use Rattle.pico_top.specs.Listing.{plans_of, listing}

@@ -2,17 +2,19 @@
 use Rattle.std.specs.Prelude.{ℕ, List, [], ◌++◌, Option, Some, None}
 use Rattle.rp_base.specs.declared.Why.{Why}
 use Rattle.trace_text.specs.Line.{stop_text, register_text}
-use Rattle.m0_beats.specs.Registers.{register_words}
-use Rattle.pico_top.specs.Machine.{State, stop, last_state}
+use Rattle.rp_machine.specs.State.{State}
+use Rattle.rp_machine.specs.Cycle.{stop}
+use Rattle.rp_machine.specs.Readers.{registers_of}
+use Rattle.rp_machine.specs.Run.{last_state}
 
 -- the line of the stop at a cycle
 abbrev pub stop_lines : Option Why → ℕ → List ℕ
 stop_lines None cycle = []
 stop_lines (Some why) cycle = stop_text why cycle
 
--- the lines of both cores; core 1 sleeps
+-- the lines of both cores
 abbrev pub core_lines : State → List ℕ
-core_lines s = register_text 0 (Some (register_words s.core0.regs)) ++ register_text 1 None
+core_lines s = register_text 0 (registers_of 0 s) ++ register_text 1 (registers_of 1 s)
 
 -- the lines of a state at which a run ended
 abbrev pub end_text : ℕ → State → List ℕ

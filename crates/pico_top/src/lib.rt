@@ -3,11 +3,10 @@
 
 mod asm;
 mod dis;
-pub mod machine;
 mod open;
 mod refusal;
+mod run;
 mod send;
-mod sram;
 mod words;
 
 ghost use Rattle.std.specs.Prelude.{◌≡◌, ◌≤◌, None, map};
@@ -22,10 +21,13 @@ ghost use Rattle.pico_top.specs.Refusals.{memory_line};
 
 use open::{Opened, Refusal, Started, open};
 use refusal::{file_fault_line, image_fault_line, large_file_line, pio_fault_line};
+use rp_machine::{Steps, World};
 use rp_ports::shelf::Shelf;
 use rp_ports::sink::Sink;
+use run::run_to_stop;
 use send::{send_end, send_text};
 use std::alloc::Global;
+use std::sync::ledger::Ledger;
 use trace_text::writer::Writer;
 
 /// Puts one line, and answers the status that it goes with, or 7 where the sink fails.
@@ -41,13 +43,17 @@ fn say<O: Sink>(status: u8, line: &[u8], writer: &mut Writer<'_, O>) -> u8
 
 /// Runs a machine and puts the lines of its end.
 #[tactic(auto, unfolding(crate::specs::RunText::run_text))]
-fn run<O: Sink>(started: Started, writer: &mut Writer<'_, O>) -> u8
+fn run<O: Sink, L: Ledger>(
+    started: Started,
+    writer: &mut Writer<'_, O>,
+    steps: &mut Steps<L>,
+) -> u8
     requires { started.machine.cycle ≤ started.limit }
     ensures says { Says record { status = result; before = O.written writer.old.out.now; after = O.written writer.new.out.now; faults_before = O.faults writer.old.out.now; faults_after = O.faults writer.new.out.now } 0 (run_text started.limit started.machine) }
     ensures same_sink { writer.new.out.ghost_name ≡ writer.old.out.ghost_name }
 {
     let Started { mut machine, limit } = started;
-    let why = machine.run(limit);
+    let why = run_to_stop(&mut machine, &World { limit }, steps);
     match send_end(&why, &machine, writer) {
         Ok(()) => 0,
         Err(_) => 7,
@@ -66,13 +72,17 @@ fn list<O: Sink>(text: &[u8], writer: &mut Writer<'_, O>) -> u8
 }
 
 /// Puts the text of what was opened.
-fn tell<O: Sink>(opened: Opened, writer: &mut Writer<'_, O>) -> u8
+fn tell<O: Sink, L: Ledger>(
+    opened: Opened,
+    writer: &mut Writer<'_, O>,
+    steps: &mut Steps<L>,
+) -> u8
     requires { IsReady opened }
     ensures says { Says record { status = result; before = O.written writer.old.out.now; after = O.written writer.new.out.now; faults_before = O.faults writer.old.out.now; faults_after = O.faults writer.new.out.now } 0 (opened_text opened) }
     ensures same_sink { writer.new.out.ghost_name ≡ writer.old.out.ghost_name }
 {
     match opened {
-        Opened::Machine(started) => run(started, writer),
+        Opened::Machine(started) => run(started, writer, steps),
         Opened::Text(text) => list(&text, writer),
     }
 }
@@ -107,12 +117,12 @@ fn refuse<O: Sink>(alloc: Global, refusal: &Refusal, writer: &mut Writer<'_, O>)
 }
 
 /// Puts the text of what was opened into a sink.
-fn tell_into<O: Sink>(opened: Opened, out: &mut O) -> u8
+fn tell_into<O: Sink, L: Ledger>(opened: Opened, out: &mut O, steps: &mut Steps<L>) -> u8
     requires { IsReady opened }
     ensures { Says record { status = result; before = O.written out.old; after = O.written out.new; faults_before = O.faults out.old; faults_after = O.faults out.new } 0 (opened_text opened) }
 {
     let mut writer = Writer { out };
-    tell(opened, &mut writer)
+    tell(opened, &mut writer, steps)
 }
 
 /// Puts the line of a refusal into a sink.
@@ -124,12 +134,18 @@ fn refuse_into<O: Sink>(alloc: Global, refusal: &Refusal, out: &mut O) -> u8
 }
 
 /// Loads the files that the words name, and writes the text.
-fn converse<F: Shelf, O: Sink>(alloc: Global, words: &[String], files: &mut F, out: &mut O) -> u8
+fn converse<F: Shelf, O: Sink, L: Ledger>(
+    alloc: Global,
+    words: &[String],
+    files: &mut F,
+    out: &mut O,
+    steps: &mut Steps<L>,
+) -> u8
     ensures text { Converses (F.files files.old) (F.failed files.old) (F.failed files.new) (map string_bytes words.now) record { status = result; before = O.written out.old; after = O.written out.new; faults_before = O.faults out.old; faults_after = O.faults out.new } }
     ensures kept { F.files files.new ≡ F.files files.old }
 {
     match open(alloc, words, files) {
-        Ok(opened) => tell_into(opened, out),
+        Ok(opened) => tell_into(opened, out, steps),
         Err(refusal) => refuse_into(alloc, &refusal, out),
     }
 }
@@ -138,8 +154,14 @@ fn converse<F: Shelf, O: Sink>(alloc: Global, words: &[String], files: &mut F, o
 ///
 /// The answer is the status: 0 where the text was written, 2 where the words are refused, 3 where a file could not be
 /// loaded or is too large, 4 where the image has a fault, 5 where the PIO source has one, 7 where the sink failed, 9 where
-/// memory ran out. A refusal has its one line, `error ..`, for its text.
-pub fn pico<F: Shelf, O: Sink>(alloc: Global, words: &[String], files: &mut F, out: &mut O) -> u8
+/// memory ran out. A refusal has its one line, `error ..`, for its text. Each cycle of a run counts as one of the `steps`.
+pub fn pico<F: Shelf, O: Sink, L: Ledger>(
+    alloc: Global,
+    words: &[String],
+    files: &mut F,
+    out: &mut O,
+    steps: &mut Steps<L>,
+) -> u8
     // The text of what was asked, written whole; or status 7 and a part of it, where the sink failed; or status 9 and the
     // line of want of memory.
     ensures text { Converses (F.files files.old) (F.failed files.old) (F.failed files.new) (map string_bytes words.now) record { status = result; before = O.written out.old; after = O.written out.new; faults_before = O.faults out.old; faults_after = O.faults out.new } }
@@ -165,7 +187,7 @@ pub fn pico<F: Shelf, O: Sink>(alloc: Global, words: &[String], files: &mut F, o
     // an image with a fault, 5 if it is a source with one, and else 0.
     ensures held { Comes (F.files files.old) (F.failed files.old) (F.failed files.new) (reading (map string_bytes words.now)) result }
 {
-    converse(alloc, words, files, out)
+    converse(alloc, words, files, out, steps)
 }
 
 #[cfg(test)]

@@ -12,10 +12,10 @@ ghost use Rattle.pio_disasm.specs.Text.{source_text};
 
 use crate::asm::{listing, programs_in};
 use crate::dis::DisWords;
-use crate::machine::Machine;
 use crate::words::{Reading, RunWords, WordsFault, read_words};
 use pio_disasm::write_source;
 use pio_parse::PioFault;
+use rp_machine::Machine;
 use rp_ports::shelf::{Loaded, Shelf};
 use std::alloc::Global;
 use uf2_image::{ImageFault, read_image};

@@ -5,9 +5,9 @@ ghost use Rattle.trace_text.specs.Line.{stop_text, register_text};
 ghost use Rattle.trace_text.specs.Sent.{Sends};
 ghost use Rattle.pico_top.specs.RunText.{core_lines};
 
-use crate::machine::Machine;
 use arrayvec::ArrayVec;
 use rp_base::Why;
+use rp_machine::Machine;
 use rp_ports::sink::Sink;
 use trace_text::line::{register_line, stop_line};
 use trace_text::writer::{SinkFault, Writer};
@@ -36,13 +36,13 @@ fn send_registers<O: Sink>(
     writer.line(&line)
 }
 
-/// Puts the lines of both cores; core 1 sleeps.
+/// Puts the lines of both cores.
 fn send_cores<O: Sink>(machine: &Machine, writer: &mut Writer<'_, O>) -> Result<(), SinkFault>
     ensures sends { Sends (O.written writer.old.out.now) (O.written writer.new.out.now) (O.faults writer.old.out.now) (O.faults writer.new.out.now) (core_lines machine.now) result }
     ensures same_sink { writer.new.out.ghost_name ≡ writer.old.out.ghost_name }
 {
-    send_registers(0, Some(machine.registers()), writer)?;
-    send_registers(1, None, writer)
+    send_registers(0, machine.registers(0), writer)?;
+    send_registers(1, machine.registers(1), writer)
 }
 
 /// Puts the lines of a machine at which a run ended.

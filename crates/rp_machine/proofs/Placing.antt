@@ -5,7 +5,7 @@ use Rattle.std.proofs.lemmas.List.FromFn.{map-range_with_len_more}
 use Rattle.std.specs.List.{range_with_len}
 use Rattle.uf2_image.specs.declared.parts.Part.{Part}
 use Rattle.uf2_image.specs.Uf2.{LieFrom}
-use Rattle.pico_top.specs.Sram.{with_part, bytes_with, zeros, word_at}
+use Rattle.rp_machine.specs.Loading.{with_part, bytes_with, zeros, word_at}
 
 -- the parts so far are in place, and the others lie behind some address of SRAM
 pub record Placed (bytes : List ℕ) (parts : List Part) (i : ℕ) : Type 0 where

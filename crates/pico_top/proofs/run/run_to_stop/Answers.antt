@@ -1,6 +1,6 @@
 use Rattle.std.proofs.Common.{◌∙◌, sym}
-use Rattle.pico_top.proofs.Runs.{last_here, step_nearer, step_goes_on}
-use Rattle.pico_top.proofs.machine.Machine.run.Goals as goal
+use Rattle.rp_machine.proofs.Runs.{last_here, step_nearer, step_goes_on}
+use Rattle.pico_top.proofs.run.run_to_stop.Goals as goal
 
 pub returns-in-Some-clause-state : goal.returns-in-Some-clause-state
 returns-in-Some-clause-state c = c.in-Some.ensures.state ∙ sym (last_here _ _ _ (sym c.in-Some.ensures.cause)) ∙ c.loop-why.invariant.1

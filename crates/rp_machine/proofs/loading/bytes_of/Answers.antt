@@ -1,5 +1,5 @@
-use Rattle.pico_top.proofs.Placing.{next_part_inside, placed_next}
-use Rattle.pico_top.proofs.sram.bytes_of.Goals as goal
+use Rattle.rp_machine.proofs.Placing.{next_part_inside, placed_next}
+use Rattle.rp_machine.proofs.loading.bytes_of.Goals as goal
 
 pub put_part-requires-clause-low : goal.put_part-requires-clause-low
 put_part-requires-clause-low c = (next_part_inside _ _ _ _ c.loop-part.invariant.1 c.loop-part-test.true c.part-item.is).0

@@ -1,6 +1,6 @@
 use Rattle.std.proofs.Common.{arith}
-use Rattle.pico_top.proofs.Placing.{words_more}
-use Rattle.pico_top.proofs.sram.first_words.Goals as goal
+use Rattle.rp_machine.proofs.Placing.{words_more}
+use Rattle.rp_machine.proofs.loading.first_words.Goals as goal
 
 pub loop-index-preserved : goal.loop-index-preserved
 loop-index-preserved c =

@@ -1,0 +1,60 @@
+//! What the machine answers a core.
+
+ghost use Rattle.std.specs.Prelude.{◌≡◌};
+ghost use Rattle.rp_base.specs.AddressMap.{place_of};
+ghost use Rattle.rp_machine.specs.Sram.{half_of, ram_word};
+ghost use Rattle.rp_machine.specs.Cycle.{word_in, answer_of};
+
+use lane_look::{Ask, Look};
+use ram_banks::Ram;
+use rp_base::map::{Spot, place};
+
+/// The halfword of a word at an address.
+fn half_at(word: u32, address: u32) -> u16
+    ensures { result ≡ half_of word address }
+{
+    if address / 2 % 2 == 0 {
+        (word % 0x1_0000) as u16
+    } else {
+        (word / 0x1_0000) as u16
+    }
+}
+
+/// The word of SRAM that holds an address. None exactly where the address is not in SRAM.
+pub(crate) fn word_at(ram: &Ram, address: u32) -> Option<u32>
+    ensures { result ≡ ram_word ram.now (place_of address) }
+{
+    match place(address) {
+        Spot::Ram { index, .. } => Some(ram.read(index)),
+        Spot::Reg { .. } | Spot::Sio { .. } | Spot::Ppb { .. } | Spot::Outside => None,
+    }
+}
+
+/// The word of SRAM that holds an address, 0 where there is none.
+fn word_in(ram: &Ram, address: u32) -> u32
+    ensures { result ≡ word_in ram.now address }
+{
+    word_at(ram, address).unwrap_or(0)
+}
+
+/// What a core sees of the state at the start of a cycle.
+#[derive(Drop)]
+pub(crate) struct CoreLook<'a> {
+    /// The core's interrupt lines.
+    pub(crate) lines: u32,
+    /// SRAM.
+    pub(crate) ram: &'a Ram,
+}
+
+impl Look for CoreLook<'_> {
+    ghost answers = { λ old ask answer new. (answer ≡ answer_of old.lines old.ram.now ask) × (new ≡ old) };
+
+    fn ask(&mut self, ask: Ask) -> u128 {
+        match ask {
+            Ask::Lines => u128::from(self.lines),
+            Ask::Half(address) => u128::from(half_at(word_in(self.ram, address), address)),
+            Ask::Word(address) => u128::from(word_in(self.ram, address)),
+            Ask::Pacing | Ask::Inputs | Ask::Outs(_) => 0,
+        }
+    }
+}
