@@ -1,0 +1,11 @@
+pub mod Bits
+pub mod Changes
+pub mod Cycle
+pub mod Divider
+pub mod Launcher
+pub mod Locks
+pub mod Mailbox
+pub mod Pins
+pub mod Side
+pub mod State
+pub mod Words

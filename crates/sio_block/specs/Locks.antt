@@ -1,0 +1,38 @@
+-- The 32 spinlocks (RP2040 Datasheet, 2.3.1.3, Hardware Spinlocks, and 2.3.1.7): a set of the numbers of those that are taken,
+-- as a word whose bit n is that of lock n.
+use Rattle.std.specs.Prelude.{ℕ, ◌-◌, ◌/◌, ◌%◌, ◌^◌, Bool, not, ◌&&◌, ◌==◌, nat_le, if◌then◌else◌, Option, Some, None, bit_or}
+use Rattle.m0_alu.specs.Word.{has_bit}
+use Rattle.sio_block.specs.declared.locks.Locks.{Locks}
+use Rattle.sio_block.specs.Bits.{minus}
+
+abbrev pub locks_at_reset : Locks
+locks_at_reset = record { taken = 0; before = 0 }
+
+-- SPINLOCK0 to SPINLOCK31
+abbrev pub is_lock : ℕ → Bool
+is_lock offset = nat_le 0x100 offset && (nat_le offset 0x17C && offset % 4 == 0)
+
+abbrev pub lock_number : ℕ → ℕ
+lock_number offset = (offset - 0x100) / 4
+
+-- a lock that is free reads as its bit, one that is taken as 0
+abbrev pub lock_word : ℕ → Locks → Option ℕ
+lock_word offset l =
+    if is_lock offset
+    then Some (if has_bit l.taken (lock_number offset) then 0 else 2 ^ lock_number offset)
+    else None
+
+-- a read takes a lock that was free when the cycle began, so a core that read 0 takes none that the other one frees in the
+-- same cycle
+abbrev pub lock_read : ℕ → Locks → Locks
+lock_read offset l =
+    if is_lock offset && not (has_bit l.before (lock_number offset))
+    then record l { taken = bit_or l.taken (2 ^ lock_number offset) }
+    else l
+
+-- a write of any word frees a lock
+abbrev pub lock_written : ℕ → Locks → Locks
+lock_written offset l = if is_lock offset then record l { taken = minus l.taken (2 ^ lock_number offset) } else l
+
+abbrev pub locks_ended : Locks → Locks
+locks_ended l = record l { before = l.taken }

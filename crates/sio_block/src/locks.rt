@@ -1,0 +1,74 @@
+//! The spinlocks.
+
+ghost use Rattle.std.specs.Prelude.{◌≡◌, ◌<◌, true};
+ghost use Rattle.sio_block.specs.Locks.{is_lock, lock_number, lock_word, lock_read, lock_written, locks_ended};
+
+/// The 32 spinlocks, by bits (RP2040 Datasheet, 2.3.1.3).
+#[derive(Clone, Copy)]
+pub struct Locks {
+    /// Those that are taken.
+    pub taken: u32,
+    /// Those that were taken when the cycle began.
+    pub before: u32,
+}
+
+impl Locks {
+    /// SPINLOCK0 to SPINLOCK31: the bit of a lock that is free, 0 for one that is taken.
+    pub(crate) fn read(&self, offset: u16) -> Option<u32>
+        ensures { result ≡ lock_word offset self.now }
+    {
+        if !is_lock(offset) {
+            return None;
+        }
+        let number = lock_number(offset);
+        if (self.taken >> number) & 1 == 1 {
+            Some(0)
+        } else {
+            Some(1 << number)
+        }
+    }
+
+    /// A read takes a lock that was free when the cycle began.
+    pub(crate) fn after_read(&mut self, offset: u16)
+        ensures { self.new ≡ lock_read offset self.old }
+    {
+        if is_lock(offset) {
+            let number = lock_number(offset);
+            if (self.before >> number) & 1 == 0 {
+                self.taken |= 1 << number;
+            }
+        }
+    }
+
+    /// A write frees a lock.
+    pub(crate) fn write(&mut self, offset: u16)
+        ensures { self.new ≡ lock_written offset self.old }
+    {
+        if is_lock(offset) {
+            self.taken &= !(1 << lock_number(offset));
+        }
+    }
+
+    /// Ends a cycle.
+    pub(crate) fn end_cycle(&mut self)
+        ensures { self.new ≡ locks_ended self.old }
+    {
+        self.before = self.taken;
+    }
+}
+
+/// The offset of a lock.
+fn is_lock(offset: u16) -> bool
+    ensures { result ≡ is_lock offset }
+{
+    0x100 <= offset && offset <= 0x17c && offset % 4 == 0
+}
+
+/// The number of the lock at an offset.
+fn lock_number(offset: u16) -> u16
+    requires { is_lock offset ≡ true }
+    ensures value { result ≡ lock_number offset }
+    ensures range { result < 32 }
+{
+    (offset - 0x100) / 4
+}

@@ -1,0 +1,54 @@
+//! The pins that software drives.
+
+ghost use Rattle.std.specs.Prelude.{◌≡◌, ◌≤◌};
+ghost use Rattle.sio_block.specs.Pins.{is_change, pins_word, changed, pins_written};
+
+/// GPIO_OUT and GPIO_OE, of 30 bits (RP2040 Datasheet, 2.3.1.2).
+#[derive(Clone, Copy)]
+pub struct Pins {
+    /// The levels, by pin.
+    pub out: u32,
+    /// Which pins are driven.
+    pub enable: u32,
+}
+
+impl Pins {
+    /// The word at an offset from 010 to 02C.
+    pub(crate) fn read(&self, offset: u16) -> Option<u32>
+        ensures { result ≡ pins_word offset self.now }
+    {
+        match offset {
+            0x10 => Some(self.out),
+            0x20 => Some(self.enable),
+            0x14 | 0x18 | 0x1c | 0x24 | 0x28 | 0x2c => Some(0),
+            _ => None,
+        }
+    }
+
+    /// A write to OUT or OE, or to one of their SET, CLR and XOR words.
+    pub(crate) fn write(&mut self, offset: u16, word: u32)
+        ensures { self.new ≡ pins_written offset word self.old }
+    {
+        let bits = word & 0x3fff_ffff;
+        self.out = changed(0x10, offset, bits, self.out);
+        self.enable = changed(0x20, offset, bits, self.enable);
+    }
+}
+
+/// What a write leaves in the word at `first`, where the SET, CLR and XOR words follow it.
+fn changed(first: u16, offset: u16, bits: u32, old: u32) -> u32
+    requires { first ≤ 0x20 }
+    ensures { result ≡ changed first offset bits old }
+{
+    if offset == first {
+        bits
+    } else if offset == first + 4 {
+        old | bits
+    } else if offset == first + 8 {
+        old & !bits
+    } else if offset == first + 12 {
+        old ^ bits
+    } else {
+        old
+    }
+}

@@ -1,0 +1,123 @@
+//! What each core has for itself: its mailbox and its divider.
+
+ghost use Rattle.std.specs.Prelude.{◌≡◌};
+ghost use Rattle.sio_block.specs.Side.{side_at_reset, status_of, side_word, line_of, status_written, side_written, mailbox_written, side_read, side_ended};
+
+use crate::divider::Divider;
+use crate::fifo::Fifo;
+
+/// The mailbox and the divider of a core (RP2040 Datasheet, 2.3.1.4 and 2.3.1.5).
+#[derive(Drop)]
+pub struct Side {
+    /// The words for the core.
+    pub mailbox: Fifo,
+    /// FIFO_ST.WOF: the core wrote to the other mailbox while it was full.
+    pub write_on_full: bool,
+    /// FIFO_ST.ROE: the core read its mailbox while it was empty.
+    pub read_on_empty: bool,
+    pub divider: Divider,
+}
+
+impl Side {
+    /// A side at reset.
+    pub(crate) fn new() -> Side
+        ensures { result ≡ side_at_reset }
+    {
+        Side {
+            mailbox: Fifo::new(),
+            write_on_full: false,
+            read_on_empty: false,
+            divider: Divider::new(),
+        }
+    }
+
+    /// The word at an offset from 050 to 078, where `other` is the other core's mailbox.
+    pub(crate) fn read(&self, offset: u16, other: &Fifo) -> Option<u32>
+        ensures { result ≡ side_word offset other.now self.now }
+    {
+        match offset {
+            0x50 => Some(self.status(other)),
+            0x54 => Some(0),
+            0x58 => Some(self.mailbox.front()),
+            _ => self.divider.read(offset),
+        }
+    }
+
+    /// FIFO_ST.
+    fn status(&self, other: &Fifo) -> u32
+        ensures { result ≡ status_of other.now self.now }
+    {
+        u32::from(self.mailbox.has_word())
+            + u32::from(other.has_room()) * 2
+            + u32::from(self.write_on_full) * 4
+            + u32::from(self.read_on_empty) * 8
+    }
+
+    /// The interrupt line of the core.
+    pub(crate) fn line(&self) -> bool
+        ensures { result ≡ line_of self.now }
+    {
+        self.mailbox.has_word() || self.write_on_full || self.read_on_empty
+    }
+
+    /// What a read of this core does.
+    pub(crate) fn after_read(&mut self, offset: u16)
+        ensures { self.new ≡ side_read offset self.old }
+    {
+        if offset == 0x58 {
+            if !self.mailbox.had_word() {
+                self.read_on_empty = true;
+            }
+            self.mailbox.take();
+        } else {
+            self.divider.after_read(offset);
+        }
+    }
+
+    /// A write of this core, where `other` is the other core's mailbox.
+    pub(crate) fn write(&mut self, offset: u16, word: u32, other: &mut Fifo)
+        ensures own { self.new ≡ side_written offset word other.old self.old }
+        ensures other { other.new ≡ mailbox_written offset word other.old }
+    {
+        match offset {
+            0x50 => self.write_status(word),
+            0x54 => {
+                if !other.had_room() {
+                    self.write_on_full = true;
+                }
+                other.put(word);
+            }
+            _ => self.divider.write(offset, word),
+        }
+    }
+
+    /// A write to FIFO_ST.
+    fn write_status(&mut self, word: u32)
+        ensures { self.new ≡ status_written word self.old }
+    {
+        if (word >> 2) & 1 == 1 {
+            self.write_on_full = false;
+        }
+        if (word >> 3) & 1 == 1 {
+            self.read_on_empty = false;
+        }
+    }
+
+    /// Ends a cycle.
+    pub(crate) fn end_cycle(&mut self)
+        ensures { self.new ≡ side_ended self.old }
+    {
+        self.mailbox.end_cycle();
+        self.divider.end_cycle();
+    }
+
+    /// Takes the state of another side.
+    pub(crate) fn copy_from(&mut self, other: &Side)
+        ensures { self.new ≡ other.now }
+    {
+        self.mailbox.copy_from(&other.mailbox);
+        self.write_on_full = other.write_on_full;
+        self.read_on_empty = other.read_on_empty;
+        self.divider = other.divider;
+    }
+}
