@@ -1,5 +1,5 @@
 -- The byte lanes of a word on the bus: lane k carries byte k, the least significant being lane 0 (AMBA 3 AHB-Lite Protocol
--- Specification, 6.3 "Data bus width", active byte lanes of a little-endian 32-bit data bus).
+-- Specification, chapter 6 "Data Buses", active byte lanes of a 32-bit little-endian data bus).
 use Rattle.std.specs.Prelude.{ℕ, if◌then◌else◌}
 use Rattle.m0_alu.specs.Word.{has_bit}
 use Rattle.m0_alu.specs.Extend.{byte_of, joined}

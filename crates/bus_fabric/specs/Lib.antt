@@ -1,0 +1,4 @@
+pub mod Grant
+pub mod Laws
+pub mod Masters
+pub mod State

@@ -1,0 +1,25 @@
+-- What the bus fabric keeps from cycle to cycle (RP2040 Datasheet, 2.1.1.1 "Bus Priority", 2.1.3 "APB Bridge" and 2.1.5 "List
+-- of Registers", BUS_PRIORITY).
+use Rattle.std.specs.Prelude.{ℕ, Bool, is_some, bit_and, Option, Some, None}
+use Rattle.rp_base.specs.declared.Master.{Master}
+use Rattle.bus_fabric.specs.declared.Hold.{Hold}
+
+pub record Crossbar : Type 0 where
+  -- the access that lasts on APB, the one port on which accesses last longer than a cycle
+  pub hold : Option Hold
+  -- BUS_PRIORITY
+  pub priority : ℕ
+
+abbrev pub at_reset : Crossbar
+at_reset = record { hold = None; priority = 0 }
+
+abbrev pub has_hold : Crossbar → Bool
+has_hold s = is_some s.hold
+
+abbrev pub holder_of : Option Hold → Option Master
+holder_of None = None
+holder_of (Some hold) = hold.holder
+
+-- BUS_PRIORITY keeps the bits of the four masters
+abbrev pub with_priority : ℕ → Crossbar → Crossbar
+with_priority bits s = record s { priority = bit_and bits 0x1111 }

@@ -1,0 +1,262 @@
+//! The bus fabric: which of the masters' accesses are done in a cycle (RP2040 Datasheet, 2.1 "Bus Fabric").
+#![tactic(auto)]
+
+ghost use Rattle.std.specs.Prelude.{◌≡◌, ◌<◌, false};
+ghost use Rattle.bus_fabric.specs.Masters.{number_of, asks_on, access_of, HavePorts};
+ghost use Rattle.bus_fabric.specs.Grant.{beats, is_high, is_last, is_master, cycles_left, hold_of, kept_holder, shortened};
+
+pub mod laws;
+#[cfg(test)]
+mod tests;
+
+use rp_base::Master;
+use std::marker::Model;
+
+/// The port of APB, the only one on which an access lasts longer than a cycle.
+const APB: u8 = 6;
+
+/// The bits of BUS_PRIORITY, one for each master.
+const PRIORITIES: u32 = 0x1111;
+
+/// An access that lasts: it holds its port.
+#[derive(Clone, Copy)]
+pub struct Hold {
+    /// The master that waits for it; none where that does not ask for it any more.
+    pub holder: Option<Master>,
+    /// In how many cycles it ends, the last of them included.
+    pub left: u8,
+}
+
+/// What the bus fabric keeps from cycle to cycle.
+#[derive(Clone, Copy)]
+pub struct Fabric {
+    hold: Option<Hold>,
+    priority: u32,
+}
+
+impl Model for Fabric {
+    ghost use Rattle.bus_fabric.specs.State.{Crossbar};
+
+    ghost Value = { Crossbar };
+
+    ghost view = { λ fabric. record { hold = fabric.hold; priority = fabric.priority } };
+
+    ghost inverse = { λ s. record { hold = s.hold; priority = s.priority } };
+}
+
+impl Fabric {
+    ghost use Rattle.std.specs.Prelude.{◌≡◌};
+    ghost use Rattle.bus_fabric.specs.Masters.{asks_on, HavePorts};
+    ghost use Rattle.bus_fabric.specs.State.{at_reset, has_hold, holder_of, with_priority};
+    ghost use Rattle.bus_fabric.specs.Grant.{is_high, wins, winner_of, is_served, is_done, done_of, hold_after, after_grant};
+
+    /// No hold, and all masters of low priority.
+    pub fn new() -> Fabric
+        ensures { result ≡ at_reset }
+    {
+        Fabric {
+            hold: None,
+            priority: 0,
+        }
+    }
+
+    /// One cycle: takes for each master the port that it asks for, 0 to 7, and whether it writes, and tells whose access
+    /// is done. The masters stand in the order core 0, core 1, DMA read, DMA write. A master whose access is not done
+    /// asks for it again; one that does not leaves its hold to run out.
+    pub fn grant(&mut self, asked: &[Option<(u8, bool)>; 4]) -> [bool; 4]
+        requires { HavePorts asked.now }
+        ensures done { result ≡ done_of asked.now self.old }
+        ensures after { self.new ≡ after_grant asked.now self.old }
+    {
+        let done = [
+            self.is_done(asked, Master::Core0),
+            self.is_done(asked, Master::Core1),
+            self.is_done(asked, Master::DmaRead),
+            self.is_done(asked, Master::DmaWrite),
+        ];
+        self.hold = self.hold_after(asked);
+        done
+    }
+
+    /// A port has a hold.
+    pub fn holds(&self) -> bool
+        ensures { result ≡ has_hold self.now }
+    {
+        self.hold.is_some()
+    }
+
+    /// The master that waits for the access that lasts, if there is one and it still asks for it.
+    pub fn holder(&self) -> Option<Master>
+        ensures { result ≡ holder_of self.now.hold }
+    {
+        self.hold?.holder
+    }
+
+    /// BUS_PRIORITY.
+    pub fn priority(&self) -> u32
+        ensures { result ≡ self.now.priority }
+    {
+        self.priority
+    }
+
+    /// Sets BUS_PRIORITY: bit 0 core 0, bit 4 core 1, bit 8 the DMA engine's reads, bit 12 its writes; the other bits are
+    /// not kept.
+    pub fn set_priority(&mut self, bits: u32)
+        ensures { self.new ≡ with_priority bits self.old }
+    {
+        self.priority = bits & PRIORITIES;
+    }
+
+    /// The access of a master is done in this cycle.
+    fn is_done(&self, asked: &[Option<(u8, bool)>; 4], master: Master) -> bool
+        ensures { result ≡ is_done asked.now self.now master }
+    {
+        match asked[number(master)] {
+            None => false,
+            Some((APB, _)) => self.is_served(master),
+            Some((port, _)) => self.wins(asked, port, master),
+        }
+    }
+
+    /// The hold ends with the access of a master.
+    fn is_served(&self, master: Master) -> bool
+        ensures { result ≡ is_served self.now.hold master }
+    {
+        match self.hold {
+            Some(hold) => is_last(&hold) && is_master(master, hold.holder),
+            None => false,
+        }
+    }
+
+    /// A master asks for a port, and no other request on it beats its own.
+    fn wins(&self, asked: &[Option<(u8, bool)>; 4], port: u8, master: Master) -> bool
+        ensures { result ≡ wins (is_high self.now.priority) (asks_on asked.now port) master }
+    {
+        asks_on(asked, port, master)
+            && !(asks_on(asked, port, Master::Core0) && beats(self.priority, Master::Core0, master))
+            && !(asks_on(asked, port, Master::Core1) && beats(self.priority, Master::Core1, master))
+            && !(asks_on(asked, port, Master::DmaRead)
+                && beats(self.priority, Master::DmaRead, master))
+            && !(asks_on(asked, port, Master::DmaWrite)
+                && beats(self.priority, Master::DmaWrite, master))
+    }
+
+    /// The winner of a port.
+    fn winner(&self, asked: &[Option<(u8, bool)>; 4], port: u8) -> Option<Master>
+        ensures { result ≡ winner_of (is_high self.now.priority) (asks_on asked.now port) }
+    {
+        if self.wins(asked, port, Master::Core0) {
+            Some(Master::Core0)
+        } else if self.wins(asked, port, Master::Core1) {
+            Some(Master::Core1)
+        } else if self.wins(asked, port, Master::DmaRead) {
+            Some(Master::DmaRead)
+        } else if self.wins(asked, port, Master::DmaWrite) {
+            Some(Master::DmaWrite)
+        } else {
+            None
+        }
+    }
+
+    /// The hold after a cycle.
+    fn hold_after(&self, asked: &[Option<(u8, bool)>; 4]) -> Option<Hold>
+        ensures { result ≡ hold_after asked.now self.now.priority self.now.hold }
+    {
+        match self.hold {
+            None => hold_of(asked, self.winner(asked, APB)),
+            Some(hold) if is_last(&hold) => None,
+            Some(hold) => Some(shortened(asked, hold)),
+        }
+    }
+}
+
+/// The place of a master in their order.
+fn number(master: Master) -> usize
+    ensures value { result ≡ number_of master }
+    ensures four { result < 4 }
+{
+    match master {
+        Master::Core0 => 0,
+        Master::Core1 => 1,
+        Master::DmaRead => 2,
+        Master::DmaWrite => 3,
+    }
+}
+
+/// A master asks for an access on a port.
+fn asks_on(asked: &[Option<(u8, bool)>; 4], port: u8, master: Master) -> bool
+    ensures { result ≡ asks_on asked.now port master }
+{
+    match asked[number(master)] {
+        Some((place, _)) => place == port,
+        None => false,
+    }
+}
+
+/// A master's bit of BUS_PRIORITY.
+fn is_high(priority: u32, master: Master) -> bool
+    ensures { result ≡ is_high priority master }
+{
+    (priority >> (4 * number(master))) & 1 == 1
+}
+
+/// Of two requests on one port the first beats the second.
+fn beats(priority: u32, first: Master, second: Master) -> bool
+    ensures { result ≡ beats (is_high priority) first second }
+{
+    match (is_high(priority, first), is_high(priority, second)) {
+        (true, false) => true,
+        (false, true) => false,
+        _ => number(first) < number(second),
+    }
+}
+
+/// A hold is in its last cycle.
+fn is_last(hold: &Hold) -> bool
+    ensures { result ≡ is_last hold.now }
+{
+    hold.left <= 1
+}
+
+/// A hold is for this master.
+fn is_master(master: Master, holder: Option<Master>) -> bool
+    ensures { result ≡ is_master master holder }
+{
+    match holder {
+        Some(other) => number(master) == number(other),
+        None => false,
+    }
+}
+
+/// The hold that the winner takes.
+fn hold_of(asked: &[Option<(u8, bool)>; 4], winner: Option<Master>) -> Option<Hold>
+    ensures { result ≡ hold_of asked.now winner }
+{
+    let master = winner?;
+    Some(Hold {
+        holder: Some(master),
+        left: cycles_left(asked[number(master)]),
+    })
+}
+
+/// The cycles that are left after the first one of an access.
+fn cycles_left(access: Option<(u8, bool)>) -> u8
+    ensures { result ≡ cycles_left access }
+{
+    match access {
+        Some((_, true)) => 3,
+        Some((_, false)) => 2,
+        None => 0,
+    }
+}
+
+/// A hold that goes on, with a cycle less.
+fn shortened(asked: &[Option<(u8, bool)>; 4], hold: Hold) -> Hold
+    requires { is_last hold ≡ false }
+    ensures { result ≡ shortened (asks_on asked.now APB) hold }
+{
+    Hold {
+        holder: hold.holder.filter(|master| asks_on(asked, APB, *master)),
+        left: hold.left - 1,
+    }
+}
