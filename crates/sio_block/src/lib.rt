@@ -14,6 +14,7 @@ ghost use Rattle.sio_block.specs.Cycle.{after_cycle};
 pub mod divider;
 pub mod fifo;
 mod launcher;
+pub mod laws;
 pub mod locks;
 pub mod pins;
 pub mod side;

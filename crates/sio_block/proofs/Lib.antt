@@ -1,0 +1,3 @@
+mod Division
+mod Handshake
+mod Owner

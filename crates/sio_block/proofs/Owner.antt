@@ -1,0 +1,71 @@
+-- A lock has one owner.
+use Rattle.std.proofs.Common.{◌∙◌, ap, ◌≡◌, ℕ, ◌-◌, ◌*◌, ◌%◌, ◌^◌, ◌<◌, Bool, true, false, refl, arith, rules, Some, None}
+use Rattle.std.specs.Prelude.{bit_or, bit_and, if◌then◌else◌}
+use Rattle.std.specs.Int.{bit_at, w32}
+use Rattle.std.proofs.lemmas.Grind.{common_steps}
+use Rattle.std.proofs.lemmas.Nat.Bits.{bit_at_or, bit_at-pow_same, bit_at_clear_same, bit_at-lt}
+use Rattle.std.proofs.lemmas.Bool.Decides.{nat_tests}
+use Rattle.m0_alu.specs.Word.{has_bit}
+use Rattle.sio_block.specs.declared.locks.Locks.{Locks}
+use Rattle.sio_block.specs.Bits.{minus}
+use Rattle.sio_block.specs.Locks.{is_lock, lock_number, lock_word, lock_read, lock_written}
+use Rattle.sio_block.specs.State.{SioState}
+use Rattle.sio_block.specs.Words.{word_of}
+use Rattle.sio_block.specs.Changes.{effect_of}
+use Rattle.sio_block.specs.Law.{lock_offset, ALockHasOneOwner}
+
+number_of_offset : (n : ℕ) → lock_number (lock_offset n) ≡ n
+number_of_offset n = omega arith
+
+offset_is_lock : (n : ℕ) → n < 32 → is_lock (lock_offset n) ≡ true
+offset_is_lock n h = grind (arith, nat_tests, common_steps)
+
+-- a lock's word, read and written
+word-lock : (core n inputs : ℕ) (s : SioState) → n < 32 → word_of core (lock_offset n) inputs s ≡ lock_word (lock_offset n) s.locks
+word-lock core n inputs s h = grind (arith, nat_tests, common_steps)
+
+read-lock : (core n : ℕ) (s : SioState) → n < 32 → (effect_of core (lock_offset n) None s).locks ≡ lock_read (lock_offset n) s.locks
+read-lock core n s h = grind (arith, nat_tests, common_steps)
+
+write-lock : (core n w : ℕ) (s : SioState) → n < 32 → (effect_of core (lock_offset n) (Some w) s).locks ≡ lock_written (lock_offset n) s.locks
+write-lock core n w s h = grind (arith, nat_tests, common_steps)
+
+word-number : (n : ℕ) (l : Locks) → n < 32 → lock_word (lock_offset n) l ≡ Some (if has_bit l.taken n then 0 else 2 ^ n)
+word-number n l h = rw (offset_is_lock n h, number_of_offset n) refl
+
+read-number : (n : ℕ) (l : Locks) → n < 32 → has_bit l.before n ≡ false → lock_read (lock_offset n) l ≡ record l { taken = bit_or l.taken (2 ^ n) }
+read-number n l h free = rw (offset_is_lock n h, number_of_offset n, free) refl
+
+write-number : (n : ℕ) (l : Locks) → n < 32 → lock_written (lock_offset n) l ≡ record l { taken = minus l.taken (2 ^ n) }
+write-number n l h = rw (offset_is_lock n h, number_of_offset n) refl
+
+-- a bit that is set, and one that is cleared
+set_bit : (x n : ℕ) → has_bit (bit_or x (2 ^ n)) n ≡ true
+set_bit x n =
+    let e : bit_at (bit_or x (2 ^ n)) n ≡ 1 = rw (bit_at_or x (2 ^ n) n, bit_at-pow_same n) (omega (arith, bit_at-lt x n)) in
+    rw e refl
+
+one_shifted : (n : ℕ) → n < 32 → 1 * 2 ^ n % 2 ^ 32 ≡ 2 ^ n
+one_shifted n h = search rules
+
+clear_bit : (x n : ℕ) → n < 32 → has_bit (minus x (2 ^ n)) n ≡ false
+clear_bit x n h =
+    let e : bit_at (bit_and x (2 ^ 32 - 1 - 1 * 2 ^ n % 2 ^ 32)) n ≡ 0 = bit_at_clear_same w32 x n h in
+    let f : bit_at (minus x (2 ^ n)) n ≡ 0 = rw (one_shifted n h) at e in
+    rw f refl
+
+pub a_lock_has_one_owner : ALockHasOneOwner
+a_lock_has_one_owner = λ s n inputs first second w h free before. record {
+  taken = word-lock first n inputs s h ∙ word-number n s.locks h ∙ ap (λ (b : Bool). Some (if b then 0 else 2 ^ n)) free;
+  refused =
+      word-lock second n inputs (effect_of first (lock_offset n) None s) h
+      ∙ ap (lock_word (lock_offset n)) (read-lock first n s h ∙ read-number n s.locks h before)
+      ∙ word-number n (record s.locks { taken = bit_or s.locks.taken (2 ^ n) }) h
+      ∙ ap (λ (b : Bool). Some (if b then 0 else 2 ^ n)) (set_bit s.locks.taken n);
+  freed =
+      let held = effect_of second (lock_offset n) None (effect_of first (lock_offset n) None s) in
+      word-lock second n inputs (effect_of first (lock_offset n) (Some w) held) h
+      ∙ ap (lock_word (lock_offset n)) (write-lock first n w held h ∙ write-number n held.locks h)
+      ∙ word-number n (record held.locks { taken = minus held.locks.taken (2 ^ n) }) h
+      ∙ ap (λ (b : Bool). Some (if b then 0 else 2 ^ n)) (clear_bit held.locks.taken n h);
+}

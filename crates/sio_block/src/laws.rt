@@ -1,0 +1,23 @@
+//! The laws of the block, each the contract of a function without arguments.
+
+ghost use Rattle.sio_block.specs.Law.{ALockHasOneOwner, ResultsAreTruncated, ADivisionTakesEightCycles, SixWordsStartCore1};
+
+/// Of two cores that read a free spinlock in one cycle the first gets it, and the second finds it taken until it is written.
+pub fn a_lock_has_one_owner()
+    ensures { ALockHasOneOwner }
+{}
+
+/// The results of a division are the exact quotient, truncated towards zero, and its remainder.
+pub fn results_are_truncated()
+    ensures { ResultsAreTruncated }
+{}
+
+/// After a write of an operand the old results are read for 7 cycles, and those of the operands from the eighth on.
+pub fn a_division_takes_eight_cycles()
+    ensures { ADivisionTakesEightCycles }
+{}
+
+/// 0, 0, 1, a vector table, a stack pointer and an entry are echoed by the launcher, and start core 1 there.
+pub fn six_words_start_core_1()
+    ensures { SixWordsStartCore1 }
+{}
