@@ -86,7 +86,7 @@ asked b = asked_of b.want0 ∷ asked_of b.want1 ∷ None ∷ None ∷ []
 
 -- which of the masters' accesses are done in this cycle
 unfoldable pub granted : Begun → State → List Bool
-granted b s = fabric.granted s.fabric (asked b)
+granted b s = fabric.done_of (asked b) s.fabric
 
 -- what the bus gives core 0 and core 1
 unfoldable pub first_turn : Begun → State → Turn
@@ -105,7 +105,7 @@ with_turns b first second s = record s {
 }
 
 abbrev pub with_grants : Begun → State → State
-with_grants b s = record s { fabric = fabric.after_grants s.fabric (asked b) }
+with_grants b s = record s { fabric = fabric.after_grant (asked b) s.fabric }
 
 -- every part has stepped
 unfoldable pub stepped : Begun → State → State

@@ -5,7 +5,7 @@ use Rattle.rp_base.specs.declared.Request.{Request}
 use Rattle.rp_base.specs.declared.map.Block.{Block}
 use Rattle.rp_base.specs.declared.map.Block.TheVariants as block
 use Rattle.m0_core.specs.Private.{replicated}
-use Rattle.bus_fabric.specs.State.{Fabric, with_priority}
+use Rattle.bus_fabric.specs.State.{Crossbar, with_priority}
 use Rattle.rp_machine.specs.State.{State}
 
 -- ---- RESETS: RESET has a bit for each of 25 blocks, WDSEL is kept, and RESET_DONE is the complement of RESET
@@ -23,12 +23,12 @@ resets_written offset w resets =
 
 -- ---- BUSCTRL: BUS_PRIORITY, and BUS_PRIORITY_ACK, which reads 1
 
-abbrev pub busctrl_word : Fabric → ℕ → Option ℕ
+abbrev pub busctrl_word : Crossbar → ℕ → Option ℕ
 busctrl_word fabric offset =
     if offset == 0x0 then Some fabric.priority else
     if offset == 0x4 then Some 1 else None
 
-abbrev pub busctrl_written : ℕ → ℕ → Fabric → Fabric
+abbrev pub busctrl_written : ℕ → ℕ → Crossbar → Crossbar
 busctrl_written offset w fabric = if offset == 0x0 then with_priority w fabric else fabric
 
 -- ---- all blocks

@@ -3,7 +3,7 @@ use Rattle.std.specs.Prelude.{ℕ, List, [], ◌∷◌, bit_or}
 use Rattle.uf2_image.specs.declared.parts.Image.{Image}
 use Rattle.m0_core.specs.State.{State as Core}
 use Rattle.m0_core.specs.Start.{sleeping, started}
-use Rattle.bus_fabric.specs.State.{Fabric}
+use Rattle.bus_fabric.specs.State.{Crossbar}
 use Rattle.bus_fabric.specs.State as fabric
 use Rattle.sio_block.specs.State.{SioState}
 use Rattle.sio_block.specs.State as sio
@@ -16,7 +16,7 @@ pub record State : Type 0 where
   pub sram : List ℕ
   pub core0 : Core
   pub core1 : Core
-  pub fabric : Fabric
+  pub fabric : Crossbar
   -- the words RESET and WDSEL (RP2040 Datasheet, 2.14.3)
   pub resets : List ℕ
   pub sio : SioState

@@ -3,6 +3,7 @@
 ghost use Rattle.std.specs.Prelude.{◌≡◌};
 ghost use Rattle.rp_base.specs.AddressMap.{place_of, port_of, IsWithin};
 ghost use Rattle.m0_core.specs.Fetch.{master_of};
+ghost use Rattle.bus_fabric.specs.Masters.{HasPort};
 ghost use Rattle.rp_machine.specs.Sram.{lanes_at};
 ghost use Rattle.rp_machine.specs.Deeds.{is_unbuilt, asked_at, asked_of, is_done_at, is_lock, is_same_word, reads_at, is_late, turn_at, stored_at, StoresInSram};
 
@@ -46,7 +47,9 @@ fn is_unbuilt(place: &Spot) -> bool
 
 /// The port that a request to a place asks for, and whether to write.
 fn asked_at(request: &Request, place: &Spot) -> Option<(u8, bool)>
-    ensures { result ≡ asked_at request.now (port_of place.now) }
+    requires { IsWithin place.now }
+    ensures port { HasPort result }
+    ensures value { result ≡ asked_at request.now (port_of place.now) }
 {
     match port(place) {
         Some(port) => Some((port, request.write.is_some())),
@@ -57,7 +60,8 @@ fn asked_at(request: &Request, place: &Spot) -> Option<(u8, bool)>
 /// The port that a want asks for, and whether to write.
 #[tactic(auto, unfolding(crate::specs::Deeds::asked_of))]
 pub(crate) fn asked_of(want: &Want) -> Option<(u8, bool)>
-    ensures { result ≡ asked_of want.now }
+    ensures port { HasPort result }
+    ensures value { result ≡ asked_of want.now }
 {
     match want {
         Want::Ram(request) | Want::Outward(request) => asked_at(request, &place(request.address)),

@@ -1,6 +1,7 @@
 //! One cycle of the machine.
 
 ghost use Rattle.std.specs.Prelude.{◌≡◌};
+ghost use Rattle.bus_fabric.specs.Masters.{HavePorts};
 ghost use Rattle.rp_machine.specs.Cycle.{earlier, asked};
 
 use crate::access::asked_of;
@@ -29,7 +30,8 @@ pub struct Begun {
 
 /// What the four masters ask of the fabric; the DMA engine asks for nothing.
 fn asked(begun: &Begun) -> [Option<(u8, bool)>; 4]
-    ensures { result ≡ asked begun.now }
+    ensures ports { HavePorts result }
+    ensures value { result ≡ asked begun.now }
 {
     [asked_of(&begun.want0), asked_of(&begun.want1), None, None]
 }

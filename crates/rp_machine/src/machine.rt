@@ -6,6 +6,7 @@ ghost use Rattle.rp_machine.specs.State.{first_core};
 use crate::loading::words_of;
 use crate::look::word_at;
 use bus_fabric::Fabric;
+use lane_look::Lane;
 use m0_core::Core;
 use ram_banks::Ram;
 use sio_block::Sio;
