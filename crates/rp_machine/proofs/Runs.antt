@@ -3,9 +3,8 @@ use Rattle.std.proofs.lemmas.Bool.Decides.{eqb_tells}
 use Rattle.std.proofs.Common.{inl, inr, ◌≢◌, ◌≡◌, ℕ, zero, suc, ◌+◌, ◌-◌, ◌<◌, ◌≤◌, Some, None, refl, sym, ap, arith, ◌∙◌}
 use Rattle.rp_base.specs.declared.Why.{Why}
 use Rattle.rp_machine.specs.State.{State}
-use Rattle.rp_machine.specs.Cycle.{stop, next}
+use Rattle.rp_machine.specs.Cycle.{stop, next, next_by}
 use Rattle.rp_machine.specs.Run.{states, last_state}
-use Rattle.rp_machine.proofs.Counting.{next_cycle}
 
 -- a state with a stop is the last one
 pub states_here : (limit : ℕ) (s : State) (why : Why) (n : ℕ) → stop limit s ≡ Some why → states limit s n ≡ s
@@ -20,6 +19,10 @@ last_here limit s why h = states_here limit s why (limit - s.cycle) h
 pub states_on : (limit : ℕ) (s : State) (n : ℕ) → stop limit s ≡ None → states limit s (suc n) ≡ states limit (next s) n
 unfolding states
 states_on limit s n h = rw h
+
+pub next_cycle : (s : State) → (next s).cycle ≡ s.cycle + 1
+unfolding next next_by
+next_cycle s = refl
 
 -- below the limit a state with no stop has the last state of the next one
 pub last_on : (limit : ℕ) (s : State) → stop limit s ≡ None → s.cycle < limit → last_state limit s ≡ last_state limit (next s)

@@ -1,7 +1,7 @@
 -- One cycle of the machine, on numbers without bound. In a cycle each part begins by the state at the start and names its
 -- accesses; the fabric decides which of them are done; each part steps; then the deeds of the cores come, core 0 first, and
 -- last the writes to SRAM.
-use Rattle.std.specs.Prelude.{ℕ, ◌+◌, ◌*◌, ◌^◌, ◌==◌, Bool, true, false, if◌then◌else◌, List, [], ◌∷◌, Option, Some, None, unwrap_or, slice_index, slice_get}
+use Rattle.std.specs.Prelude.{ℕ, ◌+◌, ◌*◌, ◌^◌, ◌==◌, Bool, true, false, if◌then◌else◌, List, [], ◌∷◌, Option, Some, None, unwrap_or, slice_index_or}
 use Rattle.rp_base.specs.AddressMap.{place_of}
 use Rattle.rp_base.specs.declared.Why.{Why}
 use Rattle.rp_base.specs.declared.Why.TheVariants as why
@@ -90,10 +90,10 @@ granted b s = fabric.done_of (asked b) s.fabric
 
 -- what the bus gives core 0 and core 1
 unfoldable pub first_turn : Begun → State → Turn
-first_turn b s = turn_of 0 b.want0 (slice_index (granted b s) 0) b.want0 s
+first_turn b s = turn_of 0 b.want0 (slice_index_or (granted b s) 0 false) b.want0 s
 
 unfoldable pub second_turn : Begun → State → Turn
-second_turn b s = turn_of 1 b.want0 (slice_index (granted b s) 1) b.want1 s
+second_turn b s = turn_of 1 b.want0 (slice_index_or (granted b s) 1 false) b.want1 s
 
 -- ---- steps
 
@@ -150,7 +150,6 @@ with_stores first second s = record s { sram = stored second (stored first s.sra
 -- SIO ends its cycle, and core 1 knows whether the launcher has a word for it
 unfoldable pub ended : State → State
 ended s = record s {
-  cycle = s.cycle + 1;
   sio = sio_end.after_cycle s.sio;
   core1 = record s.core1 { offer = offers_of (sio_end.after_cycle s.sio) };
 }
@@ -160,14 +159,14 @@ after_deeds first second s = ended (with_stores first second (after_second secon
 
 -- what the wants of core 0 and core 1 come to
 unfoldable pub first_deed : Begun → State → Deed
-first_deed b s = deed_of (slice_index (granted b s) 0) b.want0 s
+first_deed b s = deed_of (slice_index_or (granted b s) 0 false) b.want0 s
 
 unfoldable pub second_deed : Begun → State → Deed
-second_deed b s = deed_of (slice_index (granted b s) 1) b.want1 s
+second_deed b s = deed_of (slice_index_or (granted b s) 1 false) b.want1 s
 
 -- the state after a cycle in which this was begun
 unfoldable pub next_by : Begun → State → State
-next_by b s = after_deeds (first_deed b s) (second_deed b s) (stepped b s)
+next_by b s = record (after_deeds (first_deed b s) (second_deed b s) (stepped b s)) { cycle = s.cycle + 1 }
 
 unfoldable pub next : State → State
 next s = next_by (begun s) s

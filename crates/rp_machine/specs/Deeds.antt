@@ -4,12 +4,9 @@
 use Rattle.std.specs.Prelude.{ℕ, ◌<◌, ◌==◌, ◌&&◌, Bool, true, false, if◌then◌else◌, nat_le, Option, Some, None, is_some, unwrap_or}
 use Rattle.std.specs.Option.{is_none}
 use Rattle.rp_base.specs.AddressMap.{place_of, port_of}
-use Rattle.rp_base.specs.declared.Master.{Master}
-use Rattle.rp_base.specs.declared.Master.TheVariants.{Core0, Core1}
 use Rattle.rp_base.specs.declared.Request.{Request}
 use Rattle.rp_base.specs.declared.Why.{Why}
 use Rattle.rp_base.specs.declared.Why.TheVariants as why
-use Rattle.rp_base.specs.declared.map.Block.{Block}
 use Rattle.rp_base.specs.declared.map.Spot.{Spot}
 use Rattle.rp_base.specs.declared.map.Spot.TheVariants as spot
 use Rattle.lane_look.specs.declared.lane.Want.{Want}

@@ -1,6 +1,6 @@
 -- The words of register blocks: what they read as, and what a write does (RP2040 Datasheet, 2.1.2 "Atomic Register Access",
 -- 2.1.4 "Narrow IO Register Writes", 2.1.5 "List of Registers" of BUSCTRL, 2.14.3 "List of Registers" of RESETS).
-use Rattle.std.specs.Prelude.{ℕ, ◌-◌, ◌%◌, ◌^◌, Bool, true, false, ◌==◌, if◌then◌else◌, List, Option, Some, None, unwrap_or, bit_and, bit_or, bit_xor, slice_index, slice_set}
+use Rattle.std.specs.Prelude.{ℕ, ◌-◌, ◌%◌, ◌^◌, Bool, true, false, ◌==◌, if◌then◌else◌, List, Option, Some, None, bit_and, bit_or, bit_xor, slice_index, slice_set}
 use Rattle.rp_base.specs.declared.Request.{Request}
 use Rattle.rp_base.specs.declared.map.Block.{Block}
 use Rattle.rp_base.specs.declared.map.Block.TheVariants as block

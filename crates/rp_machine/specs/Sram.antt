@@ -1,6 +1,6 @@
 -- What is read of SRAM and written to it: the halfword or the word of an address, and the byte lanes of a narrow write
 -- (RP2040 Datasheet, 2.6.2 "SRAM"; ARMv6-M Architecture Reference Manual, A3.3, little-endian memory).
-use Rattle.std.specs.Prelude.{ℕ, ◌+◌, ◌*◌, ◌/◌, ◌%◌, ◌^◌, ◌==◌, if◌then◌else◌, List, Option, Some, None, slice_index}
+use Rattle.std.specs.Prelude.{ℕ, ◌/◌, ◌%◌, ◌^◌, ◌==◌, if◌then◌else◌, List, Option, Some, None, slice_index}
 use Rattle.rp_base.specs.declared.Size.{Size}
 use Rattle.rp_base.specs.declared.Size.TheVariants as sizes
 use Rattle.rp_base.specs.declared.map.Spot.{Spot}
@@ -18,5 +18,5 @@ ram_word sram _ = None
 -- the byte lanes of an access of that size at an address, lane k as bit k
 abbrev pub lanes_at : Size → ℕ → ℕ
 lanes_at sizes.Byte address = 2 ^ (address % 4)
-lanes_at sizes.Half address = 3 * 2 ^ (address / 2 % 2 * 2)
+lanes_at sizes.Half address = if address / 2 % 2 == 0 then 3 else 12
 lanes_at sizes.Word address = 15

@@ -20,7 +20,8 @@ fn lanes_at(size: Size, address: u32) -> u8
 {
     match size {
         Size::Byte => 1 << (address % 4),
-        Size::Half => 3 << (address / 2 % 2 * 2),
+        Size::Half if address / 2 % 2 == 0 => 3,
+        Size::Half => 12,
         Size::Word => 15,
     }
 }
@@ -121,11 +122,7 @@ fn is_late(core: u8, first: &Want, place: &Spot) -> bool
 fn turn_at(done: bool, word: u32) -> Turn
     ensures { result ≡ turn_at done word }
 {
-    if done {
-        Turn::Done(word)
-    } else {
-        Turn::Wait
-    }
+    if done { Turn::Done(word) } else { Turn::Wait }
 }
 
 /// The write to SRAM of a request to a place, if it is one.
@@ -210,7 +207,10 @@ impl Machine {
             Want::Ram(_) => turn_at(granted, 0),
             Want::Outward(request) => {
                 let place = place(request.address);
-                turn_at(is_done_at(&place, granted), self.told_at(core, first, &place))
+                turn_at(
+                    is_done_at(&place, granted),
+                    self.told_at(core, first, &place),
+                )
             }
             Want::Nothing | Want::Signal | Want::Stopped(_) => Turn::Nothing,
         }

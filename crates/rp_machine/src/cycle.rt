@@ -104,16 +104,22 @@ impl Machine {
     fn cause_in(&self, begun: &Begun) -> Option<Why>
         ensures { result ≡ cause_in begun.now self.now }
     {
-        earlier(self.cause_of(0, &begun.want0), self.cause_of(1, &begun.want1))
+        earlier(
+            self.cause_of(0, &begun.want0),
+            self.cause_of(1, &begun.want1),
+        )
     }
 
-    /// Every part steps: the cores by these turns.
+    /// The cores step by these turns.
+    #[tactic(auto, unfolding(crate::specs::Cycle::with_turns))]
     fn step_parts(&mut self, begun: &Begun, turn0: Turn, turn1: Turn, marks: &mut Marks)
         ensures state { self.new ≡ with_turns begun.now turn0 turn1 self.old }
         ensures marks { marks.new ≡ marks.old }
     {
-        self.core0.finish(&(), &begun.core0, [turn0, Turn::Nothing], marks);
-        self.core1.finish(&(), &begun.core1, [turn1, Turn::Nothing], marks);
+        self.core0
+            .finish(&(), &begun.core0, [turn0, Turn::Nothing], marks);
+        self.core1
+            .finish(&(), &begun.core1, [turn1, Turn::Nothing], marks);
     }
 
     /// SEV sets the event registers of both cores.
@@ -181,12 +187,10 @@ impl Machine {
     /// SIO ends its cycle, and core 1 knows whether the launcher has a word for it.
     #[tactic(auto, unfolding(crate::specs::Cycle::ended))]
     fn end(&mut self)
-        requires { self.old.cycle < 2 ^ 64 - 1 }
         ensures { self.new ≡ ended self.old }
     {
         self.sio.end_cycle();
         self.core1.set_offer(self.sio.offers());
-        self.at += 1;
     }
 
     /// What both deeds do, and the end of the cycle.
@@ -194,7 +198,6 @@ impl Machine {
     fn do_deeds(&mut self, first: &Deed, second: &Deed)
         requires first { StoresInSram first.now }
         requires second { StoresInSram second.now }
-        requires cycle { self.old.cycle < 2 ^ 64 - 1 }
         ensures { self.new ≡ after_deeds first.now second.now self.old }
     {
         self.do_deed(0, first);
@@ -211,6 +214,7 @@ impl Machine {
         ensures state { self.new ≡ next_by begun.now self.old }
         ensures marks { marks.new ≡ marks.old }
     {
+        let at = self.at;
         let mut fabric = self.fabric;
         let [granted0, granted1, _, _] = fabric.grant(&asked(begun));
         let turn0 = self.turn_of(0, &begun.want0, granted0, &begun.want0);
@@ -220,6 +224,7 @@ impl Machine {
         self.fabric = fabric;
         self.step_parts(begun, turn0, turn1, marks);
         self.do_deeds(&deed0, &deed1);
+        self.at = at + 1;
     }
 
     /// Does one cycle, counts it and empties the marks; or changes nothing and names the stop.
