@@ -6,12 +6,17 @@ mod stdout_sink;
 #[cfg(test)]
 mod tests;
 
+ghost use Rattle.std.specs.Prelude.{◌≡◌, ◌<◌};
+
 use file_shelf::FileShelf;
 use pico_top::pico;
+use rp_machine::Steps;
 use std::alloc::{AllocError, Global};
 use std::env;
+use std::marker::Brand;
 use std::process::ExitCode;
-use std::rt::Env;
+use std::rt::{Env, Files};
+use std::sync::ledger::{Blank, Ledger};
 use stdout_sink::StdoutSink;
 
 /// The words after the program's name; none where the system does not give them as text.
@@ -22,12 +27,29 @@ fn words<R: Env + AllocGlobal>(rt: &R) -> Result<Vec<String>, AllocError> {
     }
 }
 
+/// Does what the words say over the real files and standard output, and answers the status. The cycles are counted by a
+/// ledger that nobody reads.
+fn serve<L: Ledger, R: Files + Print>(blank: Blank, rt: &R, alloc: Global, words: &[String]) -> u8
+    requires name { blank.name ≡ L.name }
+    requires parts { blank.parts ≡ L.parts }
+    requires some { 0 < blank.parts }
+{
+    let (book, share) = blank.open::<L>();
+    let mut steps = Steps::new(book, share);
+    let mut files = FileShelf::new(rt, alloc);
+    let mut out = StdoutSink::new(rt);
+    pico(alloc, words, &mut files, &mut out, &mut steps)
+}
+
 fn main(rt: HostRuntime) -> ExitCode {
     let alloc = rt.alloc();
     let Ok(words) = words(&rt) else {
         return ExitCode::from(9);
     };
-    let mut files = FileShelf::new(&rt, alloc);
-    let mut out = StdoutSink::new(&rt);
-    ExitCode::from(pico(alloc, &words, &mut files, &mut out))
+    ExitCode::from(serve::<Brand, HostRuntime>(
+        Blank::new(1),
+        &rt,
+        alloc,
+        &words,
+    ))
 }

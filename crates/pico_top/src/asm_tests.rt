@@ -1,6 +1,6 @@
 //! Worked sources: the listing or the refusal of each, with its status.
 
-use crate::pico;
+use crate::counted::run_words;
 use rp_ports::mem_shelf::{HeldFile, MemShelf};
 use rp_ports::mem_sink::MemSink;
 use std::alloc::{AllocError, Global};
@@ -22,7 +22,7 @@ fn answer(
     let held = vec![in alloc; HeldFile { name, bytes }]?;
     let mut files = MemShelf::new(alloc, held, Vec::new(alloc));
     let mut out = MemSink::new(alloc, failing);
-    let status = pico(alloc, &owned, &mut files, &mut out);
+    let status = run_words(alloc, &owned, &mut files, &mut out);
     Ok((status, out.bytes))
 }
 

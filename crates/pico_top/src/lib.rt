@@ -5,7 +5,7 @@ mod asm;
 mod dis;
 mod open;
 mod refusal;
-mod run;
+mod runner;
 mod send;
 mod words;
 
@@ -24,7 +24,7 @@ use refusal::{file_fault_line, image_fault_line, large_file_line, pio_fault_line
 use rp_machine::{Steps, World};
 use rp_ports::shelf::Shelf;
 use rp_ports::sink::Sink;
-use run::run_to_stop;
+use runner::run_to_stop;
 use send::{send_end, send_text};
 use std::alloc::Global;
 use std::sync::ledger::Ledger;
@@ -192,5 +192,7 @@ pub fn pico<F: Shelf, O: Sink, L: Ledger>(
 
 #[cfg(test)]
 mod asm_tests;
+#[cfg(test)]
+mod counted;
 #[cfg(test)]
 mod tests;

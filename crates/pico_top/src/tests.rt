@@ -2,7 +2,7 @@
 
 ghost use Rattle.std.specs.Prelude.{Some};
 
-use crate::pico;
+use crate::counted::run_words;
 use rp_ports::mem_shelf::{HeldFile, MemShelf};
 use rp_ports::mem_sink::MemSink;
 use rp_ports::sink::{Put, Sink};
@@ -61,7 +61,7 @@ fn gives(
     let words = texts(alloc, words)?;
     let mut files = shelf(alloc, file, Vec::new(alloc))?;
     let mut out = MemSink::new(alloc, Vec::new(alloc));
-    let answer = pico(alloc, &words, &mut files, &mut out);
+    let answer = run_words(alloc, &words, &mut files, &mut out);
     Ok(answer == status && out.bytes.as_slice() == text)
 }
 
@@ -358,15 +358,15 @@ fn a_failing_call_ends_the_text(rt: HostRuntime) -> Result<(), Fail> {
     let words = texts(alloc, &TEN)?;
     let mut files = shelf(alloc, block(alloc, &FIVE)?, Vec::new(alloc))?;
     let mut out = MemSink::new(alloc, vec![in alloc; 2]?);
-    assert_eq!(rt; pico(alloc, &words, &mut files, &mut out), 7);
+    assert_eq!(rt; run_words(alloc, &words, &mut files, &mut out), 7);
     assert!(rt; out.bytes.as_slice() == joined(alloc, &[FIRST, CORE0])?.as_slice());
     let mut files = shelf(alloc, block(alloc, &FIVE)?, vec![in alloc; 0]?)?;
     let mut out = MemSink::new(alloc, Vec::new(alloc));
-    assert_eq!(rt; pico(alloc, &words, &mut files, &mut out), 3);
+    assert_eq!(rt; run_words(alloc, &words, &mut files, &mut out), 3);
     assert!(rt; out.bytes.as_slice() == b"error file a.uf2\n".as_slice());
     let mut files = MemShelf::new(alloc, Vec::new(alloc), Vec::new(alloc));
     let mut out = MemSink::new(alloc, Vec::new(alloc));
-    assert_eq!(rt; pico(alloc, &words, &mut files, &mut out), 3);
+    assert_eq!(rt; run_words(alloc, &words, &mut files, &mut out), 3);
     assert!(rt; out.bytes.as_slice() == b"error file a.uf2\n".as_slice());
     Ok(())
 }
@@ -406,7 +406,7 @@ fn a_text_comes_whole_byte_by_byte(rt: HostRuntime) -> Result<(), Fail> {
         bytes: Vec::new(alloc),
         faults: 0,
     };
-    assert_eq!(rt; pico(alloc, &words, &mut files, &mut out), 0);
+    assert_eq!(rt; run_words(alloc, &words, &mut files, &mut out), 0);
     assert!(rt;
         out.bytes.as_slice() == joined(alloc, &[FIRST, CORE0, b"core1 asleep\n"])?.as_slice()
     );

@@ -51,3 +51,9 @@ step_goes_on limit s t u h e le same =
     let lt = below_limit limit s h le in
     let count : t.cycle ≡ s.cycle + 1 = ap (λ (x : State). x.cycle) e ∙ next_cycle s in
     (omega arith, ap (last_state limit) e ∙ sym (last_on limit s h lt) ∙ same)
+
+-- a count that rises by one with each cycle stays level with the cycles
+pub step_counts : (s t : State) (first before now counted : ℕ) → t ≡ next s → counted ≡ now + 1 → now + first ≡ before + s.cycle → counted + first ≡ before + t.cycle
+step_counts s t first before now counted e count so_far =
+    let cycle : t.cycle ≡ s.cycle + 1 = ap (λ (x : State). x.cycle) e ∙ next_cycle s in
+    omega arith

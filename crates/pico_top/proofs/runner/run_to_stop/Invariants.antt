@@ -1,6 +1,6 @@
 use Rattle.std.proofs.Common.{◌≡◌, ◌≤◌, ◌-◌, ◌+◌}
 use Rattle.rp_machine.specs.Run.{last_state}
-use Rattle.pico_top.proofs.run.run_to_stop.Given as goal
+use Rattle.pico_top.proofs.runner.run_to_stop.Given as goal
 
 -- the run from here ends where the whole run ends, and each cycle so far was counted
 abbrev pub invariant-loop-why : goal.invariant-loop-why

@@ -1,0 +1,37 @@
+//! The top call for tests, with a count of cycles that nobody reads.
+
+ghost use Rattle.std.specs.Prelude.{◌≡◌, ◌<◌};
+
+use crate::pico;
+use rp_machine::Steps;
+use rp_ports::shelf::Shelf;
+use rp_ports::sink::Sink;
+use std::alloc::Global;
+use std::marker::Brand;
+use std::sync::ledger::{Blank, Ledger};
+
+fn counted<F: Shelf, O: Sink, L: Ledger>(
+    blank: Blank,
+    alloc: Global,
+    words: &[String],
+    files: &mut F,
+    out: &mut O,
+) -> u8
+    requires name { blank.name ≡ L.name }
+    requires parts { blank.parts ≡ L.parts }
+    requires some { 0 < blank.parts }
+{
+    let (book, share) = blank.open::<L>();
+    let mut steps = Steps::new(book, share);
+    pico(alloc, words, files, out, &mut steps)
+}
+
+/// What `pico` answers.
+pub fn run_words<F: Shelf, O: Sink>(
+    alloc: Global,
+    words: &[String],
+    files: &mut F,
+    out: &mut O,
+) -> u8 {
+    counted::<F, O, Brand>(Blank::new(1), alloc, words, files, out)
+}
