@@ -1,0 +1,2 @@
+mod Alarms
+mod Count

@@ -1,0 +1,29 @@
+-- One cycle of the timer (RP2040 Datasheet, 4.6.2, Counter, 4.6.3, Alarms, and 4.7.2, Tick Generation).
+use Rattle.std.specs.Prelude.{ℕ, ◌+◌, ◌*◌, ◌%◌, ◌^◌, Bool, not, ◌==◌, ◌&&◌, if◌then◌else◌, bit_or, slice_index}
+use Rattle.m0_alu.specs.Word.{has_bit, bit_number}
+use Rattle.rp_timer.specs.State.{TimerState, low_of}
+use Rattle.rp_timer.specs.Changes.{minus}
+
+-- a microsecond ends with a cycle whose number plus 1 is a multiple of 125
+abbrev pub is_tick : ℕ → Bool
+is_tick cycle = (cycle + 1) % 125 == 0
+
+-- alarm n is armed, and equals the low word of the time
+abbrev pub is_due : ℕ → TimerState → Bool
+is_due n s = has_bit s.armed n && slice_index s.alarms n == low_of s.time
+
+-- the set of the alarms that are due
+abbrev pub due_of : TimerState → ℕ
+due_of s =
+    bit_number (is_due 0 s) + bit_number (is_due 1 s) * 2 + bit_number (is_due 2 s) * 4 + bit_number (is_due 3 s) * 8
+
+-- an alarm that is due sets its interrupt, and is armed no more
+abbrev pub alarmed : TimerState → TimerState
+alarmed s = record s { raised = bit_or s.raised (due_of s); armed = minus s.armed (due_of s) }
+
+-- the time rises by one, and the alarms are compared with the new low word
+abbrev pub risen : TimerState → TimerState
+risen s = alarmed (record s { time = (s.time + 1) % 2 ^ 64 })
+
+abbrev pub after_step : ℕ → TimerState → TimerState
+after_step cycle s = if is_tick cycle && not s.paused then risen s else s
