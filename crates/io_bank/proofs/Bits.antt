@@ -122,7 +122,7 @@ pub bits_below-is : (f : ℕ → Bool) (n x : ℕ) → x < 2 ^ n → ((i : ℕ) 
 bits_below-is f n x h bit =
     same_from_bits_below n x (bits_below f n) h (bits_below-lt f n)
     (λ i lt. same_bit (bit_at x i) (bit_at (bits_below f n) i) (bit_at-lt x i) (bit_at-lt (bits_below f n) i)
-      (bit i lt ∙ sym (bits_below-at f n i lt)))
+    (bit i lt ∙ sym (bits_below-at f n i lt)))
 
 pub bits_below-same : (f g : ℕ → Bool) (n : ℕ) → ((i : ℕ) → i < n → f i ≡ g i) → bits_below f n ≡ bits_below g n
 bits_below-same f g n h =

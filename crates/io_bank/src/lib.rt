@@ -5,7 +5,7 @@
 
 ghost use Rattle.std.specs.Prelude.{◌≡◌, ◌<◌, ◌∷◌, [], slice_index};
 ghost use Rattle.io_bank.specs.State.{at_reset, after_held, with_bank_held, with_pads_held};
-ghost use Rattle.io_bank.specs.Levels.{levels_of, by_list, by_sets, inputs_of, is_used, first_in, receive_pin};
+ghost use Rattle.io_bank.specs.Levels.{levels_of, by_list, by_sets, inputs_of, pins_of, is_used, first_in, receive_pin};
 ghost use Rattle.io_bank.specs.Edges.{edges_of};
 ghost use Rattle.io_bank.specs.Step.{after_step};
 ghost use Rattle.io_bank.specs.Interrupts.{raw_of, line_of};
@@ -19,14 +19,14 @@ mod tests;
 mod words;
 
 use events::{Edges, Events, Interrupts};
+pub use outputs::Outs;
 use routes::Routes;
 use sets::{PINS, driven_by, has_bit, high_by, pins_with};
 use std::marker::Model;
 
-pub use outputs::Outs;
-
 /// The words of CTRL and of a pad at reset: no function; input enable, pull-down and Schmitt trigger.
 const CONTROLS: [u32; 30] = [0x1f; 30];
+
 const PADS: [u32; 30] = [0x56; 30];
 
 /// The registers of IO_BANK0 and PADS_BANK0, and the levels of the pads now and in the two cycles before (RP2040
@@ -133,7 +133,7 @@ impl IoBank {
         ensures levels { result ≡ levels_of outs.now (by_sets driven high) self.old }
         ensures after { self.new ≡ after_step outs.now (by_sets driven high) self.old }
     {
-        let levels = self.routes.levels(outs, driven, high);
+        let levels = self.levels(outs, driven, high);
         let edges = self.edges();
         self.latched = self.latched.joined(edges);
         self.fresh = edges;
@@ -143,6 +143,22 @@ impl IoBank {
         levels
     }
 
+    /// The levels of the pads, where outside drives the pins of a set, and of these drives high those of another one.
+    #[inline]
+    fn levels(&self, outs: &Outs, driven: u32, high: u32) -> u32
+        ensures { result ≡ levels_of outs.now (by_sets driven high) self.now }
+    {
+        self.routes.levels(outs, driven, high)
+    }
+
+    /// The inputs at levels of the pads.
+    #[inline]
+    fn sensed(&self, levels: u32) -> u32
+        ensures { result ≡ inputs_of self.now levels }
+    {
+        self.routes.inputs(levels)
+    }
+
     /// The edges that the next second level makes.
     fn edges(&self) -> Edges
         ensures { result ≡ edges_of self.now }
@@ -150,8 +166,8 @@ impl IoBank {
         if self.bank_held || self.first == self.second {
             return Edges::NONE;
         }
-        let before = self.routes.inputs(self.second);
-        let after = self.routes.inputs(self.first);
+        let before = self.sensed(self.second);
+        let after = self.sensed(self.first);
         let changed = before ^ after;
         Edges {
             low: before & changed,
@@ -170,7 +186,7 @@ impl IoBank {
     pub fn inputs(&self) -> [u32; 2]
         ensures { result ≡ inputs_of self.now self.now.current ∷ inputs_of self.now self.now.second ∷ [] }
     {
-        [self.routes.inputs(self.current), self.routes.inputs(self.second)]
+        [self.sensed(self.current), self.sensed(self.second)]
     }
 
     /// The interrupt lines of core 0 and core 1.
@@ -178,14 +194,18 @@ impl IoBank {
         ensures { result ≡ line_of self.now self.now.core0 ∷ line_of self.now self.now.core1 ∷ [] }
     {
         let raw = self.raw();
-        [self.core0.shown(&raw).is_any(), self.core1.shown(&raw).is_any()]
+        [
+            self.core0.shown(&raw).is_any(),
+            self.core1.shown(&raw).is_any(),
+        ]
     }
 
     /// INTR: the levels of the inputs, and the latched edges.
+    #[tactic(auto, using(crate::proofs::Routed::others))]
     fn raw(&self) -> Events
         ensures { result ≡ raw_of self.now }
     {
-        let high = self.routes.inputs(self.second);
+        let high = self.sensed(self.second);
         Events {
             level_low: PINS ^ high,
             level_high: high,
@@ -198,12 +218,19 @@ impl IoBank {
     pub fn uses(&self, function: u8) -> bool
         ensures { result ≡ is_used function self.now }
     {
-        let pins = match function {
+        self.pins_of(function) != 0
+    }
+
+    /// The pins that have a function.
+    fn pins_of(&self, function: u8) -> u32
+        ensures { result ≡ pins_of function self.now }
+    {
+        match function {
+            2 => self.routes.uart,
             6 => self.routes.pio0,
             7 => self.routes.pio1,
             _ => pins_with(&self.controls, 0, 32, u32::from(function)),
-        };
-        pins != 0
+        }
     }
 
     /// The pin from which a UART receives, the lowest of its RX pins that has function 2. RX is pin 1, 13, 17 or 29 of
@@ -211,7 +238,7 @@ impl IoBank {
     pub fn receives(&self, number: u8) -> Option<u8>
         ensures { result ≡ receive_pin number self.now }
     {
-        let pins = self.routes.uart;
+        let pins = self.pins_of(2);
         if number == 0 {
             first_of(pins, [1, 13, 17, 29])
         } else {

@@ -56,7 +56,6 @@ impl Override {
 
 impl Routes {
     /// What the control words and the pads' registers say.
-    #[tactic(auto, unfolding(crate::specs::Routes::routes_of))]
     pub(crate) fn of(controls: &[u32; 30], pads: &[u32; 30]) -> Routes
         ensures { result ≡ routes_of controls.now pads.now }
     {
@@ -92,12 +91,20 @@ impl Routes {
     pub(crate) fn levels(&self, outs: &Outs, driven: u32, high: u32) -> u32
         ensures { result ≡ routed_levels self.now outs.now driven high }
     {
-        let level = self.out.apply(
-            self.mixed(outs.uart[0], outs.pwm[0], outs.sio[0], outs.pio0[0], outs.pio1[0]),
-        );
-        let enable = self.enable.apply(
-            self.mixed(outs.uart[1], outs.pwm[1], outs.sio[1], outs.pio0[1], outs.pio1[1]),
-        );
+        let level = self.out.apply(self.mixed(
+            outs.uart[0],
+            outs.pwm[0],
+            outs.sio[0],
+            outs.pio0[0],
+            outs.pio1[0],
+        ));
+        let enable = self.enable.apply(self.mixed(
+            outs.uart[1],
+            outs.pwm[1],
+            outs.sio[1],
+            outs.pio0[1],
+            outs.pio1[1],
+        ));
         let outside = self.pulls ^ ((self.pulls ^ high) & driven);
         (outside ^ ((outside ^ level) & (enable & self.drives))) & PINS
     }

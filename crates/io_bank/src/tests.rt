@@ -43,7 +43,10 @@ fn words(rt: HostRuntime) {
     }
     for offset in MISSING {
         assert_eq!(rt; bank.read(offset, &NONE), None, "{offset:x}");
-        assert!(rt; !bank.allows(offset, None) && !bank.effect(offset, Some(0)), "{offset:x}");
+        assert!(rt;
+            !bank.allows(offset, None) && !bank.effect(offset, Some(0)),
+            "{offset:x}"
+        );
     }
     assert_eq!(rt; bank.lines(), [true, true]);
     bank.set_held(true, false);
@@ -61,7 +64,9 @@ fn levels_and_edges(rt: HostRuntime) {
     let mut bank = IoBank::new();
     let mut outs = NONE;
     // pin 3 is SIO's, pin 1 receives for UART0, pin 5 has its pull-up
-    assert!(rt; bank.effect(0x1c, Some(5)) && bank.effect(0xc, Some(2)) && bank.effect(0x1018, Some(0x5a)));
+    assert!(rt;
+        bank.effect(0x1c, Some(5)) && bank.effect(0xc, Some(2)) && bank.effect(0x1018, Some(0x5a))
+    );
     assert_eq!(rt; (bank.receives(0), bank.receives(1)), (Some(1), None));
     assert!(rt; bank.uses(5) && bank.uses(2) && !bank.uses(6) && !bank.uses(7));
     outs.sio = [8, 8];

@@ -1,6 +1,7 @@
 //! The words of IO_BANK0 and, from 1000 on, of PADS_BANK0, by their offsets.
 
 ghost use Rattle.std.specs.Prelude.{◌≡◌, ◌<◌, ◌≤◌, ◌%◌, ◌+◌, ◌*◌, true};
+ghost use Rattle.io_bank.specs.Levels.{level_sensed};
 ghost use Rattle.io_bank.specs.Words.{is_word, is_held, status_of, pin_word, events_at, pad_word, word_at, word_of, pin_written, events_written, pad_written, after_write, effect_of};
 
 use crate::IoBank;
@@ -50,7 +51,11 @@ impl IoBank {
     fn is_held(&self, offset: u16) -> bool
         ensures { result ≡ is_held self.now offset }
     {
-        if offset < 0x1000 { self.bank_held } else { self.pads_held }
+        if offset < 0x1000 {
+            self.bank_held
+        } else {
+            self.pads_held
+        }
     }
 
     /// A word of a block that is not held.
@@ -100,16 +105,24 @@ impl IoBank {
         ensures { result ≡ status_of self.now outs.now pin }
     {
         let control = self.controls[pin as usize];
-        let [levels, enables] = outs.of_function(control % 32);
         let place = u32::from(pin);
-        let (level, enable) = (has_bit(levels, place), has_bit(enables, place));
-        let sensed = has_bit(self.pads[pin as usize], 6) && has_bit(self.current, place);
+        let outputs = outs.of_function(control % 32);
+        let (level, enable) = (has_bit(outputs[0], place), has_bit(outputs[1], place));
+        let sensed = self.is_sensed(pin);
         one(level) * 0x100
             + one(overridden((control >> 8) % 4, level)) * 0x200
             + one(enable) * 0x1000
             + one(overridden((control >> 12) % 4, enable)) * 0x2000
             + one(sensed) * 0x2_0000
             + one(overridden((control >> 16) % 4, sensed)) * 0x8_0000
+    }
+
+    /// A pad is high now, and its input is enabled.
+    fn is_sensed(&self, pin: u16) -> bool
+        requires { pin < 30 }
+        ensures { result ≡ level_sensed self.now self.now.current pin }
+    {
+        has_bit(self.pads[pin as usize], 6) && has_bit(self.current, u32::from(pin))
     }
 
     /// A write of CTRL; STATUS is read-only.
