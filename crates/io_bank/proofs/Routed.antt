@@ -1,5 +1,5 @@
 -- Signals of all pins at once are the signals of each pin.
-use Rattle.std.proofs.Common.{◌≡◌, ℕ, ◌+◌, ◌-◌, ◌*◌, ◌/◌, ◌%◌, ◌^◌, ◌<◌, ◌≤◌, Bool, true, false, not, ◌&&◌, ◌||◌, eqb, refl, ap, sym, subst, ◌∙◌, cond, ◌⊎◌, inl, inr, arith, List, [], ◌∷◌, Option, Some, None}
+use Rattle.std.proofs.Common.{◌≡◌, ℕ, ◌-◌, ◌/◌, ◌%◌, ◌^◌, ◌<◌, Bool, true, false, not, ◌&&◌, ◌||◌, eqb, refl, ap, sym, subst, ◌∙◌, cond, ◌⊎◌, inl, inr, arith, List, [], ◌∷◌, Option, Some, None}
 use Rattle.std.specs.Prelude.{bit_and, bit_or, bit_xor, slice_index, is_some, unwrap_or}
 use Rattle.std.proofs.lemmas.Grind.{common_steps}
 use Rattle.std.proofs.lemmas.Bool.Decides.{nat_tests}
@@ -9,10 +9,9 @@ use Rattle.m0_alu.specs.Word.{has_bit}
 use Rattle.io_bank.specs.declared.outputs.Outs.{Outs}
 use Rattle.io_bank.specs.declared.events.Edges.{Edges}
 use Rattle.io_bank.specs.declared.routes.Override.{Override}
-use Rattle.io_bank.specs.declared.routes.Routes.{Routes}
 use Rattle.io_bank.specs.Pins.{bits_below, pins_where, field, overridden}
 use Rattle.io_bank.specs.State.{Bank, no_edges}
-use Rattle.io_bank.specs.Levels.{peripheral, function_of, level_from, level_to, enable_from, enable_to, level_outside, pad_level, levels_of, by_sets, level_sensed, input_of, inputs_of, by_list, pins_of}
+use Rattle.io_bank.specs.Levels.{peripheral, function_of, level_to, enable_to, level_outside, pad_level, levels_of, by_sets, level_sensed, input_of, inputs_of, by_list}
 use Rattle.io_bank.specs.Edges.{falling, rising, edges_of}
 use Rattle.io_bank.specs.Routes.{pins_with, override_of, routes_of, routed_override, routed_mix, routed_part, chosen, routed_levels, routed_inputs}
 use Rattle.io_bank.proofs.Bits.{differ, has_and, has_or, has_xor, has_ones, bits_below-lt, bits_below-at, bits_below-is, bits_below-same}

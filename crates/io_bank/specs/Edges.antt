@@ -1,7 +1,7 @@
 -- The edges that a step latches (RP2040 Datasheet, 2.19.3, Interrupts).
-use Rattle.std.specs.Prelude.{ℕ, Bool, not, ◌&&◌, if◌then◌else◌, bit_or}
+use Rattle.std.specs.Prelude.{ℕ, not, ◌&&◌, if◌then◌else◌, bit_or}
 use Rattle.io_bank.specs.declared.events.Edges.{Edges}
-use Rattle.io_bank.specs.Pins.{bits_below, pins_where}
+use Rattle.io_bank.specs.Pins.{pins_where}
 use Rattle.io_bank.specs.State.{Bank, no_edges}
 use Rattle.io_bank.specs.Levels.{input_of}
 

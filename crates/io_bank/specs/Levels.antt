@@ -1,9 +1,9 @@
 -- The levels of the pads, pin by pin, and what the parts of the chip see of them (RP2040 Datasheet, 1.4.3, GPIO
 -- functions, 2.19.2, Function Select, 2.19.4, Pads, and 2.19.6.1, GPIO0_STATUS and GPIO0_CTRL).
-use Rattle.std.specs.Prelude.{ℕ, ◌+◌, ◌*◌, ◌/◌, ◌%◌, ◌^◌, Bool, true, false, not, ◌&&◌, ◌==◌, if◌then◌else◌, List, [], ◌∷◌, Option, Some, None, slice_index, slice_index_or}
-use Rattle.m0_alu.specs.Word.{has_bit}
+use Rattle.std.specs.Prelude.{ℕ, ◌+◌, ◌*◌, ◌^◌, Bool, true, not, ◌&&◌, ◌==◌, if◌then◌else◌, List, [], ◌∷◌, Option, Some, None, slice_index, slice_index_or}
+use Rattle.m0_alu.specs.Word.{has_bit, bit_number}
 use Rattle.io_bank.specs.declared.outputs.Outs.{Outs}
-use Rattle.io_bank.specs.Pins.{bits_below, pins_where, field, overridden}
+use Rattle.io_bank.specs.Pins.{pins_where, field, overridden}
 use Rattle.io_bank.specs.State.{Bank}
 
 -- ---- a pin's control words
@@ -111,10 +111,32 @@ abbrev pub first_in : ℕ → List ℕ → Option ℕ
 first_in set [] = None
 first_in set (pin ∷ pins) = if has_bit set pin then Some pin else first_in set pins
 
--- the pins of TX are 0, 12, 16 and 28 for UART0 and 4, 8, 20 and 24 for UART1, and RX is the pin after each
+-- the pins of TX for each UART, and the pin of RX after each
+abbrev pub transmit_pins : ℕ → List ℕ
+transmit_pins number = if number == 0 then (0 ∷ 12 ∷ 16 ∷ 28 ∷ []) else (4 ∷ 8 ∷ 20 ∷ 24 ∷ [])
+
 abbrev pub receive_pins : ℕ → List ℕ
 receive_pins number = if number == 0 then (1 ∷ 13 ∷ 17 ∷ 29 ∷ []) else (5 ∷ 9 ∷ 21 ∷ 25 ∷ [])
+
+-- the set of some pins
+abbrev pub set_of : List ℕ → ℕ
+set_of [] = 0
+set_of (pin ∷ pins) = 2 ^ pin + set_of pins
+
+-- what both UARTs put out: the levels of TX at their pins, where alone their enables are on
+abbrev pub uart_outputs : Bool → Bool → List ℕ
+uart_outputs first second =
+    (bit_number first * set_of (transmit_pins 0) + bit_number second * set_of (transmit_pins 1))
+    ∷ (set_of (transmit_pins 0) + set_of (transmit_pins 1)) ∷ []
 
 -- a UART receives from the lowest of its RX pins that has its function
 abbrev pub receive_pin : ℕ → Bank → Option ℕ
 receive_pin number s = first_in (pins_of 2 s) (receive_pins number)
+
+-- it sees the second level there; without such a pin its line is high
+abbrev pub level_at : Bank → Option ℕ → Bool
+level_at s None = true
+level_at s (Some pin) = has_bit (inputs_of s s.second) pin
+
+abbrev pub receive_level : ℕ → Bank → Bool
+receive_level number s = level_at s (receive_pin number s)

@@ -1,10 +1,10 @@
 -- What the control words of all pins say, as sets of pins. These sets are kept beside the words, so that a step treats all
 -- pins at once; nothing of them is told outside.
-use Rattle.std.specs.Prelude.{ℕ, ◌-◌, ◌/◌, ◌%◌, ◌^◌, ◌==◌, List, bit_and, bit_or, bit_xor, slice_index}
+use Rattle.std.specs.Prelude.{ℕ, ◌-◌, ◌^◌, ◌==◌, List, bit_and, bit_or, bit_xor, slice_index}
 use Rattle.io_bank.specs.declared.outputs.Outs.{Outs}
 use Rattle.io_bank.specs.declared.routes.Override.{Override}
 use Rattle.io_bank.specs.declared.routes.Routes.{Routes}
-use Rattle.io_bank.specs.Pins.{bits_below, pins_where, field}
+use Rattle.io_bank.specs.Pins.{pins_where, field}
 
 -- the pins whose word has a value in some of its bits
 abbrev pub pins_with : List ℕ → ℕ → ℕ → ℕ → ℕ

@@ -3,9 +3,9 @@
 //! treats all pins at once, by sets that it keeps beside the control words.
 #![tactic(auto)]
 
-ghost use Rattle.std.specs.Prelude.{◌≡◌, ◌<◌, ◌∷◌, [], slice_index};
+ghost use Rattle.std.specs.Prelude.{◌≡◌, ◌<◌, ◌∷◌, [], IfSome, slice_index};
 ghost use Rattle.io_bank.specs.State.{at_reset, after_held, with_bank_held, with_pads_held};
-ghost use Rattle.io_bank.specs.Levels.{levels_of, by_list, by_sets, inputs_of, pins_of, is_used, first_in, receive_pin};
+ghost use Rattle.io_bank.specs.Levels.{levels_of, by_list, by_sets, inputs_of, pins_of, is_used, first_in, receive_pin, receive_level};
 ghost use Rattle.io_bank.specs.Edges.{edges_of};
 ghost use Rattle.io_bank.specs.Step.{after_step};
 ghost use Rattle.io_bank.specs.Interrupts.{raw_of, line_of};
@@ -19,7 +19,7 @@ mod tests;
 mod words;
 
 use events::{Edges, Events, Interrupts};
-pub use outputs::Outs;
+pub use outputs::{Outs, uart_outputs};
 use routes::Routes;
 use sets::{PINS, driven_by, has_bit, high_by, pins_with};
 use std::marker::Model;
@@ -233,16 +233,27 @@ impl IoBank {
         }
     }
 
-    /// The pin from which a UART receives, the lowest of its RX pins that has function 2. RX is pin 1, 13, 17 or 29 of
-    /// UART0, and 5, 9, 21 or 25 of UART1.
+    /// The pin from which UART 0 or 1 receives, the lowest of its RX pins that has function 2. RX is pin 1, 13, 17 or 29
+    /// of UART0, and 5, 9, 21 or 25 of UART1 (any other number stands for it).
     pub fn receives(&self, number: u8) -> Option<u8>
-        ensures { result ≡ receive_pin number self.now }
+        ensures value { result ≡ receive_pin number self.now }
+        ensures pin { IfSome result (λ pin. pin < 30) }
     {
         let pins = self.pins_of(2);
         if number == 0 {
             first_of(pins, [1, 13, 17, 29])
         } else {
             first_of(pins, [5, 9, 21, 25])
+        }
+    }
+
+    /// The level that UART 0 or 1 receives: the second level under IE and INOVER at that pin, and high without one.
+    pub fn receive_level(&self, number: u8) -> bool
+        ensures { result ≡ receive_level number self.now }
+    {
+        match self.receives(number) {
+            Some(pin) => has_bit(self.sensed(self.second), u32::from(pin)),
+            None => true,
         }
     }
 
@@ -283,11 +294,12 @@ impl IoBank {
 
 /// The first of four pins that is in a set.
 fn first_of(set: u32, pins: [u8; 4]) -> Option<u8>
-    requires pin0 { slice_index pins 0 < 32 }
-    requires pin1 { slice_index pins 1 < 32 }
-    requires pin2 { slice_index pins 2 < 32 }
-    requires pin3 { slice_index pins 3 < 32 }
-    ensures { result ≡ first_in set pins }
+    requires pin0 { slice_index pins 0 < 30 }
+    requires pin1 { slice_index pins 1 < 30 }
+    requires pin2 { slice_index pins 2 < 30 }
+    requires pin3 { slice_index pins 3 < 30 }
+    ensures value { result ≡ first_in set pins }
+    ensures pin { IfSome result (λ pin. pin < 30) }
 {
     let [pin0, pin1, pin2, pin3] = pins;
     if has_bit(set, u32::from(pin0)) {

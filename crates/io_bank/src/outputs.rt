@@ -1,7 +1,7 @@
 //! What the parts of the chip put out on the pins.
 
 ghost use Rattle.std.specs.Prelude.{◌≡◌};
-ghost use Rattle.io_bank.specs.Levels.{peripheral};
+ghost use Rattle.io_bank.specs.Levels.{peripheral, uart_outputs};
 
 /// The outputs of the parts that a pin can have as its function: for each the levels by pin, and then the enables by pin
 /// (RP2040 Datasheet, 1.4.3, GPIO functions). `uart` is one pair for both UARTs, whose enables are on at their TX pins
@@ -34,4 +34,18 @@ impl Outs {
             _ => [0, 0],
         }
     }
+}
+
+/// The pair of both UARTs, by the levels of their TX: pins 0, 12, 16 and 28 are UART0's, and 4, 8, 20 and 24 UART1's.
+pub fn uart_outputs(first: bool, second: bool) -> [u32; 2]
+    ensures { result ≡ uart_outputs first second }
+{
+    let mut levels = 0;
+    if first {
+        levels += 0x1001_1001;
+    }
+    if second {
+        levels += 0x0110_0110;
+    }
+    [levels, 0x1111_1111]
 }

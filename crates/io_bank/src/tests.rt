@@ -1,6 +1,6 @@
 //! Words as the datasheet gives them, and runs of the pads.
 
-use crate::{IoBank, Outs};
+use crate::{IoBank, Outs, uart_outputs};
 
 /// Offsets, what is written there, and what is read after.
 const WORDS: [(u16, u32, u32); 16] = [
@@ -69,6 +69,11 @@ fn levels_and_edges(rt: HostRuntime) {
     );
     assert_eq!(rt; (bank.receives(0), bank.receives(1)), (Some(1), None));
     assert!(rt; bank.uses(5) && bank.uses(2) && !bank.uses(6) && !bank.uses(7));
+    assert_eq!(rt;
+        (bank.receive_level(0), bank.receive_level(1)),
+        (false, true)
+    );
+    assert_eq!(rt; uart_outputs(true, false), [0x1001_1001, 0x1111_1111]);
     outs.sio = [8, 8];
     let mut script = [None; 30];
     assert_eq!(rt; bank.step(&outs, &script), 0x28);
