@@ -1,0 +1,416 @@
+-- Signals of all pins at once are the signals of each pin.
+use Rattle.std.proofs.Common.{◌≡◌, ℕ, ◌-◌, ◌/◌, ◌%◌, ◌^◌, ◌<◌, Bool, true, false, not, ◌&&◌, ◌||◌, eqb, refl, ap, sym, subst, ◌∙◌, cond, ◌⊎◌, inl, inr, arith, List, [], ◌∷◌, Option, Some, None}
+use Rattle.std.specs.Prelude.{bit_and, bit_or, bit_xor, slice_index, is_some, unwrap_or}
+use Rattle.std.proofs.lemmas.Grind.{common_steps}
+use Rattle.std.proofs.lemmas.Bool.Decides.{nat_tests}
+use Rattle.std.proofs.lemmas.Nat.{and_le_r, and_le_l, or_lt, xor_lt, pow_pos}
+use Rattle.std.proofs.lemmas.Nat.Bits.{bit_at-zero}
+use Rattle.m0_alu.specs.Word.{has_bit}
+use Rattle.io_bank.specs.declared.outputs.Outs.{Outs}
+use Rattle.io_bank.specs.declared.events.Edges.{Edges}
+use Rattle.io_bank.specs.declared.routes.Override.{Override}
+use Rattle.io_bank.specs.Pins.{bits_below, pins_where, field, overridden}
+use Rattle.io_bank.specs.State.{Bank, no_edges}
+use Rattle.io_bank.specs.Levels.{peripheral, function_of, level_to, enable_to, level_outside, pad_level, levels_of, by_sets, level_sensed, input_of, inputs_of, by_list}
+use Rattle.io_bank.specs.Edges.{falling, rising, edges_of}
+use Rattle.io_bank.specs.Routes.{pins_with, override_of, routes_of, routed_override, routed_mix, routed_part, chosen, routed_levels, routed_inputs}
+use Rattle.io_bank.proofs.Bits.{differ, has_and, has_or, has_xor, has_ones, bits_below-lt, bits_below-at, bits_below-is, bits_below-same}
+
+-- ---- laws of Bool
+
+over-is : (way : ℕ) (b : Bool) → ((differ b (eqb way 1) && (eqb way 0 || eqb way 1)) || eqb way 3) ≡ overridden way b
+over-is way true = grind (arith, nat_tests)
+over-is way false = grind (arith, nat_tests)
+
+chosen-is : (a b s : Bool) → differ a (differ a b && s) ≡ cond s b a
+chosen-is true true true = refl
+chosen-is true true false = refl
+chosen-is true false true = refl
+chosen-is true false false = refl
+chosen-is false true true = refl
+chosen-is false true false = refl
+chosen-is false false true = refl
+chosen-is false false false = refl
+
+and_comm_bool : (a b : Bool) → (a && b) ≡ (b && a)
+and_comm_bool true true = refl
+and_comm_bool true false = refl
+and_comm_bool false true = refl
+and_comm_bool false false = refl
+
+fall-is : (a b : Bool) → (a && differ a b) ≡ (a && not b)
+fall-is true b = refl
+fall-is false b = refl
+
+rise-is : (a b : Bool) → (b && differ a b) ≡ (not a && b)
+rise-is true true = refl
+rise-is true false = refl
+rise-is false true = refl
+rise-is false false = refl
+
+nor-self : (a : Bool) → (a && not a) ≡ false
+nor-self true = refl
+nor-self false = refl
+
+not-and_self : (a : Bool) → (not a && a) ≡ false
+not-and_self true = refl
+not-and_self false = refl
+
+ap-cond : {A B : Type 0} (g : A → B) (b : Bool) (x y : A) → cond b (g x) (g y) ≡ g (cond b x y)
+ap-cond g true x y = refl
+ap-cond g false x y = refl
+
+and_true : (a : Bool) → (a && true) ≡ a
+and_true true = refl
+and_true false = refl
+
+and_false : (a : Bool) → (a && false) ≡ false
+and_false true = refl
+and_false false = refl
+
+or_false : (a : Bool) → (a || false) ≡ a
+or_false true = refl
+or_false false = refl
+
+disabled-is : (n : ℕ) → eqb (n % 2) 0 ≡ not (eqb (n % 2) 1)
+disabled-is n = grind (arith, nat_tests)
+
+below_two : (k : ℕ) → k < 2 → (k ≡ 0) ⊎ (k ≡ 1)
+below_two k h = grind arith
+
+-- ---- the part of a pin's function
+
+abbrev picked : ℕ → Bool → Bool → Bool → Bool → Bool → Bool
+picked f a b c d e =
+    cond (eqb f 2) a (cond (eqb f 4) b (cond (eqb f 5) c (cond (eqb f 6) d (cond (eqb f 7) e false))))
+
+mix-is : (f : ℕ) (a b c d e : Bool) →
+    (((((a && eqb f 2) || (b && eqb f 4)) || (c && eqb f 5)) || (d && eqb f 6)) || (e && eqb f 7)) ≡ picked f a b c d e
+mix-is f a b c d e = grind (arith, nat_tests, and_true, and_false, or_false)
+
+cond-of : {A B : Type 0} (g : A → B) (b : Bool) (x y : A) (z : B) → z ≡ g y → cond b (g x) z ≡ g (cond b x y)
+cond-of g true x y z h = refl
+cond-of g false x y z h = h
+
+picked-is : (outs : Outs) (g : List ℕ → Bool) (f : ℕ) → g (0 ∷ 0 ∷ []) ≡ false →
+    picked f (g outs.uart) (g outs.pwm) (g outs.sio) (g outs.pio0) (g outs.pio1) ≡ g (peripheral outs f)
+picked-is outs g f none =
+    cond-of g (eqb f 2) outs.uart _ _ (cond-of g (eqb f 4) outs.pwm _ _ (cond-of g (eqb f 5) outs.sio _ _
+    (cond-of g (eqb f 6) outs.pio0 _ _ (cond-of g (eqb f 7) outs.pio1 (0 ∷ 0 ∷ []) false (sym none)))))
+
+no-bit : (i : ℕ) → has_bit 0 i ≡ false
+no-bit i = ap (λ n. eqb n 1) (bit_at-zero i)
+
+none-of : (i k : ℕ) → k < 2 → has_bit (slice_index (0 ∷ 0 ∷ []) k) i ≡ false
+none-of i k h =
+    elim (below_two k h) [
+      | inl zero_is ↦ subst (λ n. has_bit (slice_index (0 ∷ 0 ∷ []) n) i ≡ false) (sym zero_is) (no-bit i)
+      | inr one_is ↦ subst (λ n. has_bit (slice_index (0 ∷ 0 ∷ []) n) i ≡ false) (sym one_is) (no-bit i)
+    ]
+
+-- ---- each operation at a pin
+
+override-at : (o : Override) (x i : ℕ) → has_bit (routed_override o x) i ≡
+    ((differ (has_bit x i) (has_bit o.flips i) && has_bit o.passes i) || has_bit o.sets i)
+override-at o x i =
+    has_or (bit_and (bit_xor x o.flips) o.passes) o.sets i
+    ∙ ap (λ b. b || has_bit o.sets i) (has_and (bit_xor x o.flips) o.passes i ∙ ap (λ b. b && has_bit o.passes i) (has_xor x o.flips i))
+
+-- the bits of a set of pins with a value
+with-at : (words : List ℕ) (low count value i : ℕ) → i < 30 →
+    has_bit (pins_with words low count value) i ≡ eqb (field (slice_index words i) low count) value
+with-at words low count value i h = bits_below-at (λ pin. eqb (field (slice_index words pin) low count) value) 30 i h
+
+passes-at : (controls : List ℕ) (low i : ℕ) → i < 30 → has_bit (override_of controls low).passes i ≡
+    (eqb (field (slice_index controls i) low 2) 0 || eqb (field (slice_index controls i) low 2) 1)
+passes-at controls low i h =
+    has_or (pins_with controls low 2 0) (pins_with controls low 2 1) i
+    ∙ ap (λ b. b || has_bit (pins_with controls low 2 1) i) (with-at controls low 2 0 i h)
+    ∙ ap (λ b. eqb (field (slice_index controls i) low 2) 0 || b) (with-at controls low 2 1 i h)
+
+overridden-at : (controls : List ℕ) (low x i : ℕ) → i < 30 →
+    has_bit (routed_override (override_of controls low) x) i ≡ overridden (field (slice_index controls i) low 2) (has_bit x i)
+overridden-at controls low x i h =
+    let way : ℕ = field (slice_index controls i) low 2 in
+    override-at (override_of controls low) x i
+    ∙ ap (λ b. (differ (has_bit x i) b && has_bit (override_of controls low).passes i) || has_bit (override_of controls low).sets i)
+    (with-at controls low 2 1 i h)
+    ∙ ap (λ b. (differ (has_bit x i) (eqb way 1) && b) || has_bit (override_of controls low).sets i) (passes-at controls low i h)
+    ∙ ap (λ b. (differ (has_bit x i) (eqb way 1) && (eqb way 0 || eqb way 1)) || b) (with-at controls low 2 3 i h)
+    ∙ over-is way (has_bit x i)
+
+chosen-at : (outside inside set i : ℕ) → has_bit (chosen outside inside set) i ≡
+    cond (has_bit set i) (has_bit inside i) (has_bit outside i)
+chosen-at outside inside set i =
+    has_xor outside (bit_and (bit_xor outside inside) set) i
+    ∙ ap (λ b. differ (has_bit outside i) b)
+    (has_and (bit_xor outside inside) set i ∙ ap (λ b. b && has_bit set i) (has_xor outside inside i))
+    ∙ chosen-is (has_bit outside i) (has_bit inside i) (has_bit set i)
+
+-- a part of a mix at a pin
+part-at : (a : ℕ) (controls : List ℕ) (value i : ℕ) → i < 30 → has_bit (bit_and a (pins_with controls 0 5 value)) i ≡
+    (has_bit a i && eqb (function_of (slice_index controls i)) value)
+part-at a controls value i h =
+    has_and a (pins_with controls 0 5 value) i ∙ ap (λ b. has_bit a i && b) (with-at controls 0 5 value i h)
+
+or-at : (a b i : ℕ) (x y : Bool) → has_bit a i ≡ x → has_bit b i ≡ y → has_bit (bit_or a b) i ≡ (x || y)
+or-at a b i x y p q = has_or a b i ∙ ap (λ z. z || has_bit b i) p ∙ ap (λ z. x || z) q
+
+mix-at : (controls pads : List ℕ) (a b c d e i : ℕ) → i < 30 →
+    has_bit (routed_mix (routes_of controls pads) a b c d e) i ≡
+    picked (function_of (slice_index controls i)) (has_bit a i) (has_bit b i) (has_bit c i) (has_bit d i) (has_bit e i)
+unfolding routes_of
+mix-at controls pads a b c d e i h =
+    or-at _ _ i _ _
+    (or-at _ _ i _ _
+    (or-at _ _ i _ _
+    (or-at _ _ i _ _ (part-at a controls 2 i h) (part-at b controls 4 i h))
+    (part-at c controls 5 i h))
+    (part-at d controls 6 i h))
+    (part-at e controls 7 i h)
+    ∙ mix-is (function_of (slice_index controls i)) (has_bit a i) (has_bit b i) (has_bit c i) (has_bit d i) (has_bit e i)
+
+routed_part-at : (controls pads : List ℕ) (outs : Outs) (k i : ℕ) → i < 30 → k < 2 →
+    has_bit (routed_part (routes_of controls pads) outs k) i ≡
+    has_bit (slice_index (peripheral outs (function_of (slice_index controls i))) k) i
+routed_part-at controls pads outs k i h lt =
+    mix-at controls pads (slice_index outs.uart k) (slice_index outs.pwm k) (slice_index outs.sio k) (slice_index outs.pio0 k)
+    (slice_index outs.pio1 k) i h
+    ∙ picked-is outs (λ pair. has_bit (slice_index pair k) i) (function_of (slice_index controls i)) (none-of i k lt)
+
+level-at : (controls pads : List ℕ) (outs : Outs) (i : ℕ) → i < 30 →
+    has_bit (routed_override (routes_of controls pads).out (routed_part (routes_of controls pads) outs 0)) i ≡
+    level_to outs (slice_index controls i) i
+unfolding routes_of
+level-at controls pads outs i h =
+    overridden-at controls 8 (routed_part (routes_of controls pads) outs 0) i h
+    ∙ ap (overridden (field (slice_index controls i) 8 2)) (routed_part-at controls pads outs 0 i h (omega arith))
+
+enable-at : (controls pads : List ℕ) (outs : Outs) (i : ℕ) → i < 30 →
+    has_bit (routed_override (routes_of controls pads).enable (routed_part (routes_of controls pads) outs 1)) i ≡
+    enable_to outs (slice_index controls i) i
+unfolding routes_of
+enable-at controls pads outs i h =
+    overridden-at controls 12 (routed_part (routes_of controls pads) outs 1) i h
+    ∙ ap (overridden (field (slice_index controls i) 12 2)) (routed_part-at controls pads outs 1 i h (omega arith))
+
+drives-at : (controls pads : List ℕ) (i : ℕ) → i < 30 →
+    has_bit (routes_of controls pads).drives i ≡ not (has_bit (slice_index pads i) 7)
+unfolding routes_of
+drives-at controls pads i h = with-at pads 7 1 0 i h ∙ disabled-is (slice_index pads i / 2 ^ 7)
+
+pulls-at : (controls pads : List ℕ) (i : ℕ) → i < 30 → has_bit (routes_of controls pads).pulls i ≡ has_bit (slice_index pads i) 3
+unfolding routes_of
+pulls-at controls pads i h = with-at pads 3 1 1 i h
+
+senses-at : (controls pads : List ℕ) (i : ℕ) → i < 30 → has_bit (routes_of controls pads).senses i ≡ has_bit (slice_index pads i) 6
+unfolding routes_of
+senses-at controls pads i h = with-at pads 6 1 1 i h
+
+outside-is : (d h : Bool) (pad : ℕ) → cond d h (has_bit pad 3) ≡ level_outside (cond d (Some h) None) pad
+outside-is true h pad = refl
+outside-is false h pad = refl
+
+outside-at : (controls pads : List ℕ) (driven high i : ℕ) → i < 30 →
+    has_bit (chosen (routes_of controls pads).pulls high driven) i ≡ level_outside (by_sets driven high i) (slice_index pads i)
+outside-at controls pads driven high i h =
+    chosen-at (routes_of controls pads).pulls high driven i
+    ∙ ap (λ b. cond (has_bit driven i) (has_bit high i) b) (pulls-at controls pads i h)
+    ∙ outside-is (has_bit driven i) (has_bit high i) (slice_index pads i)
+
+driven-at : (controls pads : List ℕ) (outs : Outs) (i : ℕ) → i < 30 →
+    has_bit (bit_and (routed_override (routes_of controls pads).enable (routed_part (routes_of controls pads) outs 1)) (routes_of controls pads).drives) i ≡
+    (enable_to outs (slice_index controls i) i && not (has_bit (slice_index pads i) 7))
+driven-at controls pads outs i h =
+    has_and _ (routes_of controls pads).drives i
+    ∙ ap (λ b. b && has_bit (routes_of controls pads).drives i) (enable-at controls pads outs i h)
+    ∙ ap (λ b. enable_to outs (slice_index controls i) i && b) (drives-at controls pads i h)
+
+-- ---- levels and inputs
+
+cond-cong : (s t a b x y : Bool) → s ≡ t → a ≡ b → x ≡ y → cond s a x ≡ cond t b y
+cond-cong s t a b x y p q r = ap (λ z. cond z a x) p ∙ ap (λ z. cond t z x) q ∙ ap (λ z. cond t b z) r
+
+masked-at : (x i : ℕ) → i < 30 → has_bit (bit_and x (2 ^ 30 - 1)) i ≡ has_bit x i
+masked-at x i h =
+    has_and x (2 ^ 30 - 1) i ∙ ap (λ b. has_bit x i && b) (has_ones 30 i h) ∙ and_true (has_bit x i)
+
+masked-lt : (x : ℕ) → bit_and x (2 ^ 30 - 1) < 2 ^ 30
+masked-lt x = omega (arith, and_le_r x (2 ^ 30 - 1))
+
+levels-at : (controls pads : List ℕ) (outs : Outs) (driven high i : ℕ) → i < 30 →
+    has_bit (routed_levels (routes_of controls pads) outs driven high) i ≡
+    pad_level outs (by_sets driven high i) (slice_index controls i) (slice_index pads i) i
+levels-at controls pads outs driven high i h =
+    let r = routes_of controls pads in
+    let outside : ℕ = chosen r.pulls high driven in
+    let level : ℕ = routed_override r.out (routed_part r outs 0) in
+    let on : ℕ = bit_and (routed_override r.enable (routed_part r outs 1)) r.drives in
+    masked-at (chosen outside level on) i h
+    ∙ chosen-at outside level on i
+    ∙ cond-cong (has_bit on i) (enable_to outs (slice_index controls i) i && not (has_bit (slice_index pads i) 7))
+    (has_bit level i) (level_to outs (slice_index controls i) i)
+    (has_bit outside i) (level_outside (by_sets driven high i) (slice_index pads i))
+    (driven-at controls pads outs i h) (level-at controls pads outs i h) (outside-at controls pads driven high i h)
+
+pub routed_levels-is : (s : Bank) (outs : Outs) (driven high : ℕ) →
+    routed_levels (routes_of s.controls s.pads) outs driven high ≡ levels_of outs (by_sets driven high) s
+routed_levels-is s outs driven high =
+    bits_below-is (λ pin. pad_level outs (by_sets driven high pin) (slice_index s.controls pin) (slice_index s.pads pin) pin) 30
+    (routed_levels (routes_of s.controls s.pads) outs driven high)
+    (masked-lt _)
+    (λ i h. levels-at s.controls s.pads outs driven high i h)
+
+sensed-at : (s : Bank) (levels i : ℕ) → i < 30 →
+    has_bit (bit_and levels (routes_of s.controls s.pads).senses) i ≡ level_sensed s levels i
+sensed-at s levels i h =
+    has_and levels (routes_of s.controls s.pads).senses i
+    ∙ ap (λ b. has_bit levels i && b) (senses-at s.controls s.pads i h)
+    ∙ and_comm_bool (has_bit levels i) (has_bit (slice_index s.pads i) 6)
+
+inputs-at : (s : Bank) (levels i : ℕ) → i < 30 →
+    has_bit (routed_inputs (routes_of s.controls s.pads) levels) i ≡ input_of s levels i
+unfolding routes_of
+inputs-at s levels i h =
+    overridden-at s.controls 16 (bit_and levels (routes_of s.controls s.pads).senses) i h
+    ∙ ap (overridden (field (slice_index s.controls i) 16 2)) (sensed-at s levels i h)
+
+with-lt : (words : List ℕ) (low count value : ℕ) → pins_with words low count value < 2 ^ 30
+with-lt words low count value = bits_below-lt (λ pin. eqb (field (slice_index words pin) low count) value) 30
+
+override-lt : (controls : List ℕ) (low x : ℕ) → routed_override (override_of controls low) x < 2 ^ 30
+override-lt controls low x =
+    let passes : (override_of controls low).passes < 2 ^ 30 = or_lt 30 _ _ (with-lt controls low 2 0) (with-lt controls low 2 1) in
+    let kept = and_le_r (bit_xor x (override_of controls low).flips) (override_of controls low).passes in
+    or_lt 30 (bit_and (bit_xor x (override_of controls low).flips) (override_of controls low).passes)
+    (override_of controls low).sets (omega (arith, kept, passes)) (with-lt controls low 2 3)
+
+inputs-lt : (s : Bank) (levels : ℕ) → routed_inputs (routes_of s.controls s.pads) levels < 2 ^ 30
+unfolding routes_of
+inputs-lt s levels = override-lt s.controls 16 (bit_and levels (routes_of s.controls s.pads).senses)
+
+pub routed_inputs-is : (s : Bank) (levels : ℕ) → routed_inputs (routes_of s.controls s.pads) levels ≡ inputs_of s levels
+routed_inputs-is s levels =
+    bits_below-is (input_of s levels) 30 (routed_inputs (routes_of s.controls s.pads) levels) (inputs-lt s levels)
+    (λ i h. inputs-at s levels i h)
+
+-- the pins of a function
+pub uart-is : (controls pads : List ℕ) → (routes_of controls pads).uart ≡ pins_with controls 0 5 2
+unfolding routes_of
+uart-is controls pads = refl
+
+pub pio0-is : (controls pads : List ℕ) → (routes_of controls pads).pio0 ≡ pins_with controls 0 5 6
+unfolding routes_of
+pio0-is controls pads = refl
+
+pub pio1-is : (controls pads : List ℕ) → (routes_of controls pads).pio1 ≡ pins_with controls 0 5 7
+unfolding routes_of
+pio1-is controls pads = refl
+
+-- ---- sets of pins
+
+pub others-is : (f : ℕ → Bool) → bit_xor (2 ^ 30 - 1) (pins_where f) ≡ pins_where (λ pin. not (f pin))
+others-is f =
+    bits_below-is (λ pin. not (f pin)) 30 (bit_xor (2 ^ 30 - 1) (pins_where f))
+    (xor_lt 30 (2 ^ 30 - 1) (pins_where f) (omega arith) (bits_below-lt f 30))
+    (λ i h.
+    has_xor (2 ^ 30 - 1) (pins_where f) i
+    ∙ ap (λ b. differ b (has_bit (pins_where f) i)) (has_ones 30 i h)
+    ∙ ap not (bits_below-at f 30 i h))
+
+falls-is : (f g : ℕ → Bool) → bit_and (pins_where f) (bit_xor (pins_where f) (pins_where g)) ≡ pins_where (λ pin. f pin && not (g pin))
+falls-is f g =
+    bits_below-is (λ pin. f pin && not (g pin)) 30 (bit_and (pins_where f) (bit_xor (pins_where f) (pins_where g)))
+    (omega (arith, and_le_l (pins_where f) (bit_xor (pins_where f) (pins_where g)), bits_below-lt f 30))
+    (λ i h.
+    has_and (pins_where f) (bit_xor (pins_where f) (pins_where g)) i
+    ∙ ap (λ b. has_bit (pins_where f) i && b) (has_xor (pins_where f) (pins_where g) i)
+    ∙ ap (λ b. b && differ b (has_bit (pins_where g) i)) (bits_below-at f 30 i h)
+    ∙ ap (λ b. f i && differ (f i) b) (bits_below-at g 30 i h)
+    ∙ fall-is (f i) (g i))
+
+rises-is : (f g : ℕ → Bool) → bit_and (pins_where g) (bit_xor (pins_where f) (pins_where g)) ≡ pins_where (λ pin. not (f pin) && g pin)
+rises-is f g =
+    bits_below-is (λ pin. not (f pin) && g pin) 30 (bit_and (pins_where g) (bit_xor (pins_where f) (pins_where g)))
+    (omega (arith, and_le_l (pins_where g) (bit_xor (pins_where f) (pins_where g)), bits_below-lt g 30))
+    (λ i h.
+    has_and (pins_where g) (bit_xor (pins_where f) (pins_where g)) i
+    ∙ ap (λ b. has_bit (pins_where g) i && b) (has_xor (pins_where f) (pins_where g) i)
+    ∙ ap (λ b. b && differ (has_bit (pins_where f) i) b) (bits_below-at g 30 i h)
+    ∙ ap (λ b. g i && differ b (g i)) (bits_below-at f 30 i h)
+    ∙ rise-is (f i) (g i))
+
+no-pins : (n : ℕ) → bits_below (λ pin. false) n ≡ 0
+no-pins n = sym (bits_below-is (λ pin. false) n 0 (omega (arith, pow_pos n)) (λ i h. no-bit i))
+
+-- ---- edges
+
+edges-from : (b : Bool) (low high : ℕ) (e : Edges) → b ≡ false → low ≡ e.low → high ≡ e.high →
+    cond b no_edges e ≡ record { low = low; high = high }
+edges-from true low high e h p q = absurd (grind (arith, common_steps))
+edges-from false low high e h p q = rw (p, q) refl
+
+-- the edges by the inputs before and after
+pub edges_of-changed : (s : Bank) → s.bank_held ≡ false →
+    edges_of s ≡ record {
+      low = bit_and (inputs_of s s.second) (bit_xor (inputs_of s s.second) (inputs_of s s.first));
+      high = bit_and (inputs_of s s.first) (bit_xor (inputs_of s s.second) (inputs_of s s.first));
+    }
+edges_of-changed s h =
+    edges-from s.bank_held _ _ (record { low = falling s; high = rising s }) h
+    (falls-is (input_of s s.second) (input_of s s.first)) (rises-is (input_of s s.second) (input_of s s.first))
+
+cond-same : (b : Bool) (e : Edges) → e ≡ no_edges → cond b no_edges e ≡ no_edges
+cond-same true e h = refl
+cond-same false e h = h
+
+still-low : (s : Bank) → s.first ≡ s.second → falling s ≡ 0
+still-low s e =
+    bits_below-same (λ pin. input_of s s.second pin && not (input_of s s.first pin)) (λ pin. false) 30
+    (λ i h. ap (λ n. input_of s s.second i && not (input_of s n i)) e ∙ nor-self (input_of s s.second i))
+    ∙ no-pins 30
+
+still-high : (s : Bank) → s.first ≡ s.second → rising s ≡ 0
+still-high s e =
+    bits_below-same (λ pin. not (input_of s s.second pin) && input_of s s.first pin) (λ pin. false) 30
+    (λ i h. ap (λ n. not (input_of s s.second i) && input_of s n i) e ∙ not-and_self (input_of s s.second i))
+    ∙ no-pins 30
+
+-- no edge without a change
+pub edges_of-still : (s : Bank) → s.first ≡ s.second → edges_of s ≡ no_edges
+edges_of-still s e =
+    cond-same s.bank_held (record { low = falling s; high = rising s }) (rw (still-low s e, still-high s e) refl)
+
+pub edges_of-held : (s : Bank) → s.bank_held ≡ true → edges_of s ≡ no_edges
+edges_of-held s h = ap (λ b. cond b no_edges (record { low = falling s; high = rising s })) h
+
+pub ruleset others = (others-is)
+
+-- ---- the level from outside, by a list and by sets
+
+by-is : (o : Option Bool) → cond (is_some o) (Some (unwrap_or o false)) None ≡ o
+by-is None = refl
+by-is (Some b) = refl
+
+pub by_sets-list : (levels : List (Option Bool)) (i : ℕ) → i < 30 →
+    by_sets (pins_where (λ pin. is_some (by_list levels pin))) (pins_where (λ pin. unwrap_or (by_list levels pin) false)) i ≡
+    by_list levels i
+by_sets-list levels i h =
+    ap (λ b. cond b (Some (has_bit (pins_where (λ pin. unwrap_or (by_list levels pin) false)) i)) None)
+    (bits_below-at (λ pin. is_some (by_list levels pin)) 30 i h)
+    ∙ ap (λ b. cond (is_some (by_list levels i)) (Some b) None)
+    (bits_below-at (λ pin. unwrap_or (by_list levels pin) false) 30 i h)
+    ∙ by-is (by_list levels i)
+
+levels_of-same : (outs : Outs) (f g : ℕ → Option Bool) (s : Bank) → ((i : ℕ) → i < 30 → f i ≡ g i) →
+    levels_of outs f s ≡ levels_of outs g s
+levels_of-same outs f g s h =
+    bits_below-same (λ pin. pad_level outs (f pin) (slice_index s.controls pin) (slice_index s.pads pin) pin)
+    (λ pin. pad_level outs (g pin) (slice_index s.controls pin) (slice_index s.pads pin) pin) 30
+    (λ i lt. ap (λ o. pad_level outs o (slice_index s.controls i) (slice_index s.pads i) i) (h i lt))
+
+pub levels_of-list : (outs : Outs) (levels : List (Option Bool)) (driven high : ℕ) (s : Bank) →
+    driven ≡ pins_where (λ pin. is_some (by_list levels pin)) → high ≡ pins_where (λ pin. unwrap_or (by_list levels pin) false) →
+    levels_of outs (by_sets driven high) s ≡ levels_of outs (by_list levels) s
+levels_of-list outs levels driven high s d e =
+    rw (d, e) (levels_of-same outs _ (by_list levels) s (λ i h. by_sets-list levels i h))
