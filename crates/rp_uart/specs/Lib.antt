@@ -1,0 +1,7 @@
+pub mod Frame
+pub mod Interrupts
+pub mod Receiving
+pub mod Sending
+pub mod State
+pub mod Step
+pub mod Words
