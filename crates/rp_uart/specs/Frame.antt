@@ -15,8 +15,12 @@ width_of Six = 6
 width_of Seven = 7
 width_of Eight = 8
 
+-- so many bits of a byte from the lowest
+abbrev pub low_bits : ℕ → ℕ → List Bool
+low_bits byte count = map (has_bit byte) (range_with_len 0 count)
+
 abbrev pub data_bits : LineControl → ℕ → List Bool
-data_bits line byte = map (has_bit byte) (range_with_len 0 (width_of line.width))
+data_bits line byte = low_bits byte (width_of line.width)
 
 abbrev pub ones_of : List Bool → ℕ
 ones_of bits = sum_by bit_number bits

@@ -1,6 +1,6 @@
 //! The registers that say how a UART runs.
 
-ghost use Rattle.std.specs.Prelude.{◌≡◌, ◌<◌};
+ghost use Rattle.std.specs.Prelude.{◌≡◌, ◌<◌, ◌^◌};
 ghost use Rattle.rp_uart.specs.Sending.{bit_time, is_over, elapsed_after};
 
 /// UARTIBRD and UARTFBRD: a bit lasts 64 times the divisor, in quarters of a cycle (DDI 0183, 3.3.5 and 3.3.6).
@@ -37,7 +37,8 @@ pub struct DmaControl {
 impl Divisor {
     /// How long a bit lasts, in quarters of a cycle.
     pub(crate) fn bit_time(&self) -> u32
-        ensures { result ≡ bit_time self.now }
+        ensures value { result ≡ bit_time self.now }
+        ensures bound { result < 2 ^ 23 }
     {
         64 * u32::from(self.integer) + u32::from(self.fraction)
     }

@@ -1,9 +1,8 @@
 //! The frame of a byte on the line.
 
-ghost use Rattle.std.specs.Prelude.{◌≡◌, ◌+◌, ◌^◌, ◌<◌, ◌≤◌, slice_index_or, true};
-ghost use Rattle.std.specs.List.{sum_by, range_with_len};
-ghost use Rattle.m0_alu.specs.Word.{has_bit, bit_number};
-ghost use Rattle.rp_uart.specs.Frame.{width_of, parity_bit, frame_of, level_at, frame_length, parity_place, stop_place, ones_of, data_bits};
+ghost use Rattle.std.specs.Prelude.{◌≡◌, ◌+◌, ◌<◌, ◌≤◌};
+ghost use Rattle.m0_alu.specs.Word.{has_bit};
+ghost use Rattle.rp_uart.specs.Frame.{width_of, parity_bit, level_at, frame_length, stop_place, ones_of, low_bits};
 
 /// How many data bits a frame has (WLEN).
 #[derive(Clone, Copy)]
@@ -56,6 +55,7 @@ impl LineControl {
     }
 
     /// The parity bit of a byte.
+    #[tactic(auto, unfolding(crate::specs::Frame::parity_bit))]
     pub(crate) fn parity_bit(&self, byte: u8) -> bool
         ensures { result ≡ parity_bit self.now byte }
     {
@@ -63,14 +63,16 @@ impl LineControl {
         if self.even { odd } else { !odd }
     }
 
-    /// How many bits a frame has.
-    pub(crate) fn frame_length(&self, byte: u8) -> u8
-        ensures { result ≡ frame_length self.now byte }
+    /// The place of the last bit of the frame of a byte.
+    #[tactic(auto, using(crate::proofs::Frames::lengths))]
+    pub(crate) fn last_place(&self, byte: u8) -> u8
+        ensures { result + 1 ≡ frame_length self.now byte }
     {
-        self.stop_place() + 1 + u8::from(self.two_stops)
+        self.stop_place() + u8::from(self.two_stops)
     }
 
     /// The level of the line at a place of the frame of a byte; high after the frame.
+    #[tactic(auto, using(crate::proofs::Frames::levels))]
     pub(crate) fn level_at(&self, byte: u8, place: u8) -> bool
         ensures { result ≡ level_at self.now byte place }
     {
@@ -78,7 +80,7 @@ impl LineControl {
         if place == 0 {
             false
         } else if place <= width {
-            (byte >> (place - 1)) & 1 == 1
+            has_bit(byte, place - 1)
         } else if place == width + 1 && self.parity {
             self.parity_bit(byte)
         } else {
@@ -88,15 +90,24 @@ impl LineControl {
 }
 
 /// How many of the lowest bits of a byte are ones.
+#[tactic(auto, using(crate::proofs::Frames::ones_laws))]
 fn ones(byte: u8, width: u8) -> u8
     requires { width ≤ 8 }
-    ensures { result ≡ ones_of (Rattle.std.specs.Prelude.map (has_bit byte) (range_with_len 0 width)) }
+    ensures { result ≡ ones_of (low_bits byte width) }
 {
     let mut count = 0;
     for place in 0..width {
-        if (byte >> place) & 1 == 1 {
+        if has_bit(byte, place) {
             count += 1;
         }
     }
     count
+}
+
+/// A bit of a byte is set.
+fn has_bit(byte: u8, place: u8) -> bool
+    requires { place < 8 }
+    ensures { result ≡ has_bit byte place }
+{
+    (byte >> place) & 1 == 1
 }

@@ -138,6 +138,7 @@ impl Uart {
 
     /// One cycle, in which `line` is the level of RX; with LBE the UART hears its own TX in its place. The byte whose frame
     /// ends in this cycle, None exactly where none does.
+    #[tactic(auto, using(crate::proofs::Kept::kept))]
     pub fn step(&mut self, line: bool) -> Option<u8>
         ensures after { self.new ≡ after_step line self.old }
         ensures byte { result ≡ sent_byte self.old }

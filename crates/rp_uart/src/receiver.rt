@@ -1,7 +1,6 @@
 //! Receiving.
 
-ghost use Rattle.std.specs.Prelude.{◌≡◌, ◌<◌, ◌≤◌, ◌^◌};
-ghost use Rattle.rp_uart.specs.Frame.{width_of};
+ghost use Rattle.std.specs.Prelude.{◌≡◌, ◌<◌, length};
 ghost use Rattle.rp_uart.specs.Receiving.{byte_heard, has_parity_error, errors_of, stored, dropped, after_byte, after_waiting, after_idle, after_lull, sampled, after_stop, after_sample, after_hearing, after_line, is_byte_due, is_stop, is_frame_due, after_receiving};
 
 use crate::Uart;
@@ -163,7 +162,7 @@ impl Uart {
 
     /// A byte finds a place.
     fn store(&mut self, byte: u8, errors: Errors)
-        requires { Rattle.std.specs.Prelude.length self.old.received < 32 }
+        requires { length self.old.received < 32 }
         ensures { self.new ≡ stored byte errors self.old }
     {
         let told = Errors {
@@ -198,11 +197,10 @@ impl Uart {
     /// The timeout's cycle.
     #[tactic(auto, unfolding(crate::specs::Receiving::after_waiting))]
     fn wait(&mut self)
-        requires { 0 < self.old.divisor.integer }
         ensures { self.new ≡ after_waiting self.old }
     {
         if let Some(elapsed) = self.quiet {
-            if elapsed < 32 * self.divisor.bit_time() - 4 {
+            if elapsed < (32 * self.divisor.bit_time()).saturating_sub(4) {
                 self.quiet = Some(elapsed + 4);
             } else {
                 self.quiet = None;

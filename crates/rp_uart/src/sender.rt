@@ -66,8 +66,7 @@ impl Uart {
         ensures after { self.new ≡ after_bit frame elapsed self.old }
         ensures byte { result ≡ (if is_last_bit frame self.old then Some frame.byte else None) }
     {
-        let last = self.line.frame_length(frame.byte) - 1;
-        if frame.place < last {
+        if frame.place < self.line.last_place(frame.byte) {
             self.sender = Sender::Frame(Sending {
                 byte: frame.byte,
                 place: frame.place + 1,

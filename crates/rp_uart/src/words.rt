@@ -1,6 +1,6 @@
 //! The registers, by their offsets.
 
-ghost use Rattle.std.specs.Prelude.{◌≡◌, ◌≤◌};
+ghost use Rattle.std.specs.Prelude.{◌≡◌, ◌≤◌, slice_get};
 ghost use Rattle.rp_uart.specs.Words.{received_word, status_of, after_taking, after_giving, is_busy, flags_of, byte_word, byte_written, code_of, width_of_code, line_control_of, line_control_from, control_of, control_from, line_word, line_written, dma_control_of, dma_control_from, interrupt_word, interrupt_written, word_of, is_allowed, after_write, after_read, effect_of};
 
 use crate::Uart;
@@ -73,7 +73,7 @@ impl Uart {
 
     /// The oldest byte was read.
     fn take_byte(&mut self)
-        ensures { self.new ≡ after_taking (Rattle.std.specs.Prelude.slice_get self.old.received 0) self.old }
+        ensures { self.new ≡ after_taking (slice_get self.old.received 0) self.old }
     {
         if let Some(received) = self.received.pop_at(0) {
             self.last = received.errors;
@@ -108,9 +108,9 @@ impl Uart {
 
     /// UARTDR.
     fn first_word(&self) -> u32
-        ensures { result ≡ received_word (Rattle.std.specs.Prelude.slice_get self.now.received 0) }
+        ensures { result ≡ received_word (slice_get self.now.received 0) }
     {
-        match self.received.first() {
+        match self.received.first().copied() {
             Some(received) => u32::from(received.byte) + received.errors.bits() * 0x100,
             None => 0,
         }
