@@ -1,2 +1,3 @@
 pub mod Frames
+pub mod Heard
 pub mod Kept

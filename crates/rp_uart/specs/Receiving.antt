@@ -96,9 +96,12 @@ is_false_start line f = line && f.place == 0
 abbrev pub is_stop : Hearing → SerialPort → Bool
 is_stop f s = nat_le (stop_place s.line) f.place
 
+abbrev pub with_sample : Bool → ℕ → ℕ → ℕ
+with_sample line place samples = if line then bit_or samples (2 ^ place) else samples
+
 abbrev pub sampled : Bool → Hearing → ℕ → Hearing
 sampled line f elapsed = record {
-  samples = if line then bit_or f.samples (2 ^ f.place) else f.samples;
+  samples = with_sample line f.place f.samples;
   place = f.place + 1;
   elapsed = elapsed;
 }

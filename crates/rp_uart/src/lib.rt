@@ -10,6 +10,7 @@ ghost use Rattle.rp_uart.specs.Step.{output_of, heard_of, after_step, sent_byte,
 pub mod control;
 pub mod frame;
 mod interrupts;
+pub mod laws;
 pub mod receiver;
 pub mod sender;
 #[cfg(test)]
