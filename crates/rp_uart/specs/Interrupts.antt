@@ -1,0 +1,77 @@
+-- The FIFOs' depth and trigger levels, and the interrupts (PrimeCell UART PL011 Technical Reference Manual, DDI 0183, 2.8,
+-- interrupts, 3.3.7, UARTLCR_H, 3.3.9, UARTIFLS, and 3.3.11, UARTRIS; RP2040 Datasheet, 4.2, FIFOs of 32 places).
+use Rattle.std.specs.Prelude.{ℕ, ◌+◌, ◌-◌, ◌*◌, ◌/◌, ◌%◌, ◌^◌, ◌==◌, Bool, false, not, nat_lt, nat_le, if◌then◌else◌, length, bit_and, bit_or}
+use Rattle.m0_alu.specs.Word.{bit_number}
+use Rattle.rp_uart.specs.declared.receiver.Errors.{Errors}
+use Rattle.rp_uart.specs.State.{SerialPort}
+
+-- the interrupts as sets of bits of UARTRIS: RX, TX and RT
+abbrev pub receive_interrupt : ℕ
+receive_interrupt = 2 ^ 4
+
+abbrev pub transmit_interrupt : ℕ
+transmit_interrupt = 2 ^ 5
+
+abbrev pub timeout_interrupt : ℕ
+timeout_interrupt = 2 ^ 6
+
+-- FE, PE, BE and OE, as UARTRSR has them in its lowest bits, UARTDR from bit 8 on, and UARTRIS from bit 7 on
+abbrev pub error_bits : Errors → ℕ
+error_bits e =
+    bit_number e.framing + bit_number e.parity * 2 + bit_number e.break_line * 4 + bit_number e.overrun * 8
+
+abbrev pub error_interrupts : Errors → ℕ
+error_interrupts e = error_bits e * 2 ^ 7
+
+-- how many bytes a FIFO holds
+abbrev pub depth_of : SerialPort → ℕ
+depth_of s = if s.line.fifos then 32 else 1
+
+-- an eighth, a quarter, half, three quarters and seven eighths of 32; the codes above these act as the last
+abbrev pub trigger_of : ℕ → ℕ
+trigger_of code =
+    if code == 0 then 4 else
+    if code == 1 then 8 else
+    if code == 2 then 16 else
+    if code == 3 then 24 else 28
+
+-- RXIFLSEL is bits 5:3 of UARTIFLS and TXIFLSEL bits 2:0; a single place triggers when it is taken, or free
+abbrev pub receive_trigger : SerialPort → ℕ
+receive_trigger s = if s.line.fifos then trigger_of (s.levels / 8) else 1
+
+abbrev pub transmit_trigger : SerialPort → ℕ
+transmit_trigger s = if s.line.fifos then trigger_of (s.levels % 8) else 0
+
+-- interrupts come and go
+abbrev pub with_raw : ℕ → SerialPort → SerialPort
+with_raw raw s = record s { raw = raw }
+
+abbrev pub told : ℕ → SerialPort → SerialPort
+told set s = with_raw (bit_or s.raw set) s
+
+abbrev pub told_if : Bool → ℕ → SerialPort → SerialPort
+told_if comes set s = if comes then told set s else s
+
+-- the bits of a word that another one does not have
+abbrev pub minus : ℕ → ℕ → ℕ
+minus set other = bit_and set (2 ^ 32 - 1 - other)
+
+abbrev pub cleared : ℕ → SerialPort → SerialPort
+cleared set s = with_raw (minus s.raw set) s
+
+abbrev pub cleared_if : Bool → ℕ → SerialPort → SerialPort
+cleared_if goes set s = if goes then cleared set s else s
+
+-- RX goes below its trigger, TX above its trigger, and RT where no byte waits
+unfoldable pub settled : SerialPort → SerialPort
+settled s =
+    cleared_if (length s.received == 0) timeout_interrupt
+    (cleared_if (nat_lt (transmit_trigger s) (length s.to_send)) transmit_interrupt
+    (cleared_if (nat_lt (length s.received) (receive_trigger s)) receive_interrupt s))
+
+-- an interrupt that is not masked is told to the processors (UARTMIS)
+abbrev pub masked : SerialPort → ℕ
+masked s = bit_and s.raw s.mask
+
+abbrev pub is_line_high : SerialPort → Bool
+is_line_high s = not (masked s == 0)

@@ -1,0 +1,201 @@
+//! A PL011 UART of the RP2040: its sender and its receiver with their FIFOs, its interrupts, and its registers. Everything is
+//! defined in `specs/` on lists of bytes and of bits.
+#![tactic(auto)]
+
+ghost use Rattle.std.specs.Prelude.{◌≡◌};
+ghost use Rattle.rp_uart.specs.State.{at_reset};
+ghost use Rattle.rp_uart.specs.Interrupts.{is_line_high};
+ghost use Rattle.rp_uart.specs.Step.{output_of, heard_of, after_step, sent_byte, pacing_of};
+
+pub mod control;
+pub mod frame;
+mod interrupts;
+pub mod laws;
+pub mod receiver;
+pub mod sender;
+#[cfg(test)]
+mod tests;
+mod words;
+
+use arrayvec::ArrayVec;
+use control::{Control, Divisor, DmaControl};
+use frame::{LineControl, WordLength};
+use receiver::{Errors, Received, Receiver};
+use sender::Sender;
+use std::marker::Model;
+
+/// How many bytes a FIFO holds.
+const PLACES: usize = 32;
+
+/// A UART between two cycles (RP2040 Datasheet, 4.2; PrimeCell UART PL011 Technical Reference Manual, DDI 0183).
+#[derive(Drop)]
+pub struct Uart {
+    to_send: ArrayVec<u8, 32>,
+    received: ArrayVec<Received, 32>,
+    sender: Sender,
+    receiver: Receiver,
+    quiet: Option<u32>,
+    lost: bool,
+    last: Errors,
+    overrun: bool,
+    divisor: Divisor,
+    line: LineControl,
+    control: Control,
+    dma: DmaControl,
+    levels: u8,
+    mask: u32,
+    raw: u32,
+}
+
+impl Model for Uart {
+    ghost use Rattle.rp_uart.specs.State.{SerialPort};
+
+    ghost Value = { SerialPort };
+
+    ghost view = { λ u. record {
+      to_send = u.to_send.items;
+      received = u.received.items;
+      sender = u.sender;
+      receiver = u.receiver;
+      quiet = u.quiet;
+      lost = u.lost;
+      last = u.last;
+      overrun = u.overrun;
+      divisor = u.divisor;
+      line = u.line;
+      control = u.control;
+      dma = u.dma;
+      levels = u.levels;
+      mask = u.mask;
+      raw = u.raw;
+    } };
+}
+
+impl Uart {
+    /// The reset state: disabled, with both FIFOs empty.
+    pub fn new() -> Uart
+        ensures { result ≡ at_reset }
+    {
+        Uart {
+            to_send: ArrayVec::new(),
+            received: ArrayVec::new(),
+            sender: Sender::Idle,
+            receiver: Receiver::Idle,
+            quiet: None,
+            lost: false,
+            last: Errors::none(),
+            overrun: false,
+            divisor: Divisor {
+                integer: 0,
+                fraction: 0,
+            },
+            line: LineControl {
+                parity: false,
+                even: false,
+                two_stops: false,
+                fifos: false,
+                width: WordLength::Five,
+            },
+            control: Control {
+                enabled: false,
+                loopback: false,
+                transmit: true,
+                receive: true,
+            },
+            dma: DmaControl {
+                receive: false,
+                transmit: false,
+            },
+            levels: 0x12,
+            mask: 0,
+            raw: 0,
+        }
+    }
+
+    /// Takes the state of another UART.
+    pub fn copy_from(&mut self, other: &Uart)
+        ensures { self.new ≡ other.now }
+    {
+        self.to_send.clear();
+        let _ = self.to_send.try_extend_from_slice(other.to_send.as_slice());
+        self.received.clear();
+        let _ = self
+            .received
+            .try_extend_from_slice(other.received.as_slice());
+        self.sender = other.sender;
+        self.receiver = other.receiver;
+        self.quiet = other.quiet;
+        self.lost = other.lost;
+        self.last = other.last;
+        self.overrun = other.overrun;
+        self.divisor = other.divisor;
+        self.line = other.line;
+        self.control = other.control;
+        self.dma = other.dma;
+        self.levels = other.levels;
+        self.mask = other.mask;
+        self.raw = other.raw;
+    }
+
+    /// One cycle, in which `line` is the level of RX; with LBE the UART hears its own TX in its place. The byte whose frame
+    /// ends in this cycle, None exactly where none does.
+    #[tactic(auto, using(crate::proofs::Kept::kept))]
+    pub fn step(&mut self, line: bool) -> Option<u8>
+        ensures after { self.new ≡ after_step line self.old }
+        ensures byte { result ≡ sent_byte self.old }
+    {
+        if self.divisor.integer == 0 {
+            return None;
+        }
+        let heard = self.heard(line);
+        let byte = self.send();
+        self.receive(heard);
+        byte
+    }
+
+    /// The level of TX.
+    pub fn out(&self) -> bool
+        ensures { result ≡ output_of self.now }
+    {
+        match self.sender {
+            Sender::Idle => true,
+            Sender::Frame(frame) => self.line.level_at(frame.byte, frame.place),
+        }
+    }
+
+    /// The free places of the FIFO that is sent, and the words of the one that is received, each 0 where UARTDMACR does not
+    /// ask for it.
+    pub fn pacing(&self) -> [u8; 2]
+        ensures { result ≡ pacing_of self.now }
+    {
+        let free = if self.dma.transmit {
+            self.depth().saturating_sub(self.to_send.len()) as u8
+        } else {
+            0
+        };
+        let words = if self.dma.receive {
+            self.received.len() as u8
+        } else {
+            0
+        };
+        [free, words]
+    }
+
+    /// The interrupt line: some bit of UARTMIS is set.
+    pub fn line(&self) -> bool
+        ensures { result ≡ is_line_high self.now }
+    {
+        self.raw & self.mask != 0
+    }
+
+    /// The level that the receiver hears.
+    fn heard(&self, line: bool) -> bool
+        ensures { result ≡ heard_of line self.now }
+    {
+        if self.control.loopback {
+            self.out()
+        } else {
+            line
+        }
+    }
+}
