@@ -42,9 +42,12 @@ chosen_by treq s (Some n) = is_paced_by treq s n
 abbrev pub unread : ℕ → Engine → ℕ
 unread treq s = bit_number (chosen_by treq s s.chosen)
 
--- and those that are chosen and not written
+-- and those that are chosen and not written: their writes wait
+unfoldable pub writes_of : ℕ → Engine → ℕ
+writes_of treq s = count_by (λ (w : Waiting). is_paced_by treq s w.channel) s.waiting
+
 abbrev pub unwritten : ℕ → Engine → ℕ
-unwritten treq s = unread treq s + count_by (λ (w : Waiting). is_paced_by treq s w.channel) s.waiting
+unwritten treq s = unread treq s + writes_of treq s
 
 -- ---- the choice
 

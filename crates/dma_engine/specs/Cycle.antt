@@ -39,9 +39,12 @@ abbrev pub is_chosen : ℕ → Option ℕ → Bool
 is_chosen n None = false
 is_chosen n (Some m) = m == n
 
+abbrev pub has_write : ℕ → List Waiting → Bool
+has_write n writes = list_any (λ (w : Waiting). w.channel == n) writes
+
 -- a transfer of the channel is chosen and not written
 abbrev pub is_in_flight : ℕ → Engine → Bool
-is_in_flight n s = is_chosen n s.chosen || list_any (λ (w : Waiting). w.channel == n) s.waiting
+is_in_flight n s = is_chosen n s.chosen || has_write n s.waiting
 
 abbrev pub is_through : Channel → Bool
 is_through c = c.busy && c.count == 0

@@ -4,7 +4,7 @@ ghost use Rattle.std.specs.Prelude.{◌≡◌, ◌%◌, ◌^◌};
 ghost use Rattle.std.specs.List.{list_any};
 ghost use Rattle.rp_base.specs.AddressMap.{place_of};
 ghost use Rattle.lane_look.specs.Asking.{Runs};
-ghost use Rattle.dma_engine.specs.Asks.{may_be_device, elsewhere, write_for, write_begun, next_request, asks_for, asks_read, waits_for_counts};
+ghost use Rattle.dma_engine.specs.Asks.{may_be_device, elsewhere, write_for, write_begun, next_request, asks_for, asks_read, waits_for_counts, asks};
 
 use crate::channel::Channel;
 use crate::doing::{Access, Doing};
@@ -116,5 +116,27 @@ impl Engine {
                 counts,
             },
         }
+    }
+}
+
+impl Engine {
+    /// What the engine asks in a cycle, and what it has begun then.
+    #[tactic(auto, unfolding(crate::specs::Asks::asks))]
+    pub(crate) fn ask<K: Look>(&self, look: &mut K) -> Doing
+        ensures { Runs K.answers look.old (asks self.now) result look.new }
+    {
+        if self.held {
+            return Doing {
+                read: Access::Nothing,
+                write: Access::Nothing,
+                counts: 0,
+            };
+        }
+        let counts = if self.waits_for_counts() {
+            look.ask(Ask::Pacing)
+        } else {
+            0
+        };
+        self.begin(counts, look)
     }
 }

@@ -1,8 +1,8 @@
 //! Which channel is chosen for the next transfer.
 
-ghost use Rattle.std.specs.Prelude.{◌≡◌, ◌<◌};
+ghost use Rattle.std.specs.Prelude.{◌≡◌, ◌<◌, ◌≤◌};
 ghost use Rattle.dma_engine.specs.Pacing.{count_at};
-ghost use Rattle.dma_engine.specs.Choice.{is_paced_by, chosen_by, unread, unwritten, is_ready, is_candidate, next_candidate, choice_of};
+ghost use Rattle.dma_engine.specs.Choice.{is_paced_by, chosen_by, unread, writes_of, unwritten, is_ready, is_candidate, next_candidate, choice_of};
 
 use crate::channel::Channel;
 use crate::engine::{CHANNELS, Engine};
@@ -26,7 +26,8 @@ impl Engine {
 
     /// The transfers of that data request that are chosen and not read.
     fn unread(&self, treq: u8) -> u8
-        ensures { result ≡ unread treq self.now }
+        ensures value { result ≡ unread treq self.now }
+        ensures bound { result ≤ 1 }
     {
         match self.chosen {
             Some(number) if self.is_paced_by(treq, number) => 1,
@@ -34,17 +35,24 @@ impl Engine {
         }
     }
 
+    /// The writes of that data request that wait.
+    #[tactic(auto, unfolding(crate::specs::Choice::writes_of), using(crate::proofs::Counting::counting))]
+    fn writes(&self, treq: u8) -> u8
+        ensures value { result ≡ writes_of treq self.now }
+        ensures bound { result ≤ 2 }
+    {
+        let writes = self.waiting.as_slice();
+        writes
+            .iter()
+            .filter(|write| self.is_paced_by(treq, write.channel))
+            .count() as u8
+    }
+
     /// The transfers of that data request that are chosen and not written.
     fn unwritten(&self, treq: u8) -> u8
         ensures { result ≡ unwritten treq self.now }
     {
-        let mut count = self.unread(treq);
-        for write in self.waiting.as_slice() {
-            if self.is_paced_by(treq, write.channel) {
-                count += 1;
-            }
-        }
-        count
+        self.unread(treq) + self.writes(treq)
     }
 
     /// The channel is ready for one more transfer.
@@ -75,6 +83,7 @@ impl Engine {
     }
 
     /// The next channel after the one that was chosen last that can be chosen.
+    #[tactic(auto, using(crate::proofs::Search::searching))]
     fn next_candidate(&self, high: bool, counts: u128) -> Option<u8>
         ensures { result ≡ next_candidate high counts self.now }
     {

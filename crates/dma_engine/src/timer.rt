@@ -1,7 +1,7 @@
 //! A pacing timer.
 
-ghost use Rattle.std.specs.Prelude.{◌≡◌};
-ghost use Rattle.dma_engine.specs.Timers.{runs, gives, stepped};
+ghost use Rattle.std.specs.Prelude.{◌≡◌, ◌≤◌};
+ghost use Rattle.dma_engine.specs.Timers.{runs, step_of, gives, accumulated, stepped};
 
 /// One pacing timer (RP2040 Datasheet, 2.5.7, TIMER0): it gives a credit in X of each Y cycles.
 #[derive(Clone, Copy)]
@@ -29,18 +29,44 @@ impl Timer {
         self.x != 0 && self.y != 0
     }
 
-    /// One cycle; true where the timer gives a credit.
-    pub(crate) fn step(&mut self) -> bool
-        ensures after { self.new ≡ stepped self.old }
-        ensures credit { result ≡ gives self.old }
+    /// What a cycle adds.
+    fn step(&self) -> u16
+        ensures value { result ≡ step_of self.now }
+        ensures bound { result ≤ self.now.y }
+    {
+        self.x.min(self.y)
+    }
+
+    /// The timer gives a credit.
+    pub(crate) fn gives(&self) -> bool
+        ensures { result ≡ gives self.now }
+    {
+        self.runs() && self.y - self.step() <= self.accumulator
+    }
+
+    /// What the accumulator comes to.
+    fn accumulated(&self) -> u16
+        ensures { result ≡ accumulated self.now }
+    {
+        let missing = self.y - self.step();
+        if missing <= self.accumulator {
+            self.accumulator - missing
+        } else {
+            self.accumulator + self.step()
+        }
+    }
+
+    /// The timer after a cycle.
+    pub(crate) fn stepped(&self) -> Timer
+        ensures { result ≡ stepped self.now }
     {
         if !self.runs() {
-            return false;
+            return *self;
         }
-        let sum = u32::from(self.accumulator) + u32::from(self.x.min(self.y));
-        let limit = u32::from(self.y);
-        let credit = limit <= sum;
-        self.accumulator = (if credit { sum - limit } else { sum }) as u16;
-        credit
+        Timer {
+            x: self.x,
+            y: self.y,
+            accumulator: self.accumulated(),
+        }
     }
 }

@@ -1,6 +1,6 @@
 //! One transfer: its addresses and its data.
 
-ghost use Rattle.std.specs.Prelude.{◌≡◌, ◌<◌, ◌≤◌};
+ghost use Rattle.std.specs.Prelude.{◌≡◌, ◌^◌, ◌<◌, ◌≤◌};
 ghost use Rattle.dma_engine.specs.Transfer.{bytes_of, rounded, advanced, ring_of_read, ring_of_write, next_read, next_write, moved, lanes_of, swapped, data_of, read_of, write_after, request_of};
 
 use crate::channel::Channel;
@@ -32,7 +32,16 @@ fn rounded(size: Size, address: u32) -> u32
     }
 }
 
+/// How many addresses a ring has.
+fn places(ring: u32) -> u32
+    requires { ring < 16 }
+    ensures { result ≡ 2 ^ ring }
+{
+    1 << ring
+}
+
 /// The next address, in a ring of `ring` bits where that is not 0.
+#[tactic(auto, using(crate::proofs::Ring::ring_laws))]
 fn advanced(ring: u32, bytes: u32, address: u32) -> u32
     requires width { ring < 16 }
     requires step { bytes ≤ 4 }
@@ -41,7 +50,7 @@ fn advanced(ring: u32, bytes: u32, address: u32) -> u32
     if ring == 0 {
         return address.wrapping_add(bytes);
     }
-    let places = 1 << ring;
+    let places = places(ring);
     address / places * places + (address % places + bytes) % places
 }
 
