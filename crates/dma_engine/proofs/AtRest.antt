@@ -1,5 +1,5 @@
 -- An engine at rest asks nothing and stays as it is.
-use Rattle.std.proofs.Common.{◌≡◌, ℕ, zero, suc, ◌+◌, ◌*◌, ◌%◌, ◌<◌, Bool, true, false, not, ◌&&◌, ◌||◌, cond, List, [], ◌∷◌, length, drop, nat_eq, nat_lt, refl, ap, sym, ◌∙◌, arith, get_or, slice_get, Option, Some, None}
+use Rattle.std.proofs.Common.{◌≡◌, ℕ, zero, suc, ◌+◌, ◌%◌, Bool, true, false, not, ◌&&◌, ◌||◌, cond, List, [], ◌∷◌, length, drop, nat_eq, nat_lt, refl, ap, sym, ◌∙◌, arith, get_or, Option, Some, None}
 use Rattle.std.specs.Prelude.{map, is_none}
 use Rattle.std.specs.List.{list_all, list_any}
 use Rattle.std.proofs.lemmas.Grind.{common_steps}
@@ -12,12 +12,12 @@ use Rattle.dma_engine.specs.declared.doing.Doing.{Doing}
 use Rattle.dma_engine.specs.declared.doing.Access.TheVariants as access
 use Rattle.dma_engine.specs.declared.timer.Timer.{Timer}
 use Rattle.dma_engine.specs.declared.waiting.Waiting.{Waiting}
-use Rattle.dma_engine.specs.State.{Engine, idle_channel, channel_at}
+use Rattle.dma_engine.specs.State.{Engine, idle_channel}
 use Rattle.dma_engine.specs.Asks.{waits_for_counts, write_begun, next_request, asks_read, asks, idle_begun}
 use Rattle.dma_engine.specs.Channels.{in_turn, with_end}
 use Rattle.dma_engine.specs.Choice.{is_candidate, first_in_turn, choice_of}
 use Rattle.dma_engine.specs.Timers.{stepped, given_by, credited, after_timers}
-use Rattle.dma_engine.specs.Cycle.{is_over, after_ends, with_read_by, with_read, after_read, after_write, choice_where_none, after_choice, next, after_read_of, after_write_of, word_read, is_written, word_of}
+use Rattle.dma_engine.specs.Cycle.{is_over, after_ends, with_read_by, with_read, after_read, after_write, choice_where_none, after_choice, next, after_read_of, after_write_of}
 use Rattle.dma_engine.specs.Quiet.{is_idle_channel, stands_still, is_at_rest}
 
 -- ---- what an engine at rest is
@@ -49,10 +49,10 @@ unfolding is_at_rest
 rests s h =
     let chosen : is_none s.chosen ≡ true = both_left (is_none s.chosen) _ h in
     let others : (nat_eq (length s.waiting) 0 && (list_all is_idle_channel s.channels && list_all stands_still s.timers)) ≡ true =
-        both_right (is_none s.chosen) _ h in
+    both_right (is_none s.chosen) _ h in
     let empty : nat_eq (length s.waiting) 0 ≡ true = both_left (nat_eq (length s.waiting) 0) _ others in
     let last : (list_all is_idle_channel s.channels && list_all stands_still s.timers) ≡ true =
-        both_right (nat_eq (length s.waiting) 0) _ others in
+    both_right (nat_eq (length s.waiting) 0) _ others in
     record {
       chosen = none_is s.chosen chosen;
       waiting = empty_is s.waiting empty;
@@ -161,12 +161,12 @@ parts_at_rest : (s : Engine) (begun : Doing) (turns : List Turn) → Rests s →
     after_timers (after_choice (choice_of begun.counts s) (after_write_of begun turns (after_read_of begun turns (after_ends s)))) ≡ s
 parts_at_rest s begun turns r =
     let read : after_read_of begun turns (after_ends s) ≡ s =
-        ap (λ e. after_read_of begun turns e) (ends_at_rest s r) ∙ maybe_read_at_rest s _ r in
+    ap (λ e. after_read_of begun turns e) (ends_at_rest s r) ∙ maybe_read_at_rest s _ r in
     let write : after_write_of begun turns (after_read_of begun turns (after_ends s)) ≡ s =
-        ap (λ e. after_write_of begun turns e) read ∙ write_at_rest s _ r in
+    ap (λ e. after_write_of begun turns e) read ∙ write_at_rest s _ r in
     let choice : after_choice (choice_of begun.counts s) (after_write_of begun turns (after_read_of begun turns (after_ends s))) ≡ s =
-        ap (λ e. after_choice (choice_of begun.counts s) e) write
-        ∙ ap (λ o. after_choice o s) (choice_at_rest s begun.counts r) ∙ no_choice s r in
+    ap (λ e. after_choice (choice_of begun.counts s) e) write
+    ∙ ap (λ o. after_choice o s) (choice_at_rest s begun.counts r) ∙ no_choice s r in
     ap (λ e. after_timers e) choice ∙ timers_at_rest s r
 
 -- ---- the cycle

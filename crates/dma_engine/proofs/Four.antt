@@ -1,5 +1,5 @@
 -- A list of four elements.
-use Rattle.std.proofs.Common.{◌≡◌, ℕ, List, [], ◌∷◌, length, refl, arith, get_or}
+use Rattle.std.proofs.Common.{◌≡◌, List, [], ◌∷◌, length, refl, arith, get_or}
 use Rattle.std.specs.Prelude.{map}
 
 pub map-four : {X Y : Type 0} (f : X → Y) (xs : List X) (d : X) → length xs ≡ 4 →

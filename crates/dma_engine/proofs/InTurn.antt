@@ -1,5 +1,5 @@
 -- Channels in turn, from 0 up.
-use Rattle.std.proofs.Common.{◌≡◌, ℕ, ◌+◌, ◌<◌, ◌≤◌, Bool, true, false, refl, ap, arith, add-one}
+use Rattle.std.proofs.Common.{◌≡◌, ℕ, ◌+◌, ◌≤◌, Bool, true, false, refl, ap, arith, add-one}
 use Rattle.dma_engine.specs.State.{Engine}
 use Rattle.dma_engine.specs.Channels.{in_turn}
 

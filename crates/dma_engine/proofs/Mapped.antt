@@ -1,5 +1,5 @@
 -- A list whose first elements are changed already.
-use Rattle.std.proofs.Common.{◌≡◌, ℕ, zero, suc, ◌+◌, ◌<◌, ◌≤◌, List, [], ◌∷◌, ◌++◌, length, refl, ap, sym, ◌∙◌, arith, add-one, get_or}
+use Rattle.std.proofs.Common.{◌≡◌, ℕ, zero, suc, ◌+◌, ◌<◌, ◌≤◌, List, [], ◌∷◌, length, refl, ap, sym, ◌∙◌, arith, add-one, get_or}
 use Rattle.std.specs.Prelude.{map}
 use Rattle.std.proofs.Math.ListN.{set}
 

@@ -1,7 +1,7 @@
 -- What was packed at a place is taken from there.
-use Rattle.std.proofs.Common.{◌≡◌, ℕ, zero, suc, ◌+◌, ◌*◌, ◌/◌, ◌%◌, ◌^◌, ◌<◌, ◌≤◌, List, [], ◌∷◌, length, slice_index, refl, ap, sym, ◌∙◌, arith}
+use Rattle.std.proofs.Common.{◌≡◌, ℕ, zero, suc, ◌+◌, ◌*◌, ◌/◌, ◌%◌, ◌^◌, ◌≤◌, [], ◌∷◌, ap, sym, ◌∙◌, arith}
 use Rattle.std.proofs.lemmas.Nat.{shr-shr}
-use Rattle.dma_engine.specs.Pacing.{packed_counts, count_at, FitSixBits, CountsAreTakenAsPacked}
+use Rattle.dma_engine.specs.Pacing.{packed_counts, CountsAreTakenAsPacked}
 
 first : (count rest : ℕ) → count ≤ 63 → (count + rest * 2 ^ 6) % 2 ^ 6 ≡ count
 first count rest h = omega arith

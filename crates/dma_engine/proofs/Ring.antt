@@ -1,5 +1,5 @@
 -- An address in a ring fits.
-use Rattle.std.proofs.Common.{◌≡◌, ℕ, ◌+◌, ◌-◌, ◌*◌, ◌/◌, ◌%◌, ◌^◌, ◌<◌, ◌≤◌, arith, subst, sym, ◌∙◌, ap}
+use Rattle.std.proofs.Common.{◌≡◌, ℕ, ◌+◌, ◌-◌, ◌*◌, ◌/◌, ◌%◌, ◌^◌, ◌<◌, arith, subst, sym, ◌∙◌, ap}
 use Rattle.std.proofs.lemmas.Nat.{mul-add-lt, shr_below, pow-add, mod_below, pow_pos}
 
 pub ring_fits : (address n x : ℕ) → address < 2 ^ 32 → n < 16 → address / 2 ^ n * 2 ^ n + x % 2 ^ n < 2 ^ 32

@@ -1,5 +1,5 @@
 -- The first of twelve channels in turn is found from the first one on.
-use Rattle.std.proofs.Common.{◌≡◌, ℕ, suc, ◌+◌, ◌-◌, ◌%◌, ◌<◌, ◌≤◌, Bool, true, false, refl, ap, subst, sym, ◌∙◌, arith, Option, Some, None}
+use Rattle.std.proofs.Common.{◌≡◌, ℕ, suc, ◌+◌, ◌-◌, ◌%◌, ◌<◌, ◌≤◌, Bool, true, false, refl, arith, Option, Some, None}
 use Rattle.dma_engine.specs.Choice.{first_in_turn}
 
 -- what is found among the channels that are left, where so many after the last one were passed

@@ -2,7 +2,7 @@
 -- data request (TREQ) k, which the PIO blocks' FIFOs have, and counts 16 to 19 are those of requests 20 to 23, which UART0's
 -- transmitter and receiver and UART1's have (RP2040 Datasheet, 2.5.3.1, "System DREQ Table"). The count of a transmitter is
 -- the number of its FIFO's free places, and that of a receiver the number of words in its FIFO.
-use Rattle.std.specs.Prelude.{◌≡◌, ℕ, zero, suc, ◌+◌, ◌*◌, ◌/◌, ◌%◌, ◌^◌, ◌<◌, ◌≤◌, List, [], ◌∷◌, length, slice_index}
+use Rattle.std.specs.Prelude.{◌≡◌, ℕ, ◌+◌, ◌*◌, ◌/◌, ◌%◌, ◌^◌, ◌<◌, ◌≤◌, List, [], ◌∷◌, length, slice_index}
 
 -- the counts as one number, the first one lowest
 abbrev pub packed_counts : List ℕ → ℕ

@@ -75,7 +75,9 @@ impl Engine {
     pub(crate) fn waits_for_counts(&self) -> bool
         ensures { result ≡ list_any waits_for_counts self.now.channels }
     {
-        self.channels.iter().any(|channel| channel.waits_for_counts())
+        self.channels
+            .iter()
+            .any(|channel| channel.waits_for_counts())
     }
 
     /// The write that has waited longest.

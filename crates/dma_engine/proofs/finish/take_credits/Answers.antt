@@ -1,4 +1,4 @@
-use Rattle.std.proofs.Common.{◌≡◌, ◌<◌, ◌∙◌, ap, sym, length, arith}
+use Rattle.std.proofs.Common.{◌∙◌, sym, arith}
 use Rattle.dma_engine.specs.State.{idle_channel}
 use Rattle.dma_engine.specs.Timers.{credited}
 use Rattle.dma_engine.proofs.Mapped.{changed_below-none, changed_below-step, changed_below-all}
