@@ -1,5 +1,6 @@
 pub mod AtRest
 pub mod Counting
+pub mod First
 pub mod Four
 pub mod InTurn
 pub mod Mapped

@@ -3,6 +3,7 @@ pub mod Channels
 pub mod Choice
 pub mod Control
 pub mod Cycle
+pub mod Law
 pub mod Pacing
 pub mod Quiet
 pub mod State
