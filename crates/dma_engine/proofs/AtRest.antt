@@ -1,0 +1,216 @@
+-- An engine at rest asks nothing and stays as it is.
+use Rattle.std.proofs.Common.{◌≡◌, ℕ, zero, suc, ◌+◌, ◌%◌, Bool, true, false, not, ◌&&◌, ◌||◌, cond, List, [], ◌∷◌, length, drop, nat_eq, nat_lt, refl, ap, sym, ◌∙◌, arith, get_or, Option, Some, None}
+use Rattle.std.specs.Prelude.{map, is_none}
+use Rattle.std.specs.List.{list_all, list_any}
+use Rattle.std.proofs.lemmas.Grind.{common_steps}
+use Rattle.std.proofs.lemmas.Bool.Decides.{nat_tests}
+use Rattle.rp_base.specs.declared.Request.{Request}
+use Rattle.lane_look.specs.declared.lane.Turn.{Turn}
+use Rattle.lane_look.specs.Asking.Asking.{Ready}
+use Rattle.dma_engine.specs.declared.channel.Channel.{Channel}
+use Rattle.dma_engine.specs.declared.doing.Doing.{Doing}
+use Rattle.dma_engine.specs.declared.doing.Access.TheVariants as access
+use Rattle.dma_engine.specs.declared.timer.Timer.{Timer}
+use Rattle.dma_engine.specs.declared.waiting.Waiting.{Waiting}
+use Rattle.dma_engine.specs.State.{Engine, idle_channel}
+use Rattle.dma_engine.specs.Asks.{waits_for_counts, write_begun, next_request, asks_read, asks, idle_begun}
+use Rattle.dma_engine.specs.Channels.{in_turn, with_end}
+use Rattle.dma_engine.specs.Choice.{is_candidate, first_in_turn, choice_of}
+use Rattle.dma_engine.specs.Timers.{stepped, given_by, credited, after_timers}
+use Rattle.dma_engine.specs.Cycle.{is_over, after_ends, with_read_by, with_read, after_read, after_write, choice_where_none, after_choice, next, after_read_of, after_write_of}
+use Rattle.dma_engine.specs.Quiet.{is_idle_channel, stands_still, is_at_rest}
+
+-- ---- what an engine at rest is
+
+record Rests (s : Engine) : Type 0 where
+  chosen : s.chosen ≡ None
+  waiting : s.waiting ≡ []
+  channels : list_all is_idle_channel s.channels ≡ true
+  timers : list_all stands_still s.timers ≡ true
+
+both_left : (a b : Bool) → (a && b) ≡ true → a ≡ true
+both_left true b h = refl
+both_left false b h = h
+
+both_right : (a b : Bool) → (a && b) ≡ true → b ≡ true
+both_right true b h = h
+both_right false b h = absurd (cc)
+
+none_is : (o : Option ℕ) → is_none o ≡ true → o ≡ None
+none_is None h = refl
+none_is (Some n) h = absurd (cc)
+
+empty_is : (ws : List Waiting) → nat_eq (length ws) 0 ≡ true → ws ≡ []
+empty_is [] h = refl
+empty_is (w ∷ ws) h = absurd (grind (arith, nat_tests, common_steps))
+
+rests : (s : Engine) → is_at_rest s ≡ true → Rests s
+unfolding is_at_rest
+rests s h =
+    let chosen : is_none s.chosen ≡ true = both_left (is_none s.chosen) _ h in
+    let others : (nat_eq (length s.waiting) 0 && (list_all is_idle_channel s.channels && list_all stands_still s.timers)) ≡ true =
+    both_right (is_none s.chosen) _ h in
+    let empty : nat_eq (length s.waiting) 0 ≡ true = both_left (nat_eq (length s.waiting) 0) _ others in
+    let last : (list_all is_idle_channel s.channels && list_all stands_still s.timers) ≡ true =
+    both_right (nat_eq (length s.waiting) 0) _ others in
+    record {
+      chosen = none_is s.chosen chosen;
+      waiting = empty_is s.waiting empty;
+      channels = both_left (list_all is_idle_channel s.channels) _ last;
+      timers = both_right (list_all is_idle_channel s.channels) _ last;
+    }
+
+not_is : (b : Bool) → not b ≡ true → b ≡ false
+not_is true h = sym h
+not_is false h = refl
+
+-- ---- channels
+
+idle_at : (cs : List Channel) (n : ℕ) → list_all is_idle_channel cs ≡ true → (get_or cs n idle_channel).busy ≡ false
+idle_at [] n h = refl
+idle_at (c ∷ cs) zero h = not_is c.busy (both_left (not c.busy) _ h)
+idle_at (c ∷ cs) (suc n) h = idle_at cs n (both_right (not c.busy) _ h)
+
+none_waits : (cs : List Channel) → list_all is_idle_channel cs ≡ true → list_any waits_for_counts cs ≡ false
+none_waits [] h = refl
+none_waits (c ∷ cs) h =
+    rw (not_is c.busy (both_left (not c.busy) _ h)) (none_waits cs (both_right (not c.busy) _ h))
+
+not_over : (s : Engine) (n : ℕ) → Rests s → is_over s n ≡ false
+not_over s n r = rw (idle_at s.channels n r.channels) refl
+
+not_candidate : (s : Engine) (high : Bool) (counts n : ℕ) → Rests s → is_candidate high counts s n ≡ false
+not_candidate s high counts n r = rw (idle_at s.channels n r.channels) refl
+
+none_in_turn : (test : ℕ → Bool) (act : ℕ → Engine → Engine) (n : ℕ) (e : Engine) → ((k : ℕ) → test k ≡ false) →
+    in_turn test act n e ≡ e
+unfolding in_turn
+none_in_turn test act zero e h = refl
+none_in_turn test act (suc n) e h = rw (h n) (none_in_turn test act n e h)
+
+none_first : (test : ℕ → Bool) (n left : ℕ) → ((k : ℕ) → test k ≡ false) → first_in_turn test n left ≡ None
+unfolding first_in_turn
+none_first test n zero h = refl
+none_first test n (suc left) h = rw (h (n % 12)) (none_first test (n + 1) left h)
+
+-- ---- the parts of a cycle
+
+ends_at_rest : (s : Engine) → Rests s → after_ends s ≡ s
+unfolding after_ends
+ends_at_rest s r = none_in_turn (is_over s) with_end 12 s (λ k. not_over s k r)
+
+either_other : {A : Type 0} (b : Bool) (x y : A) → x ≡ y → cond b x y ≡ y
+either_other true x y h = h
+either_other false x y h = refl
+
+no_read_by : (s : Engine) (word : ℕ) (chosen : Option ℕ) → chosen ≡ None → with_read_by word chosen s ≡ s
+no_read_by s word None h = refl
+no_read_by s word (Some n) h = absurd (cc)
+
+read_at_rest : (s : Engine) (word : ℕ) → Rests s → with_read word s ≡ s
+unfolding with_read
+read_at_rest s word r =
+    either_other (nat_lt (length s.waiting) 2) (with_read_by word s.chosen s) s (no_read_by s word s.chosen r.chosen)
+
+maybe_read_at_rest : (s : Engine) (word : Option ℕ) → Rests s → after_read word s ≡ s
+maybe_read_at_rest s None r = refl
+maybe_read_at_rest s (Some word) r = read_at_rest s word r
+
+nothing_leaves : (ws : List Waiting) → ws ≡ [] → drop 1 ws ≡ ws
+nothing_leaves [] h = refl
+nothing_leaves (w ∷ ws) h = absurd (cc)
+
+write_at_rest : (s : Engine) (done : Bool) → Rests s → after_write done s ≡ s
+write_at_rest s true r = ap (λ ws. record s { waiting = ws }) (nothing_leaves s.waiting r.waiting)
+write_at_rest s false r = refl
+
+choice_at_rest : (s : Engine) (counts : ℕ) → Rests s → choice_of counts s ≡ None
+unfolding choice_of
+choice_at_rest s counts r =
+    rw (none_first (is_candidate true counts s) (s.last_chosen + 1) 12 (λ k. not_candidate s true counts k r))
+    (none_first (is_candidate false counts s) (s.last_chosen + 1) 12 (λ k. not_candidate s false counts k r))
+
+no_choice_by : (s : Engine) (chosen : Option ℕ) → chosen ≡ None → choice_where_none chosen None s ≡ s
+no_choice_by s None h = refl
+no_choice_by s (Some n) h = absurd (cc)
+
+no_choice : (s : Engine) → Rests s → after_choice None s ≡ s
+no_choice s r = no_choice_by s s.chosen r.chosen
+
+still : (t : Timer) → stands_still t ≡ true → stepped t ≡ t
+still t h = rw (not_is _ h) refl
+
+timers_still : (ts : List Timer) → list_all stands_still ts ≡ true → map stepped ts ≡ ts
+timers_still [] h = refl
+timers_still (t ∷ ts) h =
+    rw (timers_still ts (both_right (stands_still t) _ h)) (ap (λ x. x ∷ ts) (still t (both_left (stands_still t) _ h)))
+
+credits_still : (given : List Bool) (cs : List Channel) → list_all is_idle_channel cs ≡ true → map (credited given) cs ≡ cs
+credits_still given [] h = refl
+credits_still given (c ∷ cs) h =
+    let busy : c.busy ≡ false = not_is c.busy (both_left (not c.busy) _ h) in
+    rw (credits_still given cs (both_right (not c.busy) _ h)) (rw busy refl)
+
+timers_at_rest : (s : Engine) → Rests s → after_timers s ≡ s
+unfolding after_timers
+timers_at_rest s r =
+    ap (λ ts. record s { timers = ts; channels = map (credited (given_by s.timers)) s.channels }) (timers_still s.timers r.timers)
+    ∙ ap (λ cs. record s { channels = cs }) (credits_still (given_by s.timers) s.channels r.channels)
+
+parts_at_rest : (s : Engine) (begun : Doing) (turns : List Turn) → Rests s →
+    after_timers (after_choice (choice_of begun.counts s) (after_write_of begun turns (after_read_of begun turns (after_ends s)))) ≡ s
+parts_at_rest s begun turns r =
+    let read : after_read_of begun turns (after_ends s) ≡ s =
+    ap (λ e. after_read_of begun turns e) (ends_at_rest s r) ∙ maybe_read_at_rest s _ r in
+    let write : after_write_of begun turns (after_read_of begun turns (after_ends s)) ≡ s =
+    ap (λ e. after_write_of begun turns e) read ∙ write_at_rest s _ r in
+    let choice : after_choice (choice_of begun.counts s) (after_write_of begun turns (after_read_of begun turns (after_ends s))) ≡ s =
+    ap (λ e. after_choice (choice_of begun.counts s) e) write
+    ∙ ap (λ o. after_choice o s) (choice_at_rest s begun.counts r) ∙ no_choice s r in
+    ap (λ e. after_timers e) choice ∙ timers_at_rest s r
+
+-- ---- the cycle
+
+either_same : {A : Type 0} (b : Bool) (x y : A) → y ≡ x → cond b x y ≡ x
+either_same true x y h = refl
+either_same false x y h = h
+
+pub next-at_rest : (s : Engine) (begun : Doing) (turns : List Turn) → is_at_rest s ≡ true → next s begun turns ≡ s
+unfolding next
+next-at_rest s begun turns h = either_same s.held s _ (parts_at_rest s begun turns (rests s h))
+
+no_write : (s : Engine) → Rests s → write_begun s ≡ access.Nothing
+unfolding write_begun
+no_write s r = rw r.waiting refl
+
+abbrev no_read : Option Request
+no_read = None
+
+no_either : (b : Bool) → cond b no_read no_read ≡ no_read
+no_either true = refl
+no_either false = refl
+
+no_request : (s : Engine) → Rests s → next_request s ≡ None
+unfolding next_request
+no_request s r = rw r.chosen (no_either (nat_lt (length s.waiting) 2))
+
+reads_nothing : (s : Engine) → Rests s → asks_read 0 s ≡ Ready idle_begun
+unfolding asks_read
+reads_nothing s r = rw (no_write s r, no_request s r) refl
+
+pub asks-at_rest : (s : Engine) → is_at_rest s ≡ true → asks s ≡ Ready idle_begun
+unfolding asks
+asks-at_rest s h =
+    let r : Rests s = rests s h in
+    either_same s.held (Ready idle_begun) _ (rw (none_waits s.channels r.channels) (reads_nothing s r))
+
+-- one of the two
+pub other_is : (awake rest : Bool) → (awake || rest) ≡ true → awake ≡ false → rest ≡ true
+other_is true rest h e = absurd (cc)
+other_is false rest h e = h
+
+pub not_or : (rest : Bool) → (not rest || rest) ≡ true
+not_or true = refl
+not_or false = refl
+
+pub ruleset at_rest = (next-at_rest, asks-at_rest, other_is, not_or)

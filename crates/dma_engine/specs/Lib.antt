@@ -1,0 +1,12 @@
+pub mod Asks
+pub mod Channels
+pub mod Choice
+pub mod Control
+pub mod Cycle
+pub mod Law
+pub mod Pacing
+pub mod Quiet
+pub mod State
+pub mod Timers
+pub mod Transfer
+pub mod Words

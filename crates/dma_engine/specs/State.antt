@@ -1,0 +1,63 @@
+-- The DMA engine between two cycles (RP2040 Datasheet, 2.5 "DMA").
+use Rattle.std.specs.Prelude.{ℕ, Bool, true, false, List, [], replicate, Option, None, slice_index_or}
+use Rattle.dma_engine.specs.declared.channel.Channel.{Channel}
+use Rattle.dma_engine.specs.declared.waiting.Waiting.{Waiting}
+use Rattle.dma_engine.specs.declared.timer.Timer.{Timer}
+use Rattle.dma_engine.specs.declared.line.Line.{Line}
+
+pub record Engine : Type 0 where
+  -- the twelve channels
+  pub channels : List Channel
+  -- the channel that is chosen now, whose next read is not done yet
+  pub chosen : Option ℕ
+  -- the channel that was chosen last
+  pub last_chosen : ℕ
+  -- the writes that wait, the oldest first
+  pub waiting : List Waiting
+  -- INTR: the channels that raised their interrupt, by bits
+  pub raised : ℕ
+  -- INTE and INTF of the two interrupt lines
+  pub line_0 : Line
+  pub line_1 : Line
+  -- the four pacing timers
+  pub timers : List Timer
+  -- the engine's bit of RESETS is set
+  pub held : Bool
+
+abbrev pub idle_channel : Channel
+idle_channel =
+    record { read = 0; write = 0; count = 0; reload = 0; ctrl = 0; busy = false; aborted = false; credits = 0 }
+
+-- a channel by its number
+abbrev pub channel_at : ℕ → Engine → Channel
+channel_at n e = slice_index_or e.channels n idle_channel
+
+abbrev pub stopped_timer : Timer
+stopped_timer = record { x = 0; y = 0; accumulator = 0 }
+
+abbrev pub timer_at : ℕ → List Timer → Timer
+timer_at k timers = slice_index_or timers k stopped_timer
+
+abbrev pub silent_line : Line
+silent_line = record { enable = 0; force = 0 }
+
+-- after a reset nothing is in progress and every register is 0; the first channel to be looked at is channel 0, which
+-- follows channel 11
+abbrev pub reset_state : Bool → Engine
+reset_state held =
+    record {
+      channels = replicate 12 idle_channel;
+      chosen = None;
+      last_chosen = 11;
+      waiting = [];
+      raised = 0;
+      line_0 = silent_line;
+      line_1 = silent_line;
+      timers = replicate 4 stopped_timer;
+      held = held;
+    }
+
+-- the engine's bit of RESETS: setting it puts the engine in its reset state
+abbrev pub with_hold : Bool → Engine → Engine
+with_hold true s = reset_state true
+with_hold false s = record s { held = false }

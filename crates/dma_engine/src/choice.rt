@@ -1,0 +1,109 @@
+//! Which channel is chosen for the next transfer.
+
+ghost use Rattle.std.specs.Prelude.{◌≡◌, ◌<◌, ◌≤◌};
+ghost use Rattle.dma_engine.specs.Pacing.{count_at};
+ghost use Rattle.dma_engine.specs.Choice.{is_paced_by, chosen_by, unread, writes_of, unwritten, is_ready, is_candidate, next_candidate, choice_of};
+
+use crate::channel::Channel;
+use crate::engine::{CHANNELS, Engine};
+use crate::pace::{Pace, pace_of};
+
+/// The count at a place.
+fn count_at(place: u8, counts: u128) -> u8
+    requires { place < 20 }
+    ensures { result ≡ count_at place counts }
+{
+    ((counts >> (6 * place)) % 64) as u8
+}
+
+impl Engine {
+    /// The channel of that number has that data request.
+    fn is_paced_by(&self, treq: u8, number: u8) -> bool
+        ensures { result ≡ is_paced_by treq self.now number }
+    {
+        number < CHANNELS && self.channels[number as usize].treq() == treq
+    }
+
+    /// The transfers of that data request that are chosen and not read.
+    fn unread(&self, treq: u8) -> u8
+        ensures value { result ≡ unread treq self.now }
+        ensures bound { result ≤ 1 }
+    {
+        match self.chosen {
+            Some(number) if self.is_paced_by(treq, number) => 1,
+            _ => 0,
+        }
+    }
+
+    /// The writes of that data request that wait.
+    #[tactic(auto, unfolding(crate::specs::Choice::writes_of), using(crate::proofs::Counting::counting))]
+    fn writes(&self, treq: u8) -> u8
+        ensures value { result ≡ writes_of treq self.now }
+        ensures bound { result ≤ 2 }
+    {
+        let writes = self.waiting.as_slice();
+        writes
+            .iter()
+            .filter(|write| self.is_paced_by(treq, write.channel))
+            .count() as u8
+    }
+
+    /// The transfers of that data request that are chosen and not written.
+    fn unwritten(&self, treq: u8) -> u8
+        ensures { result ≡ unwritten treq self.now }
+    {
+        self.unread(treq) + self.writes(treq)
+    }
+
+    /// The channel is ready for one more transfer.
+    #[tactic(auto, unfolding(crate::specs::Choice::is_ready))]
+    fn is_ready(&self, counts: u128, channel: &Channel) -> bool
+        ensures { result ≡ is_ready counts channel.now self.now }
+    {
+        let treq = channel.treq();
+        match pace_of(treq) {
+            Pace::Sender(place) => self.unwritten(treq) < count_at(place, counts),
+            Pace::Receiver(place) => self.unread(treq) < count_at(place, counts),
+            Pace::Timer(_) => 0 < channel.credits,
+            Pace::Always => true,
+            Pace::Never => false,
+        }
+    }
+
+    /// The channel can be chosen.
+    fn is_candidate(&self, high: bool, counts: u128, number: u8) -> bool
+        requires { number < 12 }
+        ensures { result ≡ is_candidate high counts self.now number }
+    {
+        let channel = &self.channels[number as usize];
+        channel.busy
+            && channel.count != 0
+            && (!high || channel.is_high())
+            && self.is_ready(counts, channel)
+    }
+
+    /// The next channel after the one that was chosen last that can be chosen.
+    #[tactic(auto, using(crate::proofs::Search::searching))]
+    fn next_candidate(&self, high: bool, counts: u128) -> Option<u8>
+        ensures { result ≡ next_candidate high counts self.now }
+    {
+        for passed in 0..CHANNELS {
+            let number = ((u16::from(self.last_chosen) + 1 + u16::from(passed)) % 12) as u8;
+            if self.is_candidate(high, counts, number) {
+                return Some(number);
+            }
+        }
+        None
+    }
+
+    /// The choice: a channel of high priority before all others.
+    #[tactic(auto, unfolding(crate::specs::Choice::choice_of))]
+    pub(crate) fn choice(&self, counts: u128) -> Option<u8>
+        ensures { result ≡ choice_of counts self.now }
+    {
+        match self.next_candidate(true, counts) {
+            Some(number) => Some(number),
+            None => self.next_candidate(false, counts),
+        }
+    }
+}

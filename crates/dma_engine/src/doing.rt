@@ -1,0 +1,29 @@
+//! What the engine has begun in a cycle.
+
+use rp_base::{Request, Why};
+
+/// What the engine does by one of its two ports in a cycle.
+#[derive(Clone, Copy)]
+pub enum Access {
+    /// Nothing.
+    Nothing,
+    /// A read of SRAM, whose word is this at the start of the cycle.
+    Read(Request, u32),
+    /// A write to SRAM.
+    Write(Request),
+    /// An access that is not to SRAM.
+    Outward(Request),
+    /// Nothing: the machine stops before this cycle.
+    Stopped(Why),
+}
+
+/// What the engine has begun in a cycle, once its questions are answered.
+#[derive(Clone, Copy)]
+pub struct Doing {
+    /// What it does by its read port.
+    pub read: Access,
+    /// What it does by its write port.
+    pub write: Access,
+    /// The counts by which channels are paced, six bits each; 0 where no channel waits for them.
+    pub counts: u128,
+}

@@ -1,0 +1,94 @@
+//! The engine: its state, a reset, and its interrupt lines.
+
+ghost use Rattle.std.specs.Prelude.{◌≡◌};
+
+use crate::channel::Channel;
+use crate::line::Line;
+use crate::timer::Timer;
+use crate::waiting::Waiting;
+use arrayvec::ArrayVec;
+use std::marker::Model;
+
+/// How many channels there are.
+pub(crate) const CHANNELS: u8 = 12;
+
+/// The engine between two cycles.
+#[derive(Drop)]
+pub(crate) struct Engine {
+    pub(crate) channels: [Channel; 12],
+    pub(crate) chosen: Option<u8>,
+    pub(crate) last_chosen: u8,
+    pub(crate) waiting: ArrayVec<Waiting, 2>,
+    pub(crate) raised: u16,
+    pub(crate) line_0: Line,
+    pub(crate) line_1: Line,
+    pub(crate) timers: [Timer; 4],
+    pub(crate) held: bool,
+}
+
+impl Model for Engine {
+    ghost use Rattle.dma_engine.specs.State.{Engine as State};
+
+    ghost Value = { State };
+
+    ghost view = { λ e. record { channels = e.channels; chosen = e.chosen; last_chosen = e.last_chosen; waiting = e.waiting.items; raised = e.raised; line_0 = e.line_0; line_1 = e.line_1; timers = e.timers; held = e.held } };
+}
+
+impl Engine {
+    ghost use Rattle.dma_engine.specs.State.{reset_state, with_hold};
+    ghost use Rattle.dma_engine.specs.Words.{lines_of};
+
+    /// The reset state.
+    pub(crate) fn new(held: bool) -> Engine
+        ensures { result ≡ reset_state held }
+    {
+        Engine {
+            channels: [Channel::IDLE; 12],
+            chosen: None,
+            last_chosen: CHANNELS - 1,
+            waiting: ArrayVec::new(),
+            raised: 0,
+            line_0: Line::SILENT,
+            line_1: Line::SILENT,
+            timers: [Timer::STOPPED; 4],
+            held,
+        }
+    }
+
+    /// Sets the engine's bit of RESETS.
+    pub(crate) fn set_held(&mut self, held: bool)
+        ensures { self.new ≡ with_hold held self.old }
+    {
+        if held {
+            *self = Engine::new(true);
+        } else {
+            self.held = false;
+        }
+    }
+
+    /// The two interrupt lines.
+    pub(crate) fn lines(&self) -> [bool; 2]
+        ensures { result ≡ lines_of self.now }
+    {
+        [
+            self.line_0.is_raised(self.raised),
+            self.line_1.is_raised(self.raised),
+        ]
+    }
+
+    /// Takes the state of another engine.
+    pub(crate) fn copy_from(&mut self, other: &Engine)
+        ensures { self.new ≡ other.now }
+    {
+        self.channels = other.channels;
+        self.chosen = other.chosen;
+        self.last_chosen = other.last_chosen;
+        self.waiting.clear();
+        let _ = self.waiting.try_extend_from_slice(other.waiting.as_slice());
+        self.raised = other.raised;
+        self.line_0 = other.line_0;
+        self.line_1 = other.line_1;
+        self.timers = other.timers;
+        self.held = other.held;
+    }
+}

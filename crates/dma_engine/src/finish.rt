@@ -1,0 +1,240 @@
+//! How a cycle ends: sequences end, the read and the write are done or wait, the next channel is chosen, and the pacing
+//! timers give their credits.
+
+ghost use Rattle.std.specs.Prelude.{◌≡◌, ◌<◌, length, map, Some};
+ghost use Rattle.std.specs.List.{list_all};
+ghost use Rattle.lane_look.specs.declared.lane.Turn.{Turn};
+ghost use Rattle.dma_engine.specs.Control.{treq_of};
+ghost use Rattle.dma_engine.specs.Choice.{pace_of};
+ghost use Rattle.dma_engine.specs.State.{channel_at};
+ghost use Rattle.dma_engine.specs.Timers.{gives, stepped, given_by, is_given, more_credits, credited, after_timers};
+ghost use Rattle.dma_engine.specs.Quiet.{is_idle_channel, stands_still, is_at_rest};
+ghost use Rattle.dma_engine.specs.Cycle.{want_of, word_of, word_read, with_data, with_read, is_written, after_write, credits_left, counted, after_choice, next};
+
+use crate::channel::Channel;
+use crate::doing::{Access, Doing};
+use crate::engine::{CHANNELS, Engine};
+use crate::pace::{Pace, pace_of, uses_credits};
+use crate::timer::Timer;
+use lane_look::{Turn, Want};
+
+/// What an access wants of the bus.
+pub(crate) fn want(access: &Access) -> Want
+    ensures { result ≡ want_of access.now }
+{
+    match *access {
+        Access::Nothing => Want::Nothing,
+        Access::Read(request, _) | Access::Write(request) => Want::Ram(request),
+        Access::Outward(request) => Want::Outward(request),
+        Access::Stopped(why) => Want::Stopped(why),
+    }
+}
+
+/// The word of a read that is done.
+fn word_read(access: &Access, turn: Turn) -> Option<u32>
+    ensures { result ≡ word_read access.now (word_of (Some turn)) }
+{
+    match (*access, turn) {
+        (Access::Read(_, told), Turn::Done(_)) => Some(told),
+        (Access::Outward(_), Turn::Done(word)) => Some(word),
+        _ => None,
+    }
+}
+
+/// The write is done.
+fn is_written(access: &Access, turn: Turn) -> bool
+    ensures { result ≡ is_written access.now (word_of (Some turn)) }
+{
+    matches!(
+        (*access, turn),
+        (Access::Write(_) | Access::Outward(_), Turn::Done(_))
+    )
+}
+
+/// No channel is busy.
+fn are_idle(channels: &[Channel; 12]) -> bool
+    ensures { result ≡ list_all is_idle_channel channels.now }
+{
+    channels.iter().all(|channel| !channel.busy)
+}
+
+/// No timer runs.
+fn stand_still(timers: &[Timer; 4]) -> bool
+    ensures { result ≡ list_all stands_still timers.now }
+{
+    timers.iter().all(|timer| !timer.runs())
+}
+
+/// Which timers give a credit.
+#[tactic(auto, using(crate::proofs::Four::four))]
+fn given_by(timers: &[Timer; 4]) -> [bool; 4]
+    ensures { result ≡ given_by timers.now }
+{
+    [
+        timers[0].gives(),
+        timers[1].gives(),
+        timers[2].gives(),
+        timers[3].gives(),
+    ]
+}
+
+/// The timers after a cycle.
+#[tactic(auto, using(crate::proofs::Four::four))]
+fn stepped(timers: &[Timer; 4]) -> [Timer; 4]
+    ensures { result ≡ map stepped timers.now }
+{
+    [
+        timers[0].stepped(),
+        timers[1].stepped(),
+        timers[2].stepped(),
+        timers[3].stepped(),
+    ]
+}
+
+/// Each channel takes the credit of its timer.
+fn take_credits(channels: &mut [Channel; 12], given: &[bool; 4])
+    ensures { channels.new ≡ map (credited given.now) channels.old }
+{
+    for number in 0..CHANNELS {
+        let channel = &mut channels[number as usize];
+        channel.take_credit(given);
+    }
+}
+
+impl Channel {
+    /// The credits that are left after a transfer was chosen.
+    fn credits_left(&self) -> u8
+        ensures { result ≡ credits_left self.now }
+    {
+        if uses_credits(pace_of(self.treq())) {
+            self.credits.saturating_sub(1)
+        } else {
+            self.credits
+        }
+    }
+
+    /// A transfer was chosen.
+    fn count_down(&mut self)
+        ensures { self.new ≡ counted self.old }
+    {
+        self.credits = self.credits_left();
+        self.count = self.count.saturating_sub(1);
+    }
+
+    /// The timer by which the channel is paced gives a credit.
+    fn is_given(&self, given: &[bool; 4]) -> bool
+        ensures { result ≡ is_given given.now (pace_of (treq_of self.now)) }
+    {
+        match pace_of(self.treq()) {
+            Pace::Timer(k) => given.get(k as usize).copied().unwrap_or(false),
+            _ => false,
+        }
+    }
+
+    /// Takes the credit of the channel's timer, where it gives one.
+    fn take_credit(&mut self, given: &[bool; 4])
+        ensures { self.new ≡ credited given.now self.old }
+    {
+        if self.busy && self.is_given(given) {
+            self.credits = if self.credits < 63 {
+                self.credits + 1
+            } else {
+                63
+            };
+        }
+    }
+}
+
+impl Engine {
+    /// The data of a channel's read joins the writes that wait.
+    fn take_data(&mut self, number: u8, word: u32)
+        requires channel { number < 12 }
+        requires room { length self.old.waiting < 2 }
+        ensures { self.new ≡ with_data word number (channel_at number self.old) self.old }
+    {
+        let mut channel = self.channels[number as usize];
+        let write = channel.write_after(number, word);
+        channel.advance();
+        self.channels[number as usize] = channel;
+        self.chosen = None;
+        self.waiting.push(write);
+    }
+
+    /// The read of the chosen channel is done.
+    #[tactic(auto, unfolding(crate::specs::Cycle::with_read))]
+    fn end_read(&mut self, word: u32)
+        ensures { self.new ≡ with_read word self.old }
+    {
+        match self.chosen {
+            Some(number) if number < CHANNELS && self.waiting.len() < 2 => {
+                self.take_data(number, word);
+            }
+            _ => {}
+        }
+    }
+
+    /// The first write leaves where it is done.
+    fn end_write(&mut self, done: bool)
+        ensures { self.new ≡ after_write done self.old }
+    {
+        if done && !self.waiting.is_empty() {
+            self.waiting.remove(0);
+        }
+    }
+
+    /// The choice becomes the chosen channel where there is none.
+    fn take_choice(&mut self, choice: Option<u8>)
+        ensures { self.new ≡ after_choice choice self.old }
+    {
+        if self.chosen.is_some() {
+            return;
+        }
+        if let Some(number) = choice {
+            if number < CHANNELS {
+                let channel = &mut self.channels[number as usize];
+                channel.count_down();
+            }
+            self.chosen = Some(number);
+            self.last_chosen = number;
+        }
+    }
+
+    /// The pacing timers have their cycle.
+    #[tactic(auto, unfolding(crate::specs::Timers::after_timers))]
+    fn step_timers(&mut self)
+        ensures { self.new ≡ after_timers self.old }
+    {
+        let given = given_by(&self.timers);
+        self.timers = stepped(&self.timers);
+        take_credits(&mut self.channels, &given);
+    }
+
+    /// The cycle, where this was begun and these turns were given.
+    #[tactic(auto, unfolding(crate::specs::Cycle::next))]
+    pub(crate) fn finish(&mut self, begun: &Doing, turns: &[Turn; 2])
+        ensures { self.new ≡ next self.old begun.now turns.now }
+    {
+        if self.held {
+            return;
+        }
+        let choice = self.choice(begun.counts);
+        self.end_sequences();
+        if let Some(word) = word_read(&begun.read, turns[0]) {
+            self.end_read(word);
+        }
+        self.end_write(is_written(&begun.write, turns[1]));
+        self.take_choice(choice);
+        self.step_timers();
+    }
+
+    /// Nothing can happen by itself.
+    #[tactic(auto, unfolding(crate::specs::Quiet::is_at_rest))]
+    pub(crate) fn is_at_rest(&self) -> bool
+        ensures { result ≡ is_at_rest self.now }
+    {
+        if self.chosen.is_some() || !self.waiting.is_empty() {
+            return false;
+        }
+        are_idle(&self.channels) && stand_still(&self.timers)
+    }
+}

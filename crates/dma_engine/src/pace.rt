@@ -1,0 +1,42 @@
+//! What paces a channel.
+
+ghost use Rattle.std.specs.Prelude.{◌≡◌};
+ghost use Rattle.dma_engine.specs.Choice.{pace_of};
+ghost use Rattle.dma_engine.specs.Cycle.{uses_credits};
+
+/// What paces a channel, by its data request (RP2040 Datasheet, 2.5.3.1 and 2.5.7, TREQ_SEL).
+#[derive(Clone, Copy)]
+pub enum Pace {
+    /// A transmitter's FIFO, whose count of free places is at that place of the counts.
+    Sender(u8),
+    /// A receiver's FIFO, whose count of words is at that place of the counts.
+    Receiver(u8),
+    /// A pacing timer, 0 to 3.
+    Timer(u8),
+    /// Nothing: the channel is always ready.
+    Always,
+    /// A part that this machine does not have: the channel is never ready.
+    Never,
+}
+
+/// What paces a channel of that data request.
+pub(crate) fn pace_of(treq: u8) -> Pace
+    ensures { result ≡ pace_of treq }
+{
+    match treq {
+        0..=15 if treq / 4 % 2 == 0 => Pace::Sender(treq),
+        0..=15 => Pace::Receiver(treq),
+        20..=23 if treq % 2 == 0 => Pace::Sender(treq - 4),
+        20..=23 => Pace::Receiver(treq - 4),
+        0x3b..=0x3e => Pace::Timer(treq - 0x3b),
+        0x3f => Pace::Always,
+        _ => Pace::Never,
+    }
+}
+
+/// The channel spends a credit for each transfer.
+pub(crate) fn uses_credits(pace: Pace) -> bool
+    ensures { result ≡ uses_credits pace }
+{
+    matches!(pace, Pace::Timer(_))
+}

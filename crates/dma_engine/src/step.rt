@@ -1,0 +1,129 @@
+//! The engine as the rest of the machine sees it, and as a lane of the machine.
+
+ghost use Rattle.std.specs.Prelude.{◌≡◌, None};
+
+use crate::doing::{Access, Doing};
+use crate::engine::Engine;
+use crate::finish::want;
+use lane_look::{Lane, Look, Marks, Turn, Want};
+use std::marker::Model;
+
+/// The DMA engine: its channels, pacing timers and interrupts, the transfer that is chosen, and the writes that wait.
+#[derive(Drop)]
+pub struct Dma {
+    engine: Engine,
+    /// Something may happen in the next cycle.
+    awake: bool,
+}
+
+impl Model for Dma {
+    ghost use Rattle.std.specs.Prelude.{◌≡◌, ◌||◌, true};
+    ghost use Rattle.dma_engine.specs.State.{Engine as State};
+    ghost use Rattle.dma_engine.specs.Quiet.{is_at_rest};
+
+    ghost Value = { State };
+
+    ghost view = { λ d. d.engine };
+
+    ghost invariant = { λ d. (d.awake || is_at_rest d.engine) ≡ true };
+}
+
+impl Dma {
+    ghost use Rattle.std.specs.Prelude.{false};
+    ghost use Rattle.dma_engine.specs.State.{reset_state, with_hold};
+    ghost use Rattle.dma_engine.specs.Words.{word_of, is_allowed, effect_of, lines_of};
+
+    /// The engine in its reset state: no channel is busy, and every register is 0.
+    pub fn new() -> Dma
+        ensures { result ≡ reset_state false }
+    {
+        Dma {
+            engine: Engine::new(false),
+            awake: true,
+        }
+    }
+
+    /// The word at an offset of the plain view (RP2040 Datasheet, 2.5.7); 0 where the engine is held. None exactly where
+    /// there is no such word.
+    pub fn read(&self, offset: u16) -> Option<u32>
+        ensures { result ≡ word_of self.now offset }
+    {
+        self.engine.read(offset)
+    }
+
+    /// Does what a read, or a write of this word, does to the engine; nothing where it is held. False exactly where there
+    /// is no such word, and nothing is changed then.
+    pub fn effect(&mut self, offset: u16, write: Option<u32>) -> bool
+        ensures after { self.new ≡ effect_of offset write self.old }
+        ensures allowed { result ≡ is_allowed self.old offset }
+    {
+        self.awake = true;
+        self.engine.effect(offset, write)
+    }
+
+    /// A read or a write is allowed: there is such a word.
+    pub fn allows(&self, offset: u16, _write: Option<u32>) -> bool
+        ensures { result ≡ is_allowed self.now offset }
+    {
+        self.engine.allows(offset)
+    }
+
+    /// Sets the copy of the engine's bit of RESETS. A bit that is set puts the engine in its reset state, and holds it.
+    pub fn set_held(&mut self, held: bool)
+        ensures { self.new ≡ with_hold held self.old }
+    {
+        self.awake = true;
+        self.engine.set_held(held);
+    }
+
+    /// The two interrupt lines, DMA_IRQ_0 and DMA_IRQ_1: some bit of INTS0, and some bit of INTS1.
+    pub fn lines(&self) -> [bool; 2]
+        ensures { result ≡ lines_of self.now }
+    {
+        self.engine.lines()
+    }
+}
+
+impl Lane<()> for Dma {
+    ghost use Rattle.dma_engine.specs.Asks.{asks};
+    ghost use Rattle.dma_engine.specs.Cycle.{wanted, next};
+
+    type Begun = Doing;
+
+    ghost asks = { λ _ s cycle. asks s };
+
+    ghost wanted = { wanted };
+
+    ghost next = { λ _ s begun turns. next s begun turns };
+
+    ghost marked = { λ _ s begun turns. None };
+
+    #[tactic(auto, using(crate::proofs::AtRest::at_rest))]
+    fn begin<K: Look>(&self, _env: &(), _cycle: u64, look: &mut K) -> Doing {
+        if !self.awake {
+            return Doing {
+                read: Access::Nothing,
+                write: Access::Nothing,
+                counts: 0,
+            };
+        }
+        self.engine.ask(look)
+    }
+
+    fn wants(begun: &Doing) -> [Want; 2] {
+        [want(&begun.read), want(&begun.write)]
+    }
+
+    #[tactic(auto, using(crate::proofs::AtRest::at_rest))]
+    fn finish(&mut self, _env: &(), begun: &Doing, turns: [Turn; 2], _marks: &mut Marks) {
+        if self.awake {
+            self.engine.finish(begun, &turns);
+            self.awake = !self.engine.is_at_rest();
+        }
+    }
+
+    fn copy_from(&mut self, other: &Dma) {
+        self.awake = true;
+        self.engine.copy_from(&other.engine);
+    }
+}

@@ -1,0 +1,27 @@
+//! A write that waits.
+
+use rp_base::Size;
+
+/// The write of a transfer whose read is done.
+#[derive(Clone, Copy)]
+pub struct Waiting {
+    /// The channel of the transfer.
+    pub channel: u8,
+    /// The address of the write, rounded down to its size.
+    pub address: u32,
+    /// The size of the write.
+    pub size: Size,
+    /// The value as it will be written, in the low bits.
+    pub value: u32,
+}
+
+impl Default for Waiting {
+    fn default() -> Waiting {
+        Waiting {
+            channel: 0,
+            address: 0,
+            size: Size::Byte,
+            value: 0,
+        }
+    }
+}
