@@ -37,8 +37,8 @@ abbrev pub autopushed : Machine1 → Try
 autopushed m =
     if autopush m && nat_le (push_threshold m) m.isr_count
     then (if is_rx_full m
-      then stalled (with_rx_stall (with_in_shifted true m))
-      else completed (pushed (with_in_shifted false m)))
+    then stalled (with_rx_stall (with_in_shifted true m))
+    else completed (pushed (with_in_shifted false m)))
     else completed (with_in_shifted false m)
 
 unfoldable pub try_in : InSource → ℕ → Seen → Machine1 → Try

@@ -92,8 +92,8 @@ unfoldable pub with_side : ℕ → Machine1 → Done → Done
 with_side word m d =
     if has_side word m
     then (if side_pindir m
-      then with_enables (side_base m) (side_pins m) (side_value word m) d
-      else with_levels (side_base m) (side_pins m) (side_value word m) d)
+    then with_enables (side_base m) (side_pins m) (side_value word m) d
+    else with_levels (side_base m) (side_pins m) (side_value word m) d)
     else d
 
 -- ---- the end

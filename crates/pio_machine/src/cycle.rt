@@ -8,7 +8,15 @@ use pio_words::{PioOp, decode_word};
 
 impl Machine1 {
     /// Tries an operation with its word's side-set and delay.
-    fn attempt_op(&mut self, fetched: bool, word: u16, op: PioOp, number: u8, seen: &Seen, done: &mut Done)
+    fn attempt_op(
+        &mut self,
+        fetched: bool,
+        word: u16,
+        op: PioOp,
+        number: u8,
+        seen: &Seen,
+        done: &mut Done,
+    )
         requires { number < 4 }
         ensures machine { self.new ≡ after_op fetched word op number seen.now self.old }
         ensures done { done.new ≡ written_with_side word op number seen.now self.old done.old }
@@ -46,9 +54,7 @@ impl Machine1 {
             Some(Waiting::Written(word)) => Act::Attempt(word, false),
             _ if !self.ticks() => Act::Rest,
             Some(Waiting::Executed(word)) => Act::Attempt(word, false),
-            None if self.delay == 0 => {
-                Act::Attempt(seen.memory[(self.pc % 32) as usize], true)
-            }
+            None if self.delay == 0 => { Act::Attempt(seen.memory[(self.pc % 32) as usize], true) }
             None => Act::Delay,
         }
     }

@@ -68,7 +68,14 @@ impl Machine1 {
     }
 
     /// A try of WAIT.
-    pub(crate) fn wait(&self, polarity: bool, source: WaitSource, number: u8, seen: &Seen, done: &mut Done) -> Outcome
+    pub(crate) fn wait(
+        &self,
+        polarity: bool,
+        source: WaitSource,
+        number: u8,
+        seen: &Seen,
+        done: &mut Done,
+    ) -> Outcome
         requires { number < 4 }
         ensures outcome { result ≡ outcome_of_wait polarity source number seen.now self.now }
         ensures done { done.new ≡ written_by_wait polarity source number seen.now self.now done.old }
@@ -132,7 +139,14 @@ impl Machine1 {
     }
 
     /// A try of IRQ.
-    pub(crate) fn irq(&mut self, clear: bool, wait: bool, flag: u8, seen: &Seen, done: &mut Done) -> Outcome
+    pub(crate) fn irq(
+        &mut self,
+        clear: bool,
+        wait: bool,
+        flag: u8,
+        seen: &Seen,
+        done: &mut Done,
+    ) -> Outcome
         requires { flag < 8 }
         ensures machine { self.new ≡ after_irq clear wait flag seen.now self.old }
         ensures outcome { result ≡ outcome_of_irq clear wait flag seen.now self.old }

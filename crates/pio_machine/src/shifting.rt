@@ -145,7 +145,12 @@ impl Machine1 {
 
     /// A try of OUT.
     #[tactic(auto, unfolding(crate::specs::Output::try_out, crate::specs::Output::written_by_out))]
-    pub(crate) fn try_out(&mut self, destination: OutDestination, count: u8, done: &mut Done) -> Outcome
+    pub(crate) fn try_out(
+        &mut self,
+        destination: OutDestination,
+        count: u8,
+        done: &mut Done,
+    ) -> Outcome
         ensures machine { self.new ≡ (try_out destination count self.old).machine }
         ensures outcome { result ≡ (try_out destination count self.old).outcome }
         ensures done { done.new ≡ written_by_out destination count self.old done.old }

@@ -117,6 +117,7 @@ fn lamp_bits(rt: HostRuntime) {
     machine.shiftctrl = 0x3002_0000;
     run(&rt, &mut machine, &seen, b"000");
     assert!(rt; machine.tx_stall);
+    assert_eq!(rt; machine.tx.level(), 0);
     machine.tx.push(0x8000_0000);
     run(&rt, &mut machine, &seen, b"0");
     assert_eq!(rt; machine.osr_count, 0);
@@ -132,7 +133,8 @@ fn stalls(rt: HostRuntime) {
     machine.enabled = true;
     machine.y = 1;
     machine.shiftctrl = 0x000d_0000;
-    for _ in 0..4 {
+    for level in 0..4 {
+        assert_eq!(rt; machine.rx.level(), level);
         machine.rx.push(9);
     }
     run(&rt, &mut machine, &seen, b"..");
@@ -167,7 +169,14 @@ fn flags_and_executed_words(rt: HostRuntime) {
     let mut machine = Machine1::new();
     machine.enabled = true;
     machine.x = 0xe041;
-    for (flags, set, clear, pc) in [(0, 2, 0, 0), (2, 0, 0, 0), (0, 0, 0, 1), (0, 0, 0, 1), (2, 0, 2, 2), (0, 0, 0, 3)] {
+    for (flags, set, clear, pc) in [
+        (0, 2, 0, 0),
+        (2, 0, 0, 0),
+        (0, 0, 0, 1),
+        (0, 0, 0, 1),
+        (2, 0, 2, 2),
+        (0, 0, 0, 3),
+    ] {
         let mut done = Done::new();
         seen.flags = flags;
         tick(&mut machine, 3, &seen, &mut done);
