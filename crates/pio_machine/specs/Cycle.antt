@@ -1,5 +1,5 @@
 -- A cycle of a machine (RP2040 Datasheet, 3.5.5, the clock divider, 3.5.1, delay, and 3.5.7, forced and executed instructions).
-use Rattle.std.specs.Prelude.{ℕ, ◌+◌, ◌-◌, ◌%◌, Bool, true, false, ◌&&◌, ◌==◌, nat_lt, if◌then◌else◌, Option, Some, None, slice_index}
+use Rattle.std.specs.Prelude.{ℕ, ◌+◌, ◌-◌, ◌%◌, Bool, true, false, ◌&&◌, ◌==◌, nat_lt, if◌then◌else◌, Option, Some, slice_index}
 use Rattle.pio_words.specs.declared.op.PioOp.{PioOp}
 use Rattle.pio_words.specs.Operation.{operation_of}
 use Rattle.pio_machine.specs.declared.machine.Machine1.{Machine1}
@@ -10,7 +10,7 @@ use Rattle.pio_machine.specs.declared.machine.Waiting.TheVariants.{Written, Exec
 use Rattle.pio_machine.specs.declared.machine.Act.{Act}
 use Rattle.pio_machine.specs.declared.machine.Act.TheVariants.{Rest, Delay, Attempt}
 use Rattle.pio_machine.specs.Fields.{divider}
-use Rattle.pio_machine.specs.Queue.{Try, refilled}
+use Rattle.pio_machine.specs.Queue.{refilled}
 use Rattle.pio_machine.specs.Operation.{tried, written, with_autopull, with_side, delay_of, ended}
 
 -- ---- a try of a word

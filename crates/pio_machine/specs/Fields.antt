@@ -1,6 +1,6 @@
 -- The fields of a machine's registers (RP2040 Datasheet, 3.7: CLKDIV, EXECCTRL, SHIFTCTRL and PINCTRL), and what they make of
 -- its FIFOs and its divider.
-use Rattle.std.specs.Prelude.{ℕ, ◌+◌, ◌*◌, ◌/◌, ◌%◌, ◌^◌, Bool, ◌==◌, nat_le, if◌then◌else◌, List, length, min}
+use Rattle.std.specs.Prelude.{ℕ, ◌+◌, ◌*◌, ◌/◌, ◌%◌, ◌^◌, Bool, ◌==◌, nat_le, if◌then◌else◌, length, min}
 use Rattle.m0_alu.specs.Word.{has_bit}
 use Rattle.pio_machine.specs.declared.machine.Machine1.{Machine1}
 

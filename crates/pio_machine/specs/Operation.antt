@@ -1,12 +1,11 @@
 -- A try of an instruction word: its operation, autopull, its side-set, and how it ends (RP2040 Datasheet, 3.4.1, 3.5.1 and
 -- 3.5.4).
-use Rattle.std.specs.Prelude.{ℕ, ◌-◌, ◌/◌, ◌%◌, ◌+◌, ◌^◌, Bool, true, false, not, ◌||◌, ◌==◌, if◌then◌else◌, Option, Some, None}
+use Rattle.std.specs.Prelude.{ℕ, ◌-◌, ◌/◌, ◌%◌, ◌+◌, ◌^◌, Bool, true, false, not, ◌||◌, ◌==◌, if◌then◌else◌, Some, None}
 use Rattle.m0_alu.specs.Word.{has_bit}
 use Rattle.pio_words.specs.declared.op.MovDestination.{MovDestination}
 use Rattle.pio_words.specs.declared.op.MovDestination.TheVariants as destination
 use Rattle.pio_words.specs.declared.op.PioOp.{PioOp}
 use Rattle.pio_words.specs.declared.op.PioOp.TheVariants.{Jmp, Wait, In, Out, Push, Pull, Mov, Irq, Set, Reserved}
-use Rattle.pio_words.specs.Operation.{operation_of}
 use Rattle.pio_machine.specs.declared.machine.Machine1.{Machine1}
 use Rattle.pio_machine.specs.declared.machine.Seen.{Seen}
 use Rattle.pio_machine.specs.declared.machine.Done.{Done}

@@ -1,5 +1,5 @@
 -- PUSH, PULL and autopull (RP2040 Datasheet, 3.4.6, 3.4.7 and 3.5.4).
-use Rattle.std.specs.Prelude.{ℕ, Bool, true, false, ◌&&◌, ◌||◌, ◌==◌, nat_le, nat_lt, if◌then◌else◌, List, [], ◌∷◌, ◌++◌}
+use Rattle.std.specs.Prelude.{ℕ, Bool, true, ◌&&◌, ◌||◌, ◌==◌, nat_le, nat_lt, if◌then◌else◌, List, [], ◌∷◌, ◌++◌}
 use Rattle.pio_machine.specs.declared.machine.Machine1.{Machine1}
 use Rattle.pio_machine.specs.declared.machine.Outcome.{Outcome}
 use Rattle.pio_machine.specs.declared.machine.Outcome.TheVariants.{Stalled, Completed}
