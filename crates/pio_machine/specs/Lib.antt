@@ -1,0 +1,12 @@
+pub mod Fields
+pub mod Bits
+pub mod Pins
+pub mod Start
+pub mod Flags
+pub mod Jump
+pub mod Input
+pub mod Output
+pub mod Queue
+pub mod Move
+pub mod Operation
+pub mod Cycle

@@ -1,0 +1,73 @@
+//! A FIFO between a machine and the system.
+
+use arrayvec::ArrayVec;
+use std::marker::Model;
+
+/// A FIFO of at most eight words, seen as the list of its words, the next one first.
+#[derive(Drop)]
+pub struct Fifo {
+    words: ArrayVec<u32, 8>,
+}
+
+impl Model for Fifo {
+    ghost use Rattle.std.specs.Prelude.{List, ℕ};
+
+    ghost Value = { List ℕ };
+
+    ghost view = { λ f. f.words.items };
+}
+
+impl Fifo {
+    ghost use Rattle.std.specs.Prelude.{◌≡◌, ◌<◌, ◌≤◌, ◌++◌, ◌∷◌, [], length, MatchOption};
+
+    /// No words.
+    pub fn new() -> Fifo
+        ensures { result ≡ [] }
+    {
+        Fifo {
+            words: ArrayVec::new(),
+        }
+    }
+
+    /// How many words there are, at most 8.
+    pub fn level(&self) -> u8
+        ensures value { result ≡ length self.now }
+        ensures room { result ≤ 8 }
+    {
+        self.words.len() as u8
+    }
+
+    /// Adds a word at the end.
+    pub fn push(&mut self, word: u32)
+        requires { length self.old < 8 }
+        ensures { self.new ≡ self.old ++ word ∷ [] }
+    {
+        self.words.push(word);
+    }
+
+    /// Takes the first word, where there is one.
+    pub fn pull(&mut self) -> Option<u32>
+        ensures { MatchOption result ((self.old ≡ []) × (self.new ≡ [])) (λ word. self.old ≡ word ∷ self.new) }
+    {
+        if self.words.is_empty() {
+            None
+        } else {
+            Some(self.words.remove(0))
+        }
+    }
+
+    /// Takes all words away.
+    pub fn clear(&mut self)
+        ensures { self.new ≡ [] }
+    {
+        self.words.clear();
+    }
+
+    /// Takes the words of another FIFO in place of its own.
+    pub fn copy_from(&mut self, other: &Fifo)
+        ensures { self.new ≡ other.now }
+    {
+        self.words.clear();
+        let _ = self.words.try_extend_from_slice(other.words.as_slice());
+    }
+}

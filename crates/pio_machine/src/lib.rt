@@ -1,0 +1,24 @@
+//! One machine of a programmable input/output block, a cycle at a time (RP2040 Datasheet, 3.4 and 3.5): its instructions,
+//! side-set and delay, autopush and autopull, its FIFOs and its clock divider. Everything is defined in `specs/` on the
+//! machine's record, in which a FIFO is a list.
+#![tactic(auto)]
+
+mod bits;
+mod cycle;
+mod ending;
+mod fields;
+pub mod fifo;
+mod flags;
+mod jump;
+pub mod machine;
+mod moves;
+mod operation;
+mod pins;
+mod queue;
+mod shifting;
+#[cfg(test)]
+mod tests;
+
+pub use cycle::tick;
+pub use fifo::Fifo;
+pub use machine::{Done, Machine1, Seen, Waiting};

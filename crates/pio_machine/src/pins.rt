@@ -1,0 +1,62 @@
+//! The pins as a machine sees and writes them.
+
+ghost use Rattle.std.specs.Prelude.{◌≡◌, ◌≤◌};
+ghost use Rattle.pio_machine.specs.Pins.{input_word, mapped_inputs, pins_from, overlaid, with_levels, with_enables};
+
+use crate::bits::low_mask;
+use crate::machine::{Done, Machine1, Seen};
+
+impl Seen {
+    /// The levels of the pins.
+    pub(crate) fn input_word(&self) -> u32
+        ensures { result ≡ input_word self.now }
+    {
+        (self.inputs[0] & self.bypass) | (self.inputs[1] & !self.bypass)
+    }
+}
+
+impl Machine1 {
+    /// The levels of the pins from IN_BASE on.
+    pub(crate) fn mapped_inputs(&self, seen: &Seen) -> u32
+        ensures { result ≡ mapped_inputs seen.now self.now }
+    {
+        seen.input_word().rotate_right(self.in_base())
+    }
+}
+
+/// So many pins from a base on.
+fn pins_from(base: u32, count: u8) -> u32
+    requires { count ≤ 32 }
+    ensures { result ≡ pins_from base count }
+{
+    low_mask(count).rotate_left(base)
+}
+
+/// A word, in which the pins of a mask have the bits of another one.
+fn overlaid(mask: u32, bits: u32, word: u32) -> u32
+    ensures { result ≡ overlaid mask bits word }
+{
+    (word & !mask) | (bits & mask)
+}
+
+impl Done {
+    /// Writes the levels of so many pins from a base on.
+    pub(crate) fn write_levels(&mut self, base: u32, count: u8, value: u32)
+        requires { count ≤ 32 }
+        ensures { self.new ≡ with_levels base count value self.old }
+    {
+        let mask = pins_from(base, count);
+        self.levels = overlaid(mask, value.rotate_left(base), self.levels);
+        self.level_mask |= mask;
+    }
+
+    /// Writes the enables of so many pins from a base on.
+    pub(crate) fn write_enables(&mut self, base: u32, count: u8, value: u32)
+        requires { count ≤ 32 }
+        ensures { self.new ≡ with_enables base count value self.old }
+    {
+        let mask = pins_from(base, count);
+        self.enables = overlaid(mask, value.rotate_left(base), self.enables);
+        self.enable_mask |= mask;
+    }
+}

@@ -1,0 +1,127 @@
+//! PUSH, PULL and autopull.
+
+ghost use Rattle.std.specs.Prelude.{◌≡◌, false};
+ghost use Rattle.pio_machine.specs.Queue.{loaded, is_spent, refilled, is_pull_void, pulled_from, try_pull, pushed, with_isr_cleared, try_push_now, try_push};
+ghost use Rattle.pio_machine.specs.Fields.{is_rx_full};
+
+use crate::machine::{Machine1, Outcome};
+
+impl Machine1 {
+    /// Loads the OSR, where a word waits.
+    pub(crate) fn load(&mut self)
+        ensures { self.new ≡ loaded self.old }
+    {
+        if let Some(word) = self.tx.pull() {
+            self.osr = word;
+            self.osr_count = 0;
+        }
+    }
+
+    /// The OSR is to be loaded again.
+    pub(crate) fn is_spent(&self) -> bool
+        ensures { result ≡ is_spent self.now }
+    {
+        self.pull_threshold() <= self.osr_count
+    }
+
+    /// Autopull: loads a spent OSR, where a word waits.
+    #[tactic(auto, unfolding(crate::specs::Queue::refilled))]
+    pub(crate) fn refill(&mut self)
+        ensures { self.new ≡ refilled self.old }
+    {
+        if self.autopull() {
+            if self.is_spent() {
+                self.load();
+            }
+        }
+    }
+
+    /// A PULL does nothing.
+    fn is_pull_void(&self, if_empty: bool) -> bool
+        ensures { result ≡ is_pull_void if_empty self.now }
+    {
+        (if_empty && self.osr_count < self.pull_threshold())
+            || (self.autopull() && self.osr_count == 0)
+    }
+
+    /// Loads the OSR; on an empty FIFO stalls, or copies X.
+    fn pull_now(&mut self, block: bool) -> Outcome
+        ensures machine { self.new ≡ (pulled_from self.old.tx block self.old).machine }
+        ensures outcome { result ≡ (pulled_from self.old.tx block self.old).outcome }
+    {
+        match self.tx.pull() {
+            Some(word) => {
+                self.osr = word;
+                self.osr_count = 0;
+                Outcome::Completed
+            }
+            None if block => {
+                self.tx_stall = true;
+                Outcome::Stalled
+            }
+            None => {
+                self.osr = self.x;
+                self.osr_count = 0;
+                Outcome::Completed
+            }
+        }
+    }
+
+    /// A try of PULL.
+    #[tactic(auto, unfolding(crate::specs::Queue::try_pull))]
+    pub(crate) fn try_pull(&mut self, if_empty: bool, block: bool) -> Outcome
+        ensures machine { self.new ≡ (try_pull if_empty block self.old).machine }
+        ensures outcome { result ≡ (try_pull if_empty block self.old).outcome }
+    {
+        if self.is_pull_void(if_empty) {
+            return Outcome::Completed;
+        }
+        self.pull_now(block)
+    }
+
+    fn clear_isr(&mut self)
+        ensures { self.new ≡ with_isr_cleared self.old }
+    {
+        self.isr = 0;
+        self.isr_count = 0;
+    }
+
+    /// The ISR goes to the RX FIFO.
+    pub(crate) fn push(&mut self)
+        requires { is_rx_full self.old ≡ false }
+        ensures { self.new ≡ pushed self.old }
+    {
+        let word = self.isr;
+        self.rx.push(word);
+        self.clear_isr();
+    }
+
+    /// Pushes; on a full FIFO stalls, or clears the ISR.
+    fn push_now(&mut self, block: bool) -> Outcome
+        ensures machine { self.new ≡ (try_push_now block self.old).machine }
+        ensures outcome { result ≡ (try_push_now block self.old).outcome }
+    {
+        if self.is_rx_full() {
+            self.rx_stall = true;
+            if block {
+                return Outcome::Stalled;
+            }
+            self.clear_isr();
+        } else {
+            self.push();
+        }
+        Outcome::Completed
+    }
+
+    /// A try of PUSH.
+    #[tactic(auto, unfolding(crate::specs::Queue::try_push))]
+    pub(crate) fn try_push(&mut self, if_full: bool, block: bool) -> Outcome
+        ensures machine { self.new ≡ (try_push if_full block self.old).machine }
+        ensures outcome { result ≡ (try_push if_full block self.old).outcome }
+    {
+        if if_full && self.isr_count < self.push_threshold() {
+            return Outcome::Completed;
+        }
+        self.push_now(block)
+    }
+}

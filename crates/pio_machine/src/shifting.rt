@@ -1,0 +1,199 @@
+//! IN, OUT and SET.
+
+ghost use Rattle.std.specs.Prelude.{◌≡◌, ◌≤◌, min};
+ghost use Rattle.pio_machine.specs.Input.{in_value, shifted_in, shifted_once, autopushed, try_in};
+ghost use Rattle.pio_machine.specs.Output.{out_value, shifted_out, with_out, outcome_of_out, out_stalls, starved, out_done, try_out, out_pins, written_by_out, after_set, written_by_set};
+
+use crate::bits::{counted, entered, remaining, taken};
+use crate::machine::{Done, Machine1, Outcome, Seen};
+use pio_words::{InSource, OutDestination, SetDestination};
+
+impl Machine1 {
+    fn in_value(&self, source: InSource, seen: &Seen) -> u32
+        ensures { result ≡ in_value source seen.now self.now }
+    {
+        match source {
+            InSource::Pins => self.mapped_inputs(seen),
+            InSource::X => self.x,
+            InSource::Y => self.y,
+            InSource::Null => 0,
+            InSource::Isr => self.isr,
+            InSource::Osr => self.osr,
+        }
+    }
+
+    /// Bits enter the ISR.
+    fn shift_in(&mut self, value: u32, count: u8)
+        requires { count ≤ 32 }
+        ensures { self.new ≡ shifted_in value count self.old }
+    {
+        self.isr = entered(self.in_right(), count, value, self.isr);
+        self.isr_count = counted(self.isr_count, count);
+    }
+
+    /// Bits enter the ISR, unless an IN that stalled has shifted already.
+    fn shift_once(&mut self, source: InSource, count: u8, seen: &Seen)
+        ensures { self.new ≡ shifted_once source count seen.now self.old }
+    {
+        if !self.in_shifted {
+            let value = self.in_value(source, seen);
+            self.shift_in(value, count.min(32));
+        }
+    }
+
+    /// Pushes an ISR that reached its threshold.
+    fn autopush_now(&mut self) -> Outcome
+        ensures machine { self.new ≡ (autopushed self.old).machine }
+        ensures outcome { result ≡ (autopushed self.old).outcome }
+    {
+        if self.autopush() && self.push_threshold() <= self.isr_count {
+            if self.is_rx_full() {
+                self.in_shifted = true;
+                self.rx_stall = true;
+                return Outcome::Stalled;
+            }
+            self.push();
+        }
+        self.in_shifted = false;
+        Outcome::Completed
+    }
+
+    /// A try of IN.
+    #[tactic(auto, unfolding(crate::specs::Input::try_in))]
+    pub(crate) fn try_in(&mut self, source: InSource, count: u8, seen: &Seen) -> Outcome
+        ensures machine { self.new ≡ (try_in source count seen.now self.old).machine }
+        ensures outcome { result ≡ (try_in source count seen.now self.old).outcome }
+    {
+        self.shift_once(source, count, seen);
+        self.autopush_now()
+    }
+
+    fn out_value(&self, count: u8) -> u32
+        requires { count ≤ 32 }
+        ensures { result ≡ out_value count self.now }
+    {
+        taken(self.out_right(), count, self.osr)
+    }
+
+    /// Bits leave the OSR.
+    fn shift_out(&mut self, count: u8)
+        requires { count ≤ 32 }
+        ensures { self.new ≡ shifted_out count self.old }
+    {
+        self.osr = remaining(self.out_right(), count, self.osr);
+        self.osr_count = counted(self.osr_count, count);
+    }
+
+    /// A register takes the bits that left the OSR.
+    fn put_out(&mut self, destination: OutDestination, value: u32, count: u8)
+        ensures { self.new ≡ with_out destination value count self.old }
+    {
+        match destination {
+            OutDestination::X => self.x = value,
+            OutDestination::Y => self.y = value,
+            OutDestination::Isr => {
+                self.isr = value;
+                self.isr_count = count;
+            }
+            _ => {}
+        }
+    }
+
+    /// Pins or their enables take the bits that left the OSR.
+    fn out_pins(&self, destination: OutDestination, value: u32, done: &mut Done)
+        ensures { done.new ≡ out_pins destination value self.now done.old }
+    {
+        match destination {
+            OutDestination::Pins => done.write_levels(self.out_base(), self.out_count(), value),
+            OutDestination::Pindirs => done.write_enables(self.out_base(), self.out_count(), value),
+            _ => {}
+        }
+    }
+
+    /// Under autopull an OUT of a spent OSR stalls.
+    fn out_stalls(&self) -> bool
+        ensures { result ≡ out_stalls self.now }
+    {
+        self.autopull() && self.is_spent()
+    }
+
+    /// An OUT that stalls loads the OSR, or tells that no word waits.
+    fn starve(&mut self)
+        ensures { self.new ≡ starved self.old.tx self.old }
+    {
+        match self.tx.pull() {
+            Some(word) => {
+                self.osr = word;
+                self.osr_count = 0;
+            }
+            None => self.tx_stall = true,
+        }
+    }
+
+    /// An OUT that does not stall.
+    fn out_now(&mut self, destination: OutDestination, count: u8) -> Outcome
+        requires { count ≤ 32 }
+        ensures machine { self.new ≡ (out_done destination count self.old).machine }
+        ensures outcome { result ≡ (out_done destination count self.old).outcome }
+    {
+        let value = self.out_value(count);
+        self.shift_out(count);
+        self.put_out(destination, value, count);
+        self.refill();
+        outcome_of_out(destination, value)
+    }
+
+    /// A try of OUT.
+    #[tactic(auto, unfolding(crate::specs::Output::try_out, crate::specs::Output::written_by_out))]
+    pub(crate) fn try_out(
+        &mut self,
+        destination: OutDestination,
+        count: u8,
+        done: &mut Done,
+    ) -> Outcome
+        ensures machine { self.new ≡ (try_out destination count self.old).machine }
+        ensures outcome { result ≡ (try_out destination count self.old).outcome }
+        ensures done { done.new ≡ written_by_out destination count self.old done.old }
+    {
+        if self.out_stalls() {
+            self.starve();
+            return Outcome::Stalled;
+        }
+        let count = count.min(32);
+        self.out_pins(destination, self.out_value(count), done);
+        self.out_now(destination, count)
+    }
+
+    /// SET of a register.
+    pub(crate) fn set_register(&mut self, destination: SetDestination, value: u8)
+        ensures { self.new ≡ after_set destination value self.old }
+    {
+        match destination {
+            SetDestination::X => self.x = u32::from(value),
+            SetDestination::Y => self.y = u32::from(value),
+            _ => {}
+        }
+    }
+
+    /// SET of pins or their enables.
+    pub(crate) fn set_pins(&self, destination: SetDestination, value: u8, done: &mut Done)
+        ensures { done.new ≡ written_by_set destination value self.now done.old }
+    {
+        let value = u32::from(value);
+        match destination {
+            SetDestination::Pins => done.write_levels(self.set_base(), self.set_count(), value),
+            SetDestination::Pindirs => done.write_enables(self.set_base(), self.set_count(), value),
+            _ => {}
+        }
+    }
+}
+
+fn outcome_of_out(destination: OutDestination, value: u32) -> Outcome
+    ensures { result ≡ outcome_of_out destination value }
+{
+    match destination {
+        OutDestination::Pc => Outcome::Jumped((value & 0x1f) as u8),
+        OutDestination::Exec => Outcome::Executes((value & 0xffff) as u16),
+        _ => Outcome::Completed,
+    }
+}
