@@ -46,10 +46,5 @@ fn main(rt: HostRuntime) -> ExitCode {
     let Ok(words) = words(&rt) else {
         return ExitCode::from(9);
     };
-    ExitCode::from(serve::<Brand, HostRuntime>(
-        Blank::new(1),
-        &rt,
-        alloc,
-        &words,
-    ))
+    ExitCode::from(serve::<Brand, HostRuntime>(Blank::new(1), &rt, alloc, &words))
 }

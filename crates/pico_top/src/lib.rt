@@ -43,11 +43,7 @@ fn say<O: Sink>(status: u8, line: &[u8], writer: &mut Writer<'_, O>) -> u8
 
 /// Runs a machine and puts the lines of its end.
 #[tactic(auto, unfolding(crate::specs::RunText::run_text))]
-fn run<O: Sink, L: Ledger>(
-    started: Started,
-    writer: &mut Writer<'_, O>,
-    steps: &mut Steps<L>,
-) -> u8
+fn run<O: Sink, L: Ledger>(started: Started, writer: &mut Writer<'_, O>, steps: &mut Steps<L>) -> u8
     requires { started.machine.cycle ≤ started.limit }
     ensures says { Says record { status = result; before = O.written writer.old.out.now; after = O.written writer.new.out.now; faults_before = O.faults writer.old.out.now; faults_after = O.faults writer.new.out.now } 0 (run_text started.limit started.machine) }
     ensures same_sink { writer.new.out.ghost_name ≡ writer.old.out.ghost_name }
@@ -72,11 +68,7 @@ fn list<O: Sink>(text: &[u8], writer: &mut Writer<'_, O>) -> u8
 }
 
 /// Puts the text of what was opened.
-fn tell<O: Sink, L: Ledger>(
-    opened: Opened,
-    writer: &mut Writer<'_, O>,
-    steps: &mut Steps<L>,
-) -> u8
+fn tell<O: Sink, L: Ledger>(opened: Opened, writer: &mut Writer<'_, O>, steps: &mut Steps<L>) -> u8
     requires { IsReady opened }
     ensures says { Says record { status = result; before = O.written writer.old.out.now; after = O.written writer.new.out.now; faults_before = O.faults writer.old.out.now; faults_after = O.faults writer.new.out.now } 0 (opened_text opened) }
     ensures same_sink { writer.new.out.ghost_name ≡ writer.old.out.ghost_name }

@@ -14,7 +14,16 @@ use uf2_image::read_image;
 /// The UF2 block of a program that is loaded at 20000000.
 fn block(code: &[u16; 6]) -> [u8; 512] {
     let mut bytes = [0u8; 512];
-    let words = [0x0a32_4655, 0x9e5d_5157, 0x2000, 0x2000_0000, 12, 0, 1, 0xe48b_ff56u32];
+    let words = [
+        0x0a32_4655,
+        0x9e5d_5157,
+        0x2000,
+        0x2000_0000,
+        12,
+        0,
+        1,
+        0xe48b_ff56u32,
+    ];
     for (place, word) in words.iter().enumerate() {
         bytes[4 * place..4 * place + 4].copy_from_slice(&word.to_le_bytes());
     }
@@ -60,7 +69,9 @@ const READS_RESET_DONE: [u16; 6] = [0x4801, 0x6801, 0xbe00, 0x0000, 0xc008, 0x40
 #[test]
 fn a_word_on_apb_takes_three_cycles(rt: HostRuntime) -> Result<(), Fail> {
     let alloc = rt.alloc();
-    let (why, machine) = end_of::<Brand>(alloc, Blank::new(1), &READS_RESET_DONE, 10)?.ok_or("end")?;
+    let (why, machine) = end_of::<Brand>(alloc, Blank::new(1), &READS_RESET_DONE, 10)?.ok_or(
+        "end",
+    )?;
     assert_eq!(rt; why, Why::Bkpt(0));
     assert_eq!(rt; machine.number(), 6);
     let words = machine.registers(0).ok_or("core 0")?;
