@@ -185,6 +185,8 @@ pub fn pico<F: Shelf, O: Sink, L: Ledger>(
 #[cfg(test)]
 mod asm_tests;
 #[cfg(test)]
+mod core_tests;
+#[cfg(test)]
 mod counted;
 #[cfg(test)]
 mod tests;

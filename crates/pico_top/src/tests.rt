@@ -167,10 +167,10 @@ fn instructions_and_their_cycles(rt: HostRuntime) -> Result<(), Fail> {
     let low = " 40000000";
     let high = " 20042000 ffffffff 20000004 01000000";
     assert!(rt; ends(alloc, &code, b"stop outside core0 40000000 3\n", low, high)?);
-    let code = [0x200d, 0x0700, 0x6800];
-    let low = " d0000000";
-    let high = " 20042000 ffffffff 20000004 81000000";
-    assert!(rt; ends(alloc, &code, b"stop unbuilt core0 2\n", low, high)?);
+    let code = [0x2005, 0x0700, 0x6800];
+    let low = " 50000000";
+    let high = " 20042000 ffffffff 20000004 01000000";
+    assert!(rt; ends(alloc, &code, b"stop unbuilt core0 3\n", low, high)?);
     Ok(())
 }
 
