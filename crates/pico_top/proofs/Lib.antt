@@ -1,4 +1,5 @@
 pub mod Causing
+pub mod Cycles
 pub mod Leading
 pub mod OptionSteps
 pub mod Origins

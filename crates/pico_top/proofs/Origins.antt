@@ -17,7 +17,7 @@ use Rattle.pico_top.specs.Causes.{Asked, image_file, source_file, file_of, LoadF
 
 -- the call ended as a text with this status does
 abbrev pub Told : Call → ℕ → Type 0
-Told call status = (text : List ℕ) × Ends call (Said status text)
+Told call status = (text : List ℕ) × Ends call (Said status text 0)
 
 -- memory ran out, in the place of any text
 pub told_out : (call : Call) (status : ℕ) → RanOut call → Told call status

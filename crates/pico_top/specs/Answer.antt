@@ -1,5 +1,5 @@
 -- What a call answered and wrote, by the ending of its dialogue: the project's own.
-use Rattle.std.specs.Prelude.{◌≡◌, ◌⊎◌, ℕ, List, Option}
+use Rattle.std.specs.Prelude.{◌≡◌, ◌≢◌, ◌⊎◌, ℕ, ◌+◌, List, Option}
 use Rattle.rp_ports.specs.Fault.{Rose}
 use Rattle.rp_ports.specs.Sink.{Appends}
 use Rattle.trace_text.specs.Sent.{AppendsPart}
@@ -34,9 +34,20 @@ RanOut call = Says call 9 memory_line
 
 -- the three cases of every return: the text was written, the sink failed at it, or memory ran out
 abbrev pub Ends : Call → Ending → Type 0
-Ends call (Said status text) = Says call status text ⊎ RanOut call
+Ends call (Said status text cycles) = Says call status text ⊎ RanOut call
 Ends call NoMemory = RanOut call
 
 -- a call whose dialogue ended so, with these files and failed names before it and these failed names after it
 abbrev pub Converses : Option Files → List (List ℕ) → List (List ℕ) → List (List ℕ) → Call → Type 0
 Converses files failed failed' words call = LeadsTo files (Ends call) failed failed' (dialogue words)
+
+-- the steps before and after a call that answered this status: unless the sink failed or memory ran out, each cycle was counted,
+-- and nothing else
+abbrev pub Steps : ℕ → ℕ → ℕ → Ending → Type 0
+Steps status before after (Said wanted text cycles) = status ≢ 7 → status ≢ 9 → after ≡ before + cycles
+Steps status before after NoMemory = after ≡ before
+
+-- the steps of a call whose dialogue ended so
+abbrev pub Counts : Option Files → List (List ℕ) → List (List ℕ) → List (List ℕ) → ℕ → ℕ → ℕ → Type 0
+Counts files failed failed' words status before after =
+    LeadsTo files (Steps status before after) failed failed' (dialogue words)

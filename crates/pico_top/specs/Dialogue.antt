@@ -11,7 +11,7 @@ use Rattle.pio_asm.specs.Assembly.{Plan, ArePrograms}
 use Rattle.pio_asm.specs.declared.program.Program.{Program}
 use Rattle.pio_disasm.specs.Text.{source_text}
 use Rattle.rp_machine.specs.State.{start}
-use Rattle.pico_top.specs.RunText.{run_text}
+use Rattle.pico_top.specs.RunText.{run_text, run_cycles}
 use Rattle.pico_top.specs.Listing.{plans_of, listing}
 use Rattle.pico_top.specs.Refusals.{words_line, file_line, large_line, image_line, pio_line}
 
@@ -22,9 +22,9 @@ pub data Gave : Type 0 where
   Refused : Gave
 
 -- what a call does: it loads files, one after another, takes the words of programs from the table of instruction words, and
--- says a text with a status
+-- says a text with a status, after a machine has done so many cycles
 pub data Dialogue : Type 0 where
-  Say : (status : ℕ) → (text : List ℕ) → Dialogue
+  Say : (status : ℕ) → (text : List ℕ) → (cycles : ℕ) → Dialogue
   Load : (name : List ℕ) → (limit : ℕ) → (next : Gave → Dialogue) → Dialogue
   Encode : (plans : List Plan) → (next : List Program → Dialogue) → Dialogue
 
@@ -40,8 +40,8 @@ source_limit = 1048576
 
 -- a file that cannot be loaded is refused, and one above its limit
 abbrev pub on_load : List ℕ → (List ℕ → Dialogue) → Gave → Dialogue
-on_load name next Refused = Say 3 (file_line name)
-on_load name next (TooLong long) = Say 3 (large_line name long)
+on_load name next Refused = Say 3 (file_line name) 0
+on_load name next (TooLong long) = Say 3 (large_line name long) 0
 on_load name next (Bytes bytes) = next bytes
 
 -- what comes after the bytes of a file
@@ -50,19 +50,19 @@ with_file name limit next = Load name limit (on_load name next)
 
 -- the run of an image, or the image's first fault
 abbrev pub run_image : ℕ → Result Image ImageFault → Dialogue
-run_image cycles (Err fault) = Say 4 (image_line fault)
-run_image cycles (Ok image) = Say 0 (run_text cycles (start image))
+run_image limit (Err fault) = Say 4 (image_line fault) 0
+run_image limit (Ok image) = Say 0 (run_text limit (start image)) (run_cycles limit (start image))
 
 -- the listing of a source's programs, or the source's first fault
 abbrev pub list_source : Result (List Plan) PioFault → Dialogue
-list_source (Err fault) = Say 5 (pio_line fault)
-list_source (Ok plans) = Encode plans (λ programs. Say 0 (listing programs))
+list_source (Err fault) = Say 5 (pio_line fault) 0
+list_source (Ok plans) = Encode plans (λ programs. Say 0 (listing programs) 0)
 
 -- a run loads its image and a listing its source; the source text of instruction words needs no file
 abbrev pub dialogue_of : Option Command → Dialogue
-dialogue_of None = Say 2 words_line
+dialogue_of None = Say 2 words_line 0
 dialogue_of (Some (RunImage run)) = with_file run.image image_limit (λ bytes. run_image run.cycles (image_of bytes))
-dialogue_of (Some (Disassemble words side)) = Say 0 (source_text side words)
+dialogue_of (Some (Disassemble words side)) = Say 0 (source_text side words) 0
 dialogue_of (Some (Assemble name)) = with_file name source_limit (λ bytes. list_source (plans_of bytes))
 
 -- what is to be done for the words
@@ -85,13 +85,13 @@ failed_by failed name Refused = failed ++ name ∷ []
 
 -- how a dialogue ended: it came to its text, or its last load or its programs found no memory
 pub data Ending : Type 0 where
-  Said : (status : ℕ) → (text : List ℕ) → Ending
+  Said : (status : ℕ) → (text : List ℕ) → (cycles : ℕ) → Ending
   NoMemory : Ending
 
 -- The loads of a dialogue, in order, were answered by the shelf, whose failed names are now these, and each program has the
 -- words that stand with its lines; P holds of the ending.
 abbrev pub LeadsTo : Option Files → (Ending → Type 0) → List (List ℕ) → List (List ℕ) → Dialogue → Type 0
-LeadsTo files P failed failed' (Say status text) = (failed' ≡ failed) × P (Said status text)
+LeadsTo files P failed failed' (Say status text cycles) = (failed' ≡ failed) × P (Said status text cycles)
 LeadsTo files P failed failed' (Load name limit next) =
     ((gave : Gave) × MayGive files name limit gave × LeadsTo files P (failed_by failed name gave) failed' (next gave))
     ⊎ ((failed' ≡ failed) × P NoMemory)

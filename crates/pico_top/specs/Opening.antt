@@ -12,7 +12,7 @@ use Rattle.pico_top.specs.declared.open.Refusal.{Refusal}
 use Rattle.pico_top.specs.declared.open.Refusal.TheVariants.{Words, File, Large, Image, Source, Memory}
 use Rattle.pico_top.specs.Answer.{Call, Says, RanOut}
 use Rattle.rp_machine.specs.State.{start}
-use Rattle.pico_top.specs.RunText.{run_text}
+use Rattle.pico_top.specs.RunText.{run_text, run_cycles}
 use Rattle.pico_top.specs.Refusals.{words_line, file_line, large_line, image_line, pio_line}
 use Rattle.pico_top.specs.Listing.{plans_of, listing}
 use Rattle.pio_asm.specs.Assembly.{Assembles}
@@ -33,7 +33,7 @@ refusal_text Memory = None
 -- the ending says what is refused
 abbrev pub RefusedAs : Option (ℕ × List ℕ) → Ending → Type 0
 RefusedAs None ending = Unit {0}
-RefusedAs (Some line) (Said status text) = (status ≡ line.0) × (text ≡ line.1)
+RefusedAs (Some line) (Said status text cycles) = (status ≡ line.0) × (text ≡ line.1) × (cycles ≡ 0)
 RefusedAs (Some line) NoMemory = ⊥
 
 -- the text of what was opened
@@ -41,14 +41,20 @@ abbrev pub opened_text : Opened → List ℕ
 opened_text (Machine started) = run_text started.limit started.machine
 opened_text (Text text) = text.items
 
+-- how many cycles the machine does that was opened
+abbrev pub opened_cycles : Opened → ℕ
+opened_cycles (Machine started) = run_cycles started.limit started.machine
+opened_cycles (Text text) = 0
+
 -- a machine has not passed its limit
 abbrev pub IsReady : Opened → Type 0
 IsReady (Machine started) = started.machine.cycle ≤ started.limit
 IsReady (Text text) = Unit {0}
 
--- the ending says the text of what was opened
+-- the ending says the text of what was opened, after its cycles
 abbrev pub RunsAs : Opened → Ending → Type 0
-RunsAs opened (Said status text) = (status ≡ 0) × (text ≡ opened_text opened) × IsReady opened
+RunsAs opened (Said status text cycles) =
+    (status ≡ 0) × (text ≡ opened_text opened) × (cycles ≡ opened_cycles opened) × IsReady opened
 RunsAs opened NoMemory = ⊥
 
 abbrev pub OpensAs : Result Opened Refusal → Ending → Type 0
@@ -94,7 +100,7 @@ Refuses call (Some line) = Says call line.0 line.1 ⊎ RanOut call
 
 -- the text was made, or memory ran out
 abbrev pub WritesAs : List ℕ → Result Opened Refusal → Type 0
-WritesAs text (Ok opened) = (opened_text opened ≡ text) × IsReady opened
+WritesAs text (Ok opened) = (opened_text opened ≡ text) × (opened_cycles opened ≡ 0) × IsReady opened
 WritesAs text (Err Memory) = Unit {0}
 WritesAs text (Err Words) = ⊥
 WritesAs text (Err (File name)) = ⊥

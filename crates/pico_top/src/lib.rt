@@ -9,14 +9,14 @@ mod runner;
 mod send;
 mod words;
 
-ghost use Rattle.std.specs.Prelude.{◌≡◌, ◌≤◌, None, map};
+ghost use Rattle.std.specs.Prelude.{◌≡◌, ◌+◌, ◌≤◌, None, map};
 ghost use Rattle.std.specs.String.{string_bytes};
-ghost use Rattle.pico_top.specs.Answer.{Says, RanOut, Converses};
+ghost use Rattle.pico_top.specs.Answer.{Says, RanOut, Converses, Counts};
 ghost use Rattle.rp_ports.specs.Fault.{Rose};
 ghost use Rattle.pico_top.specs.Causes.{FileCause, ImageCause, SourceCause, IsStatus, Comes, file_of};
 ghost use Rattle.pico_top.specs.Words.{reading};
-ghost use Rattle.pico_top.specs.Opening.{Refuses, refusal_text, opened_text, IsReady};
-ghost use Rattle.pico_top.specs.RunText.{run_text};
+ghost use Rattle.pico_top.specs.Opening.{Refuses, refusal_text, opened_text, opened_cycles, IsReady};
+ghost use Rattle.pico_top.specs.RunText.{run_text, run_cycles};
 ghost use Rattle.pico_top.specs.Refusals.{memory_line};
 
 use open::{Opened, Refusal, Started, open};
@@ -42,11 +42,12 @@ fn say<O: Sink>(status: u8, line: &[u8], writer: &mut Writer<'_, O>) -> u8
 }
 
 /// Runs a machine and puts the lines of its end.
-#[tactic(auto, unfolding(crate::specs::RunText::run_text))]
+#[tactic(auto, unfolding(crate::specs::RunText::run_text, crate::specs::RunText::run_cycles))]
 fn run<O: Sink, L: Ledger>(started: Started, writer: &mut Writer<'_, O>, steps: &mut Steps<L>) -> u8
     requires { started.machine.cycle ≤ started.limit }
     ensures says { Says record { status = result; before = O.written writer.old.out.now; after = O.written writer.new.out.now; faults_before = O.faults writer.old.out.now; faults_after = O.faults writer.new.out.now } 0 (run_text started.limit started.machine) }
     ensures same_sink { writer.new.out.ghost_name ≡ writer.old.out.ghost_name }
+    ensures steps { steps.new ≡ steps.old + run_cycles started.limit started.machine }
 {
     let Started { mut machine, limit } = started;
     let why = run_to_stop(&mut machine, &World { limit }, steps);
@@ -72,6 +73,7 @@ fn tell<O: Sink, L: Ledger>(opened: Opened, writer: &mut Writer<'_, O>, steps: &
     requires { IsReady opened }
     ensures says { Says record { status = result; before = O.written writer.old.out.now; after = O.written writer.new.out.now; faults_before = O.faults writer.old.out.now; faults_after = O.faults writer.new.out.now } 0 (opened_text opened) }
     ensures same_sink { writer.new.out.ghost_name ≡ writer.old.out.ghost_name }
+    ensures steps { steps.new ≡ steps.old + opened_cycles opened }
 {
     match opened {
         Opened::Machine(started) => run(started, writer, steps),
@@ -111,7 +113,8 @@ fn refuse<O: Sink>(alloc: Global, refusal: &Refusal, writer: &mut Writer<'_, O>)
 /// Puts the text of what was opened into a sink.
 fn tell_into<O: Sink, L: Ledger>(opened: Opened, out: &mut O, steps: &mut Steps<L>) -> u8
     requires { IsReady opened }
-    ensures { Says record { status = result; before = O.written out.old; after = O.written out.new; faults_before = O.faults out.old; faults_after = O.faults out.new } 0 (opened_text opened) }
+    ensures says { Says record { status = result; before = O.written out.old; after = O.written out.new; faults_before = O.faults out.old; faults_after = O.faults out.new } 0 (opened_text opened) }
+    ensures steps { result ≡ 0 → steps.new ≡ steps.old + opened_cycles opened }
 {
     let mut writer = Writer { out };
     tell(opened, &mut writer, steps)
@@ -135,6 +138,7 @@ fn converse<F: Shelf, O: Sink, L: Ledger>(
 ) -> u8
     ensures text { Converses (F.files files.old) (F.failed files.old) (F.failed files.new) (map string_bytes words.now) record { status = result; before = O.written out.old; after = O.written out.new; faults_before = O.faults out.old; faults_after = O.faults out.new } }
     ensures kept { F.files files.new ≡ F.files files.old }
+    ensures steps { Counts (F.files files.old) (F.failed files.old) (F.failed files.new) (map string_bytes words.now) result steps.old steps.new }
 {
     match open(alloc, words, files) {
         Ok(opened) => tell_into(opened, out, steps),
@@ -178,6 +182,9 @@ pub fn pico<F: Shelf, O: Sink, L: Ledger>(
     // 0 for a command without a file. Where the shelf tells the file and no load failed: 3 if it is too large, 4 if it is
     // an image with a fault, 5 if it is a source with one, and else 0.
     ensures held { Comes (F.files files.old) (F.failed files.old) (F.failed files.new) (reading (map string_bytes words.now)) result }
+
+    // Unless the sink failed or memory ran out, each cycle of the run was counted as one step, and nothing else.
+    ensures steps { Counts (F.files files.old) (F.failed files.old) (F.failed files.new) (map string_bytes words.now) result steps.old steps.new }
 {
     converse(alloc, words, files, out, steps)
 }

@@ -14,6 +14,7 @@ pub fn run_to_stop<L: Ledger>(machine: &mut Machine, world: &World, steps: &mut 
     requires { machine.old.cycle ≤ world.now.limit }
     ensures state { machine.new ≡ last_state world.now.limit machine.old }
     ensures cause { stop world.now.limit machine.new ≡ Some result }
+    ensures forward { machine.old.cycle ≤ machine.new.cycle }
     ensures steps { steps.new + machine.old.cycle ≡ steps.old + machine.new.cycle }
 {
     let mut marks = Marks::new();

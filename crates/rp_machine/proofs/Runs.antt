@@ -57,3 +57,9 @@ pub step_counts : (s t : State) (first before now counted : ℕ) → t ≡ next 
 step_counts s t first before now counted e count so_far =
     let cycle : t.cycle ≡ s.cycle + 1 = ap (λ (x : State). x.cycle) e ∙ next_cycle s in
     omega arith
+
+-- no cycle goes back
+pub step_forward : (s t : State) (first : ℕ) → t ≡ next s → first ≤ s.cycle → first ≤ t.cycle
+step_forward s t first e le =
+    let cycle : t.cycle ≡ s.cycle + 1 = ap (λ (x : State). x.cycle) e ∙ next_cycle s in
+    omega arith

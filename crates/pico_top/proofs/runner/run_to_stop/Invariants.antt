@@ -8,6 +8,7 @@ invariant-loop-why g l =
     (l.machine.cycle ≤ l.world.limit)
     × (last_state l.world.limit l.machine ≡ last_state l.world.limit l.initial.machine)
     × (l.steps + l.initial.machine.cycle ≡ l.initial.steps + l.machine.cycle)
+    × (l.initial.machine.cycle ≤ l.machine.cycle)
 
 abbrev pub decreases-loop-why : goal.decreases-loop-why
 decreases-loop-why g l = l.world.limit - l.machine.cycle
