@@ -1,9 +1,10 @@
 -- The entries that are due in a cycle are the first ones.
-use Rattle.std.proofs.Common.{◌≡◌, ◌≤◌, ◌<◌, ℕ, zero, suc, ◌-◌, nat_le, true, false, List, [], ◌∷◌, length, get_or, take, refl, ap, arith}
+use Rattle.std.proofs.Common.{◌≡◌, ◌≤◌, ◌<◌, ℕ, zero, suc, ◌-◌, nat_le, true, false, List, [], ◌∷◌, length, get_or, take, refl, sym, ap, ◌∙◌, arith}
 use Rattle.std.proofs.lemmas.Bool.Decides.{nat_tests}
+use Rattle.std.proofs.lemmas.List.{length-take-le}
 use Rattle.std.specs.List.{filter}
 use Rattle.pin_script.specs.declared.entry.Entry.{Entry}
-use Rattle.pin_script.specs.Levels.{is_due}
+use Rattle.pin_script.specs.Levels.{due_count, is_due}
 use Rattle.pin_script.specs.Reading.{cycle_at, IsDueBefore}
 use Rattle.pin_script.specs.Script.{IsScript, IsScriptFrom}
 
@@ -65,3 +66,6 @@ due_are_first xs cycle due s within before after = due_first 0 xs cycle due s wi
         let last : cycle_at xs (due - 1) ≤ cycle = before (omega arith) in
         let up : cycle_at xs j ≤ cycle_at xs (due - 1) = ascending 0 xs j (due - 1) s (omega arith) (omega arith) in
         omega arith
+
+pub count_is : (xs : List Entry) (cycle due : ℕ) → due ≤ length xs → filter (is_due cycle) xs ≡ take due xs → due ≡ due_count xs cycle
+count_is xs cycle due within h = sym (ap length h ∙ length-take-le due xs within)

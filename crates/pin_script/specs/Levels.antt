@@ -1,6 +1,6 @@
 -- The scripted level of a pin in a cycle: that of the last entry for the pin whose cycle is not later; without one the pin is
 -- free (the project's own).
-use Rattle.std.specs.Prelude.{ℕ, Bool, true, false, ◌==◌, nat_le, List, map, Option, Some, None}
+use Rattle.std.specs.Prelude.{ℕ, Bool, true, false, ◌==◌, nat_le, List, length, map, Option, Some, None}
 use Rattle.std.specs.List.{filter, range_with_len}
 use Rattle.pin_script.specs.declared.entry.Level.{Level}
 use Rattle.pin_script.specs.declared.entry.Level.TheVariants.{Low, High, Free}
@@ -9,6 +9,10 @@ use Rattle.pin_script.specs.Script.{last_of}
 
 abbrev pub is_due : ℕ → Entry → Bool
 is_due cycle entry = nat_le entry.cycle cycle
+
+-- how many entries are due in a cycle
+abbrev pub due_count : List Entry → ℕ → ℕ
+due_count entries cycle = length (filter (is_due cycle) entries)
 
 abbrev pub is_for : ℕ → Entry → Bool
 is_for pin entry = entry.pin == pin

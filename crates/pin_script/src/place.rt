@@ -2,36 +2,51 @@
 
 ghost use Rattle.std.specs.Prelude.{◌≡◌, ◌<◌, ◌≤◌, length, take};
 ghost use Rattle.std.specs.List.{filter};
-ghost use Rattle.pin_script.specs.Levels.{is_due};
+ghost use Rattle.pin_script.specs.Levels.{due_count, is_due};
 ghost use Rattle.pin_script.specs.Reading.{cycle_at, IsDueBefore};
 ghost use Rattle.pin_script.specs.Script.{IsScript};
 
 use crate::entry::Entry;
 use crate::script::Script;
+use std::marker::Model;
 
 /// Where a search for the levels of a cycle begins: the number of entries that were due in the cycle that was asked for
-/// last. What is found does not depend on it: in the next cycle, and in one of the next, it is found at once.
-#[derive(Clone, Copy, Debug, PartialEq, Eq, Default)]
+/// last. What is found does not depend on it, but in that cycle and in the next ones it is found at once.
+#[derive(Clone, Copy)]
 pub struct Place {
     due: usize,
 }
 
+impl Model for Place {
+    ghost use Rattle.std.specs.Prelude.{ℕ};
+
+    ghost Value = { ℕ };
+
+    ghost view = { λ place. place.due };
+
+    ghost inverse = { λ due. record { due = due } };
+}
+
 impl Place {
     ghost use Rattle.std.specs.Prelude.{◌≡◌};
-    ghost use Rattle.pin_script.specs.Levels.{drives_at};
+    ghost use Rattle.pin_script.specs.Levels.{drives_at, due_count};
 
     /// The place at the begin of a script.
-    pub fn new() -> Place {
+    pub fn new() -> Place
+        ensures { result ≡ 0 }
+    {
         Place { due: 0 }
     }
 
     /// The scripted levels of the 30 pins in a cycle, none where a pin is free. The place moves there: forward, where the
-    /// cycles that are asked for do not fall.
+    /// cycles that are asked for do not fall. Any place will do, also one of another script.
     pub fn levels<'a>(&mut self, script: &'a Script, cycle: u64) -> &'a [Option<bool>; 30]
-        ensures { result.now ≡ drives_at script.now cycle }
+        ensures levels { result.now ≡ drives_at script.now cycle }
+        ensures place { self.new ≡ due_count script.now cycle }
     {
-        self.due = count_due(script.as_slice(), cycle, self.due);
-        script.drives_after(self.due)
+        let due = count_due(script.as_slice(), cycle, self.due);
+        self.due = due;
+        script.drives_after(due)
     }
 }
 
@@ -48,6 +63,7 @@ fn count_due(entries: &[Entry], cycle: u64, guess: usize) -> usize
     requires { IsScript entries.now }
     ensures within { result ≤ length entries.now }
     ensures due { filter (is_due cycle) entries.now ≡ take result entries.now }
+    ensures count { result ≡ due_count entries.now cycle }
 {
     let mut due = fall_back(entries, cycle, guess.min(entries.len()));
     while due < entries.len() && cycle_at(entries, due) <= cycle {
