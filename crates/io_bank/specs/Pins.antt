@@ -1,6 +1,6 @@
 -- Sets of pins, fields of words and overrides (RP2040 Datasheet, 1.4.3, GPIO functions, and 2.19.6.1, GPIO0_CTRL). There
 -- are 30 pins, and bit p of a set tells whether pin p is in it.
-use Rattle.std.specs.Prelude.{ℕ, zero, suc, ◌+◌, ◌-◌, ◌*◌, ◌/◌, ◌%◌, ◌^◌, Bool, not, ◌==◌, if◌then◌else◌, bit_and}
+use Rattle.std.specs.Prelude.{ℕ, zero, suc, ◌+◌, ◌*◌, ◌/◌, ◌%◌, ◌^◌, Bool, not, ◌==◌, if◌then◌else◌}
 use Rattle.m0_alu.specs.Word.{bit_number}
 
 -- the number whose bits below a count are what a test says of their places
@@ -15,10 +15,6 @@ pins_where f = bits_below f 30
 -- so many bits of a word from a lowest one on
 abbrev pub field : ℕ → ℕ → ℕ → ℕ
 field word low count = word / 2 ^ low % 2 ^ count
-
--- the members of a set of up to 32 that another one does not have
-abbrev pub minus : ℕ → ℕ → ℕ
-minus set other = bit_and set (2 ^ 32 - 1 - other)
 
 -- a signal under an override: 0 as it is, 1 inverted, 2 low or off, 3 high or on
 abbrev pub overridden : ℕ → Bool → Bool

@@ -34,7 +34,8 @@ const PADS: [u32; 30] = [0x56; 30];
 ///
 /// The copies of the two bits of RESETS are kept here, as `set_held` sets them. `read`, `effect` and `step` look at them:
 /// a held block reads 0 and ignores writes, and no edge is latched while IO_BANK0 is held. `allows` and the readers of
-/// levels do not.
+/// levels do not. So `set_held` is called where a write of RESETS takes effect; a step and a read then go by RESETS as
+/// it is at the start of the cycle, and an access by RESETS as it is when its turn comes.
 #[derive(Clone, Copy)]
 pub struct IoBank {
     bank_held: bool,
@@ -128,7 +129,8 @@ impl IoBank {
         self.step_by_sets(outs, driven_by(script), high_by(script))
     }
 
-    /// The same cycle, where outside drives the pins of a set, and of these it drives high those of another one.
+    /// The same cycle, where outside drives the pins of a set, and of these it drives high those of another one. It costs
+    /// some forty operations on words, whatever changed.
     pub fn step_by_sets(&mut self, outs: &Outs, driven: u32, high: u32) -> u32
         ensures levels { result ≡ levels_of outs.now (by_sets driven high) self.old }
         ensures after { self.new ≡ after_step outs.now (by_sets driven high) self.old }
