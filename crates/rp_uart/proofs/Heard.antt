@@ -1,5 +1,5 @@
 -- The samples of a frame are the data bits of its byte, and the parity bit that goes with them.
-use Rattle.std.proofs.Common.{◌≡◌, ℕ, zero, suc, ◌+◌, ◌-◌, ◌*◌, ◌/◌, ◌%◌, ◌^◌, ◌<◌, ◌≤◌, Bool, true, false, cond, eqb, List, [], ◌∷◌, refl, sym, ap, ◌∙◌, arith}
+use Rattle.std.proofs.Common.{◌≡◌, ℕ, zero, suc, ◌+◌, ◌-◌, ◌*◌, ◌/◌, ◌%◌, ◌^◌, ◌<◌, ◌≤◌, Bool, true, false, cond, eqb, List, refl, sym, ap, ◌∙◌, arith}
 use Rattle.std.specs.Bool.{beq}
 use Rattle.std.specs.Prelude.{not, ◌&&◌, map, bit_or}
 use Rattle.std.specs.List.{range_with_len}
@@ -11,9 +11,9 @@ use Rattle.std.proofs.lemmas.Nat.Bits.{bit_at-lt, bit_at_cat_low}
 use Rattle.m0_alu.specs.Word.{has_bit, bit_number}
 use Rattle.rp_uart.specs.declared.frame.LineControl.{LineControl}
 use Rattle.rp_uart.specs.declared.receiver.Errors.{Errors}
-use Rattle.rp_uart.specs.Frame.{width_of, data_bits, ones_of, is_odd, parity_bit, level_at, parity_place, stop_place}
+use Rattle.rp_uart.specs.Frame.{width_of, ones_of, is_odd, parity_bit, level_at, parity_place, stop_place}
 use Rattle.rp_uart.specs.Law.{samples_of, IsHeard, WhatIsSentIsHeard}
-use Rattle.rp_uart.specs.Receiving.{with_sample, byte_heard, has_parity_error, errors_of}
+use Rattle.rp_uart.specs.Receiving.{with_sample, byte_heard, has_parity_error}
 use Rattle.rp_uart.specs.State.{no_errors}
 use Rattle.rp_uart.proofs.Frames.{level_at-start, level_at-data, level_at-parity, level_at-after, level_at-plain}
 

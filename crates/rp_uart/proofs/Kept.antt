@@ -1,11 +1,11 @@
 -- Sending leaves the divisor as it is.
-use Rattle.std.proofs.Common.{◌≡◌, ℕ, Bool, true, false, cond, Option, Some, None, refl, get_or}
+use Rattle.std.proofs.Common.{◌≡◌, ℕ, Bool, true, false, cond, Option, Some, None, refl}
 use Rattle.std.specs.Prelude.{slice_get}
 use Rattle.rp_uart.specs.declared.control.Divisor.{Divisor}
 use Rattle.rp_uart.specs.declared.sender.Sending.{Sending}
 use Rattle.rp_uart.specs.declared.sender.Sender.{Sender}
 use Rattle.rp_uart.specs.declared.sender.Sender.TheVariants.{Idle, Frame}
-use Rattle.rp_uart.specs.Sending.{with_sender, with_first, can_send, next_frame, after_bit, after_frame, after_sender, after_sending, is_over, is_last_bit, elapsed_after}
+use Rattle.rp_uart.specs.Sending.{with_sender, with_first, can_send, next_frame, after_bit, after_sender, after_sending, is_over, is_last_bit, elapsed_after}
 use Rattle.rp_uart.specs.State.{SerialPort}
 
 either : (b : Bool) (x y : SerialPort) (d : Divisor) → x.divisor ≡ d → y.divisor ≡ d → (cond b x y).divisor ≡ d

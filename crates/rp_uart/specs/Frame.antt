@@ -1,7 +1,7 @@
 -- The frame of a byte on the line (PrimeCell UART PL011 Technical Reference Manual, DDI 0183, 2.4.5, UART character frame,
 -- and 3.3.7, UARTLCR_H): a start bit, which is low, 5 to 8 data bits from the lowest, a parity bit where PEN is set, and one
 -- or two stop bits, which are high.
-use Rattle.std.specs.Prelude.{ℕ, ◌+◌, ◌*◌, ◌%◌, ◌==◌, Bool, true, false, not, if◌then◌else◌, List, [], ◌∷◌, ◌++◌, map, length, slice_index_or}
+use Rattle.std.specs.Prelude.{ℕ, ◌+◌, ◌%◌, ◌==◌, Bool, true, false, not, if◌then◌else◌, List, [], ◌∷◌, ◌++◌, map, length, slice_index_or}
 use Rattle.std.specs.List.{range_with_len, sum_by}
 use Rattle.m0_alu.specs.Word.{has_bit, bit_number}
 use Rattle.rp_uart.specs.declared.frame.LineControl.{LineControl}

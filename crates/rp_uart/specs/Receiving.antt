@@ -1,12 +1,11 @@
 -- Receiving (PrimeCell UART PL011 Technical Reference Manual, DDI 0183, 2.4.3, UART operation: data reception and error bits,
 -- 2.8, interrupts, 3.3.1, UARTDR, and 3.3.2, UARTRSR).
-use Rattle.std.specs.Prelude.{ℕ, ◌+◌, ◌-◌, ◌*◌, ◌/◌, ◌%◌, ◌^◌, ◌==◌, Bool, true, false, not, ◌&&◌, ◌||◌, nat_lt, nat_le, if◌then◌else◌, List, [], ◌∷◌, ◌++◌, length, Option, Some, None, bit_or}
+use Rattle.std.specs.Prelude.{ℕ, ◌+◌, ◌*◌, ◌/◌, ◌%◌, ◌^◌, ◌==◌, Bool, true, false, not, ◌&&◌, nat_lt, nat_le, if◌then◌else◌, [], ◌∷◌, ◌++◌, length, Option, Some, None, bit_or}
 use Rattle.std.specs.Bool.{beq}
 use Rattle.m0_alu.specs.Word.{has_bit}
 use Rattle.rp_uart.specs.declared.frame.LineControl.{LineControl}
 use Rattle.rp_uart.specs.declared.receiver.Errors.{Errors}
 use Rattle.rp_uart.specs.declared.receiver.Hearing.{Hearing}
-use Rattle.rp_uart.specs.declared.receiver.Received.{Received}
 use Rattle.rp_uart.specs.declared.receiver.Receiver.{Receiver}
 use Rattle.rp_uart.specs.declared.receiver.Receiver.TheVariants as receivers
 use Rattle.rp_uart.specs.Frame.{width_of, parity_bit, parity_place, stop_place}

@@ -1,7 +1,7 @@
 -- Sending (PrimeCell UART PL011 Technical Reference Manual, DDI 0183, 2.4.3, UART operation: baud rate divisor and data
 -- transmission, and 3.3.8, UARTCR). Time is counted in quarters of a cycle, of which a cycle has 4 and a bit 64 times the
 -- divisor, which is a whole number of them.
-use Rattle.std.specs.Prelude.{ℕ, ◌+◌, ◌-◌, ◌*◌, ◌==◌, Bool, true, ◌&&◌, nat_lt, nat_le, if◌then◌else◌, List, length, drop, Option, Some, None, slice_get}
+use Rattle.std.specs.Prelude.{ℕ, ◌+◌, ◌-◌, ◌*◌, ◌==◌, Bool, true, ◌&&◌, nat_le, if◌then◌else◌, length, drop, Option, Some, None, slice_get}
 use Rattle.rp_uart.specs.declared.control.Divisor.{Divisor}
 use Rattle.rp_uart.specs.declared.frame.LineControl.{LineControl}
 use Rattle.rp_uart.specs.declared.sender.Sending.{Sending}

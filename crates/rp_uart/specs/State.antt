@@ -1,11 +1,10 @@
 -- A UART between two cycles (RP2040 Datasheet, 4.2, UART; PrimeCell UART PL011 Technical Reference Manual, DDI 0183, 2.2,
 -- functional description, and 3.3, register descriptions).
-use Rattle.std.specs.Prelude.{ℕ, ◌+◌, ◌*◌, Bool, true, false, List, [], Option, None}
+use Rattle.std.specs.Prelude.{ℕ, Bool, true, false, List, [], Option, None}
 use Rattle.rp_uart.specs.declared.control.Control.{Control}
 use Rattle.rp_uart.specs.declared.control.Divisor.{Divisor}
 use Rattle.rp_uart.specs.declared.control.DmaControl.{DmaControl}
 use Rattle.rp_uart.specs.declared.frame.LineControl.{LineControl}
-use Rattle.rp_uart.specs.declared.frame.WordLength.{WordLength}
 use Rattle.rp_uart.specs.declared.frame.WordLength.TheVariants.{Five}
 use Rattle.rp_uart.specs.declared.receiver.Errors.{Errors}
 use Rattle.rp_uart.specs.declared.receiver.Received.{Received}

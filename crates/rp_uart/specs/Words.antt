@@ -1,6 +1,6 @@
 -- The registers by their offsets, what they read as and what an access does (RP2040 Datasheet, 4.2, list of registers;
 -- PrimeCell UART PL011 Technical Reference Manual, DDI 0183, 3.3, register descriptions).
-use Rattle.std.specs.Prelude.{ℕ, ◌+◌, ◌*◌, ◌/◌, ◌%◌, ◌^◌, ◌==◌, Bool, true, false, not, ◌&&◌, ◌||◌, nat_lt, nat_le, if◌then◌else◌, List, [], ◌∷◌, ◌++◌, length, drop, Option, Some, None, slice_get, is_some, bit_and}
+use Rattle.std.specs.Prelude.{ℕ, ◌+◌, ◌*◌, ◌/◌, ◌%◌, ◌^◌, ◌==◌, Bool, true, false, ◌||◌, nat_lt, nat_le, if◌then◌else◌, [], ◌∷◌, ◌++◌, length, drop, Option, Some, None, slice_get, is_some, bit_and}
 use Rattle.m0_alu.specs.Word.{has_bit, bit_number}
 use Rattle.rp_uart.specs.declared.control.Control.{Control}
 use Rattle.rp_uart.specs.declared.control.Divisor.{Divisor}
@@ -13,7 +13,7 @@ use Rattle.rp_uart.specs.declared.receiver.Received.{Received}
 use Rattle.rp_uart.specs.declared.sender.Sender.{Sender}
 use Rattle.rp_uart.specs.declared.sender.Sender.TheVariants as senders
 use Rattle.rp_uart.specs.Interrupts.{depth_of, error_bits, masked, cleared, settled}
-use Rattle.rp_uart.specs.Receiving.{with_overrun, with_quiet}
+use Rattle.rp_uart.specs.Receiving.{with_overrun}
 use Rattle.rp_uart.specs.State.{SerialPort, no_errors}
 
 -- ---- UARTDR and UARTRSR
