@@ -18,6 +18,8 @@ use Rattle.dma_engine.specs.Channels.{in_turn, with_end}
 use Rattle.dma_engine.specs.Choice.{is_candidate, first_in_turn, choice_of}
 use Rattle.dma_engine.specs.Timers.{stepped, given_by, credited, after_timers}
 use Rattle.dma_engine.specs.Cycle.{is_over, after_ends, with_read_by, with_read, after_read, after_write, choice_where_none, after_choice, next, after_read_of, after_write_of}
+use Rattle.dma_engine.proofs.InTurn.{after_ends-none}
+use Rattle.dma_engine.proofs.Still.{both_left, both_right, not_is, after_timers-still}
 use Rattle.dma_engine.specs.Quiet.{is_idle_channel, stands_still, is_at_rest}
 
 -- ---- what an engine at rest is
@@ -27,14 +29,6 @@ record Rests (s : Engine) : Type 0 where
   waiting : s.waiting ≡ []
   channels : list_all is_idle_channel s.channels ≡ true
   timers : list_all stands_still s.timers ≡ true
-
-both_left : (a b : Bool) → (a && b) ≡ true → a ≡ true
-both_left true b h = refl
-both_left false b h = h
-
-both_right : (a b : Bool) → (a && b) ≡ true → b ≡ true
-both_right true b h = h
-both_right false b h = absurd (cc)
 
 none_is : (o : Option ℕ) → is_none o ≡ true → o ≡ None
 none_is None h = refl
@@ -60,10 +54,6 @@ rests s h =
       timers = both_right (list_all is_idle_channel s.channels) _ last;
     }
 
-not_is : (b : Bool) → not b ≡ true → b ≡ false
-not_is true h = sym h
-not_is false h = refl
-
 -- ---- channels
 
 idle_at : (cs : List Channel) (n : ℕ) → list_all is_idle_channel cs ≡ true → (get_or cs n idle_channel).busy ≡ false
@@ -82,12 +72,6 @@ not_over s n r = rw (idle_at s.channels n r.channels) refl
 not_candidate : (s : Engine) (high : Bool) (counts n : ℕ) → Rests s → is_candidate high counts s n ≡ false
 not_candidate s high counts n r = rw (idle_at s.channels n r.channels) refl
 
-none_in_turn : (test : ℕ → Bool) (act : ℕ → Engine → Engine) (n : ℕ) (e : Engine) → ((k : ℕ) → test k ≡ false) →
-    in_turn test act n e ≡ e
-unfolding in_turn
-none_in_turn test act zero e h = refl
-none_in_turn test act (suc n) e h = rw (h n) (none_in_turn test act n e h)
-
 none_first : (test : ℕ → Bool) (n left : ℕ) → ((k : ℕ) → test k ≡ false) → first_in_turn test n left ≡ None
 unfolding first_in_turn
 none_first test n zero h = refl
@@ -96,8 +80,7 @@ none_first test n (suc left) h = rw (h (n % 12)) (none_first test (n + 1) left h
 -- ---- the parts of a cycle
 
 ends_at_rest : (s : Engine) → Rests s → after_ends s ≡ s
-unfolding after_ends
-ends_at_rest s r = none_in_turn (is_over s) with_end 12 s (λ k. not_over s k r)
+ends_at_rest s r = after_ends-none s (λ k low. not_over s k r)
 
 either_other : {A : Type 0} (b : Bool) (x y : A) → x ≡ y → cond b x y ≡ y
 either_other true x y h = h
@@ -137,25 +120,8 @@ no_choice_by s (Some n) h = absurd (cc)
 no_choice : (s : Engine) → Rests s → after_choice None s ≡ s
 no_choice s r = no_choice_by s s.chosen r.chosen
 
-still : (t : Timer) → stands_still t ≡ true → stepped t ≡ t
-still t h = rw (not_is _ h) refl
-
-timers_still : (ts : List Timer) → list_all stands_still ts ≡ true → map stepped ts ≡ ts
-timers_still [] h = refl
-timers_still (t ∷ ts) h =
-    rw (timers_still ts (both_right (stands_still t) _ h)) (ap (λ x. x ∷ ts) (still t (both_left (stands_still t) _ h)))
-
-credits_still : (given : List Bool) (cs : List Channel) → list_all is_idle_channel cs ≡ true → map (credited given) cs ≡ cs
-credits_still given [] h = refl
-credits_still given (c ∷ cs) h =
-    let busy : c.busy ≡ false = not_is c.busy (both_left (not c.busy) _ h) in
-    rw (credits_still given cs (both_right (not c.busy) _ h)) (rw busy refl)
-
 timers_at_rest : (s : Engine) → Rests s → after_timers s ≡ s
-unfolding after_timers
-timers_at_rest s r =
-    ap (λ ts. record s { timers = ts; channels = map (credited (given_by s.timers)) s.channels }) (timers_still s.timers r.timers)
-    ∙ ap (λ cs. record s { channels = cs }) (credits_still (given_by s.timers) s.channels r.channels)
+timers_at_rest s r = after_timers-still s r.timers
 
 parts_at_rest : (s : Engine) (begun : Doing) (turns : List Turn) → Rests s →
     after_timers (after_choice (choice_of begun.counts s) (after_write_of begun turns (after_read_of begun turns (after_ends s)))) ≡ s

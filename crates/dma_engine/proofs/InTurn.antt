@@ -1,7 +1,8 @@
 -- Channels in turn, from 0 up.
-use Rattle.std.proofs.Common.{◌≡◌, ℕ, ◌+◌, ◌≤◌, Bool, true, false, refl, ap, arith, add-one}
+use Rattle.std.proofs.Common.{◌≡◌, ℕ, zero, suc, ◌+◌, ◌<◌, ◌≤◌, Bool, true, false, refl, ap, arith, add-one}
 use Rattle.dma_engine.specs.State.{Engine}
-use Rattle.dma_engine.specs.Channels.{in_turn}
+use Rattle.dma_engine.specs.Channels.{in_turn, with_end}
+use Rattle.dma_engine.specs.Cycle.{is_over, after_ends}
 
 pub in_turn-none : (test : ℕ → Bool) (act : ℕ → Engine → Engine) (e : Engine) → in_turn test act 0 e ≡ e
 unfolding in_turn
@@ -20,5 +21,17 @@ in_turn-failing test act n e h = rw (add-one n) (rw h refl)
 pub in_turn-all : (test : ℕ → Bool) (act : ℕ → Engine → Engine) (n : ℕ) (e : Engine) → 12 ≤ n → n ≤ 12 →
     in_turn test act n e ≡ in_turn test act 12 e
 in_turn-all test act n e low high = let is : n ≡ 12 = omega arith in ap (λ k. in_turn test act k e) is
+
+-- none of them has a turn
+pub in_turn-all_failing : (test : ℕ → Bool) (act : ℕ → Engine → Engine) (n : ℕ) (e : Engine) →
+    ((k : ℕ) → k < n → test k ≡ false) → in_turn test act n e ≡ e
+unfolding in_turn
+in_turn-all_failing test act zero e h = refl
+in_turn-all_failing test act (suc n) e h =
+    rw (h n (omega arith)) (in_turn-all_failing test act n e (λ k low. h k (omega arith)))
+
+pub after_ends-none : (s : Engine) → ((k : ℕ) → k < 12 → is_over s k ≡ false) → after_ends s ≡ s
+unfolding after_ends
+after_ends-none s h = in_turn-all_failing (is_over s) with_end 12 s h
 
 pub ruleset in_turn_laws = (in_turn-none, in_turn-passing, in_turn-failing, in_turn-all)

@@ -7,3 +7,4 @@ pub mod Mapped
 pub mod Packing
 pub mod Ring
 pub mod Search
+pub mod Still

@@ -1,32 +1,33 @@
--- The first of twelve channels in turn is found from the first one on.
-use Rattle.std.proofs.Common.{◌≡◌, ℕ, suc, ◌+◌, ◌-◌, ◌%◌, ◌<◌, ◌≤◌, Bool, true, false, refl, arith, Option, Some, None}
-use Rattle.dma_engine.specs.Choice.{first_in_turn}
+-- The choice is found in one pass over the channels in turn, from the first one on.
+use Rattle.std.proofs.Common.{◌≡◌, ℕ, suc, ◌+◌, ◌-◌, ◌%◌, ◌<◌, ◌≤◌, Bool, true, false, not, ◌&&◌, ◌||◌, refl, ap, subst, sym, ◌∙◌, arith, Option, Some, None}
+use Rattle.dma_engine.specs.State.{Engine, channel_at}
+use Rattle.dma_engine.specs.Control.{is_high}
+use Rattle.dma_engine.specs.Choice.{is_ready, is_candidate, first_in_turn, next_candidate, or_else, choice_of}
 
 -- what is found among the channels that are left, where so many after the last one were passed
 unfoldable pub found_after : (ℕ → Bool) → ℕ → ℕ → Option ℕ
 found_after test last passed = first_in_turn test (last + 1 + passed) (12 - passed)
 
-pub found_after-none : (test : ℕ → Bool) (last : ℕ) → found_after test last 0 ≡ first_in_turn test (last + 1) 12
+found_after-none : (test : ℕ → Bool) (last : ℕ) → found_after test last 0 ≡ first_in_turn test (last + 1) 12
 unfolding found_after
 found_after-none test last = let is : last + 1 + 0 ≡ last + 1 = omega arith in rw is refl
 
-one_more : (test : ℕ → Bool) (n left : ℕ) (found : Option ℕ) → test (n % 12) ≡ true →
-    first_in_turn test n (suc left) ≡ Some (n % 12)
+one_more : (test : ℕ → Bool) (n left : ℕ) → test (n % 12) ≡ true → first_in_turn test n (suc left) ≡ Some (n % 12)
 unfolding first_in_turn
-one_more test n left found h = rw h refl
+one_more test n left h = rw h refl
 
 one_less : (test : ℕ → Bool) (n left : ℕ) → test (n % 12) ≡ false →
     first_in_turn test n (suc left) ≡ first_in_turn test (n + 1) left
 unfolding first_in_turn
 one_less test n left h = rw h refl
 
-pub found_after-found : (test : ℕ → Bool) (last p : ℕ) → p < 12 → test ((last + 1 + p) % 12) ≡ true →
+found_after-found : (test : ℕ → Bool) (last p : ℕ) → p < 12 → test ((last + 1 + p) % 12) ≡ true →
     found_after test last p ≡ Some ((last + 1 + p) % 12)
 unfolding found_after
 found_after-found test last p low h =
-    let is : 12 - p ≡ suc (11 - p) = omega arith in rw is (one_more test (last + 1 + p) (11 - p) None h)
+    let is : 12 - p ≡ suc (11 - p) = omega arith in rw is (one_more test (last + 1 + p) (11 - p) h)
 
-pub found_after-passed : (test : ℕ → Bool) (last p : ℕ) → p < 12 → test ((last + 1 + p) % 12) ≡ false →
+found_after-passed : (test : ℕ → Bool) (last p : ℕ) → p < 12 → test ((last + 1 + p) % 12) ≡ false →
     found_after test last p ≡ found_after test last (p + 1)
 unfolding found_after
 found_after-passed test last p low h =
@@ -35,8 +36,104 @@ found_after-passed test last p low h =
     let next : last + 1 + (p + 1) ≡ last + 1 + p + 1 = omega arith in
     rw (is, left, next) (one_less test (last + 1 + p) (11 - p) h)
 
-pub found_after-all : (test : ℕ → Bool) (last p : ℕ) → 12 ≤ p → found_after test last p ≡ None
+found_after-all : (test : ℕ → Bool) (last p : ℕ) → 12 ≤ p → found_after test last p ≡ None
 unfolding found_after first_in_turn
 found_after-all test last p low = let is : 12 - p ≡ 0 = omega arith in rw is refl
 
-pub ruleset searching = (found_after-none, found_after-found, found_after-passed, found_after-all)
+-- ---- candidates of high priority, and all
+
+with_high : (a b h r : Bool) → (a && (b && (true && r))) ≡ true → (a && (b && (h && r))) ≡ h
+with_high true true true r e = e
+with_high true true false r e = refl
+with_high true false h r e = absurd (cc)
+with_high false b h r e = absurd (cc)
+
+without_high : (a b h r : Bool) → (a && (b && (true && r))) ≡ false → (a && (b && (h && r))) ≡ false
+without_high true true true r e = e
+without_high true true false r e = refl
+without_high true false h r e = refl
+without_high false b h r e = refl
+
+high_of : (counts : ℕ) (s : Engine) (n : ℕ) → is_candidate false counts s n ≡ true →
+    is_candidate true counts s n ≡ is_high (channel_at n s)
+high_of counts s n h = with_high (channel_at n s).busy _ (is_high (channel_at n s)) (is_ready counts (channel_at n s) s) h
+
+not_of : (counts : ℕ) (s : Engine) (n : ℕ) → is_candidate false counts s n ≡ false → is_candidate true counts s n ≡ false
+not_of counts s n h = without_high (channel_at n s).busy _ (is_high (channel_at n s)) (is_ready counts (channel_at n s) s) h
+
+-- ---- the pass
+
+-- no channel of high priority was passed, and this is the first of the others that were
+pub record IsPassing (counts : ℕ) (s : Engine) (other : Option ℕ) (passed : ℕ) : Type 0 where
+  pub high : found_after (is_candidate true counts s) s.last_chosen passed ≡ next_candidate true counts s
+  pub others : or_else other (found_after (is_candidate false counts s) s.last_chosen passed) ≡ next_candidate false counts s
+
+pub passing-none : (counts : ℕ) (s : Engine) → IsPassing counts s None 0
+passing-none counts s = record {
+  high = found_after-none (is_candidate true counts s) s.last_chosen;
+  others = found_after-none (is_candidate false counts s) s.last_chosen;
+}
+
+pub passing-other : (counts : ℕ) (s : Engine) (other : Option ℕ) (p : ℕ) → IsPassing counts s other p → p < 12 →
+    is_candidate false counts s ((s.last_chosen + 1 + p) % 12) ≡ false → IsPassing counts s other (p + 1)
+passing-other counts s other p h low e = record {
+  high =
+      sym (found_after-passed (is_candidate true counts s) s.last_chosen p low (not_of counts s _ e)) ∙ h.high;
+  others =
+      ap (λ o. or_else other o) (sym (found_after-passed (is_candidate false counts s) s.last_chosen p low e)) ∙ h.others;
+}
+
+or_else-some : (other : Option ℕ) (n : ℕ) (o : Option ℕ) → or_else (or_else other (Some n)) o ≡ or_else other (Some n)
+or_else-some None n o = refl
+or_else-some (Some m) n o = refl
+
+pub passing-candidate : (counts : ℕ) (s : Engine) (other : Option ℕ) (p : ℕ) → IsPassing counts s other p → p < 12 →
+    is_candidate false counts s ((s.last_chosen + 1 + p) % 12) ≡ true →
+    is_high (channel_at ((s.last_chosen + 1 + p) % 12) s) ≡ false →
+    IsPassing counts s (or_else other (Some ((s.last_chosen + 1 + p) % 12))) (p + 1)
+passing-candidate counts s other p h low e high = record {
+  high =
+      sym (found_after-passed (is_candidate true counts s) s.last_chosen p low (high_of counts s _ e ∙ high)) ∙ h.high;
+  others =
+      or_else-some other _ _
+      ∙ ap (λ o. or_else other o) (sym (found_after-found (is_candidate false counts s) s.last_chosen p low e)) ∙ h.others;
+}
+
+pub passing-high : (counts : ℕ) (s : Engine) (other : Option ℕ) (p : ℕ) → IsPassing counts s other p → p < 12 →
+    is_candidate false counts s ((s.last_chosen + 1 + p) % 12) ≡ true →
+    is_high (channel_at ((s.last_chosen + 1 + p) % 12) s) ≡ true → Some ((s.last_chosen + 1 + p) % 12) ≡ choice_of counts s
+unfolding choice_of
+passing-high counts s other p h low e high =
+    let found : next_candidate true counts s ≡ Some ((s.last_chosen + 1 + p) % 12) =
+    sym h.high ∙ found_after-found (is_candidate true counts s) s.last_chosen p low (high_of counts s _ e ∙ high) in
+    ap (λ o. or_else o (next_candidate false counts s)) (sym found)
+
+or_else-none : (other : Option ℕ) → or_else other None ≡ other
+or_else-none None = refl
+or_else-none (Some n) = refl
+
+pub passing-all : (counts : ℕ) (s : Engine) (other : Option ℕ) (p : ℕ) → IsPassing counts s other p → 12 ≤ p → other ≡ choice_of counts s
+unfolding choice_of
+passing-all counts s other p h low =
+    let none : next_candidate true counts s ≡ None =
+    sym h.high ∙ found_after-all (is_candidate true counts s) s.last_chosen p low in
+    let others : other ≡ next_candidate false counts s =
+    sym (or_else-none other) ∙ ap (λ o. or_else other o) (sym (found_after-all (is_candidate false counts s) s.last_chosen p low))
+    ∙ h.others in
+    others ∙ ap (λ o. or_else o (next_candidate false counts s)) (sym none)
+
+-- the same for the number of that channel
+pub passing-other_at : (counts : ℕ) (s : Engine) (other : Option ℕ) (p n : ℕ) → n ≡ (s.last_chosen + 1 + p) % 12 →
+    IsPassing counts s other p → p < 12 → is_candidate false counts s n ≡ false → IsPassing counts s other (p + 1)
+passing-other_at counts s other p n is h low e =
+    passing-other counts s other p h low (subst (λ k. is_candidate false counts s k ≡ false) is e)
+
+pub passing-candidate_at : (counts : ℕ) (s : Engine) (other : Option ℕ) (p n : ℕ) → n ≡ (s.last_chosen + 1 + p) % 12 →
+    IsPassing counts s other p → p < 12 → is_candidate false counts s n ≡ true → is_high (channel_at n s) ≡ false →
+    IsPassing counts s (or_else other (Some n)) (p + 1)
+passing-candidate_at counts s other p n is h low e high =
+    subst (λ k. IsPassing counts s (or_else other (Some k)) (p + 1)) (sym is)
+    (passing-candidate counts s other p h low (subst (λ k. is_candidate false counts s k ≡ true) is e)
+    (subst (λ k. is_high (channel_at k s) ≡ false) is high))
+
+pub ruleset searching = (passing-high, passing-all)

@@ -1,8 +1,10 @@
 //! Which channel is chosen for the next transfer.
 
-ghost use Rattle.std.specs.Prelude.{◌≡◌, ◌<◌, ◌≤◌};
+ghost use Rattle.std.specs.Prelude.{◌≡◌, ◌<◌, ◌≤◌, false, Some};
+ghost use Rattle.dma_engine.specs.State.{channel_at};
+ghost use Rattle.dma_engine.specs.Control.{is_high};
 ghost use Rattle.dma_engine.specs.Pacing.{count_at};
-ghost use Rattle.dma_engine.specs.Choice.{is_paced_by, chosen_by, unread, writes_of, unwritten, is_ready, is_candidate, next_candidate, choice_of};
+ghost use Rattle.dma_engine.specs.Choice.{is_paced_by, chosen_by, unread, writes_of, unwritten, is_ready, is_candidate, or_else, choice_of};
 
 use crate::channel::Channel;
 use crate::engine::{CHANNELS, Engine};
@@ -14,6 +16,16 @@ fn count_at(place: u8, counts: u128) -> u8
     ensures { result ≡ count_at place counts }
 {
     ((counts >> (6 * place)) % 64) as u8
+}
+
+/// The first of two channels, where there are two.
+fn or_else(first: Option<u8>, number: u8) -> Option<u8>
+    ensures { result ≡ or_else first (Some number) }
+{
+    match first {
+        Some(first) => Some(first),
+        None => Some(number),
+    }
 }
 
 impl Engine {
@@ -71,39 +83,38 @@ impl Engine {
     }
 
     /// The channel can be chosen.
-    fn is_candidate(&self, high: bool, counts: u128, number: u8) -> bool
+    fn is_candidate(&self, counts: u128, number: u8) -> bool
         requires { number < 12 }
-        ensures { result ≡ is_candidate high counts self.now number }
+        ensures { result ≡ is_candidate false counts self.now number }
     {
         let channel = &self.channels[number as usize];
-        channel.busy
-            && channel.count != 0
-            && (!high || channel.is_high())
-            && self.is_ready(counts, channel)
+        channel.busy && channel.count != 0 && self.is_ready(counts, channel)
     }
 
-    /// The next channel after the one that was chosen last that can be chosen.
-    #[tactic(auto, using(crate::proofs::Search::searching))]
-    fn next_candidate(&self, high: bool, counts: u128) -> Option<u8>
-        ensures { result ≡ next_candidate high counts self.now }
+    /// The channel has a high priority.
+    fn is_high(&self, number: u8) -> bool
+        requires { number < 12 }
+        ensures { result ≡ is_high (channel_at number self.now) }
     {
-        for passed in 0..CHANNELS {
-            let number = ((u16::from(self.last_chosen) + 1 + u16::from(passed)) % 12) as u8;
-            if self.is_candidate(high, counts, number) {
-                return Some(number);
-            }
-        }
-        None
+        self.channels[number as usize].is_high()
     }
 
-    /// The choice: a channel of high priority before all others.
-    #[tactic(auto, unfolding(crate::specs::Choice::choice_of))]
+    /// The choice: of the channels that can be chosen, the next one of high priority after the one that was chosen last, or
+    /// else the next one of all.
+    #[tactic(auto, using(crate::proofs::Search::searching))]
     pub(crate) fn choice(&self, counts: u128) -> Option<u8>
         ensures { result ≡ choice_of counts self.now }
     {
-        match self.next_candidate(true, counts) {
-            Some(number) => Some(number),
-            None => self.next_candidate(false, counts),
+        let mut other = None;
+        for passed in 0..CHANNELS {
+            let number = ((u16::from(self.last_chosen) + 1 + u16::from(passed)) % 12) as u8;
+            if self.is_candidate(counts, number) {
+                if self.is_high(number) {
+                    return Some(number);
+                }
+                other = or_else(other, number);
+            }
         }
+        other
     }
 }

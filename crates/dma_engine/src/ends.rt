@@ -145,11 +145,26 @@ impl Engine {
         over
     }
 
+    /// Some channel is over.
+    fn some_over(&self) -> bool
+        ensures { result ≡ false → (k : ℕ) → k < 12 → is_over self.now k ≡ false }
+    {
+        for number in 0..CHANNELS {
+            if self.is_over(number) {
+                return true;
+            }
+        }
+        false
+    }
+
     /// The sequences that are over end, in order of number.
     #[tactic(auto, unfolding(crate::specs::Cycle::after_ends), using(crate::proofs::InTurn::in_turn_laws))]
     pub(crate) fn end_sequences(&mut self)
         ensures { self.new ≡ after_ends self.old }
     {
+        if !self.some_over() {
+            return;
+        }
         let over = self.over();
         for number in 0..CHANNELS {
             if over[number as usize] {

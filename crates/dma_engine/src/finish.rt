@@ -200,10 +200,13 @@ impl Engine {
     }
 
     /// The pacing timers have their cycle.
-    #[tactic(auto, unfolding(crate::specs::Timers::after_timers))]
+    #[tactic(auto, unfolding(crate::specs::Timers::after_timers), using(crate::proofs::Still::stillness))]
     fn step_timers(&mut self)
         ensures { self.new ≡ after_timers self.old }
     {
+        if stand_still(&self.timers) {
+            return;
+        }
         let given = given_by(&self.timers);
         self.timers = stepped(&self.timers);
         take_credits(&mut self.channels, &given);
