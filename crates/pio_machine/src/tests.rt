@@ -144,6 +144,7 @@ fn stalls(rt: HostRuntime) {
     assert!(rt; machine.rx.pull() == Some(9));
     run(&rt, &mut machine, &seen, b".");
     assert_eq!(rt; machine.rx.level(), 4);
+    assert_eq!(rt; machine.rx.first(), 9);
     assert_eq!(rt; machine.pc, 1);
     machine.rx_stall = false;
     run(&rt, &mut machine, &seen, b"..");
