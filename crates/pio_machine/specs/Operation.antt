@@ -1,5 +1,5 @@
--- A try of an instruction word: its operation, autopull, its side-set, and how it ends (RP2040 Datasheet, 3.4.1, 3.5.1 and
--- 3.5.4).
+-- A try of an instruction word: its operation, autopull, its side-set, and how it ends (RP2040 Datasheet, 3.4.1, 3.5.1, 3.5.2
+-- and 3.5.4).
 use Rattle.std.specs.Prelude.{ℕ, ◌-◌, ◌/◌, ◌%◌, ◌+◌, ◌^◌, Bool, true, false, not, ◌||◌, ◌==◌, if◌then◌else◌, Some, None}
 use Rattle.m0_alu.specs.Word.{has_bit}
 use Rattle.pio_words.specs.declared.op.MovDestination.{MovDestination}
@@ -97,7 +97,8 @@ with_side word m d =
 
 -- ---- the end
 
--- a fetched word is followed by the one at the next place, and the last one by the first; a waiting one is gone
+-- a fetched word is followed by the one at the next place, that at WRAP_TOP by that at WRAP_BOTTOM (3.5.2); a waiting word
+-- is gone
 abbrev pub next_place : Machine1 → ℕ
 next_place m = if m.pc == wrap_top m then wrap_bottom m else (m.pc % 32 + 1) % 32
 

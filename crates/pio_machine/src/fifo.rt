@@ -18,7 +18,7 @@ impl Model for Fifo {
 }
 
 impl Fifo {
-    ghost use Rattle.std.specs.Prelude.{◌≡◌, ◌<◌, ◌≤◌, ◌++◌, ◌∷◌, [], length, MatchOption};
+    ghost use Rattle.std.specs.Prelude.{◌≡◌, ◌<◌, ◌≤◌, ◌++◌, ◌∷◌, [], length, slice_index, MatchOption};
 
     /// No words.
     pub fn new() -> Fifo
@@ -35,6 +35,17 @@ impl Fifo {
         ensures room { result ≤ 8 }
     {
         self.words.len() as u8
+    }
+
+    /// The first word; 0 where there is none.
+    pub fn first(&self) -> u32
+        ensures { result ≡ slice_index self.now 0 }
+    {
+        if self.words.is_empty() {
+            0
+        } else {
+            self.words[0]
+        }
     }
 
     /// Adds a word at the end.

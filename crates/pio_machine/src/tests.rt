@@ -144,6 +144,7 @@ fn stalls(rt: HostRuntime) {
     assert!(rt; machine.rx.pull() == Some(9));
     run(&rt, &mut machine, &seen, b".");
     assert_eq!(rt; machine.rx.level(), 4);
+    assert_eq!(rt; machine.rx.first(), 9);
     assert_eq!(rt; machine.pc, 1);
     machine.rx_stall = false;
     run(&rt, &mut machine, &seen, b"..");
@@ -191,16 +192,38 @@ fn flags_and_executed_words(rt: HostRuntime) {
     assert_eq!(rt; machine.pc, 3);
 }
 
-// in pins, 3 from pin 31 on, of which pin 0 is read before its synchroniser
+// Pins go on after pin 31 at pin 0: in pins, 3, of which pin 0 is read before its synchroniser; set pins, 5; and out pindirs,
+// 2 with a side-set of one pin, which wins.
 #[test]
-fn inputs_wrap(rt: HostRuntime) {
-    let mut seen = seen(&[0x4003, 0, 0, 0]);
+fn pins_wrap(rt: HostRuntime) {
+    let mut seen = seen(&[0x4003, 0xe005, 0x6082, 0]);
     seen.inputs = [1, 0x8000_0002];
     seen.bypass = 1;
     let mut machine = Machine1::new();
     machine.enabled = true;
-    machine.pinctrl = 31 << 15;
     machine.shiftctrl = 0;
+    // SET_COUNT 3, IN_BASE and SET_BASE 31
+    machine.pinctrl = (3 << 26) | (31 << 15) | (31 << 5);
     run(&rt, &mut machine, &seen, b".");
     assert_eq!(rt; machine.isr, 7);
+    let mut done = Done::new();
+    tick(&mut machine, 1, &seen, &mut done);
+    assert_eq!(rt; done.level_mask, 0x8000_0003);
+    assert_eq!(rt; done.levels, 0x8000_0002);
+    assert_eq!(rt; done.enable_mask, 0);
+    // SIDESET_COUNT 1, OUT_COUNT 2, SIDESET_BASE 0, OUT_BASE 31; SIDE_PINDIR
+    machine.pinctrl = (1 << 29) | (2 << 20) | 31;
+    machine.execctrl = 0x2001_f000;
+    machine.osr = 0xc000_0000;
+    machine.osr_count = 0;
+    tick(&mut machine, 1, &seen, &mut done);
+    assert_eq!(rt; done.enable_mask, 0x8000_0001);
+    assert_eq!(rt; done.enables, 0x8000_0000);
+    // a side-set that is optional, and not asked for: jmp 0 with delay 0
+    machine.execctrl = 0x6001_f000;
+    machine.pinctrl = 2 << 29;
+    let mut done = Done::new();
+    tick(&mut machine, 1, &seen, &mut done);
+    assert_eq!(rt; done.enable_mask, 0);
+    assert_eq!(rt; machine.pc, 0);
 }

@@ -1,0 +1,6 @@
+pub mod State
+pub mod Control
+pub mod Queues
+pub mod Registers
+pub mod Words
+pub mod Cycle

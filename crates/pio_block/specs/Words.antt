@@ -1,0 +1,189 @@
+-- The words of a block by their offsets (RP2040 Datasheet, 3.7), what they read as and what an access does.
+use Rattle.std.specs.Prelude.{ℕ, ◌+◌, ◌-◌, ◌*◌, ◌/◌, ◌%◌, ◌^◌, Bool, false, not, ◌&&◌, ◌||◌, ◌==◌, nat_lt, nat_le, if◌then◌else◌, Option, Some, None, List, [], ◌∷◌, length, bit_and, bit_or, slice_set}
+use Rattle.m0_alu.specs.Word.{has_bit}
+use Rattle.pio_machine.specs.Fields.{is_tx_full, tx_depth}
+use Rattle.pio_machine.specs.declared.machine.Machine1.{Machine1}
+use Rattle.pio_block.specs.State.{Block, machine_of, changed, with_machines, without}
+use Rattle.pio_block.specs.Control.{ctrl_of, control_written}
+use Rattle.pio_block.specs.Queues.{bits_of, fstat_of, fdebug_of, flevel_of, is_rx_empty, first_of, debug_written, sent, taken}
+use Rattle.pio_block.specs.Registers.{register_of, register_written}
+
+-- ---- CTRL, FSTAT, FDEBUG, FLEVEL: 00 to 0C
+
+unfoldable pub control_word : Block → ℕ → ℕ
+control_word s offset =
+    if offset == 0x000 then ctrl_of s.machines else
+    if offset == 0x004 then fstat_of s.machines else
+    if offset == 0x008 then fdebug_of s else flevel_of s.machines
+
+unfoldable pub after_control : ℕ → ℕ → Block → Block
+after_control offset w s =
+    if offset == 0x000 then control_written w s else
+    if offset == 0x008 then debug_written w s else s
+
+-- ---- TXF0 to TXF3: 10 to 1C, RXF0 to RXF3: 20 to 2C
+
+abbrev pub fifo_number : ℕ → ℕ
+fifo_number offset = offset / 4 % 4
+
+abbrev pub is_rxf : ℕ → Bool
+is_rxf offset = nat_le 0x020 offset && nat_lt offset 0x030
+
+unfoldable pub fifo_word : Block → ℕ → ℕ
+fifo_word s offset = if is_rxf offset then first_of (machine_of (fifo_number offset) s.machines).rx else 0
+
+unfoldable pub after_fifo : ℕ → ℕ → Block → Block
+after_fifo offset w s = if nat_lt offset 0x020 then sent (fifo_number offset) w s else s
+
+-- ---- IRQ, IRQ_FORCE, INPUT_SYNC_BYPASS, DBG_PADOUT, DBG_PADOE, DBG_CFGINFO: 30 to 44
+
+-- the last word tells 32 words of instruction memory, four machines and FIFOs of four words
+unfoldable pub pin_word : Block → ℕ → ℕ
+pin_word s offset =
+    if offset == 0x030 then s.flags else
+    if offset == 0x034 then 0 else
+    if offset == 0x038 then s.bypass else
+    if offset == 0x03C then s.levels else
+    if offset == 0x040 then s.enables else 0x00200404
+
+unfoldable pub after_pin : ℕ → ℕ → Block → Block
+after_pin offset w s =
+    if offset == 0x030 then record s { flags = without s.flags (w % 2 ^ 8) } else
+    if offset == 0x034 then record s { flags = bit_or s.flags (w % 2 ^ 8) } else
+    if offset == 0x038 then record s { bypass = w } else s
+
+-- ---- INSTR_MEM0 to INSTR_MEM31: 48 to C4, which can only be written
+
+unfoldable pub after_memory : ℕ → ℕ → Block → Block
+after_memory offset w s = record s { memory = slice_set s.memory ((offset - 0x048) / 4) (w % 2 ^ 16) }
+
+-- ---- the registers of the machines: C8 to 124
+
+abbrev pub register_number : ℕ → ℕ
+register_number offset = (offset - 0x0C8) / 0x018
+
+abbrev pub register_place : ℕ → ℕ
+register_place offset = (offset - 0x0C8) % 0x018
+
+unfoldable pub machine_word : Block → ℕ → ℕ
+machine_word s offset =
+    register_of (register_place offset) s.memory (machine_of (register_number offset) s.machines)
+
+unfoldable pub after_machine : ℕ → ℕ → Block → Block
+after_machine offset w s =
+    with_machines (changed (register_number offset) (register_written (register_place offset) w) s.machines) s
+
+-- ---- INTR, and INTE, INTF and INTS of both lines: 128 to 140
+
+abbrev pub has_room : Machine1 → Bool
+has_room m = not (is_tx_full m)
+
+abbrev pub has_words : Machine1 → Bool
+has_words m = not (is_rx_empty m)
+
+-- flags 0 to 3, TX FIFOs that are not full, RX FIFOs that are not empty
+unfoldable pub intr_of : Block → ℕ
+intr_of s = s.flags % 2 ^ 4 * 2 ^ 8 + bits_of has_room s.machines * 2 ^ 4 + bits_of has_words s.machines
+
+abbrev pub ints_of : ℕ → ℕ → Block → ℕ
+ints_of inte intf s = bit_or (bit_and (intr_of s) inte) intf
+
+abbrev pub ints0_of : Block → ℕ
+ints0_of s = ints_of s.inte0 s.intf0 s
+
+abbrev pub ints1_of : Block → ℕ
+ints1_of s = ints_of s.inte1 s.intf1 s
+
+unfoldable pub interrupt_word : Block → ℕ → ℕ
+interrupt_word s offset =
+    if offset == 0x128 then intr_of s else
+    if offset == 0x12C then s.inte0 else
+    if offset == 0x130 then s.intf0 else
+    if offset == 0x134 then ints0_of s else
+    if offset == 0x138 then s.inte1 else
+    if offset == 0x13C then s.intf1 else ints1_of s
+
+unfoldable pub after_interrupt : ℕ → ℕ → Block → Block
+after_interrupt offset w s =
+    if offset == 0x12C then record s { inte0 = w % 2 ^ 12 } else
+    if offset == 0x130 then record s { intf0 = w % 2 ^ 12 } else
+    if offset == 0x138 then record s { inte1 = w % 2 ^ 12 } else
+    if offset == 0x13C then record s { intf1 = w % 2 ^ 12 } else s
+
+-- ---- all words
+
+abbrev pub is_word : ℕ → Bool
+is_word offset = offset % 4 == 0 && nat_lt offset 0x144
+
+unfoldable pub value_of : Block → ℕ → ℕ
+value_of s offset =
+    if nat_lt offset 0x010 then control_word s offset else
+    if nat_lt offset 0x030 then fifo_word s offset else
+    if nat_lt offset 0x048 then pin_word s offset else
+    if nat_lt offset 0x0C8 then 0 else
+    if nat_lt offset 0x128 then machine_word s offset else interrupt_word s offset
+
+-- what a word reads as; None where there is none. A block that is held reads 0
+unfoldable pub word_of : Block → ℕ → Option ℕ
+word_of s offset = if is_word offset then Some (if s.held then 0 else value_of s offset) else None
+
+-- OUT_STICKY and INLINE_OUT_EN of EXECCTRL are left out: a write that sets one of them is not allowed
+abbrev pub sets_left_out : ℕ → Option ℕ → Bool
+sets_left_out offset None = false
+sets_left_out offset (Some w) =
+    nat_le 0x0C8 offset && (nat_lt offset 0x128 && (register_place offset == 0x04 && (has_bit w 17 || has_bit w 18)))
+
+unfoldable pub is_allowed : ℕ → Option ℕ → Bool
+is_allowed offset write = is_word offset && not (sets_left_out offset write)
+
+unfoldable pub after_write : ℕ → ℕ → Block → Block
+after_write offset w s =
+    if nat_lt offset 0x010 then after_control offset w s else
+    if nat_lt offset 0x030 then after_fifo offset w s else
+    if nat_lt offset 0x048 then after_pin offset w s else
+    if nat_lt offset 0x0C8 then after_memory offset w s else
+    if nat_lt offset 0x128 then after_machine offset w s else after_interrupt offset w s
+
+-- a read of RXF takes a word away
+unfoldable pub after_read : ℕ → Block → Block
+after_read offset s = if is_rxf offset then taken (fifo_number offset) s else s
+
+abbrev pub after_access : ℕ → Option ℕ → Block → Block
+after_access offset None s = after_read offset s
+after_access offset (Some w) s = after_write offset w s
+
+-- what a read or a write does; nothing where it is not allowed, and nothing to a block that is held
+unfoldable pub effect_of : ℕ → Option ℕ → Block → Block
+effect_of offset write s =
+    if is_allowed offset write then (if s.held then s else after_access offset write s) else s
+
+-- ---- what the rest of the machine is told
+
+-- the free places of the TX FIFOs, then the words of the RX FIFOs
+abbrev pub free_places : Machine1 → ℕ
+free_places m = tx_depth m - length m.tx
+
+abbrev pub words_held : Machine1 → ℕ
+words_held m = length m.rx
+
+unfoldable pub pacing_of : List Machine1 → List ℕ
+pacing_of ms =
+    free_places (machine_of 0 ms) ∷ free_places (machine_of 1 ms) ∷ free_places (machine_of 2 ms)
+    ∷ free_places (machine_of 3 ms) ∷ words_held (machine_of 0 ms) ∷ words_held (machine_of 1 ms)
+    ∷ words_held (machine_of 2 ms) ∷ words_held (machine_of 3 ms) ∷ []
+
+-- PC, X, Y, ISR and OSR of a machine
+abbrev pub register_list : Machine1 → List ℕ
+register_list m = m.pc ∷ m.x ∷ m.y ∷ m.isr ∷ m.osr ∷ []
+
+abbrev pub outs_of : Block → List ℕ
+outs_of s = s.levels ∷ s.enables ∷ []
+
+abbrev pub lines_of : Block → List Bool
+lines_of s = not (ints0_of s == 0) ∷ not (ints1_of s == 0) ∷ []
+
+abbrev pub with_counter : ℕ → Machine1 → Machine1
+with_counter place m = record m { pc = place }
+
+abbrev pub counter_set : ℕ → ℕ → Block → Block
+counter_set n place s = with_machines (changed n (with_counter place) s.machines) s

@@ -1,0 +1,16 @@
+//! A block of four PIO machines with its registers, its interrupts and its pins (RP2040 Datasheet, chapter 3). Everything is
+//! defined in `specs/` on the block's record, in which the machines are a list.
+#![tactic(auto)]
+
+pub mod block;
+pub mod inputs;
+mod machine;
+mod machines;
+mod queues;
+mod state;
+#[cfg(test)]
+mod tests;
+mod words;
+
+pub use block::PioBlock;
+pub use inputs::Inputs;

@@ -1,0 +1,145 @@
+//! What the system does to one machine.
+
+ghost use Rattle.std.specs.Prelude.{◌≡◌, ◌<◌, length, slice_index};
+ghost use Rattle.pio_block.specs.State.{is_running, is_written};
+ghost use Rattle.pio_block.specs.Control.{restarted_if, with_divider_restarted, controlled};
+ghost use Rattle.pio_block.specs.Queues.{with_stalls_cleared, with_sent, with_taken};
+ghost use Rattle.pio_block.specs.Registers.{execctrl_of, register_of, joined, register_written};
+ghost use Rattle.m0_alu.specs.Word.{has_bit, bit_number};
+
+use pio_machine::{Machine1, Waiting};
+
+/// A bit of a word.
+pub(crate) fn has_bit(word: u32, place: u32) -> bool
+    requires { place < 32 }
+    ensures { result ≡ has_bit word place }
+{
+    (word >> place) & 1 == 1
+}
+
+/// A flag as a number.
+pub(crate) fn one(flag: bool) -> u32
+    ensures { result ≡ bit_number flag }
+{
+    if flag { 1 } else { 0 }
+}
+
+/// A word that was written to INSTR waits.
+fn is_written(waiting: Option<Waiting>) -> bool
+    ensures { result ≡ is_written waiting }
+{
+    match waiting {
+        Some(Waiting::Written(_)) => true,
+        _ => false,
+    }
+}
+
+/// The machine is enabled, or a written word waits.
+pub(crate) fn is_running(machine: &Machine1) -> bool
+    ensures { result ≡ is_running machine.now }
+{
+    machine.enabled || is_written(machine.waiting)
+}
+
+/// A write of CTRL, to the machine of that number.
+#[tactic(auto, unfolding(crate::specs::Control::controlled))]
+pub(crate) fn control(machine: &mut Machine1, number: u32, word: u32)
+    requires { number < 4 }
+    ensures { machine.new ≡ controlled word number machine.old }
+{
+    machine.enabled = has_bit(word, number);
+    restart_if(machine, has_bit(word, 4 + number));
+    restart_divider_if(machine, has_bit(word, 8 + number));
+}
+
+fn restart_if(machine: &mut Machine1, asked: bool)
+    ensures { machine.new ≡ restarted_if asked machine.old }
+{
+    if asked {
+        machine.restart();
+    }
+}
+
+fn restart_divider_if(machine: &mut Machine1, asked: bool)
+    ensures { machine.new ≡ with_divider_restarted asked machine.old }
+{
+    if asked {
+        machine.acc = 0;
+    }
+}
+
+/// A write of FDEBUG, to the machine of that number.
+pub(crate) fn clear_stalls(machine: &mut Machine1, number: u32, word: u32)
+    requires { number < 4 }
+    ensures { machine.new ≡ with_stalls_cleared word number machine.old }
+{
+    machine.tx_stall = machine.tx_stall && !has_bit(word, 24 + number);
+    machine.rx_stall = machine.rx_stall && !has_bit(word, number);
+}
+
+/// A write of TXF.
+pub(crate) fn send(machine: &mut Machine1, word: u32)
+    ensures { machine.new ≡ with_sent word machine.old }
+{
+    if !machine.is_tx_full() {
+        machine.tx.push(word);
+    }
+}
+
+/// A read of RXF takes a word away.
+pub(crate) fn take(machine: &mut Machine1)
+    ensures { machine.new ≡ with_taken machine.old }
+{
+    let _ = machine.rx.pull();
+}
+
+/// EXECCTRL with EXEC_STALLED.
+fn execctrl(machine: &Machine1) -> u32
+    ensures { result ≡ execctrl_of machine.now }
+{
+    machine.execctrl | (one(is_written(machine.waiting)) * 0x8000_0000)
+}
+
+/// A register of the machine, by its place in the machine's 18h bytes.
+#[tactic(auto, unfolding(crate::specs::Registers::register_of))]
+pub(crate) fn register(machine: &Machine1, place: u16, memory: &[u16; 32]) -> u32
+    ensures { result ≡ register_of place memory.now machine.now }
+{
+    match place {
+        0x00 => machine.clkdiv,
+        0x04 => execctrl(machine),
+        0x08 => machine.shiftctrl,
+        0x0c => u32::from(machine.pc),
+        0x10 => u32::from(memory[(machine.pc % 32) as usize]),
+        0x14 => machine.pinctrl,
+        _ => 0,
+    }
+}
+
+/// A write of SHIFTCTRL that changes a join empties both FIFOs.
+fn join(machine: &mut Machine1, word: u32)
+    ensures { machine.new ≡ joined word machine.old }
+{
+    if machine.shiftctrl >> 30 != word >> 30 {
+        machine.tx.clear();
+        machine.rx.clear();
+    }
+}
+
+/// A write of a register of the machine.
+#[tactic(auto, unfolding(crate::specs::Registers::register_written))]
+pub(crate) fn write_register(machine: &mut Machine1, place: u16, word: u32)
+    ensures { machine.new ≡ register_written place word machine.old }
+{
+    match place {
+        0x00 => machine.clkdiv = word & 0xffff_ff00,
+        0x04 => machine.execctrl = word & 0x7f01_ff9f,
+        0x08 => {
+            join(machine, word);
+            machine.shiftctrl = word & 0xffff_0000;
+        }
+        0x10 => machine.waiting = Some(Waiting::Written((word & 0xffff) as u16)),
+        0x14 => machine.pinctrl = word,
+        _ => {}
+    }
+}

@@ -1,0 +1,164 @@
+//! The four machines of a block.
+
+use crate::machine::{clear_stalls, control, is_running, send, take, write_register};
+use pio_machine::{Done, Machine1, Seen, tick};
+use std::marker::Model;
+
+/// Four machines, seen as their list from number 0 on.
+#[derive(Drop)]
+pub(crate) struct Machines {
+    first: Machine1,
+    second: Machine1,
+    third: Machine1,
+    fourth: Machine1,
+}
+
+impl Model for Machines {
+    ghost use Rattle.std.specs.Prelude.{List, [], ◌∷◌};
+    ghost use Rattle.pio_machine.specs.declared.machine.Machine1.{Machine1};
+
+    ghost Value = { List Machine1 };
+
+    ghost view = { λ m. m.first ∷ m.second ∷ m.third ∷ m.fourth ∷ [] };
+}
+
+impl Machines {
+    ghost use Rattle.std.specs.Prelude.{◌≡◌, ◌<◌, replicate};
+    ghost use Rattle.std.specs.List.{list_any};
+    ghost use Rattle.pio_machine.specs.Start.{at_reset};
+    ghost use Rattle.pio_block.specs.State.{machine_of, changed, each, is_running};
+    ghost use Rattle.pio_block.specs.Control.{controlled};
+    ghost use Rattle.pio_block.specs.Queues.{with_stalls_cleared, with_sent, with_taken};
+    ghost use Rattle.pio_block.specs.Registers.{register_written};
+    ghost use Rattle.pio_block.specs.Words.{with_counter};
+    ghost use Rattle.pio_block.specs.Cycle.{all_stepped, written_from};
+
+    /// Four machines in their reset state.
+    pub(crate) fn new() -> Machines
+        ensures { result ≡ replicate 4 at_reset }
+    {
+        Machines {
+            first: Machine1::new(),
+            second: Machine1::new(),
+            third: Machine1::new(),
+            fourth: Machine1::new(),
+        }
+    }
+
+    /// The machine of that number.
+    pub(crate) fn at(&self, number: u8) -> &Machine1
+        requires { number < 4 }
+        ensures { result.now ≡ machine_of number self.now }
+    {
+        match number {
+            0 => &self.first,
+            1 => &self.second,
+            2 => &self.third,
+            _ => &self.fourth,
+        }
+    }
+
+    /// A machine is enabled, or a written word waits.
+    pub(crate) fn is_busy(&self) -> bool
+        ensures { result ≡ list_any is_running self.now }
+    {
+        is_running(&self.first)
+            || is_running(&self.second)
+            || is_running(&self.third)
+            || is_running(&self.fourth)
+    }
+
+    /// A cycle of all machines.
+    #[tactic(auto, unfolding(crate::specs::Cycle::all_stepped))]
+    pub(crate) fn step(&mut self, seen: &Seen, done: &mut Done)
+        ensures machines { self.new ≡ all_stepped seen.now self.old }
+        ensures done { done.new ≡ written_from 0 seen.now self.old done.old }
+    {
+        tick(&mut self.first, 0, seen, done);
+        tick(&mut self.second, 1, seen, done);
+        tick(&mut self.third, 2, seen, done);
+        tick(&mut self.fourth, 3, seen, done);
+    }
+
+    /// A write of CTRL.
+    pub(crate) fn control(&mut self, word: u32)
+        ensures { self.new ≡ each (controlled word) self.old }
+    {
+        control(&mut self.first, 0, word);
+        control(&mut self.second, 1, word);
+        control(&mut self.third, 2, word);
+        control(&mut self.fourth, 3, word);
+    }
+
+    /// A write of FDEBUG.
+    pub(crate) fn clear_stalls(&mut self, word: u32)
+        ensures { self.new ≡ each (with_stalls_cleared word) self.old }
+    {
+        clear_stalls(&mut self.first, 0, word);
+        clear_stalls(&mut self.second, 1, word);
+        clear_stalls(&mut self.third, 2, word);
+        clear_stalls(&mut self.fourth, 3, word);
+    }
+
+    /// A write of TXF.
+    pub(crate) fn send(&mut self, number: u8, word: u32)
+        requires { number < 4 }
+        ensures { self.new ≡ changed number (with_sent word) self.old }
+    {
+        match number {
+            0 => send(&mut self.first, word),
+            1 => send(&mut self.second, word),
+            2 => send(&mut self.third, word),
+            _ => send(&mut self.fourth, word),
+        }
+    }
+
+    /// A read of RXF takes a word away.
+    pub(crate) fn take(&mut self, number: u8)
+        requires { number < 4 }
+        ensures { self.new ≡ changed number with_taken self.old }
+    {
+        match number {
+            0 => take(&mut self.first),
+            1 => take(&mut self.second),
+            2 => take(&mut self.third),
+            _ => take(&mut self.fourth),
+        }
+    }
+
+    /// A write of a register of a machine, by its place in the machine's 18h bytes.
+    pub(crate) fn write_register(&mut self, number: u8, place: u16, word: u32)
+        requires { number < 4 }
+        ensures { self.new ≡ changed number (register_written place word) self.old }
+    {
+        match number {
+            0 => write_register(&mut self.first, place, word),
+            1 => write_register(&mut self.second, place, word),
+            2 => write_register(&mut self.third, place, word),
+            _ => write_register(&mut self.fourth, place, word),
+        }
+    }
+
+    /// Sets a program counter.
+    pub(crate) fn set_counter(&mut self, number: u8, place: u8)
+        requires { number < 4 }
+        ensures { self.new ≡ changed number (with_counter place) self.old }
+    {
+        match number {
+            0 => self.first.pc = place,
+            1 => self.second.pc = place,
+            2 => self.third.pc = place,
+            _ => self.fourth.pc = place,
+        }
+    }
+
+    /// Takes the state of other machines.
+    pub(crate) fn copy_from(&mut self, other: &Machines)
+        ensures { self.new ≡ other.now }
+    {
+        self.first.copy_from(&other.first);
+        self.second.copy_from(&other.second);
+        self.third.copy_from(&other.third);
+        self.fourth.copy_from(&other.fourth);
+    }
+}

@@ -1,0 +1,195 @@
+//! A block's state.
+
+ghost use Rattle.std.specs.Prelude.{◌≡◌, [], ◌∷◌, replicate};
+ghost use Rattle.pio_machine.specs.Pins.{overlaid};
+
+use crate::inputs::Inputs;
+use crate::machines::Machines;
+use pio_machine::{Done, Seen};
+use std::marker::Model;
+
+/// The state of a block. What the machines see stands in `seen`, whose inputs are those of the last cycle that was stepped.
+#[derive(Drop)]
+pub(crate) struct State {
+    pub(crate) machines: Machines,
+    pub(crate) seen: Seen,
+    pub(crate) levels: u32,
+    pub(crate) enables: u32,
+    pub(crate) tx_over: u8,
+    pub(crate) rx_under: u8,
+    pub(crate) inte0: u16,
+    pub(crate) intf0: u16,
+    pub(crate) inte1: u16,
+    pub(crate) intf1: u16,
+    pub(crate) held: bool,
+}
+
+impl Model for State {
+    ghost use Rattle.pio_block.specs.State.{Block};
+
+    ghost Value = { Block };
+
+    ghost view = { λ s. record {
+      machines = s.machines;
+      memory = s.seen.memory;
+      flags = s.seen.flags;
+      bypass = s.seen.bypass;
+      levels = s.levels;
+      enables = s.enables;
+      tx_over = s.tx_over;
+      rx_under = s.rx_under;
+      inte0 = s.inte0;
+      intf0 = s.intf0;
+      inte1 = s.inte1;
+      intf1 = s.intf1;
+      held = s.held;
+    } };
+}
+
+/// Nothing is in the instruction memory, no flag is set, and all pins are low.
+fn nothing_seen() -> Seen
+    ensures { result ≡ record { memory = replicate 32 0; inputs = 0 ∷ 0 ∷ []; bypass = 0; flags = 0 } }
+{
+    Seen {
+        memory: [0; 32],
+        inputs: [0, 0],
+        bypass: 0,
+        flags: 0,
+    }
+}
+
+/// A word, in which the pins of a mask have the bits of another one.
+fn overlaid(mask: u32, bits: u32, word: u32) -> u32
+    ensures { result ≡ overlaid mask bits word }
+{
+    (word & !mask) | (bits & mask)
+}
+
+impl State {
+    ghost use Rattle.std.specs.Prelude.{◌≡◌, ◌<◌};
+    ghost use Rattle.pio_block.specs.State.{at_reset, with_held, is_busy, machine_of};
+    ghost use Rattle.pio_block.specs.Words.{counter_set, pacing_of, register_list, outs_of};
+    ghost use Rattle.pio_block.specs.Cycle.{seen_by, all_written, with_stepped, joined, after_cycle};
+
+    /// The reset state.
+    pub(crate) fn new() -> State
+        ensures { result ≡ at_reset }
+    {
+        State {
+            machines: Machines::new(),
+            seen: nothing_seen(),
+            levels: 0,
+            enables: 0,
+            tx_over: 0,
+            rx_under: 0,
+            inte0: 0,
+            intf0: 0,
+            inte1: 0,
+            intf1: 0,
+            held: false,
+        }
+    }
+
+    /// Holds the block in its reset state, or lets it go.
+    #[tactic(auto, unfolding(crate::specs::State::with_held))]
+    pub(crate) fn set_held(&mut self, held: bool)
+        ensures { self.new ≡ with_held held self.old }
+    {
+        if held {
+            *self = State::new();
+        }
+        self.held = held;
+    }
+
+    /// A machine is enabled, or a written word waits.
+    pub(crate) fn is_busy(&self) -> bool
+        ensures { result ≡ is_busy self.now }
+    {
+        self.machines.is_busy()
+    }
+
+    /// Sets a program counter.
+    pub(crate) fn set_counter(&mut self, machine: u8, place: u8)
+        requires { machine < 4 }
+        ensures { self.new ≡ counter_set machine place self.old }
+    {
+        self.machines.set_counter(machine, place);
+    }
+
+    /// The machines step, and what they write is told.
+    #[tactic(auto, unfolding(crate::specs::Cycle::all_written))]
+    fn step_machines(&mut self, inputs: Inputs) -> Done
+        ensures state { self.new ≡ with_stepped (seen_by inputs.now inputs.second self.old) self.old }
+        ensures done { result ≡ all_written (seen_by inputs.now inputs.second self.old) self.old.machines }
+    {
+        self.seen.inputs = [inputs.now, inputs.second];
+        let mut done = Done::new();
+        self.machines.step(&self.seen, &mut done);
+        done
+    }
+
+    /// What the machines have written is joined.
+    #[tactic(auto, unfolding(crate::specs::Cycle::joined))]
+    fn join(&mut self, done: &Done)
+        ensures { self.new ≡ joined done.now self.old }
+    {
+        self.seen.flags = (self.seen.flags & !done.clear) | done.set;
+        self.levels = overlaid(done.level_mask, done.levels, self.levels);
+        self.enables = overlaid(done.enable_mask, done.enables, self.enables);
+    }
+
+    /// A cycle of the block.
+    #[tactic(auto, unfolding(crate::specs::Cycle::after_cycle))]
+    pub(crate) fn step(&mut self, inputs: Inputs)
+        ensures { self.new ≡ after_cycle inputs.now inputs.second self.old }
+    {
+        let done = self.step_machines(inputs);
+        self.join(&done);
+    }
+
+    /// The free places of the TX FIFOs, then the words of the RX FIFOs.
+    pub(crate) fn pacing(&self) -> [u8; 8]
+        ensures { result ≡ pacing_of self.now.machines }
+    {
+        self.machines.pacing()
+    }
+
+    /// PC, X, Y, ISR and OSR of a machine.
+    pub(crate) fn registers(&self, machine: u8) -> [u32; 5]
+        requires { machine < 4 }
+        ensures { result ≡ register_list (machine_of machine self.now.machines) }
+    {
+        let machine = self.machines.at(machine);
+        [
+            u32::from(machine.pc),
+            machine.x,
+            machine.y,
+            machine.isr,
+            machine.osr,
+        ]
+    }
+
+    /// The levels and the enables of the pins.
+    pub(crate) fn outs(&self) -> [u32; 2]
+        ensures { result ≡ outs_of self.now }
+    {
+        [self.levels, self.enables]
+    }
+
+    /// Takes the state of another block.
+    pub(crate) fn copy_from(&mut self, other: &State)
+        ensures { self.new ≡ other.now }
+    {
+        self.machines.copy_from(&other.machines);
+        self.seen = other.seen;
+        self.levels = other.levels;
+        self.enables = other.enables;
+        self.tx_over = other.tx_over;
+        self.rx_under = other.rx_under;
+        self.inte0 = other.inte0;
+        self.intf0 = other.intf0;
+        self.inte1 = other.inte1;
+        self.intf1 = other.intf1;
+        self.held = other.held;
+    }
+}

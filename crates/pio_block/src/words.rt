@@ -1,0 +1,388 @@
+//! The words of a block by their offsets.
+
+ghost use Rattle.std.specs.Prelude.{◌≡◌, ◌<◌, ◌≤◌, ◌+◌, ◌*◌, ◌^◌};
+ghost use Rattle.pio_block.specs.Words.{fifo_number, is_rxf, register_number, register_place, is_word, sets_left_out, is_allowed};
+
+use crate::machine::{has_bit, register};
+use crate::state::State;
+
+impl State {
+    ghost use Rattle.std.specs.Prelude.{◌≡◌, ◌<◌, ◌≤◌, Bool};
+    ghost use Rattle.pio_block.specs.Control.{control_written};
+    ghost use Rattle.pio_block.specs.Queues.{fdebug_of, debug_written, sent, taken, first_of, is_rx_empty};
+    ghost use Rattle.pio_block.specs.Words.{control_word, after_control, fifo_word, after_fifo, fifo_number, is_rxf, pin_word, after_pin, after_memory, register_number, register_place, machine_word, after_machine, intr_of, ints_of, ints0_of, ints1_of, interrupt_word, after_interrupt, value_of, word_of, after_write, after_read, after_access, effect_of, is_allowed, lines_of};
+
+    /// FDEBUG.
+    #[tactic(auto, unfolding(crate::specs::Queues::fdebug_of))]
+    fn fdebug(&self) -> u32
+        ensures { result ≡ fdebug_of self.now }
+    {
+        joined_sets(
+            self.machines.tx_stalls(),
+            self.tx_over,
+            self.rx_under,
+            self.machines.rx_stalls(),
+        )
+    }
+
+    /// A write of FDEBUG.
+    #[tactic(auto, unfolding(crate::specs::Queues::debug_written))]
+    fn write_debug(&mut self, word: u32)
+        ensures { self.new ≡ debug_written word self.old }
+    {
+        self.machines.clear_stalls(word);
+        self.tx_over &= !(((word >> 16) & 0xf) as u8);
+        self.rx_under &= !(((word >> 8) & 0xf) as u8);
+    }
+
+    /// CTRL, FSTAT, FDEBUG or FLEVEL.
+    #[tactic(auto, unfolding(crate::specs::Words::control_word))]
+    fn read_control(&self, offset: u16) -> u32
+        ensures { result ≡ control_word self.now offset }
+    {
+        match offset {
+            0x000 => self.machines.ctrl(),
+            0x004 => self.machines.fstat(),
+            0x008 => self.fdebug(),
+            _ => self.machines.flevel(),
+        }
+    }
+
+    /// A write of CTRL or FDEBUG.
+    #[tactic(auto, unfolding(crate::specs::Words::after_control, crate::specs::Control::control_written))]
+    fn write_control(&mut self, offset: u16, word: u32)
+        ensures { self.new ≡ after_control offset word self.old }
+    {
+        match offset {
+            0x000 => self.machines.control(word),
+            0x008 => self.write_debug(word),
+            _ => {}
+        }
+    }
+
+    /// The first word of RXF; 0 where it is empty, and for TXF.
+    #[tactic(auto, unfolding(crate::specs::Words::fifo_word))]
+    fn read_fifo(&self, offset: u16) -> u32
+        ensures { result ≡ fifo_word self.now offset }
+    {
+        if is_rxf(offset) {
+            self.machines.at(fifo_number(offset)).rx.first()
+        } else {
+            0
+        }
+    }
+
+    /// Sends a word to a machine, or loses it where the FIFO is full.
+    #[tactic(auto, unfolding(crate::specs::Queues::sent))]
+    fn send(&mut self, number: u8, word: u32)
+        requires { number < 4 }
+        ensures { self.new ≡ sent number word self.old }
+    {
+        if self.machines.at(number).is_tx_full() {
+            self.tx_over |= 1 << number;
+        }
+        self.machines.send(number, word);
+    }
+
+    /// Takes a word from a machine, where there is one.
+    #[tactic(auto, unfolding(crate::specs::Queues::taken))]
+    fn take(&mut self, number: u8)
+        requires { number < 4 }
+        ensures { self.new ≡ taken number self.old }
+    {
+        if self.machines.at(number).rx.level() == 0 {
+            self.rx_under |= 1 << number;
+        }
+        self.machines.take(number);
+    }
+
+    /// A write of TXF.
+    #[tactic(auto, unfolding(crate::specs::Words::after_fifo))]
+    fn write_fifo(&mut self, offset: u16, word: u32)
+        ensures { self.new ≡ after_fifo offset word self.old }
+    {
+        if offset < 0x020 {
+            self.send(fifo_number(offset), word);
+        }
+    }
+
+    /// IRQ, IRQ_FORCE, INPUT_SYNC_BYPASS, DBG_PADOUT, DBG_PADOE or DBG_CFGINFO.
+    #[tactic(auto, unfolding(crate::specs::Words::pin_word))]
+    fn read_pins(&self, offset: u16) -> u32
+        ensures { result ≡ pin_word self.now offset }
+    {
+        match offset {
+            0x030 => u32::from(self.seen.flags),
+            0x034 => 0,
+            0x038 => self.seen.bypass,
+            0x03c => self.levels,
+            0x040 => self.enables,
+            _ => 0x0020_0404,
+        }
+    }
+
+    /// Clears flags, sets flags, or writes INPUT_SYNC_BYPASS.
+    #[tactic(auto, unfolding(crate::specs::Words::after_pin))]
+    fn write_pins(&mut self, offset: u16, word: u32)
+        ensures { self.new ≡ after_pin offset word self.old }
+    {
+        let flags = (word & 0xff) as u8;
+        match offset {
+            0x030 => self.seen.flags &= !flags,
+            0x034 => self.seen.flags |= flags,
+            0x038 => self.seen.bypass = word,
+            _ => {}
+        }
+    }
+
+    /// A write of a word of the instruction memory.
+    #[tactic(auto, unfolding(crate::specs::Words::after_memory))]
+    fn write_memory(&mut self, offset: u16, word: u32)
+        requires low { 0x048 ≤ offset }
+        requires high { offset < 0x0C8 }
+        ensures { self.new ≡ after_memory offset word self.old }
+    {
+        self.seen.memory[((offset - 0x048) / 4) as usize] = (word & 0xffff) as u16;
+    }
+
+    /// A register of a machine.
+    #[tactic(auto, unfolding(crate::specs::Words::machine_word))]
+    fn read_machine(&self, offset: u16) -> u32
+        requires low { 0x0C8 ≤ offset }
+        requires high { offset < 0x128 }
+        ensures { result ≡ machine_word self.now offset }
+    {
+        let machine = self.machines.at(register_number(offset));
+        register(machine, register_place(offset), &self.seen.memory)
+    }
+
+    /// A write of a register of a machine.
+    #[tactic(auto, unfolding(crate::specs::Words::after_machine))]
+    fn write_machine(&mut self, offset: u16, word: u32)
+        requires low { 0x0C8 ≤ offset }
+        requires high { offset < 0x128 }
+        ensures { self.new ≡ after_machine offset word self.old }
+    {
+        self.machines
+            .write_register(register_number(offset), register_place(offset), word);
+    }
+
+    /// INTR.
+    #[tactic(auto, unfolding(crate::specs::Words::intr_of))]
+    fn intr(&self) -> u32
+        ensures { result ≡ intr_of self.now }
+    {
+        u32::from(self.seen.flags % 16) * 0x100
+            + self.machines.with_room() * 16
+            + self.machines.with_words()
+    }
+
+    /// INTS of line 0.
+    pub(crate) fn ints0(&self) -> u32
+        ensures { result ≡ ints0_of self.now }
+    {
+        (self.intr() & u32::from(self.inte0)) | u32::from(self.intf0)
+    }
+
+    /// INTS of line 1.
+    pub(crate) fn ints1(&self) -> u32
+        ensures { result ≡ ints1_of self.now }
+    {
+        (self.intr() & u32::from(self.inte1)) | u32::from(self.intf1)
+    }
+
+    /// Both interrupt lines.
+    pub(crate) fn lines(&self) -> [bool; 2]
+        ensures { result ≡ lines_of self.now }
+    {
+        [self.ints0() != 0, self.ints1() != 0]
+    }
+
+    /// INTR, or INTE, INTF or INTS of a line.
+    #[tactic(auto, unfolding(crate::specs::Words::interrupt_word))]
+    fn read_interrupts(&self, offset: u16) -> u32
+        ensures { result ≡ interrupt_word self.now offset }
+    {
+        match offset {
+            0x128 => self.intr(),
+            0x12c => u32::from(self.inte0),
+            0x130 => u32::from(self.intf0),
+            0x134 => self.ints0(),
+            0x138 => u32::from(self.inte1),
+            0x13c => u32::from(self.intf1),
+            _ => self.ints1(),
+        }
+    }
+
+    /// A write of INTE or INTF.
+    #[tactic(auto, unfolding(crate::specs::Words::after_interrupt))]
+    fn write_interrupts(&mut self, offset: u16, word: u32)
+        ensures { self.new ≡ after_interrupt offset word self.old }
+    {
+        let bits = (word & 0xfff) as u16;
+        match offset {
+            0x12c => self.inte0 = bits,
+            0x130 => self.intf0 = bits,
+            0x138 => self.inte1 = bits,
+            0x13c => self.intf1 = bits,
+            _ => {}
+        }
+    }
+
+    /// What a word reads as.
+    #[tactic(auto, unfolding(crate::specs::Words::value_of))]
+    fn value(&self, offset: u16) -> u32
+        ensures { result ≡ value_of self.now offset }
+    {
+        if offset < 0x010 {
+            self.read_control(offset)
+        } else if offset < 0x030 {
+            self.read_fifo(offset)
+        } else if offset < 0x048 {
+            self.read_pins(offset)
+        } else if offset < 0x0c8 {
+            0
+        } else if offset < 0x128 {
+            self.read_machine(offset)
+        } else {
+            self.read_interrupts(offset)
+        }
+    }
+
+    /// The word at an offset; 0 while the block is held.
+    #[tactic(auto, unfolding(crate::specs::Words::word_of))]
+    pub(crate) fn read(&self, offset: u16) -> Option<u32>
+        ensures { result ≡ word_of self.now offset }
+    {
+        if is_word(offset) {
+            Some(if self.held { 0 } else { self.value(offset) })
+        } else {
+            None
+        }
+    }
+
+    /// A write of a word.
+    #[tactic(auto, unfolding(crate::specs::Words::after_write))]
+    fn write(&mut self, offset: u16, word: u32)
+        ensures { self.new ≡ after_write offset word self.old }
+    {
+        if offset < 0x010 {
+            self.write_control(offset, word);
+        } else if offset < 0x030 {
+            self.write_fifo(offset, word);
+        } else if offset < 0x048 {
+            self.write_pins(offset, word);
+        } else if offset < 0x0c8 {
+            self.write_memory(offset, word);
+        } else if offset < 0x128 {
+            self.write_machine(offset, word);
+        } else {
+            self.write_interrupts(offset, word);
+        }
+    }
+
+    /// What a read does.
+    #[tactic(auto, unfolding(crate::specs::Words::after_read))]
+    fn after_read(&mut self, offset: u16)
+        ensures { self.new ≡ after_read offset self.old }
+    {
+        if is_rxf(offset) {
+            self.take(fifo_number(offset));
+        }
+    }
+
+    /// What a read does, or a write of this word.
+    fn access(&mut self, offset: u16, write: Option<u32>)
+        ensures { self.new ≡ after_access offset write self.old }
+    {
+        match write {
+            Some(word) => self.write(offset, word),
+            None => self.after_read(offset),
+        }
+    }
+
+    /// Does what a read, or a write of this word, does to the block.
+    #[tactic(auto, unfolding(crate::specs::Words::effect_of))]
+    pub(crate) fn effect(&mut self, offset: u16, write: Option<u32>) -> bool
+        ensures after { self.new ≡ effect_of offset write self.old }
+        ensures allowed { result ≡ is_allowed offset write }
+    {
+        if !is_allowed(offset, write) {
+            return false;
+        }
+        if !self.held {
+            self.access(offset, write);
+        }
+        true
+    }
+}
+
+/// Four sets of machines as the bytes of a word, from the highest.
+fn joined_sets(first: u32, second: u8, third: u8, last: u32) -> u32
+    requires first { first ≤ 15 }
+    requires last { last ≤ 15 }
+    ensures { result ≡ first * 2 ^ 24 + second * 2 ^ 16 + third * 2 ^ 8 + last }
+{
+    first * 0x100_0000 + u32::from(second) * 0x1_0000 + u32::from(third) * 0x100 + last
+}
+
+/// The number of a machine by the offset of its FIFO.
+fn fifo_number(offset: u16) -> u8
+    ensures value { result ≡ fifo_number offset }
+    ensures small { result < 4 }
+{
+    (offset / 4 % 4) as u8
+}
+
+fn is_rxf(offset: u16) -> bool
+    ensures { result ≡ is_rxf offset }
+{
+    0x020 <= offset && offset < 0x030
+}
+
+/// The number of a machine by the offset of one of its registers.
+fn register_number(offset: u16) -> u8
+    requires low { 0x0C8 ≤ offset }
+    requires high { offset < 0x128 }
+    ensures value { result ≡ register_number offset }
+    ensures small { result < 4 }
+{
+    ((offset - 0x0c8) / 0x018) as u8
+}
+
+/// The place of a register among those of its machine.
+fn register_place(offset: u16) -> u16
+    ensures { result ≡ register_place offset }
+{
+    offset.saturating_sub(0x0c8) % 0x018
+}
+
+/// There is a word at that offset.
+fn is_word(offset: u16) -> bool
+    ensures { result ≡ is_word offset }
+{
+    offset % 4 == 0 && offset < 0x144
+}
+
+/// A write to EXECCTRL that sets a bit which is left out.
+fn sets_left_out(offset: u16, write: Option<u32>) -> bool
+    ensures { result ≡ sets_left_out offset write }
+{
+    match write {
+        Some(word) => {
+            0x0c8 <= offset
+                && offset < 0x128
+                && register_place(offset) == 4
+                && (has_bit(word, 17) || has_bit(word, 18))
+        }
+        None => false,
+    }
+}
+
+/// A read, or a write of this word, is allowed.
+#[tactic(auto, unfolding(crate::specs::Words::is_allowed))]
+pub(crate) fn is_allowed(offset: u16, write: Option<u32>) -> bool
+    ensures { result ≡ is_allowed offset write }
+{
+    is_word(offset) && !sets_left_out(offset, write)
+}
