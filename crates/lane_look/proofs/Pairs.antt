@@ -1,12 +1,12 @@
 -- Two devices side by side: whose level a pad has, and that one which is none adds nothing.
-use Rattle.std.proofs.Common.{◌≡◌, ℕ, zero, suc, ◌+◌, ◌-◌, ◌%◌, ◌^◌, ◌<◌, ◌==◌, min, max, if◌then◌else◌, refl, ap, sym, ◌∙◌, zero-add, arith, bit_and, bit_or}
+use Rattle.std.proofs.Common.{◌≡◌, ℕ, zero, suc, ◌-◌, ◌%◌, ◌^◌, ◌<◌, ◌==◌, min, max, if◌then◌else◌, refl, ◌∙◌, zero-add, arith, bit_and, bit_or}
 use Rattle.std.specs.Int.{bit_at, bit_not, w32}
 use Rattle.std.specs.Int.Bits.{or_zero_l}
 use Rattle.std.proofs.lemmas.Nat.{and_mask}
 use Rattle.std.proofs.lemmas.Nat.Bits.{bit_at_and, bit_at_or, bit_at_not, bit_at-lt}
 use Rattle.lane_look.specs.declared.device.Wires.{Wires}
-use Rattle.lane_look.specs.Device.{DeviceMeaning, joined, no_device, no_wires, paired}
-use Rattle.lane_look.specs.DeviceLaws.{TheFirstDeviceDrives, DoTheSame, NoneAddsNothing}
+use Rattle.lane_look.specs.Device.{joined, no_wires}
+use Rattle.lane_look.specs.DeviceLaws.{TheFirstDeviceDrives, NoneAddsNothing}
 
 -- of two bits a third one chooses
 chosen : (x y m : ℕ) → x < 2 → y < 2 → m < 2 → max (min x m) (min y (1 - m)) ≡ (if m == 1 then x else y)

@@ -165,7 +165,7 @@ fn tried<D: Device>(device: &D, state: &mut [u32], address: u32) -> (bool, u32, 
     device.start(state);
     let owned = device.owns(address);
     let word = device.read(state, address);
-    device.write(state, address, 4);
+    device.write(state, address, 2);
     let wires = device.step(state, 7, 0x30);
     (owned, word, wires)
 }
@@ -183,13 +183,13 @@ fn devices(rt: HostRuntime) {
     };
     let wires = Wires {
         mask: 6,
-        level: 4,
+        level: 2,
         pwm: 0x30,
         irq: 1,
     };
     assert_eq!(rt; counter.words(), 1);
     assert!(rt; tried(&counter, &mut one, 8) == (true, 6, wires));
-    assert_eq!(rt; one[0], 5);
+    assert_eq!(rt; one[0], 3);
 
     let mut two = [0; 2];
     let second = Counter {
@@ -201,15 +201,15 @@ fn devices(rt: HostRuntime) {
         second,
     };
     assert_eq!(rt; pair.words(), 2);
-    // both own the address and drive pad 2; the second device keeps its word, whose bits 0 and 2 are its pads
+    // both own the address and drive pad 2, which the first device makes low and the second one high
     let joined = Wires {
         mask: 7,
-        level: 5,
+        level: 3,
         pwm: 0x30,
         irq: 1,
     };
     assert!(rt; tried(&pair, &mut two, 8) == (true, 6, joined));
-    assert_eq!(rt; two[0], 5);
+    assert_eq!(rt; two[0], 3);
     assert_eq!(rt; two[1], 6);
     // no device owns this address; the second one is asked
     assert!(rt; !pair.owns(12));
