@@ -2,13 +2,18 @@
 //!
 //! The machine has six lanes: the two cores, the DMA engine, the two PIO blocks, and the peripherals. In each cycle a
 //! lane begins, from the state at the start and the answers to its questions; it names what it wants; and it finishes
-//! by what the bus gave it.
+//! by what the bus gave it. The device that the caller attaches steps with the peripherals.
 #![tactic(auto)]
 
+pub mod device;
 pub mod lane;
+pub mod laws;
 pub mod marks;
+pub mod pair;
 #[cfg(test)]
 mod tests;
 
+pub use device::{Device, NoDevice, Wires};
 pub use lane::{Ask, Lane, Look, Turn, Want};
 pub use marks::{Mark, Marks};
+pub use pair::Pair;

@@ -1,10 +1,11 @@
-//! A lane and a look that are small enough to follow by hand.
+//! A lane, a look and a device that are small enough to follow by hand.
 
-ghost use Rattle.std.specs.Prelude.{◌≡◌, ◌+◌, ◌%◌, ◌^◌, ℕ, [], ◌∷◌, None, Some, slice_index};
+ghost use Rattle.std.specs.Prelude.{◌≡◌, ◌+◌, ◌%◌, ◌^◌, ◌==◌, ℕ, [], ◌∷◌, None, Some, length, slice_index, slice_set};
 ghost use Rattle.lane_look.specs.Asking.{Asking, Runs};
 ghost use Rattle.lane_look.specs.Asking.Asking.{Ready, Question};
 
-use crate::{Ask, Lane, Look, Mark, Marks, Turn, Want};
+use crate::laws::{none_adds_nothing, the_first_device_drives};
+use crate::{Ask, Device, Lane, Look, Mark, Marks, NoDevice, Pair, Turn, Want, Wires};
 use rp_base::{Request, Size};
 
 /// A lane that asks for the word at an address of its own, and wants to write it back.
@@ -101,4 +102,123 @@ fn marks(rt: HostRuntime) {
     assert!(rt; marks.entry(0) == mark);
     marks.clear();
     assert_eq!(rt; marks.count(), 0);
+}
+
+/// A device of one word at one address: a read leaves 0, a write adds to the word, and each cycle adds one. The word is
+/// the levels of the pads that it drives.
+#[derive(Drop)]
+struct Counter {
+    address: u32,
+    pads: u32,
+}
+
+impl Device for Counter {
+    ghost meaning = { λ d. record {
+      count = 1;
+      first = λ state. slice_set state 0 d.pads;
+      covers = λ address. address == d.address;
+      value = λ state address. slice_index state 0;
+      after_read = λ state address. slice_set state 0 0;
+      after_write = λ state address value. slice_set state 0 ((slice_index state 0 + value) % 2 ^ 32);
+      wires = λ state cycle pads. record { mask = d.pads; level = slice_index state 0; pwm = pads; irq = cycle % 2 };
+      after_step = λ state cycle pads. slice_set state 0 ((slice_index state 0 + 1) % 2 ^ 32);
+    } };
+
+    fn words(&self) -> usize {
+        1
+    }
+
+    fn start(&self, state: &mut [u32]) {
+        state[0] = self.pads;
+    }
+
+    fn owns(&self, address: u32) -> bool {
+        address == self.address
+    }
+
+    fn read(&self, state: &mut [u32], _address: u32) -> u32 {
+        let word = state[0];
+        state[0] = 0;
+        word
+    }
+
+    fn write(&self, state: &mut [u32], _address: u32, value: u32) {
+        state[0] = state[0].wrapping_add(value);
+    }
+
+    fn step(&self, state: &mut [u32], cycle: u64, pads: u32) -> Wires {
+        let wires = Wires {
+            mask: self.pads,
+            level: state[0],
+            pwm: pads,
+            irq: (cycle % 2) as u32,
+        };
+        state[0] = state[0].wrapping_add(1);
+        wires
+    }
+}
+
+/// Each call of a device once: what a read gave, and what a cycle after it and a write drove.
+fn tried<D: Device>(device: &D, state: &mut [u32], address: u32) -> (bool, u32, Wires)
+    requires { length state.old ≡ (D.meaning device.now).count }
+{
+    device.start(state);
+    let owned = device.owns(address);
+    let word = device.read(state, address);
+    device.write(state, address, 2);
+    let wires = device.step(state, 7, 0x30);
+    (owned, word, wires)
+}
+
+#[test]
+fn devices(rt: HostRuntime) {
+    let mut none = [];
+    assert_eq!(rt; NoDevice.words(), 0);
+    assert!(rt; tried(&NoDevice, &mut none, 8) == (false, 0, Wires::default()));
+
+    let mut one = [0];
+    let counter = Counter {
+        address: 8,
+        pads: 6,
+    };
+    let wires = Wires {
+        mask: 6,
+        level: 2,
+        pwm: 0x30,
+        irq: 1,
+    };
+    assert_eq!(rt; counter.words(), 1);
+    assert!(rt; tried(&counter, &mut one, 8) == (true, 6, wires));
+    assert_eq!(rt; one[0], 3);
+
+    let mut two = [0; 2];
+    let second = Counter {
+        address: 8,
+        pads: 5,
+    };
+    let pair = Pair {
+        first: counter,
+        second,
+    };
+    assert_eq!(rt; pair.words(), 2);
+    // both own the address and drive pad 2, which the first device makes low and the second one high
+    let joined = Wires {
+        mask: 7,
+        level: 3,
+        pwm: 0x30,
+        irq: 1,
+    };
+    assert!(rt; tried(&pair, &mut two, 8) == (true, 6, joined));
+    assert_eq!(rt; two[0], 3);
+    assert_eq!(rt; two[1], 6);
+    // no device owns this address; the second one is asked
+    assert!(rt; !pair.owns(12));
+    assert_eq!(rt; pair.read(&mut two, 12), 6);
+    assert_eq!(rt; two[1], 0);
+}
+
+#[test]
+fn laws_of_devices() {
+    the_first_device_drives();
+    none_adds_nothing();
 }

@@ -1,9 +1,11 @@
 -- The lines of a trace. Every line ends with LF. A word is eight lower-case hexadecimal digits, a cycle is decimal.
-use Rattle.std.specs.Prelude.{ℕ, ◌+◌, ◌/◌, ◌%◌, ◌^◌, List, [], ◌∷◌, ◌++◌, Option, Some, None, map, flat_map, codes, decimal, nat_lt, if◌then◌else◌}
+use Rattle.std.specs.Prelude.{ℕ, Bool, true, false, ◌+◌, ◌/◌, ◌%◌, ◌^◌, List, [], ◌∷◌, ◌++◌, Option, Some, None, map, flat_map, codes, decimal, nat_lt, if◌then◌else◌}
 use Rattle.rp_base.specs.declared.Master.{Master}
 use Rattle.rp_base.specs.declared.Master.TheVariants.{Core0, Core1, DmaRead, DmaWrite}
 use Rattle.rp_base.specs.declared.Why.{Why}
 use Rattle.rp_base.specs.declared.Why.TheVariants.{Limit, Bkpt, Lockup, Outside, Unbuilt}
+use Rattle.trace_text.specs.declared.event.Event.{Event}
+use Rattle.trace_text.specs.declared.event.Event.TheVariants.{Uart, Pin}
 
 -- the hexadecimal digit of a number below 16
 abbrev pub hex_digit : ℕ → ℕ
@@ -12,6 +14,10 @@ hex_digit d = if nat_lt d 10 then 48 + d else 87 + d
 -- the eight hexadecimal digits of a word, the highest first
 unfoldable pub hex_word : ℕ → List ℕ
 hex_word w = map (λ k. hex_digit (w / 16 ^ k % 16)) (7 ∷ 6 ∷ 5 ∷ 4 ∷ 3 ∷ 2 ∷ 1 ∷ 0 ∷ [])
+
+-- the two hexadecimal digits of a byte
+unfoldable pub hex_byte : ℕ → List ℕ
+hex_byte b = hex_digit (b / 16) ∷ hex_digit (b % 16) ∷ []
 
 -- the name of a master; both ports of the DMA engine have one
 abbrev pub master_name : Master → List ℕ
@@ -44,3 +50,15 @@ spaced_word w = 32 ∷ hex_word w
 unfoldable pub register_text : ℕ → Option (List ℕ) → List ℕ
 register_text core None = core_name core ++ codes " asleep\n"
 register_text core (Some words) = core_name core ++ flat_map spaced_word words ++ codes "\n"
+
+-- the digit of a level, 1 where it is high
+abbrev pub level_digit : Bool → List ℕ
+level_digit true = codes "1"
+level_digit false = codes "0"
+
+-- the line of an event: the byte that a UART sent in a cycle, or the new level of a pin
+unfoldable pub event_text : Event → List ℕ
+event_text (Uart cycle number byte) =
+    decimal cycle ++ codes " uart" ++ decimal number ++ codes " " ++ hex_byte byte ++ codes "\n"
+event_text (Pin cycle pin level) =
+    decimal cycle ++ codes " pin " ++ decimal pin ++ codes " " ++ level_digit level ++ codes "\n"

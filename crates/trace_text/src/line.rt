@@ -2,8 +2,9 @@
 
 ghost use Rattle.std.specs.Prelude.{◌≡◌, ◌+◌, ◌<◌, ◌≤◌, ◌++◌, Option, length, decimal, flat_map};
 ghost use Rattle.arrayvec.specs.ArrayVec.{array_vec_len};
-ghost use Rattle.trace_text.specs.Line.{hex_word, hex_digit, master_name, core_name, cause_words, stop_text, register_text, spaced_word};
+ghost use Rattle.trace_text.specs.Line.{hex_word, hex_byte, hex_digit, master_name, core_name, cause_words, stop_text, register_text, spaced_word, event_text};
 
+use crate::event::Event;
 use arrayvec::ArrayVec;
 use itoa::Buffer;
 use rp_base::{Master, Why};
@@ -145,4 +146,43 @@ pub fn register_line<const N: usize>(core: u8, words: Option<[u32; 17]>, out: &m
             push_text(b"\n", out);
         }
     }
+}
+
+/// Appends a byte as two digits.
+#[tactic(auto, unfolding(crate::specs::Line::hex_byte))]
+fn push_byte<const N: usize>(byte: u8, out: &mut ArrayVec<u8, N>)
+    requires { array_vec_len out.old + 2 ≤ N }
+    ensures digits { out.new.items ≡ out.old.items ++ hex_byte byte }
+    ensures two { length (hex_byte byte) ≡ 2 }
+{
+    out.push(hex_digit_of(u32::from(byte / 16)));
+    out.push(hex_digit_of(u32::from(byte % 16)));
+}
+
+/// Appends the line of an event, with its LF.
+#[tactic(auto, unfolding(crate::specs::Line::event_text))]
+pub fn event_line<const N: usize>(event: &Event, out: &mut ArrayVec<u8, N>)
+    requires { array_vec_len out.old + 192 ≤ N }
+    ensures { out.new.items ≡ out.old.items ++ event_text event.now }
+{
+    match *event {
+        Event::Uart {
+            cycle,
+            number,
+            byte,
+        } => {
+            push_number(cycle, out);
+            push_text(b" uart", out);
+            push_number(u64::from(number), out);
+            push_text(b" ", out);
+            push_byte(byte, out);
+        }
+        Event::Pin { cycle, pin, level } => {
+            push_number(cycle, out);
+            push_text(b" pin ", out);
+            push_number(u64::from(pin), out);
+            push_text(if level { b" 1" } else { b" 0" }, out);
+        }
+    }
+    push_text(b"\n", out);
 }

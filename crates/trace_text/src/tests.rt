@@ -1,6 +1,7 @@
 //! The printed text of each line.
 
-use crate::line::{register_line, stop_line};
+use crate::event::Event;
+use crate::line::{event_line, register_line, stop_line};
 use arrayvec::ArrayVec;
 use rp_base::{Master, Why};
 
@@ -22,7 +23,42 @@ fn each_stop_has_its_line(rt: HostRuntime) {
             b"stop outside dma 4001c0de 7\n"
         )
     );
+    assert!(rt;
+        same_stop(
+            &Why::Outside(Master::DmaWrite, 0xe000_e010),
+            7,
+            b"stop outside dma e000e010 7\n"
+        )
+    );
     assert!(rt; same_stop(&Why::Unbuilt(Master::Core0), 0, b"stop unbuilt core0 0\n"));
+    assert!(rt; same_stop(&Why::Unbuilt(Master::DmaRead), 12, b"stop unbuilt dma 12\n"));
+    assert!(rt;
+        same_stop(
+            &Why::Unbuilt(Master::DmaWrite),
+            13,
+            b"stop unbuilt dma 13\n"
+        )
+    );
+}
+
+fn same_event(event: &Event, want: &[u8]) -> bool {
+    let mut out = ArrayVec::<u8, 192>::new();
+    event_line(event, &mut out);
+    out.as_slice() == want
+}
+
+#[test]
+fn each_event_has_its_line(rt: HostRuntime) {
+    let sent = |cycle, number, byte| Event::Uart {
+        cycle,
+        number,
+        byte,
+    };
+    assert!(rt; same_event(&sent(10883, 0, 0x48), b"10883 uart0 48\n"));
+    assert!(rt; same_event(&sent(0, 1, 0xaf), b"0 uart1 af\n"));
+    let changed = |cycle, pin, level| Event::Pin { cycle, pin, level };
+    assert!(rt; same_event(&changed(5, 3, true), b"5 pin 3 1\n"));
+    assert!(rt; same_event(&changed(1_000_000_000, 29, false), b"1000000000 pin 29 0\n"));
 }
 
 #[test]

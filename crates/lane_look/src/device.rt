@@ -1,0 +1,84 @@
+//! The device that the caller of the machine attaches to its pads and its bus.
+
+ghost use Rattle.std.specs.Prelude.{◌≡◌, ◌≤◌, length};
+ghost use Rattle.lane_look.specs.Device.{DeviceMeaning, no_device};
+
+/// What a device drives in a cycle. Pad 0 and interrupt line 0 are in bit 0.
+#[derive(Clone, Copy, Debug, PartialEq, Eq, Default)]
+pub struct Wires {
+    /// The pads that it drives.
+    pub mask: u32,
+    /// The levels of these pads. A bit outside the mask means nothing.
+    pub level: u32,
+    /// Its outputs on GPIO function 4.
+    pub pwm: u32,
+    /// Its interrupt lines.
+    pub irq: u32,
+}
+
+/// A device. The machine holds its state, a slice of exactly `words()` words, and lends it to each call. What a call
+/// gives and leaves is a function of the device, of this state and of the other arguments.
+pub trait Device: Sync + Drop {
+    /// What it does.
+    ghost meaning: { Self → DeviceMeaning };
+
+    /// How many words of state it has, at most 128.
+    fn words(&self) -> usize
+        ensures number { result ≡ (meaning self.now).count }
+        ensures room { result ≤ 128 };
+
+    /// Leaves the state at the start of a run. The machine lends words that are all 0.
+    fn start(&self, state: &mut [u32])
+        requires { length state.old ≡ (meaning self.now).count }
+        ensures { state.new ≡ (meaning self.now).first state.old };
+
+    /// Whether it owns an address. The machine asks for addresses from 40000000 to 4FFFFFFF that none of its own blocks
+    /// covers.
+    fn owns(&self, address: u32) -> bool
+        ensures { result ≡ (meaning self.now).covers address };
+
+    /// Reads the word at an address, and does to the state what a read does.
+    fn read(&self, state: &mut [u32], address: u32) -> u32
+        requires { length state.old ≡ (meaning self.now).count }
+        ensures value { result ≡ (meaning self.now).value state.old address }
+        ensures state { state.new ≡ (meaning self.now).after_read state.old address };
+
+    /// Writes a word to an address.
+    fn write(&self, state: &mut [u32], address: u32, value: u32)
+        requires { length state.old ≡ (meaning self.now).count }
+        ensures { state.new ≡ (meaning self.now).after_write state.old address value };
+
+    /// One cycle, by its number and by the levels of the pads at its start, pad 0 in bit 0.
+    fn step(&self, state: &mut [u32], cycle: u64, pads: u32) -> Wires
+        requires { length state.old ≡ (meaning self.now).count }
+        ensures wires { result ≡ (meaning self.now).wires state.old cycle pads }
+        ensures state { state.new ≡ (meaning self.now).after_step state.old cycle pads };
+}
+
+/// The device that is none: it has no words, owns no address and drives nothing.
+#[derive(Clone, Copy, Debug, PartialEq, Eq, Default)]
+pub struct NoDevice;
+
+impl Device for NoDevice {
+    ghost meaning = { λ _. no_device };
+
+    fn words(&self) -> usize {
+        0
+    }
+
+    fn start(&self, _state: &mut [u32]) {}
+
+    fn owns(&self, _address: u32) -> bool {
+        false
+    }
+
+    fn read(&self, _state: &mut [u32], _address: u32) -> u32 {
+        0
+    }
+
+    fn write(&self, _state: &mut [u32], _address: u32, _value: u32) {}
+
+    fn step(&self, _state: &mut [u32], _cycle: u64, _pads: u32) -> Wires {
+        Wires::default()
+    }
+}
