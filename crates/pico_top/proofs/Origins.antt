@@ -9,7 +9,8 @@ use Rattle.pio_asm.specs.Assembly.{Plan}
 use Rattle.pico_top.specs.Words.{Command, reading}
 use Rattle.pico_top.specs.Words.Command.{RunImage, Disassemble, Assemble}
 use Rattle.pico_top.specs.Listing.{plans_of}
-use Rattle.pico_top.specs.Answer.{Call, RanOut, Ends}
+use Rattle.pico_top.specs.Answer.{Call, RanOut, Ends, Counted, Converses}
+use Rattle.pico_top.proofs.Leading.{leads_on}
 use Rattle.pico_top.specs.Dialogue.{Dialogue, Gave, LeadsTo, MayGive, failed_by, dialogue, dialogue_of, run_image, list_source, with_file, on_load}
 use Rattle.pico_top.specs.Dialogue.Gave.{Bytes, TooLong, Refused}
 use Rattle.pico_top.specs.Dialogue.Ending.{Said}
@@ -63,3 +64,8 @@ of_asked files failed failed' call (Some (Assemble name)) h =
 
 pub origin : (files : Option Files) (failed failed' : List (List ℕ)) (call : Call) (words : List (List ℕ)) → LeadsTo files (Ends call) failed failed' (dialogue words) → Origin files failed failed' call (reading words)
 origin files failed failed' call words h = of_asked files failed failed' call (reading words) h
+
+-- how a call ended, whatever it counted
+pub ends : (files : Option Files) (failed failed' : List (List ℕ)) (words : List (List ℕ)) (before after : ℕ) (call : Call) → Converses files failed failed' words before after call → LeadsTo files (Ends call) failed failed' (dialogue words)
+ends files failed failed' words before after call h =
+    leads_on files (λ e. Ends call e × Counted call.status before after e) (Ends call) failed failed' (dialogue words) (λ e p. p.0) h

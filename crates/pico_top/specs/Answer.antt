@@ -1,5 +1,5 @@
 -- What a call answered and wrote, by the ending of its dialogue: the project's own.
-use Rattle.std.specs.Prelude.{◌≡◌, ◌≢◌, ◌⊎◌, ℕ, ◌+◌, List, Option}
+use Rattle.std.specs.Prelude.{◌≡◌, ◌≢◌, ◌⊎◌, ℕ, ◌+◌, ◌≤◌, List, Option}
 use Rattle.rp_ports.specs.Fault.{Rose}
 use Rattle.rp_ports.specs.Sink.{Appends}
 use Rattle.trace_text.specs.Sent.{AppendsPart}
@@ -37,17 +37,20 @@ abbrev pub Ends : Call → Ending → Type 0
 Ends call (Said status text cycles) = Says call status text ⊎ RanOut call
 Ends call NoMemory = RanOut call
 
--- a call whose dialogue ended so, with these files and failed names before it and these failed names after it
-abbrev pub Converses : Option Files → List (List ℕ) → List (List ℕ) → List (List ℕ) → Call → Type 0
-Converses files failed failed' words call = LeadsTo files (Ends call) failed failed' (dialogue words)
+-- the steps before and after a call with this status, whose text comes after so many cycles: each cycle was counted once, unless
+-- the sink failed or memory ran out; the count never falls, and no more cycles were counted; none was where memory ran out
+pub record IsCounted (status before after cycles : ℕ) : Type 0 where
+  pub whole : status ≢ 7 → status ≢ 9 → after ≡ before + cycles
+  pub forward : before ≤ after
+  pub within : after ≤ before + cycles
+  pub none : status ≡ 9 → after ≡ before
 
--- the steps before and after a call that answered this status: unless the sink failed or memory ran out, each cycle was counted,
--- and nothing else
-abbrev pub Steps : ℕ → ℕ → ℕ → Ending → Type 0
-Steps status before after (Said wanted text cycles) = status ≢ 7 → status ≢ 9 → after ≡ before + cycles
-Steps status before after NoMemory = after ≡ before
+abbrev pub Counted : ℕ → ℕ → ℕ → Ending → Type 0
+Counted status before after (Said wanted text cycles) = IsCounted status before after cycles
+Counted status before after NoMemory = after ≡ before
 
--- the steps of a call whose dialogue ended so
-abbrev pub Counts : Option Files → List (List ℕ) → List (List ℕ) → List (List ℕ) → ℕ → ℕ → ℕ → Type 0
-Counts files failed failed' words status before after =
-    LeadsTo files (Steps status before after) failed failed' (dialogue words)
+-- a call whose dialogue ended so, with these files and failed names before it and these failed names after it, and with these
+-- steps before it and after it
+abbrev pub Converses : Option Files → List (List ℕ) → List (List ℕ) → List (List ℕ) → ℕ → ℕ → Call → Type 0
+Converses files failed failed' words before after call =
+    LeadsTo files (λ e. Ends call e × Counted call.status before after e) failed failed' (dialogue words)

@@ -11,7 +11,7 @@ mod words;
 
 ghost use Rattle.std.specs.Prelude.{◌≡◌, ◌+◌, ◌≤◌, None, map};
 ghost use Rattle.std.specs.String.{string_bytes};
-ghost use Rattle.pico_top.specs.Answer.{Says, RanOut, Converses, Counts};
+ghost use Rattle.pico_top.specs.Answer.{Says, RanOut, Converses};
 ghost use Rattle.rp_ports.specs.Fault.{Rose};
 ghost use Rattle.pico_top.specs.Causes.{FileCause, ImageCause, SourceCause, IsStatus, Comes, file_of};
 ghost use Rattle.pico_top.specs.Words.{reading};
@@ -114,7 +114,7 @@ fn refuse<O: Sink>(alloc: Global, refusal: &Refusal, writer: &mut Writer<'_, O>)
 fn tell_into<O: Sink, L: Ledger>(opened: Opened, out: &mut O, steps: &mut Steps<L>) -> u8
     requires { IsReady opened }
     ensures says { Says record { status = result; before = O.written out.old; after = O.written out.new; faults_before = O.faults out.old; faults_after = O.faults out.new } 0 (opened_text opened) }
-    ensures steps { result ≡ 0 → steps.new ≡ steps.old + opened_cycles opened }
+    ensures steps { steps.new ≡ steps.old + opened_cycles opened }
 {
     let mut writer = Writer { out };
     tell(opened, &mut writer, steps)
@@ -136,9 +136,8 @@ fn converse<F: Shelf, O: Sink, L: Ledger>(
     out: &mut O,
     steps: &mut Steps<L>,
 ) -> u8
-    ensures text { Converses (F.files files.old) (F.failed files.old) (F.failed files.new) (map string_bytes words.now) record { status = result; before = O.written out.old; after = O.written out.new; faults_before = O.faults out.old; faults_after = O.faults out.new } }
+    ensures text { Converses (F.files files.old) (F.failed files.old) (F.failed files.new) (map string_bytes words.now) steps.old steps.new record { status = result; before = O.written out.old; after = O.written out.new; faults_before = O.faults out.old; faults_after = O.faults out.new } }
     ensures kept { F.files files.new ≡ F.files files.old }
-    ensures steps { Counts (F.files files.old) (F.failed files.old) (F.failed files.new) (map string_bytes words.now) result steps.old steps.new }
 {
     match open(alloc, words, files) {
         Ok(opened) => tell_into(opened, out, steps),
@@ -159,8 +158,8 @@ pub fn pico<F: Shelf, O: Sink, L: Ledger>(
     steps: &mut Steps<L>,
 ) -> u8
     // The text of what was asked, written whole; or status 7 and a part of it, where the sink failed; or status 9 and the
-    // line of want of memory.
-    ensures text { Converses (F.files files.old) (F.failed files.old) (F.failed files.new) (map string_bytes words.now) record { status = result; before = O.written out.old; after = O.written out.new; faults_before = O.faults out.old; faults_after = O.faults out.new } }
+    // line of want of memory. Each cycle of the run was counted as one step, unless the sink failed or memory ran out.
+    ensures text { Converses (F.files files.old) (F.failed files.old) (F.failed files.new) (map string_bytes words.now) steps.old steps.new record { status = result; before = O.written out.old; after = O.written out.new; faults_before = O.faults out.old; faults_after = O.faults out.new } }
     ensures kept { F.files files.new ≡ F.files files.old }
 
     // Status 2 comes exactly where the words are refused.
@@ -182,9 +181,6 @@ pub fn pico<F: Shelf, O: Sink, L: Ledger>(
     // 0 for a command without a file. Where the shelf tells the file and no load failed: 3 if it is too large, 4 if it is
     // an image with a fault, 5 if it is a source with one, and else 0.
     ensures held { Comes (F.files files.old) (F.failed files.old) (F.failed files.new) (reading (map string_bytes words.now)) result }
-
-    // Unless the sink failed or memory ran out, each cycle of the run was counted as one step, and nothing else.
-    ensures steps { Counts (F.files files.old) (F.failed files.old) (F.failed files.new) (map string_bytes words.now) result steps.old steps.new }
 {
     converse(alloc, words, files, out, steps)
 }
