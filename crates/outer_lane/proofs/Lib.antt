@@ -1,0 +1,3 @@
+mod PadWords
+mod Sets
+mod Stepped

@@ -1,0 +1,6 @@
+pub mod Device
+pub mod Lines
+pub mod Setting
+pub mod State
+pub mod Step
+pub mod Words

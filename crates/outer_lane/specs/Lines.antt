@@ -1,0 +1,22 @@
+-- The interrupt lines of a core that come from the peripherals (RP2040 Datasheet, 2.3.2, Interrupts): TIMER 0 to 3, IO_BANK0 13,
+-- which is each core's own, UART0 20 and UART1 21, and those of the device.
+use Rattle.std.specs.Prelude.{ℕ, ◌+◌, ◌*◌, ◌^◌, ◌==◌, Bool, if◌then◌else◌, bit_or}
+use Rattle.m0_alu.specs.Word.{bit_number}
+use Rattle.io_bank.specs.State.{Bank}
+use Rattle.io_bank.specs.Interrupts.{line_of}
+use Rattle.rp_uart.specs.Interrupts.{is_line_high}
+use Rattle.rp_timer.specs.State.{lines_of}
+use Rattle.outer_lane.specs.State.{OuterState}
+
+abbrev pub bank_line : ℕ → Bank → Bool
+bank_line core b = if core == 0 then line_of b b.core0 else line_of b b.core1
+
+-- the line of IO_BANK0 and those of the UARTs
+unfoldable pub block_lines : Bool → Bool → Bool → ℕ
+block_lines bank first second = bit_number bank * 2 ^ 13 + bit_number first * 2 ^ 20 + bit_number second * 2 ^ 21
+
+unfoldable pub outer_lines : ℕ → OuterState → ℕ
+outer_lines core s =
+    bit_or s.irq
+    (bit_or (lines_of s.timer)
+    (block_lines (bank_line core s.pads) (is_line_high s.uart0) (is_line_high s.uart1)))

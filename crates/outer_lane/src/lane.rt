@@ -1,0 +1,90 @@
+//! The peripherals as a lane of the machine.
+
+ghost use Rattle.std.specs.Prelude.{◌≡◌, ◌%◌, ◌/◌, ◌^◌, Some};
+ghost use Rattle.lane_look.specs.Asking.{Runs};
+ghost use Rattle.outer_lane.specs.Setting.{setting_of};
+ghost use Rattle.outer_lane.specs.Step.{pins_in, asks_second, asks, wanted, next, marked};
+
+use crate::outer::Outer;
+use crate::world::{Seen, World};
+use lane_look::{Ask, Device, Lane, Look, Marks, Turn, Want, Wires};
+
+/// The outputs of a PIO block in an answer: the levels in its low 32 bits, and the enables in the next 32.
+fn pins_in(answer: u128) -> [u32; 2]
+    ensures { result ≡ pins_in answer }
+{
+    [
+        (answer & 0xffff_ffff) as u32,
+        ((answer >> 32) & 0xffff_ffff) as u32,
+    ]
+}
+
+impl Outer {
+    ghost use Rattle.std.specs.Prelude.{◌≡◌};
+    ghost use Rattle.lane_look.specs.Asking.{Runs};
+    ghost use Rattle.outer_lane.specs.Step.{asks_second};
+
+    /// Asks for the outputs of PIO block 1, where some pin has its function.
+    #[tactic(auto, unfolding(crate::specs::Step::asks_second))]
+    fn begin_second<K: Look>(&self, cycle: u64, first: [u32; 2], look: &mut K) -> Seen
+        ensures { Runs K.answers look.old (asks_second self.now cycle first) result look.new }
+    {
+        if self.pads.uses(7) {
+            Seen {
+                cycle,
+                pio0: first,
+                pio1: pins_in(look.ask(Ask::Outs(1))),
+            }
+        } else {
+            Seen {
+                cycle,
+                pio0: first,
+                pio1: [0, 0],
+            }
+        }
+    }
+}
+
+impl<X: Device> Lane<World<'_, X>> for Outer {
+    type Begun = Seen;
+
+    ghost asks = { λ _ s cycle. asks s cycle };
+
+    ghost wanted = { wanted };
+
+    ghost next = { λ w s seen turns. next (setting_of w.script.now (X.meaning w.device.now) w.limit) s seen };
+
+    ghost marked = { λ w s seen turns. Some (marked (setting_of w.script.now (X.meaning w.device.now) w.limit) s seen) };
+
+    #[tactic(auto, unfolding(crate::specs::Step::asks))]
+    fn begin<K: Look>(&self, _env: &World<'_, X>, cycle: u64, look: &mut K) -> Seen {
+        if self.pads.uses(6) {
+            let first = pins_in(look.ask(Ask::Outs(0)));
+            self.begin_second(cycle, first, look)
+        } else {
+            self.begin_second(cycle, [0, 0], look)
+        }
+    }
+
+    fn wants(_begun: &Seen) -> [Want; 2] {
+        [Want::Nothing, Want::Nothing]
+    }
+
+    fn finish(&mut self, env: &World<'_, X>, begun: &Seen, _turns: [Turn; 2], marks: &mut Marks) {
+        let levels = self.pads.pads();
+        if self.device.len() == env.device.words() {
+            let wires = env
+                .device
+                .step(self.device.as_mut_slice(), begun.cycle, levels);
+            let mark = self.step_by(env.script, &wires, begun);
+            marks.push(mark);
+        } else {
+            let mark = self.step_by(env.script, &Wires::default(), begun);
+            marks.push(mark);
+        }
+    }
+
+    fn copy_from(&mut self, other: &Outer) {
+        self.take(other);
+    }
+}

@@ -1,0 +1,206 @@
+//! The peripherals: their state, how it starts, and its readers.
+
+use arrayvec::ArrayVec;
+use io_bank::IoBank;
+use lane_look::Device;
+use pin_script::Place;
+use rp_timer::Timer;
+use rp_uart::Uart;
+use std::marker::Model;
+
+/// The timer, both UARTs, the pads and the words of the device, between two cycles (RP2040 Datasheet, 2.19, 4.2 and 4.6).
+///
+/// The copies of the bits TIMER, UART0 and UART1 of RESETS are kept here, as `reset` sets them. A block that is held does
+/// not step, reads 0 and ignores accesses.
+#[derive(Drop)]
+pub struct Outer {
+    pub(crate) timer: Timer,
+    pub(crate) uart0: Uart,
+    pub(crate) uart1: Uart,
+    pub(crate) pads: IoBank,
+    pub(crate) irq: u32,
+    pub(crate) device: ArrayVec<u32, 128>,
+    pub(crate) timer_held: bool,
+    pub(crate) uart0_held: bool,
+    pub(crate) uart1_held: bool,
+    pub(crate) sio: [u32; 2],
+    // where the levels of the script are looked for first
+    pub(crate) place: Place,
+}
+
+impl Model for Outer {
+    ghost use Rattle.outer_lane.specs.State.{OuterState};
+
+    ghost Value = { OuterState };
+
+    ghost view = { λ o. record {
+      timer = o.timer;
+      uart0 = o.uart0;
+      uart1 = o.uart1;
+      pads = o.pads;
+      irq = o.irq;
+      device = o.device.items;
+      timer_held = o.timer_held;
+      uart0_held = o.uart0_held;
+      uart1_held = o.uart1_held;
+      sio = o.sio;
+    } };
+}
+
+impl Outer {
+    ghost use Rattle.std.specs.Prelude.{◌≡◌};
+    ghost use Rattle.io_bank.specs.Levels.{inputs_of};
+    ghost use Rattle.outer_lane.specs.State.{outer_at_start, first_words, outer_reset};
+    ghost use Rattle.outer_lane.specs.Lines.{outer_lines};
+
+    /// The state before the first cycle: each block is at reset and none is held, and the device has started.
+    pub fn new<X: Device>(device: &X) -> Outer
+        ensures { result ≡ outer_at_start (first_words (X.meaning device.now)) }
+    {
+        Outer {
+            timer: Timer::new(),
+            uart0: Uart::new(),
+            uart1: Uart::new(),
+            pads: IoBank::new(),
+            irq: 0,
+            device: started(device),
+            timer_held: false,
+            uart0_held: false,
+            uart1_held: false,
+            sio: [0, 0],
+            place: Place::new(),
+        }
+    }
+
+    /// Takes the bits of RESETS: a block whose bit is set gets its reset state, and is held in it until the bit is clear.
+    #[tactic(auto, unfolding(crate::specs::State::outer_reset))]
+    pub fn reset(&mut self, bits: u32)
+        ensures { self.new ≡ outer_reset bits self.old }
+    {
+        self.timer_held = has_bit(bits, 21);
+        self.uart0_held = has_bit(bits, 22);
+        self.uart1_held = has_bit(bits, 23);
+        reset_timer(&mut self.timer, self.timer_held);
+        reset_uart(&mut self.uart0, self.uart0_held);
+        reset_uart(&mut self.uart1, self.uart1_held);
+        self.pads.set_held(has_bit(bits, 5), has_bit(bits, 8));
+    }
+
+    /// Takes the levels and the enables that SIO puts out.
+    pub fn set_sio(&mut self, outs: [u32; 2])
+        ensures { self.new ≡ record self.old { sio = outs } }
+    {
+        self.sio = outs;
+    }
+
+    /// The interrupt lines of core 0 or 1 that come from here, line 0 in bit 0.
+    #[tactic(auto, unfolding(crate::specs::Lines::outer_lines))]
+    pub fn lines(&self, core: u8) -> u32
+        ensures { result ≡ outer_lines core self.now }
+    {
+        let [bank0, bank1] = self.pads.lines();
+        let bank = if core == 0 { bank0 } else { bank1 };
+        self.irq | (self.timer.lines() | block_lines(bank, self.uart0.line(), self.uart1.line()))
+    }
+
+    /// The levels of the pads, pad 0 in bit 0.
+    pub fn pads(&self) -> u32
+        ensures { result ≡ self.now.pads.current }
+    {
+        self.pads.pads()
+    }
+
+    /// The inputs that SIO reads, by pin: the second levels of the pads.
+    pub fn input(&self) -> u32
+        ensures { result ≡ inputs_of self.now.pads self.now.pads.second }
+    {
+        let [_, second] = self.pads.inputs();
+        second
+    }
+
+    /// Takes the state of another one.
+    pub fn copy_from(&mut self, other: &Outer)
+        ensures { self.new ≡ other.now }
+    {
+        self.take(other);
+    }
+
+    /// The same, for the lane.
+    pub(crate) fn take(&mut self, other: &Outer)
+        ensures { self.new ≡ other.now }
+    {
+        self.timer = other.timer;
+        self.uart0.copy_from(&other.uart0);
+        self.uart1.copy_from(&other.uart1);
+        self.pads = other.pads;
+        self.irq = other.irq;
+        self.device.clear();
+        let _ = self.device.try_extend_from_slice(other.device.as_slice());
+        self.timer_held = other.timer_held;
+        self.uart0_held = other.uart0_held;
+        self.uart1_held = other.uart1_held;
+        self.sio = other.sio;
+        self.place = other.place;
+    }
+}
+
+ghost use Rattle.std.specs.Prelude.{◌≡◌, ◌<◌, ◌≤◌, ◌^◌, replicate};
+ghost use Rattle.m0_alu.specs.Word.{has_bit};
+ghost use Rattle.outer_lane.specs.State.{first_words, timer_reset, uart_reset};
+ghost use Rattle.outer_lane.specs.Lines.{block_lines};
+
+/// Words that are 0.
+#[tactic(auto, using(std::proofs::lemmas::Grind::common_steps))]
+fn zeros(count: usize) -> ArrayVec<u32, 128>
+    requires { count ≤ 128 }
+    ensures { result.items ≡ replicate count 0 }
+{
+    let mut words = ArrayVec::new();
+    for _ in 0..count {
+        words.push(0);
+    }
+    words
+}
+
+/// The words of a device that has started.
+fn started<X: Device>(device: &X) -> ArrayVec<u32, 128>
+    ensures { result.items ≡ first_words (X.meaning device.now) }
+{
+    let mut words = zeros(device.words());
+    device.start(words.as_mut_slice());
+    words
+}
+
+/// A bit of a word.
+fn has_bit(word: u32, place: u32) -> bool
+    requires { place < 32 }
+    ensures { result ≡ has_bit word place }
+{
+    (word >> place) & 1 == 1
+}
+
+/// The bit of the timer in RESETS.
+fn reset_timer(timer: &mut Timer, held: bool)
+    ensures { timer.new ≡ timer_reset held timer.old }
+{
+    if held {
+        *timer = Timer::new();
+    }
+}
+
+/// The bit of a UART in RESETS.
+fn reset_uart(uart: &mut Uart, held: bool)
+    ensures { uart.new ≡ uart_reset held uart.old }
+{
+    if held {
+        *uart = Uart::new();
+    }
+}
+
+/// The line of IO_BANK0 and those of the UARTs.
+#[tactic(auto, unfolding(crate::specs::Lines::block_lines))]
+fn block_lines(bank: bool, first: bool, second: bool) -> u32
+    ensures { result ≡ block_lines bank first second }
+{
+    u32::from(bank) * 0x2000 + u32::from(first) * 0x10_0000 + u32::from(second) * 0x20_0000
+}
