@@ -4,7 +4,7 @@
 use Rattle.std.specs.Prelude.{ℕ, ◌-◌, ◌*◌, Bool, false, not, ◌&&◌, ◌||◌, ◌==◌, nat_lt, nat_le, if◌then◌else◌, List, map, Option, Some, None}
 use Rattle.std.specs.List.{list_all, find}
 use Rattle.rp_base.specs.declared.Master.{Master}
-use Rattle.m0_alu.specs.Word.{has_bit}
+use Rattle.word_bits.specs.Word.{has_bit}
 use Rattle.bus_fabric.specs.declared.Hold.{Hold}
 use Rattle.bus_fabric.specs.Masters.{masters, number_of, Access, access_of, asks_on}
 use Rattle.bus_fabric.specs.State.{Crossbar}

@@ -3,6 +3,7 @@ use Rattle.std.specs.Prelude.{ℕ, ◌+◌, ◌*◌, ◌/◌, ◌%◌, ◌^◌, 
 use Rattle.rp_base.specs.declared.Size.{Size}
 use Rattle.rp_base.specs.declared.Size.TheVariants as sizes
 use Rattle.rp_base.specs.declared.Request.{Request}
+use Rattle.rp_base.specs.Access.{lanes_of}
 use Rattle.m0_alu.specs.Extend.{extended}
 use Rattle.m0_alu.specs.declared.ExtendKind.TheVariants.{Rev, Rev16}
 use Rattle.dma_engine.specs.declared.channel.Channel.{Channel}
@@ -42,12 +43,6 @@ unfoldable pub moved : Channel → Channel
 moved c = record c { read = next_read c; write = next_write c }
 
 -- ---- data
-
--- what an access of that size at an address reads of the word that holds it
-abbrev pub lanes_of : Size → ℕ → ℕ → ℕ
-lanes_of sizes.Byte address word = word / 2 ^ (8 * (address % 4)) % 2 ^ 8
-lanes_of sizes.Half address word = word / 2 ^ (16 * (address / 2 % 2)) % 2 ^ 16
-lanes_of sizes.Word address word = word
 
 -- its bytes in reverse order
 abbrev pub swapped : Size → ℕ → ℕ

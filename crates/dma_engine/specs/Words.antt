@@ -1,7 +1,7 @@
 -- The words of the engine's registers by their offsets, what they read as and what a write does (RP2040 Datasheet, 2.5.7,
 -- "List of Registers").
 use Rattle.std.specs.Prelude.{ℕ, ◌+◌, ◌-◌, ◌*◌, ◌/◌, ◌%◌, ◌^◌, Bool, not, ◌&&◌, ◌==◌, nat_lt, if◌then◌else◌, List, [], ◌∷◌, Option, Some, None, bit_and, bit_or, slice_index_or, slice_set, is_some}
-use Rattle.m0_alu.specs.Word.{has_bit, bit_number}
+use Rattle.word_bits.specs.Word.{has_bit, bit_number}
 use Rattle.dma_engine.specs.declared.channel.Channel.{Channel}
 use Rattle.dma_engine.specs.declared.register.Register.{Register}
 use Rattle.dma_engine.specs.declared.register.Register.TheVariants.{ReadAddress, WriteAddress, Count, Control}

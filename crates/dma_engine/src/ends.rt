@@ -1,7 +1,7 @@
 //! Triggers, aborts, and the ends of sequences.
 
 ghost use Rattle.std.specs.Prelude.{◌≡◌, ◌<◌, ℕ, false, slice_index_or};
-ghost use Rattle.m0_alu.specs.Word.{has_bit};
+ghost use Rattle.word_bits.specs.Word.{has_bit};
 ghost use Rattle.dma_engine.specs.Channels.{with_trigger, with_abort, with_raised, with_report, with_chain, with_end_of, with_end, in_turn};
 ghost use Rattle.dma_engine.specs.Cycle.{is_chosen, has_write, is_in_flight, is_over, after_ends};
 

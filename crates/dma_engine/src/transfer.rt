@@ -1,11 +1,12 @@
 //! One transfer: its addresses and its data.
 
 ghost use Rattle.std.specs.Prelude.{◌≡◌, ◌^◌, ◌<◌, ◌≤◌};
-ghost use Rattle.dma_engine.specs.Transfer.{bytes_of, rounded, advanced, ring_of_read, ring_of_write, next_read, next_write, moved, lanes_of, swapped, data_of, read_of, write_after, request_of};
+ghost use Rattle.dma_engine.specs.Transfer.{bytes_of, rounded, advanced, ring_of_read, ring_of_write, next_read, next_write, moved, swapped, data_of, read_of, write_after, request_of};
 
 use crate::channel::Channel;
 use crate::waiting::Waiting;
 use m0_alu::{ExtendKind, extend};
+use rp_base::access::lanes;
 use rp_base::{Request, Size};
 
 /// How many bytes an access has.
@@ -52,17 +53,6 @@ fn advanced(ring: u32, bytes: u32, address: u32) -> u32
     }
     let places = places(ring);
     address / places * places + (address % places + bytes) % places
-}
-
-/// What an access of that size at an address reads of the word that holds it.
-fn lanes(size: Size, address: u32, word: u32) -> u32
-    ensures { result ≡ lanes_of size address word }
-{
-    match size {
-        Size::Byte => (word >> (8 * (address % 4))) & 0xff,
-        Size::Half => (word >> (16 * (address / 2 % 2))) & 0xffff,
-        Size::Word => word,
-    }
 }
 
 /// The bytes of a value in reverse order.

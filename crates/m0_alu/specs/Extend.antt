@@ -2,17 +2,9 @@
 -- A6.7.68 to A6.7.71).
 use Rattle.std.specs.Prelude.{ℕ, ◌+◌, ◌*◌, ◌/◌, ◌%◌, ◌^◌}
 use Rattle.std.specs.Int.{w8, w16, cast_signed}
-use Rattle.m0_alu.specs.Word.{word_of}
+use Rattle.word_bits.specs.Word.{word_of, byte_of, joined}
 use Rattle.m0_alu.specs.declared.ExtendKind.{ExtendKind}
 use Rattle.m0_alu.specs.declared.ExtendKind.TheVariants.{Sxth, Sxtb, Uxth, Uxtb, Rev, Rev16, Revsh}
-
--- byte k of a word, 0 the lowest
-abbrev pub byte_of : ℕ → ℕ → ℕ
-byte_of x k = x / 2 ^ (8 * k) % 2 ^ 8
-
--- the word of four bytes, from the highest
-abbrev pub joined : ℕ → ℕ → ℕ → ℕ → ℕ
-joined first second third last = first * 2 ^ 24 + second * 2 ^ 16 + third * 2 ^ 8 + last
 
 -- the word of a signed halfword, and of a signed byte
 abbrev pub signed_half : ℕ → ℕ

@@ -2,4 +2,3 @@ pub mod Extend
 pub mod Product
 pub mod Shift
 pub mod Sum
-pub mod Word

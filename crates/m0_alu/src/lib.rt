@@ -5,8 +5,10 @@
 ghost use Rattle.std.specs.Prelude.{◌≡◌, ◌==◌, ◌^◌, ◌<◌, ◌*◌, ◌/◌, ◌%◌, ◌-◌};
 ghost use Rattle.m0_alu.specs.Sum.{add_with_carry};
 ghost use Rattle.m0_alu.specs.Shift.{shifted, shifted_left, shifted_right, shifted_right_signed, rotated, rotated_right};
-ghost use Rattle.m0_alu.specs.Extend.{extended, byte_of, joined, signed_half, signed_byte};
+ghost use Rattle.m0_alu.specs.Extend.{extended, signed_half, signed_byte};
 ghost use Rattle.m0_alu.specs.Product.{product_of};
+
+use word_bits::{byte, join};
 
 /// The four shifts of the manual (ARMv6-M Architecture Reference Manual, A6.4.2).
 #[derive(Clone, Copy, Debug, PartialEq, Eq)]
@@ -174,25 +176,6 @@ fn sign_extend_byte(byte: u32) -> u32
     } else {
         byte + 0xffff_ff00
     }
-}
-
-/// Byte `k` of a word, 0 the lowest.
-fn byte(x: u32, k: u32) -> u32
-    requires { k < 4 }
-    ensures { result ≡ byte_of x k }
-{
-    (x >> (8 * k)) & 0xff
-}
-
-/// The word of four bytes, from the highest.
-fn join(first: u32, second: u32, third: u32, last: u32) -> u32
-    requires first { first < 2 ^ 8 }
-    requires second { second < 2 ^ 8 }
-    requires third { third < 2 ^ 8 }
-    requires last { last < 2 ^ 8 }
-    ensures { result ≡ joined first second third last }
-{
-    first * 0x100_0000 + second * 0x1_0000 + third * 0x100 + last
 }
 
 #[cfg(test)]

@@ -25,8 +25,9 @@ use Rattle.m0_core.specs.declared.doing.Act.{Act}
 use Rattle.m0_core.specs.declared.doing.Act.TheVariants as act
 use Rattle.m0_core.specs.declared.doing.Work.TheVariants as works
 use Rattle.m0_core.specs.Kinds.{awaits_event, awaits_interrupt}
-use Rattle.m0_core.specs.Private.{word_written, private_value, accessed}
-use Rattle.m0_core.specs.Fetch.{master_of, stopped, asks, asks_awake, asks_next, asks_boundary, asks_taken, asks_first, asks_half, asks_second, asks_decoded, asks_fault, asks_beat, beat_of, in_beat, in_ram, at_spot, carried, ends_with, is_faulty}
+use Rattle.rp_base.specs.Access.{master_of, word_written}
+use Rattle.m0_core.specs.Private.{private_value, accessed}
+use Rattle.m0_core.specs.Fetch.{stopped, asks, asks_awake, asks_next, asks_boundary, asks_taken, asks_first, asks_half, asks_second, asks_decoded, asks_fault, asks_beat, beat_of, in_beat, in_ram, at_spot, carried, ends_with, is_faulty}
 use Rattle.m0_core.specs.Cycle.{signals, want_of, want_of_act, with_value, waiting, followed, with_read, returning, ended, passed_instruction, passed, is_held_op, after_inner, done_word, value_of, after_private, after, closed, is_idle, next}
 use Rattle.m0_core.specs.State.{State}
 use Rattle.m0_core.specs.Law.{Given, turn_of, begun_in, wanted_in, after_cycle, after_cycles, is_stop, GoesOn, want_at, want_of_beat, wants_in, read_at, read_in, reads_in, IsAtBoundary, half_at, IsEncoded, IsFetched, IsPlain, AnInstructionTakesItsBeats, LastsOn, is_access, AnAccessLastsUntilItIsDone}

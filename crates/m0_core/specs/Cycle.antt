@@ -23,7 +23,7 @@ use Rattle.m0_core.specs.Kinds.{is_signal, awaits_event, awaits_interrupt, is_ca
 use Rattle.m0_core.specs.Entry.{taken_first, entry_ended}
 use Rattle.m0_core.specs.Return.{return_ended}
 use Rattle.m0_core.specs.Private.{private_value, accessed}
-use Rattle.m0_core.specs.Lanes.{lanes_of}
+use Rattle.rp_base.specs.Access.{lanes_of}
 use Rattle.m0_core.specs.State.{State}
 
 -- ---- wants

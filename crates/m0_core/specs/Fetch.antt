@@ -3,14 +3,13 @@
 -- its first beat; elsewhere the next beat of what is in progress begins (ARMv6-M Architecture Reference Manual, A5.1,
 -- instruction set encoding, A6.7, BKPT, SVC and UDF, B1.5.4, which exception is taken, and B1.5.15, lockup).
 use Rattle.std.specs.Prelude.{ℕ, ◌+◌, ◌%◌, ◌^◌, ◌==◌, ◌||◌, ◌&&◌, Bool, true, false, not, if◌then◌else◌, slice_get, slice_index, Option, Some, None, unwrap_or, pos, int_lt}
-use Rattle.rp_base.specs.declared.Master.{Master}
-use Rattle.rp_base.specs.declared.Master.TheVariants.{Core0, Core1}
 use Rattle.rp_base.specs.declared.Request.{Request}
 use Rattle.rp_base.specs.declared.Why.{Why}
 use Rattle.rp_base.specs.declared.Why.TheVariants as why
 use Rattle.rp_base.specs.declared.map.Spot.{Spot}
 use Rattle.rp_base.specs.declared.map.Spot.TheVariants as spot
 use Rattle.rp_base.specs.declared.op.Op.{Op}
+use Rattle.rp_base.specs.Access.{master_of, word_written}
 use Rattle.rp_base.specs.AddressMap.{place_of}
 use Rattle.thumb_rows.specs.Rows.{begins_long, operation_of}
 use Rattle.m0_beats.specs.declared.timing.Beat.{Beat}
@@ -29,11 +28,7 @@ use Rattle.m0_core.specs.declared.doing.Doing.{Doing}
 use Rattle.m0_core.specs.Kinds.{is_breakpoint, is_call, is_undefined}
 use Rattle.m0_core.specs.Entry.{entry_beat}
 use Rattle.m0_core.specs.Return.{return_beat, is_bad, is_misfit}
-use Rattle.m0_core.specs.Private.{word_written}
 use Rattle.m0_core.specs.State.{State}
-
-abbrev pub master_of : ℕ → Master
-master_of number = if number == 0 then Core0 else Core1
 
 -- the cycle does not happen
 abbrev pub stopped : Why → Asking Act

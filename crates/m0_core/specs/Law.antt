@@ -22,7 +22,7 @@ use Rattle.lane_look.specs.Asking.{answered}
 use Rattle.m0_core.specs.declared.doing.Doing.{Doing}
 use Rattle.m0_core.specs.declared.doing.Work.TheVariants as works
 use Rattle.m0_core.specs.Kinds.{is_breakpoint, is_signal, awaits_event, awaits_interrupt}
-use Rattle.m0_core.specs.Lanes.{lanes_of}
+use Rattle.rp_base.specs.Access.{lanes_of}
 use Rattle.m0_core.specs.Private.{private_word}
 use Rattle.m0_core.specs.Fetch.{asks, is_ram, is_faulty, taken_of}
 use Rattle.m0_core.specs.Cycle.{want_of, next, returning}

@@ -2,7 +2,6 @@ pub mod Cycle
 pub mod Entry
 pub mod Fetch
 pub mod Kinds
-pub mod Lanes
 pub mod Law
 pub mod Private
 pub mod Return

@@ -1,22 +1,10 @@
 -- Accesses to the core's private bus, which are done at once (ARMv6-M Architecture Reference Manual, B3.1; RP2040 Datasheet,
 -- 2.1.4, narrow IO register writes).
-use Rattle.std.specs.Prelude.{ℕ, ◌*◌, ◌%◌, ◌^◌, Option, Some, None, unwrap_or}
+use Rattle.std.specs.Prelude.{ℕ, Option, Some, None, unwrap_or}
 use Rattle.rp_base.specs.declared.Request.{Request}
-use Rattle.rp_base.specs.declared.Size.{Size}
-use Rattle.rp_base.specs.declared.Size.TheVariants as sizes
 use Rattle.m0_nvic.specs.Words.{word_of, effect_of}
-use Rattle.m0_core.specs.Lanes.{lanes_of}
+use Rattle.rp_base.specs.Access.{lanes_of, word_written}
 use Rattle.m0_core.specs.State.{State}
-
--- a narrow write is replicated over the word
-abbrev pub replicated : Size → ℕ → ℕ
-replicated sizes.Byte value = value % 2 ^ 8 * 0x01010101
-replicated sizes.Half value = value % 2 ^ 16 * 0x00010001
-replicated sizes.Word value = value
-
-abbrev pub word_written : Size → Option ℕ → Option ℕ
-word_written size None = None
-word_written size (Some value) = Some (replicated size value)
 
 -- the word at an offset
 abbrev pub private_word : ℕ → State → ℕ

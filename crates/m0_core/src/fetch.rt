@@ -4,18 +4,19 @@ ghost use Rattle.std.specs.Prelude.{◌≡◌, ◌%◌, ◌^◌};
 ghost use Rattle.rp_base.specs.AddressMap.{place_of};
 ghost use Rattle.lane_look.specs.Asking.{Runs};
 ghost use Rattle.lane_look.specs.Asking.Asking.{Ready};
-ghost use Rattle.m0_core.specs.Fetch.{master_of, is_ram, is_locked, asks_fault, is_callable, is_faulty, beat_of, beat_of_work, in_ram, in_private, at_spot, asks_beat, locks_last, asks_return, asks_decoded, asks_second, asks_first, taken_of, asks_boundary, asks_work, asks_awake};
+ghost use Rattle.rp_base.specs.Access.{master_of};
+ghost use Rattle.m0_core.specs.Fetch.{is_ram, is_locked, asks_fault, is_callable, is_faulty, beat_of, beat_of_work, in_ram, in_private, at_spot, asks_beat, locks_last, asks_return, asks_decoded, asks_second, asks_first, taken_of, asks_boundary, asks_work, asks_awake};
 
 use crate::doing::{Act, Work};
 use crate::kinds::{is_breakpoint, is_call, is_undefined};
-use crate::private::written;
 use crate::processor::Core;
 use crate::returns::{is_misfit, value_at};
 use lane_look::{Ask, Look};
 use m0_beats::{Beat, beat_at, is_unaligned};
+use rp_base::access::{master_of, word_written};
 use rp_base::map::{Spot, place};
 use rp_base::op::Op;
-use rp_base::{Master, Request, Why};
+use rp_base::{Request, Why};
 use thumb_rows::{decode, is_long};
 
 /// An address of SRAM.
@@ -54,17 +55,6 @@ fn begin_ram<K: Look>(work: Work, request: Request, look: &mut K) -> Act
 }
 
 impl Core {
-    /// The master of the bus that the core is.
-    fn master(&self) -> Master
-        ensures { result ≡ master_of self.now.number }
-    {
-        if self.number() == 0 {
-            Master::Core0
-        } else {
-            Master::Core1
-        }
-    }
-
     /// The beat that is next.
     #[tactic(auto, unfolding(crate::specs::Fetch::beat_of))]
     fn beat(&self, op: &Op) -> Beat
@@ -90,7 +80,7 @@ impl Core {
     {
         if self
             .nvic
-            .allows(offset, written(request.size, request.write))
+            .allows(offset, word_written(request))
         {
             Act::Private(work, request, offset)
         } else {
@@ -196,7 +186,7 @@ impl Core {
     fn outside(&self, address: u32) -> Act
         ensures { result ≡ Act.Stopped (Why.Outside (master_of self.now.number) address) }
     {
-        Act::Stopped(Why::Outside(self.master(), address))
+        Act::Stopped(Why::Outside(master_of(self.number()), address))
     }
 
     /// An instruction whose first halfword is this.

@@ -6,11 +6,11 @@ ghost use Rattle.m0_core.specs.Cycle.{signals, want_of, with_value, waiting, fol
 
 use crate::doing::{Act, Doing, Work};
 use crate::kinds::{awaits_event, awaits_interrupt, is_call, is_signal};
-use crate::lanes::lanes;
 use crate::processor::Core;
 use lane_look::{Turn, Want};
 use m0_beats::{beat_count, effect, exception_return};
 use rp_base::Request;
+use rp_base::access::lanes;
 use rp_base::op::Op;
 
 /// SEV.

@@ -12,7 +12,6 @@ mod finish;
 #[cfg(test)]
 mod frame_tests;
 mod kinds;
-mod lanes;
 pub mod laws;
 mod private;
 pub mod processor;

@@ -1,32 +1,11 @@
 //! The core's private bus.
 
 ghost use Rattle.std.specs.Prelude.{◌≡◌};
-ghost use Rattle.m0_core.specs.Private.{replicated, word_written, private_word, private_value, accessed};
+ghost use Rattle.m0_core.specs.Private.{private_word, private_value, accessed};
 
-use crate::lanes::lanes;
 use crate::processor::Core;
-use rp_base::{Request, Size};
-
-/// A narrow write is replicated over the word.
-fn replicated(size: Size, value: u32) -> u32
-    ensures { result ≡ replicated size value }
-{
-    match size {
-        Size::Byte => (value & 0xff) * 0x0101_0101,
-        Size::Half => (value & 0xffff) * 0x1_0001,
-        Size::Word => value,
-    }
-}
-
-/// The word that an access writes.
-pub(crate) fn written(size: Size, write: Option<u32>) -> Option<u32>
-    ensures { result ≡ word_written size write }
-{
-    match write {
-        None => None,
-        Some(value) => Some(replicated(size, value)),
-    }
-}
+use rp_base::Request;
+use rp_base::access::{lanes, word_written};
 
 impl Core {
     /// The word at an offset.
@@ -52,6 +31,6 @@ impl Core {
     {
         let _ = self
             .nvic
-            .effect(offset, written(request.size, request.write));
+            .effect(offset, word_written(request));
     }
 }

@@ -3,7 +3,7 @@ use Rattle.std.proofs.Common.{◌≡◌, ℕ, zero, suc, ◌-◌, ◌^◌, ◌<�
 use Rattle.std.specs.Prelude.{bit_and, bit_or}
 use Rattle.std.specs.Int.{bit_at, w32}
 use Rattle.std.proofs.lemmas.Nat.Bits.{bit_at_not, bit_at-lt}
-use Rattle.m0_alu.specs.Word.{has_bit}
+use Rattle.word_bits.specs.Word.{has_bit}
 use Rattle.std.proofs.lemmas.Bool.Decides.{nat_tests}
 use Rattle.pin_script.specs.declared.entry.Entry.{Entry}
 use Rattle.pin_script.specs.Levels.{drives_at}

@@ -1,7 +1,7 @@
 -- The interrupt lines of a core that come from the peripherals (RP2040 Datasheet, 2.3.2, Interrupts): TIMER 0 to 3, IO_BANK0 13,
 -- which is each core's own, UART0 20 and UART1 21, and those of the device.
 use Rattle.std.specs.Prelude.{ℕ, ◌+◌, ◌*◌, ◌^◌, ◌==◌, Bool, if◌then◌else◌, bit_or}
-use Rattle.m0_alu.specs.Word.{bit_number}
+use Rattle.word_bits.specs.Word.{bit_number}
 use Rattle.io_bank.specs.State.{Bank}
 use Rattle.io_bank.specs.Interrupts.{line_of}
 use Rattle.rp_uart.specs.Interrupts.{is_line_high}

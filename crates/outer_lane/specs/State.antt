@@ -1,7 +1,7 @@
 -- The state of the peripherals between two cycles: the timer, both UARTs, the pads and the device outside (RP2040 Datasheet,
 -- 2.19, GPIO, 4.2, UART, and 4.6, Timer; the device is the project's own).
 use Rattle.std.specs.Prelude.{ℕ, Bool, false, List, [], ◌∷◌, replicate, if◌then◌else◌}
-use Rattle.m0_alu.specs.Word.{has_bit}
+use Rattle.word_bits.specs.Word.{has_bit}
 use Rattle.lane_look.specs.Device.{DeviceMeaning}
 use Rattle.io_bank.specs.State.{Bank}
 use Rattle.io_bank.specs.State as bank

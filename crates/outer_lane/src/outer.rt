@@ -145,7 +145,7 @@ impl Outer {
 }
 
 ghost use Rattle.std.specs.Prelude.{◌≡◌, ◌<◌, ◌≤◌, ◌^◌, replicate};
-ghost use Rattle.m0_alu.specs.Word.{has_bit};
+ghost use Rattle.word_bits.specs.Word.{has_bit};
 ghost use Rattle.outer_lane.specs.State.{first_words, timer_reset, uart_reset};
 ghost use Rattle.outer_lane.specs.Lines.{block_lines};
 

@@ -1,7 +1,7 @@
 //! What drives the pads from outside: the script, and where it leaves a pin free the device.
 
 ghost use Rattle.std.specs.Prelude.{◌≡◌, ◌<◌, ◌+◌, ◌*◌, ◌^◌, ℕ, false, is_some, unwrap_or};
-ghost use Rattle.m0_alu.specs.Word.{bit_number};
+ghost use Rattle.word_bits.specs.Word.{bit_number};
 ghost use Rattle.io_bank.specs.Pins.{pins_where};
 ghost use Rattle.io_bank.specs.Levels.{by_list, by_sets};
 ghost use Rattle.pin_script.specs.Levels.{drives_at};

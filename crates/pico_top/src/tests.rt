@@ -162,15 +162,11 @@ fn instructions_and_their_cycles(rt: HostRuntime) -> Result<(), Fail> {
     let code = [0xbf40, 0xbf20, 0xbf20, 0xbe00];
     let high = " 20042000 ffffffff 20000004 01000000";
     assert!(rt; ends(alloc, &code, b"stop limit 100\n", "", high)?);
-    // A load outside the machine, and one of what is not built: the first cycle of the access stops.
+    // A load outside the machine: the first cycle of the access stops.
     let code = [0x2001, 0x0780, 0x6800];
     let low = " 40000000";
     let high = " 20042000 ffffffff 20000004 01000000";
     assert!(rt; ends(alloc, &code, b"stop outside core0 40000000 3\n", low, high)?);
-    let code = [0x2005, 0x0700, 0x6800];
-    let low = " 50000000";
-    let high = " 20042000 ffffffff 20000004 01000000";
-    assert!(rt; ends(alloc, &code, b"stop unbuilt core0 3\n", low, high)?);
     Ok(())
 }
 

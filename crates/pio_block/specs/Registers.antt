@@ -1,7 +1,7 @@
 -- The registers of one machine: CLKDIV, EXECCTRL, SHIFTCTRL, ADDR, INSTR and PINCTRL (RP2040 Datasheet, 3.7), at the places
 -- 0, 4, 8, C, 10 and 14 of the machine's 18h bytes.
 use Rattle.std.specs.Prelude.{ℕ, ◌*◌, ◌/◌, ◌%◌, ◌^◌, ◌==◌, if◌then◌else◌, List, [], Some, bit_and, bit_or, slice_index}
-use Rattle.m0_alu.specs.Word.{bit_number}
+use Rattle.word_bits.specs.Word.{bit_number}
 use Rattle.pio_machine.specs.declared.machine.Machine1.{Machine1}
 use Rattle.pio_machine.specs.declared.machine.Waiting.TheVariants.{Written}
 use Rattle.pio_block.specs.State.{is_written}

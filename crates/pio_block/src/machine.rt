@@ -5,7 +5,7 @@ ghost use Rattle.pio_block.specs.State.{is_running, is_written};
 ghost use Rattle.pio_block.specs.Control.{restarted_if, with_divider_restarted, controlled};
 ghost use Rattle.pio_block.specs.Queues.{with_stalls_cleared, with_sent, with_taken};
 ghost use Rattle.pio_block.specs.Registers.{execctrl_of, register_of, joined, register_written};
-ghost use Rattle.m0_alu.specs.Word.{has_bit, bit_number};
+ghost use Rattle.word_bits.specs.Word.{has_bit, bit_number};
 
 use pio_machine::{Machine1, Waiting};
 

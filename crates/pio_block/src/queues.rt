@@ -1,7 +1,7 @@
 //! The words that tell of all machines, a bit or a level of each.
 
 ghost use Rattle.std.specs.Prelude.{◌≡◌, ◌≤◌, ◌+◌, ◌*◌};
-ghost use Rattle.m0_alu.specs.Word.{bit_number};
+ghost use Rattle.word_bits.specs.Word.{bit_number};
 ghost use Rattle.pio_block.specs.Control.{ctrl_of};
 ghost use Rattle.pio_block.specs.Queues.{bits_of, is_tx_empty, is_rx_empty, fstat_of, flevel_of, levels_of};
 ghost use Rattle.pio_block.specs.Words.{has_room, has_words, free_places, words_held, pacing_of};

@@ -1,7 +1,7 @@
 //! The fields of a machine's registers.
 
 ghost use Rattle.std.specs.Prelude.{◌≡◌, ◌≤◌, ◌<◌, ◌==◌};
-ghost use Rattle.m0_alu.specs.Word.{has_bit};
+ghost use Rattle.word_bits.specs.Word.{has_bit};
 ghost use Rattle.pio_machine.specs.Fields.{divider, side_enable, side_pindir, jmp_pin, wrap_top, wrap_bottom, status_of_rx, status_level, join_rx, join_tx, threshold, pull_threshold, push_threshold, out_right, in_right, autopull, autopush, side_count, set_count, out_count, in_base, side_base, set_base, out_base, depth, tx_depth, rx_depth, is_tx_full, is_rx_full};
 
 use crate::machine::Machine1;

@@ -2,7 +2,7 @@
 
 ghost use Rattle.std.specs.Prelude.{◌≡◌, ◌<◌, ◌^◌};
 ghost use Rattle.pio_machine.specs.Flags.{flag_of, with_set, with_clear, is_high, is_met, outcome_of_wait, cleared_by, written_by_wait, waits_for_clear, outcome_of_irq, remembered, after_irq, written_by_irq};
-ghost use Rattle.m0_alu.specs.Word.{has_bit};
+ghost use Rattle.word_bits.specs.Word.{has_bit};
 
 use crate::fields::has_bit;
 use crate::machine::{Done, Machine1, Outcome, Seen};

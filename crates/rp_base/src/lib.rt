@@ -1,6 +1,7 @@
 //! The types that the whole emulator shares: instructions, bus requests and the causes of a stop.
 #![tactic(auto)]
 
+pub mod access;
 pub mod map;
 pub mod op;
 #[cfg(test)]
@@ -52,6 +53,4 @@ pub enum Why {
     Lockup(u8),
     /// A master fetched or accessed an address that no part of the machine covers.
     Outside(Master, u32),
-    /// A master needs a part of the machine that is not built yet.
-    Unbuilt(Master),
 }

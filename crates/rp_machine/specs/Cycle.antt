@@ -5,7 +5,7 @@ use Rattle.std.specs.Prelude.{ℕ, ◌+◌, ◌*◌, ◌^◌, ◌==◌, Bool, tr
 use Rattle.rp_base.specs.AddressMap.{place_of}
 use Rattle.rp_base.specs.declared.Why.{Why}
 use Rattle.rp_base.specs.declared.Why.TheVariants as why
-use Rattle.m0_alu.specs.Word.{bit_number}
+use Rattle.word_bits.specs.Word.{bit_number}
 use Rattle.lane_look.specs.declared.lane.Ask.{Ask}
 use Rattle.lane_look.specs.declared.lane.Ask.TheVariants as ask
 use Rattle.lane_look.specs.declared.lane.Turn.{Turn}

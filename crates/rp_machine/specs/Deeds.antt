@@ -3,6 +3,7 @@
 -- "SIO", 2.2 "Address Map").
 use Rattle.std.specs.Prelude.{ℕ, ◌<◌, ◌==◌, ◌&&◌, Bool, true, false, if◌then◌else◌, nat_le, Option, Some, None, is_some, unwrap_or}
 use Rattle.std.specs.Option.{is_none}
+use Rattle.rp_base.specs.Access.{lanes_at, master_of, replicated, word_written}
 use Rattle.rp_base.specs.AddressMap.{place_of, port_of}
 use Rattle.rp_base.specs.declared.Request.{Request}
 use Rattle.rp_base.specs.declared.Why.{Why}
@@ -13,14 +14,11 @@ use Rattle.lane_look.specs.declared.lane.Want.{Want}
 use Rattle.lane_look.specs.declared.lane.Want.TheVariants as want
 use Rattle.lane_look.specs.declared.lane.Turn.{Turn}
 use Rattle.lane_look.specs.declared.lane.Turn.TheVariants as turn
-use Rattle.m0_core.specs.Fetch.{master_of}
-use Rattle.m0_core.specs.Private.{replicated, word_written}
 use Rattle.sio_block.specs.Words as sio
 use Rattle.rp_machine.specs.declared.deed.Deed.{Deed}
 use Rattle.rp_machine.specs.declared.deed.Deed.TheVariants as deed
-use Rattle.rp_machine.specs.Sram.{lanes_at}
 use Rattle.rp_machine.specs.State.{State}
-use Rattle.rp_machine.specs.Registers.{is_built, block_word, plain_write}
+use Rattle.rp_machine.specs.Registers.{block_word, plain_write}
 
 -- ---- words
 
@@ -33,15 +31,9 @@ register_word core _ s = None
 
 -- ---- causes to stop
 
--- the machine does not have this part yet
-abbrev pub is_unbuilt : Spot → Bool
-is_unbuilt (spot.Reg block offset alias) = if is_built block then false else true
-is_unbuilt _ = false
-
 -- an access that is not to SRAM has to find a word
 abbrev pub cause_at : ℕ → ℕ → Spot → State → Option Why
 cause_at core address place s =
-    if is_unbuilt place then Some (why.Unbuilt (master_of core)) else
     if is_none (register_word core place s) then Some (why.Outside (master_of core) address) else None
 
 -- the cause for which a cycle does not happen in which a core has this want

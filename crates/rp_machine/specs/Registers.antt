@@ -4,7 +4,7 @@ use Rattle.std.specs.Prelude.{ℕ, ◌-◌, ◌%◌, ◌^◌, Bool, true, false,
 use Rattle.rp_base.specs.declared.Request.{Request}
 use Rattle.rp_base.specs.declared.map.Block.{Block}
 use Rattle.rp_base.specs.declared.map.Block.TheVariants as block
-use Rattle.m0_core.specs.Private.{replicated}
+use Rattle.rp_base.specs.Access.{replicated}
 use Rattle.bus_fabric.specs.State.{Crossbar, with_priority}
 use Rattle.rp_machine.specs.State.{State}
 
@@ -32,12 +32,6 @@ abbrev pub busctrl_written : ℕ → ℕ → Crossbar → Crossbar
 busctrl_written offset w fabric = if offset == 0x0 then with_priority w fabric else fabric
 
 -- ---- all blocks
-
--- the blocks whose words the machine has; an access to another one stops the run
-abbrev pub is_built : Block → Bool
-is_built block.Resets = true
-is_built block.Busctrl = true
-is_built _ = false
 
 -- what a word reads as; None where the block has no such word
 abbrev pub block_word : Block → ℕ → State → Option ℕ

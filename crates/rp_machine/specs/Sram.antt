@@ -1,8 +1,6 @@
--- What is read of SRAM and written to it: the halfword or the word of an address, and the byte lanes of a narrow write
+-- What is read of SRAM: the halfword or the word of an address
 -- (RP2040 Datasheet, 2.6.2 "SRAM"; ARMv6-M Architecture Reference Manual, A3.3, little-endian memory).
 use Rattle.std.specs.Prelude.{ℕ, ◌/◌, ◌%◌, ◌^◌, ◌==◌, if◌then◌else◌, List, Option, Some, None, slice_index}
-use Rattle.rp_base.specs.declared.Size.{Size}
-use Rattle.rp_base.specs.declared.Size.TheVariants as sizes
 use Rattle.rp_base.specs.declared.map.Spot.{Spot}
 use Rattle.rp_base.specs.declared.map.Spot.TheVariants as spot
 
@@ -14,9 +12,3 @@ half_of word address = if address / 2 % 2 == 0 then word % 2 ^ 16 else word / 2 
 abbrev pub ram_word : List ℕ → Spot → Option ℕ
 ram_word sram (spot.Ram index bank) = Some (slice_index sram index)
 ram_word sram _ = None
-
--- the byte lanes of an access of that size at an address, lane k as bit k
-abbrev pub lanes_at : Size → ℕ → ℕ
-lanes_at sizes.Byte address = 2 ^ (address % 4)
-lanes_at sizes.Half address = if address / 2 % 2 == 0 then 3 else 12
-lanes_at sizes.Word address = 15

@@ -2,49 +2,16 @@
 
 ghost use Rattle.std.specs.Prelude.{◌≡◌};
 ghost use Rattle.rp_base.specs.AddressMap.{place_of, port_of, IsWithin};
-ghost use Rattle.m0_core.specs.Fetch.{master_of};
 ghost use Rattle.bus_fabric.specs.Masters.{HasPort};
-ghost use Rattle.rp_machine.specs.Sram.{lanes_at};
-ghost use Rattle.rp_machine.specs.Deeds.{is_unbuilt, asked_at, asked_of, is_done_at, is_lock, is_same_word, reads_at, is_late, turn_at, stored_at, StoresInSram};
+ghost use Rattle.rp_machine.specs.Deeds.{asked_at, asked_of, is_done_at, is_lock, is_same_word, reads_at, is_late, turn_at, stored_at, StoresInSram};
 
 use crate::deed::Deed;
 use crate::machine::Machine;
-use crate::registers::{is_built, plain_write, replicated, word_written};
+use crate::registers::plain_write;
 use lane_look::{Turn, Want};
 use rp_base::map::{Spot, place, port};
-use rp_base::{Master, Request, Size, Why};
-
-/// The byte lanes of an access of that size at an address, lane k as bit k.
-fn lanes_at(size: Size, address: u32) -> u8
-    ensures { result ≡ lanes_at size address }
-{
-    match size {
-        Size::Byte => 1 << (address % 4),
-        Size::Half if address / 2 % 2 == 0 => 3,
-        Size::Half => 12,
-        Size::Word => 15,
-    }
-}
-
-fn master_of(core: u8) -> Master
-    ensures { result ≡ master_of core }
-{
-    if core == 0 {
-        Master::Core0
-    } else {
-        Master::Core1
-    }
-}
-
-/// The machine does not have this part yet.
-fn is_unbuilt(place: &Spot) -> bool
-    ensures { result ≡ is_unbuilt place.now }
-{
-    match *place {
-        Spot::Reg { block, .. } => !is_built(block),
-        Spot::Ram { .. } | Spot::Sio { .. } | Spot::Ppb { .. } | Spot::Outside => false,
-    }
-}
+use rp_base::access::{lanes_at, master_of, replicated, word_written};
+use rp_base::{Request, Why};
 
 /// The port that a request to a place asks for, and whether to write.
 fn asked_at(request: &Request, place: &Spot) -> Option<(u8, bool)>
@@ -163,9 +130,7 @@ impl Machine {
         requires { core ≤ 1 }
         ensures { result ≡ cause_at core address place.now self.now }
     {
-        if is_unbuilt(place) {
-            Some(Why::Unbuilt(master_of(core)))
-        } else if self.register_word(core, place).is_none() {
+        if self.register_word(core, place).is_none() {
             Some(Why::Outside(master_of(core), address))
         } else {
             None

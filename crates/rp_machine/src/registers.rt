@@ -1,50 +1,12 @@
 //! The words of the register blocks.
 
 ghost use Rattle.std.specs.Prelude.{◌≡◌, ◌^◌, ◌<◌};
-ghost use Rattle.m0_core.specs.Private.{replicated, word_written};
-ghost use Rattle.rp_machine.specs.Registers.{is_built, aliased, plain_write};
+ghost use Rattle.rp_machine.specs.Registers.{aliased, plain_write};
 
 use crate::machine::Machine;
 use rp_base::map::Block;
-use rp_base::{Request, Size};
-
-/// The machine has the words of this block.
-pub(crate) fn is_built(block: Block) -> bool
-    ensures { result ≡ is_built block }
-{
-    match block {
-        Block::Resets | Block::Busctrl => true,
-        Block::IoBank0
-        | Block::PadsBank0
-        | Block::Uart0
-        | Block::Uart1
-        | Block::Timer
-        | Block::Dma
-        | Block::Pio0
-        | Block::Pio1 => false,
-    }
-}
-
-/// A narrow value on all lanes of its word.
-pub(crate) fn replicated(size: Size, value: u32) -> u32
-    ensures { result ≡ replicated size value }
-{
-    match size {
-        Size::Byte => (value & 0xff) * 0x0101_0101,
-        Size::Half => (value & 0xffff) * 0x0001_0001,
-        Size::Word => value,
-    }
-}
-
-/// The word that a request writes, its value on all lanes; None for a read.
-pub(crate) fn word_written(request: &Request) -> Option<u32>
-    ensures { result ≡ word_written request.now.size request.now.write }
-{
-    match request.write {
-        Some(value) => Some(replicated(request.size, value)),
-        None => None,
-    }
-}
+use rp_base::access::replicated;
+use rp_base::Request;
 
 /// What a write through an alias leaves of a word: 0 is plain, 1 XOR, 2 sets bits, 3 clears bits.
 fn aliased(alias: u8, word: u32, value: u32) -> u32

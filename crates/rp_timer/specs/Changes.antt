@@ -1,12 +1,8 @@
 -- What a read and a write do to the timer (RP2040 Datasheet, 4.6.2, Counter, 4.6.3, Alarms, and 4.6.5, List of Registers).
 use Rattle.std.specs.Prelude.{ℕ, ◌+◌, ◌-◌, ◌*◌, ◌%◌, ◌^◌, ◌==◌, if◌then◌else◌, Option, Some, None, bit_and, bit_or, slice_set}
-use Rattle.m0_alu.specs.Word.{has_bit}
 use Rattle.rp_timer.specs.State.{TimerState, high_of}
+use Rattle.word_bits.specs.Word.{has_bit, minus}
 use Rattle.rp_timer.specs.Words.{is_alarm, alarm_number}
-
--- the members of a set of alarms that another set does not have
-abbrev pub minus : ℕ → ℕ → ℕ
-minus set other = bit_and set (2 ^ 32 - 1 - other)
 
 -- a read of TIMELR latches the high word for TIMEHR
 abbrev pub after_read : ℕ → TimerState → TimerState

@@ -1,6 +1,6 @@
 -- Laws of the timer: what its cycles come to.
 use Rattle.std.specs.Prelude.{◌≡◌, ℕ, zero, suc, ◌+◌, ◌-◌, ◌*◌, ◌/◌, ◌%◌, ◌^◌, ◌<◌, Bool, true, false, not, ◌||◌, ◌==◌, Some, None, slice_index}
-use Rattle.m0_alu.specs.Word.{has_bit}
+use Rattle.word_bits.specs.Word.{has_bit}
 use Rattle.rp_timer.specs.State.{TimerState, low_of, high_of}
 use Rattle.rp_timer.specs.Words.{word_of}
 use Rattle.rp_timer.specs.Changes.{effect_of}

@@ -3,7 +3,7 @@
 #![tactic(auto)]
 
 ghost use Rattle.std.specs.Prelude.{◌≡◌, ◌<◌, ◌==◌, true, if◌then◌else◌};
-ghost use Rattle.m0_alu.specs.Word.{has_bit, bit_number};
+ghost use Rattle.word_bits.specs.Word.{has_bit, bit_number};
 ghost use Rattle.rp_timer.specs.State.{at_reset, low_of, high_of, lines_of};
 ghost use Rattle.rp_timer.specs.Words.{time_word, is_alarm, alarm_number, alarm_word, control_word, word_of, is_word};
 ghost use Rattle.rp_timer.specs.Changes.{after_read, alarm_written, control_written, after_write, effect_of};

@@ -1,7 +1,7 @@
 -- The FIFOs' depth and trigger levels, and the interrupts (PrimeCell UART PL011 Technical Reference Manual, DDI 0183, 2.8,
 -- interrupts, 3.3.7, UARTLCR_H, 3.3.9, UARTIFLS, and 3.3.11, UARTRIS; RP2040 Datasheet, 4.2, FIFOs of 32 places).
 use Rattle.std.specs.Prelude.{ℕ, ◌+◌, ◌-◌, ◌*◌, ◌/◌, ◌%◌, ◌^◌, ◌==◌, Bool, not, nat_lt, if◌then◌else◌, length, bit_and, bit_or}
-use Rattle.m0_alu.specs.Word.{bit_number}
+use Rattle.word_bits.specs.Word.{bit_number, minus}
 use Rattle.rp_uart.specs.declared.receiver.Errors.{Errors}
 use Rattle.rp_uart.specs.State.{SerialPort}
 
@@ -51,10 +51,6 @@ told set s = with_raw (bit_or s.raw set) s
 
 abbrev pub told_if : Bool → ℕ → SerialPort → SerialPort
 told_if comes set s = if comes then told set s else s
-
--- the bits of a word that another one does not have
-abbrev pub minus : ℕ → ℕ → ℕ
-minus set other = bit_and set (2 ^ 32 - 1 - other)
 
 abbrev pub cleared : ℕ → SerialPort → SerialPort
 cleared set s = with_raw (minus s.raw set) s

@@ -1,7 +1,7 @@
 //! The frame of a byte on the line.
 
 ghost use Rattle.std.specs.Prelude.{◌≡◌, ◌+◌, ◌<◌, ◌≤◌};
-ghost use Rattle.m0_alu.specs.Word.{has_bit};
+ghost use Rattle.word_bits.specs.Word.{has_bit};
 ghost use Rattle.rp_uart.specs.Frame.{width_of, parity_bit, level_at, frame_length, stop_place, ones_of, low_bits};
 
 /// How many data bits a frame has (WLEN).

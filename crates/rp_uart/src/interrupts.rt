@@ -1,7 +1,7 @@
 //! The FIFOs' depth and trigger levels, and the interrupts.
 
 ghost use Rattle.std.specs.Prelude.{◌≡◌, ◌≤◌};
-ghost use Rattle.m0_alu.specs.Word.{bit_number};
+ghost use Rattle.word_bits.specs.Word.{bit_number};
 ghost use Rattle.rp_uart.specs.State.{no_errors};
 ghost use Rattle.rp_uart.specs.Interrupts.{depth_of, trigger_of, receive_trigger, transmit_trigger, error_bits, error_interrupts, told, told_if, cleared, cleared_if, settled};
 

@@ -1,7 +1,7 @@
 -- Laws of the block: what the definitions come to for the software that uses it.
 use Rattle.std.specs.Prelude.{◌≡◌, ℕ, zero, suc, ◌+◌, ◌*◌, ◌^◌, ◌<◌, ◌≤◌, Bool, true, false, ◌||◌, ◌==◌, ℤ, ◌+ℤ◌, ◌*ℤ◌, unsigned_abs, List, [], ◌∷◌, ◌++◌, Some, None, option_to_list}
-use Rattle.m0_alu.specs.Word as word
-use Rattle.m0_alu.specs.Word.{has_bit}
+use Rattle.word_bits.specs.Word as word
+use Rattle.word_bits.specs.Word.{has_bit}
 use Rattle.sio_block.specs.declared.Launch.{Launch}
 use Rattle.sio_block.specs.declared.divider.Divider.{Divider}
 use Rattle.sio_block.specs.Divider.{number_of, quotient_of, remainder_of, csr_of, divider_written, divider_ended}

@@ -1,4 +1,3 @@
-pub mod Bits
 pub mod Changes
 pub mod Cycle
 pub mod Divider

@@ -1,9 +1,8 @@
 -- The 32 spinlocks (RP2040 Datasheet, 2.3.1.3, Hardware Spinlocks, and 2.3.1.7): a set of the numbers of those that are taken,
 -- as a word whose bit n is that of lock n.
 use Rattle.std.specs.Prelude.{ℕ, ◌-◌, ◌/◌, ◌%◌, ◌^◌, Bool, not, ◌&&◌, ◌==◌, nat_le, if◌then◌else◌, Option, Some, None, bit_or}
-use Rattle.m0_alu.specs.Word.{has_bit}
 use Rattle.sio_block.specs.declared.locks.Locks.{Locks}
-use Rattle.sio_block.specs.Bits.{minus}
+use Rattle.word_bits.specs.Word.{has_bit, minus}
 
 abbrev pub locks_at_reset : Locks
 locks_at_reset = record { taken = 0; before = 0 }

@@ -2,7 +2,7 @@
 -- for each pin. After each of the two come its SET, CLR and XOR words, which are written only and read as 0.
 use Rattle.std.specs.Prelude.{ℕ, ◌+◌, ◌%◌, ◌^◌, Bool, ◌||◌, ◌==◌, if◌then◌else◌, Option, Some, None, bit_or, bit_xor}
 use Rattle.sio_block.specs.declared.pins.Pins.{Pins}
-use Rattle.sio_block.specs.Bits.{minus}
+use Rattle.word_bits.specs.Word.{minus}
 
 -- at reset no pin is driven
 abbrev pub pins_at_reset : Pins

@@ -3,7 +3,7 @@ use Rattle.std.specs.Prelude.{ℕ, Bool, true, false, ◌+◌, ◌/◌, ◌%◌,
 use Rattle.rp_base.specs.declared.Master.{Master}
 use Rattle.rp_base.specs.declared.Master.TheVariants.{Core0, Core1, DmaRead, DmaWrite}
 use Rattle.rp_base.specs.declared.Why.{Why}
-use Rattle.rp_base.specs.declared.Why.TheVariants.{Limit, Bkpt, Lockup, Outside, Unbuilt}
+use Rattle.rp_base.specs.declared.Why.TheVariants.{Limit, Bkpt, Lockup, Outside}
 use Rattle.trace_text.specs.declared.event.Event.{Event}
 use Rattle.trace_text.specs.declared.event.Event.TheVariants.{Uart, Pin}
 
@@ -36,7 +36,6 @@ cause_words Limit = codes "limit"
 cause_words (Bkpt core) = codes "bkpt " ++ core_name core
 cause_words (Lockup core) = codes "lockup " ++ core_name core
 cause_words (Outside master address) = codes "outside " ++ master_name master ++ codes " " ++ hex_word address
-cause_words (Unbuilt master) = codes "unbuilt " ++ master_name master
 
 -- the line of a stop at a cycle
 unfoldable pub stop_text : Why → ℕ → List ℕ

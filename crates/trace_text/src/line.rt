@@ -100,10 +100,6 @@ fn push_cause<const N: usize>(why: &Why, out: &mut ArrayVec<u8, N>)
             push_text(b" ", out);
             push_word(address, out);
         }
-        Why::Unbuilt(master) => {
-            push_text(b"unbuilt ", out);
-            push_text(name_of(master), out);
-        }
     }
 }
 

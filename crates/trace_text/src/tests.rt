@@ -30,15 +30,6 @@ fn each_stop_has_its_line(rt: HostRuntime) {
             b"stop outside dma e000e010 7\n"
         )
     );
-    assert!(rt; same_stop(&Why::Unbuilt(Master::Core0), 0, b"stop unbuilt core0 0\n"));
-    assert!(rt; same_stop(&Why::Unbuilt(Master::DmaRead), 12, b"stop unbuilt dma 12\n"));
-    assert!(rt;
-        same_stop(
-            &Why::Unbuilt(Master::DmaWrite),
-            13,
-            b"stop unbuilt dma 13\n"
-        )
-    );
 }
 
 fn same_event(event: &Event, want: &[u8]) -> bool {

@@ -1,7 +1,7 @@
 use Rattle.std.proofs.Common.{ℕ, ap, sym, ◌∙◌, inl, inr}
 use Rattle.std.specs.Prelude.{map}
 use Rattle.std.specs.List.{list_any}
-use Rattle.m0_alu.specs.Word.{has_bit}
+use Rattle.word_bits.specs.Word.{has_bit}
 use Rattle.m0_beats.specs.Registers.{sp_of}
 use Rattle.m0_beats.specs.Beats.{accesses, registers_of, reads, is_unaligned_beat, is_unaligned_of_action}
 use Rattle.m0_beats.proofs.Lists.{no_write, register_write}

@@ -1,5 +1,5 @@
 use Rattle.std.proofs.Common.{◌≡◌}
-use Rattle.m0_alu.specs.Word.{has_bit}
+use Rattle.word_bits.specs.Word.{has_bit}
 use Rattle.dma_engine.specs.Channels.{in_turn, with_abort}
 use Rattle.dma_engine.proofs.engine.Engine.abort_all.Given as goal
 
