@@ -80,7 +80,7 @@ impl Core {
     {
         if self
             .nvic
-            .allows(offset, word_written(request))
+            .allows(offset, word_written(&request))
         {
             Act::Private(work, request, offset)
         } else {
