@@ -7,6 +7,7 @@ use pin_script::Place;
 use rp_timer::Timer;
 use rp_uart::Uart;
 use std::marker::Model;
+use word_bits::has_bit;
 
 /// The timer, both UARTs, the pads and the words of the device, between two cycles (RP2040 Datasheet, 2.19, 4.2 and 4.6).
 ///
@@ -14,11 +15,16 @@ use std::marker::Model;
 /// not step, reads 0 and ignores accesses.
 #[derive(Drop)]
 pub struct Outer {
-    pub(crate) timer: Timer,
-    pub(crate) uart0: Uart,
-    pub(crate) uart1: Uart,
-    pub(crate) pads: IoBank,
-    pub(crate) irq: u32,
+    /// The timer.
+    pub timer: Timer,
+    /// UART0.
+    pub uart0: Uart,
+    /// UART1.
+    pub uart1: Uart,
+    /// The pads, IO_BANK0 and PADS_BANK0.
+    pub pads: IoBank,
+    /// The interrupt lines of the device, as it drove them in the last cycle.
+    pub irq: u32,
     pub(crate) device: ArrayVec<u32, 128>,
     pub(crate) timer_held: bool,
     pub(crate) uart0_held: bool,
@@ -51,7 +57,7 @@ impl Outer {
     ghost use Rattle.std.specs.Prelude.{◌≡◌};
     ghost use Rattle.io_bank.specs.Levels.{inputs_of};
     ghost use Rattle.outer_lane.specs.State.{outer_at_start, first_words, outer_reset};
-    ghost use Rattle.outer_lane.specs.Lines.{outer_lines};
+    ghost use Rattle.outer_lane.specs.Lines.{outer_lines, outer_inputs, outer_pacing};
 
     /// The state before the first cycle: each block is at reset and none is held, and the device has started.
     pub fn new<X: Device>(device: &X) -> Outer
@@ -110,6 +116,24 @@ impl Outer {
         self.pads.pads()
     }
 
+    /// The input words, pin 0 in bit 0: of the levels of the pads now, and of the second levels, which SIO reads. Both stand
+    /// under IE and INOVER (RP2040 Datasheet, 2.19).
+    pub fn inputs(&self) -> [u32; 2]
+        ensures { result ≡ outer_inputs self.now }
+    {
+        self.pads.inputs()
+    }
+
+    /// The counts that pace DMA channels: the free places of the transmit FIFO and the words of the receive FIFO of UART0,
+    /// and the same of UART1, each 0 where UARTDMACR does not ask for it (RP2040 Datasheet, 4.2.3).
+    pub fn pacing(&self) -> [u8; 4]
+        ensures { result ≡ outer_pacing self.now }
+    {
+        let [free0, words0] = self.uart0.pacing();
+        let [free1, words1] = self.uart1.pacing();
+        [free0, words0, free1, words1]
+    }
+
     /// The inputs that SIO reads, by pin: the second levels of the pads.
     pub fn input(&self) -> u32
         ensures { result ≡ inputs_of self.now.pads self.now.pads.second }
@@ -145,7 +169,6 @@ impl Outer {
 }
 
 ghost use Rattle.std.specs.Prelude.{◌≡◌, ◌<◌, ◌≤◌, ◌^◌, replicate};
-ghost use Rattle.word_bits.specs.Word.{has_bit};
 ghost use Rattle.outer_lane.specs.State.{first_words, timer_reset, uart_reset};
 ghost use Rattle.outer_lane.specs.Lines.{block_lines};
 
@@ -169,14 +192,6 @@ fn started<X: Device>(device: &X) -> ArrayVec<u32, 128>
     let mut words = zeros(device.words());
     device.start(words.as_mut_slice());
     words
-}
-
-/// A bit of a word.
-fn has_bit(word: u32, place: u32) -> bool
-    requires { place < 32 }
-    ensures { result ≡ has_bit word place }
-{
-    (word >> place) & 1 == 1
 }
 
 /// The bit of the timer in RESETS.

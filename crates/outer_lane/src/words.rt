@@ -16,7 +16,7 @@ impl Outer {
     ghost use Rattle.std.specs.Prelude.{◌≡◌, ◌+◌};
     ghost use Rattle.outer_lane.specs.Setting.{setting_of};
     ghost use Rattle.outer_lane.specs.Step.{wires_of};
-    ghost use Rattle.outer_lane.specs.Words.{outs_now, pads_word, outer_word, outer_accessed};
+    ghost use Rattle.outer_lane.specs.Words.{outs_now, pads_word, bank_word, outer_word, outer_allowed, outer_accessed};
 
     /// The word at an offset in a register block as it reads in this cycle. None where the block has no such word, or is
     /// none of the peripherals.
@@ -40,9 +40,24 @@ impl Outer {
         }
     }
 
-    /// A word of IO_BANK0.
-    #[tactic(auto, unfolding(crate::specs::Words::pads_word))]
+    /// A word of IO_BANK0, whose offsets end below 1000.
     fn read_bank<X: Device>(&self, world: &World<'_, X>, seen: &Seen, offset: u16) -> Option<u32>
+        ensures { result ≡ bank_word (setting_of world.now.script.now (X.meaning world.now.device.now) world.now.limit) seen.now offset self.now }
+    {
+        if offset >= 0x1000 {
+            return None;
+        }
+        self.read_pin_word(world, seen, offset)
+    }
+
+    /// A word of IO_BANK0, or from 1000 on of PADS_BANK0.
+    #[tactic(auto, unfolding(crate::specs::Words::pads_word))]
+    fn read_pin_word<X: Device>(
+        &self,
+        world: &World<'_, X>,
+        seen: &Seen,
+        offset: u16,
+    ) -> Option<u32>
         ensures { result ≡ pads_word (setting_of world.now.script.now (X.meaning world.now.device.now) world.now.limit) seen.now offset self.now }
     {
         let outs = self.outs_now(world, seen);
@@ -57,7 +72,7 @@ impl Outer {
         if offset > 0x78 {
             return None;
         }
-        self.read_bank(world, seen, 0x1000 + offset)
+        self.read_pin_word(world, seen, 0x1000 + offset)
     }
 
     /// The outputs of all parts in this cycle. The device says what it drives, on a copy of its words.
@@ -78,6 +93,22 @@ impl Outer {
         words
     }
 
+    /// A read, or a write of a word, is allowed: the block is one of the peripherals and has such a word, whether or not it
+    /// is held.
+    #[tactic(auto, unfolding(crate::specs::Words::outer_allowed), using(crate::proofs::PadWords::no_pad_word))]
+    pub fn allows(&self, block: Block, offset: u16, write: Option<u32>) -> bool
+        ensures { result ≡ outer_allowed block offset self.now }
+    {
+        match block {
+            Block::IoBank0 => offset < 0x1000 && self.pads.allows(offset, write),
+            Block::PadsBank0 => offset <= 0x78 && self.pads.allows(0x1000 + offset, write),
+            Block::Uart0 => self.uart0.allows(offset, write),
+            Block::Uart1 => self.uart1.allows(offset, write),
+            Block::Timer => self.timer.allows(offset, write),
+            _ => false,
+        }
+    }
+
     /// Does what a read, or a write of this word, does to a register block. Nothing is changed where the block has no such
     /// word, or is none of the peripherals.
     #[tactic(auto, unfolding(crate::specs::Words::outer_accessed))]
@@ -85,9 +116,7 @@ impl Outer {
         ensures { self.new ≡ outer_accessed block offset write self.old }
     {
         match block {
-            Block::IoBank0 => {
-                let _ = self.pads.effect(offset, write);
-            }
+            Block::IoBank0 => access_bank(&mut self.pads, offset, write),
             Block::PadsBank0 => access_pads(&mut self.pads, offset, write),
             Block::Uart0 => access_uart(&mut self.uart0, self.uart0_held, offset, write),
             Block::Uart1 => access_uart(&mut self.uart1, self.uart1_held, offset, write),
@@ -99,7 +128,7 @@ impl Outer {
 
 ghost use Rattle.std.specs.Prelude.{◌+◌};
 ghost use Rattle.io_bank.specs.Words.{effect_of};
-ghost use Rattle.outer_lane.specs.Words.{unless_held, uart_accessed, timer_accessed};
+ghost use Rattle.outer_lane.specs.Words.{unless_held, bank_accessed, uart_accessed, timer_accessed};
 
 use io_bank::IoBank;
 
@@ -111,6 +140,15 @@ fn unless_held(held: bool, word: Option<u32>) -> Option<u32>
         Some(0)
     } else {
         word
+    }
+}
+
+/// An access to IO_BANK0.
+fn access_bank(pads: &mut IoBank, offset: u16, write: Option<u32>)
+    ensures { pads.new ≡ bank_accessed offset write pads.old }
+{
+    if offset < 0x1000 {
+        let _ = pads.effect(offset, write);
     }
 }
 
