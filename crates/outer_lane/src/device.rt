@@ -7,7 +7,7 @@ use lane_look::Device;
 impl Outer {
     ghost use Rattle.std.specs.Prelude.{◌≡◌, ◌==◌, length};
     ghost use Rattle.outer_lane.specs.Setting.{setting_of};
-    ghost use Rattle.outer_lane.specs.Device.{is_owned, owned_word, device_accessed};
+    ghost use Rattle.outer_lane.specs.Device.{owned_word, device_accessed};
 
     /// Whether the state holds as many words as the device has.
     pub fn has_device<X: Device>(&self, device: &X) -> bool
@@ -20,26 +20,29 @@ impl Outer {
     /// for addresses that no block of the machine covers.
     #[tactic(auto, unfolding(crate::specs::Device::owned_word))]
     pub fn owned_word<X: Device>(&self, world: &World<'_, X>, address: u32) -> Option<u32>
-        requires { length self.now.device ≡ (X.meaning world.now.device.now).count }
         ensures { result ≡ owned_word (setting_of world.now.script.now (X.meaning world.now.device.now) world.now.limit) address self.now }
     {
-        if !is_owned(world, address) {
+        if self.device.len() != world.device.words() || !may_own(world, address) {
             return None;
         }
         let mut words = self.words();
         Some(world.device.read(words.as_mut_slice(), address))
     }
 
-    /// Does what a read, or a write of this word, does to the device.
+    /// Does what a read, or a write of this word, does to the device; nothing where the state does not hold as many words
+    /// as the device has.
+    #[tactic(auto, unfolding(crate::specs::Device::device_accessed))]
     pub fn device_effect<X: Device>(
         &mut self,
         world: &World<'_, X>,
         address: u32,
         write: Option<u32>,
     )
-        requires { length self.old.device ≡ (X.meaning world.now.device.now).count }
         ensures { self.new ≡ device_accessed (setting_of world.now.script.now (X.meaning world.now.device.now) world.now.limit) address write self.old }
     {
+        if self.device.len() != world.device.words() {
+            return;
+        }
         match write {
             None => {
                 let _ = world.device.read(self.device.as_mut_slice(), address);
@@ -51,13 +54,11 @@ impl Outer {
     }
 }
 
-ghost use Rattle.std.specs.Prelude.{◌≡◌};
-ghost use Rattle.outer_lane.specs.Setting.{setting_of};
-ghost use Rattle.outer_lane.specs.Device.{is_owned};
+ghost use Rattle.std.specs.Prelude.{◌≡◌, ◌/◌, ◌^◌, ◌==◌, ◌&&◌};
 
 /// The device owns an address that may be its own.
-fn is_owned<X: Device>(world: &World<'_, X>, address: u32) -> bool
-    ensures { result ≡ is_owned (setting_of world.now.script.now (X.meaning world.now.device.now) world.now.limit) address }
+fn may_own<X: Device>(world: &World<'_, X>, address: u32) -> bool
+    ensures { result ≡ (address / 2 ^ 28 == 4 && (X.meaning world.now.device.now).covers address) }
 {
     address / 0x1000_0000 == 4 && world.device.owns(address)
 }
