@@ -4,10 +4,7 @@ use Rattle.std.proofs.lemmas.Grind.{common_steps}
 use Rattle.std.proofs.lemmas.Bool.Decides.{nat_tests}
 use Rattle.rp_timer.specs.State.{TimerState}
 use Rattle.rp_timer.specs.Step.{is_tick, risen, after_step}
-use Rattle.rp_timer.specs.Law.{after_cycles, TimeCountsMicroseconds, TheTimeReadsAsOne}
-
-pub the_time_reads_as_one : TheTimeReadsAsOne
-the_time_reads_as_one = λ s h. record { low = refl; high = refl; whole = omega arith }
+use Rattle.rp_timer.specs.Law.{after_cycles, TimeCountsMicroseconds}
 
 paused-step : (c : ℕ) (s : TimerState) (b : Bool) → (cond b (risen s) s).paused ≡ s.paused
 paused-step c s true = refl

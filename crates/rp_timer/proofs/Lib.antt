@@ -1,2 +1,3 @@
 mod Alarms
 mod Count
+mod Latched

@@ -1,12 +1,13 @@
 -- What a read and a write do to the timer (RP2040 Datasheet, 4.6.2, Counter, 4.6.3, Alarms, and 4.6.5, List of Registers).
-use Rattle.std.specs.Prelude.{ℕ, ◌+◌, ◌-◌, ◌*◌, ◌%◌, ◌^◌, ◌==◌, if◌then◌else◌, Option, Some, None, bit_and, bit_or, slice_set}
+use Rattle.std.specs.Prelude.{ℕ, ◌+◌, ◌*◌, ◌%◌, ◌^◌, ◌==◌, if◌then◌else◌, Option, Some, None, bit_or, slice_set}
+use Rattle.rp_timer.specs.declared.registers.TheConstants.{TIMEHW, TIMELW, TIMELR, ARMED, DBGPAUSE, PAUSE, INTR, INTE, INTF}
 use Rattle.rp_timer.specs.State.{TimerState, high_of}
 use Rattle.word_bits.specs.Word.{has_bit, minus}
 use Rattle.rp_timer.specs.Words.{is_alarm, alarm_number}
 
 -- a read of TIMELR latches the high word for TIMEHR
 abbrev pub after_read : ℕ → TimerState → TimerState
-after_read offset s = if offset == 0x0C then record s { high = high_of s.time } else s
+after_read offset s = if offset == TIMELR then record s { high = high_of s.time } else s
 
 -- a write of an alarm arms it
 abbrev pub alarm_written : ℕ → ℕ → TimerState → TimerState
@@ -15,14 +16,14 @@ alarm_written n w s = record s { alarms = slice_set s.alarms n w; armed = bit_or
 -- TIMEHW sets the time, its low word to what was written to TIMELW; a 1 written to ARMED disarms, and one to INTR clears
 abbrev pub control_written : ℕ → ℕ → TimerState → TimerState
 control_written offset w s =
-    if offset == 0x00 then record s { time = w * 2 ^ 32 + s.low } else
-    if offset == 0x04 then record s { low = w } else
-    if offset == 0x20 then record s { armed = minus s.armed w } else
-    if offset == 0x2C then record s { debug_pause = w } else
-    if offset == 0x30 then record s { paused = has_bit w 0 } else
-    if offset == 0x34 then record s { raised = minus s.raised w } else
-    if offset == 0x38 then record s { enabled = w % 2 ^ 4 } else
-    if offset == 0x3C then record s { forced = w % 2 ^ 4 } else s
+    if offset == TIMEHW then record s { time = w * 2 ^ 32 + s.low } else
+    if offset == TIMELW then record s { low = w } else
+    if offset == ARMED then record s { armed = minus s.armed w } else
+    if offset == DBGPAUSE then record s { debug_pause = w } else
+    if offset == PAUSE then record s { paused = has_bit w 0 } else
+    if offset == INTR then record s { raised = minus s.raised w } else
+    if offset == INTE then record s { enabled = w % 2 ^ 4 } else
+    if offset == INTF then record s { forced = w % 2 ^ 4 } else s
 
 abbrev pub after_write : ℕ → ℕ → TimerState → TimerState
 after_write offset w s =

@@ -1,15 +1,21 @@
 //! The laws of the timer, each the contract of a function without arguments.
 
-ghost use Rattle.rp_timer.specs.Law.{TimeCountsMicroseconds, TheTimeReadsAsOne, AnAlarmGoesOffOnce};
+ghost use Rattle.rp_timer.specs.Law.{TimeCountsMicroseconds, TheTimeReadsAsOne, ACarryTearsTheRead, AnAlarmGoesOffOnce};
 
 /// A timer that is not paused counts the microseconds that end, of 125 cycles each.
 pub fn time_counts_microseconds()
     ensures { TimeCountsMicroseconds }
 {}
 
-/// TIMELR, and TIMEHR after it, are the two words of one time.
+/// TIMELR, and TIMEHR any number of cycles after it, are the two words of one time, unless the high word rises in the cycle in
+/// which TIMELR is read.
 pub fn the_time_reads_as_one()
     ensures { TheTimeReadsAsOne }
+{}
+
+/// Where the high word rises in the cycle in which TIMELR is read, the low word is ffffffff and TIMEHR has the next high word.
+pub fn a_carry_tears_the_read()
+    ensures { ACarryTearsTheRead }
 {}
 
 /// An armed alarm sets its interrupt when the low word of the time passes its word, and is armed until then.

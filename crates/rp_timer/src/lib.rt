@@ -10,9 +10,14 @@ ghost use Rattle.rp_timer.specs.Changes.{after_read, alarm_written, control_writ
 ghost use Rattle.rp_timer.specs.Step.{is_due, due_of, alarmed, risen, after_step};
 
 pub mod laws;
+pub mod registers;
 #[cfg(test)]
 mod tests;
 
+use registers::{
+    ALARM0, ALARM3, ARMED, DBGPAUSE, INTE, INTF, INTR, INTS, PAUSE, TIMEHR, TIMEHW, TIMELR, TIMELW,
+    TIMERAWH, TIMERAWL,
+};
 use std::marker::Model;
 
 /// The timer (RP2040 Datasheet, 4.6).
@@ -86,14 +91,14 @@ impl Timer {
         ensures { result ≡ word_of offset self.now }
     {
         match offset {
-            0x10..0x20 => self.read_alarm(offset),
-            0x20 => Some(self.armed),
-            0x2c => Some(self.debug_pause),
-            0x30 => Some(u32::from(self.paused)),
-            0x34 => Some(self.raised),
-            0x38 => Some(self.enabled),
-            0x3c => Some(self.forced),
-            0x40 => Some(self.lines()),
+            ALARM0..=ALARM3 => self.read_alarm(offset),
+            ARMED => Some(self.armed),
+            DBGPAUSE => Some(self.debug_pause),
+            PAUSE => Some(u32::from(self.paused)),
+            INTR => Some(self.raised),
+            INTE => Some(self.enabled),
+            INTF => Some(self.forced),
+            INTS => Some(self.lines()),
             _ => self.read_time(offset),
         }
     }
@@ -103,10 +108,10 @@ impl Timer {
         ensures { result ≡ time_word offset self.now }
     {
         match offset {
-            0x00 | 0x04 => Some(0),
-            0x08 => Some(self.high),
-            0x24 => Some(high_of(self.time)),
-            0x0c | 0x28 => Some(low_of(self.time)),
+            TIMEHW | TIMELW => Some(0),
+            TIMEHR => Some(self.high),
+            TIMERAWH => Some(high_of(self.time)),
+            TIMELR | TIMERAWL => Some(low_of(self.time)),
             _ => None,
         }
     }
@@ -148,7 +153,7 @@ impl Timer {
     fn after_read(&mut self, offset: u16)
         ensures { self.new ≡ after_read offset self.old }
     {
-        if offset == 0x0c {
+        if offset == TIMELR {
             self.high = high_of(self.time);
         }
     }
@@ -171,14 +176,14 @@ impl Timer {
         ensures { self.new ≡ control_written offset word self.old }
     {
         match offset {
-            0x00 => self.time = u64::from(word) * 0x1_0000_0000 + u64::from(self.low),
-            0x04 => self.low = word,
-            0x20 => self.armed &= !word,
-            0x2c => self.debug_pause = word,
-            0x30 => self.paused = word & 1 == 1,
-            0x34 => self.raised &= !word,
-            0x38 => self.enabled = word & 0xf,
-            0x3c => self.forced = word & 0xf,
+            TIMEHW => self.time = u64::from(word) * 0x1_0000_0000 + u64::from(self.low),
+            TIMELW => self.low = word,
+            ARMED => self.armed &= !word,
+            DBGPAUSE => self.debug_pause = word,
+            PAUSE => self.paused = word & 1 == 1,
+            INTR => self.raised &= !word,
+            INTE => self.enabled = word & 0xf,
+            INTF => self.forced = word & 0xf,
             _ => {}
         }
     }
@@ -250,7 +255,7 @@ fn high_of(time: u64) -> u32
 fn is_alarm(offset: u16) -> bool
     ensures { result ≡ is_alarm offset }
 {
-    0x10 <= offset && offset <= 0x1c && offset % 4 == 0
+    ALARM0 <= offset && offset <= ALARM3 && offset % 4 == 0
 }
 
 /// The number of the alarm at an offset.
@@ -259,5 +264,5 @@ fn alarm_number(offset: u16) -> usize
     ensures value { result ≡ alarm_number offset }
     ensures range { result < 4 }
 {
-    (offset as usize - 0x10) / 4
+    (offset as usize - ALARM0 as usize) / 4
 }

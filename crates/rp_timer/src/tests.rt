@@ -1,75 +1,80 @@
-//! Words as the datasheet gives them, and alarms over a few microseconds.
+//! Words as the datasheet gives them, and the latch, two alarms and the pause over a few microseconds.
 
 use crate::Timer;
+use crate::registers::{
+    ALARM0, ALARM2, ALARM3, ARMED, DBGPAUSE, INTE, INTF, INTR, INTS, PAUSE, TIMEHR, TIMEHW, TIMELR,
+    TIMELW, TIMERAWH, TIMERAWL,
+};
 
-/// Offsets, what is written there, and what is read after.
-const WORDS: [(u16, u32, u32); 16] = [
-    (0x04, 0xffff_fffe, 0),
-    (0x00, 0x0000_0001, 0),
-    (0x08, 0xffff_ffff, 0),
-    (0x0c, 0x0000_0000, 0xffff_fffe),
-    (0x24, 0x0000_0000, 1),
-    (0x28, 0x0000_0000, 0xffff_fffe),
-    (0x10, 0x1234_5678, 0x1234_5678),
-    (0x1c, 0x9abc_def0, 0x9abc_def0),
-    (0x20, 0x0000_0000, 9),
-    (0x20, 0xffff_fff1, 8),
-    (0x2c, 0xffff_ffff, 0xffff_ffff),
-    (0x30, 0xffff_fffe, 0),
-    (0x34, 0xffff_ffff, 0),
-    (0x38, 0xffff_ffff, 0xf),
-    (0x3c, 0xffff_fff2, 2),
-    (0x40, 0xffff_ffff, 2),
+/// Before which cycle an access is made, its register, what is written if it is a write, and what is read after it.
+const ACCESSES: [(u64, u16, Option<u32>, u32); 32] = [
+    (0, TIMELW, Some(0xffff_fffe), 0),
+    (0, TIMEHW, Some(0x0000_0001), 0),
+    (0, TIMEHR, Some(0xffff_ffff), 0),
+    (0, TIMELR, Some(0x0000_0000), 0xffff_fffe),
+    (0, TIMERAWH, Some(0x0000_0000), 1),
+    (0, TIMERAWL, Some(0x0000_0000), 0xffff_fffe),
+    (0, ALARM0, Some(0x1234_5678), 0x1234_5678),
+    (0, ALARM3, Some(0x9abc_def0), 0x9abc_def0),
+    (0, ARMED, Some(0x0000_0000), 9),
+    (0, ARMED, Some(0xffff_fff1), 8),
+    (0, DBGPAUSE, Some(0xffff_ffff), 0xffff_ffff),
+    (0, PAUSE, Some(0xffff_fffe), 0),
+    (0, INTR, Some(0xffff_ffff), 0),
+    (0, INTE, Some(0xffff_ffff), 0xf),
+    (0, INTF, Some(0xffff_fff2), 2),
+    (0, INTS, Some(0xffff_ffff), 2),
+    (0, INTF, Some(0x0000_0000), 0),
+    // alarm 0 has the low word that stands now, and alarm 2 the one of three microseconds later
+    (0, ALARM0, Some(0xffff_fffe), 0xffff_fffe),
+    (0, ALARM2, Some(0x0000_0001), 1),
+    (0, ARMED, None, 13),
+    (124, TIMERAWL, None, 0xffff_fffe),
+    (125, TIMELR, None, 0xffff_ffff),
+    (250, TIMERAWL, None, 0),
+    (250, TIMERAWH, None, 2),
+    (250, TIMEHR, None, 1),
+    (374, INTS, None, 0),
+    (375, INTS, None, 4),
+    (375, ARMED, None, 9),
+    (375, INTE, Some(0x0000_000b), 11),
+    (375, INTS, None, 0),
+    (375, PAUSE, Some(0x0000_0001), 1),
+    (500, TIMERAWL, None, 1),
 ];
 
 /// Offsets of no word.
 const MISSING: [u16; 5] = [0x02, 0x11, 0x1e, 0x44, 0x100];
 
 #[test]
-fn words(rt: HostRuntime) {
+fn accesses(rt: HostRuntime) {
     let mut timer = Timer::new();
-    for (offset, written, read) in WORDS {
-        assert!(rt; timer.allows(offset, Some(written)), "{offset:x}");
-        assert!(rt; timer.effect(offset, Some(written)), "{offset:x}");
-        assert_eq!(rt; timer.read(offset), Some(read), "{offset:x}");
-    }
-    for offset in MISSING {
-        assert_eq!(rt; timer.read(offset), None, "{offset:x}");
+    let mut next = 0;
+    for (cycle, offset, write, read) in ACCESSES {
+        for number in next..cycle {
+            timer.step(number);
+        }
+        next = cycle;
+        let allowed = timer.allows(offset, write);
+        let done = timer.effect(offset, write);
+        let word = timer.read(offset);
         assert!(rt;
-            !timer.allows(offset, None) && !timer.effect(offset, Some(1)),
+            allowed && done && word == Some(read),
+            "{cycle} {offset:x} {word:?}"
+        );
+    }
+    assert_eq!(rt; timer.lines(), 0);
+}
+
+#[test]
+fn missing(rt: HostRuntime) {
+    let mut timer = Timer::new();
+    for offset in MISSING {
+        let allowed = timer.allows(offset, None);
+        let done = timer.effect(offset, Some(1));
+        assert!(rt;
+            !allowed && !done && timer.read(offset).is_none(),
             "{offset:x}"
         );
     }
-}
-
-#[test]
-fn the_high_word_is_latched(rt: HostRuntime) {
-    let mut timer = Timer::new();
-    assert!(rt; timer.effect(0x04, Some(0xffff_ffff)) && timer.effect(0x00, Some(6)));
-    assert_eq!(rt; timer.read(0x0c), Some(0xffff_ffff));
-    assert!(rt; timer.effect(0x0c, None));
-    timer.step(124);
-    assert_eq!(rt; timer.read(0x08), Some(6));
-    assert_eq!(rt; timer.read(0x24), Some(7));
-    assert_eq!(rt; timer.read(0x28), Some(0));
-}
-
-#[test]
-fn alarms_and_pause(rt: HostRuntime) {
-    let mut timer = Timer::new();
-    // alarm 2 is due at 3 microseconds, alarm 0 is disarmed before it is due
-    assert!(rt; timer.effect(0x18, Some(3)) && timer.effect(0x10, Some(2)));
-    assert!(rt; timer.effect(0x20, Some(1)) && timer.effect(0x38, Some(4)));
-    for cycle in 0..374 {
-        timer.step(cycle);
-        assert_eq!(rt; timer.lines(), 0, "cycle {cycle}");
-    }
-    assert_eq!(rt; timer.read(0x28), Some(2));
-    timer.step(374);
-    assert_eq!(rt; timer.lines(), 4);
-    assert_eq!(rt; timer.read(0x20), Some(0));
-    assert!(rt; timer.effect(0x34, Some(4)) && timer.effect(0x30, Some(1)));
-    assert_eq!(rt; timer.lines(), 0);
-    timer.step(499);
-    assert_eq!(rt; timer.read(0x28), Some(3));
 }
