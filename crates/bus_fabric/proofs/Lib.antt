@@ -1,1 +1,4 @@
+pub mod Alone
 pub mod Arbitration
+pub mod Fairness
+pub mod Remembering

@@ -1,4 +1,6 @@
+pub mod Alone
 pub mod Grant
 pub mod Laws
 pub mod Masters
 pub mod State
+pub mod Winners

@@ -1,7 +1,8 @@
 -- What the bus fabric keeps from cycle to cycle (RP2040 Datasheet, 2.1.1.1 "Bus Priority", 2.1.3 "APB Bridge" and 2.1.5 "List
 -- of Registers", BUS_PRIORITY).
-use Rattle.std.specs.Prelude.{ℕ, Bool, is_some, bit_and, Option, Some, None}
+use Rattle.std.specs.Prelude.{ℕ, Bool, is_some, bit_and, List, replicate, slice_set, slice_index_or, Option, Some, None}
 use Rattle.rp_base.specs.declared.Master.{Master}
+use Rattle.rp_base.specs.declared.Master.TheVariants.{DmaWrite}
 use Rattle.bus_fabric.specs.declared.Hold.{Hold}
 
 pub record Crossbar : Type 0 where
@@ -9,9 +10,11 @@ pub record Crossbar : Type 0 where
   pub hold : Option Hold
   -- BUS_PRIORITY
   pub priority : ℕ
+  -- of each of the eight ports the master that won it last, port 0 first
+  pub last : List Master
 
 abbrev pub at_reset : Crossbar
-at_reset = record { hold = None; priority = 0 }
+at_reset = record { hold = None; priority = 0; last = replicate 8 DmaWrite }
 
 abbrev pub has_hold : Crossbar → Bool
 has_hold s = is_some s.hold
@@ -23,3 +26,11 @@ holder_of (Some hold) = hold.holder
 -- BUS_PRIORITY keeps the bits of the four masters
 abbrev pub with_priority : ℕ → Crossbar → Crossbar
 with_priority bits s = record s { priority = bit_and bits 0x1111 }
+
+-- the master that a port remembers
+abbrev pub last_on : ℕ → Crossbar → Master
+last_on port s = slice_index_or s.last port DmaWrite
+
+-- a port remembers another master
+abbrev pub served : ℕ → Master → Crossbar → Crossbar
+served port m s = record s { last = slice_set s.last port m }

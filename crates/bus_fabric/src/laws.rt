@@ -1,7 +1,19 @@
-//! The law of arbitration, as the contract of a function without arguments.
-ghost use Rattle.bus_fabric.specs.Laws.{ArbitrationLaw};
+//! The laws of arbitration, each the contract of a function without arguments.
+ghost use Rattle.bus_fabric.specs.Laws.{RoundLaw, ArbitrationLaw, FairnessLaw};
 
-/// On each port at most one master wins, it is beaten by no master that asks, and where a master asks, one wins.
+/// The distance of a master is from 1 to 4, and so many steps in the round arrive at it.
+pub fn goes_round()
+    ensures { RoundLaw }
+{}
+
+/// On each port at most one master wins, it asks, it is beaten by no master that asks, and where a master asks, one wins.
+/// The master that won last does not win again where another one of its priority asks.
 pub fn arbitrates()
     ensures { ArbitrationLaw }
+{}
+
+/// A port that has a winner remembers it. On a port of SRAM or AHB-Lite a master whose access was done is not served in
+/// the next cycle, where another one of its priority waits then.
+pub fn takes_turns()
+    ensures { FairnessLaw }
 {}

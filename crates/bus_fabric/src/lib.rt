@@ -2,7 +2,8 @@
 #![tactic(auto)]
 
 ghost use Rattle.std.specs.Prelude.{◌≡◌, ◌<◌, false};
-ghost use Rattle.bus_fabric.specs.Masters.{number_of, asks_on, access_of, HavePorts};
+ghost use Rattle.bus_fabric.specs.Masters.{number_of, distance, asks_on, access_of, HavePorts};
+ghost use Rattle.bus_fabric.specs.Winners.{remembered};
 ghost use Rattle.bus_fabric.specs.Grant.{beats, is_high, is_last, is_master, cycles_left, hold_of, kept_holder, shortened};
 
 pub mod laws;
@@ -32,31 +33,38 @@ pub struct Hold {
 pub struct Fabric {
     hold: Option<Hold>,
     priority: u32,
+    /// Of each port the master that won it last.
+    last: [Master; 8],
 }
 
 impl Model for Fabric {
     ghost use Rattle.bus_fabric.specs.State.{Crossbar};
+    ghost use Rattle.std.specs.Prelude.{◌≡◌, length};
 
     ghost Value = { Crossbar };
 
-    ghost view = { λ fabric. record { hold = fabric.hold; priority = fabric.priority } };
+    ghost view = { λ fabric. record { hold = fabric.hold; priority = fabric.priority; last = fabric.last } };
 
-    ghost inverse = { λ s. record { hold = s.hold; priority = s.priority } };
+    ghost inverse = { λ s. record { hold = s.hold; priority = s.priority; last = s.last } };
+
+    ghost invariant = { λ fabric. length fabric.last ≡ 8 };
 }
 
 impl Fabric {
-    ghost use Rattle.std.specs.Prelude.{◌≡◌};
-    ghost use Rattle.bus_fabric.specs.Masters.{asks_on, HavePorts};
-    ghost use Rattle.bus_fabric.specs.State.{at_reset, has_hold, holder_of, with_priority};
-    ghost use Rattle.bus_fabric.specs.Grant.{is_high, wins, winner_of, is_served, is_done, done_of, hold_after, after_grant};
+    ghost use Rattle.std.specs.Prelude.{◌≡◌, ◌<◌, ◌&&◌, map, length};
+    ghost use Rattle.bus_fabric.specs.Masters.{masters, asks_on, HavePorts};
+    ghost use Rattle.bus_fabric.specs.State.{at_reset, has_hold, holder_of, with_priority, last_on, served};
+    ghost use Rattle.bus_fabric.specs.Grant.{is_high, wins, winner_of, winner_on, is_free, is_served, is_done, done_of, hold_after, last_from, after_grant};
+    ghost use Rattle.bus_fabric.specs.Winners.{has_won};
 
-    /// No hold, and all masters of low priority.
+    /// No hold, all masters of low priority, and each port as if it had served the DMA engine's writes last.
     pub fn new() -> Fabric
         ensures { result ≡ at_reset }
     {
         Fabric {
             hold: None,
             priority: 0,
+            last: [Master::DmaWrite; 8],
         }
     }
 
@@ -68,19 +76,36 @@ impl Fabric {
         ensures done { result ≡ done_of asked.now self.old }
         ensures after { self.new ≡ after_grant asked.now self.old }
     {
-        let done = [
-            self.is_done(asked, Master::Core0),
-            self.is_done(asked, Master::Core1),
-            self.is_done(asked, Master::DmaRead),
-            self.is_done(asked, Master::DmaWrite),
+        let won = [
+            self.has_won(asked, Master::Core0),
+            self.has_won(asked, Master::Core1),
+            self.has_won(asked, Master::DmaRead),
+            self.has_won(asked, Master::DmaWrite),
         ];
+        let done = [
+            self.is_done(asked, Master::Core0, won[0]),
+            self.is_done(asked, Master::Core1, won[1]),
+            self.is_done(asked, Master::DmaRead, won[2]),
+            self.is_done(asked, Master::DmaWrite, won[3]),
+        ];
+        let last = self.last_after(asked, &won);
         self.hold = self.hold_after(asked);
+        self.last = last;
         done
+    }
+
+    /// A port, 0 to 7, has served a master: it remembers that one, and nothing else changes.
+    pub fn served(&mut self, port: u8, master: Master)
+        requires { port < 8 }
+        ensures { self.new ≡ served port master self.old }
+    {
+        self.last[port as usize] = master;
     }
 
     /// A port has a hold.
     pub fn holds(&self) -> bool
-        ensures { result ≡ has_hold self.now }
+        ensures hold { result ≡ has_hold self.now }
+        ensures ports { length self.now.last ≡ 8 }
     {
         self.hold.is_some()
     }
@@ -107,15 +132,34 @@ impl Fabric {
         self.priority = bits & PRIORITIES;
     }
 
-    /// The access of a master is done in this cycle.
-    fn is_done(&self, asked: &[Option<(u8, bool)>; 4], master: Master) -> bool
+    /// The access of a master is done in this cycle; `won` tells that it has won its port.
+    fn is_done(&self, asked: &[Option<(u8, bool)>; 4], master: Master, won: bool) -> bool
+        requires { won ≡ has_won asked.now self.now master }
         ensures { result ≡ is_done asked.now self.now master }
     {
         match asked[number(master)] {
             None => false,
             Some((APB, _)) => self.is_served(master),
-            Some((port, _)) => self.wins(asked, port, master),
+            Some(_) => won,
         }
+    }
+
+    /// A master has won the port that it asks for.
+    fn has_won(&self, asked: &[Option<(u8, bool)>; 4], master: Master) -> bool
+        requires { HavePorts asked.now }
+        ensures { result ≡ has_won asked.now self.now master }
+    {
+        match asked[number(master)] {
+            None => false,
+            Some((port, _)) => self.is_free(port) && self.wins(asked, port, master),
+        }
+    }
+
+    /// A port has no hold.
+    fn is_free(&self, port: u8) -> bool
+        ensures { result ≡ is_free self.now.hold port }
+    {
+        port != APB || self.hold.is_none()
     }
 
     /// The hold ends with the access of a master.
@@ -130,20 +174,35 @@ impl Fabric {
 
     /// A master asks for a port, and no other request on it beats its own.
     fn wins(&self, asked: &[Option<(u8, bool)>; 4], port: u8, master: Master) -> bool
-        ensures { result ≡ wins (is_high self.now.priority) (asks_on asked.now port) master }
+        requires { port < 8 }
+        ensures { result ≡ wins (is_high self.now.priority) (last_on port self.now) (asks_on asked.now port) master }
     {
+        let last = self.last[port as usize];
         asks_on(asked, port, master)
-            && !(asks_on(asked, port, Master::Core0) && beats(self.priority, Master::Core0, master))
-            && !(asks_on(asked, port, Master::Core1) && beats(self.priority, Master::Core1, master))
-            && !(asks_on(asked, port, Master::DmaRead)
-                && beats(self.priority, Master::DmaRead, master))
-            && !(asks_on(asked, port, Master::DmaWrite)
-                && beats(self.priority, Master::DmaWrite, master))
+            && !self.loses(asked, port, last, master, Master::Core0)
+            && !self.loses(asked, port, last, master, Master::Core1)
+            && !self.loses(asked, port, last, master, Master::DmaRead)
+            && !self.loses(asked, port, last, master, Master::DmaWrite)
     }
 
-    /// The winner of a port.
+    /// A request on a port that won `last` beats that of a master.
+    fn loses(
+        &self,
+        asked: &[Option<(u8, bool)>; 4],
+        port: u8,
+        last: Master,
+        master: Master,
+        other: Master,
+    ) -> bool
+        ensures { result ≡ (asks_on asked.now port other && beats (is_high self.now.priority) last other master) }
+    {
+        asks_on(asked, port, other) && beats(self.priority, last, other, master)
+    }
+
+    /// The winner of a port that has no hold.
     fn winner(&self, asked: &[Option<(u8, bool)>; 4], port: u8) -> Option<Master>
-        ensures { result ≡ winner_of (is_high self.now.priority) (asks_on asked.now port) }
+        requires { port < 8 }
+        ensures { result ≡ winner_of (is_high self.now.priority) (last_on port self.now) (asks_on asked.now port) }
     {
         if self.wins(asked, port, Master::Core0) {
             Some(Master::Core0)
@@ -158,9 +217,23 @@ impl Fabric {
         }
     }
 
+    /// What the ports remember after a cycle; `won` tells of each master whether it has won its port.
+    fn last_after(&self, asked: &[Option<(u8, bool)>; 4], won: &[bool; 4]) -> [Master; 8]
+        requires ports { HavePorts asked.now }
+        requires won { won.now ≡ map (has_won asked.now self.now) masters }
+        ensures { result ≡ last_from asked.now self.now 0 self.now.last }
+    {
+        let mut last = self.last;
+        remember(won[3], asked, Master::DmaWrite, &mut last);
+        remember(won[2], asked, Master::DmaRead, &mut last);
+        remember(won[1], asked, Master::Core1, &mut last);
+        remember(won[0], asked, Master::Core0, &mut last);
+        last
+    }
+
     /// The hold after a cycle.
     fn hold_after(&self, asked: &[Option<(u8, bool)>; 4]) -> Option<Hold>
-        ensures { result ≡ hold_after asked.now self.now.priority self.now.hold }
+        ensures { result ≡ hold_after asked.now self.now self.now.hold }
     {
         match self.hold {
             None => hold_of(asked, self.winner(asked, APB)),
@@ -183,6 +256,25 @@ fn number(master: Master) -> usize
     }
 }
 
+/// The number from 1 to 4 of steps in the round of the masters from `last` to another one.
+fn distance(last: Master, master: Master) -> usize
+    ensures { result ≡ distance last master }
+{
+    (number(master) + 3 - number(last)) % 4 + 1
+}
+
+/// The port that a master asks for remembers it where the master has won it.
+fn remember(won: bool, asked: &[Option<(u8, bool)>; 4], master: Master, last: &mut [Master; 8])
+    requires { HavePorts asked.now }
+    ensures { last.new ≡ remembered won (access_of asked.now master) master last.old }
+{
+    if let Some((port, _)) = asked[number(master)] {
+        if won {
+            last[port as usize] = master;
+        }
+    }
+}
+
 /// A master asks for an access on a port.
 fn asks_on(asked: &[Option<(u8, bool)>; 4], port: u8, master: Master) -> bool
     ensures { result ≡ asks_on asked.now port master }
@@ -200,14 +292,14 @@ fn is_high(priority: u32, master: Master) -> bool
     (priority >> (4 * number(master))) & 1 == 1
 }
 
-/// Of two requests on one port the first beats the second.
-fn beats(priority: u32, first: Master, second: Master) -> bool
-    ensures { result ≡ beats (is_high priority) first second }
+/// Of two requests on one port, which `last` won last, the first beats the second.
+fn beats(priority: u32, last: Master, first: Master, second: Master) -> bool
+    ensures { result ≡ beats (is_high priority) last first second }
 {
     match (is_high(priority, first), is_high(priority, second)) {
         (true, false) => true,
         (false, true) => false,
-        _ => number(first) < number(second),
+        _ => distance(last, first) < distance(last, second),
     }
 }
 

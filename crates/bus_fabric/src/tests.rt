@@ -93,6 +93,31 @@ fn lasting(rt: HostRuntime) {
     assert!(rt; fabric.holder() == Some(Master::Core1));
 }
 
+/// Four masters' requests in turn, and whose accesses are done: on a bank of SRAM, whose masters take turns.
+const TURNS: [([Option<(u8, bool)>; 4], [bool; 4]); 8] = [
+    ([R0, R0, R0, W0], [true, false, false, false]),
+    ([R0, R0, R0, W0], [false, true, false, false]),
+    ([R0, R0, R0, W0], [false, false, true, false]),
+    ([R0, R0, R0, W0], [false, false, false, true]),
+    ([R0, R0, R0, W0], [true, false, false, false]),
+    ([None, None, R0, None], [false, false, true, false]),
+    // the bank's last master is the DMA engine's read
+    ([R0, None, None, W0], [false, false, false, true]),
+    ([R0, None, None, None], [true, false, false, false]),
+];
+
+#[test]
+fn turns(rt: HostRuntime) {
+    let mut fabric = Fabric::new();
+    for (asked, done) in TURNS {
+        assert!(rt; fabric.grant(&asked) == done);
+    }
+    fabric.served(0, Master::Core1);
+    fabric.served(3, Master::Core0);
+    let done = fabric.grant(&[R0, R0, R3, W0]);
+    assert!(rt; done == [false, false, true, true]);
+}
+
 #[test]
 fn priorities(rt: HostRuntime) {
     let mut fabric = Fabric::new();

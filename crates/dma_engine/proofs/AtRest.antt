@@ -16,8 +16,8 @@ use Rattle.dma_engine.specs.State.{Engine, idle_channel}
 use Rattle.dma_engine.specs.Asks.{waits_for_counts, write_begun, next_request, asks_read, asks, idle_begun}
 use Rattle.dma_engine.specs.Channels.{in_turn, with_end}
 use Rattle.dma_engine.specs.Choice.{is_candidate, first_in_turn, choice_of}
-use Rattle.dma_engine.specs.Timers.{stepped, given_by, credited, after_timers}
-use Rattle.dma_engine.specs.Cycle.{is_over, after_ends, with_read_by, with_read, after_read, after_write, choice_where_none, after_choice, next, after_read_of, after_write_of}
+use Rattle.dma_engine.specs.Timers.{gets_credit, after_timers}
+use Rattle.dma_engine.specs.Cycle.{is_over, after_ends, with_read_by, with_read, after_read, after_write, choice_where_none, after_choice, after_transfers, next, after_read_of, after_write_of}
 use Rattle.dma_engine.proofs.InTurn.{after_ends-none}
 use Rattle.dma_engine.proofs.Still.{both_left, both_right, not_is, after_timers-still}
 use Rattle.dma_engine.specs.Quiet.{is_idle_channel, stands_still, is_at_rest}
@@ -120,20 +120,20 @@ no_choice_by s (Some n) h = absurd (cc)
 no_choice : (s : Engine) → Rests s → after_choice None s ≡ s
 no_choice s r = no_choice_by s s.chosen r.chosen
 
-timers_at_rest : (s : Engine) → Rests s → after_timers s ≡ s
-timers_at_rest s r = after_timers-still s r.timers
-
-parts_at_rest : (s : Engine) (begun : Doing) (turns : List Turn) → Rests s →
-    after_timers (after_choice (choice_of begun.counts s) (after_write_of begun turns (after_read_of begun turns (after_ends s)))) ≡ s
-parts_at_rest s begun turns r =
+transfers_at_rest : (s : Engine) (begun : Doing) (turns : List Turn) → Rests s → after_transfers s begun turns ≡ s
+unfolding after_transfers
+transfers_at_rest s begun turns r =
     let read : after_read_of begun turns (after_ends s) ≡ s =
     ap (λ e. after_read_of begun turns e) (ends_at_rest s r) ∙ maybe_read_at_rest s _ r in
     let write : after_write_of begun turns (after_read_of begun turns (after_ends s)) ≡ s =
     ap (λ e. after_write_of begun turns e) read ∙ write_at_rest s _ r in
-    let choice : after_choice (choice_of begun.counts s) (after_write_of begun turns (after_read_of begun turns (after_ends s))) ≡ s =
     ap (λ e. after_choice (choice_of begun.counts s) e) write
-    ∙ ap (λ o. after_choice o s) (choice_at_rest s begun.counts r) ∙ no_choice s r in
-    ap (λ e. after_timers e) choice ∙ timers_at_rest s r
+    ∙ ap (λ o. after_choice o s) (choice_at_rest s begun.counts r) ∙ no_choice s r
+
+parts_at_rest : (s : Engine) (begun : Doing) (turns : List Turn) → Rests s →
+    after_timers (gets_credit s) (after_transfers s begun turns) ≡ s
+parts_at_rest s begun turns r =
+    ap (λ e. after_timers (gets_credit s) e) (transfers_at_rest s begun turns r) ∙ after_timers-still s s r.timers r.timers
 
 -- ---- the cycle
 

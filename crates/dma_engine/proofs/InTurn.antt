@@ -2,6 +2,7 @@
 use Rattle.std.proofs.Common.{◌≡◌, ℕ, zero, suc, ◌+◌, ◌<◌, ◌≤◌, Bool, true, false, refl, ap, arith, add-one}
 use Rattle.dma_engine.specs.State.{Engine}
 use Rattle.dma_engine.specs.Channels.{in_turn, with_end}
+use Rattle.dma_engine.specs.Timers.{with_credit, with_stepped_timers, after_timers}
 use Rattle.dma_engine.specs.Cycle.{is_over, after_ends}
 
 pub in_turn-none : (test : ℕ → Bool) (act : ℕ → Engine → Engine) (e : Engine) → in_turn test act 0 e ≡ e
@@ -29,6 +30,18 @@ unfolding in_turn
 in_turn-all_failing test act zero e h = refl
 in_turn-all_failing test act (suc n) e h =
     rw (h n (omega arith)) (in_turn-all_failing test act n e (λ k low. h k (omega arith)))
+
+-- two tests that agree give the same turns
+pub in_turn-same : (test other : ℕ → Bool) (act : ℕ → Engine → Engine) (n : ℕ) (e : Engine) →
+    ((k : ℕ) → k < n → test k ≡ other k) → in_turn test act n e ≡ in_turn other act n e
+unfolding in_turn
+in_turn-same test other act zero e h = refl
+in_turn-same test other act (suc n) e h =
+    rw (h n (omega arith), in_turn-same test other act n e (λ k low. h k (omega arith))) refl
+
+pub after_timers-same : (test other : ℕ → Bool) (e : Engine) → ((k : ℕ) → k < 12 → test k ≡ other k) → after_timers test e ≡ after_timers other e
+unfolding after_timers
+after_timers-same test other e h = in_turn-same test other with_credit 12 (with_stepped_timers e) h
 
 pub after_ends-none : (s : Engine) → ((k : ℕ) → k < 12 → is_over s k ≡ false) → after_ends s ≡ s
 unfolding after_ends

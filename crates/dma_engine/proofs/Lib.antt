@@ -1,9 +1,9 @@
 pub mod AtRest
 pub mod Counting
+pub mod Finishing
 pub mod First
 pub mod Four
 pub mod InTurn
-pub mod Mapped
 pub mod Packing
 pub mod Ring
 pub mod Search

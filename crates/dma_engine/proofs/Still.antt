@@ -1,16 +1,16 @@
 -- Timers that all stand still change nothing.
 use Rattle.std.proofs.Common.{◌≡◌, ℕ, zero, suc, Bool, true, false, not, ◌&&◌, cond, List, [], ◌∷◌, refl, ap, sym, ◌∙◌, get_or}
 use Rattle.std.specs.Prelude.{map}
-use Rattle.std.specs.List.{list_all}
-use Rattle.dma_engine.specs.declared.channel.Channel.{Channel}
+use Rattle.std.specs.List.{list_all, list_any}
 use Rattle.dma_engine.specs.declared.pace.Pace.{Pace}
 use Rattle.dma_engine.specs.declared.pace.Pace.TheVariants as pace
 use Rattle.dma_engine.specs.declared.timer.Timer.{Timer}
-use Rattle.dma_engine.specs.State.{Engine}
+use Rattle.dma_engine.specs.State.{Engine, channel_at}
 use Rattle.dma_engine.specs.Control.{treq_of}
 use Rattle.dma_engine.specs.Choice.{pace_of}
-use Rattle.dma_engine.specs.Timers.{runs, gives, stepped, given_by, is_given, credited, after_timers}
+use Rattle.dma_engine.specs.Timers.{runs, gives, stepped, given_by, is_given, gets_credit, with_credit, with_stepped_timers, after_timers}
 use Rattle.dma_engine.specs.Quiet.{stands_still}
+use Rattle.dma_engine.proofs.InTurn.{in_turn-all_failing}
 
 pub both_left : (a b : Bool) → (a && b) ≡ true → a ≡ true
 both_left true b h = refl
@@ -27,10 +27,6 @@ not_is false h = refl
 both_not : (a b : Bool) → b ≡ false → (a && b) ≡ false
 both_not true b h = h
 both_not false b h = refl
-
-other_of : {A : Type 0} (b : Bool) (x y : A) → b ≡ false → cond b x y ≡ y
-other_of true x y h = absurd (cc)
-other_of false x y h = refl
 
 still : (t : Timer) → stands_still t ≡ true → stepped t ≡ t
 still t h = rw (not_is _ h) refl
@@ -55,18 +51,27 @@ is_given-none given (pace.Receiver place) h = refl
 is_given-none given pace.Always h = refl
 is_given-none given pace.Never h = refl
 
-no_credit : (given : List Bool) (c : Channel) → ((k : ℕ) → get_or given k false ≡ false) → credited given c ≡ c
-no_credit given c h = other_of _ _ c (both_not c.busy _ (is_given-none given (pace_of (treq_of c)) h))
+-- no channel gets a credit
+pub gets_no_credit : (s : Engine) → list_all stands_still s.timers ≡ true → (n : ℕ) → gets_credit s n ≡ false
+gets_no_credit s h n =
+    both_not (channel_at n s).busy _
+    (is_given-none (given_by s.timers) (pace_of (treq_of (channel_at n s))) (λ k. none_given s.timers k h))
 
-credits_still : (given : List Bool) (cs : List Channel) → ((k : ℕ) → get_or given k false ≡ false) → map (credited given) cs ≡ cs
-credits_still given [] h = refl
-credits_still given (c ∷ cs) h = rw (credits_still given cs h) (ap (λ x. x ∷ cs) (no_credit given c h))
-
--- the engine stays as it is
-pub after_timers-still : (e : Engine) → list_all stands_still e.timers ≡ true → after_timers e ≡ e
+-- and the timers stay as they are
+pub after_timers-still : (s e : Engine) → list_all stands_still s.timers ≡ true → list_all stands_still e.timers ≡ true →
+    after_timers (gets_credit s) e ≡ e
 unfolding after_timers
-after_timers-still e h =
-    ap (λ ts. record e { timers = ts; channels = map (credited (given_by e.timers)) e.channels }) (timers_still e.timers h)
-    ∙ ap (λ cs. record e { channels = cs }) (credits_still (given_by e.timers) e.channels (λ k. none_given e.timers k h))
+after_timers-still s e h i =
+    in_turn-all_failing (gets_credit s) with_credit 12 (with_stepped_timers e) (λ k low. gets_no_credit s h k)
+    ∙ ap (λ ts. record e { timers = ts }) (timers_still e.timers i)
 
-pub ruleset stillness = (after_timers-still)
+-- the same of an engine that was opened
+pub all_still : {s e : Engine} → e ≡ s → list_all stands_still e.timers ≡ true → list_all stands_still s.timers ≡ true
+all_still is h = sym (ap (λ (x : Engine). list_all stands_still x.timers) is) ∙ h
+
+-- in a list of falsehoods there is no truth
+pub none_in : (l : List Bool) → list_any (λ b. b) l ≡ false → (k : ℕ) → get_or l k false ≡ false
+none_in [] h k = refl
+none_in (true ∷ l) h k = absurd (cc)
+none_in (false ∷ l) h zero = refl
+none_in (false ∷ l) h (suc k) = none_in l h k

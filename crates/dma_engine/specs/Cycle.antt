@@ -17,7 +17,7 @@ use Rattle.dma_engine.specs.Control.{treq_of}
 use Rattle.dma_engine.specs.Choice.{pace_of, choice_of}
 use Rattle.dma_engine.specs.Channels.{in_turn, changed, with_end}
 use Rattle.dma_engine.specs.Transfer.{moved, write_after}
-use Rattle.dma_engine.specs.Timers.{after_timers}
+use Rattle.dma_engine.specs.Timers.{gets_credit, after_timers}
 use Rattle.dma_engine.specs.State.{Engine, channel_at}
 
 -- ---- wants
@@ -136,9 +136,12 @@ after_read_of begun turns e = after_read (word_read begun.read (word_of (slice_g
 abbrev pub after_write_of : Doing → List Turn → Engine → Engine
 after_write_of begun turns e = after_write (is_written begun.write (word_of (slice_get turns 1))) e
 
--- an engine that is held does not step; which channels are over, and which one is ready, is found at the start
+-- the transfers of a cycle: sequences end, the read and the write are done or wait, and the next channel is chosen
+unfoldable pub after_transfers : Engine → Doing → List Turn → Engine
+after_transfers s begun turns =
+    after_choice (choice_of begun.counts s) (after_write_of begun turns (after_read_of begun turns (after_ends s)))
+
+-- an engine that is held does not step; which channels are over, which one is ready, and which ones get a credit, is found at
+-- the start
 unfoldable pub next : Engine → Doing → List Turn → Engine
-next s begun turns =
-    if s.held then s else
-    after_timers
-    (after_choice (choice_of begun.counts s) (after_write_of begun turns (after_read_of begun turns (after_ends s))))
+next s begun turns = if s.held then s else after_timers (gets_credit s) (after_transfers s begun turns)

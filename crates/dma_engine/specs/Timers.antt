@@ -6,8 +6,9 @@ use Rattle.dma_engine.specs.declared.pace.Pace.{Pace}
 use Rattle.dma_engine.specs.declared.pace.Pace.TheVariants as pace
 use Rattle.dma_engine.specs.declared.timer.Timer.{Timer}
 use Rattle.dma_engine.specs.Control.{treq_of}
+use Rattle.dma_engine.specs.Channels.{changed, in_turn}
 use Rattle.dma_engine.specs.Choice.{pace_of}
-use Rattle.dma_engine.specs.State.{Engine}
+use Rattle.dma_engine.specs.State.{Engine, channel_at}
 
 -- a timer with X or Y 0 stands still
 abbrev pub runs : Timer → Bool
@@ -38,13 +39,23 @@ abbrev pub is_given : List Bool → Pace → Bool
 is_given given (pace.Timer k) = slice_index_or given k false
 is_given given _ = false
 
--- a busy channel gets the credit of its timer, and has at most 63
+-- the channels that were busy at the start of the cycle get the credit of their timer
+abbrev pub gets_credit : Engine → ℕ → Bool
+gets_credit s n = (channel_at n s).busy && is_given (given_by s.timers) (pace_of (treq_of (channel_at n s)))
+
+-- a channel has at most 63
 abbrev pub more_credits : ℕ → ℕ
 more_credits credits = if nat_lt credits 63 then credits + 1 else 63
 
-abbrev pub credited : List Bool → Channel → Channel
-credited given c =
-    if c.busy && is_given given (pace_of (treq_of c)) then record c { credits = more_credits c.credits } else c
+abbrev pub credited : Channel → Channel
+credited c = record c { credits = more_credits c.credits }
 
-unfoldable pub after_timers : Engine → Engine
-after_timers e = record e { timers = map stepped e.timers; channels = map (credited (given_by e.timers)) e.channels }
+abbrev pub with_credit : ℕ → Engine → Engine
+with_credit n e = changed credited n e
+
+abbrev pub with_stepped_timers : Engine → Engine
+with_stepped_timers e = record e { timers = map stepped e.timers }
+
+-- the timers step, and the channels that pass the test get a credit
+unfoldable pub after_timers : (ℕ → Bool) → Engine → Engine
+after_timers test e = in_turn test with_credit 12 (with_stepped_timers e)

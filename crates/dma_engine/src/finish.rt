@@ -1,15 +1,16 @@
 //! How a cycle ends: sequences end, the read and the write are done or wait, the next channel is chosen, and the pacing
 //! timers give their credits.
 
-ghost use Rattle.std.specs.Prelude.{◌≡◌, ◌<◌, length, map, Some};
+ghost use Rattle.std.specs.Prelude.{◌≡◌, ◌<◌, ℕ, false, length, map, slice_index_or, Some};
 ghost use Rattle.std.specs.List.{list_all};
 ghost use Rattle.lane_look.specs.declared.lane.Turn.{Turn};
 ghost use Rattle.dma_engine.specs.Control.{treq_of};
 ghost use Rattle.dma_engine.specs.Choice.{pace_of};
 ghost use Rattle.dma_engine.specs.State.{channel_at};
-ghost use Rattle.dma_engine.specs.Timers.{gives, stepped, given_by, is_given, more_credits, credited, after_timers};
+ghost use Rattle.dma_engine.specs.Timers.{gives, stepped, given_by, is_given, gets_credit, more_credits, credited, with_credit, after_timers};
 ghost use Rattle.dma_engine.specs.Quiet.{is_idle_channel, stands_still, is_at_rest};
-ghost use Rattle.dma_engine.specs.Cycle.{want_of, word_of, word_read, with_data, with_read, is_written, after_write, credits_left, counted, after_choice, next};
+ghost use Rattle.dma_engine.specs.Cycle.{want_of, word_of, word_read, with_data, with_read, is_written, after_write, credits_left, counted, after_choice, after_transfers, next};
+ghost use Rattle.dma_engine.specs.Channels.{in_turn};
 
 use crate::channel::Channel;
 use crate::doing::{Access, Doing};
@@ -91,16 +92,6 @@ fn stepped(timers: &[Timer; 4]) -> [Timer; 4]
     ]
 }
 
-/// Each channel takes the credit of its timer.
-fn take_credits(channels: &mut [Channel; 12], given: &[bool; 4])
-    ensures { channels.new ≡ map (credited given.now) channels.old }
-{
-    for number in 0..CHANNELS {
-        let channel = &mut channels[number as usize];
-        channel.take_credit(given);
-    }
-}
-
 impl Channel {
     /// The credits that are left after a transfer was chosen.
     fn credits_left(&self) -> u8
@@ -131,17 +122,15 @@ impl Channel {
         }
     }
 
-    /// Takes the credit of the channel's timer, where it gives one.
-    fn take_credit(&mut self, given: &[bool; 4])
-        ensures { self.new ≡ credited given.now self.old }
+    /// Takes a credit.
+    fn take_credit(&mut self)
+        ensures { self.new ≡ credited self.old }
     {
-        if self.busy && self.is_given(given) {
-            self.credits = if self.credits < 63 {
-                self.credits + 1
-            } else {
-                63
-            };
-        }
+        self.credits = if self.credits < 63 {
+            self.credits + 1
+        } else {
+            63
+        };
     }
 }
 
@@ -199,17 +188,73 @@ impl Engine {
         }
     }
 
-    /// The pacing timers have their cycle.
-    #[tactic(auto, unfolding(crate::specs::Timers::after_timers), using(crate::proofs::Still::stillness))]
-    fn step_timers(&mut self)
-        ensures { self.new ≡ after_timers self.old }
+    /// A channel gets a credit in this cycle, where these timers give one.
+    fn gets_credit(&self, given: &[bool; 4], number: u8) -> bool
+        requires given { given.now ≡ given_by self.now.timers }
+        requires channel { number < 12 }
+        ensures { result ≡ gets_credit self.now number }
     {
+        let channel = &self.channels[number as usize];
+        channel.busy && channel.is_given(given)
+    }
+
+    /// Which channels get a credit in this cycle.
+    fn credited(&self) -> [bool; 12]
+        ensures { (k : ℕ) → k < 12 → slice_index_or result k false ≡ gets_credit self.now k }
+    {
+        let mut credited = [false; 12];
         if stand_still(&self.timers) {
-            return;
+            return credited;
         }
         let given = given_by(&self.timers);
+        for number in 0..CHANNELS {
+            credited[number as usize] = self.gets_credit(&given, number);
+        }
+        credited
+    }
+
+    /// A channel takes a credit.
+    fn credit(&mut self, number: u8)
+        requires { number < 12 }
+        ensures { self.new ≡ with_credit number self.old }
+    {
+        let channel = &mut self.channels[number as usize];
+        channel.take_credit();
+    }
+
+    /// The channels that were found take their credits.
+    #[tactic(auto, using(crate::proofs::InTurn::in_turn_laws))]
+    fn take_credits(&mut self, credited: &[bool; 12])
+        ensures { self.new ≡ in_turn (λ k. slice_index_or credited.now k false) with_credit 12 self.old }
+    {
+        for number in 0..CHANNELS {
+            if credited[number as usize] {
+                self.credit(number);
+            }
+        }
+    }
+
+    /// The pacing timers have their cycle, in which these channels get a credit.
+    #[tactic(auto, unfolding(crate::specs::Timers::after_timers))]
+    fn step_timers(&mut self, credited: &[bool; 12])
+        ensures { self.new ≡ after_timers (λ k. slice_index_or credited.now k false) self.old }
+    {
         self.timers = stepped(&self.timers);
-        take_credits(&mut self.channels, &given);
+        self.take_credits(credited);
+    }
+
+    /// The transfers have their cycle.
+    #[tactic(auto, unfolding(crate::specs::Cycle::after_transfers))]
+    fn move_on(&mut self, begun: &Doing, turns: &[Turn; 2])
+        ensures { self.new ≡ after_transfers self.old begun.now turns.now }
+    {
+        let choice = self.choice(begun.counts);
+        self.end_sequences();
+        if let Some(word) = word_read(&begun.read, turns[0]) {
+            self.end_read(word);
+        }
+        self.end_write(is_written(&begun.write, turns[1]));
+        self.take_choice(choice);
     }
 
     /// The cycle, where this was begun and these turns were given.
@@ -220,14 +265,9 @@ impl Engine {
         if self.held {
             return;
         }
-        let choice = self.choice(begun.counts);
-        self.end_sequences();
-        if let Some(word) = word_read(&begun.read, turns[0]) {
-            self.end_read(word);
-        }
-        self.end_write(is_written(&begun.write, turns[1]));
-        self.take_choice(choice);
-        self.step_timers();
+        let credited = self.credited();
+        self.move_on(begun, turns);
+        self.step_timers(&credited);
     }
 
     /// Nothing can happen by itself.
