@@ -1,5 +1,5 @@
 -- The choice is found in one pass over the channels in turn, from the first one on.
-use Rattle.std.proofs.Common.{◌≡◌, ℕ, suc, ◌+◌, ◌-◌, ◌%◌, ◌<◌, ◌≤◌, Bool, true, false, not, ◌&&◌, ◌||◌, refl, ap, subst, sym, ◌∙◌, arith, Option, Some, None}
+use Rattle.std.proofs.Common.{◌≡◌, ℕ, suc, ◌+◌, ◌-◌, ◌%◌, ◌<◌, ◌≤◌, Bool, true, false, ◌&&◌, refl, ap, subst, sym, ◌∙◌, arith, Option, Some, None}
 use Rattle.dma_engine.specs.State.{Engine, channel_at}
 use Rattle.dma_engine.specs.Control.{is_high}
 use Rattle.dma_engine.specs.Choice.{is_ready, is_candidate, first_in_turn, next_candidate, or_else, choice_of}

@@ -1,5 +1,5 @@
 -- Timers that all stand still change nothing.
-use Rattle.std.proofs.Common.{◌≡◌, ℕ, zero, suc, Bool, true, false, not, ◌&&◌, cond, List, [], ◌∷◌, refl, ap, sym, ◌∙◌, get_or}
+use Rattle.std.proofs.Common.{◌≡◌, ℕ, zero, suc, Bool, true, false, not, ◌&&◌, List, [], ◌∷◌, refl, ap, sym, ◌∙◌, get_or}
 use Rattle.std.specs.Prelude.{map}
 use Rattle.std.specs.List.{list_all, list_any}
 use Rattle.dma_engine.specs.declared.pace.Pace.{Pace}
@@ -8,7 +8,7 @@ use Rattle.dma_engine.specs.declared.timer.Timer.{Timer}
 use Rattle.dma_engine.specs.State.{Engine, channel_at}
 use Rattle.dma_engine.specs.Control.{treq_of}
 use Rattle.dma_engine.specs.Choice.{pace_of}
-use Rattle.dma_engine.specs.Timers.{runs, gives, stepped, given_by, is_given, gets_credit, with_credit, with_stepped_timers, after_timers}
+use Rattle.dma_engine.specs.Timers.{gives, stepped, given_by, is_given, gets_credit, with_credit, with_stepped_timers, after_timers}
 use Rattle.dma_engine.specs.Quiet.{stands_still}
 use Rattle.dma_engine.proofs.InTurn.{in_turn-all_failing}
 

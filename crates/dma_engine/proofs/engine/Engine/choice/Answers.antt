@@ -1,4 +1,4 @@
-use Rattle.std.proofs.Common.{◌≡◌, ℕ, ◌+◌, ◌%◌, sym, ap, ◌∙◌, refl}
+use Rattle.std.proofs.Common.{◌≡◌, ◌+◌, ◌%◌, sym, ap, ◌∙◌, refl}
 use Rattle.dma_engine.specs.State.{Engine}
 use Rattle.dma_engine.proofs.Search.{passing-none, passing-other_at, passing-candidate_at}
 use Rattle.dma_engine.proofs.engine.Engine.choice.Goals as goal

@@ -1,6 +1,5 @@
-use Rattle.std.proofs.Common.{false, [], ◌∷◌, ◌<◌, ◌≢◌, length, arith, ap, sym, ◌∙◌, refl, get_or-set_other, get_or-set_same, below_more}
+use Rattle.std.proofs.Common.{false, [], ◌∷◌, ◌<◌, ◌≢◌, length, arith, sym, ◌∙◌, refl, get_or-set_other, get_or-set_same, below_more}
 use Rattle.std.proofs.Math.ListN.{length-set}
-use Rattle.dma_engine.specs.State.{Engine}
 use Rattle.dma_engine.proofs.Still.{none_in, gets_no_credit, all_still}
 use Rattle.dma_engine.proofs.engine.Engine.credited.Goals as goal
 
