@@ -3,7 +3,7 @@
 use Rattle.std.specs.Prelude.{ℕ, ◌*◌, ◌/◌, ◌%◌, ◌^◌, ◌==◌, if◌then◌else◌, List, [], Some, bit_and, bit_or, slice_index}
 use Rattle.word_bits.specs.Word.{bit_number}
 use Rattle.pio_machine.specs.declared.machine.Machine1.{Machine1}
-use Rattle.pio_machine.specs.declared.machine.Waiting.TheVariants.{Written}
+use Rattle.pio_machine.specs.Progress.{forced}
 use Rattle.pio_block.specs.State.{is_written}
 
 -- EXEC_STALLED tells that a word that was written to INSTR waits
@@ -31,11 +31,11 @@ joined w m = if m.shiftctrl / 2 ^ 30 == w / 2 ^ 30 then m else record m { tx = [
 abbrev pub with_shiftctrl : ℕ → Machine1 → Machine1
 with_shiftctrl w m = record m { shiftctrl = w / 2 ^ 16 * 2 ^ 16 }
 
--- a word that is written to INSTR waits, in place of one that waited before
+-- a word that is written to INSTR waits, in place of one that waited before, and was not tried yet
 unfoldable pub register_written : ℕ → ℕ → Machine1 → Machine1
 register_written place w m =
     if place == 0x00 then record m { clkdiv = w / 2 ^ 8 * 2 ^ 8 } else
     if place == 0x04 then record m { execctrl = bit_and w execctrl_bits } else
     if place == 0x08 then with_shiftctrl w (joined w m) else
-    if place == 0x10 then record m { waiting = Some (Written (w % 2 ^ 16)) } else
+    if place == 0x10 then record m { waiting = Some (forced (w % 2 ^ 16)) } else
     if place == 0x14 then record m { pinctrl = w } else m

@@ -1,10 +1,9 @@
 -- A PIO block (RP2040 Datasheet, 3.2 and 3.7): four machines, the instruction memory and the interrupt flags that they share,
 -- and the levels and enables of the pins that they have written.
-use Rattle.std.specs.Prelude.{ℕ, zero, suc, ◌+◌, ◌-◌, ◌^◌, Bool, false, true, ◌||◌, List, [], ◌∷◌, Option, Some, bit_and, replicate, slice_index_or}
+use Rattle.std.specs.Prelude.{ℕ, zero, suc, ◌+◌, ◌-◌, ◌^◌, Bool, false, true, ◌||◌, List, [], ◌∷◌, Option, Some, None, bit_and, replicate, slice_index_or}
 use Rattle.std.specs.List.{list_any}
 use Rattle.pio_machine.specs.declared.machine.Machine1.{Machine1}
 use Rattle.pio_machine.specs.declared.machine.Waiting.{Waiting}
-use Rattle.pio_machine.specs.declared.machine.Waiting.TheVariants.{Written}
 use Rattle.pio_machine.specs.Start as machine
 
 pub record Block : Type 0 where
@@ -77,8 +76,8 @@ with_machines ms s = record s { machines = ms }
 
 -- a word that was written to INSTR waits
 abbrev pub is_written : Option Waiting → Bool
-is_written (Some (Written word)) = true
-is_written _ = false
+is_written None = false
+is_written (Some w) = w.forced
 
 abbrev pub is_running : Machine1 → Bool
 is_running m = m.enabled || is_written m.waiting

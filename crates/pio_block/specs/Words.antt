@@ -3,6 +3,7 @@ use Rattle.std.specs.Prelude.{ℕ, ◌+◌, ◌-◌, ◌*◌, ◌/◌, ◌%◌, 
 use Rattle.word_bits.specs.Word.{has_bit}
 use Rattle.pio_machine.specs.Fields.{is_tx_full, tx_depth}
 use Rattle.pio_machine.specs.declared.machine.Machine1.{Machine1}
+use Rattle.pio_machine.specs.Operation.{with_pc}
 use Rattle.pio_block.specs.State.{Block, machine_of, changed, with_machines, without}
 use Rattle.pio_block.specs.Control.{ctrl_of, control_written}
 use Rattle.pio_block.specs.Queues.{bits_of, fstat_of, fdebug_of, flevel_of, is_rx_empty, first_of, debug_written, sent, taken}
@@ -37,14 +38,14 @@ after_fifo offset w s = if nat_lt offset 0x020 then sent (fifo_number offset) w 
 
 -- ---- IRQ, IRQ_FORCE, INPUT_SYNC_BYPASS, DBG_PADOUT, DBG_PADOE, DBG_CFGINFO: 30 to 44
 
--- the last word tells 32 words of instruction memory, four machines and FIFOs of four words
+-- the chip has 30 pins; the last word tells 32 words of instruction memory, four machines and FIFOs of four words
 unfoldable pub pin_word : Block → ℕ → ℕ
 pin_word s offset =
     if offset == 0x030 then s.flags else
     if offset == 0x034 then 0 else
     if offset == 0x038 then s.bypass else
-    if offset == 0x03C then s.levels else
-    if offset == 0x040 then s.enables else 0x00200404
+    if offset == 0x03C then s.levels % 2 ^ 30 else
+    if offset == 0x040 then s.enables % 2 ^ 30 else 0x00200404
 
 unfoldable pub after_pin : ℕ → ℕ → Block → Block
 after_pin offset w s =
@@ -182,8 +183,6 @@ outs_of s = s.levels ∷ s.enables ∷ []
 abbrev pub lines_of : Block → List Bool
 lines_of s = not (ints0_of s == 0) ∷ not (ints1_of s == 0) ∷ []
 
-abbrev pub with_counter : ℕ → Machine1 → Machine1
-with_counter place m = record m { pc = place }
-
+-- the word at the new PC was not tried yet
 abbrev pub counter_set : ℕ → ℕ → Block → Block
-counter_set n place s = with_machines (changed n (with_counter place) s.machines) s
+counter_set n place s = with_machines (changed n (with_pc place) s.machines) s

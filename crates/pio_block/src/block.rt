@@ -29,9 +29,9 @@ impl Model for PioBlock {
 }
 
 impl PioBlock {
-    ghost use Rattle.std.specs.Prelude.{◌≡◌, ◌<◌};
+    ghost use Rattle.std.specs.Prelude.{◌≡◌, ◌<◌, not, IsTrue};
     ghost use Rattle.pio_block.specs.State.{at_reset, with_held, machine_of, is_busy};
-    ghost use Rattle.pio_block.specs.Cycle.{after_cycle};
+    ghost use Rattle.pio_block.specs.Cycle.{after_cycle, Rests};
     ghost use Rattle.pio_block.specs.Words.{word_of, effect_of, is_allowed, pacing_of, register_list, counter_set, outs_of, lines_of};
 
     /// The reset state: no machine is enabled, and all FIFOs are empty.
@@ -124,10 +124,14 @@ impl PioBlock {
         self.busy = self.state.is_busy();
     }
 
-    fn is_busy(&self) -> bool
-        ensures { result ≡ is_busy self.now }
+    /// No machine is enabled, and no written word waits: in a cycle the block asks and wants nothing, and stays as it is.
+    #[inline(always)]
+    #[tactic(auto, unfolding(crate::specs::Cycle::asks, crate::specs::Cycle::next))]
+    pub fn is_idle(&self) -> bool
+        ensures value { result ≡ not (is_busy self.now) }
+        ensures rests { IsTrue result → Rests self.now }
     {
-        self.busy
+        !self.busy
     }
 
     fn take_state(&mut self, other: &PioBlock)
@@ -164,10 +168,10 @@ impl Lane<()> for PioBlock {
 
     #[tactic(auto, unfolding(crate::specs::Cycle::asks))]
     fn begin<K: Look>(&self, _env: &(), _cycle: u64, look: &mut K) -> Option<Inputs> {
-        if self.is_busy() {
-            Some(inputs_of(look.ask(Ask::Inputs)))
-        } else {
+        if self.is_idle() {
             None
+        } else {
+            Some(inputs_of(look.ask(Ask::Inputs)))
         }
     }
 

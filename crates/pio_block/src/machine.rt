@@ -5,32 +5,17 @@ ghost use Rattle.pio_block.specs.State.{is_running, is_written};
 ghost use Rattle.pio_block.specs.Control.{restarted_if, with_divider_restarted, controlled};
 ghost use Rattle.pio_block.specs.Queues.{with_stalls_cleared, with_sent, with_taken};
 ghost use Rattle.pio_block.specs.Registers.{execctrl_of, register_of, joined, register_written};
-ghost use Rattle.word_bits.specs.Word.{has_bit, bit_number};
 
 use pio_machine::{Machine1, Waiting};
-
-/// A bit of a word.
-pub(crate) fn has_bit(word: u32, place: u32) -> bool
-    requires { place < 32 }
-    ensures { result ≡ has_bit word place }
-{
-    (word >> place) & 1 == 1
-}
-
-/// A flag as a number.
-pub(crate) fn one(flag: bool) -> u32
-    ensures { result ≡ bit_number flag }
-{
-    if flag { 1 } else { 0 }
-}
+use word_bits::{bit_number, has_bit};
 
 /// A word that was written to INSTR waits.
 fn is_written(waiting: Option<Waiting>) -> bool
     ensures { result ≡ is_written waiting }
 {
     match waiting {
-        Some(Waiting::Written(_)) => true,
-        _ => false,
+        Some(waiting) => waiting.forced,
+        None => false,
     }
 }
 
@@ -97,7 +82,7 @@ pub(crate) fn take(machine: &mut Machine1)
 fn execctrl(machine: &Machine1) -> u32
     ensures { result ≡ execctrl_of machine.now }
 {
-    machine.execctrl | (one(is_written(machine.waiting)) * 0x8000_0000)
+    machine.execctrl | (bit_number(is_written(machine.waiting)) * 0x8000_0000)
 }
 
 /// A register of the machine, by its place in the machine's 18h bytes.
@@ -138,7 +123,7 @@ pub(crate) fn write_register(machine: &mut Machine1, place: u16, word: u32)
             join(machine, word);
             machine.shiftctrl = word & 0xffff_0000;
         }
-        0x10 => machine.waiting = Some(Waiting::Written((word & 0xffff) as u16)),
+        0x10 => machine.waiting = Some(Waiting::forced((word & 0xffff) as u16)),
         0x14 => machine.pinctrl = word,
         _ => {}
     }

@@ -30,7 +30,7 @@ impl Machines {
     ghost use Rattle.pio_block.specs.Control.{controlled};
     ghost use Rattle.pio_block.specs.Queues.{with_stalls_cleared, with_sent, with_taken};
     ghost use Rattle.pio_block.specs.Registers.{register_written};
-    ghost use Rattle.pio_block.specs.Words.{with_counter};
+    ghost use Rattle.pio_machine.specs.Operation.{with_pc};
     ghost use Rattle.pio_block.specs.Cycle.{all_stepped, written_from};
 
     /// Four machines in their reset state.
@@ -142,13 +142,13 @@ impl Machines {
     /// Sets a program counter.
     pub(crate) fn set_counter(&mut self, number: u8, place: u8)
         requires { number < 4 }
-        ensures { self.new ≡ changed number (with_counter place) self.old }
+        ensures { self.new ≡ changed number (with_pc place) self.old }
     {
         match number {
-            0 => self.first.pc = place,
-            1 => self.second.pc = place,
-            2 => self.third.pc = place,
-            _ => self.fourth.pc = place,
+            0 => self.first.set_pc(place),
+            1 => self.second.set_pc(place),
+            2 => self.third.set_pc(place),
+            _ => self.fourth.set_pc(place),
         }
     }
 

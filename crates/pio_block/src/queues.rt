@@ -7,9 +7,9 @@ ghost use Rattle.pio_block.specs.Queues.{bits_of, is_tx_empty, is_rx_empty, fsta
 ghost use Rattle.pio_block.specs.Words.{has_room, has_words, free_places, words_held, pacing_of};
 ghost use Rattle.pio_machine.specs.Fields.{is_tx_full, is_rx_full};
 
-use crate::machine::one;
 use crate::machines::Machines;
 use pio_machine::Machine1;
+use word_bits::bit_number;
 
 fn is_tx_empty(machine: &Machine1) -> bool
     ensures { result ≡ is_tx_empty machine.now }
@@ -43,7 +43,7 @@ fn four(first: bool, second: bool, third: bool, fourth: bool) -> u32
     ensures value { result ≡ bit_number first + bit_number second * 2 + bit_number third * 4 + bit_number fourth * 8 }
     ensures small { result ≤ 15 }
 {
-    one(first) + one(second) * 2 + one(third) * 4 + one(fourth) * 8
+    bit_number(first) + bit_number(second) * 2 + bit_number(third) * 4 + bit_number(fourth) * 8
 }
 
 impl Machines {

@@ -182,4 +182,11 @@ fn cycles(rt: HostRuntime) {
     step(&mut block, &mut look);
     assert_eq!(rt; block.read(0x0fc), Some(0x0001_f000));
     assert!(rt; block.registers(2) == [31, 0, 0, 0, 0]);
+    assert!(rt; block.is_idle());
+    // set pins, 31 from pin 28 on: the words of the outputs have 30 bits
+    assert!(rt; block.effect(0x0dc, Some(0x1400_0380)) && block.effect(0x0d8, Some(0xe01f)));
+    assert!(rt; !block.is_idle());
+    step(&mut block, &mut look);
+    assert_eq!(rt; block.read(0x03c), Some(0x3000_0001));
+    assert!(rt; block.outs() == [0xf000_0001, 0]);
 }

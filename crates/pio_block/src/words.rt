@@ -3,8 +3,12 @@
 ghost use Rattle.std.specs.Prelude.{◌≡◌, ◌<◌, ◌≤◌, ◌+◌, ◌*◌, ◌^◌};
 ghost use Rattle.pio_block.specs.Words.{fifo_number, is_rxf, register_number, register_place, is_word, sets_left_out, is_allowed};
 
-use crate::machine::{has_bit, register};
+use crate::machine::register;
 use crate::state::State;
+use word_bits::has_bit;
+
+/// The pins of the chip.
+const PINS: u32 = 0x3fff_ffff;
 
 impl State {
     ghost use Rattle.std.specs.Prelude.{◌≡◌, ◌<◌, ◌≤◌, Bool};
@@ -115,8 +119,8 @@ impl State {
             0x030 => u32::from(self.seen.flags),
             0x034 => 0,
             0x038 => self.seen.bypass,
-            0x03c => self.levels,
-            0x040 => self.enables,
+            0x03c => self.levels & PINS,
+            0x040 => self.enables & PINS,
             _ => 0x0020_0404,
         }
     }

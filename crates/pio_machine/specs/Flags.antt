@@ -1,5 +1,5 @@
 -- The interrupt flags: WAIT and IRQ (RP2040 Datasheet, 3.4.3 and 3.4.9).
-use Rattle.std.specs.Prelude.{ℕ, ◌+◌, ◌*◌, ◌/◌, ◌%◌, ◌^◌, Bool, false, true, not, ◌&&◌, if◌then◌else◌, bit_or}
+use Rattle.std.specs.Prelude.{ℕ, ◌+◌, ◌*◌, ◌/◌, ◌%◌, ◌^◌, Bool, false, true, not, if◌then◌else◌, bit_or}
 use Rattle.word_bits.specs.Word.{has_bit}
 use Rattle.pio_words.specs.declared.op.IrqIndex.{IrqIndex}
 use Rattle.pio_words.specs.declared.op.WaitSource.{WaitSource}
@@ -10,6 +10,7 @@ use Rattle.pio_machine.specs.declared.machine.Done.{Done}
 use Rattle.pio_machine.specs.declared.machine.Outcome.{Outcome}
 use Rattle.pio_machine.specs.declared.machine.Outcome.TheVariants.{Stalled, Completed}
 use Rattle.pio_machine.specs.Pins.{input_word, mapped_inputs}
+use Rattle.pio_machine.specs.Progress.{progress_of, with_raised}
 
 -- one of eight flags; a relative index adds the machine's number to its two low bits, modulo 4
 abbrev pub flag_of : IrqIndex → ℕ → ℕ
@@ -51,22 +52,16 @@ written_by_wait polarity source number seen m d =
 -- with Wait the flag is raised once, and then the word stalls until it is clear
 abbrev pub waits_for_clear : Bool → Bool → ℕ → Seen → Machine1 → Bool
 waits_for_clear clear wait flag seen m =
-    if clear then false else if wait then (if m.irq_waiting then has_bit seen.flags flag else true) else false
+    if clear then false else if wait then (if (progress_of m).raised then has_bit seen.flags flag else true) else false
 
 abbrev pub outcome_of_irq : Bool → Bool → ℕ → Seen → Machine1 → Outcome
 outcome_of_irq clear wait flag seen m = if waits_for_clear clear wait flag seen m then Stalled else Completed
 
--- it remembers that it has raised the flag until it completes
-abbrev pub with_irq_waiting : Bool → Machine1 → Machine1
-with_irq_waiting waiting m = record m { irq_waiting = waiting }
-
-abbrev pub remembered : Bool → Bool → Bool → Machine1 → Machine1
-remembered clear wait waits m = if not clear && wait then with_irq_waiting waits m else m
-
+-- while it stalls it has raised the flag
 abbrev pub after_irq : Bool → Bool → ℕ → Seen → Machine1 → Machine1
-after_irq clear wait flag seen m = remembered clear wait (waits_for_clear clear wait flag seen m) m
+after_irq clear wait flag seen m = if waits_for_clear clear wait flag seen m then with_raised m else m
 
 abbrev pub written_by_irq : Bool → Bool → ℕ → Machine1 → Done → Done
 written_by_irq clear wait flag m d =
     if clear then with_clear flag d else
-    if wait then (if m.irq_waiting then d else with_set flag d) else with_set flag d
+    if wait then (if (progress_of m).raised then d else with_set flag d) else with_set flag d

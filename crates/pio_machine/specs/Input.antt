@@ -1,5 +1,5 @@
 -- IN and autopush (RP2040 Datasheet, 3.4.4 and 3.5.4).
-use Rattle.std.specs.Prelude.{ℕ, Bool, true, false, ◌&&◌, nat_le, if◌then◌else◌, min}
+use Rattle.std.specs.Prelude.{ℕ, ◌&&◌, nat_le, if◌then◌else◌, min}
 use Rattle.pio_words.specs.declared.op.InSource.{InSource}
 use Rattle.pio_words.specs.declared.op.InSource.TheVariants.{Pins, X, Y, Null, Isr, Osr}
 use Rattle.pio_machine.specs.declared.machine.Machine1.{Machine1}
@@ -7,6 +7,7 @@ use Rattle.pio_machine.specs.declared.machine.Seen.{Seen}
 use Rattle.pio_machine.specs.Bits.{entered, counted}
 use Rattle.pio_machine.specs.Fields.{in_right, autopush, push_threshold, is_rx_full}
 use Rattle.pio_machine.specs.Pins.{mapped_inputs}
+use Rattle.pio_machine.specs.Progress.{progress_of, with_shifted}
 use Rattle.pio_machine.specs.Queue.{Try, completed, stalled, with_rx_stall, pushed}
 
 abbrev pub in_value : InSource → Seen → Machine1 → ℕ
@@ -27,19 +28,16 @@ shifted_in value count m = record m {
 -- an IN that stalled has shifted already
 abbrev pub shifted_once : InSource → ℕ → Seen → Machine1 → Machine1
 shifted_once source count seen m =
-    if m.in_shifted then m else shifted_in (in_value source seen m) (min count 32) m
-
-abbrev pub with_in_shifted : Bool → Machine1 → Machine1
-with_in_shifted shifted m = record m { in_shifted = shifted }
+    if (progress_of m).shifted then m else shifted_in (in_value source seen m) (min count 32) m
 
 -- autopush: an ISR that reached its threshold is pushed, and waits where the RX FIFO is full
 abbrev pub autopushed : Machine1 → Try
 autopushed m =
     if autopush m && nat_le (push_threshold m) m.isr_count
     then (if is_rx_full m
-    then stalled (with_rx_stall (with_in_shifted true m))
-    else completed (pushed (with_in_shifted false m)))
-    else completed (with_in_shifted false m)
+    then stalled (with_rx_stall (with_shifted m))
+    else completed (pushed m))
+    else completed m
 
 unfoldable pub try_in : InSource → ℕ → Seen → Machine1 → Try
 try_in source count seen m = autopushed (shifted_once source count seen m)

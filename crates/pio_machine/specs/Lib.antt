@@ -1,6 +1,7 @@
 pub mod Fields
 pub mod Bits
 pub mod Pins
+pub mod Progress
 pub mod Start
 pub mod Flags
 pub mod Jump

@@ -1,6 +1,6 @@
 -- A try of an instruction word: its operation, autopull, its side-set, and how it ends (RP2040 Datasheet, 3.4.1, 3.5.1, 3.5.2
 -- and 3.5.4).
-use Rattle.std.specs.Prelude.{ℕ, ◌-◌, ◌/◌, ◌%◌, ◌+◌, ◌^◌, Bool, true, false, not, ◌||◌, ◌==◌, if◌then◌else◌, Some, None}
+use Rattle.std.specs.Prelude.{ℕ, ◌-◌, ◌/◌, ◌%◌, ◌+◌, ◌^◌, Bool, true, false, not, ◌||◌, ◌==◌, if◌then◌else◌, Option, Some, None}
 use Rattle.word_bits.specs.Word.{has_bit}
 use Rattle.pio_words.specs.declared.op.MovDestination.{MovDestination}
 use Rattle.pio_words.specs.declared.op.MovDestination.TheVariants as destination
@@ -9,11 +9,12 @@ use Rattle.pio_words.specs.declared.op.PioOp.TheVariants.{Jmp, Wait, In, Out, Pu
 use Rattle.pio_machine.specs.declared.machine.Machine1.{Machine1}
 use Rattle.pio_machine.specs.declared.machine.Seen.{Seen}
 use Rattle.pio_machine.specs.declared.machine.Done.{Done}
-use Rattle.pio_machine.specs.declared.machine.Waiting.TheVariants.{Executed}
+use Rattle.pio_machine.specs.declared.machine.Waiting.{Waiting}
 use Rattle.pio_machine.specs.declared.machine.Outcome.{Outcome}
 use Rattle.pio_machine.specs.declared.machine.Outcome.TheVariants.{Stalled, Completed, Jumped, Executes}
 use Rattle.pio_machine.specs.Fields.{side_enable, side_pindir, side_count, side_base, wrap_top, wrap_bottom}
 use Rattle.pio_machine.specs.Pins.{with_levels, with_enables}
+use Rattle.pio_machine.specs.Progress.{untried, executed}
 use Rattle.pio_machine.specs.Queue.{Try, completed, try_push, try_pull, refilled}
 use Rattle.pio_machine.specs.Flags.{flag_of, outcome_of_wait, written_by_wait, outcome_of_irq, after_irq, written_by_irq}
 use Rattle.pio_machine.specs.Jump.{after_jmp, outcome_of_jmp}
@@ -97,30 +98,34 @@ with_side word m d =
 
 -- ---- the end
 
--- a fetched word is followed by the one at the next place, that at WRAP_TOP by that at WRAP_BOTTOM (3.5.2); a waiting word
--- is gone
+-- the word at PC is followed by the one at the next place, that at WRAP_TOP by that at WRAP_BOTTOM (3.5.2), which was not
+-- tried yet; a waiting word is gone
 abbrev pub next_place : Machine1 → ℕ
 next_place m = if m.pc == wrap_top m then wrap_bottom m else (m.pc % 32 + 1) % 32
 
-abbrev pub stepped : Bool → Machine1 → Machine1
-stepped fetched m = if fetched then record m { pc = next_place m } else record m { waiting = None }
+-- whoever sets PC, the word there was not tried yet
+abbrev pub with_pc : ℕ → Machine1 → Machine1
+with_pc place m = record m { pc = place; progress = untried }
+
+abbrev pub stepped_past : Option Waiting → Machine1 → Machine1
+stepped_past None m = with_pc (next_place m) m
+stepped_past (Some w) m = record m { waiting = None }
+
+abbrev pub stepped : Machine1 → Machine1
+stepped m = stepped_past m.waiting m
+
+abbrev pub jumped : ℕ → Machine1 → Machine1
+jumped place m = record (with_pc place m) { waiting = None }
 
 abbrev pub with_delay : ℕ → Machine1 → Machine1
 with_delay delay m = record m { delay = delay }
 
--- a word that sets PC ends what IRQ waited for
-abbrev pub jumped : Bool → ℕ → Machine1 → Machine1
-jumped fetched place m =
-    if fetched
-    then record m { pc = place; irq_waiting = false }
-    else record m { pc = place; irq_waiting = false; waiting = None }
-
-abbrev pub with_executed : ℕ → Machine1 → Machine1
-with_executed word m = record m { waiting = Some (Executed word) }
+abbrev pub with_waiting : Waiting → Machine1 → Machine1
+with_waiting w m = record m { waiting = Some w }
 
 -- nothing more happens at a stall; a word that gives another one to be executed sets no delay
-unfoldable pub ended : Bool → ℕ → Outcome → Machine1 → Machine1
-ended fetched delay Stalled m = m
-ended fetched delay Completed m = with_delay delay (stepped fetched m)
-ended fetched delay (Jumped place) m = with_delay delay (jumped fetched place m)
-ended fetched delay (Executes word) m = with_executed word (stepped fetched m)
+unfoldable pub ended : ℕ → Outcome → Machine1 → Machine1
+ended delay Stalled m = m
+ended delay Completed m = with_delay delay (stepped m)
+ended delay (Jumped place) m = with_delay delay (jumped place m)
+ended delay (Executes word) m = with_waiting (executed word) (stepped m)

@@ -2,6 +2,7 @@
 use Rattle.std.specs.Prelude.{false, [], None}
 use Rattle.pio_machine.specs.declared.machine.Machine1.{Machine1}
 use Rattle.pio_machine.specs.declared.machine.Done.{Done}
+use Rattle.pio_machine.specs.Progress.{untried}
 
 -- an empty OSR counts as shifted out by 32 bits
 abbrev pub at_reset : Machine1
@@ -22,15 +23,14 @@ at_reset =
       pc = 0;
       delay = 0;
       waiting = None;
-      irq_waiting = false;
-      in_shifted = false;
+      progress = untried;
       tx = [];
       rx = [];
       tx_stall = false;
       rx_stall = false;
     }
 
--- SM_RESTART: both shift counts, the ISR, the delay, the waiting word, and what IRQ and IN remember
+-- SM_RESTART: both shift counts, the ISR, the delay, the waiting word, and what the word at PC has done
 abbrev pub restarted : Machine1 → Machine1
 restarted m = record m {
   isr = 0;
@@ -38,8 +38,7 @@ restarted m = record m {
   osr_count = 32;
   delay = 0;
   waiting = None;
-  irq_waiting = false;
-  in_shifted = false;
+  progress = untried;
 }
 
 -- a cycle begins with no writes

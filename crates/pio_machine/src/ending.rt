@@ -17,46 +17,43 @@ impl Machine1 {
         }
     }
 
-    /// A fetched word is followed by the next one, and a waiting one is gone.
-    fn step(&mut self, fetched: bool)
-        ensures { self.new ≡ stepped fetched self.old }
+    /// The word at PC is followed by the next one, and a waiting one is gone.
+    fn step(&mut self)
+        ensures { self.new ≡ stepped self.old }
     {
-        if fetched {
-            self.pc = self.next_place();
+        if self.waiting.is_some() {
+            self.waiting = None;
         } else {
-            self.waiting = None;
+            self.set_pc(self.next_place());
         }
     }
 
-    /// Sets PC.
-    fn jump(&mut self, fetched: bool, place: u8)
-        ensures { self.new ≡ jumped fetched place self.old }
+    /// Jumps.
+    fn jump(&mut self, place: u8)
+        ensures { self.new ≡ jumped place self.old }
     {
-        self.pc = place;
-        self.irq_waiting = false;
-        if !fetched {
-            self.waiting = None;
-        }
+        self.set_pc(place);
+        self.waiting = None;
     }
 
-    /// Ends a try of a word, which was fetched or waited.
+    /// Ends a try of the word at PC, or of the one that waits.
     #[tactic(auto, unfolding(crate::specs::Operation::ended))]
-    pub(crate) fn end(&mut self, fetched: bool, delay: u8, outcome: Outcome)
-        ensures { self.new ≡ ended fetched delay outcome self.old }
+    pub(crate) fn end(&mut self, delay: u8, outcome: Outcome)
+        ensures { self.new ≡ ended delay outcome self.old }
     {
         match outcome {
             Outcome::Stalled => {}
             Outcome::Completed => {
-                self.step(fetched);
+                self.step();
                 self.delay = delay;
             }
             Outcome::Jumped(place) => {
-                self.jump(fetched, place);
+                self.jump(place);
                 self.delay = delay;
             }
             Outcome::Executes(word) => {
-                self.step(fetched);
-                self.waiting = Some(Waiting::Executed(word));
+                self.step();
+                self.waiting = Some(Waiting::executed(word));
             }
         }
     }

@@ -1,12 +1,12 @@
 //! WAIT and IRQ.
 
 ghost use Rattle.std.specs.Prelude.{◌≡◌, ◌<◌, ◌^◌};
-ghost use Rattle.pio_machine.specs.Flags.{flag_of, with_set, with_clear, is_high, is_met, outcome_of_wait, cleared_by, written_by_wait, waits_for_clear, outcome_of_irq, remembered, after_irq, written_by_irq};
+ghost use Rattle.pio_machine.specs.Flags.{flag_of, with_set, with_clear, is_high, is_met, outcome_of_wait, cleared_by, written_by_wait, waits_for_clear, outcome_of_irq, after_irq, written_by_irq};
 ghost use Rattle.word_bits.specs.Word.{has_bit};
 
-use crate::fields::has_bit;
 use crate::machine::{Done, Machine1, Outcome, Seen};
 use pio_words::{IrqIndex, WaitSource};
+use word_bits::has_bit;
 
 /// The flag that an index names to the machine of this number.
 pub(crate) fn flag_of(index: IrqIndex, number: u8) -> u8
@@ -25,7 +25,7 @@ fn has_flag(flags: u8, flag: u8) -> bool
     requires { flag < 8 }
     ensures { result ≡ has_bit flags flag }
 {
-    (flags >> flag) & 1 == 1
+    has_bit(u32::from(flags), u32::from(flag))
 }
 
 impl Done {
@@ -103,7 +103,7 @@ impl Machine1 {
         if clear {
             false
         } else if wait {
-            if self.irq_waiting {
+            if self.current_progress().raised {
                 has_flag(seen.flags, flag)
             } else {
                 true
@@ -121,20 +121,11 @@ impl Machine1 {
         if clear {
             done.clear_flag(flag);
         } else if wait {
-            if !self.irq_waiting {
+            if !self.current_progress().raised {
                 done.set_flag(flag);
             }
         } else {
             done.set_flag(flag);
-        }
-    }
-
-    /// What IRQ remembers after a try.
-    fn remember(&mut self, clear: bool, wait: bool, waits: bool)
-        ensures { self.new ≡ remembered clear wait waits self.old }
-    {
-        if !clear && wait {
-            self.irq_waiting = waits;
         }
     }
 
@@ -154,8 +145,8 @@ impl Machine1 {
     {
         self.raise(clear, wait, flag, done);
         let waits = self.waits_for_clear(clear, wait, flag, seen);
-        self.remember(clear, wait, waits);
         if waits {
+            self.keep_raised();
             Outcome::Stalled
         } else {
             Outcome::Completed

@@ -3,9 +3,9 @@
 ghost use Rattle.std.specs.Prelude.{◌≡◌};
 ghost use Rattle.pio_machine.specs.Jump.{is_taken, decremented, after_jmp, outcome_of_jmp};
 
-use crate::fields::has_bit;
 use crate::machine::{Machine1, Outcome, Seen};
 use pio_words::JmpCondition;
+use word_bits::has_bit;
 
 impl Machine1 {
     fn is_taken(&self, condition: JmpCondition, seen: &Seen) -> bool

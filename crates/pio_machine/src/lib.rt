@@ -21,4 +21,4 @@ mod tests;
 
 pub use cycle::tick;
 pub use fifo::Fifo;
-pub use machine::{Done, Machine1, Seen, Waiting};
+pub use machine::{Done, Machine1, Progress, Seen, Waiting};

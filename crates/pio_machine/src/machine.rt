@@ -2,16 +2,29 @@
 
 ghost use Rattle.std.specs.Prelude.{◌≡◌};
 ghost use Rattle.pio_machine.specs.Start.{at_reset, restarted, nothing_done};
+ghost use Rattle.pio_machine.specs.Operation.{with_pc};
+ghost use Rattle.pio_machine.specs.Progress.{untried, forced, executed, progress_of, with_progress, with_raised, with_shifted};
 
 use crate::fifo::Fifo;
 
+/// What a word has done that stalls, and does not do again while it is tried.
+#[derive(Clone, Copy)]
+pub struct Progress {
+    /// IRQ with Wait has raised its flag.
+    pub raised: bool,
+    /// IN has shifted.
+    pub shifted: bool,
+}
+
 /// An instruction word that is tried in place of the one at PC.
 #[derive(Clone, Copy)]
-pub enum Waiting {
-    /// It was written to INSTR, and is tried in each cycle.
-    Written(u16),
-    /// OUT EXEC or MOV EXEC gave it, and it is tried in the next tick.
-    Executed(u16),
+pub struct Waiting {
+    /// The word.
+    pub word: u16,
+    /// It was written to INSTR, and is tried in each cycle; else OUT EXEC or MOV EXEC gave it, and it is tried in each tick.
+    pub forced: bool,
+    /// What it has done already.
+    pub progress: Progress,
 }
 
 /// The state of one machine. A register has its word as the system reads it, but for bits that other state gives
@@ -48,10 +61,8 @@ pub struct Machine1 {
     pub delay: u8,
     /// A word that waits to be tried.
     pub waiting: Option<Waiting>,
-    /// IRQ has raised its flag and waits until that is clear.
-    pub irq_waiting: bool,
-    /// IN has shifted and waits for its autopush.
-    pub in_shifted: bool,
+    /// What the word at PC has done already.
+    pub progress: Progress,
     /// The words from the system.
     pub tx: Fifo,
     /// The words to the system.
@@ -105,15 +116,40 @@ pub(crate) enum Outcome {
     Executes(u16),
 }
 
-/// What a machine does in a cycle.
-#[derive(Clone, Copy)]
-pub(crate) enum Act {
-    /// Nothing.
-    Rest,
-    /// A tick of its delay passes.
-    Delay,
-    /// It tries a word, which was fetched from the instruction memory or waited.
-    Attempt(u16, bool),
+impl Progress {
+    /// That of a word that was not tried yet.
+    pub fn new() -> Progress
+        ensures { result ≡ untried }
+    {
+        Progress {
+            raised: false,
+            shifted: false,
+        }
+    }
+}
+
+impl Waiting {
+    /// A word that was written to INSTR.
+    pub fn forced(word: u16) -> Waiting
+        ensures { result ≡ forced word }
+    {
+        Waiting {
+            word,
+            forced: true,
+            progress: Progress::new(),
+        }
+    }
+
+    /// A word that OUT EXEC or MOV EXEC gave.
+    pub(crate) fn executed(word: u16) -> Waiting
+        ensures { result ≡ executed word }
+    {
+        Waiting {
+            word,
+            forced: false,
+            progress: Progress::new(),
+        }
+    }
 }
 
 impl Machine1 {
@@ -137,8 +173,7 @@ impl Machine1 {
             pc: 0,
             delay: 0,
             waiting: None,
-            irq_waiting: false,
-            in_shifted: false,
+            progress: Progress::new(),
             tx: Fifo::new(),
             rx: Fifo::new(),
             tx_stall: false,
@@ -146,7 +181,7 @@ impl Machine1 {
         }
     }
 
-    /// CTRL.SM_RESTART: clears the ISR, both shift counts, the delay, the waiting word, and what IRQ and IN remember.
+    /// CTRL.SM_RESTART: clears the ISR, both shift counts, the delay, the waiting word, and what the word at PC has done.
     pub fn restart(&mut self)
         ensures { self.new ≡ restarted self.old }
     {
@@ -155,8 +190,60 @@ impl Machine1 {
         self.osr_count = 32;
         self.delay = 0;
         self.waiting = None;
-        self.irq_waiting = false;
-        self.in_shifted = false;
+        self.progress = Progress::new();
+    }
+
+    /// Sets PC, 0 to 31. The word there was not tried yet.
+    pub fn set_pc(&mut self, place: u8)
+        ensures { self.new ≡ with_pc place self.old }
+    {
+        self.pc = place;
+        self.progress = Progress::new();
+    }
+
+    /// What the word has done that is tried now.
+    pub(crate) fn current_progress(&self) -> Progress
+        ensures { result ≡ progress_of self.now }
+    {
+        match self.waiting {
+            Some(waiting) => waiting.progress,
+            None => self.progress,
+        }
+    }
+
+    /// Keeps what the word has done that is tried now.
+    fn keep(&mut self, progress: Progress)
+        ensures { self.new ≡ with_progress progress self.old }
+    {
+        match self.waiting {
+            Some(waiting) => {
+                self.waiting = Some(Waiting {
+                    progress,
+                    ..waiting
+                });
+            }
+            None => self.progress = progress,
+        }
+    }
+
+    /// The word that is tried now has raised its flag.
+    pub(crate) fn keep_raised(&mut self)
+        ensures { self.new ≡ with_raised self.old }
+    {
+        self.keep(Progress {
+            raised: true,
+            ..self.current_progress()
+        });
+    }
+
+    /// The word that is tried now has shifted.
+    pub(crate) fn keep_shifted(&mut self)
+        ensures { self.new ≡ with_shifted self.old }
+    {
+        self.keep(Progress {
+            shifted: true,
+            ..self.current_progress()
+        });
     }
 
     /// Takes the state of another machine.
@@ -178,8 +265,7 @@ impl Machine1 {
         self.pc = other.pc;
         self.delay = other.delay;
         self.waiting = other.waiting;
-        self.irq_waiting = other.irq_waiting;
-        self.in_shifted = other.in_shifted;
+        self.progress = other.progress;
         self.tx.copy_from(&other.tx);
         self.rx.copy_from(&other.rx);
         self.tx_stall = other.tx_stall;

@@ -3,11 +3,11 @@
 ghost use Rattle.std.specs.Prelude.{◌≡◌, ◌<◌, ◌≤◌};
 ghost use Rattle.pio_machine.specs.Operation.{tried, written, loads_osr, with_autopull, side_field, delay_of, side_value, has_side, side_pins, with_side};
 
-use crate::fields::has_bit;
 use crate::flags::flag_of;
 use crate::machine::{Done, Machine1, Outcome, Seen};
 use crate::moves::outcome_of_mov;
 use pio_words::{MovDestination, PioOp};
+use word_bits::has_bit;
 
 /// The operation loads the OSR itself.
 fn loads_osr(op: PioOp) -> bool

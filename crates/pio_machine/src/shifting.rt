@@ -35,7 +35,7 @@ impl Machine1 {
     fn shift_once(&mut self, source: InSource, count: u8, seen: &Seen)
         ensures { self.new ≡ shifted_once source count seen.now self.old }
     {
-        if !self.in_shifted {
+        if !self.current_progress().shifted {
             let value = self.in_value(source, seen);
             self.shift_in(value, count.min(32));
         }
@@ -48,13 +48,12 @@ impl Machine1 {
     {
         if self.autopush() && self.push_threshold() <= self.isr_count {
             if self.is_rx_full() {
-                self.in_shifted = true;
+                self.keep_shifted();
                 self.rx_stall = true;
                 return Outcome::Stalled;
             }
             self.push();
         }
-        self.in_shifted = false;
         Outcome::Completed
     }
 

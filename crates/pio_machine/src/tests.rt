@@ -60,7 +60,7 @@ fn single_words(rt: HostRuntime) {
         machine.isr_count = 8;
         machine.osr = 0x9abc_def0;
         machine.osr_count = 4;
-        machine.waiting = Some(Waiting::Written(word));
+        machine.waiting = Some(Waiting::forced(word));
         let mut done = Done::new();
         tick(&mut machine, 0, &seen, &mut done);
         assert!(rt; machine.waiting.is_none(), "{word:x}");
@@ -138,7 +138,7 @@ fn stalls(rt: HostRuntime) {
         machine.rx.push(9);
     }
     run(&rt, &mut machine, &seen, b"..");
-    assert!(rt; machine.rx_stall && machine.in_shifted);
+    assert!(rt; machine.rx_stall && machine.progress.shifted);
     assert_eq!(rt; machine.isr, 1);
     machine.y = 7;
     assert!(rt; machine.rx.pull() == Some(9));
@@ -185,7 +185,11 @@ fn flags_and_executed_words(rt: HostRuntime) {
         assert_eq!(rt; done.clear, clear, "{pc}");
         assert_eq!(rt; machine.pc, pc);
     }
-    assert!(rt; matches!(machine.waiting, Some(Waiting::Executed(0xe041))));
+    assert!(rt;
+        machine
+            .waiting
+            .is_some_and(|w| w.word == 0xe041 && !w.forced)
+    );
     let mut done = Done::new();
     tick(&mut machine, 3, &seen, &mut done);
     assert_eq!(rt; machine.y, 1);
@@ -226,4 +230,86 @@ fn pins_wrap(rt: HostRuntime) {
     tick(&mut machine, 1, &seen, &mut done);
     assert_eq!(rt; done.enable_mask, 0);
     assert_eq!(rt; machine.pc, 0);
+}
+
+/// A machine that runs from place 0 with autopush at 32 bits to the left, X 7 and Y 3, and whose RX FIFO is full of nines.
+fn full(rt: &impl Abort) -> Machine1 {
+    let mut machine = Machine1::new();
+    machine.enabled = true;
+    machine.shiftctrl = 0x0001_0000;
+    machine.x = 7;
+    machine.y = 3;
+    for level in 0..4 {
+        assert_eq!(rt; machine.rx.level(), level);
+        machine.rx.push(9);
+    }
+    machine
+}
+
+/// Takes a word from the RX FIFO, lets the word that stalls complete, and gives what it pushed.
+fn pushed(rt: &impl Abort, machine: &mut Machine1, seen: &Seen) -> Option<u32> {
+    assert!(rt; machine.rx.pull() == Some(9));
+    run(rt, machine, seen, b".");
+    for _ in 0..3 {
+        assert!(rt; machine.rx.pull() == Some(9));
+    }
+    machine.rx.pull()
+}
+
+// Each word has its own memory of what it did.
+#[test]
+fn memories(rt: HostRuntime) {
+    // in y, 32; at place 5 in x, 8
+    let mut in_y = seen(&[0x4040, 0, 0, 0]);
+    in_y.memory[5] = 0x4028;
+    // a fetched in y, 32 stalls, and a written jmp 5 leads to in x, 8, which shifts
+    let mut machine = full(&rt);
+    run(&rt, &mut machine, &in_y, b"..");
+    assert_eq!(rt; machine.isr, 3);
+    machine.waiting = Some(Waiting::forced(0x0005));
+    run(&rt, &mut machine, &in_y, b"..");
+    assert_eq!(rt; pushed(&rt, &mut machine, &in_y), Some(0x307));
+    // a written in x, 32 in place of a written in y, 32 that stalls shifts itself
+    let mut machine = full(&rt);
+    machine.enabled = false;
+    for (word, isr) in [(0x4040, 3), (0x4020, 7)] {
+        machine.waiting = Some(Waiting::forced(word));
+        run(&rt, &mut machine, &in_y, b"..");
+        assert_eq!(rt; machine.isr, isr);
+    }
+    assert_eq!(rt; pushed(&rt, &mut machine, &in_y), Some(7));
+    // a written in x, 8 over a fetched in y, 32 that stalls shifts once, and the fetched one does not shift again
+    let mut machine = full(&rt);
+    run(&rt, &mut machine, &in_y, b"..");
+    machine.waiting = Some(Waiting::forced(0x4028));
+    run(&rt, &mut machine, &in_y, b"..");
+    assert_eq!(rt; pushed(&rt, &mut machine, &in_y), Some(0x307));
+    run(&rt, &mut machine, &in_y, b".");
+    assert_eq!(rt; machine.pc, 1);
+    assert_eq!(rt; machine.isr, 0);
+}
+
+// A written irq wait 1 over a fetched irq wait 0 that stalls raises flag 1, and flag 0 is not raised again.
+#[test]
+fn memories_of_flags(rt: HostRuntime) {
+    let mut seen = seen(&[0xc020, 0, 0, 0]);
+    let mut machine = Machine1::new();
+    machine.enabled = true;
+    for (flags, written, set) in [
+        (0, None, 1),
+        (1, Some(Waiting::forced(0xc021)), 2),
+        (3, None, 0),
+        (1, None, 0),
+        (1, None, 0),
+        (0, None, 0),
+    ] {
+        if written.is_some() {
+            machine.waiting = written;
+        }
+        let mut done = Done::new();
+        seen.flags = flags;
+        tick(&mut machine, 0, &seen, &mut done);
+        assert_eq!(rt; done.set, set);
+    }
+    assert_eq!(rt; machine.pc, 1);
 }
