@@ -1,4 +1,5 @@
 pub mod Asks
+pub mod Bounds
 pub mod Channels
 pub mod Choice
 pub mod Control

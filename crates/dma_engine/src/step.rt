@@ -85,12 +85,16 @@ impl Dma {
 }
 
 impl Lane<()> for Dma {
+    ghost use Rattle.std.proofs.Common.{rules};
     ghost use Rattle.dma_engine.specs.Asks.{asks};
+    ghost use Rattle.dma_engine.specs.Bounds.{two_at_most, reads_none};
     ghost use Rattle.dma_engine.specs.Cycle.{wanted, next};
 
     type Begun = Doing;
 
     ghost asks = { λ _ s cycle. asks s };
+
+    ghost most = { 2 };
 
     ghost wanted = { wanted };
 
@@ -126,4 +130,10 @@ impl Lane<()> for Dma {
         self.awake = true;
         self.engine.copy_from(&other.engine);
     }
+
+    ghost few = { Prim.search rules };
+
+    ghost asks_at_most = { λ _ s cycle. two_at_most s };
+
+    ghost reads_no_word = { λ _ s begun turns. reads_none s begun turns };
 }

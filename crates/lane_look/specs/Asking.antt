@@ -1,5 +1,5 @@
 -- What a lane asks in a cycle, as an interaction tree.
-use Rattle.std.specs.Prelude.{◌≡◌, ℕ}
+use Rattle.std.specs.Prelude.{◌≡◌, ℕ, zero, suc}
 use Rattle.lane_look.specs.declared.lane.Ask.{Ask}
 
 -- what was begun, once every question is answered; or the next question, and what follows each answer
@@ -17,3 +17,9 @@ Runs {K} answers old (Question ask next) result new =
 abbrev pub answered : {B : Type 0} → (Ask → ℕ) → Asking B → B
 answered f (Ready begun) = begun
 answered f (Question ask next) = answered f (next (f ask))
+
+-- at most so many questions, whatever they are answered
+abbrev pub AsksAtMost : {B : Type 0} → ℕ → Asking B → Type 0
+AsksAtMost count (Ready begun) = Unit {0}
+AsksAtMost zero (Question ask next) = ⊥
+AsksAtMost (suc count) (Question ask next) = (x : ℕ) → AsksAtMost count (next x)

@@ -1,8 +1,9 @@
 //! Questions, wants and turns, and the two traits.
 
-ghost use Rattle.std.specs.Prelude.{◌≡◌, ◌++◌, ◌<◌, ℕ, List, length, Option, IsSome};
+ghost use Rattle.std.specs.Prelude.{◌≡◌, ◌++◌, ◌<◌, ◌≤◌, ℕ, List, length, Option, IsSome};
 ghost use Rattle.std.specs.Option.{option_to_list};
-ghost use Rattle.lane_look.specs.Asking.{Asking, Runs};
+ghost use Rattle.lane_look.specs.Asking.{Asking, AsksAtMost, Runs};
+ghost use Rattle.lane_look.specs.Steps.{without_words};
 ghost use Rattle.lane_look.specs.declared.lane.Ask.{Ask};
 ghost use Rattle.lane_look.specs.declared.lane.Want.{Want};
 ghost use Rattle.lane_look.specs.declared.lane.Turn.{Turn};
@@ -74,6 +75,9 @@ pub trait Lane<E> {
     /// What the lane asks in that cycle, and what it has begun then: environment, state, cycle and answers determine it.
     ghost asks: { E → Self → ℕ → Asking Self.Begun };
 
+    /// How many questions it asks in a cycle at most.
+    ghost most: { ℕ };
+
     /// The two wants of what was begun.
     ghost wanted: { Self.Begun → List Want };
 
@@ -100,4 +104,13 @@ pub trait Lane<E> {
     /// Takes the state of another lane.
     fn copy_from(&mut self, other: &Self)
         ensures { self.new ≡ other.now };
+
+    /// A log of 256 cycles has room for 8 questions in each.
+    ghost few: { most ≤ 8 };
+
+    /// Whatever the answers are, it asks no more.
+    ghost asks_at_most: { (env : E) (state : Self) (cycle : ℕ) → AsksAtMost most (asks env state cycle) };
+
+    /// The step reads no word of the turn of an access to SRAM.
+    ghost reads_no_word: { (env : E) (state : Self) (begun : Self.Begun) (turns : List Turn) → next env state begun (without_words (wanted begun) turns) ≡ next env state begun turns };
 }

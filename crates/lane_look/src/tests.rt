@@ -1,6 +1,7 @@
 //! A lane, a look and a device that are small enough to follow by hand.
 
 ghost use Rattle.std.specs.Prelude.{◌≡◌, ◌+◌, ◌%◌, ◌^◌, ◌==◌, ℕ, [], ◌∷◌, None, Some, length, slice_index, slice_set};
+ghost use Rattle.std.proofs.Common.{refl, rules};
 ghost use Rattle.lane_look.specs.Asking.{Asking, Runs};
 ghost use Rattle.lane_look.specs.Asking.Asking.{Ready, Question};
 
@@ -22,6 +23,8 @@ impl Lane<()> for Copier {
     type Begun = u32;
 
     ghost asks = { λ _ s cycle. Question (Ask.Word s.address) (λ x. Ready (x % 2 ^ 32)) };
+
+    ghost most = { 1 };
 
     ghost wanted = { λ word. Want.Ram (record { address = 0; size = Size.Word; write = Some word }) ∷ Want.Nothing ∷ [] };
 
@@ -49,6 +52,12 @@ impl Lane<()> for Copier {
     fn copy_from(&mut self, other: &Copier) {
         self.address = other.address;
     }
+
+    ghost few = { Prim.search rules };
+
+    ghost asks_at_most = { λ env s cycle x. tt };
+
+    ghost reads_no_word = { λ env s begun turns. refl };
 }
 
 /// A look that answers each question with one more than the one before.

@@ -110,6 +110,7 @@ pub enum Action {
 }
 
 /// What an instruction does.
+#[inline(always)]
 pub fn classify(op: &Op) -> Action
     ensures { result ≡ action_of op.now }
 {

@@ -1,3 +1,4 @@
+pub mod Bounds
 pub mod Cycle
 pub mod Entry
 pub mod Fetch

@@ -89,6 +89,7 @@ impl Core {
     }
 
     /// An access, by the place that it goes to.
+    #[inline(always)]
     fn begin_access<K: Look>(&self, work: Work, request: Request, look: &mut K) -> Act
         ensures { Runs K.answers look.old (at_spot work request self.now (place_of request.address)) result look.new }
     {
@@ -100,6 +101,7 @@ impl Core {
     }
 
     /// A beat.
+    #[inline(always)]
     #[tactic(auto, unfolding(crate::specs::Fetch::asks_beat))]
     fn begin_beat<K: Look>(&self, work: Work, look: &mut K) -> Act
         ensures { Runs K.answers look.old (asks_beat work self.now) result look.new }
@@ -169,6 +171,7 @@ impl Core {
     }
 
     /// The first beat of an instruction, or the stop at it.
+    #[inline(always)]
     #[tactic(auto, unfolding(crate::specs::Fetch::asks_decoded))]
     fn begin_decoded<K: Look>(&self, op: Op, look: &mut K) -> Act
         ensures { Runs K.answers look.old (asks_decoded op self.now) result look.new }
@@ -190,6 +193,7 @@ impl Core {
     }
 
     /// An instruction whose first halfword is this.
+    #[inline(always)]
     #[tactic(auto, unfolding(crate::specs::Fetch::asks_second))]
     fn begin_second<K: Look>(&self, first: u16, look: &mut K) -> Act
         ensures { Runs K.answers look.old (asks_second first self.now) result look.new }
@@ -206,6 +210,7 @@ impl Core {
     }
 
     /// The next instruction.
+    #[inline(always)]
     #[tactic(auto, unfolding(crate::specs::Fetch::asks_first))]
     fn begin_first<K: Look>(&self, look: &mut K) -> Act
         ensures { Runs K.answers look.old (asks_first self.now) result look.new }
@@ -232,6 +237,7 @@ impl Core {
     }
 
     /// The entry to an exception, or the next instruction.
+    #[inline(always)]
     #[tactic(auto, unfolding(crate::specs::Fetch::asks_boundary))]
     fn begin_boundary<K: Look>(&self, look: &mut K) -> Act
         ensures { Runs K.answers look.old (asks_boundary self.now) result look.new }
@@ -243,6 +249,7 @@ impl Core {
     }
 
     /// The next beat of what is in progress.
+    #[inline(always)]
     fn begin_work<K: Look>(&self, work: Work, look: &mut K) -> Act
         ensures { Runs K.answers look.old (asks_work work self.now) result look.new }
     {
@@ -253,6 +260,7 @@ impl Core {
     }
 
     /// The next beat of what is in progress, or what a boundary begins.
+    #[inline(always)]
     #[tactic(auto, unfolding(crate::specs::Fetch::asks_awake))]
     pub(crate) fn begin_awake<K: Look>(&self, look: &mut K) -> Act
         ensures { Runs K.answers look.old (asks_awake self.now) result look.new }

@@ -117,6 +117,7 @@ impl Core {
     }
 
     /// The last beat of an instruction is over.
+    #[inline(always)]
     #[tactic(auto, unfolding(crate::specs::Cycle::ended))]
     fn end(&mut self, op: &Op)
         ensures { self.new ≡ ended op.now self.old }
@@ -131,6 +132,7 @@ impl Core {
     }
 
     /// A beat of an instruction is over.
+    #[inline(always)]
     #[tactic(auto, unfolding(crate::specs::Cycle::passed_instruction))]
     fn pass_instruction(&mut self, op: &Op)
         ensures { self.new ≡ passed_instruction op.now self.old }
@@ -169,6 +171,7 @@ impl Core {
     }
 
     /// A beat is over, and its value was kept.
+    #[inline(always)]
     fn pass_work(&mut self, work: &Work)
         ensures { self.new ≡ passed_work work.now self.old }
     {
@@ -183,6 +186,7 @@ impl Core {
     }
 
     /// A beat is over that may have read a value.
+    #[inline(always)]
     #[tactic(auto, unfolding(crate::specs::Cycle::passed))]
     fn pass(&mut self, work: &Work, value: Option<u32>)
         ensures { self.new ≡ passed work.now value self.old }
@@ -265,6 +269,7 @@ impl Core {
     }
 
     /// The end of what was begun.
+    #[inline(always)]
     pub(crate) fn after(&mut self, act: &Act, word: Option<u32>)
         ensures { self.new ≡ after act.now word self.old }
     {

@@ -1,8 +1,10 @@
 //! The core as a lane of the machine.
 
 ghost use Rattle.std.specs.Prelude.{None};
+ghost use Rattle.std.proofs.Common.{rules};
 ghost use Rattle.m0_core.specs.Fetch.{asks};
 ghost use Rattle.m0_core.specs.Cycle.{wanted, next};
+ghost use Rattle.m0_core.specs.Bounds.{four_at_most, reads_none};
 
 use crate::doing::{Act, Doing};
 use crate::fetch::word_of;
@@ -15,12 +17,15 @@ impl Lane<()> for Core {
 
     ghost asks = { λ _ s cycle. asks s cycle };
 
+    ghost most = { 4 };
+
     ghost wanted = { wanted };
 
     ghost next = { λ _ s begun turns. next s begun turns };
 
     ghost marked = { λ _ s begun turns. None };
 
+    #[inline(always)]
     #[tactic(auto, unfolding(crate::specs::Fetch::asks), using(crate::proofs::Carrying::carrying))]
     fn begin<K: Look>(&self, _env: &(), cycle: u64, look: &mut K) -> Doing {
         if self.is_asleep() {
@@ -35,10 +40,12 @@ impl Lane<()> for Core {
         Doing { act, lines, cycle }
     }
 
+    #[inline(always)]
     fn wants(begun: &Doing) -> [Want; 2] {
         [want(begun), Want::Nothing]
     }
 
+    #[inline(always)]
     #[tactic(auto, unfolding(crate::specs::Cycle::next))]
     fn finish(&mut self, _env: &(), begun: &Doing, turns: [Turn; 2], _marks: &mut Marks) {
         if !is_idle(&begun.act) {
@@ -50,4 +57,10 @@ impl Lane<()> for Core {
     fn copy_from(&mut self, other: &Core) {
         self.take(other);
     }
+
+    ghost few = { Prim.search rules };
+
+    ghost asks_at_most = { λ _ s cycle. four_at_most s cycle };
+
+    ghost reads_no_word = { λ _ s begun turns. reads_none s begun turns };
 }

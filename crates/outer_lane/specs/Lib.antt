@@ -1,3 +1,4 @@
+pub mod Bounds
 pub mod Device
 pub mod Lines
 pub mod Setting

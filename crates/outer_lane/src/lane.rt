@@ -1,7 +1,9 @@
 //! The peripherals as a lane of the machine.
 
 ghost use Rattle.std.specs.Prelude.{◌≡◌, ◌%◌, ◌/◌, ◌^◌, Some};
+ghost use Rattle.std.proofs.Common.{refl, rules};
 ghost use Rattle.lane_look.specs.Asking.{Runs};
+ghost use Rattle.outer_lane.specs.Bounds.{two_at_most};
 ghost use Rattle.outer_lane.specs.Setting.{setting_of};
 ghost use Rattle.outer_lane.specs.Step.{pins_in, asks_second, asks, wanted, next, marked};
 
@@ -50,6 +52,8 @@ impl<X: Device> Lane<World<'_, X>> for Outer {
 
     ghost asks = { λ _ s cycle. asks s cycle };
 
+    ghost most = { 2 };
+
     ghost wanted = { wanted };
 
     ghost next = { λ w s seen turns. next (setting_of w.script.now (X.meaning w.device.now) w.limit) s seen };
@@ -87,4 +91,10 @@ impl<X: Device> Lane<World<'_, X>> for Outer {
     fn copy_from(&mut self, other: &Outer) {
         self.take(other);
     }
+
+    ghost few = { Prim.search rules };
+
+    ghost asks_at_most = { λ _ s cycle. two_at_most s cycle };
+
+    ghost reads_no_word = { λ _ s begun turns. refl };
 }

@@ -4,3 +4,4 @@ pub mod Queues
 pub mod Registers
 pub mod Words
 pub mod Cycle
+pub mod Bounds

@@ -154,11 +154,15 @@ fn inputs_of(answer: u128) -> Inputs
 
 impl Lane<()> for PioBlock {
     ghost use Rattle.std.specs.Prelude.{None};
+    ghost use Rattle.std.proofs.Common.{refl, rules};
     ghost use Rattle.pio_block.specs.Cycle.{asks, wanted, next};
+    ghost use Rattle.pio_block.specs.Bounds.{one_at_most};
 
     type Begun = Option<Inputs>;
 
     ghost asks = { λ _ s cycle. asks s };
+
+    ghost most = { 1 };
 
     ghost wanted = { λ _. wanted };
 
@@ -189,4 +193,10 @@ impl Lane<()> for PioBlock {
     fn copy_from(&mut self, other: &PioBlock) {
         self.take_state(other);
     }
+
+    ghost few = { Prim.search rules };
+
+    ghost asks_at_most = { λ _ s cycle. one_at_most s };
+
+    ghost reads_no_word = { λ _ s begun turns. refl };
 }
