@@ -4,7 +4,7 @@
 
 static struct {
     uint32_t samples[16];
-    volatile uint32_t *sink;
+    volatile uint32_t *volatile sink;
 } state;
 
 static uint32_t cell;

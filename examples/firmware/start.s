@@ -6,5 +6,5 @@
     .global _entry
     .thumb_func
 _entry:
-    bl main             @ .bss is 0 already: SRAM is 0 where nothing was loaded
+    bl main             @ .bss is 0 already: SRAM is 0 where nothing was loaded; what main gives is left in R0
     bkpt #0             @ the run stops here
