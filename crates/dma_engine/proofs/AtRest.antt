@@ -18,7 +18,7 @@ use Rattle.dma_engine.specs.Timers.{gets_credit, after_timers}
 use Rattle.dma_engine.specs.Cycle.{is_over, after_ends, with_read_by, with_read, after_read, after_write, choice_where_none, after_choice, after_transfers, next, after_read_of, after_write_of}
 use Rattle.dma_engine.proofs.InTurn.{after_ends-none}
 use Rattle.dma_engine.proofs.Still.{both_left, both_right, not_is, after_timers-still}
-use Rattle.dma_engine.specs.Quiet.{is_idle_channel, stands_still, is_at_rest}
+use Rattle.dma_engine.specs.Rest.{is_idle_channel, stands_still, is_at_rest, StaysAtRest}
 
 -- ---- what an engine at rest is
 
@@ -168,13 +168,20 @@ asks-at_rest s h =
     let r : Rests s = rests s h in
     either_same s.held (Ready idle_begun) _ (rw (none_waits s.channels r.channels) (reads_nothing s r))
 
--- one of the two
-pub other_is : (awake rest : Bool) → (awake || rest) ≡ true → awake ≡ false → rest ≡ true
-other_is true rest h e = absurd (cc)
-other_is false rest h e = h
+pub stays_at_rest : (s : Engine) → is_at_rest s ≡ true → StaysAtRest s
+stays_at_rest s h = record {
+  asks_nothing = asks-at_rest s h;
+  wants_nothing = refl;
+  stays = λ begun turns. next-at_rest s begun turns h;
+}
+
+-- a flag that tells of rest
+pub told : (flag rest : Bool) → (not flag || rest) ≡ true → flag ≡ true → rest ≡ true
+told true rest h e = h
+told false rest h e = absurd (cc)
 
 pub not_or : (rest : Bool) → (not rest || rest) ≡ true
 not_or true = refl
 not_or false = refl
 
-pub ruleset at_rest = (next-at_rest, asks-at_rest, other_is, not_or)
+pub ruleset at_rest = (next-at_rest, asks-at_rest, stays_at_rest, told, not_or)

@@ -4,13 +4,13 @@ use Rattle.dma_engine.specs.State.{Engine}
 use Rattle.dma_engine.specs.Choice.{is_candidate, first_in_turn, next_candidate, or_else, choice_of}
 use Rattle.dma_engine.specs.Law.{turns_before, IsFirst, IsChoice, TheChoiceComesFirst}
 
--- the place from a on, of so many, at which a test passes for the first time
+-- the steps from a on, of so many, at which a test passes for the first time
 record PassesAt (test : ℕ → Bool) (a left n : ℕ) : Type 0 where
-  place : ℕ
-  within : place < left
-  is : n ≡ (a + place) % 12
+  steps : ℕ
+  within : steps < left
+  is : n ≡ (a + steps) % 12
   passes : test n ≡ true
-  before : (j : ℕ) → j < place → test ((a + j) % 12) ≡ false
+  before : (j : ℕ) → j < steps → test ((a + j) % 12) ≡ false
 
 abbrev IsFound : (ℕ → Bool) → ℕ → ℕ → Option ℕ → Type 0
 IsFound test a left None = (j : ℕ) → j < left → test ((a + j) % 12) ≡ false
@@ -36,11 +36,11 @@ none_later test a left e h j low =
 found_later : (test : ℕ → Bool) (a left n : ℕ) → test (a % 12) ≡ false → PassesAt test (a + 1) left n →
     PassesAt test a (suc left) n
 found_later test a left n e h = record {
-  place = suc h.place;
+  steps = suc h.steps;
   within = omega (arith, h.within);
-  is = let same : a + 1 + h.place ≡ a + suc h.place = omega arith in h.is ∙ ap (λ k. k % 12) same;
+  is = let same : a + 1 + h.steps ≡ a + suc h.steps = omega arith in h.is ∙ ap (λ k. k % 12) same;
   passes = h.passes;
-  before = none_later test a h.place e h.before;
+  before = none_later test a h.steps e h.before;
 }
 
 later : (test : ℕ → Bool) (a left : ℕ) (o : Option ℕ) → test (a % 12) ≡ false → IsFound test (a + 1) left o →
@@ -50,7 +50,7 @@ later test a left (Some n) e h = found_later test a left n e h
 
 found_here : (test : ℕ → Bool) (a left : ℕ) → test (a % 12) ≡ true → PassesAt test a (suc left) (a % 12)
 found_here test a left e = record {
-  place = 0;
+  steps = 0;
   within = omega arith;
   is = let same : a ≡ a + 0 = omega arith in ap (λ k. k % 12) same;
   passes = e;
@@ -91,7 +91,7 @@ below_or_not a b = grind arith
 none_before : (test : ℕ → Bool) (last n m : ℕ) → PassesAt test (last + 1) 12 n → m < 12 → test m ≡ true →
     turns_before last n ≤ turns_before last m
 none_before test last n m h low e =
-    let turns : turns_before last n ≡ h.place = ap (λ k. turns_before last k) h.is ∙ turns_of last h.place h.within in
+    let turns : turns_before last n ≡ h.steps = ap (λ k. turns_before last k) h.is ∙ turns_of last h.steps h.within in
     elim (below_or_not (turns_before last n) (turns_before last m)) [
       | inl fine ↦ fine
       | inr below ↦

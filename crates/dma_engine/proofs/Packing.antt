@@ -1,4 +1,4 @@
--- What was packed at a place is taken from there.
+-- What was packed at an index is taken from there.
 use Rattle.std.proofs.Common.{◌≡◌, ℕ, zero, suc, ◌+◌, ◌*◌, ◌/◌, ◌%◌, ◌^◌, ◌≤◌, [], ◌∷◌, ap, sym, ◌∙◌, arith}
 use Rattle.std.proofs.lemmas.Nat.{shr-shr}
 use Rattle.dma_engine.specs.Pacing.{packed_counts, CountsAreTakenAsPacked}
@@ -14,14 +14,14 @@ later count rest k h =
     let e : 6 * suc k ≡ 6 + 6 * k = omega arith in
     rw e (sym (shr-shr (count + rest * 2 ^ 6) 6 (6 * k)) ∙ ap (λ n. n / 2 ^ (6 * k)) (rest_of count rest h))
 
-one_place : (n : ℕ) → n / 2 ^ (6 * 0) % 2 ^ 6 ≡ n % 2 ^ 6
-one_place n = omega arith
+one_index : (n : ℕ) → n / 2 ^ (6 * 0) % 2 ^ 6 ≡ n % 2 ^ 6
+one_index n = omega arith
 
 pub count_at-packed_counts : CountsAreTakenAsPacked
-count_at-packed_counts [] place fits h = absurd (omega arith)
+count_at-packed_counts [] index fits h = absurd (omega arith)
 count_at-packed_counts (count ∷ counts) zero fits h =
-    one_place (count + packed_counts counts * 2 ^ 6) ∙ first count (packed_counts counts) (fits 0 h)
+    one_index (count + packed_counts counts * 2 ^ 6) ∙ first count (packed_counts counts) (fits 0 h)
 count_at-packed_counts (count ∷ counts) (suc k) fits h =
     let small : count ≤ 63 = fits 0 (omega arith) in
     ap (λ n. n % 2 ^ 6) (later count (packed_counts counts) k small)
-    ∙ count_at-packed_counts counts k (λ place below. fits (suc place) (omega arith)) (omega arith)
+    ∙ count_at-packed_counts counts k (λ index below. fits (suc index) (omega arith)) (omega arith)

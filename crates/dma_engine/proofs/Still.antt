@@ -9,7 +9,7 @@ use Rattle.dma_engine.specs.State.{Engine, channel_at}
 use Rattle.dma_engine.specs.Control.{treq_of}
 use Rattle.dma_engine.specs.Choice.{pace_of}
 use Rattle.dma_engine.specs.Timers.{gives, stepped, given_by, is_given, gets_credit, with_credit, with_stepped_timers, after_timers}
-use Rattle.dma_engine.specs.Quiet.{stands_still}
+use Rattle.dma_engine.specs.Rest.{stands_still}
 use Rattle.dma_engine.proofs.InTurn.{in_turn-all_failing}
 
 pub both_left : (a b : Bool) → (a && b) ≡ true → a ≡ true
@@ -46,8 +46,8 @@ none_given (t ∷ ts) (suc k) h = none_given ts k (both_right (stands_still t) _
 
 is_given-none : (given : List Bool) (p : Pace) → ((k : ℕ) → get_or given k false ≡ false) → is_given given p ≡ false
 is_given-none given (pace.Timer k) h = h k
-is_given-none given (pace.Sender place) h = refl
-is_given-none given (pace.Receiver place) h = refl
+is_given-none given (pace.Sender index) h = refl
+is_given-none given (pace.Receiver index) h = refl
 is_given-none given pace.Always h = refl
 is_given-none given pace.Never h = refl
 

@@ -45,7 +45,7 @@ first_write (w ∷ ws) = Some (request_of w)
 
 abbrev pub write_at : Request → Spot → Access
 write_at request (spot.Ram index bank) = access.Write request
-write_at request place = elsewhere DmaWrite request place
+write_at request other = elsewhere DmaWrite request other
 
 abbrev pub write_for : Option Request → Access
 write_for None = access.Nothing
@@ -71,7 +71,7 @@ begun_with counts read write = record { read = read; write = write; counts = cou
 abbrev pub asks_at : ℕ → Access → Request → Spot → Asking Doing
 asks_at counts write request (spot.Ram index bank) =
     Question (Word request.address) (λ word. Ready (begun_with counts (access.Read request (word % 2 ^ 32)) write))
-asks_at counts write request place = Ready (begun_with counts (elsewhere DmaRead request place) write)
+asks_at counts write request other = Ready (begun_with counts (elsewhere DmaRead request other) write)
 
 abbrev pub asks_for : ℕ → Access → Option Request → Asking Doing
 asks_for counts write None = Ready (begun_with counts access.Nothing write)

@@ -54,8 +54,8 @@ unwritten treq s = unread treq s + writes_of treq s
 -- a transmitter has room for one more transfer than are on their way to it, a receiver one more word than are on their way
 -- from it
 abbrev pub is_ready_by : Pace → ℕ → ℕ → Channel → Engine → Bool
-is_ready_by (pace.Sender place) treq counts c s = nat_lt (unwritten treq s) (count_at place counts)
-is_ready_by (pace.Receiver place) treq counts c s = nat_lt (unread treq s) (count_at place counts)
+is_ready_by (pace.Sender index) treq counts c s = nat_lt (unwritten treq s) (count_at index counts)
+is_ready_by (pace.Receiver index) treq counts c s = nat_lt (unread treq s) (count_at index counts)
 is_ready_by (pace.Timer k) treq counts c s = nat_lt 0 c.credits
 is_ready_by pace.Always treq counts c s = true
 is_ready_by pace.Never treq counts c s = false

@@ -6,7 +6,7 @@ pub mod Control
 pub mod Cycle
 pub mod Law
 pub mod Pacing
-pub mod Quiet
+pub mod Rest
 pub mod State
 pub mod Timers
 pub mod Transfer

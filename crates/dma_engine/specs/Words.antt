@@ -3,8 +3,9 @@
 use Rattle.std.specs.Prelude.{ℕ, ◌+◌, ◌-◌, ◌*◌, ◌/◌, ◌%◌, ◌^◌, Bool, not, ◌&&◌, ◌==◌, nat_lt, if◌then◌else◌, List, [], ◌∷◌, Option, Some, None, bit_and, bit_or, slice_index_or, slice_set, is_some}
 use Rattle.word_bits.specs.Word.{has_bit, bit_number}
 use Rattle.dma_engine.specs.declared.channel.Channel.{Channel}
-use Rattle.dma_engine.specs.declared.register.Register.{Register}
-use Rattle.dma_engine.specs.declared.register.Register.TheVariants.{ReadAddress, WriteAddress, Count, Control}
+use Rattle.dma_engine.specs.declared.registers.TheConstants.{INTR, INTE0, INTF0, INTS0, INTE1, INTF1, INTS1, TIMER0, MULTI_CHAN_TRIGGER, CHAN_ABORT, N_CHANNELS}
+use Rattle.dma_engine.specs.declared.registers.Register.{Register}
+use Rattle.dma_engine.specs.declared.registers.Register.TheVariants.{ReadAddress, WriteAddress, Count, Control}
 use Rattle.dma_engine.specs.declared.timer.Timer.{Timer}
 use Rattle.dma_engine.specs.declared.line.Line.{Line}
 use Rattle.dma_engine.specs.Control.{is_quiet}
@@ -22,17 +23,17 @@ registers =
     ∷ []
 
 unfoldable pub register_at : ℕ → Register
-register_at place = slice_index_or registers place Control
+register_at index = slice_index_or registers index Control
 
 abbrev pub number_of : ℕ → ℕ
 number_of offset = offset / 2 ^ 6
 
-abbrev pub place_of : ℕ → ℕ
-place_of offset = offset % 2 ^ 6 / 4
+abbrev pub index_of : ℕ → ℕ
+index_of offset = offset % 2 ^ 6 / 4
 
 -- the last word of each order triggers
 abbrev pub triggers : ℕ → Bool
-triggers offset = place_of offset % 4 == 3
+triggers offset = index_of offset % 4 == 3
 
 -- BUSY stands in the control word; the bits of errors that the engine does not find are 0
 abbrev pub control_of : Channel → ℕ
@@ -47,7 +48,7 @@ register_of Control c = control_of c
 abbrev pub channel_word : Engine → ℕ → Option ℕ
 channel_word s offset =
     if nat_lt (number_of offset) 12
-    then Some (register_of (register_at (place_of offset)) (channel_at (number_of offset) s))
+    then Some (register_of (register_at (index_of offset)) (channel_at (number_of offset) s))
     else None
 
 -- a write to the count is loaded by the next trigger; CTRL has the 23 bits up to BSWAP
@@ -57,7 +58,7 @@ with_register WriteAddress w c = record c { write = w }
 with_register Count w c = record c { reload = w }
 with_register Control w c = record c { ctrl = w % 2 ^ 23 }
 
--- a 0 in the place of a trigger starts nothing; it raises the interrupt of a channel that is else quiet
+-- a 0 in a trigger word starts nothing; it raises the interrupt of a channel that is else quiet
 abbrev pub null_trigger : ℕ → Engine → Engine
 null_trigger n e = if nat_lt n 12 && is_quiet (channel_at n e) then with_raised n e else e
 
@@ -65,7 +66,7 @@ abbrev pub trigger_word : ℕ → ℕ → Engine → Engine
 trigger_word n w e = if w == 0 then null_trigger n e else with_trigger n e
 
 abbrev pub with_word_of : ℕ → ℕ → Engine → Engine
-with_word_of offset w e = changed (with_register (register_at (place_of offset)) w) (number_of offset) e
+with_word_of offset w e = changed (with_register (register_at (index_of offset)) w) (number_of offset) e
 
 abbrev pub channel_written : ℕ → ℕ → Engine → Engine
 channel_written offset w e =
@@ -80,13 +81,13 @@ status_of raised line = bit_or (bit_and raised line.enable) line.force
 
 abbrev pub interrupt_word : Engine → ℕ → Option ℕ
 interrupt_word s offset =
-    if offset == 0x400 then Some s.raised else
-    if offset == 0x404 then Some s.line_0.enable else
-    if offset == 0x408 then Some s.line_0.force else
-    if offset == 0x40C then Some (status_of s.raised s.line_0) else
-    if offset == 0x414 then Some s.line_1.enable else
-    if offset == 0x418 then Some s.line_1.force else
-    if offset == 0x41C then Some (status_of s.raised s.line_1) else None
+    if offset == INTR then Some s.raised else
+    if offset == INTE0 then Some s.line_0.enable else
+    if offset == INTF0 then Some s.line_0.force else
+    if offset == INTS0 then Some (status_of s.raised s.line_0) else
+    if offset == INTE1 then Some s.line_1.enable else
+    if offset == INTF1 then Some s.line_1.force else
+    if offset == INTS1 then Some (status_of s.raised s.line_1) else None
 
 -- a 1 in INTR or INTS clears the interrupt of a channel
 abbrev pub without_raised : ℕ → Engine → Engine
@@ -100,18 +101,18 @@ with_force w line = record line { force = w % 2 ^ 16 }
 
 abbrev pub interrupt_written : ℕ → ℕ → Engine → Engine
 interrupt_written offset w e =
-    if offset == 0x400 then without_raised w e else
-    if offset == 0x404 then record e { line_0 = with_enable w e.line_0 } else
-    if offset == 0x408 then record e { line_0 = with_force w e.line_0 } else
-    if offset == 0x40C then without_raised w e else
-    if offset == 0x414 then record e { line_1 = with_enable w e.line_1 } else
-    if offset == 0x418 then record e { line_1 = with_force w e.line_1 } else
-    if offset == 0x41C then without_raised w e else e
+    if offset == INTR then without_raised w e else
+    if offset == INTE0 then record e { line_0 = with_enable w e.line_0 } else
+    if offset == INTF0 then record e { line_0 = with_force w e.line_0 } else
+    if offset == INTS0 then without_raised w e else
+    if offset == INTE1 then record e { line_1 = with_enable w e.line_1 } else
+    if offset == INTF1 then record e { line_1 = with_force w e.line_1 } else
+    if offset == INTS1 then without_raised w e else e
 
 -- ---- pacing timers: X above Y
 
 abbrev pub timer_number : ℕ → ℕ
-timer_number offset = (offset - 0x420) / 4
+timer_number offset = (offset - TIMER0) / 4
 
 abbrev pub word_of_timer : Timer → ℕ
 word_of_timer t = t.x * 2 ^ 16 + t.y
@@ -135,12 +136,12 @@ timer_written offset w e = with_timers (with_timer (timer_number offset) w e.tim
 
 abbrev pub control_word : ℕ → Option ℕ
 control_word offset =
-    if offset == 0x430 then Some 0 else if offset == 0x444 then Some 0 else if offset == 0x448 then Some 12 else None
+    if offset == MULTI_CHAN_TRIGGER then Some 0 else if offset == CHAN_ABORT then Some 0 else if offset == N_CHANNELS then Some 12 else None
 
 abbrev pub control_written : ℕ → ℕ → Engine → Engine
 control_written offset w e =
-    if offset == 0x430 then in_turn (has_bit w) with_trigger 12 e else
-    if offset == 0x444 then in_turn (has_bit w) with_abort 12 e else e
+    if offset == MULTI_CHAN_TRIGGER then in_turn (has_bit w) with_trigger 12 e else
+    if offset == CHAN_ABORT then in_turn (has_bit w) with_abort 12 e else e
 
 -- ---- all words
 
@@ -148,9 +149,9 @@ control_written offset w e =
 unfoldable pub listed_word : Engine → ℕ → Option ℕ
 listed_word s offset =
     if not (offset % 4 == 0) then None else
-    if nat_lt offset 0x400 then channel_word s offset else
-    if nat_lt offset 0x420 then interrupt_word s offset else
-    if nat_lt offset 0x430 then timer_word s offset else control_word offset
+    if nat_lt offset INTR then channel_word s offset else
+    if nat_lt offset TIMER0 then interrupt_word s offset else
+    if nat_lt offset MULTI_CHAN_TRIGGER then timer_word s offset else control_word offset
 
 -- an engine that is held reads 0
 abbrev pub zero_of : Option ℕ → Option ℕ
@@ -165,9 +166,9 @@ is_allowed s offset = is_some (listed_word s offset)
 
 unfoldable pub written : ℕ → ℕ → Engine → Engine
 written offset w e =
-    if nat_lt offset 0x400 then channel_written offset w e else
-    if nat_lt offset 0x420 then interrupt_written offset w e else
-    if nat_lt offset 0x430 then timer_written offset w e else control_written offset w e
+    if nat_lt offset INTR then channel_written offset w e else
+    if nat_lt offset TIMER0 then interrupt_written offset w e else
+    if nat_lt offset MULTI_CHAN_TRIGGER then timer_written offset w e else control_written offset w e
 
 abbrev pub after_access : ℕ → Option ℕ → Engine → Engine
 after_access offset None e = e

@@ -31,7 +31,7 @@ fn elsewhere(master: Master, request: Request, spot: Spot) -> Access
     }
 }
 
-/// A write, by the place that it goes to.
+/// A write, by the part of the machine that it goes to.
 fn write_for(request: Request) -> Access
     ensures { result ≡ write_for (Some request) }
 {
@@ -42,7 +42,7 @@ fn write_for(request: Request) -> Access
     }
 }
 
-/// A read, by the place that it goes to; one of SRAM asks for its word.
+/// A read, by the part of the machine that it goes to; one of SRAM asks for its word.
 fn begin_read<K: Look>(counts: u128, write: Access, request: Request, look: &mut K) -> Doing
     ensures { Runs K.answers look.old (asks_for counts write (Some request)) result look.new }
 {

@@ -10,12 +10,12 @@ use crate::channel::Channel;
 use crate::engine::{CHANNELS, Engine};
 use crate::pace::{Pace, pace_of};
 
-/// The count at a place.
-fn count_at(place: u8, counts: u128) -> u8
-    requires { place < 20 }
-    ensures { result ≡ count_at place counts }
+/// The count at an index.
+fn count_at(index: u8, counts: u128) -> u8
+    requires { index < 20 }
+    ensures { result ≡ count_at index counts }
 {
-    ((counts >> (6 * place)) % 64) as u8
+    ((counts >> (6 * index)) % 64) as u8
 }
 
 /// The first of two channels, where there are two.
@@ -74,8 +74,8 @@ impl Engine {
     {
         let treq = channel.treq();
         match pace_of(treq) {
-            Pace::Sender(place) => self.unwritten(treq) < count_at(place, counts),
-            Pace::Receiver(place) => self.unread(treq) < count_at(place, counts),
+            Pace::Sender(index) => self.unwritten(treq) < count_at(index, counts),
+            Pace::Receiver(index) => self.unread(treq) < count_at(index, counts),
             Pace::Timer(_) => 0 < channel.credits,
             Pace::Always => true,
             Pace::Never => false,

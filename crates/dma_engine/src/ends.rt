@@ -8,14 +8,7 @@ ghost use Rattle.dma_engine.specs.Cycle.{is_chosen, has_write, is_in_flight, is_
 use crate::channel::Channel;
 use crate::engine::{CHANNELS, Engine};
 use crate::waiting::Waiting;
-
-/// Bit n of a word, of the channel of that number.
-pub(crate) fn has_bit(word: u32, number: u8) -> bool
-    requires { number < 12 }
-    ensures { result ≡ has_bit word number }
-{
-    (word >> number) & 1 == 1
-}
+use word_bits::has_bit;
 
 /// A write of the channel waits.
 fn has_write(writes: &[Waiting], number: u8) -> bool
@@ -53,7 +46,7 @@ impl Engine {
         ensures { self.new ≡ in_turn (has_bit word) with_trigger 12 self.old }
     {
         for number in 0..CHANNELS {
-            if has_bit(word, number) {
+            if has_bit(word, u32::from(number)) {
                 self.trigger(number);
             }
         }
@@ -65,7 +58,7 @@ impl Engine {
         ensures { self.new ≡ in_turn (has_bit word) with_abort 12 self.old }
     {
         for number in 0..CHANNELS {
-            if has_bit(word, number) {
+            if has_bit(word, u32::from(number)) {
                 self.abort(number);
             }
         }

@@ -8,7 +8,7 @@ ghost use Rattle.dma_engine.specs.Control.{treq_of};
 ghost use Rattle.dma_engine.specs.Choice.{pace_of};
 ghost use Rattle.dma_engine.specs.State.{channel_at};
 ghost use Rattle.dma_engine.specs.Timers.{gives, stepped, given_by, is_given, gets_credit, more_credits, credited, with_credit, after_timers};
-ghost use Rattle.dma_engine.specs.Quiet.{is_idle_channel, stands_still, is_at_rest};
+ghost use Rattle.dma_engine.specs.Rest.{is_idle_channel, stands_still, is_at_rest};
 ghost use Rattle.dma_engine.specs.Cycle.{want_of, word_of, word_read, with_data, with_read, is_written, after_write, credits_left, counted, after_choice, after_transfers, next};
 ghost use Rattle.dma_engine.specs.Channels.{in_turn};
 
@@ -271,7 +271,7 @@ impl Engine {
     }
 
     /// Nothing can happen by itself.
-    #[tactic(auto, unfolding(crate::specs::Quiet::is_at_rest))]
+    #[tactic(auto, unfolding(crate::specs::Rest::is_at_rest))]
     pub(crate) fn is_at_rest(&self) -> bool
         ensures { result ≡ is_at_rest self.now }
     {

@@ -16,7 +16,7 @@ mod finish;
 pub mod laws;
 pub mod line;
 pub mod pace;
-pub mod register;
+pub mod registers;
 mod step;
 #[cfg(test)]
 mod tests;

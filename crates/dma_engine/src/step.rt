@@ -12,24 +12,25 @@ use std::marker::Model;
 #[derive(Drop)]
 pub struct Dma {
     engine: Engine,
-    /// Something may happen in the next cycle.
-    awake: bool,
+    /// Nothing happens until a register is written.
+    at_rest: bool,
 }
 
 impl Model for Dma {
-    ghost use Rattle.std.specs.Prelude.{◌≡◌, ◌||◌, true};
+    ghost use Rattle.std.specs.Prelude.{◌≡◌, ◌||◌, not, true};
     ghost use Rattle.dma_engine.specs.State.{Engine as State};
-    ghost use Rattle.dma_engine.specs.Quiet.{is_at_rest};
+    ghost use Rattle.dma_engine.specs.Rest.{is_at_rest};
 
     ghost Value = { State };
 
     ghost view = { λ d. d.engine };
 
-    ghost invariant = { λ d. (d.awake || is_at_rest d.engine) ≡ true };
+    ghost invariant = { λ d. (not d.at_rest || is_at_rest d.engine) ≡ true };
 }
 
 impl Dma {
-    ghost use Rattle.std.specs.Prelude.{false};
+    ghost use Rattle.std.specs.Prelude.{false, true};
+    ghost use Rattle.dma_engine.specs.Rest.{StaysAtRest};
     ghost use Rattle.dma_engine.specs.State.{reset_state, with_hold};
     ghost use Rattle.dma_engine.specs.Words.{word_of, is_allowed, effect_of, lines_of};
 
@@ -39,7 +40,7 @@ impl Dma {
     {
         Dma {
             engine: Engine::new(false),
-            awake: true,
+            at_rest: false,
         }
     }
 
@@ -57,7 +58,7 @@ impl Dma {
         ensures after { self.new ≡ effect_of offset write self.old }
         ensures allowed { result ≡ is_allowed self.old offset }
     {
-        self.awake = true;
+        self.at_rest = false;
         self.engine.effect(offset, write)
     }
 
@@ -72,8 +73,16 @@ impl Dma {
     pub fn set_held(&mut self, held: bool)
         ensures { self.new ≡ with_hold held self.old }
     {
-        self.awake = true;
+        self.at_rest = false;
         self.engine.set_held(held);
+    }
+
+    /// The engine is at rest: until a register is written it asks nothing, wants nothing and stays as it is.
+    #[inline(always)]
+    pub fn is_at_rest(&self) -> bool
+        ensures { result ≡ true → StaysAtRest self.now }
+    {
+        self.at_rest
     }
 
     /// The two interrupt lines, DMA_IRQ_0 and DMA_IRQ_1: some bit of INTS0, and some bit of INTS1.
@@ -104,7 +113,7 @@ impl Lane<()> for Dma {
 
     #[tactic(auto, using(crate::proofs::AtRest::at_rest))]
     fn begin<K: Look>(&self, _env: &(), _cycle: u64, look: &mut K) -> Doing {
-        if !self.awake {
+        if self.at_rest {
             return Doing {
                 read: Access::Nothing,
                 write: Access::Nothing,
@@ -120,14 +129,14 @@ impl Lane<()> for Dma {
 
     #[tactic(auto, using(crate::proofs::AtRest::at_rest))]
     fn finish(&mut self, _env: &(), begun: &Doing, turns: [Turn; 2], _marks: &mut Marks) {
-        if self.awake {
+        if !self.at_rest {
             self.engine.finish(begun, &turns);
-            self.awake = !self.engine.is_at_rest();
+            self.at_rest = self.engine.is_at_rest();
         }
     }
 
     fn copy_from(&mut self, other: &Dma) {
-        self.awake = true;
+        self.at_rest = false;
         self.engine.copy_from(&other.engine);
     }
 

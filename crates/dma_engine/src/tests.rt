@@ -1,6 +1,10 @@
 //! Copies worked by hand over a small memory: cycle by cycle, what the engine reads and what it writes.
 
 use crate::Dma;
+use crate::registers::{
+    CH0_AL1_CTRL, CH0_CTRL_TRIG, CH0_READ_ADDR, CH0_TRANS_COUNT, CH0_WRITE_ADDR, CHAN_ABORT, INTE0,
+    INTF0, INTF1, INTR, INTS0, INTS1, MULTI_CHAN_TRIGGER, N_CHANNELS, TIMER0,
+};
 use lane_look::{Ask, Lane, Look, Marks, Turn, Want};
 use rp_base::map::{Spot, place, port};
 use rp_base::{Master, Request, Size, Why};
@@ -117,109 +121,81 @@ fn start(dma: &mut Dma, number: u16, registers: [u32; 4]) {
     }
 }
 
-// The control word is written in cycle 12. The first channel is chosen in cycle 13, and read from cycle 14 on.
+/// The first address of SRAM.
+const SRAM: u32 = 0x2000_0000;
+
+/// The offset of the words of channel 3.
+const CHANNEL_3: u16 = 0xc0;
+
+/// The write address, a port that another master takes in each cycle, and the low bytes of the reads' and writes' addresses.
+const UNPACED: [(u32, [u8; 6], [(u32, u32); 6]); 2] = [
+    // the second read and the first write meet on bank 0
+    (
+        0x80,
+        [8, 8, 8, 8, 8, 8],
+        [
+            (0, 0),
+            (0x1c, 0),
+            (0x20, 0x80),
+            (0, 0x80),
+            (0, 0x84),
+            (0, 0),
+        ],
+    ),
+    // a core takes the bank of the second write
+    (
+        0x84,
+        [8, 8, 8, 2, 8, 8],
+        [
+            (0, 0),
+            (0x1c, 0),
+            (0x20, 0x84),
+            (0, 0x88),
+            (0, 0x88),
+            (0, 0),
+        ],
+    ),
+];
+
+// The first channel is chosen in the cycle after the trigger, and read from the next one on.
 #[test]
 fn unpaced_copies(rt: HostRuntime) {
-    let data = [0, 0, 0, 0, 0, 0, 0, 0x1122_3344, 0x5566_7788];
-    // read at, write at, a port that another master takes in each cycle from 13 on, the reads and writes from then on
-    let cases = [
-        (
-            // the second read and the first write meet on bank 0 in cycle 15
-            0x2000_001c,
-            0x2000_0100,
-            [8, 8, 8, 8, 8, 8],
-            [
-                (0, 0),
-                (0x2000_001c, 0),
-                (0x2000_0020, 0x2000_0100),
-                (0, 0x2000_0100),
-                (0, 0x2000_0104),
-                (0, 0),
-            ],
-        ),
-        (
-            // no two accesses meet
-            0x2000_001c,
-            0x2000_0104,
-            [8, 8, 8, 8, 8, 8],
-            [
-                (0, 0),
-                (0x2000_001c, 0),
-                (0x2000_0020, 0x2000_0104),
-                (0, 0x2000_0108),
-                (0, 0),
-                (0, 0),
-            ],
-        ),
-        (
-            // a core takes the bank of the second write in cycle 16
-            0x2000_001c,
-            0x2000_0104,
-            [8, 8, 8, 2, 8, 8],
-            [
-                (0, 0),
-                (0x2000_001c, 0),
-                (0x2000_0020, 0x2000_0104),
-                (0, 0x2000_0108),
-                (0, 0x2000_0108),
-                (0, 0),
-            ],
-        ),
-    ];
-    for (read, write, taken, wants) in cases {
-        let mut memory = Memory::with_words(&data);
-        let mut dma = started(read, write, 2, 0x001f_8039);
-        assert_eq!(rt; dma.read(0x00c), Some(0x011f_8039));
+    for (write, taken, wants) in UNPACED {
+        let mut memory = Memory::with_words(&[0, 0, 0, 0, 0, 0, 0, 0x1122_3344, 0x5566_7788]);
+        let mut dma = started(SRAM + 0x1c, SRAM + write, 2, 0x001f_8039);
+        assert_eq!(rt; dma.read(CH0_CTRL_TRIG), Some(0x011f_8039));
         for k in 0..6 {
-            assert_eq!(rt;
-                cycle(&mut dma, &mut memory, taken[k], 0),
-                wants[k],
-                "cycle {k}"
-            );
+            let (read, write) = cycle(&mut dma, &mut memory, taken[k], 0);
+            assert_eq!(rt; (read % 0x100, write % 0x100), wants[k], "cycle {k}");
         }
-        assert_eq!(rt; memory.word(write), memory.word(read));
-        assert_eq!(rt; memory.word(write + 4), memory.word(read + 4));
-        assert_eq!(rt; dma.read(0x000), Some(read + 8));
-        assert_eq!(rt; dma.read(0x004), Some(write + 8));
+        assert_eq!(rt; memory.word(SRAM + write), 0x1122_3344);
+        assert_eq!(rt; memory.word(SRAM + write + 4), 0x5566_7788);
+        assert_eq!(rt; dma.read(CH0_READ_ADDR), Some(SRAM + 0x24));
+        assert_eq!(rt; dma.read(CH0_WRITE_ADDR), Some(SRAM + write + 8));
         // the sequence ended one cycle after its last write
-        assert_eq!(rt; dma.read(0x00c), Some(0x001f_8039));
-        assert_eq!(rt; dma.read(0x400), Some(1));
+        assert_eq!(rt; dma.read(CH0_CTRL_TRIG), Some(0x001f_8039));
+        assert_eq!(rt; dma.read(INTR), Some(1));
     }
 }
 
 /// What is written at an offset, and what is read at another one.
-const WORDS: [(u16, u32, u16, u32); 24] = [
-    (0x000, 0x2000_0001, 0x014, 0x2000_0001),
-    (0x014, 0x2000_0002, 0x028, 0x2000_0002),
-    (0x028, 0x2000_0003, 0x03c, 0x2000_0003),
-    (0x03c, 0x2000_0004, 0x000, 0x2000_0004),
-    (0x004, 0x2000_0005, 0x018, 0x2000_0005),
-    (0x018, 0x2000_0006, 0x02c, 0x2000_0006),
-    (0x02c, 0x2000_0007, 0x034, 0x2000_0007),
-    (0x034, 0x2000_0008, 0x004, 0x2000_0008),
+const WORDS: [(u16, u32, u16, u32); 14] = [
+    (CH0_READ_ADDR, 0x2000_0001, 0x014, 0x2000_0001),
+    (0x014, 0x2000_0002, 0x03c, 0x2000_0002),
+    (0x018, 0x2000_0006, 0x034, 0x2000_0006),
     // a count that was written is not loaded yet
-    (0x008, 0x0000_0009, 0x01c, 0x0000_0000),
-    (0x010, 0xffff_fffe, 0x00c, 0x007f_fffe),
-    (0x00c, 0x0000_0008, 0x020, 0x0000_0008),
+    (CH0_TRANS_COUNT, 0x0000_0009, 0x01c, 0x0000_0000),
+    (CH0_AL1_CTRL, 0xffff_fffe, CH0_CTRL_TRIG, 0x007f_fffe),
+    (CH0_CTRL_TRIG, 0x0000_0008, 0x020, 0x0000_0008),
     (0x020, 0x0000_0005, 0x030, 0x0000_0005),
     // the trigger of the enabled channel, and its count
     (0x01c, 0x0000_0007, 0x024, 0x0000_0007),
-    (0x024, 0x0000_0003, 0x038, 0x0000_0007),
-    (0x030, 0x0000_0000, 0x010, 0x0100_0000),
-    (0x404, 0xffff_0fff, 0x404, 0x0000_0fff),
-    (0x408, 0x0000_0006, 0x40c, 0x0000_0006),
-    (0x414, 0x0000_0001, 0x414, 0x0000_0001),
-    (0x418, 0x0000_0800, 0x41c, 0x0000_0800),
-    (0x42c, 0x0001_0003, 0x42c, 0x0001_0003),
-    (0x430, 0x0000_0fff, 0x430, 0x0000_0000),
-    (0x444, 0x0000_0001, 0x024, 0x0000_0000),
-    (0x448, 0xffff_ffff, 0x448, 0x0000_000c),
-    (0x2fc, 0x2000_0009, 0x2c0, 0x2000_0009),
-];
-
-/// Offsets of no word.
-const MISSING: [u16; 9] = [
-    0x001, 0x300, 0x3fc, 0x410, 0x434, 0x438, 0x440, 0x44c, 0x800,
+    (INTE0, 0xffff_0fff, INTE0, 0x0000_0fff),
+    (INTF0, 0x0000_0006, INTS0, 0x0000_0006),
+    (INTF1, 0x0000_0800, INTS1, 0x0000_0800),
+    (TIMER0 + 12, 0x0001_0003, TIMER0 + 12, 0x0001_0003),
+    (CHAN_ABORT, 0x0000_0001, 0x024, 0x0000_0000),
+    (N_CHANNELS, 0xffff_ffff, N_CHANNELS, 0x0000_000c),
 ];
 
 #[test]
@@ -229,115 +205,59 @@ fn words(rt: HostRuntime) {
         assert!(rt; dma.effect(offset, Some(written)), "{offset:x}");
         assert_eq!(rt; dma.read(other), Some(read), "{offset:x}");
     }
-    for offset in MISSING {
+    for offset in [0x001, 0x300, 0x410, 0x434, 0x44c] {
         assert_eq!(rt; dma.read(offset), None, "{offset:x}");
         assert!(rt; !dma.allows(offset, Some(0)), "{offset:x}");
-        assert!(rt; !dma.effect(offset, None), "{offset:x}");
     }
     assert_eq!(rt; dma.lines(), [true, true]);
     let mut other = Dma::new();
     other.copy_from(&dma);
-    assert_eq!(rt; other.read(0x404), Some(0xfff));
+    assert_eq!(rt; other.read(INTE0), Some(0xfff));
     // held, the engine is in its reset state, reads 0 and takes no write
     dma.set_held(true);
-    assert_eq!(rt; dma.lines(), [false, false]);
-    assert!(rt; dma.effect(0x404, Some(1)));
-    assert_eq!(rt; dma.read(0x448), Some(0));
+    assert!(rt; dma.effect(INTE0, Some(1)));
+    assert_eq!(rt; dma.read(N_CHANNELS), Some(0));
     dma.set_held(false);
-    assert_eq!(rt; dma.read(0x404), Some(0));
-    assert_eq!(rt; dma.read(0x448), Some(12));
+    assert_eq!(rt; dma.read(INTE0), Some(0));
+    assert!(rt; !dma.is_at_rest());
+    cycle(&mut dma, &mut Memory::with_words(&[]), 8, 0);
+    assert!(rt; dma.is_at_rest());
 }
 
-/// CTRL, READ, WRITE and COUNT; READ and WRITE after the copy; the word at 20000040 then.
+/// CTRL, the low bytes of READ and WRITE, COUNT; READ and WRITE after the copy; the word at 20000040 then.
 const COPIES: [(u32, u32, u32, u32, u32, u32, u32); 6] = [
     // a byte
-    (
-        0x001f_8031,
-        0x2000_0001,
-        0x2000_0042,
-        1,
-        0x2000_0002,
-        0x2000_0043,
-        0x0022_0000,
-    ),
-    // a halfword, its bytes in reverse order
-    (
-        0x005f_8035,
-        0x2000_0003,
-        0x2000_0040,
-        1,
-        0x2000_0005,
-        0x2000_0042,
-        0x0000_3344,
-    ),
-    // a word, its bytes in reverse order
-    (
-        0x005f_8039,
-        0x2000_0004,
-        0x2000_0041,
-        1,
-        0x2000_0008,
-        0x2000_0045,
-        0x5566_7788,
-    ),
+    (0x001f_8031, 0x01, 0x42, 1, 0x02, 0x43, 0x0022_0000),
+    // a halfword, and a word, their bytes in reverse order
+    (0x005f_8035, 0x03, 0x40, 1, 0x05, 0x42, 0x0000_3344),
+    (0x005f_8039, 0x04, 0x41, 1, 0x08, 0x45, 0x5566_7788),
     // size 3 acts as a word
-    (
-        0x001f_803d,
-        0x2000_0004,
-        0x2000_0040,
-        1,
-        0x2000_0008,
-        0x2000_0044,
-        0x8877_6655,
-    ),
-    // a ring of eight bytes for the reads
-    (
-        0x001f_80d9,
-        0x2000_0004,
-        0x2000_0040,
-        3,
-        0x2000_0000,
-        0x2000_0040,
-        0x8877_6655,
-    ),
-    // and for the writes
-    (
-        0x001f_84e9,
-        0x2000_0000,
-        0x2000_0044,
-        3,
-        0x2000_0000,
-        0x2000_0040,
-        0x4433_2211,
-    ),
+    (0x001f_803d, 0x04, 0x40, 1, 0x08, 0x44, 0x8877_6655),
+    // a ring of eight bytes for the reads, and for the writes
+    (0x001f_80d9, 0x04, 0x40, 3, 0x00, 0x40, 0x8877_6655),
+    (0x001f_84e9, 0x00, 0x44, 3, 0x00, 0x40, 0x4433_2211),
 ];
 
 #[test]
 fn sizes_and_rings(rt: HostRuntime) {
     for (ctrl, read, write, count, after_read, after_write, word) in COPIES {
         let mut memory = Memory::with_words(&[0x4433_2211, 0x8877_6655]);
-        let mut dma = started(read, write, count, ctrl);
+        let mut dma = started(SRAM + read, SRAM + write, count, ctrl);
         for _ in 0..10 {
             cycle(&mut dma, &mut memory, 8, 0);
         }
-        assert_eq!(rt; dma.read(0x000), Some(after_read), "{ctrl:x}");
-        assert_eq!(rt; dma.read(0x004), Some(after_write), "{ctrl:x}");
-        assert_eq!(rt; memory.word(0x2000_0040), word, "{ctrl:x}");
-        assert_eq!(rt; dma.read(0x400), Some(1), "{ctrl:x}");
+        assert_eq!(rt;
+            dma.read(CH0_READ_ADDR),
+            Some(SRAM + after_read),
+            "{ctrl:x}"
+        );
+        assert_eq!(rt;
+            dma.read(CH0_WRITE_ADDR),
+            Some(SRAM + after_write),
+            "{ctrl:x}"
+        );
+        assert_eq!(rt; memory.word(SRAM + 0x40), word, "{ctrl:x}");
     }
-}
-
-/// The reads of so many cycles, of channels that each read at 20000000 plus 4 times their number.
-fn reads(dma: &mut Dma, memory: &mut Memory, cycles: u32) -> [u32; 12] {
-    let mut reads = [0; 12];
-    for _ in 0..cycles {
-        let (read, _) = cycle(dma, memory, 8, 0);
-        if read >= 0x2000_0000 && (read - 0x2000_0000) / 4 < 12 {
-            let number = ((read - 0x2000_0000) / 4) as usize;
-            reads[number] = 10_u32.wrapping_mul(reads[number]).wrapping_add(1);
-        }
-    }
-    reads
 }
 
 #[test]
@@ -345,36 +265,33 @@ fn chains_and_triggers(rt: HostRuntime) {
     let mut memory = Memory::with_words(&[1, 2, 3, 4]);
     let mut dma = Dma::new();
     // channel 3 waits for channel 0, which is chained to it, and is quiet
-    start(&mut dma, 3, [0x2000_000c, 0x2000_0100, 1, 0x003f_9808]);
-    assert!(rt; dma.effect(0xd0, Some(0x003f_9809)));
-    assert_eq!(rt; dma.read(0xc8), Some(0));
-    start(&mut dma, 0, [0x2000_0000, 0x2000_0104, 1, 0x001f_9809]);
+    start(&mut dma, 3, [SRAM + 0xc, SRAM + 0x80, 1, 0x003f_9808]);
+    assert!(rt; dma.effect(CHANNEL_3 + CH0_AL1_CTRL, Some(0x003f_9809)));
+    start(&mut dma, 0, [SRAM, SRAM + 0x84, 1, 0x001f_9809]);
     // the fourth cycle after the read is that of channel 3
-    let wants = [
+    for (read, write) in [
         (0, 0),
-        (0x2000_0000, 0),
-        (0, 0x2000_0104),
+        (SRAM, 0),
+        (0, 0x84),
         (0, 0),
         (0, 0),
-        (0x2000_000c, 0),
-        (0, 0x2000_0100),
+        (SRAM + 0xc, 0),
+        (0, 0x80),
         (0, 0),
-    ];
-    for want in wants {
-        assert_eq!(rt; cycle(&mut dma, &mut memory, 8, 0), want);
+    ] {
+        let wants = cycle(&mut dma, &mut memory, 8, 0);
+        assert_eq!(rt; (wants.0, wants.1 % 0x100), (read, write));
     }
-    assert_eq!(rt; dma.read(0x400), Some(1));
-    assert_eq!(rt; dma.read(0xcc), Some(0x003f_9809));
-    // a 0 in the place of a trigger raises the interrupt of a quiet channel, and starts nothing
-    assert!(rt; dma.effect(0xdc, Some(0)));
-    assert_eq!(rt; dma.read(0x400), Some(9));
-    assert_eq!(rt; dma.read(0xcc), Some(0x003f_9809));
-    assert!(rt; dma.effect(0x40c, Some(1)));
-    assert_eq!(rt; dma.read(0x400), Some(8));
-    // both at once
-    assert!(rt; dma.effect(0x430, Some(9)));
-    assert_eq!(rt; dma.read(0x00c), Some(0x011f_9809));
-    assert_eq!(rt; dma.read(0xcc), Some(0x013f_9809));
+    assert_eq!(rt; dma.read(INTR), Some(1));
+    // a 0 in a trigger word raises the interrupt of a quiet channel, and starts nothing
+    assert!(rt; dma.effect(CHANNEL_3 + 0x1c, Some(0)));
+    assert_eq!(rt; dma.read(INTR), Some(9));
+    assert_eq!(rt; dma.read(CHANNEL_3 + CH0_CTRL_TRIG), Some(0x003f_9809));
+    assert!(rt; dma.effect(INTS0, Some(1)));
+    assert_eq!(rt; dma.read(INTR), Some(8));
+    assert!(rt; dma.effect(MULTI_CHAN_TRIGGER, Some(9)));
+    assert_eq!(rt; dma.read(CH0_CTRL_TRIG), Some(0x011f_9809));
+    assert_eq!(rt; dma.read(CHANNEL_3 + CH0_CTRL_TRIG), Some(0x013f_9809));
 }
 
 #[test]
@@ -382,45 +299,39 @@ fn priorities_and_aborts(rt: HostRuntime) {
     let mut memory = Memory::with_words(&[1, 2, 3, 4]);
     let mut dma = Dma::new();
     // channels 1, 2 and 3, each chained to itself; channel 2 has a high priority
-    start(&mut dma, 1, [0x2000_0004, 0x2000_0100, 2, 0x001f_8809]);
-    start(&mut dma, 2, [0x2000_0008, 0x2000_0110, 2, 0x001f_900b]);
-    start(&mut dma, 3, [0x2000_000c, 0x2000_0120, 9, 0x001f_9809]);
-    let order = [0, 8, 8, 0xc, 4, 0xc, 4, 0xc];
-    for low in order {
+    start(&mut dma, 1, [SRAM + 0x4, SRAM + 0x80, 2, 0x001f_8809]);
+    start(&mut dma, 2, [SRAM + 0x8, SRAM + 0x90, 2, 0x001f_900b]);
+    start(&mut dma, 3, [SRAM + 0xc, SRAM + 0xa0, 9, 0x001f_9809]);
+    for low in [0, 8, 8, 0xc, 4, 0xc, 4, 0xc] {
         let (read, _) = cycle(&mut dma, &mut memory, 8, 0);
         assert_eq!(rt; read % 0x100, low);
     }
     // channel 3 has two transfers in flight: the one that is chosen now and one whose write waits
-    assert_eq!(rt; dma.read(0xc8), Some(5));
-    assert!(rt; dma.effect(0x444, Some(8)));
-    assert_eq!(rt; dma.read(0xc8), Some(0));
-    assert_eq!(rt; dma.read(0xcc), Some(0x011f_9809));
-    assert_eq!(rt;
-        cycle(&mut dma, &mut memory, 8, 0),
-        (0x2000_000c, 0x2000_0120)
-    );
-    assert_eq!(rt; cycle(&mut dma, &mut memory, 8, 0), (0, 0x2000_0120));
-    assert_eq!(rt; cycle(&mut dma, &mut memory, 8, 0), (0, 0));
-    assert_eq!(rt; dma.read(0xcc), Some(0x001f_9809));
-    assert_eq!(rt; dma.read(0x400), Some(6));
+    assert!(rt; dma.effect(CHAN_ABORT, Some(8)));
+    assert_eq!(rt; dma.read(CHANNEL_3 + CH0_TRANS_COUNT), Some(0));
+    for wants in [(0xc, 0xa0), (0, 0xa0), (0, 0)] {
+        let (read, write) = cycle(&mut dma, &mut memory, 8, 0);
+        assert_eq!(rt; (read % 0x100, write % 0x100), wants);
+    }
+    assert_eq!(rt; dma.read(CHANNEL_3 + CH0_CTRL_TRIG), Some(0x001f_9809));
+    assert_eq!(rt; dma.read(INTR), Some(6));
 }
 
 #[test]
 fn pacing(rt: HostRuntime) {
     let mut memory = Memory::with_words(&[7, 8, 9]);
     // a transmitter with two free places, which fill, and one of which is free again in the seventh cycle
-    let mut dma = started(0x2000_0000, 0x5020_0010, 9, 0x0000_0019);
+    let mut dma = started(SRAM, 0x5020_0010, 9, 0x0000_0019);
     let cycles = [
         (2, (0, 0)),
-        (2, (0x2000_0000, 0)),
-        (2, (0x2000_0004, 0x5020_0010)),
+        (2, (SRAM, 0)),
+        (2, (SRAM + 4, 0x5020_0010)),
         (1, (0, 0x5020_0010)),
         (0, (0, 0)),
         (0, (0, 0)),
         (1, (0, 0)),
-        (1, (0x2000_0008, 0)),
+        (1, (SRAM + 8, 0)),
         (1, (0, 0x5020_0010)),
-        (0, (0, 0)),
     ];
     for (free, want) in cycles {
         memory.counts = free;
@@ -428,67 +339,46 @@ fn pacing(rt: HostRuntime) {
     }
     // a receiver with one word, read once while it stands there
     memory.counts = 1 << 24;
-    let mut dma = started(0x5020_0020, 0x2000_0100, 9, 0x0002_0029);
-    let wants = [(0, 0), (0x5020_0020, 0), (0, 0x2000_0100)];
-    for want in wants {
+    let mut dma = started(0x5020_0020, SRAM + 0x80, 9, 0x0002_0029);
+    for want in [(0, 0), (0x5020_0020, 0), (0, SRAM + 0x80)] {
         assert_eq!(rt; cycle(&mut dma, &mut memory, 8, 0xabcd), want);
         memory.counts = if want.0 != 0 { 0 } else { 1 << 24 };
     }
-    assert_eq!(rt; memory.word(0x2000_0100), 0xabcd);
-    // UART1's receiver has no word, and nothing serves request 16
-    memory.counts = (1 << 114) - 1;
-    for treq in [23_u32, 16, 24] {
-        let mut dma = started(0x2000_0000, 0x2000_0100, 9, treq * 0x8000 + 0x9);
-        for _ in 0..5 {
-            assert_eq!(rt; cycle(&mut dma, &mut memory, 8, 0), (0, 0), "{treq}");
-        }
-    }
+    assert_eq!(rt; memory.word(SRAM + 0x80), 0xabcd);
 }
 
 #[test]
 fn timers(rt: HostRuntime) {
     let mut memory = Memory::with_words(&[7, 8, 9]);
-    // one credit in three cycles
-    let mut dma = started(0x2000_0000, 0x2000_0100, 9, 0x001f_0009);
-    assert!(rt; dma.effect(0x42c, Some(0x0001_0003)));
-    let counts = reads(&mut dma, &mut memory, 12);
-    // credits come at the end of cycles 2, 5 and 8, and each read follows two cycles later
-    assert_eq!(rt; counts[0], 111);
-    // X or Y 0 gives no credit, and 3F needs none
-    assert!(rt; dma.effect(0x42c, Some(0x0000_0003)));
-    assert_eq!(rt; reads(&mut dma, &mut memory, 12)[0], 1);
+    // one credit in three cycles, at the end of cycles 2, 5 and 8: each read follows two cycles later
+    let mut dma = started(SRAM, SRAM + 0x80, 9, 0x001f_0009);
+    assert!(rt; dma.effect(TIMER0 + 12, Some(0x0001_0003)));
+    for number in 0..12 {
+        let (read, _) = cycle(&mut dma, &mut memory, 8, 0);
+        assert_eq!(rt;
+            read != 0,
+            number == 4 || number == 7 || number == 10,
+            "{number}"
+        );
+    }
 }
 
 #[test]
-fn places(rt: HostRuntime) {
+fn outside(rt: HostRuntime) {
     let mut memory = Memory::with_words(&[7]);
-    for (read, want) in [
-        (
-            0xd000_0000,
-            Want::Stopped(Why::Outside(Master::DmaRead, 0xd000_0000)),
-        ),
-        (
-            0xe000_e012,
-            Want::Stopped(Why::Outside(Master::DmaRead, 0xe000_e010)),
-        ),
-        (
-            0x1000_0000,
-            Want::Stopped(Why::Outside(Master::DmaRead, 0x1000_0000)),
-        ),
+    for (read, stop) in [
+        (0xd000_0000, 0xd000_0000),
+        (0xe000_e012, 0xe000_e010),
+        (0x1000_0000, 0x1000_0000),
     ] {
-        let mut dma = started(read, 0x2000_0100, 1, 0x001f_8009);
+        let mut dma = started(read, SRAM + 0x80, 1, 0x001f_8009);
         cycle(&mut dma, &mut memory, 8, 0);
         let begun = dma.begin(&(), 1, &mut memory);
+        let want = Want::Stopped(Why::Outside(Master::DmaRead, stop));
         assert!(rt; Dma::wants(&begun)[0] == want, "{read:x}");
     }
-    for (write, outward) in [
-        (0xd000_0010, false),
-        (0xe000_e010, false),
-        (0x2005_0000, false),
-        (0x4009_9000, true),
-        (0x5000_0400, true),
-    ] {
-        let mut dma = started(0x2000_0000, write, 1, 0x001f_8009);
+    for write in [0x4009_9000, 0x5000_0400] {
+        let mut dma = started(SRAM, write, 1, 0x001f_8009);
         cycle(&mut dma, &mut memory, 8, 0);
         cycle(&mut dma, &mut memory, 8, 0);
         let begun = dma.begin(&(), 2, &mut memory);
@@ -497,11 +387,9 @@ fn places(rt: HostRuntime) {
             size: Size::Word,
             write: Some(7),
         };
-        let want = if outward {
-            Want::Outward(request)
-        } else {
-            Want::Stopped(Why::Outside(Master::DmaWrite, write))
-        };
-        assert!(rt; Dma::wants(&begun)[1] == want, "{write:x}");
+        assert!(rt;
+            Dma::wants(&begun)[1] == Want::Outward(request),
+            "{write:x}"
+        );
     }
 }

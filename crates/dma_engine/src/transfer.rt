@@ -34,7 +34,7 @@ fn rounded(size: Size, address: u32) -> u32
 }
 
 /// How many addresses a ring has.
-fn places(ring: u32) -> u32
+fn span(ring: u32) -> u32
     requires { ring < 16 }
     ensures { result ≡ 2 ^ ring }
 {
@@ -51,8 +51,8 @@ fn advanced(ring: u32, bytes: u32, address: u32) -> u32
     if ring == 0 {
         return address.wrapping_add(bytes);
     }
-    let places = places(ring);
-    address / places * places + (address % places + bytes) % places
+    let span = span(ring);
+    address / span * span + (address % span + bytes) % span
 }
 
 /// The bytes of a value in reverse order.

@@ -1,16 +1,19 @@
 //! The words of the engine's registers by their offsets.
 
 ghost use Rattle.std.specs.Prelude.{◌≡◌, ◌*◌, ◌/◌, ◌%◌, ◌^◌, ◌<◌, ◌≤◌};
-ghost use Rattle.dma_engine.specs.Words.{number_of, place_of, channel_word, trigger_word, with_word_of, channel_written, interrupt_word, without_raised, interrupt_written, timer_word, word_of_timer, with_timer_word, timer_written, control_word, control_written, listed_word, word_of, is_allowed, written, effect_of};
+ghost use Rattle.dma_engine.specs.Words.{number_of, index_of, channel_word, trigger_word, with_word_of, channel_written, interrupt_word, without_raised, interrupt_written, timer_word, word_of_timer, with_timer_word, timer_written, control_word, control_written, listed_word, word_of, is_allowed, written, effect_of};
 
 use crate::engine::{CHANNELS, Engine};
-use crate::register::register_at;
+use crate::registers::{
+    CHAN_ABORT, INTE0, INTE1, INTF0, INTF1, INTR, INTS0, INTS1, MULTI_CHAN_TRIGGER, N_CHANNELS,
+    TIMER0, register_at,
+};
 use crate::timer::Timer;
 
-/// The number of the channel of an offset, and the place of the word among the channel's sixteen.
-fn channel_place(offset: u16) -> (u16, u16)
+/// The number of the channel of an offset, and the index of the word among its sixteen.
+fn channel_index(offset: u16) -> (u16, u16)
     ensures number { result.0 ≡ number_of offset }
-    ensures place { result.1 ≡ place_of offset }
+    ensures index { result.1 ≡ index_of offset }
     ensures bound { result.1 < 16 }
 {
     (offset / 0x40, offset % 0x40 / 4)
@@ -28,8 +31,8 @@ fn control_word(offset: u16) -> Option<u32>
     ensures { result ≡ control_word offset }
 {
     match offset {
-        0x430 | 0x444 => Some(0),
-        0x448 => Some(12),
+        MULTI_CHAN_TRIGGER | CHAN_ABORT => Some(0),
+        N_CHANNELS => Some(12),
         _ => None,
     }
 }
@@ -59,11 +62,11 @@ impl Engine {
     {
         if offset % 4 != 0 {
             None
-        } else if offset < 0x400 {
+        } else if offset < INTR {
             self.read_channel(offset)
-        } else if offset < 0x420 {
+        } else if offset < TIMER0 {
             self.read_interrupts(offset)
-        } else if offset < 0x430 {
+        } else if offset < MULTI_CHAN_TRIGGER {
             self.read_timer(offset)
         } else {
             control_word(offset)
@@ -106,11 +109,11 @@ impl Engine {
     fn write(&mut self, offset: u16, word: u32)
         ensures { self.new ≡ written offset word self.old }
     {
-        if offset < 0x400 {
+        if offset < INTR {
             self.write_channel(offset, word);
-        } else if offset < 0x420 {
+        } else if offset < TIMER0 {
             self.write_interrupts(offset, word);
-        } else if offset < 0x430 {
+        } else if offset < MULTI_CHAN_TRIGGER {
             self.write_timer(offset, word);
         } else {
             self.write_control(offset, word);
@@ -121,9 +124,9 @@ impl Engine {
     fn read_channel(&self, offset: u16) -> Option<u32>
         ensures { result ≡ channel_word self.now offset }
     {
-        let (number, place) = channel_place(offset);
+        let (number, index) = channel_index(offset);
         if number < 12 {
-            Some(self.channels[number as usize].register(register_at(place)))
+            Some(self.channels[number as usize].register(register_at(index)))
         } else {
             None
         }
@@ -133,14 +136,14 @@ impl Engine {
     fn set_register(&mut self, offset: u16, word: u32)
         ensures { self.new ≡ with_word_of offset word self.old }
     {
-        let (number, place) = channel_place(offset);
+        let (number, index) = channel_index(offset);
         if number < 12 {
             let channel = &mut self.channels[number as usize];
-            channel.set_register(register_at(place), word);
+            channel.set_register(register_at(index), word);
         }
     }
 
-    /// A word that was written in the place of a trigger.
+    /// A word that was written in a trigger word.
     #[tactic(auto, unfolding(crate::specs::Channels::with_trigger))]
     fn write_trigger(&mut self, number: u16, word: u32)
         ensures { self.new ≡ trigger_word number word self.old }
@@ -160,9 +163,9 @@ impl Engine {
     fn write_channel(&mut self, offset: u16, word: u32)
         ensures { self.new ≡ channel_written offset word self.old }
     {
-        let (number, place) = channel_place(offset);
+        let (number, index) = channel_index(offset);
         self.set_register(offset, word);
-        if place % 4 == 3 {
+        if index % 4 == 3 {
             self.write_trigger(number, word);
         }
     }
@@ -172,13 +175,13 @@ impl Engine {
         ensures { result ≡ interrupt_word self.now offset }
     {
         let bits = match offset {
-            0x400 => self.raised,
-            0x404 => self.line_0.enable,
-            0x408 => self.line_0.force,
-            0x40c => self.line_0.status(self.raised),
-            0x414 => self.line_1.enable,
-            0x418 => self.line_1.force,
-            0x41c => self.line_1.status(self.raised),
+            INTR => self.raised,
+            INTE0 => self.line_0.enable,
+            INTF0 => self.line_0.force,
+            INTS0 => self.line_0.status(self.raised),
+            INTE1 => self.line_1.enable,
+            INTF1 => self.line_1.force,
+            INTS1 => self.line_1.status(self.raised),
             _ => return None,
         };
         Some(u32::from(bits))
@@ -196,32 +199,32 @@ impl Engine {
         ensures { self.new ≡ interrupt_written offset word self.old }
     {
         match offset {
-            0x400 | 0x40c | 0x41c => self.clear_raised(word),
-            0x404 => self.line_0.enable = low_half(word),
-            0x408 => self.line_0.force = low_half(word),
-            0x414 => self.line_1.enable = low_half(word),
-            0x418 => self.line_1.force = low_half(word),
+            INTR | INTS0 | INTS1 => self.clear_raised(word),
+            INTE0 => self.line_0.enable = low_half(word),
+            INTF0 => self.line_0.force = low_half(word),
+            INTE1 => self.line_1.enable = low_half(word),
+            INTF1 => self.line_1.force = low_half(word),
             _ => {}
         }
     }
 
     /// X and Y of a pacing timer.
     fn read_timer(&self, offset: u16) -> Option<u32>
-        requires low { 0x420 ≤ offset }
-        requires high { offset < 0x430 }
+        requires low { TIMER0 ≤ offset }
+        requires high { offset < MULTI_CHAN_TRIGGER }
         ensures { result ≡ timer_word self.now offset }
     {
-        let timer = &self.timers[(offset - 0x420) as usize / 4];
+        let timer = &self.timers[(offset - TIMER0) as usize / 4];
         Some(timer.word())
     }
 
     /// Writes X and Y of a pacing timer.
     fn write_timer(&mut self, offset: u16, word: u32)
-        requires low { 0x420 ≤ offset }
-        requires high { offset < 0x430 }
+        requires low { TIMER0 ≤ offset }
+        requires high { offset < MULTI_CHAN_TRIGGER }
         ensures { self.new ≡ timer_written offset word self.old }
     {
-        let timer = &mut self.timers[(offset - 0x420) as usize / 4];
+        let timer = &mut self.timers[(offset - TIMER0) as usize / 4];
         timer.set_word(word);
     }
 
@@ -230,8 +233,8 @@ impl Engine {
         ensures { self.new ≡ control_written offset word self.old }
     {
         match offset {
-            0x430 => self.trigger_all(word),
-            0x444 => self.abort_all(word),
+            MULTI_CHAN_TRIGGER => self.trigger_all(word),
+            CHAN_ABORT => self.abort_all(word),
             _ => {}
         }
     }

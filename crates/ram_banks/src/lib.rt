@@ -15,6 +15,12 @@ use std::marker::Model;
 /// How many words SRAM has.
 pub const WORDS: usize = 67584;
 
+/// How many words a page has.
+pub const PAGE_WORDS: usize = 256;
+
+/// How many pages SRAM has.
+pub const PAGES: u32 = 264;
+
 /// The lanes of a whole word.
 const ALL_LANES: u8 = 0xf;
 
@@ -36,7 +42,9 @@ impl Model for Ram {
 
 impl Ram {
     ghost use Rattle.std.specs.Prelude.{◌≡◌, ◌<◌, length, slice_index, vec_len, IfOk};
+    ghost use Rattle.std.specs.Bool.{Decides};
     ghost use Rattle.ram_banks.specs.Sram.{zeros, written};
+    ghost use Rattle.ram_banks.specs.Pages.{page_of, with_page};
 
     /// All words are 0.
     pub fn new(alloc: Global) -> Result<Ram, AllocError>
@@ -83,6 +91,34 @@ impl Ram {
         ensures size { length self.new ≡ WORDS }
     {
         self.words.copy_from_slice(&other.words);
+    }
+
+    /// The words of a page are these.
+    pub fn page_same(&self, page: u32, words: &[u32; 256]) -> bool
+        requires { page < PAGES }
+        ensures { Decides result (page_of page self.now ≡ words.now) }
+    {
+        let first = page as usize * PAGE_WORDS;
+        self.words[first..first + PAGE_WORDS] == words[..]
+    }
+
+    /// Takes the words of a page out into `words`.
+    pub fn page_into(&self, page: u32, words: &mut [u32; 256])
+        requires { page < PAGES }
+        ensures { words.new ≡ page_of page self.now }
+    {
+        let first = page as usize * PAGE_WORDS;
+        words.copy_from_slice(&self.words[first..first + PAGE_WORDS]);
+    }
+
+    /// Puts words in the place of a page; no other page changes.
+    pub fn page_from(&mut self, page: u32, words: &[u32; 256])
+        requires { page < PAGES }
+        ensures value { self.new ≡ with_page page words.now self.old }
+        ensures size { length self.new ≡ WORDS }
+    {
+        let first = page as usize * PAGE_WORDS;
+        self.words[first..first + PAGE_WORDS].copy_from_slice(words);
     }
 }
 

@@ -1,4 +1,4 @@
--- The end of a cycle: what was held and taken then is what the next cycle begins with, and a division goes on.
+-- The end of a cycle: what the mailboxes and locks have then is what the next cycle begins with, and a division goes on.
 use Rattle.sio_block.specs.Side.{side_ended}
 use Rattle.sio_block.specs.Locks.{locks_ended}
 use Rattle.sio_block.specs.State.{SioState}

@@ -4,6 +4,7 @@ use Rattle.std.specs.Prelude.{ℕ, ◌+◌, ◌-◌, ◌*◌, ◌^◌, Bool, tru
 use Rattle.std.specs.Int.{cast_signed, w32}
 use Rattle.std.specs.Int.RustNames.{int_div, int_rem}
 use Rattle.word_bits.specs.Word.{word_of, bit_number, is_negative_word}
+use Rattle.sio_block.specs.declared.registers.TheConstants.{DIV_UDIVIDEND, DIV_UDIVISOR, DIV_SDIVIDEND, DIV_SDIVISOR, DIV_QUOTIENT, DIV_REMAINDER, DIV_CSR}
 use Rattle.sio_block.specs.declared.divider.Divider.{Divider}
 
 -- at reset no division is going on
@@ -35,11 +36,11 @@ csr_of d = bit_number (d.left == 0) + bit_number d.dirty * 2
 
 abbrev pub divider_word : ℕ → Divider → Option ℕ
 divider_word offset d =
-    if offset == 0x060 || offset == 0x068 then Some d.dividend else
-    if offset == 0x064 || offset == 0x06C then Some d.divisor else
-    if offset == 0x070 then Some d.quotient else
-    if offset == 0x074 then Some d.remainder else
-    if offset == 0x078 then Some (csr_of d) else None
+    if offset == DIV_UDIVIDEND || offset == DIV_SDIVIDEND then Some d.dividend else
+    if offset == DIV_UDIVISOR || offset == DIV_SDIVISOR then Some d.divisor else
+    if offset == DIV_QUOTIENT then Some d.quotient else
+    if offset == DIV_REMAINDER then Some d.remainder else
+    if offset == DIV_CSR then Some (csr_of d) else None
 
 -- a division begins, also where one was going on; it takes 8 cycles, that of the write among them
 abbrev pub begun : Bool → Divider → Divider
@@ -51,16 +52,16 @@ ended_by_write d = record d { left = 0; dirty = true }
 
 abbrev pub divider_written : ℕ → ℕ → Divider → Divider
 divider_written offset w d =
-    if offset == 0x060 then begun false (record d { dividend = w }) else
-    if offset == 0x064 then begun false (record d { divisor = w }) else
-    if offset == 0x068 then begun true (record d { dividend = w }) else
-    if offset == 0x06C then begun true (record d { divisor = w }) else
-    if offset == 0x070 then ended_by_write (record d { quotient = w }) else
-    if offset == 0x074 then ended_by_write (record d { remainder = w }) else d
+    if offset == DIV_UDIVIDEND then begun false (record d { dividend = w }) else
+    if offset == DIV_UDIVISOR then begun false (record d { divisor = w }) else
+    if offset == DIV_SDIVIDEND then begun true (record d { dividend = w }) else
+    if offset == DIV_SDIVISOR then begun true (record d { divisor = w }) else
+    if offset == DIV_QUOTIENT then ended_by_write (record d { quotient = w }) else
+    if offset == DIV_REMAINDER then ended_by_write (record d { remainder = w }) else d
 
 -- a read of the quotient clears DIRTY
 abbrev pub divider_read : ℕ → Divider → Divider
-divider_read offset d = if offset == 0x070 then record d { dirty = false } else d
+divider_read offset d = if offset == DIV_QUOTIENT then record d { dirty = false } else d
 
 -- the results appear at the end of the last cycle; until then the old ones stay
 abbrev pub divider_ended : Divider → Divider

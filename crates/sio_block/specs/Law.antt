@@ -2,6 +2,7 @@
 use Rattle.std.specs.Prelude.{◌≡◌, ℕ, zero, suc, ◌+◌, ◌*◌, ◌^◌, ◌<◌, ◌≤◌, Bool, true, false, ◌||◌, ◌==◌, ℤ, ◌+ℤ◌, ◌*ℤ◌, unsigned_abs, List, [], ◌∷◌, ◌++◌, Some, None, option_to_list}
 use Rattle.word_bits.specs.Word as word
 use Rattle.word_bits.specs.Word.{has_bit}
+use Rattle.sio_block.specs.declared.registers.TheConstants.{DIV_UDIVIDEND, DIV_UDIVISOR, DIV_SDIVIDEND, DIV_SDIVISOR, SPINLOCK0}
 use Rattle.sio_block.specs.declared.Launch.{Launch}
 use Rattle.sio_block.specs.declared.divider.Divider.{Divider}
 use Rattle.sio_block.specs.Divider.{number_of, quotient_of, remainder_of, csr_of, divider_written, divider_ended}
@@ -13,7 +14,7 @@ use Rattle.sio_block.specs.Changes.{effect_of}
 -- ---- spinlocks
 
 abbrev pub lock_offset : ℕ → ℕ
-lock_offset n = 0x100 + 4 * n
+lock_offset n = SPINLOCK0 + 4 * n
 
 -- of two cores that read a free lock in one cycle the first gets its bit, and the second finds it taken until it is written
 pub record HasOneOwner (s : SioState) (n inputs first second w : ℕ) : Type 0 where
@@ -54,7 +55,7 @@ after_cycles zero d = d
 after_cycles (suc n) d = after_cycles n (divider_ended d)
 
 abbrev pub is_operand : ℕ → Bool
-is_operand offset = offset == 0x060 || (offset == 0x064 || (offset == 0x068 || offset == 0x06C))
+is_operand offset = offset == DIV_UDIVIDEND || (offset == DIV_UDIVISOR || (offset == DIV_SDIVIDEND || offset == DIV_SDIVISOR))
 
 -- what is read: the results, and READY and DIRTY
 pub record Reads (d : Divider) (q r status : ℕ) : Type 0 where

@@ -1,6 +1,7 @@
 -- The 32 spinlocks (RP2040 Datasheet, 2.3.1.3, Hardware Spinlocks, and 2.3.1.7): a set of the numbers of those that are taken,
 -- as a word whose bit n is that of lock n.
 use Rattle.std.specs.Prelude.{ℕ, ◌-◌, ◌/◌, ◌%◌, ◌^◌, Bool, not, ◌&&◌, ◌==◌, nat_le, if◌then◌else◌, Option, Some, None, bit_or}
+use Rattle.sio_block.specs.declared.registers.TheConstants.{SPINLOCK0, SPINLOCK31}
 use Rattle.sio_block.specs.declared.locks.Locks.{Locks}
 use Rattle.word_bits.specs.Word.{has_bit, minus}
 
@@ -9,10 +10,10 @@ locks_at_reset = record { taken = 0; before = 0 }
 
 -- SPINLOCK0 to SPINLOCK31
 abbrev pub is_lock : ℕ → Bool
-is_lock offset = nat_le 0x100 offset && (nat_le offset 0x17C && offset % 4 == 0)
+is_lock offset = nat_le SPINLOCK0 offset && (nat_le offset SPINLOCK31 && offset % 4 == 0)
 
 abbrev pub lock_number : ℕ → ℕ
-lock_number offset = (offset - 0x100) / 4
+lock_number offset = (offset - SPINLOCK0) / 4
 
 -- a lock that is free reads as its bit, one that is taken as 0
 abbrev pub lock_word : ℕ → Locks → Option ℕ

@@ -7,16 +7,16 @@ pub record Mailbox : Type 0 where
   -- the oldest first
   pub words : List ℕ
   -- how many they were when the cycle began
-  pub held : ℕ
+  pub before : ℕ
 
 abbrev pub empty : Mailbox
-empty = record { words = []; held = 0 }
+empty = record { words = []; before = 0 }
 
 abbrev pub had_word : Mailbox → Bool
-had_word m = nat_lt 0 m.held
+had_word m = nat_lt 0 m.before
 
 abbrev pub had_room : Mailbox → Bool
-had_room m = nat_lt m.held 8
+had_room m = nat_lt m.before 8
 
 -- it has a word, and room, now
 abbrev pub has_word : Mailbox → Bool
@@ -38,4 +38,4 @@ abbrev pub put_into : ℕ → Mailbox → Mailbox
 put_into w m = if had_room m && has_room m then record m { words = m.words ++ w ∷ [] } else m
 
 abbrev pub mailbox_ended : Mailbox → Mailbox
-mailbox_ended m = record m { held = length m.words }
+mailbox_ended m = record m { before = length m.words }

@@ -1,6 +1,7 @@
 -- The pins that software drives (RP2040 Datasheet, 2.3.1.2, GPIO Control, and 2.3.1.7): GPIO_OUT and GPIO_OE have 30 bits, one
 -- for each pin. After each of the two come its SET, CLR and XOR words, which are written only and read as 0.
 use Rattle.std.specs.Prelude.{ℕ, ◌+◌, ◌%◌, ◌^◌, Bool, ◌||◌, ◌==◌, if◌then◌else◌, Option, Some, None, bit_or, bit_xor}
+use Rattle.sio_block.specs.declared.registers.TheConstants.{GPIO_OUT, GPIO_OE}
 use Rattle.sio_block.specs.declared.pins.Pins.{Pins}
 use Rattle.word_bits.specs.Word.{minus}
 
@@ -14,9 +15,9 @@ is_change first offset = offset == first + 4 || (offset == first + 8 || offset =
 
 abbrev pub pins_word : ℕ → Pins → Option ℕ
 pins_word offset p =
-    if offset == 0x010 then Some p.out else
-    if offset == 0x020 then Some p.enable else
-    if is_change 0x010 offset || is_change 0x020 offset then Some 0 else None
+    if offset == GPIO_OUT then Some p.out else
+    if offset == GPIO_OE then Some p.enable else
+    if is_change GPIO_OUT offset || is_change GPIO_OE offset then Some 0 else None
 
 -- a word after a write to it, or to its SET, CLR or XOR word
 abbrev pub changed : ℕ → ℕ → ℕ → ℕ → ℕ
@@ -29,6 +30,6 @@ changed first offset w old =
 abbrev pub pins_written : ℕ → ℕ → Pins → Pins
 pins_written offset w p =
     record {
-      out = changed 0x010 offset (w % 2 ^ 30) p.out;
-      enable = changed 0x020 offset (w % 2 ^ 30) p.enable;
+      out = changed GPIO_OUT offset (w % 2 ^ 30) p.out;
+      enable = changed GPIO_OE offset (w % 2 ^ 30) p.enable;
     }

@@ -2,6 +2,7 @@
 -- and 2.3.1.7). A core reads from its own mailbox and writes into the other core's.
 use Rattle.std.specs.Prelude.{ℕ, ◌+◌, ◌*◌, Bool, false, not, ◌||◌, ◌&&◌, ◌==◌, if◌then◌else◌, Option, Some}
 use Rattle.word_bits.specs.Word.{has_bit, bit_number}
+use Rattle.sio_block.specs.declared.registers.TheConstants.{FIFO_ST, FIFO_WR, FIFO_RD}
 use Rattle.sio_block.specs.declared.side.Side.{Side}
 use Rattle.sio_block.specs.Mailbox.{Mailbox, empty, had_word, had_room, has_word, has_room, front_of, taken_from, put_into, mailbox_ended}
 use Rattle.sio_block.specs.Divider.{divider_at_reset, divider_word, divider_written, divider_read, divider_ended}
@@ -19,9 +20,9 @@ status_of other s =
 -- the words of the mailboxes and of the divider, where `other` is the other core's mailbox; FIFO_WR is written only
 abbrev pub side_word : ℕ → Mailbox → Side → Option ℕ
 side_word offset other s =
-    if offset == 0x050 then Some (status_of other s) else
-    if offset == 0x054 then Some 0 else
-    if offset == 0x058 then Some (front_of s.mailbox) else divider_word offset s.divider
+    if offset == FIFO_ST then Some (status_of other s) else
+    if offset == FIFO_WR then Some 0 else
+    if offset == FIFO_RD then Some (front_of s.mailbox) else divider_word offset s.divider
 
 -- the core's interrupt line: VLD, WOF or ROE
 abbrev pub line_of : Side → Bool
@@ -38,18 +39,18 @@ status_written w s =
 -- what a write does on the side of the core that writes
 abbrev pub side_written : ℕ → ℕ → Mailbox → Side → Side
 side_written offset w other s =
-    if offset == 0x050 then status_written w s else
-    if offset == 0x054 then record s { write_on_full = s.write_on_full || not (had_room other) } else
+    if offset == FIFO_ST then status_written w s else
+    if offset == FIFO_WR then record s { write_on_full = s.write_on_full || not (had_room other) } else
     record s { divider = divider_written offset w s.divider }
 
 -- what a write does to the other core's mailbox; a word for a mailbox that was full is dropped
 abbrev pub mailbox_written : ℕ → ℕ → Mailbox → Mailbox
-mailbox_written offset w other = if offset == 0x054 then put_into w other else other
+mailbox_written offset w other = if offset == FIFO_WR then put_into w other else other
 
 -- what a read does on the side of the core that reads
 abbrev pub side_read : ℕ → Side → Side
 side_read offset s =
-    if offset == 0x058
+    if offset == FIFO_RD
     then record s { mailbox = taken_from s.mailbox; read_on_empty = s.read_on_empty || not (had_word s.mailbox) }
     else record s { divider = divider_read offset s.divider }
 

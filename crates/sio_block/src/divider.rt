@@ -5,6 +5,10 @@ ghost use Rattle.std.specs.Int.RustNames.{int_div, int_rem};
 ghost use Rattle.word_bits.specs.Word.{word_of, bit_number};
 ghost use Rattle.sio_block.specs.Divider.{divider_at_reset, number_of, quotient_of, remainder_of, csr_of, divider_word, begun, ended_by_write, divider_written, divider_read, divider_ended};
 
+use crate::registers::{
+    DIV_CSR, DIV_QUOTIENT, DIV_REMAINDER, DIV_SDIVIDEND, DIV_SDIVISOR, DIV_UDIVIDEND, DIV_UDIVISOR,
+};
+
 /// How many cycles a division takes, that of the write among them.
 const CYCLES: u8 = 8;
 
@@ -56,11 +60,11 @@ impl Divider {
         ensures { result ≡ divider_word offset self.now }
     {
         match offset {
-            0x60 | 0x68 => Some(self.dividend),
-            0x64 | 0x6c => Some(self.divisor),
-            0x70 => Some(self.quotient),
-            0x74 => Some(self.remainder),
-            0x78 => Some(self.csr()),
+            DIV_UDIVIDEND | DIV_SDIVIDEND => Some(self.dividend),
+            DIV_UDIVISOR | DIV_SDIVISOR => Some(self.divisor),
+            DIV_QUOTIENT => Some(self.quotient),
+            DIV_REMAINDER => Some(self.remainder),
+            DIV_CSR => Some(self.csr()),
             _ => None,
         }
     }
@@ -76,7 +80,7 @@ impl Divider {
     pub(crate) fn after_read(&mut self, offset: u16)
         ensures { self.new ≡ divider_read offset self.old }
     {
-        if offset == 0x70 {
+        if offset == DIV_QUOTIENT {
             self.dirty = false;
         }
     }
@@ -86,19 +90,19 @@ impl Divider {
         ensures { self.new ≡ divider_written offset word self.old }
     {
         match offset {
-            0x60 | 0x68 => {
+            DIV_UDIVIDEND | DIV_SDIVIDEND => {
                 self.dividend = word;
-                self.begin(offset == 0x68);
+                self.begin(offset == DIV_SDIVIDEND);
             }
-            0x64 | 0x6c => {
+            DIV_UDIVISOR | DIV_SDIVISOR => {
                 self.divisor = word;
-                self.begin(offset == 0x6c);
+                self.begin(offset == DIV_SDIVISOR);
             }
-            0x70 => {
+            DIV_QUOTIENT => {
                 self.quotient = word;
                 self.end();
             }
-            0x74 => {
+            DIV_REMAINDER => {
                 self.remainder = word;
                 self.end();
             }

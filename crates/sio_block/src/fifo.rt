@@ -13,7 +13,7 @@ const DEPTH: usize = 8;
 #[derive(Drop)]
 pub struct Fifo {
     words: ArrayVec<u32, 8>,
-    held: usize,
+    before: usize,
 }
 
 impl Model for Fifo {
@@ -21,7 +21,7 @@ impl Model for Fifo {
 
     ghost Value = { Mailbox };
 
-    ghost view = { λ m. record { words = m.words.items; held = m.held } };
+    ghost view = { λ m. record { words = m.words.items; before = m.before } };
 }
 
 impl Fifo {
@@ -31,7 +31,7 @@ impl Fifo {
     {
         Fifo {
             words: ArrayVec::new(),
-            held: 0,
+            before: 0,
         }
     }
 
@@ -39,14 +39,14 @@ impl Fifo {
     pub(crate) fn had_word(&self) -> bool
         ensures { result ≡ had_word self.now }
     {
-        0 < self.held
+        0 < self.before
     }
 
     /// It had room when the cycle began.
     pub(crate) fn had_room(&self) -> bool
         ensures { result ≡ had_room self.now }
     {
-        self.held < DEPTH
+        self.before < DEPTH
     }
 
     /// It has a word.
@@ -75,7 +75,7 @@ impl Fifo {
     pub(crate) fn take(&mut self)
         ensures { self.new ≡ taken_from self.old }
     {
-        if 0 < self.held && 0 < self.words.len() {
+        if 0 < self.before && 0 < self.words.len() {
             self.words.remove(0);
         }
     }
@@ -84,7 +84,7 @@ impl Fifo {
     pub(crate) fn put(&mut self, word: u32)
         ensures { self.new ≡ put_into word self.old }
     {
-        if self.held < DEPTH && self.words.len() < DEPTH {
+        if self.before < DEPTH && self.words.len() < DEPTH {
             self.words.push(word);
         }
     }
@@ -93,7 +93,7 @@ impl Fifo {
     pub(crate) fn end_cycle(&mut self)
         ensures { self.new ≡ mailbox_ended self.old }
     {
-        self.held = self.words.len();
+        self.before = self.words.len();
     }
 
     /// Takes the words of another mailbox.
@@ -102,6 +102,6 @@ impl Fifo {
     {
         self.words.clear();
         let _ = self.words.try_extend_from_slice(other.words.as_slice());
-        self.held = other.held;
+        self.before = other.before;
     }
 }

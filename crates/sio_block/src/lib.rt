@@ -3,7 +3,7 @@
 //! in `specs/` on lists of words and on sets of bits.
 #![tactic(auto)]
 
-ghost use Rattle.std.specs.Prelude.{◌≡◌, ◌<◌, ◌∷◌, []};
+ghost use Rattle.std.specs.Prelude.{◌≡◌, ◌<◌, ◌∷◌, [], true};
 ghost use Rattle.sio_block.specs.State.{at_reset, own_side};
 ghost use Rattle.sio_block.specs.Side.{line_of};
 ghost use Rattle.sio_block.specs.Words.{word_of};
@@ -17,6 +17,7 @@ mod launcher;
 pub mod laws;
 pub mod locks;
 pub mod pins;
+pub mod registers;
 pub mod side;
 #[cfg(test)]
 mod tests;
@@ -24,6 +25,7 @@ mod tests;
 use arrayvec::ArrayVec;
 use locks::Locks;
 use pins::Pins;
+use registers::{CPUID, FIFO_ST, GPIO_IN, SPINLOCK_ST, SPINLOCK0};
 use side::Side;
 use std::marker::Model;
 
@@ -47,7 +49,7 @@ pub struct Sio {
     core0: Side,
     core1: Side,
     launched: ArrayVec<u32, 5>,
-    quiet: bool,
+    at_rest: bool,
 }
 
 impl Model for Sio {
@@ -59,10 +61,10 @@ impl Model for Sio {
 
     ghost view = { λ s. record { pins = s.pins; locks = s.locks; core0 = s.core0; core1 = s.core1; launched = s.launched.items } };
 
-    // a block that is quiet stays as it is at the end of a cycle
+    // a block at rest stays as it is at the end of a cycle
     ghost invariant = { λ s.
         let now : SioState = record { pins = s.pins; locks = s.locks; core0 = s.core0; core1 = s.core1; launched = s.launched.items } in
-        s.quiet ≡ true → after_cycle now ≡ now };
+        s.at_rest ≡ true → after_cycle now ≡ now };
 }
 
 impl Sio {
@@ -80,7 +82,7 @@ impl Sio {
             core0: Side::new(),
             core1: Side::new(),
             launched: ArrayVec::new(),
-            quiet: true,
+            at_rest: true,
         }
     }
 
@@ -91,12 +93,12 @@ impl Sio {
         ensures { result ≡ word_of core offset inputs self.now }
     {
         match offset {
-            0x00 => Some(u32::from(core)),
-            0x04 => Some(inputs),
-            0x5c => Some(self.locks.taken),
-            _ if offset < 0x50 => self.pins.read(offset),
-            _ if offset < 0x100 && core == 0 => self.core0.read(offset, &self.core1.mailbox),
-            _ if offset < 0x100 => self.core1.read(offset, &self.core0.mailbox),
+            CPUID => Some(u32::from(core)),
+            GPIO_IN => Some(inputs),
+            SPINLOCK_ST => Some(self.locks.taken),
+            _ if offset < FIFO_ST => self.pins.read(offset),
+            _ if offset < SPINLOCK0 && core == 0 => self.core0.read(offset, &self.core1.mailbox),
+            _ if offset < SPINLOCK0 => self.core1.read(offset, &self.core0.mailbox),
             _ => self.locks.read(offset),
         }
     }
@@ -117,8 +119,8 @@ impl Sio {
     fn after_read(&mut self, core: u8, offset: u16)
         ensures { self.new ≡ after_read core offset self.old }
     {
-        self.quiet = false;
-        if offset >= 0x100 {
+        self.at_rest = false;
+        if offset >= SPINLOCK0 {
             self.locks.after_read(offset);
         } else if core == 0 {
             self.core0.after_read(offset);
@@ -131,10 +133,10 @@ impl Sio {
     fn write(&mut self, core: u8, offset: u16, word: u32)
         ensures { self.new ≡ after_write core offset word self.old }
     {
-        self.quiet = false;
-        if offset < 0x50 {
+        self.at_rest = false;
+        if offset < FIFO_ST {
             self.pins.write(offset, word);
-        } else if offset >= 0x100 {
+        } else if offset >= SPINLOCK0 {
             self.locks.write(offset);
         } else if core == 0 {
             self.core0.write(offset, word, &mut self.core1.mailbox);
@@ -153,7 +155,7 @@ impl Sio {
         if !self.offers() {
             return None;
         }
-        self.quiet = false;
+        self.at_rest = false;
         let word = self.core1.mailbox.front();
         self.core1.mailbox.take();
         self.core0
@@ -162,18 +164,33 @@ impl Sio {
         launcher::take(&mut self.launched, word)
     }
 
-    /// Ends a cycle: what is held and taken now is what the next cycle begins with, and divisions go on. The results of a
-    /// division appear at the end of the eighth cycle, that of the write among them.
+    /// Ends a cycle: what the mailboxes and locks have now is what the next cycle begins with, and divisions go on. The
+    /// results of a division appear at the end of the eighth cycle, that of the write among them.
+    #[inline(always)]
     pub fn end_cycle(&mut self)
         ensures { self.new ≡ after_cycle self.old }
     {
-        if self.quiet {
-            return;
+        if !self.at_rest {
+            self.end_busy_cycle();
         }
+    }
+
+    /// Ends a cycle in which something may change.
+    fn end_busy_cycle(&mut self)
+        ensures { self.new ≡ after_cycle self.old }
+    {
         self.locks.end_cycle();
         self.core0.end_cycle();
         self.core1.end_cycle();
-        self.quiet = !self.core0.divider.is_busy() && !self.core1.divider.is_busy();
+        self.at_rest = !self.core0.divider.is_busy() && !self.core1.divider.is_busy();
+    }
+
+    /// The block is at rest: the end of a cycle changes nothing.
+    #[inline(always)]
+    pub fn is_at_rest(&self) -> bool
+        ensures { result ≡ true → after_cycle self.now ≡ self.now }
+    {
+        self.at_rest
     }
 
     /// The launcher would take a word in this cycle.
@@ -214,6 +231,6 @@ impl Sio {
         let _ = self
             .launched
             .try_extend_from_slice(other.launched.as_slice());
-        self.quiet = other.quiet;
+        self.at_rest = other.at_rest;
     }
 }

@@ -3,6 +3,8 @@
 ghost use Rattle.std.specs.Prelude.{◌≡◌, ◌<◌, true};
 ghost use Rattle.sio_block.specs.Locks.{is_lock, lock_number, lock_word, lock_read, lock_written, locks_ended};
 
+use crate::registers::{SPINLOCK0, SPINLOCK31};
+
 /// The 32 spinlocks, by bits (RP2040 Datasheet, 2.3.1.3).
 #[derive(Clone, Copy)]
 pub struct Locks {
@@ -61,7 +63,7 @@ impl Locks {
 fn is_lock(offset: u16) -> bool
     ensures { result ≡ is_lock offset }
 {
-    0x100 <= offset && offset <= 0x17c && offset % 4 == 0
+    SPINLOCK0 <= offset && offset <= SPINLOCK31 && offset % 4 == 0
 }
 
 /// The number of the lock at an offset.
@@ -70,5 +72,5 @@ fn lock_number(offset: u16) -> u16
     ensures value { result ≡ lock_number offset }
     ensures range { result < 32 }
 {
-    (offset - 0x100) / 4
+    (offset - SPINLOCK0) / 4
 }

@@ -3,6 +3,11 @@
 ghost use Rattle.std.specs.Prelude.{◌≡◌, ◌≤◌};
 ghost use Rattle.sio_block.specs.Pins.{is_change, pins_word, changed, pins_written};
 
+use crate::registers::{
+    GPIO_OE, GPIO_OE_CLR, GPIO_OE_SET, GPIO_OE_XOR, GPIO_OUT, GPIO_OUT_CLR, GPIO_OUT_SET,
+    GPIO_OUT_XOR,
+};
+
 /// GPIO_OUT and GPIO_OE, of 30 bits (RP2040 Datasheet, 2.3.1.2).
 #[derive(Clone, Copy)]
 pub struct Pins {
@@ -18,9 +23,10 @@ impl Pins {
         ensures { result ≡ pins_word offset self.now }
     {
         match offset {
-            0x10 => Some(self.out),
-            0x20 => Some(self.enable),
-            0x14 | 0x18 | 0x1c | 0x24 | 0x28 | 0x2c => Some(0),
+            GPIO_OUT => Some(self.out),
+            GPIO_OE => Some(self.enable),
+            GPIO_OUT_SET | GPIO_OUT_CLR | GPIO_OUT_XOR | GPIO_OE_SET | GPIO_OE_CLR | GPIO_OE_XOR =>
+                Some(0),
             _ => None,
         }
     }
@@ -30,14 +36,14 @@ impl Pins {
         ensures { self.new ≡ pins_written offset word self.old }
     {
         let bits = word & 0x3fff_ffff;
-        self.out = changed(0x10, offset, bits, self.out);
-        self.enable = changed(0x20, offset, bits, self.enable);
+        self.out = changed(GPIO_OUT, offset, bits, self.out);
+        self.enable = changed(GPIO_OE, offset, bits, self.enable);
     }
 }
 
 /// What a write leaves in the word at `first`, where the SET, CLR and XOR words follow it.
 fn changed(first: u16, offset: u16, bits: u32, old: u32) -> u32
-    requires { first ≤ 0x20 }
+    requires { first ≤ GPIO_OE }
     ensures { result ≡ changed first offset bits old }
 {
     if offset == first {

@@ -5,6 +5,7 @@ ghost use Rattle.sio_block.specs.Side.{side_at_reset, status_of, side_word, line
 
 use crate::divider::Divider;
 use crate::fifo::Fifo;
+use crate::registers::{FIFO_RD, FIFO_ST, FIFO_WR};
 
 /// The mailbox and the divider of a core (RP2040 Datasheet, 2.3.1.4 and 2.3.1.5).
 #[derive(Drop)]
@@ -36,9 +37,9 @@ impl Side {
         ensures { result ≡ side_word offset other.now self.now }
     {
         match offset {
-            0x50 => Some(self.status(other)),
-            0x54 => Some(0),
-            0x58 => Some(self.mailbox.front()),
+            FIFO_ST => Some(self.status(other)),
+            FIFO_WR => Some(0),
+            FIFO_RD => Some(self.mailbox.front()),
             _ => self.divider.read(offset),
         }
     }
@@ -64,7 +65,7 @@ impl Side {
     pub(crate) fn after_read(&mut self, offset: u16)
         ensures { self.new ≡ side_read offset self.old }
     {
-        if offset == 0x58 {
+        if offset == FIFO_RD {
             if !self.mailbox.had_word() {
                 self.read_on_empty = true;
             }
@@ -80,8 +81,8 @@ impl Side {
         ensures other { other.new ≡ mailbox_written offset word other.old }
     {
         match offset {
-            0x50 => self.write_status(word),
-            0x54 => {
+            FIFO_ST => self.write_status(word),
+            FIFO_WR => {
                 if !other.had_room() {
                     self.write_on_full = true;
                 }
