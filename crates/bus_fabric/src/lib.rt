@@ -95,6 +95,7 @@ impl Fabric {
     }
 
     /// A port, 0 to 7, has served a master: it remembers that one, and nothing else changes.
+    #[inline(always)]
     pub fn served(&mut self, port: u8, master: Master)
         requires { port < 8 }
         ensures { self.new ≡ served port master self.old }
@@ -103,6 +104,7 @@ impl Fabric {
     }
 
     /// A port has a hold.
+    #[inline(always)]
     pub fn holds(&self) -> bool
         ensures hold { result ≡ has_hold self.now }
         ensures ports { length self.now.last ≡ 8 }
@@ -118,6 +120,7 @@ impl Fabric {
     }
 
     /// BUS_PRIORITY.
+    #[inline(always)]
     pub fn priority(&self) -> u32
         ensures { result ≡ self.now.priority }
     {
@@ -133,6 +136,7 @@ impl Fabric {
     }
 
     /// The access of a master is done in this cycle; `won` tells that it has won its port.
+    #[inline(always)]
     fn is_done(&self, asked: &[Option<(u8, bool)>; 4], master: Master, won: bool) -> bool
         requires { won ≡ has_won asked.now self.now master }
         ensures { result ≡ is_done asked.now self.now master }
@@ -156,6 +160,7 @@ impl Fabric {
     }
 
     /// A port has no hold.
+    #[inline(always)]
     fn is_free(&self, port: u8) -> bool
         ensures { result ≡ is_free self.now.hold port }
     {
@@ -186,6 +191,7 @@ impl Fabric {
     }
 
     /// A request on a port that won `last` beats that of a master.
+    #[inline(always)]
     fn loses(
         &self,
         asked: &[Option<(u8, bool)>; 4],
@@ -244,6 +250,7 @@ impl Fabric {
 }
 
 /// The place of a master in their order.
+#[inline(always)]
 fn number(master: Master) -> usize
     ensures value { result ≡ number_of master }
     ensures four { result < 4 }
@@ -257,6 +264,7 @@ fn number(master: Master) -> usize
 }
 
 /// The number from 1 to 4 of steps in the round of the masters from `last` to another one.
+#[inline(always)]
 fn distance(last: Master, master: Master) -> usize
     ensures { result ≡ distance last master }
 {
@@ -264,6 +272,7 @@ fn distance(last: Master, master: Master) -> usize
 }
 
 /// The port that a master asks for remembers it where the master has won it.
+#[inline(always)]
 fn remember(won: bool, asked: &[Option<(u8, bool)>; 4], master: Master, last: &mut [Master; 8])
     requires { HavePorts asked.now }
     ensures { last.new ≡ remembered won (access_of asked.now master) master last.old }
@@ -276,6 +285,7 @@ fn remember(won: bool, asked: &[Option<(u8, bool)>; 4], master: Master, last: &m
 }
 
 /// A master asks for an access on a port.
+#[inline(always)]
 fn asks_on(asked: &[Option<(u8, bool)>; 4], port: u8, master: Master) -> bool
     ensures { result ≡ asks_on asked.now port master }
 {
@@ -286,6 +296,7 @@ fn asks_on(asked: &[Option<(u8, bool)>; 4], port: u8, master: Master) -> bool
 }
 
 /// A master's bit of BUS_PRIORITY.
+#[inline(always)]
 fn is_high(priority: u32, master: Master) -> bool
     ensures { result ≡ is_high priority master }
 {
@@ -293,6 +304,7 @@ fn is_high(priority: u32, master: Master) -> bool
 }
 
 /// Of two requests on one port, which `last` won last, the first beats the second.
+#[inline(always)]
 fn beats(priority: u32, last: Master, first: Master, second: Master) -> bool
     ensures { result ≡ beats (is_high priority) last first second }
 {
@@ -304,6 +316,7 @@ fn beats(priority: u32, last: Master, first: Master, second: Master) -> bool
 }
 
 /// A hold is in its last cycle.
+#[inline(always)]
 fn is_last(hold: &Hold) -> bool
     ensures { result ≡ is_last hold.now }
 {
@@ -311,6 +324,7 @@ fn is_last(hold: &Hold) -> bool
 }
 
 /// A hold is for this master.
+#[inline(always)]
 fn is_master(master: Master, holder: Option<Master>) -> bool
     ensures { result ≡ is_master master holder }
 {

@@ -1,5 +1,5 @@
 -- Lemmas for the laws of the lane: how much the engine asks in a cycle, and what its step reads of its turns.
-use Rattle.std.proofs.Common.{◌≡◌, refl, ℕ, suc, ◌%◌, ◌^◌, List, [], ◌∷◌, Option, Some, None}
+use Rattle.std.proofs.Common.{◌≡◌, refl, ℕ, suc, List, [], ◌∷◌, Option, Some, None}
 use Rattle.std.specs.Prelude.{slice_get}
 use Rattle.rp_base.specs.declared.Request.{Request}
 use Rattle.rp_base.specs.declared.map.Spot.{Spot}
@@ -17,11 +17,11 @@ use Rattle.dma_engine.specs.declared.doing.Access.TheVariants as access
 use Rattle.dma_engine.specs.declared.doing.Doing.{Doing}
 use Rattle.dma_engine.specs.State.{Engine}
 use Rattle.dma_engine.specs.Asks.{asks_at, asks_for, asks_read, write_begun, next_request, asks}
-use Rattle.dma_engine.specs.Cycle.{want_of, wanted, word_of, word_read, is_written, next}
+use Rattle.dma_engine.specs.Cycle.{want_of, wanted, word_of, word_read, is_written, after_transfers, next}
 
 -- ---- questions
 
-few_at : (n counts : ℕ) (write : Access) (request : Request) (place : Spot) → Few (suc n) (asks_at counts write request place)
+few_at : (n counts : ℕ) (write : Access) (request : Request) (at : Spot) → Few (suc n) (asks_at counts write request at)
 few_at n counts write request (spot.Ram index bank) = few_ask n (Word request.address) _ (λ word. few_ready n _)
 few_at n counts write request (spot.Reg block offset alias) = few_ready _ _
 few_at n counts write request (spot.Sio offset) = few_ready _ _
@@ -75,6 +75,6 @@ write_alike (access.Stopped cause) want (t ∷ u ∷ us) = refl
 
 -- an access to SRAM has told its word already
 pub reads_none : (s : Engine) (begun : Doing) (turns : List Turn) → next s begun (without_words (wanted begun) turns) ≡ next s begun turns
-unfolding next
+unfolding next after_transfers
 reads_none s begun turns =
     rw (read_alike begun.read (want_of begun.write ∷ []) turns, write_alike begun.write (want_of begun.read) turns) refl

@@ -66,6 +66,7 @@ impl Ram {
     }
 
     /// The word of an index.
+    #[inline(always)]
     pub fn read(&self, index: u32) -> u32
         requires { index < WORDS }
         ensures value { result ≡ slice_index self.now index }

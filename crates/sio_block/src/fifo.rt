@@ -36,6 +36,7 @@ impl Fifo {
     }
 
     /// It had a word when the cycle began.
+    #[inline(always)]
     pub(crate) fn had_word(&self) -> bool
         ensures { result ≡ had_word self.now }
     {
@@ -43,6 +44,7 @@ impl Fifo {
     }
 
     /// It had room when the cycle began.
+    #[inline(always)]
     pub(crate) fn had_room(&self) -> bool
         ensures { result ≡ had_room self.now }
     {
@@ -50,6 +52,7 @@ impl Fifo {
     }
 
     /// It has a word.
+    #[inline(always)]
     pub(crate) fn has_word(&self) -> bool
         ensures { result ≡ has_word self.now }
     {
@@ -57,6 +60,7 @@ impl Fifo {
     }
 
     /// It has room.
+    #[inline(always)]
     pub(crate) fn has_room(&self) -> bool
         ensures { result ≡ has_room self.now }
     {

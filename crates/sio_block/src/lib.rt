@@ -194,6 +194,7 @@ impl Sio {
     }
 
     /// The launcher would take a word in this cycle.
+    #[inline(always)]
     pub fn offers(&self) -> bool
         ensures { result ≡ offers_of self.now }
     {
@@ -201,6 +202,7 @@ impl Sio {
     }
 
     /// The interrupt line of core 0 or 1: its mailbox has a word, or a flag of FIFO_ST is set.
+    #[inline(always)]
     pub fn line(&self, core: u8) -> bool
         requires { core < 2 }
         ensures { result ≡ line_of (own_side core self.now) }
@@ -213,6 +215,7 @@ impl Sio {
     }
 
     /// GPIO_OUT and GPIO_OE.
+    #[inline(always)]
     pub fn outs(&self) -> [u32; 2]
         ensures { result ≡ self.now.pins.out ∷ self.now.pins.enable ∷ [] }
     {

@@ -55,6 +55,7 @@ impl Side {
     }
 
     /// The interrupt line of the core.
+    #[inline(always)]
     pub(crate) fn line(&self) -> bool
         ensures { result ≡ line_of self.now }
     {

@@ -4,7 +4,6 @@ use Rattle.std.specs.Bool.{Decides}
 use Rattle.std.specs.Cmp.Lexicographic.{pointwise}
 use Rattle.std.proofs.lemmas.Bool.Decides.{Decides-eqb}
 use Rattle.std.proofs.lemmas.Slice.Eq.{slice_eq-Decides}
-use Rattle.ram_banks.specs.Pages.{page_of}
 use Rattle.ram_banks.proofs.Ram.page_same.Goals as goal
 
 page_is : (r : Bool) (first size : ℕ) (sram now words : List ℕ) → size ≡ 256 → sram ≡ now →
