@@ -1,17 +1,14 @@
--- What drives the pads from outside, by sets of pins: that of a script, and that of a script and a device.
+-- What drives the pads from outside, by sets of pins: that of a script and a device.
 use Rattle.std.proofs.Common.{◌≡◌, ℕ, zero, suc, ◌-◌, ◌^◌, ◌<◌, Bool, true, false, not, ◌&&◌, ◌||◌, ◌==◌, eqb, List, [], ◌∷◌, length, replicate, Option, Some, None, is_some, unwrap_or, if◌then◌else◌, slice_index_or, refl, ap, ◌∙◌, arith}
 use Rattle.std.specs.Prelude.{bit_and, bit_or}
 use Rattle.std.specs.Int.{bit_at, w32}
 use Rattle.std.proofs.lemmas.Nat.Bits.{bit_at_not, bit_at-lt}
 use Rattle.word_bits.specs.Word.{has_bit}
 use Rattle.std.proofs.lemmas.Bool.Decides.{nat_tests}
-use Rattle.pin_script.specs.declared.entry.Entry.{Entry}
-use Rattle.pin_script.specs.Levels.{drives_at}
 use Rattle.io_bank.specs.declared.outputs.Outs.{Outs}
 use Rattle.io_bank.specs.State.{Bank}
-use Rattle.io_bank.specs.Pins.{pins_where}
-use Rattle.io_bank.specs.Levels.{by_list, by_sets, levels_of, pad_level, control_of, pad_of}
-use Rattle.io_bank.proofs.Bits.{has_and, has_or, bits_below-at, bits_below-same}
+use Rattle.io_bank.specs.Levels.{by_sets, levels_of, pad_level, control_of, pad_of}
+use Rattle.io_bank.proofs.Bits.{has_and, has_or, bits_below-same}
 use Rattle.outer_lane.specs.Step.{either}
 
 -- ---- a script and a device
@@ -48,47 +45,6 @@ pub joined_sets : (d h m l i : ℕ) → d < 2 ^ 32 → i < 32 →
     by_sets (bit_or d m) (bit_or (bit_and h d) (bit_and l (2 ^ 32 - 1 - d))) i ≡ either (by_sets d h i) (by_sets m l i)
 joined_sets d h m l i word lt =
     rw (has_or d m i, high_bit d h l i word lt) (chosen (has_bit d i) (has_bit h i) (has_bit m i) (has_bit l i))
-
--- ---- a script
-
-rebuilt : (o : Option Bool) → (if is_some o then Some (unwrap_or o false) else None) ≡ o
-rebuilt (Some level) = refl
-rebuilt None = refl
-
-list_sets : (levels : List (Option Bool)) (i : ℕ) → i < 30 →
-    by_sets (pins_where (λ pin. is_some (by_list levels pin))) (pins_where (λ pin. unwrap_or (by_list levels pin) false)) i
-    ≡ by_list levels i
-list_sets levels i lt =
-    rw (bits_below-at (λ pin. is_some (by_list levels pin)) 30 i lt, bits_below-at (λ pin. unwrap_or (by_list levels pin) false) 30 i lt)
-    (rebuilt (by_list levels i))
-
-pub script_sets : (levels drives : List (Option Bool)) (d h i : ℕ) →
-    d ≡ pins_where (λ pin. is_some (by_list levels pin)) →
-    h ≡ pins_where (λ pin. unwrap_or (by_list levels pin) false) →
-    levels ≡ drives → i < 30 → by_sets d h i ≡ by_list drives i
-script_sets levels drives d h i ed eh e lt = rw (ed, eh) (list_sets levels i lt ∙ ap (λ xs. by_list xs i) e)
-
-abbrev free : Option Bool
-free = None
-
-none_of : (n i : ℕ) → slice_index_or (replicate n free) i free ≡ free
-none_of zero i = refl
-none_of (suc n) zero = refl
-none_of (suc n) (suc i) = none_of n i
-
-no_drives : (cycle : ℕ) → drives_at [] cycle ≡ replicate 30 free
-unfolding drives_at
-no_drives cycle = refl
-
-no_entries : (entries : List Entry) → (length entries == 0) ≡ true → entries ≡ []
-no_entries [] e = refl
-no_entries (entry ∷ entries) e = grind (arith, nat_tests)
-
--- an empty script drives nothing
-pub empty_script : (entries : List Entry) (cycle pin : ℕ) → (length entries == 0) ≡ true → by_list (drives_at entries cycle) pin ≡ free
-empty_script entries cycle pin e =
-    ap (λ xs. by_list (drives_at xs cycle) pin) (no_entries entries e)
-    ∙ ap (λ xs. by_list xs pin) (no_drives cycle) ∙ none_of 30 pin
 
 -- ---- the levels depend on what is outside at the 30 pins alone
 

@@ -11,10 +11,10 @@ use Rattle.lane_look.specs.Asking.{Asking}
 use Rattle.lane_look.specs.Asking.Asking.{Ready, Question}
 use Rattle.lane_look.specs.Device.{DeviceMeaning, no_wires}
 use Rattle.pin_script.specs.declared.entry.Entry.{Entry}
-use Rattle.pin_script.specs.Levels.{drives_at}
+use Rattle.pin_script.specs.Levels.{drive_at}
 use Rattle.io_bank.specs.declared.outputs.Outs.{Outs}
 use Rattle.io_bank.specs.State.{Bank}
-use Rattle.io_bank.specs.Levels.{levels_of, by_list, by_sets, is_used, receive_level, uart_outputs}
+use Rattle.io_bank.specs.Levels.{levels_of, by_sets, is_used, receive_level, uart_outputs}
 use Rattle.io_bank.specs.Step as pads
 use Rattle.rp_uart.specs.State.{SerialPort}
 use Rattle.rp_uart.specs.Step as uart
@@ -87,7 +87,7 @@ either (Some level) other = Some level
 either None other = other
 
 unfoldable pub outside_of : List Entry → Wires → ℕ → ℕ → Option Bool
-outside_of script wires cycle pin = either (by_list (drives_at script cycle) pin) (by_sets wires.mask wires.level pin)
+outside_of script wires cycle pin = either (drive_at script cycle pin) (by_sets wires.mask wires.level pin)
 
 -- the levels of the pads in the cycle, and the pads after it, by what the device drives
 unfoldable pub levels_by : List Entry → Wires → Seen → OuterState → ℕ

@@ -3,7 +3,7 @@
 use arrayvec::ArrayVec;
 use io_bank::IoBank;
 use lane_look::Device;
-use pin_script::Place;
+use pin_script::Cursor;
 use rp_timer::Timer;
 use rp_uart::Uart;
 use std::marker::Model;
@@ -30,8 +30,8 @@ pub struct Outer {
     pub(crate) uart0_held: bool,
     pub(crate) uart1_held: bool,
     pub(crate) sio: [u32; 2],
-    // where the levels of the script are looked for first
-    pub(crate) place: Place,
+    // where what the script drives is looked for first
+    pub(crate) cursor: Cursor,
 }
 
 impl Model for Outer {
@@ -74,7 +74,7 @@ impl Outer {
             uart0_held: false,
             uart1_held: false,
             sio: [0, 0],
-            place: Place::new(),
+            cursor: Cursor::new(),
         }
     }
 
@@ -164,7 +164,7 @@ impl Outer {
         self.uart0_held = other.uart0_held;
         self.uart1_held = other.uart1_held;
         self.sio = other.sio;
-        self.place = other.place;
+        self.cursor = other.cursor;
     }
 }
 

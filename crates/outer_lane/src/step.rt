@@ -11,7 +11,7 @@ use crate::world::Seen;
 use arrayvec::ArrayVec;
 use io_bank::{IoBank, Outs, uart_outputs};
 use lane_look::{Device, Mark, Wires};
-use pin_script::{Place, Script};
+use pin_script::{Cursor, Script};
 use rp_timer::Timer;
 use rp_uart::Uart;
 
@@ -39,7 +39,7 @@ pub(crate) fn step_device<X: Device>(
 /// The pads step, by the outputs at the start and by what the script and the device drive in this cycle.
 pub(crate) fn step_pads(
     pads: &mut IoBank,
-    place: &mut Place,
+    cursor: &mut Cursor,
     script: &Script,
     wires: &Wires,
     outs: &Outs,
@@ -48,7 +48,7 @@ pub(crate) fn step_pads(
     ensures levels { result ≡ levels_of outs.now (outside_of script.now wires.now cycle) pads.old }
     ensures after { pads.new ≡ after_step outs.now (outside_of script.now wires.now cycle) pads.old }
 {
-    let sets = outside(script, place, wires, cycle);
+    let sets = outside(script, cursor, wires, cycle);
     pads.step_by_sets(outs, sets.driven, sets.high)
 }
 
@@ -84,7 +84,7 @@ impl Outer {
         let line1 = self.pads.receive_level(1);
         let pads = step_pads(
             &mut self.pads,
-            &mut self.place,
+            &mut self.cursor,
             script,
             wires,
             &outs,

@@ -1,9 +1,9 @@
 //! Worked cycles.
 
-ghost use Rattle.std.specs.Prelude.{ℕ};
+ghost use Rattle.std.specs.Prelude.{ℕ, ◌+◌, ◌%◌, ◌^◌, ◌==◌, slice_index, slice_set};
 
 use crate::{Outer, Seen, World};
-use lane_look::{Ask, Lane, Look, Marks, NoDevice, Turn};
+use lane_look::{Ask, Device, Lane, Look, Mark, Marks, NoDevice, Turn, Wires};
 use pin_script::read_script;
 use rp_base::map::Block;
 use std::test::Fail;
@@ -79,19 +79,95 @@ fn holds(rt: HostRuntime) -> Result<(), Fail> {
     Ok(())
 }
 
-/// No device owns no address.
+/// A device of one word, which each cycle adds 8 to. It owns one address, drives pins 3 and 4 by its word and the PWM function of
+/// pin 2, and its interrupt lines are the pads.
+#[derive(Drop)]
+struct Counter;
+
+impl Device for Counter {
+    ghost meaning = { λ _. record {
+      count = 1;
+      first = λ state. slice_set state 0 0;
+      covers = λ address. address == 0x40060000;
+      value = λ state address. slice_index state 0;
+      after_read = λ state address. state;
+      after_write = λ state address value. slice_set state 0 value;
+      wires = λ state cycle pads. record { mask = 0x18; level = slice_index state 0; pwm = 4; irq = pads };
+      after_step = λ state cycle pads. slice_set state 0 ((slice_index state 0 + 8) % 2 ^ 32);
+    } };
+
+    fn words(&self) -> usize {
+        1
+    }
+
+    fn start(&self, state: &mut [u32]) {
+        state[0] = 0;
+    }
+
+    fn owns(&self, address: u32) -> bool {
+        address == 0x4006_0000
+    }
+
+    fn read(&self, state: &mut [u32], _address: u32) -> u32 {
+        state[0]
+    }
+
+    fn write(&self, state: &mut [u32], _address: u32, value: u32) {
+        state[0] = value;
+    }
+
+    fn step(&self, state: &mut [u32], _cycle: u64, pads: u32) -> Wires {
+        let wires = Wires {
+            mask: 0x18,
+            level: state[0],
+            pwm: 4,
+            irq: pads,
+        };
+        state[0] = state[0].wrapping_add(8);
+        wires
+    }
+}
+
+/// One cycle, and its mark.
+fn cycle(outer: &mut Outer, world: &World<'_, Counter>, number: u64) -> Mark {
+    let mut marks = Marks::new();
+    let seen = outer.begin(world, number, &mut Zeros);
+    outer.finish(world, &seen, [Turn::Nothing; 2], &mut marks);
+    marks.entry(0)
+}
+
+/// A script frees pin 3 for the device; the device's word, lines and PWM; and a byte of UART0 after the ten bits of its frame.
 #[test]
-fn none(rt: HostRuntime) -> Result<(), Fail> {
-    let script = read_script(rt.alloc(), b"")?;
+fn device_and_byte(rt: HostRuntime) -> Result<(), Fail> {
+    let script = read_script(rt.alloc(), b"0 3 1\n2 3 z\n")?;
     let world = World {
         script: &script,
-        device: &NoDevice,
-        limit: 9,
+        device: &Counter,
+        limit: 300,
     };
-    let mut outer = Outer::new(&NoDevice);
-    assert!(rt; outer.has_device(&NoDevice));
-    assert_eq!(rt; outer.owned_word(&world, 0x4006_0000), None);
-    outer.device_effect(&world, 0x4006_0000, Some(1));
-    assert_eq!(rt; outer.pads(), 0);
+    let mut outer = Outer::new(&Counter);
+    outer.effect(Block::IoBank0, 0x14, Some(4));
+    outer.effect(Block::Uart0, 0x24, Some(1));
+    outer.effect(Block::Uart0, 0x2c, Some(0x70));
+    outer.effect(Block::Uart0, 0x30, Some(0x301));
+    outer.effect(Block::Uart0, 0, Some(0x41));
+    for (number, pads) in [(0, 0x0c), (1, 0x0c), (2, 0x14), (3, 0x1c)] {
+        assert_eq!(rt; cycle(&mut outer, &world, number).pads, pads);
+    }
+    assert_eq!(rt; outer.lines(0), 0x14);
+    assert_eq!(rt; outer.owned_word(&world, 0x4006_0000), Some(32));
+    outer.device_effect(&world, 0x4006_0000, Some(7));
+    assert_eq!(rt; outer.owned_word(&world, 0x4006_0000), Some(7));
+    assert_eq!(rt; outer.owned_word(&world, 0x4006_0004), None);
+    let mut sent = 0;
+    for number in 4..200 {
+        if cycle(&mut outer, &world, number).uart[0] == Some(0x41) {
+            sent = number;
+        }
+    }
+    assert_eq!(rt; sent, 160);
+    assert!(rt;
+        !outer.allows(Block::IoBank0, 0x1004, None) && outer.allows(Block::PadsBank0, 4, None)
+    );
     Ok(())
 }

@@ -6,7 +6,9 @@ use Rattle.std.proofs.lemmas.List.Splits.{slice_split_first}
 use Rattle.std.proofs.Math.Seq.{drop-length}
 use Rattle.std.specs.List.{slice_split, onto_first, position, position_or_len}
 use Rattle.std.specs.Str.Lines.{lines, lines_of_parts, strip_carriage_return}
-use Rattle.pin_script.specs.Script.{fields, words_of}
+use Rattle.pin_script.specs.Words.{fields}
+use Rattle.pin_script.specs.Lines.{level_words, send_words}
+use Rattle.pin_script.specs.Script.{is_version_2, is_other_version}
 
 -- there is always a part
 some_part : (p : ℕ → Bool) (xs : List ℕ) → (q : List ℕ) × (qs : List (List ℕ)) × (slice_split p xs ≡ q ∷ qs)
@@ -50,16 +52,30 @@ fields_none line h = split_none (λ x. x == 32) line (no_place _ _ h)
 pub fields_some : (line : List ℕ) (i : ℕ) → position (λ x. x == 32) line ≡ Some i → fields line ≡ take i line ∷ fields (drop (i + 1) line)
 fields_some line i h = split_some (λ x. x == 32) line i h
 
-pub one_field : (line : List ℕ) → fields line ≡ line ∷ [] → words_of (fields line) ≡ None
-one_field line h = ap words_of h
+-- what a test of the fields gives where there are too many of them
+past : {X : Type 0} (f : List (List ℕ) → X) (none : X) (rest : List ℕ) →
+    ((q : List ℕ) (qs : List (List ℕ)) → f (q ∷ qs) ≡ none) → f (fields rest) ≡ none
+past f none rest h = let more = some_part (λ x. x == 32) rest in ap f more.2 ∙ h more.0 more.1
 
-pub two_fields : (line first rest : List ℕ) → fields line ≡ first ∷ fields rest → fields rest ≡ rest ∷ [] → words_of (fields line) ≡ None
-two_fields line first rest h i = ap words_of (h ∙ ap (λ parts. first ∷ parts) i)
-
-pub four_fields : (line first rest second third a b : List ℕ) → fields line ≡ first ∷ fields rest → fields rest ≡ second ∷ fields third → fields third ≡ a ∷ fields b → words_of (fields line) ≡ None
+pub four_fields : (line first rest second third a b : List ℕ) → fields line ≡ first ∷ fields rest → fields rest ≡ second ∷ fields third → fields third ≡ a ∷ fields b → level_words (fields line) ≡ None
 four_fields line first rest second third a b h i j =
-    let more = some_part (λ x. x == 32) b in
-    ap words_of (h ∙ ap (λ parts. first ∷ parts) (i ∙ ap (λ parts. second ∷ parts) (j ∙ ap (λ parts. a ∷ parts) more.2)))
+    ap level_words (h ∙ ap (λ parts. first ∷ parts) (i ∙ ap (λ parts. second ∷ parts) j))
+    ∙ past (λ parts. level_words (first ∷ second ∷ a ∷ parts)) None b (λ q qs. refl)
+
+pub not_two : (line first rest second third : List ℕ) → fields line ≡ first ∷ fields rest → fields rest ≡ second ∷ fields third →
+    (is_version_2 (fields line) ≡ false) × (is_other_version (fields line) ≡ false)
+not_two line first rest second third h i = (
+  ap is_version_2 (h ∙ ap (λ parts. first ∷ parts) i) ∙ past (λ parts. is_version_2 (first ∷ second ∷ parts)) false third (λ q qs. refl),
+  ap is_other_version (h ∙ ap (λ parts. first ∷ parts) i)
+      ∙ past (λ parts. is_other_version (first ∷ second ∷ parts)) false third (λ q qs. refl),
+)
+
+-- the first five fields, and what follows them
+pub six_fields : (line a a' b b' c c' d e f g : List ℕ) → fields line ≡ a ∷ fields a' → fields a' ≡ b ∷ fields b' → fields b' ≡ c ∷ fields c' →
+    fields c' ≡ d ∷ fields e → fields e ≡ f ∷ fields g → send_words (fields line) ≡ None
+six_fields line a a' b b' c c' d e f g p q r s t =
+    ap send_words (p ∙ ap (λ parts. a ∷ parts) (q ∙ ap (λ parts. b ∷ parts) (r ∙ ap (λ parts. c ∷ parts) (s ∙ ap (λ parts. d ∷ parts) t))))
+    ∙ past (λ parts. send_words (a ∷ b ∷ c ∷ d ∷ f ∷ parts)) None g (λ q' qs. refl)
 
 -- ---- lines
 

@@ -1,4 +1,6 @@
 pub mod Due
 pub mod Fields
-pub mod Order
-pub mod Table
+pub mod FileLines
+pub mod Rows
+pub mod Sending
+pub mod Sorting

@@ -1,11 +1,11 @@
--- The scripted level of a pin in a cycle: that of the last entry for the pin whose cycle is not later; without one the pin is
--- free (the project's own).
-use Rattle.std.specs.Prelude.{ℕ, Bool, true, false, ◌==◌, nat_le, List, length, map, Option, Some, None}
-use Rattle.std.specs.List.{filter, range_with_len}
+-- The scripted level of a pin in a cycle: that of the last entry for the pin, in the script's order, whose cycle is not later;
+-- without one the pin is free (the project's own).
+use Rattle.std.specs.Prelude.{ℕ, Bool, true, false, ◌==◌, nat_le, if◌then◌else◌, List, [], ◌∷◌, length, Option, Some, None}
+use Rattle.std.specs.List.{filter}
+use Rattle.word_bits.specs.Word.{has_bit}
 use Rattle.pin_script.specs.declared.entry.Level.{Level}
 use Rattle.pin_script.specs.declared.entry.Level.TheVariants.{Low, High, Free}
 use Rattle.pin_script.specs.declared.entry.Entry.{Entry}
-use Rattle.pin_script.specs.Script.{last_of}
 
 abbrev pub is_due : ℕ → Entry → Bool
 is_due cycle entry = nat_le entry.cycle cycle
@@ -16,6 +16,11 @@ due_count entries cycle = length (filter (is_due cycle) entries)
 
 abbrev pub is_for : ℕ → Entry → Bool
 is_for pin entry = entry.pin == pin
+
+abbrev pub last_of : {X : Type 0} → List X → Option X
+last_of [] = None
+last_of (x ∷ []) = Some x
+last_of (x ∷ y ∷ more) = last_of (y ∷ more)
 
 abbrev pub level_or_free : Option Entry → Level
 level_or_free None = Free
@@ -35,10 +40,10 @@ drive_of Low = Some false
 drive_of High = Some true
 drive_of Free = None
 
--- the levels of the 30 pins after some entries
-unfoldable pub drives_after : List Entry → List (Option Bool)
-drives_after entries = map (λ pin. drive_of (level_after entries pin)) (range_with_len 0 30)
+-- what a script drives a pin with in a cycle
+unfoldable pub drive_at : List Entry → ℕ → ℕ → Option Bool
+drive_at entries cycle pin = drive_of (level_at entries cycle pin)
 
--- the scripted levels of the 30 pins in a cycle
-unfoldable pub drives_at : List Entry → ℕ → List (Option Bool)
-drives_at entries cycle = map (λ pin. drive_of (level_at entries cycle pin)) (range_with_len 0 30)
+-- the level of a pin by the set of those that are driven, and the set of those that are driven high
+abbrev pub driven_level : ℕ → ℕ → ℕ → Option Bool
+driven_level driven high pin = if has_bit driven pin then Some (has_bit high pin) else None

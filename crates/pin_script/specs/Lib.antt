@@ -1,3 +1,5 @@
 pub mod Levels
+pub mod Lines
 pub mod Reading
 pub mod Script
+pub mod Words

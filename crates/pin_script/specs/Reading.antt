@@ -1,18 +1,29 @@
--- What a script keeps beside its entries: the levels that each entry leaves.
-use Rattle.std.specs.Prelude.{◌≡◌, ◌≤◌, ◌<◌, ℕ, ◌+◌, ◌-◌, zero, suc, List, [], ◌∷◌, length, map, take, Bool, Option}
-use Rattle.std.specs.List.{range_with_len}
+-- What a script keeps beside its entries: what is driven after each of them.
+use Rattle.std.specs.Prelude.{◌≡◌, ◌≤◌, ◌<◌, ℕ, ◌+◌, ◌-◌, zero, suc, List, [], ◌∷◌, length, take, slice_index_or}
+use Rattle.std.specs.List.{All}
 use Rattle.pin_script.specs.declared.entry.Entry.{Entry}
-use Rattle.pin_script.specs.Levels.{drives_after}
+use Rattle.pin_script.specs.declared.entry.LineEntry.{LineEntry}
+use Rattle.pin_script.specs.declared.script.Drives.{Drives}
+use Rattle.pin_script.specs.Levels.{drive_of, driven_level, level_after}
 use Rattle.pin_script.specs.Script.{IsScript}
 
--- the levels of the pins after the first entry, the first two, and so on
-unfoldable pub drive_table : List Entry → ℕ → List (List (Option Bool))
-drive_table entries count = map (λ k. drives_after (take (k + 1) entries)) (range_with_len 0 count)
+-- each pin is one of the 30
+abbrev pub HasPins : List LineEntry → Type 0
+HasPins entries = All (λ entry. entry.pin < 30) entries
+
+-- this is what the entries leave the 30 pins
+abbrev pub Shows : List Entry → Drives → Type 0
+Shows entries drives = (pin : ℕ) → pin < 30 → driven_level drives.driven drives.high pin ≡ drive_of (level_after entries pin)
+
+-- one for each of the first entries
+pub record IsTable (entries : List Entry) (table : List Drives) (count : ℕ) : Type 0 where
+  pub rows : length table ≡ count
+  pub shown : (k : ℕ) (d : Drives) → k < count → Shows (take (k + 1) entries) (slice_index_or table k d)
 
 -- these are the entries of a script with their table
-pub record IsTabled (entries : List Entry) (drives : List (List (Option Bool))) : Type 0 where
+pub record IsTabled (entries : List Entry) (drives : List Drives) : Type 0 where
   pub script : IsScript entries
-  pub table : drives ≡ drive_table entries (length entries)
+  pub table : IsTable entries drives (length entries)
 
 -- the cycle of an entry, 0 past the last one
 unfoldable pub cycle_at : List Entry → ℕ → ℕ
@@ -20,6 +31,6 @@ cycle_at [] k = 0
 cycle_at (entry ∷ entries) zero = entry.cycle
 cycle_at (entry ∷ entries) (suc k) = cycle_at entries k
 
--- an entry before this place is due in the cycle, if there is one, and with it those before it
+-- an entry before this one is due in the cycle, if there is one, and with it those before it
 abbrev pub IsDueBefore : List Entry → ℕ → ℕ → Type 0
-IsDueBefore entries cycle place = 0 < place → cycle_at entries (place - 1) ≤ cycle
+IsDueBefore entries cycle index = 0 < index → cycle_at entries (index - 1) ≤ cycle

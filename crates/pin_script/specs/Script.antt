@@ -1,120 +1,80 @@
--- A script of pin levels, version 1: a list of lines `<cycle> <pin> <0|1|z>` with single spaces (the project's own). A line
--- ends with LF, before which one CR is dropped, and the last LF may be missing. Empty lines and lines that begin with `#` are
--- skipped. Of a line's faults the first in the order Form, Number, Pin, Order, TooMany counts.
-use Rattle.std.specs.Prelude.{◌≤◌, ◌<◌, ℕ, ◌+◌, ◌-◌, ◌*◌, Bool, true, ◌&&◌, ◌||◌, ◌==◌, nat_lt, nat_le, if◌then◌else◌, List, [], ◌∷◌, ◌++◌, length, Option, Some, None, Result, Ok, Err}
-use Rattle.std.specs.List.{slice_split}
-use Rattle.std.specs.Char.{is_ascii_digit}
+-- A script of pin levels (the project's own): a list of lines. A line ends with LF, before which one CR is dropped, and the last
+-- LF may be missing. Empty lines and lines that begin with `#` are skipped. A file whose first line that is not skipped is
+-- `version 2` is of version 2, and that line is no entry; every other file is of version 1, which has level lines alone.
+use Rattle.std.specs.Prelude.{◌≤◌, ◌<◌, ℕ, ◌+◌, Bool, true, false, not, ◌&&◌, ◌==◌, nat_le, if◌then◌else◌, List, [], ◌∷◌, map, Option, Some, None, Result, Ok, Err}
 use Rattle.std.specs.Str.Lines.{lines}
-use Rattle.pin_script.specs.declared.entry.Level.{Level}
-use Rattle.pin_script.specs.declared.entry.Level.TheVariants.{Low, High, Free}
 use Rattle.pin_script.specs.declared.entry.Entry.{Entry}
+use Rattle.pin_script.specs.declared.entry.LineEntry.{LineEntry}
 use Rattle.pin_script.specs.declared.fault.ScriptFault.{ScriptFault}
-use Rattle.pin_script.specs.declared.fault.ScriptFault.TheVariants.{Form, Number, Pin, Order, TooMany}
+use Rattle.pin_script.specs.declared.fault.ScriptFault.TheVariants.{Version}
+use Rattle.pin_script.specs.Words.{fields, is_version, is_two, number_of}
+use Rattle.pin_script.specs.Lines.{Earlier, after_line, is_skipped}
 
--- ---- words
+-- ---- the lines after the first one
 
--- the parts of a line between spaces
-abbrev pub fields : List ℕ → List (List ℕ)
-fields line = slice_split (λ byte. byte == 32) line
-
-abbrev pub is_empty : List ℕ → Bool
-is_empty word = length word == 0
-
--- the level that a word names: `0`, `1` or `z`
-abbrev pub level_named : List ℕ → Option Level
-level_named (byte ∷ []) =
-    if byte == 48 then Some Low else if byte == 49 then Some High else if byte == 122 then Some Free else None
-level_named _ = None
-
--- the three words of a line
-pub record LineWords : Type 0 where
-  pub cycle : List ℕ
-  pub pin : List ℕ
-  pub level : Level
-
-abbrev pub line_words : List ℕ → List ℕ → Level → LineWords
-line_words cycle pin level = record { cycle = cycle; pin = pin; level = level }
-
-abbrev pub with_level : List ℕ → List ℕ → Option Level → Option LineWords
-with_level cycle pin None = None
-with_level cycle pin (Some level) = Some (line_words cycle pin level)
-
--- three words of at least one byte, the third of which names a level
-abbrev pub words_of : List (List ℕ) → Option LineWords
-words_of (cycle ∷ pin ∷ level ∷ []) =
-    if is_empty cycle || is_empty pin then None else with_level cycle pin (level_named level)
-words_of _ = None
-
--- the number of decimal digits, where those before them stand for n
-abbrev pub digits_from : ℕ → List ℕ → Option ℕ
-digits_from n [] = Some n
-digits_from n (d ∷ ds) = if is_ascii_digit d then digits_from (10 * n + (d - 48)) ds else None
-
--- the number of at most so many decimal digits and at least one
-abbrev pub number_of : ℕ → List ℕ → Option ℕ
-number_of most word = if nat_le 1 (length word) && nat_le (length word) most then digits_from 0 word else None
-
--- ---- entries
-
-abbrev pub last_of : {X : Type 0} → List X → Option X
-last_of [] = None
-last_of (x ∷ []) = Some x
-last_of (x ∷ y ∷ more) = last_of (y ∷ more)
-
-abbrev pub cycle_or_zero : Option Entry → ℕ
-cycle_or_zero None = 0
-cycle_or_zero (Some entry) = entry.cycle
-
--- the cycle of the last entry, 0 where there is none
-abbrev pub last_cycle : List Entry → ℕ
-last_cycle entries = cycle_or_zero (last_of entries)
-
--- an entry on line n after the earlier ones: its pin is one of the 30, its cycle is not below the last one, and there is room
-abbrev pub placed : ℕ → List Entry → Entry → Result Entry ScriptFault
-placed n earlier entry =
-    if nat_lt 29 entry.pin then Err (Pin n)
-    else if nat_lt entry.cycle (last_cycle earlier) then Err (Order n)
-    else if nat_le 100000 (length earlier) then Err (TooMany n) else Ok entry
-
--- its cycle is 1 to 10 digits and its pin 1 or 2
-abbrev pub numbered : ℕ → List Entry → Level → Option ℕ → Option ℕ → Result Entry ScriptFault
-numbered n earlier level (Some cycle) (Some pin) = placed n earlier (record { cycle = cycle; pin = pin; level = level })
-numbered n earlier level (Some cycle) None = Err (Number n)
-numbered n earlier level None pin = Err (Number n)
-
--- the entry of a line's words
-abbrev pub entry_of : ℕ → List Entry → Option LineWords → Result Entry ScriptFault
-entry_of n earlier None = Err (Form n)
-entry_of n earlier (Some words) = numbered n earlier words.level (number_of 10 words.cycle) (number_of 2 words.pin)
-
--- ---- lines
-
-abbrev pub is_skipped : List ℕ → Bool
-is_skipped [] = true
-is_skipped (byte ∷ bytes) = byte == 35
-
--- the entries after one more, unless that has a fault
-abbrev pub with_entry : List Entry → Result Entry ScriptFault → Result (List Entry) ScriptFault
-with_entry earlier (Err fault) = Err fault
-with_entry earlier (Ok entry) = Ok (earlier ++ entry ∷ [])
-
--- the entries after line n
-unfoldable pub after_line : ℕ → List Entry → List ℕ → Result (List Entry) ScriptFault
-after_line n earlier line =
-    if is_skipped line then Ok earlier else with_entry earlier (entry_of n earlier (words_of (fields line)))
-
--- the entries after these lines, the first of which is line n, or the first fault
-abbrev pub unless_fault : (List Entry → Result (List Entry) ScriptFault) → Result (List Entry) ScriptFault → Result (List Entry) ScriptFault
+abbrev pub unless_fault : (Earlier → Result (List LineEntry) ScriptFault) → Result Earlier ScriptFault → Result (List LineEntry) ScriptFault
 unless_fault next (Err fault) = Err fault
-unless_fault next (Ok entries) = next entries
+unless_fault next (Ok s) = next s
 
-unfoldable pub after_lines : ℕ → List Entry → List (List ℕ) → Result (List Entry) ScriptFault
-after_lines n earlier [] = Ok earlier
-after_lines n earlier (line ∷ more) = unless_fault (λ entries. after_lines (n + 1) entries more) (after_line n earlier line)
+-- the entries of these lines after the earlier ones, or the first fault; the first of these lines is line n
+unfoldable pub after_lines : Bool → ℕ → Earlier → List (List ℕ) → Result (List LineEntry) ScriptFault
+after_lines sends n s [] = Ok s.entries
+after_lines sends n s (line ∷ more) = unless_fault (λ s'. after_lines sends (n + 1) s' more) (after_line sends n s line)
 
--- the entries of a file, or its first fault; lines are counted from 1
+-- ---- the first line that is not skipped
+
+abbrev pub nothing : Earlier
+nothing = record { entries = []; cycle = 0 }
+
+abbrev pub is_other_number : Option ℕ → Bool
+is_other_number None = false
+is_other_number (Some n) = not (n == 2)
+
+-- `version 2`, and `version` with 1 to 10 digits that stand for another number
+abbrev pub is_version_2 : List (List ℕ) → Bool
+is_version_2 (first ∷ second ∷ []) = is_version first && is_two second
+is_version_2 _ = false
+
+abbrev pub is_other_version : List (List ℕ) → Bool
+is_other_version (first ∷ second ∷ []) = is_version first && is_other_number (number_of 10 second)
+is_other_version _ = false
+
+abbrev pub headed : ℕ → List ℕ → List (List ℕ) → Result (List LineEntry) ScriptFault
+headed n line more =
+    if is_version_2 (fields line) then after_lines true (n + 1) nothing more
+    else if is_other_version (fields line) then Err (Version n)
+    else after_lines false n nothing (line ∷ more)
+
+unfoldable pub of_lines : ℕ → List (List ℕ) → Result (List LineEntry) ScriptFault
+of_lines n [] = Ok []
+of_lines n (line ∷ more) = if is_skipped line then of_lines (n + 1) more else headed n line more
+
+-- the entries of a file with their lines, as the file has them, or its first fault; lines are counted from 1
+unfoldable pub entries_of : List ℕ → Result (List LineEntry) ScriptFault
+entries_of bytes = of_lines 1 (lines bytes)
+
+-- ---- in order
+
+-- an entry among others that stand after it in the file
+abbrev pub inserted : LineEntry → List LineEntry → List LineEntry
+inserted entry [] = entry ∷ []
+inserted entry (next ∷ more) = if nat_le entry.cycle next.cycle then entry ∷ next ∷ more else next ∷ inserted entry more
+
+-- in order of their cycles, and those of one cycle in order of their lines
+unfoldable pub in_order : List LineEntry → List LineEntry
+in_order [] = []
+in_order (entry ∷ more) = inserted entry (in_order more)
+
+abbrev pub without_line : LineEntry → Entry
+without_line entry = record { cycle = entry.cycle; pin = entry.pin; level = entry.level }
+
+abbrev pub ordered : Result (List LineEntry) ScriptFault → Result (List Entry) ScriptFault
+ordered (Ok entries) = Ok (map without_line (in_order entries))
+ordered (Err fault) = Err fault
+
+-- the script of a file, or its first fault
 unfoldable pub script_of : List ℕ → Result (List Entry) ScriptFault
-script_of bytes = after_lines 1 [] (lines bytes)
+script_of bytes = ordered (entries_of bytes)
 
 -- ---- what holds of every script
 

@@ -1,4 +1,4 @@
-//! One line of a script.
+//! Levels, and the entries of a script.
 
 /// What a script does to a pin.
 #[derive(Clone, Copy, Debug, PartialEq, Eq)]
@@ -22,6 +22,19 @@ pub struct Entry {
     pub level: Level,
 }
 
+/// An entry with the line that gives it.
+#[derive(Clone, Copy, Debug, PartialEq, Eq)]
+pub struct LineEntry {
+    /// The first cycle that has the level.
+    pub cycle: u64,
+    /// The line, counted from 1.
+    pub line: u32,
+    /// The pin, 0 to 29.
+    pub pin: u8,
+    /// The level.
+    pub level: Level,
+}
+
 impl Level {
     ghost use Rattle.std.specs.Prelude.{◌≡◌};
     ghost use Rattle.pin_script.specs.Levels.{drive_of};
@@ -34,6 +47,22 @@ impl Level {
             Level::Low => Some(false),
             Level::High => Some(true),
             Level::Free => None,
+        }
+    }
+}
+
+impl LineEntry {
+    ghost use Rattle.std.specs.Prelude.{◌≡◌};
+    ghost use Rattle.pin_script.specs.Script.{without_line};
+
+    /// The entry without its line.
+    pub fn entry(&self) -> Entry
+        ensures { result ≡ without_line self.now }
+    {
+        Entry {
+            cycle: self.cycle,
+            pin: self.pin,
+            level: self.level,
         }
     }
 }

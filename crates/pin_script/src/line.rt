@@ -1,28 +1,49 @@
-//! One line of a script.
+//! Level lines, and what the lines so far gave.
 
-ghost use Rattle.std.specs.Prelude.{◌≡◌, ◌≢◌, ◌<◌, ◌≤◌, ◌∷◌, [], None, length, IfErr, IfOk, MatchOption, OnOk};
+ghost use Rattle.std.specs.Prelude.{◌≡◌, ◌≢◌, ◌∷◌, ◌<◌, ◌≤◌, [], None, length, List, ℕ, IfErr, MatchOption, OnOk};
 ghost use Rattle.std.specs.Option.{option_map};
-ghost use Rattle.pin_script.specs.Script.{after_line, entry_of, fields, is_skipped, last_cycle, line_words, placed, words_of, IsScript};
+ghost use Rattle.pin_script.specs.Words.{fields, number_of};
+ghost use Rattle.pin_script.specs.Lines.{added, after_level, level_numbers, is_skipped, level_words, level_words_of};
 
-use crate::entry::{Entry, Level};
+use crate::entry::{Level, LineEntry};
 use crate::fault::ScriptFault;
 use crate::words::{first_field, level_named, number_of};
+use std::alloc::Global;
+use std::marker::Model;
 
 /// How many entries a script may have.
-const MOST_ENTRIES: usize = 100_000;
+pub(crate) const MOST_ENTRIES: usize = 100_000;
 
 /// How many digits a cycle may have.
-const CYCLE_DIGITS: usize = 10;
+pub(crate) const CYCLE_DIGITS: usize = 10;
 
 /// How many digits a pin may have.
-const PIN_DIGITS: usize = 2;
+pub(crate) const PIN_DIGITS: usize = 2;
 
 /// The last pin.
-const LAST_PIN: u64 = 29;
+pub(crate) const LAST_PIN: u64 = 29;
 
-/// The words of a line.
+/// What the lines so far gave: their entries, and the cycle of the last of these lines.
 #[derive(Drop)]
-struct Words<'a> {
+pub(crate) struct Earlier {
+    pub(crate) entries: Vec<LineEntry>,
+    pub(crate) cycle: u64,
+}
+
+impl Model for Earlier {
+    ghost use Rattle.pin_script.specs.Lines.{Earlier};
+    ghost use Rattle.pin_script.specs.Reading.{HasPins};
+
+    ghost Value = { Earlier };
+
+    ghost view = { λ s. record { entries = s.entries.items; cycle = s.cycle } };
+
+    ghost invariant = { λ s. HasPins s.entries.items };
+}
+
+/// The words of a level line.
+#[derive(Drop)]
+struct LevelWords<'a> {
     cycle: &'a [u8],
     pin: &'a [u8],
     level: Level,
@@ -30,7 +51,7 @@ struct Words<'a> {
 
 /// The three fields of a line.
 fn three_fields(line: &[u8]) -> Option<(&[u8], &[u8], &[u8])>
-    ensures { MatchOption result (words_of (fields line.now) ≡ None)
+    ensures { MatchOption result (level_words (fields line.now) ≡ None)
         (λ parts. fields line.now ≡ parts.0.now ∷ parts.1.now ∷ parts.2.now ∷ []) }
 {
     let (first, rest) = first_field(line)?;
@@ -42,78 +63,22 @@ fn three_fields(line: &[u8]) -> Option<(&[u8], &[u8], &[u8])>
 }
 
 /// The three words of a line, the third of which names a level.
-fn words_of(line: &[u8]) -> Option<Words<'_>>
-    ensures { option_map (λ words. line_words words.cycle.now words.pin.now words.level) result ≡ words_of (fields line.now) }
+fn level_words(line: &[u8]) -> Option<LevelWords<'_>>
+    ensures { option_map (λ words. level_words_of words.cycle.now words.pin.now words.level) result ≡ level_words (fields line.now) }
 {
     let (cycle, pin, level) = three_fields(line)?;
     if cycle.is_empty() || pin.is_empty() {
         return None;
     }
-    Some(Words {
+    Some(LevelWords {
         cycle,
         pin,
         level: level_named(level)?,
     })
 }
 
-/// The cycle of the last entry, 0 where there is none.
-fn last_cycle(entries: &[Entry]) -> u64
-    ensures { result ≡ last_cycle entries.now }
-{
-    match entries.last() {
-        Some(entry) => entry.cycle,
-        None => 0,
-    }
-}
-
-/// The entry of a cycle, a pin and a level on a line.
-fn placed(
-    number: u32,
-    earlier: &[Entry],
-    cycle: u64,
-    pin: u64,
-    level: Level,
-) -> Result<Entry, ScriptFault>
-    ensures value { result ≡ placed number earlier.now (record { cycle = cycle; pin = pin; level = level }) }
-    ensures order { IfOk result (λ entry. last_cycle earlier.now ≤ entry.cycle) }
-    ensures pin { IfOk result (λ entry. entry.pin < 30) }
-{
-    if pin > LAST_PIN {
-        return Err(ScriptFault::Pin(number));
-    }
-    if cycle < last_cycle(earlier) {
-        return Err(ScriptFault::Order(number));
-    }
-    if earlier.len() >= MOST_ENTRIES {
-        return Err(ScriptFault::TooMany(number));
-    }
-    Ok(Entry {
-        cycle,
-        pin: pin as u8,
-        level,
-    })
-}
-
-/// The entry of a line.
-fn entry_of(number: u32, earlier: &[Entry], line: &[u8]) -> Result<Entry, ScriptFault>
-    ensures value { result ≡ entry_of number earlier.now (words_of (fields line.now)) }
-    ensures order { IfOk result (λ entry. last_cycle earlier.now ≤ entry.cycle) }
-    ensures pin { IfOk result (λ entry. entry.pin < 30) }
-{
-    let Some(words) = words_of(line) else {
-        return Err(ScriptFault::Form(number));
-    };
-    match (
-        number_of(CYCLE_DIGITS, words.cycle),
-        number_of(PIN_DIGITS, words.pin),
-    ) {
-        (Some(cycle), Some(pin)) => placed(number, earlier, cycle, pin, words.level),
-        _ => Err(ScriptFault::Number(number)),
-    }
-}
-
 /// A line is empty or begins with `#`.
-fn is_skipped(line: &[u8]) -> bool
+pub(crate) fn is_skipped(line: &[u8]) -> bool
     ensures { result ≡ is_skipped line.now }
 {
     match line {
@@ -122,23 +87,77 @@ fn is_skipped(line: &[u8]) -> bool
     }
 }
 
-/// Reads a line after the earlier entries.
-#[tactic(auto, unfolding(crate::specs::Script::after_line))]
-pub(crate) fn read_line(
-    number: u32,
-    line: &[u8],
-    entries: &mut Vec<Entry>,
-) -> Result<(), ScriptFault>
-    requires { IsScript entries.old.items }
-    ensures ok { OnOk result (after_line number entries.old.items line.now ≡ Ok entries.new.items) }
-    ensures script { OnOk result (IsScript entries.new.items) }
-    ensures fault { IfErr result (λ fault. fault ≢ ScriptFault.Memory
-        → after_line number entries.old.items line.now ≡ Err fault) }
-{
-    if is_skipped(line) {
-        return Ok(());
+impl Earlier {
+    ghost use Rattle.std.specs.Prelude.{◌≡◌, ◌≢◌, ◌<◌, IfErr, OnOk};
+    ghost use Rattle.pin_script.specs.Words.{fields};
+    ghost use Rattle.pin_script.specs.Lines.{fits, added, level_entry, level_numbers, level_words, after_level};
+    ghost use Rattle.pin_script.specs.Script.{nothing};
+
+    /// No lines yet.
+    pub(crate) fn new(alloc: Global) -> Earlier
+        ensures { result ≡ nothing }
+    {
+        Earlier {
+            entries: Vec::new(alloc),
+            cycle: 0,
+        }
     }
-    let entry = entry_of(number, entries, line)?;
-    entries.push(entry)?;
-    Ok(())
+
+    /// A line of that cycle comes no earlier than the one before, and there is room for its entries.
+    pub(crate) fn fits(&self, number: u32, cycle: u64, count: usize) -> Result<(), ScriptFault>
+        requires { count < 10_000 }
+        ensures { result ≡ fits number self.now cycle count }
+    {
+        if cycle < self.cycle {
+            return Err(ScriptFault::Order(number));
+        }
+        if self.entries.len() + count > MOST_ENTRIES {
+            return Err(ScriptFault::TooMany(number));
+        }
+        Ok(())
+    }
+
+    /// Adds the entry of a level line.
+    fn add_level(
+        &mut self,
+        number: u32,
+        cycle: u64,
+        pin: u64,
+        level: Level,
+    ) -> Result<(), ScriptFault>
+        ensures ok { OnOk result (level_numbers number self.old level (Some cycle) (Some pin) ≡ Ok self.new) }
+        ensures fault { IfErr result (λ fault. fault ≢ ScriptFault.Memory
+            → level_numbers number self.old level (Some cycle) (Some pin) ≡ Err fault) }
+    {
+        if pin > LAST_PIN {
+            return Err(ScriptFault::Pin(number));
+        }
+        self.fits(number, cycle, 1)?;
+        self.entries.push(LineEntry {
+            cycle,
+            line: number,
+            pin: pin as u8,
+            level,
+        })?;
+        self.cycle = cycle;
+        Ok(())
+    }
+
+    /// Reads a level line.
+    pub(crate) fn read_level(&mut self, number: u32, line: &[u8]) -> Result<(), ScriptFault>
+        ensures ok { OnOk result (after_level number self.old (level_words (fields line.now)) ≡ Ok self.new) }
+        ensures fault { IfErr result (λ fault. fault ≢ ScriptFault.Memory
+            → after_level number self.old (level_words (fields line.now)) ≡ Err fault) }
+    {
+        let Some(words) = level_words(line) else {
+            return Err(ScriptFault::Form(number));
+        };
+        match (
+            number_of(CYCLE_DIGITS, words.cycle),
+            number_of(PIN_DIGITS, words.pin),
+        ) {
+            (Some(cycle), Some(pin)) => self.add_level(number, cycle, pin, words.level),
+            _ => Err(ScriptFault::Number(number)),
+        }
+    }
 }

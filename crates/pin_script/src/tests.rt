@@ -1,14 +1,13 @@
 //! Worked values.
 
-use crate::{Entry, Level, Place, Script, ScriptFault, read_script};
+use crate::{Cursor, Drives, Entry, Level, Script, ScriptFault, read_script};
 use std::test::Fail;
 
 /// Scripts, and the fault of each.
-const FAULTS: [(&[u8], ScriptFault); 26] = [
+const FAULTS: [(&[u8], ScriptFault); 47] = [
     (b"5 3 1\n4 3 0\n", ScriptFault::Order(2)),
     (b"1 30 0", ScriptFault::Pin(1)),
     (b"10000000000 1 1", ScriptFault::Number(1)),
-    (b"version 2\n5 3 1", ScriptFault::Form(1)),
     (b"1 2 3", ScriptFault::Form(1)),
     (b"1 2", ScriptFault::Form(1)),
     (b"1 2 1 1", ScriptFault::Form(1)),
@@ -31,6 +30,28 @@ const FAULTS: [(&[u8], ScriptFault); 26] = [
     (b"9 1 0\r\n\r\n8 29 1", ScriptFault::Order(3)),
     (b"8 29 1\n9 1 0\n8 1 1", ScriptFault::Order(3)),
     (b"8 29 1\nx\n7 1 1", ScriptFault::Form(2)),
+    (b"version 3", ScriptFault::Version(1)),
+    (b"#\n\nversion 0000000000\nx", ScriptFault::Version(3)),
+    (b"version 02", ScriptFault::Form(1)),
+    (b"version 00000000003", ScriptFault::Form(1)),
+    (b"version x", ScriptFault::Form(1)),
+    (b"1 1 1\nversion 3", ScriptFault::Form(2)),
+    (b"version 2\nversion 3", ScriptFault::Form(2)),
+    (b"send 10 3 65 41", ScriptFault::Form(1)),
+    (b"version 2\r\nsend 10 3 65 4", ScriptFault::Bytes(2)),
+    (b"version 2\nsend 10 3 63 41", ScriptFault::Divisor(2)),
+    (b"version 2\nsend 10 3 4194304 4", ScriptFault::Divisor(2)),
+    (b"version 2\nsend 10 30 63 41", ScriptFault::Pin(2)),
+    (b"version 2\nsend 10 3 00000065 41", ScriptFault::Number(2)),
+    (b"version 2\nsend 10 30 x 41", ScriptFault::Number(2)),
+    (b"version 2\nsend 10 3 65 4g", ScriptFault::Bytes(2)),
+    (b"version 2\nsend 10 3 65 ", ScriptFault::Form(2)),
+    (b"version 2\nsend 10 3 65", ScriptFault::Form(2)),
+    (b"version 2\nSend 10 3 65 41", ScriptFault::Form(2)),
+    (b"version 2\nsend 10 3 65 41 41", ScriptFault::Form(2)),
+    (b"version 2\nsend 10 3 65 41\n9 2 1", ScriptFault::Order(3)),
+    (b"version 2\n11 2 1\nsend 10 3 65 41", ScriptFault::Order(3)),
+    (b"version 2\n11 2 1\nsend 10 3 65 4", ScriptFault::Bytes(3)),
 ];
 
 #[test]
@@ -75,28 +96,52 @@ fn entries(rt: HostRuntime) -> Result<(), Fail> {
     Ok(())
 }
 
-/// Cycles, and the levels of pins 3, 4 and 29 in each under the script below.
-const LEVELS: [(u64, [Option<bool>; 3]); 8] = [
-    (0, [None, Some(false), None]),
-    (4, [None, Some(false), None]),
-    (5, [Some(true), Some(false), None]),
-    (8, [Some(true), Some(false), None]),
-    (9, [None, Some(true), Some(false)]),
-    (1_000_000, [None, Some(true), Some(false)]),
-    (5, [Some(true), Some(false), None]),
-    (9, [None, Some(true), Some(false)]),
+/// Bits of a line that sends 41 to pin 3 from cycle 10 on at divisor 65, and the levels of pin 4 between.
+#[test]
+fn sends(rt: HostRuntime) -> Result<(), Fail> {
+    let script = read_script(rt.alloc(), b"version 2\nsend 10 3 65 41\n27 4 1\n28 3 z")?;
+    let low = |cycle| (cycle, 3, Level::Low);
+    let high = |cycle| (cycle, 3, Level::High);
+    let expected = [
+        low(10),
+        high(27),
+        (27, 4, Level::High),
+        (28, 3, Level::Free),
+        low(43),
+        low(59),
+        low(75),
+        low(92),
+        low(108),
+        high(124),
+        low(140),
+        high(157),
+    ];
+    let entries = expected.map(|(cycle, pin, level)| Entry { cycle, pin, level });
+    assert!(rt; script.as_slice() == entries.as_slice());
+    Ok(())
+}
+
+/// Cycles, and what the script below drives in each.
+const DRIVES: [(u64, u32, u32); 8] = [
+    (0, 0x10, 0),
+    (4, 0x10, 0),
+    (5, 0x18, 0x08),
+    (8, 0x18, 0x08),
+    (9, 0x2000_0010, 0x10),
+    (1_000_000, 0x2000_0010, 0x10),
+    (5, 0x18, 0x08),
+    (9, 0x2000_0010, 0x10),
 ];
 
 #[test]
 fn levels(rt: HostRuntime) -> Result<(), Fail> {
     let script = read_script(rt.alloc(), b"0 4 0\n5 3 1\n9 3 0\n9 3 z\n9 29 0\n9 4 1")?;
-    let mut place = Place::new();
-    for (cycle, expected) in LEVELS {
-        let found = place.levels(&script, cycle);
-        assert!(rt; [found[3], found[4], found[29]] == expected);
+    let mut cursor = Cursor::new();
+    for (cycle, driven, high) in DRIVES {
+        assert_eq!(rt; cursor.drives(&script, cycle), Drives { driven, high });
     }
     let empty = Script::new(rt.alloc());
-    assert!(rt; *place.levels(&empty, 7) == [None; 30]);
+    assert_eq!(rt; cursor.drives(&empty, 7), Drives::NONE);
     Ok(())
 }
 

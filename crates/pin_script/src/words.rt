@@ -1,12 +1,14 @@
-//! The bytes of a file: where a byte stands, and numbers.
+//! The words of a file: lines, fields, and the numbers and bytes that they stand for.
 
-ghost use Rattle.std.specs.Prelude.{◌≡◌, ◌∷◌, ◌<◌, ◌≤◌, ◌^◌, [], ◌==◌, length, position, MatchOption, IfSome};
+ghost use Rattle.std.specs.Prelude.{◌≡◌, ◌∷◌, ◌<◌, ◌≤◌, ◌^◌, ◌+◌, ◌*◌, [], ◌==◌, true, length, position, MatchOption, IfSome};
+ghost use Rattle.std.specs.Char.{is_ascii_hexdigit};
+ghost use Rattle.std.specs.List.{list_all};
 ghost use Rattle.std.specs.Str.Lines.{lines, strip_carriage_return};
-ghost use Rattle.pin_script.specs.Script.{digits_from, fields, level_named, number_of};
+ghost use Rattle.pin_script.specs.Words.{digits_from, fields, level_named, number_of, is_send, is_version, is_two, are_bytes, digit_value, byte_at};
 
 use crate::entry::Level;
 
-/// The place of the first byte that is this one.
+/// The index of the first byte that is this one.
 fn find(bytes: &[u8], byte: u8) -> Option<usize>
     ensures { result ≡ position (λ x. x == byte) bytes.now }
 {
@@ -59,7 +61,8 @@ pub(crate) fn level_named(word: &[u8]) -> Option<Level>
 /// The number of at most 10 decimal digits.
 fn value_of(digits: &[u8]) -> Option<u64>
     requires { length digits.now ≤ 10 }
-    ensures { result ≡ digits_from 0 digits.now }
+    ensures value { result ≡ digits_from 0 digits.now }
+    ensures bound { IfSome result (λ n. n < 10 ^ length digits.now) }
 {
     let mut value: u64 = 0;
     for digit in digits {
@@ -74,10 +77,87 @@ fn value_of(digits: &[u8]) -> Option<u64>
 /// The number of at least one and at most so many decimal digits.
 pub(crate) fn number_of(most: usize, word: &[u8]) -> Option<u64>
     requires { most ≤ 10 }
-    ensures { result ≡ number_of most word.now }
+    ensures value { result ≡ number_of most word.now }
+    ensures bound { IfSome result (λ n. n < 10_000_000_000) }
 {
     if word.is_empty() || word.len() > most {
         return None;
     }
     value_of(word)
+}
+
+/// The word `send`.
+pub(crate) fn is_send(word: &[u8]) -> bool
+    ensures { result ≡ is_send word.now }
+{
+    match word {
+        [s, e, n, d] => *s == b's' && *e == b'e' && *n == b'n' && *d == b'd',
+        _ => false,
+    }
+}
+
+/// The word `version`.
+pub(crate) fn is_version(word: &[u8]) -> bool
+    ensures { result ≡ is_version word.now }
+{
+    match word {
+        [v, e, r, s, i, o, n] => {
+            *v == b'v'
+                && *e == b'e'
+                && *r == b'r'
+                && *s == b's'
+                && *i == b'i'
+                && *o == b'o'
+                && *n == b'n'
+        }
+        _ => false,
+    }
+}
+
+/// The word `2`.
+pub(crate) fn is_two(word: &[u8]) -> bool
+    ensures { result ≡ is_two word.now }
+{
+    match word {
+        [byte] => *byte == b'2',
+        _ => false,
+    }
+}
+
+/// A word is hexadecimal digits, two for each of at most 256 bytes.
+pub(crate) fn are_bytes(word: &[u8]) -> bool
+    ensures { result ≡ are_bytes word.now }
+{
+    word.len() % 2 == 0 && word.len() <= 512 && are_digits(word)
+}
+
+/// A word is hexadecimal digits.
+fn are_digits(word: &[u8]) -> bool
+    ensures { result ≡ list_all is_ascii_hexdigit word.now }
+{
+    word.iter().all(|byte| byte.is_ascii_hexdigit())
+}
+
+/// The value of a hexadecimal digit.
+fn digit_value(digit: u8) -> u32
+    requires { is_ascii_hexdigit digit ≡ true }
+    ensures value { result ≡ digit_value digit }
+    ensures bound { result < 16 }
+{
+    if digit <= b'9' {
+        u32::from(digit - b'0')
+    } else if digit <= b'F' {
+        u32::from(digit - 55)
+    } else {
+        u32::from(digit - 87)
+    }
+}
+
+/// Byte number `index` of a word of hexadecimal digits.
+pub(crate) fn byte_at(word: &[u8], index: usize) -> u32
+    requires digits { are_bytes word.now ≡ true }
+    requires within { 2 * index + 1 < length word.now }
+    ensures { result ≡ byte_at word.now index }
+{
+    16 * digit_value(word[2 * index]) + digit_value(word[2 * index + 1])
 }

@@ -1,17 +1,16 @@
-use Rattle.std.proofs.Common.{◌≡◌, ◌≤◌, ◌+◌, ℕ, List, length}
+use Rattle.std.proofs.Common.{◌≡◌, ◌≤◌, ◌+◌, ℕ, Bool, List, length}
 use Rattle.std.specs.Str.Lines.{lines}
-use Rattle.pin_script.specs.declared.entry.Entry.{Entry}
-use Rattle.pin_script.specs.Script.{after_lines, script_of, IsScript}
+use Rattle.pin_script.specs.Lines.{Earlier}
+use Rattle.pin_script.specs.Script.{after_lines, entries_of}
 use Rattle.pin_script.proofs.reading.read_entries.Given as goal
 
--- the lines up to here gave these entries
-pub record IsReading (bytes rest : List ℕ) (number : ℕ) (entries : List Entry) : Type 0 where
-  pub script : IsScript entries
-  pub left : script_of bytes ≡ after_lines (number + 1) entries (lines rest)
+-- the lines up to here gave this
+pub record IsReading (bytes rest : List ℕ) (sends : Bool) (number : ℕ) (earlier : Earlier) : Type 0 where
+  pub left : entries_of bytes ≡ after_lines sends (number + 1) earlier (lines rest)
   pub short : number + length rest ≤ length bytes
 
-abbrev pub invariant-loop-rest : goal.invariant-loop-rest
-invariant-loop-rest l = IsReading l.bytes l.rest l.number l.entries.items
+abbrev pub invariant-loop-heading : goal.invariant-loop-heading
+invariant-loop-heading l = IsReading l.bytes l.rest l.heading.sends l.number l.earlier
 
-abbrev pub decreases-loop-rest : goal.decreases-loop-rest
-decreases-loop-rest l = length l.rest
+abbrev pub decreases-loop-heading : goal.decreases-loop-heading
+decreases-loop-heading l = length l.rest

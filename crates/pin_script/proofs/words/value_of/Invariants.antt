@@ -1,5 +1,5 @@
 use Rattle.std.proofs.Common.{◌≡◌, ◌^◌, ◌<◌, drop}
-use Rattle.pin_script.specs.Script.{digits_from}
+use Rattle.pin_script.specs.Words.{digits_from}
 use Rattle.pin_script.proofs.words.value_of.Given as goal
 
 abbrev pub invariant-loop-digit : goal.invariant-loop-digit

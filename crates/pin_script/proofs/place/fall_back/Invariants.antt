@@ -1,8 +1,0 @@
-use Rattle.std.proofs.Common.{◌≤◌}
-use Rattle.pin_script.proofs.place.fall_back.Given as goal
-
-abbrev pub invariant-loop-due : goal.invariant-loop-due
-invariant-loop-due l = l.due ≤ l.place
-
-abbrev pub decreases-loop-due : goal.decreases-loop-due
-decreases-loop-due l = l.due
