@@ -10,6 +10,7 @@ pub record Unmoved {J R W : Type 0} (s t : SeatView J R W) : Type 0 where
   pub drawn : t.state.drawn ≡ s.state.drawn
   pub finished : t.state.finished ≡ s.state.finished
   pub loads : s.state.loads ≤ t.state.loads
+  pub seen : s.state.seen ≤ t.state.seen
   pub holding : t.state.holding ≡ s.state.holding
   pub slots : SlotsStay s t
 
@@ -20,4 +21,5 @@ pub record Waiting {W : Type 0} (m n : MasterView W) : Type 0 where
   pub opened : n.state.opened ≡ m.state.opened
   pub closed : n.state.closed ≡ m.state.closed
   pub polls : m.state.polls ≤ n.state.polls
+  pub told : m.state.known ≤ n.state.known
   pub known : n.state.known < n.state.opened

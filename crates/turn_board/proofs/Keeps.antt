@@ -93,7 +93,7 @@ good_did opened n s k due holds = let held = k.holding_due holds in let e : held
       holding_due = λ now. absurd (false≢true now);
     }
 
-abbrev with_seats : BoardState → ℕ → ℕ → List SeatState → BoardState
+abbrev pub with_seats : BoardState → ℕ → ℕ → List SeatState → BoardState
 with_seats b ticket done seats = record b { ticket = ticket; done = done; seats = seats }
 
 wider : (opened more : ℕ) (s : SeatState) → opened ≤ more → GoodSeat opened s → GoodSeat more s

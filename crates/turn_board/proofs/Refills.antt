@@ -101,10 +101,10 @@ module _ {J R : Type 0} (s : Six (Slot J R)) (x : Six (Slot J R)) (f0 f1 f2 f3 f
   found5 h r e p = same_value 5 x.l5 s.l5 r h (next5 h e) p
 
 -- the master with six jobs in the slots
-pub brings_jobs : {J R W : Type 0} (fits : W → J → Type 0) (m n : Sat J R W) (jobs : Six J) (x : Six (Slot J R)) → n ≡ (m.0, filled x)
+pub brings_jobs : {J R W : Type 0} (fits : W → ℕ → J → Type 0) (m n : Sat J R W) (jobs : Six J) (x : Six (Slot J R)) → n ≡ (m.0, filled x)
     → x ≡ record { l0 = Job jobs.l0; l1 = Job jobs.l1; l2 = Job jobs.l2; l3 = Job jobs.l3; l4 = Job jobs.l4; l5 = Job jobs.l5 } → EachLane (fits m.0.made_for) jobs → BringsJobs fits n
 brings_jobs {J} {R} {W} fits m n jobs x e are made = subst (λ (y : Sat J R W). BringsJobs fits y) (sym (e ∙ (λ q. (m.0, filled (are q)))))
     (jobs.l0, jobs.l1, jobs.l2, jobs.l3, jobs.l4, jobs.l5, refl, made.0, made.1, made.2, made.3, made.4, made.5)
 
-pub collected : {J R : Type 0} (job_fits : J → Type 0) (found_fits : R → Type 0) (done : ℕ) (held : Rest J R) → Collects job_fits found_fits done held → (s : Six (Slot J R)) × HoldsAll held s
+pub collected : {J R : Type 0} (job_fits : ℕ → J → Type 0) (found_fits : ℕ → R → Type 0) (done : ℕ) (held : Rest J R) → Collects job_fits found_fits done held → (s : Six (Slot J R)) × HoldsAll held s
 collected job_fits found_fits done held k = (record { l0 = k.second0; l1 = k.second1; l2 = k.second2; l3 = k.second3; l4 = k.second4; l5 = k.second5 }, (k.first0, k.first1, k.first2, k.first3, k.first4, k.first5, k.are))

@@ -46,14 +46,14 @@ word_unclosed word opened true e h = absurd (omega arith)
 word_unclosed word opened false e h = refl
 
 -- what the step of a look told
-abbrev Looked : {J R W : Type 0} → (W → J → Type 0) → Sat J R W → ℕ → Sat J R W → Type 0
+abbrev Looked : {J R W : Type 0} → (W → ℕ → J → Type 0) → Sat J R W → ℕ → Sat J R W → Type 0
 Looked job_fits m r n = looked job_fits (step 0 0 0 0 none) m r n
 
 -- how the answer is chosen by the word
 abbrev pub Chosen : ℕ → ℕ → See → Type 0
 Chosen r number result = ((number < r % 2 ^ 63) × (result ≡ Open)) ⊎ ((r % 2 ^ 63 ≤ number) × (2 ^ 63 ≤ r) × (result ≡ Closed)) ⊎ ((r % 2 ^ 63 ≤ number) × (r < 2 ^ 63) × (result ≡ NotYet (r % 2 ^ 63)))
 
-module _ {J R W : Type 0} (job_fits : W → J → Type 0) (found_fits : W → R → Type 0) where
+module _ {J R W : Type 0} (job_fits : W → ℕ → J → Type 0) (found_fits : W → ℕ → R → Type 0) where
   saw_seat : (m : Sat J R W) → IsSeat job_fits found_fits m → (opened : ℕ) (closed : Bool) (held : List (ℕ × Slot J R)) → One m.0.worker
       → Gains (job_fits m.0.made_for) m.0.worker (not m.0.worker.holding && (m.0.worker.holding || is_due m.0.worker.drawn m.0.worker.finished opened)) m.1 held
       → IsSeat job_fits found_fits (seat_view m.0.made_for (saw opened closed m.0.worker), held)
@@ -64,13 +64,21 @@ module _ {J R W : Type 0} (job_fits : W → J → Type 0) (found_fits : W → R 
         follows = refl;
         due = λ _. k.due h;
         bare = λ no. absurd (false≢true (sym no ∙ (λ q. h q || d)));
-        carries = λ _. (t.0, t.1, (λ x u. same ∙ t.2 x u), t.3, t.4);
+        carries = λ _. (t.0, t.1, λ x u. let v = t.2 x u in (same ∙ v.0, v.1, v.2));
       })
       (λ h e. let took : G true = subst G (λ q. not (h q) && (h q || e q)) gains in let x = due_below s.drawn s.finished opened e in let mine : IsUnfinished s x.0 = (x.1, x.2) in let t = took x.0 mine in record {
         follows = refl;
         due = λ _. (x.0, mine);
         bare = λ no. absurd (false≢true (sym no ∙ (λ q. h q || e q)));
-        carries = λ _. (Job t.0, Empty, (λ y u. t.1 ∙ (λ q. (job_slot (one x.0 y mine u q), Job t.0) ∷ (found_slot (one x.0 y mine u q), Empty) ∷ k.bare h q)), t.2, tt);
+        carries = λ _. (
+          Job t.0,
+          Empty,
+          λ y u. (
+            t.1 ∙ (λ q. (job_slot (one x.0 y mine u q), Job t.0) ∷ (found_slot (one x.0 y mine u q), Empty) ∷ k.bare h q),
+            subst (λ (z : ℕ). job_fits m.0.made_for (z % 6) t.0) (one x.0 y mine u) t.2,
+            tt,
+          ),
+        );
       })
       (λ h e. let same : held ≡ m.1 = subst G (λ q. not (h q) && (h q || e q)) gains in let idle : (s.holding || d) ≡ false = (λ q. h q || e q) in record {
         follows = refl;
@@ -98,12 +106,12 @@ module _ {J R W : Type 0} (job_fits : W → J → Type 0) (found_fits : W → R 
       (λ h. let same : held ≡ m.1 = subst G (λ q. not (h q) && (h q || is_due s.drawn s.finished opened)) gains in (
         low,
         (λ q. h q || is_due s.drawn s.finished opened),
-        subst (λ x. Takes (job_fits m.0.made_for) x (seat_shown z m) (seat_shown z (After m opened closed held))) (sym h) (ap job_in same, ap found_in same),
+        subst (λ x. Takes (job_fits m.0.made_for (number % 6)) x (seat_shown z m) (seat_shown z (After m opened closed held))) (sym h) (ap job_in same, ap found_in same),
       ))
       (λ h. let t = (let took : G true = subst G (λ q. not (h q) && (h q || e q)) gains in took number mine) in (
         low,
         (λ q. h q || e q),
-        subst (λ x. Takes (job_fits m.0.made_for) x (seat_shown z m) (seat_shown z (After m opened closed held))) (sym h) (t.0, ap job_in t.1, ap found_in t.1, t.2),
+        subst (λ x. Takes (job_fits m.0.made_for (number % 6)) x (seat_shown z m) (seat_shown z (After m opened closed held))) (sym h) (t.0, ap job_in t.1, ap found_in t.1, t.2),
       ))
 
   -- nothing changes but what the seat has seen

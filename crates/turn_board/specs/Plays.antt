@@ -1,5 +1,5 @@
 -- What each step on a word tells: of the step, the seat before, the number found and the seat after.
-use Rattle.std.specs.Prelude.{◌≡◌, ◌≢◌, ℕ, ◌+◌, ◌^◌, ◌<◌, ◌≤◌, Bool, false, true, not, ◌&&◌, List, [], ◌∷◌}
+use Rattle.std.specs.Prelude.{◌≡◌, ◌≢◌, ℕ, ◌+◌, ◌%◌, ◌^◌, ◌<◌, ◌≤◌, Bool, false, true, not, ◌&&◌, List, [], ◌∷◌}
 use mathlib.Core.Option.{some}
 use lib.ListN.{get_elem?}
 use Rattle.atomic_table.specs.Table.{Me, Step}
@@ -59,12 +59,12 @@ module _ {J R : Type 0} where
   laden j0 j1 j2 j3 j4 j5 = Job j0 ∷ Empty ∷ Job j1 ∷ Empty ∷ Job j2 ∷ Empty ∷ Job j3 ∷ Empty ∷ Job j4 ∷ Empty ∷ Job j5 ∷ Empty ∷ []
 
   -- a seat that begins to hold its lane finds a job in the first slot and the second empty
-  abbrev pub Gains : (J → Type 0) → SeatState → Bool → List (ℕ × Slot J R) → List (ℕ × Slot J R) → Type 0
+  abbrev pub Gains : (ℕ → J → Type 0) → SeatState → Bool → List (ℕ × Slot J R) → List (ℕ × Slot J R) → Type 0
   Gains fits s false held held' = held' ≡ held
-  Gains fits s true held held' = (number : ℕ) → IsUnfinished s number → (job : J) × (held' ≡ (job_slot number, Job job) ∷ (found_slot number, Empty) ∷ held) × fits job
+  Gains fits s true held held' = (number : ℕ) → IsUnfinished s number → (job : J) × (held' ≡ (job_slot number, Job job) ∷ (found_slot number, Empty) ∷ held) × fits (number % 6) job
 
 -- the master has taken all twelve slots, the two of each lane in turn, and where so many numbers are finished that there is one, it finds a result in each second one
-pub record Collects {J R : Type 0} (job_fits : J → Type 0) (found_fits : R → Type 0) (done : ℕ) (held : List (ℕ × Slot J R)) : Type 0 where
+pub record Collects {J R : Type 0} (job_fits : ℕ → J → Type 0) (found_fits : ℕ → R → Type 0) (done : ℕ) (held : List (ℕ × Slot J R)) : Type 0 where
   pub first0 : Slot J R
   pub second0 : Slot J R
   pub first1 : Slot J R
@@ -78,7 +78,10 @@ pub record Collects {J R : Type 0} (job_fits : J → Type 0) (found_fits : R →
   pub first5 : Slot J R
   pub second5 : Slot J R
   pub are : held ≡ numbered 0 (first0 ∷ second0 ∷ first1 ∷ second1 ∷ first2 ∷ second2 ∷ first3 ∷ second3 ∷ first4 ∷ second4 ∷ first5 ∷ second5 ∷ [])
-  pub fit : FitsSecond job_fits found_fits second0 × FitsSecond job_fits found_fits second1 × FitsSecond job_fits found_fits second2 × FitsSecond job_fits found_fits second3 × FitsSecond job_fits found_fits second4 × FitsSecond job_fits found_fits second5
+  pub fit :
+      FitsSecond (job_fits 0) (found_fits 0) second0 × FitsSecond (job_fits 1) (found_fits 1) second1
+      × FitsSecond (job_fits 2) (found_fits 2) second2 × FitsSecond (job_fits 3) (found_fits 3) second3
+      × FitsSecond (job_fits 4) (found_fits 4) second4 × FitsSecond (job_fits 5) (found_fits 5) second5
   pub found : 0 < done → IsFound second0 × IsFound second1 × IsFound second2 × IsFound second3 × IsFound second4 × IsFound second5
 
 module _ {J R W : Type 0} where
@@ -89,14 +92,18 @@ module _ {J R W : Type 0} where
   opened st m r n = let after = record m.0.master { opened = m.0.master.opened + 6 } in (n ≡ (master_view m.0.made_for after m.0.seats, [])) × IsOpen m.0.master after
 
   -- the master holds all slots, with a job in the first of each lane
-  abbrev pub BringsJobs : (W → J → Type 0) → Sat J R W → Type 0
+  abbrev pub BringsJobs : (W → ℕ → J → Type 0) → Sat J R W → Type 0
   BringsJobs fits m = (j0 j1 j2 j3 j4 j5 : J) × (m.1 ≡ numbered 0 (laden j0 j1 j2 j3 j4 j5))
-      × fits m.0.made_for j0 × fits m.0.made_for j1 × fits m.0.made_for j2 × fits m.0.made_for j3 × fits m.0.made_for j4 × fits m.0.made_for j5
+      × fits m.0.made_for 0 j0 × fits m.0.made_for 1 j1 × fits m.0.made_for 2 j2
+      × fits m.0.made_for 3 j3 × fits m.0.made_for 4 j4 × fits m.0.made_for 5 j5
 
   -- the seat holds the slots of its number's lane, with a result in the second
-  abbrev pub Brings : (W → J → Type 0) → (W → R → Type 0) → Sat J R W → Type 0
-  Brings job_fits found_fits m = (m.0.worker.holding ≡ true) × (first : Slot J R) × (result : R) × ((number : ℕ) → IsUnfinished m.0.worker number → m.1 ≡ (job_slot number, first) ∷ (found_slot number, Found result) ∷ [])
-      × FitsFirst (job_fits m.0.made_for) (found_fits m.0.made_for) first × found_fits m.0.made_for result
+  abbrev pub Brings : (W → ℕ → J → Type 0) → (W → ℕ → R → Type 0) → Sat J R W → Type 0
+  Brings job_fits found_fits m = let w = m.0.made_for in
+      (m.0.worker.holding ≡ true) × (first : Slot J R) × (result : R)
+      × ((number : ℕ) → IsUnfinished m.0.worker number
+      → (m.1 ≡ (job_slot number, first) ∷ (found_slot number, Found result) ∷ [])
+      × FitsFirst (job_fits w (number % 6)) (found_fits w (number % 6)) first × found_fits w (number % 6) result)
 
   abbrev pub closed : Step (Slot J R) → Sat J R W → ℕ → Sat J R W → Type 0
   closed st m r n = let after = record m.0.master { closed = true } in (n ≡ (master_view m.0.made_for after m.0.seats, m.1)) × IsClose m.0.master after
@@ -104,13 +111,15 @@ module _ {J R W : Type 0} where
   abbrev pub finished : Step (Slot J R) → Sat J R W → ℕ → Sat J R W → Type 0
   finished st m r n = (number : ℕ) → IsUnfinished m.0.worker number → (n ≡ (seat_view m.0.made_for (did number m.0.worker), [])) × IsFinish m.0.worker number (did number m.0.worker)
 
-  abbrev pub looked : (W → J → Type 0) → Step (Slot J R) → Sat J R W → ℕ → Sat J R W → Type 0
+  abbrev pub looked : (W → ℕ → J → Type 0) → Step (Slot J R) → Sat J R W → ℕ → Sat J R W → Type 0
   looked fits st m r n = (opened : ℕ) × (closed : Bool) × (r ≡ open_word opened closed) × (opened ≤ 2 ^ 62) × (n.0 ≡ seat_view m.0.made_for (saw opened closed m.0.worker)) × IsLook m.0.worker r (saw opened closed m.0.worker)
       × Gains (fits m.0.made_for) m.0.worker (not m.0.worker.holding && n.0.worker.holding) m.1 n.1
+      × (m.0.worker.seen ≤ opened)
 
   -- the master takes all slots where all open numbers are finished, and then finds a result for each
-  abbrev pub polled : (W → J → Type 0) → (W → R → Type 0) → Step (Slot J R) → Sat J R W → ℕ → Sat J R W → Type 0
+  abbrev pub polled : (W → ℕ → J → Type 0) → (W → ℕ → R → Type 0) → Step (Slot J R) → Sat J R W → ℕ → Sat J R W → Type 0
   polled job_fits found_fits st m r n = let after = record m.0.master { known = r; polls = m.0.master.polls + 1 } in
       (r ≤ m.0.master.opened) × (n.0 ≡ master_view m.0.made_for after m.0.seats) × IsPoll m.0.master r after
       × (r ≢ m.0.master.opened → n.1 ≡ m.1)
       × (r ≡ m.0.master.opened → Collects (job_fits m.0.made_for) (found_fits m.0.made_for) r n.1)
+      × (m.0.master.known ≤ r)

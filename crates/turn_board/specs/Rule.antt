@@ -27,11 +27,11 @@ module _ {W : Type 0} where
   abbrev pub first_view : W → View W
   first_view w = master_view w idle 0
 
--- The words and the views are those of a good board. The slots of a lane are at home unless they are out with the master or a seat, and then they have what they should, made for the key.
-pub record Ruled {J R W : Type 0} (job_fits : W → J → Type 0) (found_fits : W → R → Type 0) (key : W) (s : State (Slot J R) (View W)) : Type 0 where
+-- The words and the views are those of a good board. The slots of a lane are at home unless they are out with the master or a seat, and then they have what they should, made for the key and for the lane.
+pub record Ruled {J R W : Type 0} (job_fits : W → ℕ → J → Type 0) (found_fits : W → ℕ → R → Type 0) (key : W) (s : State (Slot J R) (View W)) : Type 0 where
   pub board : BoardState
   pub good : Good board
   pub few : length board.seats ≤ 9
   pub words : s.words ≡ board.ticket ∷ open_word board.opened board.closed ∷ board.done ∷ []
   pub views : s.views ≡ master_view key (master_of board) (length board.seats) ∷ map (seat_view key) board.seats
-  pub lanes : (lane : ℕ) → lane < 6 → ¬ IsOut board lane → Stocked (job_fits key) (found_fits key) board s.homes lane
+  pub lanes : (lane : ℕ) → lane < 6 → ¬ IsOut board lane → Stocked (job_fits key lane) (found_fits key lane) board s.homes lane

@@ -1,5 +1,5 @@
 -- What clauses see of a seat and of a master.
-use Rattle.std.specs.Prelude.{◌≡◌, ◌≢◌, ℕ, ◌+◌, ◌*◌, ◌<◌, true, false, List, [], ◌∷◌, Option, Some, None}
+use Rattle.std.specs.Prelude.{◌≡◌, ◌≢◌, ℕ, ◌+◌, ◌*◌, ◌%◌, ◌<◌, true, false, List, [], ◌∷◌, Option, Some, None}
 use Rattle.atomic_table.specs.Table.{rest, turned}
 use Rattle.atomic_table.specs.Seated.{TableId}
 use Rattle.turn_board.specs.Tickets.{SeatState, MasterState, IsUnfinished}
@@ -66,12 +66,15 @@ module _ {J R W : Type 0} where
   new_seat z w = record { board = z; made_for = w; state = fresh; job = None; found = None }
 
   -- the slots that a seat holds: those of its number's lane, or none
-  pub record IsSeat (job_fits : W → J → Type 0) (found_fits : W → R → Type 0) (m : Sat J R W) : Type 0 where
+  pub record IsSeat (job_fits : W → ℕ → J → Type 0) (found_fits : W → ℕ → R → Type 0) (m : Sat J R W) : Type 0 where
     pub follows : m.0.leads ≡ false
     pub due : m.0.worker.holding ≡ true → (number : ℕ) × IsUnfinished m.0.worker number
     pub bare : m.0.worker.holding ≡ false → m.1 ≡ []
-    pub carries : m.0.worker.holding ≡ true → (first second : Slot J R) × ((number : ℕ) → IsUnfinished m.0.worker number → m.1 ≡ (job_slot number, first) ∷ (found_slot number, second) ∷ [])
-        × FitsFirst (job_fits m.0.made_for) (found_fits m.0.made_for) first × FitsSecond (job_fits m.0.made_for) (found_fits m.0.made_for) second
+    pub carries : m.0.worker.holding ≡ true → (first second : Slot J R)
+        × ((number : ℕ) → IsUnfinished m.0.worker number
+        → (m.1 ≡ (job_slot number, first) ∷ (found_slot number, second) ∷ [])
+        × FitsFirst (job_fits m.0.made_for (number % 6)) (found_fits m.0.made_for (number % 6)) first
+        × FitsSecond (job_fits m.0.made_for (number % 6)) (found_fits m.0.made_for (number % 6)) second)
 
   -- the master holds all slots where it knows that all open numbers are finished, and else none
   pub record IsMaster (m : Sat J R W) : Type 0 where

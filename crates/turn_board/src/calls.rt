@@ -1,5 +1,5 @@
 //! The calls on the board.
-ghost use Rattle.std.specs.Prelude.{◌≡◌, ℕ, ◌+◌, ◌^◌, ◌<◌, ◌≤◌, true, false, [], None, Some, IsSome, IfOk, IfSome, length, replicate};
+ghost use Rattle.std.specs.Prelude.{◌≡◌, ℕ, ◌+◌, ◌%◌, ◌^◌, ◌<◌, ◌≤◌, true, false, [], None, Some, IsSome, IfOk, IfSome, length, replicate};
 ghost use Rattle.turn_board.specs.Tickets.{IsUnfinished, IsFree, saw, drew, did};
 ghost use Rattle.turn_board.specs.Slots.{job_slot};
 ghost use Rattle.turn_board.specs.Plays.{IsDraw, IsFinish, IsOpen, IsClose};
@@ -108,14 +108,14 @@ impl<J: Kept<W> + Drop, R: Kept<W> + Drop, W> Board<J, R, W> {
         }
     }
 
-    /// The job of the ticket, which is open and whose job was not taken before.
+    /// The job of the ticket, which is open and whose job was not taken before. It was made for the lane of the ticket.
     pub fn take(&self, seat: &mut Seat<J, R, W>, ticket: &Ticket) -> J
         requires board { seat.old.board ≡ self.now }
         requires own { IsUnfinished seat.old.state ticket.now }
         requires holding { seat.old.state.holding ≡ true }
         requires there { IsSome seat.old.job }
         ensures job { seat.old.job ≡ Some result }
-        ensures made_for { J.made_for seat.old.made_for result }
+        ensures made_for { J.made_for seat.old.made_for (ticket.now % 6) result }
         ensures seat { seat.new ≡ record seat.old { job = None } }
     {
         let slot = job_slot_of(ticket);
@@ -130,14 +130,15 @@ impl<J: Kept<W> + Drop, R: Kept<W> + Drop, W> Board<J, R, W> {
         }
     }
 
-    /// Puts a result of the ticket, which is open, and gives back the one that was put under it before, if any.
+    /// Puts a result of the ticket, which is open and for whose lane it was made, and gives back the one that was put under
+    /// it before, if any.
     pub fn put(&self, seat: &mut Seat<J, R, W>, ticket: &Ticket, found: R) -> Option<R>
         requires board { seat.old.board ≡ self.now }
         requires own { IsUnfinished seat.old.state ticket.now }
         requires holding { seat.old.state.holding ≡ true }
-        requires made_for { R.made_for seat.old.made_for found }
+        requires made_for { R.made_for seat.old.made_for (ticket.now % 6) found }
         ensures before { result ≡ seat.old.found }
-        ensures made_for { IfSome result (R.made_for seat.old.made_for) }
+        ensures made_for { IfSome result (R.made_for seat.old.made_for (ticket.now % 6)) }
         ensures seat { seat.new ≡ record seat.old { found = Some found } }
     {
         let slot = job_slot_of(ticket) + 1;
@@ -168,7 +169,7 @@ impl<J: Kept<W> + Drop, R: Kept<W> + Drop, W> Board<J, R, W> {
         self.table.shared.wake_all(steps::DONE);
     }
 
-    /// Opens six more numbers, one for each lane, with their jobs. The master has gathered all earlier ones, and has
+    /// Opens six more numbers, one for each lane, with the jobs that were made for the lanes. The master has gathered all earlier ones, and has
     /// not closed the board. At most 2^62 numbers are ever open.
     pub fn offer(&self, master: &mut Master<J, R, W>, jobs: Six<J>)
         requires board { master.old.board ≡ self.now }
@@ -185,7 +186,7 @@ impl<J: Kept<W> + Drop, R: Kept<W> + Drop, W> Board<J, R, W> {
         self.table.shared.wake_all(steps::OPEN);
     }
 
-    /// Gathers the six results, if all open numbers are finished. The master has not gathered those that it offered.
+    /// Gathers the six results, each made for its lane, if all open numbers are finished. The master has not gathered those that it offered.
     pub fn gathered(&self, master: &mut Master<J, R, W>) -> Gather<R>
         requires board { master.old.board ≡ self.now }
         requires offered { master.old.state.known < master.old.state.opened }

@@ -121,7 +121,7 @@ pub fn refill_all<J: Kept<W> + Drop, R: Kept<W> + Drop, W>(
 
 // The results in slots that have one each.
 pub fn results_in<J: Drop, R>(slots: Six<Slot<J, R>>) -> Six<R>
-    requires { EachLane IsFound slots }
+    requires { EachLane (λ _ slot. IsFound slot) slots }
     ensures { slots ≡ record { l0 = Found result.l0; l1 = Found result.l1; l2 = Found result.l2; l3 = Found result.l3; l4 = Found result.l4; l5 = Found result.l5 } }
 {
     let Six {

@@ -1,6 +1,6 @@
 //! The laws of the board of tickets, each the contract of a function without arguments.
 ghost use Rattle.turn_board.specs.Laws.{EventsKeepGood, AllDone, TicketsBounded, LanesDiffer, NoneHolding};
-ghost use Rattle.turn_board.specs.Kinds.{StepsKeepRule};
+ghost use Rattle.turn_board.specs.Kinds.{StepsAreEvents};
 
 use crate::kept::Kept;
 
@@ -30,8 +30,8 @@ pub fn none_holding()
     ensures { NoneHolding }
 {}
 
-/// Each of the seven kinds of step keeps the rule of the table: between any two steps the words and the views are a
-/// good state, and each step is the event of its name.
-pub fn steps_keep_the_rule<J: Kept<W>, R: Kept<W>, W>()
-    ensures { (key : W) → StepsKeepRule J.made_for R.made_for key }
+/// Each of the seven kinds of step is the event of its name: from a table that meets the rule it leaves one that meets the
+/// rule with the board after that event. So between any two steps the words and the views are a good state.
+pub fn steps_are_events<J: Kept<W>, R: Kept<W>, W>()
+    ensures { (key : W) → StepsAreEvents J.made_for R.made_for key }
 {}

@@ -3,7 +3,7 @@ ghost use Rattle.std.specs.Prelude.{◌≡◌, ℕ, ◌+◌, ◌^◌, ◌<◌, �
 ghost use mathlib.Core.Option.{none};
 ghost use Rattle.atomic_table.specs.Table.{step};
 ghost use Rattle.atomic_table.specs.Seated.{TableId};
-ghost use Rattle.turn_board.specs.Tickets.{IsUnfinished};
+ghost use Rattle.turn_board.specs.Tickets.{IsFree};
 ghost use Rattle.turn_board.specs.Slots.{MasterHolds, numbered};
 ghost use Rattle.turn_board.specs.Rule.{seat_view, fresh};
 ghost use Rattle.turn_board.specs.Plays.{drawn, looked, finished, opened, closed, polled, one_more, Brings, BringsJobs, IsSized};
@@ -18,67 +18,111 @@ pub type Words<J, R, W> = Shared<Slot<J, R>, View<W>, W, Rule<J, R, W>>;
 
 pub type Place<J, R, W> = Seat<Slot<J, R>, View<W>>;
 
+/// The word of the next number to draw.
 const TICKET: usize = 0;
 
+/// The word of the open numbers.
 pub const OPEN: usize = 1;
 
+/// The word of the finished numbers.
 pub const DONE: usize = 2;
 
+/// The bit of OPEN that is set where the board is closed.
 pub const CLOSED: u64 = 1 << 63;
 
-// A seat for a worker.
+/// A seat for a worker, which the master makes. It has done nothing.
 pub fn sit<J: Kept<W>, R: Kept<W>, W>(
     words: &Words<J, R, W>,
     master: &mut Place<J, R, W>,
 ) -> Place<J, R, W>
-    requires { (master.old.table_id ≡ words.now.table_id) × IsSized words.now.table_id × (master.old.me.0.leads ≡ true) × (master.old.me.0.seats < 9) }
-    ensures master { (master.new.table_id ≡ master.old.table_id) × (master.new.me ≡ (one_more master.old.me.0, master.old.me.1)) }
-    ensures seat { (result.table_id ≡ master.old.table_id) × (result.me ≡ (seat_view master.old.me.0.made_for fresh, [])) }
+    requires table { master.old.table_id ≡ words.now.table_id }
+    requires sized { IsSized words.now.table_id }
+    requires leads { master.old.me.0.leads ≡ true }
+    requires few { master.old.me.0.seats < 9 }
+    ensures table { master.new.table_id ≡ master.old.table_id }
+    ensures master { master.new.me ≡ (one_more master.old.me.0, master.old.me.1) }
+    ensures at { result.table_id ≡ master.old.table_id }
+    ensures seat { result.me ≡ (seat_view master.old.me.0.made_for fresh, []) }
 {
     words.split_seat::<Sit>(master)
 }
 
+/// Fetch-and-add 1 on TICKET: a worker without an unfinished number draws the next one.
 pub fn draw<J: Kept<W>, R: Kept<W>, W>(words: &Words<J, R, W>, seat: &mut Place<J, R, W>) -> u64
-    requires { (seat.old.table_id ≡ words.now.table_id) × IsSized words.now.table_id × (seat.old.me.0.leads ≡ false) × ((n : ℕ) → ¬ IsUnfinished seat.old.me.0.worker n) }
-    ensures { (seat.new.table_id ≡ seat.old.table_id) × drawn (step words.now.table_id.slots 0 1 0 none) seat.old.me result seat.new.me }
+    requires table { seat.old.table_id ≡ words.now.table_id }
+    requires sized { IsSized words.now.table_id }
+    requires follows { seat.old.me.0.leads ≡ false }
+    requires free { IsFree seat.old.me.0.worker }
+    ensures table { seat.new.table_id ≡ seat.old.table_id }
+    ensures drawn { drawn (step words.now.table_id.slots 0 1 0 none) seat.old.me result seat.new.me }
 {
     words.fetch_add::<Draw>(seat, TICKET, 1)
 }
 
+/// A load of OPEN: a worker sees how many numbers are open, and takes the slots of its lane where it begins to hold it.
 pub fn see_open<J: Kept<W>, R: Kept<W>, W>(words: &Words<J, R, W>, seat: &mut Place<J, R, W>) -> u64
-    requires { (seat.old.table_id ≡ words.now.table_id) × IsSized words.now.table_id × (seat.old.me.0.leads ≡ false) }
-    ensures { (seat.new.table_id ≡ seat.old.table_id) × looked J.made_for (step words.now.table_id.slots 1 0 0 none) seat.old.me result seat.new.me }
+    requires table { seat.old.table_id ≡ words.now.table_id }
+    requires sized { IsSized words.now.table_id }
+    requires follows { seat.old.me.0.leads ≡ false }
+    ensures table { seat.new.table_id ≡ seat.old.table_id }
+    ensures looked { looked J.made_for (step words.now.table_id.slots 1 0 0 none) seat.old.me result seat.new.me }
 {
     words.load::<SeeOpen>(seat, OPEN)
 }
 
+/// Fetch-and-add 1 on DONE: a worker that holds its lane, with a result in the second slot, finishes its number and gives
+/// the slots back.
 pub fn finish<J: Kept<W>, R: Kept<W>, W>(words: &Words<J, R, W>, seat: &mut Place<J, R, W>)
-    requires { (seat.old.table_id ≡ words.now.table_id) × IsSized words.now.table_id × (seat.old.me.0.leads ≡ false) × Brings J.made_for R.made_for seat.old.me }
-    ensures { (seat.new.table_id ≡ seat.old.table_id) × ((found : ℕ) × finished (step words.now.table_id.slots 2 1 0 none) seat.old.me found seat.new.me) }
+    requires table { seat.old.table_id ≡ words.now.table_id }
+    requires sized { IsSized words.now.table_id }
+    requires follows { seat.old.me.0.leads ≡ false }
+    requires result { Brings J.made_for R.made_for seat.old.me }
+    ensures table { seat.new.table_id ≡ seat.old.table_id }
+    ensures finished { ((found : ℕ) × finished (step words.now.table_id.slots 2 1 0 none) seat.old.me found seat.new.me) }
 {
     words.fetch_add::<Finish>(seat, DONE, 1);
 }
 
+/// Fetch-and-add 6 on OPEN: the master, which knows that all open numbers are finished, opens six more and gives all slots
+/// back, with six jobs.
 pub fn open<J: Kept<W>, R: Kept<W>, W>(words: &Words<J, R, W>, master: &mut Place<J, R, W>)
-    requires { (master.old.table_id ≡ words.now.table_id) × IsSized words.now.table_id × (master.old.me.0.leads ≡ true) × (master.old.me.0.master.known ≡ master.old.me.0.master.opened) × (master.old.me.0.master.closed ≡ false) × (master.old.me.0.master.opened + 6 ≤ 2 ^ 62) × BringsJobs J.made_for master.old.me }
-    ensures { (master.new.table_id ≡ master.old.table_id) × ((found : ℕ) × opened (step words.now.table_id.slots 1 6 0 none) master.old.me found master.new.me) }
+    requires table { master.old.table_id ≡ words.now.table_id }
+    requires sized { IsSized words.now.table_id }
+    requires leads { master.old.me.0.leads ≡ true }
+    requires gathered { master.old.me.0.master.known ≡ master.old.me.0.master.opened }
+    requires unclosed { master.old.me.0.master.closed ≡ false }
+    requires room { master.old.me.0.master.opened + 6 ≤ 2 ^ 62 }
+    requires jobs { BringsJobs J.made_for master.old.me }
+    ensures table { master.new.table_id ≡ master.old.table_id }
+    ensures opened { ((found : ℕ) × opened (step words.now.table_id.slots 1 6 0 none) master.old.me found master.new.me) }
 {
     words.fetch_add::<Open>(master, OPEN, 6);
 }
 
+/// Fetch-and-or of bit 63 on OPEN: the master closes the board.
 pub fn close<J: Kept<W>, R: Kept<W>, W>(words: &Words<J, R, W>, master: &mut Place<J, R, W>)
-    requires { (master.old.table_id ≡ words.now.table_id) × IsSized words.now.table_id × (master.old.me.0.leads ≡ true) }
-    ensures { (master.new.table_id ≡ master.old.table_id) × ((found : ℕ) × closed (step words.now.table_id.slots 1 (2 ^ 63) 0 none) master.old.me found master.new.me) }
+    requires table { master.old.table_id ≡ words.now.table_id }
+    requires sized { IsSized words.now.table_id }
+    requires leads { master.old.me.0.leads ≡ true }
+    ensures table { master.new.table_id ≡ master.old.table_id }
+    ensures closed { ((found : ℕ) × closed (step words.now.table_id.slots 1 (2 ^ 63) 0 none) master.old.me found master.new.me) }
 {
     words.fetch_or::<Close>(master, OPEN, CLOSED);
 }
 
+/// A load of DONE: the master, which does not hold the slots, sees how many numbers are finished, and takes all slots where
+/// all open ones are.
 pub fn see_done<J: Kept<W>, R: Kept<W>, W>(
     words: &Words<J, R, W>,
     master: &mut Place<J, R, W>,
 ) -> u64
-    requires { (master.old.table_id ≡ words.now.table_id) × IsSized words.now.table_id × (master.old.me.0.leads ≡ true) × (¬ MasterHolds master.old.me.0.master) × (master.old.me.1 ≡ []) }
-    ensures { (master.new.table_id ≡ master.old.table_id) × polled J.made_for R.made_for (step words.now.table_id.slots 2 0 0 none) master.old.me result master.new.me }
+    requires table { master.old.table_id ≡ words.now.table_id }
+    requires sized { IsSized words.now.table_id }
+    requires leads { master.old.me.0.leads ≡ true }
+    requires offered { ¬ MasterHolds master.old.me.0.master }
+    requires bare { master.old.me.1 ≡ [] }
+    ensures table { master.new.table_id ≡ master.old.table_id }
+    ensures polled { polled J.made_for R.made_for (step words.now.table_id.slots 2 0 0 none) master.old.me result master.new.me }
 {
     words.load::<SeeDone>(master, DONE)
 }

@@ -1,4 +1,5 @@
-ghost use Rattle.std.specs.Prelude.{◌≡◌, ◌*◌, ◌+◌, ◌<◌, ◌≤◌, ℕ, false, IfSome};
+//! Windows passed over the board by one thread, by four, and by two with values that were made for what was lent.
+ghost use Rattle.std.specs.Prelude.{◌≡◌, ◌*◌, ◌+◌, ◌%◌, ◌<◌, ◌≤◌, ℕ, false, IfSome};
 ghost use denote.Param.Send.{IsSync};
 ghost use Rattle.turn_board.specs.Tickets.{IsFree};
 ghost use Rattle.turn_board.specs.Answers.{IsReady};
@@ -14,24 +15,24 @@ const LIMIT: u64 = 1 << 20;
 
 const WINDOWS: u64 = 1000;
 
-// A job, made for a limit where its number is below it.
+// A job, made for a limit where its number is below it, and for its number's lane.
 #[derive(Drop)]
 struct Piece {
     number: u64,
 }
 
 impl Kept<u64> for Piece {
-    ghost made_for = { λ limit p. p.number < limit };
+    ghost made_for = { λ limit lane p. (p.number < limit) × (p.number % 6 ≡ lane) };
 }
 
-// Its result.
+// Its result, which is one more.
 #[derive(Drop)]
 struct Next {
     number: u64,
 }
 
 impl Kept<u64> for Next {
-    ghost made_for = { λ limit n. n.number ≤ limit };
+    ghost made_for = { λ limit lane n. (n.number ≤ limit) × ((n.number + 5) % 6 ≡ lane) };
 }
 
 type Numbers = Board<Piece, Next, u64>;
@@ -42,7 +43,7 @@ type Leader = Master<Piece, Next, u64>;
 
 fn pieces(window: u64) -> Six<Piece>
     requires { window < WINDOWS }
-    ensures { EachLane (λ p. p.number < LIMIT) result }
+    ensures { EachLane (λ lane p. (p.number < LIMIT) × (p.number % 6 ≡ lane)) result }
 {
     let first = 6 * window;
     Six {
@@ -123,7 +124,13 @@ fn serve_one(board: &Numbers, seat: &mut Worker) -> Option<u64>
     }
     let number = ticket.number();
     let piece = board.take(seat, &ticket);
-    board.put(seat, &ticket, Next { number: 0 });
+    board.put(
+        seat,
+        &ticket,
+        Next {
+            number: piece.number % 6 + 1,
+        },
+    );
     let next = Next {
         number: piece.number + 1,
     };
@@ -201,9 +208,8 @@ fn three_threads_pass_many_windows(rt: HostRuntime) -> Result<(), Fail> {
         panic!(rt; "no seat")
     };
     let (rt, board) = (&rt, &board);
-    let (right, (a, b)) = thread::join(
+    let ((a, b), right) = thread::join(
         rt,
-        move || lead(rt, board, master),
         move || -> (u64, u64)
             requires { IsReady board.now LIMIT first × IsReady board.now LIMIT second × IsReady board.now LIMIT third }
         {
@@ -217,6 +223,7 @@ fn three_threads_pass_many_windows(rt: HostRuntime) -> Result<(), Fail> {
                 { serve_two(rt, board, second, third) },
             )
         },
+        move || lead(rt, board, master),
     );
     assert!(rt; right == WINDOWS && a.wrapping_add(b) == 6 * WINDOWS);
     Ok(())
@@ -253,49 +260,108 @@ struct Lent {
 }
 
 impl<'a> Kept<&'a Bound> for Lent {
-    ghost made_for = { λ bound p. p.number < bound.now.top };
+    ghost made_for = { λ bound lane p. p.number < bound.now.top };
 }
 
-// One worker passes a job on, within what it was made for.
-fn pass_on<'a>(
-    board: &Board<Lent, Lent, &'a Bound>,
-    seat: &mut Seat<Lent, Lent, &'a Bound>,
-) -> Option<u64>
-    requires board { seat.old.board ≡ board.now }
-    requires free { IsFree seat.old.state }
-    ensures { IfSome result (λ n. n < seat.old.made_for.now.top) }
-{
-    let ticket = board.draw(seat);
-    match board.look(seat, &ticket) {
-        See::Open => {}
-        See::NotYet(_) => return None,
-        See::Closed => return None,
+type LentBoard<'a> = Board<Lent, Lent, &'a Bound>;
+
+// What a worker's thread is given.
+#[derive(Drop)]
+struct Shift<'b, 'a> {
+    board: &'b LentBoard<'a>,
+    seat: Seat<Lent, Lent, &'a Bound>,
+}
+
+impl<'b, 'a> Shift<'b, 'a> {
+    // Passes jobs on, within what they were made for, until the board is closed, and says how many.
+    fn work<H: Wait>(self, rt: &H) -> u64
+        requires board { self.seat.board ≡ self.board.now }
+        requires free { IsFree self.seat.state }
+    {
+        let Shift { board, seat } = self;
+        let mut seat = seat;
+        let mut passed: u64 = 0;
+        for _ in rt.forever() {
+            let ticket = board.draw(&mut seat);
+            match board.await_open(rt, &mut seat, &ticket) {
+                See::Open => {}
+                See::NotYet(_) => return passed,
+                See::Closed => return passed,
+            }
+            let piece = board.take(&mut seat, &ticket);
+            board.put(&mut seat, &ticket, piece);
+            board.done(&mut seat, ticket);
+            passed = passed.wrapping_add(1);
+        }
+        unreachable!()
     }
-    let piece = board.take(seat, &ticket);
-    let number = piece.number;
-    board.put(seat, &ticket, piece);
-    board.done(seat, ticket);
-    Some(number)
+}
+
+// What the coordinator is given.
+#[derive(Drop)]
+struct Bench<'b, 'a> {
+    board: &'b LentBoard<'a>,
+    master: Master<Lent, Lent, &'a Bound>,
+}
+
+impl<'b, 'a> Bench<'b, 'a> {
+    // Passes a window, closes the board, and says whether each lane had its job back.
+    fn lead<H: Wait>(self, rt: &H) -> bool
+        requires board { self.master.board ≡ self.board.now }
+        requires new { (self.master.state.opened ≡ 0) × (self.master.state.known ≡ 0) × (self.master.state.closed ≡ false) }
+        requires top { self.master.made_for.now.top ≡ 7 }
+    {
+        let Bench { board, master } = self;
+        let mut master = master;
+        let jobs = Six {
+            l0: Lent { number: 5 },
+            l1: Lent { number: 1 },
+            l2: Lent { number: 2 },
+            l3: Lent { number: 3 },
+            l4: Lent { number: 4 },
+            l5: Lent { number: 6 },
+        };
+        board.offer(&mut master, jobs);
+        let right = match board.await_all(rt, &mut master) {
+            Gather::All(found) => found.l0.number == 5
+                && found.l1.number == 1
+                && found.l5.number == 6,
+            Gather::Part(_) => false,
+        };
+        board.close(&mut master);
+        right
+    }
+}
+
+// A worker, and the coordinator second: it stays in this thread.
+fn both<'b, 'a, H: Threads + Wait + Sync>(
+    rt: &H,
+    shift: Shift<'b, 'a>,
+    bench: Bench<'b, 'a>,
+) -> (u64, bool)
+    requires shift { (shift.seat.board ≡ shift.board.now) × IsFree shift.seat.state }
+    requires bench { (bench.master.board ≡ bench.board.now) × (bench.master.state.opened ≡ 0) × (bench.master.state.known ≡ 0) × (bench.master.state.closed ≡ false) × (bench.master.made_for.now.top ≡ 7) }
+{
+    thread::join(
+        rt,
+        move || -> u64
+            requires { IsSync H.row × (shift.seat.board ≡ shift.board.now) × IsFree shift.seat.state }
+        { shift.work(rt) },
+        move || -> bool
+            requires { (bench.master.board ≡ bench.board.now) × (bench.master.state.opened ≡ 0) × (bench.master.state.known ≡ 0) × (bench.master.state.closed ≡ false) × (bench.master.made_for.now.top ≡ 7) }
+        { bench.lead(rt) },
+    )
 }
 
 #[test]
 fn values_are_made_for_what_was_lent(rt: HostRuntime) -> Result<(), Fail> {
     let bound = Bound { top: 7 };
-    let (board, mut master, mut seats) = Board::<Lent, Lent, &Bound>::new(rt.alloc(), &bound, 1)?;
-    let Some(mut seat) = seats.pop() else {
+    let (board, master, mut seats) = LentBoard::new(rt.alloc(), &bound, 1)?;
+    let Some(seat) = seats.pop() else {
         panic!(rt; "no seat")
     };
-    let jobs = Six {
-        l0: Lent { number: 5 },
-        l1: Lent { number: 1 },
-        l2: Lent { number: 2 },
-        l3: Lent { number: 3 },
-        l4: Lent { number: 4 },
-        l5: Lent { number: 6 },
-    };
-    board.offer(&mut master, jobs);
-    assert!(rt; pass_on(&board, &mut seat) == Some(5));
-    let part = matches!(board.gathered(&mut master), Gather::Part(1));
-    assert!(rt; part);
+    let board = &board;
+    let (passed, right) = both(&rt, Shift { board, seat }, Bench { board, master });
+    assert!(rt; passed == 6 && right);
     Ok(())
 }

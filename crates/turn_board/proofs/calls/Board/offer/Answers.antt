@@ -1,4 +1,4 @@
-use Rattle.std.proofs.Common.{rules, sym, ap, ◌∙◌, subst}
+use Rattle.std.proofs.Common.{sym, ap, ◌∙◌, subst}
 use Rattle.turn_board.specs.Answers.{EachLane}
 use Rattle.turn_board.specs.declared.slot.Slot.TheVariants.{Empty}
 use Rattle.turn_board.proofs.Refills.{brings_jobs}
@@ -10,14 +10,7 @@ refill_all-requires-clause-held g c = (
   (Empty, Empty, Empty, Empty, Empty, Empty, c.master.invariant.0.holds (ap (λ s. s.state.known) c.master.view_is ∙ (c.requires.gathered ∙ sym (ap (λ s. s.state.opened) c.master.view_is)))),
 )
 
-pub open-requires : goal.open-requires
-open-requires g c = (
-  search rules,
-  c.self.invariant,
-  search rules,
-  search rules,
-  search rules,
-  search rules,
-  brings_jobs g.J.Kept.made_for c.master.inside.place.me c.refill_all.new.place.me c.args.jobs c.jobs_in.result c.refill_all.ensures.held c.jobs_in.ensures
-      (subst (λ m. EachLane (g.J.Kept.made_for m.made_for) c.args.jobs) (sym c.master.view_is) c.requires.made_for),
-)
+pub open-requires-clause-jobs : goal.open-requires-clause-jobs
+open-requires-clause-jobs g c =
+    brings_jobs g.J.Kept.made_for c.master.inside.place.me c.refill_all.new.place.me c.args.jobs c.jobs_in.result c.refill_all.ensures.held c.jobs_in.ensures
+    (subst (λ m. EachLane (g.J.Kept.made_for m.made_for) c.args.jobs) (sym c.master.view_is) c.requires.made_for)
