@@ -1,6 +1,7 @@
 //! A shelf in memory.
 
 ghost use Rattle.std.specs.Prelude.{◌≡◌, [], Some, None, MatchOption};
+ghost use Rattle.rp_ports.specs.Fault.{one_more};
 ghost use Rattle.rp_ports.specs.Shelf.{Answers, failed_after};
 ghost use Rattle.std.specs.Prelude.{map};
 ghost use Rattle.std.specs.String.{string_bytes};
@@ -64,7 +65,8 @@ impl MemShelf {
     /// Adds a name to the failed ones; without memory for it the load has found no memory.
     fn fail(&mut self, name: &str) -> Loaded
         ensures answer { FailsOrRunsOut result }
-        ensures failures { map string_bytes self.new.failed.items ≡ failed_after (map string_bytes self.old.failed.items) name.now result }
+        ensures failures { map string_bytes self.new.failed.items
+            ≡ failed_after (map string_bytes self.old.failed.items) name.now result }
         ensures kept { self.new ≡ record self.old { failed = self.new.failed } }
     {
         let alloc = *self.failed.allocator();
@@ -83,12 +85,15 @@ impl Shelf for MemShelf {
 
     ghost failed = { λ s. map string_bytes s.failed.items };
 
-    /// Fails exactly at the listed calls and for a name that is not held.
+    /// Fails exactly at the listed calls and for a name that is not held. Each call is counted, and the list stays.
     fn load(&mut self, name: &str, limit: usize, into: &mut Vec<u8>) -> Loaded
         ensures kept { self.new.held ≡ self.old.held }
         ensures content { Answers (Some (file_in self.old.held.items)) name.now limit result into.new.items }
-        ensures failures { map string_bytes self.new.failed.items ≡ failed_after (map string_bytes self.old.failed.items) name.now result }
+        ensures failures { map string_bytes self.new.failed.items
+            ≡ failed_after (map string_bytes self.old.failed.items) name.now result }
         ensures exact { FailsWhereListed self.old.failing.items self.old.calls (file_in self.old.held.items name.now) result }
+        ensures counted { self.new.calls ≡ one_more self.old.calls }
+        ensures listed { self.new.failing ≡ self.old.failing }
     {
         let call = self.calls;
         self.calls = self.calls.saturating_add(1);

@@ -1,6 +1,7 @@
 //! A sink in memory.
 
 ghost use Rattle.std.specs.Prelude.{◌≡◌, ◌-◌, [], Some, vec_len, vec_capacity};
+ghost use Rattle.rp_ports.specs.Fault.{one_more};
 ghost use Rattle.rp_ports.specs.Sink.{Writes, Counts};
 ghost use Rattle.rp_ports.specs.MemSink.{FailsWhereListed};
 
@@ -52,11 +53,15 @@ impl Sink for MemSink {
 
     ghost faults = { λ s. s.faults };
 
-    /// Takes the whole piece; fails exactly at the listed calls, and where the bytes find no memory.
+    /// Takes the whole piece; fails exactly at the listed calls, and where the bytes find no memory. Each call is
+    /// counted, and the list stays.
     fn put(&mut self, bytes: &[u8]) -> Put
         ensures content { Writes (Some self.old.bytes.items) (Some self.new.bytes.items) bytes.now result }
         ensures count { Counts self.old.faults self.new.faults result }
-        ensures exact { FailsWhereListed self.old.failing.items self.old.calls (vec_capacity self.old.bytes - vec_len self.old.bytes) bytes.now result }
+        ensures exact { FailsWhereListed self.old.failing.items self.old.calls
+            (vec_capacity self.old.bytes - vec_len self.old.bytes) bytes.now result }
+        ensures counted { self.new.calls ≡ one_more self.old.calls }
+        ensures listed { self.new.failing ≡ self.old.failing }
     {
         let call = self.calls;
         self.calls = self.calls.saturating_add(1);
