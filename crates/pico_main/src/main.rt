@@ -12,17 +12,22 @@ use file_shelf::FileShelf;
 use pico_top::pico;
 use rp_machine::Steps;
 use std::alloc::{AllocError, Global};
-use std::env;
 use std::marker::Brand;
 use std::process::ExitCode;
 use std::rt::{Env, Files};
 use std::sync::ledger::{Blank, Ledger};
+use std::{env, io};
 use stdout_sink::StdoutSink;
 
 /// The words after the program's name; none where the system does not give them as text.
+///
+/// # Errors
+///
+/// There was no memory for them.
 fn words<R: Env + AllocGlobal>(rt: &R) -> Result<Vec<String>, AllocError> {
     match env::args(rt) {
         Ok(args) => args.skip(1).collect(rt.alloc()),
+        Err(error) if error.kind() == io::ErrorKind::OutOfMemory => Err(AllocError),
         Err(_) => Ok(Vec::new(rt.alloc())),
     }
 }

@@ -1,187 +1,173 @@
--- The causes of the statuses, from the ways in which a call goes.
-use Rattle.std.proofs.Common.{◌≡◌, ◌≢◌, ◌⊎◌, ℕ, ◌+◌, ◌<◌, ◌≤◌, List, [], ◌∷◌, length, Option, Some, None, Result, Ok, Err, refl, sym, ap, inl, inr, ◌∙◌, subst, arith, length-append}
+-- The causes of the statuses, from the ending of a call's walk.
+use Rattle.std.proofs.Common.{◌≡◌, ◌≢◌, ◌⊎◌, ℕ, ◌+◌, ◌<◌, List, [], ◌∷◌, ◌++◌, length, Option, Some, None, IfSome, Result, Ok, Err, refl, sym, ap, inl, inr, ◌∙◌, subst, arith, length-append}
 use Rattle.rp_ports.specs.Shelf.{Files}
 use Rattle.rp_ports.specs.Fault.{Rose}
-use Rattle.uf2_image.specs.Uf2.{image_of}
-use Rattle.uf2_image.specs.declared.parts.Image.{Image}
 use Rattle.uf2_image.specs.declared.fault.ImageFault.{ImageFault}
 use Rattle.pio_parse.specs.declared.fault.PioFault.{PioFault}
-use Rattle.pio_asm.specs.Assembly.{Plan}
-use Rattle.pico_top.specs.Words.{Command}
-use Rattle.pico_top.specs.Words.Command.{RunImage, Disassemble, Assemble}
-use Rattle.pico_top.specs.Listing.{plans_of}
-use Rattle.pico_top.specs.Answer.{Call}
-use Rattle.pico_top.specs.Dialogue.{MayGive}
-use Rattle.pico_top.specs.Dialogue.Gave.{Bytes, TooLong}
-use Rattle.pico_top.specs.Causes.{Asked, image_file, source_file, file_of, LoadFailed, FileCause, ImageCause, SourceCause, IsStatus, Holds, Held, image_status, source_status, status_of}
-use Rattle.pico_top.proofs.Origins.{Origin}
-use Rattle.pico_top.proofs.Origins.Origin.{NoFile, Failing, Large, Judged, Empty}
-use Rattle.pico_top.proofs.Statuses.{told_status, told_any, told_is, told_sink}
+use Rattle.trace_text.specs.Sent.{Sends}
+use Rattle.trace_text.specs.declared.writer.SinkFault.{SinkFault}
+use Rattle.command_words.specs.Words.{Command, reading}
+use Rattle.refusal_lines.specs.Refusals.{Refusal, status_of}
+use Rattle.refusal_lines.specs.Refusals.Refusal.{BadWords, Lost, TooLarge, BadImage, BadSource}
+use Rattle.pico_top.specs.Call.{Asked, Outside}
+use Rattle.pico_top.specs.Walk.{Ending, WalksFrom, failed_names, refusal_from}
+use Rattle.pico_top.specs.Walk.Ending.{Said, Refused, NoMemory}
+use Rattle.pico_top.specs.Answer.{Puts, RunsOut, Ends, sent_status, memory_line, Converses}
+use Rattle.pico_top.specs.Causes.{IsRefused, HasCause, IsStatus, status_in, IsComplete}
+use Rattle.pico_top.proofs.Walking.{words_refused, refusal_in, walk_from_first}
 
--- ---- the status of bytes
+-- ---- the status of a text
 
-image_fault : (r : Result Image ImageFault) → image_status r ≡ 4 → (fault : ImageFault) × (r ≡ Err fault)
-image_fault (Ok image) e = absurd (omega (arith, e))
-image_fault (Err fault) e = (fault, refl)
+sent_is : (sent : Result (Unit {0}) SinkFault) (status wanted : ℕ) → status ≡ sent_status sent wanted → (status ≡ wanted) ⊎ (status ≡ 7)
+sent_is (Ok done) status wanted e = inl e
+sent_is (Err fault) status wanted e = inr e
 
-source_fault : (r : Result (List Plan) PioFault) → source_status r ≡ 5 → (fault : PioFault) × (r ≡ Err fault)
-source_fault (Ok plans) e = absurd (omega (arith, e))
-source_fault (Err fault) e = (fault, refl)
+pub puts_is : (old new : Option (List ℕ)) (before now status wanted : ℕ) (text : List ℕ) → Puts old new before now status wanted text → (status ≡ wanted) ⊎ (status ≡ 7)
+puts_is old new before now status wanted text h = sent_is h.0 status wanted h.2
 
-image_statuses : (r : Result Image ImageFault) → (image_status r ≡ 0) ⊎ (image_status r ≡ 4)
-image_statuses (Ok image) = inl refl
-image_statuses (Err fault) = inr refl
+sent_rose : (old new : Option (List ℕ)) (before now status wanted : ℕ) (text : List ℕ) (sent : Result (Unit {0}) SinkFault) → Sends old new before now text sent → status ≡ sent_status sent wanted → status ≡ 7 → wanted < 7 ⊎ (wanted ≡ 9) → Rose before now
+sent_rose old new before now status wanted text (Ok done) sends e seven other = absurd (elim other [ inl lt ↦ omega (arith, e, seven, lt) | inr nine ↦ omega (arith, e, seven, nine) ])
+sent_rose old new before now status wanted text (Err fault) sends e seven other = sends.cause
 
-source_statuses : (r : Result (List Plan) PioFault) → (source_status r ≡ 0) ⊎ (source_status r ≡ 5)
-source_statuses (Ok plans) = inl refl
-source_statuses (Err fault) = inr refl
+puts_rose : (old new : Option (List ℕ)) (before now status wanted : ℕ) (text : List ℕ) → Puts old new before now status wanted text → status ≡ 7 → wanted < 7 ⊎ (wanted ≡ 9) → Rose before now
+puts_rose old new before now status wanted text h seven other = sent_rose old new before now status wanted text h.0 h.1 h.2 seven other
 
-no_image : {Q : Type 0} (r : Result Image ImageFault) (status : ℕ) → image_status r ≡ status → status ≢ 0 → status ≢ 4 → Q
-no_image r status e zero four = absurd (elim (image_statuses r) [ inl x ↦ zero (sym e ∙ x) | inr x ↦ four (sym e ∙ x) ])
+-- ---- the status of an ending
 
-no_source : {Q : Type 0} (r : Result (List Plan) PioFault) (status : ℕ) → source_status r ≡ status → status ≢ 0 → status ≢ 5 → Q
-no_source r status e zero five = absurd (elim (source_statuses r) [ inl x ↦ zero (sym e ∙ x) | inr x ↦ five (sym e ∙ x) ])
+abbrev pub ending_status : Ending → ℕ
+ending_status (Said text cost) = 0
+ending_status (Refused refusal) = status_of refusal
+ending_status NoMemory = 9
 
--- 2 is the status of refused words
-refused_words : (asked : Option Command) (bytes : List ℕ) → status_of asked bytes ≡ 2 → asked ≡ None
-refused_words None bytes e = refl
-refused_words (Some (RunImage run)) bytes e = no_image (image_of bytes) 2 e (omega arith) (omega arith)
-refused_words (Some (Disassemble words side)) bytes e = absurd (omega (arith, e))
-refused_words (Some (Assemble name)) bytes e = no_source (plans_of bytes) 2 e (omega arith) (omega arith)
+small_status : (refusal : Refusal) → status_of refusal < 7
+small_status BadWords = omega arith
+small_status (Lost name) = omega arith
+small_status (TooLarge name long) = omega arith
+small_status (BadImage fault) = omega arith
+small_status (BadSource fault) = omega arith
 
--- 3 and 7 are the status of no bytes
-never : {Q : Type 0} (asked : Option Command) (bytes : List ℕ) (status : ℕ) → status_of asked bytes ≡ status → (status ≡ 3) ⊎ (status ≡ 7) → Q
-never None bytes status e w = absurd (elim w [ inl x ↦ omega (arith, e, x) | inr x ↦ omega (arith, e, x) ])
-never (Some (RunImage run)) bytes status e w =
-    elim w [ inl x ↦ no_image (image_of bytes) status e (omega (arith, x)) (omega (arith, x)) | inr x ↦ no_image (image_of bytes) status e (omega (arith, x)) (omega (arith, x)) ]
-never (Some (Disassemble words side)) bytes status e w = absurd (elim w [ inl x ↦ omega (arith, e, x) | inr x ↦ omega (arith, e, x) ])
-never (Some (Assemble name)) bytes status e w =
-    elim w [ inl x ↦ no_source (plans_of bytes) status e (omega (arith, x)) (omega (arith, x)) | inr x ↦ no_source (plans_of bytes) status e (omega (arith, x)) (omega (arith, x)) ]
+told_is : (old new : Option (List ℕ)) (before now status wanted : ℕ) (text : List ℕ) → Puts old new before now status wanted text ⊎ RunsOut old new before now status → IsStatus status wanted
+told_is old new before now status wanted text h = elim h [
+  | inl w ↦ elim (puts_is old new before now status wanted text w) [ inl e ↦ inl e | inr e ↦ inr (inl e) ]
+  | inr w ↦ elim (puts_is old new before now status 9 memory_line w) [ inl e ↦ inr (inr e) | inr e ↦ inr (inl e) ]
+]
 
--- a command without a file has a status of at most 2
-no_file_low : {Q : Type 0} (asked : Option Command) (bytes : List ℕ) (status : ℕ) → file_of asked ≡ None → status_of asked bytes ≡ status → 2 < status → Q
-no_file_low None bytes status none e high = absurd (omega (arith, e, high))
-no_file_low (Some (RunImage run)) bytes status none e high = absurd (cc none)
-no_file_low (Some (Disassemble words side)) bytes status none e high = absurd (omega (arith, e, high))
-no_file_low (Some (Assemble name)) bytes status none e high = absurd (cc none)
+told_rose : (old new : Option (List ℕ)) (before now status wanted : ℕ) (text : List ℕ) → Puts old new before now status wanted text ⊎ RunsOut old new before now status → status ≡ 7 → wanted < 7 → Rose before now
+told_rose old new before now status wanted text h seven low = elim h [
+  | inl w ↦ puts_rose old new before now status wanted text w seven (inl low)
+  | inr w ↦ puts_rose old new before now status 9 memory_line w seven (inr refl)
+]
 
--- 4 is the status of an image's fault, and 5 that of a source's
-image_cause : (files : Option Files) (asked : Option Command) (file : Asked) (bytes : List ℕ) → file_of asked ≡ Some file → MayGive files file.name file.limit (Bytes bytes) → status_of asked bytes ≡ 4 → ImageCause files asked
-image_cause files None file bytes wanted gave e = absurd (omega (arith, e))
-image_cause files (Some (RunImage run)) file bytes wanted gave e =
-    let same : image_file run ≡ file = cc wanted in
-    let f = image_fault (image_of bytes) e in
-    record { run = run; reads = refl; bytes = bytes; gave = subst (λ (a : Asked). MayGive files a.name a.limit (Bytes bytes)) (sym same) gave; fault = f.0; is = f.1 }
-image_cause files (Some (Disassemble words side)) file bytes wanted gave e = absurd (omega (arith, e))
-image_cause files (Some (Assemble name)) file bytes wanted gave e = no_source (plans_of bytes) 4 e (omega arith) (omega arith)
+ends_is : (old new : Option (List ℕ)) (before now status : ℕ) (e : Ending) → Ends old new before now status e → IsStatus status (ending_status e)
+ends_is old new before now status (Said text cost) h = told_is old new before now status 0 text h
+ends_is old new before now status (Refused refusal) h = told_is old new before now status (status_of refusal) _ h
+ends_is old new before now status NoMemory h = told_is old new before now status 9 memory_line (inr h)
 
-source_cause : (files : Option Files) (asked : Option Command) (file : Asked) (bytes : List ℕ) → file_of asked ≡ Some file → MayGive files file.name file.limit (Bytes bytes) → status_of asked bytes ≡ 5 → SourceCause files asked
-source_cause files None file bytes wanted gave e = absurd (omega (arith, e))
-source_cause files (Some (RunImage run)) file bytes wanted gave e = no_image (image_of bytes) 5 e (omega arith) (omega arith)
-source_cause files (Some (Disassemble words side)) file bytes wanted gave e = absurd (omega (arith, e))
-source_cause files (Some (Assemble name)) file bytes wanted gave e =
-    let same : source_file name ≡ file = cc wanted in
-    let f = source_fault (plans_of bytes) e in
-    record { name = name; reads = refl; bytes = bytes; gave = subst (λ (a : Asked). MayGive files a.name a.limit (Bytes bytes)) (sym same) gave; fault = f.0; is = f.1 }
+pub ends_rose : (old new : Option (List ℕ)) (before now status : ℕ) (e : Ending) → Ends old new before now status e → status ≡ 7 → Rose before now
+ends_rose old new before now status (Said text cost) h seven = told_rose old new before now status 0 text h seven (omega arith)
+ends_rose old new before now status (Refused refusal) h seven = told_rose old new before now status (status_of refusal) _ h seven (small_status refusal)
+ends_rose old new before now status NoMemory h seven = puts_rose old new before now status 9 memory_line h seven (inr refl)
 
--- ---- words
+-- a status below 7 is that of the ending
+low_is : (status wanted low : ℕ) → IsStatus status wanted → status ≡ low → low < 7 → wanted ≡ low
+low_is status wanted low h e lt = elim h [
+  | inl is ↦ sym is ∙ e
+  | inr w ↦ absurd (elim w [ inl x ↦ omega (arith, x, e, lt) | inr x ↦ omega (arith, x, e, lt) ])
+]
 
-pub words_only : (files : Option Files) (failed failed' : List (List ℕ)) (call : Call) (asked : Option Command) → Origin files failed failed' call asked → call.status ≡ 2 → asked ≡ None
-words_only files failed failed' call asked (NoFile none same told) e = refused_words asked [] (told_is call _ 2 told e (omega arith))
-words_only files failed failed' call asked (Failing file wanted lost told) e = absurd (let x = told_is call 3 2 told e (omega arith) in omega (arith, x))
-words_only files failed failed' call asked (Large file wanted long gave told) e = absurd (let x = told_is call 3 2 told e (omega arith) in omega (arith, x))
-words_only files failed failed' call asked (Judged file wanted bytes gave told) e = refused_words asked bytes (told_is call _ 2 told e (omega arith))
-words_only files failed failed' call asked (Empty file wanted told) e = absurd (let x = told_is call 9 2 told e (omega arith) in omega (arith, x))
+-- ---- the causes
 
-no_words : {Q : Type 0} (asked : Option Command) (file : Asked) → file_of asked ≡ Some file → asked ≡ None → Q
-no_words asked file wanted none = absurd (let x : Some file ≡ None = sym wanted ∙ ap file_of none in cc x)
+-- a walk of the call's dialogue ended so
+abbrev pub EndedIn : Asked → Outside → Outside → Ending → Type 0
+EndedIn asked before after e = WalksFrom before.files (reading asked.words) e × (after.failed ≡ failed_names before.failed e)
 
-pub words_refused : (files : Option Files) (failed failed' : List (List ℕ)) (call : Call) (asked : Option Command) → Origin files failed failed' call asked → asked ≡ None → IsStatus call.status 2
-words_refused files failed failed' call asked (NoFile none same told) e = subst (λ (a : Option Command). IsStatus call.status (status_of a [])) e (told_status call _ told)
-words_refused files failed failed' call asked (Failing file wanted lost told) e = no_words asked file wanted e
-words_refused files failed failed' call asked (Large file wanted long gave told) e = no_words asked file wanted e
-words_refused files failed failed' call asked (Judged file wanted bytes gave told) e = no_words asked file wanted e
-words_refused files failed failed' call asked (Empty file wanted told) e = no_words asked file wanted e
+words_cause : (asked : Asked) (before after : Outside) (e : Ending) → ending_status e ≡ 2 → EndedIn asked before after e → reading asked.words ≡ None
+words_cause asked before after (Said text cost) e h = absurd (omega (arith, e))
+words_cause asked before after (Refused BadWords) e h = words_refused before.files (reading asked.words) h.0
+words_cause asked before after (Refused (Lost name)) e h = absurd (omega (arith, e))
+words_cause asked before after (Refused (TooLarge name long)) e h = absurd (omega (arith, e))
+words_cause asked before after (Refused (BadImage fault)) e h = absurd (omega (arith, e))
+words_cause asked before after (Refused (BadSource fault)) e h = absurd (omega (arith, e))
+words_cause asked before after NoMemory e h = absurd (omega (arith, e))
 
--- ---- files and their faults
+file_cause : (asked : Asked) (before after : Outside) (e : Ending) → ending_status e ≡ 3 → EndedIn asked before after e → ((name : List ℕ) × IsRefused asked before after (Lost name)) ⊎ ((name : List ℕ) × (long : ℕ) × IsRefused asked before after (TooLarge name long))
+file_cause asked before after (Said text cost) e h = absurd (omega (arith, e))
+file_cause asked before after (Refused BadWords) e h = absurd (omega (arith, e))
+file_cause asked before after (Refused (Lost name)) e h = inl (name, h)
+file_cause asked before after (Refused (TooLarge name long)) e h = inr (name, long, h)
+file_cause asked before after (Refused (BadImage fault)) e h = absurd (omega (arith, e))
+file_cause asked before after (Refused (BadSource fault)) e h = absurd (omega (arith, e))
+file_cause asked before after NoMemory e h = absurd (omega (arith, e))
 
-pub file_only : (files : Option Files) (failed failed' : List (List ℕ)) (call : Call) (asked : Option Command) → Origin files failed failed' call asked → call.status ≡ 3 → FileCause files failed failed' (file_of asked)
-file_only files failed failed' call asked (NoFile none same told) e = never asked [] 3 (told_is call _ 3 told e (omega arith)) (inl refl)
-file_only files failed failed' call asked (Failing file wanted lost told) e = (file, wanted, inl lost)
-file_only files failed failed' call asked (Large file wanted long gave told) e = (file, wanted, inr (long, gave))
-file_only files failed failed' call asked (Judged file wanted bytes gave told) e = never asked bytes 3 (told_is call _ 3 told e (omega arith)) (inl refl)
-file_only files failed failed' call asked (Empty file wanted told) e = absurd (let x = told_is call 9 3 told e (omega arith) in omega (arith, x))
+image_cause : (asked : Asked) (before after : Outside) (e : Ending) → ending_status e ≡ 4 → EndedIn asked before after e → (fault : ImageFault) × IsRefused asked before after (BadImage fault)
+image_cause asked before after (Said text cost) e h = absurd (omega (arith, e))
+image_cause asked before after (Refused BadWords) e h = absurd (omega (arith, e))
+image_cause asked before after (Refused (Lost name)) e h = absurd (omega (arith, e))
+image_cause asked before after (Refused (TooLarge name long)) e h = absurd (omega (arith, e))
+image_cause asked before after (Refused (BadImage fault)) e h = (fault, h)
+image_cause asked before after (Refused (BadSource fault)) e h = absurd (omega (arith, e))
+image_cause asked before after NoMemory e h = absurd (omega (arith, e))
 
-pub image_only : (files : Option Files) (failed failed' : List (List ℕ)) (call : Call) (asked : Option Command) → Origin files failed failed' call asked → call.status ≡ 4 → ImageCause files asked
-image_only files failed failed' call asked (NoFile none same told) e = no_file_low asked [] 4 none (told_is call _ 4 told e (omega arith)) (omega arith)
-image_only files failed failed' call asked (Failing file wanted lost told) e = absurd (let x = told_is call 3 4 told e (omega arith) in omega (arith, x))
-image_only files failed failed' call asked (Large file wanted long gave told) e = absurd (let x = told_is call 3 4 told e (omega arith) in omega (arith, x))
-image_only files failed failed' call asked (Judged file wanted bytes gave told) e = image_cause files asked file bytes wanted gave (told_is call _ 4 told e (omega arith))
-image_only files failed failed' call asked (Empty file wanted told) e = absurd (let x = told_is call 9 4 told e (omega arith) in omega (arith, x))
+source_cause : (asked : Asked) (before after : Outside) (e : Ending) → ending_status e ≡ 5 → EndedIn asked before after e → (fault : PioFault) × IsRefused asked before after (BadSource fault)
+source_cause asked before after (Said text cost) e h = absurd (omega (arith, e))
+source_cause asked before after (Refused BadWords) e h = absurd (omega (arith, e))
+source_cause asked before after (Refused (Lost name)) e h = absurd (omega (arith, e))
+source_cause asked before after (Refused (TooLarge name long)) e h = absurd (omega (arith, e))
+source_cause asked before after (Refused (BadImage fault)) e h = absurd (omega (arith, e))
+source_cause asked before after (Refused (BadSource fault)) e h = (fault, h)
+source_cause asked before after NoMemory e h = absurd (omega (arith, e))
 
-pub source_only : (files : Option Files) (failed failed' : List (List ℕ)) (call : Call) (asked : Option Command) → Origin files failed failed' call asked → call.status ≡ 5 → SourceCause files asked
-source_only files failed failed' call asked (NoFile none same told) e = no_file_low asked [] 5 none (told_is call _ 5 told e (omega arith)) (omega arith)
-source_only files failed failed' call asked (Failing file wanted lost told) e = absurd (let x = told_is call 3 5 told e (omega arith) in omega (arith, x))
-source_only files failed failed' call asked (Large file wanted long gave told) e = absurd (let x = told_is call 3 5 told e (omega arith) in omega (arith, x))
-source_only files failed failed' call asked (Judged file wanted bytes gave told) e = source_cause files asked file bytes wanted gave (told_is call _ 5 told e (omega arith))
-source_only files failed failed' call asked (Empty file wanted told) e = absurd (let x = told_is call 9 5 told e (omega arith) in omega (arith, x))
+-- ---- the clauses of a call
 
--- ---- the sink
+pub status_from : (asked : Asked) (before after : Outside) (status : ℕ) (h : Converses asked before after status) → IsStatus status (ending_status h.ending)
+status_from asked before after status h = ends_is before.written after.written before.faults after.faults status h.ending h.ends
 
-pub sink_only : (files : Option Files) (failed failed' : List (List ℕ)) (call : Call) (asked : Option Command) → Origin files failed failed' call asked → call.status ≡ 7 → Rose call.faults_before call.faults_after
-sink_only files failed failed' call asked (NoFile none same told) e = told_sink call _ told e (λ x. never asked [] 7 x (inr refl))
-sink_only files failed failed' call asked (Failing file wanted lost told) e = told_sink call 3 told e (omega arith)
-sink_only files failed failed' call asked (Large file wanted long gave told) e = told_sink call 3 told e (omega arith)
-sink_only files failed failed' call asked (Judged file wanted bytes gave told) e = told_sink call _ told e (λ x. never asked bytes 7 x (inr refl))
-sink_only files failed failed' call asked (Empty file wanted told) e = told_sink call 9 told e (omega arith)
+pub words_from : (asked : Asked) (before after : Outside) (status : ℕ) → Converses asked before after status → status ≡ 2 → reading asked.words ≡ None
+words_from asked before after status h e =
+    words_cause asked before after h.ending (low_is status _ 2 (status_from asked before after status h) e (omega arith)) (h.walked, h.failed)
 
--- ---- where the shelf tells the file
+refused_is : (files : Option Files) (asked : Option Command) (e : Ending) (status : ℕ) → asked ≡ None → WalksFrom files asked e → IsStatus status (ending_status e) → IsStatus status 2
+refused_is files None e status none walk is = subst (λ (x : Ending). IsStatus status (ending_status x)) walk is
+refused_is files (Some command) e status none walk is = absurd (cc none)
 
--- a list is not longer than itself
-not_longer : {Q : Type 0} (failed failed' : List (List ℕ)) (name : List ℕ) → LoadFailed failed failed' name → failed' ≡ failed → Q
+pub refused_from : (asked : Asked) (before after : Outside) (status : ℕ) → Converses asked before after status → reading asked.words ≡ None → IsStatus status 2
+refused_from asked before after status h none = refused_is before.files (reading asked.words) h.ending status none h.walked (status_from asked before after status h)
+
+pub causes_from : (asked : Asked) (before after : Outside) (status : ℕ) → Converses asked before after status → HasCause asked before after status
+causes_from asked before after status h = record {
+  file = λ e. file_cause asked before after h.ending (low_is status _ 3 (status_from asked before after status h) e (omega arith)) (h.walked, h.failed);
+  image = λ e. image_cause asked before after h.ending (low_is status _ 4 (status_from asked before after status h) e (omega arith)) (h.walked, h.failed);
+  source = λ e. source_cause asked before after h.ending (low_is status _ 5 (status_from asked before after status h) e (omega arith)) (h.walked, h.failed);
+}
+
+pub sink_from : (asked : Asked) (before after : Outside) (status : ℕ) → Converses asked before after status → status ≡ 7 → Rose before.faults after.faults
+sink_from asked before after status h seven = ends_rose before.written after.written before.faults after.faults status h.ending h.ends seven
+
+-- ---- completeness
+
+-- one name more is not the same list
+not_longer : {Q : Type 0} (failed failed' : List (List ℕ)) (name : List ℕ) → failed' ≡ failed ++ name ∷ [] → failed' ≡ failed → Q
 not_longer failed failed' name lost same = absurd (let e : length failed' ≡ length failed + 1 = ap length lost ∙ length-append failed (name ∷ []) in omega (arith, e, ap length same))
 
--- a command has one file
-same_file : (asked : Option Asked) (file other : Asked) → asked ≡ Some file → asked ≡ Some other → other ≡ file
-same_file asked file other a b = let e : Some other ≡ Some file = sym b ∙ a in cc e
+first_is : (e : Ending) (first : Option Refusal) (status : ℕ) → refusal_in e ≡ first → IsStatus status (ending_status e) → IsStatus status (status_in first)
+first_is (Said text cost) first status is h = subst (λ (r : Option Refusal). IsStatus status (status_in r)) is h
+first_is (Refused refusal) first status is h = subst (λ (r : Option Refusal). IsStatus status (status_in r)) is h
+first_is NoMemory first status is h = elim h [ inl e ↦ inr (inr e) | inr w ↦ inr w ]
 
-no_file : {Q : Type 0} (asked : Option Asked) (file : Asked) → asked ≡ None → asked ≡ Some file → Q
-no_file asked file none wanted = absurd (let x : Some file ≡ None = sym wanted ∙ none in cc x)
+none_is : (e : Ending) (wanted status : ℕ) → e ≡ NoMemory → IsStatus status (ending_status e) → IsStatus status wanted
+none_is e wanted status none h =
+    elim (subst (λ (x : Ending). IsStatus status (ending_status x)) none h) [ inl nine ↦ inr (inr nine) | inr w ↦ inr w ]
 
--- what a load gave is what the shelf tells
-gave_held : (files : Option Files) (file other : Asked) (held bytes : List ℕ) → Holds files file.name held → other ≡ file → MayGive files other.name other.limit (Bytes bytes) → (bytes ≡ held) × (length held ≤ file.limit)
-gave_held None file other held bytes h same m = absurd h
-gave_held (Some f) file other held bytes h same m =
-    let here = subst (λ (a : Asked). MayGive (Some f) a.name a.limit (Bytes bytes)) same m in
-    let e : Some bytes ≡ Some held = sym here.1 ∙ h in let is : bytes ≡ held = cc e in (is, omega (arith, here.0, ap length is))
+complete : (files : Option Files) (failed failed' : List (List ℕ)) (asked : Option Command) (e : Ending) (status : ℕ) → WalksFrom files asked e → failed' ≡ failed_names failed e → IsStatus status (ending_status e) → IfSome files (λ f. failed' ≡ failed → IsStatus status (status_in (refusal_from f asked)))
+complete None failed failed' asked e status walk names is = tt
+complete (Some f) failed failed' asked e status walk names is = λ same. elim (walk_from_first f asked e walk) [
+  | inl none ↦ none_is e (status_in (refusal_from f asked)) status none is
+  | inr w ↦ elim w [
+    | inl lost ↦ not_longer failed failed' lost.0 (names ∙ ap (failed_names failed) lost.1) same
+    | inr first ↦ first_is e (refusal_from f asked) status first is
+  ]
+]
 
-long_held : (files : Option Files) (file other : Asked) (held : List ℕ) (long : ℕ) → Holds files file.name held → other ≡ file → MayGive files other.name other.limit (TooLong long) → file.limit < length held
-long_held None file other held long h same m = absurd h
-long_held (Some f) file other held long h same m =
-    let here = subst (λ (a : Asked). MayGive (Some f) a.name a.limit (TooLong long)) same m in
-    let told = rw h at here.1 in omega (arith, here.0, told)
-
-pub alone_comes : (files : Option Files) (failed failed' : List (List ℕ)) (call : Call) (asked : Option Command) → Origin files failed failed' call asked → file_of asked ≡ None → IsStatus call.status (status_of asked [])
-alone_comes files failed failed' call asked (NoFile none same told) h = told_status call _ told
-alone_comes files failed failed' call asked (Failing file wanted lost told) h = no_file (file_of asked) file h wanted
-alone_comes files failed failed' call asked (Large file wanted long gave told) h = no_file (file_of asked) file h wanted
-alone_comes files failed failed' call asked (Judged file wanted bytes gave told) h = no_file (file_of asked) file h wanted
-alone_comes files failed failed' call asked (Empty file wanted told) h = no_file (file_of asked) file h wanted
-
-pub large_comes : (files : Option Files) (failed failed' : List (List ℕ)) (call : Call) (asked : Option Command) (file : Asked) (held : List ℕ) → Origin files failed failed' call asked → Held files failed failed' (file_of asked) file held → file.limit < length held → IsStatus call.status 3
-large_comes files failed failed' call asked file held (NoFile none same told) h long = no_file (file_of asked) file none h.wanted
-large_comes files failed failed' call asked file held (Failing other wanted lost told) h long = not_longer failed failed' other.name lost h.same
-large_comes files failed failed' call asked file held (Large other wanted n gave told) h long = told_status call 3 told
-large_comes files failed failed' call asked file held (Judged other wanted bytes gave told) h long =
-    absurd (let fits = gave_held files file other held bytes h.told (same_file (file_of asked) file other h.wanted wanted) gave in omega (arith, fits.1, long))
-large_comes files failed failed' call asked file held (Empty other wanted told) h long = told_any call 3 told
-
-pub fits_comes : (files : Option Files) (failed failed' : List (List ℕ)) (call : Call) (asked : Option Command) (file : Asked) (held : List ℕ) → Origin files failed failed' call asked → Held files failed failed' (file_of asked) file held → length held ≤ file.limit → IsStatus call.status (status_of asked held)
-fits_comes files failed failed' call asked file held (NoFile none same told) h fits = no_file (file_of asked) file none h.wanted
-fits_comes files failed failed' call asked file held (Failing other wanted lost told) h fits = not_longer failed failed' other.name lost h.same
-fits_comes files failed failed' call asked file held (Large other wanted n gave told) h fits =
-    absurd (let long = long_held files file other held n h.told (same_file (file_of asked) file other h.wanted wanted) gave in omega (arith, long, fits))
-fits_comes files failed failed' call asked file held (Judged other wanted bytes gave told) h fits =
-    let is = gave_held files file other held bytes h.told (same_file (file_of asked) file other h.wanted wanted) gave in
-    subst (λ (bs : List ℕ). IsStatus call.status (status_of asked bs)) is.0 (told_status call _ told)
-fits_comes files failed failed' call asked file held (Empty other wanted told) h fits = told_any call (status_of asked held) told
+pub complete_from : (asked : Asked) (before after : Outside) (status : ℕ) → Converses asked before after status → IsComplete asked before after status
+complete_from asked before after status h =
+    complete before.files before.failed after.failed (reading asked.words) h.ending status h.walked h.failed (status_from asked before after status h)

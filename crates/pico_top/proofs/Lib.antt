@@ -1,8 +1,4 @@
 pub mod Causing
 pub mod Cycles
-pub mod Leading
-pub mod OptionSteps
-pub mod Origins
-pub mod Refusing
-pub mod Sources
-pub mod Statuses
+pub mod Opens
+pub mod Walking

@@ -1,56 +1,72 @@
--- What a call answered and wrote, by the ending of its dialogue: the project's own.
-use Rattle.std.specs.Prelude.{◌≡◌, ◌≢◌, ◌⊎◌, ℕ, ◌+◌, ◌≤◌, List, Option}
-use Rattle.rp_ports.specs.Fault.{Rose}
-use Rattle.rp_ports.specs.Sink.{Appends}
-use Rattle.trace_text.specs.Sent.{AppendsPart}
-use Rattle.rp_ports.specs.Shelf.{Files}
-use Rattle.pico_top.specs.Dialogue.{Ending, LeadsTo, dialogue}
-use Rattle.pico_top.specs.Dialogue.Ending.{Said, NoMemory}
-use Rattle.pico_top.specs.Refusals.{memory_line}
+-- What a call answered, wrote and counted: the project's own.
+use Rattle.std.specs.Prelude.{◌≡◌, ◌⊎◌, ℕ, ◌+◌, ◌≤◌, List, Option, Result, Ok, Err, codes}
+use Rattle.trace_text.specs.Sent.{Sends}
+use Rattle.trace_text.specs.declared.writer.SinkFault.{SinkFault}
+use Rattle.command_words.specs.Words.{reading}
+use Rattle.refusal_lines.specs.Refusals.{line_of, status_of}
+use Rattle.pico_top.specs.Call.{Asked, Outside}
+use Rattle.pico_top.specs.Dialogue.{Cost}
+use Rattle.pico_top.specs.Dialogue.Cost.{Exactly, AtMost}
+use Rattle.pico_top.specs.Walk.{Ending, WalksFrom, failed_names}
+use Rattle.pico_top.specs.Walk.Ending.{Said, Refused, NoMemory}
 
--- the status, what the sink had written before the call and has written after it, and its counts of faults
-pub record Call : Type 0 where
-  pub status : ℕ
-  pub before : Option (List ℕ)
-  pub after : Option (List ℕ)
-  pub faults_before : ℕ
-  pub faults_after : ℕ
+-- ---- the status and the bytes
 
--- this status, and the whole text was written
-abbrev pub Wrote : Call → ℕ → List ℕ → Type 0
-Wrote call status text = (call.status ≡ status) × Appends call.before call.after text
+-- the status after a text was sent: its own, or 7 where the sink failed
+abbrev pub sent_status : Result (Unit {0}) SinkFault → ℕ → ℕ
+sent_status (Ok done) status = status
+sent_status (Err fault) status = 7
 
--- status 7: the sink failed, and a prefix of the text was written
-abbrev pub SinkFailed : Call → List ℕ → Type 0
-SinkFailed call text = (call.status ≡ 7) × Rose call.faults_before call.faults_after × AppendsPart call.before call.after text
+-- a text was written with its status, or the sink failed, a part of it was written, and the status is 7
+abbrev pub Puts : Option (List ℕ) → Option (List ℕ) → ℕ → ℕ → ℕ → ℕ → List ℕ → Type 0
+Puts old new before now status wanted text =
+    (sent : Result (Unit {0}) SinkFault) × Sends old new before now text sent × (status ≡ sent_status sent wanted)
 
--- the text was written whole with its status, or the sink failed at it
-abbrev pub Says : Call → ℕ → List ℕ → Type 0
-Says call status text = Wrote call status text ⊎ SinkFailed call text
+-- the line that says that memory ran out, with its status
+abbrev pub memory_line : List ℕ
+memory_line = codes "error memory\n"
 
--- status 9: memory ran out, and the line that says so was written alone; or the sink failed at that line
-abbrev pub RanOut : Call → Type 0
-RanOut call = Says call 9 memory_line
+abbrev pub RunsOut : Option (List ℕ) → Option (List ℕ) → ℕ → ℕ → ℕ → Type 0
+RunsOut old new before now status = Puts old new before now status 9 memory_line
 
--- the three cases of every return: the text was written, the sink failed at it, or memory ran out
-abbrev pub Ends : Call → Ending → Type 0
-Ends call (Said status text cycles) = Says call status text ⊎ RanOut call
-Ends call NoMemory = RanOut call
+-- the three cases of every return: the text of the ending was written with its status, the sink failed at it, or memory ran out
+abbrev pub Ends : Option (List ℕ) → Option (List ℕ) → ℕ → ℕ → ℕ → Ending → Type 0
+Ends old new before now status (Said text cost) = Puts old new before now status 0 text ⊎ RunsOut old new before now status
+Ends old new before now status (Refused refusal) =
+    Puts old new before now status (status_of refusal) (line_of refusal) ⊎ RunsOut old new before now status
+Ends old new before now status NoMemory = RunsOut old new before now status
 
--- the steps before and after a call with this status, whose text comes after so many cycles: each cycle was counted once, unless
--- the sink failed or memory ran out; the count never falls, and no more cycles were counted; none was where memory ran out
-pub record IsCounted (status before after cycles : ℕ) : Type 0 where
-  pub whole : status ≢ 7 → status ≢ 9 → after ≡ before + cycles
+-- ---- the steps
+
+-- so many steps were counted
+abbrev pub Ticks : Cost → ℕ → ℕ → Type 0
+Ticks (Exactly cycles) before after = after ≡ before + cycles
+Ticks (AtMost cycles) before after = (before ≤ after) × (after ≤ before + cycles)
+
+abbrev pub most : Cost → ℕ
+most (Exactly cycles) = cycles
+most (AtMost cycles) = cycles
+
+-- the steps of a call that said a text: its cost where the text was written whole, never more, and none where memory ran out
+pub record IsCounted (cost : Cost) (status before after : ℕ) : Type 0 where
+  pub whole : status ≡ 0 → Ticks cost before after
   pub forward : before ≤ after
-  pub within : after ≤ before + cycles
+  pub within : after ≤ before + most cost
   pub none : status ≡ 9 → after ≡ before
 
-abbrev pub Counted : ℕ → ℕ → ℕ → Ending → Type 0
-Counted status before after (Said wanted text cycles) = IsCounted status before after cycles
-Counted status before after NoMemory = after ≡ before
+abbrev pub Counts : Ending → ℕ → ℕ → ℕ → Type 0
+Counts (Said text cost) status before after = IsCounted cost status before after
+Counts (Refused refusal) status before after = after ≡ before
+Counts NoMemory status before after = after ≡ before
 
--- a call whose dialogue ended so, with these files and failed names before it and these failed names after it, and with these
--- steps before it and after it
-abbrev pub Converses : Option Files → List (List ℕ) → List (List ℕ) → List (List ℕ) → ℕ → ℕ → Call → Type 0
-Converses files failed failed' words before after call =
-    LeadsTo files (λ e. Ends call e × Counted call.status before after e) failed failed' (dialogue words)
+-- ---- the call
+
+-- a call with this status: a walk of its dialogue ended so, and what it wrote and counted goes with that ending; the files are
+-- as before
+pub record Converses (asked : Asked) (before after : Outside) (status : ℕ) : Type 0 where
+  pub ending : Ending
+  pub walked : WalksFrom before.files (reading asked.words) ending
+  pub failed : after.failed ≡ failed_names before.failed ending
+  pub kept : after.files ≡ before.files
+  pub ends : Ends before.written after.written before.faults after.faults status ending
+  pub counted : Counts ending status before.steps after.steps

@@ -1,11 +1,7 @@
 pub mod Answer
+pub mod Call
 pub mod Causes
 pub mod Dialogue
-pub mod Dis
-pub mod Listing
-pub mod Numbers
 pub mod Opening
-pub mod Read
-pub mod Refusals
 pub mod RunText
-pub mod Words
+pub mod Walk

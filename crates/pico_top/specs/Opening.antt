@@ -1,109 +1,71 @@
--- What stands when a call has loaded its files, by the ending of its dialogue: the project's own.
-use Rattle.std.specs.Prelude.{◌≡◌, ◌⊎◌, ℕ, ◌≤◌, List, [], ◌∷◌, ◌++◌, Option, Some, None, Result, Ok, Err, Vec}
+-- What the opening of a call gives, by the walks of its dialogue: the project's own.
+use Rattle.std.specs.Prelude.{◌≡◌, ◌⊎◌, ℕ, ◌≤◌, List, Option, Result, Ok, Err, Vec}
 use Rattle.std.specs.Global.{Global}
-use Rattle.std.specs.String.{string_bytes}
-use Rattle.rp_ports.specs.Shelf.{Files}
-use Rattle.uf2_image.specs.Uf2.{image_of}
-use Rattle.uf2_image.specs.declared.parts.Image.{Image as Loaded}
-use Rattle.pico_top.specs.declared.open.Started.{Started}
+use Rattle.rp_ports.specs.Shelf.{Files, Answers}
+use Rattle.rp_ports.specs.declared.shelf.Loaded.TheVariants.{Done}
+use Rattle.uf2_image.specs.declared.parts.Image.{Image}
+use Rattle.command_words.specs.Words.{Command}
+use Rattle.refusal_lines.specs.Meant.{meant}
+use Rattle.refusal_lines.specs.Refusals.{line_of, status_of}
+use Rattle.pico_top.specs.Answer.{Puts, RunsOut}
 use Rattle.pico_top.specs.declared.open.Opened.{Opened}
 use Rattle.pico_top.specs.declared.open.Opened.TheVariants.{Machine, Text}
-use Rattle.pico_top.specs.declared.open.Refusal.{Refusal}
-use Rattle.pico_top.specs.declared.open.Refusal.TheVariants.{Words, File, Large, Image, Source, Memory}
-use Rattle.pico_top.specs.Answer.{Call, Says, RanOut}
-use Rattle.rp_machine.specs.State.{start}
+use Rattle.pico_top.specs.declared.open.Stop.{Stop}
+use Rattle.pico_top.specs.declared.open.Stop.TheVariants.{Refusing, Memory}
 use Rattle.pico_top.specs.RunText.{run_text, run_cycles}
-use Rattle.pico_top.specs.Refusals.{words_line, file_line, large_line, image_line, pio_line}
-use Rattle.pico_top.specs.Listing.{plans_of, listing}
-use Rattle.pio_asm.specs.Assembly.{Assembles}
-use Rattle.pio_asm.specs.declared.program.Program.{Program}
-use Rattle.pico_top.specs.Dialogue.{MayGive, Ending}
-use Rattle.pico_top.specs.Dialogue.Gave.{Bytes, TooLong}
-use Rattle.pico_top.specs.Dialogue.Ending.{Said, NoMemory}
+use Rattle.pico_top.specs.Dialogue.{Cost, Dialogue, with_image}
+use Rattle.pico_top.specs.Dialogue.Dialogue.{Load}
+use Rattle.pico_top.specs.Dialogue.Cost.{Exactly}
+use Rattle.pico_top.specs.Walk.{Ending, Walks, WalksFrom, failed_names}
+use Rattle.pico_top.specs.Walk.Ending.{Said, Refused}
 
--- the status and the line of a refusal; want of memory may come in the place of any text
-abbrev pub refusal_text : Refusal → Option (ℕ × List ℕ)
-refusal_text Words = Some (2, words_line)
-refusal_text (File name) = Some (3, file_line (string_bytes name))
-refusal_text (Large name long) = Some (3, large_line (string_bytes name) long)
-refusal_text (Image fault) = Some (4, image_line fault)
-refusal_text (Source fault) = Some (5, pio_line fault)
-refusal_text Memory = None
-
--- the ending says what is refused
-abbrev pub RefusedAs : Option (ℕ × List ℕ) → Ending → Type 0
-RefusedAs None ending = Unit {0}
-RefusedAs (Some line) (Said status text cycles) = (status ≡ line.0) × (text ≡ line.1) × (cycles ≡ 0)
-RefusedAs (Some line) NoMemory = ⊥
-
--- the text of what was opened
+-- the text of what was opened, and its cost
 abbrev pub opened_text : Opened → List ℕ
 opened_text (Machine started) = run_text started.limit started.machine
 opened_text (Text text) = text.items
 
--- how many cycles the machine does that was opened
-abbrev pub opened_cycles : Opened → ℕ
-opened_cycles (Machine started) = run_cycles started.limit started.machine
-opened_cycles (Text text) = 0
+abbrev pub opened_cost : Opened → Cost
+opened_cost (Machine started) = Exactly (run_cycles started.limit started.machine)
+opened_cost (Text text) = Exactly 0
 
 -- a machine has not passed its limit
 abbrev pub IsReady : Opened → Type 0
 IsReady (Machine started) = started.machine.cycle ≤ started.limit
 IsReady (Text text) = Unit {0}
 
--- the ending says the text of what was opened, after its cycles
-abbrev pub RunsAs : Opened → Ending → Type 0
-RunsAs opened (Said status text cycles) =
-    (status ≡ 0) × (text ≡ opened_text opened) × (cycles ≡ opened_cycles opened) × IsReady opened
-RunsAs opened NoMemory = ⊥
+-- the ending in which an opening stopped; memory may run out in the place of any
+abbrev pub StopsAs : Stop → Ending → Type 0
+StopsAs (Refusing refusal) e = e ≡ Refused (meant refusal)
+StopsAs Memory e = Unit {0}
 
-abbrev pub OpensAs : Result Opened Refusal → Ending → Type 0
-OpensAs (Ok opened) ending = RunsAs opened ending
-OpensAs (Err refusal) ending = RefusedAs (refusal_text refusal) ending
+abbrev pub OpensAs : Result Opened Stop → Ending → Type 0
+OpensAs (Ok opened) e = (e ≡ Said (opened_text opened) (opened_cost opened)) × IsReady opened
+OpensAs (Err stop) e = StopsAs stop e
 
--- a load gave these bytes, or is refused for this cause; its name joined the failed ones where it failed
-abbrev pub LoadsAs : Option Files → List (List ℕ) → List (List ℕ) → List ℕ → ℕ → Result (Vec ℕ Global) Refusal → Type 0
-LoadsAs files failed failed' name limit (Ok bytes) = MayGive files name limit (Bytes bytes.items) × (failed' ≡ failed)
-LoadsAs files failed failed' name limit (Err (Large long_name long)) =
-    (string_bytes long_name ≡ name) × MayGive files name limit (TooLong long) × (failed' ≡ failed)
-LoadsAs files failed failed' name limit (Err (File lost)) = (string_bytes lost ≡ name) × (failed' ≡ failed ++ name ∷ [])
-LoadsAs files failed failed' name limit (Err Memory) = (failed' ≡ failed) ⊎ (failed' ≡ failed ++ name ∷ [])
-LoadsAs files failed failed' name limit (Err Words) = ⊥
-LoadsAs files failed failed' name limit (Err (Image fault)) = ⊥
-LoadsAs files failed failed' name limit (Err (Source fault)) = ⊥
+-- a walk of the dialogue ended so, over a shelf with these files, and with these failed names before and after it
+abbrev pub Opens : Option Files → List (List ℕ) → List (List ℕ) → Dialogue → Result Opened Stop → Type 0
+Opens files failed failed' d result = (e : Ending) × Walks files d e × (failed' ≡ failed_names failed e) × OpensAs result e
 
--- the bytes are those of an image, whose first state the machine is in, or have this fault
-abbrev pub StartsAs : List ℕ → ℕ → Result Started Refusal → Type 0
-StartsAs bytes limit (Ok started) =
-    (image : Loaded) × (image_of bytes ≡ Ok image) × (started.machine ≡ start image) × (started.limit ≡ limit)
-StartsAs bytes limit (Err (Image fault)) = image_of bytes ≡ Err fault
-StartsAs bytes limit (Err Memory) = Unit {0}
-StartsAs bytes limit (Err Words) = ⊥
-StartsAs bytes limit (Err (File name)) = ⊥
-StartsAs bytes limit (Err (Large name long)) = ⊥
-StartsAs bytes limit (Err (Source fault)) = ⊥
+abbrev pub OpensFrom : Option Files → List (List ℕ) → List (List ℕ) → Option Command → Result Opened Stop → Type 0
+OpensFrom files failed failed' asked result = (e : Ending) × WalksFrom files asked e × (failed' ≡ failed_names failed e) × OpensAs result e
 
--- the text is the listing of the bytes' programs, or the bytes have this fault
-abbrev pub ListsAs : List ℕ → Result (Vec ℕ Global) Refusal → Type 0
-ListsAs bytes (Ok text) = (programs : List Program) × Assembles programs (plans_of bytes) × (text.items ≡ listing programs)
-ListsAs bytes (Err (Source fault)) = plans_of bytes ≡ Err fault
-ListsAs bytes (Err Memory) = Unit {0}
-ListsAs bytes (Err Words) = ⊥
-ListsAs bytes (Err (File name)) = ⊥
-ListsAs bytes (Err (Large name long)) = ⊥
-ListsAs bytes (Err (Image fault)) = ⊥
+-- a walk of the dialogue ended in this stop
+abbrev pub Stops : Option Files → List (List ℕ) → List (List ℕ) → Dialogue → Stop → Type 0
+Stops files failed failed' d stop = (e : Ending) × Walks files d e × (failed' ≡ failed_names failed e) × StopsAs stop e
 
--- the line of a refusal was written, or memory ran out
-abbrev pub Refuses : Call → Option (ℕ × List ℕ) → Type 0
-Refuses call None = RanOut call
-Refuses call (Some line) = Says call line.0 line.1 ⊎ RanOut call
+-- a load gave these bytes, or the walk ended at it, whatever comes behind
+abbrev pub LoadsAs : Option Files → List (List ℕ) → List (List ℕ) → List ℕ → ℕ → Result (Vec ℕ Global) Stop → Type 0
+LoadsAs files failed failed' name limit (Ok bytes) = Answers files name limit Done bytes.items × (failed' ≡ failed)
+LoadsAs files failed failed' name limit (Err stop) = (next : List ℕ → Dialogue) → Stops files failed failed' (Load name limit next) stop
 
--- the text was made, or memory ran out
-abbrev pub WritesAs : List ℕ → Result Opened Refusal → Type 0
-WritesAs text (Ok opened) = (opened_text opened ≡ text) × (opened_cycles opened ≡ 0) × IsReady opened
-WritesAs text (Err Memory) = Unit {0}
-WritesAs text (Err Words) = ⊥
-WritesAs text (Err (File name)) = ⊥
-WritesAs text (Err (Large name long)) = ⊥
-WritesAs text (Err (Image fault)) = ⊥
-WritesAs text (Err (Source fault)) = ⊥
+-- A part of a dialogue gave a value from which every walk of what comes behind is a walk of the whole; or the walk ended in it.
+abbrev pub Passes : {X : Type 0} → Option Files → List (List ℕ) → List (List ℕ) → ((X → Dialogue) → Dialogue) → Result X Stop → Type 0
+Passes {X} files failed failed' part (Ok x) =
+    (failed' ≡ failed) × ((next : X → Dialogue) (e : Ending) → Walks files (next x) e → Walks files (part next) e)
+Passes {X} files failed failed' part (Err stop) = (next : X → Dialogue) → Stops files failed failed' (part next) stop
+
+-- the line of a refusal was put, or memory ran out
+abbrev pub Refuses : Option (List ℕ) → Option (List ℕ) → ℕ → ℕ → ℕ → Stop → Type 0
+Refuses old new before now status (Refusing refusal) =
+    Puts old new before now status (status_of (meant refusal)) (line_of (meant refusal)) ⊎ RunsOut old new before now status
+Refuses old new before now status Memory = RunsOut old new before now status

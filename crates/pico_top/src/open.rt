@@ -1,24 +1,24 @@
 //! From the words to a machine that can run, or to what is refused.
 
-ghost use Rattle.std.specs.Prelude.{◌≡◌, ◌≤◌, Some, length, map};
+ghost use Rattle.std.specs.Prelude.{◌≡◌, ◌≤◌, ℕ, List, Option, Some, length, map, IfOk};
 ghost use Rattle.std.specs.String.{string_bytes};
 ghost use Rattle.rp_ports.specs.Shelf.{Files};
-ghost use Rattle.pico_top.specs.Dialogue.{LeadsTo, dialogue, dialogue_of, failed_by};
-ghost use Rattle.pico_top.specs.Words.{Run};
-ghost use Rattle.pico_top.specs.Read.{run_in};
-ghost use Rattle.pico_top.specs.Opening.{OpensAs, LoadsAs, StartsAs, ListsAs, WritesAs};
-ghost use Rattle.pico_top.specs.Words.Command.{RunImage, Assemble};
-ghost use Rattle.pio_disasm.specs.Text.{source_text};
+ghost use Rattle.uf2_image.specs.Uf2.{FitsSram};
+ghost use Rattle.command_words.specs.Words.{reading};
+ghost use Rattle.command_words.specs.Words.Command.{RunImage, Assemble, Disassemble};
+ghost use Rattle.command_words.specs.Read.{run_in};
+ghost use Rattle.pico_top.specs.Dialogue.{dialogue_of, with_image};
+ghost use Rattle.pico_top.specs.Opening.{Opens, OpensFrom, LoadsAs, Passes};
 
-use crate::asm::{listing, programs_in};
-use crate::dis::DisWords;
-use crate::words::{Reading, RunWords, WordsFault, read_words};
+use command_words::{DisWords, Reading, RunWords, WordsFault, read_words};
 use pio_disasm::write_source;
+use pio_listing::{listing, programs_in};
 use pio_parse::PioFault;
+use refusal_lines::Refusal;
 use rp_machine::Machine;
 use rp_ports::shelf::{Loaded, Shelf};
 use std::alloc::Global;
-use uf2_image::{ImageFault, read_image};
+use uf2_image::{Image, ImageFault, read_image};
 
 /// An image file has at most 16 MiB.
 const IMAGE_LIMIT: usize = 16_777_216;
@@ -26,19 +26,11 @@ const IMAGE_LIMIT: usize = 16_777_216;
 /// A PIO source file has at most 1 MiB.
 const SOURCE_LIMIT: usize = 1_048_576;
 
-/// Why nothing is run.
+/// Why nothing is opened.
 #[derive(Drop)]
-pub enum Refusal {
-    /// The words are not a command.
-    Words,
-    /// The file of this name could not be loaded.
-    File(String),
-    /// The file of this name has this many bytes, above its limit.
-    Large(String, u64),
-    /// The file is no image.
-    Image(ImageFault),
-    /// The file is no PIO source, or its programs have a fault.
-    Source(PioFault),
+pub enum Stop {
+    /// The words or an input are refused.
+    Refusing(Refusal),
     /// There was no memory left.
     Memory,
 }
@@ -62,12 +54,7 @@ pub enum Opened {
 }
 
 /// Loads a file of at most so many bytes.
-fn load<F: Shelf>(
-    alloc: Global,
-    name: &str,
-    limit: usize,
-    files: &mut F,
-) -> Result<Vec<u8>, Refusal>
+fn load<F: Shelf>(alloc: Global, name: &str, limit: usize, files: &mut F) -> Result<Vec<u8>, Stop>
     ensures kept { F.files files.new ≡ F.files files.old }
     ensures answer { LoadsAs (F.files files.old) (F.failed files.old) (F.failed files.new) name.now limit result }
 {
@@ -75,94 +62,89 @@ fn load<F: Shelf>(
     match files.load(name, limit, &mut bytes) {
         Loaded::Done => Ok(bytes),
         Loaded::Large(length) => match String::from_str(alloc, name) {
-            Ok(name) => Err(Refusal::Large(name, length)),
-            Err(_) => Err(Refusal::Memory),
+            Ok(name) => Err(Stop::Refusing(Refusal::Large(name, length))),
+            Err(_) => Err(Stop::Memory),
         },
         Loaded::Failed => match String::from_str(alloc, name) {
-            Ok(name) => Err(Refusal::File(name)),
-            Err(_) => Err(Refusal::Memory),
+            Ok(name) => Err(Stop::Refusing(Refusal::File(name))),
+            Err(_) => Err(Stop::Memory),
         },
-        Loaded::Memory => Err(Refusal::Memory),
+        Loaded::Memory => Err(Stop::Memory),
     }
 }
 
-/// The machine of an image file.
-fn start(alloc: Global, bytes: &[u8], limit: u64) -> Result<Started, Refusal>
-    requires { length bytes.now ≤ IMAGE_LIMIT }
-    ensures { StartsAs bytes.now limit result }
+/// Loads an image file and reads it.
+fn open_image<F: Shelf>(alloc: Global, name: &str, files: &mut F) -> Result<Image, Stop>
+    ensures kept { F.files files.new ≡ F.files files.old }
+    ensures answer { Passes (F.files files.old) (F.failed files.old) (F.failed files.new) (with_image name.now) result }
+    ensures fits { IfOk result FitsSram }
 {
-    match read_image(alloc, bytes) {
-        Err(ImageFault::Memory) => Err(Refusal::Memory),
-        Err(fault) => Err(Refusal::Image(fault)),
-        Ok(image) => match Machine::boot(alloc, &image) {
-            Ok(machine) => Ok(Started { machine, limit }),
-            Err(_) => Err(Refusal::Memory),
+    match load(alloc, name, IMAGE_LIMIT, files) {
+        Ok(bytes) => match read_image(alloc, &bytes) {
+            Ok(image) => Ok(image),
+            Err(ImageFault::Memory) => Err(Stop::Memory),
+            Err(fault) => Err(Stop::Refusing(Refusal::Image(fault))),
         },
+        Err(stop) => Err(stop),
     }
 }
 
 /// Loads the image of a run and boots the machine.
-fn open_run<F: Shelf>(alloc: Global, run: &RunWords, files: &mut F) -> Result<Opened, Refusal>
+fn open_run<F: Shelf>(alloc: Global, run: &RunWords, files: &mut F) -> Result<Opened, Stop>
     ensures kept { F.files files.new ≡ F.files files.old }
-    ensures answer { LeadsTo (F.files files.old) (OpensAs result) (F.failed files.old) (F.failed files.new) (dialogue_of (Some (RunImage (run_in run.now)))) }
+    ensures answer { Opens (F.files files.old) (F.failed files.old) (F.failed files.new) (dialogue_of (RunImage (run_in run.now))) result }
 {
-    match load(alloc, run.image.as_str(), IMAGE_LIMIT, files) {
-        Ok(bytes) => match start(alloc, &bytes, run.cycles) {
-            Ok(started) => Ok(Opened::Machine(started)),
-            Err(refusal) => Err(refusal),
+    match open_image(alloc, run.image.as_str(), files) {
+        Ok(image) => match Machine::boot(alloc, &image) {
+            Ok(machine) => Ok(Opened::Machine(Started {
+                machine,
+                limit: run.cycles,
+            })),
+            Err(_) => Err(Stop::Memory),
         },
-        Err(refusal) => Err(refusal),
-    }
-}
-
-/// The listing of a source's programs.
-fn list_source(alloc: Global, bytes: &[u8]) -> Result<Vec<u8>, Refusal>
-    ensures { ListsAs bytes.now result }
-{
-    match programs_in(alloc, bytes) {
-        Err(PioFault::Memory) => Err(Refusal::Memory),
-        Err(fault) => Err(Refusal::Source(fault)),
-        Ok(programs) => match listing(alloc, &programs) {
-            Ok(text) => Ok(text),
-            Err(_) => Err(Refusal::Memory),
-        },
+        Err(stop) => Err(stop),
     }
 }
 
 /// Loads a source and lists its programs.
-fn open_source<F: Shelf>(alloc: Global, name: &str, files: &mut F) -> Result<Opened, Refusal>
+fn open_source<F: Shelf>(alloc: Global, name: &str, files: &mut F) -> Result<Opened, Stop>
     ensures kept { F.files files.new ≡ F.files files.old }
-    ensures answer { LeadsTo (F.files files.old) (OpensAs result) (F.failed files.old) (F.failed files.new) (dialogue_of (Some (Assemble name.now))) }
+    ensures answer { Opens (F.files files.old) (F.failed files.old) (F.failed files.new) (dialogue_of (Assemble name.now)) result }
 {
     match load(alloc, name, SOURCE_LIMIT, files) {
-        Ok(bytes) => match list_source(alloc, &bytes) {
-            Ok(text) => Ok(Opened::Text(text)),
-            Err(refusal) => Err(refusal),
+        Ok(bytes) => match programs_in(alloc, &bytes) {
+            Ok(programs) => match listing(alloc, &programs) {
+                Ok(text) => Ok(Opened::Text(text)),
+                Err(_) => Err(Stop::Memory),
+            },
+            Err(PioFault::Memory) => Err(Stop::Memory),
+            Err(fault) => Err(Stop::Refusing(Refusal::Source(fault))),
         },
-        Err(refusal) => Err(refusal),
+        Err(stop) => Err(stop),
     }
 }
 
 /// The source text of instruction words.
-fn open_text(alloc: Global, asked: &DisWords) -> Result<Opened, Refusal>
-    ensures { WritesAs (source_text asked.now.side asked.now.words.items) result }
+fn open_text(alloc: Global, asked: &DisWords) -> Result<Opened, Stop>
+    ensures { (files : Option Files) (failed : List (List ℕ))
+        → Opens files failed failed (dialogue_of (Disassemble asked.now.words.items asked.now.side)) result }
 {
     match write_source(alloc, &asked.words, &asked.side) {
         Ok(text) => Ok(Opened::Text(text)),
-        Err(_) => Err(Refusal::Memory),
+        Err(_) => Err(Stop::Memory),
     }
 }
 
-/// Reads the words, loads their file, and boots the machine or makes the text.
-pub fn open<F: Shelf>(alloc: Global, words: &[String], files: &mut F) -> Result<Opened, Refusal>
+/// Reads the words, loads the files that they name, and boots the machine or makes the text.
+pub fn open<F: Shelf>(alloc: Global, words: &[String], files: &mut F) -> Result<Opened, Stop>
     ensures kept { F.files files.new ≡ F.files files.old }
-    ensures answer { LeadsTo (F.files files.old) (OpensAs result) (F.failed files.old) (F.failed files.new) (dialogue (map string_bytes words.now)) }
+    ensures answer { OpensFrom (F.files files.old) (F.failed files.old) (F.failed files.new) (reading (map string_bytes words.now)) result }
 {
     match read_words(alloc, words) {
         Ok(Reading::Run(run)) => open_run(alloc, &run, files),
         Ok(Reading::Dis(asked)) => open_text(alloc, &asked),
         Ok(Reading::Asm(name)) => open_source(alloc, name.as_str(), files),
-        Err(WordsFault::Words) => Err(Refusal::Words),
-        Err(WordsFault::Memory) => Err(Refusal::Memory),
+        Err(WordsFault::Words) => Err(Stop::Refusing(Refusal::Words)),
+        Err(WordsFault::Memory) => Err(Stop::Memory),
     }
 }

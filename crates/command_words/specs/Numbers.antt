@@ -1,0 +1,28 @@
+-- Numbers among the words of a command line: the project's own.
+use Rattle.std.specs.Prelude.{ℕ, ◌+◌, ◌-◌, ◌*◌, nat_le, ◌==◌, Bool, false, not, ◌&&◌, ◌||◌, if◌then◌else◌, List, [], ◌∷◌, length, Option, Some, None}
+use Rattle.std.specs.Option.{option_and_then}
+use Rattle.std.specs.Char.{is_ascii_digit}
+
+-- the number of decimal digits, where those before them stand for n
+abbrev pub digits_from : ℕ → List ℕ → Option ℕ
+digits_from n [] = Some n
+digits_from n (d ∷ ds) = if is_ascii_digit d then digits_from (10 * n + (d - 48)) ds else None
+
+-- a word that begins with this byte
+abbrev pub begins_with : ℕ → List ℕ → Bool
+begins_with byte [] = false
+begins_with byte (x ∷ xs) = x == byte
+
+-- a number of 1 to 10 decimal digits, and no 0 before other digits
+abbrev pub number_of : List ℕ → Option ℕ
+number_of word =
+    if nat_le 1 (length word) && nat_le (length word) 10 && (not (begins_with 48 word) || length word == 1)
+    then digits_from 0 word else None
+
+-- what is kept where it lies in a range
+abbrev pub within : ℕ → ℕ → ℕ → Option ℕ
+within low high n = if nat_le low n && nat_le n high then Some n else None
+
+-- a number from low to high
+abbrev pub number_within : ℕ → ℕ → List ℕ → Option ℕ
+number_within low high word = option_and_then (within low high) (number_of word)

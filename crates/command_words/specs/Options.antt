@@ -1,0 +1,36 @@
+-- The options behind a command's argument: pairs of a name and a value, in any order and each at most once (the project's own).
+use Rattle.std.specs.Prelude.{ℕ, Bool, true, false, not, ◌&&◌, ◌||◌, is_none, if◌then◌else◌, List, [], ◌∷◌, Option, Some, None, codes}
+use Rattle.std.specs.Str.{bytes_eq}
+use Rattle.command_words.specs.declared.options.Table.{Table}
+use Rattle.command_words.specs.declared.options.Table.TheVariants.{Run, Dis}
+use Rattle.command_words.specs.Numbers.{begins_with, number_within}
+
+-- the names that a command has
+abbrev pub is_option : Table → List ℕ → Bool
+is_option Run name = bytes_eq name (codes "--cycles")
+is_option Dis name = bytes_eq name (codes "--side") || bytes_eq name (codes "--opt")
+
+-- the value of the option of this name
+abbrev pub value_for : List ℕ → List (List ℕ) → Option (List ℕ)
+value_for name [] = None
+value_for name (other ∷ []) = None
+value_for name (other ∷ value ∷ options) = if bytes_eq other name then Some value else value_for name options
+
+-- a pair may stand before these options: the command has the name, which does not come again, and the value does not begin with
+-- a dash
+unfoldable pub may_lead : Table → List ℕ → List ℕ → List (List ℕ) → Bool
+may_lead table name value options = is_option table name && not (begins_with 45 value) && is_none (value_for name options)
+
+-- the words are options of the command
+abbrev pub are_options : Table → List (List ℕ) → Bool
+are_options table [] = true
+are_options table (name ∷ []) = false
+are_options table (name ∷ value ∷ options) = may_lead table name value options && are_options table options
+
+-- a number from 0 to high, 0 where there is none
+abbrev pub number_or_zero : ℕ → Option (List ℕ) → Option ℕ
+number_or_zero high None = Some 0
+number_or_zero high (Some value) = number_within 0 high value
+
+abbrev pub number_for : List ℕ → ℕ → List (List ℕ) → Option ℕ
+number_for name high options = number_or_zero high (value_for name options)

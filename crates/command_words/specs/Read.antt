@@ -1,0 +1,26 @@
+-- What a reader of the words answers: the project's own.
+use Rattle.std.specs.Prelude.{◌≡◌, Option, Some, None, Result, Ok, Err}
+use Rattle.std.specs.String.{string_bytes}
+use Rattle.command_words.specs.declared.words.RunWords.{RunWords}
+use Rattle.command_words.specs.declared.words.Reading.{Reading}
+use Rattle.command_words.specs.declared.words.Reading.TheVariants as readings
+use Rattle.command_words.specs.declared.words.WordsFault.{WordsFault}
+use Rattle.command_words.specs.declared.words.WordsFault.TheVariants.{Words, Memory}
+use Rattle.command_words.specs.Words.{Run, Command}
+use Rattle.command_words.specs.Words.Command.{RunImage, Disassemble, Assemble}
+
+-- the run that the words of one stand for
+abbrev pub run_in : RunWords → Run
+run_in r = record { image = string_bytes r.image; cycles = r.cycles }
+
+-- the command that a reading stands for
+abbrev pub command_in : Reading → Command
+command_in (readings.Run r) = RunImage (run_in r)
+command_in (readings.Dis d) = Disassemble d.words.items d.side
+command_in (readings.Asm name) = Assemble (string_bytes name)
+
+-- the answer is what was asked for, or Words where that is none; Memory says nothing
+abbrev pub ReadsAs : Option Command → Result Reading WordsFault → Type 0
+ReadsAs command (Ok r) = command ≡ Some (command_in r)
+ReadsAs command (Err Words) = command ≡ None
+ReadsAs command (Err Memory) = Unit {0}

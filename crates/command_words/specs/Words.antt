@@ -1,0 +1,58 @@
+-- The words of a command line, and what they ask for: `run <image> --cycles N`, `dis <hex> [--side S] [--opt T]` or `asm <file>`.
+-- The project's own.
+use Rattle.std.specs.Prelude.{ℕ, not, ◌&&◌, if◌then◌else◌, List, [], ◌∷◌, Option, Some, None, codes}
+use Rattle.std.specs.Option.{option_map, option_and_then}
+use Rattle.std.specs.Str.{bytes_eq}
+use Rattle.pio_words.specs.declared.side.SideConfig.{SideConfig}
+use Rattle.command_words.specs.declared.options.Table.TheVariants.{Run as RunOptions}
+use Rattle.command_words.specs.Numbers.{begins_with, number_within}
+use Rattle.command_words.specs.Options.{value_for, are_options}
+use Rattle.command_words.specs.Dis.{words_of, side_of}
+
+-- a run: the image's name, and how many cycles it may have
+pub record Run : Type 0 where
+  pub image : List ℕ
+  pub cycles : ℕ
+
+abbrev pub run_with : List ℕ → ℕ → Run
+run_with image n = record { image = image; cycles = n }
+
+-- what the words may ask for: a run, the source text of instruction words, or the listing of a source
+pub data Command : Type 0 where
+  RunImage : (run : Run) → Command
+  Disassemble : (words : List ℕ) → (side : SideConfig) → Command
+  Assemble : (source : List ℕ) → Command
+
+-- the limit of cycles, 1 to 1,000,000,000, which must be given
+abbrev pub cycles_in : List (List ℕ) → Option ℕ
+cycles_in options = option_and_then (number_within 1 1000000000) (value_for (codes "--cycles") options)
+
+-- `<image> --cycles N`; the name does not begin with a dash
+unfoldable pub run_reading : List (List ℕ) → Option Command
+run_reading [] = None
+run_reading (image ∷ options) =
+    if not (begins_with 45 image) && are_options RunOptions options
+    then option_map (λ n. RunImage (run_with image n)) (cycles_in options) else None
+
+abbrev pub disassemble : Option (List ℕ) → Option SideConfig → Option Command
+disassemble (Some words) (Some side) = Some (Disassemble words side)
+disassemble (Some words) None = None
+disassemble None side = None
+
+-- `<hex> [--side S] [--opt T]`
+unfoldable pub dis_reading : List (List ℕ) → Option Command
+dis_reading [] = None
+dis_reading (hex ∷ options) = disassemble (words_of hex) (side_of options)
+
+-- `<file>`: one word, which does not begin with a dash
+unfoldable pub asm_reading : List (List ℕ) → Option Command
+asm_reading (name ∷ []) = if begins_with 45 name then None else Some (Assemble name)
+asm_reading _ = None
+
+-- the reading of the words, or none where they are refused
+unfoldable pub reading : List (List ℕ) → Option Command
+reading [] = None
+reading (command ∷ words) =
+    if bytes_eq command (codes "run") then run_reading words
+    else if bytes_eq command (codes "dis") then dis_reading words
+    else if bytes_eq command (codes "asm") then asm_reading words else None

@@ -1,0 +1,10 @@
+//! The words of a command line, and what they ask for.
+#![tactic(auto)]
+
+mod dis;
+mod number;
+mod options;
+mod words;
+
+pub use dis::DisWords;
+pub use words::{Reading, RunWords, WordsFault, read_words};

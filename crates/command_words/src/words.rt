@@ -1,0 +1,134 @@
+//! From the words to what they ask for.
+
+ghost use Rattle.std.specs.Prelude.{◌≡◌, map, Some};
+ghost use Rattle.std.specs.String.{string_bytes};
+ghost use Rattle.command_words.specs.Words.{run_with, cycles_in, run_reading, dis_reading, asm_reading, reading};
+ghost use Rattle.command_words.specs.Words.Command.{RunImage};
+ghost use Rattle.command_words.specs.Read.{ReadsAs};
+
+use crate::dis::{DisWords, instruction_words, side_config};
+use crate::number::number_within;
+use crate::options::{Table, are_options, is_dashed, value_for};
+use std::alloc::Global;
+
+/// The words of a run.
+#[derive(Drop)]
+pub struct RunWords {
+    /// The name of the image file.
+    pub image: String,
+    /// The limit of cycles, 1 to 1,000,000,000.
+    pub cycles: u64,
+}
+
+/// What the words ask for.
+#[derive(Drop)]
+pub enum Reading {
+    /// A run of an image.
+    Run(RunWords),
+    /// The source text of instruction words.
+    Dis(DisWords),
+    /// The listing of the source file of this name.
+    Asm(String),
+}
+
+/// Why there is no reading.
+#[derive(Clone, Copy, Debug, PartialEq, Eq)]
+pub enum WordsFault {
+    /// The words are not a command.
+    Words,
+    /// There was no memory left.
+    Memory,
+}
+
+/// The limit of cycles among the options of a run.
+fn cycles_in(options: &[String]) -> Option<u64>
+    ensures { result ≡ cycles_in (map string_bytes options.now) }
+{
+    match value_for("--cycles", options) {
+        None => None,
+        Some(value) => number_within(1, 1_000_000_000, value),
+    }
+}
+
+/// The words of a run with their own copy of the name.
+fn owned(alloc: Global, image: &str, cycles: u64) -> Result<Reading, WordsFault>
+    ensures { ReadsAs (Some (RunImage (run_with image.now cycles))) result }
+{
+    match String::from_str(alloc, image) {
+        Ok(image) => Ok(Reading::Run(RunWords { image, cycles })),
+        Err(_) => Err(WordsFault::Memory),
+    }
+}
+
+/// Reads the words after `run`.
+#[tactic(auto, unfolding(crate::specs::Words::run_reading))]
+fn read_run(alloc: Global, words: &[String]) -> Result<Reading, WordsFault>
+    ensures { ReadsAs (run_reading (map string_bytes words.now)) result }
+{
+    let [image, options @ ..] = words else {
+        return Err(WordsFault::Words);
+    };
+    if is_dashed(image.as_str()) || !are_options(Table::Run, options) {
+        return Err(WordsFault::Words);
+    }
+    match cycles_in(options) {
+        None => Err(WordsFault::Words),
+        Some(cycles) => owned(alloc, image.as_str(), cycles),
+    }
+}
+
+/// Reads the words after `dis`.
+#[tactic(auto, unfolding(crate::specs::Words::dis_reading))]
+fn read_dis(alloc: Global, words: &[String]) -> Result<Reading, WordsFault>
+    ensures { ReadsAs (dis_reading (map string_bytes words.now)) result }
+{
+    let [hex, options @ ..] = words else {
+        return Err(WordsFault::Words);
+    };
+    let Some(side) = side_config(options) else {
+        return Err(WordsFault::Words);
+    };
+    match instruction_words(alloc, hex.as_str()) {
+        Ok(Some(words)) => Ok(Reading::Dis(DisWords { words, side })),
+        Ok(None) => Err(WordsFault::Words),
+        Err(_) => Err(WordsFault::Memory),
+    }
+}
+
+/// Reads the words after `asm`: one name, which does not begin with a dash.
+#[tactic(auto, unfolding(crate::specs::Words::asm_reading))]
+fn read_asm(alloc: Global, words: &[String]) -> Result<Reading, WordsFault>
+    ensures { ReadsAs (asm_reading (map string_bytes words.now)) result }
+{
+    let [name] = words else {
+        return Err(WordsFault::Words);
+    };
+    if is_dashed(name.as_str()) {
+        return Err(WordsFault::Words);
+    }
+    match String::from_str(alloc, name.as_str()) {
+        Ok(name) => Ok(Reading::Asm(name)),
+        Err(_) => Err(WordsFault::Memory),
+    }
+}
+
+/// Reads `run <image> --cycles N`, `dis <hex> [--side S] [--opt T]` or `asm <file>`, the options in any order and each
+/// at most once.
+///
+/// # Errors
+///
+/// `Words` where the words are none of these, `Memory` where memory ran out.
+#[tactic(auto, unfolding(crate::specs::Words::reading))]
+pub fn read_words(alloc: Global, words: &[String]) -> Result<Reading, WordsFault>
+    ensures { ReadsAs (reading (map string_bytes words.now)) result }
+{
+    let [command, rest @ ..] = words else {
+        return Err(WordsFault::Words);
+    };
+    match command.as_str() {
+        "run" => read_run(alloc, rest),
+        "dis" => read_dis(alloc, rest),
+        "asm" => read_asm(alloc, rest),
+        _ => Err(WordsFault::Words),
+    }
+}

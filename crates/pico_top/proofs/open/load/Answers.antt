@@ -1,0 +1,6 @@
+use Rattle.pico_top.specs.declared.open.Stop.TheVariants.{Memory}
+use Rattle.pico_top.proofs.Opens.{load_lost}
+use Rattle.pico_top.proofs.open.load.Goals as goal
+
+pub returns-in-Failed-clause-answer : goal.returns-in-Failed-clause-answer
+returns-in-Failed-clause-answer g c = load_lost _ _ _ _ _ Memory c.in-Failed.ensures.failures tt

@@ -1,0 +1,16 @@
+-- What a call is asked, and what it meets outside: the project's own.
+use Rattle.std.specs.Prelude.{ℕ, List, Option}
+use Rattle.rp_ports.specs.Shelf.{Files}
+
+-- the words of the command line
+pub record Asked : Type 0 where
+  pub words : List (List ℕ)
+
+-- the files of the shelf by name, where it tells them, and the names whose loads failed; what the sink has written, where it
+-- tells it, and its count of faults; and the steps that were counted
+pub record Outside : Type 0 where
+  pub files : Option Files
+  pub failed : List (List ℕ)
+  pub written : Option (List ℕ)
+  pub faults : ℕ
+  pub steps : ℕ

@@ -1,0 +1,76 @@
+-- What a call may refuse, and the line and status of each refusal: the project's own.
+use Rattle.std.specs.Prelude.{ℕ, List, ◌++◌, codes, decimal}
+use Rattle.trace_text.specs.Line.{hex_word}
+use Rattle.uf2_image.specs.declared.fault.ImageFault.{ImageFault}
+use Rattle.uf2_image.specs.declared.fault.ImageFault.TheVariants.{Empty, Ragged, Magic, Payload, Count, Number, Repeat, Flash, Address, Overlap, Missing, Nothing, Memory}
+use Rattle.pio_parse.specs.declared.fault.PioFault.{PioFault}
+use Rattle.pio_parse.specs.declared.fault.PioFault.TheVariants as pio
+
+-- what is refused: the words, a file that could not be loaded, a file of this length, which is above its limit, an image and a
+-- PIO source by their first fault
+pub data Refusal : Type 0 where
+  BadWords : Refusal
+  Lost : (name : List ℕ) → Refusal
+  TooLarge : (name : List ℕ) → (long : ℕ) → Refusal
+  BadImage : (fault : ImageFault) → Refusal
+  BadSource : (fault : PioFault) → Refusal
+
+-- a number after a space, and an address
+abbrev pub then_number : ℕ → List ℕ
+then_number n = codes " " ++ decimal n
+
+abbrev pub then_address : ℕ → List ℕ
+then_address a = codes " " ++ hex_word a
+
+-- an image's fault: its number, its name and its numbers
+unfoldable pub fault_words : ImageFault → List ℕ
+fault_words Empty = codes "1 Empty"
+fault_words (Ragged length) = codes "2 Ragged" ++ then_number length
+fault_words (Magic block) = codes "3 Magic" ++ then_number block
+fault_words (Payload block size) = codes "4 Payload" ++ then_number block ++ then_number size
+fault_words (Count block) = codes "5 Count" ++ then_number block
+fault_words (Number block) = codes "6 Number" ++ then_number block
+fault_words (Repeat block) = codes "7 Repeat" ++ then_number block
+fault_words (Flash block target) = codes "8 Flash" ++ then_number block ++ then_address target
+fault_words (Address block target) = codes "9 Address" ++ then_number block ++ then_address target
+fault_words (Overlap block) = codes "10 Overlap" ++ then_number block
+fault_words (Missing number) = codes "11 Missing" ++ then_number number
+fault_words Nothing = codes "12 Nothing"
+fault_words Memory = codes "13 Memory"
+
+abbrev pub image_line : ImageFault → List ℕ
+image_line fault = codes "error image " ++ fault_words fault ++ codes "\n"
+
+-- a PIO fault: its number, its name, then its line and column, or its line
+unfoldable pub pio_fault_words : PioFault → List ℕ
+pio_fault_words (pio.Char line column) = codes "1 Char" ++ then_number line ++ then_number column
+pio_fault_words (pio.Syntax line column) = codes "2 Syntax" ++ then_number line ++ then_number column
+pio_fault_words pio.Memory = codes "3 Memory"
+pio_fault_words (pio.Unknown line) = codes "4 Unknown" ++ then_number line
+pio_fault_words (pio.Twice line) = codes "5 Twice" ++ then_number line
+pio_fault_words (pio.Range line) = codes "6 Range" ++ then_number line
+pio_fault_words (pio.Delay line) = codes "7 Delay" ++ then_number line
+pio_fault_words (pio.Side line) = codes "8 Side" ++ then_number line
+pio_fault_words (pio.TooLong line) = codes "9 TooLong" ++ then_number line
+pio_fault_words (pio.Wrap line) = codes "10 Wrap" ++ then_number line
+pio_fault_words (pio.Origin line) = codes "11 Origin" ++ then_number line
+pio_fault_words (pio.NoRoom count) = codes "12 NoRoom" ++ then_number count
+
+abbrev pub pio_line : PioFault → List ℕ
+pio_line fault = codes "error pio " ++ pio_fault_words fault ++ codes "\n"
+
+-- the line of a refusal
+unfoldable pub line_of : Refusal → List ℕ
+line_of BadWords = codes "error words\n"
+line_of (Lost name) = codes "error file " ++ name ++ codes "\n"
+line_of (TooLarge name long) = codes "error large " ++ name ++ codes " " ++ decimal long ++ codes "\n"
+line_of (BadImage fault) = image_line fault
+line_of (BadSource fault) = pio_line fault
+
+-- its status
+abbrev pub status_of : Refusal → ℕ
+status_of BadWords = 2
+status_of (Lost name) = 3
+status_of (TooLarge name long) = 3
+status_of (BadImage fault) = 4
+status_of (BadSource fault) = 5
