@@ -1,5 +1,9 @@
 use Rattle.std.proofs.Common.{◌≡◌, ℕ, suc, ℤ, ◌+◌, ◌-◌, ◌≤◌, List, [], ◌∷◌, ◌++◌, length, Bool, true, false, cond, Option, None, Some, refl, sym, ap, subst, ◌∙◌, ◌||◌, arith, inl, inr}
 use Rattle.std.specs.Prelude.{Result, Ok, Err, if◌then◌else◌, is_some, is_none, nat_le, nat_lt, unwrap_or, ◌==◌, ◌⊎◌}
+use Rattle.std.specs.declared.cmp.Ordering.{Ordering}
+use Rattle.std.specs.declared.cmp.Ordering.TheVariants.{Less, Equal, Greater}
+use Rattle.std.specs.Ordering.{match_ordering, nat_cmp}
+use Rattle.std.specs.Cmp.Lexicographic.{slice_cmp}
 use Rattle.std.proofs.lemmas.Bool.Decides.{nat_tests}
 use Rattle.pio_words.specs.Operation.{bit}
 use Rattle.pio_parse.specs.declared.fault.PioFault.{PioFault}
@@ -12,7 +16,7 @@ use Rattle.pio_asm.specs.declared.plan.Member.{Member}
 use Rattle.pio_asm.specs.declared.plan.Judged.{Judged}
 use Rattle.pio_asm.specs.declared.building.Building.{Building}
 use Rattle.pio_asm.specs.declared.building.Verdict.{Verdict}
-use Rattle.pio_asm.specs.Symbols.{Names}
+use Rattle.pio_asm.specs.Symbols.{Names, put}
 use Rattle.pio_asm.specs.Kept.{AllValued, AreKept, is_kept}
 use Rattle.pio_asm.specs.Value.{evaluated}
 use Rattle.pio_asm.specs.Operand.{number_within}
@@ -27,9 +31,15 @@ kept-push : (ms : List Member) (m : Member) → AreKept ms → is_kept m ≡ tru
 kept-push [] m h k = (k, tt)
 kept-push (n ∷ ms) m h k = (h.0, kept-push ms m h.1 k)
 
-valued-push : (names : Names) (name : List ℕ) (value : Option ℤ) → AllValued names → is_some value ≡ true → AllValued (names ++ (name, value) ∷ [])
-valued-push [] name value h k = (k, tt)
-valued-push (s ∷ ss) name value h k = (h.0, valued-push ss name value h.1 k)
+placed-valued : (order : Ordering) (name : List ℕ) (value : Option ℤ) (s : List ℕ × Option ℤ) (ss more : Names) → AllValued (s ∷ ss) → is_some value ≡ true → AllValued more
+    → AllValued (match_ordering order ((name, value) ∷ s ∷ ss) ((s.0, value) ∷ ss) (s ∷ more))
+placed-valued Less name value s ss more h k m = (k, h)
+placed-valued Equal name value s ss more h k m = (k, h.1)
+placed-valued Greater name value s ss more h k m = (h.0, m)
+
+valued-put : (names : Names) (name : List ℕ) (value : Option ℤ) → AllValued names → is_some value ≡ true → AllValued (put name value names)
+valued-put [] name value h k = (k, tt)
+valued-put (s ∷ ss) name value h k = placed-valued (slice_cmp nat_cmp name s.0) name value s ss (put name value ss) h k (valued-put ss name value h.1 k)
 
 length-push : (ms : List Member) (m : Member) → length (ms ++ m ∷ []) ≡ length ms + 1
 length-push [] m = refl
@@ -40,7 +50,7 @@ either_valued true seen next h k = h
 either_valued false seen next h k = k
 
 with_name-valued : (globals seen : Names) (name : List ℕ) (value : Option ℤ) → AllValued seen → is_some value ≡ true → AllValued (with_name globals seen name value)
-with_name-valued globals seen name value h k = either_valued (is_seen seen globals name) seen (seen ++ (name, value) ∷ []) h (valued-push seen name value h k)
+with_name-valued globals seen name value h k = either_valued (is_seen seen globals name) seen (put name value seen) h (valued-put seen name value h k)
 
 label_value-some : (count : ℕ) → count ≤ 32 → is_some (label_value count) ≡ true
 label_value-some count le = let e : nat_le count 4294967295 ≡ true = grind (arith, nat_tests) in rw e refl

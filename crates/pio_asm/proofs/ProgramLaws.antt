@@ -3,7 +3,7 @@ use Rattle.std.specs.Prelude.{Result, Ok, Err, IsOkAnd}
 use Rattle.pio_parse.specs.declared.fault.PioFault.{PioFault}
 use Rattle.pio_parse.specs.declared.syntax.SourceProgram.{SourceProgram}
 use Rattle.pio_asm.specs.declared.program.Program.{Program}
-use Rattle.pio_asm.specs.Symbols.{Names}
+use Rattle.pio_asm.specs.Symbols.{Names, put}
 use Rattle.pio_asm.specs.Assembly.{ArePrograms, IsProgram, Plan, program_plan, programs_from}
 
 -- one more program with its plan
@@ -17,7 +17,7 @@ programs-push (p ∷ ps) (q ∷ qs) plan program h s = (h.0, programs-push ps qs
 pub record GoesOn (globals taken : Names) (plans : List Plan) (made : List Program) (program : SourceProgram) (rest : List SourceProgram) (next : Program) : Type 0 where
   pub after : List Plan
   pub are : ArePrograms after (made ++ next ∷ [])
-  pub goes : programs_from globals taken plans (program ∷ rest) ≡ programs_from globals (taken ++ (program.name, None) ∷ []) after rest
+  pub goes : programs_from globals taken plans (program ∷ rest) ≡ programs_from globals (put program.name None taken) after rest
 
 goes_by : (globals taken : Names) (plans : List Plan) (made : List Program) (program : SourceProgram) (rest : List SourceProgram) (next : Program) (outcome : Result Plan PioFault) → program_plan globals taken program ≡ outcome → ArePrograms plans made → IsOkAnd outcome (λ plan. IsProgram plan next) → GoesOn globals taken plans made program rest next
 goes_by globals taken plans made program rest next (Ok plan) e are is = record { after = plans ++ plan ∷ []; are = programs-push plans made plan next are is; goes = rw e refl }

@@ -11,7 +11,7 @@ use Rattle.pio_parse.specs.Outcome.{and_then, map_ok}
 use Rattle.pio_asm.specs.declared.plan.Member.{Member}
 use Rattle.pio_asm.specs.declared.building.Building.{Building}
 use Rattle.pio_asm.specs.declared.program.Program.{Program}
-use Rattle.pio_asm.specs.Symbols.{Names, found}
+use Rattle.pio_asm.specs.Symbols.{Names, found, put}
 use Rattle.pio_asm.specs.Plan.{config_of}
 use Rattle.pio_asm.specs.Code.{AreWordsOf}
 use Rattle.pio_asm.specs.Step.{line_step, names_of}
@@ -59,7 +59,7 @@ program_plan globals taken program =
 abbrev pub programs_from : Names → Names → List Plan → List SourceProgram → Result (List Plan) PioFault
 programs_from globals taken plans [] = Ok plans
 programs_from globals taken plans (program ∷ programs) = and_then
-    (λ plan. programs_from globals (taken ++ (program.name, None) ∷ []) (plans ++ plan ∷ []) programs)
+    (λ plan. programs_from globals (put program.name None taken) (plans ++ plan ∷ []) programs)
     (program_plan globals taken program)
 
 -- the programs of a source, or its first fault: of the first line that has one, the one with the least number

@@ -15,7 +15,7 @@ use Rattle.pio_asm.specs.declared.plan.Member.TheVariants.{Word as WordMember, L
 use Rattle.pio_asm.specs.declared.plan.Judged.{Judged}
 use Rattle.pio_asm.specs.declared.building.Building.{Building}
 use Rattle.pio_asm.specs.declared.building.Verdict.{Verdict}
-use Rattle.pio_asm.specs.Symbols.{Names}
+use Rattle.pio_asm.specs.Symbols.{Names, put}
 use Rattle.pio_asm.specs.Value.{evaluated, value_in}
 use Rattle.pio_asm.specs.Operand.{number_within}
 use Rattle.pio_asm.specs.Plan.{instruction_in}
@@ -27,7 +27,7 @@ is_seen seen globals name = is_some (value_in seen globals name)
 
 -- a name that is defined twice keeps its first value
 abbrev pub with_name : Names → Names → List ℕ → Option ℤ → Names
-with_name globals seen name value = if is_seen seen globals name then seen else seen ++ (name, value) ∷ []
+with_name globals seen name value = if is_seen seen globals name then seen else put name value seen
 
 -- a label is the number of instructions before it
 abbrev pub label_value : ℕ → Option ℤ

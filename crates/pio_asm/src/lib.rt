@@ -4,8 +4,6 @@
 
 mod building;
 mod directive;
-#[cfg(test)]
-mod form_tests;
 pub mod laws;
 mod line;
 mod modifiers;
@@ -15,11 +13,7 @@ mod operation;
 mod place;
 mod plan;
 mod program;
-#[cfg(test)]
-mod source_tests;
 mod symbols;
-#[cfg(test)]
-mod tests;
 mod value;
 mod word;
 

@@ -1,7 +1,7 @@
 ghost use Rattle.std.specs.Prelude.{◌≡◌, ◌≤◌, ◌<◌, [], ◌∷◌, ◌++◌, Ok, None, OnOk, IfOk, IfErr, IsOkAnd};
 ghost use Rattle.pio_asm.specs.Plan.{IsOptionalConfig};
 ghost use Rattle.pio_asm.specs.Step.{names_of};
-ghost use Rattle.pio_asm.specs.Symbols.{found};
+ghost use Rattle.pio_asm.specs.Symbols.{found, put};
 ghost use Rattle.pio_asm.specs.Kept.{AllValued, AreKept};
 ghost use Rattle.pio_asm.specs.Assembly.{Assembles, IsFaultOf, IsProgram, assembled, lines_from, lines_of, plan_of, program_lines, program_plan, programs_from};
 
@@ -145,8 +145,7 @@ fn add_program<'a>(
     name: &'a [u8],
     program: Program,
 ) -> Result<(), AllocError>
-    requires { found name.now taken.old ≡ None }
-    ensures taken { OnOk result (taken.new ≡ taken.old ++ (name.now, None) ∷ []) }
+    ensures taken { OnOk result (taken.new ≡ put name.now None taken.old) }
     ensures made { OnOk result (made.new.items ≡ made.old.items ++ program ∷ []) }
 {
     taken.define(name, None)?;

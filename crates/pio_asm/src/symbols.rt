@@ -1,17 +1,18 @@
-ghost use Rattle.std.specs.Prelude.{◌≡◌, ◌++◌, ◌∷◌, [], None, OnOk};
-ghost use Rattle.pio_asm.specs.Symbols.{found};
+ghost use Rattle.std.specs.Prelude.{◌≡◌, [], OnOk};
+ghost use Rattle.pio_asm.specs.Symbols.{found, put};
 
-use indexmap::IndexMap;
 use std::alloc::{AllocError, Global};
+use std::collections::BTreeMap;
 use std::marker::Model;
 
 /// The value of a name, or none where its definition has a fault.
 pub(crate) type Value = Option<i64>;
 
-/// Names with their values, in the order in which they were defined. No name is there twice.
+/// Names with their values, in the order of the names' bytes. No name is there twice. Whoever writes
+/// a source chooses its names, so they are kept in order and not by a hash.
 #[derive(Drop)]
 pub(crate) struct Symbols<'a> {
-    table: IndexMap<&'a [u8], Value>,
+    table: BTreeMap<&'a [u8], Value>,
 }
 
 impl<'a> Model for Symbols<'a> {
@@ -27,7 +28,7 @@ impl<'a> Symbols<'a> {
         ensures { result ≡ [] }
     {
         Symbols {
-            table: IndexMap::new(alloc),
+            table: BTreeMap::new(alloc),
         }
     }
 
@@ -38,10 +39,9 @@ impl<'a> Symbols<'a> {
         self.table.get(name).copied()
     }
 
-    /// Adds a name that is not there.
+    /// Adds a name with its value.
     pub(crate) fn define(&mut self, name: &'a [u8], value: Value) -> Result<(), AllocError>
-        requires { found name.now self.old ≡ None }
-        ensures { OnOk result (self.new ≡ self.old ++ (name.now, value) ∷ []) }
+        ensures { OnOk result (self.new ≡ put name.now value self.old) }
     {
         self.table.insert(name, value)?;
         Ok(())

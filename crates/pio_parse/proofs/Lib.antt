@@ -1,3 +1,4 @@
+pub mod Gathered
 pub mod SourceLines
 pub mod Pieces
 pub mod Runs

@@ -17,7 +17,9 @@ use Rattle.pio_parse.specs.Outcome.{and_then}
 use Rattle.pio_parse.specs.Scan.{scanned, scanned_from}
 use Rattle.pio_parse.specs.Expression.{name_at}
 use Rattle.pio_parse.specs.Statement.{is_end, line_at}
-use Rattle.pio_parse.specs.Source.{grouped_by, line_step, parsed, source_from, source_of, with_syntax}
+use Rattle.pio_parse.specs.Source.{parsed, parsed_tokens, with_syntax}
+use Rattle.pio_parse.specs.Gathering.{grouped_by, line_step, no_groups, source_from}
+use Rattle.pio_parse.proofs.Gathered.{source_gathered}
 use Rattle.pio_parse.proofs.Pieces.{AreApart, Piece, chars_of, is_open, joined, kind_of, token_at, tokens_of}
 use Rattle.pio_parse.proofs.Pieces.Piece.{Blank, End, Run}
 use Rattle.pio_parse.proofs.Runs.{both, place_at}
@@ -96,10 +98,10 @@ header_scans rest = refl
 name_there : (rest : List ℕ) → name_at (header ++ rest) (record { start = 9; end = 13 }) ≡ codes "code"
 name_there rest = let h : nat_le 13 (length (header ++ rest)) ≡ true = le-leb 13 (length (header ++ rest)) (omega arith) in rw h refl
 
-header_reads : (rest : List ℕ) (tokens : List Token) → source_of (header ++ rest) (header_tokens ++ tokens) ≡ source_from (header ++ rest) (in_program (record { name = codes "code"; number = 1; lines = [] })) [] tokens
+header_reads : (rest : List ℕ) (tokens : List Token) → source_from (header ++ rest) no_groups [] (header_tokens ++ tokens) ≡ source_from (header ++ rest) (in_program (record { name = codes "code"; number = 1; lines = [] })) [] tokens
 unfolding header_tokens
 header_reads rest tokens =
-    let e : source_of (header ++ rest) (header_tokens ++ tokens) ≡ source_from (header ++ rest) (in_program (record { name = name_at (header ++ rest) (record { start = 9; end = 13 }); number = 1; lines = [] })) [] tokens = refl in
+    let e : source_from (header ++ rest) no_groups [] (header_tokens ++ tokens) ≡ source_from (header ++ rest) (in_program (record { name = name_at (header ++ rest) (record { start = 9; end = 13 }); number = 1; lines = [] })) [] tokens = refl in
     e ∙ rw (name_there rest) refl
 
 pub program_parses : (pss : List (List Piece)) (lines : List Line) → AreApart (all_lines pss) → AreLines (header ++ joined (all_lines pss)) 2 pss lines → parsed (header ++ joined (all_lines pss)) ≡ Ok (source_of_lines lines)
@@ -107,6 +109,10 @@ program_parses pss lines apart are =
     let ps = all_lines pss in
     let text = header ++ joined (all_lines pss) in
     let scan = scan_pieces (all_lines pss) (header ++ joined (all_lines pss)) header 14 2 1 (place_at 1 15) header_tokens apart refl refl in
-    let tokens : scanned (header ++ joined (all_lines pss)) ≡ Ok ((header_tokens ++ tokens_of 2 1 (all_lines pss)) ++ record { kind = FileEnd; place = scan.last } ∷ []) = header_scans (joined (all_lines pss)) ∙ scan.scans in
-    rw (tokens, append_assoc header_tokens (tokens_of 2 1 (all_lines pss)) (record { kind = FileEnd; place = scan.last } ∷ []), header_reads (joined (all_lines pss)))
-    (ap with_syntax (lines_read pss lines (header ++ joined (all_lines pss)) 2 (record { name = codes "code"; number = 1; lines = [] }) scan.last are))
+    let read = tokens_of 2 1 (all_lines pss) ++ record { kind = FileEnd; place = scan.last } ∷ [] in
+    let tokens : scanned (header ++ joined (all_lines pss)) ≡ Ok (header_tokens ++ read) =
+    header_scans (joined (all_lines pss)) ∙ scan.scans ∙ ap (λ (ts : List Token). Ok ts) (append_assoc header_tokens (tokens_of 2 1 (all_lines pss)) (record { kind = FileEnd; place = scan.last } ∷ [])) in
+    ap (λ outcome. parsed_tokens text outcome) tokens
+    ∙ ap with_syntax (source_gathered text (header_tokens ++ read)
+    ∙ header_reads (joined (all_lines pss)) read
+    ∙ lines_read pss lines (header ++ joined (all_lines pss)) 2 (record { name = codes "code"; number = 1; lines = [] }) scan.last are)

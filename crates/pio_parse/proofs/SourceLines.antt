@@ -11,7 +11,9 @@ use Rattle.pio_parse.specs.declared.syntax.Source.{Source}
 use Rattle.pio_parse.specs.declared.parser.Groups.{Groups}
 use Rattle.pio_parse.specs.Outcome.{and_then}
 use Rattle.pio_parse.specs.Statement.{is_end}
-use Rattle.pio_parse.specs.Source.{IsStopOf, line_step, source_from, source_of}
+use Rattle.pio_parse.specs.Source.{IsStopOf, source_of}
+use Rattle.pio_parse.specs.Gathering.{line_step, source_from}
+use Rattle.pio_parse.proofs.Gathered.{source_gathered}
 
 get_or_dropped : {X : Type 0} (xs : List X) (i j : ℕ) (d : X) → i ≤ j → get_or (drop i xs) (j - i) d ≡ get_or xs j d
 get_or_dropped xs i j d le = let e : i + (j - i) ≡ j = omega arith in get_or-drop i xs (j - i) d ∙ rw e refl
@@ -49,4 +51,4 @@ pub line-stopped : (text : List ℕ) (groups : Groups) (tokens : List Token) (st
 line-stopped text groups tokens start index d (Syntax place) le lt h whole e = whole ∙ line-ends text groups tokens start index d le lt h ∙ rw e refl
 line-stopped text groups tokens start index d Memory le lt h whole e = tt
 
-pub ruleset line_laws = (line-goes, line-next, line-stopped)
+pub ruleset line_laws = (source_gathered, line-goes, line-next, line-stopped)

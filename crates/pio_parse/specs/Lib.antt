@@ -1,4 +1,5 @@
 pub mod Outcome
+pub mod Name
 pub mod Words
 pub mod Scan
 pub mod Cursor
@@ -7,5 +8,6 @@ pub mod Registers
 pub mod Instruction
 pub mod Statement
 pub mod Source
+pub mod Gathering
 pub mod Grammar
 pub mod Laws

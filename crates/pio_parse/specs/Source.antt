@@ -1,5 +1,5 @@
 -- A source: lines before the first program, then programs (RP2040 Datasheet, 3.3, Directives). Which fault comes first is the project's own.
-use Rattle.std.specs.Prelude.{◌≡◌, ℕ, if◌then◌else◌, List, [], ◌∷◌, ◌++◌, Option, None, Some, is_some, option_to_list, Result, Ok, Err, ⊤}
+use Rattle.std.specs.Prelude.{◌≡◌, ◌||◌, ℕ, Bool, false, if◌then◌else◌, List, [], ◌∷◌, Option, None, Some, Result, Ok, Err, ⊤}
 use Rattle.pio_parse.specs.declared.token.Place.{Place}
 use Rattle.pio_parse.specs.declared.token.Token.{Token}
 use Rattle.pio_parse.specs.declared.syntax.Statement.{Statement}
@@ -7,65 +7,54 @@ use Rattle.pio_parse.specs.declared.syntax.Statement.TheVariants.{Program}
 use Rattle.pio_parse.specs.declared.syntax.Line.{Line}
 use Rattle.pio_parse.specs.declared.syntax.SourceProgram.{SourceProgram}
 use Rattle.pio_parse.specs.declared.syntax.Source.{Source}
-use Rattle.pio_parse.specs.declared.parser.Groups.{Groups}
 use Rattle.pio_parse.specs.declared.cursor.Stop.{Stop}
 use Rattle.pio_parse.specs.declared.cursor.Stop.TheVariants.{Syntax, Memory}
 use Rattle.pio_parse.specs.declared.fault.PioFault.{PioFault}
 use Rattle.pio_parse.specs.declared.fault.PioFault.TheVariants.{Char, Syntax as SyntaxFault, Memory as MemoryFault}
 use Rattle.pio_parse.specs.Outcome.{and_then, map_ok}
 use Rattle.pio_parse.specs.Scan.{scanned}
-use Rattle.pio_parse.specs.Statement.{is_end, line_at}
+use Rattle.pio_parse.specs.Statement.{is_end, is_program, line_at}
 
--- one more line of what is there
-abbrev pub with_line_in : Line → Groups → Option SourceProgram → Groups
-with_line_in line groups None = record groups { globals = groups.globals ++ line ∷ [] }
-with_line_in line groups (Some program) = record groups { current = Some (record program { lines = program.lines ++ line ∷ [] }) }
+-- the lines of a file's tokens, each up to its end
+abbrev pub with_first : Token → List (List Token) → List (List Token)
+with_first token [] = []
+with_first token (line ∷ lines) = (token ∷ line) ∷ lines
 
-abbrev pub with_line : Line → Groups → Groups
-with_line line groups = with_line_in line groups groups.current
+abbrev pub token_lines : List Token → List (List Token)
+token_lines [] = []
+token_lines (token ∷ tokens) = if is_end token.kind then (token ∷ []) ∷ token_lines tokens else with_first token (token_lines tokens)
 
-abbrev pub with_label : ℕ → Option (List ℕ) → Groups → Groups
-with_label number None groups = groups
-with_label number (Some label) groups = with_line (record { number = number; label = Some label; statement = None }) groups
+-- the lines one after the other, or the place of the first token with which no line begins so; a program has begun, or not
+abbrev pub lines_at : List ℕ → Bool → List (List Token) → Result (List Line) Place
+lines_at text is_started [] = Ok []
+lines_at text is_started (tokens ∷ others) = and_then
+    (λ line. map_ok (λ lines. line.0 ∷ lines) (lines_at text (is_started || is_program line.0.statement) others))
+    (line_at text is_started tokens)
 
-abbrev pub with_new_program : ℕ → List ℕ → Groups → Groups
-with_new_program number name groups =
-    record { globals = groups.globals; programs = groups.programs ++ option_to_list groups.current; current = Some (record { name = name; number = number; lines = [] }) }
+-- a line with a label alone, if there is one
+abbrev pub label_before : ℕ → Option (List ℕ) → List Line → List Line
+label_before number None lines = lines
+label_before number (Some label) lines = record { number = number; label = Some label; statement = None } ∷ lines
 
--- a program begins, and a label of its line is the last line of the program before it
-abbrev pub with_program : ℕ → Option (List ℕ) → List ℕ → Groups → Groups
-with_program number label name groups = with_new_program number name (with_label number label groups)
+abbrev pub before_by : ℕ → Option (List ℕ) → Option Statement → Source → Source
+before_by number label None source = record source { globals = label_before number label source.globals }
+before_by number label (Some (Program name)) source =
+    record { globals = label_before number label []; programs = record { name = name; number = number; lines = source.globals } ∷ source.programs }
+before_by number label (Some statement) source = record source { globals = record { number = number; label = label; statement = Some statement } ∷ source.globals }
 
-abbrev pub grouped_by : ℕ → Option (List ℕ) → Option Statement → Groups → Groups
-grouped_by number label None groups = with_label number label groups
-grouped_by number label (Some (Program name)) groups = with_program number label name groups
-grouped_by number label (Some statement) groups = with_line (record { number = number; label = label; statement = Some statement }) groups
+-- a source with one more line before it. `.program` makes a program of the lines up to the next one, and a label of its line stands before it.
+-- A line without a label and a statement is left out
+abbrev pub line_before : Line → Source → Source
+line_before line source = before_by line.number line.label line.statement source
 
--- a line takes its place in its program. One without a label and a statement is left out
-abbrev pub grouped : Groups → Line → Groups
-grouped groups line = grouped_by line.number line.label line.statement groups
-
--- a line after others
-abbrev pub line_step : List ℕ → Groups → List Token → Result Groups Place
-line_step text groups tokens = map_ok (λ line. grouped groups line.0) (line_at text (is_some groups.current) tokens)
-
-abbrev pub source_of_groups : Groups → Source
-source_of_groups groups = record { globals = groups.globals; programs = groups.programs ++ option_to_list groups.current }
-
--- the source that goes on with these tokens, where `current` are the tokens of the line so far: a line goes up to its end
-abbrev pub source_from : List ℕ → Groups → List Token → List Token → Result Source Place
-source_from text groups current [] = Ok (source_of_groups groups)
-source_from text groups current (token ∷ tokens) =
-    if is_end token.kind
-    then and_then (λ next. source_from text next [] tokens) (line_step text groups (current ++ token ∷ []))
-    else source_from text groups (current ++ token ∷ []) tokens
-
-abbrev pub no_groups : Groups
-no_groups = record { globals = []; programs = []; current = None }
+-- the source of lines
+abbrev pub gathered : List Line → Source
+gathered [] = record { globals = []; programs = [] }
+gathered (line ∷ lines) = line_before line (gathered lines)
 
 -- the source of a file's tokens, or the place of the first token with which no line begins so
 abbrev pub source_of : List ℕ → List Token → Result Source Place
-source_of text tokens = source_from text no_groups [] tokens
+source_of text tokens = map_ok gathered (lines_at text false (token_lines tokens))
 
 -- how a call that reads this stops; memory may run out at any time
 abbrev pub IsStopOf : {X : Type 0} → Result X Place → Stop → Type 0

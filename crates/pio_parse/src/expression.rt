@@ -30,10 +30,11 @@ pub enum Term {
     Operator(Operator),
 }
 
-/// An expression in postfix order, seen as a list of terms.
+/// An expression in postfix order, seen as a list of terms. It takes no more memory than its terms need,
+/// and a pointer where it stands, since a file may have a million of them.
 #[derive(Drop)]
 pub struct Expression {
-    terms: Vec<Term>,
+    terms: Box<Vec<Term>>,
 }
 
 impl Model for Expression {
@@ -42,16 +43,16 @@ impl Model for Expression {
 
     ghost Value = { List Term };
 
-    ghost view = { λ expression. expression.terms.items };
+    ghost view = { λ expression. expression.terms.value.items };
 }
 
 impl Expression {
-    fn new(alloc: Global) -> Expression
-        ensures { result ≡ [] }
+    fn from_terms(alloc: Global, mut terms: Vec<Term>) -> Result<Expression, AllocError>
+        ensures { IfOk result (λ expression. expression ≡ terms.items) }
     {
-        Expression {
-            terms: Vec::new(alloc),
-        }
+        terms.shrink_to_fit();
+        let terms = Box::new(alloc, terms)?;
+        Ok(Expression { terms })
     }
 
     /// The terms in postfix order.
@@ -60,12 +61,44 @@ impl Expression {
     {
         self.terms.as_slice()
     }
+}
+
+/// The terms of an expression that is being read, seen as their list.
+#[derive(Drop)]
+struct Terms {
+    items: Vec<Term>,
+}
+
+impl Model for Terms {
+    ghost use Rattle.std.specs.Prelude.{List};
+    ghost use Rattle.pio_parse.specs.declared.expression.Term.{Term};
+
+    ghost Value = { List Term };
+
+    ghost view = { λ terms. terms.items.items };
+}
+
+impl Terms {
+    fn new(alloc: Global) -> Terms
+        ensures { result ≡ [] }
+    {
+        Terms {
+            items: Vec::new(alloc),
+        }
+    }
 
     fn push(&mut self, term: Term) -> Result<(), AllocError>
         ensures { OnOk result (self.new ≡ self.old ++ term ∷ []) }
     {
-        self.terms.push(term)?;
+        self.items.push(term)?;
         Ok(())
+    }
+
+    fn into_expression(self, alloc: Global) -> Result<Expression, AllocError>
+        ensures { IfOk result (λ expression. expression ≡ self) }
+    {
+        let Terms { items } = self;
+        Expression::from_terms(alloc, items)
     }
 }
 
@@ -140,7 +173,7 @@ fn level(operator: Operator) -> u8
 
 /// The operators that wait since the last open parenthesis, and bind at least so tightly, have their
 /// last operand.
-fn reduce(least: u8, stack: &mut Stack, output: &mut Expression) -> Result<(), AllocError>
+fn reduce(least: u8, stack: &mut Stack, output: &mut Terms) -> Result<(), AllocError>
     ensures { OnOk result ((stack.new, output.new) ≡ reduced least stack.old output.old) }
 {
     while let Some(Pending::Operator(operator)) = stack.top() {
@@ -157,7 +190,7 @@ fn reduce(least: u8, stack: &mut Stack, output: &mut Expression) -> Result<(), A
 #[derive(Drop)]
 struct Reading {
     stack: Stack,
-    output: Expression,
+    output: Terms,
     /// Whether an operand comes next.
     awaited: bool,
     /// How many parentheses are open.
@@ -267,7 +300,7 @@ fn take(file: &File, token: Token, reading: &mut Reading) -> Result<bool, Stop>
     }
 }
 
-fn finish(mut reading: Reading) -> Result<Expression, AllocError>
+fn finish(alloc: Global, mut reading: Reading) -> Result<Expression, AllocError>
     ensures { IfOk result (λ expression. expression ≡ (reduced 0 reading.stack reading.output).1) }
 {
     reduce(0, &mut reading.stack, &mut reading.output)?;
@@ -277,7 +310,7 @@ fn finish(mut reading: Reading) -> Result<Expression, AllocError>
         awaited: _,
         depth: _,
     } = reading;
-    Ok(output)
+    output.into_expression(alloc)
 }
 
 /// The longest expression that the next tokens begin with.
@@ -286,13 +319,13 @@ pub(crate) fn read_expression(file: &File, cursor: &mut Cursor) -> Result<Expres
 {
     let mut reading = Reading {
         stack: Stack::new(file.alloc),
-        output: Expression::new(file.alloc),
+        output: Terms::new(file.alloc),
         awaited: true,
         depth: 0,
     };
     for token in cursor.rest {
         if !take(file, *token, &mut reading)? {
-            return Ok(finish(reading)?);
+            return Ok(finish(file.alloc, reading)?);
         }
         cursor.skip();
     }
@@ -302,9 +335,9 @@ pub(crate) fn read_expression(file: &File, cursor: &mut Cursor) -> Result<Expres
 fn single(file: &File, term: Term) -> Result<Expression, AllocError>
     ensures { IfOk result (λ expression. expression ≡ term ∷ []) }
 {
-    let mut expression = Expression::new(file.alloc);
-    expression.push(term)?;
-    Ok(expression)
+    let mut terms = Vec::with_capacity(file.alloc, 1)?;
+    terms.push(term)?;
+    Expression::from_terms(file.alloc, terms)
 }
 
 /// A number, a name or an expression in parentheses.

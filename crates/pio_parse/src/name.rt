@@ -3,18 +3,32 @@ ghost use Rattle.std.specs.Prelude.{◌≡◌, IfOk};
 use std::alloc::{AllocError, Global};
 use std::marker::Model;
 
+/// How long a name is that stands in its place.
+const SHORT: usize = 15;
+
+/// The bytes of a name. A short one stands in its place, since a file may have hundreds of thousands; a
+/// longer one has a block of memory, which is in proportion to its text.
+#[derive(Drop)]
+enum Bytes {
+    Short(u8, [u8; SHORT]),
+    Long(Box<Vec<u8>>),
+}
+
 /// A name, seen as a list of bytes.
 #[derive(Drop)]
 pub struct Name {
-    bytes: Vec<u8>,
+    bytes: Bytes,
 }
 
 impl Model for Name {
     ghost use Rattle.std.specs.Prelude.{ℕ, List};
+    ghost use Rattle.pio_parse.specs.Name.{IsWithin, bytes_of};
 
     ghost Value = { List ℕ };
 
-    ghost view = { λ name. name.bytes.items };
+    ghost view = { λ name. bytes_of name.bytes };
+
+    ghost invariant = { λ name. IsWithin name.bytes };
 }
 
 impl Name {
@@ -22,14 +36,28 @@ impl Name {
     pub fn from_slice(alloc: Global, bytes: &[u8]) -> Result<Name, AllocError>
         ensures { IfOk result (λ name. name ≡ bytes.now) }
     {
-        let bytes = Vec::from_slice(alloc, bytes)?;
-        Ok(Name { bytes })
+        if bytes.len() <= SHORT {
+            let mut cells = [0; SHORT];
+            cells[..bytes.len()].copy_from_slice(bytes);
+            Ok(Name {
+                bytes: Bytes::Short(bytes.len() as u8, cells),
+            })
+        } else {
+            let bytes = Vec::from_slice(alloc, bytes)?;
+            let bytes = Box::new(alloc, bytes)?;
+            Ok(Name {
+                bytes: Bytes::Long(bytes),
+            })
+        }
     }
 
     /// The bytes of the name.
     pub fn as_slice(&self) -> &[u8]
         ensures { result.now ≡ self.now }
     {
-        self.bytes.as_slice()
+        match &self.bytes {
+            Bytes::Short(length, cells) => &cells[..*length as usize],
+            Bytes::Long(bytes) => bytes.as_slice(),
+        }
     }
 }

@@ -6,7 +6,7 @@ use crate::cursor::{Cursor, Stop};
 use crate::expression::{File, read_expression};
 use crate::instruction::read_instruction;
 use crate::name::Name;
-use crate::syntax::{Line, Statement};
+use crate::syntax::{BoxedInstruction, Line, Statement};
 use crate::token::{Directive, Keyword, TokenKind};
 
 fn read_name(file: &File, cursor: &mut Cursor) -> Result<Name, Stop>
@@ -86,6 +86,7 @@ fn read_statement(file: &File, cursor: &mut Cursor) -> Result<Option<Statement>,
         }
         TokenKind::Keyword(keyword) => {
             let instruction = read_instruction(file, keyword, cursor)?;
+            let instruction = BoxedInstruction::new(file.alloc, instruction)?;
             Ok(Some(Statement::Instruction(instruction)))
         }
         _ => Err(cursor.fault()),

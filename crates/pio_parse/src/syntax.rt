@@ -1,4 +1,4 @@
-ghost use Rattle.std.specs.Prelude.{◌≡◌, ◌++◌, ◌∷◌, [], OnOk};
+ghost use Rattle.std.specs.Prelude.{◌≡◌, ◌++◌, ◌∷◌, [], IfOk, OnOk};
 
 use crate::expression::Expression;
 use crate::name::Name;
@@ -72,6 +72,37 @@ pub struct Instruction {
     pub delay: Option<Expression>,
 }
 
+/// An instruction in a block of memory of its own, so that a line without one stays small. It is seen as
+/// the instruction.
+#[derive(Drop)]
+pub struct BoxedInstruction {
+    instruction: Box<Instruction>,
+}
+
+impl Model for BoxedInstruction {
+    ghost use Rattle.pio_parse.specs.declared.syntax.Instruction.{Instruction};
+
+    ghost Value = { Instruction };
+
+    ghost view = { λ boxed. boxed.instruction.value };
+}
+
+impl BoxedInstruction {
+    pub(crate) fn new(alloc: Global, instruction: Instruction) -> Result<BoxedInstruction, AllocError>
+        ensures { IfOk result (λ boxed. boxed ≡ instruction) }
+    {
+        let instruction = Box::new(alloc, instruction)?;
+        Ok(BoxedInstruction { instruction })
+    }
+
+    /// The instruction.
+    pub fn as_instruction(&self) -> &Instruction
+        ensures { result.now ≡ self.now }
+    {
+        self.instruction.as_ref()
+    }
+}
+
 /// What a line says after its label (RP2040 Datasheet, 3.3, Directives).
 #[derive(Drop)]
 pub enum Statement {
@@ -96,7 +127,7 @@ pub enum Statement {
     Wrap,
     /// `.word value`.
     Word(Expression),
-    Instruction(Instruction),
+    Instruction(BoxedInstruction),
 }
 
 /// A line that has a label or a statement.

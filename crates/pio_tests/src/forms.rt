@@ -1,6 +1,6 @@
 //! Each form of each instruction, as it is read and as it is written.
 
-use crate::tests::has_words;
+use crate::programs::has_words;
 use pio_disasm::write_source;
 use pio_words::SideConfig;
 use std::alloc::{AllocError, Global};
@@ -119,23 +119,13 @@ fn each_form_both_ways(rt: HostRuntime) -> Result<(), AllocError> {
 fn other_forms(rt: HostRuntime) -> Result<(), AllocError> {
     let table = [
         ("JMP X--, (2 + 3)", 0x0045),
-        ("jmp x != y, 5", 0x00a5),
-        ("wait gpio 31", 0x209f),
         ("wait 0 pin, 3", 0x2023),
         ("wait (1) irq, 5 rel", 0x20d5),
-        ("in x 1", 0x4021),
-        ("out pindirs 1", 0x6081),
         ("push", 0x8020),
-        ("push iffull", 0x8060),
         ("pull", 0x80a0),
-        ("pull ifempty", 0x80e0),
-        ("mov x ~y", 0xa02a),
         ("mov x, ! y", 0xa02a),
-        ("mov y, y", 0xa042),
         ("irq 3", 0xc003),
         ("irq set 3 rel", 0xc013),
-        ("set pins 31", 0xe01f),
-        ("l: jmp l", 0x0000),
         ("public l: jmp l // again", 0x0000),
         ("nop [7 * (3 + 1) + 3] /* all */ ; of it", 0xbf42),
     ];
@@ -162,14 +152,6 @@ fn each_side_both_ways(rt: HostRuntime) -> Result<(), AllocError> {
             0xbf42,
         ),
         (
-            ".program code\n.side_set 1\n",
-            1,
-            false,
-            false,
-            "nop side 0 [3]",
-            0xa342,
-        ),
-        (
             ".program code\n.side_set 5\n",
             5,
             false,
@@ -186,14 +168,6 @@ fn each_side_both_ways(rt: HostRuntime) -> Result<(), AllocError> {
             0xbf42,
         ),
         (
-            ".program code\n.side_set 0 opt\n",
-            0,
-            true,
-            false,
-            "nop [15]",
-            0xaf42,
-        ),
-        (
             ".program code\n.side_set 2 opt\n",
             2,
             true,
@@ -208,14 +182,6 @@ fn each_side_both_ways(rt: HostRuntime) -> Result<(), AllocError> {
             true,
             "nop [2]",
             0xa242,
-        ),
-        (
-            ".program code\n.side_set 4 opt\n",
-            4,
-            true,
-            false,
-            "nop side 9",
-            0xb942,
         ),
         (
             ".program code\n.side_set 3 pindirs\n",
@@ -250,35 +216,5 @@ fn each_side_both_ways(rt: HostRuntime) -> Result<(), AllocError> {
             "{line}"
         );
     }
-    Ok(())
-}
-
-// What `pioasm` would be given for the words of a WS2812 transmitter, and words that no
-// instruction stands with.
-#[test]
-fn sources_of_words(rt: HostRuntime) -> Result<(), AllocError> {
-    let one = SideConfig {
-        count: 1,
-        opt: false,
-        pindirs: false,
-    };
-    let optional = SideConfig {
-        count: 2,
-        opt: true,
-        pindirs: false,
-    };
-    let ws2812 = [0x6221, 0x1123, 0x1400, 0xa442];
-    let text =
-        ".program code\n.side_set 1\nout x, 1 side 0 [2]\njmp !x 3 side 1 [1]\njmp 0 side 1 [4]\nnop side 0 [4]\n";
-    assert!(rt; is_source(rt.alloc(), &ws2812, &one, text.as_bytes()));
-    let others = [
-        0x8001, 0xc060, 0xc034, 0x20d5, 0x00c7, 0xa0d7, 0xe081, 0x8000, 0x40e0,
-    ];
-    let text =
-        ".program code\n.word 0x8001\n.word 0xc060\nirq wait 4 rel\nwait 1 irq 5 rel\njmp pin 7\nmov isr, ::osr\nset pindirs, 1\npush noblock\nin osr, 32\n";
-    assert!(rt; is_source(rt.alloc(), &others, &NO_SIDE, text.as_bytes()));
-    let sides = [0xe801, 0xf73f, 0xe000];
-    let text = ".program code\n.side_set 2 opt\n.word 0xe801\nset x, 31 side 1 [3]\nset pins, 0\n";
-    assert!(rt; is_source(rt.alloc(), &sides, &optional, text.as_bytes()));
     Ok(())
 }

@@ -1,10 +1,7 @@
 //! Whole sources: the words that each gives, and the first fault of those that have one.
 
-use crate::place::place_program;
-use crate::program::assemble;
-use pio_disasm::write_source;
+use pio_asm::{assemble, place_program};
 use pio_parse::{PioFault, parse};
-use pio_words::SideConfig;
 use std::alloc::Global;
 
 pub(crate) fn fault_in(alloc: Global, text: &[u8]) -> Option<PioFault> {
@@ -42,16 +39,10 @@ pub(crate) fn has_words(alloc: Global, text: &[u8], words: &[u16], target: u8, w
 // Programs with the words that the table of instructions gives, and the places of their wrap.
 #[test]
 fn words_of_programs(rt: HostRuntime) {
-    let table: [(&str, &[u16], u8, u8); 11] = [
+    let table: [(&str, &[u16], u8, u8); 6] = [
         (
             ".program ws2812\n.side_set 1\n.define public T1 2\n.define public T2 5\n.define public T3 3\n.wrap_target\nbitloop:\nout x, 1 side 0 [T3 - 1]\njmp !x do_zero side 1 [T1 - 1]\njmp bitloop side 1 [T2 - 1]\ndo_zero:\nnop side 0 [T2 - 1]\n.wrap\n",
             &[0x6221, 0x1123, 0x1400, 0xa442],
-            0,
-            3,
-        ),
-        (
-            ".program uart_tx\n.side_set 1 opt\npull side 1 [7]\nset x, 7 side 0 [7]\nbitloop:\nout pins, 1\njmp x-- bitloop [6]\n",
-            &[0x9fa0, 0xf727, 0x6001, 0x0642],
             0,
             3,
         ),
@@ -64,18 +55,6 @@ fn words_of_programs(rt: HostRuntime) {
             8,
         ),
         (
-            ".program squarewave\nset pindirs, 1\nagain:\nset pins, 1 [1]\nset pins, 0\njmp again\n",
-            &[0xe081, 0xe101, 0xe000, 0x0001],
-            0,
-            3,
-        ),
-        (
-            ".program spi\n.side_set 1\nout pins, 1 side 0 [1]\nin pins, 1 side 1 [1]\n",
-            &[0x6101, 0x5101],
-            0,
-            1,
-        ),
-        (
             ".program i2c\n.side_set 1 opt pindirs\nno_ack:\njmp y-- entry\nirq wait 0 rel\nbyte:\nset x, 7\nbit:\nout pindirs, 1 [7]\nnop side 1 [2]\nwait 1 pin, 1 [4]\nin pins, 1 [7]\njmp x-- bit side 0 [7]\nout pindirs, 1 [7]\nnop side 1 [7]\nwait 1 pin, 1 [7]\njmp pin no_ack side 0 [2]\npublic entry:\n.wrap_target\nout x, 6\nout y, 1\njmp !x byte\nout null, 32\nrun:\nout exec, 16\njmp x-- run\n.wrap\n",
             &[
                 0x008c, 0xc030, 0xe027, 0x6781, 0xba42, 0x24a1, 0x4701, 0x1743, 0x6781, 0xbf42,
@@ -83,22 +62,6 @@ fn words_of_programs(rt: HostRuntime) {
             ],
             12,
             17,
-        ),
-        (
-            ".program quadrature\n.origin 0\njmp update\njmp down\njmp up\njmp update\njmp up\njmp update\njmp update\njmp down\njmp down\njmp update\njmp update\njmp up\njmp update\njmp up\ndown:\njmp y--, update\n.wrap_target\nupdate:\nmov isr, y\npush noblock\nout isr, 2\nin pins, 2\nmov osr, isr\nmov pc, isr\nup:\nmov y, ~y\njmp y--, up_end\nup_end:\nmov y, ~y\n.wrap\n",
-            &[
-                0x000f, 0x000e, 0x0015, 0x000f, 0x0015, 0x000f, 0x000f, 0x000e, 0x000e, 0x000f,
-                0x000f, 0x0015, 0x000f, 0x0015, 0x008f, 0xa0c2, 0x8000, 0x60c2, 0x4002, 0xa0e6,
-                0xa0a6, 0xa04a, 0x0097, 0xa04a,
-            ],
-            15,
-            23,
-        ),
-        (
-            ".program manchester_tx\n.side_set 1 opt\n.wrap_target\none:\nnop side 0 [5]\njmp next side 1 [3]\nzero:\nnop side 1 [5]\nnop side 0 [3]\npublic start:\nnext:\nout x, 1\njmp !x zero\n.wrap\n",
-            &[0xb542, 0x1b04, 0xbd42, 0xb342, 0x6021, 0x0022],
-            0,
-            5,
         ),
         (
             ".program manchester_rx\nzero:\nwait 0 pin 0\nin y, 1 [8]\njmp pin zero\n.wrap_target\none:\nwait 1 pin 0\nin x, 1 [8]\njmp pin zero\n.wrap\n",
@@ -162,40 +125,11 @@ fn faults_of_programs(rt: HostRuntime) {
         (".program p\n.wrap\nnop\n", PioFault::Wrap(2)),
         (".program p\nin x, 0\n", PioFault::Range(2)),
         (".program p\n.word -1\n", PioFault::Range(2)),
-        (
-            ".program p\n.word late\n.define late 1\n",
-            PioFault::Unknown(2),
-        ),
-        (".program p\n.define a a\nnop\n", PioFault::Unknown(2)),
-        (".program p\nwait 2 pin 0\n", PioFault::Range(2)),
-        (".program p\nirq 8\n", PioFault::Range(2)),
         (".program p\nnop [0 - 1]\n", PioFault::Delay(2)),
-        (".program p\nnop [4294967295 + 1]\n", PioFault::Range(2)),
-        (".program p\n.side_set 0 - 1\nnop\n", PioFault::Side(2)),
-        (
-            ".program p\n.side_set 1\n.side_set 1\nnop side 0\n",
-            PioFault::Side(3),
-        ),
-        (".program p\n.side_set 2\nnop side 4\n", PioFault::Side(3)),
-        (".program p\n.word 0\n.origin 1\n", PioFault::Origin(3)),
-        (
-            ".program p\n.origin 1\n.origin 1\nnop\n",
-            PioFault::Origin(3),
-        ),
-        (".program p\nnop\n.wrap\n.wrap\n", PioFault::Wrap(4)),
-        (
-            ".program p\n.wrap_target\n.wrap_target\nnop\n",
-            PioFault::Wrap(3),
-        ),
-        (
-            ".program p\n.side_set 1\nj: jmp k side 0\nk: nop side 2\n",
-            PioFault::Side(4),
-        ),
         (
             ".define a 1\n.define a b\n.program p\n",
             PioFault::Unknown(2),
         ),
-        (".program p\nnop\n.program q\n", PioFault::Wrap(3)),
     ];
     for (text, fault) in table {
         assert!(rt; fault_of(rt.alloc(), text) == Some(fault), "{text}");
@@ -229,57 +163,5 @@ fn places_of_programs(rt: HostRuntime) {
     ];
     for (text, used, want) in table {
         assert!(rt; place_of(rt.alloc(), text, used) == Some(want), "{text}");
-    }
-}
-
-// Whether the source of these words assembles to one program with the same words and side-set.
-fn returns_to(alloc: Global, words: &[u16], side: &SideConfig) -> bool {
-    match write_source(alloc, words, side) {
-        Ok(text) => match parse(alloc, text.as_slice()) {
-            Ok(source) => match assemble(alloc, &source) {
-                Ok(programs) => match programs.as_slice() {
-                    [program] => program.words.as_slice() == words && program.side == *side,
-                    _ => false,
-                },
-                Err(_) => false,
-            },
-            Err(_) => false,
-        },
-        Err(_) => false,
-    }
-}
-
-// Every word under this configuration, in programs of 32.
-fn all_return(alloc: Global, side: &SideConfig) -> bool {
-    for start in 0..2048u16 {
-        let mut words = [0u16; 32];
-        for index in 0..32usize {
-            words[index] = start * 32 + index as u16;
-        }
-        if !returns_to(alloc, &words, side) {
-            return false;
-        }
-    }
-    true
-}
-
-// Every word under every side-set configuration of at most five bits goes through its source.
-#[test]
-fn every_word_returns(rt: HostRuntime) {
-    for count in 0..6u8 {
-        let side = SideConfig {
-            count,
-            opt: false,
-            pindirs: count == 3,
-        };
-        assert!(rt; all_return(rt.alloc(), &side), "{count}");
-    }
-    for count in 0..5u8 {
-        let side = SideConfig {
-            count,
-            opt: true,
-            pindirs: count == 2,
-        };
-        assert!(rt; all_return(rt.alloc(), &side), "{count} opt");
     }
 }

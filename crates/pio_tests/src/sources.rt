@@ -1,6 +1,6 @@
 //! Sources of every kind, large ones too, with the first fault of each.
 
-use crate::tests::{fault_in, has_words};
+use crate::programs::{fault_in, has_words};
 use pio_parse::{PioFault, parse};
 use std::alloc::{AllocError, Global};
 
@@ -96,24 +96,11 @@ fn large_sources(rt: HostRuntime) -> Result<(), AllocError> {
     let close = with_run(alloc, "1", b')', 500000, b"\n")?;
     let nested = with_run(alloc, ".program p\n.word ", b'(', 500000, close.as_slice())?;
     assert!(rt; has_words(alloc, nested.as_slice(), &[1], 0, 0));
-    let comment = with_run(alloc, ".program p\n /*", b'*', 1000000, b"\n")?;
-    assert!(rt; fault_in(alloc, comment.as_slice()) == Some(PioFault::Char(2, 2)));
-    let block = with_run(alloc, ".program p\nnop\n% c {", b'%', 1000000, b"")?;
-    assert!(rt; fault_in(alloc, block.as_slice()) == Some(PioFault::Char(3, 1)));
     let signs = with_run(alloc, ".program p\n.word 7 ", b'-', 1000000, b"1\n")?;
     assert!(rt; has_words(alloc, signs.as_slice(), &[8], 0, 0));
-    let name = with_run(alloc, "", b'a', 1000000, b"\n")?;
     let jump = with_run(alloc, ": jmp ", b'a', 1000000, b"\n")?;
     let label = with_run(alloc, ".program p\nnop\n", b'a', 1000000, jump.as_slice())?;
     assert!(rt; has_words(alloc, label.as_slice(), &[0xa042, 1], 0, 1));
-    let program = with_run(
-        alloc,
-        ".program p\nnop\n.word ",
-        b'a',
-        999999,
-        name.as_slice(),
-    )?;
-    assert!(rt; fault_in(alloc, program.as_slice()) == Some(PioFault::Unknown(3)));
     Ok(())
 }
 

@@ -1,0 +1,13 @@
+-- The bytes of a name as it is kept: the first of a few cells, or a block of memory. The project's own.
+use Rattle.std.specs.Prelude.{ℕ, List, take, ◌≤◌, ⊤}
+use Rattle.pio_parse.specs.declared.name.Bytes.{Bytes}
+use Rattle.pio_parse.specs.declared.name.Bytes.TheVariants.{Short, Long}
+
+abbrev pub bytes_of : Bytes → List ℕ
+bytes_of (Short count cells) = take count cells
+bytes_of (Long bytes) = bytes.value.items
+
+-- a short name has no more bytes than cells
+abbrev pub IsWithin : Bytes → Type 0
+IsWithin (Short count cells) = count ≤ 15
+IsWithin (Long bytes) = ⊤
