@@ -24,18 +24,19 @@ abbrev joined : Groups → Source → Source
 joined groups source = joined_to groups.globals groups.programs groups.current source
 
 -- a line that is gathered, before the others
-grows : (number : ℕ) (label : Option (List ℕ)) (statement : Option Statement) (groups : Groups) (source : Source) → joined (grouped_by number label statement groups) source ≡ joined groups (before_by number label statement source)
-grows number None None record { globals = g; programs = ps; current = None } source = refl
-grows number None None record { globals = g; programs = ps; current = Some p } source = refl
-grows number (Some label) None record { globals = g; programs = ps; current = None } source = rw (append_assoc g (record { number = number; label = Some label; statement = None } ∷ []) source.globals) refl
-grows number (Some label) None record { globals = g; programs = ps; current = Some p } source = rw (append_assoc p.lines (record { number = number; label = Some label; statement = None } ∷ []) source.globals) refl
-grows number None (Some (Program name)) record { globals = g; programs = ps; current = None } source = rw (append-nil ps, append-nil g) refl
-grows number None (Some (Program name)) record { globals = g; programs = ps; current = Some p } source = rw (append_assoc ps (p ∷ []) (record { name = name; number = number; lines = source.globals } ∷ source.programs), append-nil p.lines) refl
-grows number (Some label) (Some (Program name)) record { globals = g; programs = ps; current = None } source = rw (append-nil ps) refl
-grows number (Some label) (Some (Program name)) record { globals = g; programs = ps; current = Some p } source =
+grows : (number : ℕ) (label : Option (List ℕ)) (statement : Option Statement) (g : List Line) (ps : List SourceProgram) (current : Option SourceProgram) (source : Source)
+    → joined (grouped_by number label statement (record { globals = g; programs = ps; current = current })) source ≡ joined_to g ps current (before_by number label statement source)
+grows number None None g ps None source = refl
+grows number None None g ps (Some p) source = refl
+grows number (Some label) None g ps None source = rw (append_assoc g (record { number = number; label = Some label; statement = None } ∷ []) source.globals) refl
+grows number (Some label) None g ps (Some p) source = rw (append_assoc p.lines (record { number = number; label = Some label; statement = None } ∷ []) source.globals) refl
+grows number None (Some (Program name)) g ps None source = rw (append-nil ps, append-nil g) refl
+grows number None (Some (Program name)) g ps (Some p) source = rw (append_assoc ps (p ∷ []) (record { name = name; number = number; lines = source.globals } ∷ source.programs), append-nil p.lines) refl
+grows number (Some label) (Some (Program name)) g ps None source = rw (append-nil ps) refl
+grows number (Some label) (Some (Program name)) g ps (Some p) source =
     rw (append_assoc ps (record p { lines = p.lines ++ record { number = number; label = Some label; statement = None } ∷ [] } ∷ []) (record { name = name; number = number; lines = source.globals } ∷ source.programs)) refl
-grows number label (Some statement) record { globals = g; programs = ps; current = None } source = rw (append_assoc g (record { number = number; label = label; statement = Some statement } ∷ []) source.globals) refl
-grows number label (Some statement) record { globals = g; programs = ps; current = Some p } source = rw (append_assoc p.lines (record { number = number; label = label; statement = Some statement } ∷ []) source.globals) refl
+grows number label (Some statement) g ps None source = rw (append_assoc g (record { number = number; label = label; statement = Some statement } ∷ []) source.globals) refl
+grows number label (Some statement) g ps (Some p) source = rw (append_assoc p.lines (record { number = number; label = label; statement = Some statement } ∷ []) source.globals) refl
 
 or-false : (b : Bool) → b ≡ b || false
 or-false true = refl
@@ -45,14 +46,15 @@ or-true : (b : Bool) → true ≡ b || true
 or-true true = refl
 or-true false = refl
 
-begins : (number : ℕ) (label : Option (List ℕ)) (statement : Option Statement) (groups : Groups) → is_some (grouped_by number label statement groups).current ≡ is_some groups.current || is_program statement
-begins number None None groups = or-false (is_some groups.current)
-begins number (Some label) None record { globals = g; programs = ps; current = None } = refl
-begins number (Some label) None record { globals = g; programs = ps; current = Some p } = refl
-begins number None (Some (Program name)) groups = or-true (is_some groups.current)
-begins number (Some label) (Some (Program name)) groups = or-true (is_some groups.current)
-begins number label (Some statement) record { globals = g; programs = ps; current = None } = refl
-begins number label (Some statement) record { globals = g; programs = ps; current = Some p } = refl
+begins : (number : ℕ) (label : Option (List ℕ)) (statement : Option Statement) (g : List Line) (ps : List SourceProgram) (current : Option SourceProgram)
+    → is_some (grouped_by number label statement (record { globals = g; programs = ps; current = current })).current ≡ is_some current || is_program statement
+begins number None None g ps current = or-false (is_some current)
+begins number (Some label) None g ps None = refl
+begins number (Some label) None g ps (Some p) = refl
+begins number None (Some (Program name)) g ps current = or-true (is_some current)
+begins number (Some label) (Some (Program name)) g ps current = or-true (is_some current)
+begins number label (Some statement) g ps None = refl
+begins number label (Some statement) g ps (Some p) = refl
 
 -- the tokens of the line so far stand before the other lines
 abbrev prefixed : List Token → List (List Token) → List (List Token)
@@ -70,13 +72,13 @@ prefixed-first current token (line ∷ lines) = rw (append_assoc current (token 
 abbrev whole : List ℕ → Groups → List (List Token) → Result Source Place
 whole text groups lines = map_ok (λ (ls : List Line). joined groups (gathered ls)) (lines_at text (is_some groups.current) lines)
 
-none_left : (groups : Groups) → joined groups (record { globals = []; programs = [] }) ≡ record { globals = groups.globals; programs = groups.programs ++ option_to_list groups.current }
-none_left record { globals = g; programs = ps; current = None } = rw (append-nil g) refl
-none_left record { globals = g; programs = ps; current = Some p } = rw (append-nil p.lines) refl
+none_left : (g : List Line) (ps : List SourceProgram) (current : Option SourceProgram) → joined_to g ps current (record { globals = []; programs = [] }) ≡ record { globals = g; programs = ps ++ option_to_list current }
+none_left g ps None = rw (append-nil g) refl
+none_left g ps (Some p) = rw (append-nil p.lines) refl
 
 -- one more line before those that are read
 one_more : (groups : Groups) (line : Line) (lines : Result (List Line) Place) → map_ok (λ (ls : List Line). joined (grouped groups line) (gathered ls)) lines ≡ map_ok (λ (ls : List Line). joined groups (gathered ls)) (map_ok (λ ls. line ∷ ls) lines)
-one_more groups line (Ok ls) = ap (λ (s : Source). Ok s) (grows line.number line.label line.statement groups (gathered ls))
+one_more groups line (Ok ls) = ap (λ (s : Source). Ok s) (grows line.number line.label line.statement groups.globals groups.programs groups.current (gathered ls))
 one_more groups line (Err place) = refl
 
 -- what is read after the tokens of the line so far
@@ -90,7 +92,7 @@ line_read text groups tokens (Err place) ih = refl
 line_read text groups tokens (Ok line) ih =
     ih (grouped groups line.0) []
     ∙ ap (λ lines. whole text (grouped groups line.0) lines) (prefixed-nil (token_lines tokens))
-    ∙ ap (λ b. map_ok (λ (ls : List Line). joined (grouped groups line.0) (gathered ls)) (lines_at text b (token_lines tokens))) (begins line.0.number line.0.label line.0.statement groups)
+    ∙ ap (λ b. map_ok (λ (ls : List Line). joined (grouped groups line.0) (gathered ls)) (lines_at text b (token_lines tokens))) (begins line.0.number line.0.label line.0.statement groups.globals groups.programs groups.current)
     ∙ one_more groups line.0 (lines_at text (is_some groups.current || is_program line.0.statement) (token_lines tokens))
 
 step : (b : Bool) (text : List ℕ) (groups : Groups) (current : List Token) (token : Token) (tokens : List Token) → Gathers text tokens
@@ -100,7 +102,7 @@ step true text groups current token tokens ih = line_read text groups tokens (li
 step false text groups current token tokens ih = ih groups (current ++ token ∷ []) ∙ ap (λ lines. whole text groups lines) (prefixed-first current token (token_lines tokens))
 
 gathers : (text : List ℕ) (tokens : List Token) → Gathers text tokens
-gathers text [] = λ groups current. ap (λ (s : Source). Ok s) (sym (none_left groups))
+gathers text [] = λ groups current. ap (λ (s : Source). Ok s) (sym (none_left groups.globals groups.programs groups.current))
 gathers text (token ∷ tokens) = λ groups current. step (is_end token.kind) text groups current token tokens (gathers text tokens)
 
 pub source_gathered : (text : List ℕ) (tokens : List Token) → source_of text tokens ≡ source_from text no_groups [] tokens
