@@ -87,12 +87,12 @@ fn has_origin_fault(total: usize, value: Value, building: &Building) -> bool
 }
 
 /// `.origin place`.
-pub(crate) fn take_origin(
-    context: &Context,
+pub(crate) fn take_origin<'a>(
+    context: &Context<'_, 'a>,
     number: u64,
     twice: bool,
     value: &Expression,
-    building: &mut Building,
+    building: &mut Building<'a>,
 ) -> Result<(), PioFault>
     ensures step { Makes result building.new (origin_step context.now.globals.now context.now.total number twice value.now building.old) }
     ensures side { building.new.side ≡ building.old.side }
@@ -120,14 +120,14 @@ fn greatest_count(opt: bool) -> u8
 }
 
 /// `.side_set count [opt] [pindirs]`.
-pub(crate) fn take_side_set(
-    context: &Context,
+pub(crate) fn take_side_set<'a>(
+    context: &Context<'_, 'a>,
     number: u64,
     twice: bool,
     count: &Expression,
     opt: bool,
     pindirs: bool,
-    building: &mut Building,
+    building: &mut Building<'a>,
 ) -> Result<(), PioFault>
     ensures step { Makes result building.new (side_set_step context.now.globals.now number twice count.now opt pindirs building.old) }
     ensures side { OnOk result (IsOptionalConfig building.new.side) }
@@ -222,12 +222,12 @@ fn is_no_half(value: Value) -> bool
 }
 
 /// `.word value`.
-pub(crate) fn take_word(
-    context: &Context,
+pub(crate) fn take_word<'a>(
+    context: &Context<'_, 'a>,
     number: u64,
     twice: bool,
     value: &Expression,
-    building: &mut Building,
+    building: &mut Building<'a>,
 ) -> Result<(), PioFault>
     ensures step { Makes result building.new (word_step context.now.globals.now number twice value.now building.old) }
     ensures side { building.new.side ≡ building.old.side }

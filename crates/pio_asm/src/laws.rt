@@ -3,7 +3,8 @@ ghost use Rattle.pio_asm.specs.Returns.{SourcesReturn};
 ghost use Rattle.pio_asm.specs.Tree.{ValuesOfTrees};
 
 /// The source that the disassembler writes for 1 to 32 words under a side-set configuration is parsed
-/// and assembled to one program of these words under this configuration.
+/// and assembled to one program of these words under this configuration, without its `pindirs` where it
+/// has no bit.
 pub fn sources_return()
     ensures { SourcesReturn }
 {}

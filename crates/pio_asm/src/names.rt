@@ -75,10 +75,10 @@ pub(crate) fn value_of_definition(evaluated: Evaluated) -> Value
     }
 }
 
-pub(crate) fn evaluate_in(
+pub(crate) fn evaluate_in<'s, 'a>(
     alloc: Global,
-    seen: &Symbols,
-    globals: &Symbols,
+    seen: &'s Symbols<'a>,
+    globals: &'s Symbols<'a>,
     expression: &Expression,
 ) -> Result<Evaluated, AllocError>
     ensures { IfOk result (λ e. e ≡ evaluated seen.now globals.now expression.now) }

@@ -3,6 +3,7 @@ pub mod SourceLines
 pub mod Pieces
 pub mod Runs
 pub mod PieceScan
+pub mod Lexemes
 pub mod PieceLines
 pub mod Follows
 pub mod Finds

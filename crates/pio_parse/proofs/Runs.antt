@@ -37,12 +37,12 @@ word_begins : (c index : ℕ) (place : Place) → is_word_char c ≡ true → be
 word_begins c index place h = rw (other_char c 32 h refl, other_char c 9 h refl, other_char c 13 h refl, other_char c 10 h refl, other_char c 58 h refl, other_char c 33 h refl, other_char c 47 h refl, other_char c 59 h refl, other_char c 37 h refl, other_char c 46 h refl, other_char c 44 h refl, other_char c 91 h refl, other_char c 93 h refl, other_char c 40 h refl, other_char c 41 h refl, other_char c 43 h refl, other_char c 45 h refl, other_char c 42 h refl, other_char c 126 h refl, h) refl
 
 -- the first character of a run
-record BeginsRun (c : ℕ) : Type 0 where
-  starts : (index : ℕ) (place : Place) → begins index c place ≡ Ok (quietly (Word index place))
+pub record BeginsRun (c : ℕ) : Type 0 where
+  pub starts : (index : ℕ) (place : Place) → begins index c place ≡ Ok (quietly (Word index place))
   inside : (c == 10) ≡ false
   no_equals : (c == 61) ≡ false
 
-run_begins : (c : ℕ) → (is_word_char c || c == 46) ≡ true → BeginsRun c
+pub run_begins : (c : ℕ) → (is_word_char c || c == 46) ≡ true → BeginsRun c
 run_begins c h = elim (either (is_word_char c) (c == 46) h) [
   | inl w ↦ record { starts = λ index place. word_begins c index place w; inside = other_char c 10 w refl; no_equals = other_char c 61 w refl }
   | inr p ↦ elim (eqb_tells c 46) [
@@ -106,7 +106,7 @@ word_over w rest text kind start index begun here toks e n s =
     rw same (ap (λ (r : Result Step Place). and_then (λ step. scanned_from text e.rest (index + 1) step.mode (next_place c here) (record { line = here.line; column = here.column + 1 }) (toks ++ option_to_list step.first ++ option_to_list step.second)) r) over
     ∙ token_ends text e.rest index c here (record { kind = kind; place = begun }) toks e.quiet)
 
-slice_middle : (pre w rest : List ℕ) (n : ℕ) → n ≡ length pre + length w → slice_range (pre ++ (w ++ rest)) (length pre) n ≡ w
+pub slice_middle : (pre w rest : List ℕ) (n : ℕ) → n ≡ length pre + length w → slice_range (pre ++ (w ++ rest)) (length pre) n ≡ w
 slice_middle pre w rest n e =
     let d = drop_at pre (w ++ rest) (length pre) refl in
     let f : n - length pre ≡ length w = omega arith in

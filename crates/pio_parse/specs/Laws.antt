@@ -8,8 +8,14 @@ use Rattle.pio_parse.specs.declared.expression.Term.{Term}
 use Rattle.pio_parse.specs.Cursor.{head_kind}
 use Rattle.pio_parse.specs.Expression.{expression_at, operand_at}
 use Rattle.pio_parse.specs.Statement.{is_end}
+use Rattle.pio_parse.specs.Scan.{scanned}
+use Rattle.pio_parse.specs.Lexical.{IsLexed}
 use Rattle.pio_parse.specs.Grammar.{BeginsExpression, Expr, IsExpression, IsOperand, IsSum, postfix}
 use Rattle.pio_parse.specs.Grammar.Expr.{Number, Negate, Reverse, Sum, Difference, Product}
+
+-- where a file's characters are lexemes one after the other, their tokens are those that are read
+abbrev pub ReadsLexemes : Type 0
+ReadsLexemes = (text : List ℕ) (tokens : List Token) → IsLexed text tokens → scanned text ≡ Ok tokens
 
 -- what is read at the front of the tokens is an expression of the grammar in postfix order, and each expression of the grammar is read
 abbrev pub ReadsGrammar : Type 0

@@ -9,5 +9,6 @@ pub mod Instruction
 pub mod Statement
 pub mod Source
 pub mod Gathering
+pub mod Lexical
 pub mod Grammar
 pub mod Laws

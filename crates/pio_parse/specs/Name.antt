@@ -9,5 +9,5 @@ bytes_of (Long bytes) = bytes.value.items
 
 -- a short name has no more bytes than cells
 abbrev pub IsWithin : Bytes → Type 0
-IsWithin (Short count cells) = count ≤ 15
+IsWithin (Short count cells) = count ≤ 7
 IsWithin (Long bytes) = ⊤

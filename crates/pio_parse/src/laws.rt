@@ -1,5 +1,11 @@
 //! The laws of the expressions, each the contract of a function without arguments.
-ghost use Rattle.pio_parse.specs.Laws.{Examples, FaultsAtFirst, NoneLonger, OneExpression, ReadsGrammar, ReadsOperands};
+ghost use Rattle.pio_parse.specs.Laws.{Examples, FaultsAtFirst, NoneLonger, OneExpression, ReadsGrammar, ReadsLexemes, ReadsOperands};
+
+/// Where a file's characters are lexemes of the lexical grammar one after the other, their tokens are those that are
+/// read.
+pub fn reads_lexemes()
+    ensures { ReadsLexemes }
+{}
 
 /// What is read at the front of a line's tokens is the longest expression of the grammar there, in postfix order,
 /// and each expression of the grammar is read.
@@ -17,12 +23,14 @@ pub fn none_longer()
     ensures { NoneLonger }
 {}
 
-/// What is read outside brackets and directives is a number, a name or an expression in parentheses.
+/// What is read as an operand outside brackets and directives is a number, a name or an expression in parentheses, and
+/// each of these is read.
 pub fn reads_operands()
     ensures { ReadsOperands }
 {}
 
-/// A line is refused at the first token with which no expression begins as the tokens up to it do.
+/// Where an expression has to stand, tokens that end a line are refused at the first with which no expression begins as
+/// the tokens up to it do.
 pub fn faults_at_first()
     ensures { FaultsAtFirst }
 {}

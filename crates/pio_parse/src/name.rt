@@ -4,7 +4,7 @@ use std::alloc::{AllocError, Global};
 use std::marker::Model;
 
 /// How long a name is that stands in its place.
-const SHORT: usize = 15;
+const SHORT: usize = 7;
 
 /// The bytes of a name. A short one stands in its place, since a file may have hundreds of thousands; a
 /// longer one has a block of memory, which is in proportion to its text.

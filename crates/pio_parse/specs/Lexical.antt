@@ -1,0 +1,123 @@
+-- The lexical grammar of a source, which knows nothing of how a program reads it (RP2040 Datasheet, 3.3, Comments; code blocks: Raspberry Pi
+-- Pico C/C++ SDK, pioasm, Output pass through). A source is lexemes one after the other, each the longest: blanks, signs, words, comments,
+-- code blocks and ends of line. Signs, words and ends of line are tokens.
+use Rattle.std.specs.Prelude.{◌≡◌, ◌==◌, ◌&&◌, ◌||◌, not, ℕ, ◌+◌, Bool, true, false, if◌then◌else◌, List, [], ◌∷◌, ◌++◌, length, Option, None, Some}
+use Rattle.pio_parse.specs.declared.token.Place.{Place}
+use Rattle.pio_parse.specs.declared.token.Span.{Span}
+use Rattle.pio_parse.specs.declared.token.Token.{Token}
+use Rattle.pio_parse.specs.declared.token.Directive.TheVariants.{LangOpt}
+use Rattle.pio_parse.specs.declared.token.TokenKind.{TokenKind}
+use Rattle.pio_parse.specs.declared.token.TokenKind.TheVariants.{Directive as DirectiveToken, Comma, Colon, DoubleColon, OpenBracket, CloseBracket, OpenParenthesis, CloseParenthesis, Plus, Minus, Star, Bang, NotEqual, Tilde, LineEnd, FileEnd}
+use Rattle.pio_parse.specs.Words.{is_word_char, word_kind}
+
+-- this character stands nowhere in these
+abbrev pub lacks : ℕ → List ℕ → Bool
+lacks c [] = true
+lacks c (d ∷ ds) = not (d == c) && lacks c ds
+
+abbrev pub begins_by : ℕ → List ℕ → Bool
+begins_by c [] = false
+begins_by c (d ∷ ds) = d == c
+
+-- the first of these characters stands nowhere before the second
+abbrev pub lacks_pair : ℕ → ℕ → List ℕ → Bool
+lacks_pair a b [] = true
+lacks_pair a b (d ∷ ds) = not ((d == a) && begins_by b ds) && lacks_pair a b ds
+
+-- these are not only spaces
+abbrev pub has_name : List ℕ → Bool
+has_name [] = false
+has_name (d ∷ ds) = not (d == 32) || has_name ds
+
+abbrev pub are_word_chars : List ℕ → Bool
+are_word_chars [] = true
+are_word_chars (c ∷ cs) = is_word_char c && are_word_chars cs
+
+-- letters, digits and underscores, perhaps after a point
+abbrev pub is_word : List ℕ → Bool
+is_word [] = false
+is_word (c ∷ cs) = (is_word_char c || c == 46) && are_word_chars cs
+
+-- a word goes no further than here
+abbrev pub ends_word : List ℕ → Bool
+ends_word [] = true
+ends_word (c ∷ cs) = not (is_word_char c)
+
+-- a line goes no further than here
+abbrev pub ends_line : List ℕ → Bool
+ends_line [] = true
+ends_line (c ∷ cs) = c == 10
+
+abbrev pub is_option : TokenKind → Bool
+is_option (DirectiveToken LangOpt) = true
+is_option kind = false
+
+abbrev pub word_at : ℕ → List ℕ → TokenKind
+word_at index word = word_kind word (record { start = index; end = index + length word })
+
+-- `IsLexeme index chars rest token`: from `index` on a file has these characters as one lexeme and goes on with the rest, and the lexeme is
+-- this token or none. Each constructor is an alternative of the grammar
+pub data IsLexeme (index : ℕ) : List ℕ → List ℕ → Option TokenKind → Type 0 where
+  space : {rest : List ℕ} → IsLexeme index (32 ∷ []) rest None
+  tab : {rest : List ℕ} → IsLexeme index (9 ∷ []) rest None
+  carriage_return : {rest : List ℕ} → IsLexeme index (13 ∷ []) rest None
+  line_end : {rest : List ℕ} → IsLexeme index (10 ∷ []) rest (Some LineEnd)
+  -- , [ ] ( ) + - * ~
+  comma : {rest : List ℕ} → IsLexeme index (44 ∷ []) rest (Some Comma)
+  open_bracket : {rest : List ℕ} → IsLexeme index (91 ∷ []) rest (Some OpenBracket)
+  close_bracket : {rest : List ℕ} → IsLexeme index (93 ∷ []) rest (Some CloseBracket)
+  open_parenthesis : {rest : List ℕ} → IsLexeme index (40 ∷ []) rest (Some OpenParenthesis)
+  close_parenthesis : {rest : List ℕ} → IsLexeme index (41 ∷ []) rest (Some CloseParenthesis)
+  plus : {rest : List ℕ} → IsLexeme index (43 ∷ []) rest (Some Plus)
+  minus : {rest : List ℕ} → IsLexeme index (45 ∷ []) rest (Some Minus)
+  star : {rest : List ℕ} → IsLexeme index (42 ∷ []) rest (Some Star)
+  tilde : {rest : List ℕ} → IsLexeme index (126 ∷ []) rest (Some Tilde)
+  -- : and ::, ! and !=
+  colon : {rest : List ℕ} → begins_by 58 rest ≡ false → IsLexeme index (58 ∷ []) rest (Some Colon)
+  double_colon : {rest : List ℕ} → IsLexeme index (58 ∷ 58 ∷ []) rest (Some DoubleColon)
+  bang : {rest : List ℕ} → begins_by 61 rest ≡ false → IsLexeme index (33 ∷ []) rest (Some Bang)
+  not_equal : {rest : List ℕ} → IsLexeme index (33 ∷ 61 ∷ []) rest (Some NotEqual)
+  -- a word, the longest one
+  word : {chars rest : List ℕ} → is_word chars ≡ true → ends_word rest ≡ true → is_option (word_at index chars) ≡ false
+      → IsLexeme index chars rest (Some (word_at index chars))
+  -- .lang_opt with the rest of its line, which is not read
+  option : (chars line : List ℕ) {rest : List ℕ} → is_word chars ≡ true → ends_word (line ++ rest) ≡ true → is_option (word_at index chars) ≡ true
+      → lacks 10 line ≡ true → ends_line rest ≡ true → IsLexeme index (chars ++ line) rest (Some (word_at index chars))
+  -- ; and // with the rest of the line
+  semicolon : {line rest : List ℕ} → lacks 10 line ≡ true → ends_line rest ≡ true → IsLexeme index (59 ∷ line) rest None
+  slashes : {line rest : List ℕ} → lacks 10 line ≡ true → ends_line rest ≡ true → IsLexeme index (47 ∷ 47 ∷ line) rest None
+  -- /* up to the first */ after it
+  comment : (body : List ℕ) {rest : List ℕ} → lacks_pair 42 47 (body ++ 42 ∷ []) ≡ true → IsLexeme index (47 ∷ 42 ∷ (body ++ 42 ∷ 47 ∷ [])) rest None
+  -- % name { up to the first %} after it
+  code_block : (name body : List ℕ) {rest : List ℕ} → lacks 37 name ≡ true → lacks 10 name ≡ true → lacks 123 name ≡ true → has_name name ≡ true
+      → lacks_pair 37 125 (body ++ 37 ∷ []) ≡ true → IsLexeme index (37 ∷ (name ++ 123 ∷ (body ++ 37 ∷ 125 ∷ []))) rest None
+
+-- the place of the character after one at a place: lines and columns count from 1
+abbrev pub place_behind : ℕ → Place → Place
+place_behind c place = if c == 10 then record { line = place.line + 1; column = 1 } else record { line = place.line; column = place.column + 1 }
+
+-- the place behind these characters
+abbrev pub moved : List ℕ → Place → Place
+moved [] place = place
+moved (c ∷ cs) place = moved cs (place_behind c place)
+
+-- the place one column past the last of these characters, where one is there
+abbrev pub past : Place → Place → List ℕ → Place
+past before place [] = before
+past before place (c ∷ cs) = past (record { line = place.line; column = place.column + 1 }) (place_behind c place) cs
+
+abbrev pub tokens_at : Option TokenKind → Place → List Token
+tokens_at None place = []
+tokens_at (Some kind) place = record { kind = kind; place = place } ∷ []
+
+-- characters from a place on are lexemes with these tokens
+pub data AreLexemes : ℕ → Place → List ℕ → List Token → Type 0 where
+  nothing : {index : ℕ} {place : Place} → AreLexemes index place [] []
+  lexeme : {index : ℕ} {place : Place} {chars rest : List ℕ} {token : Option TokenKind} {tokens : List Token}
+      → IsLexeme index chars rest token → AreLexemes (index + length chars) (moved chars place) rest tokens
+      → AreLexemes index place (chars ++ rest) (tokens_at token place ++ tokens)
+
+-- a file with these tokens, the last of which is its end
+abbrev pub IsLexed : List ℕ → List Token → Type 0
+IsLexed text tokens = (all : List Token) × AreLexemes 0 (record { line = 1; column = 1 }) text all
+    × (tokens ≡ all ++ record { kind = FileEnd; place = past (record { line = 1; column = 1 }) (record { line = 1; column = 1 }) text } ∷ [])
