@@ -88,7 +88,13 @@ fn take_statement<'a>(
         Some(Statement::Wrap) => take_wrap(number, twice, building),
         Some(Statement::Word(value)) => take_word(context, number, twice, value, building),
         Some(Statement::Instruction(instruction)) => {
-            take_instruction(context, number, twice, instruction.as_instruction(), building)
+            take_instruction(
+                context,
+                number,
+                twice,
+                instruction.as_instruction(),
+                building,
+            )
         }
     }
 }

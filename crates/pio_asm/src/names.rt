@@ -101,7 +101,7 @@ fn add_definition<'a>(
 {
     match statement {
         Some(Statement::Define { name, value }) => {
-            let found = evaluate_in(alloc, seen, globals, value)?;
+            let found = evaluate_in(alloc, seen, &*globals, value)?;
             add_name(globals, seen, name.as_slice(), value_of_definition(found))
         }
         _ => Ok(()),

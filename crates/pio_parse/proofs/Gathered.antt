@@ -11,7 +11,7 @@ use Rattle.pio_parse.specs.declared.syntax.Source.{Source}
 use Rattle.pio_parse.specs.declared.parser.Groups.{Groups}
 use Rattle.pio_parse.specs.Outcome.{and_then, map_ok}
 use Rattle.pio_parse.specs.Statement.{is_end, is_program, line_at}
-use Rattle.pio_parse.specs.Source.{before_by, gathered, line_before, lines_at, source_of, token_lines, with_first}
+use Rattle.pio_parse.specs.Source.{before_by, gathered, lines_at, source_of, token_lines, with_first}
 use Rattle.pio_parse.specs.Gathering.{grouped, grouped_by, line_step, no_groups, source_from}
 
 -- what is gathered, with the source of the lines that come

@@ -24,4 +24,7 @@ pub use expression::{Expression, Operator, Term};
 pub use fault::PioFault;
 pub use name::Name;
 pub use parser::parse;
-pub use syntax::{BoxedInstruction, Instruction, Line, Lines, Operation, Programs, Source, SourceProgram, Statement};
+pub use syntax::{
+    BoxedInstruction, Instruction, Line, Lines, Operation, Programs, Source, SourceProgram,
+    Statement,
+};

@@ -88,7 +88,10 @@ impl Model for BoxedInstruction {
 }
 
 impl BoxedInstruction {
-    pub(crate) fn new(alloc: Global, instruction: Instruction) -> Result<BoxedInstruction, AllocError>
+    pub(crate) fn new(
+        alloc: Global,
+        instruction: Instruction,
+    ) -> Result<BoxedInstruction, AllocError>
         ensures { IfOk result (λ boxed. boxed ≡ instruction) }
     {
         let instruction = Box::new(alloc, instruction)?;
