@@ -1,7 +1,7 @@
 -- A cycle of the pads: the levels of the last three cycles move on, and edges are latched where the second level changes
 -- an input. A part of the chip sees a pad through two flip-flops (RP2040 Datasheet, 2.19, GPIO, and 3.5.6.3, Input
 -- Synchronisers), and an interrupt sees the second of them.
-use Rattle.std.specs.Prelude.{ℕ, Bool, Option}
+use Rattle.std.specs.Prelude.{ℕ, Bool, ◌&&◌, ◌==◌, Option}
 use Rattle.io_bank.specs.declared.outputs.Outs.{Outs}
 use Rattle.io_bank.specs.declared.events.Edges.{Edges}
 use Rattle.io_bank.specs.State.{Bank}
@@ -17,3 +17,7 @@ with_levels levels s = record s { current = levels; first = s.current; second = 
 -- the levels go on also while the registers are held
 abbrev pub after_step : Outs → (ℕ → Option Bool) → Bank → Bank
 after_step outs outside s = with_levels (levels_of outs outside s) (with_edges (edges_of s) s)
+
+-- the levels of the last three cycles are the same, and the last step latched no edge
+abbrev pub is_still : Bank → Bool
+is_still s = s.first == s.current && s.second == s.first && s.fresh.low == 0 && s.fresh.high == 0

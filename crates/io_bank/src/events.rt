@@ -5,7 +5,8 @@ ghost use Rattle.io_bank.specs.State.{no_edges, no_events, no_interrupts};
 ghost use Rattle.io_bank.specs.Edges.{joined};
 ghost use Rattle.io_bank.specs.Interrupts.{kind_of, event_word, with_eight, with_word, shown, is_any, left_of, cleared};
 
-use crate::sets::{has_bit, with_bit};
+use crate::sets::with_bit;
+use word_bits::has_bit;
 
 /// The pins with an edge to low and with an edge to high.
 #[derive(Clone, Copy)]
@@ -43,13 +44,13 @@ impl Edges {
         }
     }
 
-    /// What stays of the latched edges where this word is written to INTR number `place`.
-    pub(crate) fn cleared(self, place: u32, word: u32, fresh: Edges) -> Edges
-        ensures { result ≡ cleared place word self fresh }
+    /// What stays of the latched edges where this word is written to INTR of that number.
+    pub(crate) fn cleared(self, number: u32, word: u32, fresh: Edges) -> Edges
+        ensures { result ≡ cleared number word self fresh }
     {
         Edges {
-            low: left_of(place, word, 2, self.low, fresh.low),
-            high: left_of(place, word, 3, self.high, fresh.high),
+            low: left_of(number, word, 2, self.low, fresh.low),
+            high: left_of(number, word, 3, self.high, fresh.high),
         }
     }
 }
@@ -62,7 +63,7 @@ impl Events {
         edge_high: 0,
     };
 
-    /// The pins of a kind of event, by its place among the four bits.
+    /// The pins of a kind of event, by its number among the four bits.
     fn kind(&self, kind: u32) -> u32
         ensures { result ≡ kind_of self.now kind }
     {
@@ -74,29 +75,29 @@ impl Events {
         }
     }
 
-    /// The word of the eight pins from `8 * place` on.
+    /// The word of that number, of the eight pins from `8 * number` on.
     #[tactic(auto, using(crate::proofs::Bits::bits))]
-    pub(crate) fn word(&self, place: u32) -> u32
-        requires { place < 4 }
-        ensures { result ≡ event_word self.now place }
+    pub(crate) fn word(&self, number: u32) -> u32
+        requires { number < 4 }
+        ensures { result ≡ event_word self.now number }
     {
         let mut word = 0;
         for bit in 0..32 {
-            let on = has_bit(self.kind(bit % 4), 8 * place + bit / 4);
+            let on = has_bit(self.kind(bit % 4), 8 * number + bit / 4);
             word = with_bit(word, bit, on);
         }
         word
     }
 
     /// The events of eight pins are those of a word.
-    pub(crate) fn with_word(self, place: u32, word: u32) -> Events
-        ensures { result ≡ with_word place word self }
+    pub(crate) fn with_word(self, number: u32, word: u32) -> Events
+        ensures { result ≡ with_word number word self }
     {
         Events {
-            level_low: with_eight(place, word, 0, self.level_low),
-            level_high: with_eight(place, word, 1, self.level_high),
-            edge_low: with_eight(place, word, 2, self.edge_low),
-            edge_high: with_eight(place, word, 3, self.edge_high),
+            level_low: with_eight(number, word, 0, self.level_low),
+            level_high: with_eight(number, word, 1, self.level_high),
+            edge_low: with_eight(number, word, 2, self.edge_low),
+            edge_high: with_eight(number, word, 3, self.edge_high),
         }
     }
 
@@ -130,13 +131,13 @@ impl Interrupts {
 
 /// A set of pins, of which a word gives eight.
 #[tactic(auto, using(crate::proofs::Bits::bits))]
-fn with_eight(place: u32, word: u32, kind: u32, set: u32) -> u32
+fn with_eight(number: u32, word: u32, kind: u32, set: u32) -> u32
     requires { kind < 4 }
-    ensures { result ≡ with_eight place word kind set }
+    ensures { result ≡ with_eight number word kind set }
 {
     let mut pins = 0;
     for pin in 0..30 {
-        let on = if pin / 8 == place {
+        let on = if pin / 8 == number {
             has_bit(word, 4 * (pin % 8) + kind)
         } else {
             has_bit(set, pin)
@@ -148,13 +149,13 @@ fn with_eight(place: u32, word: u32, kind: u32, set: u32) -> u32
 
 /// The latched edges that a word leaves: those of the same cycle, and those that it does not name.
 #[tactic(auto, using(crate::proofs::Bits::bits))]
-fn left_of(place: u32, word: u32, kind: u32, latched: u32, fresh: u32) -> u32
+fn left_of(number: u32, word: u32, kind: u32, latched: u32, fresh: u32) -> u32
     requires { kind < 4 }
-    ensures { result ≡ left_of place word kind latched fresh }
+    ensures { result ≡ left_of number word kind latched fresh }
 {
     let mut pins = 0;
     for pin in 0..30 {
-        let named = pin / 8 == place && has_bit(word, 4 * (pin % 8) + kind);
+        let named = pin / 8 == number && has_bit(word, 4 * (pin % 8) + kind);
         let on = has_bit(latched, pin) && (has_bit(fresh, pin) || !named);
         pins = with_bit(pins, pin, on);
     }

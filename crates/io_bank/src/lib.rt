@@ -7,11 +7,12 @@ ghost use Rattle.std.specs.Prelude.{◌≡◌, ◌<◌, ◌∷◌, [], IfSome, s
 ghost use Rattle.io_bank.specs.State.{at_reset, after_held, with_bank_held, with_pads_held};
 ghost use Rattle.io_bank.specs.Levels.{levels_of, by_list, by_sets, inputs_of, pins_of, is_used, first_in, receive_pin, receive_level};
 ghost use Rattle.io_bank.specs.Edges.{edges_of};
-ghost use Rattle.io_bank.specs.Step.{after_step};
+ghost use Rattle.io_bank.specs.Step.{after_step, is_still};
 ghost use Rattle.io_bank.specs.Interrupts.{raw_of, line_of};
 
 pub mod events;
 pub mod outputs;
+pub mod registers;
 pub mod routes;
 mod sets;
 #[cfg(test)]
@@ -21,8 +22,9 @@ mod words;
 use events::{Edges, Events, Interrupts};
 pub use outputs::{Outs, uart_outputs};
 use routes::Routes;
-use sets::{PINS, driven_by, has_bit, high_by, pins_with};
+use sets::{PINS, driven_by, high_by, pins_with};
 use std::marker::Model;
+use word_bits::has_bit;
 
 /// The words of CTRL and of a pad at reset: no function; input enable, pull-down and Schmitt trigger.
 const CONTROLS: [u32; 30] = [0x1f; 30];
@@ -143,6 +145,18 @@ impl IoBank {
         self.first = self.current;
         self.current = levels;
         levels
+    }
+
+    /// The levels of the last three cycles are the same, and the last step latched no edge. A step that gives these levels
+    /// again then changes nothing.
+    #[inline]
+    pub fn is_still(&self) -> bool
+        ensures { result ≡ is_still self.now }
+    {
+        self.first == self.current
+            && self.second == self.first
+            && self.fresh.low == 0
+            && self.fresh.high == 0
     }
 
     /// The levels of the pads, where outside drives the pins of a set, and of these drives high those of another one.

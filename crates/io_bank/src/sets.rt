@@ -1,36 +1,21 @@
 //! Sets of pins, and words, bit by bit.
 
 ghost use Rattle.std.specs.Prelude.{◌≡◌, ◌==◌, ◌+◌, ◌*◌, ◌/◌, ◌%◌, ◌^◌, ◌<◌, false, slice_index, is_some, unwrap_or};
-ghost use Rattle.word_bits.specs.Word.{has_bit, bit_number};
+ghost use Rattle.word_bits.specs.Word.{bit_number};
 ghost use Rattle.io_bank.specs.Pins.{bits_below, pins_where, overridden};
 ghost use Rattle.io_bank.specs.Levels.{by_list};
 
 /// All pins.
 pub(crate) const PINS: u32 = 0x3fff_ffff;
 
-/// A bit of a word.
-pub(crate) fn has_bit(word: u32, place: u32) -> bool
-    requires { place < 32 }
-    ensures { result ≡ has_bit word place }
-{
-    (word >> place) & 1 == 1
-}
-
-/// A flag as a number.
-pub(crate) fn one(flag: bool) -> u32
-    ensures { result ≡ bit_number flag }
-{
-    if flag { 1 } else { 0 }
-}
-
 /// A number with one more bit at its top.
 #[tactic(auto, using(crate::proofs::Bits::with_top_bit))]
-pub(crate) fn with_bit(set: u32, place: u32, on: bool) -> u32
-    requires place_in { place < 32 }
-    requires room { set < 2 ^ place }
-    ensures { result ≡ set + bit_number on * 2 ^ place }
+pub(crate) fn with_bit(set: u32, bit: u32, on: bool) -> u32
+    requires bit { bit < 32 }
+    requires room { set < 2 ^ bit }
+    ensures { result ≡ set + bit_number on * 2 ^ bit }
 {
-    if on { set | (1 << place) } else { set }
+    if on { set | (1 << bit) } else { set }
 }
 
 /// A signal under an override.

@@ -7,8 +7,26 @@ ghost use Rattle.io_bank.specs.Words.{is_word, is_held, status_of, pin_word, eve
 use crate::IoBank;
 use crate::events::Events;
 use crate::outputs::Outs;
+use crate::registers::{
+    GPIO0_STATUS, INTR0, IO_BANK0_END, PAD_GPIO0, PAD_GPIO29, PADS_BANK0, PROC0_INTE0, PROC0_INTF0,
+    PROC0_INTS0, PROC1_INTE0, PROC1_INTF0, VOLTAGE_SELECT,
+};
 use crate::routes::Routes;
-use crate::sets::{has_bit, one, overridden};
+use crate::sets::overridden;
+use word_bits::{bit_number, has_bit};
+
+/// The rows of four interrupt words, by their offsets divided by 16.
+const INTR: u16 = INTR0 / 16;
+
+const PROC0_INTE: u16 = PROC0_INTE0 / 16;
+
+const PROC0_INTF: u16 = PROC0_INTF0 / 16;
+
+const PROC0_INTS: u16 = PROC0_INTS0 / 16;
+
+const PROC1_INTE: u16 = PROC1_INTE0 / 16;
+
+const PROC1_INTF: u16 = PROC1_INTF0 / 16;
 
 impl IoBank {
     /// The word at an offset, where the parts put out `outs` at the start of the cycle; a held block reads 0. None exactly
@@ -51,7 +69,7 @@ impl IoBank {
     fn is_held(&self, offset: u16) -> bool
         ensures { result ≡ is_held self.now offset }
     {
-        if offset < 0x1000 {
+        if offset < PADS_BANK0 {
             self.bank_held
         } else {
             self.pads_held
@@ -63,9 +81,9 @@ impl IoBank {
         requires { is_word offset ≡ true }
         ensures { result ≡ word_at self.now outs.now offset }
     {
-        if offset < 0xf0 {
+        if offset < INTR0 {
             self.pin_word(offset, outs)
-        } else if offset < 0x1000 {
+        } else if offset < PADS_BANK0 {
             self.events_at(offset / 16).word(u32::from(offset % 16 / 4))
         } else {
             self.pad_word(offset)
@@ -77,9 +95,9 @@ impl IoBank {
         requires { is_word offset ≡ true }
         ensures { self.new ≡ after_write offset word self.old }
     {
-        if offset < 0xf0 {
+        if offset < INTR0 {
             self.write_pin(offset, word);
-        } else if offset < 0x1000 {
+        } else if offset < PADS_BANK0 {
             self.write_events(offset / 16, u32::from(offset % 16 / 4), word);
         } else {
             self.write_pad(offset, word);
@@ -92,7 +110,7 @@ impl IoBank {
         ensures { result ≡ pin_word self.now outs.now offset }
     {
         let pin = offset / 8;
-        if offset % 8 == 0 {
+        if offset % 8 == GPIO0_STATUS {
             self.status(outs, pin)
         } else {
             self.controls[pin as usize]
@@ -105,16 +123,16 @@ impl IoBank {
         ensures { result ≡ status_of self.now outs.now pin }
     {
         let control = self.controls[pin as usize];
-        let place = u32::from(pin);
+        let bit = u32::from(pin);
         let outputs = outs.of_function(control % 32);
-        let (level, enable) = (has_bit(outputs[0], place), has_bit(outputs[1], place));
+        let (level, enable) = (has_bit(outputs[0], bit), has_bit(outputs[1], bit));
         let sensed = self.is_sensed(pin);
-        one(level) * 0x100
-            + one(overridden((control >> 8) % 4, level)) * 0x200
-            + one(enable) * 0x1000
-            + one(overridden((control >> 12) % 4, enable)) * 0x2000
-            + one(sensed) * 0x2_0000
-            + one(overridden((control >> 16) % 4, sensed)) * 0x8_0000
+        bit_number(level) * 0x100
+            + bit_number(overridden((control >> 8) % 4, level)) * 0x200
+            + bit_number(enable) * 0x1000
+            + bit_number(overridden((control >> 12) % 4, enable)) * 0x2000
+            + bit_number(sensed) * 0x2_0000
+            + bit_number(overridden((control >> 16) % 4, sensed)) * 0x8_0000
     }
 
     /// A pad is high now, and its input is enabled.
@@ -130,7 +148,7 @@ impl IoBank {
         requires { offset < 0xF0 }
         ensures { self.new ≡ pin_written offset word self.old }
     {
-        if offset % 8 != 0 {
+        if offset % 8 != GPIO0_STATUS {
             self.controls[(offset / 8) as usize] = word & 0x3_331f;
             self.routes = Routes::of(&self.controls, &self.pads);
         }
@@ -141,26 +159,26 @@ impl IoBank {
         ensures { result ≡ events_at self.now row }
     {
         match row {
-            0xf => self.raw(),
-            0x10 => self.core0.enable,
-            0x11 => self.core0.force,
-            0x12 => self.core0.shown(&self.raw()),
-            0x13 => self.core1.enable,
-            0x14 => self.core1.force,
+            INTR => self.raw(),
+            PROC0_INTE => self.core0.enable,
+            PROC0_INTF => self.core0.force,
+            PROC0_INTS => self.core0.shown(&self.raw()),
+            PROC1_INTE => self.core1.enable,
+            PROC1_INTF => self.core1.force,
             _ => self.core1.shown(&self.raw()),
         }
     }
 
-    /// A write of word `place` of INTR, INTE or INTF; INTS is read-only.
-    fn write_events(&mut self, row: u16, place: u32, word: u32)
-        ensures { self.new ≡ events_written row place word self.old }
+    /// A write of the word of that number of INTR, INTE or INTF; INTS is read-only.
+    fn write_events(&mut self, row: u16, number: u32, word: u32)
+        ensures { self.new ≡ events_written row number word self.old }
     {
         match row {
-            0xf => self.latched = self.latched.cleared(place, word, self.fresh),
-            0x10 => self.core0.enable = self.core0.enable.with_word(place, word),
-            0x11 => self.core0.force = self.core0.force.with_word(place, word),
-            0x13 => self.core1.enable = self.core1.enable.with_word(place, word),
-            0x14 => self.core1.force = self.core1.force.with_word(place, word),
+            INTR => self.latched = self.latched.cleared(number, word, self.fresh),
+            PROC0_INTE => self.core0.enable = self.core0.enable.with_word(number, word),
+            PROC0_INTF => self.core0.force = self.core0.force.with_word(number, word),
+            PROC1_INTE => self.core1.enable = self.core1.enable.with_word(number, word),
+            PROC1_INTF => self.core1.force = self.core1.force.with_word(number, word),
             _ => {}
         }
     }
@@ -172,10 +190,10 @@ impl IoBank {
         requires whole { offset % 4 ≡ 0 }
         ensures { result ≡ pad_word self.now offset }
     {
-        if offset == 0x1000 {
+        if offset == VOLTAGE_SELECT {
             self.voltage
         } else {
-            self.pads[((offset - 0x1004) / 4) as usize]
+            self.pads[((offset - PAD_GPIO0) / 4) as usize]
         }
     }
 
@@ -186,10 +204,10 @@ impl IoBank {
         requires whole { offset % 4 ≡ 0 }
         ensures { self.new ≡ pad_written offset word self.old }
     {
-        if offset == 0x1000 {
+        if offset == VOLTAGE_SELECT {
             self.voltage = word;
         } else {
-            self.pads[((offset - 0x1004) / 4) as usize] = word & 0xff;
+            self.pads[((offset - PAD_GPIO0) / 4) as usize] = word & 0xff;
             self.routes = Routes::of(&self.controls, &self.pads);
         }
     }
@@ -199,5 +217,5 @@ impl IoBank {
 fn is_word(offset: u16) -> bool
     ensures { result ≡ is_word offset }
 {
-    offset % 4 == 0 && (offset < 0x160 || (0x1000 <= offset && offset <= 0x1078))
+    offset % 4 == 0 && (offset < IO_BANK0_END || (PADS_BANK0 <= offset && offset <= PAD_GPIO29))
 }

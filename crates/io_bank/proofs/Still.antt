@@ -1,0 +1,37 @@
+-- A step of pads at rest changes nothing.
+use Rattle.std.proofs.Common.{◌≡◌, ℕ, ◌==◌, ◌&&◌, Bool, true, Option, refl, sym, ap, ◌∙◌, arith}
+use Rattle.std.specs.Prelude.{bit_or}
+use Rattle.std.proofs.lemmas.Bool.Decides.{nat_tests}
+use Rattle.std.proofs.lemmas.Nat.Bits.{bit_at-zero, bit_at_or, same_from_bits}
+use Rattle.io_bank.specs.declared.events.Edges.{Edges}
+use Rattle.io_bank.specs.declared.outputs.Outs.{Outs}
+use Rattle.io_bank.specs.State.{Bank, no_edges}
+use Rattle.io_bank.specs.Edges.{edges_of, joined}
+use Rattle.io_bank.specs.Levels.{levels_of}
+use Rattle.io_bank.specs.Step.{after_step, is_still}
+use Rattle.io_bank.proofs.Routed.{edges_of-still}
+
+or_none : (n : ℕ) → bit_or n 0 ≡ n
+or_none n = same_from_bits (bit_or n 0) n (λ i. rw (bit_at_or n 0 i, bit_at-zero i) (omega arith))
+
+no_more : (e : Edges) → joined e no_edges ≡ e
+no_more e = rw (or_none e.low, or_none e.high) refl
+
+none_by : (low high : ℕ) (e : Edges) → e.low ≡ 0 → e.high ≡ 0 → no_edges ≡ e
+none_by low high e l h = edges_go e.low e.high l h
+  where
+    edges_go : (a b : ℕ) → a ≡ 0 → b ≡ 0 → no_edges ≡ record { low = a; high = b }
+    edges_go a b l h = rw (l, h) refl
+
+same : (s : Bank) (edges : Edges) (levels : ℕ) → edges ≡ no_edges → no_edges ≡ s.fresh → levels ≡ s.current → s.first ≡ s.current → s.second ≡ s.first →
+    record s { latched = joined s.latched edges; fresh = edges; current = levels; first = s.current; second = s.first } ≡ s
+same s edges levels e fresh l first second =
+    rw (e, no_more s.latched, fresh, l) (ap (λ n. record s { first = n; second = s.first }) (sym first) ∙ ap (λ n. record s { second = n }) (sym second))
+
+pub still_step : (outs : Outs) (f : ℕ → Option Bool) (s : Bank) → is_still s ≡ true → levels_of outs f s ≡ s.current → after_step outs f s ≡ s
+still_step outs f s still levels =
+    let first : s.first ≡ s.current = grind (arith, nat_tests) in
+    let second : s.second ≡ s.first = grind (arith, nat_tests) in
+    let low : s.fresh.low ≡ 0 = grind (arith, nat_tests) in
+    let high : s.fresh.high ≡ 0 = grind (arith, nat_tests) in
+    same s (edges_of s) (levels_of outs f s) (edges_of-still s (sym second)) (none_by 0 0 s.fresh low high) levels first second
