@@ -1,6 +1,6 @@
 //! Worked values.
 
-use crate::{PAGES, Ram, WORDS};
+use crate::{Ram, WORDS};
 use std::alloc::AllocError;
 
 /// Lanes, value and word before, and the word after.
@@ -39,22 +39,5 @@ fn words(rt: HostRuntime) -> Result<(), AllocError> {
     ram.copy_from(&booted);
     assert_eq!(rt; ram.read(4), 0);
     assert_eq!(rt; ram.read(5), 0x0102_0304);
-    Ok(())
-}
-
-#[test]
-fn pages(rt: HostRuntime) -> Result<(), AllocError> {
-    let mut ram = Ram::new(rt.alloc())?;
-    ram.write(67583, 0xf, 9);
-    ram.write(67327, 0xf, 8);
-    let mut page = [0; 256];
-    assert!(rt; !ram.page_same(PAGES - 1, &page));
-    ram.page_into(PAGES - 1, &mut page);
-    assert_eq!(rt; page[255], 9);
-    assert!(rt; ram.page_same(PAGES - 1, &page));
-    ram.page_from(0, &page);
-    assert_eq!(rt; ram.read(255), 9);
-    assert_eq!(rt; ram.read(256), 0);
-    assert_eq!(rt; ram.read(67327), 8);
     Ok(())
 }
