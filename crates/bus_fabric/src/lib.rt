@@ -51,11 +51,11 @@ impl Model for Fabric {
 }
 
 impl Fabric {
-    ghost use Rattle.std.specs.Prelude.{◌≡◌, ◌<◌, ◌&&◌, map, length};
-    ghost use Rattle.bus_fabric.specs.Masters.{masters, asks_on, HavePorts};
-    ghost use Rattle.bus_fabric.specs.State.{at_reset, has_hold, holder_of, with_priority, last_on, served};
-    ghost use Rattle.bus_fabric.specs.Grant.{is_high, wins, winner_of, winner_on, is_free, is_served, is_done, done_of, hold_after, last_from, after_grant};
-    ghost use Rattle.bus_fabric.specs.Winners.{has_won};
+    ghost use Rattle.std.specs.Prelude.{◌≡◌, ◌<◌, map, length};
+    ghost use Rattle.bus_fabric.specs.Masters.{masters, HavePorts};
+    ghost use Rattle.bus_fabric.specs.State.{at_reset, has_hold, holder_of, with_priority, served};
+    ghost use Rattle.bus_fabric.specs.Grant.{is_free, is_served, is_done, done_of, hold_after, last_from, after_grant};
+    ghost use Rattle.bus_fabric.specs.Winners.{wins_free, winner_free, loses_to, has_won};
 
     /// No hold, all masters of low priority, and each port as if it had served the DMA engine's writes last.
     pub fn new() -> Fabric
@@ -180,7 +180,7 @@ impl Fabric {
     /// A master asks for a port, and no other request on it beats its own.
     fn wins(&self, asked: &[Option<(u8, bool)>; 4], port: u8, master: Master) -> bool
         requires { port < 8 }
-        ensures { result ≡ wins (is_high self.now.priority) (last_on port self.now) (asks_on asked.now port) master }
+        ensures { result ≡ wins_free asked.now self.now port master }
     {
         let last = self.last[port as usize];
         asks_on(asked, port, master)
@@ -200,7 +200,7 @@ impl Fabric {
         master: Master,
         other: Master,
     ) -> bool
-        ensures { result ≡ (asks_on asked.now port other && beats (is_high self.now.priority) last other master) }
+        ensures { result ≡ loses_to asked.now self.now.priority port last master other }
     {
         asks_on(asked, port, other) && beats(self.priority, last, other, master)
     }
@@ -208,7 +208,7 @@ impl Fabric {
     /// The winner of a port that has no hold.
     fn winner(&self, asked: &[Option<(u8, bool)>; 4], port: u8) -> Option<Master>
         requires { port < 8 }
-        ensures { result ≡ winner_of (is_high self.now.priority) (last_on port self.now) (asks_on asked.now port) }
+        ensures { result ≡ winner_free asked.now self.now port }
     {
         if self.wins(asked, port, Master::Core0) {
             Some(Master::Core0)
