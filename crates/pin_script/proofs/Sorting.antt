@@ -15,16 +15,16 @@ abbrev is_at : ℕ → LineEntry → Bool
 is_at cycle e = e.cycle == cycle
 
 -- the cycles do not fall from this one on
-abbrev UpFrom : ℕ → List LineEntry → Type 0
+abbrev pub UpFrom : ℕ → List LineEntry → Type 0
 UpFrom low [] = Unit {0}
 UpFrom low (e ∷ es) = (low ≤ e.cycle) × UpFrom e.cycle es
 
 -- ---- insertion
 
-is_le : (m n : ℕ) → nat_le m n ≡ true → m ≤ n
+pub is_le : (m n : ℕ) → nat_le m n ≡ true → m ≤ n
 is_le m n h = grind (arith, nat_tests)
 
-is_gt : (m n : ℕ) → nat_le m n ≡ false → n < m
+pub is_gt : (m n : ℕ) → nat_le m n ≡ false → n < m
 is_gt m n h = grind (arith, nat_tests)
 
 inserted-up : (low : ℕ) (e : LineEntry) (xs : List LineEntry) → low ≤ e.cycle → UpFrom low xs → UpFrom low (inserted e xs)
@@ -34,7 +34,7 @@ inserted-up low e (x ∷ xs) h u = elim (cases_Bool (nat_le e.cycle x.cycle)) [
   | inr later ↦ let after = is_gt e.cycle x.cycle later in rw later (u.0, inserted-up x.cycle e xs (omega arith) u.1)
 ]
 
-in_order-up : (xs : List LineEntry) → UpFrom 0 (in_order xs)
+pub in_order-up : (xs : List LineEntry) → UpFrom 0 (in_order xs)
 unfolding in_order
 in_order-up [] = tt
 in_order-up (x ∷ xs) = inserted-up 0 x (in_order xs) (omega arith) (in_order-up xs)

@@ -11,6 +11,7 @@ ghost use Rattle.pin_script.specs.Script.{script_of};
 pub mod cursor;
 pub mod entry;
 pub mod fault;
+pub mod laws;
 mod line;
 mod order;
 mod reading;

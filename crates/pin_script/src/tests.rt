@@ -1,5 +1,6 @@
 //! Worked values.
 
+use crate::laws::the_greatest_pair_acts;
 use crate::{Cursor, Drives, Entry, Level, Script, ScriptFault, read_script};
 use std::test::Fail;
 
@@ -142,6 +143,7 @@ fn levels(rt: HostRuntime) -> Result<(), Fail> {
     }
     let empty = Script::new(rt.alloc());
     assert_eq!(rt; cursor.drives(&empty, 7), Drives::NONE);
+    the_greatest_pair_acts();
     Ok(())
 }
 
