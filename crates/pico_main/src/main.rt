@@ -46,10 +46,15 @@ fn serve<L: Ledger, R: Files + Print>(blank: Blank, rt: &R, alloc: Global, words
     pico(alloc, words, &mut files, &mut out, &mut steps)
 }
 
-fn main(rt: HostRuntime) -> ExitCode {
+/// Does what the arguments say, and ends with the status of it; with 9 and no word where the arguments find no memory.
+fn program<R: Env + Files + Print + AllocGlobal>(rt: &R) -> ExitCode {
     let alloc = rt.alloc();
-    let Ok(words) = words(&rt) else {
+    let Ok(words) = words(rt) else {
         return ExitCode::from(9);
     };
-    ExitCode::from(serve::<Brand, HostRuntime>(Blank::new(1), &rt, alloc, &words))
+    ExitCode::from(serve::<Brand, R>(Blank::new(1), rt, alloc, &words))
+}
+
+fn main(rt: HostRuntime) -> ExitCode {
+    program(&rt)
 }

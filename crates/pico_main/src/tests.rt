@@ -1,7 +1,7 @@
 //! The real objects, once each, and the program's status.
 
 use crate::file_shelf::FileShelf;
-use crate::main;
+use crate::program;
 use crate::stdout_sink::StdoutSink;
 use rp_ports::shelf::{Loaded, Shelf};
 use rp_ports::sink::{Put, Sink};
@@ -48,7 +48,7 @@ fn a_long_file_is_loaded_whole(rt: HostRuntime) -> Result<(), Fail> {
 /// The words of a test are no command: the program ends with the status of refused words.
 #[test]
 fn the_program_ends_with_the_status_of_its_call(rt: HostRuntime) -> Result<(), Fail> {
-    if main(rt) == ExitCode::from(2) {
+    if program(&rt) == ExitCode::from(2) {
         Ok(())
     } else {
         Err("the program ends with another status than 2".into())
