@@ -1,5 +1,5 @@
 -- Lexemes are read one after the other: each gives its token, and the next begins where it ends.
-use Rattle.std.proofs.Common.{◌≡◌, ◌==◌, ◌&&◌, ◌||◌, not, ℕ, suc, ◌+◌, Bool, true, false, cond, List, [], ◌∷◌, ◌++◌, length, Option, None, Some, Result, Ok, Err, slice_range, drop, option_to_list, append-nil, append_assoc, length-append, drop_at, inl, inr, arith, refl, sym, ap, ◌∙◌}
+use Rattle.std.proofs.Common.{◌≡◌, ◌==◌, ◌&&◌, ◌||◌, not, ℕ, suc, ◌+◌, Bool, true, false, cond, List, [], ◌∷◌, ◌++◌, length, Option, None, Some, Result, Ok, Err, slice_range, drop, option_to_list, append-nil, append_assoc, length-append, take_at, drop_at, inl, inr, arith, refl, sym, ap, ◌∙◌}
 use Rattle.std.specs.Prelude.{⊤}
 use Rattle.std.specs.Option.{option_map_or}
 use Rattle.std.proofs.lemmas.Bool.Decides.{eqb_tells}
@@ -20,20 +20,20 @@ use Rattle.pio_parse.specs.Lexical.IsLexeme.{space, tab, carriage_return, line_e
 use Rattle.pio_parse.specs.Lexical.AreLexemes.{nothing, lexeme}
 use Rattle.pio_parse.proofs.Runs.{both, run_begins, slice_middle}
 
-not_true : (b : Bool) → not b ≡ true → b ≡ false
+pub not_true : (b : Bool) → not b ≡ true → b ≡ false
 not_true true h = cc
 not_true false h = refl
 
-abbrev behind : Place → Place
+abbrev pub behind : Place → Place
 behind here = record { line = here.line; column = here.column + 1 }
 
 -- what is read after a character, by what the character does
-abbrev after_step : List ℕ → List ℕ → ℕ → ℕ → Place → List Token → Result Step Place → Result (List Token) Place
+abbrev pub after_step : List ℕ → List ℕ → ℕ → ℕ → Place → List Token → Result Step Place → Result (List Token) Place
 after_step text rest index c here toks outcome =
     and_then (λ step. scanned_from text rest (index + 1) step.mode (next_place c here) (behind here) (toks ++ option_to_list step.first ++ option_to_list step.second)) outcome
 
 -- a character that ends no token
-quiet_step : (text rest : List ℕ) (index c : ℕ) (mode next : Mode) (here after : Place) (toks : List Token) → steps text index mode c here ≡ Ok (quietly next)
+pub quiet_step : (text rest : List ℕ) (index c : ℕ) (mode next : Mode) (here after : Place) (toks : List Token) → steps text index mode c here ≡ Ok (quietly next)
     → scanned_from text (c ∷ rest) index mode here after toks ≡ scanned_from text rest (index + 1) next (next_place c here) (behind here) toks
 quiet_step text rest index c mode next here after toks h =
     ap (λ (r : Result Step Place). after_step text rest index c here toks r) h ∙ rw (append-nil toks, append-nil toks) refl
@@ -44,7 +44,7 @@ token_step : (text rest : List ℕ) (index c : ℕ) (mode : Mode) (kind : TokenK
 token_step text rest index c mode kind here place after toks h =
     ap (λ (r : Result Step Place). after_step text rest index c here toks r) h ∙ rw (append-nil toks) refl
 
-next_index : (index n : ℕ) → index + 1 + n ≡ index + suc n
+pub next_index : (index n : ℕ) → index + 1 + n ≡ index + suc n
 next_index index n = omega arith
 
 no_index : (index : ℕ) → index + 0 ≡ index
@@ -125,7 +125,7 @@ named_last : (named : Bool) → (named || false) ≡ true → named ≡ true
 named_last true h = refl
 named_last false h = cc
 
-named_more : (named other more : Bool) → (named || (other || more)) ≡ true → ((named || other) || more) ≡ true
+pub named_more : (named other more : Bool) → (named || (other || more)) ≡ true → ((named || other) || more) ≡ true
 named_more true other more h = refl
 named_more false other more h = h
 
@@ -350,7 +350,7 @@ two_indices index = omega arith
 two_before : (index n : ℕ) → index + 1 + 1 + n ≡ index + suc (suc n)
 two_before index n = omega arith
 
-lexeme_reads : {index : ℕ} {chars rest : List ℕ} {token : Option TokenKind} → IsLexeme index chars rest token → (text pre : List ℕ) (place after : Place) (toks : List Token)
+pub lexeme_reads : {index : ℕ} {chars rest : List ℕ} {token : Option TokenKind} → IsLexeme index chars rest token → (text pre : List ℕ) (place after : Place) (toks : List Token)
     → text ≡ pre ++ (chars ++ rest) → index ≡ length pre → Reads index chars rest token text place after toks
 lexeme_reads {index = index} (space {rest = rest}) text pre place after toks whole at = blank_reads 32 index rest text place after toks refl
 lexeme_reads {index = index} (tab {rest = rest}) text pre place after toks whole at = blank_reads 9 index rest text place after toks refl

@@ -4,6 +4,8 @@ pub mod Pieces
 pub mod Runs
 pub mod PieceScan
 pub mod Lexemes
+pub mod Misplaced
+pub mod Decide
 pub mod PieceLines
 pub mod Follows
 pub mod Finds

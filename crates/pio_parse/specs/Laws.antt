@@ -9,13 +9,17 @@ use Rattle.pio_parse.specs.Cursor.{head_kind}
 use Rattle.pio_parse.specs.Expression.{expression_at, operand_at}
 use Rattle.pio_parse.specs.Statement.{is_end}
 use Rattle.pio_parse.specs.Scan.{scanned}
-use Rattle.pio_parse.specs.Lexical.{IsLexed}
+use Rattle.pio_parse.specs.Lexical.{IsCharFaultAt, IsLexed}
 use Rattle.pio_parse.specs.Grammar.{BeginsExpression, Expr, IsExpression, IsOperand, IsSum, postfix}
 use Rattle.pio_parse.specs.Grammar.Expr.{Number, Negate, Reverse, Sum, Difference, Product}
 
--- where a file's characters are lexemes one after the other, their tokens are those that are read
-abbrev pub ReadsLexemes : Type 0
-ReadsLexemes = (text : List ℕ) (tokens : List Token) → IsLexed text tokens → scanned text ≡ Ok tokens
+-- the tokens that are read are those of the lexemes of the file's characters
+abbrev pub LexesExactly : Type 0
+LexesExactly = (text : List ℕ) (tokens : List Token) → (scanned text ≡ Ok tokens) ↔ IsLexed text tokens
+
+-- a file is refused for a character where its characters are lexemes up to this one, and none stands here
+abbrev pub CharFaultsAtFirst : Type 0
+CharFaultsAtFirst = (text : List ℕ) (place : Place) → (scanned text ≡ Err place) ↔ IsCharFaultAt text place
 
 -- what is read at the front of the tokens is an expression of the grammar in postfix order, and each expression of the grammar is read
 abbrev pub ReadsGrammar : Type 0

@@ -3,6 +3,7 @@
 -- code blocks and ends of line. Signs, words and ends of line are tokens.
 use Rattle.std.specs.Prelude.{◌≡◌, ◌==◌, ◌&&◌, ◌||◌, not, ℕ, ◌+◌, Bool, true, false, if◌then◌else◌, List, [], ◌∷◌, ◌++◌, length, Option, None, Some}
 use Rattle.pio_parse.specs.declared.token.Place.{Place}
+use Rattle.pio_parse.specs.declared.token.Span.{Span}
 use Rattle.pio_parse.specs.declared.token.Token.{Token}
 use Rattle.pio_parse.specs.declared.token.Directive.TheVariants.{LangOpt}
 use Rattle.pio_parse.specs.declared.token.TokenKind.{TokenKind}
@@ -116,7 +117,45 @@ pub data AreLexemes : ℕ → Place → List ℕ → List Token → Type 0 where
       → IsLexeme index chars rest token → AreLexemes (index + length chars) (moved chars place) rest tokens
       → AreLexemes index place (chars ++ rest) (tokens_at token place ++ tokens)
 
+-- the characters that something begins with, beside those of words
+abbrev pub first_chars : List ℕ
+first_chars = 32 ∷ 9 ∷ 13 ∷ 10 ∷ 58 ∷ 33 ∷ 47 ∷ 59 ∷ 37 ∷ 46 ∷ 44 ∷ 91 ∷ 93 ∷ 40 ∷ 41 ∷ 43 ∷ 45 ∷ 42 ∷ 126 ∷ []
+
+abbrev pub is_among : ℕ → List ℕ → Bool
+is_among c [] = false
+is_among c (d ∷ ds) = c == d || is_among c ds
+
+-- the name of a code block does not go on to its `{` here, or there is none
+abbrev pub ends_badly : Bool → List ℕ → Bool
+ends_badly named [] = true
+ends_badly named (c ∷ cs) = c == 37 || c == 10 || (c == 123 && not named)
+
+-- no lexeme stands at the front of these characters
+pub data IsMisplaced : List ℕ → Type 0 where
+  -- a character that nothing begins with
+  other : {c : ℕ} {rest : List ℕ} → is_word_char c ≡ false → is_among c first_chars ≡ false → IsMisplaced (c ∷ rest)
+  -- a slash that begins no comment
+  slash : {rest : List ℕ} → begins_by 47 rest ≡ false → begins_by 42 rest ≡ false → IsMisplaced (47 ∷ rest)
+  -- a comment that does not end
+  open_comment : {rest : List ℕ} → lacks_pair 42 47 rest ≡ true → IsMisplaced (47 ∷ 42 ∷ rest)
+  -- a percent sign that begins no code block
+  percent : (name rest : List ℕ) → lacks 37 name ≡ true → lacks 10 name ≡ true → lacks 123 name ≡ true → ends_badly (has_name name) rest ≡ true
+      → IsMisplaced (37 ∷ (name ++ rest))
+  -- a code block that does not end
+  open_block : (name rest : List ℕ) → lacks 37 name ≡ true → lacks 10 name ≡ true → lacks 123 name ≡ true → has_name name ≡ true
+      → lacks_pair 37 125 rest ≡ true → IsMisplaced (37 ∷ (name ++ 123 ∷ rest))
+
+-- characters from a place on are lexemes up to this place, where none stands
+pub data StopsAt : ℕ → Place → List ℕ → Place → Type 0 where
+  none_here : {index : ℕ} {place : Place} {chars : List ℕ} → IsMisplaced chars → StopsAt index place chars place
+  after_lexeme : {index : ℕ} {place fault : Place} {chars rest : List ℕ} {token : Option TokenKind}
+      → IsLexeme index chars rest token → StopsAt (index + length chars) (moved chars place) rest fault → StopsAt index place (chars ++ rest) fault
+
 -- a file with these tokens, the last of which is its end
 abbrev pub IsLexed : List ℕ → List Token → Type 0
 IsLexed text tokens = (all : List Token) × AreLexemes 0 (record { line = 1; column = 1 }) text all
     × (tokens ≡ all ++ record { kind = FileEnd; place = past (record { line = 1; column = 1 }) (record { line = 1; column = 1 }) text } ∷ [])
+
+-- a file whose characters are lexemes up to this place, where none stands
+abbrev pub IsCharFaultAt : List ℕ → Place → Type 0
+IsCharFaultAt text place = StopsAt 0 (record { line = 1; column = 1 }) text place

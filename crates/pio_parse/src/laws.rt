@@ -1,10 +1,14 @@
-//! The laws of the expressions, each the contract of a function without arguments.
-ghost use Rattle.pio_parse.specs.Laws.{Examples, FaultsAtFirst, NoneLonger, OneExpression, ReadsGrammar, ReadsLexemes, ReadsOperands};
+//! The laws of characters and expressions, each the contract of a function without arguments.
+ghost use Rattle.pio_parse.specs.Laws.{CharFaultsAtFirst, Examples, FaultsAtFirst, LexesExactly, NoneLonger, OneExpression, ReadsGrammar, ReadsOperands};
 
-/// Where a file's characters are lexemes of the lexical grammar one after the other, their tokens are those that are
-/// read.
-pub fn reads_lexemes()
-    ensures { ReadsLexemes }
+/// The tokens that are read are those of the lexemes of a file's characters, and each file of lexemes is read.
+pub fn lexes_exactly()
+    ensures { LexesExactly }
+{}
+
+/// A character is refused exactly where a file's characters are lexemes up to it, and none stands there.
+pub fn char_faults_at_first()
+    ensures { CharFaultsAtFirst }
 {}
 
 /// What is read at the front of a line's tokens is the longest expression of the grammar there, in postfix order,
