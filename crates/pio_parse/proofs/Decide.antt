@@ -1,5 +1,5 @@
 -- At the front of characters stands a lexeme, or none: so each file has its tokens or its first fault, and no other.
-use Rattle.std.proofs.Common.{◌≡◌, ◌==◌, ◌&&◌, ◌||◌, not, ℕ, zero, suc, ◌+◌, ◌<◌, ◌≤◌, Bool, true, false, List, [], ◌∷◌, ◌++◌, length, Option, None, Some, Result, Ok, Err, append_assoc, length-append, ◌⊎◌, inl, inr, arith, refl, sym, ap, ◌∙◌, subst}
+use Rattle.std.proofs.Common.{◌≡◌, ◌==◌, ◌&&◌, ◌||◌, ℕ, zero, suc, ◌+◌, ◌<◌, ◌≤◌, Bool, true, false, List, [], ◌∷◌, ◌++◌, length, Option, None, Some, Result, Ok, Err, append_assoc, length-append, ◌⊎◌, inl, inr, arith, refl, sym, ap, ◌∙◌, subst}
 use Rattle.std.proofs.lemmas.Bool.{cases_Bool}
 use Rattle.std.proofs.lemmas.Bool.Decides.{eqb_tells}
 use Rattle.pio_parse.specs.declared.token.Place.{Place}
@@ -8,7 +8,7 @@ use Rattle.pio_parse.specs.declared.token.TokenKind.{TokenKind}
 use Rattle.pio_parse.specs.declared.token.TokenKind.TheVariants.{Comma, Colon, DoubleColon, OpenBracket, CloseBracket, OpenParenthesis, CloseParenthesis, Plus, Minus, Star, Bang, NotEqual, Tilde, LineEnd, FileEnd}
 use Rattle.pio_parse.specs.Words.{is_word_char}
 use Rattle.pio_parse.specs.Scan.{scanned}
-use Rattle.pio_parse.specs.Lexical.{AreLexemes, IsCharFaultAt, IsLexed, IsLexeme, IsMisplaced, StopsAt, are_word_chars, begins_by, ends_badly, ends_line, ends_word, has_name, is_among, is_option, is_word, lacks, lacks_pair, moved, past, tokens_at, word_at}
+use Rattle.pio_parse.specs.Lexical.{AreLexemes, IsCharFaultAt, IsLexed, IsLexeme, IsMisplaced, StopsAt, are_word_chars, begins_by, ends_line, ends_word, has_name, is_option, is_word, lacks, lacks_pair, moved, past, tokens_at, word_at}
 use Rattle.pio_parse.specs.Lexical.IsLexeme.{space, tab, carriage_return, line_end, comma, open_bracket, close_bracket, open_parenthesis, close_parenthesis, plus, minus, star, tilde, colon, double_colon, bang, not_equal, word, option, semicolon, slashes, comment, code_block}
 use Rattle.pio_parse.specs.Lexical.AreLexemes.{nothing, lexeme}
 use Rattle.pio_parse.specs.Lexical.IsMisplaced.{other, slash, open_comment, percent, open_block}
@@ -211,80 +211,80 @@ front index c cs =
     elim (eqb_tells c 32) [
       | inl e ↦ subst (λ (c : ℕ). Front index (c ∷ cs)) (sym e.1) (inl (one index 32 cs None space))
       | inr n32 ↦
-      elim (eqb_tells c 9) [
-        | inl e ↦ subst (λ (c : ℕ). Front index (c ∷ cs)) (sym e.1) (inl (one index 9 cs None tab))
-        | inr n9 ↦
-        elim (eqb_tells c 13) [
-          | inl e ↦ subst (λ (c : ℕ). Front index (c ∷ cs)) (sym e.1) (inl (one index 13 cs None carriage_return))
-          | inr n13 ↦
-          elim (eqb_tells c 10) [
-            | inl e ↦ subst (λ (c : ℕ). Front index (c ∷ cs)) (sym e.1) (inl (one index 10 cs (Some LineEnd) line_end))
-            | inr n10 ↦
-            elim (eqb_tells c 44) [
-              | inl e ↦ subst (λ (c : ℕ). Front index (c ∷ cs)) (sym e.1) (inl (one index 44 cs (Some Comma) comma))
-              | inr n44 ↦
-              elim (eqb_tells c 91) [
-                | inl e ↦ subst (λ (c : ℕ). Front index (c ∷ cs)) (sym e.1) (inl (one index 91 cs (Some OpenBracket) open_bracket))
-                | inr n91 ↦
-                elim (eqb_tells c 93) [
-                  | inl e ↦ subst (λ (c : ℕ). Front index (c ∷ cs)) (sym e.1) (inl (one index 93 cs (Some CloseBracket) close_bracket))
-                  | inr n93 ↦
-                  elim (eqb_tells c 40) [
-                    | inl e ↦ subst (λ (c : ℕ). Front index (c ∷ cs)) (sym e.1) (inl (one index 40 cs (Some OpenParenthesis) open_parenthesis))
-                    | inr n40 ↦
-                    elim (eqb_tells c 41) [
-                      | inl e ↦ subst (λ (c : ℕ). Front index (c ∷ cs)) (sym e.1) (inl (one index 41 cs (Some CloseParenthesis) close_parenthesis))
-                      | inr n41 ↦
-                      elim (eqb_tells c 43) [
-                        | inl e ↦ subst (λ (c : ℕ). Front index (c ∷ cs)) (sym e.1) (inl (one index 43 cs (Some Plus) plus))
-                        | inr n43 ↦
-                        elim (eqb_tells c 45) [
-                          | inl e ↦ subst (λ (c : ℕ). Front index (c ∷ cs)) (sym e.1) (inl (one index 45 cs (Some Minus) minus))
-                          | inr n45 ↦
-                          elim (eqb_tells c 42) [
-                            | inl e ↦ subst (λ (c : ℕ). Front index (c ∷ cs)) (sym e.1) (inl (one index 42 cs (Some Star) star))
-                            | inr n42 ↦
-                            elim (eqb_tells c 126) [
-                              | inl e ↦ subst (λ (c : ℕ). Front index (c ∷ cs)) (sym e.1) (inl (one index 126 cs (Some Tilde) tilde))
-                              | inr n126 ↦
-                              elim (eqb_tells c 58) [
-                                | inl e ↦ subst (λ (c : ℕ). Front index (c ∷ cs)) (sym e.1) (inl (colon_front index cs))
-                                | inr n58 ↦
-                                elim (eqb_tells c 33) [
-                                  | inl e ↦ subst (λ (c : ℕ). Front index (c ∷ cs)) (sym e.1) (inl (bang_front index cs))
-                                  | inr n33 ↦
-                                  elim (eqb_tells c 47) [
-                                    | inl e ↦ subst (λ (c : ℕ). Front index (c ∷ cs)) (sym e.1) (slash_front index cs)
-                                    | inr n47 ↦
-                                    elim (eqb_tells c 59) [
-                                      | inl e ↦ subst (λ (c : ℕ). Front index (c ∷ cs)) (sym e.1) (inl (semicolon_front index cs (line_span cs)))
-                                      | inr n59 ↦
-                                      elim (eqb_tells c 37) [
-                                        | inl e ↦ subst (λ (c : ℕ). Front index (c ∷ cs)) (sym e.1) (block_or_not index cs (name_span cs))
-                                        | inr n37 ↦
-                                        elim (cases_Bool (is_word_char c || c == 46)) [
-                                          | inl w ↦ inl (word_front index c cs w (word_span cs))
-                                          | inr w ↦
-                                              let none = neither (is_word_char c) (c == 46) w in
-                                              inr (other (none.0) (rw (n32.0, n9.0, n13.0, n10.0, n58.0, n33.0, n47.0, n59.0, n37.0, none.1, n44.0, n91.0, n93.0, n40.0, n41.0, n43.0, n45.0, n42.0, n126.0) refl))
+          elim (eqb_tells c 9) [
+            | inl e ↦ subst (λ (c : ℕ). Front index (c ∷ cs)) (sym e.1) (inl (one index 9 cs None tab))
+            | inr n9 ↦
+                elim (eqb_tells c 13) [
+                  | inl e ↦ subst (λ (c : ℕ). Front index (c ∷ cs)) (sym e.1) (inl (one index 13 cs None carriage_return))
+                  | inr n13 ↦
+                      elim (eqb_tells c 10) [
+                        | inl e ↦ subst (λ (c : ℕ). Front index (c ∷ cs)) (sym e.1) (inl (one index 10 cs (Some LineEnd) line_end))
+                        | inr n10 ↦
+                            elim (eqb_tells c 44) [
+                              | inl e ↦ subst (λ (c : ℕ). Front index (c ∷ cs)) (sym e.1) (inl (one index 44 cs (Some Comma) comma))
+                              | inr n44 ↦
+                                  elim (eqb_tells c 91) [
+                                    | inl e ↦ subst (λ (c : ℕ). Front index (c ∷ cs)) (sym e.1) (inl (one index 91 cs (Some OpenBracket) open_bracket))
+                                    | inr n91 ↦
+                                        elim (eqb_tells c 93) [
+                                          | inl e ↦ subst (λ (c : ℕ). Front index (c ∷ cs)) (sym e.1) (inl (one index 93 cs (Some CloseBracket) close_bracket))
+                                          | inr n93 ↦
+                                              elim (eqb_tells c 40) [
+                                                | inl e ↦ subst (λ (c : ℕ). Front index (c ∷ cs)) (sym e.1) (inl (one index 40 cs (Some OpenParenthesis) open_parenthesis))
+                                                | inr n40 ↦
+                                                    elim (eqb_tells c 41) [
+                                                      | inl e ↦ subst (λ (c : ℕ). Front index (c ∷ cs)) (sym e.1) (inl (one index 41 cs (Some CloseParenthesis) close_parenthesis))
+                                                      | inr n41 ↦
+                                                          elim (eqb_tells c 43) [
+                                                            | inl e ↦ subst (λ (c : ℕ). Front index (c ∷ cs)) (sym e.1) (inl (one index 43 cs (Some Plus) plus))
+                                                            | inr n43 ↦
+                                                                elim (eqb_tells c 45) [
+                                                                  | inl e ↦ subst (λ (c : ℕ). Front index (c ∷ cs)) (sym e.1) (inl (one index 45 cs (Some Minus) minus))
+                                                                  | inr n45 ↦
+                                                                      elim (eqb_tells c 42) [
+                                                                        | inl e ↦ subst (λ (c : ℕ). Front index (c ∷ cs)) (sym e.1) (inl (one index 42 cs (Some Star) star))
+                                                                        | inr n42 ↦
+                                                                            elim (eqb_tells c 126) [
+                                                                              | inl e ↦ subst (λ (c : ℕ). Front index (c ∷ cs)) (sym e.1) (inl (one index 126 cs (Some Tilde) tilde))
+                                                                              | inr n126 ↦
+                                                                                  elim (eqb_tells c 58) [
+                                                                                    | inl e ↦ subst (λ (c : ℕ). Front index (c ∷ cs)) (sym e.1) (inl (colon_front index cs))
+                                                                                    | inr n58 ↦
+                                                                                        elim (eqb_tells c 33) [
+                                                                                          | inl e ↦ subst (λ (c : ℕ). Front index (c ∷ cs)) (sym e.1) (inl (bang_front index cs))
+                                                                                          | inr n33 ↦
+                                                                                              elim (eqb_tells c 47) [
+                                                                                                | inl e ↦ subst (λ (c : ℕ). Front index (c ∷ cs)) (sym e.1) (slash_front index cs)
+                                                                                                | inr n47 ↦
+                                                                                                    elim (eqb_tells c 59) [
+                                                                                                      | inl e ↦ subst (λ (c : ℕ). Front index (c ∷ cs)) (sym e.1) (inl (semicolon_front index cs (line_span cs)))
+                                                                                                      | inr n59 ↦
+                                                                                                          elim (eqb_tells c 37) [
+                                                                                                            | inl e ↦ subst (λ (c : ℕ). Front index (c ∷ cs)) (sym e.1) (block_or_not index cs (name_span cs))
+                                                                                                            | inr n37 ↦
+                                                                                                                elim (cases_Bool (is_word_char c || c == 46)) [
+                                                                                                                  | inl w ↦ inl (word_front index c cs w (word_span cs))
+                                                                                                                  | inr w ↦
+                                                                                                                      let none = neither (is_word_char c) (c == 46) w in
+                                                                                                                      inr (other (none.0) (rw (n32.0, n9.0, n13.0, n10.0, n58.0, n33.0, n47.0, n59.0, n37.0, none.1, n44.0, n91.0, n93.0, n40.0, n41.0, n43.0, n45.0, n42.0, n126.0) refl))
+                                                                                                                ]
+                                                                                                          ]
+                                                                                                    ]
+                                                                                              ]
+                                                                                        ]
+                                                                                  ]
+                                                                            ]
+                                                                      ]
+                                                                ]
+                                                          ]
+                                                    ]
+                                              ]
                                         ]
-                                      ]
-                                    ]
                                   ]
-                                ]
-                              ]
                             ]
-                          ]
-                        ]
                       ]
-                    ]
-                  ]
                 ]
-              ]
-            ]
           ]
-        ]
-      ]
     ]
 
 -- characters are lexemes to their end, or up to a place where none stands

@@ -1,24 +1,18 @@
 -- Characters that are no lexemes up to their end are refused where the first of them stands that begins none; so each file has its tokens or its fault.
-use Rattle.std.proofs.Common.{◌≡◌, ◌≢◌, ◌==◌, ◌&&◌, ◌||◌, not, ℕ, zero, suc, ◌+◌, ◌<◌, ◌≤◌, Bool, true, false, cond, List, [], ◌∷◌, ◌++◌, length, Option, None, Some, Result, Ok, Err, append-nil, append_assoc, length-append, ◌⊎◌, inl, inr, arith, refl, sym, ap, ◌∙◌, subst}
-use Rattle.std.specs.Prelude.{⊤}
-use Rattle.std.proofs.lemmas.Bool.{cases_Bool}
+use Rattle.std.proofs.Common.{◌≡◌, ◌==◌, ◌&&◌, ◌||◌, not, ℕ, ◌+◌, Bool, true, false, cond, List, [], ◌∷◌, ◌++◌, length, Result, Ok, Err, append_assoc, length-append, inl, inr, arith, refl, sym, ap, ◌∙◌, subst}
 use Rattle.std.proofs.lemmas.Bool.Decides.{eqb_tells}
 use Rattle.pio_parse.specs.declared.token.Place.{Place}
 use Rattle.pio_parse.specs.declared.token.Token.{Token}
-use Rattle.pio_parse.specs.declared.token.TokenKind.{TokenKind}
-use Rattle.pio_parse.specs.declared.token.TokenKind.TheVariants.{FileEnd}
 use Rattle.pio_parse.specs.declared.scan.Mode.{Mode}
-use Rattle.pio_parse.specs.declared.scan.Mode.TheVariants.{Between, Word, Colon, Bang, Slash, LineComment, BlockComment, Header, Code}
+use Rattle.pio_parse.specs.declared.scan.Mode.TheVariants.{Between, Slash, BlockComment, Header, Code}
 use Rattle.pio_parse.specs.declared.scan.Step.{Step}
 use Rattle.pio_parse.specs.Words.{is_word_char}
 use Rattle.pio_parse.specs.Scan.{begins, next_place, quietly, scanned, scanned_from, steps}
-use Rattle.pio_parse.specs.Lexical.{AreLexemes, IsCharFaultAt, IsLexed, IsLexeme, IsMisplaced, StopsAt, are_word_chars, begins_by, ends_badly, ends_line, ends_word, first_chars, has_name, is_among, is_option, is_word, lacks, lacks_pair, moved, past, tokens_at, word_at}
-use Rattle.pio_parse.specs.Lexical.IsLexeme.{space, tab, carriage_return, line_end, comma, open_bracket, close_bracket, open_parenthesis, close_parenthesis, plus, minus, star, tilde, colon, double_colon, bang, not_equal, word, option, semicolon, slashes, comment, code_block}
-use Rattle.pio_parse.specs.Lexical.AreLexemes.{nothing, lexeme}
+use Rattle.pio_parse.specs.Lexical.{IsCharFaultAt, IsMisplaced, StopsAt, begins_by, ends_badly, first_chars, has_name, is_among, lacks, lacks_pair, moved, past, tokens_at}
 use Rattle.pio_parse.specs.Lexical.IsMisplaced.{other, slash, open_comment, percent, open_block}
 use Rattle.pio_parse.specs.Lexical.StopsAt.{none_here, after_lexeme}
 use Rattle.pio_parse.proofs.Runs.{both}
-use Rattle.pio_parse.proofs.Lexemes.{after_step, behind, lexeme_reads, named_more, next_index, not_true, quiet_step, reads_lexemes}
+use Rattle.pio_parse.proofs.Lexemes.{after_step, behind, lexeme_reads, next_index, not_true, quiet_step}
 
 pub neither : (a b : Bool) → (a || b) ≡ false → (a ≡ false) × (b ≡ false)
 neither true b h = cc

@@ -3,7 +3,6 @@
 -- code blocks and ends of line. Signs, words and ends of line are tokens.
 use Rattle.std.specs.Prelude.{◌≡◌, ◌==◌, ◌&&◌, ◌||◌, not, ℕ, ◌+◌, Bool, true, false, if◌then◌else◌, List, [], ◌∷◌, ◌++◌, length, Option, None, Some}
 use Rattle.pio_parse.specs.declared.token.Place.{Place}
-use Rattle.pio_parse.specs.declared.token.Span.{Span}
 use Rattle.pio_parse.specs.declared.token.Token.{Token}
 use Rattle.pio_parse.specs.declared.token.Directive.TheVariants.{LangOpt}
 use Rattle.pio_parse.specs.declared.token.TokenKind.{TokenKind}
