@@ -1,3 +1,4 @@
 mod PadWords
+mod Rest
 mod Sets
 mod Stepped

@@ -5,6 +5,7 @@
 #![tactic(auto)]
 
 mod device;
+pub mod drivers;
 mod lane;
 pub mod outer;
 mod outside;

@@ -1,5 +1,6 @@
 //! The peripherals: their state, how it starts, and its readers.
 
+use crate::drivers::Drivers;
 use arrayvec::ArrayVec;
 use io_bank::IoBank;
 use lane_look::Device;
@@ -32,10 +33,15 @@ pub struct Outer {
     pub(crate) sio: [u32; 2],
     // where what the script drives is looked for first
     pub(crate) cursor: Cursor,
+    // the pads are at rest while they are stepped by these
+    pub(crate) still: bool,
+    pub(crate) drivers: Drivers,
 }
 
 impl Model for Outer {
+    ghost use Rattle.std.specs.Prelude.{◌≡◌, true};
     ghost use Rattle.outer_lane.specs.State.{OuterState};
+    ghost use Rattle.outer_lane.specs.Rest.{IsStill};
 
     ghost Value = { OuterState };
 
@@ -51,6 +57,9 @@ impl Model for Outer {
       uart1_held = o.uart1_held;
       sio = o.sio;
     } };
+
+    // a step of pads at rest changes nothing
+    ghost invariant = { λ o. o.still ≡ true → IsStill o.sio o.drivers o.pads };
 }
 
 impl Outer {
@@ -75,6 +84,8 @@ impl Outer {
             uart1_held: false,
             sio: [0, 0],
             cursor: Cursor::new(),
+            still: false,
+            drivers: Drivers::NONE,
         }
     }
 
@@ -83,6 +94,7 @@ impl Outer {
     pub fn reset(&mut self, bits: u32)
         ensures { self.new ≡ outer_reset bits self.old }
     {
+        self.still = false;
         self.timer_held = has_bit(bits, 21);
         self.uart0_held = has_bit(bits, 22);
         self.uart1_held = has_bit(bits, 23);
@@ -96,6 +108,7 @@ impl Outer {
     pub fn set_sio(&mut self, outs: [u32; 2])
         ensures { self.new ≡ record self.old { sio = outs } }
     {
+        self.still = false;
         self.sio = outs;
     }
 
@@ -165,6 +178,8 @@ impl Outer {
         self.uart1_held = other.uart1_held;
         self.sio = other.sio;
         self.cursor = other.cursor;
+        self.still = other.still;
+        self.drivers = other.drivers;
     }
 }
 

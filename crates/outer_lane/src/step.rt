@@ -1,17 +1,16 @@
 //! The parts of a cycle.
 
 ghost use Rattle.std.specs.Prelude.{◌≡◌};
-ghost use Rattle.io_bank.specs.Levels.{levels_of};
-ghost use Rattle.io_bank.specs.Step.{after_step};
-ghost use Rattle.outer_lane.specs.Step.{wires_by, words_by, outs_of, outside_of, uart_after, byte_of, timer_after};
+ghost use Rattle.outer_lane.specs.Step.{wires_by, words_by, uart_after, byte_of, timer_after};
 
+use crate::drivers::Drivers;
 use crate::outer::Outer;
 use crate::outside::outside;
 use crate::world::Seen;
 use arrayvec::ArrayVec;
-use io_bank::{IoBank, Outs, uart_outputs};
+use io_bank::{Outs, uart_outputs};
 use lane_look::{Device, Mark, Wires};
-use pin_script::{Cursor, Script};
+use pin_script::{Drives, Script};
 use rp_timer::Timer;
 use rp_uart::Uart;
 
@@ -36,22 +35,6 @@ pub(crate) fn step_device<X: Device>(
     }
 }
 
-/// The pads step, by the outputs at the start and by what the script and the device drive in this cycle.
-pub(crate) fn step_pads(
-    pads: &mut IoBank,
-    cursor: &mut Cursor,
-    script: &Script,
-    wires: &Wires,
-    outs: &Outs,
-    cycle: u64,
-) -> u32
-    ensures levels { result ≡ levels_of outs.now (outside_of script.now wires.now cycle) pads.old }
-    ensures after { pads.new ≡ after_step outs.now (outside_of script.now wires.now cycle) pads.old }
-{
-    let sets = outside(script, cursor, wires, cycle);
-    pads.step_by_sets(outs, sets.driven, sets.high)
-}
-
 /// A UART steps unless it is held; the byte whose frame ended.
 pub(crate) fn step_uart(uart: &mut Uart, held: bool, line: bool) -> Option<u8>
     ensures after { uart.new ≡ uart_after held line uart.old }
@@ -71,25 +54,73 @@ pub(crate) fn step_timer(timer: &mut Timer, held: bool, cycle: u64)
 
 impl Outer {
     ghost use Rattle.std.specs.Prelude.{◌≡◌};
-    ghost use Rattle.outer_lane.specs.Step.{outs_of, next_by, marked_by};
+    ghost use Rattle.std.specs.Prelude.{◌<◌, ℕ};
+    ghost use Rattle.io_bank.specs.Levels.{by_sets};
+    ghost use Rattle.outer_lane.specs.Rest.{outs_by, pads_after};
+    ghost use Rattle.outer_lane.specs.Step.{outs_of, outside_of, levels_by, pads_by, next_by, marked_by};
+
+    /// What the script and the device drive in a cycle.
+    fn drives(&mut self, script: &Script, wires: &Wires, cycle: u64) -> Drives
+        ensures kept { self.new ≡ self.old }
+        ensures drives { (pin : ℕ) → pin < 30 → by_sets result.driven result.high pin ≡ outside_of script.now wires.now cycle pin }
+    {
+        outside(script, &mut self.cursor, wires, cycle)
+    }
+
+    /// What the pads are stepped by.
+    fn drivers(&self, wires: &Wires, seen: &Seen, drives: Drives) -> Drivers
+        ensures outs { outs_by self.now.sio result ≡ outs_of wires.now seen.now self.now }
+        ensures driven { result.driven ≡ drives.driven }
+        ensures high { result.high ≡ drives.high }
+    {
+        let uart = uart_outputs(self.uart0.out(), self.uart1.out());
+        Drivers {
+            pio0_levels: seen.pio0[0],
+            pio0_enables: seen.pio0[1],
+            pio1_levels: seen.pio1[0],
+            pio1_enables: seen.pio1[1],
+            pwm: wires.pwm,
+            uart_levels: uart[0],
+            uart_enables: uart[1],
+            driven: drives.driven,
+            high: drives.high,
+        }
+    }
+
+    /// The pads step by these, unless they are at rest and the last step was by the same.
+    fn step_driven(&mut self, drivers: Drivers) -> u32
+        ensures levels { result ≡ (pads_after self.old.sio drivers self.old.pads).current }
+        ensures after { self.new ≡ record self.old { pads = pads_after self.old.sio drivers self.old.pads } }
+    {
+        if self.still && self.drivers.is_same(&drivers) {
+            return self.pads.pads();
+        }
+        let outs = drivers.outs(self.sio);
+        let levels = self.pads.step_by_sets(&outs, drivers.driven, drivers.high);
+        self.still = self.pads.is_still();
+        self.drivers = drivers;
+        levels
+    }
+
+    /// The pads step, by the outputs at the start and by what the script and the device drive in this cycle.
+    fn step_pads(&mut self, script: &Script, wires: &Wires, seen: &Seen) -> u32
+        ensures levels { result ≡ levels_by script.now wires.now seen.now self.old }
+        ensures after { self.new ≡ record self.old { pads = pads_by script.now wires.now seen.now self.old } }
+    {
+        let drives = self.drives(script, wires, seen.cycle);
+        let drivers = self.drivers(wires, seen, drives);
+        self.step_driven(drivers)
+    }
 
     /// All but the device steps, by what the device drives; the mark that the cycle leaves.
-    #[tactic(auto, unfolding(crate::specs::Step::next_by, crate::specs::Step::marked_by, crate::specs::Step::levels_by, crate::specs::Step::pads_by))]
+    #[tactic(auto, unfolding(crate::specs::Step::next_by, crate::specs::Step::marked_by))]
     pub(crate) fn step_by(&mut self, script: &Script, wires: &Wires, seen: &Seen) -> Mark
         ensures state { self.new ≡ next_by script.now wires.now seen.now self.old }
         ensures mark { result ≡ marked_by script.now wires.now seen.now self.old }
     {
-        let outs = self.outs(wires, seen);
         let line0 = self.pads.receive_level(0);
         let line1 = self.pads.receive_level(1);
-        let pads = step_pads(
-            &mut self.pads,
-            &mut self.cursor,
-            script,
-            wires,
-            &outs,
-            seen.cycle,
-        );
+        let pads = self.step_pads(script, wires, seen);
         self.irq = wires.irq;
         step_timer(&mut self.timer, self.timer_held, seen.cycle);
         Mark {

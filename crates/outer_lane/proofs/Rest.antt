@@ -1,0 +1,86 @@
+-- A step of the pads that is left out, and one that is done.
+use Rattle.std.proofs.Common.{◌≡◌, ◌<◌, ℕ, suc, zero, ◌-◌, ◌^◌, ◌==◌, Bool, true, List, [], ◌∷◌, length, Option, slice_index_or, refl, sym, ap, ◌∙◌, arith}
+use Rattle.std.specs.Prelude.{slice_index}
+use Rattle.std.proofs.lemmas.Bool.Decides.{nat_tests}
+use Rattle.io_bank.specs.declared.outputs.Outs.{Outs}
+use Rattle.io_bank.specs.State.{Bank}
+use Rattle.io_bank.specs.Edges.{edges_of}
+use Rattle.io_bank.specs.Levels.{levels_of, by_sets}
+use Rattle.io_bank.specs.Step.{after_step, is_still, with_edges, with_levels}
+use Rattle.io_bank.proofs.Still.{still_step}
+use Rattle.outer_lane.specs.declared.drivers.Drivers.{Drivers}
+use Rattle.outer_lane.specs.Rest.{IsStill, is_same, outs_by, pads_after}
+use Rattle.lane_look.specs.declared.device.Wires.{Wires}
+use Rattle.pin_script.specs.declared.entry.Entry.{Entry}
+use Rattle.outer_lane.specs.declared.world.Seen.{Seen}
+use Rattle.outer_lane.specs.State.{OuterState}
+use Rattle.outer_lane.specs.Step.{levels_by, outs_of, outside_of, pads_by}
+use Rattle.outer_lane.proofs.Sets.{levels_same}
+
+abbrev by_words : ℕ → ℕ → ℕ → ℕ → ℕ → ℕ → ℕ → ℕ → ℕ → Drivers
+by_words a b c d e f g h i = record {
+  pio0_levels = a;
+  pio0_enables = b;
+  pio1_levels = c;
+  pio1_enables = d;
+  pwm = e;
+  uart_levels = f;
+  uart_enables = g;
+  driven = h;
+  high = i;
+}
+
+same-go : (a b c d e f g h i a' b' c' d' e' f' g' h' i' : ℕ) → a ≡ a' → b ≡ b' → c ≡ c' → d ≡ d' → e ≡ e' → f ≡ f' → g ≡ g' → h ≡ h' → i ≡ i' →
+    by_words a b c d e f g h i ≡ by_words a' b' c' d' e' f' g' h' i'
+same-go a b c d e f g h i a' b' c' d' e' f' g' h' i' p q r s t u v w x = rw (p, q, r, s, t, u, v, w, x) refl
+
+pub same_drivers : (a b : Drivers) → is_same a b ≡ true → a ≡ b
+same_drivers a b e =
+    same-go a.pio0_levels a.pio0_enables a.pio1_levels a.pio1_enables a.pwm a.uart_levels a.uart_enables a.driven a.high
+    b.pio0_levels b.pio0_enables b.pio1_levels b.pio1_enables b.pwm b.uart_levels b.uart_enables b.driven b.high
+    (grind (arith, nat_tests)) (grind (arith, nat_tests)) (grind (arith, nat_tests)) (grind (arith, nat_tests)) (grind (arith, nat_tests))
+    (grind (arith, nat_tests)) (grind (arith, nat_tests)) (grind (arith, nat_tests)) (grind (arith, nat_tests))
+
+-- ---- left out
+
+pub left_pads : (sio : List ℕ) (kept now : Drivers) (b : Bank) → IsStill sio kept b → is_same kept now ≡ true → b ≡ pads_after sio now b
+left_pads sio kept now b still e = sym (ap (λ d. pads_after sio d b) (sym (same_drivers kept now e)) ∙ still)
+
+-- ---- done
+
+pub done_pads : (sio : List ℕ) (d : Drivers) (b after : Bank) → after ≡ after_step (outs_by sio d) (by_sets d.driven d.high) b → after ≡ pads_after sio d b
+unfolding pads_after
+done_pads sio d b after e = e
+
+-- the levels are those that the step leaves
+pub levels_left : (sio : List ℕ) (d : Drivers) (b : Bank) → (pads_after sio d b).current ≡ levels_of (outs_by sio d) (by_sets d.driven d.high) b
+unfolding pads_after
+levels_left sio d b = refl
+
+still-again : (sio : List ℕ) (d : Drivers) (b : Bank) → is_still (pads_after sio d b) ≡ true → IsStill sio d (pads_after sio d b)
+unfolding pads_after
+still-again sio d b h = still_step (outs_by sio d) (by_sets d.driven d.high) (after_step (outs_by sio d) (by_sets d.driven d.high) b) h refl
+
+pub still_again : (sio : List ℕ) (d : Drivers) (b after : Bank) → after ≡ pads_after sio d b → is_still after ≡ true → IsStill sio d after
+still_again sio d b after e h = rw e (still-again sio d b (rw e at h))
+
+-- ---- by the definition of a cycle
+
+-- the same drivers in the words of the definition of a cycle
+pub levels_by_drivers : (script : List Entry) (wires : Wires) (seen : Seen) (s : OuterState) (d : Drivers) → outs_by s.sio d ≡ outs_of wires seen s →
+    ((pin : ℕ) → pin < 30 → by_sets d.driven d.high pin ≡ outside_of script wires seen.cycle pin) →
+    (pads_after s.sio d s.pads).current ≡ levels_by script wires seen s
+unfolding levels_by
+levels_by_drivers script wires seen s d outs outside =
+    levels_left s.sio d s.pads
+    ∙ ap (λ o. levels_of o (by_sets d.driven d.high) s.pads) outs
+    ∙ levels_same (outs_of wires seen s) (by_sets d.driven d.high) (outside_of script wires seen.cycle) s.pads outside
+
+pub pads_by_drivers : (script : List Entry) (wires : Wires) (seen : Seen) (s : OuterState) (d : Drivers) → outs_by s.sio d ≡ outs_of wires seen s →
+    ((pin : ℕ) → pin < 30 → by_sets d.driven d.high pin ≡ outside_of script wires seen.cycle pin) →
+    pads_after s.sio d s.pads ≡ pads_by script wires seen s
+unfolding pads_after pads_by
+pads_by_drivers script wires seen s d outs outside =
+    ap (λ o. after_step o (by_sets d.driven d.high) s.pads) outs
+    ∙ ap (λ levels. with_levels levels (with_edges (edges_of s.pads) s.pads))
+    (levels_same (outs_of wires seen s) (by_sets d.driven d.high) (outside_of script wires seen.cycle) s.pads outside)
