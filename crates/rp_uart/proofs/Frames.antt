@@ -1,10 +1,10 @@
--- The frame's length and its levels by their places.
+-- The frame's length, and its levels bit by bit.
 use Rattle.std.proofs.Common.{◌≡◌, ℕ, zero, suc, ◌+◌, ◌-◌, ◌<◌, ◌≤◌, Bool, true, false, cond, List, [], ◌∷◌, ◌++◌, length, get_or, refl, ◌∙◌, arith, length-append}
 use Rattle.std.proofs.lemmas.List.{get_or_append_left, get_or-append_right}
 use Rattle.std.proofs.lemmas.List.FromFn.{length-map-range_with_len, get_or-map-range_with_len, sum_by-map-range_with_len_more}
 use Rattle.word_bits.specs.Word.{has_bit, bit_number}
 use Rattle.rp_uart.specs.declared.frame.LineControl.{LineControl}
-use Rattle.rp_uart.specs.Frame.{width_of, low_bits, ones_of, data_bits, parity_bit, parity_bits, stop_bits, frame_of, level_at, frame_length, stop_place}
+use Rattle.rp_uart.specs.Frame.{width_of, low_bits, ones_of, data_bits, parity_bit, parity_bits, stop_bits, frame_of, level_at, frame_length, stop_at}
 
 -- ---- ones
 
@@ -25,7 +25,7 @@ length-one_or_two true = refl
 length-one_or_two false = refl
 
 pub frame_length-sum : (line : LineControl) (byte : ℕ) →
-    frame_length line byte ≡ stop_place line + bit_number line.two_stops + 1
+    frame_length line byte ≡ stop_at line + bit_number line.two_stops + 1
 unfolding frame_length frame_of
 frame_length-sum line byte =
     omega (
@@ -72,13 +72,13 @@ past_data line byte k h =
     get_or-append_right (data_bits line byte) (parity_bits line byte ++ stop_bits line) (width_of line.width) k true
     (length-data line byte) h
 
-pub level_at-start : (line : LineControl) (byte place : ℕ) → place ≡ 0 → level_at line byte place ≡ false
+pub level_at-start : (line : LineControl) (byte bit : ℕ) → bit ≡ 0 → level_at line byte bit ≡ false
 unfolding level_at frame_of
 level_at-start line byte zero e = refl
 level_at-start line byte (suc k) e = absurd (omega arith)
 
-pub level_at-data : (line : LineControl) (byte place : ℕ) → 0 < place → place ≤ width_of line.width →
-    level_at line byte place ≡ has_bit byte (place - 1)
+pub level_at-data : (line : LineControl) (byte bit : ℕ) → 0 < bit → bit ≤ width_of line.width →
+    level_at line byte bit ≡ has_bit byte (bit - 1)
 unfolding level_at frame_of
 level_at-data line byte zero p h = absurd (omega arith)
 level_at-data line byte (suc k) p h =
@@ -86,21 +86,21 @@ level_at-data line byte (suc k) p h =
     (omega (arith, length-data line byte))
     ∙ get_or-map-range_with_len (has_bit byte) 0 (width_of line.width) k (suc k - 1) true (omega arith) (omega arith)
 
-pub level_at-parity : (line : LineControl) (byte place : ℕ) → place ≡ width_of line.width + 1 → line.parity ≡ true →
-    level_at line byte place ≡ parity_bit line byte
+pub level_at-parity : (line : LineControl) (byte bit : ℕ) → bit ≡ width_of line.width + 1 → line.parity ≡ true →
+    level_at line byte bit ≡ parity_bit line byte
 level_at-parity line byte zero e b = absurd (omega arith)
 level_at-parity line byte (suc k) e b =
     past_data line byte k (omega arith)
     ∙ optional-first line.parity (parity_bit line byte) (stop_bits line) (k - width_of line.width) b (omega arith)
 
-pub level_at-after : (line : LineControl) (byte place : ℕ) → width_of line.width + 1 < place → level_at line byte place ≡ true
+pub level_at-after : (line : LineControl) (byte bit : ℕ) → width_of line.width + 1 < bit → level_at line byte bit ≡ true
 level_at-after line byte zero h = absurd (omega arith)
 level_at-after line byte (suc k) h =
     past_data line byte k (omega arith)
     ∙ optional-rest line.parity (parity_bit line byte) line.two_stops (k - width_of line.width) (omega arith)
 
-pub level_at-plain : (line : LineControl) (byte place : ℕ) → width_of line.width < place → line.parity ≡ false →
-    level_at line byte place ≡ true
+pub level_at-plain : (line : LineControl) (byte bit : ℕ) → width_of line.width < bit → line.parity ≡ false →
+    level_at line byte bit ≡ true
 level_at-plain line byte zero h b = absurd (omega arith)
 level_at-plain line byte (suc k) h b =
     past_data line byte k (omega arith)

@@ -11,7 +11,7 @@ use Rattle.std.proofs.lemmas.Nat.Bits.{bit_at-lt, bit_at_cat_low}
 use Rattle.word_bits.specs.Word.{has_bit, bit_number}
 use Rattle.rp_uart.specs.declared.frame.LineControl.{LineControl}
 use Rattle.rp_uart.specs.declared.receiver.Errors.{Errors}
-use Rattle.rp_uart.specs.Frame.{width_of, ones_of, is_odd, parity_bit, level_at, parity_place, stop_place}
+use Rattle.rp_uart.specs.Frame.{width_of, ones_of, is_odd, parity_bit, level_at, parity_at, stop_at}
 use Rattle.rp_uart.specs.Law.{samples_of, IsHeard, WhatIsSentIsHeard}
 use Rattle.rp_uart.specs.Receiving.{with_sample, byte_heard, has_parity_error}
 use Rattle.rp_uart.specs.State.{no_errors}
@@ -55,12 +55,12 @@ top_bit p k low h small =
 
 -- ---- samples
 
-sample_above : (level : Bool) (place samples : ℕ) → samples < 2 ^ place →
-    with_sample level place samples ≡ samples + bit_number level * 2 ^ place
-sample_above true place samples h =
-    let e : 2 ^ place ≡ 1 * 2 ^ place = omega arith in
-    ap (bit_or samples) e ∙ (or_shifted_r 1 place samples h ∙ omega arith)
-sample_above false place samples h = omega arith
+sample_above : (level : Bool) (bit samples : ℕ) → samples < 2 ^ bit →
+    with_sample level bit samples ≡ samples + bit_number level * 2 ^ bit
+sample_above true bit samples h =
+    let e : 2 ^ bit ≡ 1 * 2 ^ bit = omega arith in
+    ap (bit_or samples) e ∙ (or_shifted_r 1 bit samples h ∙ omega arith)
+sample_above false bit samples h = omega arith
 
 samples_data : (line : LineControl) (byte j : ℕ) → j ≤ width_of line.width →
     samples_of line byte (suc j) ≡ byte % 2 ^ j * 2
@@ -68,9 +68,9 @@ samples_data line byte zero h =
     ap (λ (b : Bool). with_sample b 0 0) (level_at-start line byte 0 refl) ∙ omega arith
 samples_data line byte (suc j) h =
     let before : samples_of line byte (suc j) ≡ byte % 2 ^ j * 2 = samples_data line byte j (omega arith) in
-    let place : suc j - 1 ≡ j = omega arith in
+    let bit : suc j - 1 ≡ j = omega arith in
     let level : level_at line byte (suc j) ≡ has_bit byte j =
-    level_at-data line byte (suc j) (omega arith) h ∙ ap (has_bit byte) place in
+    level_at-data line byte (suc j) (omega arith) h ∙ ap (has_bit byte) bit in
     ap (λ (b : Bool). with_sample b (suc j) (samples_of line byte (suc j))) level
     ∙ (ap (with_sample (has_bit byte j) (suc j)) before
     ∙ (sample_above (has_bit byte j) (suc j) (byte % 2 ^ j * 2) (low-double byte j)
@@ -78,19 +78,19 @@ samples_data line byte (suc j) h =
     (bit_from (bit_at byte j) (bit_at-lt byte j)) (pow-suc 2 j) (low-more byte j)))
 
 samples-plain : (line : LineControl) (byte : ℕ) → line.parity ≡ false →
-    samples_of line byte (stop_place line) ≡ byte % 2 ^ width_of line.width * 2
+    samples_of line byte (stop_at line) ≡ byte % 2 ^ width_of line.width * 2
 samples-plain line byte h =
     let none : bit_number line.parity ≡ 0 = rw h refl in
-    let stop : stop_place line ≡ suc (width_of line.width) = omega arith in
+    let stop : stop_at line ≡ suc (width_of line.width) = omega arith in
     ap (samples_of line byte) stop ∙ samples_data line byte (width_of line.width) (omega arith)
 
 samples-parity : (line : LineControl) (byte : ℕ) → line.parity ≡ true →
-    samples_of line byte (stop_place line)
+    samples_of line byte (stop_at line)
     ≡ byte % 2 ^ width_of line.width * 2 + bit_number (parity_bit line byte) * 2 ^ suc (width_of line.width)
 samples-parity line byte h =
     let one : bit_number line.parity ≡ 1 = rw h refl in
     let w = width_of line.width in
-    let stop : stop_place line ≡ suc (suc w) = omega arith in
+    let stop : stop_at line ≡ suc (suc w) = omega arith in
     let before : samples_of line byte (suc w) ≡ byte % 2 ^ w * 2 = samples_data line byte w (omega arith) in
     let level : level_at line byte (suc w) ≡ parity_bit line byte = level_at-parity line byte (suc w) (omega arith) h in
     ap (samples_of line byte) stop
@@ -139,52 +139,64 @@ parity_fits : (parity heard expected : Bool) → heard ≡ expected → (parity 
 parity_fits true heard expected e = rw (e, beq-same expected) refl
 parity_fits false heard expected e = refl
 
+-- ---- the stop bits
+
+high-from : (line : LineControl) (byte bit : ℕ) (parity : Bool) → line.parity ≡ parity → stop_at line ≤ bit →
+    level_at line byte bit ≡ true
+high-from line byte bit true e h =
+    let one : bit_number line.parity ≡ 1 = rw e refl in
+    level_at-after line byte bit (omega arith)
+high-from line byte bit false e h = level_at-plain line byte bit (omega arith) e
+
+pub level_at-stop : (line : LineControl) (byte bit : ℕ) → stop_at line ≤ bit → level_at line byte bit ≡ true
+level_at-stop line byte bit h = high-from line byte bit line.parity refl h
+
 -- ---- all together
 
-no_errors-of : (stop parity quiet : Bool) → stop ≡ true → parity ≡ false →
-    (let e : Errors = record { framing = not stop; parity = parity; break_line = not stop && quiet; overrun = false } in
+no_errors-of : (stop parity waited : Bool) → stop ≡ true → parity ≡ false →
+    (let e : Errors = record { framing = not stop; parity = parity; break_line = not stop && waited; overrun = false } in
     e ≡ no_errors)
-no_errors-of true true quiet s p = cc
-no_errors-of true false quiet s p = refl
-no_errors-of false parity quiet s p = cc
+no_errors-of true true waited s p = cc
+no_errors-of true false waited s p = refl
+no_errors-of false parity waited s p = cc
 
 heard_by : (line : LineControl) (byte : ℕ) (parity : Bool) → line.parity ≡ parity →
-    IsHeard line byte (samples_of line byte (stop_place line))
+    IsHeard line byte (samples_of line byte (stop_at line))
 heard_by line byte true h =
     let w = width_of line.width in
-    let samples = samples_of line byte (stop_place line) in
+    let samples = samples_of line byte (stop_at line) in
     let p = bit_number (parity_bit line byte) in
     let is : samples ≡ byte % 2 ^ w * 2 + p * 2 ^ suc w = samples-parity line byte h in
     let heard : byte_heard line samples ≡ byte % 2 ^ w = ap (λ (n : ℕ). n / 2 % 2 ^ w) is ∙ data_heard byte w p in
-    let place : parity_place line ≡ suc w = omega arith in
-    let top : bit_at samples (parity_place line) ≡ p =
-    ap (λ (n : ℕ). bit_at n (parity_place line)) is
-    ∙ (ap (λ (n : ℕ). bit_at (byte % 2 ^ w * 2 + p * 2 ^ suc w) n) place
+    let bit : parity_at line ≡ suc w = omega arith in
+    let top : bit_at samples (parity_at line) ≡ p =
+    ap (λ (n : ℕ). bit_at n (parity_at line)) is
+    ∙ (ap (λ (n : ℕ). bit_at (byte % 2 ^ w * 2 + p * 2 ^ suc w) n) bit
     ∙ top_bit p (suc w) (byte % 2 ^ w * 2) (bit-small (parity_bit line byte)) (low-double byte w)) in
-    let sampled : has_bit samples (parity_place line) ≡ parity_bit line byte =
+    let sampled : has_bit samples (parity_at line) ≡ parity_bit line byte =
     ap (λ (n : ℕ). eqb n 1) top ∙ is_bit (parity_bit line byte) in
     let expected : parity_bit line (byte_heard line samples) ≡ parity_bit line byte =
     ap (parity_bit line) heard ∙ parity_bit-low line byte in
     let one : bit_number line.parity ≡ 1 = rw h refl in
-    let high : level_at line byte (stop_place line) ≡ true = level_at-after line byte (stop_place line) (omega arith) in
+    let high : level_at line byte (stop_at line) ≡ true = level_at-after line byte (stop_at line) (omega arith) in
     record {
       heard = heard;
       errors =
-          no_errors-of (level_at line byte (stop_place line)) (has_parity_error line samples) (eqb samples 0) high
-          (parity_fits line.parity (has_bit samples (parity_place line)) (parity_bit line (byte_heard line samples))
+          no_errors-of (level_at line byte (stop_at line)) (has_parity_error line samples) (eqb samples 0) high
+          (parity_fits line.parity (has_bit samples (parity_at line)) (parity_bit line (byte_heard line samples))
           (sampled ∙ sym expected));
     }
 heard_by line byte false h =
     let w = width_of line.width in
-    let samples = samples_of line byte (stop_place line) in
+    let samples = samples_of line byte (stop_at line) in
     let is : samples ≡ byte % 2 ^ w * 2 + 0 * 2 ^ suc w = samples-plain line byte h ∙ omega arith in
     let none : bit_number line.parity ≡ 0 = rw h refl in
-    let high : level_at line byte (stop_place line) ≡ true =
-    level_at-plain line byte (stop_place line) (omega arith) h in
+    let high : level_at line byte (stop_at line) ≡ true =
+    level_at-plain line byte (stop_at line) (omega arith) h in
     let fits : has_parity_error line samples ≡ false = rw h refl in
     record {
       heard = ap (λ (n : ℕ). n / 2 % 2 ^ w) is ∙ data_heard byte w 0;
-      errors = no_errors-of (level_at line byte (stop_place line)) (has_parity_error line samples) (eqb samples 0) high fits;
+      errors = no_errors-of (level_at line byte (stop_at line)) (has_parity_error line samples) (eqb samples 0) high fits;
     }
 
 pub heard_law : WhatIsSentIsHeard

@@ -42,16 +42,16 @@ stop_bits line = if line.two_stops then true ∷ true ∷ [] else true ∷ []
 unfoldable pub frame_of : LineControl → ℕ → List Bool
 frame_of line byte = false ∷ (data_bits line byte ++ (parity_bits line byte ++ stop_bits line))
 
--- the level of the line at a place of the frame; it is high after the frame
+-- the level of the line in a bit of the frame; it is high after the frame
 unfoldable pub level_at : LineControl → ℕ → ℕ → Bool
-level_at line byte place = slice_index_or (frame_of line byte) place true
+level_at line byte bit = slice_index_or (frame_of line byte) bit true
 
 unfoldable pub frame_length : LineControl → ℕ → ℕ
 frame_length line byte = length (frame_of line byte)
 
--- the places of the parity bit, where there is one, and of the first stop bit
-abbrev pub parity_place : LineControl → ℕ
-parity_place line = 1 + width_of line.width
+-- the numbers of the parity bit, where there is one, and of the first stop bit
+abbrev pub parity_at : LineControl → ℕ
+parity_at line = 1 + width_of line.width
 
-abbrev pub stop_place : LineControl → ℕ
-stop_place line = parity_place line + bit_number line.parity
+abbrev pub stop_at : LineControl → ℕ
+stop_at line = parity_at line + bit_number line.parity

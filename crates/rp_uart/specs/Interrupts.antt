@@ -1,5 +1,5 @@
 -- The FIFOs' depth and trigger levels, and the interrupts (PrimeCell UART PL011 Technical Reference Manual, DDI 0183, 2.8,
--- interrupts, 3.3.7, UARTLCR_H, 3.3.9, UARTIFLS, and 3.3.11, UARTRIS; RP2040 Datasheet, 4.2, FIFOs of 32 places).
+-- interrupts, 3.3.7, UARTLCR_H, 3.3.9, UARTIFLS, and 3.3.11, UARTRIS; RP2040 Datasheet, 4.2, FIFOs of 32 entries).
 use Rattle.std.specs.Prelude.{ℕ, ◌+◌, ◌-◌, ◌*◌, ◌/◌, ◌%◌, ◌^◌, ◌==◌, Bool, not, nat_lt, if◌then◌else◌, length, bit_and, bit_or}
 use Rattle.word_bits.specs.Word.{bit_number, minus}
 use Rattle.rp_uart.specs.declared.receiver.Errors.{Errors}
@@ -35,7 +35,7 @@ trigger_of code =
     if code == 2 then 16 else
     if code == 3 then 24 else 28
 
--- RXIFLSEL is bits 5:3 of UARTIFLS and TXIFLSEL bits 2:0; a single place triggers when it is taken, or free
+-- RXIFLSEL is bits 5:3 of UARTIFLS and TXIFLSEL bits 2:0; a single entry triggers when it is taken, or free
 abbrev pub receive_trigger : SerialPort → ℕ
 receive_trigger s = if s.line.fifos then trigger_of (s.levels / 8) else 1
 

@@ -8,21 +8,21 @@ use Rattle.rp_uart.specs.declared.receiver.Errors.{Errors}
 use Rattle.rp_uart.specs.declared.receiver.Hearing.{Hearing}
 use Rattle.rp_uart.specs.declared.receiver.Receiver.{Receiver}
 use Rattle.rp_uart.specs.declared.receiver.Receiver.TheVariants as receivers
-use Rattle.rp_uart.specs.Frame.{width_of, parity_bit, parity_place, stop_place}
+use Rattle.rp_uart.specs.Frame.{width_of, parity_bit, parity_at, stop_at}
 use Rattle.rp_uart.specs.Interrupts.{depth_of, receive_trigger, receive_interrupt, timeout_interrupt, error_interrupts, told, told_if}
 use Rattle.rp_uart.specs.Sending.{bit_time, is_over, elapsed_after}
 use Rattle.rp_uart.specs.State.{SerialPort}
 
 -- ---- a byte that came
 
--- the data bits of the samples of a frame, whose bit k is the level at its place k
+-- the data bits of the samples of a frame, whose bit k is the level in bit k of the frame
 abbrev pub byte_heard : LineControl → ℕ → ℕ
 byte_heard line samples = samples / 2 % 2 ^ width_of line.width
 
 -- the parity bit is not that of the data
 abbrev pub has_parity_error : LineControl → ℕ → Bool
 has_parity_error line samples =
-    line.parity && not (beq (has_bit samples (parity_place line)) (parity_bit line (byte_heard line samples)))
+    line.parity && not (beq (has_bit samples (parity_at line)) (parity_bit line (byte_heard line samples)))
 
 -- the samples before the stop bit, and the stop bit's level: a low stop bit is a framing error, and a break where the line
 -- was low all the time
@@ -50,24 +50,24 @@ stored byte e s =
 abbrev pub dropped : Errors → SerialPort → SerialPort
 dropped e s = told (error_interrupts (with_overrun true e)) (record s { lost = true; overrun = true })
 
-abbrev pub with_quiet : Option ℕ → SerialPort → SerialPort
-with_quiet quiet s = record s { quiet = quiet }
+abbrev pub with_waited : Option ℕ → SerialPort → SerialPort
+with_waited waited s = record s { waited = waited }
 
 unfoldable pub after_byte : ℕ → Errors → SerialPort → SerialPort
 after_byte byte e s =
-    with_quiet (Some 0) (if nat_lt (length s.received) (depth_of s) then stored byte e s else dropped e s)
+    with_waited (Some 0) (if nat_lt (length s.received) (depth_of s) then stored byte e s else dropped e s)
 
 -- ---- the timeout
 
 -- the timeout is told after 32 bits without a byte or a read while bytes wait
-abbrev pub after_quiet : Option ℕ → SerialPort → SerialPort
-after_quiet None s = s
-after_quiet (Some elapsed) s =
-    if nat_lt (elapsed + 4) (32 * bit_time s.divisor) then with_quiet (Some (elapsed + 4)) s
-    else told timeout_interrupt (with_quiet None s)
+abbrev pub after_more_waiting : Option ℕ → SerialPort → SerialPort
+after_more_waiting None s = s
+after_more_waiting (Some elapsed) s =
+    if nat_lt (elapsed + 4) (32 * bit_time s.divisor) then with_waited (Some (elapsed + 4)) s
+    else told timeout_interrupt (with_waited None s)
 
 unfoldable pub after_waiting : SerialPort → SerialPort
-after_waiting s = after_quiet s.quiet s
+after_waiting s = after_more_waiting s.waited s
 
 -- ---- the line
 
@@ -79,7 +79,7 @@ abbrev pub can_receive : SerialPort → Bool
 can_receive s = s.control.enabled && s.control.receive
 
 abbrev pub first_heard : SerialPort → Receiver
-first_heard s = receivers.Frame (record { samples = 0; place = 0; elapsed = bit_time s.divisor / 2 })
+first_heard s = receivers.Frame (record { samples = 0; bit = 0; elapsed = bit_time s.divisor / 2 })
 
 abbrev pub after_idle : Bool → SerialPort → SerialPort
 after_idle line s = if not line && can_receive s then with_receiver (first_heard s) s else s
@@ -88,20 +88,20 @@ after_idle line s = if not line && can_receive s then with_receiver (first_heard
 abbrev pub after_lull : Bool → SerialPort → SerialPort
 after_lull line s = if line then with_receiver receivers.Idle s else s
 
--- a sample at a place: the stop bit ends the frame, and so does a start bit that is high
+-- a sample of a bit: the stop bit ends the frame, and so does a start bit that is high
 abbrev pub is_false_start : Bool → Hearing → Bool
-is_false_start line f = line && f.place == 0
+is_false_start line f = line && f.bit == 0
 
 abbrev pub is_stop : Hearing → SerialPort → Bool
-is_stop f s = nat_le (stop_place s.line) f.place
+is_stop f s = nat_le (stop_at s.line) f.bit
 
 abbrev pub with_sample : Bool → ℕ → ℕ → ℕ
-with_sample line place samples = if line then bit_or samples (2 ^ place) else samples
+with_sample line bit samples = if line then bit_or samples (2 ^ bit) else samples
 
 abbrev pub sampled : Bool → Hearing → ℕ → Hearing
 sampled line f elapsed = record {
-  samples = with_sample line f.place f.samples;
-  place = f.place + 1;
+  samples = with_sample line f.bit f.samples;
+  bit = f.bit + 1;
   elapsed = elapsed;
 }
 

@@ -25,7 +25,7 @@ elapsed_after elapsed d = if is_over elapsed d then elapsed + 4 - bit_time d els
 -- the level of TX: high between frames
 abbrev pub level_of : Sender → LineControl → Bool
 level_of senders.Idle line = true
-level_of (senders.Frame f) line = level_at line f.byte f.place
+level_of (senders.Frame f) line = level_at line f.byte f.bit
 
 abbrev pub with_sender : Sender → SerialPort → SerialPort
 with_sender sender s = record s { sender = sender }
@@ -35,7 +35,7 @@ abbrev pub with_first : Option ℕ → ℕ → SerialPort → SerialPort
 with_first None elapsed s = s
 with_first (Some byte) elapsed s =
     let rest = record s {
-      sender = senders.Frame (record { byte = byte; place = 0; elapsed = elapsed });
+      sender = senders.Frame (record { byte = byte; bit = 0; elapsed = elapsed });
       to_send = drop 1 s.to_send;
     } in
     told_if (length rest.to_send == transmit_trigger rest) transmit_interrupt rest
@@ -49,12 +49,12 @@ next_frame elapsed s = if can_send s then with_first (slice_get s.to_send 0) ela
 
 -- the bit is over: the next one follows, or the frame ends
 abbrev pub is_last_bit : Sending → SerialPort → Bool
-is_last_bit f s = nat_le (frame_length s.line f.byte) (f.place + 1)
+is_last_bit f s = nat_le (frame_length s.line f.byte) (f.bit + 1)
 
 abbrev pub after_bit : Sending → ℕ → SerialPort → SerialPort
 after_bit f elapsed s =
     if is_last_bit f s then next_frame elapsed (with_sender senders.Idle s)
-    else with_sender (senders.Frame (record f { place = f.place + 1; elapsed = elapsed })) s
+    else with_sender (senders.Frame (record f { bit = f.bit + 1; elapsed = elapsed })) s
 
 -- a frame that has begun goes on, whether or not the UART is enabled
 abbrev pub after_frame : Sending → SerialPort → SerialPort

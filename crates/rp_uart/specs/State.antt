@@ -21,7 +21,7 @@ pub record SerialPort : Type 0 where
   pub sender : Sender
   pub receiver : Receiver
   -- for how long no byte came and none was read, in quarters of a cycle; none where no byte waits or the timeout was told
-  pub quiet : Option ℕ
+  pub waited : Option ℕ
   -- a byte was lost since the last one that was stored
   pub lost : Bool
   -- the errors of the byte that was read last, and that a byte was lost, each until UARTECR is written
@@ -48,7 +48,7 @@ at_reset =
       received = [];
       sender = senders.Idle;
       receiver = receivers.Idle;
-      quiet = None;
+      waited = None;
       lost = false;
       last = no_errors;
       overrun = false;

@@ -24,7 +24,7 @@ after_step line s = if is_running s then after_receiving (heard_of line s) (afte
 abbrev pub sent_byte : SerialPort → Option ℕ
 sent_byte s = if is_running s then ended_byte s.sender s else None
 
--- the free places of the transmit FIFO and the words of the receive FIFO, each where the DMA engine is asked to move them
+-- the free entries of the transmit FIFO and the words of the receive FIFO, each where the DMA engine is asked to move them
 abbrev pub pacing_of : SerialPort → List ℕ
 pacing_of s =
     (if s.dma.transmit then depth_of s - length s.to_send else 0) ∷ (if s.dma.receive then length s.received else 0) ∷ []

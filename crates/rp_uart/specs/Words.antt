@@ -10,6 +10,7 @@ use Rattle.rp_uart.specs.declared.frame.WordLength.{WordLength}
 use Rattle.rp_uart.specs.declared.frame.WordLength.TheVariants.{Five, Six, Seven, Eight}
 use Rattle.rp_uart.specs.declared.receiver.Errors.{Errors}
 use Rattle.rp_uart.specs.declared.receiver.Received.{Received}
+use Rattle.rp_uart.specs.declared.registers.TheConstants.{DR, RSR, FR, IBRD, FBRD, LCR_H, CR, IFLS, IMSC, RIS, MIS, ICR, DMACR}
 use Rattle.rp_uart.specs.declared.sender.Sender.{Sender}
 use Rattle.rp_uart.specs.declared.sender.Sender.TheVariants as senders
 use Rattle.rp_uart.specs.Interrupts.{depth_of, error_bits, masked, cleared, settled}
@@ -32,7 +33,7 @@ abbrev pub after_taking : Option Received → SerialPort → SerialPort
 after_taking None s = s
 after_taking (Some r) s =
     let rest = drop 1 s.received in
-    record s { received = rest; last = r.errors; quiet = if length rest == 0 then None else Some 0 }
+    record s { received = rest; last = r.errors; waited = if length rest == 0 then None else Some 0 }
 
 -- a byte for a full FIFO is dropped
 abbrev pub after_giving : ℕ → SerialPort → SerialPort
@@ -60,14 +61,14 @@ flags_of s =
 
 abbrev pub byte_word : SerialPort → ℕ → Option ℕ
 byte_word s offset =
-    if offset == 0x00 then Some (received_word (slice_get s.received 0)) else
-    if offset == 0x04 then Some (error_bits (status_of s)) else
-    if offset == 0x18 then Some (flags_of s) else None
+    if offset == DR then Some (received_word (slice_get s.received 0)) else
+    if offset == RSR then Some (error_bits (status_of s)) else
+    if offset == FR then Some (flags_of s) else None
 
 abbrev pub byte_written : ℕ → ℕ → SerialPort → SerialPort
 byte_written offset w s =
-    if offset == 0x00 then after_giving (w % 2 ^ 8) s else
-    if offset == 0x04 then without_errors s else s
+    if offset == DR then after_giving (w % 2 ^ 8) s else
+    if offset == RSR then without_errors s else s
 
 -- ---- UARTIBRD, UARTFBRD, UARTLCR_H and UARTCR
 
@@ -111,20 +112,20 @@ control_from w = record {
 
 abbrev pub line_word : SerialPort → ℕ → Option ℕ
 line_word s offset =
-    if offset == 0x24 then Some s.divisor.integer else
-    if offset == 0x28 then Some s.divisor.fraction else
-    if offset == 0x2C then Some (line_control_of s.line) else
-    if offset == 0x30 then Some (control_of s.control) else None
+    if offset == IBRD then Some s.divisor.integer else
+    if offset == FBRD then Some s.divisor.fraction else
+    if offset == LCR_H then Some (line_control_of s.line) else
+    if offset == CR then Some (control_of s.control) else None
 
 abbrev pub with_divisor : Divisor → SerialPort → SerialPort
 with_divisor divisor s = record s { divisor = divisor }
 
 abbrev pub line_written : ℕ → ℕ → SerialPort → SerialPort
 line_written offset w s =
-    if offset == 0x24 then with_divisor (record s.divisor { integer = w % 2 ^ 16 }) s else
-    if offset == 0x28 then with_divisor (record s.divisor { fraction = w % 2 ^ 6 }) s else
-    if offset == 0x2C then record s { line = line_control_from w } else
-    if offset == 0x30 then record s { control = control_from w } else s
+    if offset == IBRD then with_divisor (record s.divisor { integer = w % 2 ^ 16 }) s else
+    if offset == FBRD then with_divisor (record s.divisor { fraction = w % 2 ^ 6 }) s else
+    if offset == LCR_H then record s { line = line_control_from w } else
+    if offset == CR then record s { control = control_from w } else s
 
 -- ---- UARTIFLS, UARTIMSC, UARTRIS, UARTMIS, UARTICR and UARTDMACR
 
@@ -136,39 +137,39 @@ dma_control_from w = record { receive = has_bit w 0; transmit = has_bit w 1 }
 
 abbrev pub interrupt_word : SerialPort → ℕ → Option ℕ
 interrupt_word s offset =
-    if offset == 0x34 then Some s.levels else
-    if offset == 0x38 then Some s.mask else
-    if offset == 0x3C then Some s.raw else
-    if offset == 0x40 then Some (masked s) else
-    if offset == 0x44 then Some 0 else
-    if offset == 0x48 then Some (dma_control_of s.dma) else None
+    if offset == IFLS then Some s.levels else
+    if offset == IMSC then Some s.mask else
+    if offset == RIS then Some s.raw else
+    if offset == MIS then Some (masked s) else
+    if offset == ICR then Some 0 else
+    if offset == DMACR then Some (dma_control_of s.dma) else None
 
 -- UARTICR clears the interrupts whose bits are 1
 abbrev pub interrupt_written : ℕ → ℕ → SerialPort → SerialPort
 interrupt_written offset w s =
-    if offset == 0x34 then record s { levels = w % 2 ^ 6 } else
-    if offset == 0x38 then record s { mask = bit_and w 0x7F0 } else
-    if offset == 0x44 then cleared w s else
-    if offset == 0x48 then record s { dma = dma_control_from w } else s
+    if offset == IFLS then record s { levels = w % 2 ^ 6 } else
+    if offset == IMSC then record s { mask = bit_and w 0x7F0 } else
+    if offset == ICR then cleared w s else
+    if offset == DMACR then record s { dma = dma_control_from w } else s
 
 -- ---- all words
 
 -- what a word reads as; None where there is none
 abbrev pub word_of : SerialPort → ℕ → Option ℕ
 word_of s offset =
-    if nat_lt offset 0x24 then byte_word s offset else
-    if nat_lt offset 0x34 then line_word s offset else interrupt_word s offset
+    if nat_lt offset IBRD then byte_word s offset else
+    if nat_lt offset IFLS then line_word s offset else interrupt_word s offset
 
 abbrev pub is_allowed : SerialPort → ℕ → Bool
 is_allowed s offset = is_some (word_of s offset)
 
 abbrev pub after_write : ℕ → ℕ → SerialPort → SerialPort
 after_write offset w s =
-    if nat_lt offset 0x24 then byte_written offset w s else
-    if nat_lt offset 0x34 then line_written offset w s else interrupt_written offset w s
+    if nat_lt offset IBRD then byte_written offset w s else
+    if nat_lt offset IFLS then line_written offset w s else interrupt_written offset w s
 
 abbrev pub after_read : ℕ → SerialPort → SerialPort
-after_read offset s = if offset == 0x00 then after_taking (slice_get s.received 0) s else s
+after_read offset s = if offset == DR then after_taking (slice_get s.received 0) s else s
 
 abbrev pub after_access : ℕ → Option ℕ → SerialPort → SerialPort
 after_access offset None s = after_read offset s

@@ -1,8 +1,9 @@
 //! The frame of a byte on the line.
 
 ghost use Rattle.std.specs.Prelude.{◌≡◌, ◌+◌, ◌<◌, ◌≤◌};
-ghost use Rattle.word_bits.specs.Word.{has_bit};
-ghost use Rattle.rp_uart.specs.Frame.{width_of, parity_bit, level_at, frame_length, stop_place, ones_of, low_bits};
+ghost use Rattle.rp_uart.specs.Frame.{width_of, parity_bit, level_at, frame_length, stop_at, ones_of, low_bits};
+
+use word_bits::has_bit;
 
 /// How many data bits a frame has (WLEN).
 #[derive(Clone, Copy)]
@@ -46,9 +47,9 @@ impl LineControl {
         }
     }
 
-    /// The place of the first stop bit.
-    pub(crate) fn stop_place(&self) -> u8
-        ensures value { result ≡ stop_place self.now }
+    /// The number of the first stop bit in the frame.
+    pub(crate) fn stop_at(&self) -> u8
+        ensures value { result ≡ stop_at self.now }
         ensures bound { result ≤ 10 }
     {
         self.width() + 1 + u8::from(self.parity)
@@ -63,25 +64,25 @@ impl LineControl {
         if self.even { odd } else { !odd }
     }
 
-    /// The place of the last bit of the frame of a byte.
+    /// The number of the last bit of the frame of a byte.
     #[tactic(auto, using(crate::proofs::Frames::lengths))]
-    pub(crate) fn last_place(&self, byte: u8) -> u8
+    pub(crate) fn last_bit(&self, byte: u8) -> u8
         ensures { result + 1 ≡ frame_length self.now byte }
     {
-        self.stop_place() + u8::from(self.two_stops)
+        self.stop_at() + u8::from(self.two_stops)
     }
 
-    /// The level of the line at a place of the frame of a byte; high after the frame.
+    /// The level of the line in a bit of the frame of a byte; high after the frame.
     #[tactic(auto, using(crate::proofs::Frames::levels))]
-    pub(crate) fn level_at(&self, byte: u8, place: u8) -> bool
-        ensures { result ≡ level_at self.now byte place }
+    pub(crate) fn level_at(&self, byte: u8, bit: u8) -> bool
+        ensures { result ≡ level_at self.now byte bit }
     {
         let width = self.width();
-        if place == 0 {
+        if bit == 0 {
             false
-        } else if place <= width {
-            has_bit(byte, place - 1)
-        } else if place == width + 1 && self.parity {
+        } else if bit <= width {
+            has_bit(u32::from(byte), u32::from(bit - 1))
+        } else if bit == width + 1 && self.parity {
             self.parity_bit(byte)
         } else {
             true
@@ -96,18 +97,10 @@ fn ones(byte: u8, width: u8) -> u8
     ensures { result ≡ ones_of (low_bits byte width) }
 {
     let mut count = 0;
-    for place in 0..width {
-        if has_bit(byte, place) {
+    for bit in 0..width {
+        if has_bit(u32::from(byte), u32::from(bit)) {
             count += 1;
         }
     }
     count
-}
-
-/// A bit of a byte is set.
-fn has_bit(byte: u8, place: u8) -> bool
-    requires { place < 8 }
-    ensures { result ≡ has_bit byte place }
-{
-    (byte >> place) & 1 == 1
 }

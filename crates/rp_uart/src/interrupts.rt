@@ -1,12 +1,12 @@
 //! The FIFOs' depth and trigger levels, and the interrupts.
 
 ghost use Rattle.std.specs.Prelude.{◌≡◌, ◌≤◌};
-ghost use Rattle.word_bits.specs.Word.{bit_number};
 ghost use Rattle.rp_uart.specs.State.{no_errors};
 ghost use Rattle.rp_uart.specs.Interrupts.{depth_of, trigger_of, receive_trigger, transmit_trigger, error_bits, error_interrupts, told, told_if, cleared, cleared_if, settled};
 
 use crate::Uart;
 use crate::receiver::Errors;
+use word_bits::bit_number;
 
 /// The interrupts by their bits of UARTRIS: bytes wait to be read, bytes may be sent, and bytes have waited for long.
 pub(crate) const RECEIVE: u32 = 1 << 4;
@@ -95,7 +95,10 @@ impl Errors {
         ensures value { result ≡ error_bits self.now }
         ensures bound { result ≤ 15 }
     {
-        one(self.framing) + one(self.parity) * 2 + one(self.break_line) * 4 + one(self.overrun) * 8
+        bit_number(self.framing)
+            + bit_number(self.parity) * 2
+            + bit_number(self.break_line) * 4
+            + bit_number(self.overrun) * 8
     }
 }
 
@@ -110,11 +113,4 @@ fn trigger(code: u8) -> usize
         3 => 24,
         _ => 28,
     }
-}
-
-/// A flag as a number.
-pub(crate) fn one(flag: bool) -> u32
-    ensures { result ≡ bit_number flag }
-{
-    if flag { 1 } else { 0 }
 }

@@ -1,9 +1,20 @@
-//! The law of the frame, the contract of a function without arguments.
+//! The laws of frames, each the contract of a function without arguments.
 
-ghost use Rattle.rp_uart.specs.Law.{WhatIsSentIsHeard};
+ghost use Rattle.rp_uart.specs.Law.{WhatIsSentIsHeard, AFrameTakesItsTime, TheByteComesBack};
 
 /// A receiver that samples each bit of a frame, as a sender with the same parity and number of data bits sends it, hears the
 /// data bits of its byte, and no error.
 pub fn what_is_sent_is_heard()
     ensures { WhatIsSentIsHeard }
+{}
+
+/// A frame takes the time of its bits: one of n bits that begins in a cycle ends in the first cycle in which four times the
+/// cycles since reach n times the divisor in sixty-fourths. Until then TX has the level of the bit whose time it is.
+pub fn a_frame_takes_its_time()
+    ensures { AFrameTakesItsTime }
+{}
+
+/// A UART at rest with LBE that is given a byte to send has it in its receive FIFO, without an error, once its frame is over.
+pub fn the_byte_comes_back()
+    ensures { TheByteComesBack }
 {}

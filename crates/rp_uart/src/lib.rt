@@ -2,7 +2,7 @@
 //! defined in `specs/` on lists of bytes and of bits.
 #![tactic(auto)]
 
-ghost use Rattle.std.specs.Prelude.{◌≡◌};
+ghost use Rattle.std.specs.Prelude.{◌≡◌, true, None};
 ghost use Rattle.rp_uart.specs.State.{at_reset};
 ghost use Rattle.rp_uart.specs.Interrupts.{is_line_high};
 ghost use Rattle.rp_uart.specs.Step.{output_of, heard_of, after_step, sent_byte, pacing_of};
@@ -12,6 +12,7 @@ pub mod frame;
 mod interrupts;
 pub mod laws;
 pub mod receiver;
+pub mod registers;
 pub mod sender;
 #[cfg(test)]
 mod tests;
@@ -24,9 +25,6 @@ use receiver::{Errors, Received, Receiver};
 use sender::Sender;
 use std::marker::Model;
 
-/// How many bytes a FIFO holds.
-const PLACES: usize = 32;
-
 /// A UART between two cycles (RP2040 Datasheet, 4.2; PrimeCell UART PL011 Technical Reference Manual, DDI 0183).
 #[derive(Drop)]
 pub struct Uart {
@@ -34,7 +32,7 @@ pub struct Uart {
     received: ArrayVec<Received, 32>,
     sender: Sender,
     receiver: Receiver,
-    quiet: Option<u32>,
+    waited: Option<u32>,
     lost: bool,
     last: Errors,
     overrun: bool,
@@ -57,7 +55,7 @@ impl Model for Uart {
       received = u.received.items;
       sender = u.sender;
       receiver = u.receiver;
-      quiet = u.quiet;
+      waited = u.waited;
       lost = u.lost;
       last = u.last;
       overrun = u.overrun;
@@ -81,7 +79,7 @@ impl Uart {
             received: ArrayVec::new(),
             sender: Sender::Idle,
             receiver: Receiver::Idle,
-            quiet: None,
+            waited: None,
             lost: false,
             last: Errors::none(),
             overrun: false,
@@ -124,7 +122,7 @@ impl Uart {
             .try_extend_from_slice(other.received.as_slice());
         self.sender = other.sender;
         self.receiver = other.receiver;
-        self.quiet = other.quiet;
+        self.waited = other.waited;
         self.lost = other.lost;
         self.last = other.last;
         self.overrun = other.overrun;
@@ -137,7 +135,7 @@ impl Uart {
         self.raw = other.raw;
     }
 
-    /// One cycle, in which `line` is the level of RX; with LBE the UART hears its own TX in its place. The byte whose frame
+    /// One cycle, in which `line` is the level of RX; with LBE the UART hears its own TX in place of that. The byte whose frame
     /// ends in this cycle, None exactly where none does.
     #[tactic(auto, using(crate::proofs::Kept::kept))]
     pub fn step(&mut self, line: bool) -> Option<u8>
@@ -145,6 +143,9 @@ impl Uart {
         ensures byte { result ≡ sent_byte self.old }
     {
         if self.divisor.integer == 0 {
+            return None;
+        }
+        if self.is_at_rest(line) {
             return None;
         }
         let heard = self.heard(line);
@@ -159,11 +160,11 @@ impl Uart {
     {
         match self.sender {
             Sender::Idle => true,
-            Sender::Frame(frame) => self.line.level_at(frame.byte, frame.place),
+            Sender::Frame(frame) => self.line.level_at(frame.byte, frame.bit),
         }
     }
 
-    /// The free places of the FIFO that is sent, and the words of the one that is received, each 0 where UARTDMACR does not
+    /// The free entries of the FIFO that is sent, and the words of the one that is received, each 0 where UARTDMACR does not
     /// ask for it.
     pub fn pacing(&self) -> [u8; 2]
         ensures { result ≡ pacing_of self.now }
@@ -186,6 +187,20 @@ impl Uart {
         ensures { result ≡ is_line_high self.now }
     {
         self.raw & self.mask != 0
+    }
+
+    /// Nothing is sent, nothing is received and no byte waits to be told, so that a cycle with this level changes nothing.
+    #[inline(always)]
+    #[tactic(auto, using(crate::proofs::AtRest::at_rest))]
+    fn is_at_rest(&self, line: bool) -> bool
+        ensures same { result ≡ true → after_step line self.now ≡ self.now }
+        ensures silent { result ≡ true → sent_byte self.now ≡ None }
+    {
+        matches!(self.sender, Sender::Idle)
+            && matches!(self.receiver, Receiver::Idle)
+            && self.waited.is_none()
+            && self.to_send.is_empty()
+            && (line || self.control.loopback)
     }
 
     /// The level that the receiver hears.

@@ -32,10 +32,10 @@ pub struct Received {
 /// A frame that is being received.
 #[derive(Clone, Copy)]
 pub struct Hearing {
-    /// The levels so far: bit k is the one that was sampled at place k of the frame.
+    /// The levels so far: bit k is the one that was sampled in bit k of the frame.
     pub samples: u16,
-    /// The place in the frame that is sampled next, 0 for the start bit.
-    pub place: u8,
+    /// The number of the bit that is sampled next, 0 for the start bit.
+    pub bit: u8,
     /// How much time has passed since the last sample, in quarters of a cycle; in the start bit half a bit more.
     pub elapsed: u32,
 }
@@ -92,7 +92,7 @@ impl Uart {
         if !line && self.control.enabled && self.control.receive {
             self.receiver = Receiver::Frame(Hearing {
                 samples: 0,
-                place: 0,
+                bit: 0,
                 elapsed: self.divisor.bit_time() / 2,
             });
         }
@@ -110,7 +110,7 @@ impl Uart {
         }
         self.receiver = Receiver::Frame(Hearing {
             samples: frame.samples,
-            place: frame.place,
+            bit: frame.bit,
             elapsed,
         });
         false
@@ -121,11 +121,11 @@ impl Uart {
         ensures after { self.new ≡ after_sample line frame elapsed self.old }
         ensures byte { result ≡ is_stop frame self.old }
     {
-        if self.line.stop_place() <= frame.place {
+        if self.line.stop_at() <= frame.bit {
             self.end_frame(line, frame);
             return true;
         }
-        self.receiver = if line && frame.place == 0 {
+        self.receiver = if line && frame.bit == 0 {
             Receiver::Idle
         } else {
             Receiver::Frame(frame.with_sample(line, elapsed))
@@ -157,10 +157,10 @@ impl Uart {
         } else {
             self.drop_byte(errors);
         }
-        self.quiet = Some(0);
+        self.waited = Some(0);
     }
 
-    /// A byte finds a place.
+    /// There is room for the byte.
     fn store(&mut self, byte: u8, errors: Errors)
         requires { length self.old.received < 32 }
         ensures { self.new ≡ stored byte errors self.old }
@@ -179,7 +179,7 @@ impl Uart {
         }
     }
 
-    /// A byte finds no place.
+    /// There is no room for the byte.
     fn drop_byte(&mut self, errors: Errors)
         ensures { self.new ≡ dropped errors self.old }
     {
@@ -199,11 +199,11 @@ impl Uart {
     fn wait(&mut self)
         ensures { self.new ≡ after_waiting self.old }
     {
-        if let Some(elapsed) = self.quiet {
+        if let Some(elapsed) = self.waited {
             if elapsed < (32 * self.divisor.bit_time()).saturating_sub(4) {
-                self.quiet = Some(elapsed + 4);
+                self.waited = Some(elapsed + 4);
             } else {
-                self.quiet = None;
+                self.waited = None;
                 self.tell(TIMEOUT);
             }
         }
@@ -213,17 +213,17 @@ impl Uart {
 impl Hearing {
     /// The frame with one more sample.
     fn with_sample(&self, line: bool, elapsed: u32) -> Hearing
-        requires { self.now.place < 16 }
+        requires { self.now.bit < 16 }
         ensures { result ≡ sampled line self.now elapsed }
     {
         let samples = if line {
-            self.samples | (1 << self.place)
+            self.samples | (1 << self.bit)
         } else {
             self.samples
         };
         Hearing {
             samples,
-            place: self.place + 1,
+            bit: self.bit + 1,
             elapsed,
         }
     }

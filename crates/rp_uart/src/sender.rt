@@ -11,8 +11,8 @@ use crate::interrupts::TRANSMIT;
 pub struct Sending {
     /// The byte, as it was written.
     pub byte: u8,
-    /// The place in the frame, 0 for the start bit.
-    pub place: u8,
+    /// The number of the bit in the frame, 0 for the start bit.
+    pub bit: u8,
     /// How much of this bit's time has passed, in quarters of a cycle.
     pub elapsed: u32,
 }
@@ -55,7 +55,7 @@ impl Uart {
         }
         self.sender = Sender::Frame(Sending {
             byte: frame.byte,
-            place: frame.place,
+            bit: frame.bit,
             elapsed,
         });
         None
@@ -66,10 +66,10 @@ impl Uart {
         ensures after { self.new ≡ after_bit frame elapsed self.old }
         ensures byte { result ≡ (if is_last_bit frame self.old then Some frame.byte else None) }
     {
-        if frame.place < self.line.last_place(frame.byte) {
+        if frame.bit < self.line.last_bit(frame.byte) {
             self.sender = Sender::Frame(Sending {
                 byte: frame.byte,
-                place: frame.place + 1,
+                bit: frame.bit + 1,
                 elapsed,
             });
             return None;
@@ -90,7 +90,7 @@ impl Uart {
         if let Some(byte) = self.to_send.pop_at(0) {
             self.sender = Sender::Frame(Sending {
                 byte,
-                place: 0,
+                bit: 0,
                 elapsed,
             });
             if self.to_send.len() == self.transmit_trigger() {

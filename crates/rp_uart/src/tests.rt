@@ -1,32 +1,7 @@
 //! Registers as the manuals give them, bytes sent at 115200 baud, frames that are received, and interrupts.
 
 use crate::Uart;
-
-const DR: u16 = 0x00;
-
-const RSR: u16 = 0x04;
-
-const FR: u16 = 0x18;
-
-const IBRD: u16 = 0x24;
-
-const FBRD: u16 = 0x28;
-
-const LCR_H: u16 = 0x2c;
-
-const CR: u16 = 0x30;
-
-const IFLS: u16 = 0x34;
-
-const IMSC: u16 = 0x38;
-
-const RIS: u16 = 0x3c;
-
-const MIS: u16 = 0x40;
-
-const ICR: u16 = 0x44;
-
-const DMACR: u16 = 0x48;
+use crate::registers::{CR, DMACR, DR, FBRD, FR, IBRD, ICR, IFLS, IMSC, LCR_H, MIS, RIS, RSR};
 
 /// Offsets, and what is read there after reset.
 const RESET: [(u16, u32); 4] = [(FR, 0x90), (CR, 0x300), (IFLS, 0x12), (RIS, 0x00)];
@@ -75,7 +50,7 @@ const SENT: [(u32, u8); 5] = [
 ];
 
 /// What is written to UARTLCR_H, the levels of a frame from the lowest bit and how many, and what is read from UARTDR.
-const FRAMES: [(u32, u16, u32, u32); 7] = [
+const FRAMES: [(u32, u64, u32, u32); 7] = [
     (0x70, 0x290, 10, 0x048),
     (0x16, 0x0e6, 8, 0x013),
     (0x16, 0x0a6, 8, 0x213),
@@ -85,23 +60,48 @@ const FRAMES: [(u32, u16, u32, u32); 7] = [
     (0x02, 0x080, 8, 0x200),
 ];
 
+/// What a UART of one byte a FIFO tells: the levels of RX from the lowest bit and for how many cycles, 16 for each, then an
+/// access, as its register and what is written if it is a write, and then what is read where.
+const TOLD: [(u64, u32, u16, Option<u32>, u16, u32); 14] = [
+    (ONES, 0, IMSC, Some(0x10), IMSC, 0x10),
+    // TX comes as the byte leaves the FIFO, and RX is not masked
+    (ONES, 0, DR, Some(0x48), RIS, 0x00),
+    (ONES, 1, FR, None, RIS, 0x20),
+    // the second byte is lost, which the third one tells
+    (0x290, 160, FR, None, MIS, 0x10),
+    (0x290, 160, FR, None, RIS, 0x430),
+    (ONES, 0, FR, None, RSR, 0x08),
+    (ONES, 0, DR, None, RIS, 0x420),
+    (ONES, 0, RSR, Some(0x00), RSR, 0x00),
+    (ONES, 0, ICR, Some(0x420), RIS, 0x00),
+    (0x290, 160, FR, None, DR, 0x848),
+    // 32 bits after the middle of the stop bit, where the byte ended, the timeout comes, once
+    (ONES, 504, FR, None, RIS, 0x10),
+    (ONES, 1, FR, None, RIS, 0x50),
+    (ONES, 0, ICR, Some(0x40), RIS, 0x10),
+    (ONES, 768, FR, None, RIS, 0x10),
+];
+
+/// A high line.
+const ONES: u64 = 0xffff_ffff_ffff_ffff;
+
 /// A UART whose bits last 16 cycles.
 fn fast(line_control: u32, control: u32) -> Uart {
     let mut uart = Uart::new();
-    uart.effect(IBRD, Some(1));
-    uart.effect(LCR_H, Some(line_control));
-    uart.effect(CR, Some(control));
+    for (offset, word) in [(IBRD, 1), (LCR_H, line_control), (CR, control)] {
+        uart.effect(offset, Some(word));
+    }
     uart
 }
 
-/// Steps a UART through so many levels of a number from the lowest bit, each for 16 cycles.
-fn hear(uart: &mut Uart, levels: u16, count: u32) {
+/// Steps a UART so often through the levels of a number from the lowest bit, each for 16 cycles.
+fn hear(uart: &mut Uart, levels: u64, cycles: u32) {
     let mut rest = levels;
-    for _ in 0..count {
-        for _ in 0..16 {
-            let _ = uart.step(rest % 2 == 1);
+    for cycle in 0..cycles {
+        let _ = uart.step(rest % 2 == 1);
+        if cycle % 16 == 15 {
+            rest /= 2;
         }
-        rest /= 2;
     }
 }
 
@@ -112,16 +112,18 @@ fn words(rt: HostRuntime) {
         assert_eq!(rt; uart.read(offset), Some(read), "{offset:x}");
     }
     for (offset, written, read) in WORDS {
+        let allowed = uart.allows(offset, Some(written));
+        let done = uart.effect(offset, Some(written));
         assert!(rt;
-            uart.allows(offset, Some(written)) && uart.effect(offset, Some(written)),
+            allowed && done && uart.read(offset) == Some(read),
             "{offset:x}"
         );
-        assert_eq!(rt; uart.read(offset), Some(read), "{offset:x}");
     }
     for offset in MISSING {
-        assert_eq!(rt; uart.read(offset), None, "{offset:x}");
+        let allowed = uart.allows(offset, None);
+        let done = uart.effect(offset, None);
         assert!(rt;
-            !uart.allows(offset, None) && !uart.effect(offset, None),
+            !allowed && !done && uart.read(offset).is_none(),
             "{offset:x}"
         );
     }
@@ -140,7 +142,7 @@ fn hello(rt: HostRuntime) {
         assert_eq!(rt; uart.step(true), ended, "cycle {cycle}");
         for (at, offset, word) in WRITES {
             if at == cycle {
-                assert!(rt; uart.effect(offset, Some(word)), "cycle {cycle}");
+                uart.effect(offset, Some(word));
             }
         }
     }
@@ -151,14 +153,12 @@ fn hello(rt: HostRuntime) {
 fn frames(rt: HostRuntime) {
     for (line_control, levels, count, read) in FRAMES {
         let mut uart = fast(line_control, 0x201);
-        hear(&mut uart, levels, count);
-        assert_eq!(rt; uart.read(DR), Some(read), "{levels:x}");
-        assert!(rt; uart.effect(DR, None), "{levels:x}");
-        assert_eq!(rt; uart.read(RSR), Some(read >> 8), "{levels:x}");
-        assert_eq!(rt; uart.read(FR), Some(0x90), "{levels:x}");
-        assert_eq!(rt;
-            uart.read(RIS).map(|raw| raw >> 7),
-            Some(read >> 8),
+        hear(&mut uart, levels, 16 * count);
+        let word = uart.read(DR);
+        let taken = uart.effect(DR, None);
+        let (errors, flags) = (uart.read(RSR), uart.read(FR));
+        assert!(rt;
+            taken && word == Some(read) && errors == Some(read >> 8) && flags == Some(0x90),
             "{levels:x}"
         );
     }
@@ -168,57 +168,36 @@ fn frames(rt: HostRuntime) {
 fn loopback(rt: HostRuntime) {
     for line_control in [0x10, 0x36, 0x5a, 0x7e] {
         let mut uart = fast(line_control, 0x381);
-        assert!(rt;
-            uart.effect(DMACR, Some(3))
-                && uart.effect(DR, Some(0x15))
-                && uart.effect(DR, Some(0x0a))
-        );
+        for (offset, word) in [(DMACR, 3), (DR, 0x15), (DR, 0x0a)] {
+            uart.effect(offset, Some(word));
+        }
         assert_eq!(rt; uart.pacing(), [30, 0]);
-        let _ = uart.step(false);
+        hear(&mut uart, 0, 1);
         assert!(rt; !uart.out());
-        hear(&mut uart, 0, 25);
+        hear(&mut uart, 0, 400);
         assert_eq!(rt; uart.pacing(), [32, 2]);
-        assert_eq!(rt; uart.read(DR), Some(0x15), "{line_control:x}");
-        assert!(rt; uart.effect(DR, None));
+        let first = uart.read(DR);
+        uart.effect(DR, None);
         let mut twin = Uart::new();
         twin.copy_from(&uart);
-        assert_eq!(rt; twin.read(DR), Some(0x0a), "{line_control:x}");
+        assert!(rt;
+            first == Some(0x15) && twin.read(DR) == Some(0x0a),
+            "{line_control:x}"
+        );
     }
 }
 
 #[test]
-fn interrupts(rt: HostRuntime) {
+fn told(rt: HostRuntime) {
     let mut uart = fast(0x60, 0x301);
-    assert!(rt; uart.effect(IMSC, Some(0x10)) && uart.effect(DR, Some(0x48)));
-    // TX comes as the byte leaves its place, and RX is not masked
-    let _ = uart.step(true);
-    assert_eq!(rt; uart.read(RIS), Some(0x20));
-    assert!(rt; !uart.line());
-    // the second byte is lost, which the third one tells
-    hear(&mut uart, 0x290, 10);
-    assert_eq!(rt; uart.read(MIS), Some(0x10));
-    assert!(rt; uart.line());
-    hear(&mut uart, 0x290, 10);
-    assert_eq!(rt; uart.read(RIS), Some(0x430));
-    assert_eq!(rt; uart.read(RSR), Some(8));
-    assert!(rt; uart.effect(DR, None));
-    assert_eq!(rt; uart.read(RIS), Some(0x420));
-    assert!(rt; uart.effect(RSR, Some(0)) && uart.effect(ICR, Some(0x420)));
-    hear(&mut uart, 0x290, 10);
-    assert_eq!(rt; uart.read(DR), Some(0x848));
-    assert_eq!(rt; uart.read(RIS), Some(0x10));
-    // 32 bits of 16 cycles after the middle of the stop bit, where the byte ended, the timeout comes, once
-    hear(&mut uart, 0xffff, 16);
-    hear(&mut uart, 0xffff, 15);
-    for _ in 0..8 {
-        let _ = uart.step(true);
+    for (levels, cycles, offset, write, told, read) in TOLD {
+        hear(&mut uart, levels, cycles);
+        uart.effect(offset, write);
+        let word = uart.read(told);
+        let line = uart.read(MIS) != Some(0);
+        assert!(rt;
+            word == Some(read) && uart.line() == line,
+            "{offset:x} {told:x} {word:?}"
+        );
     }
-    assert_eq!(rt; uart.read(RIS), Some(0x10));
-    let _ = uart.step(true);
-    assert_eq!(rt; uart.read(RIS), Some(0x50));
-    assert!(rt; uart.effect(ICR, Some(0x40)));
-    hear(&mut uart, 0xffff, 16);
-    hear(&mut uart, 0xffff, 16);
-    hear(&mut uart, 0xffff, 16);
-    assert_eq!(rt; uart.read(RIS), Some(0x10));
 }

@@ -6,18 +6,19 @@ ghost use Rattle.rp_uart.specs.Words.{received_word, status_of, after_taking, af
 use crate::Uart;
 use crate::control::{Control, DmaControl};
 use crate::frame::{LineControl, WordLength};
-use crate::interrupts::one;
 use crate::receiver::{Errors, Received};
+use crate::registers::{CR, DMACR, DR, FBRD, FR, IBRD, ICR, IFLS, IMSC, LCR_H, MIS, RIS, RSR};
 use crate::sender::Sender;
+use word_bits::{bit_number, has_bit};
 
 impl Uart {
     /// The word at an offset. None exactly where there is no such word.
     pub fn read(&self, offset: u16) -> Option<u32>
         ensures { result ≡ word_of self.now offset }
     {
-        if offset < 0x24 {
+        if offset < IBRD {
             self.read_byte(offset)
-        } else if offset < 0x34 {
+        } else if offset < IFLS {
             self.read_line(offset)
         } else {
             self.read_interrupts(offset)
@@ -53,9 +54,9 @@ impl Uart {
     fn write(&mut self, offset: u16, word: u32)
         ensures { self.new ≡ after_write offset word self.old }
     {
-        if offset < 0x24 {
+        if offset < IBRD {
             self.write_byte(offset, word);
-        } else if offset < 0x34 {
+        } else if offset < IFLS {
             self.write_line(offset, word);
         } else {
             self.write_interrupts(offset, word);
@@ -66,7 +67,7 @@ impl Uart {
     fn after_read(&mut self, offset: u16)
         ensures { self.new ≡ after_read offset self.old }
     {
-        if offset == 0 {
+        if offset == DR {
             self.take_byte();
         }
     }
@@ -77,7 +78,7 @@ impl Uart {
     {
         if let Some(received) = self.received.pop_at(0) {
             self.last = received.errors;
-            self.quiet = if self.received.is_empty() {
+            self.waited = if self.received.is_empty() {
                 None
             } else {
                 Some(0)
@@ -99,9 +100,9 @@ impl Uart {
         ensures { result ≡ byte_word self.now offset }
     {
         match offset {
-            0x00 => Some(self.first_word()),
-            0x04 => Some(self.status().bits()),
-            0x18 => Some(self.flags()),
+            DR => Some(self.first_word()),
+            RSR => Some(self.status().bits()),
+            FR => Some(self.flags()),
             _ => None,
         }
     }
@@ -133,11 +134,11 @@ impl Uart {
         ensures { result ≡ flags_of self.now }
     {
         let depth = self.depth();
-        one(self.to_send.is_empty()) * 0x80
-            + one(depth <= self.received.len()) * 0x40
-            + one(depth <= self.to_send.len()) * 0x20
-            + one(self.received.is_empty()) * 0x10
-            + one(self.is_busy()) * 0x8
+        bit_number(self.to_send.is_empty()) * 0x80
+            + bit_number(depth <= self.received.len()) * 0x40
+            + bit_number(depth <= self.to_send.len()) * 0x20
+            + bit_number(self.received.is_empty()) * 0x10
+            + bit_number(self.is_busy()) * 0x8
     }
 
     /// Bytes wait to be sent, or one is being sent.
@@ -152,8 +153,8 @@ impl Uart {
         ensures { self.new ≡ byte_written offset word self.old }
     {
         match offset {
-            0x00 => self.give_byte((word & 0xff) as u8),
-            0x04 => {
+            DR => self.give_byte((word & 0xff) as u8),
+            RSR => {
                 self.last = Errors::none();
                 self.overrun = false;
             }
@@ -166,10 +167,10 @@ impl Uart {
         ensures { result ≡ line_word self.now offset }
     {
         match offset {
-            0x24 => Some(u32::from(self.divisor.integer)),
-            0x28 => Some(u32::from(self.divisor.fraction)),
-            0x2c => Some(self.line.word()),
-            0x30 => Some(self.control.word()),
+            IBRD => Some(u32::from(self.divisor.integer)),
+            FBRD => Some(u32::from(self.divisor.fraction)),
+            LCR_H => Some(self.line.word()),
+            CR => Some(self.control.word()),
             _ => None,
         }
     }
@@ -179,10 +180,10 @@ impl Uart {
         ensures { self.new ≡ line_written offset word self.old }
     {
         match offset {
-            0x24 => self.divisor.integer = (word & 0xffff) as u16,
-            0x28 => self.divisor.fraction = (word & 0x3f) as u8,
-            0x2c => self.line = LineControl::from_word(word),
-            0x30 => self.control = Control::from_word(word),
+            IBRD => self.divisor.integer = (word & 0xffff) as u16,
+            FBRD => self.divisor.fraction = (word & 0x3f) as u8,
+            LCR_H => self.line = LineControl::from_word(word),
+            CR => self.control = Control::from_word(word),
             _ => {}
         }
     }
@@ -192,12 +193,12 @@ impl Uart {
         ensures { result ≡ interrupt_word self.now offset }
     {
         match offset {
-            0x34 => Some(u32::from(self.levels)),
-            0x38 => Some(self.mask),
-            0x3c => Some(self.raw),
-            0x40 => Some(self.raw & self.mask),
-            0x44 => Some(0),
-            0x48 => Some(self.dma.word()),
+            IFLS => Some(u32::from(self.levels)),
+            IMSC => Some(self.mask),
+            RIS => Some(self.raw),
+            MIS => Some(self.raw & self.mask),
+            ICR => Some(0),
+            DMACR => Some(self.dma.word()),
             _ => None,
         }
     }
@@ -207,10 +208,10 @@ impl Uart {
         ensures { self.new ≡ interrupt_written offset word self.old }
     {
         match offset {
-            0x34 => self.levels = (word & 0x3f) as u8,
-            0x38 => self.mask = word & 0x7f0,
-            0x44 => self.clear(word),
-            0x48 => self.dma = DmaControl::from_word(word),
+            IFLS => self.levels = (word & 0x3f) as u8,
+            IMSC => self.mask = word & 0x7f0,
+            ICR => self.clear(word),
+            DMACR => self.dma = DmaControl::from_word(word),
             _ => {}
         }
     }
@@ -221,10 +222,10 @@ impl LineControl {
     fn word(&self) -> u32
         ensures { result ≡ line_control_of self.now }
     {
-        one(self.parity) * 2
-            + one(self.even) * 4
-            + one(self.two_stops) * 8
-            + one(self.fifos) * 16
+        bit_number(self.parity) * 2
+            + bit_number(self.even) * 4
+            + bit_number(self.two_stops) * 8
+            + bit_number(self.fifos) * 16
             + self.width.code() * 32
     }
 
@@ -233,10 +234,10 @@ impl LineControl {
         ensures { result ≡ line_control_from word }
     {
         LineControl {
-            parity: (word >> 1) & 1 == 1,
-            even: (word >> 2) & 1 == 1,
-            two_stops: (word >> 3) & 1 == 1,
-            fifos: (word >> 4) & 1 == 1,
+            parity: has_bit(word, 1),
+            even: has_bit(word, 2),
+            two_stops: has_bit(word, 3),
+            fifos: has_bit(word, 4),
             width: WordLength::from_code((word >> 5) & 3),
         }
     }
@@ -274,10 +275,10 @@ impl Control {
     fn word(&self) -> u32
         ensures { result ≡ control_of self.now }
     {
-        one(self.enabled)
-            + one(self.loopback) * 0x80
-            + one(self.transmit) * 0x100
-            + one(self.receive) * 0x200
+        bit_number(self.enabled)
+            + bit_number(self.loopback) * 0x80
+            + bit_number(self.transmit) * 0x100
+            + bit_number(self.receive) * 0x200
     }
 
     /// What a word says in UARTCR.
@@ -285,10 +286,10 @@ impl Control {
         ensures { result ≡ control_from word }
     {
         Control {
-            enabled: word & 1 == 1,
-            loopback: (word >> 7) & 1 == 1,
-            transmit: (word >> 8) & 1 == 1,
-            receive: (word >> 9) & 1 == 1,
+            enabled: has_bit(word, 0),
+            loopback: has_bit(word, 7),
+            transmit: has_bit(word, 8),
+            receive: has_bit(word, 9),
         }
     }
 }
@@ -298,7 +299,7 @@ impl DmaControl {
     fn word(&self) -> u32
         ensures { result ≡ dma_control_of self.now }
     {
-        one(self.receive) + one(self.transmit) * 2
+        bit_number(self.receive) + bit_number(self.transmit) * 2
     }
 
     /// What a word says in UARTDMACR.
@@ -306,8 +307,8 @@ impl DmaControl {
         ensures { result ≡ dma_control_from word }
     {
         DmaControl {
-            receive: word & 1 == 1,
-            transmit: (word >> 1) & 1 == 1,
+            receive: has_bit(word, 0),
+            transmit: has_bit(word, 1),
         }
     }
 }

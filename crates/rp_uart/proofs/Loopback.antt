@@ -1,0 +1,653 @@
+-- A UART at rest that hears itself hears the byte that it is given.
+use Rattle.std.proofs.Common.{◌≡◌, ◌∙◌, ℕ, zero, suc, ◌+◌, ◌-◌, ◌*◌, ◌/◌, ◌%◌, ◌^◌, ◌<◌, ◌≤◌, Bool, true, false, cond, List, [], ◌∷◌, ◌++◌, Option, Some, None, refl, sym, ap, arith, ne_eqb}
+use Rattle.std.specs.Prelude.{not, ◌&&◌, ◌==◌, nat_lt, nat_le, length, drop, slice_get}
+use Rattle.std.proofs.Math.Nat.{mul-le-mul_right}
+use Rattle.std.proofs.lemmas.Bool.{leb-true, le-leb, lt-leb, leb-false}
+use Rattle.word_bits.specs.Word.{bit_number}
+use Rattle.rp_uart.specs.declared.control.Control.{Control}
+use Rattle.rp_uart.specs.declared.control.Divisor.{Divisor}
+use Rattle.rp_uart.specs.declared.frame.LineControl.{LineControl}
+use Rattle.rp_uart.specs.declared.receiver.Errors.{Errors}
+use Rattle.rp_uart.specs.declared.receiver.Hearing.{Hearing}
+use Rattle.rp_uart.specs.declared.receiver.Received.{Received}
+use Rattle.rp_uart.specs.declared.receiver.Receiver.{Receiver}
+use Rattle.rp_uart.specs.declared.receiver.Receiver.TheVariants as receivers
+use Rattle.rp_uart.specs.declared.sender.Sending.{Sending}
+use Rattle.rp_uart.specs.declared.sender.Sender.{Sender}
+use Rattle.rp_uart.specs.declared.sender.Sender.TheVariants as senders
+use Rattle.rp_uart.specs.Frame.{width_of, level_at, frame_length, stop_at}
+use Rattle.rp_uart.specs.Interrupts.{depth_of, receive_trigger, transmit_trigger, receive_interrupt, transmit_interrupt, error_interrupts, told}
+use Rattle.rp_uart.specs.Law.{after_cycles, samples_of, begun, frame_time, HearsItself, TheByteComesBack}
+use Rattle.rp_uart.specs.Receiving.{byte_heard, errors_of, with_overrun, stored, dropped, with_waited, after_byte, after_waiting, with_receiver, can_receive, first_heard, after_idle, is_false_start, is_stop, with_sample, sampled, after_stop, after_hearing, after_line, is_frame_due, is_byte_due, after_receiving}
+use Rattle.rp_uart.specs.Sending.{bit_time, is_over, elapsed_after, level_of, with_sender, with_first, can_send, next_frame, is_last_bit, after_bit, after_sender, after_sending}
+use Rattle.rp_uart.specs.State.{SerialPort, no_errors}
+use Rattle.rp_uart.specs.Step.{is_running, output_of, heard_of, after_step}
+use Rattle.rp_uart.proofs.Frames.{frame_length-sum, level_at-start}
+use Rattle.rp_uart.proofs.Heard.{heard_law, level_at-stop}
+use Rattle.rp_uart.proofs.AtRest.{next-none}
+use Rattle.rp_uart.proofs.Kept.{either, sending-keeps, waiting-keeps}
+use Rattle.rp_uart.proofs.Timing.{bit_time-large, one_more, times_of, fewer, Sent, Goes, Same, same-sending, same-step, same-both, running-as, runs, sender-received, to_send-received, sender-step, On, goes-on, on-next, level_by}
+
+-- ---- what receiving comes to
+
+receiving-no : (h : Bool) (x : SerialPort) → is_byte_due x.receiver x ≡ false →
+    after_receiving h x ≡ after_waiting (after_line x.receiver h x)
+unfolding after_receiving
+receiving-no h x e = rw e refl
+
+receiving-yes : (h : Bool) (x : SerialPort) → is_byte_due x.receiver x ≡ true →
+    after_receiving h x ≡ after_line x.receiver h x
+unfolding after_receiving
+receiving-yes h x e = rw e refl
+
+idle-due : (x : SerialPort) → x.receiver ≡ receivers.Idle → is_byte_due x.receiver x ≡ false
+unfolding is_byte_due
+idle-due x e = ap (λ (r : Receiver). is_byte_due r x) e
+
+idle-line : (h : Bool) (x : SerialPort) → x.receiver ≡ receivers.Idle → after_line x.receiver h x ≡ after_idle h x
+unfolding after_line
+idle-line h x e = ap (λ (r : Receiver). after_line r h x) e
+
+frame-due : (f : Hearing) (x : SerialPort) → x.receiver ≡ receivers.Frame f → is_byte_due x.receiver x ≡ is_frame_due f x
+unfolding is_byte_due
+frame-due f x e = ap (λ (r : Receiver). is_byte_due r x) e
+
+frame-line : (h : Bool) (f : Hearing) (x : SerialPort) → x.receiver ≡ receivers.Frame f →
+    after_line x.receiver h x ≡ after_hearing h f x
+unfolding after_line
+frame-line h f x e = ap (λ (r : Receiver). after_line r h x) e
+
+-- a high line at rest
+idle-high : (x : SerialPort) → x.receiver ≡ receivers.Idle → after_receiving true x ≡ after_waiting x
+idle-high x e = receiving-no true x (idle-due x e) ∙ ap after_waiting (idle-line true x e)
+
+-- a low line at rest
+idle-low-line : (x : SerialPort) → can_receive x ≡ true → after_idle false x ≡ with_receiver (first_heard x) x
+idle-low-line x c = rw c refl
+
+idle-low : (x : SerialPort) → x.receiver ≡ receivers.Idle → can_receive x ≡ true →
+    after_receiving false x ≡ after_waiting (with_receiver (first_heard x) x)
+idle-low x e c =
+    receiving-no false x (idle-due x e) ∙ ap after_waiting (idle-line false x e ∙ idle-low-line x c)
+
+-- a frame that goes on
+goes_on-due : (f : Hearing) (x : SerialPort) → is_over f.elapsed x.divisor ≡ false → is_frame_due f x ≡ false
+goes_on-due f x o = rw o refl
+
+goes_on-line : (h : Bool) (f : Hearing) (x : SerialPort) → is_over f.elapsed x.divisor ≡ false →
+    after_hearing h f x ≡ with_receiver (receivers.Frame (record f { elapsed = f.elapsed + 4 })) x
+goes_on-line h f x o = rw o refl
+
+hears-on : (h : Bool) (f : Hearing) (x : SerialPort) → x.receiver ≡ receivers.Frame f →
+    is_over f.elapsed x.divisor ≡ false →
+    after_receiving h x ≡ after_waiting (with_receiver (receivers.Frame (record f { elapsed = f.elapsed + 4 })) x)
+hears-on h f x e o =
+    receiving-no h x (frame-due f x e ∙ goes_on-due f x o) ∙ ap after_waiting (frame-line h f x e ∙ goes_on-line h f x o)
+
+-- a sample that is not the stop bit's
+sample-due : (f : Hearing) (x : SerialPort) → is_over f.elapsed x.divisor ≡ true → is_stop f x ≡ false → is_frame_due f x ≡ false
+sample-due f x o p = rw (o, p) refl
+
+sample-line : (h : Bool) (f : Hearing) (x : SerialPort) → is_over f.elapsed x.divisor ≡ true → is_stop f x ≡ false →
+    is_false_start h f ≡ false →
+    after_hearing h f x ≡ with_receiver (receivers.Frame (sampled h f (f.elapsed + 4 - bit_time x.divisor))) x
+sample-line h f x o p q = rw (o, p, q) refl
+
+hears-sample : (h : Bool) (f : Hearing) (x : SerialPort) → x.receiver ≡ receivers.Frame f →
+    is_over f.elapsed x.divisor ≡ true → is_stop f x ≡ false → is_false_start h f ≡ false →
+    after_receiving h x
+    ≡ after_waiting (with_receiver (receivers.Frame (sampled h f (f.elapsed + 4 - bit_time x.divisor))) x)
+hears-sample h f x e o p q =
+    receiving-no h x (frame-due f x e ∙ sample-due f x o p)
+    ∙ ap after_waiting (frame-line h f x e ∙ sample-line h f x o p q)
+
+-- the stop bit's sample
+stop-due : (f : Hearing) (x : SerialPort) → is_over f.elapsed x.divisor ≡ true → is_stop f x ≡ true → is_frame_due f x ≡ true
+stop-due f x o p = rw (o, p) refl
+
+stop-line : (h : Bool) (f : Hearing) (x : SerialPort) → is_over f.elapsed x.divisor ≡ true → is_stop f x ≡ true →
+    after_hearing h f x ≡ after_stop h f x
+stop-line h f x o p = rw (o, p) refl
+
+hears-stop : (h : Bool) (f : Hearing) (x : SerialPort) → x.receiver ≡ receivers.Frame f →
+    is_over f.elapsed x.divisor ≡ true → is_stop f x ≡ true → after_receiving h x ≡ after_stop h f x
+hears-stop h f x e o p =
+    receiving-yes h x (frame-due f x e ∙ stop-due f x o p) ∙ (frame-line h f x e ∙ stop-line h f x o p)
+
+-- ---- a byte that is stored
+
+stored-received : (byte : ℕ) (e : Errors) (y : SerialPort) →
+    (stored byte e y).received ≡ y.received ++ record { byte = byte; errors = with_overrun y.lost e } ∷ []
+stored-received byte e y =
+    let kept : SerialPort = record y {
+      received = y.received ++ record { byte = byte; errors = with_overrun y.lost e } ∷ [];
+      lost = false;
+    } in
+    let some = told (error_interrupts e) kept in
+    either (λ (t : SerialPort). t.received) (length kept.received == receive_trigger kept) (told receive_interrupt some) some
+    kept.received refl refl
+
+stored-receiver : (byte : ℕ) (e : Errors) (y : SerialPort) → (stored byte e y).receiver ≡ y.receiver
+stored-receiver byte e y =
+    let kept : SerialPort = record y {
+      received = y.received ++ record { byte = byte; errors = with_overrun y.lost e } ∷ [];
+      lost = false;
+    } in
+    let some = told (error_interrupts e) kept in
+    either (λ (t : SerialPort). t.receiver) (length kept.received == receive_trigger kept) (told receive_interrupt some) some
+    y.receiver refl refl
+
+room-stores : (byte : ℕ) (e : Errors) (y : SerialPort) → nat_lt (length y.received) (depth_of y) ≡ true →
+    after_byte byte e y ≡ with_waited (Some 0) (stored byte e y)
+unfolding after_byte
+room-stores byte e y r = rw r refl
+
+-- ---- where sender and receiver are
+
+suc-one : (b : ℕ) → suc b ≡ b + 1
+suc-one b = omega arith
+
+lt-more : (b s : ℕ) → b < s → b + 1 ≤ s
+lt-more b s h = omega arith
+
+le-more : (s b : ℕ) → s ≤ b → s ≤ b + 1
+le-more s b h = omega arith
+
+le-both : (b s : ℕ) → b ≤ s → s ≤ b → b ≡ s
+le-both b s h i = omega arith
+
+positive : (d : ℕ) → 64 ≤ d → 0 < d
+positive d h = omega arith
+
+none-less : (s : ℕ) → 0 ≤ s
+none-less s = omega arith
+
+four-more : (k : ℕ) → 4 * suc k + 4 ≡ 4 * suc (suc k)
+four-more k = omega arith
+
+-- the receiver hears the frame of which the sender has sent so much
+record Hears (byte time : ℕ) (s t : SerialPort) : Type 0 where
+  on : On byte time s t
+  bit : ℕ
+  elapsed : ℕ
+  is : t.receiver ≡ receivers.Frame (record { samples = samples_of s.line byte bit; bit = bit; elapsed = elapsed })
+  passed : bit * bit_time s.divisor + elapsed + 4 ≡ time + bit_time s.divisor / 2
+  within : elapsed < bit_time s.divisor
+  early : bit ≤ stop_at s.line
+  received : t.received ≡ s.received
+  to_send : t.to_send ≡ []
+  lost : t.lost ≡ false
+
+-- the sender is in a stop bit, or sends nothing
+abbrev IsHigh : LineControl → Sender → Type 0
+IsHigh line senders.Idle = Unit {0}
+IsHigh line (senders.Frame f) = stop_at line ≤ f.bit
+
+record Rests (byte : ℕ) (s t : SerialPort) : Type 0 where
+  same : Same s t
+  receiver : t.receiver ≡ receivers.Idle
+  received : t.received ≡ s.received ++ record { byte = byte % 2 ^ width_of s.line.width; errors = no_errors } ∷ []
+  to_send : t.to_send ≡ []
+  high : IsHigh s.line t.sender
+
+data Stage (byte time : ℕ) (s t : SerialPort) : Type 0 where
+  hears : Hears byte time s t → Stage byte time s t
+  rests : Rests byte s t → Stage byte time s t
+
+loops : (line : Bool) (t : SerialPort) → t.control.loopback ≡ true → heard_of line t ≡ output_of t
+loops line t e = rw e refl
+
+loopback-as : (s t : SerialPort) → Same s t → s.control.loopback ≡ true → t.control.loopback ≡ true
+loopback-as s t a e = ap (λ (c : Control). c.loopback) a.control ∙ e
+
+-- ---- at rest
+
+record Silent (line : LineControl) (t : SerialPort) : Type 0 where
+  to_send : t.to_send ≡ []
+  high : IsHigh line t.sender
+
+silent-either : (line : LineControl) (c : Bool) (x y : SerialPort) → Silent line x → Silent line y → Silent line (cond c x y)
+silent-either line true x y a b = a
+silent-either line false x y a b = b
+
+silent-as : (line : LineControl) (x y : SerialPort) → x ≡ y → Silent line y → Silent line x
+silent-as line x y e a = rw e a
+
+silent-sender : (line : LineControl) (sender : Sender) (t : SerialPort) → t.sender ≡ sender → t.to_send ≡ [] → IsHigh line sender →
+    Silent line (after_sender sender t)
+silent-sender line senders.Idle t is e h =
+    silent-as line (next_frame 0 t) t (next-none 0 t e) (record { to_send = e; high = rw is h })
+silent-sender line (senders.Frame f) t is e h =
+    let elapsed = elapsed_after f.elapsed t.divisor in
+    let idle = with_sender senders.Idle t in
+    let next = with_sender (senders.Frame (record f { bit = f.bit + 1; elapsed = elapsed })) t in
+    let on = with_sender (senders.Frame (record f { elapsed = elapsed })) t in
+    silent-either line (is_over f.elapsed t.divisor) (after_bit f elapsed t) on
+    (silent-either line (is_last_bit f t) (next_frame elapsed idle) next
+    (silent-as line (next_frame elapsed idle) idle (next-none elapsed idle e) (record { to_send = e; high = record {} }))
+    (record { to_send = e; high = le-more (stop_at line) f.bit h }))
+    (record { to_send = e; high = h })
+
+silent-sending : (line : LineControl) (t : SerialPort) → Silent line t → Silent line (after_sending t)
+unfolding after_sending
+silent-sending line t a = silent-sender line t.sender t refl a.to_send a.high
+
+high-level : (line : LineControl) (sender : Sender) → IsHigh line sender → level_of sender line ≡ true
+high-level line senders.Idle h = refl
+high-level line (senders.Frame f) h = level_at-stop line f.byte f.bit h
+
+output-high : (s t : SerialPort) → Same s t → IsHigh s.line t.sender → output_of t ≡ true
+output-high s t a h = ap (level_of t.sender) a.line ∙ high-level s.line t.sender h
+
+receiver-sent : (t : SerialPort) → (after_sending t).receiver ≡ t.receiver
+receiver-sent t = sending-keeps (λ (x : SerialPort). x.receiver) (λ a b c x. refl) t
+
+received-sent : (t : SerialPort) → (after_sending t).received ≡ t.received
+received-sent t = sending-keeps (λ (x : SerialPort). x.received) (λ a b c x. refl) t
+
+lost-sent : (t : SerialPort) → (after_sending t).lost ≡ t.lost
+lost-sent t = sending-keeps (λ (x : SerialPort). x.lost) (λ a b c x. refl) t
+
+receiver-waited : (t : SerialPort) → (after_waiting t).receiver ≡ t.receiver
+receiver-waited t = waiting-keeps (λ (x : SerialPort). x.receiver) (λ a b x. refl) t
+
+received-waited : (t : SerialPort) → (after_waiting t).received ≡ t.received
+received-waited t = waiting-keeps (λ (x : SerialPort). x.received) (λ a b x. refl) t
+
+lost-waited : (t : SerialPort) → (after_waiting t).lost ≡ t.lost
+lost-waited t = waiting-keeps (λ (x : SerialPort). x.lost) (λ a b x. refl) t
+
+-- a cycle in which the receiver is told this level, and leaves this
+step-to : (line h : Bool) (t y : SerialPort) → is_running t ≡ true → heard_of line t ≡ h → after_receiving h (after_sending t) ≡ y →
+    after_step line t ≡ y
+step-to line h t y e p q = runs line t e ∙ (ap (λ (b : Bool). after_receiving b (after_sending t)) p ∙ q)
+
+to_send-step : (line : Bool) (t : SerialPort) → is_running t ≡ true → (after_step line t).to_send ≡ (after_sending t).to_send
+to_send-step line t e =
+    ap (λ (x : SerialPort). x.to_send) (runs line t e) ∙ to_send-received (heard_of line t) (after_sending t)
+
+rests-next : (line : Bool) (byte : ℕ) (s t : SerialPort) → is_running s ≡ true → s.control.loopback ≡ true → Rests byte s t →
+    Rests byte s (after_step line t)
+rests-next line byte s t running loopback a =
+    let on : is_running t ≡ true = running-as s t a.same running in
+    let x = after_sending t in
+    let u = after_step line t in
+    let silent = silent-sending s.line t (record { to_send = a.to_send; high = a.high }) in
+    let told_high : heard_of line t ≡ true =
+    loops line t (loopback-as s t a.same loopback) ∙ output-high s t a.same a.high in
+    let is : u ≡ after_waiting x = step-to line true t (after_waiting x) on told_high (idle-high x (receiver-sent t ∙ a.receiver)) in
+    record {
+      same = same-both s t u a.same (same-step line t on);
+      receiver = ap (λ (y : SerialPort). y.receiver) is ∙ (receiver-waited x ∙ (receiver-sent t ∙ a.receiver));
+      received = ap (λ (y : SerialPort). y.received) is ∙ (received-waited x ∙ (received-sent t ∙ a.received));
+      to_send = to_send-step line t on ∙ silent.to_send;
+      high = rw (sender-step line t on) silent.high;
+    }
+
+-- ---- the frame
+
+still_early : (b d r t n : ℕ) → 64 ≤ d → b * d + r + 4 ≡ t + d / 2 → r < d → b < n → t + 4 < n * d
+still_early b d r t n large e w h =
+    let more : b + 1 ≤ n = omega arith in
+    let enough : (b + 1) * d ≤ n * d = mul-le-mul_right d more in
+    omega (arith, one_more b d)
+
+same_bit : (b d r t : ℕ) → 64 ≤ d → b * d + r + 4 ≡ t + d / 2 → d ≤ r + 4 → r < d → t / d ≡ b
+same_bit b d r t large e o w = times_of b d (r + 4 - d / 2) t (omega arith) (omega arith)
+
+more-passed : (b d r t : ℕ) → b * d + r + 4 ≡ t + d / 2 → b * d + (r + 4) + 4 ≡ t + 4 + d / 2
+more-passed b d r t e = omega arith
+
+next-passed : (b d r t : ℕ) → b * d + r + 4 ≡ t + d / 2 → d ≤ r + 4 → (b + 1) * d + (r + 4 - d) + 4 ≡ t + 4 + d / 2
+next-passed b d r t e o = omega (arith, one_more b d)
+
+next-rest : (d r : ℕ) → 64 ≤ d → r < d → r + 4 - d < d
+next-rest d r h w = omega arith
+
+no_false_start : (h : Bool) (bit : ℕ) → (bit ≡ 0 → h ≡ false) → (h && bit == 0) ≡ false
+no_false_start true zero k = k refl
+no_false_start true (suc bit) k = ne_eqb (suc bit) 0 (λ e. omega arith)
+no_false_start false bit k = refl
+
+has_time : (b n stop two : ℕ) → b ≤ stop → n ≡ stop + two + 1 → b < n
+has_time b n stop two h e = omega arith
+
+level-bit : (s : SerialPort) (byte : ℕ) (h : Bool) (bit : ℕ) → h ≡ level_at s.line byte bit →
+    with_sample h bit (samples_of s.line byte bit) ≡ samples_of s.line byte (suc bit)
+level-bit s byte h bit e = ap (λ (b : Bool). with_sample b bit (samples_of s.line byte bit)) e
+
+-- the byte that is stored
+abbrev entry : LineControl → ℕ → Bool → Bool → Received
+entry line samples stop lost =
+    record { byte = byte_heard line samples; errors = with_overrun lost (errors_of line samples stop) }
+
+entry-is : (line : LineControl) (byte bit : ℕ) (l : LineControl) (h lost : Bool) → l ≡ line → bit ≡ stop_at line →
+    h ≡ level_at line byte bit → lost ≡ false →
+    entry l (samples_of line byte bit) h lost ≡ record { byte = byte % 2 ^ width_of line.width; errors = no_errors }
+entry-is line byte bit l h lost e p q r =
+    let samples = samples_of line byte (stop_at line) in
+    let stop = level_at line byte (stop_at line) in
+    let heard = heard_law line byte in
+    ap (λ (m : LineControl). entry m (samples_of line byte bit) h lost) e
+    ∙ (ap (λ (k : ℕ). entry line (samples_of line byte k) h lost) p
+    ∙ (ap (λ (b : Bool). entry line samples b lost) (q ∙ ap (level_at line byte) p)
+    ∙ (ap (λ (b : Bool). entry line samples stop b) r
+    ∙ (ap (λ (b : ℕ). record { byte = b; errors = with_overrun false (errors_of line samples stop) }) heard.heard
+    ∙ ap (λ (e : Errors). record { byte = byte % 2 ^ width_of line.width; errors = with_overrun false e }) heard.errors))))
+
+le-as : (a b c : ℕ) → a ≤ b → b ≤ c → a ≤ c
+le-as a b c h i = omega arith
+
+first-passed : (d : ℕ) → 0 * d + d / 2 + 4 ≡ 4 + d / 2
+first-passed d = omega arith
+
+half-less : (d : ℕ) → 64 ≤ d → d / 2 < d
+half-less d h = omega arith
+
+later_bit : (b c d r q t : ℕ) → b * d + r + 4 ≡ t + d / 2 → d ≤ r + 4 → c * d + q ≡ t + 4 → q < d → b ≤ c
+later_bit b c d r q t e o f w =
+    let less : b < c + 1 = fewer b (c + 1) d (t + 4) (omega arith) (omega (arith, one_more c d)) in
+    omega arith
+
+module _ (line : Bool) (byte time : ℕ) (s t : SerialPort) (running : is_running s ≡ true) (loopback : s.control.loopback ≡ true)
+    (room : nat_lt (length s.received) (depth_of s) ≡ true) (a : Hears byte time s t) where
+  abbrev d : ℕ
+  d = bit_time s.divisor
+
+  large : 64 ≤ d
+  large = bit_time-large s.divisor running
+
+  abbrev f : Hearing
+  f = record { samples = samples_of s.line byte a.bit; bit = a.bit; elapsed = a.elapsed }
+
+  abbrev x : SerialPort
+  x = after_sending t
+
+  abbrev u : SerialPort
+  u = after_step line t
+
+  on_t : is_running t ≡ true
+  on_t = running-as s t a.on.same running
+
+  soon : time + 4 < frame_time byte s
+  soon =
+      still_early a.bit d a.elapsed time (frame_length s.line byte) large a.passed a.within
+      (has_time a.bit (frame_length s.line byte) (stop_at s.line) (bit_number s.line.two_stops) a.early
+      (frame_length-sum s.line byte))
+
+  on_u : On byte (time + 4) s u
+  on_u = on-next line s t byte time running a.on soon
+
+  to_send-u : u.to_send ≡ []
+  to_send-u = to_send-step line t on_t ∙ ((goes-on s t byte time running a.on soon).to_send ∙ a.to_send)
+
+  receiver-x : x.receiver ≡ receivers.Frame f
+  receiver-x = receiver-sent t ∙ a.is
+
+  received-x : x.received ≡ s.received
+  received-x = received-sent t ∙ a.received
+
+  lost-x : x.lost ≡ false
+  lost-x = lost-sent t ∙ a.lost
+
+  divisor-x : x.divisor ≡ s.divisor
+  divisor-x = (same-sending t).divisor ∙ a.on.same.divisor
+
+  line-x : x.line ≡ s.line
+  line-x = (same-sending t).line ∙ a.on.same.line
+
+  abbrev heard : Bool
+  heard = heard_of line t
+
+  heard-is : d ≤ a.elapsed + 4 → heard ≡ level_at s.line byte a.bit
+  heard-is o =
+      loops line t (loopback-as s t a.on.same loopback)
+      ∙ (level_by s t byte time a.on
+      ∙ ap (level_at s.line byte) (same_bit a.bit d a.elapsed time large a.passed o a.within))
+
+  longer : is_over a.elapsed s.divisor ≡ false → Hears byte (time + 4) s u
+  longer o =
+      let y = with_receiver (receivers.Frame (record f { elapsed = a.elapsed + 4 })) x in
+      let is : u ≡ after_waiting y =
+      step-to line heard t (after_waiting y) on_t refl (hears-on heard f x receiver-x (ap (is_over a.elapsed) divisor-x ∙ o)) in
+      record {
+        on = on_u;
+        bit = a.bit;
+        elapsed = a.elapsed + 4;
+        is = ap (λ (z : SerialPort). z.receiver) is ∙ receiver-waited y;
+        passed = more-passed a.bit d a.elapsed time a.passed;
+        within = leb-false d (a.elapsed + 4) o;
+        early = a.early;
+        received = ap (λ (z : SerialPort). z.received) is ∙ (received-waited y ∙ received-x);
+        to_send = to_send-u;
+        lost = ap (λ (z : SerialPort). z.lost) is ∙ (lost-waited y ∙ lost-x);
+      }
+
+  further : is_over a.elapsed s.divisor ≡ true → is_stop f s ≡ false → Hears byte (time + 4) s u
+  further o p =
+      let full : d ≤ a.elapsed + 4 = leb-true d (a.elapsed + 4) o in
+      let level = heard-is full in
+      let start : is_false_start heard f ≡ false =
+      no_false_start heard a.bit (λ z. level ∙ level_at-start s.line byte a.bit z) in
+      let y = with_receiver (receivers.Frame (sampled heard f (a.elapsed + 4 - bit_time x.divisor))) x in
+      let is : u ≡ after_waiting y =
+      step-to line heard t (after_waiting y) on_t refl
+      (hears-sample heard f x receiver-x (ap (is_over a.elapsed) divisor-x ∙ o)
+      (ap (λ (l : LineControl). nat_le (stop_at l) a.bit) line-x ∙ p) start) in
+      let one : suc a.bit ≡ a.bit + 1 = suc-one a.bit in
+      let less : a.bit < stop_at s.line = leb-false (stop_at s.line) a.bit p in
+      record {
+        on = on_u;
+        bit = a.bit + 1;
+        elapsed = a.elapsed + 4 - d;
+        is =
+            ap (λ (z : SerialPort). z.receiver) is
+            ∙ (receiver-waited y
+            ∙ (ap (λ (v : Divisor). receivers.Frame (sampled heard f (a.elapsed + 4 - bit_time v))) divisor-x
+            ∙ ap
+            (λ (k : ℕ). receivers.Frame (record { samples = k; bit = a.bit + 1; elapsed = a.elapsed + 4 - bit_time s.divisor }))
+            (level-bit s byte heard a.bit level ∙ ap (samples_of s.line byte) one)));
+        passed = next-passed a.bit d a.elapsed time a.passed full;
+        within = next-rest d a.elapsed large a.within;
+        early = lt-more a.bit (stop_at s.line) less;
+        received = ap (λ (z : SerialPort). z.received) is ∙ (received-waited y ∙ received-x);
+        to_send = to_send-u;
+        lost = ap (λ (z : SerialPort). z.lost) is ∙ (lost-waited y ∙ lost-x);
+      }
+
+  stops : is_over a.elapsed s.divisor ≡ true → is_stop f s ≡ true → Rests byte s u
+  stops o p =
+      let full : d ≤ a.elapsed + 4 = leb-true d (a.elapsed + 4) o in
+      let level = heard-is full in
+      let past : stop_at s.line ≤ a.bit = leb-true (stop_at s.line) a.bit p in
+      let here : a.bit ≡ stop_at s.line = le-both a.bit (stop_at s.line) a.early past in
+      let high : heard ≡ true = level ∙ level_at-stop s.line byte a.bit past in
+      let y = with_receiver (cond heard receivers.Idle receivers.Waiting) x in
+      let b = byte_heard x.line f.samples in
+      let e = errors_of x.line f.samples heard in
+      let fits : nat_lt (length y.received) (depth_of y) ≡ true =
+      ap (λ (xs : List Received). nat_lt (length xs) (depth_of y)) received-x
+      ∙ (ap (λ (l : LineControl). nat_lt (length s.received) (cond l.fifos 32 1)) line-x ∙ room) in
+      let is : u ≡ with_waited (Some 0) (stored b e y) =
+      step-to line heard t (with_waited (Some 0) (stored b e y)) on_t refl
+      (hears-stop heard f x receiver-x (ap (is_over a.elapsed) divisor-x ∙ o)
+      (ap (λ (l : LineControl). nat_le (stop_at l) a.bit) line-x ∙ p)
+      ∙ room-stores b e y fits) in
+      let next = on_u.sent in
+      let later : stop_at s.line ≤ next.bit =
+      le-as (stop_at s.line) a.bit next.bit past
+      (later_bit a.bit next.bit d a.elapsed next.elapsed time a.passed full next.passed next.within) in
+      record {
+        same = on_u.same;
+        receiver =
+            ap (λ (z : SerialPort). z.receiver) is
+            ∙ (stored-receiver b e y ∙ ap (λ (c : Bool). cond c receivers.Idle receivers.Waiting) high);
+        received =
+            ap (λ (z : SerialPort). z.received) is
+            ∙ (stored-received b e y
+            ∙ (ap (λ (xs : List Received). xs ++ entry x.line f.samples heard x.lost ∷ []) received-x
+            ∙ ap (λ (r : Received). s.received ++ r ∷ [])
+            (entry-is s.line byte a.bit x.line heard x.lost line-x here level lost-x)));
+        to_send = to_send-u;
+        high = rw next.is later;
+      }
+
+  ended : is_over a.elapsed s.divisor ≡ true → (stop : Bool) → is_stop f s ≡ stop → Stage byte (time + 4) s u
+  ended o true p = rests (stops o p)
+  ended o false p = hears (further o p)
+
+  hears-by : (over : Bool) → is_over a.elapsed s.divisor ≡ over → Stage byte (time + 4) s u
+  hears-by true o = ended o (is_stop f s) refl
+  hears-by false o = hears (longer o)
+
+  hears-next : Stage byte (time + 4) s u
+  hears-next = hears-by (is_over a.elapsed s.divisor) refl
+
+-- ---- the first two cycles
+
+sending-idle : (s : SerialPort) → s.sender ≡ senders.Idle → after_sending s ≡ next_frame 0 s
+unfolding after_sending
+sending-idle s e = ap (λ (q : Sender). after_sender q s) e
+
+next-first : (byte : ℕ) (s : SerialPort) → can_send s ≡ true → s.to_send ≡ byte ∷ [] → next_frame 0 s ≡ with_first (Some byte) 0 s
+unfolding next_frame
+next-first byte s c e =
+    ap (λ (xs : List ℕ). cond (can_send s) (with_first (slice_get xs 0) 0 s) s) e
+    ∙ ap (λ (b : Bool). cond b (with_first (Some byte) 0 s) s) c
+
+first-sender : (byte : ℕ) (s : SerialPort) → (with_first (Some byte) 0 s).sender ≡ begun byte 0
+first-sender byte s =
+    let rest : SerialPort = record s { sender = begun byte 0; to_send = drop 1 s.to_send } in
+    either (λ (z : SerialPort). z.sender) (length rest.to_send == transmit_trigger rest) (told transmit_interrupt rest) rest
+    (begun byte 0) refl refl
+
+first-to_send : (byte : ℕ) (s : SerialPort) → (with_first (Some byte) 0 s).to_send ≡ drop 1 s.to_send
+first-to_send byte s =
+    let rest : SerialPort = record s { sender = begun byte 0; to_send = drop 1 s.to_send } in
+    either (λ (z : SerialPort). z.to_send) (length rest.to_send == transmit_trigger rest) (told transmit_interrupt rest) rest
+    (drop 1 s.to_send) refl refl
+
+record Begins (byte : ℕ) (s t : SerialPort) : Type 0 where
+  on : On byte 0 s t
+  receiver : t.receiver ≡ receivers.Idle
+  received : t.received ≡ s.received
+  to_send : t.to_send ≡ []
+  lost : t.lost ≡ false
+
+nothing-yet : (d : ℕ) → 0 * d + 0 ≡ 0
+nothing-yet d = omega arith
+
+begins : (line : Bool) (byte : ℕ) (s : SerialPort) → HearsItself byte s → Begins byte s (after_step line s)
+begins line byte s a =
+    let x = after_sending s in
+    let large = bit_time-large s.divisor a.running in
+    let first : x ≡ with_first (Some byte) 0 s = sending-idle s a.sender ∙ next-first byte s a.sends a.to_send in
+    let high : heard_of line s ≡ true = loops line s a.loops ∙ ap (λ (q : Sender). level_of q s.line) a.sender in
+    let is : after_step line s ≡ after_waiting x =
+    step-to line true s (after_waiting x) a.running high (idle-high x (receiver-sent s ∙ a.receiver)) in
+    record {
+      on = record {
+        same = same-step line s a.running;
+        sent = record {
+          bit = 0;
+          elapsed = 0;
+          is = sender-step line s a.running ∙ (ap (λ (z : SerialPort). z.sender) first ∙ first-sender byte s);
+          passed = nothing-yet (bit_time s.divisor);
+          within = positive (bit_time s.divisor) large;
+        };
+      };
+      receiver = ap (λ (z : SerialPort). z.receiver) is ∙ (receiver-waited x ∙ (receiver-sent s ∙ a.receiver));
+      received = ap (λ (z : SerialPort). z.received) is ∙ (received-waited x ∙ received-sent s);
+      to_send =
+          to_send-step line s a.running
+          ∙ (ap (λ (z : SerialPort). z.to_send) first ∙ (first-to_send byte s ∙ ap (drop 1) a.to_send));
+      lost = ap (λ (z : SerialPort). z.lost) is ∙ (lost-waited x ∙ (lost-sent s ∙ a.complete));
+    }
+
+frame-long : (n d k : ℕ) → 64 ≤ d → n ≡ k + 1 → 4 < n * d
+frame-long n d k large e =
+    let one : 1 ≤ n = omega arith in
+    let enough : 1 * d ≤ n * d = mul-le-mul_right d one in
+    omega arith
+
+frame-lasts : (byte : ℕ) (s : SerialPort) → 64 ≤ bit_time s.divisor → 4 < frame_time byte s
+frame-lasts byte s large =
+    frame-long (frame_length s.line byte) (bit_time s.divisor) (stop_at s.line + bit_number s.line.two_stops) large
+    (frame_length-sum s.line byte)
+
+begins-next : (line : Bool) (byte : ℕ) (s t : SerialPort) → HearsItself byte s → Begins byte s t → Hears byte 4 s (after_step line t)
+begins-next line byte s t a b =
+    let d = bit_time s.divisor in
+    let large : 64 ≤ d = bit_time-large s.divisor a.running in
+    let on_t = running-as s t b.on.same a.running in
+    let x = after_sending t in
+    let zero_bit : 0 / d ≡ 0 = times_of 0 d 0 0 (nothing-yet d) (positive d large) in
+    let low : heard_of line t ≡ false =
+    loops line t (loopback-as s t b.on.same a.loops)
+    ∙ (level_by s t byte 0 b.on ∙ level_at-start s.line byte (0 / d) zero_bit) in
+    let can : can_receive x ≡ true =
+    ap (λ (c : Control). c.enabled && c.receive) ((same-sending t).control ∙ b.on.same.control) ∙ a.receives in
+    let y = with_receiver (first_heard x) x in
+    let is : after_step line t ≡ after_waiting y =
+    step-to line false t (after_waiting y) on_t low (idle-low x (receiver-sent t ∙ b.receiver) can) in
+    let soon = frame-lasts byte s large in
+    record {
+      on = on-next line s t byte 0 a.running b.on soon;
+      bit = 0;
+      elapsed = d / 2;
+      is =
+          ap (λ (z : SerialPort). z.receiver) is
+          ∙ (receiver-waited y
+          ∙ ap (λ (v : Divisor). receivers.Frame (record { samples = 0; bit = 0; elapsed = bit_time v / 2 }))
+          ((same-sending t).divisor ∙ b.on.same.divisor));
+      passed = first-passed d;
+      within = half-less d large;
+      early = none-less (stop_at s.line);
+      received = ap (λ (z : SerialPort). z.received) is ∙ (received-waited y ∙ (received-sent t ∙ b.received));
+      to_send =
+          to_send-step line t on_t ∙ ((goes-on s t byte 0 a.running b.on soon).to_send ∙ b.to_send);
+      lost = ap (λ (z : SerialPort). z.lost) is ∙ (lost-waited y ∙ (lost-sent t ∙ b.lost));
+    }
+
+-- ---- all cycles
+
+stage-as : (byte t u : ℕ) (s x : SerialPort) → t ≡ u → Stage byte t s x → Stage byte u s x
+stage-as byte t u s x e a = rw (sym e) a
+
+stage-next : (line : Bool) (byte time : ℕ) (s t : SerialPort) → HearsItself byte s → Stage byte time s t →
+    Stage byte (time + 4) s (after_step line t)
+stage-next line byte time s t a (hears b) = hears-next line byte time s t a.running a.loops a.room b
+stage-next line byte time s t a (rests b) = rests (rests-next line byte s t a.running a.loops b)
+
+stage-at : (levels : ℕ → Bool) (byte k : ℕ) (s : SerialPort) → HearsItself byte s →
+    Stage byte (4 * suc k) s (after_cycles levels (suc (suc k)) s)
+stage-at levels byte zero s a =
+    hears (begins-next (levels 1) byte s (after_step (levels 0) s) a (begins (levels 0) byte s a))
+stage-at levels byte (suc k) s a =
+    stage-as byte (4 * suc k + 4) (4 * suc (suc k)) s (after_cycles levels (suc (suc (suc k))) s) (four-more k)
+    (stage-next (levels (suc (suc k))) byte (4 * suc k) s (after_cycles levels (suc (suc k)) s) a (stage-at levels byte k s a))
+
+not_now : (b d r t n : ℕ) → 64 ≤ d → b * d + r + 4 ≡ t + d / 2 → r < d → b < n → n * d ≤ t → ⊥
+not_now b d r t n large e w h early =
+    let more : b + 1 ≤ n = omega arith in
+    let enough : (b + 1) * d ≤ n * d = mul-le-mul_right d more in
+    omega (arith, one_more b d)
+
+comes : (byte time : ℕ) (s t : SerialPort) → HearsItself byte s → frame_time byte s ≤ time → Stage byte time s t →
+    t.received ≡ s.received ++ record { byte = byte % 2 ^ width_of s.line.width; errors = no_errors } ∷ []
+comes byte time s t a early (rests b) = b.received
+comes byte time s t a early (hears b) =
+    absurd
+    (not_now b.bit (bit_time s.divisor) b.elapsed time (frame_length s.line byte) (bit_time-large s.divisor a.running) b.passed
+    b.within
+    (has_time b.bit (frame_length s.line byte) (stop_at s.line) (bit_number s.line.two_stops) b.early
+    (frame_length-sum s.line byte)) early)
+
+none-before : (n : ℕ) → 4 < n → n ≤ 4 * 0 → ⊥
+none-before n h e = omega arith
+
+pub the_byte_comes_back : TheByteComesBack
+the_byte_comes_back s levels byte zero a early =
+    absurd (none-before (frame_time byte s) (frame-lasts byte s (bit_time-large s.divisor a.running)) early)
+the_byte_comes_back s levels byte (suc k) a early =
+    comes byte (4 * suc k) s (after_cycles levels (suc (suc k)) s) a early (stage-at levels byte k s a)
