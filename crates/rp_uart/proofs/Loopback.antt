@@ -1,8 +1,8 @@
 -- A UART at rest that hears itself hears the byte that it is given.
-use Rattle.std.proofs.Common.{◌≡◌, ◌∙◌, ℕ, zero, suc, ◌+◌, ◌-◌, ◌*◌, ◌/◌, ◌%◌, ◌^◌, ◌<◌, ◌≤◌, Bool, true, false, cond, List, [], ◌∷◌, ◌++◌, Option, Some, None, refl, sym, ap, arith, ne_eqb}
-use Rattle.std.specs.Prelude.{not, ◌&&◌, ◌==◌, nat_lt, nat_le, length, drop, slice_get}
+use Rattle.std.proofs.Common.{◌≡◌, ◌∙◌, ℕ, zero, suc, ◌+◌, ◌-◌, ◌*◌, ◌/◌, ◌%◌, ◌^◌, ◌<◌, ◌≤◌, Bool, true, false, cond, List, [], ◌∷◌, ◌++◌, Some, refl, sym, ap, arith, ne_eqb}
+use Rattle.std.specs.Prelude.{◌&&◌, ◌==◌, nat_lt, nat_le, length, drop, slice_get}
 use Rattle.std.proofs.Math.Nat.{mul-le-mul_right}
-use Rattle.std.proofs.lemmas.Bool.{leb-true, le-leb, lt-leb, leb-false}
+use Rattle.std.proofs.lemmas.Bool.{leb-true, leb-false}
 use Rattle.word_bits.specs.Word.{bit_number}
 use Rattle.rp_uart.specs.declared.control.Control.{Control}
 use Rattle.rp_uart.specs.declared.control.Divisor.{Divisor}
@@ -12,13 +12,12 @@ use Rattle.rp_uart.specs.declared.receiver.Hearing.{Hearing}
 use Rattle.rp_uart.specs.declared.receiver.Received.{Received}
 use Rattle.rp_uart.specs.declared.receiver.Receiver.{Receiver}
 use Rattle.rp_uart.specs.declared.receiver.Receiver.TheVariants as receivers
-use Rattle.rp_uart.specs.declared.sender.Sending.{Sending}
 use Rattle.rp_uart.specs.declared.sender.Sender.{Sender}
 use Rattle.rp_uart.specs.declared.sender.Sender.TheVariants as senders
 use Rattle.rp_uart.specs.Frame.{width_of, level_at, frame_length, stop_at}
 use Rattle.rp_uart.specs.Interrupts.{depth_of, receive_trigger, transmit_trigger, receive_interrupt, transmit_interrupt, error_interrupts, told}
 use Rattle.rp_uart.specs.Law.{after_cycles, samples_of, begun, frame_time, HearsItself, TheByteComesBack}
-use Rattle.rp_uart.specs.Receiving.{byte_heard, errors_of, with_overrun, stored, dropped, with_waited, after_byte, after_waiting, with_receiver, can_receive, first_heard, after_idle, is_false_start, is_stop, with_sample, sampled, after_stop, after_hearing, after_line, is_frame_due, is_byte_due, after_receiving}
+use Rattle.rp_uart.specs.Receiving.{byte_heard, errors_of, with_overrun, stored, with_waited, after_byte, after_waiting, with_receiver, can_receive, first_heard, after_idle, is_false_start, is_stop, with_sample, sampled, after_stop, after_hearing, after_line, is_frame_due, is_byte_due, after_receiving}
 use Rattle.rp_uart.specs.Sending.{bit_time, is_over, elapsed_after, level_of, with_sender, with_first, can_send, next_frame, is_last_bit, after_bit, after_sender, after_sending}
 use Rattle.rp_uart.specs.State.{SerialPort, no_errors}
 use Rattle.rp_uart.specs.Step.{is_running, output_of, heard_of, after_step}
@@ -26,7 +25,7 @@ use Rattle.rp_uart.proofs.Frames.{frame_length-sum, level_at-start}
 use Rattle.rp_uart.proofs.Heard.{heard_law, level_at-stop}
 use Rattle.rp_uart.proofs.AtRest.{next-none}
 use Rattle.rp_uart.proofs.Kept.{either, sending-keeps, waiting-keeps}
-use Rattle.rp_uart.proofs.Timing.{bit_time-large, one_more, times_of, fewer, Sent, Goes, Same, same-sending, same-step, same-both, running-as, runs, sender-received, to_send-received, sender-step, On, goes-on, on-next, level_by}
+use Rattle.rp_uart.proofs.Timing.{bit_time-large, one_more, times_of, fewer, Same, same-sending, same-step, same-both, running-as, runs, to_send-received, sender-step, On, goes-on, on-next, level_by}
 
 -- ---- what receiving comes to
 

@@ -1,23 +1,20 @@
 -- A frame takes the time of its bits: how much of it has passed is the number of its bit times the time of a bit, and what
 -- has passed of the bit.
-use Rattle.std.proofs.Common.{◌≡◌, ◌∙◌, ℕ, zero, suc, ◌+◌, ◌-◌, ◌*◌, ◌/◌, ◌<◌, ◌≤◌, Bool, true, false, cond, List, Option, Some, None, refl, sym, ap, arith}
-use Rattle.std.specs.Prelude.{not, ◌&&◌, nat_lt, nat_le}
+use Rattle.std.proofs.Common.{◌≡◌, ◌∙◌, ℕ, zero, suc, ◌+◌, ◌-◌, ◌*◌, ◌/◌, ◌<◌, ◌≤◌, Bool, true, false, cond, Some, None, refl, sym, ap, arith}
+use Rattle.std.specs.Prelude.{◌&&◌, nat_lt, nat_le}
 use Rattle.std.proofs.Math.Nat.{add-mul, mul-le-mul_right, mul-add-div_right, div-eq_of_lt}
 use Rattle.std.proofs.lemmas.Bool.{leb-true, le-leb, lt-leb, leb-false}
 use Rattle.std.proofs.lemmas.Grind.{common_steps}
 use Rattle.std.proofs.lemmas.Bool.Decides.{nat_tests}
-use Rattle.rp_uart.specs.declared.control.Control.{Control}
 use Rattle.rp_uart.specs.declared.control.Divisor.{Divisor}
 use Rattle.rp_uart.specs.declared.frame.LineControl.{LineControl}
-use Rattle.rp_uart.specs.declared.receiver.Received.{Received}
-use Rattle.rp_uart.specs.declared.receiver.Receiver.{Receiver}
 use Rattle.rp_uart.specs.declared.sender.Sending.{Sending}
 use Rattle.rp_uart.specs.declared.sender.Sender.{Sender}
 use Rattle.rp_uart.specs.declared.sender.Sender.TheVariants as senders
 use Rattle.rp_uart.specs.Frame.{level_at, frame_length}
-use Rattle.rp_uart.specs.Law.{after_cycles, begun, frame_time, IsSent, AFrameTakesItsTime}
+use Rattle.rp_uart.specs.Law.{after_cycles, frame_time, AFrameTakesItsTime}
 use Rattle.rp_uart.specs.Receiving.{after_receiving}
-use Rattle.rp_uart.specs.Sending.{bit_time, is_over, elapsed_after, level_of, with_sender, is_last_bit, after_bit, after_frame, after_sender, after_sending, frame_byte, ended_byte}
+use Rattle.rp_uart.specs.Sending.{bit_time, is_over, level_of, with_sender, is_last_bit, after_frame, after_sender, after_sending, ended_byte}
 use Rattle.rp_uart.specs.State.{SerialPort}
 use Rattle.rp_uart.specs.Step.{is_running, output_of, heard_of, after_step, sent_byte}
 use Rattle.rp_uart.proofs.Kept.{sending-keeps, receiving-keeps}

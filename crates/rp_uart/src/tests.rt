@@ -49,15 +49,16 @@ const SENT: [(u32, u8); 5] = [
     (54283, 0x6f),
 ];
 
-/// What is written to UARTLCR_H, the levels of a frame from the lowest bit and how many, and what is read from UARTDR.
+/// What is written to UARTLCR_H, the levels of a frame from the lowest bit and for how many cycles,
+/// 16 for each, and what is read from UARTDR.
 const FRAMES: [(u32, u64, u32, u32); 7] = [
-    (0x70, 0x290, 10, 0x048),
-    (0x16, 0x0e6, 8, 0x013),
-    (0x16, 0x0a6, 8, 0x213),
-    (0x5a, 0x782, 11, 0x041),
-    (0x70, 0x490, 11, 0x148),
-    (0x70, 0x800, 12, 0x500),
-    (0x02, 0x080, 8, 0x200),
+    (0x70, 0x290, 160, 0x048),
+    (0x16, 0x0e6, 128, 0x013),
+    (0x16, 0x0a6, 128, 0x213),
+    (0x5a, 0x782, 176, 0x041),
+    (0x70, 0x490, 176, 0x148),
+    (0x70, 0x800, 192, 0x500),
+    (0x02, 0x080, 128, 0x200),
 ];
 
 /// What a UART of one byte a FIFO tells: the levels of RX from the lowest bit and for how many cycles, 16 for each, then an
@@ -151,9 +152,9 @@ fn hello(rt: HostRuntime) {
 
 #[test]
 fn frames(rt: HostRuntime) {
-    for (line_control, levels, count, read) in FRAMES {
+    for (line_control, levels, cycles, read) in FRAMES {
         let mut uart = fast(line_control, 0x201);
-        hear(&mut uart, levels, 16 * count);
+        hear(&mut uart, levels, cycles);
         let word = uart.read(DR);
         let taken = uart.effect(DR, None);
         let (errors, flags) = (uart.read(RSR), uart.read(FR));
