@@ -23,6 +23,7 @@ use Rattle.lane_look.specs.Asking.{Asking, answered}
 use Rattle.lane_look.specs.Asking.Asking.{Ready, Question}
 use Rattle.m0_core.specs.declared.doing.Act.{Act}
 use Rattle.m0_core.specs.declared.doing.Act.TheVariants as act
+use Rattle.m0_core.specs.declared.doing.Work.{Work}
 use Rattle.m0_core.specs.declared.doing.Work.TheVariants as works
 use Rattle.m0_core.specs.Kinds.{awaits_event, awaits_interrupt}
 use Rattle.rp_base.specs.Access.{master_of, word_written}
@@ -30,7 +31,7 @@ use Rattle.m0_core.specs.Private.{private_value, accessed}
 use Rattle.m0_core.specs.Fetch.{stopped, asks, asks_awake, asks_next, asks_boundary, asks_taken, asks_first, asks_half, asks_second, asks_decoded, asks_fault, asks_beat, beat_of, in_beat, in_ram, at_spot, carried, ends_with, is_faulty}
 use Rattle.m0_core.specs.Cycle.{signals, want_of, want_of_act, with_value, waiting, followed, with_read, returning, ended, passed_instruction, passed, is_held_op, after_inner, done_word, value_of, after_private, after, closed, is_idle, next}
 use Rattle.m0_core.specs.State.{State}
-use Rattle.m0_core.specs.Law.{Given, turn_of, begun_in, wanted_in, after_cycle, after_cycles, is_stop, GoesOn, want_at, want_of_beat, wants_in, read_at, read_in, reads_in, IsAtBoundary, half_at, IsEncoded, IsFetched, IsPlain, AnInstructionTakesItsBeats, LastsOn, is_access, AnAccessLastsUntilItIsDone}
+use Rattle.m0_core.specs.Law.{Given, turn_of, begun_in, wanted_in, after_cycle, after_cycles, is_stop, GoesOn, want_at, want_of_beat, wants_in, read_at, read_in, reads_in, IsAtBoundary, half_at, IsEncoded, IsFetched, IsPlain, AnInstructionTakesItsBeats, LastsOn, accessing, is_access, AnAccessLastsUntilItIsDone}
 use Rattle.m0_core.proofs.ReadCount.{reads_one, is_read, reading, reading-le}
 
 -- ---- states in the middle of an instruction
@@ -393,23 +394,23 @@ an_instruction_takes_its_beats op s cycle g gs at fetched plain goes =
 
 -- ---- accesses that wait
 
-lasts_closed : (lines cycle : ℕ) (s t : State) → LastsOn s t → LastsOn s (closed lines cycle t)
+lasts_closed : (lines cycle : ℕ) (s : State) (a : Act) (work : Work) → accessing a ≡ Some work → LastsOn s (ends_with lines cycle a) (closed lines cycle (waiting work s))
 unfolding closed
-lasts_closed lines cycle s t h = record { awake = h.awake; kept = h.kept; so_far = h.so_far; values = h.values }
+lasts_closed lines cycle s a work e = record { awake = refl; kept = refl; in_progress = sym e; so_far = refl; values = refl; exceptions = refl; event = refl }
 
 pub lasts_inner : (signals : Bool) {A : Type 0} → is_access (cond signals want.Signal want.Nothing) ≡ true → A
 lasts_inner true e = absurd (true≢false (sym e))
 lasts_inner false e = absurd (true≢false (sym e))
 
-lasts_act : (s : State) (lines cycle : ℕ) (a : Act) → is_access (want_of_act a) ≡ true → LastsOn s (next s (ends_with lines cycle a) (turn.Wait ∷ turn.Nothing ∷ []))
+lasts_act : (s : State) (lines cycle : ℕ) (a : Act) → is_access (want_of_act a) ≡ true → LastsOn s (ends_with lines cycle a) (next s (ends_with lines cycle a) (turn.Wait ∷ turn.Nothing ∷ []))
 unfolding next
 lasts_act s lines cycle act.Asleep e = absurd (true≢false (sym e))
 lasts_act s lines cycle (act.Stopped cause) e = absurd (true≢false (sym e))
 lasts_act s lines cycle act.Fault e = absurd (true≢false (sym e))
 lasts_act s lines cycle (act.Inner work) e = lasts_inner (signals work) e
-lasts_act s lines cycle (act.Read work request told) e = lasts_closed lines cycle s (waiting work s) (record { awake = refl; kept = refl; so_far = refl; values = refl })
-lasts_act s lines cycle (act.Write work request) e = lasts_closed lines cycle s (waiting work s) (record { awake = refl; kept = refl; so_far = refl; values = refl })
-lasts_act s lines cycle (act.Outward work request) e = lasts_closed lines cycle s (waiting work s) (record { awake = refl; kept = refl; so_far = refl; values = refl })
+lasts_act s lines cycle (act.Read work request told) e = lasts_closed lines cycle s (act.Read work request told) work refl
+lasts_act s lines cycle (act.Write work request) e = lasts_closed lines cycle s (act.Write work request) work refl
+lasts_act s lines cycle (act.Outward work request) e = lasts_closed lines cycle s (act.Outward work request) work refl
 lasts_act s lines cycle (act.Private work request offset) e = absurd (true≢false (sym e))
 
 pub an_access_lasts_until_it_is_done : AnAccessLastsUntilItIsDone

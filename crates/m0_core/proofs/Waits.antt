@@ -21,7 +21,7 @@ use Rattle.m0_core.specs.Fetch.{in_beat, in_ram, at_spot, ends_with}
 use Rattle.m0_core.specs.Cycle.{closed, next}
 use Rattle.m0_core.specs.State.{State}
 use Rattle.m0_core.specs.Law.{Given, turn_of, begun_in, wanted_in, after_cycle, is_stop, is_access, read_in, want_at, want_of_beat}
-use Rattle.m0_core.specs.Waiting.{Served, wait_of, turn_served, after_served, after_all_served, GoesOnServed, is_over, left_after, reads_served, AnInstructionTakesItsBeatsAndWaits}
+use Rattle.m0_core.specs.Waiting.{Served, wait_of, turn_served, after_served, after_all_served, GoesOnServed, wants_served, wants_of_beats, is_over, left_after, reads_served, AnInstructionTakesItsBeatsAndWaits}
 use Rattle.m0_core.proofs.ReadCount.{reading, reading-le}
 use Rattle.m0_core.proofs.TakesBeats.{Stands, Ends, Lands, Begins, lands_standing, wants_standing, begun_beat, begins_on, begins_boundary, value_kept, reads_beat, at_place, long_as, lasts_inner}
 
@@ -131,6 +131,7 @@ abbrev ComesServed : Op → Regs → List Beat → List Served → List ℕ → 
 ComesServed op regs rest xs read cycle s =
     ((c : Beat) (cs : List Beat) → left_after op rest xs ≡ Some (c ∷ cs) → ((after_all_served cycle xs s).regs ≡ regs) × ((after_all_served cycle xs s).work ≡ Some (works.Instruction op)))
     × (left_after op rest xs ≡ Some [] → Ends op regs (read ++ reads_served op cycle rest xs s) (after_all_served cycle xs s))
+    × ((bs : List Beat) → left_after op rest xs ≡ Some bs → wants_served cycle xs s ≡ wants_of_beats op rest xs)
 
 abbrev ComesBy : Op → Regs → Beat → List Beat → Served → List Served → List ℕ → ℕ → State → Bool → Type 0
 ComesBy op regs b rest x xs read cycle s o =
@@ -139,16 +140,20 @@ ComesBy op regs b rest x xs read cycle s o =
     × (cond o (left_after op rest xs) (left_after op (b ∷ rest) xs) ≡ Some []
     → Ends op regs (read ++ cond o (option_to_list (read_in b x.given s) ++ reads_served op (cycle + 1) rest xs (after_served cycle x s)) (reads_served op (cycle + 1) (b ∷ rest) xs (after_served cycle x s)))
     (after_all_served (cycle + 1) xs (after_served cycle x s)))
+    × ((bs : List Beat) → cond o (left_after op rest xs) (left_after op (b ∷ rest) xs) ≡ Some bs
+    → wanted_in cycle x.given s ∷ wants_served (cycle + 1) xs (after_served cycle x s) ≡ want_of_beat op b ∷ cond o (wants_of_beats op rest xs) (wants_of_beats op (b ∷ rest) xs))
 
 join : (op : Op) (regs : Regs) (b : Beat) (rest : List Beat) (x : Served) (xs : List Served) (read : List ℕ) (cycle : ℕ) (s : State) (o : Bool)
+    → wanted_in cycle x.given s ≡ want_of_beat op b
     → (o ≡ true → ComesServed op regs rest xs (read ++ option_to_list (read_in b x.given s)) (cycle + 1) (after_served cycle x s))
     → (o ≡ false → ComesServed op regs (b ∷ rest) xs read (cycle + 1) (after_served cycle x s))
     → ComesBy op regs b rest x xs read cycle s o
-join op regs b rest x xs read cycle s true over lasts =
+join op regs b rest x xs read cycle s true wanted over lasts =
     let h = over refl in
     let u = after_served cycle x s in
-    (h.0, λ q. subst (λ ys. Ends op regs ys (after_all_served (cycle + 1) xs u)) (append_assoc read (option_to_list (read_in b x.given s)) (reads_served op (cycle + 1) rest xs u)) (h.1 q))
-join op regs b rest x xs read cycle s false over lasts = let h = lasts refl in (h.0, h.1)
+    (h.0, λ q. subst (λ ys. Ends op regs ys (after_all_served (cycle + 1) xs u)) (append_assoc read (option_to_list (read_in b x.given s)) (reads_served op (cycle + 1) rest xs u)) (h.1 q), λ bs q. ap₂ (λ w ws. w ∷ ws) wanted (h.2 bs q))
+join op regs b rest x xs read cycle s false wanted over lasts =
+    let h = lasts refl in (h.0, h.1, λ bs q. ap₂ (λ w ws. w ∷ ws) wanted (h.2 bs q))
 
 comes : (op : Op) (regs : Regs) → awaits_event op ≡ false → awaits_interrupt op ≡ false
     → (b : Beat) (rest : List Beat) (x : Served) (xs : List Served) (done : List Beat) (read : List ℕ) (cycle : ℕ) (s : State)
@@ -158,25 +163,29 @@ comes op regs e i b [] x [] done read cycle s split stands count begins goes =
     let at : slice_get (beats_of op regs) (length done) ≡ Some b = ap (λ bs. slice_get bs (length done)) split ∙ at_place done b [] in
     let u = after_served cycle x s in
     join op regs b [] x [] read cycle s (is_over op b x)
+    (wants_standing op regs (length done) read x.given cycle s b stands begins at goes.0)
     (λ over. let lands = landed op regs done [] read cycle x s b e i split stands count begins goes.0 over in (
       λ c cs q. none_left c cs q,
       λ q. subst (λ ys. Ends op regs ys u) (sym (append-nil (read ++ option_to_list (read_in b x.given s)))) (lands.ends (omega (arith, long_as (beats_of op regs) done (b ∷ []) split))),
+      λ bs q. refl,
     ))
     (λ over. let w = waited op regs (length done) read cycle x s b stands begins at goes.0 over in
-    (λ c cs q. (w.0.kept, w.1), λ q. some_left b [] q))
+    (λ c cs q. (w.0.kept, w.1), λ q. some_left b [] q, λ bs q. refl))
 comes op regs e i b (c ∷ rest) x [] done read cycle s split stands count begins goes =
     let at : slice_get (beats_of op regs) (length done) ≡ Some b = ap (λ bs. slice_get bs (length done)) split ∙ at_place done b (c ∷ rest) in
     join op regs b (c ∷ rest) x [] read cycle s (is_over op b x)
+    (wants_standing op regs (length done) read x.given cycle s b stands begins at goes.0)
     (λ over. let lands = landed op regs done (c ∷ rest) read cycle x s b e i split stands count begins goes.0 over in
     let more = lands.goes_on (omega (arith, long_as (beats_of op regs) done (b ∷ c ∷ rest) split)) in
-    (λ d ds q. (more.0.kept, more.1), λ q. some_left c rest q))
+    (λ d ds q. (more.0.kept, more.1), λ q. some_left c rest q, λ bs q. refl))
     (λ over. let w = waited op regs (length done) read cycle x s b stands begins at goes.0 over in
-    (λ d ds q. (w.0.kept, w.1), λ q. some_left b (c ∷ rest) q))
+    (λ d ds q. (w.0.kept, w.1), λ q. some_left b (c ∷ rest) q, λ bs q. refl))
 comes op regs e i b [] x (x' ∷ xs) done read cycle s split stands count begins goes =
     let at : slice_get (beats_of op regs) (length done) ≡ Some b = ap (λ bs. slice_get bs (length done)) split ∙ at_place done b [] in
     let u = after_served cycle x s in
     join op regs b [] x (x' ∷ xs) read cycle s (is_over op b x)
-    (λ over. (λ c cs q. past (c ∷ cs) q, λ q. past [] q))
+    (wants_standing op regs (length done) read x.given cycle s b stands begins at goes.0)
+    (λ over. (λ c cs q. past (c ∷ cs) q, λ q. past [] q, λ bs q. past bs q))
     (λ over. let w = waited op regs (length done) read cycle x s b stands begins at goes.0 over in
     comes op regs e i b [] x' xs done read (cycle + 1) u split w.0 count (begins_on op x'.given u w.1) goes.1)
 comes op regs e i b (c ∷ rest) x (x' ∷ xs) done read cycle s split stands count begins goes =
@@ -184,6 +193,7 @@ comes op regs e i b (c ∷ rest) x (x' ∷ xs) done read cycle s split stands co
     let at : slice_get (beats_of op regs) (length done) ≡ Some b = ap (λ bs. slice_get bs (length done)) split ∙ at_place done b (c ∷ rest) in
     let u = after_served cycle x s in
     join op regs b (c ∷ rest) x (x' ∷ xs) read cycle s (is_over op b x)
+    (wants_standing op regs (length done) read x.given cycle s b stands begins at goes.0)
     (λ over. let lands = landed op regs done (c ∷ rest) read cycle x s b e i split stands count begins goes.0 over in
     let more = lands.goes_on (omega (arith, long_as (beats_of op regs) done (b ∷ c ∷ rest) split)) in
     let stands' : Stands regs (length (done ++ b ∷ [])) (read ++ option_to_list v) u = subst (λ n. Stands regs n (read ++ option_to_list v) u) (sym (length-append done (b ∷ []))) more.0 in
@@ -197,7 +207,7 @@ comes_all : (op : Op) (regs : Regs) → awaits_event op ≡ false → awaits_int
     → (beats : List Beat) (x : Served) (xs : List Served) (cycle : ℕ) (s : State)
     → beats_of op regs ≡ beats → Stands regs 0 [] s → reading beats ≤ 16 → Begins op x.given s → GoesOnServed cycle (x ∷ xs) s
     → ComesServed op regs beats (x ∷ xs) [] cycle s
-comes_all op regs e i [] x xs cycle s split stands count begins goes = (λ c cs q. past (c ∷ cs) q, λ q. past [] q)
+comes_all op regs e i [] x xs cycle s split stands count begins goes = (λ c cs q. past (c ∷ cs) q, λ q. past [] q, λ bs q. past bs q)
 comes_all op regs e i (b ∷ rest) x xs cycle s split stands count begins goes = comes op regs e i b rest x xs [] [] cycle s split stands (omega (arith, count)) begins goes
 
 pub an_instruction_takes_its_beats_and_waits : AnInstructionTakesItsBeatsAndWaits
@@ -206,5 +216,6 @@ an_instruction_takes_its_beats_and_waits op s cycle x xs at fetched plain goes =
     let all = comes_all op s.regs plain.no_event plain.no_interrupt (beats_of op s.regs) x xs cycle s refl stands (reading-le op s.regs) (begins_boundary op x.given s at fetched plain) goes in
     record {
       in_progress = all.0;
+      wants = λ bs h. all.2 bs h;
       over = λ h. let y = all.1 h in record { awake = y.awake; effect = y.effect; then_returns = y.then_returns; first = y.first; fresh = y.fresh };
     }

@@ -1,7 +1,7 @@
 -- An instruction takes its beats: what the cycles of a core come to, instruction by instruction (ARMv6-M Architecture Reference
 -- Manual, A6.7, Operation, for registers and flags, and B1.5.8, ExceptionReturn, for what BX and POP begin; ARM Cortex-M0+
 -- Technical Reference Manual, 3.3, for the number of cycles).
-use Rattle.std.specs.Prelude.{◌≡◌, ℕ, ◌+◌, ◌%◌, ◌^◌, ◌<◌, Bool, true, false, List, [], ◌∷◌, ◌++◌, length, map, if◌then◌else◌, Option, Some, None, option_to_list}
+use Rattle.std.specs.Prelude.{◌≡◌, ℕ, ◌+◌, ◌%◌, ◌^◌, ◌<◌, Bool, true, false, ◌||◌, List, [], ◌∷◌, ◌++◌, length, map, if◌then◌else◌, Option, Some, None, option_to_list}
 use Rattle.rp_base.specs.declared.Request.{Request}
 use Rattle.rp_base.specs.declared.map.Spot.{Spot}
 use Rattle.rp_base.specs.declared.map.Spot.TheVariants as spot
@@ -12,6 +12,7 @@ use Rattle.m0_beats.specs.declared.timing.Beat.{Beat}
 use Rattle.m0_beats.specs.declared.timing.Beat.TheVariants.{Inner, Access}
 use Rattle.m0_beats.specs.Beats.{beats_of}
 use Rattle.m0_beats.specs.Effects.{effect_of, return_of}
+use Rattle.m0_nvic.specs.Cycle as nvic
 use Rattle.lane_look.specs.declared.lane.Ask.{Ask}
 use Rattle.lane_look.specs.declared.lane.Ask.TheVariants.{Half, Word}
 use Rattle.lane_look.specs.declared.lane.Want.{Want}
@@ -19,7 +20,10 @@ use Rattle.lane_look.specs.declared.lane.Want.TheVariants as want
 use Rattle.lane_look.specs.declared.lane.Turn.{Turn}
 use Rattle.lane_look.specs.declared.lane.Turn.TheVariants as turn
 use Rattle.lane_look.specs.Asking.{answered}
+use Rattle.m0_core.specs.declared.doing.Act.{Act}
+use Rattle.m0_core.specs.declared.doing.Act.TheVariants as act
 use Rattle.m0_core.specs.declared.doing.Doing.{Doing}
+use Rattle.m0_core.specs.declared.doing.Work.{Work}
 use Rattle.m0_core.specs.declared.doing.Work.TheVariants as works
 use Rattle.m0_core.specs.Kinds.{is_breakpoint, is_signal, awaits_event, awaits_interrupt}
 use Rattle.rp_base.specs.Access.{lanes_of}
@@ -180,20 +184,31 @@ AnInstructionTakesItsBeats =
 
 -- ---- accesses that wait
 
--- a core has an access that is not done in the cycle: the beat lasts on, and registers and flags are as they were
-pub record LastsOn (s t : State) : Type 0 where
-  pub awake : t.asleep ≡ s.asleep
-  pub kept : t.regs ≡ s.regs
-  pub so_far : t.place ≡ s.place
-  pub values : t.read ≡ s.read
-
 abbrev pub is_access : Want → Bool
 is_access (want.Ram request) = true
 is_access (want.Outward request) = true
 is_access _ = false
 
+-- the instruction, entry or return whose access goes over the bus
+abbrev pub accessing : Act → Option Work
+accessing (act.Read work request word) = Some work
+accessing (act.Write work request) = Some work
+accessing (act.Outward work request) = Some work
+accessing _ = None
+
+-- a core has an access that is not done in the cycle: what has the access is in progress, as far as before, and registers and
+-- flags are as they were; the timer and the interrupt lines had their turn
+pub record LastsOn (s : State) (begun : Doing) (t : State) : Type 0 where
+  pub awake : t.asleep ≡ s.asleep
+  pub kept : t.regs ≡ s.regs
+  pub in_progress : t.work ≡ accessing begun.act
+  pub so_far : t.place ≡ s.place
+  pub values : t.read ≡ s.read
+  pub exceptions : t.nvic ≡ nvic.after_cycle begun.lines begun.cycle s.nvic
+  pub event : t.event ≡ (s.event || nvic.is_event begun.lines begun.cycle s.nvic)
+
 abbrev pub AnAccessLastsUntilItIsDone : Type 0
 AnAccessLastsUntilItIsDone =
     (s : State) (begun : Doing)
     → is_access (want_of begun) ≡ true
-    → LastsOn s (next s begun (turn.Wait ∷ turn.Nothing ∷ []))
+    → LastsOn s begun (next s begun (turn.Wait ∷ turn.Nothing ∷ []))

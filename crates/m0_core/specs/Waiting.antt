@@ -59,10 +59,24 @@ reads_served op cycle (beat ∷ beats) (x ∷ xs) s =
     then option_to_list (read_in beat x.given s) ++ reads_served op (cycle + 1) beats xs (after_served cycle x s)
     else reads_served op (cycle + 1) (beat ∷ beats) xs (after_served cycle x s)
 
+-- what the core wants in these cycles
+abbrev pub wants_served : ℕ → List Served → State → List Want
+wants_served cycle [] s = []
+wants_served cycle (x ∷ xs) s = wanted_in cycle x.given s ∷ wants_served (cycle + 1) xs (after_served cycle x s)
+
+-- what the beats want: one with an access on the bus wants it in each cycle until it is done
+abbrev pub wants_of_beats : Op → List Beat → List Served → List Want
+wants_of_beats op [] xs = []
+wants_of_beats op (beat ∷ beats) [] = []
+wants_of_beats op (beat ∷ beats) (x ∷ xs) =
+    want_of_beat op beat ∷ (if is_over op beat x then wants_of_beats op beats xs else wants_of_beats op (beat ∷ beats) xs)
+
 -- after these cycles: while beats are left the instruction is in progress, and when none is left it is over
 pub record TakesItsBeatsServed (op : Op) (cycle : ℕ) (xs : List Served) (s : State) : Type 0 where
   pub in_progress : (beat : Beat) (beats : List Beat) → left_after op (beats_of op s.regs) xs ≡ Some (beat ∷ beats)
       → IsInProgress op s (after_all_served cycle xs s)
+  pub wants : (beats : List Beat) → left_after op (beats_of op s.regs) xs ≡ Some beats
+      → wants_served cycle xs s ≡ wants_of_beats op (beats_of op s.regs) xs
   pub over : left_after op (beats_of op s.regs) xs ≡ Some []
       → IsOver op (reads_served op cycle (beats_of op s.regs) xs s) s (after_all_served cycle xs s)
 

@@ -78,10 +78,7 @@ impl Core {
     fn begin_private(&self, work: Work, request: Request, offset: u16) -> Act
         ensures { Ready result ≡ in_private work request offset self.now }
     {
-        if self
-            .nvic
-            .allows(offset, word_written(&request))
-        {
+        if self.nvic.allows(offset, word_written(&request)) {
             Act::Private(work, request, offset)
         } else {
             self.outside(request.address)

@@ -29,8 +29,6 @@ impl Core {
     pub(crate) fn access(&mut self, request: &Request, offset: u16)
         ensures { self.new ≡ accessed request.now offset self.old }
     {
-        let _ = self
-            .nvic
-            .effect(offset, word_written(request));
+        let _ = self.nvic.effect(offset, word_written(request));
     }
 }

@@ -1,2 +1,3 @@
+mod InForce
 pub mod Least
 pub mod Members

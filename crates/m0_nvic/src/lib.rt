@@ -9,6 +9,7 @@ ghost use Rattle.m0_nvic.specs.Priority.{rank_of, precedes, nearer, least_of, Is
 ghost use Rattle.m0_nvic.specs.Changes.{pended, entered, left, is_alone, with_pending};
 ghost use Rattle.m0_nvic.specs.Cycle.{after_timer, after_lines, after_cycle, is_event};
 
+pub mod laws;
 pub mod systick;
 #[cfg(test)]
 mod tests;
