@@ -12,7 +12,8 @@ use Rattle.m0_nvic.specs.Law.{IsLeastInForce, ThePriorityIsTheLeast}
 use Rattle.m0_nvic.proofs.Least.{least_of-is}
 
 neither : (a b : Bool) → (a || b) ≡ false → a ≡ false
-neither a b h = grind common_steps
+neither true b h = h
+neither false b h = refl
 
 contrary : {A : Type 0} (b : Bool) → b ≡ true → b ≡ false → A
 contrary b h i = absurd (grind (arith, common_steps))
