@@ -1,4 +1,5 @@
 pub mod Carrying
+mod Exceptions
 mod ReadCount
 mod TakesBeats
 mod Waits

@@ -1,6 +1,6 @@
 -- An instruction takes its beats: one cycle, then all of them.
 use Rattle.std.proofs.Common.{◌≡◌, ℕ, ◌+◌, ◌%◌, ◌^◌, ◌<◌, ◌≤◌, ◌==◌, ◌&&◌, ◌||◌, not, Bool, true, false, cond, List, [], ◌∷◌, ◌++◌, length, refl, sym, ap, ap₂, subst, ◌∙◌, arith, append_assoc, append-nil, length-append, true≢false, lt-ltb, le-ltb}
-use Rattle.std.specs.Prelude.{Option, Some, None, option_to_list, map, slice_get, unwrap_or}
+use Rattle.std.specs.Prelude.{Option, Some, None, option_to_list, map, slice_get, unwrap_or, nat_lt}
 use Rattle.rp_base.specs.declared.Request.{Request}
 use Rattle.rp_base.specs.declared.map.Spot.{Spot}
 use Rattle.rp_base.specs.declared.map.Spot.TheVariants as spot
@@ -13,6 +13,8 @@ use Rattle.m0_beats.specs.declared.timing.Beat.{Beat}
 use Rattle.m0_beats.specs.declared.timing.Beat.TheVariants.{Inner, Access}
 use Rattle.m0_beats.specs.Beats.{beats_of}
 use Rattle.m0_beats.specs.Effects.{effect_of, return_of}
+use Rattle.m0_nvic.specs.State.{Exceptions}
+use Rattle.m0_nvic.specs.Cycle as nvic
 use Rattle.m0_nvic.specs.Priority.{wakes_of}
 use Rattle.m0_nvic.specs.Words.{is_allowed}
 use Rattle.lane_look.specs.declared.lane.Ask.{Ask}
@@ -29,9 +31,9 @@ use Rattle.m0_core.specs.Kinds.{awaits_event, awaits_interrupt}
 use Rattle.rp_base.specs.Access.{master_of, word_written}
 use Rattle.m0_core.specs.Private.{private_value, accessed}
 use Rattle.m0_core.specs.Fetch.{stopped, asks, asks_awake, asks_next, asks_boundary, asks_taken, asks_first, asks_half, asks_second, asks_decoded, asks_fault, asks_beat, beat_of, in_beat, in_ram, at_spot, carried, ends_with, is_faulty}
-use Rattle.m0_core.specs.Cycle.{signals, want_of, want_of_act, with_value, waiting, followed, with_read, returning, ended, passed_instruction, passed, is_held_op, after_inner, done_word, value_of, after_private, after, closed, is_idle, next}
+use Rattle.m0_core.specs.Cycle.{signals, want_of, want_of_act, with_value, waiting, followed, with_read, returning, called, ended, passed_instruction, passed, is_held_op, after_inner, done_word, value_of, after_private, after, closed, is_idle, next}
 use Rattle.m0_core.specs.State.{State}
-use Rattle.m0_core.specs.Law.{Given, turn_of, begun_in, wanted_in, after_cycle, after_cycles, is_stop, GoesOn, want_at, want_of_beat, wants_in, read_at, read_in, reads_in, IsAtBoundary, half_at, IsEncoded, IsFetched, IsPlain, AnInstructionTakesItsBeats, LastsOn, accessing, is_access, AnAccessLastsUntilItIsDone}
+use Rattle.m0_core.specs.Law.{Given, turn_of, lines_in, touched_at, touched_by, changed_by, exceptions_in, event_in, begun_in, wanted_in, after_cycle, after_cycles, is_stop, GoesOn, want_at, want_of_beat, wants_in, read_at, read_in, reads_in, IsAtBoundary, half_at, IsEncoded, IsFetched, IsPlain, AnInstructionTakesItsBeats, LastsOn, accessing, is_access, AnAccessLastsUntilItIsDone}
 use Rattle.m0_core.proofs.ReadCount.{reads_one, is_read, reading, reading-le}
 
 -- ---- states in the middle of an instruction
@@ -86,7 +88,7 @@ lands_closed op regs place read s lines cycle h = record {
 
 -- ---- the end of a cycle, by what it began
 
-abbrev step_by : ℕ → ℕ → ℕ → State → Act → State
+abbrev pub step_by : ℕ → ℕ → ℕ → State → Act → State
 step_by lines cycle word s a =
     cond (is_idle a) s (closed lines cycle (after a (done_word (slice_get (turn_of (want_of_act a) word ∷ turn.Nothing ∷ []) 0)) s))
 
@@ -173,7 +175,7 @@ unfolding carried
 answered_carried f lines cycle (Ready a) = refl
 answered_carried f lines cycle (Question ask rest) = answered_carried f lines cycle (rest (f ask))
 
-begun_awake : (g : Given) (cycle : ℕ) (s : State) → s.asleep ≡ false → begun_in cycle g s ≡ ends_with (g.answers Lines % 2 ^ 32) cycle (answered g.answers (asks_awake s))
+pub begun_awake : (g : Given) (cycle : ℕ) (s : State) → s.asleep ≡ false → begun_in cycle g s ≡ ends_with (g.answers Lines % 2 ^ 32) cycle (answered g.answers (asks_awake s))
 unfolding asks
 begun_awake g cycle s awake =
     ap (λ b. answered g.answers (cond b (Ready (ends_with 0 cycle act.Asleep)) (Question Lines (λ lines. carried (lines % 2 ^ 32) cycle (asks_awake s))))) awake
@@ -207,7 +209,7 @@ begins_second op g s true e is =
     ∙ ap (λ b. answered g.answers (cond b (Question (Half address) (λ half. asks_decoded (operation_of first (half % 2 ^ 16)) s)) (stopped (why.Outside (master_of s.number) address)))) is.0
     ∙ ap (λ o. answered g.answers (asks_decoded o s)) is.1
 
-begins_first : (op : Op) (g : Given) (s : State) → IsFetched g.answers s.regs.pc op → answered g.answers (asks_first s) ≡ answered g.answers (asks_decoded op s)
+pub begins_first : (op : Op) (g : Given) (s : State) → IsFetched g.answers s.regs.pc op → answered g.answers (asks_first s) ≡ answered g.answers (asks_decoded op s)
 unfolding asks_first
 begins_first op g s fetched =
     ap (λ b. answered g.answers (cond b (Question (Half s.regs.pc) (λ half. asks_second (half % 2 ^ 16) s)) (stopped (why.Outside (master_of s.number) s.regs.pc)))) fetched.0
@@ -223,7 +225,7 @@ begins_boundary op g s at fetched plain =
 
 -- ---- one cycle
 
-after_begun : (g : Given) (cycle : ℕ) (s : State) (a : Act) → begun_in cycle g s ≡ ends_with (g.answers Lines % 2 ^ 32) cycle a → after_cycle cycle g s ≡ step_by (g.answers Lines % 2 ^ 32) cycle g.word s a
+pub after_begun : (g : Given) (cycle : ℕ) (s : State) (a : Act) → begun_in cycle g s ≡ ends_with (g.answers Lines % 2 ^ 32) cycle a → after_cycle cycle g s ≡ step_by (g.answers Lines % 2 ^ 32) cycle g.word s a
 after_begun g cycle s a e =
     ap (λ d. next s d (turn_of (want_of d) g.word ∷ turn.Nothing ∷ [])) e ∙ step_next (g.answers Lines % 2 ^ 32) cycle g.word s a
 
@@ -321,11 +323,120 @@ pub wants_standing : (op : Op) (regs : Regs) (place : ℕ) (read : List ℕ) (g 
 wants_standing op regs place read g cycle s b stands begins at goes =
     wants_cycle op g cycle s b stands.awake begins (ap₂ (λ (r : Regs) (k : ℕ). slice_get (beats_of op r) k) stands.kept stands.so_far ∙ at) goes
 
+-- ---- exceptions and the event register
+
+-- after a beat of that place: it was the last one, or another one follows
+abbrev last_at : Op → Regs → ℕ → Exceptions → Exceptions
+last_at op regs place e = cond (nat_lt (place + 1) (length (beats_of op regs))) e (called op e)
+
+-- the cycle makes this of the exceptions, and then the timer and the lines have their turn
+pub record Changes (lines cycle : ℕ) (e : Exceptions) (event : Bool) (t : State) : Type 0 where
+  pub exceptions : t.nvic ≡ nvic.after_cycle lines cycle e
+  pub event_after : t.event ≡ (event || nvic.is_event lines cycle e)
+
+and_true : (b : Bool) → (b && true) ≡ b
+and_true true = refl
+and_true false = refl
+
+passed_exceptions : (op : Op) (value : Option ℕ) (t : State) → (passed (works.Instruction op) value t).nvic ≡ last_at op t.regs t.place t.nvic
+unfolding passed passed_instruction ended
+passed_exceptions op value t = go (nat_lt (t.place + 1) (length (beats_of op t.regs)))
+  where
+    go : (b : Bool) → (cond b (followed (works.Instruction op) (with_read value t)) (ended op (with_read value t))).nvic ≡ cond b t.nvic (called op t.nvic)
+    go true = refl
+    go false = refl
+
+passed_event : (op : Op) (value : Option ℕ) (t : State) → awaits_event op ≡ false → (passed (works.Instruction op) value t).event ≡ t.event
+unfolding passed passed_instruction ended
+passed_event op value t e = go (nat_lt (t.place + 1) (length (beats_of op t.regs)))
+  where
+    go : (b : Bool) → (cond b (followed (works.Instruction op) (with_read value t)) (ended op (with_read value t))).event ≡ t.event
+    go true = refl
+    go false = ap (λ x. t.event && not x) e ∙ and_true t.event
+
+changes_closed : (op : Op) (value : Option ℕ) (t : State) (lines cycle : ℕ) → awaits_event op ≡ false
+    → Changes lines cycle (last_at op t.regs t.place t.nvic) t.event (closed lines cycle (passed (works.Instruction op) value t))
+unfolding closed
+changes_closed op value t lines cycle e = record {
+  exceptions = ap (nvic.after_cycle lines cycle) (passed_exceptions op value t);
+  event_after = ap₂ (λ (v : Bool) x. v || nvic.is_event lines cycle x) (passed_event op value t e) (passed_exceptions op value t);
+}
+
+-- by what the beat does
+abbrev ChangesBy : Op → (Exceptions → Exceptions) → ℕ → ℕ → State → State → Type 0
+ChangesBy op f lines cycle s t = Changes lines cycle (last_at op s.regs s.place (f s.nvic)) s.event t
+
+changes_ram : (op : Op) (g : Given) (s : State) (lines cycle : ℕ) (request : Request) (w : Option ℕ) → awaits_event op ≡ false
+    → Changes lines cycle (last_at op s.regs s.place s.nvic) s.event (step_by lines cycle g.word s (answered g.answers (in_ram (works.Instruction op) request w)))
+changes_ram op g s lines cycle request None e = changes_closed op _ s lines cycle e
+changes_ram op g s lines cycle request (Some write) e = changes_closed op None s lines cycle e
+
+changes_private : (op : Op) (g : Given) (s : State) (lines cycle offset : ℕ) (request : Request) (b : Bool) → awaits_event op ≡ false
+    → is_stop (want_of_act (answered g.answers (cond b (Ready (act.Private (works.Instruction op) request offset)) (stopped (why.Outside (master_of s.number) request.address))))) ≡ false
+    → ChangesBy op (touched_at (spot.Ppb offset) request) lines cycle s (step_by lines cycle g.word s (answered g.answers (cond b (Ready (act.Private (works.Instruction op) request offset)) (stopped (why.Outside (master_of s.number) request.address)))))
+unfolding after_private
+changes_private op g s lines cycle offset request true e goes =
+    changes_closed op (private_value request request.write offset s) (accessed request offset s) lines cycle e
+changes_private op g s lines cycle offset request false e goes = absurd (true≢false goes)
+
+changes_at : (op : Op) (g : Given) (s : State) (lines cycle : ℕ) (request : Request) (place : Spot) → awaits_event op ≡ false
+    → is_stop (want_of_act (answered g.answers (at_spot (works.Instruction op) request s place))) ≡ false
+    → ChangesBy op (touched_at place request) lines cycle s (step_by lines cycle g.word s (answered g.answers (at_spot (works.Instruction op) request s place)))
+changes_at op g s lines cycle request (spot.Ram index bank) e goes = changes_ram op g s lines cycle request request.write e
+changes_at op g s lines cycle request (spot.Ppb offset) e goes =
+    changes_private op g s lines cycle offset request (is_allowed s.nvic offset (word_written request.size request.write)) e goes
+changes_at op g s lines cycle request (spot.Sio offset) e goes = changes_closed op _ s lines cycle e
+changes_at op g s lines cycle request (spot.Reg block offset alias) e goes = changes_closed op _ s lines cycle e
+changes_at op g s lines cycle request spot.Outside e goes = changes_closed op _ s lines cycle e
+
+changes_inner : (op : Op) (s : State) (lines cycle : ℕ) → awaits_event op ≡ false → awaits_interrupt op ≡ false
+    → Changes lines cycle (last_at op s.regs s.place s.nvic) s.event (closed lines cycle (after_inner (works.Instruction op) s))
+unfolding after_inner
+changes_inner op s lines cycle e i =
+    subst (λ b. Changes lines cycle (last_at op s.regs s.place s.nvic) s.event (closed lines cycle (cond b (waiting (works.Instruction op) s) (passed (works.Instruction op) None s))))
+    (sym (is_not_held op s e i)) (changes_closed op None s lines cycle e)
+
+changes_beat : (op : Op) (g : Given) (s : State) (lines cycle : ℕ) (b : Beat) → awaits_event op ≡ false → awaits_interrupt op ≡ false
+    → is_stop (want_of_act (answered g.answers (in_beat (works.Instruction op) s b))) ≡ false
+    → ChangesBy op (touched_by b) lines cycle s (step_by lines cycle g.word s (answered g.answers (in_beat (works.Instruction op) s b)))
+changes_beat op g s lines cycle Inner e i goes = changes_inner op s lines cycle e i
+changes_beat op g s lines cycle (Access request) e i goes = changes_at op g s lines cycle request (place_of request.address) e goes
+
+changes_cycle : (op : Op) (g : Given) (cycle : ℕ) (s : State) (b : Beat) → s.asleep ≡ false → awaits_event op ≡ false → awaits_interrupt op ≡ false → Begins op g s
+    → slice_get (beats_of op s.regs) s.place ≡ Some b → is_stop (wanted_in cycle g s) ≡ false → ChangesBy op (touched_by b) (lines_in g) cycle s (after_cycle cycle g s)
+changes_cycle op g cycle s b awake e i begins at goes =
+    let a = answered g.answers (in_beat (works.Instruction op) s b) in
+    let begun = begun_beat op g cycle s b awake begins at in
+    subst (λ u. ChangesBy op (touched_by b) (lines_in g) cycle s u) (sym (after_begun g cycle s a begun))
+    (changes_beat op g s (lines_in g) cycle b e i (sym (ap (λ d. is_stop (want_of d)) begun) ∙ goes))
+
+-- whether the beat is the last one, by what follows it
+last_is : (op : Op) (regs : Regs) (done : List Beat) (b : Beat) (rest : List Beat) (e : Exceptions) → beats_of op regs ≡ done ++ b ∷ rest
+    → last_at op regs (length done) (touched_by b e) ≡ changed_by op b rest e
+last_is op regs done b [] e split =
+    ap (λ x. cond x (touched_by b e) (called op (touched_by b e)))
+    (le-ltb (length done + 1) (length (beats_of op regs)) (omega (arith, long_as (beats_of op regs) done (b ∷ []) split)))
+last_is op regs done b (c ∷ rest) e split =
+    ap (λ x. cond x (touched_by b e) (called op (touched_by b e)))
+    (lt-ltb (length done + 1) (length (beats_of op regs)) (omega (arith, long_as (beats_of op regs) done (b ∷ c ∷ rest) split)))
+
+pub changes_standing : (op : Op) (regs : Regs) (done rest : List Beat) (read : List ℕ) (g : Given) (cycle : ℕ) (s : State) (b : Beat) → Stands regs (length done) read s
+    → awaits_event op ≡ false → awaits_interrupt op ≡ false → Begins op g s
+    → beats_of op regs ≡ done ++ b ∷ rest → is_stop (wanted_in cycle g s) ≡ false → Changes (lines_in g) cycle (changed_by op b rest s.nvic) s.event (after_cycle cycle g s)
+changes_standing op regs done rest read g cycle s b stands e i begins split goes =
+    let at : slice_get (beats_of op regs) (length done) ≡ Some b = ap (λ bs. slice_get bs (length done)) split ∙ at_place done b rest in
+    let here : slice_get (beats_of op s.regs) s.place ≡ Some b = ap₂ (λ (r : Regs) (k : ℕ). slice_get (beats_of op r) k) stands.kept stands.so_far ∙ at in
+    let same : last_at op s.regs s.place (touched_by b s.nvic) ≡ changed_by op b rest s.nvic =
+    ap₂ (λ (r : Regs) (k : ℕ). last_at op r k (touched_by b s.nvic)) stands.kept stands.so_far ∙ last_is op regs done b rest s.nvic split in
+    subst (λ x. Changes (lines_in g) cycle x s.event (after_cycle cycle g s)) same (changes_cycle op g cycle s b stands.awake e i begins here goes)
+
 -- ---- all cycles
 
 record Comes (op : Op) (regs : Regs) (rest : List Beat) (gs : List Given) (read : List ℕ) (cycle : ℕ) (s : State) : Type 0 where
   in_progress : length gs < length rest → ((after_cycles cycle gs s).regs ≡ regs) × ((after_cycles cycle gs s).work ≡ Some (works.Instruction op))
   wants : length gs ≡ length rest → wants_in cycle gs s ≡ map (want_of_beat op) rest
+  exceptions : length gs ≤ length rest → (after_cycles cycle gs s).nvic ≡ exceptions_in op cycle rest gs s.nvic
+  event : length gs ≤ length rest → (after_cycles cycle gs s).event ≡ event_in op cycle rest gs s.nvic s.event
   over : length gs ≡ length rest → Ends op regs (read ++ reads_in cycle rest gs s) (after_cycles cycle gs s)
 
 comes : (op : Op) (regs : Regs) → awaits_event op ≡ false → awaits_interrupt op ≡ false
@@ -335,6 +446,8 @@ comes : (op : Op) (regs : Regs) → awaits_event op ≡ false → awaits_interru
 comes op regs e i [] g gs done read cycle s split stands count begins goes = record {
   in_progress = λ h. absurd (omega (arith, h));
   wants = λ h. absurd (omega (arith, h));
+  exceptions = λ h. absurd (omega (arith, h));
+  event = λ h. absurd (omega (arith, h));
   over = λ h. absurd (omega (arith, h));
 }
 comes op regs e i (b ∷ []) g [] done read cycle s split stands count begins goes =
@@ -342,15 +455,20 @@ comes op regs e i (b ∷ []) g [] done read cycle s split stands count begins go
     let reads : with_value read v ≡ read ++ option_to_list v = value_kept read v (omega (arith, reads_beat b g s)) in
     let at : slice_get (beats_of op regs) (length done) ≡ Some b = ap (λ bs. slice_get bs (length done)) split ∙ at_place done b [] in
     let lands = lands_standing op regs (length done) read (read ++ option_to_list v) g cycle s b stands e i begins at goes.0 reads in
+    let changes = changes_standing op regs done [] read g cycle s b stands e i begins split goes.0 in
     record {
       in_progress = λ h. absurd (omega (arith, h));
       wants = λ h. ap (λ w. w ∷ []) (wants_standing op regs (length done) read g cycle s b stands begins at goes.0);
+      exceptions = λ h. changes.exceptions;
+      event = λ h. changes.event_after;
       over = λ h. subst (λ xs. Ends op regs (read ++ xs) (after_cycle cycle g s)) (sym (append-nil (option_to_list v)))
           (lands.ends (omega (arith, long_as (beats_of op regs) done (b ∷ []) split)));
     }
 comes op regs e i (b ∷ []) g (g' ∷ gs) done read cycle s split stands count begins goes = record {
   in_progress = λ h. absurd (omega (arith, h));
   wants = λ h. absurd (omega (arith, h));
+  exceptions = λ h. absurd (omega (arith, h));
+  event = λ h. absurd (omega (arith, h));
   over = λ h. absurd (omega (arith, h));
 }
 comes op regs e i (b ∷ c ∷ rest) g [] done read cycle s split stands count begins goes =
@@ -358,10 +476,13 @@ comes op regs e i (b ∷ c ∷ rest) g [] done read cycle s split stands count b
     let reads : with_value read v ≡ read ++ option_to_list v = value_kept read v (omega (arith, reads_beat b g s)) in
     let at : slice_get (beats_of op regs) (length done) ≡ Some b = ap (λ bs. slice_get bs (length done)) split ∙ at_place done b (c ∷ rest) in
     let lands = lands_standing op regs (length done) read (read ++ option_to_list v) g cycle s b stands e i begins at goes.0 reads in
+    let changes = changes_standing op regs done (c ∷ rest) read g cycle s b stands e i begins split goes.0 in
     let more = lands.goes_on (omega (arith, long_as (beats_of op regs) done (b ∷ c ∷ rest) split)) in
     record {
       in_progress = λ h. (more.0.kept, more.1);
       wants = λ h. absurd (omega (arith, h));
+      exceptions = λ h. changes.exceptions;
+      event = λ h. changes.event_after;
       over = λ h. absurd (omega (arith, h));
     }
 comes op regs e i (b ∷ c ∷ rest) g (g' ∷ gs) done read cycle s split stands count begins goes =
@@ -370,6 +491,7 @@ comes op regs e i (b ∷ c ∷ rest) g (g' ∷ gs) done read cycle s split stand
     let reads : with_value read v ≡ read ++ option_to_list v = value_kept read v (omega (arith, reads_beat b g s)) in
     let at : slice_get (beats_of op regs) (length done) ≡ Some b = ap (λ bs. slice_get bs (length done)) split ∙ at_place done b (c ∷ rest) in
     let lands = lands_standing op regs (length done) read (read ++ option_to_list v) g cycle s b stands e i begins at goes.0 reads in
+    let changes = changes_standing op regs done (c ∷ rest) read g cycle s b stands e i begins split goes.0 in
     let more = lands.goes_on (omega (arith, long_as (beats_of op regs) done (b ∷ c ∷ rest) split)) in
     let stands' : Stands regs (length (done ++ b ∷ [])) (read ++ option_to_list v) u = subst (λ n. Stands regs n (read ++ option_to_list v) u) (sym (length-append done (b ∷ []))) more.0 in
     let split' : beats_of op regs ≡ (done ++ b ∷ []) ++ c ∷ rest = split ∙ sym (append_assoc done (b ∷ []) (c ∷ rest)) in
@@ -378,6 +500,8 @@ comes op regs e i (b ∷ c ∷ rest) g (g' ∷ gs) done read cycle s split stand
     record {
       in_progress = λ h. all.in_progress (omega (arith, h));
       wants = λ h. ap₂ (λ w ws. w ∷ ws) (wants_standing op regs (length done) read g cycle s b stands begins at goes.0) (all.wants (omega (arith, h)));
+      exceptions = λ h. all.exceptions (omega (arith, h)) ∙ ap (λ x. exceptions_in op (cycle + 1) (c ∷ rest) (g' ∷ gs) x) changes.exceptions;
+      event = λ h. all.event (omega (arith, h)) ∙ ap₂ (λ x (v : Bool). event_in op (cycle + 1) (c ∷ rest) (g' ∷ gs) x v) changes.exceptions changes.event_after;
       over = λ h. subst (λ xs. Ends op regs xs (after_cycles (cycle + 1) (g' ∷ gs) u)) (append_assoc read (option_to_list v) (reads_in (cycle + 1) (c ∷ rest) (g' ∷ gs) u))
           (all.over (omega (arith, h)));
     }
@@ -389,6 +513,8 @@ an_instruction_takes_its_beats op s cycle g gs at fetched plain goes =
     record {
       in_progress = all.in_progress;
       wants = all.wants;
+      exceptions = all.exceptions;
+      event = all.event;
       over = λ h. let x = all.over h in record { awake = x.awake; effect = x.effect; then_returns = x.then_returns; first = x.first; fresh = x.fresh };
     }
 

@@ -1,7 +1,7 @@
 -- An instruction takes its beats: what the cycles of a core come to, instruction by instruction (ARMv6-M Architecture Reference
 -- Manual, A6.7, Operation, for registers and flags, and B1.5.8, ExceptionReturn, for what BX and POP begin; ARM Cortex-M0+
 -- Technical Reference Manual, 3.3, for the number of cycles).
-use Rattle.std.specs.Prelude.{◌≡◌, ℕ, ◌+◌, ◌%◌, ◌^◌, ◌<◌, Bool, true, false, ◌||◌, List, [], ◌∷◌, ◌++◌, length, map, if◌then◌else◌, Option, Some, None, option_to_list}
+use Rattle.std.specs.Prelude.{◌≡◌, ℕ, ◌+◌, ◌%◌, ◌^◌, ◌<◌, ◌≤◌, Bool, true, false, ◌||◌, List, [], ◌∷◌, ◌++◌, length, map, if◌then◌else◌, Option, Some, None, option_to_list}
 use Rattle.rp_base.specs.declared.Request.{Request}
 use Rattle.rp_base.specs.declared.map.Spot.{Spot}
 use Rattle.rp_base.specs.declared.map.Spot.TheVariants as spot
@@ -12,9 +12,11 @@ use Rattle.m0_beats.specs.declared.timing.Beat.{Beat}
 use Rattle.m0_beats.specs.declared.timing.Beat.TheVariants.{Inner, Access}
 use Rattle.m0_beats.specs.Beats.{beats_of}
 use Rattle.m0_beats.specs.Effects.{effect_of, return_of}
+use Rattle.m0_nvic.specs.State.{Exceptions}
+use Rattle.m0_nvic.specs.Words as words
 use Rattle.m0_nvic.specs.Cycle as nvic
 use Rattle.lane_look.specs.declared.lane.Ask.{Ask}
-use Rattle.lane_look.specs.declared.lane.Ask.TheVariants.{Half, Word}
+use Rattle.lane_look.specs.declared.lane.Ask.TheVariants.{Lines, Half, Word}
 use Rattle.lane_look.specs.declared.lane.Want.{Want}
 use Rattle.lane_look.specs.declared.lane.Want.TheVariants as want
 use Rattle.lane_look.specs.declared.lane.Turn.{Turn}
@@ -26,10 +28,10 @@ use Rattle.m0_core.specs.declared.doing.Doing.{Doing}
 use Rattle.m0_core.specs.declared.doing.Work.{Work}
 use Rattle.m0_core.specs.declared.doing.Work.TheVariants as works
 use Rattle.m0_core.specs.Kinds.{is_breakpoint, is_signal, awaits_event, awaits_interrupt}
-use Rattle.rp_base.specs.Access.{lanes_of}
+use Rattle.rp_base.specs.Access.{lanes_of, word_written}
 use Rattle.m0_core.specs.Private.{private_word}
 use Rattle.m0_core.specs.Fetch.{asks, is_ram, is_faulty, taken_of}
-use Rattle.m0_core.specs.Cycle.{want_of, next, returning}
+use Rattle.m0_core.specs.Cycle.{want_of, next, returning, called}
 use Rattle.m0_core.specs.State.{State}
 
 -- ---- cycles in which each access is done at once
@@ -116,6 +118,41 @@ abbrev pub wants_in : ℕ → List Given → State → List Want
 wants_in cycle [] s = []
 wants_in cycle (g ∷ gs) s = wanted_in cycle g s ∷ wants_in (cycle + 1) gs (after_cycle cycle g s)
 
+-- ---- exceptions and the event register
+
+-- the interrupt lines in a cycle
+abbrev pub lines_in : Given → ℕ
+lines_in g = g.answers Lines % 2 ^ 32
+
+-- what a beat does to the exceptions: an access to the private bus
+abbrev pub touched_at : Spot → Request → Exceptions → Exceptions
+touched_at (spot.Ppb offset) request e = words.effect_of offset (word_written request.size request.write) e
+touched_at place request e = e
+
+abbrev pub touched_by : Beat → Exceptions → Exceptions
+touched_by Inner e = e
+touched_by (Access request) e = touched_at (place_of request.address) request e
+
+-- the same where these beats follow: with its last one SVC makes its exception pending
+abbrev pub changed_by : Op → Beat → List Beat → Exceptions → Exceptions
+changed_by op beat [] e = called op (touched_by beat e)
+changed_by op beat (another ∷ beats) e = touched_by beat e
+
+-- the exceptions after these beats, one a cycle: after each the timer and the interrupt lines have their turn
+abbrev pub exceptions_in : Op → ℕ → List Beat → List Given → Exceptions → Exceptions
+exceptions_in op cycle [] gs e = e
+exceptions_in op cycle (beat ∷ beats) [] e = e
+exceptions_in op cycle (beat ∷ beats) (g ∷ gs) e =
+    exceptions_in op (cycle + 1) beats gs (nvic.after_cycle (lines_in g) cycle (changed_by op beat beats e))
+
+-- the event register after these beats, by the exceptions and the register before: SEVONPEND may set it at the end of each
+abbrev pub event_in : Op → ℕ → List Beat → List Given → Exceptions → Bool → Bool
+event_in op cycle [] gs e event = event
+event_in op cycle (beat ∷ beats) [] e event = event
+event_in op cycle (beat ∷ beats) (g ∷ gs) e event =
+    event_in op (cycle + 1) beats gs (nvic.after_cycle (lines_in g) cycle (changed_by op beat beats e))
+    (event || nvic.is_event (lines_in g) cycle (changed_by op beat beats e))
+
 -- ---- the beginning
 
 -- an awake core is at a boundary between two instructions, and takes no exception there
@@ -165,10 +202,15 @@ pub record IsOver (op : Op) (reads : List ℕ) (s t : State) : Type 0 where
   pub fresh : t.read ≡ []
 
 -- after these cycles: where they are fewer than the beats, the instruction is in progress; where they are as many, each wanted
--- what its beat wants, and the instruction is over
+-- what its beat wants, and the instruction is over. Exceptions and the event register are what its beats, the timer and the
+-- lines make of them, so that it is known whether the next instruction begins
 pub record TakesItsBeats (op : Op) (cycle : ℕ) (gs : List Given) (s : State) : Type 0 where
   pub in_progress : length gs < length (beats_of op s.regs) → IsInProgress op s (after_cycles cycle gs s)
   pub wants : length gs ≡ length (beats_of op s.regs) → wants_in cycle gs s ≡ map (want_of_beat op) (beats_of op s.regs)
+  pub exceptions : length gs ≤ length (beats_of op s.regs)
+      → (after_cycles cycle gs s).nvic ≡ exceptions_in op cycle (beats_of op s.regs) gs s.nvic
+  pub event : length gs ≤ length (beats_of op s.regs)
+      → (after_cycles cycle gs s).event ≡ event_in op cycle (beats_of op s.regs) gs s.nvic s.event
   pub over : length gs ≡ length (beats_of op s.regs) → IsOver op (reads_in cycle (beats_of op s.regs) gs s) s (after_cycles cycle gs s)
 
 -- an instruction that a core begins at a boundary takes its beats, one a cycle where each access is done in the cycle in which

@@ -1,15 +1,17 @@
 -- An instruction takes its beats also where its accesses wait: each beat with an access on the bus lasts until the access is done
 -- (ARM Cortex-M0+ Technical Reference Manual, 3.3, cycle counts without wait states, to which each wait state adds a cycle).
-use Rattle.std.specs.Prelude.{◌≡◌, ℕ, ◌+◌, Bool, true, false, if◌then◌else◌, List, [], ◌∷◌, ◌++◌, Option, Some, None, option_to_list}
+use Rattle.std.specs.Prelude.{◌≡◌, ℕ, ◌+◌, Bool, true, false, ◌||◌, if◌then◌else◌, List, [], ◌∷◌, ◌++◌, Option, Some, None, option_to_list}
 use Rattle.rp_base.specs.declared.op.Op.{Op}
 use Rattle.m0_beats.specs.declared.timing.Beat.{Beat}
 use Rattle.m0_beats.specs.Beats.{beats_of}
+use Rattle.m0_nvic.specs.State.{Exceptions}
+use Rattle.m0_nvic.specs.Cycle as nvic
 use Rattle.lane_look.specs.declared.lane.Want.{Want}
 use Rattle.lane_look.specs.declared.lane.Turn.{Turn}
 use Rattle.lane_look.specs.declared.lane.Turn.TheVariants as turn
 use Rattle.m0_core.specs.Cycle.{next}
 use Rattle.m0_core.specs.State.{State}
-use Rattle.m0_core.specs.Law.{Given, turn_of, begun_in, wanted_in, is_access, is_stop, read_in, want_of_beat, IsAtBoundary, IsFetched, IsPlain, IsInProgress, IsOver}
+use Rattle.m0_core.specs.Law.{Given, turn_of, lines_in, changed_by, begun_in, wanted_in, is_access, is_stop, read_in, want_of_beat, IsAtBoundary, IsFetched, IsPlain, IsInProgress, IsOver}
 
 -- a cycle, and whether the access that the core asks for there is done in it
 pub record Served : Type 0 where
@@ -71,12 +73,36 @@ wants_of_beats op (beat ∷ beats) [] = []
 wants_of_beats op (beat ∷ beats) (x ∷ xs) =
     want_of_beat op beat ∷ (if is_over op beat x then wants_of_beats op beats xs else wants_of_beats op (beat ∷ beats) xs)
 
+-- the exceptions after these beats: a cycle in which an access waits leaves them to the timer and the interrupt lines
+abbrev pub exceptions_served : Op → ℕ → List Beat → List Served → Exceptions → Exceptions
+exceptions_served op cycle [] xs e = e
+exceptions_served op cycle (beat ∷ beats) [] e = e
+exceptions_served op cycle (beat ∷ beats) (x ∷ xs) e =
+    if is_over op beat x
+    then exceptions_served op (cycle + 1) beats xs (nvic.after_cycle (lines_in x.given) cycle (changed_by op beat beats e))
+    else exceptions_served op (cycle + 1) (beat ∷ beats) xs (nvic.after_cycle (lines_in x.given) cycle e)
+
+-- the event register after these beats
+abbrev pub event_served : Op → ℕ → List Beat → List Served → Exceptions → Bool → Bool
+event_served op cycle [] xs e event = event
+event_served op cycle (beat ∷ beats) [] e event = event
+event_served op cycle (beat ∷ beats) (x ∷ xs) e event =
+    if is_over op beat x
+    then event_served op (cycle + 1) beats xs (nvic.after_cycle (lines_in x.given) cycle (changed_by op beat beats e))
+    (event || nvic.is_event (lines_in x.given) cycle (changed_by op beat beats e))
+    else event_served op (cycle + 1) (beat ∷ beats) xs (nvic.after_cycle (lines_in x.given) cycle e)
+    (event || nvic.is_event (lines_in x.given) cycle e)
+
 -- after these cycles: while beats are left the instruction is in progress, and when none is left it is over
 pub record TakesItsBeatsServed (op : Op) (cycle : ℕ) (xs : List Served) (s : State) : Type 0 where
   pub in_progress : (beat : Beat) (beats : List Beat) → left_after op (beats_of op s.regs) xs ≡ Some (beat ∷ beats)
       → IsInProgress op s (after_all_served cycle xs s)
   pub wants : (beats : List Beat) → left_after op (beats_of op s.regs) xs ≡ Some beats
       → wants_served cycle xs s ≡ wants_of_beats op (beats_of op s.regs) xs
+  pub exceptions : (beats : List Beat) → left_after op (beats_of op s.regs) xs ≡ Some beats
+      → (after_all_served cycle xs s).nvic ≡ exceptions_served op cycle (beats_of op s.regs) xs s.nvic
+  pub event : (beats : List Beat) → left_after op (beats_of op s.regs) xs ≡ Some beats
+      → (after_all_served cycle xs s).event ≡ event_served op cycle (beats_of op s.regs) xs s.nvic s.event
   pub over : left_after op (beats_of op s.regs) xs ≡ Some []
       → IsOver op (reads_served op cycle (beats_of op s.regs) xs s) s (after_all_served cycle xs s)
 

@@ -1,6 +1,7 @@
 //! The laws of the core, each the contract of a function without arguments.
 
 ghost use Rattle.m0_core.specs.Law.{AnInstructionTakesItsBeats, AnAccessLastsUntilItIsDone};
+ghost use Rattle.m0_core.specs.ExceptionLaws.{WhatIsTakenIsTheLeast, AFaultPendsHardFaultAlone, AWfiMovesOnWhereAnExceptionWakes};
 ghost use Rattle.m0_core.specs.Waiting.{AnInstructionTakesItsBeatsAndWaits};
 
 /// In fewer cycles than it has beats an instruction changes neither registers nor flags, and in as many it wants the accesses
@@ -17,4 +18,20 @@ pub fn an_access_lasts_until_it_is_done()
 /// The same where accesses wait: each beat that has an access on the bus lasts until the access is done.
 pub fn an_instruction_takes_its_beats_and_waits()
     ensures { AnInstructionTakesItsBeatsAndWaits }
+{}
+
+/// At a boundary a core takes the least pair of priority and number among the exceptions that are pending and enabled, where it
+/// comes before the execution priority.
+pub fn what_is_taken_is_the_least()
+    ensures { WhatIsTakenIsTheLeast }
+{}
+
+/// A fault leaves HardFault pending and changes nothing else, and in the next cycle HardFault's entry begins, or NMI's.
+pub fn a_fault_pends_hardfault_alone()
+    ensures { AFaultPendsHardFaultAlone }
+{}
+
+/// The second beat of WFI is the last one where an exception wakes at its start, and lasts on elsewhere.
+pub fn a_wfi_moves_on_where_an_exception_wakes()
+    ensures { AWfiMovesOnWhereAnExceptionWakes }
 {}

@@ -1,3 +1,4 @@
+mod Held
 mod InForce
 pub mod Least
 pub mod Members
