@@ -1,4 +1,3 @@
-mod Held
 mod InForce
 pub mod Least
 pub mod Members

@@ -1,5 +1,0 @@
-use Rattle.m0_nvic.proofs.Held.{a_held_line_pends_after_its_handler}
-use Rattle.m0_nvic.proofs.laws.a_held_line_pends_after_its_handler.Goals as goal
-
-pub returns : goal.returns
-returns c = a_held_line_pends_after_its_handler
