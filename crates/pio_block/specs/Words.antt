@@ -4,6 +4,7 @@ use Rattle.word_bits.specs.Word.{has_bit}
 use Rattle.pio_machine.specs.Fields.{is_tx_full, tx_depth}
 use Rattle.pio_machine.specs.declared.machine.Machine1.{Machine1}
 use Rattle.pio_machine.specs.Operation.{with_pc}
+use Rattle.pio_block.specs.declared.registers.TheConstants.{CTRL, FSTAT, FDEBUG, TXF0, RXF0, IRQ, IRQ_FORCE, INPUT_SYNC_BYPASS, DBG_PADOUT, DBG_PADOE, INSTR_MEM0, SM0_CLKDIV, INTR, IRQ0_INTE, IRQ0_INTF, IRQ0_INTS, IRQ1_INTE, IRQ1_INTF, END, SM_BYTES, SM_EXECCTRL}
 use Rattle.pio_block.specs.State.{Block, machine_of, changed, with_machines, without}
 use Rattle.pio_block.specs.Control.{ctrl_of, control_written}
 use Rattle.pio_block.specs.Queues.{bits_of, fstat_of, fdebug_of, flevel_of, is_rx_empty, first_of, debug_written, sent, taken}
@@ -13,14 +14,14 @@ use Rattle.pio_block.specs.Registers.{register_of, register_written}
 
 unfoldable pub control_word : Block → ℕ → ℕ
 control_word s offset =
-    if offset == 0x000 then ctrl_of s.machines else
-    if offset == 0x004 then fstat_of s.machines else
-    if offset == 0x008 then fdebug_of s else flevel_of s.machines
+    if offset == CTRL then ctrl_of s.machines else
+    if offset == FSTAT then fstat_of s.machines else
+    if offset == FDEBUG then fdebug_of s else flevel_of s.machines
 
 unfoldable pub after_control : ℕ → ℕ → Block → Block
 after_control offset w s =
-    if offset == 0x000 then control_written w s else
-    if offset == 0x008 then debug_written w s else s
+    if offset == CTRL then control_written w s else
+    if offset == FDEBUG then debug_written w s else s
 
 -- ---- TXF0 to TXF3: 10 to 1C, RXF0 to RXF3: 20 to 2C
 
@@ -28,51 +29,51 @@ abbrev pub fifo_number : ℕ → ℕ
 fifo_number offset = offset / 4 % 4
 
 abbrev pub is_rxf : ℕ → Bool
-is_rxf offset = nat_le 0x020 offset && nat_lt offset 0x030
+is_rxf offset = nat_le RXF0 offset && nat_lt offset IRQ
 
 unfoldable pub fifo_word : Block → ℕ → ℕ
 fifo_word s offset = if is_rxf offset then first_of (machine_of (fifo_number offset) s.machines).rx else 0
 
 unfoldable pub after_fifo : ℕ → ℕ → Block → Block
-after_fifo offset w s = if nat_lt offset 0x020 then sent (fifo_number offset) w s else s
+after_fifo offset w s = if nat_lt offset RXF0 then sent (fifo_number offset) w s else s
 
 -- ---- IRQ, IRQ_FORCE, INPUT_SYNC_BYPASS, DBG_PADOUT, DBG_PADOE, DBG_CFGINFO: 30 to 44
 
 -- the chip has 30 pins; the last word tells 32 words of instruction memory, four machines and FIFOs of four words
 unfoldable pub pin_word : Block → ℕ → ℕ
 pin_word s offset =
-    if offset == 0x030 then s.flags else
-    if offset == 0x034 then 0 else
-    if offset == 0x038 then s.bypass else
-    if offset == 0x03C then s.levels % 2 ^ 30 else
-    if offset == 0x040 then s.enables % 2 ^ 30 else 0x00200404
+    if offset == IRQ then s.flags else
+    if offset == IRQ_FORCE then 0 else
+    if offset == INPUT_SYNC_BYPASS then s.bypass else
+    if offset == DBG_PADOUT then s.levels % 2 ^ 30 else
+    if offset == DBG_PADOE then s.enables % 2 ^ 30 else 0x00200404
 
 unfoldable pub after_pin : ℕ → ℕ → Block → Block
 after_pin offset w s =
-    if offset == 0x030 then record s { flags = without s.flags (w % 2 ^ 8) } else
-    if offset == 0x034 then record s { flags = bit_or s.flags (w % 2 ^ 8) } else
-    if offset == 0x038 then record s { bypass = w } else s
+    if offset == IRQ then record s { flags = without s.flags (w % 2 ^ 8) } else
+    if offset == IRQ_FORCE then record s { flags = bit_or s.flags (w % 2 ^ 8) } else
+    if offset == INPUT_SYNC_BYPASS then record s { bypass = w } else s
 
 -- ---- INSTR_MEM0 to INSTR_MEM31: 48 to C4, which can only be written
 
 unfoldable pub after_memory : ℕ → ℕ → Block → Block
-after_memory offset w s = record s { memory = slice_set s.memory ((offset - 0x048) / 4) (w % 2 ^ 16) }
+after_memory offset w s = record s { memory = slice_set s.memory ((offset - INSTR_MEM0) / 4) (w % 2 ^ 16) }
 
 -- ---- the registers of the machines: C8 to 124
 
 abbrev pub register_number : ℕ → ℕ
-register_number offset = (offset - 0x0C8) / 0x018
+register_number offset = (offset - SM0_CLKDIV) / SM_BYTES
 
-abbrev pub register_place : ℕ → ℕ
-register_place offset = (offset - 0x0C8) % 0x018
+abbrev pub register_offset : ℕ → ℕ
+register_offset offset = (offset - SM0_CLKDIV) % SM_BYTES
 
 unfoldable pub machine_word : Block → ℕ → ℕ
 machine_word s offset =
-    register_of (register_place offset) s.memory (machine_of (register_number offset) s.machines)
+    register_of (register_offset offset) s.memory (machine_of (register_number offset) s.machines)
 
 unfoldable pub after_machine : ℕ → ℕ → Block → Block
 after_machine offset w s =
-    with_machines (changed (register_number offset) (register_written (register_place offset) w) s.machines) s
+    with_machines (changed (register_number offset) (register_written (register_offset offset) w) s.machines) s
 
 -- ---- INTR, and INTE, INTF and INTS of both lines: 128 to 140
 
@@ -97,32 +98,32 @@ ints1_of s = ints_of s.inte1 s.intf1 s
 
 unfoldable pub interrupt_word : Block → ℕ → ℕ
 interrupt_word s offset =
-    if offset == 0x128 then intr_of s else
-    if offset == 0x12C then s.inte0 else
-    if offset == 0x130 then s.intf0 else
-    if offset == 0x134 then ints0_of s else
-    if offset == 0x138 then s.inte1 else
-    if offset == 0x13C then s.intf1 else ints1_of s
+    if offset == INTR then intr_of s else
+    if offset == IRQ0_INTE then s.inte0 else
+    if offset == IRQ0_INTF then s.intf0 else
+    if offset == IRQ0_INTS then ints0_of s else
+    if offset == IRQ1_INTE then s.inte1 else
+    if offset == IRQ1_INTF then s.intf1 else ints1_of s
 
 unfoldable pub after_interrupt : ℕ → ℕ → Block → Block
 after_interrupt offset w s =
-    if offset == 0x12C then record s { inte0 = w % 2 ^ 12 } else
-    if offset == 0x130 then record s { intf0 = w % 2 ^ 12 } else
-    if offset == 0x138 then record s { inte1 = w % 2 ^ 12 } else
-    if offset == 0x13C then record s { intf1 = w % 2 ^ 12 } else s
+    if offset == IRQ0_INTE then record s { inte0 = w % 2 ^ 12 } else
+    if offset == IRQ0_INTF then record s { intf0 = w % 2 ^ 12 } else
+    if offset == IRQ1_INTE then record s { inte1 = w % 2 ^ 12 } else
+    if offset == IRQ1_INTF then record s { intf1 = w % 2 ^ 12 } else s
 
 -- ---- all words
 
 abbrev pub is_word : ℕ → Bool
-is_word offset = offset % 4 == 0 && nat_lt offset 0x144
+is_word offset = offset % 4 == 0 && nat_lt offset END
 
 unfoldable pub value_of : Block → ℕ → ℕ
 value_of s offset =
-    if nat_lt offset 0x010 then control_word s offset else
-    if nat_lt offset 0x030 then fifo_word s offset else
-    if nat_lt offset 0x048 then pin_word s offset else
-    if nat_lt offset 0x0C8 then 0 else
-    if nat_lt offset 0x128 then machine_word s offset else interrupt_word s offset
+    if nat_lt offset TXF0 then control_word s offset else
+    if nat_lt offset IRQ then fifo_word s offset else
+    if nat_lt offset INSTR_MEM0 then pin_word s offset else
+    if nat_lt offset SM0_CLKDIV then 0 else
+    if nat_lt offset INTR then machine_word s offset else interrupt_word s offset
 
 -- what a word reads as; None where there is none. A block that is held reads 0
 unfoldable pub word_of : Block → ℕ → Option ℕ
@@ -132,18 +133,18 @@ word_of s offset = if is_word offset then Some (if s.held then 0 else value_of s
 abbrev pub sets_left_out : ℕ → Option ℕ → Bool
 sets_left_out offset None = false
 sets_left_out offset (Some w) =
-    nat_le 0x0C8 offset && (nat_lt offset 0x128 && (register_place offset == 0x04 && (has_bit w 17 || has_bit w 18)))
+    nat_le SM0_CLKDIV offset && (nat_lt offset INTR && (register_offset offset == SM_EXECCTRL && (has_bit w 17 || has_bit w 18)))
 
 unfoldable pub is_allowed : ℕ → Option ℕ → Bool
 is_allowed offset write = is_word offset && not (sets_left_out offset write)
 
 unfoldable pub after_write : ℕ → ℕ → Block → Block
 after_write offset w s =
-    if nat_lt offset 0x010 then after_control offset w s else
-    if nat_lt offset 0x030 then after_fifo offset w s else
-    if nat_lt offset 0x048 then after_pin offset w s else
-    if nat_lt offset 0x0C8 then after_memory offset w s else
-    if nat_lt offset 0x128 then after_machine offset w s else after_interrupt offset w s
+    if nat_lt offset TXF0 then after_control offset w s else
+    if nat_lt offset IRQ then after_fifo offset w s else
+    if nat_lt offset INSTR_MEM0 then after_pin offset w s else
+    if nat_lt offset SM0_CLKDIV then after_memory offset w s else
+    if nat_lt offset INTR then after_machine offset w s else after_interrupt offset w s
 
 -- a read of RXF takes a word away
 unfoldable pub after_read : ℕ → Block → Block

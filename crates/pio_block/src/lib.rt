@@ -4,9 +4,11 @@
 
 pub mod block;
 pub mod inputs;
+pub mod laws;
 mod machine;
 mod machines;
 mod queues;
+pub mod registers;
 mod state;
 #[cfg(test)]
 mod tests;

@@ -6,6 +6,7 @@ ghost use Rattle.pio_block.specs.Control.{restarted_if, with_divider_restarted, 
 ghost use Rattle.pio_block.specs.Queues.{with_stalls_cleared, with_sent, with_taken};
 ghost use Rattle.pio_block.specs.Registers.{execctrl_of, register_of, joined, register_written};
 
+use crate::registers::{SM_ADDR, SM_CLKDIV, SM_EXECCTRL, SM_INSTR, SM_PINCTRL, SM_SHIFTCTRL};
 use pio_machine::{Machine1, Waiting};
 use word_bits::{bit_number, has_bit};
 
@@ -85,18 +86,18 @@ fn execctrl(machine: &Machine1) -> u32
     machine.execctrl | (bit_number(is_written(machine.waiting)) * 0x8000_0000)
 }
 
-/// A register of the machine, by its place in the machine's 18h bytes.
+/// A register of the machine, by its offset from the first one.
 #[tactic(auto, unfolding(crate::specs::Registers::register_of))]
-pub(crate) fn register(machine: &Machine1, place: u16, memory: &[u16; 32]) -> u32
-    ensures { result ≡ register_of place memory.now machine.now }
+pub(crate) fn register(machine: &Machine1, offset: u16, memory: &[u16; 32]) -> u32
+    ensures { result ≡ register_of offset memory.now machine.now }
 {
-    match place {
-        0x00 => machine.clkdiv,
-        0x04 => execctrl(machine),
-        0x08 => machine.shiftctrl,
-        0x0c => u32::from(machine.pc),
-        0x10 => u32::from(memory[(machine.pc % 32) as usize]),
-        0x14 => machine.pinctrl,
+    match offset {
+        SM_CLKDIV => machine.clkdiv,
+        SM_EXECCTRL => execctrl(machine),
+        SM_SHIFTCTRL => machine.shiftctrl,
+        SM_ADDR => u32::from(machine.pc),
+        SM_INSTR => u32::from(memory[(machine.pc % 32) as usize]),
+        SM_PINCTRL => machine.pinctrl,
         _ => 0,
     }
 }
@@ -113,18 +114,18 @@ fn join(machine: &mut Machine1, word: u32)
 
 /// A write of a register of the machine.
 #[tactic(auto, unfolding(crate::specs::Registers::register_written))]
-pub(crate) fn write_register(machine: &mut Machine1, place: u16, word: u32)
-    ensures { machine.new ≡ register_written place word machine.old }
+pub(crate) fn write_register(machine: &mut Machine1, offset: u16, word: u32)
+    ensures { machine.new ≡ register_written offset word machine.old }
 {
-    match place {
-        0x00 => machine.clkdiv = word & 0xffff_ff00,
-        0x04 => machine.execctrl = word & 0x7f01_ff9f,
-        0x08 => {
+    match offset {
+        SM_CLKDIV => machine.clkdiv = word & 0xffff_ff00,
+        SM_EXECCTRL => machine.execctrl = word & 0x7f01_ff9f,
+        SM_SHIFTCTRL => {
             join(machine, word);
             machine.shiftctrl = word & 0xffff_0000;
         }
-        0x10 => machine.waiting = Some(Waiting::forced((word & 0xffff) as u16)),
-        0x14 => machine.pinctrl = word,
+        SM_INSTR => machine.waiting = Some(Waiting::forced((word & 0xffff) as u16)),
+        SM_PINCTRL => machine.pinctrl = word,
         _ => {}
     }
 }

@@ -126,16 +126,16 @@ impl Machines {
         }
     }
 
-    /// A write of a register of a machine, by its place in the machine's 18h bytes.
-    pub(crate) fn write_register(&mut self, number: u8, place: u16, word: u32)
+    /// A write of a register of a machine, by its offset from the machine's first one.
+    pub(crate) fn write_register(&mut self, number: u8, offset: u16, word: u32)
         requires { number < 4 }
-        ensures { self.new ≡ changed number (register_written place word) self.old }
+        ensures { self.new ≡ changed number (register_written offset word) self.old }
     {
         match number {
-            0 => write_register(&mut self.first, place, word),
-            1 => write_register(&mut self.second, place, word),
-            2 => write_register(&mut self.third, place, word),
-            _ => write_register(&mut self.fourth, place, word),
+            0 => write_register(&mut self.first, offset, word),
+            1 => write_register(&mut self.second, offset, word),
+            2 => write_register(&mut self.third, offset, word),
+            _ => write_register(&mut self.fourth, offset, word),
         }
     }
 

@@ -3,6 +3,12 @@
 ghost use Rattle.std.specs.Prelude.{◌≡◌, ◌+◌, ◌*◌, ◌^◌};
 
 use crate::PioBlock;
+use crate::registers::{
+    CTRL, DBG_CFGINFO, DBG_PADOE, DBG_PADOUT, FDEBUG, FLEVEL, FSTAT, INPUT_SYNC_BYPASS, INSTR_MEM0,
+    INTR, IRQ, IRQ_FORCE, IRQ0_INTE, IRQ0_INTF, IRQ0_INTS, IRQ1_INTE, IRQ1_INTF, IRQ1_INTS, RXF0,
+    SM_ADDR, SM_BYTES, SM_CLKDIV, SM_EXECCTRL, SM_INSTR, SM_PINCTRL, SM_SHIFTCTRL, SM0_CLKDIV,
+    TXF0,
+};
 use lane_look::{Ask, Lane, Look, Marks, Turn};
 
 /// Input words, and how often they were asked for.
@@ -35,35 +41,44 @@ const LOW: Levels = Levels {
     asked: 0,
 };
 
+/// The first registers of the machines.
+const SM0: u16 = SM0_CLKDIV;
+
+const SM1: u16 = SM0 + SM_BYTES;
+
+const SM2: u16 = SM1 + SM_BYTES;
+
+const SM3: u16 = SM2 + SM_BYTES;
+
 /// Offsets, what is written there, and what is read after.
 const WORDS: [(u16, u32, u32); 27] = [
-    (0x004, 0xffff_ffff, 0x0f00_0f00),
-    (0x008, 0xffff_ffff, 0),
-    (0x00c, 0xffff_ffff, 0),
-    (0x02c, 0xffff_ffff, 0),
-    (0x034, 0x0000_01ff, 0),
-    (0x030, 0x0000_000f, 0xf0),
-    (0x038, 0x8000_0001, 0x8000_0001),
-    (0x03c, 0xffff_ffff, 0),
-    (0x040, 0xffff_ffff, 0),
-    (0x044, 0xffff_ffff, 0x0020_0404),
-    (0x048, 0x1234_e081, 0),
-    (0x0c4, 0x0000_e101, 0),
-    (0x0d8, 0x0000_a042, 0xe081),
-    (0x0c8, 0xffff_ffff, 0xffff_ff00),
-    (0x0cc, 0x7f01_ffff, 0xff01_ff9f),
-    (0x0e4, 0xfff9_ffff, 0x7f01_ff9f),
-    (0x0d0, 0xffff_ffff, 0xffff_0000),
-    (0x0d4, 0xffff_ffff, 0),
-    (0x124, 0x1234_5678, 0x1234_5678),
-    (0x128, 0xffff_ffff, 0x0e0),
-    (0x12c, 0xffff_ffff, 0xfff),
-    (0x130, 0x0000_0001, 1),
-    (0x134, 0xffff_ffff, 0x0e1),
-    (0x138, 0x0000_0003, 3),
-    (0x13c, 0x0000_0000, 0),
-    (0x140, 0xffff_ffff, 0),
-    (0x000, 0x0000_0ff5, 5),
+    (FSTAT, 0xffff_ffff, 0x0f00_0f00),
+    (FDEBUG, 0xffff_ffff, 0),
+    (FLEVEL, 0xffff_ffff, 0),
+    (RXF0 + 12, 0xffff_ffff, 0),
+    (IRQ_FORCE, 0x0000_01ff, 0),
+    (IRQ, 0x0000_000f, 0xf0),
+    (INPUT_SYNC_BYPASS, 0x8000_0001, 0x8000_0001),
+    (DBG_PADOUT, 0xffff_ffff, 0),
+    (DBG_PADOE, 0xffff_ffff, 0),
+    (DBG_CFGINFO, 0xffff_ffff, 0x0020_0404),
+    (INSTR_MEM0, 0x1234_e081, 0),
+    (INSTR_MEM0 + 124, 0x0000_e101, 0),
+    (SM0 + SM_INSTR, 0x0000_a042, 0xe081),
+    (SM0 + SM_CLKDIV, 0xffff_ffff, 0xffff_ff00),
+    (SM0 + SM_EXECCTRL, 0x7f01_ffff, 0xff01_ff9f),
+    (SM1 + SM_EXECCTRL, 0xfff9_ffff, 0x7f01_ff9f),
+    (SM0 + SM_SHIFTCTRL, 0xffff_ffff, 0xffff_0000),
+    (SM0 + SM_ADDR, 0xffff_ffff, 0),
+    (SM3 + SM_PINCTRL, 0x1234_5678, 0x1234_5678),
+    (INTR, 0xffff_ffff, 0x0e0),
+    (IRQ0_INTE, 0xffff_ffff, 0xfff),
+    (IRQ0_INTF, 0x0000_0001, 1),
+    (IRQ0_INTS, 0xffff_ffff, 0x0e1),
+    (IRQ1_INTE, 0x0000_0003, 3),
+    (IRQ1_INTF, 0x0000_0000, 0),
+    (IRQ1_INTS, 0xffff_ffff, 0),
+    (CTRL, 0x0000_0ff5, 5),
 ];
 
 /// Offsets of no word.
@@ -84,50 +99,55 @@ fn words(rt: HostRuntime) {
         );
     }
     // INLINE_OUT_EN and OUT_STICKY are left out
-    for offset in [0x0cc, 0x0e4, 0x0fc, 0x114] {
+    for offset in [
+        SM0 + SM_EXECCTRL,
+        SM1 + SM_EXECCTRL,
+        SM2 + SM_EXECCTRL,
+        SM3 + SM_EXECCTRL,
+    ] {
         assert!(rt; !block.effect(offset, Some(0x4_0000)), "{offset:x}");
         assert!(rt; !block.allows(offset, Some(0x2_0000)), "{offset:x}");
     }
     assert!(rt; block.lines() == [true, false]);
     block.set_held(true);
-    assert_eq!(rt; block.read(0x044), Some(0));
-    assert!(rt; block.effect(0x038, Some(1)));
+    assert_eq!(rt; block.read(DBG_CFGINFO), Some(0));
+    assert!(rt; block.effect(INPUT_SYNC_BYPASS, Some(1)));
     block.set_held(false);
-    assert_eq!(rt; block.read(0x038), Some(0));
-    assert_eq!(rt; block.read(0x110), Some(0x0001_0000));
+    assert_eq!(rt; block.read(INPUT_SYNC_BYPASS), Some(0));
+    assert_eq!(rt; block.read(SM3 + SM_CLKDIV), Some(0x0001_0000));
 }
 
 #[test]
 fn fifos(rt: HostRuntime) {
     let mut block = PioBlock::new();
     for word in 1..6 {
-        assert!(rt; block.effect(0x014, Some(word)));
+        assert!(rt; block.effect(TXF0 + 4, Some(word)));
     }
-    assert_eq!(rt; block.read(0x004), Some(0x0d02_0f00));
-    assert_eq!(rt; block.read(0x008), Some(0x0002_0000));
-    assert_eq!(rt; block.read(0x00c), Some(0x0000_0400));
-    assert_eq!(rt; block.read(0x128), Some(0x0d0));
+    assert_eq!(rt; block.read(FSTAT), Some(0x0d02_0f00));
+    assert_eq!(rt; block.read(FDEBUG), Some(0x0002_0000));
+    assert_eq!(rt; block.read(FLEVEL), Some(0x0000_0400));
+    assert_eq!(rt; block.read(INTR), Some(0x0d0));
     assert!(rt; block.pacing() == [4, 0, 4, 4, 0, 0, 0, 0]);
-    assert!(rt; block.effect(0x02c, None));
-    assert_eq!(rt; block.read(0x008), Some(0x0002_0800));
-    assert!(rt; block.effect(0x008, Some(0x0002_0000)));
-    assert_eq!(rt; block.read(0x008), Some(0x0000_0800));
+    assert!(rt; block.effect(RXF0 + 12, None));
+    assert_eq!(rt; block.read(FDEBUG), Some(0x0002_0800));
+    assert!(rt; block.effect(FDEBUG, Some(0x0002_0000)));
+    assert_eq!(rt; block.read(FDEBUG), Some(0x0000_0800));
     // pull; then in osr, 32; then push, all from INSTR
     let mut look = LOW;
     for word in [0x80a0, 0x40e0, 0x8020] {
-        assert!(rt; block.effect(0x0f0, Some(word)));
+        assert!(rt; block.effect(SM1 + SM_INSTR, Some(word)));
         step(&mut block, &mut look);
     }
     assert_eq!(rt; look.asked, 3);
     step(&mut block, &mut look);
     assert_eq!(rt; look.asked, 3);
     assert!(rt; block.registers(1) == [0, 0, 0, 0, 1]);
-    assert_eq!(rt; block.read(0x024), Some(1));
-    assert_eq!(rt; block.read(0x00c), Some(0x0000_1300));
-    assert!(rt; block.effect(0x024, None));
+    assert_eq!(rt; block.read(RXF0 + 4), Some(1));
+    assert_eq!(rt; block.read(FLEVEL), Some(0x0000_1300));
+    assert!(rt; block.effect(RXF0 + 4, None));
     // FJOIN_TX of machine 1 empties its FIFOs
-    assert!(rt; block.effect(0x0e8, Some(0x4000_0000)));
-    assert_eq!(rt; block.read(0x00c), Some(0));
+    assert!(rt; block.effect(SM1 + SM_SHIFTCTRL, Some(0x4000_0000)));
+    assert_eq!(rt; block.read(FLEVEL), Some(0));
     assert!(rt; block.pacing() == [4, 8, 4, 4, 0, 0, 0, 0]);
 }
 
@@ -150,10 +170,10 @@ fn cycles(rt: HostRuntime) {
     let mut block = PioBlock::new();
     let mut look = LOW;
     for (offset, word) in [
-        (0x048, 0xe081),
-        (0x04c, 0xe101),
-        (0x050, 0xe200),
-        (0x000, 1),
+        (INSTR_MEM0, 0xe081),
+        (INSTR_MEM0 + 4, 0xe101),
+        (INSTR_MEM0 + 8, 0xe200),
+        (CTRL, 1),
     ] {
         assert!(rt; block.effect(offset, Some(word)));
     }
@@ -166,27 +186,34 @@ fn cycles(rt: HostRuntime) {
     assert!(rt; other.outs() == [1, 1]);
     // set pins, 3 and set pins, 0: the higher machine wins
     let mut block = PioBlock::new();
-    assert!(rt; block.effect(0x0d8, Some(0xe003)) && block.effect(0x0f0, Some(0xe000)));
+    assert!(rt;
+        block.effect(SM0 + SM_INSTR, Some(0xe003)) && block.effect(SM1 + SM_INSTR, Some(0xe000))
+    );
     step(&mut block, &mut look);
     assert!(rt; block.outs() == [0, 0]);
     // irq 2 and irq clear 2: flags are cleared, then set
-    assert!(rt; block.effect(0x0d8, Some(0xc002)) && block.effect(0x0f0, Some(0xc042)));
+    assert!(rt;
+        block.effect(SM0 + SM_INSTR, Some(0xc002)) && block.effect(SM1 + SM_INSTR, Some(0xc042))
+    );
     step(&mut block, &mut look);
-    assert_eq!(rt; block.read(0x030), Some(4));
+    assert_eq!(rt; block.read(IRQ), Some(4));
     // wait 1 gpio 0 waits in INSTR
     block.set_counter(2, 31);
-    assert!(rt; block.effect(0x108, Some(0x2080)));
+    assert!(rt; block.effect(SM2 + SM_INSTR, Some(0x2080)));
     step(&mut block, &mut look);
-    assert_eq!(rt; block.read(0x0fc), Some(0x8001_f000));
+    assert_eq!(rt; block.read(SM2 + SM_EXECCTRL), Some(0x8001_f000));
     look.second = 1;
     step(&mut block, &mut look);
-    assert_eq!(rt; block.read(0x0fc), Some(0x0001_f000));
+    assert_eq!(rt; block.read(SM2 + SM_EXECCTRL), Some(0x0001_f000));
     assert!(rt; block.registers(2) == [31, 0, 0, 0, 0]);
     assert!(rt; block.is_idle());
     // set pins, 31 from pin 28 on: the words of the outputs have 30 bits
-    assert!(rt; block.effect(0x0dc, Some(0x1400_0380)) && block.effect(0x0d8, Some(0xe01f)));
+    assert!(rt;
+        block.effect(SM0 + SM_PINCTRL, Some(0x1400_0380))
+            && block.effect(SM0 + SM_INSTR, Some(0xe01f))
+    );
     assert!(rt; !block.is_idle());
     step(&mut block, &mut look);
-    assert_eq!(rt; block.read(0x03c), Some(0x3000_0001));
+    assert_eq!(rt; block.read(DBG_PADOUT), Some(0x3000_0001));
     assert!(rt; block.outs() == [0xf000_0001, 0]);
 }

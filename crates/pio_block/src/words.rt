@@ -1,9 +1,15 @@
 //! The words of a block by their offsets.
 
 ghost use Rattle.std.specs.Prelude.{◌≡◌, ◌<◌, ◌≤◌, ◌+◌, ◌*◌, ◌^◌};
-ghost use Rattle.pio_block.specs.Words.{fifo_number, is_rxf, register_number, register_place, is_word, sets_left_out, is_allowed};
+ghost use Rattle.pio_block.specs.declared.registers.TheConstants.{SM0_CLKDIV, INTR};
+ghost use Rattle.pio_block.specs.Words.{fifo_number, is_rxf, register_number, register_offset, is_word, sets_left_out, is_allowed};
 
 use crate::machine::register;
+use crate::registers::{
+    CTRL, DBG_PADOE, DBG_PADOUT, END, FDEBUG, FSTAT, INPUT_SYNC_BYPASS, INSTR_MEM0, INTR, IRQ,
+    IRQ_FORCE, IRQ0_INTE, IRQ0_INTF, IRQ0_INTS, IRQ1_INTE, IRQ1_INTF, RXF0, SM_BYTES, SM_EXECCTRL,
+    SM0_CLKDIV, TXF0,
+};
 use crate::state::State;
 use word_bits::has_bit;
 
@@ -12,9 +18,10 @@ const PINS: u32 = 0x3fff_ffff;
 
 impl State {
     ghost use Rattle.std.specs.Prelude.{◌≡◌, ◌<◌, ◌≤◌, Bool};
+    ghost use Rattle.pio_block.specs.declared.registers.TheConstants.{INSTR_MEM0, SM0_CLKDIV, INTR};
     ghost use Rattle.pio_block.specs.Control.{control_written};
     ghost use Rattle.pio_block.specs.Queues.{fdebug_of, debug_written, sent, taken, first_of, is_rx_empty};
-    ghost use Rattle.pio_block.specs.Words.{control_word, after_control, fifo_word, after_fifo, fifo_number, is_rxf, pin_word, after_pin, after_memory, register_number, register_place, machine_word, after_machine, intr_of, ints_of, ints0_of, ints1_of, interrupt_word, after_interrupt, value_of, word_of, after_write, after_read, after_access, effect_of, is_allowed, lines_of};
+    ghost use Rattle.pio_block.specs.Words.{control_word, after_control, fifo_word, after_fifo, fifo_number, is_rxf, pin_word, after_pin, after_memory, register_number, register_offset, machine_word, after_machine, intr_of, ints_of, ints0_of, ints1_of, interrupt_word, after_interrupt, value_of, word_of, after_write, after_read, after_access, effect_of, is_allowed, lines_of};
 
     /// FDEBUG.
     #[tactic(auto, unfolding(crate::specs::Queues::fdebug_of))]
@@ -45,9 +52,9 @@ impl State {
         ensures { result ≡ control_word self.now offset }
     {
         match offset {
-            0x000 => self.machines.ctrl(),
-            0x004 => self.machines.fstat(),
-            0x008 => self.fdebug(),
+            CTRL => self.machines.ctrl(),
+            FSTAT => self.machines.fstat(),
+            FDEBUG => self.fdebug(),
             _ => self.machines.flevel(),
         }
     }
@@ -58,8 +65,8 @@ impl State {
         ensures { self.new ≡ after_control offset word self.old }
     {
         match offset {
-            0x000 => self.machines.control(word),
-            0x008 => self.write_debug(word),
+            CTRL => self.machines.control(word),
+            FDEBUG => self.write_debug(word),
             _ => {}
         }
     }
@@ -105,7 +112,7 @@ impl State {
     fn write_fifo(&mut self, offset: u16, word: u32)
         ensures { self.new ≡ after_fifo offset word self.old }
     {
-        if offset < 0x020 {
+        if offset < RXF0 {
             self.send(fifo_number(offset), word);
         }
     }
@@ -116,11 +123,11 @@ impl State {
         ensures { result ≡ pin_word self.now offset }
     {
         match offset {
-            0x030 => u32::from(self.seen.flags),
-            0x034 => 0,
-            0x038 => self.seen.bypass,
-            0x03c => self.levels & PINS,
-            0x040 => self.enables & PINS,
+            IRQ => u32::from(self.seen.flags),
+            IRQ_FORCE => 0,
+            INPUT_SYNC_BYPASS => self.seen.bypass,
+            DBG_PADOUT => self.levels & PINS,
+            DBG_PADOE => self.enables & PINS,
             _ => 0x0020_0404,
         }
     }
@@ -132,9 +139,9 @@ impl State {
     {
         let flags = (word & 0xff) as u8;
         match offset {
-            0x030 => self.seen.flags &= !flags,
-            0x034 => self.seen.flags |= flags,
-            0x038 => self.seen.bypass = word,
+            IRQ => self.seen.flags &= !flags,
+            IRQ_FORCE => self.seen.flags |= flags,
+            INPUT_SYNC_BYPASS => self.seen.bypass = word,
             _ => {}
         }
     }
@@ -142,33 +149,33 @@ impl State {
     /// A write of a word of the instruction memory.
     #[tactic(auto, unfolding(crate::specs::Words::after_memory))]
     fn write_memory(&mut self, offset: u16, word: u32)
-        requires low { 0x048 ≤ offset }
-        requires high { offset < 0x0C8 }
+        requires low { INSTR_MEM0 ≤ offset }
+        requires high { offset < SM0_CLKDIV }
         ensures { self.new ≡ after_memory offset word self.old }
     {
-        self.seen.memory[((offset - 0x048) / 4) as usize] = (word & 0xffff) as u16;
+        self.seen.memory[((offset - INSTR_MEM0) / 4) as usize] = (word & 0xffff) as u16;
     }
 
     /// A register of a machine.
     #[tactic(auto, unfolding(crate::specs::Words::machine_word))]
     fn read_machine(&self, offset: u16) -> u32
-        requires low { 0x0C8 ≤ offset }
-        requires high { offset < 0x128 }
+        requires low { SM0_CLKDIV ≤ offset }
+        requires high { offset < INTR }
         ensures { result ≡ machine_word self.now offset }
     {
         let machine = self.machines.at(register_number(offset));
-        register(machine, register_place(offset), &self.seen.memory)
+        register(machine, register_offset(offset), &self.seen.memory)
     }
 
     /// A write of a register of a machine.
     #[tactic(auto, unfolding(crate::specs::Words::after_machine))]
     fn write_machine(&mut self, offset: u16, word: u32)
-        requires low { 0x0C8 ≤ offset }
-        requires high { offset < 0x128 }
+        requires low { SM0_CLKDIV ≤ offset }
+        requires high { offset < INTR }
         ensures { self.new ≡ after_machine offset word self.old }
     {
         self.machines
-            .write_register(register_number(offset), register_place(offset), word);
+            .write_register(register_number(offset), register_offset(offset), word);
     }
 
     /// INTR.
@@ -208,12 +215,12 @@ impl State {
         ensures { result ≡ interrupt_word self.now offset }
     {
         match offset {
-            0x128 => self.intr(),
-            0x12c => u32::from(self.inte0),
-            0x130 => u32::from(self.intf0),
-            0x134 => self.ints0(),
-            0x138 => u32::from(self.inte1),
-            0x13c => u32::from(self.intf1),
+            INTR => self.intr(),
+            IRQ0_INTE => u32::from(self.inte0),
+            IRQ0_INTF => u32::from(self.intf0),
+            IRQ0_INTS => self.ints0(),
+            IRQ1_INTE => u32::from(self.inte1),
+            IRQ1_INTF => u32::from(self.intf1),
             _ => self.ints1(),
         }
     }
@@ -225,10 +232,10 @@ impl State {
     {
         let bits = (word & 0xfff) as u16;
         match offset {
-            0x12c => self.inte0 = bits,
-            0x130 => self.intf0 = bits,
-            0x138 => self.inte1 = bits,
-            0x13c => self.intf1 = bits,
+            IRQ0_INTE => self.inte0 = bits,
+            IRQ0_INTF => self.intf0 = bits,
+            IRQ1_INTE => self.inte1 = bits,
+            IRQ1_INTF => self.intf1 = bits,
             _ => {}
         }
     }
@@ -238,15 +245,15 @@ impl State {
     fn value(&self, offset: u16) -> u32
         ensures { result ≡ value_of self.now offset }
     {
-        if offset < 0x010 {
+        if offset < TXF0 {
             self.read_control(offset)
-        } else if offset < 0x030 {
+        } else if offset < IRQ {
             self.read_fifo(offset)
-        } else if offset < 0x048 {
+        } else if offset < INSTR_MEM0 {
             self.read_pins(offset)
-        } else if offset < 0x0c8 {
+        } else if offset < SM0_CLKDIV {
             0
-        } else if offset < 0x128 {
+        } else if offset < INTR {
             self.read_machine(offset)
         } else {
             self.read_interrupts(offset)
@@ -270,15 +277,15 @@ impl State {
     fn write(&mut self, offset: u16, word: u32)
         ensures { self.new ≡ after_write offset word self.old }
     {
-        if offset < 0x010 {
+        if offset < TXF0 {
             self.write_control(offset, word);
-        } else if offset < 0x030 {
+        } else if offset < IRQ {
             self.write_fifo(offset, word);
-        } else if offset < 0x048 {
+        } else if offset < INSTR_MEM0 {
             self.write_pins(offset, word);
-        } else if offset < 0x0c8 {
+        } else if offset < SM0_CLKDIV {
             self.write_memory(offset, word);
-        } else if offset < 0x128 {
+        } else if offset < INTR {
             self.write_machine(offset, word);
         } else {
             self.write_interrupts(offset, word);
@@ -341,31 +348,31 @@ fn fifo_number(offset: u16) -> u8
 fn is_rxf(offset: u16) -> bool
     ensures { result ≡ is_rxf offset }
 {
-    0x020 <= offset && offset < 0x030
+    RXF0 <= offset && offset < IRQ
 }
 
 /// The number of a machine by the offset of one of its registers.
 fn register_number(offset: u16) -> u8
-    requires low { 0x0C8 ≤ offset }
-    requires high { offset < 0x128 }
+    requires low { SM0_CLKDIV ≤ offset }
+    requires high { offset < INTR }
     ensures value { result ≡ register_number offset }
     ensures small { result < 4 }
 {
-    ((offset - 0x0c8) / 0x018) as u8
+    ((offset - SM0_CLKDIV) / SM_BYTES) as u8
 }
 
 /// The place of a register among those of its machine.
-fn register_place(offset: u16) -> u16
-    ensures { result ≡ register_place offset }
+fn register_offset(offset: u16) -> u16
+    ensures { result ≡ register_offset offset }
 {
-    offset.saturating_sub(0x0c8) % 0x018
+    offset.saturating_sub(SM0_CLKDIV) % SM_BYTES
 }
 
 /// There is a word at that offset.
 fn is_word(offset: u16) -> bool
     ensures { result ≡ is_word offset }
 {
-    offset % 4 == 0 && offset < 0x144
+    offset % 4 == 0 && offset < END
 }
 
 /// A write to EXECCTRL that sets a bit which is left out.
@@ -374,9 +381,9 @@ fn sets_left_out(offset: u16, write: Option<u32>) -> bool
 {
     match write {
         Some(word) => {
-            0x0c8 <= offset
-                && offset < 0x128
-                && register_place(offset) == 4
+            SM0_CLKDIV <= offset
+                && offset < INTR
+                && register_offset(offset) == SM_EXECCTRL
                 && (has_bit(word, 17) || has_bit(word, 18))
         }
         None => false,

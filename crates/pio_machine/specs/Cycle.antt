@@ -18,7 +18,7 @@ worked op number seen m = with_autopull op (tried op number seen m).machine
 
 abbrev pub after_op : ℕ → PioOp → ℕ → Seen → Machine1 → Machine1
 after_op word op number seen m =
-    ended (delay_of word (worked op number seen m)) (tried op number seen m).outcome (worked op number seen m)
+    ended (delay_of word (worked op number seen m)) (tried op number seen m).ending (worked op number seen m)
 
 -- the side-set comes at each try, and wins over the operation
 abbrev pub written_with_side : ℕ → PioOp → ℕ → Seen → Machine1 → Done → Done

@@ -7,8 +7,8 @@ use Rattle.pio_words.specs.declared.op.WaitSource.TheVariants.{Gpio, Pin, Irq}
 use Rattle.pio_machine.specs.declared.machine.Machine1.{Machine1}
 use Rattle.pio_machine.specs.declared.machine.Seen.{Seen}
 use Rattle.pio_machine.specs.declared.machine.Done.{Done}
-use Rattle.pio_machine.specs.declared.machine.Outcome.{Outcome}
-use Rattle.pio_machine.specs.declared.machine.Outcome.TheVariants.{Stalled, Completed}
+use Rattle.pio_machine.specs.Ending.{Ending}
+use Rattle.pio_machine.specs.Ending.Ending.{Stalled, Completed}
 use Rattle.pio_machine.specs.Pins.{input_word, mapped_inputs}
 use Rattle.pio_machine.specs.Progress.{progress_of, with_raised}
 
@@ -35,8 +35,8 @@ abbrev pub is_met : Bool → WaitSource → ℕ → Seen → Machine1 → Bool
 is_met polarity source number seen m =
     if polarity then is_high source number seen m else not (is_high source number seen m)
 
-abbrev pub outcome_of_wait : Bool → WaitSource → ℕ → Seen → Machine1 → Outcome
-outcome_of_wait polarity source number seen m = if is_met polarity source number seen m then Completed else Stalled
+abbrev pub ending_of_wait : Bool → WaitSource → ℕ → Seen → Machine1 → Ending
+ending_of_wait polarity source number seen m = if is_met polarity source number seen m then Completed else Stalled
 
 -- a flag that was waited for is cleared
 abbrev pub cleared_by : WaitSource → ℕ → Done → Done
@@ -54,8 +54,8 @@ abbrev pub waits_for_clear : Bool → Bool → ℕ → Seen → Machine1 → Boo
 waits_for_clear clear wait flag seen m =
     if clear then false else if wait then (if (progress_of m).raised then has_bit seen.flags flag else true) else false
 
-abbrev pub outcome_of_irq : Bool → Bool → ℕ → Seen → Machine1 → Outcome
-outcome_of_irq clear wait flag seen m = if waits_for_clear clear wait flag seen m then Stalled else Completed
+abbrev pub ending_of_irq : Bool → Bool → ℕ → Seen → Machine1 → Ending
+ending_of_irq clear wait flag seen m = if waits_for_clear clear wait flag seen m then Stalled else Completed
 
 -- while it stalls it has raised the flag
 abbrev pub after_irq : Bool → Bool → ℕ → Seen → Machine1 → Machine1

@@ -5,8 +5,8 @@ use Rattle.pio_words.specs.declared.op.JmpCondition.{JmpCondition}
 use Rattle.pio_words.specs.declared.op.JmpCondition.TheVariants.{Always, XZero, XDecrement, YZero, YDecrement, XNotY, Pin, OsrNotEmpty}
 use Rattle.pio_machine.specs.declared.machine.Machine1.{Machine1}
 use Rattle.pio_machine.specs.declared.machine.Seen.{Seen}
-use Rattle.pio_machine.specs.declared.machine.Outcome.{Outcome}
-use Rattle.pio_machine.specs.declared.machine.Outcome.TheVariants.{Completed, Jumped}
+use Rattle.pio_machine.specs.Ending.{Ending}
+use Rattle.pio_machine.specs.Ending.Ending.{Completed, Jumped}
 use Rattle.pio_machine.specs.Fields.{jmp_pin, pull_threshold}
 use Rattle.pio_machine.specs.Pins.{input_word}
 
@@ -30,5 +30,5 @@ after_jmp XDecrement m = record m { x = decremented m.x }
 after_jmp YDecrement m = record m { y = decremented m.y }
 after_jmp _ m = m
 
-abbrev pub outcome_of_jmp : JmpCondition → ℕ → Seen → Machine1 → Outcome
-outcome_of_jmp condition address seen m = if is_taken condition seen m then Jumped (address % 32) else Completed
+abbrev pub ending_of_jmp : JmpCondition → ℕ → Seen → Machine1 → Ending
+ending_of_jmp condition address seen m = if is_taken condition seen m then Jumped (address % 32) else Completed

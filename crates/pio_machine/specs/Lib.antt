@@ -1,6 +1,7 @@
 pub mod Fields
 pub mod Bits
 pub mod Pins
+pub mod Ending
 pub mod Progress
 pub mod Start
 pub mod Flags
@@ -11,3 +12,7 @@ pub mod Queue
 pub mod Move
 pub mod Operation
 pub mod Cycle
+pub mod Tie
+pub mod Once
+pub mod Clock
+pub mod Drives

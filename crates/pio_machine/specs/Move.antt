@@ -10,8 +10,8 @@ use Rattle.pio_words.specs.declared.op.MovDestination.TheVariants as destination
 use Rattle.pio_machine.specs.declared.machine.Machine1.{Machine1}
 use Rattle.pio_machine.specs.declared.machine.Seen.{Seen}
 use Rattle.pio_machine.specs.declared.machine.Done.{Done}
-use Rattle.pio_machine.specs.declared.machine.Outcome.{Outcome}
-use Rattle.pio_machine.specs.declared.machine.Outcome.TheVariants.{Completed, Jumped, Executes}
+use Rattle.pio_machine.specs.Ending.{Ending}
+use Rattle.pio_machine.specs.Ending.Ending.{Completed, Jumped, Executes}
 use Rattle.pio_machine.specs.Fields.{status_of_rx, status_level, out_base, out_count}
 use Rattle.pio_machine.specs.Pins.{mapped_inputs, with_levels}
 use Rattle.pio_machine.specs.Queue.{Try, with_osr}
@@ -46,14 +46,14 @@ with_moved destination.Isr value m = record m { isr = value; isr_count = 0 }
 with_moved destination.Osr value m = with_osr value m
 with_moved _ value m = m
 
-abbrev pub outcome_of_mov : MovDestination → ℕ → Outcome
-outcome_of_mov destination.Pc value = Jumped (value % 32)
-outcome_of_mov destination.Exec value = Executes (value % 2 ^ 16)
-outcome_of_mov _ value = Completed
+abbrev pub ending_of_mov : MovDestination → ℕ → Ending
+ending_of_mov destination.Pc value = Jumped (value % 32)
+ending_of_mov destination.Exec value = Executes (value % 2 ^ 16)
+ending_of_mov _ value = Completed
 
 abbrev pub try_mov : MovDestination → ℕ → Machine1 → Try
 try_mov destination value m =
-    record { machine = with_moved destination value m; outcome = outcome_of_mov destination value }
+    record { machine = with_moved destination value m; ending = ending_of_mov destination value }
 
 -- the pins are those of OUT
 abbrev pub written_by_mov : MovDestination → ℕ → Machine1 → Done → Done

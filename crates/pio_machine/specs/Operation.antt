@@ -10,14 +10,14 @@ use Rattle.pio_machine.specs.declared.machine.Machine1.{Machine1}
 use Rattle.pio_machine.specs.declared.machine.Seen.{Seen}
 use Rattle.pio_machine.specs.declared.machine.Done.{Done}
 use Rattle.pio_machine.specs.declared.machine.Waiting.{Waiting}
-use Rattle.pio_machine.specs.declared.machine.Outcome.{Outcome}
-use Rattle.pio_machine.specs.declared.machine.Outcome.TheVariants.{Stalled, Completed, Jumped, Executes}
+use Rattle.pio_machine.specs.Ending.{Ending}
+use Rattle.pio_machine.specs.Ending.Ending.{Stalled, Completed, Jumped, Executes}
 use Rattle.pio_machine.specs.Fields.{side_enable, side_pindir, side_count, side_base, wrap_top, wrap_bottom}
 use Rattle.pio_machine.specs.Pins.{with_levels, with_enables}
 use Rattle.pio_machine.specs.Progress.{untried, executed}
 use Rattle.pio_machine.specs.Queue.{Try, completed, try_push, try_pull, refilled}
-use Rattle.pio_machine.specs.Flags.{flag_of, outcome_of_wait, written_by_wait, outcome_of_irq, after_irq, written_by_irq}
-use Rattle.pio_machine.specs.Jump.{after_jmp, outcome_of_jmp}
+use Rattle.pio_machine.specs.Flags.{flag_of, ending_of_wait, written_by_wait, ending_of_irq, after_irq, written_by_irq}
+use Rattle.pio_machine.specs.Jump.{after_jmp, ending_of_jmp}
 use Rattle.pio_machine.specs.Input.{try_in}
 use Rattle.pio_machine.specs.Output.{try_out, written_by_out, after_set, written_by_set}
 use Rattle.pio_machine.specs.Move.{mov_value, try_mov, written_by_mov}
@@ -27,9 +27,9 @@ use Rattle.pio_machine.specs.Move.{mov_value, try_mov, written_by_mov}
 -- what it does to the machine, and how it ends; a reserved word copies Y to Y (the project's own)
 abbrev pub tried : PioOp → ℕ → Seen → Machine1 → Try
 tried (Jmp condition address) number seen m =
-    record { machine = after_jmp condition m; outcome = outcome_of_jmp condition address seen m }
+    record { machine = after_jmp condition m; ending = ending_of_jmp condition address seen m }
 tried (Wait polarity source) number seen m =
-    record { machine = m; outcome = outcome_of_wait polarity source number seen m }
+    record { machine = m; ending = ending_of_wait polarity source number seen m }
 tried (In source count) number seen m = try_in source count seen m
 tried (Out destination count) number seen m = try_out destination count m
 tried (Push if_full block) number seen m = try_push if_full block m
@@ -38,7 +38,7 @@ tried (Mov destination operation source) number seen m = try_mov destination (mo
 tried (Irq clear wait index) number seen m =
     record {
       machine = after_irq clear wait (flag_of index number) seen m;
-      outcome = outcome_of_irq clear wait (flag_of index number) seen m;
+      ending = ending_of_irq clear wait (flag_of index number) seen m;
     }
 tried (Set destination value) number seen m = completed (after_set destination value m)
 tried Reserved number seen m = completed m
@@ -124,7 +124,7 @@ abbrev pub with_waiting : Waiting → Machine1 → Machine1
 with_waiting w m = record m { waiting = Some w }
 
 -- nothing more happens at a stall; a word that gives another one to be executed sets no delay
-unfoldable pub ended : ℕ → Outcome → Machine1 → Machine1
+unfoldable pub ended : ℕ → Ending → Machine1 → Machine1
 ended delay Stalled m = m
 ended delay Completed m = with_delay delay (stepped m)
 ended delay (Jumped place) m = with_delay delay (jumped place m)

@@ -6,8 +6,8 @@ use Rattle.pio_words.specs.declared.op.SetDestination.{SetDestination}
 use Rattle.pio_words.specs.declared.op.SetDestination.TheVariants as set
 use Rattle.pio_machine.specs.declared.machine.Machine1.{Machine1}
 use Rattle.pio_machine.specs.declared.machine.Done.{Done}
-use Rattle.pio_machine.specs.declared.machine.Outcome.{Outcome}
-use Rattle.pio_machine.specs.declared.machine.Outcome.TheVariants.{Completed, Jumped, Executes}
+use Rattle.pio_machine.specs.Ending.{Ending}
+use Rattle.pio_machine.specs.Ending.Ending.{Completed, Jumped, Executes}
 use Rattle.pio_machine.specs.Bits.{taken, remaining, counted}
 use Rattle.pio_machine.specs.Fields.{out_right, out_base, out_count, set_base, set_count, autopull}
 use Rattle.pio_machine.specs.Pins.{with_levels, with_enables}
@@ -31,10 +31,10 @@ with_out out.Y value count m = record m { y = value }
 with_out out.Isr value count m = record m { isr = value; isr_count = count }
 with_out _ value count m = m
 
-abbrev pub outcome_of_out : OutDestination → ℕ → Outcome
-outcome_of_out out.Pc value = Jumped (value % 32)
-outcome_of_out out.Exec value = Executes (value % 2 ^ 16)
-outcome_of_out _ value = Completed
+abbrev pub ending_of_out : OutDestination → ℕ → Ending
+ending_of_out out.Pc value = Jumped (value % 32)
+ending_of_out out.Exec value = Executes (value % 2 ^ 16)
+ending_of_out _ value = Completed
 
 -- under autopull an OUT of a spent OSR stalls; a word that waits is loaded then, and that none does is told
 abbrev pub out_stalls : Machine1 → Bool
@@ -48,7 +48,7 @@ abbrev pub out_done : OutDestination → ℕ → Machine1 → Try
 out_done destination count m =
     record {
       machine = refilled (with_out destination (out_value count m) count (shifted_out count m));
-      outcome = outcome_of_out destination (out_value count m);
+      ending = ending_of_out destination (out_value count m);
     }
 
 unfoldable pub try_out : OutDestination → ℕ → Machine1 → Try

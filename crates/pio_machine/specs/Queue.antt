@@ -1,20 +1,20 @@
 -- PUSH, PULL and autopull (RP2040 Datasheet, 3.4.6, 3.4.7 and 3.5.4).
 use Rattle.std.specs.Prelude.{ℕ, Bool, true, ◌&&◌, ◌||◌, ◌==◌, nat_le, nat_lt, if◌then◌else◌, List, [], ◌∷◌, ◌++◌}
 use Rattle.pio_machine.specs.declared.machine.Machine1.{Machine1}
-use Rattle.pio_machine.specs.declared.machine.Outcome.{Outcome}
-use Rattle.pio_machine.specs.declared.machine.Outcome.TheVariants.{Stalled, Completed}
+use Rattle.pio_machine.specs.Ending.{Ending}
+use Rattle.pio_machine.specs.Ending.Ending.{Stalled, Completed}
 use Rattle.pio_machine.specs.Fields.{autopull, pull_threshold, push_threshold, is_rx_full}
 
 -- what a try of a word leaves of the machine, and whether it stalled or completed
 pub record Try : Type 0 where
   pub machine : Machine1
-  pub outcome : Outcome
+  pub ending : Ending
 
 abbrev pub completed : Machine1 → Try
-completed m = record { machine = m; outcome = Completed }
+completed m = record { machine = m; ending = Completed }
 
 abbrev pub stalled : Machine1 → Try
-stalled m = record { machine = m; outcome = Stalled }
+stalled m = record { machine = m; ending = Stalled }
 
 -- ---- the OSR from the TX FIFO
 

@@ -2,6 +2,7 @@
 
 ghost use Rattle.std.specs.Prelude.{◌≡◌};
 ghost use Rattle.pio_machine.specs.Operation.{next_place, stepped, jumped, ended};
+ghost use Rattle.pio_machine.specs.Tie.{stands_for};
 
 use crate::machine::{Machine1, Outcome, Waiting};
 
@@ -39,7 +40,7 @@ impl Machine1 {
     /// Ends a try of the word at PC, or of the one that waits.
     #[tactic(auto, unfolding(crate::specs::Operation::ended))]
     pub(crate) fn end(&mut self, delay: u8, outcome: Outcome)
-        ensures { self.new ≡ ended delay outcome self.old }
+        ensures { self.new ≡ ended delay (stands_for outcome) self.old }
     {
         match outcome {
             Outcome::Stalled => {}

@@ -1,8 +1,9 @@
 //! WAIT and IRQ.
 
 ghost use Rattle.std.specs.Prelude.{◌≡◌, ◌<◌, ◌^◌};
-ghost use Rattle.pio_machine.specs.Flags.{flag_of, with_set, with_clear, is_high, is_met, outcome_of_wait, cleared_by, written_by_wait, waits_for_clear, outcome_of_irq, after_irq, written_by_irq};
+ghost use Rattle.pio_machine.specs.Flags.{flag_of, with_set, with_clear, is_high, is_met, ending_of_wait, cleared_by, written_by_wait, waits_for_clear, ending_of_irq, after_irq, written_by_irq};
 ghost use Rattle.word_bits.specs.Word.{has_bit};
+ghost use Rattle.pio_machine.specs.Tie.{stands_for};
 
 use crate::machine::{Done, Machine1, Outcome, Seen};
 use pio_words::{IrqIndex, WaitSource};
@@ -77,7 +78,7 @@ impl Machine1 {
         done: &mut Done,
     ) -> Outcome
         requires { number < 4 }
-        ensures outcome { result ≡ outcome_of_wait polarity source number seen.now self.now }
+        ensures ending { stands_for result ≡ ending_of_wait polarity source number seen.now self.now }
         ensures done { done.new ≡ written_by_wait polarity source number seen.now self.now done.old }
     {
         let high = self.is_high(source, number, seen);
@@ -140,7 +141,7 @@ impl Machine1 {
     ) -> Outcome
         requires { flag < 8 }
         ensures machine { self.new ≡ after_irq clear wait flag seen.now self.old }
-        ensures outcome { result ≡ outcome_of_irq clear wait flag seen.now self.old }
+        ensures ending { stands_for result ≡ ending_of_irq clear wait flag seen.now self.old }
         ensures done { done.new ≡ written_by_irq clear wait flag self.old done.old }
     {
         self.raise(clear, wait, flag, done);

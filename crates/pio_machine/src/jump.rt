@@ -1,7 +1,8 @@
 //! JMP.
 
 ghost use Rattle.std.specs.Prelude.{◌≡◌};
-ghost use Rattle.pio_machine.specs.Jump.{is_taken, decremented, after_jmp, outcome_of_jmp};
+ghost use Rattle.pio_machine.specs.Jump.{is_taken, decremented, after_jmp, ending_of_jmp};
+ghost use Rattle.pio_machine.specs.Tie.{stands_for};
 
 use crate::machine::{Machine1, Outcome, Seen};
 use pio_words::JmpCondition;
@@ -36,7 +37,7 @@ impl Machine1 {
     /// A try of JMP.
     pub(crate) fn jmp(&mut self, condition: JmpCondition, address: u8, seen: &Seen) -> Outcome
         ensures machine { self.new ≡ after_jmp condition self.old }
-        ensures outcome { result ≡ outcome_of_jmp condition address seen.now self.old }
+        ensures ending { stands_for result ≡ ending_of_jmp condition address seen.now self.old }
     {
         let taken = self.is_taken(condition, seen);
         self.decrement(condition);

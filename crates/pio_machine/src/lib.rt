@@ -10,6 +10,7 @@ mod fields;
 pub mod fifo;
 mod flags;
 mod jump;
+pub mod laws;
 pub mod machine;
 mod moves;
 mod operation;

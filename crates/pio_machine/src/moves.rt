@@ -1,7 +1,8 @@
 //! MOV.
 
 ghost use Rattle.std.specs.Prelude.{◌≡◌};
-ghost use Rattle.pio_machine.specs.Move.{status, mov_source, mov_changed, mov_value, with_moved, outcome_of_mov, written_by_mov};
+ghost use Rattle.pio_machine.specs.Move.{status, mov_source, mov_changed, mov_value, with_moved, ending_of_mov, written_by_mov};
+ghost use Rattle.pio_machine.specs.Tie.{stands_for};
 
 use crate::machine::{Done, Machine1, Outcome, Seen};
 use pio_words::{MovDestination, MovOperation, MovSource};
@@ -81,7 +82,7 @@ impl Machine1 {
 
 /// How MOV ends.
 pub(crate) fn outcome_of_mov(destination: MovDestination, value: u32) -> Outcome
-    ensures { result ≡ outcome_of_mov destination value }
+    ensures { stands_for result ≡ ending_of_mov destination value }
 {
     match destination {
         MovDestination::Pc => Outcome::Jumped((value & 0x1f) as u8),

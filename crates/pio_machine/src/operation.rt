@@ -2,6 +2,7 @@
 
 ghost use Rattle.std.specs.Prelude.{◌≡◌, ◌<◌, ◌≤◌};
 ghost use Rattle.pio_machine.specs.Operation.{tried, written, loads_osr, with_autopull, side_field, delay_of, side_value, has_side, side_pins, with_side};
+ghost use Rattle.pio_machine.specs.Tie.{stands_for};
 
 use crate::flags::flag_of;
 use crate::machine::{Done, Machine1, Outcome, Seen};
@@ -36,7 +37,7 @@ impl Machine1 {
     pub(crate) fn perform(&mut self, op: PioOp, number: u8, seen: &Seen, done: &mut Done) -> Outcome
         requires { number < 4 }
         ensures machine { self.new ≡ (tried op number seen.now self.old).machine }
-        ensures outcome { result ≡ (tried op number seen.now self.old).outcome }
+        ensures ending { stands_for result ≡ (tried op number seen.now self.old).ending }
         ensures done { done.new ≡ written op number seen.now self.old done.old }
     {
         match op {

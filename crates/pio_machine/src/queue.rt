@@ -3,6 +3,7 @@
 ghost use Rattle.std.specs.Prelude.{◌≡◌, false};
 ghost use Rattle.pio_machine.specs.Queue.{loaded, is_spent, refilled, is_pull_void, pulled_from, try_pull, pushed, with_isr_cleared, try_push_now, try_push};
 ghost use Rattle.pio_machine.specs.Fields.{is_rx_full};
+ghost use Rattle.pio_machine.specs.Tie.{stands_for};
 
 use crate::machine::{Machine1, Outcome};
 
@@ -47,7 +48,7 @@ impl Machine1 {
     /// Loads the OSR; on an empty FIFO stalls, or copies X.
     fn pull_now(&mut self, block: bool) -> Outcome
         ensures machine { self.new ≡ (pulled_from self.old.tx block self.old).machine }
-        ensures outcome { result ≡ (pulled_from self.old.tx block self.old).outcome }
+        ensures ending { stands_for result ≡ (pulled_from self.old.tx block self.old).ending }
     {
         match self.tx.pull() {
             Some(word) => {
@@ -71,7 +72,7 @@ impl Machine1 {
     #[tactic(auto, unfolding(crate::specs::Queue::try_pull))]
     pub(crate) fn try_pull(&mut self, if_empty: bool, block: bool) -> Outcome
         ensures machine { self.new ≡ (try_pull if_empty block self.old).machine }
-        ensures outcome { result ≡ (try_pull if_empty block self.old).outcome }
+        ensures ending { stands_for result ≡ (try_pull if_empty block self.old).ending }
     {
         if self.is_pull_void(if_empty) {
             return Outcome::Completed;
@@ -99,7 +100,7 @@ impl Machine1 {
     /// Pushes; on a full FIFO stalls, or clears the ISR.
     fn push_now(&mut self, block: bool) -> Outcome
         ensures machine { self.new ≡ (try_push_now block self.old).machine }
-        ensures outcome { result ≡ (try_push_now block self.old).outcome }
+        ensures ending { stands_for result ≡ (try_push_now block self.old).ending }
     {
         if self.is_rx_full() {
             self.rx_stall = true;
@@ -117,7 +118,7 @@ impl Machine1 {
     #[tactic(auto, unfolding(crate::specs::Queue::try_push))]
     pub(crate) fn try_push(&mut self, if_full: bool, block: bool) -> Outcome
         ensures machine { self.new ≡ (try_push if_full block self.old).machine }
-        ensures outcome { result ≡ (try_push if_full block self.old).outcome }
+        ensures ending { stands_for result ≡ (try_push if_full block self.old).ending }
     {
         if if_full && self.isr_count < self.push_threshold() {
             return Outcome::Completed;

@@ -2,7 +2,8 @@
 
 ghost use Rattle.std.specs.Prelude.{◌≡◌, ◌≤◌, min};
 ghost use Rattle.pio_machine.specs.Input.{in_value, shifted_in, shifted_once, autopushed, try_in};
-ghost use Rattle.pio_machine.specs.Output.{out_value, shifted_out, with_out, outcome_of_out, out_stalls, starved, out_done, try_out, out_pins, written_by_out, after_set, written_by_set};
+ghost use Rattle.pio_machine.specs.Output.{out_value, shifted_out, with_out, ending_of_out, out_stalls, starved, out_done, try_out, out_pins, written_by_out, after_set, written_by_set};
+ghost use Rattle.pio_machine.specs.Tie.{stands_for};
 
 use crate::bits::{counted, entered, remaining, taken};
 use crate::machine::{Done, Machine1, Outcome, Seen};
@@ -44,7 +45,7 @@ impl Machine1 {
     /// Pushes an ISR that reached its threshold.
     fn autopush_now(&mut self) -> Outcome
         ensures machine { self.new ≡ (autopushed self.old).machine }
-        ensures outcome { result ≡ (autopushed self.old).outcome }
+        ensures ending { stands_for result ≡ (autopushed self.old).ending }
     {
         if self.autopush() && self.push_threshold() <= self.isr_count {
             if self.is_rx_full() {
@@ -61,7 +62,7 @@ impl Machine1 {
     #[tactic(auto, unfolding(crate::specs::Input::try_in))]
     pub(crate) fn try_in(&mut self, source: InSource, count: u8, seen: &Seen) -> Outcome
         ensures machine { self.new ≡ (try_in source count seen.now self.old).machine }
-        ensures outcome { result ≡ (try_in source count seen.now self.old).outcome }
+        ensures ending { stands_for result ≡ (try_in source count seen.now self.old).ending }
     {
         self.shift_once(source, count, seen);
         self.autopush_now()
@@ -133,7 +134,7 @@ impl Machine1 {
     fn out_now(&mut self, destination: OutDestination, count: u8) -> Outcome
         requires { count ≤ 32 }
         ensures machine { self.new ≡ (out_done destination count self.old).machine }
-        ensures outcome { result ≡ (out_done destination count self.old).outcome }
+        ensures ending { stands_for result ≡ (out_done destination count self.old).ending }
     {
         let value = self.out_value(count);
         self.shift_out(count);
@@ -151,7 +152,7 @@ impl Machine1 {
         done: &mut Done,
     ) -> Outcome
         ensures machine { self.new ≡ (try_out destination count self.old).machine }
-        ensures outcome { result ≡ (try_out destination count self.old).outcome }
+        ensures ending { stands_for result ≡ (try_out destination count self.old).ending }
         ensures done { done.new ≡ written_by_out destination count self.old done.old }
     {
         if self.out_stalls() {
@@ -188,7 +189,7 @@ impl Machine1 {
 }
 
 fn outcome_of_out(destination: OutDestination, value: u32) -> Outcome
-    ensures { result ≡ outcome_of_out destination value }
+    ensures { stands_for result ≡ ending_of_out destination value }
 {
     match destination {
         OutDestination::Pc => Outcome::Jumped((value & 0x1f) as u8),

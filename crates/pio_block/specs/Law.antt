@@ -1,0 +1,47 @@
+-- Laws of a block: of each pin the highest machine that wrote it decides (RP2040 Datasheet, 3.5.6), and a block that RESETS holds
+-- stays in its reset state (2.14).
+use Rattle.std.specs.Prelude.{◌≡◌, ℕ, ◌<◌, Bool, true, if◌then◌else◌, List, length, Option, Some, None}
+use Rattle.std.specs.Int.{bit_at}
+use Rattle.pio_machine.specs.declared.machine.Machine1.{Machine1}
+use Rattle.pio_machine.specs.declared.machine.Seen.{Seen}
+use Rattle.pio_machine.specs.declared.machine.Done.{Done}
+use Rattle.pio_machine.specs.Start.{nothing_done}
+use Rattle.pio_machine.specs.Cycle.{written_in_cycle}
+use Rattle.pio_block.specs.State.{Block, machine_of, with_held}
+use Rattle.pio_block.specs.Cycle.{seen_by, after_cycle, Rests}
+use Rattle.pio_block.specs.Words.{is_word, word_of, effect_of}
+
+-- ---- the pins
+
+-- what the machine of this number writes in a cycle, for itself
+abbrev pub own : ℕ → Seen → List Machine1 → Done
+own number seen ms = written_in_cycle number seen (machine_of number ms) nothing_done
+
+-- the pin has the bit of the highest of the four that wrote it, and where none did the one that it had
+pub record IsOfTheHighest (mask bit : ℕ → ℕ) (before after : ℕ) : Type 0 where
+  pub decided : (k : ℕ) → k < 4 → mask k ≡ 1 → ((j : ℕ) → k < j → j < 4 → mask j ≡ 0) → after ≡ bit k
+  pub stays : ((j : ℕ) → j < 4 → mask j ≡ 0) → after ≡ before
+
+pub record IsDecided (pin : ℕ) (seen : Seen) (s after : Block) : Type 0 where
+  pub level : IsOfTheHighest (λ k. bit_at (own k seen s.machines).level_mask pin) (λ k. bit_at (own k seen s.machines).levels pin)
+      (bit_at s.levels pin) (bit_at after.levels pin)
+  pub enable : IsOfTheHighest (λ k. bit_at (own k seen s.machines).enable_mask pin) (λ k. bit_at (own k seen s.machines).enables pin)
+      (bit_at s.enables pin) (bit_at after.enables pin)
+
+abbrev pub TheHighestMachineDecides : Type 0
+TheHighestMachineDecides =
+    (now second pin : ℕ) (s : Block)
+    → length s.machines ≡ 4
+    → pin < 32
+    → IsDecided pin (seen_by now second s) s (after_cycle now second s)
+
+-- ---- a block that is held
+
+-- it asks nothing and stays as it is in a cycle, no access changes it, and it reads 0
+pub record StaysHeld (s : Block) : Type 0 where
+  pub rests : Rests s
+  pub accesses : (offset : ℕ) (write : Option ℕ) → effect_of offset write s ≡ s
+  pub reads : (offset : ℕ) → word_of s offset ≡ (if is_word offset then Some 0 else None)
+
+abbrev pub AHeldBlockStays : Type 0
+AHeldBlockStays = (s : Block) → StaysHeld (with_held true s)

@@ -1,0 +1,13 @@
+//! The laws of a block, each the contract of a function without arguments.
+
+ghost use Rattle.pio_block.specs.Law.{TheHighestMachineDecides, AHeldBlockStays};
+
+/// Of each pin the highest machine that wrote it in a cycle decides, and a pin that no machine wrote stays.
+pub fn the_highest_machine_decides()
+    ensures { TheHighestMachineDecides }
+{}
+
+/// A block that is held stays in its reset state: it does not step, no access changes it, and it reads 0.
+pub fn a_held_block_stays()
+    ensures { AHeldBlockStays }
+{}

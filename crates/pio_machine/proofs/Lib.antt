@@ -1,0 +1,5 @@
+pub mod Refills
+pub mod Once
+pub mod Goes
+pub mod Clock
+pub mod Drives

@@ -1,0 +1,35 @@
+//! The laws of a machine, each the contract of a function without arguments.
+
+ghost use Rattle.pio_machine.specs.Once.{AnInShiftsOnce, AnIrqRaisesOnce};
+ghost use Rattle.pio_machine.specs.Drives.{TheLaterMachineDecides, TheSideSetDecides};
+ghost use Rattle.pio_machine.specs.Clock.{AMachineTicksByItsDivider, ACycleKeepsTheFifosWithin};
+
+/// An IN that completes has shifted its bits exactly once since it was first tried, however often it stalled.
+pub fn an_in_shifts_once()
+    ensures { AnInShiftsOnce }
+{}
+
+/// An IRQ with Wait that completes has raised its flag at its first try and at no other one, and finds it clear at the last.
+pub fn an_irq_raises_once()
+    ensures { AnIrqRaisesOnce }
+{}
+
+/// In so many cycles from a divider at rest an enabled machine ticks once for each begun period of its divider.
+pub fn a_machine_ticks_by_its_divider()
+    ensures { AMachineTicksByItsDivider }
+{}
+
+/// No cycle leaves more words in a FIFO than it has places.
+pub fn a_cycle_keeps_the_fifos_within()
+    ensures { ACycleKeepsTheFifosWithin }
+{}
+
+/// Of each pin the machine that writes it later in a cycle decides, and a pin that it does not write stays.
+pub fn the_later_machine_decides()
+    ensures { TheLaterMachineDecides }
+{}
+
+/// Within a machine the side-set decides, and a pin that it does not write has what the operation wrote.
+pub fn the_side_set_decides()
+    ensures { TheSideSetDecides }
+{}
