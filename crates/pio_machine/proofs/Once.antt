@@ -85,6 +85,11 @@ record IsKept (s after : Machine1) : Type 0 where
   isr_count : after.isr_count ≡ s.isr_count
   shifted : (progress_of after).shifted ≡ true
 
+stall-progress : (s : Machine1) → (progress_of (with_rx_stall (with_shifted s))).shifted ≡ true
+stall-progress s =
+    ap (λ p. p.shifted) (same-progress (with_shifted s).waiting (with_shifted s) (with_rx_stall (with_shifted s)) refl)
+    ∙ ap (λ p. p.shifted) (kept-progress s.waiting (record (progress_of s) { shifted = true }) s refl)
+
 stalled_in : (source : InSource) (count word number : ℕ) (seen : Seen) (m : Machine1)
     → (tried (In source count) number seen m).ending ≡ Stalled
     → IsKept (shifted_once source count seen m) (after_op word (In source count) number seen m)
@@ -97,8 +102,9 @@ stalled_in source count word number seen m h =
     record {
       isr = ap (λ x. x.isr) is ∙ refilled-keeps (λ x. x.isr) (λ x w r. refl) _ ∙ kept-isr s.waiting _ s;
       isr_count = ap (λ x. x.isr_count) is ∙ refilled-keeps (λ x. x.isr_count) (λ x w r. refl) _ ∙ kept-isr_count s.waiting _ s;
-      shifted = ap (λ x. (progress_of x).shifted) is ∙ refilled-keeps (λ x. (progress_of x).shifted) (λ x w r. ap (λ p. p.shifted) (same-progress x.waiting x _ refl)) _
-          ∙ ap (λ p. p.shifted) (kept-progress s.waiting _ s refl);
+      shifted = ap (λ x. (progress_of x).shifted) is
+          ∙ refilled-keeps (λ x. (progress_of x).shifted) (λ x w r. ap (λ p. p.shifted) (same-progress x.waiting x _ refl)) (with_rx_stall (with_shifted s))
+          ∙ stall-progress s;
     }
 
 -- ---- an IN that completes
