@@ -1,2 +1,7 @@
+pub mod Copies
+pub mod Counts
+pub mod Joining
+pub mod Kept
 pub mod Placing
+pub mod Quiet
 pub mod Runs

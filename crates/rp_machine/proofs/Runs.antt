@@ -1,65 +1,88 @@
 -- Runs up to the first state with a stop.
 use Rattle.std.proofs.lemmas.Bool.Decides.{eqb_tells}
-use Rattle.std.proofs.Common.{inl, inr, ◌≢◌, ◌≡◌, ℕ, zero, suc, ◌+◌, ◌-◌, ◌<◌, ◌≤◌, Some, None, refl, sym, ap, arith, ◌∙◌}
+use Rattle.std.proofs.Common.{inl, inr, ◌≢◌, ◌≡◌, ℕ, zero, suc, ◌+◌, ◌-◌, ◌<◌, ◌≤◌, [], ◌++◌, Some, None, refl, sym, ap, arith, ◌∙◌}
 use Rattle.rp_base.specs.declared.Why.{Why}
+use Rattle.outer_lane.specs.Setting.{Setting}
 use Rattle.rp_machine.specs.State.{State}
 use Rattle.rp_machine.specs.Cycle.{stop, next, next_by}
-use Rattle.rp_machine.specs.Run.{states, last_state}
+use Rattle.rp_machine.specs.Events.{events}
+use Rattle.rp_machine.specs.Run.{states, events_in, last_state, all_events}
 
--- a state with a stop is the last one
-pub states_here : (limit : ℕ) (s : State) (why : Why) (n : ℕ) → stop limit s ≡ Some why → states limit s n ≡ s
+-- a state with a stop is the last one, and leaves no events
+pub states_here : (w : Setting) (s : State) (why : Why) (n : ℕ) → stop w s ≡ Some why → states w s n ≡ s
 unfolding states
-states_here limit s why zero h = refl
-states_here limit s why (suc n) h = rw h
+states_here w s why zero h = refl
+states_here w s why (suc n) h = rw h
 
-pub last_here : (limit : ℕ) (s : State) (why : Why) → stop limit s ≡ Some why → last_state limit s ≡ s
+pub last_here : (w : Setting) (s : State) (why : Why) → stop w s ≡ Some why → last_state w s ≡ s
 unfolding last_state
-last_here limit s why h = states_here limit s why (limit - s.cycle) h
+last_here w s why h = states_here w s why (w.limit - s.cycle) h
 
-pub states_on : (limit : ℕ) (s : State) (n : ℕ) → stop limit s ≡ None → states limit s (suc n) ≡ states limit (next s) n
+pub events_none : (w : Setting) (s : State) (why : Why) (n : ℕ) → stop w s ≡ Some why → events_in w s n ≡ []
+unfolding events_in
+events_none w s why zero h = refl
+events_none w s why (suc n) h = rw h
+
+pub events_here : (w : Setting) (s : State) (why : Why) → stop w s ≡ Some why → all_events w s ≡ []
+unfolding all_events
+events_here w s why h = events_none w s why (w.limit - s.cycle) h
+
+pub states_on : (w : Setting) (s : State) (n : ℕ) → stop w s ≡ None → states w s (suc n) ≡ states w (next w s) n
 unfolding states
-states_on limit s n h = rw h
+states_on w s n h = rw h
 
-pub next_cycle : (s : State) → (next s).cycle ≡ s.cycle + 1
+pub events_more : (w : Setting) (s : State) (n : ℕ) → stop w s ≡ None → events_in w s (suc n) ≡ events w s ++ events_in w (next w s) n
+unfolding events_in
+events_more w s n h = rw h
+
+pub next_cycle : (w : Setting) (s : State) → (next w s).cycle ≡ s.cycle + 1
 unfolding next next_by
-next_cycle s = refl
+next_cycle w s = refl
 
 -- below the limit a state with no stop has the last state of the next one
-pub last_on : (limit : ℕ) (s : State) → stop limit s ≡ None → s.cycle < limit → last_state limit s ≡ last_state limit (next s)
+pub last_on : (w : Setting) (s : State) → stop w s ≡ None → s.cycle < w.limit → last_state w s ≡ last_state w (next w s)
 unfolding last_state
-last_on limit s h lt =
-    let e : limit - s.cycle ≡ suc (limit - (s.cycle + 1)) = omega arith in
-    ap (states limit s) e ∙ states_on limit s (limit - (s.cycle + 1)) h ∙ ap (λ c. states limit (next s) (limit - c)) (sym (next_cycle s))
+last_on w s h lt =
+    let e : w.limit - s.cycle ≡ suc (w.limit - (s.cycle + 1)) = omega arith in
+    ap (states w s) e ∙ states_on w s (w.limit - (s.cycle + 1)) h ∙ ap (λ c. states w (next w s) (w.limit - c)) (sym (next_cycle w s))
+
+-- and its events are those of this cycle, and then those of the next one
+pub events_on : (w : Setting) (s : State) → stop w s ≡ None → s.cycle < w.limit → all_events w s ≡ events w s ++ all_events w (next w s)
+unfolding all_events
+events_on w s h lt =
+    let e : w.limit - s.cycle ≡ suc (w.limit - (s.cycle + 1)) = omega arith in
+    ap (events_in w s) e ∙ events_more w s (w.limit - (s.cycle + 1)) h
+    ∙ ap (λ c. events w s ++ events_in w (next w s) (w.limit - c)) (sym (next_cycle w s))
 
 -- there is a stop at the limit
-pub below_limit : (limit : ℕ) (s : State) → stop limit s ≡ None → s.cycle ≤ limit → s.cycle < limit
+pub below_limit : (w : Setting) (s : State) → stop w s ≡ None → s.cycle ≤ w.limit → s.cycle < w.limit
 unfolding stop
-below_limit limit s h le = elim (eqb_tells s.cycle limit) [
+below_limit w s h le = elim (eqb_tells s.cycle w.limit) [
   | inl e ↦ absurd (let h2 = rw e.0 at h in cc h2)
-  | inr e ↦ let ne : s.cycle ≢ limit = e.1 in omega arith
+  | inr e ↦ let ne : s.cycle ≢ w.limit = e.1 in omega arith
 ]
 
 -- a step comes nearer to the limit, and goes on with the same run
-pub step_nearer : (limit : ℕ) (s t : State) → stop limit s ≡ None → t ≡ next s → s.cycle ≤ limit → limit - t.cycle < limit - s.cycle
-step_nearer limit s t h e le =
-    let lt = below_limit limit s h le in
-    let count : t.cycle ≡ s.cycle + 1 = ap (λ (x : State). x.cycle) e ∙ next_cycle s in
+pub step_nearer : (w : Setting) (s t : State) → stop w s ≡ None → t ≡ next w s → s.cycle ≤ w.limit → w.limit - t.cycle < w.limit - s.cycle
+step_nearer w s t h e le =
+    let lt = below_limit w s h le in
+    let count : t.cycle ≡ s.cycle + 1 = ap (λ (x : State). x.cycle) e ∙ next_cycle w s in
     omega arith
 
-pub step_goes_on : (limit : ℕ) (s t u : State) → stop limit s ≡ None → t ≡ next s → s.cycle ≤ limit → last_state limit s ≡ u → (t.cycle ≤ limit) × (last_state limit t ≡ u)
-step_goes_on limit s t u h e le same =
-    let lt = below_limit limit s h le in
-    let count : t.cycle ≡ s.cycle + 1 = ap (λ (x : State). x.cycle) e ∙ next_cycle s in
-    (omega arith, ap (last_state limit) e ∙ sym (last_on limit s h lt) ∙ same)
+pub step_goes_on : (w : Setting) (s t u : State) → stop w s ≡ None → t ≡ next w s → s.cycle ≤ w.limit → last_state w s ≡ u → (t.cycle ≤ w.limit) × (last_state w t ≡ u)
+step_goes_on w s t u h e le same =
+    let lt = below_limit w s h le in
+    let count : t.cycle ≡ s.cycle + 1 = ap (λ (x : State). x.cycle) e ∙ next_cycle w s in
+    (omega arith, ap (last_state w) e ∙ sym (last_on w s h lt) ∙ same)
 
 -- a count that rises by one with each cycle stays level with the cycles
-pub step_counts : (s t : State) (first before now counted : ℕ) → t ≡ next s → counted ≡ now + 1 → now + first ≡ before + s.cycle → counted + first ≡ before + t.cycle
-step_counts s t first before now counted e count so_far =
-    let cycle : t.cycle ≡ s.cycle + 1 = ap (λ (x : State). x.cycle) e ∙ next_cycle s in
+pub step_counts : (w : Setting) (s t : State) (first before now counted : ℕ) → t ≡ next w s → counted ≡ now + 1 → now + first ≡ before + s.cycle → counted + first ≡ before + t.cycle
+step_counts w s t first before now counted e count so_far =
+    let cycle : t.cycle ≡ s.cycle + 1 = ap (λ (x : State). x.cycle) e ∙ next_cycle w s in
     omega arith
 
 -- no cycle goes back
-pub step_forward : (s t : State) (first : ℕ) → t ≡ next s → first ≤ s.cycle → first ≤ t.cycle
-step_forward s t first e le =
-    let cycle : t.cycle ≡ s.cycle + 1 = ap (λ (x : State). x.cycle) e ∙ next_cycle s in
+pub step_forward : (w : Setting) (s t : State) (first : ℕ) → t ≡ next w s → first ≤ s.cycle → first ≤ t.cycle
+step_forward w s t first e le =
+    let cycle : t.cycle ≡ s.cycle + 1 = ap (λ (x : State). x.cycle) e ∙ next_cycle w s in
     omega arith

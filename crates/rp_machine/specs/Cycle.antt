@@ -1,117 +1,137 @@
 -- One cycle of the machine, on numbers without bound. In a cycle each part begins by the state at the start and names its
--- accesses; the fabric decides which of them are done; each part steps; then the deeds of the cores come, core 0 first, and
--- last the writes to SRAM.
-use Rattle.std.specs.Prelude.{ℕ, ◌+◌, ◌*◌, ◌^◌, ◌==◌, Bool, true, false, if◌then◌else◌, List, [], ◌∷◌, Option, Some, None, unwrap_or, slice_index_or}
-use Rattle.rp_base.specs.AddressMap.{place_of}
+-- accesses; the fabric decides which of them are done; each part steps; then the deeds of the masters come in their order,
+-- and last the writes to SRAM.
+use Rattle.std.specs.Prelude.{ℕ, ◌+◌, ◌==◌, Bool, true, if◌then◌else◌, List, [], ◌∷◌, map, Option, Some, None, slice_index_or}
+use Rattle.rp_base.specs.declared.Master.{Master}
+use Rattle.rp_base.specs.declared.Master.TheVariants as master
 use Rattle.rp_base.specs.declared.Why.{Why}
 use Rattle.rp_base.specs.declared.Why.TheVariants as why
-use Rattle.word_bits.specs.Word.{bit_number}
-use Rattle.lane_look.specs.declared.lane.Ask.{Ask}
-use Rattle.lane_look.specs.declared.lane.Ask.TheVariants as ask
+use Rattle.lane_look.specs.declared.lane.Want.{Want}
+use Rattle.lane_look.specs.declared.lane.Want.TheVariants as want
 use Rattle.lane_look.specs.declared.lane.Turn.{Turn}
 use Rattle.lane_look.specs.declared.lane.Turn.TheVariants as turn
+use Rattle.lane_look.specs.declared.marks.Mark.{Mark}
 use Rattle.lane_look.specs.Asking.{answered}
-use Rattle.m0_core.specs.declared.doing.Doing.{Doing}
 use Rattle.m0_core.specs.State.{State as Core}
 use Rattle.m0_core.specs.Start.{started}
-use Rattle.m0_core.specs.Fetch.{asks}
+use Rattle.m0_core.specs.Fetch as core_asks
 use Rattle.m0_core.specs.Cycle as core
+use Rattle.dma_engine.specs.Asks as dma_asks
+use Rattle.dma_engine.specs.Cycle as dma
+use Rattle.pio_block.specs.Cycle as pio
+use Rattle.outer_lane.specs.Setting.{Setting}
+use Rattle.outer_lane.specs.declared.world.Seen.{Seen}
+use Rattle.outer_lane.specs.Step as outer
+use Rattle.outer_lane.specs.State.{OuterState}
+use Rattle.outer_lane.specs.Device.{device_accessed}
 use Rattle.ram_banks.specs.Sram.{written}
+use Rattle.bus_fabric.specs.Masters.{masters, number_of}
 use Rattle.bus_fabric.specs.Grant as fabric
 use Rattle.sio_block.specs.declared.Launch.{Launch}
-use Rattle.sio_block.specs.State.{own_side}
-use Rattle.sio_block.specs.Side.{line_of}
+use Rattle.sio_block.specs.State.{SioState}
 use Rattle.sio_block.specs.Changes as sio
 use Rattle.sio_block.specs.Launcher.{launch_of, after_turn, offers_of}
 use Rattle.sio_block.specs.Cycle as sio_end
-use Rattle.rp_machine.specs.declared.cycle.Begun.{Begun}
+use Rattle.rp_machine.specs.declared.begun.Begun.{Begun}
+use Rattle.rp_machine.specs.declared.wanted.Wanted.{Wanted}
 use Rattle.rp_machine.specs.declared.deed.Deed.{Deed}
 use Rattle.rp_machine.specs.declared.deed.Deed.TheVariants as deed
-use Rattle.rp_machine.specs.Sram.{half_of, ram_word}
 use Rattle.rp_machine.specs.State.{State}
+use Rattle.rp_machine.specs.Answers.{answer_of}
 use Rattle.rp_machine.specs.Registers.{block_accessed}
 use Rattle.rp_machine.specs.Deeds.{cause_of, asked_of, turn_of, deed_of}
 
--- ---- what the parts begin
+-- ---- what the lanes begin, and what the masters want
 
--- the interrupt lines of a core: SIO has line 15 of core 0 and line 16 of core 1 (RP2040 Datasheet, 2.3.2 "Interrupts")
-unfoldable pub lines_of : ℕ → State → ℕ
-lines_of number s = bit_number (line_of (own_side number s.sio)) * 2 ^ (15 + number)
-
--- the word of SRAM that holds an address; elsewhere there is none
-abbrev pub word_in : List ℕ → ℕ → ℕ
-word_in sram address = unwrap_or (ram_word sram (place_of address)) 0
-
--- what the machine answers a core with these lines
-abbrev pub answer_of : ℕ → List ℕ → Ask → ℕ
-answer_of lines sram ask.Lines = lines
-answer_of lines sram (ask.Half address) = half_of (word_in sram address) address
-answer_of lines sram (ask.Word address) = word_in sram address
-answer_of lines sram ask.Pacing = 0
-answer_of lines sram ask.Inputs = 0
-answer_of lines sram (ask.Outs block) = 0
-
-abbrev pub core_of : ℕ → State → Core
-core_of number s = if number == 0 then s.core0 else s.core1
-
--- what a core begins
-unfoldable pub begun_by : ℕ → State → Doing
-begun_by number s = answered (answer_of (lines_of number s) s.sram) (asks (core_of number s) s.cycle)
-
--- what both cores begin, and what they want
 unfoldable pub begun : State → Begun
-begun s =
-    let first = begun_by 0 s in
-    let second = begun_by 1 s in
-    record { core0 = first; core1 = second; want0 = core.want_of first; want1 = core.want_of second }
+begun s = record {
+  core0 = answered (answer_of 0 s) (core_asks.asks s.core0 s.cycle);
+  core1 = answered (answer_of 1 s) (core_asks.asks s.core1 s.cycle);
+  dma = answered (answer_of 2 s) (dma_asks.asks s.dma);
+  pio0 = answered (answer_of 3 s) (pio.asks s.pio0);
+  pio1 = answered (answer_of 4 s) (pio.asks s.pio1);
+  outer = answered (answer_of 5 s) (outer.asks s.outer s.cycle);
+}
+
+abbrev pub wanted_by : Master → Want → Wanted
+wanted_by m want = record { master = m; want = want }
+
+-- the wants of the four masters, in their order; PIO and the peripherals want nothing
+unfoldable pub wanted : Begun → List Wanted
+wanted b =
+    wanted_by master.Core0 (core.want_of b.core0)
+    ∷ wanted_by master.Core1 (core.want_of b.core1)
+    ∷ wanted_by master.DmaRead (dma.want_of b.dma.read)
+    ∷ wanted_by master.DmaWrite (dma.want_of b.dma.write)
+    ∷ []
 
 -- ---- stops
 
-abbrev pub earlier : Option Why → Option Why → Option Why
-earlier (Some cause) other = Some cause
-earlier None other = other
+abbrev pub first_cause : List (Option Why) → Option Why
+first_cause [] = None
+first_cause (Some cause ∷ causes) = Some cause
+first_cause (None ∷ causes) = first_cause causes
 
--- the first cause for which the machine stops before this cycle: the limit, core 0, core 1
-unfoldable pub cause_in : Begun → State → Option Why
-cause_in b s = earlier (cause_of 0 b.want0 s) (cause_of 1 b.want1 s)
+-- the first cause of a master for which the machine stops before this cycle, in their order
+unfoldable pub cause_in : Setting → Begun → List Wanted → State → Option Why
+cause_in w b xs s = first_cause (map (cause_of w b.outer s) xs)
 
-unfoldable pub stop : ℕ → State → Option Why
-stop limit s = if s.cycle == limit then Some why.Limit else cause_in (begun s) s
+-- the limit comes first
+unfoldable pub stop : Setting → State → Option Why
+stop w s = if s.cycle == w.limit then Some why.Limit else cause_in w (begun s) (wanted (begun s)) s
 
 -- ---- grants and turns
 
--- what the four masters ask of the fabric
-abbrev pub asked : Begun → List (Option (ℕ × Bool))
-asked b = asked_of b.want0 ∷ asked_of b.want1 ∷ None ∷ None ∷ []
+-- what the masters ask of the fabric
+abbrev pub asked_by : Wanted → Option (ℕ × Bool)
+asked_by x = asked_of x.want
 
--- which of the masters' accesses are done in this cycle
-unfoldable pub granted : Begun → State → List Bool
-granted b s = fabric.done_of (asked b) s.fabric
+unfoldable pub asked : List Wanted → List (Option (ℕ × Bool))
+asked xs = map asked_by xs
 
--- what the bus gives core 0 and core 1
-unfoldable pub first_turn : Begun → State → Turn
-first_turn b s = turn_of 0 b.want0 (slice_index_or (granted b s) 0 false) b.want0 s
+-- which of the masters' accesses are granted in this cycle
+unfoldable pub granted : List Wanted → State → List Bool
+granted xs s = fabric.done_of (asked xs) s.fabric
 
-unfoldable pub second_turn : Begun → State → Turn
-second_turn b s = turn_of 1 b.want0 (slice_index_or (granted b s) 1 false) b.want1 s
+-- what core 0 wants
+abbrev pub first_want : List Wanted → Want
+first_want [] = want.Nothing
+first_want (x ∷ xs) = x.want
+
+-- what the bus gives each master, by what is granted
+abbrev pub turns_by : Setting → Seen → Want → State → List Wanted → List Bool → List Turn
+turns_by w seen rival s (x ∷ xs) (grant ∷ grants) =
+    turn_of w seen rival grant x.master x.want s ∷ turns_by w seen rival s xs grants
+turns_by w seen rival s _ _ = []
+
+unfoldable pub turns : Setting → Begun → List Wanted → State → List Bool → List Turn
+turns w b xs s grants = turns_by w b.outer (first_want xs) s xs grants
 
 -- ---- steps
 
--- the cores have stepped by these turns
-unfoldable pub with_turns : Begun → Turn → Turn → State → State
-with_turns b first second s = record s {
-  core0 = core.next s.core0 b.core0 (first ∷ turn.Nothing ∷ []);
-  core1 = core.next s.core1 b.core1 (second ∷ turn.Nothing ∷ []);
+-- every lane has stepped, by these turns of core 0, of core 1, and of the reads and the writes of the DMA engine
+abbrev pub turn_for : List Turn → Master → Turn
+turn_for turns m = slice_index_or turns (number_of m) turn.Nothing
+
+unfoldable pub with_turns : Setting → Begun → List Turn → State → State
+with_turns w b turns s = record s {
+  core0 = core.next s.core0 b.core0 (turn_for turns master.Core0 ∷ turn.Nothing ∷ []);
+  core1 = core.next s.core1 b.core1 (turn_for turns master.Core1 ∷ turn.Nothing ∷ []);
+  dma = dma.next s.dma b.dma (turn_for turns master.DmaRead ∷ turn_for turns master.DmaWrite ∷ []);
+  pio0 = pio.next b.pio0 s.pio0;
+  pio1 = pio.next b.pio1 s.pio1;
+  outer = outer.next w s.outer b.outer;
 }
 
-abbrev pub with_grants : Begun → State → State
-with_grants b s = record s { fabric = fabric.after_grant (asked b) s.fabric }
-
--- every part has stepped
-unfoldable pub stepped : Begun → State → State
-stepped b s = with_turns b (first_turn b s) (second_turn b s) (with_grants b s)
-
 -- ---- deeds
+
+-- the deed of each master, by what is granted
+abbrev pub deeds_by : Setting → Seen → State → List Wanted → List Bool → List Deed
+deeds_by w seen s (x ∷ xs) (grant ∷ grants) = deed_of w seen grant x.want s ∷ deeds_by w seen s xs grants
+deeds_by w seen s _ _ = []
+
+unfoldable pub deeds : Setting → Begun → List Wanted → State → List Bool → List Deed
+deeds w b xs s grants = deeds_by w b.outer s xs grants
 
 abbrev pub with_event : Core → Core
 with_event c = record c { event = true }
@@ -120,12 +140,35 @@ with_event c = record c { event = true }
 abbrev pub signalled : State → State
 signalled s = record s { core0 = with_event s.core0; core1 = with_event s.core1 }
 
--- the deed of a core, but for a write to SRAM, which comes last
-unfoldable pub after_deed : ℕ → Deed → State → State
-after_deed number deed.Signal s = signalled s
-after_deed number (deed.Register block offset write) s = block_accessed block offset write s
-after_deed number (deed.SingleCycle offset write) s = record s { sio = sio.effect_of number offset write s.sio }
-after_deed number _ s = s
+-- SIO has changed, and with it what the pads see of it and what core 1 knows of its launcher
+abbrev pub pins_of : SioState → List ℕ
+pins_of sio = sio.pins.out ∷ sio.pins.enable ∷ []
+
+abbrev pub with_offer : Bool → Core → Core
+with_offer offer c = record c { offer = offer }
+
+abbrev pub with_pins : List ℕ → OuterState → OuterState
+with_pins pins o = record o { sio = pins }
+
+unfoldable pub with_sio : SioState → State → State
+with_sio sio s = record s {
+  core1 = with_offer (offers_of sio) s.core1;
+  outer = with_pins (pins_of sio) s.outer;
+  sio = sio;
+}
+
+abbrev pub sio_accessed : Master → ℕ → Option ℕ → State → State
+sio_accessed master.Core0 offset write s = with_sio (sio.effect_of 0 offset write s.sio) s
+sio_accessed master.Core1 offset write s = with_sio (sio.effect_of 1 offset write s.sio) s
+sio_accessed _ offset write s = s
+
+-- the deed of a master, but for a write to SRAM, which comes last
+unfoldable pub after_deed : Setting → Master → Deed → State → State
+after_deed w m deed.Signal s = signalled s
+after_deed w m (deed.Register block offset write) s = block_accessed block offset write s
+after_deed w m (deed.SingleCycle offset write) s = sio_accessed m offset write s
+after_deed w m (deed.Device address write) s = record s { outer = device_accessed w address write s.outer }
+after_deed w m _ s = s
 
 -- the launcher takes a word while core 1 sleeps, and starts it after the sixth (RP2040 Datasheet, 2.8.2)
 abbrev pub started_by : Option Launch → State → State
@@ -133,40 +176,57 @@ started_by None s = s
 started_by (Some l) s = record s { core1 = started l.vtor l.sp l.entry s.core1 }
 
 unfoldable pub after_launcher : State → State
-after_launcher s = started_by (launch_of s.sio) (record s { sio = after_turn s.sio })
+after_launcher s = started_by (launch_of s.sio) (with_sio (after_turn s.sio) s)
 
-abbrev pub after_second : Deed → State → State
-after_second second s = if s.core1.asleep then after_launcher s else after_deed 1 second s
+-- while core 1 sleeps its launcher has its place
+abbrev pub after_core1 : Setting → Deed → State → State
+after_core1 w d s = if s.core1.asleep then after_launcher s else after_deed w master.Core1 d s
+
+abbrev pub after_master : Setting → Master → Deed → State → State
+after_master w master.Core1 d s = after_core1 w d s
+after_master w m d s = after_deed w m d s
+
+-- the deeds of the masters in their order
+abbrev pub after_masters : Setting → List Master → List Deed → State → State
+after_masters w (m ∷ ms) (d ∷ ds) s = after_masters w ms ds (after_master w m d s)
+after_masters w _ _ s = s
 
 abbrev pub stored : Deed → List ℕ → List ℕ
 stored (deed.Store index lanes value) sram = written sram index lanes value
 stored _ sram = sram
 
-abbrev pub with_stores : Deed → Deed → State → State
-with_stores first second s = record s { sram = stored second (stored first s.sram) }
+-- the writes to SRAM in the order of the masters
+abbrev pub all_stored : List Deed → List ℕ → List ℕ
+all_stored [] sram = sram
+all_stored (d ∷ ds) sram = all_stored ds (stored d sram)
 
--- ---- the end
+abbrev pub with_stores : List Deed → State → State
+with_stores ds s = record s { sram = all_stored ds s.sram }
 
--- SIO ends its cycle, and core 1 knows whether the launcher has a word for it
+-- SIO ends its cycle
 unfoldable pub ended : State → State
-ended s = record s {
-  sio = sio_end.after_cycle s.sio;
-  core1 = record s.core1 { offer = offers_of (sio_end.after_cycle s.sio) };
-}
+ended s = with_sio (sio_end.after_cycle s.sio) s
 
-unfoldable pub after_deeds : Deed → Deed → State → State
-after_deeds first second s = ended (with_stores first second (after_second second (after_deed 0 first s)))
+unfoldable pub after_deeds : Setting → List Deed → State → State
+after_deeds w ds s = ended (with_stores ds (after_masters w masters ds s))
 
--- what the wants of core 0 and core 1 come to
-unfoldable pub first_deed : Begun → State → Deed
-first_deed b s = deed_of (slice_index_or (granted b s) 0 false) b.want0 s
+-- ---- the cycle
 
-unfoldable pub second_deed : Begun → State → Deed
-second_deed b s = deed_of (slice_index_or (granted b s) 1 false) b.want1 s
+abbrev pub with_grants : List Wanted → State → State
+with_grants xs s = record s { fabric = fabric.after_grant (asked xs) s.fabric }
 
--- the state after a cycle in which this was begun
-unfoldable pub next_by : Begun → State → State
-next_by b s = record (after_deeds (first_deed b s) (second_deed b s) (stepped b s)) { cycle = s.cycle + 1 }
+-- every lane has stepped, by what this grants
+unfoldable pub stepped : Setting → Begun → List Wanted → State → State
+stepped w b xs s = with_turns w b (turns w b xs s (granted xs s)) (with_grants xs s)
 
-unfoldable pub next : State → State
-next s = next_by (begun s) s
+-- the state after a cycle in which this was begun and wanted
+unfoldable pub next_by : Setting → Begun → List Wanted → State → State
+next_by w b xs s =
+    record (after_deeds w (deeds w b xs s (granted xs s)) (stepped w b xs s)) { cycle = s.cycle + 1 }
+
+unfoldable pub next : Setting → State → State
+next w s = next_by w (begun s) (wanted (begun s)) s
+
+-- what the peripherals leave of the cycle: the bytes that the UARTs sent, and the levels of the pads
+unfoldable pub mark : Setting → State → Mark
+mark w s = outer.marked w s.outer (begun s).outer

@@ -1,10 +1,11 @@
 -- What the accesses of a cycle come to: where an access goes, the cause to stop of one that goes nowhere, the word that a
 -- read has, and what is left to be done once all parts have stepped (RP2040 Datasheet, 2.1.1 "AHB-Lite Crossbar", 2.3.1
 -- "SIO", 2.2 "Address Map").
-use Rattle.std.specs.Prelude.{ℕ, ◌<◌, ◌==◌, ◌&&◌, Bool, true, false, if◌then◌else◌, nat_le, Option, Some, None, is_some, unwrap_or}
-use Rattle.std.specs.Option.{is_none}
-use Rattle.rp_base.specs.Access.{lanes_at, master_of, replicated, word_written}
+use Rattle.std.specs.Prelude.{ℕ, ◌<◌, ◌==◌, ◌&&◌, Bool, true, false, if◌then◌else◌, nat_le, Option, Some, None, is_none, is_some, unwrap_or}
+use Rattle.rp_base.specs.Access.{lanes_at, replicated, word_written}
 use Rattle.rp_base.specs.AddressMap.{place_of, port_of}
+use Rattle.rp_base.specs.declared.Master.{Master}
+use Rattle.rp_base.specs.declared.Master.TheVariants as master
 use Rattle.rp_base.specs.declared.Request.{Request}
 use Rattle.rp_base.specs.declared.Why.{Why}
 use Rattle.rp_base.specs.declared.Why.TheVariants as why
@@ -14,44 +15,81 @@ use Rattle.lane_look.specs.declared.lane.Want.{Want}
 use Rattle.lane_look.specs.declared.lane.Want.TheVariants as want
 use Rattle.lane_look.specs.declared.lane.Turn.{Turn}
 use Rattle.lane_look.specs.declared.lane.Turn.TheVariants as turn
+use Rattle.outer_lane.specs.declared.world.Seen.{Seen}
+use Rattle.outer_lane.specs.Setting.{Setting}
+use Rattle.outer_lane.specs.Device.{owned_word}
+use Rattle.io_bank.specs.Levels.{inputs_of}
 use Rattle.sio_block.specs.Words as sio
 use Rattle.rp_machine.specs.declared.deed.Deed.{Deed}
 use Rattle.rp_machine.specs.declared.deed.Deed.TheVariants as deed
+use Rattle.rp_machine.specs.declared.wanted.Wanted.{Wanted}
 use Rattle.rp_machine.specs.State.{State}
-use Rattle.rp_machine.specs.Registers.{block_word, plain_write}
+use Rattle.rp_machine.specs.Registers.{block_word, block_allows, plain_write}
 
 -- ---- words
 
--- the word that a place of registers reads as for a core at the start of the cycle; None where there is no such word. The
--- input pins read 0
-abbrev pub register_word : ℕ → Spot → State → Option ℕ
-register_word core (spot.Reg block offset alias) s = block_word block offset s
-register_word core (spot.Sio offset) s = sio.word_of core offset 0 s.sio
-register_word core _ s = None
+-- GPIO_IN of SIO has the second levels of the inputs
+abbrev pub input_of : State → ℕ
+input_of s = inputs_of s.outer.pads s.outer.pads.second
+
+-- SIO belongs to the cores
+abbrev pub sio_word : Master → ℕ → State → Option ℕ
+sio_word master.Core0 offset s = sio.word_of 0 offset (input_of s) s.sio
+sio_word master.Core1 offset s = sio.word_of 1 offset (input_of s) s.sio
+sio_word _ offset s = None
+
+-- the word at a place that is not in SRAM, as it reads for a master at the start of the cycle; None where there is none. An
+-- address that is outside of the chip may be the device's
+unfoldable pub word_for : Setting → Seen → Master → ℕ → Spot → State → Option ℕ
+word_for w seen m address (spot.Reg block offset alias) s = block_word w seen block offset s
+word_for w seen m address (spot.Sio offset) s = sio_word m offset s
+word_for w seen m address spot.Outside s = owned_word w address s.outer
+word_for w seen m address _ s = None
 
 -- ---- causes to stop
 
--- an access that is not to SRAM has to find a word
-abbrev pub cause_at : ℕ → ℕ → Spot → State → Option Why
-cause_at core address place s =
-    if is_none (register_word core place s) then Some (why.Outside (master_of core) address) else None
+-- an access to the word of a place, which reads so, is allowed
+abbrev pub is_allowed_at : Request → Spot → ℕ → Bool
+is_allowed_at request (spot.Reg block offset alias) word =
+    block_allows block offset (plain_write request request.write alias word)
+is_allowed_at request _ word = true
 
--- the cause for which a cycle does not happen in which a core has this want
-unfoldable pub cause_of : ℕ → Want → State → Option Why
-cause_of core (want.Outward request) s = cause_at core request.address (place_of request.address) s
-cause_of core (want.Stopped cause) s = Some cause
-cause_of core _ s = None
+abbrev pub is_open : Request → Spot → Option ℕ → Bool
+is_open request place None = false
+is_open request place (Some word) = is_allowed_at request place word
+
+abbrev pub outside_unless : Bool → Master → ℕ → Option Why
+outside_unless open_to m address = if open_to then None else Some (why.Outside m address)
+
+-- the cause for which a cycle does not happen in which a master wants this: an access that is not to SRAM has to find a word,
+-- and has to be allowed
+abbrev pub cause_by : Setting → Seen → Master → Want → State → Option Why
+cause_by w seen m (want.Outward request) s =
+    outside_unless
+    (is_open request (place_of request.address) (word_for w seen m request.address (place_of request.address) s))
+    m
+    request.address
+cause_by w seen m (want.Stopped cause) s = Some cause
+cause_by w seen m _ s = None
+
+unfoldable pub cause_of : Setting → Seen → State → Wanted → Option Why
+cause_of w seen s x = cause_by w seen x.master x.want s
 
 -- ---- ports
 
--- the port that a want asks for, and whether to write
+-- the port that a place is reached through; the device is reached through APB
+abbrev pub port_at : Spot → Option ℕ
+port_at spot.Outside = Some 6
+port_at place = port_of place
+
 abbrev pub asked_at : Request → Option ℕ → Option (ℕ × Bool)
 asked_at request None = None
 asked_at request (Some port) = Some (port, is_some request.write)
 
+-- the port that a want asks for, and whether to write
 unfoldable pub asked_of : Want → Option (ℕ × Bool)
-asked_of (want.Ram request) = asked_at request (port_of (place_of request.address))
-asked_of (want.Outward request) = asked_at request (port_of (place_of request.address))
+asked_of (want.Ram request) = asked_at request (port_at (place_of request.address))
+asked_of (want.Outward request) = asked_at request (port_at (place_of request.address))
 asked_of _ = None
 
 -- an access to SIO uses no port and is done at once; another one is done where its port is granted
@@ -74,25 +112,32 @@ abbrev pub reads_at : Want → Spot → Bool
 reads_at (want.Outward request) place = is_none request.write && is_same_word (place_of request.address) place
 reads_at _ place = false
 
--- a core comes too late for a lock that core 0 reads in the same cycle
-abbrev pub is_late : ℕ → Want → Spot → Bool
-is_late core first place = (core == 1) && (is_lock place && reads_at first place)
+abbrev pub is_core1 : Master → Bool
+is_core1 master.Core1 = true
+is_core1 _ = false
+
+-- core 1 comes too late for a lock that core 0, which wants this, reads in the same cycle
+abbrev pub is_late : Want → Master → Spot → Bool
+is_late rival m place = is_core1 m && (is_lock place && reads_at rival place)
 
 -- the word that an access has, where core 0 wants this
-abbrev pub told_at : ℕ → Want → Spot → State → ℕ
-told_at core first place s = if is_late core first place then 0 else unwrap_or (register_word core place s) 0
+abbrev pub told_at : Setting → Seen → Want → Master → ℕ → Spot → State → ℕ
+told_at w seen rival m address place s =
+    if is_late rival m place then 0 else unwrap_or (word_for w seen m address place s) 0
 
 -- ---- turns
 
 abbrev pub turn_at : Bool → ℕ → Turn
 turn_at done word = if done then turn.Done word else turn.Wait
 
--- what the bus gives a core for its want, where core 0 wants this. A read of SRAM was told its word when it was asked for
-unfoldable pub turn_of : ℕ → Want → Bool → Want → State → Turn
-turn_of core first granted (want.Ram request) s = turn_at granted 0
-turn_of core first granted (want.Outward request) s =
-    turn_at (is_done_at (place_of request.address) granted) (told_at core first (place_of request.address) s)
-turn_of core first granted _ s = turn.Nothing
+-- what the bus gives a master for its want, where core 0 wants `rival`. A read of SRAM was told its word when it was asked for
+unfoldable pub turn_of : Setting → Seen → Want → Bool → Master → Want → State → Turn
+turn_of w seen rival granted m (want.Ram request) s = turn_at granted 0
+turn_of w seen rival granted m (want.Outward request) s =
+    turn_at
+    (is_done_at (place_of request.address) granted)
+    (told_at w seen rival m request.address (place_of request.address) s)
+turn_of w seen rival granted m _ s = turn.Nothing
 
 -- ---- deeds
 
@@ -102,23 +147,24 @@ stored_at request (Some value) (spot.Ram index bank) =
     deed.Store index (lanes_at request.size request.address) (replicated request.size value)
 stored_at request _ _ = deed.Nothing
 
--- an access to a word of a register block, or of SIO
-abbrev pub accessed_at : Request → Spot → State → Deed
-accessed_at request (spot.Reg block offset alias) s =
-    deed.Register block offset (plain_write request request.write alias (unwrap_or (block_word block offset s) 0))
-accessed_at request (spot.Sio offset) s = deed.SingleCycle offset (word_written request.size request.write)
-accessed_at request _ s = deed.Nothing
+-- an access to a word of a register block, of SIO or of the device; the device has its address unchanged
+abbrev pub accessed_at : Setting → Seen → Request → Spot → State → Deed
+accessed_at w seen request (spot.Reg block offset alias) s =
+    deed.Register block offset (plain_write request request.write alias (unwrap_or (block_word w seen block offset s) 0))
+accessed_at w seen request (spot.Sio offset) s = deed.SingleCycle offset (word_written request.size request.write)
+accessed_at w seen request spot.Outside s = deed.Device request.address (word_written request.size request.write)
+accessed_at w seen request _ s = deed.Nothing
 
--- what the want of a core comes to, by the state at the start of the cycle
-unfoldable pub deed_of : Bool → Want → State → Deed
-deed_of granted (want.Ram request) s =
+-- what a want comes to, by the state at the start of the cycle
+unfoldable pub deed_of : Setting → Seen → Bool → Want → State → Deed
+deed_of w seen granted (want.Ram request) s =
     if granted then stored_at request request.write (place_of request.address) else deed.Nothing
-deed_of granted (want.Outward request) s =
+deed_of w seen granted (want.Outward request) s =
     if is_done_at (place_of request.address) granted
-    then accessed_at request (place_of request.address) s
+    then accessed_at w seen request (place_of request.address) s
     else deed.Nothing
-deed_of granted want.Signal s = deed.Signal
-deed_of granted _ s = deed.Nothing
+deed_of w seen granted want.Signal s = deed.Signal
+deed_of w seen granted _ s = deed.Nothing
 
 -- a write to SRAM has the index of a word
 abbrev pub StoresInSram : Deed → Type 0

@@ -1,6 +1,11 @@
+pub mod Answers
+pub mod Boot
 pub mod Cycle
 pub mod Deeds
+pub mod Events
+pub mod Law
 pub mod Loading
+pub mod Quiet
 pub mod Readers
 pub mod Registers
 pub mod Run

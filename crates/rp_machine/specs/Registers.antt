@@ -1,11 +1,21 @@
--- The words of register blocks: what they read as, and what a write does (RP2040 Datasheet, 2.1.2 "Atomic Register Access",
--- 2.1.4 "Narrow IO Register Writes", 2.1.5 "List of Registers" of BUSCTRL, 2.14.3 "List of Registers" of RESETS).
-use Rattle.std.specs.Prelude.{ℕ, ◌-◌, ◌%◌, ◌^◌, Bool, true, false, ◌==◌, if◌then◌else◌, List, Option, Some, None, bit_and, bit_or, bit_xor, slice_index, slice_set}
+-- The words of the register blocks: what they read as, whether an access to one is allowed, and what it does (RP2040 Datasheet,
+-- 2.1.2 "Atomic Register Access", 2.1.4 "Narrow IO Register Writes", 2.1.5 "List of Registers" of BUSCTRL, 2.14.3 "List of
+-- Registers" of RESETS).
+use Rattle.std.specs.Prelude.{ℕ, ◌-◌, ◌%◌, ◌^◌, Bool, true, ◌==◌, if◌then◌else◌, List, Option, Some, None, bit_and, bit_or, bit_xor, slice_index, slice_set}
 use Rattle.rp_base.specs.declared.Request.{Request}
 use Rattle.rp_base.specs.declared.map.Block.{Block}
 use Rattle.rp_base.specs.declared.map.Block.TheVariants as block
 use Rattle.rp_base.specs.Access.{replicated}
+use Rattle.word_bits.specs.Word.{has_bit}
 use Rattle.bus_fabric.specs.State.{Crossbar, with_priority}
+use Rattle.dma_engine.specs.State.{with_hold}
+use Rattle.dma_engine.specs.Words as dma
+use Rattle.pio_block.specs.State.{with_held}
+use Rattle.pio_block.specs.Words as pio
+use Rattle.outer_lane.specs.declared.world.Seen.{Seen}
+use Rattle.outer_lane.specs.Setting.{Setting}
+use Rattle.outer_lane.specs.State.{outer_reset}
+use Rattle.outer_lane.specs.Words.{outer_word, outer_accessed}
 use Rattle.rp_machine.specs.State.{State}
 
 -- ---- RESETS: RESET has a bit for each of 25 blocks, WDSEL is kept, and RESET_DONE is the complement of RESET
@@ -16,10 +26,21 @@ resets_word resets offset =
     if offset == 0x4 then Some (slice_index resets 1) else
     if offset == 0x8 then Some (2 ^ 25 - 1 - slice_index resets 0) else None
 
-abbrev pub resets_written : ℕ → ℕ → List ℕ → List ℕ
-resets_written offset w resets =
-    if offset == 0x0 then slice_set resets 0 (w % 2 ^ 25) else
-    if offset == 0x4 then slice_set resets 1 w else resets
+-- a block whose bit is set gets its reset state, and is held in it until the bit is clear: DMA 2, PIO0 10, PIO1 11, and those
+-- of the peripherals
+unfoldable pub with_reset : ℕ → State → State
+with_reset w s = record s {
+  dma = with_hold (has_bit w 2) s.dma;
+  pio0 = with_held (has_bit w 10) s.pio0;
+  pio1 = with_held (has_bit w 11) s.pio1;
+  outer = outer_reset w s.outer;
+  resets = slice_set s.resets 0 w;
+}
+
+abbrev pub resets_written : ℕ → ℕ → State → State
+resets_written offset w s =
+    if offset == 0x0 then with_reset (w % 2 ^ 25) s else
+    if offset == 0x4 then record s { resets = slice_set s.resets 1 w } else s
 
 -- ---- BUSCTRL: BUS_PRIORITY, and BUS_PRIORITY_ACK, which reads 1
 
@@ -33,22 +54,36 @@ busctrl_written offset w fabric = if offset == 0x0 then with_priority w fabric e
 
 -- ---- all blocks
 
--- what a word reads as; None where the block has no such word
-abbrev pub block_word : Block → ℕ → State → Option ℕ
-block_word block.Resets offset s = resets_word s.resets offset
-block_word block.Busctrl offset s = busctrl_word s.fabric offset
-block_word _ offset s = None
+-- what a word reads as at the start of a cycle, in which the peripherals have seen this; None where the block has no such word
+unfoldable pub block_word : Setting → Seen → Block → ℕ → State → Option ℕ
+block_word w seen block.Resets offset s = resets_word s.resets offset
+block_word w seen block.Busctrl offset s = busctrl_word s.fabric offset
+block_word w seen block.Dma offset s = dma.word_of s.dma offset
+block_word w seen block.Pio0 offset s = pio.word_of s.pio0 offset
+block_word w seen block.Pio1 offset s = pio.word_of s.pio1 offset
+block_word w seen other offset s = outer_word w seen other offset s.outer
 
--- what a write of a word leaves
-abbrev pub block_written : Block → ℕ → ℕ → State → State
-block_written block.Resets offset w s = record s { resets = resets_written offset w s.resets }
-block_written block.Busctrl offset w s = record s { fabric = busctrl_written offset w s.fabric }
-block_written _ offset w s = s
+-- whether a read, or a write of this word, is allowed where the block has the word: what OUT_STICKY and INLINE_OUT_EN of a PIO
+-- block do is left out
+abbrev pub block_allows : Block → ℕ → Option ℕ → Bool
+block_allows block.Pio0 offset write = pio.is_allowed offset write
+block_allows block.Pio1 offset write = pio.is_allowed offset write
+block_allows _ offset write = true
 
--- what a read or a write does
+-- what a write to RESETS or BUSCTRL does, where reads do nothing
+abbrev pub system_written : Block → ℕ → Option ℕ → State → State
+system_written block offset None s = s
+system_written block.Resets offset (Some w) s = resets_written offset w s
+system_written _ offset (Some w) s = record s { fabric = busctrl_written offset w s.fabric }
+
+-- what a read, or a write of this word, does
 unfoldable pub block_accessed : Block → ℕ → Option ℕ → State → State
-block_accessed b offset None s = s
-block_accessed b offset (Some w) s = block_written b offset w s
+block_accessed block.Resets offset write s = system_written block.Resets offset write s
+block_accessed block.Busctrl offset write s = system_written block.Busctrl offset write s
+block_accessed block.Dma offset write s = record s { dma = dma.effect_of offset write s.dma }
+block_accessed block.Pio0 offset write s = record s { pio0 = pio.effect_of offset write s.pio0 }
+block_accessed block.Pio1 offset write s = record s { pio1 = pio.effect_of offset write s.pio1 }
+block_accessed other offset write s = record s { outer = outer_accessed other offset write s.outer }
 
 -- ---- aliases: a write through one changes the word as it is at the start of the cycle
 

@@ -1,31 +1,41 @@
-//! What the wants of the cores come to: causes to stop, requests to the fabric, turns and deeds.
+//! What the wants of the masters come to: causes to stop, requests to the fabric, turns and deeds.
 
 ghost use Rattle.std.specs.Prelude.{◌≡◌};
-ghost use Rattle.rp_base.specs.AddressMap.{place_of, port_of, IsWithin};
+ghost use Rattle.rp_base.specs.AddressMap.{place_of, IsWithin};
 ghost use Rattle.bus_fabric.specs.Masters.{HasPort};
-ghost use Rattle.rp_machine.specs.Deeds.{asked_at, asked_of, is_done_at, is_lock, is_same_word, reads_at, is_late, turn_at, stored_at, StoresInSram};
+ghost use Rattle.rp_machine.specs.Deeds.{port_at, asked_at, asked_of, is_done_at, is_lock, is_same_word, reads_at, is_core1, is_late, turn_at, stored_at, StoresInSram};
 
 use crate::deed::Deed;
 use crate::machine::Machine;
 use crate::registers::plain_write;
-use lane_look::{Turn, Want};
+use crate::wanted::Wanted;
+use lane_look::{Device, Turn, Want};
+use outer_lane::{Seen, World};
+use rp_base::access::{lanes_at, replicated, word_written};
 use rp_base::map::{Spot, place, port};
-use rp_base::access::{lanes_at, master_of, replicated, word_written};
-use rp_base::{Request, Why};
+use rp_base::{Master, Request, Why};
+
+/// The port of APB, through which the device is reached.
+const APB: u8 = 6;
 
 /// The port that a request to a place asks for, and whether to write.
-fn asked_at(request: &Request, place: &Spot) -> Option<(u8, bool)>
-    requires { IsWithin place.now }
+fn asked_at(request: &Request, spot: &Spot) -> Option<(u8, bool)>
+    requires { IsWithin spot.now }
     ensures port { HasPort result }
-    ensures value { result ≡ asked_at request.now (port_of place.now) }
+    ensures value { result ≡ asked_at request.now (port_at spot.now) }
 {
-    match port(place) {
-        Some(port) => Some((port, request.write.is_some())),
-        None => None,
+    let writes = request.write.is_some();
+    match spot {
+        Spot::Outside => Some((APB, writes)),
+        _ => match port(spot) {
+            Some(port) => Some((port, writes)),
+            None => None,
+        },
     }
 }
 
 /// The port that a want asks for, and whether to write.
+#[inline(always)]
 #[tactic(auto, unfolding(crate::specs::Deeds::asked_of))]
 pub(crate) fn asked_of(want: &Want) -> Option<(u8, bool)>
     ensures port { HasPort result }
@@ -38,54 +48,66 @@ pub(crate) fn asked_of(want: &Want) -> Option<(u8, bool)>
 }
 
 /// An access to this place is done, where its port, if it has one, is granted.
-fn is_done_at(place: &Spot, granted: bool) -> bool
-    ensures { result ≡ is_done_at place.now granted }
+#[inline(always)]
+fn is_done_at(spot: &Spot, granted: bool) -> bool
+    ensures { result ≡ is_done_at spot.now granted }
 {
-    match place {
+    match spot {
         Spot::Sio { .. } => true,
         Spot::Ram { .. } | Spot::Reg { .. } | Spot::Ppb { .. } | Spot::Outside => granted,
     }
 }
 
 /// A spinlock of SIO.
-fn is_lock(place: &Spot) -> bool
-    ensures { result ≡ is_lock place.now }
+fn is_lock(spot: &Spot) -> bool
+    ensures { result ≡ is_lock spot.now }
 {
-    match *place {
+    match *spot {
         Spot::Sio { offset } => 0x100 <= offset,
         Spot::Ram { .. } | Spot::Reg { .. } | Spot::Ppb { .. } | Spot::Outside => false,
     }
 }
 
 /// Both are the same word of SIO.
-fn is_same_word(place: &Spot, other: &Spot) -> bool
-    ensures { result ≡ is_same_word place.now other.now }
+fn is_same_word(spot: &Spot, other: &Spot) -> bool
+    ensures { result ≡ is_same_word spot.now other.now }
 {
-    match (*place, *other) {
+    match (*spot, *other) {
         (Spot::Sio { offset }, Spot::Sio { offset: other }) => offset == other,
         _ => false,
     }
 }
 
 /// The want is a read of this word of SIO.
-fn reads_at(want: &Want, place: &Spot) -> bool
-    ensures { result ≡ reads_at want.now place.now }
+fn reads_at(want: &Want, spot: &Spot) -> bool
+    ensures { result ≡ reads_at want.now spot.now }
 {
     match want {
         Want::Outward(request) => {
-            request.write.is_none() && is_same_word(&rp_base::map::place(request.address), place)
+            request.write.is_none() && is_same_word(&place(request.address), spot)
         }
         Want::Nothing | Want::Ram(_) | Want::Signal | Want::Stopped(_) => false,
     }
 }
 
-/// A core comes too late for a lock that core 0 reads in the same cycle.
-fn is_late(core: u8, first: &Want, place: &Spot) -> bool
-    ensures { result ≡ is_late core first.now place.now }
+/// The master is core 1.
+fn is_core1(master: Master) -> bool
+    ensures { result ≡ is_core1 master }
 {
-    core == 1 && is_lock(place) && reads_at(first, place)
+    match master {
+        Master::Core1 => true,
+        Master::Core0 | Master::DmaRead | Master::DmaWrite => false,
+    }
 }
 
+/// Core 1 comes too late for a lock that core 0, which wants `rival`, reads in the same cycle.
+fn is_late(rival: &Want, master: Master, spot: &Spot) -> bool
+    ensures { result ≡ is_late rival.now master spot.now }
+{
+    is_core1(master) && is_lock(spot) && reads_at(rival, spot)
+}
+
+#[inline(always)]
 fn turn_at(done: bool, word: u32) -> Turn
     ensures { result ≡ turn_at done word }
 {
@@ -93,12 +115,12 @@ fn turn_at(done: bool, word: u32) -> Turn
 }
 
 /// The write to SRAM of a request to a place, if it is one.
-fn stored_at(request: &Request, place: &Spot) -> Deed
-    requires { IsWithin place.now }
+fn stored_at(request: &Request, spot: &Spot) -> Deed
+    requires { IsWithin spot.now }
     ensures within { StoresInSram result }
-    ensures value { result ≡ stored_at request.now request.now.write place.now }
+    ensures value { result ≡ stored_at request.now request.now.write spot.now }
 {
-    match (request.write, *place) {
+    match (request.write, *spot) {
         (Some(value), Spot::Ram { index, .. }) => Deed::Store {
             index,
             lanes: lanes_at(request.size, request.address),
@@ -111,111 +133,207 @@ fn stored_at(request: &Request, place: &Spot) -> Deed
 impl Machine {
     ghost use Rattle.std.specs.Prelude.{◌≡◌, ◌≤◌};
     ghost use Rattle.rp_base.specs.AddressMap.{place_of};
-    ghost use Rattle.rp_machine.specs.Deeds.{register_word, cause_at, cause_of, told_at, turn_of, accessed_at, deed_of, StoresInSram};
+    ghost use Rattle.outer_lane.specs.Setting.{setting_of};
+    ghost use Rattle.rp_machine.specs.Deeds.{sio_word, word_for, is_allowed_at, is_open, outside_unless, cause_by, cause_of, told_at, turn_of, accessed_at, deed_of, StoresInSram};
 
-    /// The word that a place of registers reads as for a core. None where there is no such word.
-    fn register_word(&self, core: u8, place: &Spot) -> Option<u32>
-        requires { core ≤ 1 }
-        ensures { result ≡ register_word core place.now self.now }
+    /// A word of SIO as a master reads it.
+    fn sio_word(&self, master: Master, offset: u16) -> Option<u32>
+        ensures { result ≡ sio_word master offset self.now }
     {
-        match *place {
-            Spot::Reg { block, offset, .. } => self.block_word(block, offset),
-            Spot::Sio { offset } => self.sio.read(core, offset, 0),
-            Spot::Ram { .. } | Spot::Ppb { .. } | Spot::Outside => None,
+        match master {
+            Master::Core0 => self.sio.read(0, offset, self.outer.input()),
+            Master::Core1 => self.sio.read(1, offset, self.outer.input()),
+            Master::DmaRead | Master::DmaWrite => None,
         }
     }
 
-    /// The cause to stop of an access at an address that is not in SRAM, if it finds no word.
-    fn cause_at(&self, core: u8, address: u32, place: &Spot) -> Option<Why>
-        requires { core ≤ 1 }
-        ensures { result ≡ cause_at core address place.now self.now }
+    /// The word at a place that is not in SRAM, as it reads for a master. None where there is no such word.
+    #[tactic(auto, unfolding(crate::specs::Deeds::word_for))]
+    fn word_for<X: Device>(
+        &self,
+        world: &World<'_, X>,
+        seen: &Seen,
+        master: Master,
+        address: u32,
+        spot: &Spot,
+    ) -> Option<u32>
+        ensures { result ≡ word_for
+            (setting_of world.now.script.now (X.meaning world.now.device.now) world.now.limit)
+            seen.now master address spot.now self.now }
     {
-        if self.register_word(core, place).is_none() {
-            Some(Why::Outside(master_of(core), address))
-        } else {
-            None
+        match *spot {
+            Spot::Reg { block, offset, .. } => self.block_word(world, seen, block, offset),
+            Spot::Sio { offset } => self.sio_word(master, offset),
+            Spot::Outside => self.outer.owned_word(world, address),
+            Spot::Ram { .. } | Spot::Ppb { .. } => None,
         }
     }
 
-    /// The cause for which a cycle does not happen in which a core has this want.
+    /// An access to the word of a place, which reads so, is allowed.
+    fn is_allowed_at(&self, request: &Request, spot: &Spot, word: u32) -> bool
+        ensures { result ≡ is_allowed_at request.now spot.now word }
+    {
+        match *spot {
+            Spot::Reg {
+                block,
+                offset,
+                alias,
+            } => self.block_allows(block, offset, plain_write(request, alias, word)),
+            Spot::Ram { .. } | Spot::Sio { .. } | Spot::Ppb { .. } | Spot::Outside => true,
+        }
+    }
+
+    /// The cause for which a cycle does not happen in which a master makes this access, which is not to SRAM.
+    #[inline(never)]
+    fn cause_at<X: Device>(
+        &self,
+        world: &World<'_, X>,
+        seen: &Seen,
+        master: Master,
+        request: &Request,
+    ) -> Option<Why>
+        ensures { result ≡ cause_by
+            (setting_of world.now.script.now (X.meaning world.now.device.now) world.now.limit)
+            seen.now master (Want.Outward request.now) self.now }
+    {
+        let spot = place(request.address);
+        match self.word_for(world, seen, master, request.address, &spot) {
+            Some(word) if self.is_allowed_at(request, &spot, word) => None,
+            _ => Some(Why::Outside(master, request.address)),
+        }
+    }
+
+    /// The cause for which a cycle does not happen in which a master wants this.
+    #[inline(always)]
     #[tactic(auto, unfolding(crate::specs::Deeds::cause_of))]
-    pub(crate) fn cause_of(&self, core: u8, want: &Want) -> Option<Why>
-        requires { core ≤ 1 }
-        ensures { result ≡ cause_of core want.now self.now }
+    pub(crate) fn cause_of<X: Device>(
+        &self,
+        world: &World<'_, X>,
+        seen: &Seen,
+        wanted: &Wanted,
+    ) -> Option<Why>
+        ensures { result ≡ cause_of
+            (setting_of world.now.script.now (X.meaning world.now.device.now) world.now.limit)
+            seen.now self.now wanted.now }
     {
-        match *want {
-            Want::Outward(request) => self.cause_at(core, request.address, &place(request.address)),
-            Want::Stopped(cause) => Some(cause),
+        match &wanted.want {
+            Want::Outward(request) => self.cause_at(world, seen, wanted.master, request),
+            Want::Stopped(cause) => Some(*cause),
             Want::Nothing | Want::Ram(_) | Want::Signal => None,
         }
     }
 
-    /// The word that an access has, where core 0 wants this.
-    fn told_at(&self, core: u8, first: &Want, place: &Spot) -> u32
-        requires { core ≤ 1 }
-        ensures { result ≡ told_at core first.now place.now self.now }
+    /// The word that an access has, where core 0 wants `rival`.
+    #[inline(never)]
+    fn told_at<X: Device>(
+        &self,
+        world: &World<'_, X>,
+        seen: &Seen,
+        rival: &Want,
+        master: Master,
+        address: u32,
+        spot: &Spot,
+    ) -> u32
+        ensures { result ≡ told_at
+            (setting_of world.now.script.now (X.meaning world.now.device.now) world.now.limit)
+            seen.now rival.now master address spot.now self.now }
     {
-        if is_late(core, first, place) {
+        if is_late(rival, master, spot) {
             0
         } else {
-            self.register_word(core, place).unwrap_or(0)
+            self.word_for(world, seen, master, address, spot)
+                .unwrap_or(0)
         }
     }
 
-    /// What the bus gives a core for its want, where core 0 wants this.
+    /// What the bus gives a master for its want, where core 0 wants `rival`.
+    #[inline(always)]
     #[tactic(auto, unfolding(crate::specs::Deeds::turn_of))]
-    pub(crate) fn turn_of(&self, core: u8, first: &Want, granted: bool, want: &Want) -> Turn
-        requires { core ≤ 1 }
-        ensures { result ≡ turn_of core first.now granted want.now self.now }
+    pub(crate) fn turn_of<X: Device>(
+        &self,
+        world: &World<'_, X>,
+        seen: &Seen,
+        rival: &Want,
+        granted: bool,
+        wanted: &Wanted,
+    ) -> Turn
+        ensures { result ≡ turn_of
+            (setting_of world.now.script.now (X.meaning world.now.device.now) world.now.limit)
+            seen.now rival.now granted wanted.now.master wanted.now.want self.now }
     {
-        match want {
+        match &wanted.want {
             Want::Ram(_) => turn_at(granted, 0),
             Want::Outward(request) => {
-                let place = place(request.address);
+                let spot = place(request.address);
                 turn_at(
-                    is_done_at(&place, granted),
-                    self.told_at(core, first, &place),
+                    is_done_at(&spot, granted),
+                    self.told_at(world, seen, rival, wanted.master, request.address, &spot),
                 )
             }
             Want::Nothing | Want::Signal | Want::Stopped(_) => Turn::Nothing,
         }
     }
 
-    /// The access to a word of a register block, or of SIO, that a request to a place comes to.
-    fn accessed_at(&self, request: &Request, place: &Spot) -> Deed
+    /// The access to a word of a register block, of SIO or of the device that a request to a place comes to.
+    #[inline(never)]
+    fn accessed_at<X: Device>(
+        &self,
+        world: &World<'_, X>,
+        seen: &Seen,
+        request: &Request,
+        spot: &Spot,
+    ) -> Deed
         ensures within { StoresInSram result }
-        ensures value { result ≡ accessed_at request.now place.now self.now }
+        ensures value { result ≡ accessed_at
+            (setting_of world.now.script.now (X.meaning world.now.device.now) world.now.limit)
+            seen.now request.now spot.now self.now }
     {
-        match *place {
+        match *spot {
             Spot::Reg {
                 block,
                 offset,
                 alias,
-            } => Deed::Register {
-                block,
-                offset,
-                write: plain_write(request, alias, self.block_word(block, offset).unwrap_or(0)),
-            },
+            } => {
+                let word = self.block_word(world, seen, block, offset).unwrap_or(0);
+                Deed::Register {
+                    block,
+                    offset,
+                    write: plain_write(request, alias, word),
+                }
+            }
             Spot::Sio { offset } => Deed::SingleCycle {
                 offset,
                 write: word_written(request),
             },
-            Spot::Ram { .. } | Spot::Ppb { .. } | Spot::Outside => Deed::Nothing,
+            Spot::Outside => Deed::Device {
+                address: request.address,
+                write: word_written(request),
+            },
+            Spot::Ram { .. } | Spot::Ppb { .. } => Deed::Nothing,
         }
     }
 
-    /// What the want of a core comes to.
+    /// What a want comes to.
+    #[inline(always)]
     #[tactic(auto, unfolding(crate::specs::Deeds::deed_of))]
-    pub(crate) fn deed_of(&self, granted: bool, want: &Want) -> Deed
-        ensures value { result ≡ deed_of granted want.now self.now }
+    pub(crate) fn deed_of<X: Device>(
+        &self,
+        world: &World<'_, X>,
+        seen: &Seen,
+        granted: bool,
+        want: &Want,
+    ) -> Deed
+        ensures value { result ≡ deed_of
+            (setting_of world.now.script.now (X.meaning world.now.device.now) world.now.limit)
+            seen.now granted want.now self.now }
         ensures within { StoresInSram result }
     {
         match want {
             Want::Ram(request) if granted => stored_at(request, &place(request.address)),
             Want::Outward(request) => {
-                let place = place(request.address);
-                if is_done_at(&place, granted) {
-                    self.accessed_at(request, &place)
+                let spot = place(request.address);
+                if is_done_at(&spot, granted) {
+                    self.accessed_at(world, seen, request, &spot)
                 } else {
                     Deed::Nothing
                 }

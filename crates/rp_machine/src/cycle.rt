@@ -2,124 +2,161 @@
 
 ghost use Rattle.std.specs.Prelude.{◌≡◌};
 ghost use Rattle.bus_fabric.specs.Masters.{HavePorts};
-ghost use Rattle.rp_machine.specs.Cycle.{earlier, asked};
+ghost use Rattle.rp_machine.specs.Cycle.{asked};
+ghost use Rattle.rp_machine.specs.Quiet.{wants_nothing};
 
 use crate::access::asked_of;
+use crate::begun::Begun;
 use crate::deed::Deed;
-use crate::look::CoreLook;
 use crate::machine::Machine;
 use crate::steps::Steps;
-use crate::world::World;
-use lane_look::{Lane, Marks, Turn, Want};
-use m0_core::{Core, Doing};
-use rp_base::Why;
+use crate::wanted::{Wanted, all_wanted};
+use lane_look::{Device, Lane, Marks, Turn, Want};
+use outer_lane::World;
+use rp_base::{Master, Why};
 use std::sync::ledger::Ledger;
 
-/// What both cores have begun in a cycle, and what they want.
-#[derive(Clone, Copy)]
-pub struct Begun {
-    /// What core 0 has begun.
-    pub core0: Doing,
-    /// What core 1 has begun.
-    pub core1: Doing,
-    /// What core 0 wants.
-    pub want0: Want,
-    /// What core 1 wants.
-    pub want1: Want,
-}
-
-/// What the four masters ask of the fabric; the DMA engine asks for nothing.
-fn asked(begun: &Begun) -> [Option<(u8, bool)>; 4]
+/// What the masters ask of the fabric.
+#[tactic(auto, unfolding(crate::specs::Cycle::asked))]
+fn asked(wants: &[Wanted; 4]) -> [Option<(u8, bool)>; 4]
     ensures ports { HavePorts result }
-    ensures value { result ≡ asked begun.now }
+    ensures value { result ≡ asked wants.now }
 {
-    [asked_of(&begun.want0), asked_of(&begun.want1), None, None]
+    let [core0, core1, read, write] = wants;
+    [
+        asked_of(&core0.want),
+        asked_of(&core1.want),
+        asked_of(&read.want),
+        asked_of(&write.want),
+    ]
 }
 
-/// The first of two causes.
-fn earlier(cause: Option<Why>, other: Option<Why>) -> Option<Why>
-    ensures { result ≡ earlier cause other }
+/// A master wants nothing.
+#[inline(always)]
+fn wants_nothing(wanted: &Wanted) -> bool
+    ensures { result ≡ wants_nothing wanted.now }
 {
-    match cause {
-        Some(cause) => Some(cause),
-        None => other,
+    match wanted.want {
+        Want::Nothing => true,
+        Want::Ram(_) | Want::Outward(_) | Want::Signal | Want::Stopped(_) => false,
     }
 }
 
 impl Machine {
-    ghost use Rattle.std.specs.Prelude.{◌≡◌, ◌+◌, ◌-◌, ◌^◌, ◌<◌, ◌≤◌, if◌then◌else◌, is_some, []};
+    ghost use Rattle.std.specs.Prelude.{◌≡◌, ◌+◌, ◌-◌, ◌^◌, ◌<◌, ◌≤◌, ◌∷◌, ◌++◌, if◌then◌else◌, is_some, [], length};
+    ghost use Rattle.std.specs.List.{All};
+    ghost use Rattle.outer_lane.specs.Setting.{setting_of};
+    ghost use Rattle.outer_lane.specs.Step.{marked};
     ghost use Rattle.rp_machine.specs.Deeds.{StoresInSram};
-    ghost use Rattle.rp_machine.specs.Cycle.{lines_of, begun_by, begun, cause_in, stop, with_turns, signalled, after_deed, after_launcher, after_second, stored, ended, after_deeds, next_by, next};
+    ghost use Rattle.rp_machine.specs.Quiet.{is_quiet, quiet_core1, quiet_next};
+    ghost use Rattle.rp_machine.specs.Cycle.{begun, wanted, cause_in, stop, turns, deeds, with_turns, signalled, pins_of, with_sio, sio_accessed, after_deed, after_launcher, after_core1, stored, ended, after_deeds, next_by, next, mark};
 
-    /// The interrupt lines of a core.
-    #[tactic(auto, unfolding(crate::specs::Cycle::lines_of))]
-    fn lines(&self, core: u8) -> u32
-        requires { core ≤ 1 }
-        ensures { result ≡ lines_of core self.now }
-    {
-        u32::from(self.sio.line(core)) << (15 + core)
-    }
-
-    /// What core 0 begins.
-    fn begin_first(&self) -> Doing
-        ensures { result ≡ begun_by 0 self.now }
-    {
-        let mut look = CoreLook {
-            lines: self.lines(0),
-            ram: &self.ram,
-        };
-        self.core0.begin(&(), self.at, &mut look)
-    }
-
-    /// What core 1 begins.
-    fn begin_second(&self) -> Doing
-        ensures { result ≡ begun_by 1 self.now }
-    {
-        let mut look = CoreLook {
-            lines: self.lines(1),
-            ram: &self.ram,
-        };
-        self.core1.begin(&(), self.at, &mut look)
-    }
-
-    /// What both cores begin and want.
-    #[tactic(auto, unfolding(crate::specs::Cycle::begun))]
-    fn begin(&self) -> Begun
-        ensures { result ≡ begun self.now }
-    {
-        let core0 = self.begin_first();
-        let core1 = self.begin_second();
-        let [want0, _] = Core::wants(&core0);
-        let [want1, _] = Core::wants(&core1);
-        Begun {
-            core0,
-            core1,
-            want0,
-            want1,
-        }
-    }
-
-    /// The first cause of a core to stop before this cycle.
+    /// The first cause of a master to stop before this cycle.
+    #[inline(always)]
     #[tactic(auto, unfolding(crate::specs::Cycle::cause_in))]
-    fn cause_in(&self, begun: &Begun) -> Option<Why>
-        ensures { result ≡ cause_in begun.now self.now }
+    fn cause_in<X: Device>(
+        &self,
+        world: &World<'_, X>,
+        begun: &Begun,
+        wants: &[Wanted; 4],
+    ) -> Option<Why>
+        ensures { result ≡ cause_in
+            (setting_of world.now.script.now (X.meaning world.now.device.now) world.now.limit)
+            begun.now wants.now self.now }
     {
-        earlier(
-            self.cause_of(0, &begun.want0),
-            self.cause_of(1, &begun.want1),
-        )
+        let [core0, core1, read, write] = wants;
+        let seen = &begun.outer;
+        if let Some(why) = self.cause_of(world, seen, core0) {
+            return Some(why);
+        }
+        if let Some(why) = self.cause_of(world, seen, core1) {
+            return Some(why);
+        }
+        if let Some(why) = self.cause_of(world, seen, read) {
+            return Some(why);
+        }
+        self.cause_of(world, seen, write)
     }
 
-    /// The cores step by these turns.
-    #[tactic(auto, unfolding(crate::specs::Cycle::with_turns))]
-    fn step_parts(&mut self, begun: &Begun, turn0: Turn, turn1: Turn, marks: &mut Marks)
-        ensures state { self.new ≡ with_turns begun.now turn0 turn1 self.old }
-        ensures marks { marks.new ≡ marks.old }
+    /// What the bus gives each master, by what is granted.
+    #[tactic(auto, unfolding(crate::specs::Cycle::turns))]
+    fn turns<X: Device>(
+        &self,
+        world: &World<'_, X>,
+        begun: &Begun,
+        wants: &[Wanted; 4],
+        granted: [bool; 4],
+    ) -> [Turn; 4]
+        ensures { result ≡ turns
+            (setting_of world.now.script.now (X.meaning world.now.device.now) world.now.limit)
+            begun.now wants.now self.now granted }
     {
+        let [core0, core1, read, write] = wants;
+        let [grant0, grant1, grant2, grant3] = granted;
+        let seen = &begun.outer;
+        [
+            self.turn_of(world, seen, &core0.want, grant0, core0),
+            self.turn_of(world, seen, &core0.want, grant1, core1),
+            self.turn_of(world, seen, &core0.want, grant2, read),
+            self.turn_of(world, seen, &core0.want, grant3, write),
+        ]
+    }
+
+    /// What the wants come to, by what is granted.
+    #[tactic(auto, unfolding(crate::specs::Cycle::deeds))]
+    fn deeds<X: Device>(
+        &self,
+        world: &World<'_, X>,
+        begun: &Begun,
+        wants: &[Wanted; 4],
+        granted: [bool; 4],
+    ) -> [Deed; 4]
+        ensures value { result ≡ deeds
+            (setting_of world.now.script.now (X.meaning world.now.device.now) world.now.limit)
+            begun.now wants.now self.now granted }
+        ensures within { All StoresInSram result }
+    {
+        let [core0, core1, read, write] = wants;
+        let [grant0, grant1, grant2, grant3] = granted;
+        let seen = &begun.outer;
+        [
+            self.deed_of(world, seen, grant0, &core0.want),
+            self.deed_of(world, seen, grant1, &core1.want),
+            self.deed_of(world, seen, grant2, &read.want),
+            self.deed_of(world, seen, grant3, &write.want),
+        ]
+    }
+
+    /// The lanes step by these turns.
+    #[inline(always)]
+    #[tactic(auto, unfolding(crate::specs::Cycle::with_turns))]
+    fn step_lanes<X: Device>(
+        &mut self,
+        world: &World<'_, X>,
+        begun: &Begun,
+        turns: [Turn; 4],
+        marks: &mut Marks,
+    )
+        requires { length marks.old < 256 }
+        ensures state { self.new ≡ with_turns
+            (setting_of world.now.script.now (X.meaning world.now.device.now) world.now.limit)
+            begun.now turns self.old }
+        ensures marks { marks.new ≡ marks.old ++ marked
+            (setting_of world.now.script.now (X.meaning world.now.device.now) world.now.limit)
+            self.old.outer begun.now.outer ∷ [] }
+    {
+        let [turn0, turn1, read, write] = turns;
         self.core0
             .finish(&(), &begun.core0, [turn0, Turn::Nothing], marks);
         self.core1
             .finish(&(), &begun.core1, [turn1, Turn::Nothing], marks);
+        self.dma.finish(&(), &begun.dma, [read, write], marks);
+        self.pio0
+            .finish(&(), &begun.pio0, [Turn::Nothing; 2], marks);
+        self.pio1
+            .finish(&(), &begun.pio1, [Turn::Nothing; 2], marks);
+        self.outer
+            .finish(world, &begun.outer, [Turn::Nothing; 2], marks);
     }
 
     /// SEV sets the event registers of both cores.
@@ -130,11 +167,35 @@ impl Machine {
         self.core1.signal();
     }
 
-    /// The deed of a core, but for a write to SRAM, which comes last.
+    /// Tells the pads and core 1 what SIO has for them.
+    #[inline(always)]
+    #[tactic(auto, unfolding(crate::specs::Cycle::with_sio))]
+    fn tell_of_sio(&mut self)
+        ensures { self.new ≡ with_sio self.old.sio self.old }
+    {
+        self.outer.set_sio(self.sio.outs());
+        self.core1.set_offer(self.sio.offers());
+    }
+
+    /// An access of a core to SIO.
+    #[tactic(auto, unfolding(crate::specs::Cycle::with_sio))]
+    fn access_sio(&mut self, master: Master, offset: u16, write: Option<u32>)
+        ensures { self.new ≡ sio_accessed master offset write self.old }
+    {
+        match master {
+            Master::Core0 => self.sio.effect(0, offset, write),
+            Master::Core1 => self.sio.effect(1, offset, write),
+            Master::DmaRead | Master::DmaWrite => return,
+        }
+        self.tell_of_sio();
+    }
+
+    /// The deed of a master, but for a write to SRAM, which comes last.
     #[tactic(auto, unfolding(crate::specs::Cycle::after_deed))]
-    fn do_deed(&mut self, core: u8, deed: &Deed)
-        requires { core ≤ 1 }
-        ensures { self.new ≡ after_deed core deed.now self.old }
+    fn do_deed<X: Device>(&mut self, world: &World<'_, X>, master: Master, deed: &Deed)
+        ensures { self.new ≡ after_deed
+            (setting_of world.now.script.now (X.meaning world.now.device.now) world.now.limit)
+            master deed.now self.old }
     {
         match *deed {
             Deed::Signal => self.signal(),
@@ -143,33 +204,41 @@ impl Machine {
                 offset,
                 write,
             } => self.access_block(block, offset, write),
-            Deed::SingleCycle { offset, write } => self.sio.effect(core, offset, write),
+            Deed::SingleCycle { offset, write } => self.access_sio(master, offset, write),
+            Deed::Device { address, write } => self.outer.device_effect(world, address, write),
             Deed::Nothing | Deed::Store { .. } => {}
         }
     }
 
     /// The launcher takes a word, where it has one, and starts core 1 after the sixth.
-    #[tactic(auto, unfolding(crate::specs::Cycle::after_launcher))]
+    #[inline(always)]
+    #[tactic(auto, unfolding(crate::specs::Cycle::after_launcher, crate::specs::Cycle::with_sio))]
     fn launch(&mut self)
         ensures { self.new ≡ after_launcher self.old }
     {
-        if let Some(launch) = self.sio.launcher() {
+        let launch = self.sio.launcher();
+        self.tell_of_sio();
+        if let Some(launch) = launch {
             self.core1.start(launch.vtor, launch.sp, launch.entry);
         }
     }
 
-    /// The deed of core 1, or its launcher's while it sleeps.
-    fn do_second(&mut self, deed: &Deed)
-        ensures { self.new ≡ after_second deed.now self.old }
+    /// The deed of core 1, or the turn of its launcher while it sleeps.
+    #[inline(always)]
+    fn do_core1<X: Device>(&mut self, world: &World<'_, X>, deed: &Deed)
+        ensures { self.new ≡ after_core1
+            (setting_of world.now.script.now (X.meaning world.now.device.now) world.now.limit)
+            deed.now self.old }
     {
         if self.core1.is_asleep() {
             self.launch();
         } else {
-            self.do_deed(1, deed);
+            self.do_deed(world, Master::Core1, deed);
         }
     }
 
     /// A write to SRAM.
+    #[inline(always)]
     fn store(&mut self, deed: &Deed)
         requires { StoresInSram deed.now }
         ensures { self.new ≡ record self.old { sram = stored deed.now self.old.sram } }
@@ -184,73 +253,145 @@ impl Machine {
         }
     }
 
-    /// SIO ends its cycle, and core 1 knows whether the launcher has a word for it.
-    #[tactic(auto, unfolding(crate::specs::Cycle::ended))]
+    /// SIO ends its cycle.
+    #[inline(always)]
+    #[tactic(auto, unfolding(crate::specs::Cycle::ended, crate::specs::Cycle::with_sio))]
     fn end(&mut self)
         ensures { self.new ≡ ended self.old }
     {
         self.sio.end_cycle();
-        self.core1.set_offer(self.sio.offers());
+        self.tell_of_sio();
     }
 
-    /// What both deeds do, and the end of the cycle.
+    /// What the deeds of the masters do, and the end of the cycle.
     #[tactic(auto, unfolding(crate::specs::Cycle::after_deeds))]
-    fn do_deeds(&mut self, first: &Deed, second: &Deed)
-        requires first { StoresInSram first.now }
-        requires second { StoresInSram second.now }
-        ensures { self.new ≡ after_deeds first.now second.now self.old }
+    fn do_deeds<X: Device>(&mut self, world: &World<'_, X>, deeds: &[Deed; 4])
+        requires { All StoresInSram deeds.now }
+        ensures { self.new ≡ after_deeds
+            (setting_of world.now.script.now (X.meaning world.now.device.now) world.now.limit)
+            deeds.now self.old }
     {
-        self.do_deed(0, first);
-        self.do_second(second);
-        self.store(first);
-        self.store(second);
+        let [core0, core1, read, write] = deeds;
+        self.do_deed(world, Master::Core0, core0);
+        self.do_core1(world, core1);
+        self.do_deed(world, Master::DmaRead, read);
+        self.do_deed(world, Master::DmaWrite, write);
+        self.store(core0);
+        self.store(core1);
+        self.store(read);
+        self.store(write);
         self.end();
     }
 
-    /// One cycle in which this was begun.
-    #[tactic(auto, unfolding(crate::specs::Cycle::next_by, crate::specs::Cycle::stepped, crate::specs::Cycle::granted, crate::specs::Cycle::first_turn, crate::specs::Cycle::second_turn, crate::specs::Cycle::first_deed, crate::specs::Cycle::second_deed))]
-    fn step(&mut self, begun: &Begun, marks: &mut Marks)
-        requires { self.old.cycle < 2 ^ 64 - 1 }
-        ensures state { self.new ≡ next_by begun.now self.old }
-        ensures marks { marks.new ≡ marks.old }
+    /// No master wants anything, and no access lasts.
+    #[inline(always)]
+    fn is_quiet(&self, wants: &[Wanted; 4]) -> bool
+        ensures value { result ≡ is_quiet wants.now self.now }
+        ensures four { length wants.now ≡ 4 }
+    {
+        let [core0, core1, read, write] = wants;
+        wants_nothing(core0)
+            && wants_nothing(core1)
+            && wants_nothing(read)
+            && wants_nothing(write)
+            && !self.fabric.holds()
+    }
+
+    /// The turn of the launcher while core 1 sleeps.
+    #[inline(always)]
+    #[tactic(auto, unfolding(crate::specs::Quiet::quiet_core1))]
+    fn rest_core1(&mut self)
+        ensures { self.new ≡ quiet_core1 self.old }
+    {
+        if self.core1.is_asleep() {
+            self.launch();
+        }
+    }
+
+    /// One cycle in which nobody wants anything, and no access lasts.
+    #[inline(always)]
+    #[tactic(auto, unfolding(crate::specs::Quiet::quiet_next))]
+    fn step_quietly<X: Device>(&mut self, world: &World<'_, X>, begun: &Begun, marks: &mut Marks)
+        requires number { self.old.cycle < 2 ^ 64 - 1 }
+        requires marks { length marks.old < 256 }
+        ensures state { self.new ≡ quiet_next
+            (setting_of world.now.script.now (X.meaning world.now.device.now) world.now.limit)
+            begun.now self.old }
+        ensures marks { marks.new ≡ marks.old ++ marked
+            (setting_of world.now.script.now (X.meaning world.now.device.now) world.now.limit)
+            self.old.outer begun.now.outer ∷ [] }
     {
         let at = self.at;
-        let mut fabric = self.fabric;
-        let [granted0, granted1, _, _] = fabric.grant(&asked(begun));
-        let turn0 = self.turn_of(0, &begun.want0, granted0, &begun.want0);
-        let turn1 = self.turn_of(1, &begun.want0, granted1, &begun.want1);
-        let deed0 = self.deed_of(granted0, &begun.want0);
-        let deed1 = self.deed_of(granted1, &begun.want1);
-        self.fabric = fabric;
-        self.step_parts(begun, turn0, turn1, marks);
-        self.do_deeds(&deed0, &deed1);
+        self.step_lanes(world, begun, [Turn::Nothing; 4], marks);
+        self.rest_core1();
+        self.end();
         self.at = at + 1;
     }
 
-    /// Does one cycle, counts it and empties the marks; or changes nothing and names the stop.
-    #[tactic(auto, unfolding(crate::specs::Cycle::stop, crate::specs::Cycle::next))]
-    pub fn cycle<L: Ledger>(
+    /// One cycle in which this was begun and wanted.
+    #[tactic(auto, unfolding(crate::specs::Cycle::next_by, crate::specs::Cycle::stepped, crate::specs::Cycle::granted))]
+    fn step<X: Device>(
         &mut self,
-        world: &World,
+        world: &World<'_, X>,
+        begun: &Begun,
+        wants: &[Wanted; 4],
+        marks: &mut Marks,
+    )
+        requires number { self.old.cycle < 2 ^ 64 - 1 }
+        requires marks { length marks.old < 256 }
+        ensures state { self.new ≡ next_by
+            (setting_of world.now.script.now (X.meaning world.now.device.now) world.now.limit)
+            begun.now wants.now self.old }
+        ensures marks { marks.new ≡ marks.old ++ marked
+            (setting_of world.now.script.now (X.meaning world.now.device.now) world.now.limit)
+            self.old.outer begun.now.outer ∷ [] }
+    {
+        if self.is_quiet(wants) {
+            self.step_quietly(world, begun, marks);
+            return;
+        }
+        let at = self.at;
+        let mut fabric = self.fabric;
+        let granted = fabric.grant(&asked(wants));
+        let turns = self.turns(world, begun, wants, granted);
+        let deeds = self.deeds(world, begun, wants, granted);
+        self.fabric = fabric;
+        self.step_lanes(world, begun, turns, marks);
+        self.do_deeds(world, &deeds);
+        self.at = at + 1;
+    }
+
+    /// Does one cycle, counts it and leaves its mark alone in the marks; or changes nothing and names the stop.
+    #[tactic(auto, unfolding(crate::specs::Cycle::stop, crate::specs::Cycle::next, crate::specs::Cycle::mark))]
+    pub fn cycle<X: Device, L: Ledger>(
+        &mut self,
+        world: &World<'_, X>,
         marks: &mut Marks,
         steps: &mut Steps<L>,
     ) -> Option<Why>
         requires { self.old.cycle ≤ world.now.limit }
-        ensures cause { result ≡ stop world.now.limit self.old }
-        ensures state { self.new ≡ (if is_some result then self.old else next self.old) }
-        ensures marks { marks.new ≡ (if is_some result then marks.old else []) }
+        ensures cause { result ≡ stop
+            (setting_of world.now.script.now (X.meaning world.now.device.now) world.now.limit)
+            self.old }
+        ensures state { self.new ≡ (if is_some result then self.old else next
+            (setting_of world.now.script.now (X.meaning world.now.device.now) world.now.limit)
+            self.old) }
+        ensures marks { marks.new ≡ (if is_some result then marks.old else mark
+            (setting_of world.now.script.now (X.meaning world.now.device.now) world.now.limit)
+            self.old ∷ []) }
         ensures steps { steps.new ≡ (if is_some result then steps.old else steps.old + 1) }
     {
         if self.at == world.limit {
             return Some(Why::Limit);
         }
-        let begun = self.begin();
-        if let Some(why) = self.cause_in(&begun) {
+        let begun = self.begin(world);
+        let wants = all_wanted(&begun);
+        if let Some(why) = self.cause_in(world, &begun, &wants) {
             return Some(why);
         }
         marks.clear();
         steps.tick();
-        self.step(&begun, marks);
+        self.step(world, &begun, &wants, marks);
         None
     }
 }

@@ -2,7 +2,7 @@
 
 use rp_base::map::Block;
 
-/// What the want of a core comes to, by the state at the start of the cycle.
+/// What the want of a master comes to, by the state at the start of the cycle.
 #[derive(Clone, Copy)]
 pub enum Deed {
     /// Nothing.
@@ -31,6 +31,13 @@ pub enum Deed {
     SingleCycle {
         /// The byte offset of the word.
         offset: u16,
+        /// The word that is written; `None` is a read.
+        write: Option<u32>,
+    },
+    /// An access to the device outside.
+    Device {
+        /// The address, with its low bits.
+        address: u32,
         /// The word that is written; `None` is a read.
         write: Option<u32>,
     },

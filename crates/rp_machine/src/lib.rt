@@ -1,12 +1,18 @@
-//! The whole machine, cycle by cycle: two cores, SRAM, the bus fabric, the register blocks and SIO.
+//! The whole machine, cycle by cycle: two cores, the DMA engine, two PIO blocks, the peripherals with the device outside, SRAM,
+//! the bus fabric, the register blocks and SIO.
 //!
 //! In a cycle each part begins by the state at the start and names its accesses; the fabric decides which of them are done;
-//! every part steps; then what the done accesses do comes in the order of the cores, and last the writes to SRAM.
+//! every part steps; then what the done accesses do comes in the order of the masters, and last the writes to SRAM.
 #![tactic(auto)]
 
 mod access;
+mod answers;
+pub mod begun;
+mod boot;
 mod cycle;
 pub mod deed;
+pub mod laws;
+pub mod load;
 mod loading;
 mod look;
 pub mod machine;
@@ -14,8 +20,9 @@ mod registers;
 pub mod steps;
 #[cfg(test)]
 mod tests;
-pub mod world;
+pub mod wanted;
 
+pub use load::PioLoad;
 pub use machine::Machine;
+pub use outer_lane::World;
 pub use steps::Steps;
-pub use world::World;

@@ -1,15 +1,17 @@
-//! What the machine answers a core.
+//! What the machine answers a lane.
 
 ghost use Rattle.std.specs.Prelude.{◌≡◌};
 ghost use Rattle.rp_base.specs.AddressMap.{place_of};
 ghost use Rattle.rp_machine.specs.Sram.{half_of, ram_word};
-ghost use Rattle.rp_machine.specs.Cycle.{word_in, answer_of};
+ghost use Rattle.rp_machine.specs.Answers.{word_in, answer_of};
 
+use crate::machine::Machine;
 use lane_look::{Ask, Look};
 use ram_banks::Ram;
 use rp_base::map::{Spot, place};
 
 /// The halfword of a word at an address.
+#[inline(always)]
 fn half_at(word: u32, address: u32) -> u16
     ensures { result ≡ half_of word address }
 {
@@ -21,6 +23,7 @@ fn half_at(word: u32, address: u32) -> u16
 }
 
 /// The word of SRAM that holds an address. None exactly where the address is not in SRAM.
+#[inline(always)]
 pub(crate) fn word_at(ram: &Ram, address: u32) -> Option<u32>
     ensures { result ≡ ram_word ram.now (place_of address) }
 {
@@ -31,30 +34,34 @@ pub(crate) fn word_at(ram: &Ram, address: u32) -> Option<u32>
 }
 
 /// The word of SRAM that holds an address, 0 where there is none.
+#[inline(always)]
 fn word_in(ram: &Ram, address: u32) -> u32
     ensures { result ≡ word_in ram.now address }
 {
     word_at(ram, address).unwrap_or(0)
 }
 
-/// What a core sees of the state at the start of a cycle.
+/// What a lane sees of the state at the start of a cycle.
 #[derive(Drop)]
-pub(crate) struct CoreLook<'a> {
-    /// The core's interrupt lines.
-    pub(crate) lines: u32,
-    /// SRAM.
-    pub(crate) ram: &'a Ram,
+pub(crate) struct MachineLook<'a> {
+    /// The number of the lane.
+    pub(crate) lane: u8,
+    /// The machine at the start of the cycle.
+    pub(crate) machine: &'a Machine,
 }
 
-impl Look for CoreLook<'_> {
-    ghost answers = { λ old ask answer new. (answer ≡ answer_of old.lines old.ram.now ask) × (new ≡ old) };
+impl Look for MachineLook<'_> {
+    ghost answers = { λ old ask answer new. (answer ≡ answer_of old.lane old.machine.now ask) × (new ≡ old) };
 
     fn ask(&mut self, ask: Ask) -> u128 {
+        let machine = self.machine;
         match ask {
-            Ask::Lines => u128::from(self.lines),
-            Ask::Half(address) => u128::from(half_at(word_in(self.ram, address), address)),
-            Ask::Word(address) => u128::from(word_in(self.ram, address)),
-            Ask::Pacing | Ask::Inputs | Ask::Outs(_) => 0,
+            Ask::Lines => u128::from(machine.lines(self.lane)),
+            Ask::Half(address) => u128::from(half_at(word_in(&machine.ram, address), address)),
+            Ask::Word(address) => u128::from(word_in(&machine.ram, address)),
+            Ask::Pacing => machine.pacing(),
+            Ask::Inputs => machine.inputs(),
+            Ask::Outs(block) => machine.outs(block),
         }
     }
 }

@@ -6,8 +6,11 @@ ghost use Rattle.rp_machine.specs.State.{first_core};
 use crate::loading::words_of;
 use crate::look::word_at;
 use bus_fabric::Fabric;
-use lane_look::Lane;
+use dma_engine::Dma;
+use lane_look::{Device, Lane, NoDevice};
 use m0_core::Core;
+use outer_lane::{Outer, World};
+use pio_block::PioBlock;
 use ram_banks::Ram;
 use sio_block::Sio;
 use std::alloc::{AllocError, Global};
@@ -26,14 +29,28 @@ fn first_core(entry: u32) -> Core
 /// The whole machine between two cycles.
 #[derive(Drop)]
 pub struct Machine {
-    pub(crate) at: u64,
-    pub(crate) ram: Ram,
-    pub(crate) core0: Core,
-    pub(crate) core1: Core,
-    pub(crate) fabric: Fabric,
+    /// The number of the cycle that is next.
+    pub at: u64,
+    /// SRAM.
+    pub ram: Ram,
+    /// Core 0.
+    pub core0: Core,
+    /// Core 1, asleep until the launcher starts it.
+    pub core1: Core,
+    /// The DMA engine.
+    pub dma: Dma,
+    /// PIO block 0.
+    pub pio0: PioBlock,
+    /// PIO block 1.
+    pub pio1: PioBlock,
+    /// The timer, both UARTs, the pads and the words of the device.
+    pub outer: Outer,
+    /// The single-cycle IO block.
+    pub sio: Sio,
+    /// The bus fabric.
+    pub fabric: Fabric,
     /// RESET and WDSEL.
-    pub(crate) resets: [u32; 2],
-    pub(crate) sio: Sio,
+    pub resets: [u32; 2],
 }
 
 impl Model for Machine {
@@ -47,9 +64,13 @@ impl Model for Machine {
       sram = m.ram;
       core0 = m.core0;
       core1 = m.core1;
+      dma = m.dma;
+      pio0 = m.pio0;
+      pio1 = m.pio1;
+      outer = m.outer;
+      sio = m.sio;
       fabric = m.fabric;
       resets = m.resets;
-      sio = m.sio;
     } };
 
     ghost invariant = { λ m. slice_index m.resets 0 < 2 ^ 25 };
@@ -60,15 +81,19 @@ impl Machine {
     ghost use Rattle.rp_base.specs.AddressMap.{place_of};
     ghost use Rattle.uf2_image.specs.Uf2.{FitsSram};
     ghost use Rattle.rp_machine.specs.Sram.{ram_word};
-    ghost use Rattle.rp_machine.specs.State.{start};
-    ghost use Rattle.rp_machine.specs.Readers.{registers_of};
+    ghost use Rattle.rp_machine.specs.State.{first_state};
+    ghost use Rattle.rp_machine.specs.Readers.{registers_of, pio_registers};
 
-    /// The first state: SRAM holds the image and is 0 elsewhere, core 0 begins at the image's entry, core 1 is asleep, and
-    /// every block is out of reset.
-    #[tactic(auto, unfolding(crate::specs::State::start))]
-    pub fn boot(alloc: Global, image: &Image) -> Result<Machine, AllocError>
+    /// The state before any program is loaded: SRAM holds the image and is 0 elsewhere, core 0 begins at the image's entry,
+    /// core 1 is asleep, every block is out of reset, and the device has started.
+    #[tactic(auto, unfolding(crate::specs::State::first_state))]
+    pub(crate) fn first<X: Device>(
+        alloc: Global,
+        image: &Image,
+        world: &World<'_, X>,
+    ) -> Result<Machine, AllocError>
         requires { FitsSram image.now }
-        ensures { IfOk result (λ machine. machine ≡ start image.now) }
+        ensures { IfOk result (λ machine. machine ≡ first_state (X.meaning world.now.device.now) image.now) }
     {
         let words = words_of(alloc, image.parts.as_slice())?;
         Ok(Machine {
@@ -76,9 +101,13 @@ impl Machine {
             ram: Ram::from_words(words),
             core0: first_core(image.entry),
             core1: Core::new(1),
+            dma: Dma::new(),
+            pio0: PioBlock::new(),
+            pio1: PioBlock::new(),
+            outer: Outer::new(world.device),
+            sio: Sio::new(),
             fabric: Fabric::new(),
             resets: [0; 2],
-            sio: Sio::new(),
         })
     }
 
@@ -111,17 +140,41 @@ impl Machine {
         word_at(&self.ram, address)
     }
 
+    /// The levels of the pads now, pad 0 in bit 0.
+    pub fn pads(&self) -> u32
+        ensures { result ≡ self.now.outer.pads.current }
+    {
+        self.outer.pads()
+    }
+
+    /// PC, X, Y, ISR and OSR of a machine, 0 to 3, of a PIO block, 0 or 1.
+    pub fn pio(&self, block: u8, machine: u8) -> [u32; 5]
+        requires block { block ≤ 1 }
+        requires machine { machine ≤ 3 }
+        ensures { result ≡ pio_registers block machine self.now }
+    {
+        if block == 0 {
+            self.pio0.registers(machine)
+        } else {
+            self.pio1.registers(machine)
+        }
+    }
+
     /// Takes the state of another machine.
     pub fn copy_from(&mut self, other: &Machine)
         ensures { self.new ≡ other.now }
     {
         self.at = other.at;
         self.ram.copy_from(&other.ram);
-        self.core0.copy_from(&other.core0);
-        self.core1.copy_from(&other.core1);
+        Lane::<()>::copy_from(&mut self.core0, &other.core0);
+        Lane::<()>::copy_from(&mut self.core1, &other.core1);
+        Lane::<()>::copy_from(&mut self.dma, &other.dma);
+        Lane::<()>::copy_from(&mut self.pio0, &other.pio0);
+        Lane::<()>::copy_from(&mut self.pio1, &other.pio1);
+        self.outer.copy_from(&other.outer);
+        self.sio.copy_from(&other.sio);
         self.fabric = other.fabric;
         self.resets = other.resets;
-        self.sio.copy_from(&other.sio);
     }
 
     /// Another machine in the same state.
@@ -133,9 +186,13 @@ impl Machine {
             ram: Ram::new(alloc)?,
             core0: Core::new(0),
             core1: Core::new(1),
+            dma: Dma::new(),
+            pio0: PioBlock::new(),
+            pio1: PioBlock::new(),
+            outer: Outer::new(&NoDevice),
+            sio: Sio::new(),
             fabric: Fabric::new(),
             resets: [0; 2],
-            sio: Sio::new(),
         };
         machine.copy_from(self);
         Ok(machine)

@@ -4,9 +4,27 @@ ghost use Rattle.std.specs.Prelude.{◌≡◌, ◌^◌, ◌<◌};
 ghost use Rattle.rp_machine.specs.Registers.{aliased, plain_write};
 
 use crate::machine::Machine;
-use rp_base::map::Block;
-use rp_base::access::replicated;
+use lane_look::Device;
+use outer_lane::{Seen, World};
 use rp_base::Request;
+use rp_base::access::replicated;
+use rp_base::map::Block;
+use word_bits::has_bit;
+
+/// The offsets of RESETS (RP2040 Datasheet, 2.14.3).
+const RESET: u16 = 0x0;
+
+const WDSEL: u16 = 0x4;
+
+const RESET_DONE: u16 = 0x8;
+
+/// The offsets of BUSCTRL (RP2040 Datasheet, 2.1.5).
+const BUS_PRIORITY: u16 = 0x0;
+
+const BUS_PRIORITY_ACK: u16 = 0x4;
+
+/// The bits of RESET, one for each block.
+const ALL_BLOCKS: u32 = 0x01ff_ffff;
 
 /// What a write through an alias leaves of a word: 0 is plain, 1 XOR, 2 sets bits, 3 clears bits.
 fn aliased(alias: u8, word: u32, value: u32) -> u32
@@ -31,17 +49,18 @@ pub(crate) fn plain_write(request: &Request, alias: u8, word: u32) -> Option<u32
 }
 
 impl Machine {
-    ghost use Rattle.std.specs.Prelude.{◌≡◌, Some};
-    ghost use Rattle.rp_machine.specs.Registers.{resets_word, resets_written, busctrl_word, busctrl_written, block_word, block_written, block_accessed};
+    ghost use Rattle.std.specs.Prelude.{◌≡◌, Some, ◌<◌, ◌^◌};
+    ghost use Rattle.outer_lane.specs.Setting.{setting_of};
+    ghost use Rattle.rp_machine.specs.Registers.{resets_word, resets_written, with_reset, busctrl_word, busctrl_written, block_word, block_allows, system_written, block_accessed};
 
     /// RESET, WDSEL or RESET_DONE.
     fn resets_word(&self, offset: u16) -> Option<u32>
         ensures { result ≡ resets_word self.now.resets offset }
     {
         match offset {
-            0x0 => Some(self.resets[0]),
-            0x4 => Some(self.resets[1]),
-            0x8 => Some(0x01ff_ffff - self.resets[0]),
+            RESET => Some(self.resets[0]),
+            WDSEL => Some(self.resets[1]),
+            RESET_DONE => Some(ALL_BLOCKS - self.resets[0]),
             _ => None,
         }
     }
@@ -51,37 +70,69 @@ impl Machine {
         ensures { result ≡ busctrl_word self.now.fabric offset }
     {
         match offset {
-            0x0 => Some(self.fabric.priority()),
-            0x4 => Some(1),
+            BUS_PRIORITY => Some(self.fabric.priority()),
+            BUS_PRIORITY_ACK => Some(1),
             _ => None,
         }
     }
 
-    /// What a word of a block reads as. None where the block has no such word.
-    pub(crate) fn block_word(&self, block: Block, offset: u16) -> Option<u32>
-        ensures { result ≡ block_word block offset self.now }
+    /// What a word of a block reads as in a cycle in which the peripherals have seen this. None where the block has no such
+    /// word.
+    #[tactic(auto, unfolding(crate::specs::Registers::block_word))]
+    pub(crate) fn block_word<X: Device>(
+        &self,
+        world: &World<'_, X>,
+        seen: &Seen,
+        block: Block,
+        offset: u16,
+    ) -> Option<u32>
+        ensures { result ≡ block_word
+            (setting_of world.now.script.now (X.meaning world.now.device.now) world.now.limit)
+            seen.now block offset self.now }
     {
         match block {
             Block::Resets => self.resets_word(offset),
             Block::Busctrl => self.busctrl_word(offset),
-            Block::IoBank0
-            | Block::PadsBank0
-            | Block::Uart0
-            | Block::Uart1
-            | Block::Timer
-            | Block::Dma
-            | Block::Pio0
-            | Block::Pio1 => None,
+            Block::Dma => self.dma.read(offset),
+            Block::Pio0 => self.pio0.read(offset),
+            Block::Pio1 => self.pio1.read(offset),
+            Block::IoBank0 | Block::PadsBank0 | Block::Uart0 | Block::Uart1 | Block::Timer => {
+                self.outer.read(world, seen, block, offset)
+            }
         }
+    }
+
+    /// A read, or a plain write of this word, is allowed where the block has the word.
+    pub(crate) fn block_allows(&self, block: Block, offset: u16, write: Option<u32>) -> bool
+        ensures { result ≡ block_allows block offset write }
+    {
+        match block {
+            Block::Pio0 => self.pio0.allows(offset, write),
+            Block::Pio1 => self.pio1.allows(offset, write),
+            _ => true,
+        }
+    }
+
+    /// Writes RESET: blocks get their reset states, and are held there or let go.
+    #[tactic(auto, unfolding(crate::specs::Registers::with_reset))]
+    fn set_reset(&mut self, bits: u32)
+        requires { bits < 2 ^ 25 }
+        ensures { self.new ≡ with_reset bits self.old }
+    {
+        self.dma.set_held(has_bit(bits, 2));
+        self.pio0.set_held(has_bit(bits, 10));
+        self.pio1.set_held(has_bit(bits, 11));
+        self.outer.reset(bits);
+        self.resets[0] = bits;
     }
 
     /// Writes RESET or WDSEL.
     fn write_resets(&mut self, offset: u16, word: u32)
-        ensures { self.new ≡ record self.old { resets = resets_written offset word self.old.resets } }
+        ensures { self.new ≡ resets_written offset word self.old }
     {
         match offset {
-            0x0 => self.resets[0] = word & 0x01ff_ffff,
-            0x4 => self.resets[1] = word,
+            RESET => self.set_reset(word & ALL_BLOCKS),
+            WDSEL => self.resets[1] = word,
             _ => {}
         }
     }
@@ -90,7 +141,7 @@ impl Machine {
     fn write_busctrl(&mut self, offset: u16, word: u32)
         ensures { self.new ≡ record self.old { fabric = busctrl_written offset word self.old.fabric } }
     {
-        if offset == 0 {
+        if offset == BUS_PRIORITY {
             self.fabric.set_priority(word);
         }
     }
@@ -100,20 +151,29 @@ impl Machine {
     pub(crate) fn access_block(&mut self, block: Block, offset: u16, write: Option<u32>)
         ensures { self.new ≡ block_accessed block offset write self.old }
     {
-        let Some(word) = write else {
-            return;
-        };
         match block {
-            Block::Resets => self.write_resets(offset, word),
-            Block::Busctrl => self.write_busctrl(offset, word),
-            Block::IoBank0
-            | Block::PadsBank0
-            | Block::Uart0
-            | Block::Uart1
-            | Block::Timer
-            | Block::Dma
-            | Block::Pio0
-            | Block::Pio1 => {}
+            Block::Resets => {
+                if let Some(word) = write {
+                    self.write_resets(offset, word);
+                }
+            }
+            Block::Busctrl => {
+                if let Some(word) = write {
+                    self.write_busctrl(offset, word);
+                }
+            }
+            Block::Dma => {
+                let _ = self.dma.effect(offset, write);
+            }
+            Block::Pio0 => {
+                let _ = self.pio0.effect(offset, write);
+            }
+            Block::Pio1 => {
+                let _ = self.pio1.effect(offset, write);
+            }
+            Block::IoBank0 | Block::PadsBank0 | Block::Uart0 | Block::Uart1 | Block::Timer => {
+                self.outer.effect(block, offset, write);
+            }
         }
     }
 }

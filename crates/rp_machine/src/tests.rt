@@ -3,7 +3,8 @@
 ghost use Rattle.std.specs.Prelude.{◌≡◌, ◌<◌};
 
 use crate::{Machine, Steps, World};
-use lane_look::Marks;
+use lane_look::{Marks, NoDevice};
+use pin_script::read_script;
 use rp_base::Why;
 use std::alloc::Global;
 use std::marker::Brand;
@@ -50,13 +51,19 @@ fn end_of<L: Ledger>(
     let Ok(image) = read_image(alloc, &block(code)) else {
         return Ok(None);
     };
-    let mut machine = Machine::boot(alloc, &image)?;
+    let script = read_script(alloc, b"2 3 1\n")?;
+    let world = World {
+        script: &script,
+        device: &NoDevice,
+        limit,
+    };
+    let mut machine = Machine::boot(alloc, &image, &[], &world)?;
     let mut marks = Marks::new();
     for _ in 0..20 {
         if machine.number() > limit {
             return Ok(None);
         }
-        if let Some(why) = machine.cycle(&World { limit }, &mut marks, &mut steps) {
+        if let Some(why) = machine.cycle(&world, &mut marks, &mut steps) {
             return Ok(Some((why, machine)));
         }
     }
@@ -79,6 +86,8 @@ fn a_word_on_apb_takes_three_cycles(rt: HostRuntime) -> Result<(), Fail> {
     assert_eq!(rt; machine.registers(1), None);
     assert_eq!(rt; machine.word(0x2100_0001), Some(0x6801_4801));
     assert_eq!(rt; machine.word(0x1000_0000), None);
+    assert_eq!(rt; machine.pads(), 8);
+    assert_eq!(rt; machine.pio(1, 3), [0; 5]);
     let mut other = machine.twin(alloc)?;
     assert_eq!(rt; other.number(), 6);
     other.copy_from(&machine);

@@ -1,0 +1,38 @@
+-- What the lanes keep of SIO is what it holds.
+use Rattle.std.proofs.Common.{◌==◌, Bool, true, false, if◌then◌else◌, List, [], ◌∷◌, refl}
+use Rattle.lane_look.specs.Device.{DeviceMeaning}
+use Rattle.uf2_image.specs.declared.parts.Image.{Image}
+use Rattle.outer_lane.specs.Setting.{Setting}
+use Rattle.rp_machine.specs.declared.load.PioLoad.{PioLoad}
+use Rattle.rp_machine.specs.State.{State, first_state}
+use Rattle.rp_machine.specs.Boot.{block_loaded, with_load, with_loads, start}
+use Rattle.rp_machine.specs.Cycle.{with_sio, ended, after_deeds, next_by, next}
+use Rattle.rp_machine.specs.Law.{KnowsSio, SioIsKnown}
+
+either : (c : Bool) (s t : State) → KnowsSio s → KnowsSio t → KnowsSio (if c then s else t)
+either true s t a b = a
+either false s t a b = b
+
+load_keeps : (load : PioLoad) (s : State) → KnowsSio s → KnowsSio (with_load load s)
+load_keeps load s h =
+    either (load.block == 0) (record s { pio0 = block_loaded load s.pio0 }) (record s { pio1 = block_loaded load s.pio1 })
+    (record { pins = h.pins; offer = h.offer }) (record { pins = h.pins; offer = h.offer })
+
+loads_keep : (loads : List PioLoad) (s : State) → KnowsSio s → KnowsSio (with_loads loads s)
+loads_keep [] s h = h
+loads_keep (load ∷ loads) s h = loads_keep loads (with_load load s) (load_keeps load s h)
+
+first_knows : (device : DeviceMeaning) (image : Image) → KnowsSio (first_state device image)
+unfolding first_state
+first_knows device image = record { pins = refl; offer = refl }
+
+started : (device : DeviceMeaning) (image : Image) (loads : List PioLoad) → KnowsSio (start device image loads)
+unfolding start
+started device image loads = loads_keep loads (first_state device image) (first_knows device image)
+
+stepped : (w : Setting) (s : State) → KnowsSio (next w s)
+unfolding next next_by after_deeds ended with_sio
+stepped w s = record { pins = refl; offer = refl }
+
+pub sio_known : SioIsKnown
+sio_known = record { at_start = started; after_a_cycle = stepped }

@@ -1,0 +1,61 @@
+//! What the lanes have begun in a cycle.
+
+ghost use Rattle.std.specs.Prelude.{◌≡◌};
+ghost use Rattle.lane_look.specs.Asking.{answered};
+ghost use Rattle.rp_machine.specs.Answers.{answer_of};
+
+use crate::look::MachineLook;
+use crate::machine::Machine;
+use lane_look::{Device, Lane};
+use outer_lane::{Seen, World};
+use pio_block::Inputs;
+
+/// What the six lanes have begun in a cycle, once their questions are answered.
+#[derive(Clone, Copy)]
+pub struct Begun {
+    /// What core 0 has begun.
+    pub core0: m0_core::Doing,
+    /// What core 1 has begun.
+    pub core1: m0_core::Doing,
+    /// What the DMA engine has begun.
+    pub dma: dma_engine::Doing,
+    /// What PIO block 0 has begun.
+    pub pio0: Option<Inputs>,
+    /// What PIO block 1 has begun.
+    pub pio1: Option<Inputs>,
+    /// What the peripherals have begun.
+    pub outer: Seen,
+}
+
+/// What a lane of the machine, by its number, begins.
+#[inline(always)]
+fn begin_lane<E, S: Lane<E>>(machine: &Machine, number: u8, lane: &S, env: &E) -> S::Begun
+    ensures { result ≡ answered (answer_of number machine.now) (S.asks env.now lane.now machine.now.cycle) }
+{
+    let mut look = MachineLook {
+        lane: number,
+        machine,
+    };
+    lane.begin(env, machine.at, &mut look)
+}
+
+impl Machine {
+    ghost use Rattle.std.specs.Prelude.{◌≡◌};
+    ghost use Rattle.rp_machine.specs.Cycle.{begun};
+
+    /// What the lanes begin, by the state at the start of the cycle.
+    #[inline(always)]
+    #[tactic(auto, unfolding(crate::specs::Cycle::begun))]
+    pub(crate) fn begin<X: Device>(&self, world: &World<'_, X>) -> Begun
+        ensures { result ≡ begun self.now }
+    {
+        Begun {
+            core0: begin_lane(self, 0, &self.core0, &()),
+            core1: begin_lane(self, 1, &self.core1, &()),
+            dma: begin_lane(self, 2, &self.dma, &()),
+            pio0: begin_lane(self, 3, &self.pio0, &()),
+            pio1: begin_lane(self, 4, &self.pio1, &()),
+            outer: begin_lane(self, 5, &self.outer, world),
+        }
+    }
+}

@@ -1,0 +1,33 @@
+//! The laws of the machine, each the contract of a function without arguments.
+
+ghost use Rattle.rp_machine.specs.Law.{RunsFollowEachOther, SramChangesByTheWritesAlone, EffectsComeAfterTheSteps, SioIsKnown};
+ghost use Rattle.rp_machine.specs.Quiet.{QuietCyclesChangeTheLanesAlone};
+
+/// A run of some cycles and then of others is one of all of them: it ends in the same state and has the same events.
+pub fn runs_follow_each_other()
+    ensures { RunsFollowEachOther }
+{}
+
+/// A word of SRAM after a cycle is what the writes that are done make of the word before, those of core 0, core 1 and the DMA
+/// engine one after another; so a word that none of them writes stays, and of two writes to one word the later stays.
+pub fn sram_changes_by_the_writes_alone()
+    ensures { SramChangesByTheWritesAlone }
+{}
+
+/// What a core is told does not depend on what is done in the same cycle: of all effects only that of SEV reaches core 0, and
+/// that after its step.
+pub fn effects_come_after_the_steps()
+    ensures { EffectsComeAfterTheSteps }
+{}
+
+/// A cycle in which nobody wants anything and no access lasts changes the lanes, SIO and the number alone: SRAM, the fabric and
+/// RESETS stay, and each lane steps by what it has begun.
+pub fn quiet_cycles_change_the_lanes_alone()
+    ensures { QuietCyclesChangeTheLanesAlone }
+{}
+
+/// In the first state and after each cycle the pads know the levels and enables that SIO puts out, and core 1 whether its
+/// launcher has a word.
+pub fn sio_is_known()
+    ensures { SioIsKnown }
+{}
