@@ -1,4 +1,5 @@
 pub mod Dis
+pub mod Entries
 pub mod Numbers
 pub mod Options
 pub mod Read

@@ -7,7 +7,8 @@ use Rattle.command_words.specs.Numbers.{begins_with, number_within}
 
 -- the names that a command has
 abbrev pub is_option : Table → List ℕ → Bool
-is_option Run name = bytes_eq name (codes "--cycles")
+is_option Run name =
+    bytes_eq name (codes "--cycles") || bytes_eq name (codes "--script") || bytes_eq name (codes "--pio")
 is_option Dis name = bytes_eq name (codes "--side") || bytes_eq name (codes "--opt")
 
 -- the value of the option of this name

@@ -1,17 +1,30 @@
 -- What a reader of the words answers: the project's own.
-use Rattle.std.specs.Prelude.{◌≡◌, Option, Some, None, Result, Ok, Err}
+use Rattle.std.specs.Prelude.{◌≡◌, List, map, Option, Some, None, Result, Ok, Err, Vec}
+use Rattle.std.specs.Global.{Global}
+use Rattle.std.specs.Option.{option_map}
 use Rattle.std.specs.String.{string_bytes}
+use Rattle.command_words.specs.declared.entry.PioEntry.{PioEntry}
 use Rattle.command_words.specs.declared.words.RunWords.{RunWords}
 use Rattle.command_words.specs.declared.words.Reading.{Reading}
 use Rattle.command_words.specs.declared.words.Reading.TheVariants as readings
 use Rattle.command_words.specs.declared.words.WordsFault.{WordsFault}
 use Rattle.command_words.specs.declared.words.WordsFault.TheVariants.{Words, Memory}
+use Rattle.command_words.specs.Entries.{Entry}
 use Rattle.command_words.specs.Words.{Run, Command}
 use Rattle.command_words.specs.Words.Command.{RunImage, Disassemble, Assemble}
 
+-- the entry that the words of one stand for
+abbrev pub entry_in : PioEntry → Entry
+entry_in e = record { block = e.block; machine = e.machine; file = string_bytes e.file }
+
 -- the run that the words of one stand for
 abbrev pub run_in : RunWords → Run
-run_in r = record { image = string_bytes r.image; cycles = r.cycles }
+run_in r = record {
+  image = string_bytes r.image;
+  cycles = r.cycles;
+  script = option_map string_bytes r.script;
+  pio = map entry_in r.pio.items;
+}
 
 -- the command that a reading stands for
 abbrev pub command_in : Reading → Command
@@ -24,3 +37,9 @@ abbrev pub ReadsAs : Option Command → Result Reading WordsFault → Type 0
 ReadsAs command (Ok r) = command ≡ Some (command_in r)
 ReadsAs command (Err Words) = command ≡ None
 ReadsAs command (Err Memory) = Unit {0}
+
+-- the entries of a list are these, or Words where it is none; Memory says nothing
+abbrev pub ReadsEntries : Option (List Entry) → Result (Vec PioEntry Global) WordsFault → Type 0
+ReadsEntries entries (Ok found) = entries ≡ Some (map entry_in found.items)
+ReadsEntries entries (Err Words) = entries ≡ None
+ReadsEntries entries (Err Memory) = Unit {0}

@@ -1,21 +1,21 @@
--- The words of a command line, and what they ask for: `run <image> --cycles N`, `dis <hex> [--side S] [--opt T]` or `asm <file>`.
--- The project's own.
+-- The words of a command line, and what they ask for: `run <image> --cycles N [--script FILE] [--pio LIST]`,
+-- `dis <hex> [--side S] [--opt T]` or `asm <file>`. The project's own.
 use Rattle.std.specs.Prelude.{ℕ, not, ◌&&◌, if◌then◌else◌, List, [], ◌∷◌, Option, Some, None, codes}
-use Rattle.std.specs.Option.{option_map, option_and_then}
+use Rattle.std.specs.Option.{option_and_then}
 use Rattle.std.specs.Str.{bytes_eq}
 use Rattle.pio_words.specs.declared.side.SideConfig.{SideConfig}
 use Rattle.command_words.specs.declared.options.Table.TheVariants.{Run as RunOptions}
 use Rattle.command_words.specs.Numbers.{begins_with, number_within}
 use Rattle.command_words.specs.Options.{value_for, are_options}
+use Rattle.command_words.specs.Entries.{Entry, entries_of}
 use Rattle.command_words.specs.Dis.{words_of, side_of}
 
--- a run: the image's name, and how many cycles it may have
+-- a run: the image's name, how many cycles it may have, the script's name, and the programs for machines
 pub record Run : Type 0 where
   pub image : List ℕ
   pub cycles : ℕ
-
-abbrev pub run_with : List ℕ → ℕ → Run
-run_with image n = record { image = image; cycles = n }
+  pub script : Option (List ℕ)
+  pub pio : List Entry
 
 -- what the words may ask for: a run, the source text of instruction words, or the listing of a source
 pub data Command : Type 0 where
@@ -27,12 +27,28 @@ pub data Command : Type 0 where
 abbrev pub cycles_in : List (List ℕ) → Option ℕ
 cycles_in options = option_and_then (number_within 1 1000000000) (value_for (codes "--cycles") options)
 
--- `<image> --cycles N`; the name does not begin with a dash
+-- the entries of `--pio`, none where it is not given
+abbrev pub entries_or_none : Option (List ℕ) → Option (List Entry)
+entries_or_none None = Some []
+entries_or_none (Some list) = entries_of list
+
+abbrev pub pio_in : List (List ℕ) → Option (List Entry)
+pio_in options = entries_or_none (value_for (codes "--pio") options)
+
+abbrev pub script_in : List (List ℕ) → Option (List ℕ)
+script_in options = value_for (codes "--script") options
+
+abbrev pub run_with : List ℕ → Option ℕ → Option (List ℕ) → Option (List Entry) → Option Command
+run_with image None script pio = None
+run_with image (Some n) script None = None
+run_with image (Some n) script (Some entries) = Some (RunImage (record { image = image; cycles = n; script = script; pio = entries }))
+
+-- `<image> --cycles N [--script FILE] [--pio LIST]`; the image's name does not begin with a dash
 unfoldable pub run_reading : List (List ℕ) → Option Command
 run_reading [] = None
 run_reading (image ∷ options) =
     if not (begins_with 45 image) && are_options RunOptions options
-    then option_map (λ n. RunImage (run_with image n)) (cycles_in options) else None
+    then run_with image (cycles_in options) (script_in options) (pio_in options) else None
 
 abbrev pub disassemble : Option (List ℕ) → Option SideConfig → Option Command
 disassemble (Some words) (Some side) = Some (Disassemble words side)

@@ -1,6 +1,6 @@
 //! Numbers among the words.
 
-ghost use Rattle.std.specs.Prelude.{◌≡◌, ◌≤◌, length};
+ghost use Rattle.std.specs.Prelude.{◌≡◌, ◌≤◌, length, IfSome};
 ghost use Rattle.command_words.specs.Numbers.{digits_from, number_of, number_within};
 
 /// The number of at most 10 decimal digits.
@@ -34,7 +34,8 @@ fn number(word: &str) -> Option<u64>
 
 /// A number from `low` to `high`.
 pub fn number_within(low: u64, high: u64, word: &str) -> Option<u64>
-    ensures { result ≡ number_within low high word.now }
+    ensures value { result ≡ number_within low high word.now }
+    ensures within { IfSome result (λ number. number ≤ high) }
 {
     let number = number(word)?;
     if low <= number && number <= high {

@@ -10,7 +10,7 @@ use crate::number::number_within;
 /// A command with options.
 #[derive(Clone, Copy)]
 pub enum Table {
-    /// `run`: `--cycles`.
+    /// `run`: `--cycles`, `--script` and `--pio`.
     Run,
     /// `dis`: `--side` and `--opt`.
     Dis,
@@ -21,7 +21,7 @@ fn is_option(table: Table, name: &str) -> bool
     ensures { result ≡ is_option table name.now }
 {
     match table {
-        Table::Run => name == "--cycles",
+        Table::Run => name == "--cycles" || name == "--script" || name == "--pio",
         Table::Dis => name == "--side" || name == "--opt",
     }
 }

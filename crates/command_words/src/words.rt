@@ -1,15 +1,17 @@
 //! From the words to what they ask for.
 
-ghost use Rattle.std.specs.Prelude.{◌≡◌, map, Some};
+ghost use Rattle.std.specs.Prelude.{◌≡◌, map, Some, IfOk};
+ghost use Rattle.std.specs.Option.{option_map};
 ghost use Rattle.std.specs.String.{string_bytes};
-ghost use Rattle.command_words.specs.Words.{run_with, cycles_in, run_reading, dis_reading, asm_reading, reading};
-ghost use Rattle.command_words.specs.Words.Command.{RunImage};
-ghost use Rattle.command_words.specs.Read.{ReadsAs};
+ghost use Rattle.command_words.specs.Words.{run_with, cycles_in, script_in, pio_in, run_reading, dis_reading, asm_reading, reading};
+ghost use Rattle.command_words.specs.Read.{ReadsAs, ReadsEntries, entry_in};
 
 use crate::dis::{DisWords, instruction_words, side_config};
+use crate::entries::entries_in;
+use crate::entry::PioEntry;
 use crate::number::number_within;
 use crate::options::{Table, are_options, is_dashed, value_for};
-use std::alloc::Global;
+use std::alloc::{AllocError, Global};
 
 /// The words of a run.
 #[derive(Drop)]
@@ -18,6 +20,10 @@ pub struct RunWords {
     pub image: String,
     /// The limit of cycles, 1 to 1,000,000,000.
     pub cycles: u64,
+    /// The name of the script file, where one is given.
+    pub script: Option<String>,
+    /// The programs for machines, in the order of the list; no machine stands twice.
+    pub pio: Vec<PioEntry>,
 }
 
 /// What the words ask for.
@@ -50,12 +56,51 @@ fn cycles_in(options: &[String]) -> Option<u64>
     }
 }
 
-/// The words of a run with their own copy of the name.
-fn owned(alloc: Global, image: &str, cycles: u64) -> Result<Reading, WordsFault>
-    ensures { ReadsAs (Some (RunImage (run_with image.now cycles))) result }
+/// The entries of `--pio` among the options of a run.
+fn pio_in(alloc: Global, options: &[String]) -> Result<Vec<PioEntry>, WordsFault>
+    ensures { ReadsEntries (pio_in (map string_bytes options.now)) result }
 {
-    match String::from_str(alloc, image) {
-        Ok(image) => Ok(Reading::Run(RunWords { image, cycles })),
+    match value_for("--pio", options) {
+        None => Ok(Vec::new(alloc)),
+        Some(list) => match entries_in(alloc, list) {
+            Ok(Some(entries)) => Ok(entries),
+            Ok(None) => Err(WordsFault::Words),
+            Err(_) => Err(WordsFault::Memory),
+        },
+    }
+}
+
+/// A copy of the script's name among the options of a run.
+fn script_in(alloc: Global, options: &[String]) -> Result<Option<String>, AllocError>
+    ensures { IfOk result (λ name. option_map string_bytes name ≡ script_in (map string_bytes options.now)) }
+{
+    match value_for("--script", options) {
+        None => Ok(None),
+        Some(name) => Ok(Some(String::from_str(alloc, name)?)),
+    }
+}
+
+/// The words of a run with their own copies of the names.
+fn owned(
+    alloc: Global,
+    image: &str,
+    cycles: u64,
+    options: &[String],
+    pio: Vec<PioEntry>,
+) -> Result<Reading, WordsFault>
+    ensures { ReadsAs (run_with image.now (Some cycles) (script_in (map string_bytes options.now))
+        (Some (map entry_in pio.items))) result }
+{
+    let Ok(image) = String::from_str(alloc, image) else {
+        return Err(WordsFault::Memory);
+    };
+    match script_in(alloc, options) {
+        Ok(script) => Ok(Reading::Run(RunWords {
+            image,
+            cycles,
+            script,
+            pio,
+        })),
         Err(_) => Err(WordsFault::Memory),
     }
 }
@@ -71,9 +116,12 @@ fn read_run(alloc: Global, words: &[String]) -> Result<Reading, WordsFault>
     if is_dashed(image.as_str()) || !are_options(Table::Run, options) {
         return Err(WordsFault::Words);
     }
-    match cycles_in(options) {
-        None => Err(WordsFault::Words),
-        Some(cycles) => owned(alloc, image.as_str(), cycles),
+    let Some(cycles) = cycles_in(options) else {
+        return Err(WordsFault::Words);
+    };
+    match pio_in(alloc, options) {
+        Ok(pio) => owned(alloc, image.as_str(), cycles, options, pio),
+        Err(fault) => Err(fault),
     }
 }
 
@@ -112,8 +160,8 @@ fn read_asm(alloc: Global, words: &[String]) -> Result<Reading, WordsFault>
     }
 }
 
-/// Reads `run <image> --cycles N`, `dis <hex> [--side S] [--opt T]` or `asm <file>`, the options in any order and each
-/// at most once.
+/// Reads `run <image> --cycles N [--script FILE] [--pio LIST]`, `dis <hex> [--side S] [--opt T]` or `asm <file>`, the
+/// options in any order and each at most once.
 ///
 /// # Errors
 ///

@@ -9,6 +9,7 @@ mod tests;
 ghost use Rattle.std.specs.Prelude.{◌≡◌, ◌<◌};
 
 use file_shelf::FileShelf;
+use lane_look::NoDevice;
 use pico_top::pico;
 use rp_machine::Steps;
 use std::alloc::{AllocError, Global};
@@ -32,7 +33,7 @@ fn words<R: Env + AllocGlobal>(rt: &R) -> Result<Vec<String>, AllocError> {
     }
 }
 
-/// Does what the words say over the real files and standard output, and answers the status. The cycles are counted by a
+/// Does what the words say over the real files and standard output, with no device, and answers the status. The cycles are counted by a
 /// ledger that nobody reads.
 fn serve<L: Ledger, R: Files + Print>(blank: Blank, rt: &R, alloc: Global, words: &[String]) -> u8
     requires name { blank.name ≡ L.name }
@@ -43,7 +44,7 @@ fn serve<L: Ledger, R: Files + Print>(blank: Blank, rt: &R, alloc: Global, words
     let mut steps = Steps::new(book, share);
     let mut files = FileShelf::new(rt, alloc);
     let mut out = StdoutSink::new(rt);
-    pico(alloc, words, &mut files, &mut out, &mut steps)
+    pico(alloc, words, &mut files, &mut out, NoDevice, &mut steps)
 }
 
 /// Does what the arguments say, and ends with the status of it; with 9 and no word where the arguments find no memory.

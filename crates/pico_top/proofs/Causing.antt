@@ -1,14 +1,16 @@
 -- The causes of the statuses, from the ending of a call's walk.
-use Rattle.std.proofs.Common.{◌≡◌, ◌≢◌, ◌⊎◌, ℕ, ◌+◌, ◌<◌, List, [], ◌∷◌, ◌++◌, length, Option, Some, None, IfSome, Result, Ok, Err, refl, sym, ap, inl, inr, ◌∙◌, subst, arith, length-append}
+use Rattle.std.proofs.Common.{◌≡◌, ◌⊎◌, ℕ, ◌+◌, ◌<◌, List, [], ◌∷◌, ◌++◌, length, Option, Some, None, IfSome, Result, Ok, Err, refl, sym, ap, inl, inr, ◌∙◌, subst, arith, length-append}
 use Rattle.rp_ports.specs.Shelf.{Files}
 use Rattle.rp_ports.specs.Fault.{Rose}
+use Rattle.lane_look.specs.Device.{DeviceMeaning}
+use Rattle.pin_script.specs.declared.fault.ScriptFault.{ScriptFault}
 use Rattle.uf2_image.specs.declared.fault.ImageFault.{ImageFault}
 use Rattle.pio_parse.specs.declared.fault.PioFault.{PioFault}
 use Rattle.trace_text.specs.Sent.{Sends}
 use Rattle.trace_text.specs.declared.writer.SinkFault.{SinkFault}
 use Rattle.command_words.specs.Words.{Command, reading}
 use Rattle.refusal_lines.specs.Refusals.{Refusal, status_of}
-use Rattle.refusal_lines.specs.Refusals.Refusal.{BadWords, Lost, TooLarge, BadImage, BadSource}
+use Rattle.refusal_lines.specs.Refusals.Refusal.{BadWords, Lost, TooLarge, BadImage, BadScript, BadSource}
 use Rattle.pico_top.specs.Call.{Asked, Outside}
 use Rattle.pico_top.specs.Walk.{Ending, WalksFrom, failed_names, refusal_from}
 use Rattle.pico_top.specs.Walk.Ending.{Said, Refused, NoMemory}
@@ -44,6 +46,7 @@ small_status BadWords = omega arith
 small_status (Lost name) = omega arith
 small_status (TooLarge name long) = omega arith
 small_status (BadImage fault) = omega arith
+small_status (BadScript fault) = omega arith
 small_status (BadSource fault) = omega arith
 
 told_is : (old new : Option (List ℕ)) (before now status wanted : ℕ) (text : List ℕ) → Puts old new before now status wanted text ⊎ RunsOut old new before now status → IsStatus status wanted
@@ -79,14 +82,15 @@ low_is status wanted low h e lt = elim h [
 
 -- a walk of the call's dialogue ended so
 abbrev pub EndedIn : Asked → Outside → Outside → Ending → Type 0
-EndedIn asked before after e = WalksFrom before.files (reading asked.words) e × (after.failed ≡ failed_names before.failed e)
+EndedIn asked before after e = WalksFrom before.files asked.device (reading asked.words) e × (after.failed ≡ failed_names before.failed e)
 
 words_cause : (asked : Asked) (before after : Outside) (e : Ending) → ending_status e ≡ 2 → EndedIn asked before after e → reading asked.words ≡ None
 words_cause asked before after (Said text cost) e h = absurd (omega (arith, e))
-words_cause asked before after (Refused BadWords) e h = words_refused before.files (reading asked.words) h.0
+words_cause asked before after (Refused BadWords) e h = words_refused before.files asked.device (reading asked.words) h.0
 words_cause asked before after (Refused (Lost name)) e h = absurd (omega (arith, e))
 words_cause asked before after (Refused (TooLarge name long)) e h = absurd (omega (arith, e))
 words_cause asked before after (Refused (BadImage fault)) e h = absurd (omega (arith, e))
+words_cause asked before after (Refused (BadScript fault)) e h = absurd (omega (arith, e))
 words_cause asked before after (Refused (BadSource fault)) e h = absurd (omega (arith, e))
 words_cause asked before after NoMemory e h = absurd (omega (arith, e))
 
@@ -96,6 +100,7 @@ file_cause asked before after (Refused BadWords) e h = absurd (omega (arith, e))
 file_cause asked before after (Refused (Lost name)) e h = inl (name, h)
 file_cause asked before after (Refused (TooLarge name long)) e h = inr (name, long, h)
 file_cause asked before after (Refused (BadImage fault)) e h = absurd (omega (arith, e))
+file_cause asked before after (Refused (BadScript fault)) e h = absurd (omega (arith, e))
 file_cause asked before after (Refused (BadSource fault)) e h = absurd (omega (arith, e))
 file_cause asked before after NoMemory e h = absurd (omega (arith, e))
 
@@ -105,6 +110,7 @@ image_cause asked before after (Refused BadWords) e h = absurd (omega (arith, e)
 image_cause asked before after (Refused (Lost name)) e h = absurd (omega (arith, e))
 image_cause asked before after (Refused (TooLarge name long)) e h = absurd (omega (arith, e))
 image_cause asked before after (Refused (BadImage fault)) e h = (fault, h)
+image_cause asked before after (Refused (BadScript fault)) e h = absurd (omega (arith, e))
 image_cause asked before after (Refused (BadSource fault)) e h = absurd (omega (arith, e))
 image_cause asked before after NoMemory e h = absurd (omega (arith, e))
 
@@ -114,8 +120,19 @@ source_cause asked before after (Refused BadWords) e h = absurd (omega (arith, e
 source_cause asked before after (Refused (Lost name)) e h = absurd (omega (arith, e))
 source_cause asked before after (Refused (TooLarge name long)) e h = absurd (omega (arith, e))
 source_cause asked before after (Refused (BadImage fault)) e h = absurd (omega (arith, e))
+source_cause asked before after (Refused (BadScript fault)) e h = absurd (omega (arith, e))
 source_cause asked before after (Refused (BadSource fault)) e h = (fault, h)
 source_cause asked before after NoMemory e h = absurd (omega (arith, e))
+
+script_cause : (asked : Asked) (before after : Outside) (e : Ending) → ending_status e ≡ 6 → EndedIn asked before after e → (fault : ScriptFault) × IsRefused asked before after (BadScript fault)
+script_cause asked before after (Said text cost) e h = absurd (omega (arith, e))
+script_cause asked before after (Refused BadWords) e h = absurd (omega (arith, e))
+script_cause asked before after (Refused (Lost name)) e h = absurd (omega (arith, e))
+script_cause asked before after (Refused (TooLarge name long)) e h = absurd (omega (arith, e))
+script_cause asked before after (Refused (BadImage fault)) e h = absurd (omega (arith, e))
+script_cause asked before after (Refused (BadScript fault)) e h = (fault, h)
+script_cause asked before after (Refused (BadSource fault)) e h = absurd (omega (arith, e))
+script_cause asked before after NoMemory e h = absurd (omega (arith, e))
 
 -- ---- the clauses of a call
 
@@ -126,17 +143,18 @@ pub words_from : (asked : Asked) (before after : Outside) (status : ℕ) → Con
 words_from asked before after status h e =
     words_cause asked before after h.ending (low_is status _ 2 (status_from asked before after status h) e (omega arith)) (h.walked, h.failed)
 
-refused_is : (files : Option Files) (asked : Option Command) (e : Ending) (status : ℕ) → asked ≡ None → WalksFrom files asked e → IsStatus status (ending_status e) → IsStatus status 2
-refused_is files None e status none walk is = subst (λ (x : Ending). IsStatus status (ending_status x)) walk is
-refused_is files (Some command) e status none walk is = absurd (cc none)
+refused_is : (files : Option Files) (device : DeviceMeaning) (asked : Option Command) (e : Ending) (status : ℕ) → asked ≡ None → WalksFrom files device asked e → IsStatus status (ending_status e) → IsStatus status 2
+refused_is files device None e status none walk is = subst (λ (x : Ending). IsStatus status (ending_status x)) walk is
+refused_is files device (Some command) e status none walk is = absurd (cc none)
 
 pub refused_from : (asked : Asked) (before after : Outside) (status : ℕ) → Converses asked before after status → reading asked.words ≡ None → IsStatus status 2
-refused_from asked before after status h none = refused_is before.files (reading asked.words) h.ending status none h.walked (status_from asked before after status h)
+refused_from asked before after status h none = refused_is before.files asked.device (reading asked.words) h.ending status none h.walked (status_from asked before after status h)
 
 pub causes_from : (asked : Asked) (before after : Outside) (status : ℕ) → Converses asked before after status → HasCause asked before after status
 causes_from asked before after status h = record {
   file = λ e. file_cause asked before after h.ending (low_is status _ 3 (status_from asked before after status h) e (omega arith)) (h.walked, h.failed);
   image = λ e. image_cause asked before after h.ending (low_is status _ 4 (status_from asked before after status h) e (omega arith)) (h.walked, h.failed);
+  script = λ e. script_cause asked before after h.ending (low_is status _ 6 (status_from asked before after status h) e (omega arith)) (h.walked, h.failed);
   source = λ e. source_cause asked before after h.ending (low_is status _ 5 (status_from asked before after status h) e (omega arith)) (h.walked, h.failed);
 }
 
@@ -158,16 +176,16 @@ none_is : (e : Ending) (wanted status : ℕ) → e ≡ NoMemory → IsStatus sta
 none_is e wanted status none h =
     elim (subst (λ (x : Ending). IsStatus status (ending_status x)) none h) [ inl nine ↦ inr (inr nine) | inr w ↦ inr w ]
 
-complete : (files : Option Files) (failed failed' : List (List ℕ)) (asked : Option Command) (e : Ending) (status : ℕ) → WalksFrom files asked e → failed' ≡ failed_names failed e → IsStatus status (ending_status e) → IfSome files (λ f. failed' ≡ failed → IsStatus status (status_in (refusal_from f asked)))
-complete None failed failed' asked e status walk names is = tt
-complete (Some f) failed failed' asked e status walk names is = λ same. elim (walk_from_first f asked e walk) [
-  | inl none ↦ none_is e (status_in (refusal_from f asked)) status none is
+complete : (files : Option Files) (failed failed' : List (List ℕ)) (device : DeviceMeaning) (asked : Option Command) (e : Ending) (status : ℕ) → WalksFrom files device asked e → failed' ≡ failed_names failed e → IsStatus status (ending_status e) → IfSome files (λ f. failed' ≡ failed → IsStatus status (status_in (refusal_from f device asked)))
+complete None failed failed' device asked e status walk names is = tt
+complete (Some f) failed failed' device asked e status walk names is = λ same. elim (walk_from_first f device asked e walk) [
+  | inl none ↦ none_is e (status_in (refusal_from f device asked)) status none is
   | inr w ↦ elim w [
     | inl lost ↦ not_longer failed failed' lost.0 (names ∙ ap (failed_names failed) lost.1) same
-    | inr first ↦ first_is e (refusal_from f asked) status first is
+    | inr first ↦ first_is e (refusal_from f device asked) status first is
   ]
 ]
 
 pub complete_from : (asked : Asked) (before after : Outside) (status : ℕ) → Converses asked before after status → IsComplete asked before after status
 complete_from asked before after status h =
-    complete before.files before.failed after.failed (reading asked.words) h.ending status h.walked h.failed (status_from asked before after status h)
+    complete before.files before.failed after.failed asked.device (reading asked.words) h.ending status h.walked h.failed (status_from asked before after status h)

@@ -1,42 +1,133 @@
 -- What was opened, and where its walk ended.
-use Rattle.std.proofs.Common.{◌≡◌, ℕ, ◌≤◌, List, [], Option, Result, Ok, Err, refl, ap, inl, ◌∙◌, subst, arith}
-use Rattle.rp_ports.specs.Shelf.{Files, failed_after}
-use Rattle.rp_ports.specs.declared.shelf.Loaded.TheVariants.{Failed}
+use Rattle.std.proofs.Common.{◌≡◌, ℕ, List, [], ◌∷◌, map, Option, None, Some, Result, Ok, Err, refl, sym, ap, inl, ◌∙◌, subst, arith, ◌==◌, true, false, if◌then◌else◌, Vec, Global}
+use Rattle.lane_look.specs.Device.{DeviceMeaning}
+use Rattle.outer_lane.specs.Setting.{Setting, setting_of}
+use Rattle.rp_ports.specs.Shelf.{Files, Answers, failed_after}
+use Rattle.rp_ports.specs.declared.shelf.Loaded.TheVariants.{Done, Failed}
 use Rattle.uf2_image.specs.declared.parts.Image.{Image as Loaded}
-use Rattle.rp_machine.specs.State.{State, start}
+use Rattle.pin_script.specs.Script.{script_of}
+use Rattle.pin_script.specs.declared.entry.Entry.{Entry as ScriptEntry}
+use Rattle.pin_script.specs.declared.fault.ScriptFault.{ScriptFault}
+use Rattle.pio_asm.specs.Assembly.{ArePrograms}
+use Rattle.pio_asm.specs.declared.program.Program.{Program}
+use Rattle.rp_machine.specs.State.{State, first_state}
+use Rattle.rp_machine.specs.Boot.{start, with_loads, with_load, block_loaded}
+use Rattle.rp_machine.specs.declared.load.PioLoad.{PioLoad}
 use Rattle.command_words.specs.Words.{Run}
-use Rattle.command_words.specs.Words.Command.{RunImage}
 use Rattle.refusal_lines.specs.declared.Refusal.{Refusal as Written}
+use Rattle.refusal_lines.specs.declared.Refusal.TheVariants.{Words, File, Large, Image, Script, Source}
 use Rattle.refusal_lines.specs.Refusals.{line_of, status_of}
-use Rattle.refusal_lines.specs.Refusals.Refusal.{Lost}
+use Rattle.refusal_lines.specs.Refusals.Refusal.{Lost, BadScript}
 use Rattle.refusal_lines.specs.Meant.{meant}
-use Rattle.pico_top.specs.declared.open.Started.{Started}
-use Rattle.pico_top.specs.declared.open.Opened.TheVariants.{Machine}
+use Rattle.pico_top.specs.declared.open.Opened.{Opened}
+use Rattle.pico_top.specs.declared.open.Opened.TheVariants.{Machine, Text}
 use Rattle.pico_top.specs.declared.open.Stop.{Stop}
-use Rattle.pico_top.specs.declared.open.Stop.TheVariants.{Refusing}
+use Rattle.pico_top.specs.declared.open.Stop.TheVariants.{Refusing, Memory}
 use Rattle.pico_top.specs.RunText.{run_text, run_cycles}
-use Rattle.pico_top.specs.Dialogue.{Dialogue, dialogue_of, with_image, say_run}
+use Rattle.pico_top.specs.Loads.{Placed, loads_of, plans_in}
+use Rattle.pico_top.specs.Dialogue.{Dialogue, behind_script, with_script, say_run, script_limit}
 use Rattle.pico_top.specs.Dialogue.Cost.{Exactly}
-use Rattle.pico_top.specs.Walk.{Ending}
+use Rattle.pico_top.specs.Dialogue.Dialogue.{Load, JudgeScript}
+use Rattle.pico_top.specs.Walk.{Walks, failed_names}
 use Rattle.pico_top.specs.Walk.Ending.{Said, Refused}
 use Rattle.pico_top.specs.Answer.{Puts}
-use Rattle.pico_top.specs.Opening.{StopsAs, Opens, LoadsAs, Passes, Refuses, opened_text, opened_cost}
+use Rattle.pico_top.specs.Opening.{StopsAs, Opens, LoadsAs, Passes, Refuses, ReadsScript, Boots, opened_text, opened_cost, IsPlaced, ArePlaced, LoadsAll}
+use Rattle.pico_top.proofs.Walking.{some_walk}
 
 -- a load failed
 pub load_lost : (files : Option Files) (failed failed' : List (List ℕ)) (name : List ℕ) (limit : ℕ) (stop : Stop) → failed' ≡ failed_after failed name Failed → StopsAs stop (Refused (Lost name)) → LoadsAs files failed failed' name limit (Err stop)
 load_lost files failed failed' name limit stop names is next = (Refused (Lost name), (Failed, [], tt, refl), names, is)
 
-start_cycle : (image : Loaded) → (start image).cycle ≡ 0
-unfolding start
-start_cycle image = refl
+-- ---- scripts
 
--- an image was accepted, and the machine is in its first state
-pub run_opens : (files : Option Files) (failed failed' : List (List ℕ)) (run : Run) (image : Loaded) (started : Started) → Passes files failed failed' (with_image run.image) (Ok image) → started.machine ≡ start image → started.limit ≡ run.cycles → Opens files failed failed' (dialogue_of (RunImage run)) (Ok (Machine started))
-run_opens files failed failed' run image started passes first limit =
-    let at_start : started.machine.cycle ≡ 0 = ap (λ (m : State). m.cycle) first ∙ start_cycle image in
-    let e : Ending = Said (run_text run.cycles (start image)) (Exactly (run_cycles run.cycles (start image))) in
-    let here : e ≡ Said (opened_text (Machine started)) (opened_cost (Machine started)) = rw (first, limit) refl in
-    (e, passes.1 (say_run run.cycles) e refl, passes.0, (here, omega (arith, at_start)))
+-- the verdict of a script leads on, or the walk ends there
+script_judged : (files : Option Files) (failed : List (List ℕ)) (bytes : List ℕ) (result : Result (List ScriptEntry) Stop) → ReadsScript bytes result → Passes files failed failed (λ next. JudgeScript (script_of bytes) next) result
+script_judged files failed bytes (Ok script) is = (refl, λ next e w. subst (λ (v : Result (List ScriptEntry) ScriptFault). Walks files (JudgeScript v next) e) (sym is) (inl w))
+script_judged files failed bytes (Err (Refusing (Script fault))) is = λ next.
+    (Refused (BadScript fault), subst (λ (v : Result (List ScriptEntry) ScriptFault). Walks files (JudgeScript v next) (Refused (BadScript fault))) (sym is) (inl refl), refl, refl)
+script_judged files failed bytes (Err Memory) is = λ next. let w = some_walk files failed (JudgeScript (script_of bytes) next) in (w.0, w.1, w.2, tt)
+script_judged files failed bytes (Err (Refusing Words)) is = absurd is
+script_judged files failed bytes (Err (Refusing (File name))) is = absurd is
+script_judged files failed bytes (Err (Refusing (Large name long))) is = absurd is
+script_judged files failed bytes (Err (Refusing (Image fault))) is = absurd is
+script_judged files failed bytes (Err (Refusing (Source fault))) is = absurd is
+
+pub no_script : (files : Option Files) (failed : List (List ℕ)) (result : Result (List ScriptEntry) Stop) → ReadsScript [] result → Passes files failed failed (with_script None) result
+no_script files failed result is = script_judged files failed [] result is
+
+-- a part behind a load that gave bytes
+behind_load : {X : Type 0} (files : Option Files) (failed failed' : List (List ℕ)) (name : List ℕ) (limit : ℕ) (bytes : List ℕ) (part : List ℕ → (X → Dialogue) → Dialogue) (result : Result X Stop) → Answers files name limit Done bytes → failed' ≡ failed → Passes files failed failed (part bytes) result → Passes files failed failed' (λ next. Load name limit (λ b. part b next)) result
+behind_load files failed failed' name limit bytes part (Ok x) answers same h = (same, λ next e w. (Done, bytes, answers, h.1 next e w))
+behind_load files failed failed' name limit bytes part (Err stop) answers same h = λ next. let s = h next in (s.0, (Done, bytes, answers, s.1), same ∙ s.2, s.3)
+
+pub script_read : (files : Option Files) (failed failed' : List (List ℕ)) (name : List ℕ) (bytes : List ℕ) (result : Result (List ScriptEntry) Stop) → Answers files name script_limit Done bytes → failed' ≡ failed → ReadsScript bytes result → Passes files failed failed' (with_script (Some name)) result
+script_read files failed failed' name bytes result answers same is =
+    behind_load files failed failed' name script_limit bytes (λ b next. JudgeScript (script_of b) next) result answers same (script_judged files failed bytes result is)
+
+-- ---- parts of a walk, one behind another
+
+-- what was opened behind a part
+pub opens_behind : {X : Type 0} (files files' : Option Files) (a b c : List (List ℕ)) (device : DeviceMeaning) (part : (X → Dialogue) → Dialogue) (x : X) (next : X → Dialogue) (result : Result Opened Stop) → Passes files a b part (Ok x) → files' ≡ files → Opens files' b c device (next x) result → Opens files a c device (part next) result
+opens_behind files files' a b c device part x next result h same opens =
+    let s = subst (λ (f : Option Files). Opens f b c device (next x) result) same opens in
+    (s.0, h.1 next s.0 s.1, s.2 ∙ ap (λ f. failed_names f s.0) h.0, s.3)
+
+-- ---- a run
+
+-- the programs of loads
+abbrev programs_of : List PioLoad → List Program
+programs_of loads = map (λ l. l.program) loads
+
+have_words : (ps : List Placed) (loads : List PioLoad) → ArePlaced ps loads → ArePrograms (plans_in ps) (programs_of loads)
+have_words [] [] h = tt
+have_words [] (l ∷ loads) h = absurd h
+have_words (p ∷ ps) [] h = absurd h
+have_words (p ∷ ps) (l ∷ loads) h = (h.0.program, have_words ps loads h.1)
+
+same_load : (p : Placed) (l : PioLoad) → IsPlaced p l → record { block = p.block; machine = p.machine; offset = p.offset; program = l.program } ≡ l
+same_load p l h = rw (sym h.block, sym h.machine, sym h.offset) refl
+
+same_loads : (ps : List Placed) (loads : List PioLoad) → ArePlaced ps loads → loads_of ps (programs_of loads) ≡ loads
+same_loads [] [] h = refl
+same_loads [] (l ∷ loads) h = absurd h
+same_loads (p ∷ ps) [] h = absurd h
+same_loads (p ∷ ps) (l ∷ loads) h = ap (λ x. x ∷ loads_of ps (programs_of loads)) (same_load p l h.0) ∙ ap (λ xs. l ∷ xs) (same_loads ps loads h.1)
+
+-- the cycle of a first state is 0
+load_cycle : (load : PioLoad) (s : State) → (with_load load s).cycle ≡ s.cycle
+load_cycle load s = elim (load.block == 0) as (λ b. (if b then record s { pio0 = block_loaded load s.pio0 } else record s { pio1 = block_loaded load s.pio1 }).cycle ≡ s.cycle) [ true ↦ refl | false ↦ refl ]
+
+loads_cycle : (loads : List PioLoad) (s : State) → (with_loads loads s).cycle ≡ s.cycle
+loads_cycle [] s = refl
+loads_cycle (load ∷ loads) s = loads_cycle loads (with_load load s) ∙ load_cycle load s
+
+first_cycle : (device : DeviceMeaning) (image : Loaded) → (first_state device image).cycle ≡ 0
+unfolding first_state
+first_cycle device image = refl
+
+start_cycle : (device : DeviceMeaning) (image : Loaded) (loads : List PioLoad) → (start device image loads).cycle ≡ 0
+unfolding start
+start_cycle device image loads = loads_cycle loads (first_state device image) ∙ first_cycle device image
+
+-- the machine booted, or memory ran out
+boots_opens : (files : Option Files) (failed : List (List ℕ)) (device : DeviceMeaning) (script : List ScriptEntry) (limit : ℕ) (image : Loaded) (ps : List Placed) (loads : List PioLoad) (result : Result Opened Stop) → ArePlaced ps loads → Boots device image script loads limit result → Opens files failed failed device (say_run (setting_of script device limit) image ps) result
+boots_opens files failed device script limit image ps loads (Ok (Machine started)) placed h =
+    let w : Setting = setting_of script device limit in
+    let first : State = start device image (loads_of ps (programs_of loads)) in
+    let same : started.machine ≡ first = h.0 ∙ ap (start device image) (sym (same_loads ps loads placed)) in
+    let at : started.machine.cycle ≡ 0 = ap (λ (m : State). m.cycle) h.0 ∙ start_cycle device image loads in
+    let here : Said (run_text w first) (Exactly (run_cycles w first)) ≡ Said (opened_text device (Machine started)) (opened_cost device (Machine started)) = rw (same, h.1, h.2) refl in
+    (Said (run_text w first) (Exactly (run_cycles w first)), inl (programs_of loads, have_words ps loads placed, refl), refl, (here, omega (arith, at)))
+boots_opens files failed device script limit image ps loads (Ok (Text text)) placed h = absurd h
+boots_opens files failed device script limit image ps loads (Err (Refusing refusal)) placed h = absurd h
+boots_opens files failed device script limit image ps loads (Err Memory) placed h =
+    let w = some_walk files failed (say_run (setting_of script device limit) image ps) in (w.0, w.1, w.2, tt)
+
+-- the programs of a run have their places, and the machine booted
+pub programs_open : (files : Option Files) (a b : List (List ℕ)) (device : DeviceMeaning) (run : Run) (image : Loaded) (script : List ScriptEntry) (loads : Vec PioLoad Global) (result : Result Opened Stop) → LoadsAll files a b run.pio (Ok loads) → Boots device image script loads.items run.cycles result → Opens files a b device (behind_script device run image script) result
+programs_open files a b device run image script loads result programs boots =
+    let last = boots_opens files a device script run.cycles image programs.2.0 loads.items result programs.2.1 boots in
+    (last.0, programs.2.2 (say_run (setting_of script device run.cycles) image) last.0 last.1, programs.0 ∙ last.2, last.3)
 
 -- the line of a refusal was put with its status
 pub refuses_by : (old new : Option (List ℕ)) (before now status : ℕ) (refusal : Written) (stop : Stop) (wanted : ℕ) (text : List ℕ) → stop ≡ Refusing refusal → wanted ≡ status_of (meant refusal) → text ≡ line_of (meant refusal) → Puts old new before now status wanted text → Refuses old new before now status stop

@@ -1,13 +1,14 @@
 -- Walks of dialogues.
-use Rattle.std.proofs.Common.{◌≡◌, ℕ, ◌<◌, ◌≤◌, List, [], length, Bool, true, false, nat_le, if◌then◌else◌, Option, Some, None, Result, Ok, Err, refl, sym, ap, inl, inr, ◌∙◌, ◌⊎◌, arith, IsSomeAnd}
+use Rattle.std.proofs.Common.{◌≡◌, ℕ, ◌<◌, ◌≤◌, List, [], length, true, false, nat_le, Option, Some, None, Ok, Err, refl, sym, ap, inl, inr, ◌∙◌, ◌⊎◌, arith, IsSomeAnd}
+use Rattle.lane_look.specs.Device.{DeviceMeaning}
 use Rattle.rp_ports.specs.Shelf.{Files, Answers}
 use Rattle.rp_ports.specs.declared.shelf.Loaded.{Loaded}
 use Rattle.rp_ports.specs.declared.shelf.Loaded.TheVariants.{Done, Large, Failed, Memory}
 use Rattle.command_words.specs.Words.{Command}
 use Rattle.refusal_lines.specs.Refusals.{Refusal}
-use Rattle.refusal_lines.specs.Refusals.Refusal.{BadWords, Lost, TooLarge, BadImage, BadSource}
+use Rattle.refusal_lines.specs.Refusals.Refusal.{BadWords, Lost, TooLarge}
 use Rattle.pico_top.specs.Dialogue.{Dialogue, dialogue_of}
-use Rattle.pico_top.specs.Dialogue.Dialogue.{Load, JudgeImage, JudgeSource, SayWords, Say}
+use Rattle.pico_top.specs.Dialogue.Dialogue.{Load, JudgeImage, JudgeScript, JudgeSource, JudgePlace, SayWords, Say}
 use Rattle.pico_top.specs.Walk.{Ending, AfterLoad, Walks, WalksFrom, failed_names, on_held, first_refusal, refusal_from}
 use Rattle.pico_top.specs.Walk.Ending.{Said, Refused, NoMemory}
 
@@ -18,12 +19,16 @@ some_walk files failed (JudgeImage (Ok image) next) = (NoMemory, inr refl, refl)
 some_walk files failed (JudgeImage (Err fault) next) = (NoMemory, inr refl, refl)
 some_walk files failed (JudgeSource (Ok plans) next) = (NoMemory, inr refl, refl)
 some_walk files failed (JudgeSource (Err fault) next) = (NoMemory, inr refl, refl)
+some_walk files failed (JudgeScript (Ok script) next) = (NoMemory, inr refl, refl)
+some_walk files failed (JudgeScript (Err fault) next) = (NoMemory, inr refl, refl)
+some_walk files failed (JudgePlace (Ok offset) next) = (NoMemory, inr refl, refl)
+some_walk files failed (JudgePlace (Err fault) next) = (NoMemory, inr refl, refl)
 some_walk files failed (SayWords plans text cost) = (NoMemory, inr refl, refl)
 some_walk files failed (Say text cost) = (Said text cost, refl, refl)
 
-pub some_walk_from : (files : Option Files) (failed : List (List ℕ)) (asked : Option Command) → (e : Ending) × WalksFrom files asked e × (failed ≡ failed_names failed e)
-some_walk_from files failed None = (Refused BadWords, refl, refl)
-some_walk_from files failed (Some command) = some_walk files failed (dialogue_of command)
+pub some_walk_from : (files : Option Files) (failed : List (List ℕ)) (device : DeviceMeaning) (asked : Option Command) → (e : Ending) × WalksFrom files device asked e × (failed ≡ failed_names failed e)
+some_walk_from files failed device None = (Refused BadWords, refl, refl)
+some_walk_from files failed device (Some command) = some_walk files failed (dialogue_of device command)
 
 -- no walk of a dialogue refuses the words
 after_load_reads : (answer : Loaded) (name : List ℕ) (on : Type 0) → AfterLoad answer name (Refused BadWords) on → on
@@ -38,12 +43,16 @@ walk_reads files (JudgeImage (Ok image) next) h = elim h [ inl w ↦ walk_reads 
 walk_reads files (JudgeImage (Err fault) next) h = elim h [ inl e ↦ absurd (cc e) | inr e ↦ absurd (cc e) ]
 walk_reads files (JudgeSource (Ok plans) next) h = elim h [ inl w ↦ walk_reads files (next plans) w | inr e ↦ absurd (cc e) ]
 walk_reads files (JudgeSource (Err fault) next) h = elim h [ inl e ↦ absurd (cc e) | inr e ↦ absurd (cc e) ]
+walk_reads files (JudgeScript (Ok script) next) h = elim h [ inl w ↦ walk_reads files (next script) w | inr e ↦ absurd (cc e) ]
+walk_reads files (JudgeScript (Err fault) next) h = elim h [ inl e ↦ absurd (cc e) | inr e ↦ absurd (cc e) ]
+walk_reads files (JudgePlace (Ok offset) next) h = elim h [ inl w ↦ walk_reads files (next offset) w | inr e ↦ absurd (cc e) ]
+walk_reads files (JudgePlace (Err fault) next) h = elim h [ inl e ↦ absurd (cc e) | inr e ↦ absurd (cc e) ]
 walk_reads files (SayWords plans text cost) h = elim h [ inl w ↦ absurd (let e = w.2 in cc e) | inr e ↦ absurd (cc e) ]
 walk_reads files (Say text cost) h = absurd (cc h)
 
-pub words_refused : (files : Option Files) (asked : Option Command) → WalksFrom files asked (Refused BadWords) → asked ≡ None
-words_refused files None h = refl
-words_refused files (Some command) h = absurd (walk_reads files (dialogue_of command) h)
+pub words_refused : (files : Option Files) (device : DeviceMeaning) (asked : Option Command) → WalksFrom files device asked (Refused BadWords) → asked ≡ None
+words_refused files device None h = refl
+words_refused files device (Some command) h = absurd (walk_reads files (dialogue_of device command) h)
 
 -- what a walk refuses
 abbrev pub refusal_in : Ending → Option Refusal
@@ -78,9 +87,13 @@ walk_first f (JudgeImage (Ok image) next) e h = elim h [ inl w ↦ walk_first f 
 walk_first f (JudgeImage (Err fault) next) e h = elim h [ inl is ↦ inr (inr (ap refusal_in is)) | inr none ↦ inl none ]
 walk_first f (JudgeSource (Ok plans) next) e h = elim h [ inl w ↦ walk_first f (next plans) e w | inr none ↦ inl none ]
 walk_first f (JudgeSource (Err fault) next) e h = elim h [ inl is ↦ inr (inr (ap refusal_in is)) | inr none ↦ inl none ]
+walk_first f (JudgeScript (Ok script) next) e h = elim h [ inl w ↦ walk_first f (next script) e w | inr none ↦ inl none ]
+walk_first f (JudgeScript (Err fault) next) e h = elim h [ inl is ↦ inr (inr (ap refusal_in is)) | inr none ↦ inl none ]
+walk_first f (JudgePlace (Ok offset) next) e h = elim h [ inl w ↦ walk_first f (next offset) e w | inr none ↦ inl none ]
+walk_first f (JudgePlace (Err fault) next) e h = elim h [ inl is ↦ inr (inr (ap refusal_in is)) | inr none ↦ inl none ]
 walk_first f (SayWords plans text cost) e h = elim h [ inl w ↦ inr (inr (ap refusal_in w.2)) | inr none ↦ inl none ]
 walk_first f (Say text cost) e h = inr (inr (ap refusal_in h))
 
-pub walk_from_first : (f : Files) (asked : Option Command) (e : Ending) → WalksFrom (Some f) asked e → IsFirst e (refusal_from f asked)
-walk_from_first f None e h = inr (inr (ap refusal_in h))
-walk_from_first f (Some command) e h = walk_first f (dialogue_of command) e h
+pub walk_from_first : (f : Files) (device : DeviceMeaning) (asked : Option Command) (e : Ending) → WalksFrom (Some f) device asked e → IsFirst e (refusal_from f device asked)
+walk_from_first f device None e h = inr (inr (ap refusal_in h))
+walk_from_first f device (Some command) e h = walk_first f (dialogue_of device command) e h

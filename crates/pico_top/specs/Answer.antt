@@ -65,7 +65,7 @@ Counts NoMemory status before after = after ≡ before
 -- as before
 pub record Converses (asked : Asked) (before after : Outside) (status : ℕ) : Type 0 where
   pub ending : Ending
-  pub walked : WalksFrom before.files (reading asked.words) ending
+  pub walked : WalksFrom before.files asked.device (reading asked.words) ending
   pub failed : after.failed ≡ failed_names before.failed ending
   pub kept : after.files ≡ before.files
   pub ends : Ends before.written after.written before.faults after.faults status ending

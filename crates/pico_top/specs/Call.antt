@@ -1,10 +1,12 @@
 -- What a call is asked, and what it meets outside: the project's own.
 use Rattle.std.specs.Prelude.{ℕ, List, Option}
+use Rattle.lane_look.specs.Device.{DeviceMeaning}
 use Rattle.rp_ports.specs.Shelf.{Files}
 
--- the words of the command line
+-- the words of the command line, and the device at the pads
 pub record Asked : Type 0 where
   pub words : List (List ℕ)
+  pub device : DeviceMeaning
 
 -- the files of the shelf by name, where it tells them, and the names whose loads failed; what the sink has written, where it
 -- tells it, and its count of faults; and the steps that were counted

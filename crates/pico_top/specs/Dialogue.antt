@@ -1,16 +1,23 @@
 -- What a call does for its words: it loads files and judges each, one after another, and says a text. The project's own.
-use Rattle.std.specs.Prelude.{ℕ, List, Option, Result}
+use Rattle.std.specs.Prelude.{ℕ, List, [], ◌∷◌, ◌++◌, Option, None, Some, Result}
+use Rattle.lane_look.specs.Device.{DeviceMeaning}
 use Rattle.uf2_image.specs.Uf2.{image_of}
 use Rattle.uf2_image.specs.declared.parts.Image.{Image}
 use Rattle.uf2_image.specs.declared.fault.ImageFault.{ImageFault}
+use Rattle.pin_script.specs.Script.{script_of}
+use Rattle.pin_script.specs.declared.entry.Entry.{Entry as ScriptEntry}
+use Rattle.pin_script.specs.declared.fault.ScriptFault.{ScriptFault}
 use Rattle.pio_parse.specs.declared.fault.PioFault.{PioFault}
 use Rattle.pio_asm.specs.Assembly.{Plan}
 use Rattle.pio_asm.specs.declared.program.Program.{Program}
 use Rattle.pio_disasm.specs.Text.{source_text}
 use Rattle.pio_listing.specs.Listing.{plans_of, listing}
-use Rattle.rp_machine.specs.State.{start}
-use Rattle.command_words.specs.Words.{Command}
+use Rattle.outer_lane.specs.Setting.{Setting, setting_of}
+use Rattle.rp_machine.specs.Boot.{start}
+use Rattle.command_words.specs.Entries.{Entry}
+use Rattle.command_words.specs.Words.{Run, Command}
 use Rattle.command_words.specs.Words.Command.{RunImage, Disassemble, Assemble}
+use Rattle.pico_top.specs.Loads.{Placed, placed_as, offset_of, loads_of, plans_in}
 use Rattle.pico_top.specs.RunText.{run_text, run_cycles}
 
 -- how many machine cycles a text costs: exactly so many, or at most so many
@@ -19,15 +26,17 @@ pub data Cost : Type 0 where
   AtMost : (cycles : ℕ) → Cost
 
 -- Load: the file of this name is loaded, if it has at most so many bytes, and what is next goes on with its bytes.
--- JudgeImage, JudgeSource: what is next goes on with the image or the programs; where there is a fault in their place, the
--- dialogue ends with it.
+-- JudgeImage, JudgeScript, JudgeSource, JudgePlace: what is next goes on with the image, the script, the programs or the offset of
+-- a program; where there is a fault in its place, the dialogue ends with it.
 -- SayWords: a text of programs is said, each with the words that stand with its lines.
 -- Say: a text is said.
 pub data Dialogue : Type 0 where
   Load : (name : List ℕ) → (limit : ℕ) → (next : List ℕ → Dialogue) → Dialogue
   JudgeImage : (verdict : Result Image ImageFault) → (next : Image → Dialogue) → Dialogue
+  JudgeScript : (verdict : Result (List ScriptEntry) ScriptFault) → (next : List ScriptEntry → Dialogue) → Dialogue
   JudgeSource : (verdict : Result (List Plan) PioFault) → (next : List Plan → Dialogue) → Dialogue
-  SayWords : (plans : List Plan) → (text : List Program → List ℕ) → (cost : Cost) → Dialogue
+  JudgePlace : (verdict : Result ℕ PioFault) → (next : ℕ → Dialogue) → Dialogue
+  SayWords : (plans : List Plan) → (text : List Program → List ℕ) → (cost : List Program → Cost) → Dialogue
   Say : (text : List ℕ) → (cost : Cost) → Dialogue
 
 -- ---- the inputs
@@ -35,6 +44,10 @@ pub data Dialogue : Type 0 where
 -- an image file has at most 16 MiB
 abbrev pub image_limit : ℕ
 image_limit = 16777216
+
+-- a script file has at most 4 MiB
+abbrev pub script_limit : ℕ
+script_limit = 4194304
 
 -- a PIO source file has at most 1 MiB
 abbrev pub source_limit : ℕ
@@ -44,18 +57,48 @@ source_limit = 1048576
 abbrev pub with_image : List ℕ → (Image → Dialogue) → Dialogue
 with_image name next = Load name image_limit (λ bytes. JudgeImage (image_of bytes) next)
 
+-- a script file, and the script in it; without one the script is that of an empty file
+abbrev pub with_script : Option (List ℕ) → (List ScriptEntry → Dialogue) → Dialogue
+with_script None next = JudgeScript (script_of []) next
+with_script (Some name) next = Load name script_limit (λ bytes. JudgeScript (script_of bytes) next)
+
 -- a PIO source file, and the programs in it
 abbrev pub with_source : List ℕ → (List Plan → Dialogue) → Dialogue
 with_source name next = Load name source_limit (λ bytes. JudgeSource (plans_of bytes) next)
 
+-- the first of some programs gets its place behind others
+abbrev pub with_first : Entry → List Placed → (List Placed → Dialogue) → List Plan → Dialogue
+with_first entry others next [] = next others
+with_first entry others next (plan ∷ plans) =
+    JudgePlace (offset_of entry others plan) (λ offset. next (others ++ placed_as entry plan offset ∷ []))
+
+-- the program of an entry: its file, its source, its place
+abbrev pub with_program : Entry → List Placed → (List Placed → Dialogue) → Dialogue
+with_program entry others next = with_source entry.file (with_first entry others next)
+
+-- the programs of all entries, one after another
+abbrev pub with_programs : List Entry → List Placed → (List Placed → Dialogue) → Dialogue
+with_programs [] placed next = next placed
+with_programs (entry ∷ entries) placed next = with_program entry placed (λ more. with_programs entries more next)
+
 -- ---- the dialogue of each command
 
--- the text of a run from its first state, whose cycles are counted
-abbrev pub say_run : ℕ → Image → Dialogue
-say_run limit image = Say (run_text limit (start image)) (Exactly (run_cycles limit (start image)))
+-- the text of a run, whose cycles are counted
+abbrev pub say_run : Setting → Image → List Placed → Dialogue
+say_run w image placed = SayWords (plans_in placed)
+    (λ programs. run_text w (start w.device image (loads_of placed programs)))
+    (λ programs. Exactly (run_cycles w (start w.device image (loads_of placed programs))))
 
--- a run loads its image and a listing its source; the source text of instruction words needs no file
-abbrev pub dialogue_of : Command → Dialogue
-dialogue_of (RunImage run) = with_image run.image (λ image. say_run run.cycles image)
-dialogue_of (Disassemble words side) = Say (source_text side words) (Exactly 0)
-dialogue_of (Assemble name) = with_source name (λ plans. SayWords plans listing (Exactly 0))
+-- what comes behind a run's script: its programs, and its text
+abbrev pub behind_script : DeviceMeaning → Run → Image → List ScriptEntry → Dialogue
+behind_script device run image script = with_programs run.pio [] (say_run (setting_of script device run.cycles) image)
+
+-- what comes behind its image
+abbrev pub behind_image : DeviceMeaning → Run → Image → Dialogue
+behind_image device run image = with_script run.script (behind_script device run image)
+
+-- a run loads its image, its script and its programs, and a listing its source; the source text of instruction words needs no file
+abbrev pub dialogue_of : DeviceMeaning → Command → Dialogue
+dialogue_of device (RunImage run) = with_image run.image (behind_image device run)
+dialogue_of device (Disassemble words side) = Say (source_text side words) (Exactly 0)
+dialogue_of device (Assemble name) = with_source name (λ plans. SayWords plans listing (λ programs. Exactly 0))

@@ -1,32 +1,49 @@
 -- What the opening of a call gives, by the walks of its dialogue: the project's own.
-use Rattle.std.specs.Prelude.{◌≡◌, ◌⊎◌, ℕ, ◌≤◌, List, Option, Result, Ok, Err, Vec}
+use Rattle.std.specs.Prelude.{◌≡◌, ◌⊎◌, ◌==◌, ℕ, ◌≤◌, if◌then◌else◌, List, [], ◌∷◌, ◌++◌, length, Option, Result, Ok, Err, Vec}
 use Rattle.std.specs.Global.{Global}
 use Rattle.rp_ports.specs.Shelf.{Files, Answers}
 use Rattle.rp_ports.specs.declared.shelf.Loaded.TheVariants.{Done}
 use Rattle.uf2_image.specs.declared.parts.Image.{Image}
 use Rattle.command_words.specs.Words.{Command}
+use Rattle.refusal_lines.specs.declared.Refusal.TheVariants.{Words, File, Large, Image as BadImage, Script, Source}
 use Rattle.refusal_lines.specs.Meant.{meant}
 use Rattle.refusal_lines.specs.Refusals.{line_of, status_of}
 use Rattle.pico_top.specs.Answer.{Puts, RunsOut}
+use Rattle.lane_look.specs.Device.{DeviceMeaning}
+use Rattle.outer_lane.specs.Setting.{Setting, setting_of}
+use Rattle.rp_machine.specs.declared.load.PioLoad.{PioLoad}
+use Rattle.pio_listing.specs.Placing.{with_places}
+use Rattle.pin_script.specs.Script.{script_of}
+use Rattle.pin_script.specs.declared.entry.Entry.{Entry as ScriptEntry}
+use Rattle.rp_machine.specs.Boot.{AreLoads, start}
+use Rattle.command_words.specs.Entries.{Entry}
+use Rattle.pico_top.specs.declared.open.Started.{Started}
 use Rattle.pico_top.specs.declared.open.Opened.{Opened}
 use Rattle.pico_top.specs.declared.open.Opened.TheVariants.{Machine, Text}
 use Rattle.pico_top.specs.declared.open.Stop.{Stop}
 use Rattle.pico_top.specs.declared.open.Stop.TheVariants.{Refusing, Memory}
 use Rattle.pico_top.specs.RunText.{run_text, run_cycles}
-use Rattle.pico_top.specs.Dialogue.{Cost, Dialogue, with_image}
-use Rattle.pico_top.specs.Dialogue.Dialogue.{Load}
+use Rattle.pio_asm.specs.Assembly.{Plan, IsProgram}
+use Rattle.pio_listing.specs.Listing.{plans_of}
+use Rattle.pico_top.specs.Loads.{Placed, placed_as, offset_of}
+use Rattle.pico_top.specs.Dialogue.{Cost, Dialogue, with_first, with_program, with_programs}
+use Rattle.pico_top.specs.Dialogue.Dialogue.{Load, JudgeSource, JudgePlace}
 use Rattle.pico_top.specs.Dialogue.Cost.{Exactly}
 use Rattle.pico_top.specs.Walk.{Ending, Walks, WalksFrom, failed_names}
 use Rattle.pico_top.specs.Walk.Ending.{Said, Refused}
 
--- the text of what was opened, and its cost
-abbrev pub opened_text : Opened → List ℕ
-opened_text (Machine started) = run_text started.limit started.machine
-opened_text (Text text) = text.items
+-- what the run of a machine is given
+abbrev pub setting_in : DeviceMeaning → Started → Setting
+setting_in device started = setting_of started.script device started.limit
 
-abbrev pub opened_cost : Opened → Cost
-opened_cost (Machine started) = Exactly (run_cycles started.limit started.machine)
-opened_cost (Text text) = Exactly 0
+-- the text of what was opened, and its cost
+abbrev pub opened_text : DeviceMeaning → Opened → List ℕ
+opened_text device (Machine started) = run_text (setting_in device started) started.machine
+opened_text device (Text text) = text.items
+
+abbrev pub opened_cost : DeviceMeaning → Opened → Cost
+opened_cost device (Machine started) = Exactly (run_cycles (setting_in device started) started.machine)
+opened_cost device (Text text) = Exactly 0
 
 -- a machine has not passed its limit
 abbrev pub IsReady : Opened → Type 0
@@ -38,16 +55,18 @@ abbrev pub StopsAs : Stop → Ending → Type 0
 StopsAs (Refusing refusal) e = e ≡ Refused (meant refusal)
 StopsAs Memory e = Unit {0}
 
-abbrev pub OpensAs : Result Opened Stop → Ending → Type 0
-OpensAs (Ok opened) e = (e ≡ Said (opened_text opened) (opened_cost opened)) × IsReady opened
-OpensAs (Err stop) e = StopsAs stop e
+abbrev pub OpensAs : DeviceMeaning → Result Opened Stop → Ending → Type 0
+OpensAs device (Ok opened) e = (e ≡ Said (opened_text device opened) (opened_cost device opened)) × IsReady opened
+OpensAs device (Err stop) e = StopsAs stop e
 
 -- a walk of the dialogue ended so, over a shelf with these files, and with these failed names before and after it
-abbrev pub Opens : Option Files → List (List ℕ) → List (List ℕ) → Dialogue → Result Opened Stop → Type 0
-Opens files failed failed' d result = (e : Ending) × Walks files d e × (failed' ≡ failed_names failed e) × OpensAs result e
+abbrev pub Opens : Option Files → List (List ℕ) → List (List ℕ) → DeviceMeaning → Dialogue → Result Opened Stop → Type 0
+Opens files failed failed' device d result =
+    (e : Ending) × Walks files d e × (failed' ≡ failed_names failed e) × OpensAs device result e
 
-abbrev pub OpensFrom : Option Files → List (List ℕ) → List (List ℕ) → Option Command → Result Opened Stop → Type 0
-OpensFrom files failed failed' asked result = (e : Ending) × WalksFrom files asked e × (failed' ≡ failed_names failed e) × OpensAs result e
+abbrev pub OpensFrom : Option Files → List (List ℕ) → List (List ℕ) → DeviceMeaning → Option Command → Result Opened Stop → Type 0
+OpensFrom files failed failed' device asked result =
+    (e : Ending) × WalksFrom files device asked e × (failed' ≡ failed_names failed e) × OpensAs device result e
 
 -- a walk of the dialogue ended in this stop
 abbrev pub Stops : Option Files → List (List ℕ) → List (List ℕ) → Dialogue → Stop → Type 0
@@ -63,6 +82,85 @@ abbrev pub Passes : {X : Type 0} → Option Files → List (List ℕ) → List (
 Passes {X} files failed failed' part (Ok x) =
     (failed' ≡ failed) × ((next : X → Dialogue) (e : Ending) → Walks files (next x) e → Walks files (part next) e)
 Passes {X} files failed failed' part (Err stop) = (next : X → Dialogue) → Stops files failed failed' (part next) stop
+
+-- the bytes' script, or its first fault
+abbrev pub ReadsScript : List ℕ → Result (List ScriptEntry) Stop → Type 0
+ReadsScript bytes (Ok script) = script_of bytes ≡ Ok script
+ReadsScript bytes (Err (Refusing (Script fault))) = script_of bytes ≡ Err fault
+ReadsScript bytes (Err (Refusing Words)) = ⊥
+ReadsScript bytes (Err (Refusing (File name))) = ⊥
+ReadsScript bytes (Err (Refusing (Large name long))) = ⊥
+ReadsScript bytes (Err (Refusing (BadImage fault))) = ⊥
+ReadsScript bytes (Err (Refusing (Source fault))) = ⊥
+ReadsScript bytes (Err Memory) = Unit {0}
+
+-- a machine in its first state, or memory ran out
+abbrev pub Boots : DeviceMeaning → Image → List ScriptEntry → List PioLoad → ℕ → Result Opened Stop → Type 0
+Boots device image script loads limit (Ok (Machine started)) =
+    (started.machine ≡ start device image loads) × (started.script ≡ script) × (started.limit ≡ limit)
+Boots device image script loads limit (Ok (Text text)) = ⊥
+Boots device image script loads limit (Err (Refusing refusal)) = ⊥
+Boots device image script loads limit (Err Memory) = Unit {0}
+
+-- ---- programs that have their places
+
+-- the places of a block that are taken, one bit each, behind some that are
+abbrev pub taken_by : ℕ → ℕ → List PioLoad → ℕ
+taken_by used block [] = used
+taken_by used block (load ∷ loads) =
+    taken_by (if load.block == block then with_places used load.offset (length load.program.words.items) else used) block loads
+
+pub record IsPlaced (p : Placed) (load : PioLoad) : Type 0 where
+  pub block : load.block ≡ p.block
+  pub machine : load.machine ≡ p.machine
+  pub offset : load.offset ≡ p.offset
+  pub program : IsProgram p.plan load.program
+
+abbrev pub ArePlaced : List Placed → List PioLoad → Type 0
+ArePlaced [] [] = Unit {0}
+ArePlaced [] (load ∷ loads) = ⊥
+ArePlaced (p ∷ ps) [] = ⊥
+ArePlaced (p ∷ ps) (load ∷ loads) = IsPlaced p load × ArePlaced ps loads
+
+-- Some programs stand before, and with one more, or the same, these are the loads: from them every walk of what comes behind
+-- is a walk of this part.
+abbrev pub LeadsOn : Option Files → List PioLoad → ((List Placed → Dialogue) → Dialogue) → Type 0
+LeadsOn files loads part =
+    AreLoads loads × ((after : List Placed) × ArePlaced after loads
+    × ((next : List Placed → Dialogue) (e : Ending) → Walks files (next after) e → Walks files (part next) e))
+
+-- the placing of a plan behind others
+abbrev pub place_part : Entry → List Placed → Plan → (List Placed → Dialogue) → Dialogue
+place_part entry before plan next = JudgePlace (offset_of entry before plan) (λ offset. next (before ++ placed_as entry plan offset ∷ []))
+
+abbrev pub PlacesAs : Entry → List Placed → Plan → List PioLoad → Result (Unit {0}) Stop → Type 0
+PlacesAs entry before plan loads (Ok done) = (files : Option Files) → LeadsOn files loads (place_part entry before plan)
+PlacesAs entry before plan loads (Err stop) =
+    (files : Option Files) (failed : List (List ℕ)) (next : List Placed → Dialogue) → Stops files failed failed (place_part entry before plan next) stop
+
+-- the judging of a source, and the placing of its first program
+abbrev pub source_part : Entry → List Placed → List ℕ → (List Placed → Dialogue) → Dialogue
+source_part entry before bytes next = JudgeSource (plans_of bytes) (with_first entry before next)
+
+abbrev pub AddsBehind : Entry → List Placed → List ℕ → List PioLoad → Result (Unit {0}) Stop → Type 0
+AddsBehind entry before bytes loads (Ok done) = (files : Option Files) → LeadsOn files loads (source_part entry before bytes)
+AddsBehind entry before bytes loads (Err stop) =
+    (files : Option Files) (failed : List (List ℕ)) (next : List Placed → Dialogue) → Stops files failed failed (source_part entry before bytes next) stop
+
+-- the program of an entry, with its load
+abbrev pub AddsAs : Option Files → List (List ℕ) → List (List ℕ) → Entry → List Placed → List PioLoad → Result (Unit {0}) Stop → Type 0
+AddsAs files failed failed' entry before loads (Ok done) = (failed' ≡ failed) × LeadsOn files loads (with_program entry before)
+AddsAs files failed failed' entry before loads (Err stop) =
+    (next : List Placed → Dialogue) → Stops files failed failed' (with_program entry before next) stop
+
+-- the programs of all entries have these places, or the walk ended in one of them
+abbrev pub LoadsAll : Option Files → List (List ℕ) → List (List ℕ) → List Entry → Result (Vec PioLoad Global) Stop → Type 0
+LoadsAll files failed failed' entries (Ok loads) =
+    (failed' ≡ failed) × AreLoads loads.items
+    × ((ps : List Placed) × ArePlaced ps loads.items
+    × ((next : List Placed → Dialogue) (e : Ending) → Walks files (next ps) e → Walks files (with_programs entries [] next) e))
+LoadsAll files failed failed' entries (Err stop) =
+    (next : List Placed → Dialogue) → Stops files failed failed' (with_programs entries [] next) stop
 
 -- the line of a refusal was put, or memory ran out
 abbrev pub Refuses : Option (List ℕ) → Option (List ℕ) → ℕ → ℕ → ℕ → Stop → Type 0

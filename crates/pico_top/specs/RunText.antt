@@ -1,11 +1,38 @@
 -- The text of a run: the project's own.
-use Rattle.std.specs.Prelude.{ℕ, ◌-◌, List, [], ◌++◌, Option, Some, None}
+use Rattle.std.specs.Prelude.{ℕ, ◌-◌, if◌then◌else◌, List, [], ◌∷◌, ◌++◌, flat_map, Option, Some, None}
 use Rattle.rp_base.specs.declared.Why.{Why}
-use Rattle.trace_text.specs.Line.{stop_text, register_text}
+use Rattle.word_bits.specs.Word.{has_bit}
+use Rattle.trace_text.specs.declared.event.Event.TheVariants as lines
+use Rattle.trace_text.specs.Line.{stop_text, register_text, event_text}
+use Rattle.outer_lane.specs.Setting.{Setting}
 use Rattle.rp_machine.specs.State.{State}
 use Rattle.rp_machine.specs.Cycle.{stop}
+use Rattle.rp_machine.specs.Events.{Event, changes_of}
+use Rattle.rp_machine.specs.Events.Event.{Byte, Pin}
 use Rattle.rp_machine.specs.Readers.{registers_of}
-use Rattle.rp_machine.specs.Run.{last_state}
+use Rattle.rp_machine.specs.Run.{last_state, all_events}
+
+-- the line of an event
+abbrev pub event_line : Event → List ℕ
+event_line (Byte cycle uart byte) = event_text (lines.Uart cycle uart byte)
+event_line (Pin cycle pin high) = event_text (lines.Pin cycle pin high)
+
+-- the lines of events, one after another
+unfoldable pub event_lines : List Event → List ℕ
+event_lines events = flat_map event_line events
+
+-- the lines of the pins whose levels changed
+unfoldable pub change_lines : ℕ → ℕ → ℕ → List ℕ
+change_lines cycle before after = event_lines (changes_of cycle before after)
+
+-- the byte of a UART, if it sent one
+abbrev pub byte_of : ℕ → ℕ → Option ℕ → List Event
+byte_of cycle uart None = []
+byte_of cycle uart (Some byte) = Byte cycle uart byte ∷ []
+
+-- a pin's new level, if it changed
+abbrev pub change_of : ℕ → ℕ → ℕ → ℕ → List Event
+change_of cycle changed after pin = if has_bit changed pin then Pin cycle pin (has_bit after pin) ∷ [] else []
 
 -- the line of the stop at a cycle
 abbrev pub stop_lines : Option Why → ℕ → List ℕ
@@ -17,13 +44,13 @@ abbrev pub core_lines : State → List ℕ
 core_lines s = register_text 0 (registers_of 0 s) ++ register_text 1 (registers_of 1 s)
 
 -- the lines of a state at which a run ended
-abbrev pub end_text : ℕ → State → List ℕ
-end_text limit s = stop_lines (stop limit s) s.cycle ++ core_lines s
+abbrev pub end_text : Setting → State → List ℕ
+end_text w s = stop_lines (stop w s) s.cycle ++ core_lines s
 
--- the text of the run from a state: the lines of the first state with a stop
-unfoldable pub run_text : ℕ → State → List ℕ
-run_text limit s = end_text limit (last_state limit s)
+-- the text of the run from a state: the lines of the events of all cycles, and those of the first state with a stop
+unfoldable pub run_text : Setting → State → List ℕ
+run_text w s = event_lines (all_events w s) ++ end_text w (last_state w s)
 
 -- how many cycles the run has: the number of the cycle that its last state would do next, from the one that its first would do
-unfoldable pub run_cycles : ℕ → State → ℕ
-run_cycles limit s = (last_state limit s).cycle - s.cycle
+unfoldable pub run_cycles : Setting → State → ℕ
+run_cycles w s = (last_state w s).cycle - s.cycle

@@ -1,5 +1,6 @@
 -- The walks of a dialogue over a shelf of files, and where they end. The project's own.
-use Rattle.std.specs.Prelude.{◌≡◌, ◌⊎◌, ℕ, nat_le, if◌then◌else◌, List, length, Option, Some, None, Result, Ok, Err}
+use Rattle.std.specs.Prelude.{◌≡◌, ◌⊎◌, ℕ, nat_le, if◌then◌else◌, List, length, Option, Some, None, Ok, Err}
+use Rattle.lane_look.specs.Device.{DeviceMeaning}
 use Rattle.rp_ports.specs.Shelf.{Files, Answers, failed_after}
 use Rattle.rp_ports.specs.declared.shelf.Loaded.{Loaded}
 use Rattle.rp_ports.specs.declared.shelf.Loaded.TheVariants.{Done, Large, Failed, Memory}
@@ -7,9 +8,9 @@ use Rattle.pio_asm.specs.Assembly.{ArePrograms}
 use Rattle.pio_asm.specs.declared.program.Program.{Program}
 use Rattle.command_words.specs.Words.{Command}
 use Rattle.refusal_lines.specs.Refusals.{Refusal}
-use Rattle.refusal_lines.specs.Refusals.Refusal.{BadWords, Lost, TooLarge, BadImage, BadSource}
+use Rattle.refusal_lines.specs.Refusals.Refusal.{BadWords, Lost, TooLarge, BadImage, BadScript, BadSource}
 use Rattle.pico_top.specs.Dialogue.{Cost, Dialogue, dialogue_of}
-use Rattle.pico_top.specs.Dialogue.Dialogue.{Load, JudgeImage, JudgeSource, SayWords, Say}
+use Rattle.pico_top.specs.Dialogue.Dialogue.{Load, JudgeImage, JudgeScript, JudgeSource, JudgePlace, SayWords, Say}
 
 -- how a walk ends: its text was said, an input was refused with every input before it accepted, or memory ran out
 pub data Ending : Type 0 where
@@ -31,16 +32,20 @@ Walks files (Load name limit next) e =
     (answer : Loaded) × (bytes : List ℕ) × Answers files name limit answer bytes × AfterLoad answer name e (Walks files (next bytes) e)
 Walks files (JudgeImage (Ok image) next) e = Walks files (next image) e ⊎ (e ≡ NoMemory)
 Walks files (JudgeImage (Err fault) next) e = (e ≡ Refused (BadImage fault)) ⊎ (e ≡ NoMemory)
+Walks files (JudgeScript (Ok script) next) e = Walks files (next script) e ⊎ (e ≡ NoMemory)
+Walks files (JudgeScript (Err fault) next) e = (e ≡ Refused (BadScript fault)) ⊎ (e ≡ NoMemory)
 Walks files (JudgeSource (Ok plans) next) e = Walks files (next plans) e ⊎ (e ≡ NoMemory)
 Walks files (JudgeSource (Err fault) next) e = (e ≡ Refused (BadSource fault)) ⊎ (e ≡ NoMemory)
+Walks files (JudgePlace (Ok offset) next) e = Walks files (next offset) e ⊎ (e ≡ NoMemory)
+Walks files (JudgePlace (Err fault) next) e = (e ≡ Refused (BadSource fault)) ⊎ (e ≡ NoMemory)
 Walks files (SayWords plans text cost) e =
-    ((programs : List Program) × ArePrograms plans programs × (e ≡ Said (text programs) cost)) ⊎ (e ≡ NoMemory)
+    ((programs : List Program) × ArePrograms plans programs × (e ≡ Said (text programs) (cost programs))) ⊎ (e ≡ NoMemory)
 Walks files (Say text cost) e = e ≡ Said text cost
 
 -- a walk from the reading of the words, which are refused where they have none
-abbrev pub WalksFrom : Option Files → Option Command → Ending → Type 0
-WalksFrom files None e = e ≡ Refused BadWords
-WalksFrom files (Some command) e = Walks files (dialogue_of command) e
+abbrev pub WalksFrom : Option Files → DeviceMeaning → Option Command → Ending → Type 0
+WalksFrom files device None e = e ≡ Refused BadWords
+WalksFrom files device (Some command) e = Walks files (dialogue_of device command) e
 
 -- the failed names of the shelf after a walk: one more where a load failed
 abbrev pub failed_names : List (List ℕ) → Ending → List (List ℕ)
@@ -49,6 +54,7 @@ failed_names failed (Refused BadWords) = failed
 failed_names failed (Refused (Lost name)) = failed_after failed name Failed
 failed_names failed (Refused (TooLarge name long)) = failed
 failed_names failed (Refused (BadImage fault)) = failed
+failed_names failed (Refused (BadScript fault)) = failed
 failed_names failed (Refused (BadSource fault)) = failed
 failed_names failed NoMemory = failed
 
@@ -64,11 +70,15 @@ abbrev pub first_refusal : Files → Dialogue → Option Refusal
 first_refusal files (Load name limit next) = on_held (files name) name limit (λ bytes. first_refusal files (next bytes))
 first_refusal files (JudgeImage (Ok image) next) = first_refusal files (next image)
 first_refusal files (JudgeImage (Err fault) next) = Some (BadImage fault)
+first_refusal files (JudgeScript (Ok script) next) = first_refusal files (next script)
+first_refusal files (JudgeScript (Err fault) next) = Some (BadScript fault)
 first_refusal files (JudgeSource (Ok plans) next) = first_refusal files (next plans)
 first_refusal files (JudgeSource (Err fault) next) = Some (BadSource fault)
+first_refusal files (JudgePlace (Ok offset) next) = first_refusal files (next offset)
+first_refusal files (JudgePlace (Err fault) next) = Some (BadSource fault)
 first_refusal files (SayWords plans text cost) = None
 first_refusal files (Say text cost) = None
 
-abbrev pub refusal_from : Files → Option Command → Option Refusal
-refusal_from files None = Some BadWords
-refusal_from files (Some command) = first_refusal files (dialogue_of command)
+abbrev pub refusal_from : Files → DeviceMeaning → Option Command → Option Refusal
+refusal_from files device None = Some BadWords
+refusal_from files device (Some command) = first_refusal files (dialogue_of device command)

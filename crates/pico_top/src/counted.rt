@@ -3,6 +3,7 @@
 ghost use Rattle.std.specs.Prelude.{◌≡◌, ◌<◌};
 
 use crate::pico;
+use lane_look::NoDevice;
 use rp_machine::Steps;
 use rp_ports::shelf::Shelf;
 use rp_ports::sink::Sink;
@@ -23,7 +24,7 @@ fn counted<F: Shelf, O: Sink, L: Ledger>(
 {
     let (book, share) = blank.open::<L>();
     let mut steps = Steps::new(book, share);
-    pico(alloc, words, files, out, &mut steps)
+    pico(alloc, words, files, out, NoDevice, &mut steps)
 }
 
 /// What `pico` answers.

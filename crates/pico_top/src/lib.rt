@@ -1,7 +1,9 @@
 //! The top call: the words of a command line, the files and the sink that are handed in, and the text that is written.
 #![tactic(auto)]
 
+mod events;
 mod open;
+mod programs;
 mod runner;
 mod send;
 mod tell;
@@ -13,6 +15,7 @@ ghost use Rattle.command_words.specs.Words.{reading};
 ghost use Rattle.pico_top.specs.Answer.{Converses};
 ghost use Rattle.pico_top.specs.Causes.{HasCause, IsComplete, IsStatus};
 
+use lane_look::Device;
 use open::open;
 use rp_machine::Steps;
 use rp_ports::shelf::Shelf;
@@ -22,20 +25,21 @@ use std::sync::ledger::Ledger;
 use tell::{refuse, tell_into};
 
 /// Loads the files that the words name, and writes the text.
-fn converse<F: Shelf, O: Sink, L: Ledger>(
+fn converse<F: Shelf, O: Sink, X: Device, L: Ledger>(
     alloc: Global,
     words: &[String],
     files: &mut F,
     out: &mut O,
+    device: &X,
     steps: &mut Steps<L>,
 ) -> u8
-    ensures { Converses record { words = map string_bytes words.now }
+    ensures { Converses record { words = map string_bytes words.now; device = X.meaning device.now }
         record { files = F.files files.old; failed = F.failed files.old; written = O.written out.old; faults = O.faults out.old; steps = steps.old }
         record { files = F.files files.new; failed = F.failed files.new; written = O.written out.new; faults = O.faults out.new; steps = steps.new }
         result }
 {
-    match open(alloc, words, files) {
-        Ok(opened) => tell_into(opened, out, steps),
+    match open(alloc, words, files, device) {
+        Ok(opened) => tell_into(opened, device, out, steps),
         Err(stop) => refuse(alloc, &stop, out),
     }
 }
@@ -43,19 +47,22 @@ fn converse<F: Shelf, O: Sink, L: Ledger>(
 /// Does what the words say: loads their files from the shelf, and writes the text to the sink.
 ///
 /// The answer is the status: 0 where the text was written, 2 where the words are refused, 3 where a file could not be
-/// loaded or is too large, 4 where the image has a fault, 5 where the PIO source has one, 7 where the sink failed, 9 where
-/// memory ran out. A refusal has its one line, `error ..`, for its text. Each cycle of a run counts as one of the `steps`.
-pub fn pico<F: Shelf, O: Sink, L: Ledger>(
+/// loaded or is too large, 4 where the image has a fault, 5 where a PIO source has one or its program finds no room, 6 where
+/// the script has one, 7 where the sink failed, 9 where memory ran out. A refusal has its one line, `error ..`, for its
+/// text. The `device` stands at the pads of a run and at the addresses that no block covers. Each cycle of a run counts as
+/// one of the `steps`.
+pub fn pico<F: Shelf, O: Sink, X: Device, L: Ledger>(
     alloc: Global,
     words: &[String],
     files: &mut F,
     out: &mut O,
+    device: X,
     steps: &mut Steps<L>,
 ) -> u8
     // A walk of the words' dialogue over the shelf ended, and its text was written whole with its status; or a part of it,
     // and the sink failed; or memory ran out, and the line that says so was written alone. So many steps were counted as
     // that text costs.
-    ensures text { Converses record { words = map string_bytes words.now }
+    ensures text { Converses record { words = map string_bytes words.now; device = X.meaning device }
         record { files = F.files files.old; failed = F.failed files.old; written = O.written out.old; faults = O.faults out.old; steps = steps.old }
         record { files = F.files files.new; failed = F.failed files.new; written = O.written out.new; faults = O.faults out.new; steps = steps.new }
         result }
@@ -64,8 +71,8 @@ pub fn pico<F: Shelf, O: Sink, L: Ledger>(
     ensures words { result ≡ 2 → reading (map string_bytes words.now) ≡ None }
     ensures refused { reading (map string_bytes words.now) ≡ None → IsStatus result 2 }
 
-    // Statuses 3, 4 and 5 come only of the input at which the walk ended.
-    ensures cause { HasCause record { words = map string_bytes words.now }
+    // Statuses 3 to 6 come only of the input at which the walk ended.
+    ensures cause { HasCause record { words = map string_bytes words.now; device = X.meaning device }
         record { files = F.files files.old; failed = F.failed files.old; written = O.written out.old; faults = O.faults out.old; steps = steps.old }
         record { files = F.files files.new; failed = F.failed files.new; written = O.written out.new; faults = O.faults out.new; steps = steps.new }
         result }
@@ -75,12 +82,12 @@ pub fn pico<F: Shelf, O: Sink, L: Ledger>(
 
     // Where the shelf tells its files and no load failed, the status is that of the dialogue over these files, unless the
     // sink failed or memory ran out.
-    ensures held { IsComplete record { words = map string_bytes words.now }
+    ensures held { IsComplete record { words = map string_bytes words.now; device = X.meaning device }
         record { files = F.files files.old; failed = F.failed files.old; written = O.written out.old; faults = O.faults out.old; steps = steps.old }
         record { files = F.files files.new; failed = F.failed files.new; written = O.written out.new; faults = O.faults out.new; steps = steps.new }
         result }
 {
-    converse(alloc, words, files, out, steps)
+    converse(alloc, words, files, out, &device, steps)
 }
 
 #[cfg(test)]
@@ -89,5 +96,7 @@ mod asm_tests;
 mod core_tests;
 #[cfg(test)]
 mod counted;
+#[cfg(test)]
+mod machine_tests;
 #[cfg(test)]
 mod tests;

@@ -1,21 +1,27 @@
 //! From the words to a machine that can run, or to what is refused.
 
 ghost use Rattle.std.specs.Prelude.{◌≡◌, ◌≤◌, ℕ, List, Option, Some, length, map, IfOk};
+ghost use Rattle.std.specs.Option.{option_map};
 ghost use Rattle.std.specs.String.{string_bytes};
+ghost use Rattle.lane_look.specs.Device.{DeviceMeaning};
 ghost use Rattle.rp_ports.specs.Shelf.{Files};
 ghost use Rattle.uf2_image.specs.Uf2.{FitsSram};
+ghost use Rattle.rp_machine.specs.Boot.{AreLoads};
 ghost use Rattle.command_words.specs.Words.{reading};
 ghost use Rattle.command_words.specs.Words.Command.{RunImage, Assemble, Disassemble};
-ghost use Rattle.command_words.specs.Read.{run_in};
-ghost use Rattle.pico_top.specs.Dialogue.{dialogue_of, with_image};
-ghost use Rattle.pico_top.specs.Opening.{Opens, OpensFrom, LoadsAs, Passes};
+ghost use Rattle.command_words.specs.Read.{run_in, command_in};
+ghost use Rattle.pico_top.specs.Dialogue.{dialogue_of, behind_image, behind_script, with_image, with_script};
+ghost use Rattle.pico_top.specs.Opening.{Opens, OpensFrom, LoadsAs, Passes, ReadsScript, Boots};
 
+use crate::programs::open_programs;
 use command_words::{DisWords, Reading, RunWords, WordsFault, read_words};
+use lane_look::Device;
+use pin_script::{Script, ScriptFault, read_script};
 use pio_disasm::write_source;
 use pio_listing::{listing, programs_in};
 use pio_parse::PioFault;
 use refusal_lines::Refusal;
-use rp_machine::Machine;
+use rp_machine::{Machine, PioLoad, World};
 use rp_ports::shelf::{Loaded, Shelf};
 use std::alloc::Global;
 use uf2_image::{Image, ImageFault, read_image};
@@ -23,8 +29,11 @@ use uf2_image::{Image, ImageFault, read_image};
 /// An image file has at most 16 MiB.
 const IMAGE_LIMIT: usize = 16_777_216;
 
+/// A script file has at most 4 MiB.
+const SCRIPT_LIMIT: usize = 4_194_304;
+
 /// A PIO source file has at most 1 MiB.
-const SOURCE_LIMIT: usize = 1_048_576;
+pub const SOURCE_LIMIT: usize = 1_048_576;
 
 /// Why nothing is opened.
 #[derive(Drop)]
@@ -35,11 +44,13 @@ pub enum Stop {
     Memory,
 }
 
-/// A machine that can run, and its limit of cycles.
+/// A machine that can run, with its script and its limit of cycles.
 #[derive(Drop)]
 pub struct Started {
     /// The machine before its first cycle.
     pub machine: Machine,
+    /// The levels that drive its pins.
+    pub script: Script,
     /// The limit, 1 to 1,000,000,000.
     pub limit: u64,
 }
@@ -54,7 +65,12 @@ pub enum Opened {
 }
 
 /// Loads a file of at most so many bytes.
-fn load<F: Shelf>(alloc: Global, name: &str, limit: usize, files: &mut F) -> Result<Vec<u8>, Stop>
+pub fn load<F: Shelf>(
+    alloc: Global,
+    name: &str,
+    limit: usize,
+    files: &mut F,
+) -> Result<Vec<u8>, Stop>
     ensures kept { F.files files.new ≡ F.files files.old }
     ensures answer { LoadsAs (F.files files.old) (F.failed files.old) (F.failed files.new) name.now limit result }
 {
@@ -89,27 +105,127 @@ fn open_image<F: Shelf>(alloc: Global, name: &str, files: &mut F) -> Result<Imag
     }
 }
 
-/// Loads the image of a run and boots the machine.
-fn open_run<F: Shelf>(alloc: Global, run: &RunWords, files: &mut F) -> Result<Opened, Stop>
+/// The script of a file's bytes.
+fn script_in(alloc: Global, bytes: &[u8]) -> Result<Script, Stop>
+    requires { length bytes.now ≤ SCRIPT_LIMIT }
+    ensures { ReadsScript bytes.now result }
+{
+    match read_script(alloc, bytes) {
+        Ok(script) => Ok(script),
+        Err(ScriptFault::Memory) => Err(Stop::Memory),
+        Err(fault) => Err(Stop::Refusing(Refusal::Script(fault))),
+    }
+}
+
+/// Loads the script file of a run and reads it; without one the script is that of an empty file.
+fn open_script<F: Shelf>(alloc: Global, run: &RunWords, files: &mut F) -> Result<Script, Stop>
     ensures kept { F.files files.new ≡ F.files files.old }
-    ensures answer { Opens (F.files files.old) (F.failed files.old) (F.failed files.new) (dialogue_of (RunImage (run_in run.now))) result }
+    ensures answer { Passes (F.files files.old) (F.failed files.old) (F.failed files.new)
+        (with_script (option_map string_bytes run.now.script)) result }
+{
+    match &run.script {
+        None => script_in(alloc, &[]),
+        Some(name) => match load(alloc, name.as_str(), SCRIPT_LIMIT, files) {
+            Ok(bytes) => script_in(alloc, &bytes),
+            Err(stop) => Err(stop),
+        },
+    }
+}
+
+/// Boots the machine of a run.
+fn boot<X: Device>(
+    alloc: Global,
+    image: &Image,
+    script: Script,
+    loads: &[PioLoad],
+    limit: u64,
+    device: &X,
+) -> Result<Opened, Stop>
+    requires image { FitsSram image.now }
+    requires loads { AreLoads loads.now }
+    ensures { Boots (X.meaning device.now) image.now script loads.now limit result }
+{
+    let world = World {
+        script: &script,
+        device,
+        limit,
+    };
+    match Machine::boot(alloc, image, loads, &world) {
+        Ok(machine) => Ok(Opened::Machine(Started {
+            machine,
+            script,
+            limit,
+        })),
+        Err(_) => Err(Stop::Memory),
+    }
+}
+
+/// Loads the programs of a run behind its image and its script, and boots the machine.
+fn open_behind_script<F: Shelf, X: Device>(
+    alloc: Global,
+    run: &RunWords,
+    image: &Image,
+    script: Script,
+    files: &mut F,
+    device: &X,
+) -> Result<Opened, Stop>
+    requires { FitsSram image.now }
+    ensures kept { F.files files.new ≡ F.files files.old }
+    ensures answer { Opens (F.files files.old) (F.failed files.old) (F.failed files.new) (X.meaning device.now)
+        (behind_script (X.meaning device.now) (run_in run.now) image.now script) result }
+{
+    match open_programs(alloc, &run.pio, files) {
+        Ok(loads) => boot(alloc, image, script, &loads, run.cycles, device),
+        Err(stop) => Err(stop),
+    }
+}
+
+/// Loads the script of a run behind its image, and then what comes behind it.
+fn open_behind_image<F: Shelf, X: Device>(
+    alloc: Global,
+    run: &RunWords,
+    image: &Image,
+    files: &mut F,
+    device: &X,
+) -> Result<Opened, Stop>
+    requires { FitsSram image.now }
+    ensures kept { F.files files.new ≡ F.files files.old }
+    ensures answer { Opens (F.files files.old) (F.failed files.old) (F.failed files.new) (X.meaning device.now)
+        (behind_image (X.meaning device.now) (run_in run.now) image.now) result }
+{
+    match open_script(alloc, run, files) {
+        Ok(script) => open_behind_script(alloc, run, image, script, files, device),
+        Err(stop) => Err(stop),
+    }
+}
+
+/// Loads the image of a run, and then what comes behind it.
+fn open_run<F: Shelf, X: Device>(
+    alloc: Global,
+    run: &RunWords,
+    files: &mut F,
+    device: &X,
+) -> Result<Opened, Stop>
+    ensures kept { F.files files.new ≡ F.files files.old }
+    ensures answer { Opens (F.files files.old) (F.failed files.old) (F.failed files.new) (X.meaning device.now)
+        (dialogue_of (X.meaning device.now) (RunImage (run_in run.now))) result }
 {
     match open_image(alloc, run.image.as_str(), files) {
-        Ok(image) => match Machine::boot(alloc, &image) {
-            Ok(machine) => Ok(Opened::Machine(Started {
-                machine,
-                limit: run.cycles,
-            })),
-            Err(_) => Err(Stop::Memory),
-        },
+        Ok(image) => open_behind_image(alloc, run, &image, files, device),
         Err(stop) => Err(stop),
     }
 }
 
 /// Loads a source and lists its programs.
-fn open_source<F: Shelf>(alloc: Global, name: &str, files: &mut F) -> Result<Opened, Stop>
+fn open_source<F: Shelf, X: Device>(
+    alloc: Global,
+    name: &str,
+    files: &mut F,
+    device: &X,
+) -> Result<Opened, Stop>
     ensures kept { F.files files.new ≡ F.files files.old }
-    ensures answer { Opens (F.files files.old) (F.failed files.old) (F.failed files.new) (dialogue_of (Assemble name.now)) result }
+    ensures answer { Opens (F.files files.old) (F.failed files.old) (F.failed files.new) (X.meaning device.now)
+        (dialogue_of (X.meaning device.now) (Assemble name.now)) result }
 {
     match load(alloc, name, SOURCE_LIMIT, files) {
         Ok(bytes) => match programs_in(alloc, &bytes) {
@@ -126,8 +242,8 @@ fn open_source<F: Shelf>(alloc: Global, name: &str, files: &mut F) -> Result<Ope
 
 /// The source text of instruction words.
 fn open_text(alloc: Global, asked: &DisWords) -> Result<Opened, Stop>
-    ensures { (files : Option Files) (failed : List (List ℕ))
-        → Opens files failed failed (dialogue_of (Disassemble asked.now.words.items asked.now.side)) result }
+    ensures { (files : Option Files) (failed : List (List ℕ)) (device : DeviceMeaning)
+        → Opens files failed failed device (dialogue_of device (Disassemble asked.now.words.items asked.now.side)) result }
 {
     match write_source(alloc, &asked.words, &asked.side) {
         Ok(text) => Ok(Opened::Text(text)),
@@ -135,15 +251,37 @@ fn open_text(alloc: Global, asked: &DisWords) -> Result<Opened, Stop>
     }
 }
 
-/// Reads the words, loads the files that they name, and boots the machine or makes the text.
-pub fn open<F: Shelf>(alloc: Global, words: &[String], files: &mut F) -> Result<Opened, Stop>
+/// Loads the files that a reading names, and boots the machine or makes the text.
+fn open_reading<F: Shelf, X: Device>(
+    alloc: Global,
+    reading: &Reading,
+    files: &mut F,
+    device: &X,
+) -> Result<Opened, Stop>
     ensures kept { F.files files.new ≡ F.files files.old }
-    ensures answer { OpensFrom (F.files files.old) (F.failed files.old) (F.failed files.new) (reading (map string_bytes words.now)) result }
+    ensures answer { Opens (F.files files.old) (F.failed files.old) (F.failed files.new) (X.meaning device.now)
+        (dialogue_of (X.meaning device.now) (command_in reading.now)) result }
+{
+    match reading {
+        Reading::Run(run) => open_run(alloc, run, files, device),
+        Reading::Dis(asked) => open_text(alloc, asked),
+        Reading::Asm(name) => open_source(alloc, name.as_str(), files, device),
+    }
+}
+
+/// Reads the words, loads the files that they name, and boots the machine or makes the text.
+pub fn open<F: Shelf, X: Device>(
+    alloc: Global,
+    words: &[String],
+    files: &mut F,
+    device: &X,
+) -> Result<Opened, Stop>
+    ensures kept { F.files files.new ≡ F.files files.old }
+    ensures answer { OpensFrom (F.files files.old) (F.failed files.old) (F.failed files.new) (X.meaning device.now)
+        (reading (map string_bytes words.now)) result }
 {
     match read_words(alloc, words) {
-        Ok(Reading::Run(run)) => open_run(alloc, &run, files),
-        Ok(Reading::Dis(asked)) => open_text(alloc, &asked),
-        Ok(Reading::Asm(name)) => open_source(alloc, name.as_str(), files),
+        Ok(reading) => open_reading(alloc, &reading, files, device),
         Err(WordsFault::Words) => Err(Stop::Refusing(Refusal::Words)),
         Err(WordsFault::Memory) => Err(Stop::Memory),
     }

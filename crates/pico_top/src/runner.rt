@@ -1,26 +1,94 @@
 //! A run: cycle after cycle, up to the first state that has a stop.
 
-ghost use Rattle.std.specs.Prelude.{◌≡◌, ◌+◌, ◌≤◌, Some};
-ghost use Rattle.rp_machine.specs.Cycle.{stop};
-ghost use Rattle.rp_machine.specs.Run.{last_state};
+ghost use Rattle.std.specs.Prelude.{◌≡◌, ◌+◌, ◌≤◌, [], Some, IfOk};
+ghost use Rattle.outer_lane.specs.Setting.{setting_of};
+ghost use Rattle.trace_text.specs.Sent.{Sends};
+ghost use Rattle.rp_machine.specs.Cycle.{stop, next};
+ghost use Rattle.rp_machine.specs.Events.{events};
+ghost use Rattle.rp_machine.specs.Run.{last_state, all_events, unless_stopped};
+ghost use Rattle.pico_top.specs.RunText.{event_lines};
+ghost use Rattle.pico_top.specs.Came.{cause_in, sent_in};
 
-use lane_look::Marks;
+use crate::events::send_events;
+use lane_look::{Device, Marks};
 use rp_base::Why;
 use rp_machine::{Machine, Steps, World};
+use rp_ports::sink::Sink;
 use std::sync::ledger::Ledger;
+use trace_text::writer::{SinkFault, Writer};
 
-/// Steps a machine up to its first stop, and answers its cause. Each cycle counts as a step.
-pub fn run_to_stop<L: Ledger>(machine: &mut Machine, world: &World, steps: &mut Steps<L>) -> Why
+/// What came of a cycle.
+#[derive(Clone, Copy)]
+pub enum Came {
+    /// It was done, and the lines of its events were put.
+    Done,
+    /// It was not done, for this cause.
+    Stopped(Why),
+    /// It was done, and the sink failed at the lines of its events.
+    Failed(SinkFault),
+}
+
+/// Does one cycle and puts the lines of its events; or does nothing, where there is a stop.
+fn step<X: Device, O: Sink, L: Ledger>(
+    machine: &mut Machine,
+    world: &World<'_, X>,
+    marks: &mut Marks,
+    writer: &mut Writer<'_, O>,
+    steps: &mut Steps<L>,
+) -> Came
     requires { machine.old.cycle ≤ world.now.limit }
-    ensures state { machine.new ≡ last_state world.now.limit machine.old }
-    ensures cause { stop world.now.limit machine.new ≡ Some result }
+    ensures cause { stop (setting_of world.now.script.now (X.meaning world.now.device.now) world.now.limit) machine.old
+        ≡ cause_in result }
+    ensures state { machine.new ≡ unless_stopped (cause_in result) machine.old
+        (next (setting_of world.now.script.now (X.meaning world.now.device.now) world.now.limit) machine.old) }
+    ensures steps { steps.new ≡ unless_stopped (cause_in result) steps.old (steps.old + 1) }
+    ensures sends { Sends (O.written writer.old.out.now) (O.written writer.new.out.now)
+        (O.faults writer.old.out.now) (O.faults writer.new.out.now)
+        (event_lines (unless_stopped (cause_in result) []
+        (events (setting_of world.now.script.now (X.meaning world.now.device.now) world.now.limit) machine.old)))
+        (sent_in result) }
+    ensures same_sink { writer.new.out.ghost_name ≡ writer.old.out.ghost_name }
+{
+    let cycle = machine.number();
+    let before = machine.pads();
+    match machine.cycle(world, marks, steps) {
+        Some(why) => Came::Stopped(why),
+        None => match send_events(cycle, before, &marks.entry(0), writer) {
+            Ok(()) => Came::Done,
+            Err(fault) => Came::Failed(fault),
+        },
+    }
+}
+
+/// Steps a machine up to its first stop, puts the lines of the events, and answers the stop's cause. Each cycle counts as a
+/// step.
+pub fn run_to_stop<X: Device, O: Sink, L: Ledger>(
+    machine: &mut Machine,
+    world: &World<'_, X>,
+    writer: &mut Writer<'_, O>,
+    steps: &mut Steps<L>,
+) -> Result<Why, SinkFault>
+    requires { machine.old.cycle ≤ world.now.limit }
+    ensures sends { Sends (O.written writer.old.out.now) (O.written writer.new.out.now)
+        (O.faults writer.old.out.now) (O.faults writer.new.out.now)
+        (event_lines (all_events (setting_of world.now.script.now (X.meaning world.now.device.now) world.now.limit) machine.old))
+        result }
+    ensures same_sink { writer.new.out.ghost_name ≡ writer.old.out.ghost_name }
+    ensures state { IfOk result (λ why. machine.new
+        ≡ last_state (setting_of world.now.script.now (X.meaning world.now.device.now) world.now.limit) machine.old) }
+    ensures cause { IfOk result (λ why.
+        stop (setting_of world.now.script.now (X.meaning world.now.device.now) world.now.limit) machine.new ≡ Some why) }
     ensures forward { machine.old.cycle ≤ machine.new.cycle }
+    ensures within { machine.new.cycle
+        ≤ (last_state (setting_of world.now.script.now (X.meaning world.now.device.now) world.now.limit) machine.old).cycle }
     ensures steps { steps.new + machine.old.cycle ≡ steps.old + machine.new.cycle }
 {
     let mut marks = Marks::new();
-    loop {
-        if let Some(why) = machine.cycle(world, &mut marks, steps) {
-            return why;
+    'cycles: loop {
+        match step(machine, world, &mut marks, writer, steps) {
+            Came::Done => continue 'cycles,
+            Came::Stopped(why) => return Ok(why),
+            Came::Failed(fault) => return Err(fault),
         }
     }
 }

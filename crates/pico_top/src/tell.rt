@@ -6,11 +6,12 @@ ghost use Rattle.refusal_lines.specs.Refusals.{line_of, status_of};
 ghost use Rattle.refusal_lines.specs.Meant.{meant};
 ghost use Rattle.pico_top.specs.RunText.{run_text, run_cycles};
 ghost use Rattle.pico_top.specs.Answer.{Puts, RunsOut, Ticks, most};
-ghost use Rattle.pico_top.specs.Opening.{opened_text, opened_cost, IsReady, Refuses};
+ghost use Rattle.pico_top.specs.Opening.{setting_in, opened_text, opened_cost, IsReady, Refuses};
 
 use crate::open::{Opened, Started, Stop};
 use crate::runner::run_to_stop;
 use crate::send::{send_end, send_text};
+use lane_look::Device;
 use refusal_lines::{refusal_line, status};
 use rp_machine::{Steps, World};
 use rp_ports::sink::Sink;
@@ -18,54 +19,75 @@ use std::alloc::Global;
 use std::sync::ledger::Ledger;
 use trace_text::writer::{SinkFault, Writer};
 
-/// Runs a machine and puts the lines of its end.
-fn run<O: Sink, L: Ledger>(
+/// Runs a machine, puts the lines of its events, and then those of its end.
+fn run<X: Device, O: Sink, L: Ledger>(
     started: Started,
+    device: &X,
     writer: &mut Writer<'_, O>,
     steps: &mut Steps<L>,
 ) -> Result<(), SinkFault>
     requires { started.machine.cycle ≤ started.limit }
     ensures sends { Sends (O.written writer.old.out.now) (O.written writer.new.out.now)
-        (O.faults writer.old.out.now) (O.faults writer.new.out.now) (run_text started.limit started.machine) result }
+        (O.faults writer.old.out.now) (O.faults writer.new.out.now)
+        (run_text (setting_in (X.meaning device.now) started) started.machine) result }
     ensures same_sink { writer.new.out.ghost_name ≡ writer.old.out.ghost_name }
-    ensures steps { steps.new ≡ steps.old + run_cycles started.limit started.machine }
+    ensures whole { OnOk result (steps.new ≡ steps.old + run_cycles (setting_in (X.meaning device.now) started) started.machine) }
+    ensures forward { steps.old ≤ steps.new }
+    ensures within { steps.new ≤ steps.old + run_cycles (setting_in (X.meaning device.now) started) started.machine }
 {
-    let Started { mut machine, limit } = started;
-    let why = run_to_stop(&mut machine, &World { limit }, steps);
-    send_end(&why, &machine, writer)
+    let Started {
+        mut machine,
+        script,
+        limit,
+    } = started;
+    let world = World {
+        script: &script,
+        device,
+        limit,
+    };
+    match run_to_stop(&mut machine, &world, writer, steps) {
+        Ok(why) => send_end(&why, &machine, writer),
+        Err(fault) => Err(fault),
+    }
 }
 
 /// Puts the text of what was opened.
-fn tell<O: Sink, L: Ledger>(
+fn tell<X: Device, O: Sink, L: Ledger>(
     opened: Opened,
+    device: &X,
     writer: &mut Writer<'_, O>,
     steps: &mut Steps<L>,
 ) -> Result<(), SinkFault>
     requires { IsReady opened }
     ensures sends { Sends (O.written writer.old.out.now) (O.written writer.new.out.now)
-        (O.faults writer.old.out.now) (O.faults writer.new.out.now) (opened_text opened) result }
+        (O.faults writer.old.out.now) (O.faults writer.new.out.now) (opened_text (X.meaning device.now) opened) result }
     ensures same_sink { writer.new.out.ghost_name ≡ writer.old.out.ghost_name }
-    ensures whole { OnOk result (Ticks (opened_cost opened) steps.old steps.new) }
+    ensures whole { OnOk result (Ticks (opened_cost (X.meaning device.now) opened) steps.old steps.new) }
     ensures forward { steps.old ≤ steps.new }
-    ensures within { steps.new ≤ steps.old + most (opened_cost opened) }
+    ensures within { steps.new ≤ steps.old + most (opened_cost (X.meaning device.now) opened) }
 {
     match opened {
-        Opened::Machine(started) => run(started, writer, steps),
+        Opened::Machine(started) => run(started, device, writer, steps),
         Opened::Text(text) => send_text(&text, writer),
     }
 }
 
 /// Puts the text of what was opened into a sink, and answers 0, or 7 where the sink fails.
-pub fn tell_into<O: Sink, L: Ledger>(opened: Opened, out: &mut O, steps: &mut Steps<L>) -> u8
+pub fn tell_into<X: Device, O: Sink, L: Ledger>(
+    opened: Opened,
+    device: &X,
+    out: &mut O,
+    steps: &mut Steps<L>,
+) -> u8
     requires { IsReady opened }
     ensures puts { Puts (O.written out.old) (O.written out.new) (O.faults out.old) (O.faults out.new)
-        result 0 (opened_text opened) }
-    ensures whole { result ≡ 0 → Ticks (opened_cost opened) steps.old steps.new }
+        result 0 (opened_text (X.meaning device.now) opened) }
+    ensures whole { result ≡ 0 → Ticks (opened_cost (X.meaning device.now) opened) steps.old steps.new }
     ensures forward { steps.old ≤ steps.new }
-    ensures within { steps.new ≤ steps.old + most (opened_cost opened) }
+    ensures within { steps.new ≤ steps.old + most (opened_cost (X.meaning device.now) opened) }
 {
     let mut writer = Writer { out };
-    match tell(opened, &mut writer, steps) {
+    match tell(opened, device, &mut writer, steps) {
         Ok(()) => 0,
         Err(_) => 7,
     }

@@ -17,3 +17,4 @@ pub mod TreeValues
 pub mod Valued
 pub mod Planning
 pub mod Keeping
+pub mod Wholeness

@@ -11,3 +11,4 @@ pub mod Step
 pub mod Assembly
 pub mod Place
 pub mod Returns
+pub mod Whole

@@ -1,1 +1,4 @@
+pub mod First
+pub mod Fitting
+pub mod Places
 pub mod Sources

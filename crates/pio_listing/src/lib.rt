@@ -1,14 +1,18 @@
 //! The programs of a PIO source file, and their listing.
 #![tactic(auto)]
 
+mod placing;
+
 ghost use Rattle.std.specs.Prelude.{◌≡◌, ◌++◌, length, flat_map, take, IfOk, IfErr, OnOk, decimal};
 ghost use Rattle.pio_asm.specs.Assembly.{Assembles, IsFaultOf};
+ghost use Rattle.pio_listing.specs.Fitting.{IsFirst};
 ghost use Rattle.pio_listing.specs.Listing.{plans_of, origin_text, flag_text, wrap_text, side_text, program_line, word_line, program_text, listing};
 
 use itoa::Buffer;
 use pio_asm::{Program, assemble};
 use pio_disasm::hex_digits;
 use pio_parse::{PioFault, parse};
+pub use placing::{offset_for, with_places};
 use pio_words::SideConfig;
 use std::alloc::{AllocError, Global};
 
@@ -20,6 +24,19 @@ pub fn programs_in(alloc: Global, bytes: &[u8]) -> Result<Vec<Program>, PioFault
     match parse(alloc, bytes) {
         Ok(source) => assemble(alloc, &source),
         Err(fault) => Err(fault),
+    }
+}
+
+/// The first program of a file; none where it has none, and its first fault where it has one.
+pub fn first_program(alloc: Global, bytes: &[u8]) -> Result<Option<Program>, PioFault>
+    ensures ok { IfOk result (λ program. IsFirst program (plans_of bytes.now)) }
+    ensures err { IfErr result (IsFaultOf (plans_of bytes.now)) }
+{
+    let mut programs = programs_in(alloc, bytes)?;
+    if programs.is_empty() {
+        Ok(None)
+    } else {
+        Ok(Some(programs.remove(0)))
     }
 }
 

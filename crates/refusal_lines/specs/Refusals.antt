@@ -3,16 +3,19 @@ use Rattle.std.specs.Prelude.{ℕ, List, ◌++◌, codes, decimal}
 use Rattle.trace_text.specs.Line.{hex_word}
 use Rattle.uf2_image.specs.declared.fault.ImageFault.{ImageFault}
 use Rattle.uf2_image.specs.declared.fault.ImageFault.TheVariants.{Empty, Ragged, Magic, Payload, Count, Number, Repeat, Flash, Address, Overlap, Missing, Nothing, Memory}
+use Rattle.pin_script.specs.declared.fault.ScriptFault.{ScriptFault}
+use Rattle.pin_script.specs.declared.fault.ScriptFault.TheVariants as script
 use Rattle.pio_parse.specs.declared.fault.PioFault.{PioFault}
 use Rattle.pio_parse.specs.declared.fault.PioFault.TheVariants as pio
 
--- what is refused: the words, a file that could not be loaded, a file of this length, which is above its limit, an image and a
--- PIO source by their first fault
+-- what is refused: the words, a file that could not be loaded, a file of this length, which is above its limit, an image, a
+-- script and a PIO source by their first fault (a program that finds no room is a fault of its source)
 pub data Refusal : Type 0 where
   BadWords : Refusal
   Lost : (name : List ℕ) → Refusal
   TooLarge : (name : List ℕ) → (long : ℕ) → Refusal
   BadImage : (fault : ImageFault) → Refusal
+  BadScript : (fault : ScriptFault) → Refusal
   BadSource : (fault : PioFault) → Refusal
 
 -- a number after a space, and an address
@@ -41,6 +44,21 @@ fault_words Memory = codes "13 Memory"
 abbrev pub image_line : ImageFault → List ℕ
 image_line fault = codes "error image " ++ fault_words fault ++ codes "\n"
 
+-- a script's fault: its number, its name and its line
+unfoldable pub script_fault_words : ScriptFault → List ℕ
+script_fault_words (script.Form line) = codes "1 Form" ++ then_number line
+script_fault_words (script.Number line) = codes "2 Number" ++ then_number line
+script_fault_words (script.Pin line) = codes "3 Pin" ++ then_number line
+script_fault_words (script.Order line) = codes "4 Order" ++ then_number line
+script_fault_words (script.TooMany line) = codes "5 TooMany" ++ then_number line
+script_fault_words script.Memory = codes "6 Memory"
+script_fault_words (script.Version line) = codes "7 Version" ++ then_number line
+script_fault_words (script.Divisor line) = codes "8 Divisor" ++ then_number line
+script_fault_words (script.Bytes line) = codes "9 Bytes" ++ then_number line
+
+abbrev pub script_line : ScriptFault → List ℕ
+script_line fault = codes "error script " ++ script_fault_words fault ++ codes "\n"
+
 -- a PIO fault: its number, its name, then its line and column, or its line
 unfoldable pub pio_fault_words : PioFault → List ℕ
 pio_fault_words (pio.Char line column) = codes "1 Char" ++ then_number line ++ then_number column
@@ -65,6 +83,7 @@ line_of BadWords = codes "error words\n"
 line_of (Lost name) = codes "error file " ++ name ++ codes "\n"
 line_of (TooLarge name long) = codes "error large " ++ name ++ codes " " ++ decimal long ++ codes "\n"
 line_of (BadImage fault) = image_line fault
+line_of (BadScript fault) = script_line fault
 line_of (BadSource fault) = pio_line fault
 
 -- its status
@@ -74,3 +93,4 @@ status_of (Lost name) = 3
 status_of (TooLarge name long) = 3
 status_of (BadImage fault) = 4
 status_of (BadSource fault) = 5
+status_of (BadScript fault) = 6

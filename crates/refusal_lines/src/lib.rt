@@ -3,11 +3,12 @@
 
 ghost use Rattle.std.specs.Prelude.{◌≡◌, ◌+◌, ◌≤◌, ◌++◌, length, codes, decimal, IfOk};
 ghost use Rattle.arrayvec.specs.ArrayVec.{array_vec_len};
-ghost use Rattle.refusal_lines.specs.Refusals.{fault_words, image_line, pio_fault_words, pio_line, then_number, then_address, line_of, status_of};
+ghost use Rattle.refusal_lines.specs.Refusals.{fault_words, image_line, script_fault_words, script_line, pio_fault_words, pio_line, then_number, then_address, line_of, status_of};
 ghost use Rattle.refusal_lines.specs.Meant.{meant};
 
 use arrayvec::ArrayVec;
 use itoa::Buffer;
+use pin_script::ScriptFault;
 use pio_parse::PioFault;
 use std::alloc::{AllocError, Global};
 use trace_text::line::{push_number, push_text, push_word};
@@ -24,7 +25,9 @@ pub enum Refusal {
     Large(String, u64),
     /// The file is no image.
     Image(ImageFault),
-    /// The file is no PIO source, or its programs have a fault.
+    /// The file is no script.
+    Script(ScriptFault),
+    /// The file is no PIO source, its programs have a fault, or the first one finds no room.
     Source(PioFault),
 }
 
@@ -141,6 +144,37 @@ fn image_fault_line(fault: &ImageFault) -> ArrayVec<u8, FAULT>
     line
 }
 
+/// Appends a script fault's number, its name and its line.
+#[tactic(auto, unfolding(crate::specs::Refusals::script_fault_words))]
+fn push_script_fault(fault: &ScriptFault, out: &mut ArrayVec<u8, FAULT>)
+    requires { array_vec_len out.old + 64 ≤ FAULT }
+    ensures text { out.new.items ≡ out.old.items ++ script_fault_words fault.now }
+    ensures short { array_vec_len out.new ≤ array_vec_len out.old + 64 }
+{
+    match *fault {
+        ScriptFault::Form(line) => push_one(b"1 Form", u64::from(line), out),
+        ScriptFault::Number(line) => push_one(b"2 Number", u64::from(line), out),
+        ScriptFault::Pin(line) => push_one(b"3 Pin", u64::from(line), out),
+        ScriptFault::Order(line) => push_one(b"4 Order", u64::from(line), out),
+        ScriptFault::TooMany(line) => push_one(b"5 TooMany", u64::from(line), out),
+        ScriptFault::Memory => push_text(b"6 Memory", out),
+        ScriptFault::Version(line) => push_one(b"7 Version", u64::from(line), out),
+        ScriptFault::Divisor(line) => push_one(b"8 Divisor", u64::from(line), out),
+        ScriptFault::Bytes(line) => push_one(b"9 Bytes", u64::from(line), out),
+    }
+}
+
+/// The line of a script fault.
+fn script_fault_line(fault: &ScriptFault) -> ArrayVec<u8, FAULT>
+    ensures { result.items ≡ script_line fault.now }
+{
+    let mut line = ArrayVec::new();
+    push_text(b"error script ", &mut line);
+    push_script_fault(fault, &mut line);
+    push_text(b"\n", &mut line);
+    line
+}
+
 /// Appends a PIO fault's number and its name, then its line and column, or its line.
 #[tactic(auto, unfolding(crate::specs::Refusals::pio_fault_words))]
 fn push_pio_fault(fault: &PioFault, out: &mut ArrayVec<u8, FAULT>)
@@ -208,6 +242,7 @@ pub fn refusal_line(alloc: Global, refusal: &Refusal) -> Result<Vec<u8>, AllocEr
         Refusal::File(name) => file_line(alloc, name.as_str()),
         Refusal::Large(name, length) => large_line(alloc, name.as_str(), *length),
         Refusal::Image(fault) => Vec::from_slice(alloc, &image_fault_line(fault)),
+        Refusal::Script(fault) => Vec::from_slice(alloc, &script_fault_line(fault)),
         Refusal::Source(fault) => Vec::from_slice(alloc, &pio_fault_line(fault)),
     }
 }
@@ -221,5 +256,6 @@ pub fn status(refusal: &Refusal) -> u8
         Refusal::File(_) | Refusal::Large(_, _) => 3,
         Refusal::Image(_) => 4,
         Refusal::Source(_) => 5,
+        Refusal::Script(_) => 6,
     }
 }

@@ -1,14 +1,44 @@
-use Rattle.std.proofs.Common.{◌≡◌, ◌+◌, ◌∙◌, sym, ap, arith}
-use Rattle.rp_machine.proofs.Runs.{last_here, step_nearer, step_goes_on, step_counts, step_forward}
+use Rattle.std.proofs.Common.{refl, ◌∙◌}
+use Rattle.pico_top.proofs.Running.{going_first, going_on, going_nearer, stopped_sends, stopped_state, stopped_cause, stopped_forward, stopped_within, stopped_steps, failed_sends, failed_forward, failed_within, failed_steps}
 use Rattle.pico_top.proofs.runner.run_to_stop.Goals as goal
 
-pub returns-in-Some-clause-state : goal.returns-in-Some-clause-state
-returns-in-Some-clause-state g c = c.in-Some.ensures.state ∙ sym (last_here _ _ _ (sym c.in-Some.ensures.cause)) ∙ c.loop-why.invariant.1
+pub cycles-init : goal.cycles-init
+cycles-init g c = (going_first _ _ _ _ _ c.requires, refl)
 
-pub loop-why-smaller : goal.loop-why-smaller
-loop-why-smaller g c = step_nearer _ _ _ (sym c.in_default.ensures.cause) c.in_default.ensures.state c.loop-why.invariant.0
+pub cycles-smaller : goal.cycles-smaller
+cycles-smaller g c = let h = c.in-Done.ensures in going_nearer _ _ _ _ _ _ _ _ _ _ c.cycles.invariant.0 h.cause h.state
 
-pub loop-why-preserved : goal.loop-why-preserved
-loop-why-preserved g c =
-    let goes = step_goes_on _ _ _ _ (sym c.in_default.ensures.cause) c.in_default.ensures.state c.loop-why.invariant.0 c.loop-why.invariant.1 in
-    (goes.0, goes.1, step_counts _ _ _ _ _ _ c.in_default.ensures.state c.in_default.ensures.steps c.loop-why.invariant.2, step_forward _ _ _ c.in_default.ensures.state c.loop-why.invariant.3)
+pub cycles-preserved : goal.cycles-preserved
+cycles-preserved g c =
+    let h = c.in-Done.ensures in
+    (going_on _ _ _ _ _ _ _ _ _ _ _ _ _ _ c.cycles.invariant.0 h.cause h.state h.steps h.sends, h.same_sink ∙ c.cycles.invariant.1)
+
+pub returns-in-Stopped-clause-sends : goal.returns-in-Stopped-clause-sends
+returns-in-Stopped-clause-sends g c = let h = c.in-Stopped.ensures in stopped_sends _ _ _ _ _ _ _ _ _ _ _ c.in-Stopped.why _ _ c.cycles.invariant.0 h.cause h.sends
+
+pub returns-in-Stopped-clause-state : goal.returns-in-Stopped-clause-state
+returns-in-Stopped-clause-state g c = let h = c.in-Stopped.ensures in stopped_state _ _ _ _ _ _ _ _ _ _ c.in-Stopped.why c.cycles.invariant.0 h.cause h.state
+
+pub returns-in-Stopped-clause-cause : goal.returns-in-Stopped-clause-cause
+returns-in-Stopped-clause-cause g c = let h = c.in-Stopped.ensures in stopped_cause _ _ _ c.in-Stopped.why h.cause h.state
+
+pub returns-in-Stopped-clause-forward : goal.returns-in-Stopped-clause-forward
+returns-in-Stopped-clause-forward g c = let h = c.in-Stopped.ensures in stopped_forward _ _ _ _ _ _ _ _ _ _ c.cycles.invariant.0 h.state
+
+pub returns-in-Stopped-clause-within : goal.returns-in-Stopped-clause-within
+returns-in-Stopped-clause-within g c = let h = c.in-Stopped.ensures in stopped_within _ _ _ _ _ _ _ _ _ _ c.cycles.invariant.0 h.state
+
+pub returns-in-Stopped-clause-steps : goal.returns-in-Stopped-clause-steps
+returns-in-Stopped-clause-steps g c = let h = c.in-Stopped.ensures in stopped_steps _ _ _ _ _ _ _ _ _ _ _ c.cycles.invariant.0 h.state h.steps
+
+pub returns-in-Failed-clause-sends : goal.returns-in-Failed-clause-sends
+returns-in-Failed-clause-sends g c = let h = c.in-Failed.ensures in failed_sends _ _ _ _ _ _ _ _ _ _ _ _ _ c.cycles.invariant.0 h.cause h.state h.sends
+
+pub returns-in-Failed-clause-forward : goal.returns-in-Failed-clause-forward
+returns-in-Failed-clause-forward g c = let h = c.in-Failed.ensures in failed_forward _ _ _ _ _ _ _ _ _ _ c.cycles.invariant.0 h.state
+
+pub returns-in-Failed-clause-within : goal.returns-in-Failed-clause-within
+returns-in-Failed-clause-within g c = let h = c.in-Failed.ensures in failed_within _ _ _ _ _ _ _ _ _ _ c.cycles.invariant.0 h.cause h.state
+
+pub returns-in-Failed-clause-steps : goal.returns-in-Failed-clause-steps
+returns-in-Failed-clause-steps g c = let h = c.in-Failed.ensures in failed_steps _ _ _ _ _ _ _ _ _ _ _ c.cycles.invariant.0 h.state h.steps

@@ -1,14 +1,13 @@
-use Rattle.std.proofs.Common.{◌≡◌, ◌≤◌, ◌-◌, ◌+◌}
-use Rattle.rp_machine.specs.Run.{last_state}
+use Rattle.std.proofs.Common.{◌≡◌, ◌-◌}
+use Rattle.outer_lane.specs.Setting.{setting_of}
+use Rattle.pico_top.proofs.Running.{Going}
 use Rattle.pico_top.proofs.runner.run_to_stop.Given as goal
 
--- the run from here ends where the whole run ends, and each cycle so far was counted
-abbrev pub invariant-loop-why : goal.invariant-loop-why
-invariant-loop-why g l =
-    (l.machine.cycle ≤ l.world.limit)
-    × (last_state l.world.limit l.machine ≡ last_state l.world.limit l.initial.machine)
-    × (l.steps + l.initial.machine.cycle ≡ l.initial.steps + l.machine.cycle)
-    × (l.initial.machine.cycle ≤ l.machine.cycle)
+abbrev pub invariant-cycles : goal.invariant-cycles
+invariant-cycles g l =
+    Going (setting_of l.world.script.now (g.X.Device.meaning l.world.device.now) l.world.limit) l.initial.machine l.machine l.initial.steps l.steps
+    (g.O.Sink.written l.initial.writer.out.now) (g.O.Sink.written l.writer.out.now) (g.O.Sink.faults l.initial.writer.out.now) (g.O.Sink.faults l.writer.out.now)
+    × (l.writer.out.ghost_name ≡ l.initial.writer.out.ghost_name)
 
-abbrev pub decreases-loop-why : goal.decreases-loop-why
-decreases-loop-why g l = l.world.limit - l.machine.cycle
+abbrev pub decreases-cycles : goal.decreases-cycles
+decreases-cycles g l = l.world.limit - l.machine.cycle

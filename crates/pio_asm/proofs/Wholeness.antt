@@ -1,0 +1,326 @@
+-- Every program of a source is whole: by the lines that make it, one after another.
+use Rattle.std.proofs.Common.{◌≡◌, ◌≢◌, ◌⊎◌, ℕ, suc, ◌+◌, ◌-◌, ◌<◌, ◌≤◌, List, [], ◌∷◌, ◌++◌, length, Bool, true, false, Option, None, Some, refl, sym, ap, subst, ◌∙◌, ◌||◌, arith, inl, inr, length-append}
+use Rattle.std.specs.Prelude.{Result, Ok, Err, if◌then◌else◌, is_some, nat_le, nat_lt, unwrap_or, ◌==◌, ◌&&◌, ℤ, pos, negsuc}
+use Rattle.std.proofs.lemmas.Bool.Decides.{nat_tests}
+use Rattle.word_bits.specs.Word.{bit_number}
+use Rattle.pio_words.specs.Operation.{bit}
+use Rattle.pio_words.specs.declared.side.SideConfig.{SideConfig}
+use Rattle.pio_parse.specs.declared.fault.PioFault.{PioFault}
+use Rattle.pio_parse.specs.declared.fault.PioFault.TheVariants.{Unknown, Twice, Range, Delay, Side, TooLong, Wrap as WrapFault, Origin as OriginFault}
+use Rattle.pio_parse.specs.declared.syntax.Statement.{Statement}
+use Rattle.pio_parse.specs.declared.syntax.Statement.TheVariants.{Program, Define, Origin, SideSet, WrapTarget, Wrap, Word, Instruction as InstructionStatement}
+use Rattle.pio_parse.specs.declared.syntax.Line.{Line}
+use Rattle.pio_parse.specs.declared.syntax.Source.{Source}
+use Rattle.pio_parse.specs.declared.syntax.SourceProgram.{SourceProgram}
+use Rattle.pio_parse.specs.Outcome.{and_then, map_ok}
+use Rattle.pio_asm.specs.declared.value.Evaluated.{Evaluated}
+use Rattle.pio_asm.specs.declared.plan.Member.{Member}
+use Rattle.pio_asm.specs.declared.plan.Judged.{Judged}
+use Rattle.pio_asm.specs.declared.building.Building.{Building}
+use Rattle.pio_asm.specs.declared.building.Verdict.{Verdict}
+use Rattle.pio_asm.specs.Symbols.{Names, found, put}
+use Rattle.pio_asm.specs.Value.{evaluated}
+use Rattle.pio_asm.specs.Operand.{number_within}
+use Rattle.pio_asm.specs.Plan.{config_of, instruction_in}
+use Rattle.pio_asm.specs.Verdict.{no_fault, verdict_result}
+use Rattle.pio_asm.specs.Step.{checked, definition_value, fitting, instruction_verdict, is_label_twice, is_member, is_origin_fault, is_seen, line_step, misfits, names_of, statement_step, with_label, with_line_names, with_name, word_member}
+use Rattle.pio_asm.specs.Assembly.{Plan, lines_from, lines_of, nothing_built, plan_of, program_lines, program_plan, programs_from, assembled}
+use Rattle.pio_asm.specs.Code.{AreWordsOf}
+use Rattle.pio_asm.specs.Whole.{IsWhole, AreWhole}
+
+-- ---- outcomes
+
+result_cases : {X E : Type 0} (r : Result X E) → ((x : X) × (r ≡ Ok x)) ⊎ ((e : E) × (r ≡ Err e))
+result_cases (Ok x) = inl (x, refl)
+result_cases (Err e) = inr (e, refl)
+
+same_ok : {X E : Type 0} (x y : X) (r : Result X E) → r ≡ Ok x → r ≡ Ok y → y ≡ x
+same_ok x y (Ok z) h k = cc
+same_ok x y (Err e) h k = cc
+
+-- a verdict without a fault has no fault of the wrap
+no_wrap : (u t r d s l w o : Bool) (line : ℕ) (x : Unit {0}) → (if u then Err (Unknown line) else if t then Err (Twice line) else if r then Err (Range line) else if d then Err (Delay line) else if s then Err (Side line) else if l then Err (TooLong line) else if w then Err (WrapFault line) else if o then Err (OriginFault line) else Ok tt) ≡ Ok x → w ≡ false
+no_wrap true t r d s l w o line x h = cc
+no_wrap false true r d s l w o line x h = cc
+no_wrap false false true d s l w o line x h = cc
+no_wrap false false false true s l w o line x h = cc
+no_wrap false false false false true l w o line x h = cc
+no_wrap false false false false false true w o line x h = cc
+no_wrap false false false false false false true o line x h = cc
+no_wrap false false false false false false false o line x h = refl
+
+passes : (number : ℕ) (verdict : Verdict) (next got : Building) → checked number verdict next ≡ Ok got → (got ≡ next) × (verdict.wrap ≡ false)
+passes number verdict next got h = elim (result_cases (verdict_result number verdict)) [
+  | inl ok ↦
+      let g : checked number verdict next ≡ Ok next = rw ok.1 refl in
+      (same_ok next got (checked number verdict next) g h, no_wrap verdict.unknown verdict.twice verdict.range verdict.delay verdict.side verdict.too_long verdict.wrap verdict.origin number ok.0 ok.1)
+  | inr bad ↦ let g : checked number verdict next ≡ Err bad.0 = rw bad.1 refl in let i : Err bad.0 ≡ Ok got = sym g ∙ h in cc
+]
+
+-- ---- a program that is built
+
+-- the wrap's places are such of the whole, and the side-set has at most five bits
+record IsBounded (total : ℕ) (b : Building) : Type 0 where
+  target : (t : ℕ) → b.target ≡ Some t → t < total
+  wrap : (w : ℕ) → b.wrap ≡ Some w → w < length b.code
+  side : (c : SideConfig) → b.side ≡ Some c → c.count + bit_number c.opt ≤ 5
+
+-- a line that is accepted keeps the bounds, and adds a member where it is one
+record Keeps (total : ℕ) (statement : Option Statement) (b next : Building) : Type 0 where
+  bounded : IsBounded total b → IsBounded total next
+  count : length next.code ≡ (if is_member statement then length b.code + 1 else length b.code)
+
+some_is : {X : Type 0} (x y : X) → Some x ≡ Some y → y ≡ x
+some_is x y e = cc
+
+-- a line that changes neither code nor wrap nor side-set
+rests : (total : ℕ) (statement : Option Statement) (b next : Building) → is_member statement ≡ false → next.target ≡ b.target → next.wrap ≡ b.wrap → next.code ≡ b.code → next.side ≡ b.side → Keeps total statement b next
+rests total statement b next m t w c s = record {
+  bounded = λ k. record {
+    target = λ x e. k.target x (sym t ∙ e);
+    wrap = λ x e. let le : x < length b.code = k.wrap x (sym w ∙ e) in omega (arith, le, ap length c);
+    side = λ x e. k.side x (sym s ∙ e);
+  };
+  count = rw m (ap length c);
+}
+
+-- a line that adds a member
+adds : (total : ℕ) (statement : Option Statement) (b next : Building) (member : Member) → is_member statement ≡ true → next.target ≡ b.target → next.wrap ≡ b.wrap → next.code ≡ b.code ++ member ∷ [] → next.side ≡ b.side → Keeps total statement b next
+adds total statement b next member m t w c s =
+    let more : length next.code ≡ length b.code + 1 = ap length c ∙ length-append b.code (member ∷ []) in
+    record {
+      bounded = λ k. record {
+        target = λ x e. k.target x (sym t ∙ e);
+        wrap = λ x e. let le : x < length b.code = k.wrap x (sym w ∙ e) in omega (arith, le, more);
+        side = λ x e. k.side x (sym s ∙ e);
+      };
+      count = rw m more;
+    }
+
+-- a field that fits lies in its range
+fits_within : (high : ℕ) (n : Option ℕ) (z : ℤ) → n ≡ number_within 0 high z → unwrap_or n 0 ≤ high
+fits_within high None z e = omega arith
+fits_within high (Some n) (pos m) e = some_within (nat_le 0 m && nat_le m high) n m e (λ h. grind (arith, nat_tests, h))
+  where
+    some_within : (b : Bool) (n m : ℕ) → Some n ≡ (if b then Some m else None) → (b ≡ true → m ≤ high) → n ≤ high
+    some_within true n m e le = let same : n ≡ m = cc in subst (λ (x : ℕ). x ≤ high) (sym same) (le refl)
+    some_within false n m e le = absurd (cc e)
+fits_within high (Some n) (negsuc m) e = absurd (cc e)
+
+fitting_within : (high : ℕ) (value : Option ℤ) → unwrap_or (fitting 0 high value) 0 ≤ high
+fitting_within high None = omega arith
+fitting_within high (Some z) = fits_within high (number_within 0 high z) z refl
+
+bits_of_opt : (opt : Bool) → bit opt ≡ bit_number opt
+bits_of_opt true = refl
+bits_of_opt false = refl
+
+opt_small : (opt : Bool) → bit opt ≤ 5
+opt_small true = omega arith
+opt_small false = omega arith
+
+side_fits : (opt pindirs : Bool) (value : Option ℤ) (c : SideConfig) → Some (record { count = unwrap_or (fitting 0 (5 - bit opt) value) 0; opt = opt; pindirs = pindirs }) ≡ Some c → c.count + bit_number c.opt ≤ 5
+side_fits opt pindirs value c e =
+    let config : SideConfig = record { count = unwrap_or (fitting 0 (5 - bit opt) value) 0; opt = opt; pindirs = pindirs } in
+    let same : c ≡ config = some_is config c e in
+    let le : config.count ≤ 5 - bit opt = fitting_within (5 - bit opt) value in
+    let small : bit opt ≤ 5 = opt_small opt in
+    let here : config.count + bit_number config.opt ≤ 5 = omega (arith, le, small, bits_of_opt opt) in
+    subst (λ (x : SideConfig). x.count + bit_number x.opt ≤ 5) (sym same) here
+
+or_false : (a b : Bool) → (a || b) ≡ false → b ≡ false
+or_false true b h = absurd (cc h)
+or_false false b h = h
+
+below_total : (total n : ℕ) → nat_le total n ≡ false → n < total
+below_total total n h = grind (arith, nat_tests, h)
+
+not_zero : (n : ℕ) → (n == 0) ≡ false → n - 1 < n
+not_zero n h = grind (arith, nat_tests, h)
+
+step_keeps : (whole globals : Names) (total number : ℕ) (twice : Bool) (statement : Option Statement) (b next : Building) → statement_step whole globals total number twice statement b ≡ Ok next → Keeps total statement b next
+step_keeps whole globals total number twice None b next h =
+    let e = (passes number (record no_fault { twice = twice }) b next h).0 in
+    rests total None b next refl (ap (λ (x : Building). x.target) e) (ap (λ (x : Building). x.wrap) e) (ap (λ (x : Building). x.code) e) (ap (λ (x : Building). x.side) e)
+step_keeps whole globals total number twice (Some (Program name)) b next h =
+    let e = (passes number (record no_fault { twice = twice }) b next h).0 in
+    rests total (Some (Program name)) b next refl (ap (λ (x : Building). x.target) e) (ap (λ (x : Building). x.wrap) e) (ap (λ (x : Building). x.code) e) (ap (λ (x : Building). x.side) e)
+step_keeps whole globals total number twice (Some (Define name value)) b next h =
+    let v : Evaluated = evaluated b.seen globals value in
+    let verdict : Verdict = record no_fault { unknown = v.unknown; twice = twice || is_seen b.seen globals name; range = v.outside } in
+    let n : Building = record b { seen = with_name globals b.seen name (definition_value v) } in
+    let e = (passes number verdict n next h).0 in
+    rests total (Some (Define name value)) b next refl (ap (λ (x : Building). x.target) e) (ap (λ (x : Building). x.wrap) e) (ap (λ (x : Building). x.code) e) (ap (λ (x : Building). x.side) e)
+step_keeps whole globals total number twice (Some (Origin value)) b next h =
+    let v : Evaluated = evaluated b.seen globals value in
+    let verdict : Verdict = record no_fault { unknown = v.unknown; twice = twice; range = v.outside; origin = is_origin_fault total v.value b } in
+    let n : Building = record b { origin = fitting 0 31 v.value } in
+    let e = (passes number verdict n next h).0 in
+    rests total (Some (Origin value)) b next refl (ap (λ (x : Building). x.target) e) (ap (λ (x : Building). x.wrap) e) (ap (λ (x : Building). x.code) e) (ap (λ (x : Building). x.side) e)
+step_keeps whole globals total number twice (Some (SideSet count opt pindirs)) b next h =
+    let v : Evaluated = evaluated b.seen globals count in
+    let verdict : Verdict = record no_fault { unknown = v.unknown; twice = twice; range = v.outside; side = is_some b.side || nat_lt 0 (length b.code) || misfits 0 (5 - bit opt) v.value } in
+    let n : Building = record b { side = Some (record { count = unwrap_or (fitting 0 (5 - bit opt) v.value) 0; opt = opt; pindirs = pindirs }) } in
+    let e = (passes number verdict n next h).0 in
+    let long : length next.code ≡ length b.code = ap (λ (x : Building). length x.code) e in
+    record {
+      bounded = λ k. record {
+        target = λ x is. k.target x (sym (ap (λ (y : Building). y.target) e) ∙ is);
+        wrap = λ x is. let le : x < length b.code = k.wrap x (sym (ap (λ (y : Building). y.wrap) e) ∙ is) in omega (arith, le, long);
+        side = λ c is. side_fits opt pindirs v.value c (sym (ap (λ (y : Building). y.side) e) ∙ is);
+      };
+      count = long;
+    }
+step_keeps whole globals total number twice (Some WrapTarget) b next h =
+    let verdict : Verdict = record no_fault { twice = twice; wrap = is_some b.target || nat_le total (length b.code) } in
+    let n : Building = record b { target = Some (length b.code) } in
+    let p = passes number verdict n next h in
+    let e = p.0 in
+    let long : length next.code ≡ length b.code = ap (λ (x : Building). length x.code) e in
+    let low : length b.code < total = below_total total (length b.code) (or_false (is_some b.target) (nat_le total (length b.code)) p.1) in
+    record {
+      bounded = λ k. record {
+        target = λ x is. let same : x ≡ length b.code = some_is (length b.code) x (sym (ap (λ (y : Building). y.target) e) ∙ is) in omega (arith, same, low);
+        wrap = λ x is. let le : x < length b.code = k.wrap x (sym (ap (λ (y : Building). y.wrap) e) ∙ is) in omega (arith, le, long);
+        side = λ x is. k.side x (sym (ap (λ (y : Building). y.side) e) ∙ is);
+      };
+      count = long;
+    }
+step_keeps whole globals total number twice (Some Wrap) b next h =
+    let verdict : Verdict = record no_fault { twice = twice; wrap = is_some b.wrap || length b.code == 0 } in
+    let n : Building = record b { wrap = Some (length b.code - 1) } in
+    let p = passes number verdict n next h in
+    let e = p.0 in
+    let long : length next.code ≡ length b.code = ap (λ (x : Building). length x.code) e in
+    let low : length b.code - 1 < length b.code = not_zero (length b.code) (or_false (is_some b.wrap) (length b.code == 0) p.1) in
+    record {
+      bounded = λ k. record {
+        target = λ x is. k.target x (sym (ap (λ (y : Building). y.target) e) ∙ is);
+        wrap = λ x is. let same : x ≡ length b.code - 1 = some_is (length b.code - 1) x (sym (ap (λ (y : Building). y.wrap) e) ∙ is) in omega (arith, same, low, long);
+        side = λ x is. k.side x (sym (ap (λ (y : Building). y.side) e) ∙ is);
+      };
+      count = long;
+    }
+step_keeps whole globals total number twice (Some (Word value)) b next h =
+    let v : Evaluated = evaluated b.seen globals value in
+    let m : Member = word_member (fitting 0 65535 v.value) in
+    let verdict : Verdict = record no_fault { unknown = v.unknown; twice = twice; range = v.outside || misfits 0 65535 v.value; too_long = nat_le 32 (length b.code) } in
+    let n : Building = record b { code = b.code ++ m ∷ [] } in
+    let e = (passes number verdict n next h).0 in
+    adds total (Some (Word value)) b next m refl (ap (λ (x : Building). x.target) e) (ap (λ (x : Building). x.wrap) e) (ap (λ (x : Building). x.code) e) (ap (λ (x : Building). x.side) e)
+step_keeps whole globals total number twice (Some (InstructionStatement instruction)) b next h =
+    let j : Judged = instruction_in whole globals b.side instruction in
+    let n : Building = record b { code = b.code ++ j.member ∷ [] } in
+    let e = (passes number (instruction_verdict twice (nat_le 32 (length b.code)) j) n next h).0 in
+    adds total (Some (InstructionStatement instruction)) b next j.member refl (ap (λ (x : Building). x.target) e) (ap (λ (x : Building). x.wrap) e) (ap (λ (x : Building). x.code) e) (ap (λ (x : Building). x.side) e)
+
+-- a label changes neither code nor wrap nor side-set
+abbrev labelled : Names → Line → Building → Building
+labelled globals line b = record b { seen = with_label globals (length b.code) line.label b.seen }
+
+labelled_bounded : (globals : Names) (total : ℕ) (line : Line) (b : Building) → IsBounded total b → IsBounded total (labelled globals line b)
+labelled_bounded globals total line b k = record { target = k.target; wrap = k.wrap; side = k.side }
+
+-- the members of lines, whatever names stand before them
+abbrev members : ℕ → List Line → ℕ
+members count [] = count
+members count (line ∷ lines) = members (if is_member line.statement then count + 1 else count) lines
+
+names_members : (globals seen : Names) (count : ℕ) (lines : List Line) → (names_of globals seen count lines).1 ≡ members count lines
+names_members globals seen count [] = refl
+names_members globals seen count (line ∷ lines) = names_members globals (with_line_names globals count line seen) (if is_member line.statement then count + 1 else count) lines
+
+record Built (total : ℕ) (lines : List Line) (b final : Building) : Type 0 where
+  bounded : IsBounded total b → IsBounded total final
+  count : length final.code ≡ members (length b.code) lines
+
+built : (whole globals : Names) (total : ℕ) (lines : List Line) (b final : Building) → lines_from whole globals total lines b ≡ Ok final → Built total lines b final
+built whole globals total [] b final h =
+    let e : final ≡ b = same_ok b final (lines_from whole globals total [] b) refl h in
+    record { bounded = λ k. subst (λ (x : Building). IsBounded total x) (sym e) k; count = ap (λ (x : Building). length x.code) e }
+built whole globals total (line ∷ lines) b final h = elim (result_cases (line_step whole globals total line b)) [
+  | inl ok ↦
+      let g : lines_from whole globals total (line ∷ lines) b ≡ lines_from whole globals total lines ok.0 = rw ok.1 refl in
+      let here = step_keeps whole globals total line.number (is_label_twice globals line.label b.seen) line.statement (labelled globals line b) ok.0 ok.1 in
+      let rest = built whole globals total lines ok.0 final (sym g ∙ h) in
+      record {
+        bounded = λ k. rest.bounded (here.bounded (labelled_bounded globals total line b k));
+        count = rest.count ∙ ap (λ n. members n lines) here.count;
+      }
+  | inr bad ↦ let g : lines_from whole globals total (line ∷ lines) b ≡ Err bad.0 = rw bad.1 refl in let i : Err bad.0 ≡ Ok final = sym g ∙ h in cc
+]
+
+-- ---- programs
+
+nothing_bounded : (total : ℕ) → IsBounded total nothing_built
+nothing_bounded total = record { target = λ x e. absurd (cc e); wrap = λ x e. absurd (cc e); side = λ x e. absurd (cc e) }
+
+target_within : (target : Option ℕ) (total : ℕ) → 0 < total → ((t : ℕ) → target ≡ Some t → t < total) → unwrap_or target 0 < total
+target_within None total some h = some
+target_within (Some t) total some h = h t refl
+
+wrap_within : (wrap : Option ℕ) (count : ℕ) → 0 < count → ((w : ℕ) → wrap ≡ Some w → w < count) → unwrap_or wrap (count - 1) < count
+wrap_within None count some h = omega (arith, some)
+wrap_within (Some w) count some h = h w refl
+
+side_within : (side : Option SideConfig) → ((c : SideConfig) → side ≡ Some c → c.count + bit_number c.opt ≤ 5) → (config_of side).count + bit_number (config_of side).opt ≤ 5
+side_within None h = omega arith
+side_within (Some c) h = h c refl
+
+whole : (name : List ℕ) (total : ℕ) (b : Building) → IsBounded total b → length b.code ≡ total → 0 < total → IsWhole (plan_of name b)
+whole name total b k count some =
+    let positive : 0 < length b.code = omega (arith, count, some) in
+    record {
+      target = target_within b.target (length b.code) positive (λ t e. let lt : t < total = k.target t e in omega (arith, lt, count));
+      wrap = wrap_within b.wrap (length b.code) positive k.wrap;
+      side = side_within b.side k.side;
+    }
+
+positive_of : (n : ℕ) → (n == 0) ≡ false → 0 < n
+positive_of n h = grind (arith, nat_tests, h)
+
+mapped_whole : (name : List ℕ) (total : ℕ) (outcome : Result Building PioFault) (plan : Plan) → ((b : Building) → outcome ≡ Ok b → IsWhole (plan_of name b)) → map_ok (plan_of name) outcome ≡ Ok plan → IsWhole plan
+mapped_whole name total (Ok b) plan h e = let same : plan_of name b ≡ plan = cc in subst IsWhole same (h b refl)
+mapped_whole name total (Err fault) plan h e = absurd (cc e)
+
+lines_whole : (empty : Bool) (fault : PioFault) (outcome : Result Plan PioFault) (plan : Plan) → (empty ≡ false → outcome ≡ Ok plan → IsWhole plan) → (if empty then Err fault else outcome) ≡ Ok plan → IsWhole plan
+lines_whole true fault outcome plan h e = absurd (cc e)
+lines_whole false fault outcome plan h e = h refl e
+
+program_whole : (globals taken : Names) (program : SourceProgram) (plan : Plan) → program_plan globals taken program ≡ Ok plan → IsWhole plan
+program_whole globals taken program plan h =
+    let names = names_of globals [] 0 program.lines in
+    let total : names.1 ≡ members 0 program.lines = names_members globals [] 0 program.lines in
+    lines_whole (is_some (found program.name taken)) _ (program_lines globals program names) plan (λ new e.
+      lines_whole (names.1 == 0) _ (map_ok (plan_of program.name) (lines_of globals program.lines names)) plan (λ some f.
+        mapped_whole program.name names.1 (lines_of globals program.lines names) plan (λ b is.
+          let made = built names.0 globals names.1 program.lines nothing_built b is in
+          whole program.name names.1 b (made.bounded (nothing_bounded names.1)) (made.count ∙ sym total) (positive_of names.1 some)) f) e) h
+
+whole_push : (plans : List Plan) (plan : Plan) → AreWhole plans → IsWhole plan → AreWhole (plans ++ plan ∷ [])
+whole_push [] plan h k = (k, tt)
+whole_push (p ∷ plans) plan h k = (h.0, whole_push plans plan h.1 k)
+
+programs_whole : (globals taken : Names) (plans : List Plan) (programs : List SourceProgram) (all : List Plan) → AreWhole plans → programs_from globals taken plans programs ≡ Ok all → AreWhole all
+programs_whole globals taken plans [] all h e = let same : plans ≡ all = cc in subst AreWhole same h
+programs_whole globals taken plans (program ∷ programs) all h e = elim (result_cases (program_plan globals taken program)) [
+  | inl ok ↦
+      let g : programs_from globals taken plans (program ∷ programs) ≡ programs_from globals (put program.name None taken) (plans ++ ok.0 ∷ []) programs = rw ok.1 refl in
+      programs_whole globals (put program.name None taken) (plans ++ ok.0 ∷ []) programs all (whole_push plans ok.0 h (program_whole globals taken program ok.0 ok.1)) (sym g ∙ e)
+  | inr bad ↦ let g : programs_from globals taken plans (program ∷ programs) ≡ Err bad.0 = rw bad.1 refl in let i : Err bad.0 ≡ Ok all = sym g ∙ e in cc
+]
+
+pub source_whole : (source : Source) (all : List Plan) → assembled source ≡ Ok all → AreWhole all
+source_whole source all e = elim (result_cases (lines_of [] source.globals (names_of [] [] 0 source.globals))) [
+  | inl ok ↦
+      let g : assembled source ≡ programs_from ok.0.seen [] [] source.programs = rw ok.1 refl in
+      programs_whole ok.0.seen [] [] source.programs all tt (sym g ∙ e)
+  | inr bad ↦ let g : assembled source ≡ Err bad.0 = rw bad.1 refl in let i : Err bad.0 ≡ Ok all = sym g ∙ e in cc
+]
+
+-- a program has as many words as members
+pub words_length : (members : List Member) (words : List ℕ) → AreWordsOf members words → length words ≡ length members
+words_length [] [] h = refl
+words_length [] (w ∷ ws) h = absurd h
+words_length (m ∷ ms) [] h = absurd h
+words_length (m ∷ ms) (w ∷ ws) h = ap suc (words_length ms ws h.1)
