@@ -292,10 +292,10 @@ program_whole globals taken program plan h =
     let names = names_of globals [] 0 program.lines in
     let total : names.1 ≡ members 0 program.lines = names_members globals [] 0 program.lines in
     lines_whole (is_some (found program.name taken)) _ (program_lines globals program names) plan (λ new e.
-      lines_whole (names.1 == 0) _ (map_ok (plan_of program.name) (lines_of globals program.lines names)) plan (λ some f.
-        mapped_whole program.name names.1 (lines_of globals program.lines names) plan (λ b is.
-          let made = built names.0 globals names.1 program.lines nothing_built b is in
-          whole program.name names.1 b (made.bounded (nothing_bounded names.1)) (made.count ∙ sym total) (positive_of names.1 some)) f) e) h
+    lines_whole (names.1 == 0) _ (map_ok (plan_of program.name) (lines_of globals program.lines names)) plan (λ some f.
+    mapped_whole program.name names.1 (lines_of globals program.lines names) plan (λ b is.
+    let made = built names.0 globals names.1 program.lines nothing_built b is in
+    whole program.name names.1 b (made.bounded (nothing_bounded names.1)) (made.count ∙ sym total) (positive_of names.1 some)) f) e) h
 
 whole_push : (plans : List Plan) (plan : Plan) → AreWhole plans → IsWhole plan → AreWhole (plans ++ plan ∷ [])
 whole_push [] plan h k = (k, tt)

@@ -12,8 +12,8 @@ use itoa::Buffer;
 use pio_asm::{Program, assemble};
 use pio_disasm::hex_digits;
 use pio_parse::{PioFault, parse};
-pub use placing::{offset_for, with_places};
 use pio_words::SideConfig;
+pub use placing::{offset_for, with_places};
 use std::alloc::{AllocError, Global};
 
 /// The programs of a file, or its first fault.
