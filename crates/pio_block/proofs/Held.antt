@@ -2,8 +2,8 @@
 use Rattle.std.proofs.Common.{◌≡◌, ℕ, Bool, true, false, if◌then◌else◌, Option, Some, None, refl}
 use Rattle.pio_block.specs.State.{Block, at_reset, with_held}
 use Rattle.pio_block.specs.Cycle.{asks, next, Rests}
-use Rattle.pio_block.specs.Words.{is_word, is_allowed, word_of, value_of, after_access, effect_of}
-use Rattle.pio_block.specs.Law.{StaysHeld, AHeldBlockStays}
+use Rattle.pio_block.specs.Words.{is_word, is_allowed, word_of, effect_of}
+use Rattle.pio_block.specs.Law.{AHeldBlockStays}
 
 abbrev held_block : Block
 held_block = record at_reset { held = true }

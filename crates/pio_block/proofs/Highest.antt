@@ -1,5 +1,5 @@
 -- Of each pin the highest machine that wrote it decides.
-use Rattle.std.proofs.Common.{◌≡◌, ◌∙◌, ap, sym, ℕ, zero, suc, ◌+◌, ◌-◌, ◌^◌, ◌<◌, ◌==◌, Bool, true, false, if◌then◌else◌, List, [], ◌∷◌, length, refl, arith}
+use Rattle.std.proofs.Common.{◌≡◌, ◌∙◌, ap, ℕ, zero, suc, ◌+◌, ◌^◌, ◌<◌, List, [], ◌∷◌, length, refl, arith}
 use Rattle.std.specs.Int.{bit_at}
 use Rattle.pio_machine.specs.declared.machine.Machine1.{Machine1}
 use Rattle.pio_machine.specs.declared.machine.Seen.{Seen}
@@ -8,9 +8,8 @@ use Rattle.pio_machine.specs.Start.{nothing_done}
 use Rattle.pio_machine.specs.Cycle.{written_in_cycle}
 use Rattle.pio_machine.specs.Drives.{decided}
 use Rattle.pio_machine.proofs.Drives.{bit_overlaid, the_later_machine_decides, mask_fits, enable_mask_fits}
-use Rattle.pio_block.specs.State.{Block}
-use Rattle.pio_block.specs.Cycle.{seen_by, written_from, all_written, all_stepped, joined, with_stepped, after_cycle}
-use Rattle.pio_block.specs.Law.{own, IsOfTheHighest, IsDecided, TheHighestMachineDecides}
+use Rattle.pio_block.specs.Cycle.{seen_by, written_from, all_written, joined, after_cycle}
+use Rattle.pio_block.specs.Law.{own, IsOfTheHighest, TheHighestMachineDecides}
 
 -- ---- one pin, by the four masks and bits
 

@@ -1,2 +1,3 @@
 pub mod Highest
 pub mod Held
+pub mod Depths

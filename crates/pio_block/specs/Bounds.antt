@@ -1,10 +1,9 @@
 -- Lemmas for the laws of the lane: how much a block asks in a cycle.
-use Rattle.std.specs.Prelude.{ℕ, ◌/◌, ◌%◌, ◌^◌, Option, Some, None}
 use Rattle.lane_look.specs.declared.lane.Ask.TheVariants.{Inputs}
 use Rattle.lane_look.specs.Asking.{AsksAtMost}
 use Rattle.lane_look.specs.Bounds.{Few, few_ready, few_ask, few_if}
 use Rattle.pio_block.specs.State.{Block}
-use Rattle.pio_block.specs.Cycle.{asks, inputs_of}
+use Rattle.pio_block.specs.Cycle.{asks}
 
 asks_few : (s : Block) → Few 1 (asks s)
 unfolding asks

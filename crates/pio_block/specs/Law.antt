@@ -1,15 +1,17 @@
--- Laws of a block: of each pin the highest machine that wrote it decides (RP2040 Datasheet, 3.5.6), and a block that RESETS holds
--- stays in its reset state (2.14).
-use Rattle.std.specs.Prelude.{◌≡◌, ℕ, ◌<◌, Bool, true, if◌then◌else◌, List, length, Option, Some, None}
+-- Laws of a block: of each pin the highest machine that wrote it decides (RP2040 Datasheet, 3.5.6), a block that RESETS holds
+-- stays in its reset state (2.14), and no FIFO holds more words than it has places (3.5.3), whatever happens to the block.
+use Rattle.std.specs.Prelude.{◌≡◌, ℕ, ◌<◌, Bool, true, if◌then◌else◌, List, [], ◌∷◌, length, Option, Some, None}
 use Rattle.std.specs.Int.{bit_at}
 use Rattle.pio_machine.specs.declared.machine.Machine1.{Machine1}
 use Rattle.pio_machine.specs.declared.machine.Seen.{Seen}
 use Rattle.pio_machine.specs.declared.machine.Done.{Done}
 use Rattle.pio_machine.specs.Start.{nothing_done}
+use Rattle.pio_machine.specs.Clock.{IsWithin}
 use Rattle.pio_machine.specs.Cycle.{written_in_cycle}
-use Rattle.pio_block.specs.State.{Block, machine_of, with_held}
-use Rattle.pio_block.specs.Cycle.{seen_by, after_cycle, Rests}
-use Rattle.pio_block.specs.Words.{is_word, word_of, effect_of}
+use Rattle.pio_block.specs.declared.inputs.Inputs.{Inputs}
+use Rattle.pio_block.specs.State.{Block, at_reset, machine_of, with_held}
+use Rattle.pio_block.specs.Cycle.{seen_by, after_cycle, next, Rests}
+use Rattle.pio_block.specs.Words.{is_word, word_of, effect_of, counter_set}
 
 -- ---- the pins
 
@@ -45,3 +47,33 @@ pub record StaysHeld (s : Block) : Type 0 where
 
 abbrev pub AHeldBlockStays : Type 0
 AHeldBlockStays = (s : Block) → StaysHeld (with_held true s)
+
+-- ---- the FIFOs
+
+-- of each machine, neither FIFO holds more words than it has places
+abbrev pub AreWithin : List Machine1 → Type 0
+AreWithin [] = Unit {0}
+AreWithin (m ∷ ms) = IsWithin m × AreWithin ms
+
+-- what happens to a block: a cycle, with what it has begun in it, an access to a word, a hold by RESETS or its end, and a
+-- program counter that a debugger sets
+pub data Happening : Type 0 where
+  Cycle : (begun : Option Inputs) → Happening
+  Access : (offset : ℕ) (write : Option ℕ) → Happening
+  Hold : (held : Bool) → Happening
+  Counter : (machine place : ℕ) → Happening
+
+abbrev pub after : Happening → Block → Block
+after (Cycle begun) s = next begun s
+after (Access offset write) s = effect_of offset write s
+after (Hold held) s = with_held held s
+after (Counter machine place) s = counter_set machine place s
+
+-- the block after all of these
+abbrev pub after_all : List Happening → Block → Block
+after_all [] s = s
+after_all (h ∷ hs) s = after_all hs (after h s)
+
+-- whatever happens to a block from its reset state on, in any order
+abbrev pub NoFifoHoldsTooMuch : Type 0
+NoFifoHoldsTooMuch = (hs : List Happening) → AreWithin (after_all hs at_reset).machines

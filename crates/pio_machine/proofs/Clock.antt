@@ -1,14 +1,13 @@
 -- How often a machine ticks, and that its FIFOs stay within their depths.
 use Rattle.std.proofs.Common.{◌≡◌, ◌∙◌, ap, sym, subst, ℕ, zero, suc, ◌+◌, ◌-◌, ◌*◌, ◌/◌, ◌%◌, ◌^◌, ◌<◌, ◌≤◌, max, Bool, true, false, ◌&&◌, ◌==◌, nat_lt, if◌then◌else◌, List, [], ◌∷◌, length, Option, Some, None, refl, arith}
-use Rattle.std.proofs.lemmas.Grind.{common_steps}
 use Rattle.std.proofs.lemmas.Bool.Decides.{nat_tests}
 use Rattle.std.proofs.lemmas.Nat.{div-mul-add}
 use Rattle.std.proofs.Math.Nat.{add-mul, one-mul, zero-add}
 use Rattle.pio_machine.specs.declared.machine.Machine1.{Machine1}
 use Rattle.pio_machine.specs.declared.machine.Seen.{Seen}
 use Rattle.pio_machine.specs.Fields.{divider, tx_depth, rx_depth}
-use Rattle.pio_machine.specs.Cycle.{ticks, divided, advanced, word_tried, delayed, passed, after_word, after_cycle}
-use Rattle.pio_machine.specs.Clock.{ticks_over, AMachineTicksByItsDivider, IsWithin, ACycleKeepsTheFifosWithin}
+use Rattle.pio_machine.specs.Cycle.{ticks, divided, advanced, word_tried, passed, after_word, after_cycle}
+use Rattle.pio_machine.specs.Clock.{ticks_over, AMachineTicksByItsDivider, ACycleKeepsTheFifosWithin}
 use Rattle.pio_machine.proofs.Goes.{Goes, goes, next_goes, stays, goes-refill, goes-try}
 
 -- ---- a cycle
@@ -21,7 +20,7 @@ goes-word : (word : Option ℕ) (ticked : Bool) (number : ℕ) (seen : Seen) (m 
 goes-word None ticked number seen m = goes-passed ticked m
 goes-word (Some word) ticked number seen m = goes-try word number seen m
 
-goes-cycle : (number : ℕ) (seen : Seen) (m : Machine1) → Goes (advanced m) (after_cycle number seen m)
+pub goes-cycle : (number : ℕ) (seen : Seen) (m : Machine1) → Goes (advanced m) (after_cycle number seen m)
 unfolding after_cycle
 goes-cycle number seen m = goes-word (word_tried seen m) (ticks m) number seen (advanced m)
 
@@ -49,7 +48,7 @@ clkdiv-kept : (b : Bool) (m : Machine1) (a : ℕ) → (if b then record m { acc 
 clkdiv-kept true m a = refl
 clkdiv-kept false m a = refl
 
-shiftctrl-kept : (b : Bool) (m : Machine1) (a : ℕ) → (if b then record m { acc = a } else m).shiftctrl ≡ m.shiftctrl
+pub shiftctrl-kept : (b : Bool) (m : Machine1) (a : ℕ) → (if b then record m { acc = a } else m).shiftctrl ≡ m.shiftctrl
 shiftctrl-kept true m a = refl
 shiftctrl-kept false m a = refl
 

@@ -1,5 +1,5 @@
 -- What a machine writes to a pin does not depend on what was written before it.
-use Rattle.std.proofs.Common.{◌≡◌, ◌∙◌, ap, sym, subst, ℕ, zero, suc, ◌+◌, ◌-◌, ◌*◌, ◌/◌, ◌%◌, ◌^◌, ◌<◌, ◌≤◌, ◌==◌, min, max, Bool, true, false, not, if◌then◌else◌, Option, Some, None, refl, arith, bit_and, bit_or}
+use Rattle.std.proofs.Common.{◌≡◌, ◌∙◌, ap, sym, subst, ℕ, zero, suc, ◌-◌, ◌/◌, ◌%◌, ◌^◌, ◌<◌, ◌≤◌, ◌==◌, min, max, Bool, true, false, if◌then◌else◌, Option, Some, None, refl, arith, bit_and, bit_or}
 use Rattle.std.specs.Int.{bit_at, bit_not, rotate_left, w32}
 use Rattle.std.proofs.lemmas.Nat.{or_lt}
 use Rattle.std.proofs.Math.Nat.{pow-le-pow_right, div-le_self, zero-div}
@@ -19,14 +19,14 @@ use Rattle.pio_machine.specs.declared.machine.Machine1.{Machine1}
 use Rattle.pio_machine.specs.declared.machine.Seen.{Seen}
 use Rattle.pio_machine.specs.declared.machine.Done.{Done}
 use Rattle.pio_machine.specs.Start.{nothing_done}
-use Rattle.pio_machine.specs.Fields.{side_pindir, side_base, side_count, side_enable, out_base, out_count, set_base, set_count}
+use Rattle.pio_machine.specs.Fields.{side_pindir, side_base, side_enable, out_base, out_count, set_base, set_count}
 use Rattle.pio_machine.specs.Pins.{pins_from, overlaid, with_levels, with_enables}
-use Rattle.pio_machine.specs.Flags.{flag_of, is_high, cleared_by, written_by_wait, written_by_irq, with_set, with_clear}
+use Rattle.pio_machine.specs.Flags.{flag_of, is_high, cleared_by, with_set, with_clear}
 use Rattle.pio_machine.specs.Progress.{progress_of}
 use Rattle.pio_machine.specs.Output.{out_stalls, out_value, out_pins, written_by_out, written_by_set}
 use Rattle.pio_machine.specs.Move.{mov_value, written_by_mov}
 use Rattle.pio_machine.specs.Operation.{written, has_side, side_pins, side_value, with_side}
-use Rattle.pio_machine.specs.Cycle.{worked, written_with_side, written_by_try, word_tried, advanced, written_by_word, written_in_cycle}
+use Rattle.pio_machine.specs.Cycle.{worked, written_by_try, word_tried, advanced, written_by_word, written_in_cycle}
 use Rattle.pio_machine.specs.Drives.{decided, Overrides, TheLaterMachineDecides, TheSideSetDecides}
 
 -- what a writer does to a pin, whatever was written before: whether it writes its level and its enable, and which

@@ -1,5 +1,5 @@
 -- What no try of a word changes: the divider and the registers; and how far it changes the FIFOs.
-use Rattle.std.proofs.Common.{◌≡◌, ◌∙◌, ap, subst, ℕ, ◌+◌, ◌-◌, ◌≤◌, max, Bool, true, false, ◌&&◌, ◌||◌, ◌==◌, nat_lt, nat_le, if◌then◌else◌, List, [], ◌∷◌, ◌++◌, length, length-append, Option, Some, None, refl, arith}
+use Rattle.std.proofs.Common.{◌≡◌, ◌∙◌, ap, ℕ, ◌+◌, ◌≤◌, max, Bool, true, false, ◌&&◌, nat_lt, nat_le, if◌then◌else◌, List, [], ◌∷◌, ◌++◌, length, length-append, Option, Some, None, refl, arith}
 use Rattle.std.proofs.lemmas.Grind.{common_steps}
 use Rattle.std.proofs.lemmas.Bool.Decides.{nat_tests}
 use Rattle.pio_words.specs.declared.op.PioOp.{PioOp}
@@ -20,15 +20,15 @@ use Rattle.pio_machine.specs.declared.machine.Waiting.{Waiting}
 use Rattle.pio_machine.specs.declared.machine.Progress.{Progress}
 use Rattle.pio_machine.specs.Ending.{Ending}
 use Rattle.pio_machine.specs.Ending.Ending.{Stalled, Completed, Jumped, Executes}
-use Rattle.pio_machine.specs.Fields.{divider, depth, tx_depth, rx_depth, is_rx_full, autopull, push_threshold}
-use Rattle.pio_machine.specs.Progress.{untried, kept_in, with_progress, with_shifted, with_raised, progress_of, executed}
+use Rattle.pio_machine.specs.Fields.{rx_depth, is_rx_full, autopull, push_threshold}
+use Rattle.pio_machine.specs.Progress.{kept_in, with_shifted, with_raised, progress_of}
 use Rattle.pio_machine.specs.Flags.{flag_of, waits_for_clear}
 use Rattle.pio_machine.specs.Jump.{after_jmp}
-use Rattle.pio_machine.specs.Input.{in_value, shifted_in, shifted_once, try_in}
-use Rattle.pio_machine.specs.Queue.{Try, completed, stalled, loaded_from, loaded, is_spent, refilled, with_tx_stall, with_rx_stall, with_osr, is_pull_void, pulled_from, try_pull, pushed, with_isr_cleared, try_push_now, try_push}
+use Rattle.pio_machine.specs.Input.{shifted_in, shifted_once, try_in}
+use Rattle.pio_machine.specs.Queue.{completed, stalled, loaded_from, loaded, is_spent, refilled, with_rx_stall, is_pull_void, pulled_from, try_pull, pushed, with_isr_cleared, try_push_now, try_push}
 use Rattle.pio_machine.specs.Output.{out_value, shifted_out, with_out, out_stalls, starved, out_done, try_out, after_set}
 use Rattle.pio_machine.specs.Move.{mov_value, with_moved}
-use Rattle.pio_machine.specs.Operation.{tried, loads_osr, with_autopull, delay_of, next_place, stepped_past, stepped, jumped, with_delay, with_waiting, ended}
+use Rattle.pio_machine.specs.Operation.{tried, loads_osr, stepped_past, stepped, ended}
 use Rattle.pio_machine.specs.Cycle.{worked, after_op, after_try}
 
 -- the enable, CLKDIV, SHIFTCTRL and the divider stay; TX loses words at most, and RX grows to its depth at most

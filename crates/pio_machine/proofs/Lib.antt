@@ -3,3 +3,4 @@ pub mod Once
 pub mod Goes
 pub mod Clock
 pub mod Drives
+pub mod Stream

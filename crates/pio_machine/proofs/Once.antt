@@ -10,17 +10,16 @@ use Rattle.pio_machine.specs.declared.machine.Machine1.{Machine1}
 use Rattle.pio_machine.specs.declared.machine.Seen.{Seen}
 use Rattle.pio_machine.specs.declared.machine.Waiting.{Waiting}
 use Rattle.pio_machine.specs.declared.machine.Progress.{Progress}
-use Rattle.pio_machine.specs.Ending.{Ending}
 use Rattle.pio_machine.specs.Ending.Ending.{Stalled, Completed}
 use Rattle.pio_machine.specs.Fields.{is_rx_full}
 use Rattle.pio_machine.specs.Queue.{Try, completed, stalled, pushed, with_rx_stall, refilled}
 use Rattle.pio_machine.specs.Flags.{flag_of, with_set, waits_for_clear}
 use Rattle.pio_machine.specs.Start.{nothing_done}
-use Rattle.pio_machine.specs.Input.{in_value, shifted_in, shifted_once, autopushed, try_in}
-use Rattle.pio_machine.specs.Operation.{tried, ended, stepped_past, stepped, with_delay, delay_of}
-use Rattle.pio_machine.specs.Progress.{untried, progress_in, progress_of, kept_in, with_progress, with_raised, with_shifted}
-use Rattle.pio_machine.specs.Cycle.{worked, after_op}
-use Rattle.pio_machine.specs.Once.{Attempt, AreTries, last_of, LeavesTheIsr, once_shifted, once_counted, reaches, IsShiftedOnce, AnInShiftsOnce, LeavesTheMemory, set_by, RaisesOnce, AnIrqRaisesOnce}
+use Rattle.pio_machine.specs.Input.{in_value, shifted_in, shifted_once, try_in}
+use Rattle.pio_machine.specs.Operation.{tried}
+use Rattle.pio_machine.specs.Progress.{untried, progress_in, progress_of, kept_in, with_raised, with_shifted}
+use Rattle.pio_machine.specs.Cycle.{after_op}
+use Rattle.pio_machine.specs.Once.{Attempt, AreTries, last_of, LeavesTheIsr, once_shifted, once_counted, reaches, IsShiftedOnce, AnInShiftsOnce, LeavesTheMemory, set_by, AnIrqRaisesOnce}
 use Rattle.pio_machine.proofs.Refills.{Ignores, refilled-keeps, ended-completed, ended-stalled}
 
 -- ---- a try of IN

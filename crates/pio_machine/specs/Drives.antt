@@ -1,5 +1,5 @@
 -- Laws of who decides the level and the enable of a pin (RP2040 Datasheet, 3.5.6): who wrote it last.
-use Rattle.std.specs.Prelude.{◌≡◌, ℕ, ◌^◌, ◌<◌, ◌==◌, if◌then◌else◌}
+use Rattle.std.specs.Prelude.{◌≡◌, ℕ, ◌<◌, ◌==◌, if◌then◌else◌}
 use Rattle.std.specs.Int.{bit_at}
 use Rattle.pio_words.specs.Operation.{operation_of}
 use Rattle.pio_machine.specs.declared.machine.Machine1.{Machine1}

@@ -16,3 +16,4 @@ pub mod Tie
 pub mod Once
 pub mod Clock
 pub mod Drives
+pub mod Stream

@@ -2,6 +2,7 @@
 
 ghost use Rattle.pio_machine.specs.Once.{AnInShiftsOnce, AnIrqRaisesOnce};
 ghost use Rattle.pio_machine.specs.Drives.{TheLaterMachineDecides, TheSideSetDecides};
+ghost use Rattle.pio_machine.specs.Stream.{TheBitsOutAreThoseSent};
 ghost use Rattle.pio_machine.specs.Clock.{AMachineTicksByItsDivider, ACycleKeepsTheFifosWithin};
 
 /// An IN that completes has shifted its bits exactly once since it was first tried, however often it stalled.
@@ -22,6 +23,11 @@ pub fn a_machine_ticks_by_its_divider()
 /// No cycle leaves more words in a FIFO than it has places.
 pub fn a_cycle_keeps_the_fifos_within()
     ensures { ACycleKeepsTheFifosWithin }
+{}
+
+/// The bits that OUTs give up to the threshold, and then those that wait, are the bits of the words that were sent, in order.
+pub fn the_bits_out_are_those_sent()
+    ensures { TheBitsOutAreThoseSent }
 {}
 
 /// Of each pin the machine that writes it later in a cycle decides, and a pin that it does not write stays.

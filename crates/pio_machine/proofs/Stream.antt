@@ -1,0 +1,378 @@
+-- What OUTs give, bit after bit, is what was sent, word after word.
+use Rattle.std.proofs.Common.{◌≡◌, ◌∙◌, ap, sym, ℕ, zero, suc, ◌+◌, ◌-◌, ◌*◌, ◌/◌, ◌%◌, ◌^◌, ◌<◌, ◌≤◌, min, Bool, true, false, not, ◌&&◌, nat_le, if◌then◌else◌, List, [], ◌∷◌, ◌++◌, Option, Some, None, refl, arith}
+use Rattle.std.specs.Int.{bit_at}
+use Rattle.std.specs.List.{flat_map}
+use Rattle.std.proofs.lemmas.Bool.Decides.{nat_tests}
+use Rattle.std.proofs.lemmas.Grind.{flat_map-append}
+use Rattle.std.proofs.lemmas.List.{append_assoc, append-nil}
+use Rattle.std.proofs.lemmas.Nat.{pow-add, pow_pos, mod-pow-add, div-mul-add}
+use Rattle.std.proofs.Math.Nat.{div-div-eq-div-mul, mul-div_cancel, mod-lt, zero-add, sub-zero}
+use Rattle.std.proofs.Math.Pow.{mod-mod-pow}
+use Rattle.pio_words.specs.declared.op.PioOp.{PioOp}
+use Rattle.pio_words.specs.declared.op.PioOp.TheVariants.{Jmp, Wait, In, Out, Push, Pull, Mov, Irq, Set, Reserved}
+use Rattle.pio_words.specs.declared.op.JmpCondition.{JmpCondition}
+use Rattle.pio_words.specs.declared.op.JmpCondition.TheVariants as jump
+use Rattle.pio_words.specs.declared.op.InSource.{InSource}
+use Rattle.pio_words.specs.declared.op.OutDestination.{OutDestination}
+use Rattle.pio_words.specs.declared.op.OutDestination.TheVariants as out
+use Rattle.pio_words.specs.declared.op.SetDestination.{SetDestination}
+use Rattle.pio_words.specs.declared.op.SetDestination.TheVariants as set
+use Rattle.pio_words.specs.declared.op.MovDestination.{MovDestination}
+use Rattle.pio_words.specs.declared.op.MovDestination.TheVariants as moved
+use Rattle.pio_words.specs.Operation.{operation_of}
+use Rattle.pio_machine.specs.declared.machine.Machine1.{Machine1}
+use Rattle.pio_machine.specs.declared.machine.Seen.{Seen}
+use Rattle.pio_machine.specs.declared.machine.Waiting.{Waiting}
+use Rattle.pio_machine.specs.declared.machine.Progress.{Progress}
+use Rattle.pio_machine.specs.Bits.{taken, remaining, counted}
+use Rattle.pio_machine.specs.Ending.{Ending}
+use Rattle.pio_machine.specs.Ending.Ending.{Stalled, Completed, Jumped, Executes}
+use Rattle.pio_machine.specs.Fields.{out_right, pull_threshold, autopull, is_rx_full}
+use Rattle.pio_machine.specs.Flags.{flag_of, waits_for_clear}
+use Rattle.pio_machine.specs.Progress.{kept_in, with_shifted, with_raised, progress_of}
+use Rattle.pio_machine.specs.Jump.{after_jmp}
+use Rattle.pio_machine.specs.Input.{shifted_in, shifted_once, try_in}
+use Rattle.pio_machine.specs.Queue.{completed, stalled, loaded_from, loaded, is_spent, refilled, with_tx_stall, with_rx_stall, is_pull_void, pulled_from, try_pull, pushed, with_isr_cleared, try_push_now, try_push}
+use Rattle.pio_machine.specs.Output.{out_value, shifted_out, with_out, out_stalls, starved, out_done, try_out, after_set}
+use Rattle.pio_machine.specs.Move.{mov_value, with_moved}
+use Rattle.pio_machine.specs.Operation.{tried, is_osr, loads_osr, stepped_past, stepped, ended}
+use Rattle.pio_machine.specs.Cycle.{worked, after_op, after_try, ticks, divided, advanced, word_tried, passed, after_word, after_cycle}
+use Rattle.pio_machine.specs.Stream.{listed, place, leading, bits_of_word, bits_waiting, bits_of_out, given_by, given_by_word, given_in_cycle, replaces_osr, word_replaces_osr, Feeds, end_of, given_over, sent_over, TheBitsOutAreThoseSent}
+use Rattle.pio_machine.proofs.Clock.{shiftctrl-kept, goes-cycle}
+
+-- ---- lists of bits
+
+listed-same : (n : ℕ) (f g : ℕ → ℕ) → ((i : ℕ) → i < n → f i ≡ g i) → listed n f ≡ listed n g
+listed-same zero f g h = refl
+listed-same (suc n) f g h =
+    ap (λ b. b ∷ listed n (λ i. f (suc i))) (h 0 (omega arith))
+    ∙ ap (λ bs. g 0 ∷ bs) (listed-same n (λ i. f (suc i)) (λ i. g (suc i)) (λ i low. h (suc i) (omega (arith, low))))
+
+listed-append : (a b : ℕ) (f : ℕ → ℕ) → listed (a + b) f ≡ listed a f ++ listed b (λ i. f (a + i))
+listed-append zero b f = ap (λ n. listed n f) (zero-add b) ∙ listed-same b f (λ i. f (0 + i)) (λ i low. ap f (sym (zero-add i)))
+listed-append (suc a) b f =
+    let longer : suc a + b ≡ suc (a + b) = omega arith in
+    ap (λ n. listed n f) longer
+    ∙ ap (λ bs. f 0 ∷ bs) (listed-append a b (λ i. f (suc i)) ∙ ap (λ cs. listed a (λ i. f (suc i)) ++ cs)
+    (listed-same b (λ i. f (suc (a + i))) (λ i. f (suc a + i)) (λ i low. ap f (omega arith))))
+
+-- ---- bits of a word
+
+low_bits : (w j i : ℕ) → bit_at (w % 2 ^ ((j + 1) + i)) i ≡ bit_at w i
+low_bits w j i =
+    ap (λ n. n / 2 ^ i % 2) (mod-pow-add w (j + 1) i)
+    ∙ ap (λ n. n % 2) (div-mul-add (w / 2 ^ i % 2 ^ (j + 1)) (2 ^ i) (w % 2 ^ i) (mod-lt w (pow_pos i)))
+    ∙ mod-mod-pow (w / 2 ^ i) j 1
+
+bit-mod : (w c i : ℕ) → i < c → bit_at (w % 2 ^ c) i ≡ bit_at w i
+bit-mod w c i h =
+    let split : c ≡ ((c - suc i) + 1) + i = omega (arith, h) in
+    ap (λ n. bit_at (w % 2 ^ n) i) split ∙ low_bits w (c - suc i) i
+
+bit-div : (w c i : ℕ) → bit_at (w / 2 ^ c) i ≡ bit_at w (c + i)
+bit-div w c i = ap (λ n. n % 2) (div-div-eq-div-mul w (2 ^ c) (2 ^ i) ∙ ap (λ n. w / n) (sym (pow-add 2 c i)))
+
+bit-mul : (w c i : ℕ) → bit_at (w * 2 ^ c) (c + i) ≡ bit_at w i
+bit-mul w c i = sym (bit-div (w * 2 ^ c) c i) ∙ ap (λ n. bit_at n i) (mul-div_cancel w (pow_pos c))
+
+first_bits : (right : Bool) (c w i : ℕ) → i < c → c ≤ 32 → bit_at (taken right c w) (place right c i) ≡ bit_at w (place right 32 i)
+first_bits true c w i h k = bit-mod w c i h
+first_bits false c w i h k =
+    bit-div w (32 - c) (c - 1 - i) ∙ ap (λ n. bit_at w n) (omega (arith, h, k))
+
+next_bits : (right : Bool) (c w i : ℕ) → c + i < 32 → bit_at (remaining right c w) (place right 32 i) ≡ bit_at w (place right 32 (c + i))
+next_bits true c w i h = bit-div w c i
+next_bits false c w i h =
+    let turned : 32 - 1 - i ≡ c + (32 - 1 - (c + i)) = omega (arith, h) in
+    bit-mod (w * 2 ^ c) 32 (32 - 1 - i) (omega (arith, h)) ∙ ap (λ n. bit_at (w * 2 ^ c) n) turned ∙ bit-mul w c (32 - 1 - (c + i))
+
+-- what a shift gives, and what it leaves, are the word
+parted : (right : Bool) (c left w : ℕ) → c ≤ 32 → left ≤ 32
+    → leading right c (min c left) (taken right c w) ++ leading right 32 (left - c) (remaining right c w) ≡ leading right 32 left w
+parted right c left w h k =
+    let whole : left ≡ min c left + (left - c) = omega arith in
+    ap (λ bs. bs ++ leading right 32 (left - c) (remaining right c w))
+    (listed-same (min c left) _ (λ i. bit_at w (place right 32 i)) (λ i low. first_bits right c w i (omega (arith, low)) h))
+    ∙ ap (λ bs. leading right 32 (min c left) w ++ bs)
+    (listed-same (left - c) _ (λ i. bit_at w (place right 32 (min c left + i)))
+    (λ i low. next_bits right c w i (omega (arith, low, k)) ∙ ap (λ n. bit_at w (place right 32 n)) (omega (arith, low))))
+    ∙ sym (ap (λ n. leading right 32 n w) whole ∙ listed-append (min c left) (left - c) (λ i. bit_at w (place right 32 i)))
+
+-- ---- what waits, in machines that agree
+
+-- the OSR, its count, the TX FIFO and SHIFTCTRL are the same
+record Agrees (m next : Machine1) : Type 0 where
+  osr : next.osr ≡ m.osr
+  osr_count : next.osr_count ≡ m.osr_count
+  tx : next.tx ≡ m.tx
+  shiftctrl : next.shiftctrl ≡ m.shiftctrl
+
+agrees : (m next : Machine1) → next.osr ≡ m.osr → next.osr_count ≡ m.osr_count → next.tx ≡ m.tx → next.shiftctrl ≡ m.shiftctrl → Agrees m next
+agrees m next o c t s = record { osr = o; osr_count = c; tx = t; shiftctrl = s }
+
+itself : (m : Machine1) → Agrees m m
+itself m = agrees m m refl refl refl refl
+
+and_then : {a b c : Machine1} → Agrees a b → Agrees b c → Agrees a c
+and_then g h = record { osr = h.osr ∙ g.osr; osr_count = h.osr_count ∙ g.osr_count; tx = h.tx ∙ g.tx; shiftctrl = h.shiftctrl ∙ g.shiftctrl }
+
+same_word : (m next : Machine1) → next.shiftctrl ≡ m.shiftctrl → (word : ℕ) → bits_of_word next word ≡ bits_of_word m word
+same_word m next h word = rw h refl
+
+same_words : (m next : Machine1) → next.shiftctrl ≡ m.shiftctrl → (words : List ℕ) → flat_map (bits_of_word next) words ≡ flat_map (bits_of_word m) words
+same_words m next h [] = refl
+same_words m next h (word ∷ rest) =
+    ap (λ bs. bs ++ flat_map (bits_of_word next) rest) (same_word m next h word) ∙ ap (λ bs. bits_of_word m word ++ bs) (same_words m next h rest)
+
+-- what is left of an OSR with this SHIFTCTRL
+same_rest : (m next : Machine1) → next.osr ≡ m.osr → next.osr_count ≡ m.osr_count → next.shiftctrl ≡ m.shiftctrl
+    → leading (out_right next) 32 (pull_threshold next - next.osr_count) next.osr ≡ leading (out_right m) 32 (pull_threshold m - m.osr_count) m.osr
+same_rest m next o c s = rw (o, c, s) refl
+
+same_bits : (m next : Machine1) → Agrees m next → bits_waiting next ≡ bits_waiting m
+same_bits m next g =
+    ap (λ bs. bs ++ flat_map (bits_of_word next) next.tx) (same_rest m next g.osr g.osr_count g.shiftctrl)
+    ∙ ap (λ bs. leading (out_right m) 32 (pull_threshold m - m.osr_count) m.osr ++ bs)
+    (ap (λ ws. flat_map (bits_of_word next) ws) g.tx ∙ same_words m next g.shiftctrl m.tx)
+
+-- ---- a spent OSR is loaded
+
+is_over : (t count : ℕ) → nat_le t count ≡ true → t - count ≡ 0
+is_over t count h = grind (arith, nat_tests)
+
+loaded-bits : (words : List ℕ) (m : Machine1) → m.tx ≡ words → is_spent m ≡ true → bits_waiting (loaded_from words m) ≡ bits_waiting m
+loaded-bits [] m h spent = refl
+loaded-bits (word ∷ rest) m h spent =
+    ap (λ n. leading (out_right m) 32 n word ++ flat_map (bits_of_word m) rest) (sub-zero (pull_threshold m))
+    ∙ sym (ap (λ n. leading (out_right m) 32 n m.osr ++ flat_map (bits_of_word m) m.tx) (is_over (pull_threshold m) m.osr_count spent)
+    ∙ ap (λ ws. flat_map (bits_of_word m) ws) h)
+
+refill-by : (b c : Bool) (m : Machine1) → is_spent m ≡ c → bits_waiting (if b then (if c then loaded m else m) else m) ≡ bits_waiting m
+refill-by true true m h = loaded-bits m.tx m refl h
+refill-by true false m h = refl
+refill-by false c m h = refl
+
+refilled-bits : (m : Machine1) → bits_waiting (refilled m) ≡ bits_waiting m
+unfolding refilled
+refilled-bits m = refill-by (autopull m) (is_spent m) m refl
+
+-- ---- OUT
+
+fits-by : (b : Bool) (field : ℕ) → field < 32 → (if b then 32 else field) ≤ 32
+fits-by true field h = omega arith
+fits-by false field h = omega (arith, h)
+
+threshold-fits : (m : Machine1) → pull_threshold m ≤ 32
+threshold-fits m = fits-by _ (m.shiftctrl / 2 ^ 25 % 2 ^ 5) (mod-lt (m.shiftctrl / 2 ^ 25) (pow_pos 5))
+
+left_after : (t before count : ℕ) → t ≤ 32 → t - counted before count ≡ t - before - count
+left_after t before count h = omega (arith, h)
+
+shift-bits : (count : ℕ) (m : Machine1) → count ≤ 32 → bits_of_out count m ++ bits_waiting (shifted_out count m) ≡ bits_waiting m
+shift-bits count m h =
+    let left = pull_threshold m - m.osr_count in
+    let after : pull_threshold m - counted m.osr_count count ≡ left - count = left_after (pull_threshold m) m.osr_count count (threshold-fits m) in
+    ap (λ n. bits_of_out count m ++ (leading (out_right m) 32 n (remaining (out_right m) count m.osr) ++ flat_map (bits_of_word m) m.tx)) after
+    ∙ sym (append_assoc (bits_of_out count m) (leading (out_right m) 32 (left - count) (remaining (out_right m) count m.osr)) (flat_map (bits_of_word m) m.tx))
+    ∙ ap (λ bs. bs ++ flat_map (bits_of_word m) m.tx) (parted (out_right m) count left m.osr h (omega (arith, threshold-fits m)))
+
+agrees-put : (destination : OutDestination) (value count : ℕ) (m : Machine1) → Agrees m (with_out destination value count m)
+agrees-put out.Pins v c m = itself m
+agrees-put out.X v c m = agrees m _ refl refl refl refl
+agrees-put out.Y v c m = agrees m _ refl refl refl refl
+agrees-put out.Null v c m = itself m
+agrees-put out.Pindirs v c m = itself m
+agrees-put out.Pc v c m = itself m
+agrees-put out.Isr v c m = agrees m _ refl refl refl refl
+agrees-put out.Exec v c m = itself m
+
+done-bits : (destination : OutDestination) (count : ℕ) (m : Machine1) → count ≤ 32
+    → bits_of_out count m ++ bits_waiting (out_done destination count m).machine ≡ bits_waiting m
+done-bits destination count m h =
+    ap (λ bs. bits_of_out count m ++ bs)
+    (refilled-bits (with_out destination (out_value count m) count (shifted_out count m))
+    ∙ same_bits (shifted_out count m) _ (agrees-put destination (out_value count m) count (shifted_out count m)))
+    ∙ shift-bits count m h
+
+is_both : (a b : Bool) → (a && b) ≡ true → b ≡ true
+is_both true b h = h
+is_both false b h = absurd (cc)
+
+starved-bits : (words : List ℕ) (m : Machine1) → m.tx ≡ words → is_spent m ≡ true → bits_waiting (starved words m) ≡ bits_waiting m
+starved-bits [] m h spent = same_bits m _ (agrees m (with_tx_stall m) refl refl refl refl)
+starved-bits (word ∷ rest) m h spent = loaded-bits m.tx m refl spent
+
+out-by : (b : Bool) (destination : OutDestination) (count : ℕ) (m : Machine1) → out_stalls m ≡ b → count ≤ 32
+    → (if b then [] else bits_of_out count m) ++ bits_waiting (if b then stalled (starved m.tx m) else out_done destination count m).machine ≡ bits_waiting m
+out-by true destination count m h k = starved-bits m.tx m refl (is_both (autopull m) (is_spent m) h)
+out-by false destination count m h k = done-bits destination count m k
+
+out-bits : (destination : OutDestination) (count : ℕ) (m : Machine1)
+    → given_by (Out destination count) m ++ bits_waiting (try_out destination count m).machine ≡ bits_waiting m
+unfolding try_out
+out-bits destination count m = out-by (out_stalls m) destination (min count 32) m refl (omega arith)
+
+-- ---- the other operations
+
+agrees-jmp : (condition : JmpCondition) (m : Machine1) → Agrees m (after_jmp condition m)
+agrees-jmp jump.Always m = itself m
+agrees-jmp jump.XZero m = itself m
+agrees-jmp jump.XDecrement m = agrees m _ refl refl refl refl
+agrees-jmp jump.YZero m = itself m
+agrees-jmp jump.YDecrement m = agrees m _ refl refl refl refl
+agrees-jmp jump.XNotY m = itself m
+agrees-jmp jump.Pin m = itself m
+agrees-jmp jump.OsrNotEmpty m = itself m
+
+agrees-keep : (w : Option Waiting) (p : Progress) (m : Machine1) → Agrees m (kept_in w p m)
+agrees-keep None p m = agrees m _ refl refl refl refl
+agrees-keep (Some w) p m = agrees m _ refl refl refl refl
+
+agrees-shift : (before : Bool) (value count : ℕ) (m : Machine1) → Agrees m (if before then m else shifted_in value count m)
+agrees-shift true v c m = itself m
+agrees-shift false v c m = agrees m _ refl refl refl refl
+
+agrees-autopush : (pushes full : Bool) (m : Machine1)
+    → Agrees m (if pushes then (if full then stalled (with_rx_stall (with_shifted m)) else completed (pushed m)) else completed m).machine
+agrees-autopush true true m = and_then (agrees-keep m.waiting _ m) (agrees _ _ refl refl refl refl)
+agrees-autopush true false m = agrees m _ refl refl refl refl
+agrees-autopush false full m = itself m
+
+agrees-in : (source : InSource) (count : ℕ) (seen : Seen) (m : Machine1) → Agrees m (try_in source count seen m).machine
+unfolding try_in
+agrees-in source count seen m =
+    and_then (agrees-shift (progress_of m).shifted _ _ m) (agrees-autopush _ _ (shifted_once source count seen m))
+
+agrees-push-now : (full block : Bool) (m : Machine1)
+    → Agrees m (if full then (if block then stalled (with_rx_stall m) else completed (with_isr_cleared (with_rx_stall m))) else completed (pushed m)).machine
+agrees-push-now true true m = agrees m _ refl refl refl refl
+agrees-push-now true false m = agrees m _ refl refl refl refl
+agrees-push-now false block m = agrees m _ refl refl refl refl
+
+agrees-push-by : (b block : Bool) (m : Machine1) → Agrees m (if b then completed m else try_push_now block m).machine
+agrees-push-by true block m = itself m
+agrees-push-by false block m = agrees-push-now (is_rx_full m) block m
+
+agrees-push : (if_full block : Bool) (m : Machine1) → Agrees m (try_push if_full block m).machine
+unfolding try_push
+agrees-push if_full block m = agrees-push-by _ block m
+
+agrees-pull-by : (b block : Bool) (m : Machine1) → not b ≡ false → Agrees m (if b then completed m else pulled_from m.tx block m).machine
+agrees-pull-by true block m h = itself m
+agrees-pull-by false block m h = absurd (cc)
+
+agrees-pull : (if_empty block : Bool) (m : Machine1) → not (is_pull_void if_empty m) ≡ false → Agrees m (try_pull if_empty block m).machine
+unfolding try_pull
+agrees-pull if_empty block m h = agrees-pull-by (is_pull_void if_empty m) block m h
+
+agrees-mov : (destination : MovDestination) (value : ℕ) (m : Machine1) → is_osr destination ≡ false → Agrees m (with_moved destination value m)
+agrees-mov moved.Pins v m h = itself m
+agrees-mov moved.X v m h = agrees m _ refl refl refl refl
+agrees-mov moved.Y v m h = agrees m _ refl refl refl refl
+agrees-mov moved.Exec v m h = itself m
+agrees-mov moved.Pc v m h = itself m
+agrees-mov moved.Isr v m h = agrees m _ refl refl refl refl
+agrees-mov moved.Osr v m h = absurd (cc)
+
+agrees-irq : (waits : Bool) (m : Machine1) → Agrees m (if waits then with_raised m else m)
+agrees-irq true m = agrees-keep m.waiting _ m
+agrees-irq false m = itself m
+
+agrees-set : (destination : SetDestination) (value : ℕ) (m : Machine1) → Agrees m (after_set destination value m)
+agrees-set set.Pins v m = itself m
+agrees-set set.X v m = agrees m _ refl refl refl refl
+agrees-set set.Y v m = agrees m _ refl refl refl refl
+agrees-set set.Pindirs v m = itself m
+
+op-bits : (op : PioOp) (number : ℕ) (seen : Seen) (m : Machine1) → replaces_osr op m ≡ false
+    → given_by op m ++ bits_waiting (tried op number seen m).machine ≡ bits_waiting m
+op-bits (Jmp condition address) number seen m h = same_bits m _ (agrees-jmp condition m)
+op-bits (Wait polarity source) number seen m h = refl
+op-bits (In source count) number seen m h = same_bits m _ (agrees-in source count seen m)
+op-bits (Out destination count) number seen m h = out-bits destination count m
+op-bits (Push if_full block) number seen m h = same_bits m _ (agrees-push if_full block m)
+op-bits (Pull if_empty block) number seen m h = same_bits m _ (agrees-pull if_empty block m h)
+op-bits (Mov destination operation source) number seen m h = same_bits m _ (agrees-mov destination (mov_value operation source seen m) m h)
+op-bits (Irq clear wait index) number seen m h = same_bits m _ (agrees-irq (waits_for_clear clear wait (flag_of index number) seen m) m)
+op-bits (Set destination value) number seen m h = same_bits m _ (agrees-set destination value m)
+op-bits Reserved number seen m h = refl
+
+-- ---- a cycle
+
+autopull-by : (loads : Bool) (m : Machine1) → bits_waiting (if loads then m else refilled m) ≡ bits_waiting m
+autopull-by true m = refl
+autopull-by false m = refilled-bits m
+
+agrees-past : (w : Option Waiting) (m : Machine1) → Agrees m (stepped_past w m)
+agrees-past None m = agrees m _ refl refl refl refl
+agrees-past (Some w) m = agrees m _ refl refl refl refl
+
+agrees-end : (delay : ℕ) (e : Ending) (m : Machine1) → Agrees m (ended delay e m)
+unfolding ended
+agrees-end delay Stalled m = itself m
+agrees-end delay Completed m = and_then (agrees-past m.waiting m) (agrees (stepped m) _ refl refl refl refl)
+agrees-end delay (Jumped place) m = agrees m _ refl refl refl refl
+agrees-end delay (Executes word) m = and_then (agrees-past m.waiting m) (agrees (stepped m) _ refl refl refl refl)
+
+try-bits-of : (word : ℕ) (op : PioOp) (number : ℕ) (seen : Seen) (m : Machine1) → replaces_osr op m ≡ false
+    → given_by op m ++ bits_waiting (after_op word op number seen m) ≡ bits_waiting m
+try-bits-of word op number seen m h =
+    ap (λ bs. given_by op m ++ bs)
+    (same_bits (worked op number seen m) _ (agrees-end _ (tried op number seen m).ending (worked op number seen m))
+    ∙ autopull-by (loads_osr op) (tried op number seen m).machine)
+    ∙ op-bits op number seen m h
+
+try-bits : (word number : ℕ) (seen : Seen) (m : Machine1) → replaces_osr (operation_of word) m ≡ false
+    → given_by (operation_of word) m ++ bits_waiting (after_try word number seen m) ≡ bits_waiting m
+unfolding after_try
+try-bits word number seen m h = try-bits-of word (operation_of word) number seen m h
+
+passed-bits : (ticked : Bool) (m : Machine1) → bits_waiting (passed ticked m) ≡ bits_waiting m
+passed-bits true m = refilled-bits (record m { delay = m.delay - 1 }) ∙ same_bits m _ (agrees m (record m { delay = m.delay - 1 }) refl refl refl refl)
+passed-bits false m = refl
+
+word-bits : (word : Option ℕ) (ticked : Bool) (number : ℕ) (seen : Seen) (m : Machine1) → word_replaces_osr word m ≡ false
+    → given_by_word word m ++ bits_waiting (after_word word ticked number seen m) ≡ bits_waiting m
+word-bits None ticked number seen m h = passed-bits ticked m
+word-bits (Some word) ticked number seen m h = try-bits word number seen m h
+
+agrees-advanced : (b : Bool) (m : Machine1) (a : ℕ) → Agrees m (if b then record m { acc = a } else m)
+agrees-advanced true m a = agrees m _ refl refl refl refl
+agrees-advanced false m a = itself m
+
+cycle-bits : (number : ℕ) (seen : Seen) (m : Machine1) → word_replaces_osr (word_tried seen m) (advanced m) ≡ false
+    → given_in_cycle seen m ++ bits_waiting (after_cycle number seen m) ≡ bits_waiting m
+unfolding after_cycle
+cycle-bits number seen m h =
+    word-bits (word_tried seen m) (ticks m) number seen (advanced m) h ∙ same_bits m _ (agrees-advanced m.enabled m (divided m))
+
+-- ---- a run
+
+fed-bits : (words : List ℕ) (m next : Machine1) → Feeds words m next → bits_waiting next ≡ bits_waiting m ++ flat_map (bits_of_word m) words
+fed-bits words m next g =
+    let rest = leading (out_right m) 32 (pull_threshold m - m.osr_count) m.osr in
+    ap (λ bs. bs ++ flat_map (bits_of_word next) next.tx) (same_rest m next g.osr g.osr_count g.shiftctrl)
+    ∙ ap (λ bs. rest ++ bs)
+    (ap (λ ws. flat_map (bits_of_word next) ws) g.tx ∙ same_words m next g.shiftctrl (m.tx ++ words) ∙ flat_map-append (bits_of_word m) m.tx words)
+    ∙ sym (append_assoc rest (flat_map (bits_of_word m) m.tx) (flat_map (bits_of_word m) words))
+
+same_shiftctrl : (number : ℕ) (seen : Seen) (m : Machine1) → (after_cycle number seen m).shiftctrl ≡ m.shiftctrl
+same_shiftctrl number seen m = (goes-cycle number seen m).shiftctrl ∙ shiftctrl-kept m.enabled m (divided m)
+
+-- in five pieces: what is given now and later, what waits at the end, what was sent now and later
+in_turn : (given later end next before now after : List ℕ) → later ++ end ≡ next ++ after → given ++ next ≡ before ++ now
+    → (given ++ later) ++ end ≡ before ++ (now ++ after)
+in_turn given later end next before now after h k =
+    append_assoc given later end ∙ ap (λ bs. given ++ bs) h ∙ sym (append_assoc given next after)
+    ∙ ap (λ bs. bs ++ after) k ∙ append_assoc before now after
+
+pub the_bits_out_are_those_sent : TheBitsOutAreThoseSent
+the_bits_out_are_those_sent number m [] fed = sym (append-nil (bits_waiting m))
+the_bits_out_are_those_sent number m (t ∷ ts) fed =
+    let next = after_cycle number t.seen t.machine in
+    let same : next.shiftctrl ≡ m.shiftctrl = same_shiftctrl number t.seen t.machine ∙ fed.0.shiftctrl in
+    let later = the_bits_out_are_those_sent number next ts fed.2 ∙ ap (λ bs. bits_waiting next ++ bs) (same_words m next same (sent_over ts)) in
+    let now = cycle-bits number t.seen t.machine fed.1 ∙ fed-bits t.words m t.machine fed.0 in
+    in_turn (given_in_cycle t.seen t.machine) (given_over ts) (bits_waiting (end_of number next ts)) (bits_waiting next) (bits_waiting m)
+    (flat_map (bits_of_word m) t.words) (flat_map (bits_of_word m) (sent_over ts)) later now
+    ∙ ap (λ bs. bits_waiting m ++ bs) (sym (flat_map-append (bits_of_word m) t.words (sent_over ts)))
