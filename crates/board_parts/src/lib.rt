@@ -1,0 +1,11 @@
+//! Parts of a board that hear its pins: probes, each of which hears the changes of one pin and shows a line.
+#![tactic(auto)]
+
+pub mod aimed;
+pub mod change;
+pub mod edge_counter;
+pub mod laws;
+pub mod probe;
+#[cfg(test)]
+mod tests;
+pub mod ws2812;
