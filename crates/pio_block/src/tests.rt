@@ -28,6 +28,43 @@ impl Look for Levels {
     }
 }
 
+/// What is done to a block, or seen of it.
+#[derive(Clone, Copy)]
+enum Deed {
+    /// A write at an offset, and what is read there after it.
+    Word(u16, u32, u32),
+    /// A write at an offset.
+    Write(u16, u32),
+    /// A read at an offset, with what it does.
+    Take(u16),
+    /// What is read at an offset.
+    Reads(u16, u32),
+    /// An offset of no word.
+    Missing(u16),
+    /// An offset at which OUT_STICKY and INLINE_OUT_EN are refused.
+    LeftOut(u16),
+    /// RESETS holds the block, or lets it go.
+    Hold(bool),
+    /// The inputs behind the synchronisers.
+    Inputs(u32),
+    /// A cycle, and the levels and enables of the pins after it.
+    Cycle(u32, u32),
+    /// How often the inputs were asked for.
+    Asked(u32),
+    /// The FIFOs' free places and words.
+    Pacing([u8; 8]),
+    /// PC, X, Y, ISR and OSR of a machine.
+    Registers(u8, [u32; 5]),
+    /// A machine's program counter is set.
+    Counter(u8, u8),
+    /// The interrupt lines.
+    Lines(bool, bool),
+    /// The block rests, or not.
+    Idle(bool),
+    /// A copy takes the block's place.
+    Copy,
+}
+
 /// One cycle.
 fn step(block: &mut PioBlock, look: &mut Levels) {
     let mut marks = Marks::new();
@@ -35,11 +72,77 @@ fn step(block: &mut PioBlock, look: &mut Levels) {
     block.finish(&(), &begun, [Turn::Nothing, Turn::Nothing], &mut marks);
 }
 
-const LOW: Levels = Levels {
-    now: 0,
-    second: 0,
-    asked: 0,
-};
+/// No word is at this offset.
+fn is_missing(block: &mut PioBlock, offset: u16) -> bool {
+    block.read(offset).is_none() && !block.allows(offset, None) && !block.effect(offset, None)
+}
+
+/// The block is this copy from now on.
+fn replace(block: &mut PioBlock) {
+    let mut copy = PioBlock::new();
+    copy.copy_from(block);
+    *block = copy;
+}
+
+/// What concerns its words.
+fn reads(block: &mut PioBlock, deed: &Deed) -> bool {
+    match *deed {
+        Deed::Word(offset, written, read) => {
+            block.effect(offset, Some(written)) && block.read(offset) == Some(read)
+        }
+        Deed::Write(offset, word) => block.effect(offset, Some(word)),
+        Deed::Take(offset) => block.effect(offset, None),
+        Deed::Reads(offset, word) => block.read(offset) == Some(word),
+        Deed::Missing(offset) => is_missing(block, offset),
+        Deed::LeftOut(offset) => {
+            !block.effect(offset, Some(0x4_0000)) && !block.allows(offset, Some(0x2_0000))
+        }
+        _ => true,
+    }
+}
+
+/// What concerns the rest of it.
+fn acts(block: &mut PioBlock, look: &mut Levels, deed: &Deed) -> bool {
+    match *deed {
+        Deed::Hold(held) => block.set_held(held),
+        Deed::Inputs(second) => look.second = second,
+        Deed::Cycle(levels, enables) => {
+            step(block, look);
+            return block.outs() == [levels, enables];
+        }
+        Deed::Asked(times) => return look.asked == times,
+        Deed::Pacing(counts) => return block.pacing() == counts,
+        Deed::Registers(machine, words) => {
+            return machine < 4 && block.registers(machine) == words;
+        }
+        Deed::Counter(machine, place) => {
+            if machine < 4 && place < 32 {
+                block.set_counter(machine, place);
+            }
+        }
+        Deed::Lines(first, second) => return block.lines() == [first, second],
+        Deed::Idle(idle) => return block.is_idle() == idle,
+        Deed::Copy => replace(block),
+        _ => {}
+    }
+    true
+}
+
+/// The first of these from a new block on that is not so.
+fn first_wrong(deeds: &[Deed]) -> Option<usize> {
+    let mut block = PioBlock::new();
+    let mut look = Levels {
+        now: 0,
+        second: 0,
+        asked: 0,
+    };
+    for (place, deed) in deeds.iter().enumerate() {
+        if !reads(&mut block, deed) || !acts(&mut block, &mut look, deed) {
+            return Some(place);
+        }
+    }
+    None
+}
 
 /// The first registers of the machines.
 const SM0: u16 = SM0_CLKDIV;
@@ -50,170 +153,155 @@ const SM2: u16 = SM1 + SM_BYTES;
 
 const SM3: u16 = SM2 + SM_BYTES;
 
-/// Offsets, what is written there, and what is read after.
-const WORDS: [(u16, u32, u32); 27] = [
-    (FSTAT, 0xffff_ffff, 0x0f00_0f00),
-    (FDEBUG, 0xffff_ffff, 0),
-    (FLEVEL, 0xffff_ffff, 0),
-    (RXF0 + 12, 0xffff_ffff, 0),
-    (IRQ_FORCE, 0x0000_01ff, 0),
-    (IRQ, 0x0000_000f, 0xf0),
-    (INPUT_SYNC_BYPASS, 0x8000_0001, 0x8000_0001),
-    (DBG_PADOUT, 0xffff_ffff, 0),
-    (DBG_PADOE, 0xffff_ffff, 0),
-    (DBG_CFGINFO, 0xffff_ffff, 0x0020_0404),
-    (INSTR_MEM0, 0x1234_e081, 0),
-    (INSTR_MEM0 + 124, 0x0000_e101, 0),
-    (SM0 + SM_INSTR, 0x0000_a042, 0xe081),
-    (SM0 + SM_CLKDIV, 0xffff_ffff, 0xffff_ff00),
-    (SM0 + SM_EXECCTRL, 0x7f01_ffff, 0xff01_ff9f),
-    (SM1 + SM_EXECCTRL, 0xfff9_ffff, 0x7f01_ff9f),
-    (SM0 + SM_SHIFTCTRL, 0xffff_ffff, 0xffff_0000),
-    (SM0 + SM_ADDR, 0xffff_ffff, 0),
-    (SM3 + SM_PINCTRL, 0x1234_5678, 0x1234_5678),
-    (INTR, 0xffff_ffff, 0x0e0),
-    (IRQ0_INTE, 0xffff_ffff, 0xfff),
-    (IRQ0_INTF, 0x0000_0001, 1),
-    (IRQ0_INTS, 0xffff_ffff, 0x0e1),
-    (IRQ1_INTE, 0x0000_0003, 3),
-    (IRQ1_INTF, 0x0000_0000, 0),
-    (IRQ1_INTS, 0xffff_ffff, 0),
-    (CTRL, 0x0000_0ff5, 5),
+/// What each word keeps of a write, and the lines after them.
+const WORDS: [Deed; 28] = [
+    Deed::Word(FSTAT, 0xffff_ffff, 0x0f00_0f00),
+    Deed::Word(FDEBUG, 0xffff_ffff, 0),
+    Deed::Word(FLEVEL, 0xffff_ffff, 0),
+    Deed::Word(RXF0 + 12, 0xffff_ffff, 0),
+    Deed::Word(IRQ_FORCE, 0x0000_01ff, 0),
+    Deed::Word(IRQ, 0x0000_000f, 0xf0),
+    Deed::Word(INPUT_SYNC_BYPASS, 0x8000_0001, 0x8000_0001),
+    Deed::Word(DBG_PADOUT, 0xffff_ffff, 0),
+    Deed::Word(DBG_PADOE, 0xffff_ffff, 0),
+    Deed::Word(DBG_CFGINFO, 0xffff_ffff, 0x0020_0404),
+    Deed::Word(INSTR_MEM0, 0x1234_e081, 0),
+    Deed::Word(INSTR_MEM0 + 124, 0x0000_e101, 0),
+    Deed::Word(SM0 + SM_INSTR, 0x0000_a042, 0xe081),
+    Deed::Word(SM0 + SM_CLKDIV, 0xffff_ffff, 0xffff_ff00),
+    Deed::Word(SM0 + SM_EXECCTRL, 0x7f01_ffff, 0xff01_ff9f),
+    Deed::Word(SM1 + SM_EXECCTRL, 0xfff9_ffff, 0x7f01_ff9f),
+    Deed::Word(SM0 + SM_SHIFTCTRL, 0xffff_ffff, 0xffff_0000),
+    Deed::Word(SM0 + SM_ADDR, 0xffff_ffff, 0),
+    Deed::Word(SM3 + SM_PINCTRL, 0x1234_5678, 0x1234_5678),
+    Deed::Word(INTR, 0xffff_ffff, 0x0e0),
+    Deed::Word(IRQ0_INTE, 0xffff_ffff, 0xfff),
+    Deed::Word(IRQ0_INTF, 0x0000_0001, 1),
+    Deed::Word(IRQ0_INTS, 0xffff_ffff, 0x0e1),
+    Deed::Word(IRQ1_INTE, 0x0000_0003, 3),
+    Deed::Word(IRQ1_INTF, 0x0000_0000, 0),
+    Deed::Word(IRQ1_INTS, 0xffff_ffff, 0),
+    Deed::Word(CTRL, 0x0000_0ff5, 5),
+    Deed::Lines(true, false),
 ];
 
-/// Offsets of no word.
-const MISSING: [u16; 6] = [0x002, 0x0c9, 0x144, 0x148, 0x1000, 0xfffc];
+/// Offsets of no word, bits that are left out, and a hold.
+const REFUSED: [Deed; 17] = [
+    Deed::Missing(0x002),
+    Deed::Missing(0x0c9),
+    Deed::Missing(0x144),
+    Deed::Missing(0x148),
+    Deed::Missing(0x1000),
+    Deed::Missing(0xfffc),
+    Deed::LeftOut(SM0 + SM_EXECCTRL),
+    Deed::LeftOut(SM1 + SM_EXECCTRL),
+    Deed::LeftOut(SM2 + SM_EXECCTRL),
+    Deed::LeftOut(SM3 + SM_EXECCTRL),
+    Deed::Write(SM3 + SM_CLKDIV, 0x0100_0000),
+    Deed::Hold(true),
+    Deed::Reads(DBG_CFGINFO, 0),
+    Deed::Write(INPUT_SYNC_BYPASS, 1),
+    Deed::Hold(false),
+    Deed::Reads(INPUT_SYNC_BYPASS, 0),
+    Deed::Reads(SM3 + SM_CLKDIV, 0x0001_0000),
+];
+
+/// Five words into a FIFO of four; an empty one is read; pull, in osr, 32 and push from INSTR of machine 1; a join empties.
+const FIFOS: [Deed; 29] = [
+    Deed::Write(TXF0 + 4, 1),
+    Deed::Write(TXF0 + 4, 2),
+    Deed::Write(TXF0 + 4, 3),
+    Deed::Write(TXF0 + 4, 4),
+    Deed::Write(TXF0 + 4, 5),
+    Deed::Reads(FSTAT, 0x0d02_0f00),
+    Deed::Reads(FDEBUG, 0x0002_0000),
+    Deed::Reads(FLEVEL, 0x0000_0400),
+    Deed::Reads(INTR, 0x0d0),
+    Deed::Pacing([4, 0, 4, 4, 0, 0, 0, 0]),
+    Deed::Take(RXF0 + 12),
+    Deed::Reads(FDEBUG, 0x0002_0800),
+    Deed::Write(FDEBUG, 0x0002_0000),
+    Deed::Reads(FDEBUG, 0x0000_0800),
+    Deed::Write(SM1 + SM_INSTR, 0x80a0),
+    Deed::Cycle(0, 0),
+    Deed::Write(SM1 + SM_INSTR, 0x40e0),
+    Deed::Cycle(0, 0),
+    Deed::Write(SM1 + SM_INSTR, 0x8020),
+    Deed::Cycle(0, 0),
+    Deed::Cycle(0, 0),
+    Deed::Asked(3),
+    Deed::Registers(1, [0, 0, 0, 0, 1]),
+    Deed::Reads(RXF0 + 4, 1),
+    Deed::Reads(FLEVEL, 0x0000_1300),
+    Deed::Take(RXF0 + 4),
+    Deed::Write(SM1 + SM_SHIFTCTRL, 0x4000_0000),
+    Deed::Reads(FLEVEL, 0),
+    Deed::Pacing([4, 8, 4, 4, 0, 0, 0, 0]),
+];
+
+/// set pindirs, 1; set pins, 1 [1]; set pins, 0 [2]; jmp 0, and its copy goes on.
+const BLINK: [Deed; 16] = [
+    Deed::Write(INSTR_MEM0, 0xe081),
+    Deed::Write(INSTR_MEM0 + 4, 0xe101),
+    Deed::Write(INSTR_MEM0 + 8, 0xe200),
+    Deed::Write(CTRL, 1),
+    Deed::Cycle(0, 1),
+    Deed::Cycle(1, 1),
+    Deed::Cycle(1, 1),
+    Deed::Cycle(0, 1),
+    Deed::Cycle(0, 1),
+    Deed::Cycle(0, 1),
+    Deed::Cycle(0, 1),
+    Deed::Cycle(0, 1),
+    Deed::Cycle(1, 1),
+    Deed::Copy,
+    Deed::Cycle(1, 1),
+    Deed::Cycle(0, 1),
+];
+
+/// Two machines at once: of set pins, 3 and set pins, 0 the higher's stays; irq 2 and irq clear 2 leave the flag. Then
+/// wait 1 gpio 0 waits in INSTR; and set pins, 31 from pin 28 on, where the words of the outputs have 30 bits.
+const FORCED: [Deed; 21] = [
+    Deed::Write(SM0 + SM_INSTR, 0xe003),
+    Deed::Write(SM1 + SM_INSTR, 0xe000),
+    Deed::Cycle(0, 0),
+    Deed::Write(SM0 + SM_INSTR, 0xc002),
+    Deed::Write(SM1 + SM_INSTR, 0xc042),
+    Deed::Cycle(0, 0),
+    Deed::Reads(IRQ, 4),
+    Deed::Counter(2, 31),
+    Deed::Write(SM2 + SM_INSTR, 0x2080),
+    Deed::Cycle(0, 0),
+    Deed::Reads(SM2 + SM_EXECCTRL, 0x8001_f000),
+    Deed::Inputs(1),
+    Deed::Cycle(0, 0),
+    Deed::Reads(SM2 + SM_EXECCTRL, 0x0001_f000),
+    Deed::Registers(2, [31, 0, 0, 0, 0]),
+    Deed::Idle(true),
+    Deed::Write(SM0 + SM_PINCTRL, 0x1400_0380),
+    Deed::Write(SM0 + SM_INSTR, 0xe01f),
+    Deed::Idle(false),
+    Deed::Cycle(0xf000_0001, 0),
+    Deed::Reads(DBG_PADOUT, 0x3000_0001),
+];
 
 #[test]
 fn words(rt: HostRuntime) {
-    let mut block = PioBlock::new();
-    for (offset, written, read) in WORDS {
-        assert!(rt; block.effect(offset, Some(written)), "{offset:x}");
-        assert_eq!(rt; block.read(offset), Some(read), "{offset:x}");
-    }
-    for offset in MISSING {
-        assert_eq!(rt; block.read(offset), None, "{offset:x}");
-        assert!(rt;
-            !block.effect(offset, None) && !block.allows(offset, None),
-            "{offset:x}"
-        );
-    }
-    // INLINE_OUT_EN and OUT_STICKY are left out
-    for offset in [
-        SM0 + SM_EXECCTRL,
-        SM1 + SM_EXECCTRL,
-        SM2 + SM_EXECCTRL,
-        SM3 + SM_EXECCTRL,
-    ] {
-        assert!(rt; !block.effect(offset, Some(0x4_0000)), "{offset:x}");
-        assert!(rt; !block.allows(offset, Some(0x2_0000)), "{offset:x}");
-    }
-    assert!(rt; block.lines() == [true, false]);
-    block.set_held(true);
-    assert_eq!(rt; block.read(DBG_CFGINFO), Some(0));
-    assert!(rt; block.effect(INPUT_SYNC_BYPASS, Some(1)));
-    block.set_held(false);
-    assert_eq!(rt; block.read(INPUT_SYNC_BYPASS), Some(0));
-    assert_eq!(rt; block.read(SM3 + SM_CLKDIV), Some(0x0001_0000));
+    assert_eq!(rt; first_wrong(&WORDS), None);
+}
+
+#[test]
+fn refused(rt: HostRuntime) {
+    assert_eq!(rt; first_wrong(&REFUSED), None);
 }
 
 #[test]
 fn fifos(rt: HostRuntime) {
-    let mut block = PioBlock::new();
-    for word in 1..6 {
-        assert!(rt; block.effect(TXF0 + 4, Some(word)));
-    }
-    assert_eq!(rt; block.read(FSTAT), Some(0x0d02_0f00));
-    assert_eq!(rt; block.read(FDEBUG), Some(0x0002_0000));
-    assert_eq!(rt; block.read(FLEVEL), Some(0x0000_0400));
-    assert_eq!(rt; block.read(INTR), Some(0x0d0));
-    assert!(rt; block.pacing() == [4, 0, 4, 4, 0, 0, 0, 0]);
-    assert!(rt; block.effect(RXF0 + 12, None));
-    assert_eq!(rt; block.read(FDEBUG), Some(0x0002_0800));
-    assert!(rt; block.effect(FDEBUG, Some(0x0002_0000)));
-    assert_eq!(rt; block.read(FDEBUG), Some(0x0000_0800));
-    // pull; then in osr, 32; then push, all from INSTR
-    let mut look = LOW;
-    for word in [0x80a0, 0x40e0, 0x8020] {
-        assert!(rt; block.effect(SM1 + SM_INSTR, Some(word)));
-        step(&mut block, &mut look);
-    }
-    assert_eq!(rt; look.asked, 3);
-    step(&mut block, &mut look);
-    assert_eq!(rt; look.asked, 3);
-    assert!(rt; block.registers(1) == [0, 0, 0, 0, 1]);
-    assert_eq!(rt; block.read(RXF0 + 4), Some(1));
-    assert_eq!(rt; block.read(FLEVEL), Some(0x0000_1300));
-    assert!(rt; block.effect(RXF0 + 4, None));
-    // FJOIN_TX of machine 1 empties its FIFOs
-    assert!(rt; block.effect(SM1 + SM_SHIFTCTRL, Some(0x4000_0000)));
-    assert_eq!(rt; block.read(FLEVEL), Some(0));
-    assert!(rt; block.pacing() == [4, 8, 4, 4, 0, 0, 0, 0]);
+    assert_eq!(rt; first_wrong(&FIFOS), None);
 }
-
-/// The levels and the enables after each cycle of set pindirs, 1; set pins, 1 [1]; set pins, 0 [2]; jmp 0.
-const BLINK: [[u32; 2]; 10] = [
-    [0, 1],
-    [1, 1],
-    [1, 1],
-    [0, 1],
-    [0, 1],
-    [0, 1],
-    [0, 1],
-    [0, 1],
-    [1, 1],
-    [1, 1],
-];
 
 #[test]
 fn cycles(rt: HostRuntime) {
-    let mut block = PioBlock::new();
-    let mut look = LOW;
-    for (offset, word) in [
-        (INSTR_MEM0, 0xe081),
-        (INSTR_MEM0 + 4, 0xe101),
-        (INSTR_MEM0 + 8, 0xe200),
-        (CTRL, 1),
-    ] {
-        assert!(rt; block.effect(offset, Some(word)));
-    }
-    for (cycle, outs) in BLINK.iter().enumerate() {
-        step(&mut block, &mut look);
-        assert!(rt; block.outs() == *outs, "cycle {cycle}");
-    }
-    let mut other = PioBlock::new();
-    other.copy_from(&block);
-    assert!(rt; other.outs() == [1, 1]);
-    // set pins, 3 and set pins, 0: the higher machine wins
-    let mut block = PioBlock::new();
-    assert!(rt;
-        block.effect(SM0 + SM_INSTR, Some(0xe003)) && block.effect(SM1 + SM_INSTR, Some(0xe000))
-    );
-    step(&mut block, &mut look);
-    assert!(rt; block.outs() == [0, 0]);
-    // irq 2 and irq clear 2: flags are cleared, then set
-    assert!(rt;
-        block.effect(SM0 + SM_INSTR, Some(0xc002)) && block.effect(SM1 + SM_INSTR, Some(0xc042))
-    );
-    step(&mut block, &mut look);
-    assert_eq!(rt; block.read(IRQ), Some(4));
-    // wait 1 gpio 0 waits in INSTR
-    block.set_counter(2, 31);
-    assert!(rt; block.effect(SM2 + SM_INSTR, Some(0x2080)));
-    step(&mut block, &mut look);
-    assert_eq!(rt; block.read(SM2 + SM_EXECCTRL), Some(0x8001_f000));
-    look.second = 1;
-    step(&mut block, &mut look);
-    assert_eq!(rt; block.read(SM2 + SM_EXECCTRL), Some(0x0001_f000));
-    assert!(rt; block.registers(2) == [31, 0, 0, 0, 0]);
-    assert!(rt; block.is_idle());
-    // set pins, 31 from pin 28 on: the words of the outputs have 30 bits
-    assert!(rt;
-        block.effect(SM0 + SM_PINCTRL, Some(0x1400_0380))
-            && block.effect(SM0 + SM_INSTR, Some(0xe01f))
-    );
-    assert!(rt; !block.is_idle());
-    step(&mut block, &mut look);
-    assert_eq!(rt; block.read(DBG_PADOUT), Some(0x3000_0001));
-    assert!(rt; block.outs() == [0xf000_0001, 0]);
+    assert_eq!(rt; first_wrong(&BLINK), None);
+    assert_eq!(rt; first_wrong(&FORCED), None);
 }
