@@ -41,7 +41,8 @@ use Rattle.pio_parse.specs.Statement.{end_at, line_at}
 use Rattle.pio_parse.proofs.Pieces.{Piece, token_at, tokens_of}
 use Rattle.pio_parse.proofs.Pieces.Piece.{End}
 use Rattle.pio_parse.specs.Words.{keyword_name}
-use Rattle.pio_disasm.specs.Text.{decimal, is_from_y, is_plain, is_to_y, is_written}
+use Rattle.std.specs.Fmt.{decimal, digits}
+use Rattle.pio_disasm.specs.Text.{is_from_y, is_plain, is_to_y, is_written}
 use Rattle.pio_parse.proofs.Runs.{both}
 use Rattle.pio_asm.proofs.LinePieces.{delay_if, from_key, instruction_if, instruction_pieces, is_nop, mov_pieces, operation_pieces, rel_pieces, side_pieces, side_set_pieces, tail_pieces, to_key, word_pieces}
 
@@ -104,6 +105,7 @@ reads_rel number column true rest none = record { after = column + 1 + 3; is = r
 reads_rel number column false rest none = record { after = column; is = none column; left = rw (none column) refl }
 
 wait_parses : (text : List ℕ) (number : ℕ) (p : Bool) (s : WaitSource) (rest : List Piece) → IsNoRel number rest → Parses text number (operation_pieces (Wait p s)) (wait_syntax p s) rest
+unfolding digits
 wait_parses text number true (Gpio n) rest none = (_, refl)
 wait_parses text number true (Pin n) rest none = (_, refl)
 wait_parses text number true (Flag i) rest none = let rel = reads_rel number (12 + length (decimal i.number)) i.relative rest none in (rel.after, rw (rel.left, rel.is) refl)

@@ -30,7 +30,8 @@ use Rattle.pio_parse.specs.declared.token.TokenKind.TheVariants.{Keyword as Keyw
 use Rattle.pio_parse.specs.Words.{directive_name, keyword_name}
 use Rattle.pio_parse.proofs.Pieces.{Piece}
 use Rattle.pio_parse.proofs.Pieces.Piece.{Blank, Run, Comma, Minus, Open, Close, Bang, Colons, NotEqual}
-use Rattle.pio_disasm.specs.Text.{decimal, hex_half, is_from_y, is_plain, is_to_y, is_written}
+use Rattle.std.specs.Fmt.{decimal}
+use Rattle.pio_disasm.specs.Text.{hex_half, is_from_y, is_plain, is_to_y, is_written}
 
 abbrev pub key : Keyword → Piece
 key keyword = Run (keyword_name keyword) (KeywordToken keyword)

@@ -8,7 +8,9 @@ use Rattle.pio_parse.specs.declared.token.TokenKind.TheVariants.{Keyword as Keyw
 use Rattle.pio_parse.specs.Words.{digit_of, digits_value, is_digit, is_word_char, keyword_name, number_of, word_kind}
 use Rattle.pio_parse.proofs.Pieces.{IsRun, is_run}
 use Rattle.pio_parse.proofs.Runs.{both}
-use Rattle.pio_disasm.specs.Text.{decimal, hex_digit, hex_half}
+use Rattle.std.specs.Fmt.{decimal, digits}
+use Rattle.std.specs.Char.{digit_char}
+use Rattle.pio_disasm.specs.Text.{hex_half}
 
 pub key_run : (keyword : Keyword) → IsRun (keyword_name keyword) (KeywordToken keyword)
 key_run Public = record { run = refl; plain = refl; names = λ span. refl }
@@ -95,25 +97,26 @@ number_run w n h =
     record { run = a.0; plain = refl; names = λ span. digits_kind w n span b.0 (that_is (number_of w) n b.1) }
 
 decimals : all_below (λ n. is_number (decimal n) n) 100 ≡ true
+unfolding digits
 decimals = refl
 
 pub decimal_run : (n : ℕ) → n < 100 → IsRun (decimal n) (Number n)
 decimal_run n lt = number_run (decimal n) n (all_below-at (λ n. is_number (decimal n) n) 100 n decimals lt)
 
 -- hexadecimal digits
-hex_digits : all_below (λ d. is_word_char (hex_digit d) && is_that (digit_of (hex_digit d)) d) 16 ≡ true
+hex_digits : all_below (λ d. is_word_char (digit_char d) && is_that (digit_of (digit_char d)) d) 16 ≡ true
 hex_digits = refl
 
 record IsHex (d : ℕ) : Type 0 where
-  char : is_word_char (hex_digit d) ≡ true
-  value : digit_of (hex_digit d) ≡ Some d
+  char : is_word_char (digit_char d) ≡ true
+  value : digit_of (digit_char d) ≡ Some d
 
 hex_is : (d : ℕ) → d < 16 → IsHex d
 hex_is d lt =
-    let h = both (is_word_char (hex_digit d)) (is_that (digit_of (hex_digit d)) d) (all_below-at (λ d. is_word_char (hex_digit d) && is_that (digit_of (hex_digit d)) d) 16 d hex_digits lt) in
-    record { char = h.0; value = that_is (digit_of (hex_digit d)) d h.1 }
+    let h = both (is_word_char (digit_char d)) (is_that (digit_of (digit_char d)) d) (all_below-at (λ d. is_word_char (digit_char d) && is_that (digit_of (digit_char d)) d) 16 d hex_digits lt) in
+    record { char = h.0; value = that_is (digit_of (digit_char d)) d h.1 }
 
-next_digit : (d value : ℕ) (cs : List ℕ) → d < 16 → value < 4096 → digits_value 16 value (hex_digit d ∷ cs) ≡ digits_value 16 (value * 16 + d) cs
+next_digit : (d value : ℕ) (cs : List ℕ) → d < 16 → value < 4096 → digits_value 16 value (digit_char d ∷ cs) ≡ digits_value 16 (value * 16 + d) cs
 next_digit d value cs lt small =
     let is = (hex_is d lt).value in
     let fits : nat_le 16 d ≡ false = not_le d lt in
@@ -123,11 +126,11 @@ next_digit d value cs lt small =
     not_le : (d : ℕ) → d < 16 → nat_le 16 d ≡ false
     not_le d lt = grind (arith, nat_tests)
 
-four_digits : (a b c d : ℕ) → a < 16 → b < 16 → c < 16 → d < 16 → digits_value 16 0 (hex_digit a ∷ hex_digit b ∷ hex_digit c ∷ hex_digit d ∷ []) ≡ Some ((((0 * 16 + a) * 16 + b) * 16 + c) * 16 + d)
+four_digits : (a b c d : ℕ) → a < 16 → b < 16 → c < 16 → d < 16 → digits_value 16 0 (digit_char a ∷ digit_char b ∷ digit_char c ∷ digit_char d ∷ []) ≡ Some ((((0 * 16 + a) * 16 + b) * 16 + c) * 16 + d)
 four_digits a b c d la lb lc ld =
-    next_digit a 0 (hex_digit b ∷ hex_digit c ∷ hex_digit d ∷ []) la (omega arith)
-    ∙ next_digit b (0 * 16 + a) (hex_digit c ∷ hex_digit d ∷ []) lb (omega arith)
-    ∙ next_digit c ((0 * 16 + a) * 16 + b) (hex_digit d ∷ []) lc (omega arith)
+    next_digit a 0 (digit_char b ∷ digit_char c ∷ digit_char d ∷ []) la (omega arith)
+    ∙ next_digit b (0 * 16 + a) (digit_char c ∷ digit_char d ∷ []) lb (omega arith)
+    ∙ next_digit c ((0 * 16 + a) * 16 + b) (digit_char d ∷ []) lc (omega arith)
     ∙ next_digit d (((0 * 16 + a) * 16 + b) * 16 + c) [] ld (omega arith)
 
 digit_lt : (n : ℕ) → n % 16 < 16
@@ -147,7 +150,7 @@ hex_run n lt =
     let d = hex_is (n % 16) (digit_lt n) in
     let value : number_of (48 ∷ 120 ∷ hex_half n) ≡ Some n = four_digits (n / 4096 % 16) (n / 256 % 16) (n / 16 % 16) (n % 16) (digit_lt (n / 4096)) (digit_lt (n / 256)) (digit_lt (n / 16)) (digit_lt n) ∙ ap (λ k. Some k) (half_value n lt) in
     record {
-      run = half_run (hex_digit (n / 4096 % 16)) (hex_digit (n / 256 % 16)) (hex_digit (n / 16 % 16)) (hex_digit (n % 16)) a.char b.char c.char d.char;
+      run = half_run (digit_char (n / 4096 % 16)) (digit_char (n / 256 % 16)) (digit_char (n / 16 % 16)) (digit_char (n % 16)) a.char b.char c.char d.char;
       plain = refl;
       names = λ span. digits_kind (48 ∷ 120 ∷ hex_half n) n span refl value;
     }

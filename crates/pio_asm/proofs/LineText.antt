@@ -29,7 +29,8 @@ use Rattle.pio_parse.proofs.Pieces.{Piece, chars_of, joined}
 use Rattle.pio_parse.proofs.Pieces.Piece.{End}
 use Rattle.pio_parse.proofs.PieceLines.{all_lines, header}
 use Rattle.pio_disasm.specs.Names.{condition_name, in_source_name, mov_destination_name, mov_operation_name, mov_source_name, out_destination_name, set_destination_name}
-use Rattle.pio_disasm.specs.Text.{decimal, delay_text, index_text, instruction_text, is_written, line_text, operation_text, side_text, source_text, wait_source_text, word_text}
+use Rattle.std.specs.Fmt.{decimal, digits}
+use Rattle.pio_disasm.specs.Text.{delay_text, index_text, instruction_text, is_written, line_text, operation_text, side_text, source_text, wait_source_text, word_text}
 use Rattle.pio_asm.proofs.LinePieces.{condition_pieces, delay_if, delay_pieces, from_key, in_key, flag_pieces, index_pieces, instruction_if, instruction_pieces, is_nop, key, line_pieces, mov_operation_pieces, mov_pieces, num, operation_pieces, out_key, program_lines, rel_pieces, set_key, side_pieces, side_set_lines, side_set_pieces, tail_pieces, to_key, wait_pieces}
 
 joined-append : (ps qs : List Piece) → joined (ps ++ qs) ≡ joined ps ++ joined qs
@@ -120,6 +121,7 @@ condition_is PinHigh n = ap (λ xs. codes "pin " ++ xs) (append-nil (decimal n))
 condition_is OsrNotEmpty n = ap (λ xs. codes "!osre " ++ xs) (append-nil (decimal n))
 
 operation_is : (op : PioOp) → joined (operation_pieces op) ≡ operation_text op
+unfolding digits
 operation_is (Jmp c n) = ap (λ xs. codes "jmp " ++ xs) (condition_is c n) ∙ sym (append_assoc (codes "jmp ") (condition_name c) (decimal n))
 operation_is (Wait true s) = ap (λ xs. codes "wait 1 " ++ xs) (wait_is s)
 operation_is (Wait false s) = ap (λ xs. codes "wait 0 " ++ xs) (wait_is s)

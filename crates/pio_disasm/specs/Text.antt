@@ -1,6 +1,7 @@
 -- The source of a program of given words (RP2040 Datasheet, 3.4.2 to 3.4.10, Assembler Syntax; 3.3, Directives). Which of the
 -- forms of an instruction is written is the project's own.
-use Rattle.std.specs.Prelude.{◌==◌, ◌&&◌, not, ℕ, ◌+◌, ◌/◌, ◌%◌, nat_lt, Bool, true, false, if◌then◌else◌, List, [], ◌∷◌, ◌++◌, Option, None, Some, codes, flat_map}
+use Rattle.std.specs.Prelude.{◌==◌, ◌&&◌, not, ℕ, ◌/◌, ◌%◌, Bool, true, false, if◌then◌else◌, List, [], ◌∷◌, ◌++◌, Option, None, Some, codes, decimal, flat_map}
+use Rattle.std.specs.Char.{digit_char}
 use Rattle.pio_words.specs.declared.op.IrqIndex.{IrqIndex}
 use Rattle.pio_words.specs.declared.op.WaitSource.{WaitSource}
 use Rattle.pio_words.specs.declared.op.WaitSource.TheVariants.{Gpio, Pin, Irq as WaitIrq}
@@ -18,17 +19,9 @@ use Rattle.pio_words.specs.Operation.{operation_of}
 use Rattle.pio_words.specs.Side.{side_at}
 use Rattle.pio_disasm.specs.Names.{condition_name, in_source_name, mov_destination_name, mov_operation_name, mov_source_name, out_destination_name, set_destination_name}
 
--- a number below 1000 in decimal digits
-abbrev pub decimal : ℕ → List ℕ
-decimal n = (if nat_lt n 100 then [] else (48 + n / 100) ∷ []) ++ (if nat_lt n 10 then [] else (48 + n / 10 % 10) ∷ []) ++ (48 + n % 10) ∷ []
-
--- a hexadecimal digit in lower case
-abbrev pub hex_digit : ℕ → ℕ
-hex_digit d = if nat_lt d 10 then 48 + d else 87 + d
-
--- a halfword in four hexadecimal digits
+-- a halfword in four hexadecimal digits, in lower case
 abbrev pub hex_half : ℕ → List ℕ
-hex_half n = hex_digit (n / 4096 % 16) ∷ hex_digit (n / 256 % 16) ∷ hex_digit (n / 16 % 16) ∷ hex_digit (n % 16) ∷ []
+hex_half n = digit_char (n / 4096 % 16) ∷ digit_char (n / 256 % 16) ∷ digit_char (n / 16 % 16) ∷ digit_char (n % 16) ∷ []
 
 abbrev pub index_text : IrqIndex → List ℕ
 index_text index = decimal index.number ++ (if index.relative then codes " rel" else [])

@@ -1,22 +1,17 @@
-ghost use Rattle.std.specs.Prelude.{◌≡◌, ◌++◌, ◌∷◌, [], ◌<◌, ◌&&◌, if◌then◌else◌, OnOk, IfOk, codes};
-ghost use Rattle.pio_disasm.specs.Text.{block_text, decimal, delay_text, hex_digit, hex_half, index_text, instruction_text, irq_mode_text, is_from_y, is_plain, is_to_y, is_written, line_text, mov_text, operation_text, side_set_text, side_text, source_text, wait_source_text, word_text};
+ghost use Rattle.std.specs.Prelude.{◌≡◌, ◌++◌, [], ◌<◌, ◌&&◌, if◌then◌else◌, OnOk, IfOk, codes, decimal};
+ghost use Rattle.std.specs.Char.{digit_char};
+ghost use Rattle.pio_disasm.specs.Text.{block_text, delay_text, hex_half, index_text, instruction_text, irq_mode_text, is_from_y, is_plain, is_to_y, is_written, line_text, mov_text, operation_text, side_set_text, side_text, source_text, wait_source_text, word_text};
 
 use crate::names::{
     condition_text, in_source_text, mov_destination_text, mov_operation_text, mov_source_text,
     out_destination_text, set_destination_text,
 };
+use itoa::Buffer;
 use pio_words::{
     IrqIndex, MovDestination, MovOperation, MovSource, PioOp, SideConfig, SideDelay, WaitSource,
     decode_side, decode_word,
 };
 use std::alloc::{AllocError, Global};
-
-fn put_byte(out: &mut Vec<u8>, byte: u8) -> Result<(), AllocError>
-    ensures { OnOk result (out.new.items ≡ out.old.items ++ byte ∷ []) }
-{
-    out.push(byte)?;
-    Ok(())
-}
 
 fn put(out: &mut Vec<u8>, text: &[u8]) -> Result<(), AllocError>
     ensures { OnOk result (out.new.items ≡ out.old.items ++ text.now) }
@@ -36,19 +31,14 @@ fn put_if(out: &mut Vec<u8>, stands: bool, text: &[u8]) -> Result<(), AllocError
 fn put_decimal(out: &mut Vec<u8>, number: u8) -> Result<(), AllocError>
     ensures { OnOk result (out.new.items ≡ out.old.items ++ decimal number) }
 {
-    if number >= 100 {
-        put_byte(out, b'0' + number / 100)?;
-    }
-    if number >= 10 {
-        put_byte(out, b'0' + number / 10 % 10)?;
-    }
-    put_byte(out, b'0' + number % 10)
+    let mut buffer = Buffer::new();
+    put(out, buffer.format(number).as_bytes())
 }
 
 /// The lower-case hexadecimal digit of a number below 16.
 fn digit(value: u16) -> u8
     requires { value < 16 }
-    ensures { result ≡ hex_digit value }
+    ensures { result ≡ digit_char value }
 {
     let value = value as u8;
     if value < 10 {

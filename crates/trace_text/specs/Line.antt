@@ -1,5 +1,6 @@
 -- The lines of a trace. Every line ends with LF. A word is eight lower-case hexadecimal digits, a cycle is decimal.
-use Rattle.std.specs.Prelude.{ℕ, Bool, true, false, ◌+◌, ◌/◌, ◌%◌, ◌^◌, List, [], ◌∷◌, ◌++◌, Option, Some, None, map, flat_map, codes, decimal, nat_lt, if◌then◌else◌}
+use Rattle.std.specs.Prelude.{ℕ, Bool, true, false, ◌/◌, ◌%◌, ◌^◌, List, [], ◌∷◌, ◌++◌, Option, Some, None, map, flat_map, codes, decimal}
+use Rattle.std.specs.Char.{digit_char}
 use Rattle.rp_base.specs.declared.Master.{Master}
 use Rattle.rp_base.specs.declared.Master.TheVariants.{Core0, Core1, DmaRead, DmaWrite}
 use Rattle.rp_base.specs.declared.Why.{Why}
@@ -7,17 +8,13 @@ use Rattle.rp_base.specs.declared.Why.TheVariants.{Limit, Bkpt, Lockup, Outside}
 use Rattle.trace_text.specs.declared.event.Event.{Event}
 use Rattle.trace_text.specs.declared.event.Event.TheVariants.{Uart, Pin}
 
--- the hexadecimal digit of a number below 16
-abbrev pub hex_digit : ℕ → ℕ
-hex_digit d = if nat_lt d 10 then 48 + d else 87 + d
-
 -- the eight hexadecimal digits of a word, the highest first
 unfoldable pub hex_word : ℕ → List ℕ
-hex_word w = map (λ k. hex_digit (w / 16 ^ k % 16)) (7 ∷ 6 ∷ 5 ∷ 4 ∷ 3 ∷ 2 ∷ 1 ∷ 0 ∷ [])
+hex_word w = map (λ k. digit_char (w / 16 ^ k % 16)) (7 ∷ 6 ∷ 5 ∷ 4 ∷ 3 ∷ 2 ∷ 1 ∷ 0 ∷ [])
 
 -- the two hexadecimal digits of a byte
 unfoldable pub hex_byte : ℕ → List ℕ
-hex_byte b = hex_digit (b / 16) ∷ hex_digit (b % 16) ∷ []
+hex_byte b = digit_char (b / 16) ∷ digit_char (b % 16) ∷ []
 
 -- the name of a master; both ports of the DMA engine have one
 abbrev pub master_name : Master → List ℕ

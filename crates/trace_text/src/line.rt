@@ -1,8 +1,9 @@
 //! The lines, written into a buffer of fixed size.
 
 ghost use Rattle.std.specs.Prelude.{◌≡◌, ◌+◌, ◌<◌, ◌≤◌, ◌++◌, Option, length, decimal, flat_map};
+ghost use Rattle.std.specs.Char.{digit_char};
 ghost use Rattle.arrayvec.specs.ArrayVec.{array_vec_len};
-ghost use Rattle.trace_text.specs.Line.{hex_word, hex_byte, hex_digit, master_name, core_name, cause_words, stop_text, register_text, spaced_word, event_text};
+ghost use Rattle.trace_text.specs.Line.{hex_word, hex_byte, master_name, core_name, cause_words, stop_text, register_text, spaced_word, event_text};
 
 use crate::event::Event;
 use arrayvec::ArrayVec;
@@ -12,7 +13,7 @@ use rp_base::{Master, Why};
 /// The lower-case hexadecimal digit of a number below 16.
 fn hex_digit_of(digit: u32) -> u8
     requires { digit < 16 }
-    ensures { result ≡ hex_digit digit }
+    ensures { result ≡ digit_char digit }
 {
     if digit < 10 {
         b'0' + digit as u8
