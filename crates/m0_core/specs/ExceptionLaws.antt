@@ -1,6 +1,6 @@
 -- What exceptions do to a core, over its cycles (ARMv6-M Architecture Reference Manual, B1.5.4, priorities, B1.5.15, lockup and
 -- faults, and A6.7.76, WFI).
-use Rattle.std.specs.Prelude.{◌≡◌, ◌⊎◌, ℕ, Bool, true, false, ◌||◌, List, [], ◌∷◌, Some, None, bit_and, int_lt}
+use Rattle.std.specs.Prelude.{◌≡◌, ◌⊎◌, ℕ, Bool, true, false, ◌||◌, [], Some, None, bit_and, int_lt}
 use Rattle.rp_base.specs.declared.op.Op.{Op}
 use Rattle.rp_base.specs.declared.op.Op.TheVariants as op
 use Rattle.m0_beats.specs.Effects.{effect_of}

@@ -3,6 +3,7 @@ pub mod Cycle
 pub mod Entry
 pub mod ExceptionLaws
 pub mod Fetch
+pub mod Handlers
 pub mod Kinds
 pub mod Law
 pub mod Private

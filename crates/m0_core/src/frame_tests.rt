@@ -86,3 +86,36 @@ fn woken(rt: HostRuntime) {
     assert!(rt; run(&mut core, &mut memory) == (34, Some(Why::Bkpt(0))));
     has(&rt, &core, &[(4, 9), (15, 0x2000_0090)]);
 }
+
+#[test]
+fn sevonpend(rt: HostRuntime) {
+    // SCR.SEVONPEND is set, and interrupt 0 is not enabled: once it is pending, WFE goes on.
+    let code = [0x4802, 0x2110, 0x6001, 0xbf20, 0xbe00, 0, 0xed10, 0xe000];
+    let mut memory = Memory::with_vectors(&[], &code);
+    let mut core = behind(0x2004_2000);
+    pass(&rt, &mut core, &mut memory, 40);
+    has(&rt, &core, &[(15, 0x2000_0086)]);
+    memory.lines = 1;
+    pass(&rt, &mut core, &mut memory, 1);
+    assert!(rt; run(&mut core, &mut memory) == (1, Some(Why::Bkpt(0))));
+}
+
+#[test]
+fn held_line(rt: HostRuntime) {
+    // Interrupt 0 is enabled, and its handler adds 1 to R4: an entry of 15 cycles, ADDS, BX of 2 and a return of 13. While the line
+    // is high the next entry follows the return at once.
+    let code = [
+        0x4802, 0x2101, 0x6001, 0xe7fe, 0x3401, 0x4770, 0xe100, 0xe000,
+    ];
+    let mut memory = Memory::with_vectors(&[(16, 0x2000_0089)], &code);
+    let mut core = behind(0x2004_2000);
+    pass(&rt, &mut core, &mut memory, 9);
+    memory.lines = 1;
+    for (count, total) in [(17, 0), (1, 1), (30, 1), (1, 2)] {
+        pass(&rt, &mut core, &mut memory, count);
+        has(&rt, &core, &[(4, total)]);
+    }
+    memory.lines = 0;
+    pass(&rt, &mut core, &mut memory, 80);
+    has(&rt, &core, &[(4, 2), (13, 0x2004_2000), (16, 0x100_0000)]);
+}

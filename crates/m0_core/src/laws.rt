@@ -2,6 +2,7 @@
 
 ghost use Rattle.m0_core.specs.Law.{AnInstructionTakesItsBeats, AnAccessLastsUntilItIsDone};
 ghost use Rattle.m0_core.specs.ExceptionLaws.{WhatIsTakenIsTheLeast, AFaultPendsHardFaultAlone, AWfiMovesOnWhereAnExceptionWakes};
+ghost use Rattle.m0_core.specs.Handlers.{AnEntryTakesItsBeats, AReturnTakesItsBeats, AReturnGivesBackWhatAnEntryFound};
 ghost use Rattle.m0_core.specs.Waiting.{AnInstructionTakesItsBeatsAndWaits};
 
 /// In fewer cycles than it has beats an instruction changes neither registers nor flags, and in as many it wants the accesses
@@ -34,4 +35,23 @@ pub fn a_fault_pends_hardfault_alone()
 /// The second beat of WFI is the last one where an exception wakes at its start, and lasts on elsewhere.
 pub fn a_wfi_moves_on_where_an_exception_wakes()
     ensures { AWfiMovesOnWhereAnExceptionWakes }
+{}
+
+/// An entry has 15 beats, of which nine have accesses: while beats are left it is in progress and changes no register, and when
+/// none is left the handler begins. The exception is active from the first beat on.
+pub fn an_entry_takes_its_beats()
+    ensures { AnEntryTakesItsBeats }
+{}
+
+/// A return has 13 beats, of which eight have accesses: while beats are left it is in progress and changes no register, and when
+/// none is left the registers are those of the frame, and the exception is not active any more.
+pub fn a_return_takes_its_beats()
+    ensures { AReturnTakesItsBeats }
+{}
+
+/// An entry, some handler, and a return while SRAM still has what the entry wrote: the registers that were stacked, the flags, the
+/// mode, the stack pointer and the active exceptions are those that the entry found. Where the handler keeps the other registers,
+/// all are.
+pub fn a_return_gives_back_what_an_entry_found()
+    ensures { AReturnGivesBackWhatAnEntryFound }
 {}

@@ -1,5 +1,5 @@
 -- The execution priority is the least of the active exceptions' and of that of PRIMASK.
-use Rattle.std.proofs.Common.{◌≡◌, ℕ, Bool, true, false, ◌||◌, refl, ap, cond, inl, inr, ◌⊎◌, ℤ, pos, arith, Option, Some, None}
+use Rattle.std.proofs.Common.{◌≡◌, ℕ, Bool, true, false, ◌||◌, refl, cond, inl, inr, ◌⊎◌, ℤ, pos, arith, Option, Some, None}
 use Rattle.std.specs.Prelude.{int_lt}
 use Rattle.std.specs.Int.{int_min}
 use Rattle.std.proofs.lemmas.Grind.{common_steps}
@@ -7,7 +7,7 @@ use Rattle.std.proofs.lemmas.Int.{ints}
 use Rattle.std.proofs.lemmas.Bool.Decides.{nat_tests}
 use Rattle.m0_nvic.specs.State.{Exceptions}
 use Rattle.m0_nvic.specs.Numbers.{is_member}
-use Rattle.m0_nvic.specs.Priority.{rank_of, precedes, least_of, IsLeast, rank_or_none, priority_of}
+use Rattle.m0_nvic.specs.Priority.{rank_of, least_of, IsLeast, rank_or_none}
 use Rattle.m0_nvic.specs.Law.{IsLeastInForce, ThePriorityIsTheLeast}
 use Rattle.m0_nvic.proofs.Least.{least_of-is}
 

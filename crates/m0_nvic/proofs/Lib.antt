@@ -1,3 +1,4 @@
-mod InForce
+pub mod Held
+pub mod InForce
 pub mod Least
 pub mod Members

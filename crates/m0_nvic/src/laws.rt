@@ -1,9 +1,15 @@
 //! The laws of the exceptions, each the contract of a function without arguments.
 
-ghost use Rattle.m0_nvic.specs.Law.{ThePriorityIsTheLeast};
+ghost use Rattle.m0_nvic.specs.Law.{ThePriorityIsTheLeast, AHeldLinePendsAgain};
 
 /// The execution priority is the least of the active exceptions' priorities and of that of PRIMASK, which is 0 where it is
 /// set; it is 256 where there is neither.
 pub fn the_priority_is_the_least()
     ensures { ThePriorityIsTheLeast }
+{}
+
+/// An interrupt whose line is held high through its handler is not pending there. After the return it is pending again exactly
+/// where the line is still high in the cycle in which the interrupt ceases to be active.
+pub fn a_held_line_pends_again()
+    ensures { AHeldLinePendsAgain }
 {}

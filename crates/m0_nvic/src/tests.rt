@@ -75,3 +75,44 @@ fn timer_and_priorities(rt: HostRuntime) {
     assert_eq!(rt; nvic.priority(false), 64);
     assert_eq!(rt; nvic.priority(true), 0);
 }
+
+#[test]
+fn slow_clock(rt: HostRuntime) {
+    // without CLKSOURCE the timer counts at the end of each 125th cycle, once a microsecond
+    let mut nvic = Nvic::new();
+    assert!(rt; nvic.effect(0x014, Some(1)) && nvic.effect(0x010, Some(3)));
+    for (cycle, current) in [(0, 0), (123, 0), (124, 1), (125, 1), (248, 1)] {
+        nvic.end_cycle(0, cycle);
+        assert_eq!(rt; nvic.read(0x018, 0), Some(current), "cycle {cycle}");
+    }
+    assert_eq!(rt; nvic.best(), None);
+    nvic.end_cycle(0, 249);
+    assert_eq!(rt; nvic.best(), Some(15));
+    assert_eq!(rt; nvic.read(0x010, 0), Some(0x1_0003));
+}
+
+#[test]
+fn events_and_held_lines(rt: HostRuntime) {
+    // with SEVONPEND an interrupt that becomes pending is an event, enabled or not, and one that is pending is none
+    let mut nvic = Nvic::new();
+    assert!(rt; !nvic.end_cycle(1, 0));
+    assert!(rt; nvic.effect(0xd10, Some(0x10)));
+    assert!(rt; !nvic.end_cycle(1, 1));
+    assert!(rt; nvic.end_cycle(3, 2));
+    assert_eq!(rt; nvic.best(), None);
+    // a line that is held high pends again only once its interrupt is not active any more
+    assert!(rt; nvic.effect(0x100, Some(1)));
+    assert_eq!(rt; nvic.best(), Some(16));
+    nvic.enter(16);
+    for cycle in 3..5 {
+        nvic.end_cycle(1, cycle);
+        assert_eq!(rt; nvic.best(), None);
+    }
+    nvic.leave(16);
+    nvic.end_cycle(1, 5);
+    assert_eq!(rt; nvic.best(), Some(16));
+    nvic.enter(16);
+    nvic.leave(16);
+    nvic.end_cycle(0, 6);
+    assert_eq!(rt; nvic.best(), None);
+}
