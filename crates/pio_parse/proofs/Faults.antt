@@ -19,7 +19,7 @@ use Rattle.pio_parse.proofs.Follows.{after_operand}
 use Rattle.pio_parse.proofs.Finds.{finds_tree, reads, refused}
 
 -- a fault of a token is at its place
-abbrev FaultIs : {X : Type 0} → Place → Result X Place → Type 0
+abbrev pub FaultIs : {X : Type 0} → Place → Result X Place → Type 0
 FaultIs place (Ok x) = ⊤
 FaultIs place (Err p) = p ≡ place
 
@@ -50,13 +50,13 @@ mapped_fault : {X Y : Type 0} (f : X → Y) (place : Place) (result : Result X P
 mapped_fault f place (Ok x) h = tt
 mapped_fault f place (Err p) h = h
 
-token_fault : (text : List ℕ) (kind : TokenKind) (place : Place) (stack : List Pending) (output : List Term) (awaited : Bool) (depth : ℕ)
+pub token_fault : (text : List ℕ) (kind : TokenKind) (place : Place) (stack : List Pending) (output : List Term) (awaited : Bool) (depth : ℕ)
     → FaultIs place (token_step text kind place (record { stack = stack; output = output; awaited = awaited; depth = depth }))
 token_fault text kind place stack output true depth = mapped_fault _ place (operand_step text kind place _) (operand_fault text kind place _)
 token_fault text kind place stack output false depth = operator_fault kind place _
 
 -- an expression does not go on at the end of a line
-abbrev StopsHere : Result (Option Reading) Place → Type 0
+abbrev pub StopsHere : Result (Option Reading) Place → Type 0
 StopsHere (Ok (Some next)) = ⊥
 StopsHere (Ok None) = ⊤
 StopsHere (Err place) = ⊤
@@ -65,7 +65,7 @@ tested_stop : (place : Place) (test : Bool) → StopsHere (if test then Ok None 
 tested_stop place true = tt
 tested_stop place false = tt
 
-end_stops : (text : List ℕ) (kind : TokenKind) (place : Place) (stack : List Pending) (output : List Term) (awaited : Bool) (depth : ℕ) → is_end kind ≡ true
+pub end_stops : (text : List ℕ) (kind : TokenKind) (place : Place) (stack : List Pending) (output : List Term) (awaited : Bool) (depth : ℕ) → is_end kind ≡ true
     → StopsHere (token_step text kind place (record { stack = stack; output = output; awaited = awaited; depth = depth }))
 end_stops text LineEnd place stack output true depth h = tt
 end_stops text LineEnd place stack output false depth h = tested_stop place (depth == 0)
@@ -74,7 +74,7 @@ end_stops text FileEnd place stack output false depth h = tested_stop place (dep
 end_stops text kind place stack output awaited depth h = absurd (false≢true h)
 
 -- whatever has been read can come to a whole expression
-abbrev token_of : TokenKind → Token
+abbrev pub token_of : TokenKind → Token
 token_of kind = record { kind = kind; place = record { line = 0; column = 0 } }
 
 abbrev closes : ℕ → List Token
@@ -84,10 +84,10 @@ closes (suc depth) = token_of CloseParenthesis ∷ closes depth
 abbrev CanGoOn : List ℕ → Reading → List Token → Type 0
 CanGoOn text reading tokens = (further : List Token) × (answer : List Term × List Token) × (expression_from text reading (tokens ++ further) ≡ Ok answer)
 
-suc-tested : (depth : ℕ) → (suc depth == 0) ≡ false
+pub suc-tested : (depth : ℕ) → (suc depth == 0) ≡ false
 suc-tested depth = grind arith
 
-suc-back : (depth : ℕ) → suc depth - 1 ≡ depth
+pub suc-back : (depth : ℕ) → suc depth - 1 ≡ depth
 suc-back depth = omega arith
 
 can_close : (text : List ℕ) (depth : ℕ) (stack : List Pending) (output : List Term) → (answer : List Term × List Token) × (after_operand text stack output depth (closes depth) ≡ Ok answer)
@@ -101,7 +101,7 @@ completes text stack output true depth = let closed = can_close text depth stack
 completes text stack output false depth = let closed = can_close text depth stack output in (closes depth, closed.0, closed.1)
 
 -- a token after which an expression goes on is followed by another, up to the end of the line
-goes_on : (token : Token) (tokens : List Token) (text : List ℕ) (reading next : Reading) → token_step text token.kind token.place reading ≡ Ok (Some next)
+pub goes_on : (token : Token) (tokens : List Token) (text : List ℕ) (reading next : Reading) → token_step text token.kind token.place reading ≡ Ok (Some next)
     → ends_line (token ∷ tokens) ≡ true → ends_line tokens ≡ true
 goes_on token [] text reading next is h = absurd (subst StopsHere is (end_stops text token.kind token.place reading.stack reading.output reading.awaited reading.depth h))
 goes_on token (other ∷ tokens) text reading next is h = h
@@ -109,7 +109,7 @@ goes_on token (other ∷ tokens) text reading next is h = h
 ok-not-err : {X E : Type 0} {x : X} {e : E} → Ok x ≡ Err e → ⊥
 ok-not-err q = refused (sym q)
 
-abbrev place_in : {X : Type 0} → Place → Result X Place → Place
+abbrev pub place_in : {X : Type 0} → Place → Result X Place → Place
 place_in place (Ok x) = place
 place_in place (Err p) = p
 

@@ -12,3 +12,4 @@ pub mod Finds
 pub mod Trees
 pub mod Faults
 pub mod LoneOperands
+pub mod Extents
