@@ -8,6 +8,7 @@ pub mod Loading
 pub mod Quiet
 pub mod Readers
 pub mod Registers
+pub mod Rest
 pub mod Run
 pub mod Sram
 pub mod State

@@ -17,6 +17,7 @@ mod loading;
 mod look;
 pub mod machine;
 mod registers;
+pub mod rest;
 pub mod steps;
 #[cfg(test)]
 mod tests;
@@ -25,4 +26,5 @@ pub mod wanted;
 pub use load::PioLoad;
 pub use machine::Machine;
 pub use outer_lane::World;
+pub use rest::Rest;
 pub use steps::Steps;

@@ -1,0 +1,9 @@
+//! Snapshots of a machine at cycles that are a spacing apart, so that an earlier cycle is reached by a short replay.
+#![tactic(auto)]
+
+pub mod laws;
+mod pages;
+mod place;
+mod ring;
+
+pub use ring::Ring;

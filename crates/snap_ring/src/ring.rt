@@ -1,0 +1,129 @@
+//! The ring of snapshots.
+
+use crate::pages::{set_to, store};
+use crate::place::{Place, find, first_numbers, is_among, nearest_of, places_for};
+use rp_machine::Machine;
+use std::alloc::{AllocError, Global};
+use std::marker::Model;
+
+/// How many snapshots there is room for.
+const PLACES: usize = 64;
+
+/// How many pages there is room for: all those of each snapshot.
+const ROOM: usize = 64 * 264;
+
+/// How many cycles two snapshots are apart at least.
+const LEAST_SPACING: u64 = 4096;
+
+/// The snapshots of one run. The pages of SRAM that a snapshot has in common with the one before it are stored once. All memory
+/// is taken by `new`.
+#[derive(Drop)]
+pub struct Ring {
+    /// How many cycles apart the snapshots are.
+    spacing: u64,
+    /// The places from `free` on hold the snapshots, the last one first.
+    places: Vec<Place>,
+    /// How many places are free.
+    free: usize,
+    /// The stored pages, in the order in which they came.
+    pages: Vec<[u32; 256]>,
+}
+
+impl Model for Ring {
+    ghost use Rattle.std.specs.Prelude.{◌≤◌, drop, vec_capacity};
+    ghost use Rattle.snap_ring.specs.Snapshots.{Snapshots};
+    ghost use Rattle.snap_ring.specs.Store.{states_in, AreSound};
+
+    ghost Value = { Snapshots };
+
+    ghost view = { λ r. record {
+      spacing = r.spacing;
+      kept = states_in r.pages.items (drop r.free r.places.items);
+    } };
+
+    ghost invariant = { λ r. AreSound r.spacing r.free r.places.items r.pages.items × (16896 ≤ vec_capacity r.pages) };
+}
+
+impl Ring {
+    ghost use Rattle.std.specs.Prelude.{◌≡◌, ◌≤◌, IfOk, []};
+    ghost use Rattle.snap_ring.specs.Snapshots.{spacing_of, is_kept, is_due, kept_with, state_at, restored, IsNearest, stored_of};
+
+    /// Room for 64 snapshots of a run up to a limit, and none kept.
+    ///
+    /// # Errors
+    ///
+    /// Want of memory.
+    pub fn new(alloc: Global, machine: &Machine, limit: u64) -> Result<Ring, AllocError>
+        requires { limit ≤ 1000000000 }
+        ensures { IfOk result (λ ring. ring ≡ record { spacing = spacing_of limit; kept = [] }) }
+    {
+        Ok(Ring {
+            spacing: LEAST_SPACING.max(limit.div_ceil(PLACES as u64)),
+            places: places_for(alloc, machine, PLACES)?,
+            free: PLACES,
+            pages: Vec::with_capacity(alloc, ROOM)?,
+        })
+    }
+
+    /// How many cycles apart the snapshots are.
+    pub fn spacing(&self) -> u64
+        ensures { result ≡ self.now.spacing }
+    {
+        self.spacing
+    }
+
+    /// How many pages of SRAM are stored: all 264 for the first snapshot, and for each later one those that differ from the one
+    /// that was kept before it.
+    pub fn stored(&self) -> u32
+        ensures { result ≡ stored_of self.now.kept }
+    {
+        self.pages.len() as u32
+    }
+
+    /// A snapshot of this cycle is to be kept.
+    fn is_due(&self, cycle: u64) -> bool
+        ensures { result ≡ is_due self.now.spacing self.now.kept cycle }
+    {
+        cycle % self.spacing == 0
+            && cycle < PLACES as u64 * self.spacing
+            && !is_among(&self.places[self.free..], cycle)
+    }
+
+    /// Keeps the machine as it is. False exactly where its cycle is no multiple of the spacing, or is 64 spacings or more, or is
+    /// kept; nothing is changed then. It takes no memory.
+    pub fn keep(&mut self, machine: &Machine) -> bool
+        ensures answer { result ≡ is_due self.old.spacing self.old.kept machine.now.cycle }
+        ensures kept { self.new ≡ kept_with machine.now self.old }
+    {
+        if !self.is_due(machine.number()) {
+            return false;
+        }
+        let in_force = first_numbers(&self.places[self.free..]);
+        let numbers = store(&mut self.pages, &machine.ram, in_force);
+        self.free -= 1;
+        self.places[self.free].set(machine, numbers);
+        true
+    }
+
+    /// The greatest kept cycle that is not above this one. None exactly where there is none.
+    pub fn nearest(&self, cycle: u64) -> Option<u64>
+        ensures { IsNearest cycle self.now.kept result }
+    {
+        nearest_of(&self.places[self.free..], cycle)
+    }
+
+    /// Sets a machine to the snapshot of this cycle. False exactly where none is kept; the machine is not changed then. It takes
+    /// no memory.
+    pub fn restore(&self, cycle: u64, machine: &mut Machine) -> bool
+        ensures answer { result ≡ is_kept cycle self.now.kept }
+        ensures machine { machine.new ≡ restored (state_at cycle self.now.kept) machine.old }
+    {
+        match find(&self.places[self.free..], cycle) {
+            Some(place) => {
+                set_to(machine, &self.pages, place);
+                true
+            }
+            None => false,
+        }
+    }
+}
