@@ -105,11 +105,14 @@ impl Outer {
     }
 
     /// Takes the levels and the enables that SIO puts out.
+    #[inline]
     pub fn set_sio(&mut self, outs: [u32; 2])
         ensures { self.new ≡ record self.old { sio = outs } }
     {
-        self.still = false;
-        self.sio = outs;
+        if self.sio != outs {
+            self.still = false;
+            self.sio = outs;
+        }
     }
 
     /// The interrupt lines of core 0 or 1 that come from here, line 0 in bit 0.

@@ -18,7 +18,7 @@ use Rattle.rp_machine.specs.State.{State}
 use Rattle.rp_machine.specs.Registers.{with_reset, resets_written, block_accessed}
 use Rattle.bus_fabric.specs.Masters.{masters}
 use Rattle.rp_machine.specs.Cycle.{begun, wanted, with_event, with_sio, sio_accessed, after_deed, started_by, after_launcher, after_master, after_masters, stored, all_stored, ended, after_deeds, with_turns, stepped, next_by, next}
-use Rattle.rp_machine.specs.Law.{deeds_in, word_with, word_after, SramChangesByTheWritesAlone, EffectsComeAfterTheSteps}
+use Rattle.rp_machine.specs.Law.{deeds_in, word_with, word_after, SramChangesByTheWritesAlone}
 
 pub record Keeps (s t : State) : Type 0 where
   pub sram : t.sram ≡ s.sram
@@ -133,7 +133,7 @@ deeds_sram : (w : Setting) (ds : List Deed) (s : State) → (after_deeds w ds s)
 unfolding after_deeds ended with_sio
 deeds_sram w ds s = ap (all_stored ds) (masters_keep w masters ds s).sram
 
-deeds_core0 : (w : Setting) (ds : List Deed) (s : State) → with_event (after_deeds w ds s).core0 ≡ with_event s.core0
+pub deeds_core0 : (w : Setting) (ds : List Deed) (s : State) → with_event (after_deeds w ds s).core0 ≡ with_event s.core0
 unfolding after_deeds ended with_sio
 deeds_core0 w ds s = (masters_keep w masters ds s).core0
 
@@ -142,7 +142,3 @@ unfolding next next_by stepped with_turns
 sram_by_writes w s index lt =
     ap (λ sram. slice_index sram index) (deeds_sram w (deeds_in w s) (stepped w (begun s) (wanted (begun s)) s))
     ∙ all_stored_at (deeds_in w s) s.sram index lt
-
-pub effects_after : EffectsComeAfterTheSteps
-unfolding next next_by stepped with_turns
-effects_after w s = deeds_core0 w (deeds_in w s) (stepped w (begun s) (wanted (begun s)) s)

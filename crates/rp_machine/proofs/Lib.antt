@@ -1,7 +1,12 @@
+pub mod Agreeing
 pub mod Copies
 pub mod Counts
+pub mod Effects
+pub mod HeldDma
+pub mod HeldLanes
 pub mod Joining
 pub mod Kept
+pub mod OneCore
 pub mod Placing
 pub mod Quiet
 pub mod Runs

@@ -1,10 +1,18 @@
 -- What holds of cycles and runs, in other words than their definition.
-use Rattle.std.specs.Prelude.{◌≡◌, ℕ, ◌+◌, ◌<◌, ◌==◌, if◌then◌else◌, List, [], ◌∷◌, ◌++◌, length, slice_index}
+use Rattle.std.specs.Prelude.{◌≡◌, ℕ, ◌+◌, ◌<◌, ◌==◌, if◌then◌else◌, Bool, true, false, List, [], ◌∷◌, ◌++◌, length, slice_index}
+use Rattle.std.specs.List.{list_any}
 use Rattle.rp_base.specs.declared.Master.TheVariants as master
+use Rattle.rp_base.specs.declared.map.Block.{Block}
+use Rattle.rp_base.specs.declared.map.Block.TheVariants as block
 use Rattle.lane_look.specs.declared.lane.Turn.{Turn}
 use Rattle.lane_look.specs.declared.lane.Turn.TheVariants as turn
 use Rattle.m0_core.specs.State.{State as Core}
 use Rattle.m0_core.specs.Cycle as core
+use Rattle.dma_engine.specs.State.{Engine}
+use Rattle.dma_engine.specs.Cycle as dma
+use Rattle.pio_block.specs.Cycle as pio
+use Rattle.outer_lane.specs.State.{OuterState}
+use Rattle.outer_lane.specs.Step as outer
 use Rattle.ram_banks.specs.Lanes.{with_lanes}
 use Rattle.outer_lane.specs.Setting.{Setting}
 use Rattle.rp_machine.specs.declared.deed.Deed.{Deed}
@@ -15,7 +23,7 @@ use Rattle.sio_block.specs.Launcher.{offers_of}
 use Rattle.rp_machine.specs.declared.load.PioLoad.{PioLoad}
 use Rattle.rp_machine.specs.State.{State}
 use Rattle.rp_machine.specs.Boot.{start}
-use Rattle.rp_machine.specs.Cycle.{begun, wanted, granted, turns, turn_for, deeds, with_event, pins_of, next}
+use Rattle.rp_machine.specs.Cycle.{begun, wanted, granted, turns, turn_for, deeds, with_event, with_offer, with_pins, pins_of, next}
 use Rattle.rp_machine.specs.Run.{states, events_in}
 
 -- ---- runs: a run of some cycles and then of others is one of all of them
@@ -50,14 +58,75 @@ SramChangesByTheWritesAlone =
     (w : Setting) (s : State) (index : ℕ) → index < length s.sram
     → slice_index (next w s).sram index ≡ word_after index (deeds_in w s) (slice_index s.sram index)
 
--- ---- effects: of all that is done in a cycle only SEV reaches core 0, which steps by what it was told at the start
+-- ---- effects: each lane steps by what was begun and told by the state at the start of the cycle. What is done in the cycle
+-- comes after its step, and reaches it only where it is meant for it
 
-abbrev pub own_step : Setting → State → Core
-own_step w s = core.next s.core0 (begun s).core0 (turn_for (turns_in w s) master.Core0 ∷ turn.Nothing ∷ [])
+abbrev pub own_core0 : Setting → State → Core
+own_core0 w s = core.next s.core0 (begun s).core0 (turn_for (turns_in w s) master.Core0 ∷ turn.Nothing ∷ [])
+
+abbrev pub own_core1 : Setting → State → Core
+own_core1 w s = core.next s.core1 (begun s).core1 (turn_for (turns_in w s) master.Core1 ∷ turn.Nothing ∷ [])
+
+abbrev pub own_dma : Setting → State → Engine
+own_dma w s =
+    dma.next s.dma (begun s).dma (turn_for (turns_in w s) master.DmaRead ∷ turn_for (turns_in w s) master.DmaWrite ∷ [])
+
+abbrev pub own_outer : Setting → State → OuterState
+own_outer w s = outer.next w s.outer (begun s).outer
+
+-- a core but for its event register, which SEV sets, and for what it knows of its launcher
+abbrev pub core_alone : Core → Core
+core_alone c = with_event (with_offer false c)
+
+-- the peripherals but for what SIO puts out
+abbrev pub outer_alone : OuterState → OuterState
+outer_alone o = with_pins [] o
+
+-- an access to a word of RESETS, or of a block that is the part's own
+abbrev pub is_for : (Block → Bool) → Deed → Bool
+is_for own (deed.Register block.Resets offset write) = true
+is_for own (deed.Register other offset write) = own other
+is_for own _ = false
+
+abbrev pub is_dma : Block → Bool
+is_dma block.Dma = true
+is_dma _ = false
+
+abbrev pub is_pio0 : Block → Bool
+is_pio0 block.Pio0 = true
+is_pio0 _ = false
+
+abbrev pub is_pio1 : Block → Bool
+is_pio1 block.Pio1 = true
+is_pio1 _ = false
+
+abbrev pub is_outer : Block → Bool
+is_outer block.IoBank0 = true
+is_outer block.PadsBank0 = true
+is_outer block.Uart0 = true
+is_outer block.Uart1 = true
+is_outer block.Timer = true
+is_outer _ = false
+
+-- an access to the peripherals or to the device
+abbrev pub is_for_outer : Deed → Bool
+is_for_outer (deed.Device address write) = true
+is_for_outer d = is_for is_outer d
+
+-- no access that is done is for a part
+abbrev pub NoneIs : (Deed → Bool) → Setting → State → Type 0
+NoneIs is_meant w s = list_any is_meant (deeds_in w s) ≡ false
+
+pub record IsItsOwnStep (w : Setting) (s : State) : Type 0 where
+  pub core0 : with_event (next w s).core0 ≡ with_event (own_core0 w s)
+  pub core1 : (own_core1 w s).asleep ≡ false → core_alone (next w s).core1 ≡ core_alone (own_core1 w s)
+  pub dma : NoneIs (is_for is_dma) w s → (next w s).dma ≡ own_dma w s
+  pub pio0 : NoneIs (is_for is_pio0) w s → (next w s).pio0 ≡ pio.next (begun s).pio0 s.pio0
+  pub pio1 : NoneIs (is_for is_pio1) w s → (next w s).pio1 ≡ pio.next (begun s).pio1 s.pio1
+  pub outer : NoneIs is_for_outer w s → outer_alone (next w s).outer ≡ outer_alone (own_outer w s)
 
 abbrev pub EffectsComeAfterTheSteps : Type 0
-EffectsComeAfterTheSteps =
-    (w : Setting) (s : State) → with_event (next w s).core0 ≡ with_event (own_step w s)
+EffectsComeAfterTheSteps = (w : Setting) (s : State) → IsItsOwnStep w s
 
 -- ---- copies: in each state that a run comes to, the pads know what SIO puts out, and core 1 whether its launcher has a word
 

@@ -1,5 +1,7 @@
+pub mod Alone
 pub mod Answers
 pub mod Boot
+pub mod Copies
 pub mod Cycle
 pub mod Deeds
 pub mod Events

@@ -29,7 +29,12 @@ pub struct Begun {
 
 /// What a lane of the machine, by its number, begins.
 #[inline(always)]
-fn begin_lane<E, S: Lane<E>>(machine: &Machine, number: u8, lane: &S, env: &E) -> S::Begun
+pub(crate) fn begin_lane<E, S: Lane<E>>(
+    machine: &Machine,
+    number: u8,
+    lane: &S,
+    env: &E,
+) -> S::Begun
     ensures { result ≡ answered (answer_of number machine.now) (S.asks env.now lane.now machine.now.cycle) }
 {
     let mut look = MachineLook {

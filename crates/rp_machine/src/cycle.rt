@@ -2,7 +2,8 @@
 
 ghost use Rattle.std.specs.Prelude.{◌≡◌};
 ghost use Rattle.bus_fabric.specs.Masters.{HavePorts};
-ghost use Rattle.rp_machine.specs.Cycle.{asked};
+ghost use Rattle.sio_block.specs.Launcher.{offers_of};
+ghost use Rattle.rp_machine.specs.Cycle.{asked, pins_of, with_pins, with_offer};
 ghost use Rattle.rp_machine.specs.Quiet.{wants_nothing};
 
 use crate::access::asked_of;
@@ -12,8 +13,10 @@ use crate::machine::Machine;
 use crate::steps::Steps;
 use crate::wanted::{Wanted, all_wanted};
 use lane_look::{Device, Lane, Marks, Turn, Want};
-use outer_lane::World;
+use m0_core::Core;
+use outer_lane::{Outer, World};
 use rp_base::{Master, Why};
+use sio_block::Sio;
 use std::sync::ledger::Ledger;
 
 /// What the masters ask of the fabric.
@@ -40,6 +43,16 @@ fn wants_nothing(wanted: &Wanted) -> bool
         Want::Nothing => true,
         Want::Ram(_) | Want::Outward(_) | Want::Signal | Want::Stopped(_) => false,
     }
+}
+
+/// Tells the pads and core 1 what SIO has for them.
+#[inline(always)]
+fn tell_of_sio(sio: &Sio, outer: &mut Outer, core1: &mut Core)
+    ensures pins { outer.new ≡ with_pins (pins_of sio.now) outer.old }
+    ensures offer { core1.new ≡ with_offer (offers_of sio.now) core1.old }
+{
+    outer.set_sio(sio.outs());
+    core1.set_offer(sio.offers());
 }
 
 impl Machine {
@@ -167,16 +180,6 @@ impl Machine {
         self.core1.signal();
     }
 
-    /// Tells the pads and core 1 what SIO has for them.
-    #[inline(always)]
-    #[tactic(auto, unfolding(crate::specs::Cycle::with_sio))]
-    fn tell_of_sio(&mut self)
-        ensures { self.new ≡ with_sio self.old.sio self.old }
-    {
-        self.outer.set_sio(self.sio.outs());
-        self.core1.set_offer(self.sio.offers());
-    }
-
     /// An access of a core to SIO.
     #[tactic(auto, unfolding(crate::specs::Cycle::with_sio))]
     fn access_sio(&mut self, master: Master, offset: u16, write: Option<u32>)
@@ -187,12 +190,12 @@ impl Machine {
             Master::Core1 => self.sio.effect(1, offset, write),
             Master::DmaRead | Master::DmaWrite => return,
         }
-        self.tell_of_sio();
+        tell_of_sio(&self.sio, &mut self.outer, &mut self.core1);
     }
 
     /// The deed of a master, but for a write to SRAM, which comes last.
     #[tactic(auto, unfolding(crate::specs::Cycle::after_deed))]
-    fn do_deed<X: Device>(&mut self, world: &World<'_, X>, master: Master, deed: &Deed)
+    pub(crate) fn do_deed<X: Device>(&mut self, world: &World<'_, X>, master: Master, deed: &Deed)
         ensures { self.new ≡ after_deed
             (setting_of world.now.script.now (X.meaning world.now.device.now) world.now.limit)
             master deed.now self.old }
@@ -216,8 +219,11 @@ impl Machine {
     fn launch(&mut self)
         ensures { self.new ≡ after_launcher self.old }
     {
+        if !self.sio.offers() {
+            return;
+        }
         let launch = self.sio.launcher();
-        self.tell_of_sio();
+        tell_of_sio(&self.sio, &mut self.outer, &mut self.core1);
         if let Some(launch) = launch {
             self.core1.start(launch.vtor, launch.sp, launch.entry);
         }
@@ -239,7 +245,7 @@ impl Machine {
 
     /// A write to SRAM.
     #[inline(always)]
-    fn store(&mut self, deed: &Deed)
+    pub(crate) fn store(&mut self, deed: &Deed)
         requires { StoresInSram deed.now }
         ensures { self.new ≡ record self.old { sram = stored deed.now self.old.sram } }
     {
@@ -256,11 +262,13 @@ impl Machine {
     /// SIO ends its cycle.
     #[inline(always)]
     #[tactic(auto, unfolding(crate::specs::Cycle::ended, crate::specs::Cycle::with_sio))]
-    fn end(&mut self)
+    pub(crate) fn end(&mut self)
         ensures { self.new ≡ ended self.old }
     {
-        self.sio.end_cycle();
-        self.tell_of_sio();
+        if !self.sio.is_at_rest() {
+            self.sio.end_cycle();
+            tell_of_sio(&self.sio, &mut self.outer, &mut self.core1);
+        }
     }
 
     /// What the deeds of the masters do, and the end of the cycle.
@@ -300,7 +308,7 @@ impl Machine {
     /// The turn of the launcher while core 1 sleeps.
     #[inline(always)]
     #[tactic(auto, unfolding(crate::specs::Quiet::quiet_core1))]
-    fn rest_core1(&mut self)
+    pub(crate) fn rest_core1(&mut self)
         ensures { self.new ≡ quiet_core1 self.old }
     {
         if self.core1.is_asleep() {
@@ -383,6 +391,9 @@ impl Machine {
     {
         if self.at == world.limit {
             return Some(Why::Limit);
+        }
+        if self.is_core0_alone() {
+            return self.cycle_alone(world, marks, steps);
         }
         let begun = self.begin(world);
         let wants = all_wanted(&begun);

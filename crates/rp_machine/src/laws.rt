@@ -14,8 +14,10 @@ pub fn sram_changes_by_the_writes_alone()
     ensures { SramChangesByTheWritesAlone }
 {}
 
-/// What a core is told does not depend on what is done in the same cycle: of all effects only that of SEV reaches core 0, and
-/// that after its step.
+/// What a lane is told does not depend on what is done in the same cycle: each of the six steps by what was begun and told by the
+/// state at the start, and what is done comes after its step. Of all that is done only SEV reaches core 0, and only SEV and
+/// what the launcher has a core 1 that is awake; the DMA engine, a PIO block and the peripherals are after the cycle as their own
+/// step left them, where no access is to their registers, to RESETS or to the device.
 pub fn effects_come_after_the_steps()
     ensures { EffectsComeAfterTheSteps }
 {}

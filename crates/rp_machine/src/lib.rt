@@ -6,6 +6,7 @@
 #![tactic(auto)]
 
 mod access;
+mod alone;
 mod answers;
 pub mod begun;
 mod boot;

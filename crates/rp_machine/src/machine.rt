@@ -27,6 +27,10 @@ fn first_core(entry: u32) -> Core
 }
 
 /// The whole machine between two cycles.
+///
+/// What a lane keeps of another part is what that part holds: the bits of RESETS in the DMA engine, the PIO blocks and the
+/// peripherals, the levels and enables of SIO in the peripherals, and in core 1 whether its launcher has a word. The type keeps
+/// this. Whoever changes the fields leaves it so where the machine is used whole again.
 #[derive(Drop)]
 pub struct Machine {
     /// The number of the cycle that is next.
@@ -54,7 +58,8 @@ pub struct Machine {
 }
 
 impl Model for Machine {
-    ghost use Rattle.std.specs.Prelude.{◌<◌, ◌^◌, slice_index};
+    ghost use Rattle.std.specs.Prelude.{slice_index};
+    ghost use Rattle.rp_machine.specs.Copies.{Agree};
     ghost use Rattle.rp_machine.specs.State.{State};
 
     ghost Value = { State };
@@ -73,7 +78,8 @@ impl Model for Machine {
       resets = m.resets;
     } };
 
-    ghost invariant = { λ m. slice_index m.resets 0 < 2 ^ 25 };
+    // the copies that lanes keep of RESETS, of SIO and of its launcher agree with them
+    ghost invariant = { λ m. Agree (slice_index m.resets 0) m.core1 m.dma m.pio0 m.pio1 m.outer m.sio };
 }
 
 impl Machine {

@@ -27,7 +27,8 @@ pub struct Rest {
 }
 
 impl Model for Rest {
-    ghost use Rattle.std.specs.Prelude.{◌<◌, ◌^◌, slice_index};
+    ghost use Rattle.std.specs.Prelude.{slice_index};
+    ghost use Rattle.rp_machine.specs.Copies.{Agree};
     ghost use Rattle.rp_machine.specs.Rest.{RestState};
 
     ghost Value = { RestState };
@@ -45,7 +46,8 @@ impl Model for Rest {
       resets = r.resets;
     } };
 
-    ghost invariant = { λ r. slice_index r.resets 0 < 2 ^ 25 };
+    // as in the machine
+    ghost invariant = { λ r. Agree (slice_index r.resets 0) r.core1 r.dma r.pio0 r.pio1 r.outer r.sio };
 }
 
 impl Rest {

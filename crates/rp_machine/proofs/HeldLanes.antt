@@ -1,0 +1,328 @@
+-- The PIO blocks and the peripherals keep their bits of RESETS in a cycle and in an access, and core 1 what its launcher has.
+use Rattle.std.proofs.Common.{◌≡◌, ◌+◌, ◌-◌, ◌/◌, ◌%◌, ◌^◌, ◌==◌, nat_lt, ℕ, Bool, true, false, if◌then◌else◌, Option, Some, None, List, [], ◌∷◌, refl, ◌∙◌}
+use Rattle.rp_base.specs.declared.Request.{Request}
+use Rattle.rp_base.specs.declared.op.Op.{Op}
+use Rattle.rp_base.specs.declared.map.Block.{Block}
+use Rattle.rp_base.specs.declared.map.Block.TheVariants as block
+use Rattle.lane_look.specs.declared.lane.Turn.{Turn}
+use Rattle.pio_block.specs.declared.inputs.Inputs.{Inputs}
+use Rattle.std.specs.Prelude.{bit_and, bit_or, slice_set}
+use Rattle.pio_block.specs.declared.registers.TheConstants.{IRQ, IRQ_FORCE, INPUT_SYNC_BYPASS, IRQ0_INTE, IRQ0_INTF, IRQ1_INTE, IRQ1_INTF}
+use Rattle.pio_block.specs.State.{Block as Pio, without, with_held}
+use Rattle.pio_block.specs.Control.{control_written}
+use Rattle.pio_block.specs.Queues.{debug_written, sent, taken}
+use Rattle.pio_block.specs.Cycle as pio
+use Rattle.pio_block.specs.Words as words
+use Rattle.io_bank.specs.State.{Bank, after_held, with_bank_held, with_pads_held}
+use Rattle.io_bank.specs.Interrupts.{cleared}
+use Rattle.io_bank.specs.Words as bank
+use Rattle.outer_lane.specs.Setting.{Setting}
+use Rattle.outer_lane.specs.declared.world.Seen.{Seen}
+use Rattle.outer_lane.specs.State.{OuterState}
+use Rattle.outer_lane.specs.Step as outer
+use Rattle.outer_lane.specs.Words.{bank_accessed, outer_accessed}
+use Rattle.outer_lane.specs.Device.{device_words, device_accessed}
+use Rattle.outer_lane.specs.Step.{is_fitting}
+use Rattle.m0_core.specs.declared.doing.Act.{Act}
+use Rattle.m0_core.specs.declared.doing.Act.TheVariants as act
+use Rattle.m0_core.specs.declared.doing.Work.{Work}
+use Rattle.m0_core.specs.declared.doing.Work.TheVariants as works
+use Rattle.m0_core.specs.declared.doing.Doing.{Doing}
+use Rattle.m0_core.specs.State.{State as Core}
+use Rattle.m0_nvic.specs.Changes.{entered}
+use Rattle.m0_core.specs.Entry.{entry_ended, taken_first}
+use Rattle.m0_core.specs.Return.{return_ended}
+use Rattle.m0_core.specs.Cycle as core
+use Rattle.rp_machine.specs.declared.load.PioLoad.{PioLoad}
+use Rattle.rp_machine.specs.Boot.{words_loaded, block_loaded}
+
+-- ---- a PIO block
+
+pub record PioHolds (bit : Bool) (p : Pio) : Type 0 where
+  pub is : p.held ≡ bit
+
+pio_way : (bit c : Bool) (x y : Pio) → PioHolds bit x → PioHolds bit y → PioHolds bit (if c then x else y)
+pio_way bit true x y h k = h
+pio_way bit false x y h k = k
+
+pub pio_next : (inputs : Option Inputs) (bit : Bool) (p : Pio) → PioHolds bit p → PioHolds bit (pio.next inputs p)
+unfolding pio.next pio.after_cycle pio.joined
+pio_next None bit p h = h
+pio_next (Some inputs) bit p h = record { is = h.is }
+
+control_written_holds : (w : ℕ) (bit : Bool) (p : Pio) → PioHolds bit p → PioHolds bit (control_written w p)
+unfolding control_written
+control_written_holds w bit p h = record { is = h.is }
+
+debug_holds : (w : ℕ) (bit : Bool) (p : Pio) → PioHolds bit p → PioHolds bit (debug_written w p)
+unfolding debug_written
+debug_holds w bit p h = record { is = h.is }
+
+sent_holds : (n w : ℕ) (bit : Bool) (p : Pio) → PioHolds bit p → PioHolds bit (sent n w p)
+unfolding sent
+sent_holds n w bit p h = record { is = h.is }
+
+taken_holds : (n : ℕ) (bit : Bool) (p : Pio) → PioHolds bit p → PioHolds bit (taken n p)
+unfolding taken
+taken_holds n bit p h = record { is = h.is }
+
+memory_holds : (offset w : ℕ) (bit : Bool) (p : Pio) → PioHolds bit p → PioHolds bit (words.after_memory offset w p)
+unfolding words.after_memory
+memory_holds offset w bit p h = record { is = h.is }
+
+machine_holds : (offset w : ℕ) (bit : Bool) (p : Pio) → PioHolds bit p → PioHolds bit (words.after_machine offset w p)
+unfolding words.after_machine
+machine_holds offset w bit p h = record { is = h.is }
+
+control_holds : (offset w : ℕ) (bit : Bool) (p : Pio) → PioHolds bit p → PioHolds bit (words.after_control offset w p)
+unfolding words.after_control
+control_holds offset w bit p h =
+    pio_way bit _ _ _ (control_written_holds w bit p h) (pio_way bit _ _ _ (debug_holds w bit p h) h)
+
+fifo_holds : (offset w : ℕ) (bit : Bool) (p : Pio) → PioHolds bit p → PioHolds bit (words.after_fifo offset w p)
+unfolding words.after_fifo
+fifo_holds offset w bit p h = pio_way bit _ _ _ (sent_holds _ w bit p h) h
+
+-- of three ways and none, and of four
+three : (a b c bit : Bool) (t u v p : Pio) → PioHolds bit t → PioHolds bit u → PioHolds bit v → PioHolds bit p
+    → PioHolds bit (if a then t else if b then u else if c then v else p)
+three true b c bit t u v p ht hu hv hp = ht
+three false true c bit t u v p ht hu hv hp = hu
+three false false true bit t u v p ht hu hv hp = hv
+three false false false bit t u v p ht hu hv hp = hp
+
+four : (a b c d bit : Bool) (t u v w p : Pio) → PioHolds bit t → PioHolds bit u → PioHolds bit v → PioHolds bit w → PioHolds bit p
+    → PioHolds bit (if a then t else if b then u else if c then v else if d then w else p)
+four true b c d bit t u v w p ht hu hv hw hp = ht
+four false true c d bit t u v w p ht hu hv hw hp = hu
+four false false true d bit t u v w p ht hu hv hw hp = hv
+four false false false true bit t u v w p ht hu hv hw hp = hw
+four false false false false bit t u v w p ht hu hv hw hp = hp
+
+pin_holds : (offset w : ℕ) (bit : Bool) (p : Pio) → PioHolds bit p → PioHolds bit (words.after_pin offset w p)
+unfolding words.after_pin
+pin_holds offset w bit p h =
+    three (offset == IRQ) (offset == IRQ_FORCE) (offset == INPUT_SYNC_BYPASS) bit
+    (record p { flags = without p.flags (w % 2 ^ 8) }) (record p { flags = bit_or p.flags (w % 2 ^ 8) }) (record p { bypass = w }) p
+    (record { is = h.is }) (record { is = h.is }) (record { is = h.is }) h
+
+interrupt_holds : (offset w : ℕ) (bit : Bool) (p : Pio) → PioHolds bit p → PioHolds bit (words.after_interrupt offset w p)
+unfolding words.after_interrupt
+interrupt_holds offset w bit p h =
+    four (offset == IRQ0_INTE) (offset == IRQ0_INTF) (offset == IRQ1_INTE) (offset == IRQ1_INTF) bit
+    (record p { inte0 = w % 2 ^ 12 }) (record p { intf0 = w % 2 ^ 12 }) (record p { inte1 = w % 2 ^ 12 }) (record p { intf1 = w % 2 ^ 12 }) p
+    (record { is = h.is }) (record { is = h.is }) (record { is = h.is }) (record { is = h.is }) h
+
+write_holds : (offset w : ℕ) (bit : Bool) (p : Pio) → PioHolds bit p → PioHolds bit (words.after_write offset w p)
+unfolding words.after_write
+write_holds offset w bit p h =
+    pio_way bit _ _ _ (control_holds offset w bit p h)
+    (pio_way bit _ _ _ (fifo_holds offset w bit p h)
+    (pio_way bit _ _ _ (pin_holds offset w bit p h)
+    (pio_way bit _ _ _ (memory_holds offset w bit p h)
+    (pio_way bit _ _ _ (machine_holds offset w bit p h) (interrupt_holds offset w bit p h)))))
+
+read_holds : (offset : ℕ) (bit : Bool) (p : Pio) → PioHolds bit p → PioHolds bit (words.after_read offset p)
+unfolding words.after_read
+read_holds offset bit p h = pio_way bit _ _ _ (taken_holds _ bit p h) h
+
+access_holds : (offset : ℕ) (write : Option ℕ) (bit : Bool) (p : Pio) → PioHolds bit p → PioHolds bit (words.after_access offset write p)
+access_holds offset None bit p h = read_holds offset bit p h
+access_holds offset (Some w) bit p h = write_holds offset w bit p h
+
+pub pio_effect : (offset : ℕ) (write : Option ℕ) (bit : Bool) (p : Pio) → PioHolds bit p → PioHolds bit (words.effect_of offset write p)
+unfolding words.effect_of
+pio_effect offset write bit p h =
+    pio_way bit _ _ _ (pio_way bit _ _ _ h (access_holds offset write bit p h)) h
+
+pub pio_reset : (bit : Bool) (p : Pio) → PioHolds bit (with_held bit p)
+unfolding with_held
+pio_reset true p = record { is = refl }
+pio_reset false p = record { is = refl }
+
+words_hold : (offset at : ℕ) (ws : List ℕ) (bit : Bool) (p : Pio) → PioHolds bit p → PioHolds bit (words_loaded offset at ws p)
+words_hold offset at [] bit p h = h
+words_hold offset at (w ∷ ws) bit p h = words_hold offset (at + 1) ws bit _ (pio_effect _ _ bit p h)
+
+pub pio_loaded : (load : PioLoad) (bit : Bool) (p : Pio) → PioHolds bit p → PioHolds bit (block_loaded load p)
+unfolding block_loaded
+pio_loaded load bit p h =
+    record { is = (pio_effect _ _ bit _ (pio_effect _ _ bit _ (words_hold load.offset load.offset load.program.words.items bit p h))).is }
+
+-- ---- the peripherals
+
+record SameBank (b c : Bank) : Type 0 where
+  pub bank : c.bank_held ≡ b.bank_held
+  pub pads : c.pads_held ≡ b.pads_held
+
+bank_way : (b : Bank) (c : Bool) (x y : Bank) → SameBank b x → SameBank b y → SameBank b (if c then x else y)
+bank_way b true x y h k = h
+bank_way b false x y h k = k
+
+same_bank : (b : Bank) → SameBank b b
+same_bank b = record { bank = refl; pads = refl }
+
+five : (a b c d f : Bool) (o t u v w x b' : Bank) → SameBank o t → SameBank o u → SameBank o v → SameBank o w → SameBank o x → SameBank o b'
+    → SameBank o (if a then t else if b then u else if c then v else if d then w else if f then x else b')
+five true b c d f o t u v w x y ht hu hv hw hx hy = ht
+five false true c d f o t u v w x y ht hu hv hw hx hy = hu
+five false false true d f o t u v w x y ht hu hv hw hx hy = hv
+five false false false true f o t u v w x y ht hu hv hw hx hy = hw
+five false false false false true o t u v w x y ht hu hv hw hx hy = hx
+five false false false false false o t u v w x y ht hu hv hw hx hy = hy
+
+events_same : (row place w : ℕ) (b : Bank) → SameBank b (bank.events_written row place w b)
+events_same row place w b =
+    five (row == 0xF) (row == 0x10) (row == 0x11) (row == 0x13) (row == 0x14) b
+    (record b { latched = cleared place w b.latched b.fresh }) (record b { core0 = bank.with_enable place w b.core0 })
+    (record b { core0 = bank.with_force place w b.core0 }) (record b { core1 = bank.with_enable place w b.core1 })
+    (record b { core1 = bank.with_force place w b.core1 }) b
+    (record { bank = refl; pads = refl }) (record { bank = refl; pads = refl }) (record { bank = refl; pads = refl })
+    (record { bank = refl; pads = refl }) (record { bank = refl; pads = refl }) (same_bank b)
+
+pin_same : (offset w : ℕ) (b : Bank) → SameBank b (bank.pin_written offset w b)
+pin_same offset w b =
+    bank_way b (offset % 8 == 0) b (record b { controls = slice_set b.controls (offset / 8) (bit_and w 0x3331F) }) (same_bank b)
+    (record { bank = refl; pads = refl })
+
+pad_same : (offset w : ℕ) (b : Bank) → SameBank b (bank.pad_written offset w b)
+pad_same offset w b =
+    bank_way b (offset == 0x1000) (record b { voltage = w })
+    (record b { pads = slice_set b.pads ((offset - 0x1004) / 4) (w % 2 ^ 8) }) (record { bank = refl; pads = refl })
+    (record { bank = refl; pads = refl })
+
+written_same : (offset w : ℕ) (b : Bank) → SameBank b (bank.after_write offset w b)
+written_same offset w b =
+    bank_way b (nat_lt offset 0xF0) (bank.pin_written offset w b)
+    (if nat_lt offset 0x1000 then bank.events_written (offset / 16) (offset % 16 / 4) w b else bank.pad_written offset w b)
+    (pin_same offset w b)
+    (bank_way b (nat_lt offset 0x1000) (bank.events_written (offset / 16) (offset % 16 / 4) w b) (bank.pad_written offset w b)
+    (events_same (offset / 16) (offset % 16 / 4) w b) (pad_same offset w b))
+
+effect_same : (offset : ℕ) (write : Option ℕ) (b : Bank) → SameBank b (bank.effect_of offset write b)
+effect_same offset None b = same_bank b
+effect_same offset (Some w) b = bank_way b _ _ _ (written_same offset w b) (same_bank b)
+
+accessed_same : (offset : ℕ) (write : Option ℕ) (b : Bank) → SameBank b (bank_accessed offset write b)
+accessed_same offset write b = bank_way b _ _ _ (effect_same offset write b) (same_bank b)
+
+-- the bits, and what SIO puts out
+pub record SameCopies (o p : OuterState) : Type 0 where
+  pub bank : p.pads.bank_held ≡ o.pads.bank_held
+  pub pads : p.pads.pads_held ≡ o.pads.pads_held
+  pub timer : p.timer_held ≡ o.timer_held
+  pub uart0 : p.uart0_held ≡ o.uart0_held
+  pub uart1 : p.uart1_held ≡ o.uart1_held
+  pub sio : p.sio ≡ o.sio
+
+outer_way : (o : OuterState) (c : Bool) (x y : OuterState) → SameCopies o x → SameCopies o y → SameCopies o (if c then x else y)
+outer_way o true x y h k = h
+outer_way o false x y h k = k
+
+same_copies : (o : OuterState) → SameCopies o o
+same_copies o = record { bank = refl; pads = refl; timer = refl; uart0 = refl; uart1 = refl; sio = refl }
+
+with_bank : (o : OuterState) (b : Bank) → SameBank o.pads b → SameCopies o (record o { pads = b })
+with_bank o b h = record { bank = h.bank; pads = h.pads; timer = refl; uart0 = refl; uart1 = refl; sio = refl }
+
+pub outer_next : (w : Setting) (o : OuterState) (seen : Seen) → SameCopies o (outer.next w o seen)
+unfolding outer.next outer.next_by outer.pads_by
+outer_next w o seen = record { bank = refl; pads = refl; timer = refl; uart0 = refl; uart1 = refl; sio = refl }
+
+pub outer_effect : (b : Block) (offset : ℕ) (write : Option ℕ) (o : OuterState) → SameCopies o (outer_accessed b offset write o)
+unfolding outer_accessed
+outer_effect block.IoBank0 offset write o = with_bank o (bank_accessed offset write o.pads) (accessed_same offset write o.pads)
+outer_effect block.PadsBank0 offset write o = with_bank o (bank.effect_of (0x1000 + offset) write o.pads) (effect_same (0x1000 + offset) write o.pads)
+outer_effect block.Uart0 offset write o = record { bank = refl; pads = refl; timer = refl; uart0 = refl; uart1 = refl; sio = refl }
+outer_effect block.Uart1 offset write o = record { bank = refl; pads = refl; timer = refl; uart0 = refl; uart1 = refl; sio = refl }
+outer_effect block.Timer offset write o = record { bank = refl; pads = refl; timer = refl; uart0 = refl; uart1 = refl; sio = refl }
+outer_effect block.Resets offset write o = same_copies o
+outer_effect block.Busctrl offset write o = same_copies o
+outer_effect block.Dma offset write o = same_copies o
+outer_effect block.Pio0 offset write o = same_copies o
+outer_effect block.Pio1 offset write o = same_copies o
+
+device_same : (words : List ℕ) (o : OuterState) → SameCopies o (record o { device = words })
+device_same words o = record { bank = refl; pads = refl; timer = refl; uart0 = refl; uart1 = refl; sio = refl }
+
+pub outer_device : (w : Setting) (address : ℕ) (write : Option ℕ) (o : OuterState) → SameCopies o (device_accessed w address write o)
+unfolding device_accessed
+outer_device w address write o =
+    outer_way o (is_fitting w.device o.device) (record o { device = device_words w.device address write o.device }) o
+    (device_same (device_words w.device address write o.device) o) (same_copies o)
+
+-- RESETS
+pub bank_reset : (bank pads : Bool) (b : Bank) → ((after_held bank pads b).bank_held ≡ bank) × ((after_held bank pads b).pads_held ≡ pads)
+bank_reset true true b = (refl, refl)
+bank_reset true false b = (refl, refl)
+bank_reset false true b = (refl, refl)
+bank_reset false false b = (refl, refl)
+
+-- ---- a core
+
+pub record Offers (bit : Bool) (c : Core) : Type 0 where
+  pub is : c.offer ≡ bit
+
+core_way : (bit c : Bool) (x y : Core) → Offers bit x → Offers bit y → Offers bit (if c then x else y)
+core_way bit true x y h k = h
+core_way bit false x y h k = k
+
+ended_offers : (op : Op) (bit : Bool) (c : Core) → Offers bit c → Offers bit (core.ended op c)
+unfolding core.ended
+ended_offers op bit c h = record { is = h.is }
+
+waiting_offers : (work : Work) (bit : Bool) (c : Core) → Offers bit c → Offers bit (core.waiting work c)
+waiting_offers work bit c h = record { is = h.is }
+
+of_offers : (work : Work) (count : ℕ) (last : Core) (bit : Bool) (c : Core) → Offers bit last → Offers bit c → Offers bit (core.passed_of work count last c)
+of_offers work count last bit c k h = core_way bit (nat_lt (c.place + 1) count) (core.followed work c) last (record { is = h.is }) k
+
+taken_offers : (n : ℕ) (bit : Bool) (c : Core) → Offers bit c → Offers bit (taken_first n c)
+unfolding taken_first
+taken_offers n bit c h = core_way bit (c.place == 0) (record c { nvic = entered n c.nvic }) c (record { is = h.is }) h
+
+entry_offers : (n : ℕ) (bit : Bool) (c : Core) → Offers bit c → Offers bit (entry_ended n c)
+unfolding entry_ended
+entry_offers n bit c h = record { is = h.is }
+
+return_offers : (value : ℕ) (bit : Bool) (c : Core) → Offers bit c → Offers bit (return_ended value c)
+unfolding return_ended
+return_offers value bit c h = record { is = h.is }
+
+work_offers : (work : Work) (bit : Bool) (c : Core) → Offers bit c → Offers bit (core.passed_work work c)
+unfolding core.passed_instruction core.passed_entry core.passed_return
+work_offers (works.Instruction op) bit c h = of_offers _ _ _ bit c (ended_offers op bit c h) h
+work_offers (works.Entry n) bit c h =
+    let first = taken_offers n bit c h in of_offers _ _ _ bit (taken_first n c) (entry_offers n bit (taken_first n c) first) first
+work_offers (works.Return value) bit c h = of_offers _ _ _ bit c (return_offers value bit c h) h
+
+passed_offers : (work : Work) (value : Option ℕ) (bit : Bool) (c : Core) → Offers bit c → Offers bit (core.passed work value c)
+unfolding core.passed
+passed_offers work value bit c h = work_offers work bit _ (record { is = h.is })
+
+access_offers : (word : Option ℕ) (work : Work) (value : Option ℕ) (bit : Bool) (c : Core) → Offers bit c → Offers bit (core.after_access word work value c)
+access_offers None work value bit c h = waiting_offers work bit c h
+access_offers (Some word) work value bit c h = passed_offers work value bit c h
+
+outward_offers : (word : Option ℕ) (work : Work) (request : Request) (bit : Bool) (c : Core) → Offers bit c → Offers bit (core.after_outward word work request c)
+outward_offers None work request bit c h = waiting_offers work bit c h
+outward_offers (Some word) work request bit c h = passed_offers work _ bit c h
+
+after_offers : (a : Act) (word : Option ℕ) (bit : Bool) (c : Core) → Offers bit c → Offers bit (core.after a word c)
+unfolding core.faulted core.after_inner core.after_private
+after_offers act.Asleep word bit c h = h
+after_offers (act.Stopped cause) word bit c h = h
+after_offers act.Fault word bit c h = record { is = h.is }
+after_offers (act.Inner work) word bit c h = core_way bit _ _ _ (waiting_offers work bit c h) (passed_offers work None bit c h)
+after_offers (act.Read work request told) word bit c h = access_offers word work _ bit c h
+after_offers (act.Write work request) word bit c h = access_offers word work None bit c h
+after_offers (act.Outward work request) word bit c h = outward_offers word work request bit c h
+after_offers (act.Private work request offset) word bit c h = passed_offers work _ bit _ (record { is = h.is })
+
+closed_offers : (lines cycle : ℕ) (bit : Bool) (c : Core) → Offers bit c → Offers bit (core.closed lines cycle c)
+unfolding core.closed
+closed_offers lines cycle bit c h = record { is = h.is }
+
+pub core_next : (c : Core) (begun : Doing) (turns : List Turn) (bit : Bool) → Offers bit c → Offers bit (core.next c begun turns)
+unfolding core.next
+core_next c begun turns bit h = core_way bit _ _ _ h (closed_offers _ _ bit _ (after_offers begun.act _ bit c h))

@@ -1,0 +1,155 @@
+-- A cycle in which core 0 alone is at work is the one that the definition says.
+use Rattle.std.proofs.Common.{◌≡◌, ◌≢◌, ◌+◌, ◌==◌, ℕ, Bool, true, false, List, [], ◌∷◌, ◌++◌, Option, Some, None, refl, sym, ap, ◌∙◌}
+use Rattle.rp_base.specs.declared.Master.TheVariants as master
+use Rattle.rp_base.specs.declared.Why.{Why}
+use Rattle.lane_look.specs.declared.marks.Mark.{Mark}
+use Rattle.lane_look.specs.declared.lane.Want.{Want}
+use Rattle.lane_look.specs.declared.lane.Turn.{Turn}
+use Rattle.lane_look.specs.declared.lane.Turn.TheVariants as turn
+use Rattle.m0_core.specs.State.{State as Core}
+use Rattle.m0_core.specs.declared.doing.Doing.{Doing}
+use Rattle.m0_core.specs.declared.doing.Act.TheVariants as act
+use Rattle.m0_core.specs.Fetch as core_asks
+use Rattle.m0_core.specs.Cycle as core
+use Rattle.dma_engine.specs.Asks.{idle_begun}
+use Rattle.dma_engine.specs.Cycle as dma
+use Rattle.pio_block.specs.State.{Block as Pio}
+use Rattle.pio_block.specs.declared.inputs.Inputs.{Inputs}
+use Rattle.pio_block.specs.Cycle as pio
+use Rattle.bus_fabric.specs.State.{Crossbar, has_hold, served}
+use Rattle.bus_fabric.specs.Grant.{is_done, after_grant}
+use Rattle.bus_fabric.proofs.Alone.{nobody-after, alone-after}
+use Rattle.outer_lane.specs.Setting.{Setting}
+use Rattle.outer_lane.specs.declared.world.Seen.{Seen}
+use Rattle.outer_lane.specs.Step.{marked}
+use Rattle.rp_machine.specs.declared.begun.Begun.{Begun}
+use Rattle.rp_machine.specs.State.{State}
+use Rattle.rp_machine.specs.Deeds.{asked_of, turn_of, deed_of, cause_of}
+use Rattle.rp_machine.specs.Cycle.{begun, wanted, wanted_by, first_cause, cause_in, stop, asked, granted, turns, turn_for, deeds, with_turns, with_grants, after_deed, after_deeds, stepped, next_by, next, mark}
+use Rattle.rp_machine.specs.Quiet.{quiet_core1}
+use Rattle.rp_machine.specs.Alone.{IsAlone, asked_alone, beside, stepped_alone, turn_alone, alone_next}
+
+-- ---- what the parts at rest begin
+
+asleep_doing : ℕ → Doing
+asleep_doing cycle = record { act = act.Asleep; lines = 0; cycle = cycle }
+
+begun_core1 : (s : State) → IsAlone s → (begun s).core1.act ≡ act.Asleep
+unfolding begun core_asks.asks
+begun_core1 s h = rw h.asleep refl
+
+begun_dma : (s : State) → IsAlone s → (begun s).dma ≡ idle_begun
+unfolding begun
+begun_dma s h = rw h.dma.asks_nothing refl
+
+begun_pio0 : (s : State) → IsAlone s → (begun s).pio0 ≡ None
+unfolding begun
+begun_pio0 s h = rw h.pio0.asks_nothing refl
+
+begun_pio1 : (s : State) → IsAlone s → (begun s).pio1 ≡ None
+unfolding begun
+begun_pio1 s h = rw h.pio1.asks_nothing refl
+
+pub wanted_alone : (s : State) → IsAlone s → wanted (begun s) ≡ beside (core.want_of (begun s).core0)
+unfolding wanted
+wanted_alone s h = rw (begun_core1 s h, begun_dma s h) refl
+
+-- ---- the first cause
+
+alone_first : (c : Option Why) → first_cause (c ∷ None ∷ None ∷ None ∷ []) ≡ c
+alone_first None = refl
+alone_first (Some why) = refl
+
+cause_beside : (w : Setting) (b : Begun) (x : Want) (s : State) → cause_in w b (beside x) s ≡ cause_of w b.outer s (wanted_by master.Core0 x)
+unfolding cause_in cause_of
+cause_beside w b x s = alone_first _
+
+pub cause_alone : (w : Setting) (s : State) → IsAlone s
+    → cause_in w (begun s) (wanted (begun s)) s ≡ cause_of w (begun s).outer s (wanted_by master.Core0 (core.want_of (begun s).core0))
+cause_alone w s h =
+    ap (λ xs. cause_in w (begun s) xs s) (wanted_alone s h) ∙ cause_beside w (begun s) (core.want_of (begun s).core0) s
+
+-- ---- the steps
+
+asleep_stays : (c : Core) (b : Doing) (turns : List Turn) → b.act ≡ act.Asleep → core.next c b turns ≡ c
+unfolding core.next
+asleep_stays c b turns h = rw h refl
+
+idle_stays : (p : Pio) (b : Option Inputs) → b ≡ None → pio.next None p ≡ p → pio.next b p ≡ p
+idle_stays p b h stays = rw h stays
+
+turns_by : (w : Setting) (b : Begun) (ts : List Turn) (t : State)
+    → core.next t.core1 b.core1 (turn_for ts master.Core1 ∷ turn.Nothing ∷ []) ≡ t.core1
+    → dma.next t.dma b.dma (turn_for ts master.DmaRead ∷ turn_for ts master.DmaWrite ∷ []) ≡ t.dma
+    → pio.next b.pio0 t.pio0 ≡ t.pio0
+    → pio.next b.pio1 t.pio1 ≡ t.pio1
+    → with_turns w b ts t ≡ stepped_alone w b.core0 b.outer (turn_for ts master.Core0) t
+unfolding with_turns
+turns_by w b ts t e1 e2 e3 e4 = rw (e1, e2, e3, e4) refl
+
+steps_alone : (w : Setting) (ts : List Turn) (s t : State) → IsAlone s → t.core1 ≡ s.core1 → t.dma ≡ s.dma → t.pio0 ≡ s.pio0 → t.pio1 ≡ s.pio1
+    → with_turns w (begun s) ts t ≡ stepped_alone w (begun s).core0 (begun s).outer (turn_for ts master.Core0) t
+steps_alone w ts s t h core1 same_dma same_pio0 same_pio1 =
+    turns_by w (begun s) ts t
+    (asleep_stays t.core1 (begun s).core1 _ (begun_core1 s h))
+    (rw same_dma (h.dma.stays (begun s).dma _))
+    (rw same_pio0 (idle_stays s.pio0 (begun s).pio0 (begun_pio0 s h) h.pio0.stays))
+    (rw same_pio1 (idle_stays s.pio1 (begun s).pio1 (begun_pio1 s h) h.pio1.stays))
+
+-- ---- the cycle
+
+abbrev ending : Setting → Begun → Want → State → State → State
+ending w b x s t = record (after_deeds w (deeds w b (beside x) s (granted (beside x) s)) t) { cycle = s.cycle + 1 }
+
+abbrev told : Setting → Begun → Want → State → Turn
+told w b x s = turn_for (turns w b (beside x) s (granted (beside x) s)) master.Core0
+
+ends_alone : (w : Setting) (b : Begun) (x : Want) (s : State)
+    → ending w b x s (stepped_alone w b.core0 b.outer (told w b x s) (with_grants (beside x) s)) ≡ alone_next w b.core0 b.outer x s
+unfolding granted asked asked_of turns turn_of deeds deed_of after_deeds after_deed quiet_core1 alone_next
+ends_alone w b x s = refl
+
+next_beside : (w : Setting) (x : Want) (s : State) → IsAlone s → next_by w (begun s) (beside x) s ≡ alone_next w (begun s).core0 (begun s).outer x s
+unfolding next_by stepped
+next_beside w x s h =
+    ap (ending w (begun s) x s)
+    (steps_alone w (turns w (begun s) (beside x) s (granted (beside x) s)) s (with_grants (beside x) s) h refl refl refl refl)
+    ∙ ends_alone w (begun s) x s
+
+pub next_alone : (w : Setting) (s : State) → IsAlone s → next w s ≡ alone_next w (begun s).core0 (begun s).outer (core.want_of (begun s).core0) s
+unfolding next
+next_alone w s h =
+    ap (λ xs. next_by w (begun s) xs s) (wanted_alone s h) ∙ next_beside w (core.want_of (begun s).core0) s h
+
+-- the same of what the calls of a cycle begin and want
+pub cause_is : (w : Setting) {s : State} {b : Doing} {seen : Seen} {x : Want} {cause : Option Why} → IsAlone s → b ≡ (begun s).core0 → seen ≡ (begun s).outer
+    → x ≡ core.want_of b → cause ≡ cause_of w seen s (wanted_by master.Core0 x) → cause ≡ cause_in w (begun s) (wanted (begun s)) s
+cause_is w {s} {b} {seen} {x} {cause} h core0 outer wants e =
+    e ∙ ap (λ y. cause_of w seen s (wanted_by master.Core0 y)) wants
+    ∙ ap (λ d. cause_of w seen s (wanted_by master.Core0 (core.want_of d))) core0
+    ∙ ap (λ o. cause_of w o s (wanted_by master.Core0 (core.want_of (begun s).core0))) outer
+    ∙ sym (cause_alone w s h)
+
+pub next_is : (w : Setting) {s after : State} {b : Doing} {seen : Seen} {x : Want} → IsAlone s → b ≡ (begun s).core0 → seen ≡ (begun s).outer
+    → x ≡ core.want_of b → after ≡ alone_next w b seen x s → after ≡ next w s
+next_is w {s} {after} {b} {seen} {x} h core0 outer wants e =
+    e ∙ ap (λ y. alone_next w b seen y s) wants
+    ∙ ap (λ d. alone_next w d seen (core.want_of d) s) core0
+    ∙ ap (λ o. alone_next w (begun s).core0 o (core.want_of (begun s).core0) s) outer
+    ∙ sym (next_alone w s h)
+
+pub marks_are : (w : Setting) (s : State) {seen : Seen} {before after : List Mark} → before ≡ [] → seen ≡ (begun s).outer
+    → after ≡ before ++ marked w s.outer seen ∷ [] → after ≡ mark w s ∷ []
+unfolding mark
+marks_are w s {seen} {before} {after} clear outer e =
+    e ∙ ap (λ ms. ms ++ marked w s.outer seen ∷ []) clear ∙ ap (λ o. marked w s.outer o ∷ []) outer
+
+-- ---- the fabric
+
+pub none_granted : (access : Option (ℕ × Bool)) (s : Crossbar) {holds : Bool} → access ≡ None → has_hold s ≡ holds → holds ≡ false
+    → s ≡ after_grant (asked_alone access) s
+none_granted access s is e h = rw is (sym (nobody-after s (e ∙ h)))
+
+pub one_granted : (access : Option (ℕ × Bool)) (port : ℕ) (writes : Bool) (s : Crossbar) {holds : Bool} → access ≡ Some (port, writes)
+    → port ≢ 6 → has_hold s ≡ holds → holds ≡ false → served port master.Core0 s ≡ after_grant (asked_alone access) s
+one_granted access port writes s is apart e h = rw is (sym (alone-after master.Core0 (port, writes) s (e ∙ h) apart))

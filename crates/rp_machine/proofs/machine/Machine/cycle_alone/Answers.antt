@@ -1,0 +1,21 @@
+use Rattle.std.proofs.Common.{sym, ◌∙◌}
+use Rattle.rp_machine.proofs.OneCore.{cause_is, next_is, marks_are}
+use Rattle.rp_machine.proofs.machine.Machine.cycle_alone.Goals as goal
+
+pub returns-in-Some-clause-cause : goal.returns-in-Some-clause-cause
+returns-in-Some-clause-cause g c =
+    sym c.in-Some.is
+    ∙ cause_is _ c.requires.alone c.begin_core0-core0.ensures c.begin_outer-outer.ensures c.want_of.ensures c.cause_of.ensures
+
+pub returns-in-None-clause-cause : goal.returns-in-None-clause-cause
+returns-in-None-clause-cause g c =
+    sym c.in-None.is
+    ∙ cause_is _ c.requires.alone c.begin_core0-core0.ensures c.begin_outer-outer.ensures c.want_of.ensures c.cause_of.ensures
+
+pub returns-in-None-clause-state : goal.returns-in-None-clause-state
+returns-in-None-clause-state g c =
+    next_is _ c.requires.alone c.begin_core0-core0.ensures c.begin_outer-outer.ensures c.want_of.ensures c.step_alone.ensures.state
+
+pub returns-in-None-clause-marks : goal.returns-in-None-clause-marks
+returns-in-None-clause-marks g c =
+    marks_are _ _ c.clear.ensures c.begin_outer-outer.ensures c.step_alone.ensures.marks

@@ -1,0 +1,68 @@
+-- A cycle in which core 0 alone is at work: core 1 sleeps, and the DMA engine and both PIO blocks are at rest. Nothing is asked of
+-- the parts at rest, and they stay as they are.
+use Rattle.std.specs.Prelude.{◌≡◌, ℕ, ◌+◌, Bool, true, List, [], ◌∷◌, Option, None}
+use Rattle.rp_base.specs.declared.Master.TheVariants as master
+use Rattle.lane_look.specs.declared.lane.Want.{Want}
+use Rattle.lane_look.specs.declared.lane.Want.TheVariants as want
+use Rattle.lane_look.specs.declared.lane.Turn.{Turn}
+use Rattle.lane_look.specs.declared.lane.Turn.TheVariants as turn
+use Rattle.m0_core.specs.declared.doing.Doing.{Doing}
+use Rattle.m0_core.specs.Cycle as core
+use Rattle.dma_engine.specs.Rest.{StaysAtRest}
+use Rattle.pio_block.specs.Cycle.{Rests}
+use Rattle.bus_fabric.specs.Grant.{is_done, after_grant}
+use Rattle.outer_lane.specs.Setting.{Setting}
+use Rattle.outer_lane.specs.declared.world.Seen.{Seen}
+use Rattle.outer_lane.specs.Step as outer
+use Rattle.rp_machine.specs.declared.deed.Deed.{Deed}
+use Rattle.rp_machine.specs.declared.wanted.Wanted.{Wanted}
+use Rattle.rp_machine.specs.State.{State}
+use Rattle.rp_machine.specs.Deeds.{asked_of, turn_of, deed_of}
+use Rattle.rp_machine.specs.Cycle.{wanted_by, after_deed, stored, ended}
+use Rattle.rp_machine.specs.Quiet.{quiet_core1}
+
+pub record IsAlone (s : State) : Type 0 where
+  pub asleep : s.core1.asleep ≡ true
+  pub dma : StaysAtRest s.dma
+  pub pio0 : Rests s.pio0
+  pub pio1 : Rests s.pio1
+
+-- what core 0 wants, beside three masters that want nothing
+abbrev pub beside : Want → List Wanted
+beside x =
+    wanted_by master.Core0 x ∷ wanted_by master.Core1 want.Nothing ∷ wanted_by master.DmaRead want.Nothing
+    ∷ wanted_by master.DmaWrite want.Nothing ∷ []
+
+-- what that asks of the fabric, and whether it is granted
+abbrev pub asked_alone : Option (ℕ × Bool) → List (Option (ℕ × Bool))
+asked_alone access = access ∷ None ∷ None ∷ None ∷ []
+
+abbrev pub granted_alone : Want → State → Bool
+granted_alone x s = is_done (asked_alone (asked_of x)) s.fabric master.Core0
+
+-- what core 0 is told, and what its want comes to
+abbrev pub turn_alone : Setting → Seen → Want → State → Turn
+turn_alone w seen x s = turn_of w seen x (granted_alone x s) master.Core0 x s
+
+abbrev pub deed_alone : Setting → Seen → Want → State → Deed
+deed_alone w seen x s = deed_of w seen (granted_alone x s) x s
+
+-- core 0 and the peripherals step
+abbrev pub stepped_alone : Setting → Doing → Seen → Turn → State → State
+stepped_alone w b seen told s = record s {
+  core0 = core.next s.core0 b (told ∷ turn.Nothing ∷ []);
+  outer = outer.next w s.outer seen;
+}
+
+abbrev pub with_grant : Want → State → State
+with_grant x s = record s { fabric = after_grant (asked_alone (asked_of x)) s.fabric }
+
+abbrev pub with_store : Deed → State → State
+with_store d s = record s { sram = stored d s.sram }
+
+-- the state after a cycle in which core 0 has begun this and wants that
+unfoldable pub alone_next : Setting → Doing → Seen → Want → State → State
+alone_next w b seen x s =
+    record (ended (with_store (deed_alone w seen x s)
+    (quiet_core1 (after_deed w master.Core0 (deed_alone w seen x s)
+    (stepped_alone w b seen (turn_alone w seen x s) (with_grant x s)))))) { cycle = s.cycle + 1 }

@@ -1,0 +1,161 @@
+//! A cycle in which core 0 alone is at work: each part at rest costs a test.
+
+ghost use Rattle.std.specs.Prelude.{◌≡◌};
+ghost use Rattle.bus_fabric.specs.Masters.{HasPort};
+ghost use Rattle.bus_fabric.specs.Grant.{is_done, after_grant};
+ghost use Rattle.m0_core.specs.Cycle.{want_of};
+ghost use Rattle.rp_machine.specs.Alone.{asked_alone};
+
+use crate::access::asked_of;
+use crate::begun::begin_lane;
+use crate::machine::Machine;
+use crate::steps::Steps;
+use crate::wanted::Wanted;
+use bus_fabric::Fabric;
+use lane_look::{Device, Lane, Marks, Turn, Want};
+use m0_core::{Core, Doing};
+use outer_lane::{Seen, World};
+use rp_base::{Master, Why};
+use std::sync::ledger::Ledger;
+
+/// The port of APB, on which an access lasts.
+const APB: u8 = 6;
+
+/// Whether the access of core 0 is done, where no other master asks for one.
+#[inline(always)]
+fn grant_alone(fabric: &mut Fabric, asked: Option<(u8, bool)>) -> bool
+    requires { HasPort asked }
+    ensures done { result ≡ is_done (asked_alone asked) fabric.old Master.Core0 }
+    ensures after { fabric.new ≡ after_grant (asked_alone asked) fabric.old }
+{
+    match asked {
+        None if !fabric.holds() => false,
+        Some((port, _)) if port != APB && !fabric.holds() => {
+            fabric.served(port, Master::Core0);
+            true
+        }
+        _ => {
+            let [done, _, _, _] = fabric.grant(&[asked, None, None, None]);
+            done
+        }
+    }
+}
+
+/// What a core wants.
+#[inline(always)]
+fn want_of(begun: &Doing) -> Want
+    ensures { result ≡ want_of begun.now }
+{
+    let [want, _] = <Core as Lane<()>>::wants(begun);
+    want
+}
+
+impl Machine {
+    ghost use Rattle.std.specs.Prelude.{◌≡◌, ◌+◌, ◌-◌, ◌^◌, ◌<◌, ◌≤◌, ◌∷◌, ◌++◌, if◌then◌else◌, is_some, [], length, true};
+    ghost use Rattle.outer_lane.specs.Setting.{setting_of};
+    ghost use Rattle.outer_lane.specs.Step.{marked};
+    ghost use Rattle.rp_machine.specs.Cycle.{begun, wanted, cause_in, next, mark};
+    ghost use Rattle.rp_machine.specs.Alone.{IsAlone, alone_next};
+
+    /// Core 1 sleeps, and the DMA engine and both PIO blocks are at rest.
+    #[inline(always)]
+    pub(crate) fn is_core0_alone(&self) -> bool
+        ensures { result ≡ true → IsAlone self.now }
+    {
+        self.core1.is_asleep()
+            && self.dma.is_at_rest()
+            && self.pio0.is_idle()
+            && self.pio1.is_idle()
+    }
+
+    /// What core 0 begins.
+    #[inline(always)]
+    #[tactic(auto, unfolding(crate::specs::Cycle::begun))]
+    fn begin_core0(&self) -> Doing
+        ensures { result ≡ (begun self.now).core0 }
+    {
+        begin_lane(self, 0, &self.core0, &())
+    }
+
+    /// What the peripherals begin.
+    #[inline(always)]
+    #[tactic(auto, unfolding(crate::specs::Cycle::begun))]
+    fn begin_outer<X: Device>(&self, world: &World<'_, X>) -> Seen
+        ensures { result ≡ (begun self.now).outer }
+    {
+        begin_lane(self, 5, &self.outer, world)
+    }
+
+    /// One cycle in which core 0, which is alone, has begun this and wants that.
+    #[tactic(auto, unfolding(crate::specs::Alone::alone_next))]
+    fn step_alone<X: Device>(
+        &mut self,
+        world: &World<'_, X>,
+        core0: &Doing,
+        outer: &Seen,
+        wanted: &Wanted,
+        marks: &mut Marks,
+    )
+        requires number { self.old.cycle < 2 ^ 64 - 1 }
+        requires marks { length marks.old < 256 }
+        requires master { wanted.now.master ≡ Master.Core0 }
+        ensures state { self.new ≡ alone_next
+            (setting_of world.now.script.now (X.meaning world.now.device.now) world.now.limit)
+            core0.now outer.now wanted.now.want self.old }
+        ensures marks { marks.new ≡ marks.old ++ marked
+            (setting_of world.now.script.now (X.meaning world.now.device.now) world.now.limit)
+            self.old.outer outer.now ∷ [] }
+    {
+        let at = self.at;
+        let mut fabric = self.fabric;
+        let granted = grant_alone(&mut fabric, asked_of(&wanted.want));
+        let turn = self.turn_of(world, outer, &wanted.want, granted, wanted);
+        let deed = self.deed_of(world, outer, granted, &wanted.want);
+        self.fabric = fabric;
+        self.core0.finish(&(), core0, [turn, Turn::Nothing], marks);
+        self.outer.finish(world, outer, [Turn::Nothing; 2], marks);
+        self.do_deed(world, Master::Core0, &deed);
+        self.rest_core1();
+        self.store(&deed);
+        self.end();
+        self.at = at + 1;
+    }
+
+    /// One cycle of a machine in which core 0 is alone, below its limit.
+    #[tactic(auto, unfolding(crate::specs::Cycle::mark))]
+    pub(crate) fn cycle_alone<X: Device, L: Ledger>(
+        &mut self,
+        world: &World<'_, X>,
+        marks: &mut Marks,
+        steps: &mut Steps<L>,
+    ) -> Option<Why>
+        requires number { self.old.cycle < 2 ^ 64 - 1 }
+        requires alone { IsAlone self.old }
+        ensures cause { result ≡ cause_in
+            (setting_of world.now.script.now (X.meaning world.now.device.now) world.now.limit)
+            (begun self.old) (wanted (begun self.old)) self.old }
+        ensures state { self.new ≡ (if is_some result then self.old else next
+            (setting_of world.now.script.now (X.meaning world.now.device.now) world.now.limit)
+            self.old) }
+        ensures marks { marks.new ≡ (if is_some result then marks.old else mark
+            (setting_of world.now.script.now (X.meaning world.now.device.now) world.now.limit)
+            self.old ∷ []) }
+        ensures steps { steps.new ≡ (if is_some result then steps.old else steps.old + 1) }
+    {
+        let core0 = self.begin_core0();
+        let outer = self.begin_outer(world);
+        let wanted = Wanted {
+            master: Master::Core0,
+            want: want_of(&core0),
+        };
+        match self.cause_of(world, &outer, &wanted) {
+            Some(why) => Some(why),
+            None => {
+                marks.clear();
+                steps.tick();
+                self.step_alone(world, &core0, &outer, &wanted, marks);
+                None
+            }
+        }
+    }
+}
