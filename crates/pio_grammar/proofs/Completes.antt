@@ -1,28 +1,27 @@
 -- Each part of a line of the grammar is read as it stands there, where the line goes on as the grammar has it.
-use Rattle.std.proofs.Common.{◌≡◌, ◌≢◌, ◌||◌, Bool, true, false, if◌then◌else◌, ℕ, List, [], ◌∷◌, Option, Some, None, Result, Ok, Err, refl, sym, ap, ◌∙◌, subst}
+use Rattle.std.proofs.Common.{◌≡◌, Bool, true, false, if◌then◌else◌, ℕ, List, ◌∷◌, Option, Some, None, Ok, refl, ap, ◌∙◌}
 use mathlib.Core.Bool.{false≢true}
 use Rattle.pio_words.specs.declared.op.JmpCondition.{JmpCondition}
 use Rattle.pio_words.specs.declared.op.JmpCondition.TheVariants.{Always}
 use Rattle.pio_words.specs.declared.op.MovOperation.{MovOperation}
-use Rattle.pio_words.specs.declared.op.MovOperation.TheVariants.{Plain}
 use Rattle.pio_words.specs.declared.op.MovSource.{MovSource}
 use Rattle.pio_parse.specs.declared.token.Span.{Span}
 use Rattle.pio_parse.specs.declared.token.Token.{Token}
 use Rattle.pio_parse.specs.declared.token.Keyword.{Keyword}
-use Rattle.pio_parse.specs.declared.token.Keyword.TheVariants.{Public, Opt, Pindirs, Jmp, Wait, In, Out, Push, Pull, Mov, Irq, Set, Nop, Side, Rel, IfFull, IfEmpty, Block, NoBlock}
+use Rattle.pio_parse.specs.declared.token.Keyword.TheVariants.{Pindirs, Side, Block, NoBlock}
 use Rattle.pio_parse.specs.declared.token.TokenKind.{TokenKind}
-use Rattle.pio_parse.specs.declared.token.TokenKind.TheVariants.{Name, Number, Keyword as KeywordToken, Comma, OpenBracket, OpenParenthesis, CloseBracket, CloseParenthesis, LineEnd, FileEnd}
+use Rattle.pio_parse.specs.declared.token.TokenKind.TheVariants.{Name, Number, Keyword as KeywordToken, Comma, OpenBracket, OpenParenthesis, LineEnd, FileEnd}
 use Rattle.pio_parse.specs.declared.expression.Term.{Term}
 use Rattle.pio_parse.specs.declared.syntax.Operation.{Operation}
 use Rattle.pio_parse.specs.declared.syntax.Statement.{Statement}
 use Rattle.pio_parse.specs.declared.syntax.Statement.TheVariants.{Instruction as InstructionStatement}
-use Rattle.pio_parse.specs.Outcome.{and_then, map_ok}
+use Rattle.pio_parse.specs.Outcome.{map_ok}
 use Rattle.pio_parse.specs.Cursor.{Outcome, after_head, head_kind}
 use Rattle.pio_parse.specs.Expression.{expression_at, operand_at}
 use Rattle.pio_parse.specs.Grammar.{Expr, IsSum, postfix}
 use Rattle.pio_parse.specs.Registers.{mov_source_of}
-use Rattle.pio_parse.specs.Instruction.{block_at, block_of, delay_at, irq_mode_at, irq_mode_of, is_comma, is_if_empty, is_if_full, is_instruction, is_open_bracket, is_rel, is_side, jmp_condition_at, jmp_condition_of, last_operand_at, modified_at, modifiers_at, mov_operation_at, mov_operation_of, past_comma, polarity_at, polarity_of, side_at}
-use Rattle.pio_parse.specs.Statement.{begins_label, is_opt, is_pindirs, is_public, is_public_word, label_at, statement_at, statement_of_kind}
+use Rattle.pio_parse.specs.Instruction.{block_at, block_of, delay_at, irq_mode_at, irq_mode_of, is_comma, is_if_empty, is_if_full, is_open_bracket, is_rel, is_side, jmp_condition_at, jmp_condition_of, last_operand_at, modified_at, modifiers_at, mov_operation_at, past_comma, polarity_at, polarity_of, side_at}
+use Rattle.pio_parse.specs.Statement.{begins_label, is_opt, is_pindirs, label_at, statement_at, statement_of_kind}
 use Rattle.pio_parse.proofs.Finds.{is_none_left, reads}
 use Rattle.pio_parse.proofs.Extents.{ends_sum}
 use Rattle.pio_grammar.specs.Lines.{IsBlock, IsCondition, IsDelay, IsIrqMode, IsJmpCondition, IsLabel, IsLastValue, IsModifiers, IsMovOperation, IsOperation, IsPolarity, IsProgram, IsSetting, IsSide, IsStatement, IsValue, MayStand}

@@ -1,15 +1,14 @@
 -- How an expression and an operand are read where a line goes on after them.
-use Rattle.std.proofs.Common.{◌≡◌, ◌≢◌, ◌&&◌, not, Bool, true, false, if◌then◌else◌, ℕ, zero, suc, ◌-◌, List, [], ◌∷◌, ◌++◌, Option, Some, None, Result, Ok, Err, ◌⊎◌, inl, inr, refl, sym, ap, ◌∙◌, subst}
+use Rattle.std.proofs.Common.{◌≡◌, ◌≢◌, not, true, ℕ, List, [], ◌∷◌, ◌++◌, Ok, Err, inl, inr, refl, sym, ap, ◌∙◌, subst}
 use mathlib.Core.Bool.{false≢true}
 use Rattle.pio_parse.specs.declared.token.Place.{Place}
-use Rattle.pio_parse.specs.declared.token.Span.{Span}
 use Rattle.pio_parse.specs.declared.token.Token.{Token}
 use Rattle.pio_parse.specs.declared.token.TokenKind.{TokenKind}
 use Rattle.pio_parse.specs.declared.token.TokenKind.TheVariants.{Name, Number, OpenParenthesis, CloseParenthesis, Plus, Minus, Star}
 use Rattle.pio_parse.specs.declared.expression.Term.{Term}
 use Rattle.pio_parse.specs.declared.expression.Term.TheVariants.{Number as NumberTerm, Name as NameTerm}
 use Rattle.pio_parse.specs.Outcome.{and_then, map_ok}
-use Rattle.pio_parse.specs.Cursor.{Outcome, after_head, expected, head_kind, head_place, misfit}
+use Rattle.pio_parse.specs.Cursor.{Outcome, expected, head_kind}
 use Rattle.pio_parse.specs.Expression.{expression_at, is_close_parenthesis, name_at, operand_at, operand_of_kind}
 use Rattle.pio_parse.specs.Grammar.{EndsSum, Expr, IsSum, postfix}
 use Rattle.pio_parse.specs.Grammar.IsSum.{product}
@@ -25,7 +24,7 @@ use Rattle.pio_grammar.specs.Lines.{IsValue}
 use Rattle.pio_grammar.specs.Lines.IsValue.{number, name, parentheses}
 use Rattle.pio_grammar.proofs.Reading.{Answer, Can, Good, IsOne, Move, Reads, Refused, Rest, Then, bind, can_after, good, good_to, line_inside, not_true, one_reads, reads_map, reads_then, reads_to, refused_same, token_of}
 use Rattle.pio_grammar.proofs.Reading.IsOne.{one}
-use Rattle.pio_grammar.proofs.Reading.Move.{misfits, shifts, keeps}
+use Rattle.pio_grammar.proofs.Reading.Move.{misfits, shifts}
 
 -- a sum with these terms
 pub data IsTerms (text : List ℕ) : List Token → List Term → List Token → Type 0 where

@@ -1,5 +1,5 @@
 -- A file is parsed as the grammar of its lines has it, and its Syntax fault is at the first token that fits nothing.
-use Rattle.std.proofs.Common.{◌≡◌, ◌&&◌, ◌||◌, not, Bool, true, false, if◌then◌else◌, ℕ, List, [], ◌∷◌, ◌++◌, Result, Ok, Err, refl, sym, ap, ◌∙◌, subst}
+use Rattle.std.proofs.Common.{◌≡◌, ◌&&◌, ◌||◌, Bool, true, false, if◌then◌else◌, ℕ, List, [], ◌∷◌, ◌++◌, Result, Ok, Err, refl, sym, ap, ◌∙◌, subst}
 use mathlib.Core.Bool.{false≢true}
 use Rattle.pio_parse.specs.declared.token.Place.{Place}
 use Rattle.pio_parse.specs.declared.token.Token.{Token}
@@ -7,16 +7,15 @@ use Rattle.pio_parse.specs.declared.syntax.Line.{Line}
 use Rattle.pio_parse.specs.declared.syntax.Source.{Source}
 use Rattle.pio_parse.specs.Outcome.{and_then, map_ok}
 use Rattle.pio_parse.specs.Cursor.{Outcome}
-use Rattle.pio_parse.specs.Lexical.{IsLexed}
 use Rattle.pio_parse.specs.Scan.{scanned}
-use Rattle.pio_parse.specs.Source.{EarlyFault, gathered, lines_at, parsed, parsed_tokens, source_of, token_lines, with_first, with_syntax}
+use Rattle.pio_parse.specs.Source.{EarlyFault, gathered, lines_at, parsed, parsed_tokens, token_lines, with_first, with_syntax}
 use Rattle.pio_parse.specs.Source.EarlyFault.{CharAt, SyntaxAt}
 use Rattle.pio_parse.specs.Statement.{is_end, is_program, line_at}
 use Rattle.pio_parse.proofs.Runs.{both}
 use Rattle.pio_parse.proofs.Finds.{refused}
 use Rattle.pio_parse.proofs.Decide.{lexes_exactly}
 use Rattle.pio_grammar.specs.Laws.{ParsesGrammar, SyntaxFaultsAtFirst, is_line}
-use Rattle.pio_grammar.specs.Lines.{BeginsLine, IsLine}
+use Rattle.pio_grammar.specs.Lines.{IsLine}
 use Rattle.pio_grammar.specs.Files.{AreLines, FaultsAt, IsSource, IsSyntaxFaultAt}
 use Rattle.pio_grammar.specs.Files.AreLines.{no_line, one_line}
 use Rattle.pio_grammar.specs.Files.FaultsAt.{fits_nothing, after_line}

@@ -1,6 +1,5 @@
 -- A line is refused at the first token with which no line of the grammar begins as the tokens up to it do.
-use Rattle.std.proofs.Common.{◌≡◌, ◌≢◌, ◌&&◌, not, Bool, true, false, ℕ, List, [], ◌∷◌, ◌++◌, Result, Ok, Err, ◌⊎◌, inl, inr, append_assoc, refl, sym, ap, ◌∙◌, subst}
-use mathlib.Core.Bool.{false≢true}
+use Rattle.std.proofs.Common.{◌≡◌, not, Bool, true, false, ℕ, List, [], ◌∷◌, ◌++◌, Ok, Err, inl, inr, append_assoc, refl, sym, ap, ◌∙◌, subst}
 use Rattle.pio_parse.specs.declared.token.Place.{Place}
 use Rattle.pio_parse.specs.declared.token.Token.{Token}
 use Rattle.pio_parse.specs.declared.syntax.Line.{Line}
@@ -11,7 +10,7 @@ use Rattle.pio_parse.proofs.Runs.{both}
 use Rattle.pio_parse.proofs.Finds.{refused}
 use Rattle.pio_grammar.specs.Laws.{LineFaultsAtFirst, is_line}
 use Rattle.pio_grammar.specs.Lines.{BeginsLine, IsLine}
-use Rattle.pio_grammar.proofs.Reading.{Answer, Can, Good, Refused, Rest, not_true}
+use Rattle.pio_grammar.proofs.Reading.{Answer, Can, Refused, Rest, not_true}
 use Rattle.pio_grammar.proofs.Lines.{complete, finished, first_good, later_good, line_is, line_rest, sound}
 
 -- where tokens are refused, and how they could have gone on

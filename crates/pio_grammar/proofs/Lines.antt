@@ -1,5 +1,5 @@
 -- A line is read as the grammar has it, and is refused at the first token with which no line of the grammar begins so.
-use Rattle.std.proofs.Common.{◌≡◌, ◌≢◌, ◌&&◌, ◌||◌, not, Bool, true, false, if◌then◌else◌, ℕ, List, [], ◌∷◌, ◌++◌, Option, Some, None, Result, Ok, Err, ◌⊎◌, inl, inr, append_assoc, refl, sym, ap, ◌∙◌, subst}
+use Rattle.std.proofs.Common.{◌≡◌, ◌||◌, not, Bool, true, false, if◌then◌else◌, ℕ, List, [], ◌∷◌, Option, None, Ok, Err, ◌⊎◌, inl, inr, refl, sym, ap, ◌∙◌, subst}
 use mathlib.Core.Bool.{false≢true}
 use Rattle.pio_parse.specs.declared.token.Place.{Place}
 use Rattle.pio_parse.specs.declared.token.Token.{Token}
@@ -13,13 +13,13 @@ use Rattle.pio_parse.specs.Cursor.{Outcome, after_head, head_kind, head_place, m
 use Rattle.pio_parse.specs.Statement.{begins_label, end_at, is_end, is_end_after, is_first, is_program, label_at, line_at, statement_at, statement_of_kind}
 use Rattle.pio_parse.proofs.Runs.{both}
 use Rattle.pio_parse.proofs.Finds.{refused}
-use Rattle.pio_grammar.specs.Laws.{LineFaultsAtFirst, ReadsLines, is_line}
-use Rattle.pio_grammar.specs.Lines.{BeginsLine, IsLabel, IsLine, IsProgram, IsSetting, IsStatement}
+use Rattle.pio_grammar.specs.Laws.{ReadsLines, is_line}
+use Rattle.pio_grammar.specs.Lines.{IsLabel, IsLine, IsProgram, IsSetting, IsStatement}
 use Rattle.pio_grammar.specs.Lines.IsSetting.{define, lang_opt, pio_version}
 use Rattle.pio_grammar.specs.Lines.IsProgram.{program as program_line}
 use Rattle.pio_grammar.specs.Lines.IsLine.{line as a_line, blank_before, setting_before, first_program}
-use Rattle.pio_grammar.proofs.Reading.{Answer, Can, Good, Move, Refused, Rest, Then, bind, can_after, good, good_to, not_true, reads_to, shift, take, token_of}
-use Rattle.pio_grammar.proofs.Reading.Move.{misfits, shifts, keeps}
+use Rattle.pio_grammar.proofs.Reading.{Answer, Good, Move, Rest, Then, bind, can_after, good, good_to, not_true, reads_to, shift, take, token_of}
+use Rattle.pio_grammar.proofs.Reading.Move.{misfits, keeps}
 use Rattle.pio_grammar.proofs.Statements.{IsEnded, define_reads, ended, ended_good, label_reads, program_reads, statement_reads, version_reads}
 use Rattle.pio_grammar.proofs.Statements.IsEnded.{end_here}
 use Rattle.pio_grammar.proofs.Completes.{Ending, label_is, program_is, setting_is, statement_is, statement_word}

@@ -1,5 +1,5 @@
 -- How the parts of an instruction are read.
-use Rattle.std.proofs.Common.{◌≡◌, ◌==◌, ◌&&◌, Bool, true, false, if◌then◌else◌, ℕ, suc, ◌+◌, ◌-◌, List, [], ◌∷◌, Option, Some, None, Ok, arith, refl, sym, ap, ◌∙◌, subst}
+use Rattle.std.proofs.Common.{◌≡◌, ◌==◌, ◌&&◌, Bool, true, false, if◌then◌else◌, ℕ, suc, ◌-◌, List, [], ◌∷◌, Option, Some, None, Ok, arith, refl, ap, ◌∙◌, subst}
 use mathlib.Core.Bool.{false≢true}
 use Rattle.pio_words.specs.declared.op.JmpCondition.{JmpCondition}
 use Rattle.pio_words.specs.declared.op.JmpCondition.TheVariants.{Always, XZero, XDecrement, YZero, YDecrement, XNotY, Pin as PinHigh, OsrNotEmpty}
@@ -14,7 +14,7 @@ use Rattle.pio_words.specs.declared.op.MovSource.TheVariants.{Pins as FromPins, 
 use Rattle.pio_parse.specs.declared.token.Place.{Place}
 use Rattle.pio_parse.specs.declared.token.Token.{Token}
 use Rattle.pio_parse.specs.declared.token.Keyword.{Keyword}
-use Rattle.pio_parse.specs.declared.token.Keyword.TheVariants.{Public, Opt, Pindirs, Jmp, Wait, In, Out, Push, Pull, Mov, Irq, Set, Nop, Side, Gpio, Pin, Rel, Pins, X, Y, Osre, IfFull, IfEmpty, Block, NoBlock, NoWait, Clear}
+use Rattle.pio_parse.specs.declared.token.Keyword.TheVariants.{Jmp, Wait, In, Out, Push, Pull, Mov, Irq, Set, Nop, Side, Gpio, Pin, Rel, Pins, X, Y, Osre, IfFull, IfEmpty, Block, NoBlock, NoWait, Clear}
 use Rattle.pio_parse.specs.declared.token.TokenKind.{TokenKind}
 use Rattle.pio_parse.specs.declared.token.TokenKind.TheVariants.{Keyword as KeywordToken, Number, Comma, Minus, NotEqual, Bang, Tilde, DoubleColon, OpenBracket, CloseBracket}
 use Rattle.pio_parse.specs.declared.expression.Term.{Term}
@@ -22,12 +22,10 @@ use Rattle.pio_parse.specs.declared.expression.Term.TheVariants.{Number as Numbe
 use Rattle.pio_parse.specs.declared.syntax.Operation.{Operation}
 use Rattle.pio_parse.specs.declared.syntax.Operation.TheVariants.{Jmp as JmpOperation, WaitGpio, WaitPin, WaitIrq, In as InOperation, Out as OutOperation, Push as PushOperation, Pull as PullOperation, Mov as MovOperation', Irq as IrqOperation, Set as SetOperation}
 use Rattle.pio_parse.specs.Outcome.{and_then, map_ok}
-use Rattle.pio_parse.specs.Cursor.{Outcome, after_head, expected, head_kind, head_place, misfit}
+use Rattle.pio_parse.specs.Cursor.{Outcome, after_head, expected, head_kind, head_place}
 use Rattle.pio_parse.specs.Expression.{expression_at, operand_at}
-use Rattle.pio_parse.specs.Grammar.{Expr, IsSum, postfix}
 use Rattle.pio_parse.specs.Registers.{in_source_of, mov_destination_of, mov_source_of, out_destination_of, set_destination_of}
 use Rattle.pio_parse.specs.Instruction.{are_together, block_at, block_of, conditional_at, decrement_at, delay_at, flag_at, in_at, irq_at, irq_mode_at, irq_mode_of, is_close_bracket, is_comma, is_if_empty, is_if_full, is_minus, is_not_equal, is_open_bracket, is_rel, is_side, is_y, jmp_at, jmp_condition_at, jmp_condition_of, last_operand_at, modifiers_at, mov_at, mov_operation_at, mov_operation_of, named_at, not_condition_at, not_condition_of, out_at, past_comma, polarity_at, polarity_of, pull_at, push_at, set_at, side_at, wait_at, wait_for, x_condition_at}
-use Rattle.pio_parse.specs.Statement.{is_end}
 use Rattle.pio_parse.proofs.Runs.{both}
 use Rattle.pio_grammar.specs.Lines.{IsBlock, IsCondition, IsDecrement, IsDelay, IsIrqMode, IsJmpCondition, IsLastValue, IsModifiers, IsMovOperation, IsOperation, IsPolarity, IsSide, IsValue, MayStand}
 use Rattle.pio_grammar.specs.Lines.IsLastValue.{last_value}
@@ -41,10 +39,10 @@ use Rattle.pio_grammar.specs.Lines.IsOperation.{jmp, wait_gpio, wait_pin, wait_i
 use Rattle.pio_grammar.specs.Lines.IsSide.{no_side, side}
 use Rattle.pio_grammar.specs.Lines.IsDelay.{no_delay, delay}
 use Rattle.pio_grammar.specs.Lines.IsModifiers.{side_first, delay_first}
-use Rattle.pio_grammar.proofs.Reading.{After, Answer, Can, Good, IsNamed, IsOne, Move, Reads, Rest, Then, bind, can_after, can_shift, flag_reads, good, good_to, keep, named_reads, not_end, one_reads, pass, reads_map, reads_then, reads_to, shift, take, token_of}
+use Rattle.pio_grammar.proofs.Reading.{After, Answer, Good, IsNamed, IsOne, Move, Reads, Rest, Then, bind, can_after, can_shift, flag_reads, good, good_to, keep, named_reads, not_end, one_reads, pass, reads_map, reads_then, reads_to, shift, take, token_of}
 use Rattle.pio_grammar.proofs.Reading.IsNamed.{named}
 use Rattle.pio_grammar.proofs.Reading.IsOne.{one}
-use Rattle.pio_grammar.proofs.Reading.Move.{misfits, shifts, keeps}
+use Rattle.pio_grammar.proofs.Reading.Move.{misfits}
 use Rattle.pio_grammar.proofs.Expressions.{IsTerms, expression_reads, value_reads}
 use Rattle.pio_grammar.proofs.Expressions.IsTerms.{sum_terms}
 

@@ -1,5 +1,5 @@
 -- How a line is read: its label, its directive or instruction, and its end.
-use Rattle.std.proofs.Common.{◌≡◌, ◌==◌, ◌||◌, Bool, true, false, if◌then◌else◌, ℕ, List, [], ◌∷◌, Option, Some, None, Result, Ok, Err, ◌⊎◌, inl, inr, refl, sym, ap, ◌∙◌, subst}
+use Rattle.std.proofs.Common.{◌≡◌, ◌==◌, ◌||◌, Bool, true, false, if◌then◌else◌, ℕ, List, [], ◌∷◌, Option, Some, None, Ok, Err, inl, inr, refl, sym, ap, ◌∙◌, subst}
 use Rattle.std.proofs.lemmas.Bool.Decides.{eqb_tells}
 use mathlib.Core.Bool.{false≢true}
 use Rattle.pio_parse.specs.declared.token.Place.{Place}
@@ -17,21 +17,20 @@ use Rattle.pio_parse.specs.declared.syntax.Instruction.{Instruction}
 use Rattle.pio_parse.specs.declared.syntax.Statement.{Statement}
 use Rattle.pio_parse.specs.declared.syntax.Statement.TheVariants.{Program as ProgramStatement, Define as DefineStatement, Origin as OriginStatement, SideSet as SideSetStatement, WrapTarget as WrapTargetStatement, Wrap as WrapStatement, Word as WordStatement, Instruction as InstructionStatement}
 use Rattle.pio_parse.specs.Outcome.{and_then, map_ok}
-use Rattle.pio_parse.specs.Cursor.{Outcome, after_head, expected, head_kind, head_place, misfit}
+use Rattle.pio_parse.specs.Cursor.{Outcome, after_head, expected, head_kind, misfit}
 use Rattle.pio_parse.specs.Expression.{expression_at, name_at}
-use Rattle.pio_parse.specs.Grammar.{Expr, IsSum, postfix}
 use Rattle.pio_parse.specs.Instruction.{flag_at, modified_at}
-use Rattle.pio_parse.specs.Statement.{begins_label, define_at, is_colon, is_end, is_end_after, is_first, is_opt, is_pindirs, is_program, is_public, is_zero, label_at, name_of_kind, name_token_at, past_public, side_set_at, statement_at, statement_of_kind, version_at}
+use Rattle.pio_parse.specs.Statement.{begins_label, define_at, is_colon, is_end_after, is_opt, is_pindirs, is_program, is_public, is_zero, label_at, name_of_kind, name_token_at, past_public, side_set_at, statement_at, statement_of_kind, version_at}
 use Rattle.pio_parse.proofs.Finds.{refused}
 use Rattle.pio_grammar.specs.Laws.{is_line}
-use Rattle.pio_grammar.specs.Lines.{IsLabel, IsModifiers, IsOperation, IsProgram, IsSetting, IsStatement, MayStand}
+use Rattle.pio_grammar.specs.Lines.{IsLabel, IsModifiers, IsProgram, IsSetting, IsStatement, MayStand}
 use Rattle.pio_grammar.specs.Lines.IsSetting.{define, lang_opt, pio_version}
 use Rattle.pio_grammar.specs.Lines.IsProgram.{program as program_line}
 use Rattle.pio_grammar.specs.Lines.IsStatement.{nothing, setting, program, origin, side_set, wrap_target, wrap, word, instruction}
 use Rattle.pio_grammar.specs.Lines.IsLabel.{no_label, label}
-use Rattle.pio_grammar.proofs.Reading.{After, Answer, Can, Good, IsOne, Move, Reads, Refused, Rest, Then, bind, can_after, can_shift, flag_reads, good, good_to, keep, one_reads, pass, reads_map, reads_then, reads_to, shift, take, token_of}
+use Rattle.pio_grammar.proofs.Reading.{After, Answer, Can, Good, IsOne, Move, Reads, Refused, Rest, Then, bind, can_after, can_shift, flag_reads, good, keep, one_reads, pass, reads_map, reads_then, reads_to, shift, take, token_of}
 use Rattle.pio_grammar.proofs.Reading.IsOne.{one}
-use Rattle.pio_grammar.proofs.Reading.Move.{misfits, shifts, keeps}
+use Rattle.pio_grammar.proofs.Reading.Move.{misfits}
 use Rattle.pio_grammar.proofs.Expressions.{IsTerms, expression_reads}
 use Rattle.pio_grammar.proofs.Expressions.IsTerms.{sum_terms}
 use Rattle.pio_grammar.proofs.Operands.{AfterWord, in_reads, irq_reads, jmp_reads, modifiers_reads, mov_reads, nop_reads, out_reads, pull_reads, push_reads, set_reads, wait_reads}

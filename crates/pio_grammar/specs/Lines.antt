@@ -40,7 +40,6 @@ use Rattle.pio_parse.specs.declared.expression.Term.{Term}
 use Rattle.pio_parse.specs.declared.expression.Term.TheVariants.{Number as NumberTerm, Name as NameTerm}
 use Rattle.pio_parse.specs.declared.syntax.Operation.{Operation}
 use Rattle.pio_parse.specs.declared.syntax.Operation.TheVariants.{Jmp as JmpOperation, WaitGpio, WaitPin, WaitIrq, In as InOperation, Out as OutOperation, Push as PushOperation, Pull as PullOperation, Mov as MovOperation', Irq as IrqOperation, Set as SetOperation}
-use Rattle.pio_parse.specs.declared.syntax.Instruction.{Instruction}
 use Rattle.pio_parse.specs.declared.syntax.Statement.{Statement}
 use Rattle.pio_parse.specs.declared.syntax.Statement.TheVariants.{Program as ProgramStatement, Define as DefineStatement, Origin as OriginStatement, SideSet as SideSetStatement, WrapTarget as WrapTargetStatement, Wrap as WrapStatement, Word as WordStatement, Instruction as InstructionStatement}
 use Rattle.pio_parse.specs.declared.syntax.Line.{Line}

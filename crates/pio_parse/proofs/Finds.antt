@@ -9,9 +9,9 @@ use Rattle.pio_parse.specs.declared.token.TokenKind.TheVariants.{Name as NameTok
 use Rattle.pio_parse.specs.declared.expression.Operator.TheVariants.{Add, Subtract, Multiply, Negate as NegateOperator, Reverse as ReverseOperator}
 use Rattle.pio_parse.specs.declared.expression.Term.{Term}
 use Rattle.pio_parse.specs.declared.expression.Term.TheVariants.{Operator as OperatorTerm}
-use Rattle.pio_parse.specs.declared.expression.Pending.{Pending}
-use Rattle.pio_parse.specs.declared.expression.Pending.TheVariants.{Parenthesis, Operator as OperatorPending}
-use Rattle.pio_parse.specs.declared.expression.Reading.{Reading}
+use Rattle.pio_parse.specs.Expression.{Pending}
+use Rattle.pio_parse.specs.Expression.Pending.{Parenthesis, OperatorPending}
+use Rattle.pio_parse.specs.Expression.{Reading}
 use Rattle.pio_parse.specs.Cursor.{Outcome, head_kind}
 use Rattle.pio_parse.specs.Expression.{expression_at, name_at, operand_step, operator_step}
 use Rattle.pio_parse.specs.Grammar.{EndsProduct, EndsSum, Expr, IsExpression, IsOperand, IsProduct, IsSum, postfix}

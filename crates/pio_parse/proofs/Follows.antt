@@ -10,9 +10,9 @@ use Rattle.pio_parse.specs.declared.expression.Operator.{Operator}
 use Rattle.pio_parse.specs.declared.expression.Operator.TheVariants.{Add, Subtract, Multiply, Negate as NegateOperator, Reverse as ReverseOperator}
 use Rattle.pio_parse.specs.declared.expression.Term.{Term}
 use Rattle.pio_parse.specs.declared.expression.Term.TheVariants.{Operator as OperatorTerm}
-use Rattle.pio_parse.specs.declared.expression.Pending.{Pending}
-use Rattle.pio_parse.specs.declared.expression.Pending.TheVariants.{Parenthesis, Operator as OperatorPending}
-use Rattle.pio_parse.specs.declared.expression.Reading.{Reading}
+use Rattle.pio_parse.specs.Expression.{Pending}
+use Rattle.pio_parse.specs.Expression.Pending.{Parenthesis, OperatorPending}
+use Rattle.pio_parse.specs.Expression.{Reading}
 use Rattle.pio_parse.specs.Outcome.{and_then}
 use Rattle.pio_parse.specs.Cursor.{Outcome, head_kind}
 use Rattle.pio_parse.specs.Expression.{expression_from, level_of, operator_step, reduced, with_closed}

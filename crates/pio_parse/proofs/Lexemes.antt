@@ -9,9 +9,9 @@ use Rattle.pio_parse.specs.declared.token.Directive.{Directive}
 use Rattle.pio_parse.specs.declared.token.Directive.TheVariants.{LangOpt}
 use Rattle.pio_parse.specs.declared.token.TokenKind.{TokenKind}
 use Rattle.pio_parse.specs.declared.token.TokenKind.TheVariants.{Directive as DirectiveToken, Colon as ColonToken, Bang as BangToken, Comma as CommaToken, DoubleColon as DoubleColonToken, OpenBracket as OpenBracketToken, CloseBracket as CloseBracketToken, OpenParenthesis as OpenParenthesisToken, CloseParenthesis as CloseParenthesisToken, Plus as PlusToken, Minus as MinusToken, Star as StarToken, NotEqual as NotEqualToken, Tilde as TildeToken, LineEnd as LineEndToken, FileEnd}
-use Rattle.pio_parse.specs.declared.scan.Mode.{Mode}
-use Rattle.pio_parse.specs.declared.scan.Mode.TheVariants.{Between, Word, Colon, Bang, Slash, LineComment, BlockComment, Header, Code}
-use Rattle.pio_parse.specs.declared.scan.Step.{Step}
+use Rattle.pio_parse.specs.Scan.{Mode}
+use Rattle.pio_parse.specs.Scan.Mode.{Between, Word, Colon, Bang, Slash, LineComment, BlockComment, Header, Code}
+use Rattle.pio_parse.specs.Scan.{Step}
 use Rattle.pio_parse.specs.Outcome.{and_then, map_ok}
 use Rattle.pio_parse.specs.Words.{is_word_char, word_kind}
 use Rattle.pio_parse.specs.Scan.{begins, ends, next_place, quietly, scanned, scanned_from, sign_of, single_token, steps, word_ends, word_token_ends}

@@ -6,7 +6,7 @@ use Rattle.pio_parse.specs.declared.token.Token.{Token}
 use Rattle.pio_parse.specs.declared.token.TokenKind.{TokenKind}
 use Rattle.pio_parse.specs.declared.token.TokenKind.TheVariants.{Name as NameToken, Number as NumberToken, DoubleColon, OpenParenthesis, CloseParenthesis, Plus, Minus, Star}
 use Rattle.pio_parse.specs.declared.expression.Term.{Term}
-use Rattle.pio_parse.specs.declared.expression.Reading.{Reading}
+use Rattle.pio_parse.specs.Expression.{Reading}
 use Rattle.pio_parse.specs.Outcome.{and_then, map_ok}
 use Rattle.pio_parse.specs.Cursor.{Outcome, expected, head_kind, misfit}
 use Rattle.pio_parse.specs.Expression.{expression_at, is_close_parenthesis, name_at, nothing_read, operand_at, operand_of_kind, operand_step}

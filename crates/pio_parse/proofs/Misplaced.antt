@@ -3,9 +3,9 @@ use Rattle.std.proofs.Common.{◌≡◌, ◌==◌, ◌&&◌, ◌||◌, not, ℕ,
 use Rattle.std.proofs.lemmas.Bool.Decides.{eqb_tells}
 use Rattle.pio_parse.specs.declared.token.Place.{Place}
 use Rattle.pio_parse.specs.declared.token.Token.{Token}
-use Rattle.pio_parse.specs.declared.scan.Mode.{Mode}
-use Rattle.pio_parse.specs.declared.scan.Mode.TheVariants.{Between, Slash, BlockComment, Header, Code}
-use Rattle.pio_parse.specs.declared.scan.Step.{Step}
+use Rattle.pio_parse.specs.Scan.{Mode}
+use Rattle.pio_parse.specs.Scan.Mode.{Between, Slash, BlockComment, Header, Code}
+use Rattle.pio_parse.specs.Scan.{Step}
 use Rattle.pio_parse.specs.Words.{is_word_char}
 use Rattle.pio_parse.specs.Scan.{begins, next_place, quietly, scanned, scanned_from, steps}
 use Rattle.pio_parse.specs.Lexical.{IsCharFaultAt, IsMisplaced, StopsAt, begins_by, ends_badly, first_chars, has_name, is_among, lacks, lacks_pair, moved, past, tokens_at}

@@ -4,7 +4,7 @@ use Rattle.pio_parse.specs.declared.token.Place.{Place}
 use Rattle.pio_parse.specs.declared.token.Token.{Token}
 use Rattle.pio_parse.specs.declared.token.TokenKind.{TokenKind}
 use Rattle.pio_parse.specs.declared.token.TokenKind.TheVariants.{FileEnd, LineEnd, Comma as CommaToken, Minus as MinusToken, OpenBracket, CloseBracket, Bang as BangToken, DoubleColon, NotEqual as NotEqualToken}
-use Rattle.pio_parse.specs.declared.scan.Mode.TheVariants.{Between, Bang as BangMode}
+use Rattle.pio_parse.specs.Scan.Mode.{Between, Bang as BangMode}
 use Rattle.pio_parse.specs.Scan.{scanned_from}
 use Rattle.pio_parse.proofs.Pieces.{AreApart, Piece, begins_run, ends_word, joined, token_at, tokens_of}
 use Rattle.pio_parse.proofs.Pieces.Piece.{Blank, End, Run, Comma, Minus, Open, Close, Bang, Colons, NotEqual}

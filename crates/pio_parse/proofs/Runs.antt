@@ -7,9 +7,9 @@ use Rattle.pio_parse.specs.declared.token.Directive.{Directive}
 use Rattle.pio_parse.specs.declared.token.Directive.TheVariants.{LangOpt}
 use Rattle.pio_parse.specs.declared.token.TokenKind.{TokenKind}
 use Rattle.pio_parse.specs.declared.token.TokenKind.TheVariants.{Bang as BangToken, Directive as DirectiveToken}
-use Rattle.pio_parse.specs.declared.scan.Mode.{Mode}
-use Rattle.pio_parse.specs.declared.scan.Step.{Step}
-use Rattle.pio_parse.specs.declared.scan.Mode.TheVariants.{Between, Word}
+use Rattle.pio_parse.specs.Scan.{Mode}
+use Rattle.pio_parse.specs.Scan.{Step}
+use Rattle.pio_parse.specs.Scan.Mode.{Between, Word}
 use Rattle.pio_parse.specs.Outcome.{and_then}
 use Rattle.pio_parse.specs.Words.{is_word_char}
 use Rattle.pio_parse.specs.Scan.{begins, ends, next_place, quietly, scanned_from, steps, word_ends, word_token_ends}

@@ -11,7 +11,8 @@ use Rattle.pio_parse.specs.declared.syntax.Source.{Source}
 use Rattle.pio_parse.specs.declared.parser.Groups.{Groups}
 use Rattle.pio_parse.specs.Outcome.{and_then}
 use Rattle.pio_parse.specs.Statement.{is_end}
-use Rattle.pio_parse.specs.Source.{IsStopOf, source_of}
+use Rattle.pio_parse.specs.Source.{source_of}
+use Rattle.pio_parse.specs.Calls.{IsStopOf}
 use Rattle.pio_parse.specs.Gathering.{line_step, source_from}
 use Rattle.pio_parse.proofs.Gathered.{source_gathered}
 

@@ -1,12 +1,10 @@
 -- How a line is read: from the front of its tokens, up to the first token that fits nothing. The grammar is that of the RP2040
 -- Datasheet, 3.3; the place of a fault is the project's own.
-use Rattle.std.specs.Prelude.{◌≡◌, Bool, if◌then◌else◌, List, [], ◌∷◌, Result, Ok, Err, ⊤}
+use Rattle.std.specs.Prelude.{Bool, if◌then◌else◌, List, [], ◌∷◌, Result, Ok, Err}
 use Rattle.pio_parse.specs.declared.token.Place.{Place}
 use Rattle.pio_parse.specs.declared.token.Token.{Token}
 use Rattle.pio_parse.specs.declared.token.TokenKind.{TokenKind}
 use Rattle.pio_parse.specs.declared.token.TokenKind.TheVariants.{FileEnd}
-use Rattle.pio_parse.specs.declared.cursor.Stop.{Stop}
-use Rattle.pio_parse.specs.declared.cursor.Stop.TheVariants.{Syntax, Memory}
 
 -- what is read from the front of a line's tokens and the tokens after it, or the place of the first token that fits nothing
 abbrev pub Outcome : Type 0 → Type 0
@@ -31,9 +29,3 @@ misfit tokens = Err (head_place tokens)
 -- one token that has to fit
 abbrev pub expected : Bool → List Token → Outcome (Unit {0})
 expected fits tokens = if fits then Ok (tt, after_head tokens) else misfit tokens
-
--- a call read this; memory may run out at any time
-abbrev pub Reads : {X : Type 0} → Result X Stop → List Token → Outcome X → Type 0
-Reads (Ok x) rest outcome = outcome ≡ Ok (x, rest)
-Reads (Err (Syntax place)) rest outcome = outcome ≡ Err place
-Reads (Err Memory) rest outcome = ⊤

@@ -1,6 +1,6 @@
 -- Expressions and operands (RP2040 Datasheet, 3.3, Values and Expressions). How tightly an operator binds is the project's own where
 -- the manual is silent.
-use Rattle.std.specs.Prelude.{◌≡◌, ◌==◌, ℕ, ◌+◌, ◌-◌, nat_le, Bool, true, false, if◌then◌else◌, List, [], ◌∷◌, ◌++◌, Option, None, Some, Result, Ok, Err, ⊤, ◌&&◌, length, slice_range}
+use Rattle.std.specs.Prelude.{◌==◌, ℕ, ◌+◌, ◌-◌, nat_le, Bool, true, false, if◌then◌else◌, List, [], ◌∷◌, ◌++◌, Option, None, Some, Result, Ok, Err, ◌&&◌, length, slice_range}
 use Rattle.std.specs.Option.{option_map_or}
 use Rattle.pio_parse.specs.declared.token.Span.{Span}
 use Rattle.pio_parse.specs.declared.token.Token.{Token}
@@ -10,23 +10,21 @@ use Rattle.pio_parse.specs.declared.expression.Operator.{Operator}
 use Rattle.pio_parse.specs.declared.expression.Operator.TheVariants.{Add, Subtract, Multiply, Negate, Reverse}
 use Rattle.pio_parse.specs.declared.expression.Term.{Term}
 use Rattle.pio_parse.specs.declared.expression.Term.TheVariants.{Number as NumberTerm, Name as NameTerm, Operator as OperatorTerm}
-use Rattle.pio_parse.specs.declared.expression.Pending.{Pending}
-use Rattle.pio_parse.specs.declared.expression.Pending.TheVariants.{Parenthesis, Operator as OperatorPending}
-use Rattle.pio_parse.specs.declared.expression.Reading.{Reading}
 use Rattle.pio_parse.specs.declared.token.Place.{Place}
-use Rattle.pio_parse.specs.declared.cursor.Stop.{Stop}
-use Rattle.pio_parse.specs.declared.cursor.Stop.TheVariants.{Syntax, Memory}
 use Rattle.pio_parse.specs.Outcome.{and_then, map_ok}
 use Rattle.pio_parse.specs.Cursor.{Outcome, after_head, expected, head_kind, misfit}
 
--- the newest of what waits was taken off, if anything waited
-abbrev pub HasPopped : Option Pending → List Pending → List Pending → Type 0
-HasPopped None old new = (old ≡ []) × (new ≡ [])
-HasPopped (Some pending) old new = old ≡ pending ∷ new
+-- what waits for the end of its last operand: an open parenthesis or an operator
+pub data Pending : Type 0 where
+  Parenthesis : Pending
+  OperatorPending : (operator : Operator) → Pending
 
-abbrev pub newest : List Pending → Option Pending
-newest [] = None
-newest (pending ∷ stack) = Some pending
+-- an expression that is being read: what waits, the newest first, the terms so far, whether an operand comes next, and how many parentheses are open
+pub record Reading : Type 0 where
+  pub stack : List Pending
+  pub output : List Term
+  pub awaited : Bool
+  pub depth : ℕ
 
 -- how tightly an operator binds: `*` before `+` and `-`. A minus before its operand takes the product to its right, and `::` the sum
 abbrev pub level_of : Operator → ℕ
@@ -110,15 +108,3 @@ operand_of_kind text kind tokens = misfit tokens
 -- an operand outside brackets and directives: a number, a name or an expression in parentheses
 abbrev pub operand_at : List ℕ → List Token → Outcome (List Term)
 operand_at text tokens = operand_of_kind text (head_kind tokens) tokens
-
--- what a call made of one token
-abbrev pub ReadsOperand : Result (Unit {0}) Stop → Reading → Result Reading Place → Type 0
-ReadsOperand (Ok x) new expected = expected ≡ Ok new
-ReadsOperand (Err (Syntax place)) new expected = expected ≡ Err place
-ReadsOperand (Err Memory) new expected = ⊤
-
-abbrev pub ReadsOperator : Result Bool Stop → Reading → Reading → Result (Option Reading) Place → Type 0
-ReadsOperator (Ok true) old new expected = expected ≡ Ok (Some new)
-ReadsOperator (Ok false) old new expected = (expected ≡ Ok None) × (new ≡ old)
-ReadsOperator (Err (Syntax place)) old new expected = expected ≡ Err place
-ReadsOperator (Err Memory) old new expected = ⊤

@@ -2,8 +2,10 @@ pub mod Outcome
 pub mod Name
 pub mod Words
 pub mod Scan
+pub mod Scanning
 pub mod Cursor
 pub mod Expression
+pub mod Calls
 pub mod Registers
 pub mod Instruction
 pub mod Statement

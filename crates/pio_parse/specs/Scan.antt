@@ -1,6 +1,6 @@
 -- The characters and tokens of a source (RP2040 Datasheet, 3.3, Comments; code blocks: Raspberry Pi Pico C/C++ SDK, pioasm, Output
 -- pass through). Which characters are faults, and where, is the project's own.
-use Rattle.std.specs.Prelude.{◌==◌, ◌≡◌, ◌≤◌, ◌<◌, ◌||◌, ◌&&◌, not, ℕ, ◌+◌, false, if◌then◌else◌, List, [], ◌∷◌, ◌++◌, Option, None, Some, Result, Ok, Err, ⊤, length, slice_range, drop, option_to_list}
+use Rattle.std.specs.Prelude.{◌==◌, ◌≡◌, ◌||◌, ◌&&◌, not, ℕ, ◌+◌, Bool, false, if◌then◌else◌, List, [], ◌∷◌, ◌++◌, Option, None, Some, Result, Ok, Err, ⊤, length, slice_range, drop, option_to_list}
 use Rattle.std.specs.Option.{option_map_or}
 use Rattle.pio_parse.specs.Outcome.{and_then, map_ok}
 use Rattle.pio_parse.specs.declared.fault.PioFault.{PioFault}
@@ -10,10 +10,34 @@ use Rattle.pio_parse.specs.declared.token.Token.{Token}
 use Rattle.pio_parse.specs.declared.token.Directive.TheVariants.{LangOpt}
 use Rattle.pio_parse.specs.declared.token.TokenKind.{TokenKind}
 use Rattle.pio_parse.specs.declared.token.TokenKind.TheVariants.{Directive, Comma, Colon as ColonToken, DoubleColon, OpenBracket, CloseBracket, OpenParenthesis, CloseParenthesis, Plus, Minus, Star, Bang as BangToken, NotEqual, Tilde, LineEnd, FileEnd}
-use Rattle.pio_parse.specs.declared.scan.Step.{Step}
-use Rattle.pio_parse.specs.declared.scan.Mode.{Mode}
-use Rattle.pio_parse.specs.declared.scan.Mode.TheVariants.{Between, Word, Colon, Bang, Slash, LineComment, BlockComment, Header, Code}
 use Rattle.pio_parse.specs.Words.{is_word_char, word_kind}
+
+-- what the characters so far have begun
+pub data Mode : Type 0 where
+  -- nothing
+  Between : Mode
+  -- a word that started at this byte and place
+  Word : (start : ℕ) → (begun : Place) → Mode
+  -- a colon, which may be the first of two
+  Colon : (begun : Place) → Mode
+  -- a `!`, which `=` may follow
+  Bang : (begun : Place) → Mode
+  -- a `/`, which must begin a comment
+  Slash : (begun : Place) → Mode
+  -- the rest of a line that is not read
+  LineComment : Mode
+  -- a `/*` comment, and whether its last character is a `*`
+  BlockComment : (begun : Place) → (star : Bool) → Mode
+  -- the first line of a code block, and whether it has a word
+  Header : (begun : Place) → (is_named : Bool) → Mode
+  -- a code block, and whether its last character is a `%`
+  Code : (begun : Place) → (percent : Bool) → Mode
+
+-- what a character does: a mode, after at most two tokens that it ends
+pub record Step : Type 0 where
+  pub mode : Mode
+  pub first : Option Token
+  pub second : Option Token
 
 -- a character goes on with a mode, and ends no token
 abbrev pub quietly : Mode → Step
@@ -122,11 +146,3 @@ abbrev pub IsCharFault : Result (List Token) Place → PioFault → Type 0
 IsCharFault result (Char line column) = result ≡ Err (record { line = line; column = column })
 IsCharFault result Memory = ⊤
 IsCharFault result fault = ⊥
-
--- a word that has begun did so before this character
-abbrev pub IsStarted : Mode → ℕ → Type 0
-IsStarted (Word start begun) index = start ≤ index
-IsStarted mode index = ⊤
-
-abbrev pub IsPlaceBelow : Place → ℕ → Type 0
-IsPlaceBelow place n = (place.line < n) × (place.column < n)

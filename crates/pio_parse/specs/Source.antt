@@ -6,8 +6,6 @@ use Rattle.pio_parse.specs.declared.syntax.Statement.{Statement}
 use Rattle.pio_parse.specs.declared.syntax.Statement.TheVariants.{Program}
 use Rattle.pio_parse.specs.declared.syntax.Line.{Line}
 use Rattle.pio_parse.specs.declared.syntax.Source.{Source}
-use Rattle.pio_parse.specs.declared.cursor.Stop.{Stop}
-use Rattle.pio_parse.specs.declared.cursor.Stop.TheVariants.{Syntax, Memory}
 use Rattle.pio_parse.specs.declared.fault.PioFault.{PioFault}
 use Rattle.pio_parse.specs.declared.fault.PioFault.TheVariants.{Char, Syntax as SyntaxFault, Memory as MemoryFault}
 use Rattle.pio_parse.specs.Outcome.{and_then, map_ok}
@@ -54,11 +52,6 @@ gathered (line ∷ lines) = line_before line (gathered lines)
 -- the source of a file's tokens, or the place of the first token with which no line begins so
 abbrev pub source_of : List ℕ → List Token → Result Source Place
 source_of text tokens = map_ok gathered (lines_at text false (token_lines tokens))
-
--- how a call that reads this stops; memory may run out at any time
-abbrev pub IsStopOf : {X : Type 0} → Result X Place → Stop → Type 0
-IsStopOf outcome (Syntax place) = outcome ≡ Err place
-IsStopOf outcome Memory = ⊤
 
 -- the first fault that comes before a source has a meaning
 pub data EarlyFault : Type 0 where

@@ -1,5 +1,6 @@
 ghost use Rattle.std.specs.Prelude.{◌≡◌, if◌then◌else◌};
-ghost use Rattle.pio_parse.specs.Cursor.{after_head, head_kind, head_place, Reads, expected};
+ghost use Rattle.pio_parse.specs.Calls.{Reads};
+ghost use Rattle.pio_parse.specs.Cursor.{after_head, head_kind, head_place, expected};
 ghost use Rattle.pio_parse.specs.declared.cursor.Stop.TheVariants.{Memory};
 
 use crate::token::{Place, Token, TokenKind};

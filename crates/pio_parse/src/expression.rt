@@ -1,6 +1,6 @@
 ghost use Rattle.std.specs.Prelude.{◌≡◌, ◌++◌, ◌∷◌, [], List, ℕ, ◌<◌, ◌≤◌, ◌+◌, ◌^◌, length, IfOk, OnOk, OnSome, IfSome, IfErr};
-ghost use Rattle.pio_parse.specs.Cursor.{Reads};
-ghost use Rattle.pio_parse.specs.Expression.{HasPopped, ReadsOperand, ReadsOperator, expression_at, level_of, name_at, newest, operand_at, operand_step, operator_step, reduced, token_step, with_binary, with_closed};
+ghost use Rattle.pio_parse.specs.Calls.{HasPopped, Reads, ReadsOperand, ReadsOperator, newest, reading_of, stack_of};
+ghost use Rattle.pio_parse.specs.Expression.{expression_at, level_of, name_at, operand_at, operand_step, operator_step, reduced, token_step, with_binary, with_closed};
 
 use crate::cursor::{Cursor, Stop};
 use crate::name::Name;
@@ -174,7 +174,7 @@ fn level(operator: Operator) -> u8
 /// The operators that wait since the last open parenthesis, and bind at least so tightly, have their
 /// last operand.
 fn reduce(least: u8, stack: &mut Stack, output: &mut Terms) -> Result<(), AllocError>
-    ensures { OnOk result ((stack.new, output.new) ≡ reduced least stack.old output.old) }
+    ensures { OnOk result ((stack_of stack.new, output.new) ≡ reduced least (stack_of stack.old) output.old) }
 {
     while let Some(Pending::Operator(operator)) = stack.top() {
         if level(operator) < least {
@@ -221,7 +221,7 @@ impl File<'_> {
 /// A token where an operand comes next.
 fn take_operand(file: &File, token: Token, reading: &mut Reading) -> Result<(), Stop>
     requires { reading.old.depth < 2 ^ 63 }
-    ensures { ReadsOperand result reading.new (operand_step file.now.text.now token.kind token.place reading.old) }
+    ensures { ReadsOperand result (reading_of reading.new) (operand_step file.now.text.now token.kind token.place (reading_of reading.old)) }
 {
     match token.kind {
         TokenKind::Number(number) => {
@@ -245,7 +245,7 @@ fn take_operand(file: &File, token: Token, reading: &mut Reading) -> Result<(), 
 }
 
 fn take_binary(operator: Operator, reading: &mut Reading) -> Result<(), AllocError>
-    ensures { OnOk result (reading.new ≡ with_binary operator reading.old) }
+    ensures { OnOk result (reading_of reading.new ≡ with_binary operator (reading_of reading.old)) }
 {
     reduce(level(operator), &mut reading.stack, &mut reading.output)?;
     reading.stack.push(Pending::Operator(operator))?;
@@ -255,7 +255,7 @@ fn take_binary(operator: Operator, reading: &mut Reading) -> Result<(), AllocErr
 
 fn take_close(reading: &mut Reading) -> Result<(), AllocError>
     requires { 0 < reading.old.depth }
-    ensures { OnOk result (reading.new ≡ with_closed reading.old) }
+    ensures { OnOk result (reading_of reading.new ≡ with_closed (reading_of reading.old)) }
 {
     reduce(0, &mut reading.stack, &mut reading.output)?;
     let _ = reading.stack.pop();
@@ -265,7 +265,7 @@ fn take_close(reading: &mut Reading) -> Result<(), AllocError>
 
 /// A token after an operand: whether the expression goes on.
 fn take_operator(token: Token, reading: &mut Reading) -> Result<bool, Stop>
-    ensures { ReadsOperator result reading.old reading.new (operator_step token.kind token.place reading.old) }
+    ensures { ReadsOperator result (reading_of reading.old) (reading_of reading.new) (operator_step token.kind token.place (reading_of reading.old)) }
 {
     match token.kind {
         TokenKind::Star => take_binary(Operator::Multiply, reading)?,
@@ -290,7 +290,7 @@ fn take_operator(token: Token, reading: &mut Reading) -> Result<bool, Stop>
 /// A token of an expression: whether it goes on.
 fn take(file: &File, token: Token, reading: &mut Reading) -> Result<bool, Stop>
     requires { reading.old.depth < 2 ^ 63 }
-    ensures { ReadsOperator result reading.old reading.new (token_step file.now.text.now token.kind token.place reading.old) }
+    ensures { ReadsOperator result (reading_of reading.old) (reading_of reading.new) (token_step file.now.text.now token.kind token.place (reading_of reading.old)) }
 {
     if reading.awaited {
         take_operand(file, token, reading)?;
@@ -301,7 +301,7 @@ fn take(file: &File, token: Token, reading: &mut Reading) -> Result<bool, Stop>
 }
 
 fn finish(alloc: Global, mut reading: Reading) -> Result<Expression, AllocError>
-    ensures { IfOk result (λ expression. expression ≡ (reduced 0 reading.stack reading.output).1) }
+    ensures { IfOk result (λ expression. expression ≡ (reduced 0 (reading_of reading).stack (reading_of reading).output).1) }
 {
     reduce(0, &mut reading.stack, &mut reading.output)?;
     let Reading {

@@ -1,5 +1,5 @@
 ghost use Rattle.std.specs.Prelude.{◌≡◌};
-ghost use Rattle.pio_parse.specs.Cursor.{Reads};
+ghost use Rattle.pio_parse.specs.Calls.{Reads};
 ghost use Rattle.pio_parse.specs.Instruction.{delay_at, instruction_at, is_instruction, operands_at, side_at, modifiers_at};
 
 use crate::cursor::{Cursor, Stop};

@@ -1,5 +1,5 @@
 ghost use Rattle.std.specs.Prelude.{◌≡◌, Ok};
-ghost use Rattle.pio_parse.specs.Cursor.{Reads};
+ghost use Rattle.pio_parse.specs.Calls.{Reads};
 ghost use Rattle.pio_parse.specs.Instruction.{conditional_at, decrement_at, jmp_at, jmp_condition_at, not_condition_at, x_condition_at};
 
 use crate::cursor::{Cursor, Stop};

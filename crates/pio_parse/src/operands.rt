@@ -1,5 +1,6 @@
 ghost use Rattle.std.specs.Prelude.{◌≡◌, Ok};
-ghost use Rattle.pio_parse.specs.Cursor.{Reads, head_kind};
+ghost use Rattle.pio_parse.specs.Calls.{Reads};
+ghost use Rattle.pio_parse.specs.Cursor.{head_kind};
 ghost use Rattle.pio_parse.specs.Instruction.{flag_at, is_rel, last_operand_at, past_comma};
 
 use crate::cursor::{Cursor, Stop};

@@ -1,6 +1,7 @@
 ghost use Rattle.std.specs.Prelude.{◌≡◌, Ok, Some, IfOk, IfErr, OnOk, []};
 ghost use Rattle.pio_parse.specs.Statement.{is_end};
-ghost use Rattle.pio_parse.specs.Source.{IsFault, IsStopOf, parsed, source_of};
+ghost use Rattle.pio_parse.specs.Source.{IsFault, parsed, source_of};
+ghost use Rattle.pio_parse.specs.Calls.{IsStopOf};
 ghost use Rattle.pio_parse.specs.Gathering.{grouped, line_step, source_of_groups, with_line, with_program};
 
 use crate::cursor::{Cursor, Stop};

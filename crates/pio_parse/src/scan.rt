@@ -1,5 +1,7 @@
 ghost use Rattle.std.specs.Prelude.{◌≡◌, ◌≤◌, ◌<◌, ◌+◌, ◌-◌, ◌^◌, ◌++◌, length, IfOk, IfErr, OnOk, Ok, option_to_list};
-ghost use Rattle.pio_parse.specs.Scan.{begins, ends, finishes, IsCharFault, IsPlaceBelow, IsStarted, next_place, quietly, scanned, sign_of, single_token, skips, steps, word_ends};
+ghost use Rattle.pio_parse.specs.Outcome.{map_ok};
+ghost use Rattle.pio_parse.specs.Scan.{begins, ends, finishes, IsCharFault, next_place, quietly, scanned, sign_of, single_token, skips, steps, word_ends};
+ghost use Rattle.pio_parse.specs.Scanning.{IsPlaceBelow, IsStarted, mode_of, step_of};
 
 use crate::fault::PioFault;
 use crate::token::{Directive, Place, Token, TokenKind, span_of};
@@ -38,7 +40,7 @@ pub(crate) struct Step {
 }
 
 fn quiet(mode: Mode) -> Result<Step, Place>
-    ensures { result ≡ Ok (quietly mode) }
+    ensures { map_ok step_of result ≡ Ok (quietly (mode_of mode)) }
 {
     Ok(Step {
         mode,
@@ -48,7 +50,7 @@ fn quiet(mode: Mode) -> Result<Step, Place>
 }
 
 fn single(kind: TokenKind, place: Place) -> Result<Step, Place>
-    ensures { result ≡ Ok (single_token kind place) }
+    ensures { map_ok step_of result ≡ Ok (single_token kind place) }
 {
     Ok(Step {
         mode: Mode::Between,
@@ -59,8 +61,8 @@ fn single(kind: TokenKind, place: Place) -> Result<Step, Place>
 
 /// A character that stands between tokens.
 fn begin(index: usize, byte: u8, place: Place) -> Result<Step, Place>
-    ensures value { result ≡ begins index byte place }
-    ensures started { IfOk result (λ s. IsStarted s.mode (index + 1)) }
+    ensures value { map_ok step_of result ≡ begins index byte place }
+    ensures started { IfOk result (λ s. IsStarted (mode_of s.mode) (index + 1)) }
 {
     match byte {
         b' ' | b'\t' | b'\r' => quiet(Mode::Between),
@@ -103,8 +105,8 @@ fn sign(byte: u8) -> Option<TokenKind>
 
 /// A token ends before this character, which then stands between tokens.
 fn end(token: Token, index: usize, byte: u8, place: Place) -> Result<Step, Place>
-    ensures value { result ≡ ends token index byte place }
-    ensures started { IfOk result (λ s. IsStarted s.mode (index + 1)) }
+    ensures value { map_ok step_of result ≡ ends token index byte place }
+    ensures started { IfOk result (λ s. IsStarted (mode_of s.mode) (index + 1)) }
 {
     let step = begin(index, byte, place)?;
     Ok(Step {
@@ -125,8 +127,8 @@ fn end_word(
 ) -> Result<Step, Place>
     requires begun { start ≤ index }
     requires short { index < 2 ^ 32 }
-    ensures value { result ≡ word_ends word.now start begun byte index place }
-    ensures started { IfOk result (λ s. IsStarted s.mode (index + 1)) }
+    ensures value { map_ok step_of result ≡ word_ends word.now start begun byte index place }
+    ensures started { IfOk result (λ s. IsStarted (mode_of s.mode) (index + 1)) }
 {
     let kind = classify(word, span_of(start, index));
     let token = Token { kind, place: begun };
@@ -150,9 +152,9 @@ fn end_word(
 fn advance(text: &[u8], index: usize, mode: Mode, byte: u8, place: Place) -> Result<Step, Place>
     requires inside { index ≤ length text.now }
     requires short { length text.now < 2 ^ 32 }
-    requires started { IsStarted mode index }
-    ensures value { result ≡ steps text.now index mode byte place }
-    ensures started { IfOk result (λ s. IsStarted s.mode (index + 1)) }
+    requires started { IsStarted (mode_of mode) index }
+    ensures value { map_ok step_of result ≡ steps text.now index (mode_of mode) byte place }
+    ensures started { IfOk result (λ s. IsStarted (mode_of s.mode) (index + 1)) }
 {
     match mode {
         Mode::Between => begin(index, byte, place),
@@ -199,8 +201,8 @@ fn advance(text: &[u8], index: usize, mode: Mode, byte: u8, place: Place) -> Res
 
 /// What a character does in a comment, in a code block and after a `/`.
 fn skip(index: usize, mode: Mode, byte: u8, place: Place) -> Result<Step, Place>
-    ensures value { result ≡ skips mode byte place }
-    ensures started { IfOk result (λ s. IsStarted s.mode (index + 1)) }
+    ensures value { map_ok step_of result ≡ skips (mode_of mode) byte place }
+    ensures started { IfOk result (λ s. IsStarted (mode_of s.mode) (index + 1)) }
 {
     match mode {
         Mode::Slash(begun) => match byte {
@@ -244,8 +246,8 @@ fn skip(index: usize, mode: Mode, byte: u8, place: Place) -> Result<Step, Place>
 /// What the end of the file does: the last token, if one ends there.
 fn finish(text: &[u8], mode: Mode) -> Result<Option<Token>, Place>
     requires short { length text.now < 2 ^ 32 }
-    requires started { IsStarted mode (length text.now) }
-    ensures { result ≡ finishes text.now mode }
+    requires started { IsStarted (mode_of mode) (length text.now) }
+    ensures { result ≡ finishes text.now (mode_of mode) }
 {
     match mode {
         Mode::Between | Mode::LineComment => Ok(None),

@@ -1,5 +1,5 @@
 ghost use Rattle.std.specs.Prelude.{◌≡◌, Ok};
-ghost use Rattle.pio_parse.specs.Cursor.{Reads};
+ghost use Rattle.pio_parse.specs.Calls.{Reads};
 ghost use Rattle.pio_parse.specs.Instruction.{block_at, in_at, mov_at, mov_operation_at, out_at, pull_at, push_at, set_at};
 
 use crate::cursor::{Cursor, Stop};

@@ -1,5 +1,6 @@
 ghost use Rattle.std.specs.Prelude.{◌≡◌, Ok};
-ghost use Rattle.pio_parse.specs.Cursor.{Reads, head_kind};
+ghost use Rattle.pio_parse.specs.Calls.{Reads};
+ghost use Rattle.pio_parse.specs.Cursor.{head_kind};
 ghost use Rattle.pio_parse.specs.Instruction.{irq_at, irq_mode_at, polarity_at, wait_at, wait_for};
 
 use crate::cursor::{Cursor, Stop};
