@@ -1,14 +1,14 @@
 -- The last entry of a script for a pin is the one with the greatest pair of cycle and line.
-use Rattle.std.proofs.Common.{◌≡◌, ◌≤◌, ◌<◌, ℕ, ◌==◌, nat_le, nat_lt, Bool, true, false, ◌&&◌, ◌||◌, cond, List, [], ◌∷◌, map, Option, Some, None, inl, inr, ◌⊎◌, refl, sym, ap, ◌∙◌, arith}
+use Rattle.std.proofs.Common.{◌≡◌, ◌≤◌, ℕ, ◌==◌, nat_le, Bool, true, false, ◌&&◌, cond, List, [], ◌∷◌, map, Option, Some, None, inl, inr, refl, sym, ap, ◌∙◌, arith}
 use Rattle.std.proofs.lemmas.Bool.{cases_Bool}
 use Rattle.std.proofs.lemmas.Bool.Decides.{nat_tests}
 use Rattle.std.specs.List.{filter}
 use Rattle.pin_script.specs.declared.entry.Entry.{Entry}
 use Rattle.pin_script.specs.declared.entry.LineEntry.{LineEntry}
-use Rattle.pin_script.specs.Levels.{is_due, is_for, last_of, level_at, level_or_free}
+use Rattle.pin_script.specs.Levels.{is_due, is_for, last_of, level_or_free}
 use Rattle.pin_script.specs.Script.{in_order, inserted, without_line}
 use Rattle.pin_script.specs.Laws.{LinesFrom, TheGreatestPairActs, acting, greater, is_before, level_of, may_act}
-use Rattle.pin_script.proofs.Sorting.{UpFrom, in_order-up, is_le, is_gt}
+use Rattle.pin_script.proofs.Sorting.{UpFrom, in_order-up, is_le}
 
 -- ---- the last of the entries that may act
 

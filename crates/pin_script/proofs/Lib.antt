@@ -5,3 +5,4 @@ pub mod FileLines
 pub mod Rows
 pub mod Sending
 pub mod Sorting
+pub mod FileActs

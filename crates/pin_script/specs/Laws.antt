@@ -1,11 +1,12 @@
 -- The scripted level of a pin by the set of a file's entries: that of the entry for the pin with the greatest pair of cycle and
 -- line whose cycle is not later, and the script says the same.
-use Rattle.std.specs.Prelude.{◌≡◌, ◌≤◌, ℕ, Bool, ◌&&◌, ◌||◌, ◌==◌, nat_lt, nat_le, if◌then◌else◌, List, [], ◌∷◌, map, Option, Some, None}
+use Rattle.std.specs.Prelude.{◌≡◌, ◌≤◌, ℕ, Bool, ◌&&◌, ◌||◌, ◌==◌, nat_lt, nat_le, if◌then◌else◌, List, [], ◌∷◌, map, Option, Some, None, Ok}
+use Rattle.pin_script.specs.declared.entry.Entry.{Entry}
 use Rattle.pin_script.specs.declared.entry.Level.{Level}
 use Rattle.pin_script.specs.declared.entry.Level.TheVariants.{Free}
 use Rattle.pin_script.specs.declared.entry.LineEntry.{LineEntry}
 use Rattle.pin_script.specs.Levels.{level_at}
-use Rattle.pin_script.specs.Script.{in_order, without_line}
+use Rattle.pin_script.specs.Script.{entries_of, in_order, script_of, without_line}
 
 -- the lines do not fall from this one on, as in a file
 abbrev pub LinesFrom : ℕ → List LineEntry → Type 0
@@ -39,3 +40,11 @@ abbrev pub TheGreatestPairActs : Type 0
 TheGreatestPairActs =
     (entries : List LineEntry) (cycle pin : ℕ) → LinesFrom 0 entries →
     level_at (map without_line (in_order entries)) cycle pin ≡ level_of (acting cycle pin entries)
+
+-- and so in the script of every file
+abbrev pub TheGreatestPairOfAFileActs : Type 0
+TheGreatestPairOfAFileActs =
+    (bytes : List ℕ) (entries : List LineEntry) (script : List Entry) (cycle pin : ℕ)
+    → entries_of bytes ≡ Ok entries
+    → script_of bytes ≡ Ok script
+    → level_at script cycle pin ≡ level_of (acting cycle pin entries)

@@ -1,5 +1,5 @@
 use Rattle.std.proofs.lemmas.Fn.{always_returns_same}
-use Rattle.std.proofs.lemmas.List.Sorted.{All-permutation, IsNonDecreasingBy-from_sort_by_key}
+use Rattle.std.proofs.lemmas.List.Sorted.{IsNonDecreasingBy-from_sort_by_key}
 use Rattle.std.proofs.Common.{◌≡◌, rules}
 use Rattle.pin_script.specs.declared.entry.LineEntry.{LineEntry}
 use Rattle.pin_script.proofs.Sorting.{sorted_is}
