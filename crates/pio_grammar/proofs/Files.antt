@@ -14,7 +14,7 @@ use Rattle.pio_parse.specs.Statement.{is_end, is_program, line_at}
 use Rattle.pio_parse.proofs.Runs.{both}
 use Rattle.pio_parse.proofs.Finds.{refused}
 use Rattle.pio_parse.proofs.Decide.{lexes_exactly}
-use Rattle.pio_grammar.specs.Laws.{ParsesGrammar, SyntaxFaultsAtFirst, is_line}
+use Rattle.pio_grammar.specs.Laws.{OneMeaning, ParsesGrammar, SyntaxFaultsAtFirst, is_line}
 use Rattle.pio_grammar.specs.Lines.{IsLine}
 use Rattle.pio_grammar.specs.Files.{AreLines, FaultsAt, IsSource, IsSyntaxFaultAt}
 use Rattle.pio_grammar.specs.Files.AreLines.{no_line, one_line}
@@ -159,3 +159,25 @@ parses_grammar text source = (source_read text source (scanned text) refl, sourc
 
 pub syntax_faults_at_first : SyntaxFaultsAtFirst
 syntax_faults_at_first text place = (fault_read text place (scanned text) refl, fault_parsed text place)
+
+line_in : Line → Outcome Line → Line
+line_in line (Ok x) = x.0
+line_in line (Err p) = line
+
+source_in : Source → Result Source EarlyFault → Source
+source_in source (Ok x) = x
+source_in source (Err p) = source
+
+same_line : (line other : Line) → Path (Outcome Line) (Ok (line, [])) (Ok (other, [])) → line ≡ other
+unfolding line_in
+same_line line other q = ap (line_in line) q
+
+same_source : (source other : Source) → Path (Result Source EarlyFault) (Ok source) (Ok other) → source ≡ other
+unfolding source_in
+same_source source other q = ap (source_in source) q
+
+pub one_meaning : OneMeaning
+one_meaning = (
+  λ text started tokens line other is is'. same_line line other (sym (complete is) ∙ complete is'),
+  λ text source other is is'. same_source source other (sym (source_parsed text source is) ∙ source_parsed text other is'),
+)

@@ -1,5 +1,5 @@
 //! The laws of lines and sources, each the contract of a function without arguments.
-ghost use Rattle.pio_grammar.specs.Laws.{LineFaultsAtFirst, ParsesGrammar, ReadsLines, SyntaxFaultsAtFirst};
+ghost use Rattle.pio_grammar.specs.Laws.{Examples, LineFaultsAtFirst, OneMeaning, ParsesGrammar, ReadsLines, SyntaxFaultsAtFirst};
 
 /// A line that is read is one of the grammar, with what it says, and each line of the grammar is read as that.
 pub fn reads_lines()
@@ -20,4 +20,14 @@ pub fn parses_grammar()
 /// A Syntax fault is at the first token of a file with which no line of the grammar begins as its line does up to it.
 pub fn syntax_faults_at_first()
     ensures { SyntaxFaultsAtFirst }
+{}
+
+/// The grammar gives a line one meaning at most, and a file one source.
+pub fn one_meaning()
+    ensures { OneMeaning }
+{}
+
+/// A file of the grammar, and some with their first token that fits nothing.
+pub fn examples()
+    ensures { Examples }
 {}
