@@ -1,0 +1,4 @@
+pub mod Digits
+pub mod Listing
+pub mod Paths
+pub mod Reading

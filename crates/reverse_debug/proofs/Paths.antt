@@ -1,0 +1,154 @@
+-- Runs from one state to another.
+use Rattle.std.proofs.Common.{◌≡◌, ℕ, zero, suc, ◌+◌, ◌-◌, ◌<◌, ◌≤◌, Option, Some, None, refl, sym, ap, subst, arith, ◌∙◌}
+use Rattle.rp_base.specs.declared.Why.{Why}
+use Rattle.outer_lane.specs.Setting.{Setting}
+use Rattle.rp_machine.specs.State.{State}
+use Rattle.rp_machine.specs.Cycle.{stop, next}
+use Rattle.rp_machine.specs.Run.{states, last_state, unless_stopped}
+use Rattle.rp_machine.proofs.Runs.{states_here, states_on, below_limit, next_cycle}
+use Rattle.rp_machine.proofs.Joining.{join}
+use Rattle.reverse_debug.specs.Replies.{last_cycle}
+use Rattle.reverse_debug.specs.Advance.{Advances, CountsMove}
+
+-- the run from one state comes to another
+pub record Path (w : Setting) (s t : State) : Type 0 where
+  pub is : t ≡ states w s (t.cycle - s.cycle)
+  pub forward : s.cycle ≤ t.cycle
+
+none_first : (w : Setting) (s : State) → states w s zero ≡ s
+unfolding states
+none_first w s = refl
+
+same_cycle : (s t : State) → s ≡ t → s.cycle ≡ t.cycle
+same_cycle s t e = ap (λ (x : State). x.cycle) e
+
+pub path_here : (w : Setting) (s : State) → Path w s s
+path_here w s =
+    let e : s.cycle - s.cycle ≡ zero = omega arith in
+    record { is = sym (ap (states w s) e ∙ none_first w s); forward = omega arith }
+
+-- m cycles, and then n
+pub joined : (w : Setting) (s : State) (m n k : ℕ) → m + n ≡ k → states w s k ≡ states w (states w s m) n
+joined w s m n k e = sym (ap (states w s) e) ∙ (join w s m n).state
+
+one_on : (w : Setting) (s : State) (n : ℕ) → stop w (states w s n) ≡ None → states w s (n + 1) ≡ next w (states w s n)
+one_on w s n none = joined w s n 1 (n + 1) refl ∙ states_on w (states w s n) zero none ∙ none_first w (next w (states w s n))
+
+pub next_at : (w : Setting) (t u : State) → u ≡ next w t → u.cycle ≡ t.cycle + 1
+next_at w t u e = same_cycle u (next w t) e ∙ next_cycle w t
+
+pub path_on : (w : Setting) (s t u : State) → Path w s t → stop w t ≡ None → u ≡ next w t → Path w s u
+path_on w s t u p none e =
+    let n = t.cycle - s.cycle in
+    let one : u.cycle ≡ t.cycle + 1 = next_at w t u e in
+    let none_there : stop w (states w s (t.cycle - s.cycle)) ≡ None = subst (λ (x : State). stop w x ≡ None) p.is none in
+    let le : s.cycle ≤ t.cycle = p.forward in
+    let far : u.cycle - s.cycle ≡ (t.cycle - s.cycle) + 1 = omega arith in
+    record {
+      is =
+          e ∙ ap (next w) p.is ∙ sym (one_on w s (t.cycle - s.cycle) none_there)
+          ∙ sym (ap (states w s) far);
+      forward = omega arith;
+    }
+
+pub path_join : (w : Setting) (s t u : State) → Path w s t → Path w t u → Path w s u
+path_join w s t u p q =
+    let a : s.cycle ≤ t.cycle = p.forward in
+    let b : t.cycle ≤ u.cycle = q.forward in
+    let far : (t.cycle - s.cycle) + (u.cycle - t.cycle) ≡ u.cycle - s.cycle = omega arith in
+    record {
+      is =
+          q.is ∙ ap (λ (x : State). states w x (u.cycle - t.cycle)) p.is
+          ∙ sym (joined w s (t.cycle - s.cycle) (u.cycle - t.cycle) (u.cycle - s.cycle) far);
+      forward = omega arith;
+    }
+
+-- a run does not pass a stop
+pub path_past : (w : Setting) (s t : State) (why : Why) (n : ℕ) → Path w s t → stop w t ≡ Some why → t.cycle - s.cycle ≤ n → states w s n ≡ t
+path_past w s t why n p stops le =
+    let m = t.cycle - s.cycle in
+    let rest : (t.cycle - s.cycle) + (n - (t.cycle - s.cycle)) ≡ n = omega arith in
+    joined w s (t.cycle - s.cycle) (n - (t.cycle - s.cycle)) n rest
+    ∙ ap (λ (x : State). states w x (n - (t.cycle - s.cycle))) (sym p.is)
+    ∙ states_here w t why (n - (t.cycle - s.cycle)) stops
+
+pub path_last : (w : Setting) (s t : State) (why : Why) → Path w s t → stop w t ≡ Some why → t.cycle ≤ w.limit → last_state w s ≡ t
+unfolding last_state
+path_last w s t why p stops le = path_past w s t why (w.limit - s.cycle) p stops (omega arith)
+
+-- ---- bounds on cycles
+
+forward_unless : (cause : Option Why) (s t : State) → s.cycle ≤ t.cycle → s.cycle ≤ (unless_stopped cause s t).cycle
+forward_unless (Some why) s t le = omega arith
+forward_unless None s t le = le
+
+within_unless : (cause : Option Why) (s t : State) (most : ℕ) → s.cycle ≤ most → t.cycle ≤ most → (unless_stopped cause s t).cycle ≤ most
+within_unless (Some why) s t most a b = a
+within_unless None s t most a b = b
+
+states_forward : (w : Setting) (s : State) (n : ℕ) → s.cycle ≤ (states w s n).cycle
+unfolding states
+states_forward w s zero = omega arith
+states_forward w s (suc n) =
+    forward_unless (stop w s) s (states w (next w s) n) (let on = states_forward w (next w s) n in omega (arith, on, next_cycle w s))
+
+states_within : (w : Setting) (s : State) (n : ℕ) → (states w s n).cycle ≤ s.cycle + n
+unfolding states
+states_within w s zero = omega arith
+states_within w s (suc n) =
+    within_unless (stop w s) s (states w (next w s) n) (s.cycle + suc n) (omega arith)
+    (let on = states_within w (next w s) n in omega (arith, on, next_cycle w s))
+
+pub last_within : (w : Setting) (s : State) → s.cycle ≤ w.limit → last_cycle w s ≤ w.limit
+unfolding last_state
+last_within w s le = let most = states_within w s (w.limit - s.cycle) in omega (arith, most)
+
+-- no state on the way is beyond the last one
+pub path_in_last : (w : Setting) (s t : State) → Path w s t → t.cycle ≤ w.limit → t.cycle ≤ last_cycle w s
+unfolding last_state
+path_in_last w s t p le =
+    let a : s.cycle ≤ t.cycle = p.forward in
+    let far : (t.cycle - s.cycle) + (w.limit - t.cycle) ≡ w.limit - s.cycle = omega arith in
+    let whole : states w s (w.limit - s.cycle) ≡ states w t (w.limit - t.cycle) =
+    joined w s (t.cycle - s.cycle) (w.limit - t.cycle) (w.limit - s.cycle) far
+    ∙ ap (λ (x : State). states w x (w.limit - t.cycle)) (sym p.is)
+    in
+    let on = states_forward w t (w.limit - t.cycle) in
+    subst (λ (x : State). t.cycle ≤ x.cycle) (sym whole) on
+
+-- ---- single cycles, up to a cycle
+
+pub record Way (w : Setting) (s t : State) (to before now : ℕ) : Type 0 where
+  pub path : Path w s t
+  pub low : t.cycle ≤ w.limit
+  pub within : t.cycle ≤ to
+  pub count : CountsMove s t before now
+
+pub way_here : (w : Setting) (s : State) (to steps : ℕ) → s.cycle ≤ w.limit → s.cycle ≤ to → Way w s s to steps steps
+way_here w s to steps low within = record { path = path_here w s; low = low; within = within; count = refl }
+
+pub way_on : (w : Setting) (s t u : State) (to before now after : ℕ) → Way w s t to before now → stop w t ≡ None → u ≡ next w t → t.cycle < to → after ≡ now + 1 → Way w s u to before after
+way_on w s t u to before now after k none e lt more =
+    let one : u.cycle ≡ t.cycle + 1 = next_at w t u e in
+    let below : t.cycle < w.limit = below_limit w t none k.low in
+    let so_far : now + s.cycle ≡ before + t.cycle = k.count in
+    record { path = path_on w s t u k.path none e; low = omega arith; within = omega arith; count = omega arith }
+
+pub way_stopped : (w : Setting) (s t u : State) (to before now : ℕ) (why : Why) → Way w s t to before now → stop w t ≡ Some why → t.cycle < to → u ≡ t → Advances w s to u (Some why)
+way_stopped w s t u to before now why k stops lt e =
+    subst (λ (x : State). Advances w s to x (Some why)) (sym e)
+    (record { state = k.path.is; forward = k.path.forward; low = k.low; within = k.within; there = tt; stopped = (stops, lt) })
+
+pub way_there : (w : Setting) (s t : State) (to before now : ℕ) → Way w s t to before now → to ≤ t.cycle → Advances w s to t None
+way_there w s t to before now k le =
+    let within : t.cycle ≤ to = k.within in
+    record { state = k.path.is; forward = k.path.forward; low = k.low; within = k.within; there = omega arith; stopped = tt }
+
+pub way_nearer : (w : Setting) (t u : State) (to : ℕ) → u ≡ next w t → t.cycle < to → to - u.cycle < to - t.cycle
+way_nearer w t u to e lt = let one : u.cycle ≡ t.cycle + 1 = next_at w t u e in omega arith
+
+pub way_counts : (w : Setting) (s t u : State) (to before now after : ℕ) → Way w s t to before now → u ≡ t → after ≡ now → CountsMove s u before after
+way_counts w s t u to before now after k e same =
+    let here : u.cycle ≡ t.cycle = same_cycle u t e in
+    let so_far : now + s.cycle ≡ before + t.cycle = k.count in
+    omega arith

@@ -1,0 +1,144 @@
+-- Words of a line, and words of SRAM.
+use Rattle.std.proofs.Common.{◌≡◌, ◌⊎◌, ◌*◌, ◌^◌, ◌%◌, ◌≤◌, ◌<◌, ℕ, nat_le, Bool, true, false, cond, ◌&&◌, ◌==◌, ◌-◌, List, [], ◌∷◌, length, inl, inr, refl, sym, ap, ◌∙◌, arith, zero, suc, ◌+◌}
+use Rattle.std.proofs.lemmas.Bool.{cases_Bool, cases_lt}
+use Rattle.std.proofs.lemmas.Bool.Decides.{nat_tests}
+use Rattle.std.specs.List.{slice_split, onto_first, list_all}
+use Rattle.rp_base.specs.AddressMap.{Range, ranges, place_by, place_of}
+use Rattle.reverse_debug.specs.Commands.{words, command_by, command_of, is_ram, addresses, are_words}
+use Rattle.reverse_debug.specs.Commands.Command.{Bad}
+
+-- there is always a word
+some_word : (p : ℕ → Bool) (xs : List ℕ) → (q : List ℕ) × (qs : List (List ℕ)) × (slice_split p xs ≡ q ∷ qs)
+some_word p [] = ([], [], refl)
+some_word p (x ∷ xs) =
+    elim (p x) as (λ b. (q : List ℕ) × (qs : List (List ℕ)) × (cond b ([] ∷ slice_split p xs) (onto_first x (slice_split p xs)) ≡ q ∷ qs)) [
+      | true ↦ ([], slice_split p xs, refl)
+      | false ↦ let rest = some_word p xs in (x ∷ rest.0, rest.1, ap (onto_first x) rest.2)
+    ]
+
+bad_by : (a b c q : List ℕ) (qs : List (List ℕ)) → command_by (a ∷ b ∷ c ∷ q ∷ qs) ≡ Bad
+unfolding command_by
+bad_by a b c q qs = refl
+
+-- no command has four words
+pub four_words : (line name operands first rest word more : List ℕ) → words line ≡ name ∷ words operands → words operands ≡ first ∷ words rest → words rest ≡ word ∷ words more → command_by (words line) ≡ Bad
+four_words line name operands first rest word more h i j =
+    let last = some_word (λ x. x == 32) more in
+    ap command_by (h ∙ ap (λ ws. name ∷ ws) (i ∙ ap (λ ws. first ∷ ws) (j ∙ ap (λ ws. word ∷ ws) last.2)))
+    ∙ bad_by name first word last.0 last.1
+
+pub many_words : (line name operands first rest word more : List ℕ) → length line ≤ 255 → words line ≡ name ∷ words operands → words operands ≡ first ∷ words rest → words rest ≡ word ∷ words more → Bad ≡ command_of line
+unfolding command_of
+many_words line name operands first rest word more le h i j =
+    let short : nat_le (length line) 255 ≡ true = grind (arith, nat_tests) in
+    rw short (sym (four_words line name operands first rest word more h i j))
+
+second_true : (a b : Bool) → (a && b) ≡ true → b ≡ true
+second_true true b h = h
+second_true false b h = absurd (cc)
+
+first_true : (a b : Bool) → (a && b) ≡ true → a ≡ true
+first_true true b h = refl
+first_true false b h = absurd (cc)
+
+-- ---- SRAM lies below 22000000
+
+-- each range ends below it, or is none of SRAM
+abbrev AreLow : List Range → Type 0
+AreLow [] = Unit {0}
+AreLow (r ∷ rs) = ((r.last < 0x22000000) ⊎ ((d : ℕ) → is_ram (r.at d) ≡ false)) × AreLow rs
+
+place_high : (rs : List Range) (a : ℕ) → 0x22000000 ≤ a → AreLow rs → is_ram (place_by rs a) ≡ false
+place_high [] a le low = refl
+place_high (r ∷ rs) a le low = elim (cases_Bool (nat_le r.first a && nat_le a r.last)) [
+  | inr isnt ↦ rw isnt (place_high rs a le low.1)
+  | inl is ↦ elim (low.0) [
+    | inr none ↦ rw is (none (a - r.first))
+    | inl below ↦ absurd (let within = second_true (nat_le r.first a) (nat_le a r.last) is in let reaches : a ≤ r.last = grind (arith, nat_tests) in omega arith)
+  ]
+]
+
+ranges_low : AreLow ranges
+ranges_low = (
+  inl (omega arith),
+  (
+    inl (omega arith),
+    (
+      inl (omega arith),
+      (
+        inl (omega arith),
+        (
+          inr (λ d. refl),
+          (
+            inr (λ d. refl),
+            (
+              inr (λ d. refl),
+              (
+                inr (λ d. refl),
+                (
+                  inr (λ d. refl),
+                  (
+                    inr (λ d. refl),
+                    (inr (λ d. refl), (inr (λ d. refl), (inr (λ d. refl), (inr (λ d. refl), (inr (λ d. refl), (inr (λ d. refl), tt)))))),
+                  ),
+                ),
+              ),
+            ),
+          ),
+        ),
+      ),
+    ),
+  ),
+)
+
+none_high : (a : ℕ) → 0x22000000 ≤ a → is_ram (place_of a) ≡ false
+unfolding place_of
+none_high a le = place_high ranges a le ranges_low
+
+pub ram_is_low : (a : ℕ) → is_ram (place_of a) ≡ true → a < 0x22000000
+ram_is_low a is = elim (cases_lt a 0x22000000) [
+  | inl lt ↦ lt
+  | inr le ↦ absurd (let no = none_high a le in cc)
+]
+
+-- ---- words one after another
+
+pub addresses_on : (next left : ℕ) → 0 < left → addresses next left ≡ next ∷ addresses (next + 4) (left - 1)
+addresses_on next zero some = absurd (omega arith)
+addresses_on next (suc left) some = let e : suc left - 1 ≡ left = omega arith in rw e refl
+
+pub words_on : (next left : ℕ) → 0 < left → is_ram (place_of next) ≡ true → list_all (λ a. is_ram (place_of a)) (addresses next left) ≡ list_all (λ a. is_ram (place_of a)) (addresses (next + 4) (left - 1))
+words_on next left some is = ap (list_all (λ a. is_ram (place_of a))) (addresses_on next left some) ∙ rw is refl
+
+pub words_off : (next left : ℕ) → 0 < left → is_ram (place_of next) ≡ false → list_all (λ a. is_ram (place_of a)) (addresses next left) ≡ false
+words_off next left some is = ap (list_all (λ a. is_ram (place_of a))) (addresses_on next left some) ∙ rw is refl
+
+-- there are at most 16 of them
+pub few_words : (address count : ℕ) → are_words address count ≡ true → count ≤ 16
+unfolding are_words
+few_words address count h =
+    let sizes = first_true (nat_le 1 count && nat_le count 16) (address % 4 == 0) (first_true (nat_le 1 count && nat_le count 16 && address % 4 == 0) _ h) in
+    let few = second_true (nat_le 1 count) (nat_le count 16) sizes in
+    grind (arith, nat_tests)
+
+some_words : (address count : ℕ) → are_words address count ≡ true → 0 < count
+unfolding are_words
+some_words address count h =
+    let sizes = first_true (nat_le 1 count && nat_le count 16) (address % 4 == 0) (first_true (nat_le 1 count && nat_le count 16 && address % 4 == 0) _ h) in
+    let some = first_true (nat_le 1 count) (nat_le count 16) sizes in
+    grind (arith, nat_tests)
+
+first_word_in : (address count : ℕ) → 0 < count → list_all (λ a. is_ram (place_of a)) (addresses address count) ≡ true → is_ram (place_of address) ≡ true
+first_word_in address count some h =
+    first_true (is_ram (place_of address)) _ (sym (ap (list_all (λ a. is_ram (place_of a))) (addresses_on address count some)) ∙ h)
+
+all_in : (address count : ℕ) → are_words address count ≡ true → list_all (λ a. is_ram (place_of a)) (addresses address count) ≡ true
+unfolding are_words
+all_in address count h = second_true (nat_le 1 count && nat_le count 16 && address % 4 == 0) _ h
+
+-- and they lie below 2 ^ 32
+pub low_words : (address count : ℕ) → are_words address count ≡ true → address + 4 * count < 2 ^ 32
+low_words address count h =
+    let few : count ≤ 16 = few_words address count h in
+    let low : address < 0x22000000 = ram_is_low address (first_word_in address count (some_words address count h) (all_in address count h)) in
+    omega arith

@@ -1,0 +1,12 @@
+use Rattle.std.proofs.Common.{◌≡◌, ◌+◌, ◌-◌, ◌≤◌, ◌++◌, flat_map}
+use Rattle.std.specs.List.{range_with_len}
+use Rattle.arrayvec.specs.ArrayVec.{array_vec_len}
+use Rattle.word_bits.specs.Word.{has_bit}
+use Rattle.trace_text.specs.Line.{level_digit}
+use Rattle.reverse_debug.proofs.reply.push_levels.Given as goal
+
+abbrev pub invariant-loop-pin : goal.invariant-loop-pin
+invariant-loop-pin l = record {
+  text : l.reply.items ++ flat_map (λ pin. level_digit (has_bit l.pads pin)) (range_with_len l.pin (30 - l.pin)) ≡ l.fn.reply.items ++ flat_map (λ pin. level_digit (has_bit l.pads pin)) (range_with_len 0 30);
+  room : array_vec_len l.reply ≤ 100 + l.pin;
+}

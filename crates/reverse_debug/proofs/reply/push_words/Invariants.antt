@@ -1,0 +1,16 @@
+use Rattle.std.proofs.Common.{◌≡◌, ◌+◌, ◌*◌, ◌≤◌, ◌++◌, flat_map}
+use Rattle.arrayvec.specs.ArrayVec.{array_vec_len}
+use Rattle.trace_text.specs.Line.{spaced_word}
+use Rattle.reverse_debug.specs.Commands.{addresses}
+use Rattle.reverse_debug.specs.Replies.{word_at}
+use Rattle.reverse_debug.proofs.reply.push_words.Given as goal
+
+abbrev pub invariant-words : goal.invariant-words
+invariant-words l = record {
+  text : l.reply.items ++ flat_map (λ a. spaced_word (word_at l.machine a)) (addresses l.next l.left) ≡ l.fn.reply.items ++ flat_map (λ a. spaced_word (word_at l.machine a)) (addresses l.address l.count);
+  place : l.next + 4 * l.left ≡ l.address + 4 * l.count;
+  room : array_vec_len l.reply + 9 * l.left ≤ 100 + 9 * l.count;
+}
+
+abbrev pub decreases-words : goal.decreases-words
+decreases-words l = l.left

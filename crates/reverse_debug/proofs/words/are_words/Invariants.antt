@@ -1,0 +1,16 @@
+use Rattle.std.proofs.Common.{◌≡◌, ◌+◌, ◌*◌, ◌<◌, ◌≤◌}
+use Rattle.std.specs.List.{list_all}
+use Rattle.rp_base.specs.AddressMap.{place_of}
+use Rattle.reverse_debug.specs.Commands.{is_ram, addresses}
+use Rattle.reverse_debug.proofs.words.are_words.Given as goal
+
+abbrev pub invariant-words : goal.invariant-words
+invariant-words l = record {
+  rest : list_all (λ a. is_ram (place_of a)) (addresses l.address l.count) ≡ list_all (λ a. is_ram (place_of a)) (addresses l.next l.left);
+  place : l.next + 4 * l.left ≡ l.address + 4 * l.count;
+  low : l.left < l.count → l.next < 0x22000004;
+  fewer : l.left ≤ l.count;
+}
+
+abbrev pub decreases-words : goal.decreases-words
+decreases-words l = l.left

@@ -1,0 +1,126 @@
+-- The commands of the debugger, and the lines that ask for them (the project's own). A line is a name and its operands, with one
+-- space between two words. A number is 1 to 10 decimal digits, an address 8 hexadecimal digits of either case.
+use Rattle.std.specs.Prelude.{ℕ, zero, suc, ◌+◌, ◌-◌, ◌*◌, ◌%◌, ◌^◌, Bool, true, false, ◌&&◌, ◌==◌, nat_le, if◌then◌else◌, List, [], ◌∷◌, length, Option, Some, None, codes}
+use Rattle.std.specs.Char.{is_ascii_digit, is_ascii_hexdigit}
+use Rattle.std.specs.List.{slice_split, list_all}
+use Rattle.std.specs.Str.{bytes_eq}
+use Rattle.rp_base.specs.declared.map.Spot.{Spot}
+use Rattle.rp_base.specs.declared.map.Spot.TheVariants as spot
+use Rattle.rp_base.specs.AddressMap.{place_of}
+
+pub data Command : Type 0 where
+  -- move so many cycles forward, or back
+  Step : (cycles : ℕ) → Command
+  Back : (cycles : ℕ) → Command
+  -- move to a cycle, or to the last one
+  Goto : (cycle : ℕ) → Command
+  End : Command
+  -- show the registers of both cores, words of SRAM, the pads, or a machine of a PIO block
+  Regs : Command
+  Mem : (address : ℕ) → (count : ℕ) → Command
+  Pins : Command
+  Pio : (block : ℕ) → (machine : ℕ) → Command
+  -- name the last cycle that changed a word of SRAM
+  LastWrite : (address : ℕ) → Command
+  Quit : Command
+  -- no command
+  Bad : Command
+
+-- ---- numbers: a digit counts by the power of the base at its place
+
+unfoldable pub value_in : ℕ → (ℕ → ℕ) → List ℕ → ℕ
+value_in base value [] = 0
+value_in base value (digit ∷ digits) = value digit * base ^ length digits + value_in base value digits
+
+abbrev pub decimal_digit : ℕ → ℕ
+decimal_digit digit = digit - 48
+
+abbrev pub hexadecimal_digit : ℕ → ℕ
+hexadecimal_digit digit = if nat_le digit 57 then digit - 48 else if nat_le digit 70 then digit - 55 else digit - 87
+
+-- a number is 1 to 10 decimal digits
+abbrev pub number_of : List ℕ → Option ℕ
+number_of word =
+    if nat_le 1 (length word) && nat_le (length word) 10 && list_all is_ascii_digit word
+    then Some (value_in 10 decimal_digit word) else None
+
+-- an address is 8 hexadecimal digits
+abbrev pub address_of : List ℕ → Option ℕ
+address_of word =
+    if length word == 8 && list_all is_ascii_hexdigit word then Some (value_in 16 hexadecimal_digit word) else None
+
+-- ---- words of SRAM: an address is a multiple of 4, and all of 1 to 16 words are in SRAM
+
+abbrev pub is_ram : Spot → Bool
+is_ram (spot.Ram index bank) = true
+is_ram _ = false
+
+-- the addresses of so many words, one after another
+abbrev pub addresses : ℕ → ℕ → List ℕ
+addresses address zero = []
+addresses address (suc count) = address ∷ addresses (address + 4) count
+
+unfoldable pub are_words : ℕ → ℕ → Bool
+are_words address count =
+    nat_le 1 count && nat_le count 16 && address % 4 == 0
+    && list_all (λ a. is_ram (place_of a)) (addresses address count)
+
+-- ---- the commands by their words
+
+abbrev pub words : List ℕ → List (List ℕ)
+words line = slice_split (λ byte. byte == 32) line
+
+abbrev pub alone : List ℕ → Command
+alone name =
+    if bytes_eq name (codes "step") then Step 1
+    else if bytes_eq name (codes "back") then Back 1
+    else if bytes_eq name (codes "end") then End
+    else if bytes_eq name (codes "regs") then Regs
+    else if bytes_eq name (codes "pins") then Pins
+    else if bytes_eq name (codes "quit") then Quit
+    else Bad
+
+-- a command with an operand that is there
+abbrev pub with_number : (ℕ → Command) → Option ℕ → Command
+with_number command None = Bad
+with_number command (Some n) = command n
+
+abbrev pub mem_of : Option ℕ → Option ℕ → Command
+mem_of (Some address) (Some count) = if are_words address count then Mem address count else Bad
+mem_of (Some address) None = Bad
+mem_of None count = Bad
+
+abbrev pub last_write_of : Option ℕ → Command
+last_write_of None = Bad
+last_write_of (Some address) = if are_words address 1 then LastWrite address else Bad
+
+abbrev pub pio_of : Option ℕ → Option ℕ → Command
+pio_of (Some block) (Some machine) = if nat_le block 1 && nat_le machine 3 then Pio block machine else Bad
+pio_of (Some block) None = Bad
+pio_of None machine = Bad
+
+abbrev pub with_one : List ℕ → List ℕ → Command
+with_one name word =
+    if bytes_eq name (codes "step") then with_number Step (number_of word)
+    else if bytes_eq name (codes "back") then with_number Back (number_of word)
+    else if bytes_eq name (codes "goto") then with_number Goto (number_of word)
+    else if bytes_eq name (codes "mem") then mem_of (address_of word) (Some 1)
+    else if bytes_eq name (codes "lastwrite") then last_write_of (address_of word)
+    else Bad
+
+abbrev pub with_two : List ℕ → List ℕ → List ℕ → Command
+with_two name first second =
+    if bytes_eq name (codes "mem") then mem_of (address_of first) (number_of second)
+    else if bytes_eq name (codes "pio") then pio_of (number_of first) (number_of second)
+    else Bad
+
+unfoldable pub command_by : List (List ℕ) → Command
+command_by [] = Bad
+command_by (name ∷ []) = alone name
+command_by (name ∷ word ∷ []) = with_one name word
+command_by (name ∷ first ∷ second ∷ []) = with_two name first second
+command_by (name ∷ first ∷ second ∷ word ∷ more) = Bad
+
+-- what a line asks for; one of more than 255 bytes is no command
+unfoldable pub command_of : List ℕ → Command
+command_of line = if nat_le (length line) 255 then command_by (words line) else Bad

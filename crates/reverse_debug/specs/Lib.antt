@@ -1,0 +1,4 @@
+pub mod Advance
+pub mod Commands
+pub mod Reading
+pub mod Replies

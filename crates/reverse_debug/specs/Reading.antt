@@ -1,0 +1,29 @@
+-- What the commands of the code stand for.
+use Rattle.std.specs.Prelude.{◌≡◌, true, ◌^◌, ◌<◌, ◌≤◌}
+use Rattle.reverse_debug.specs.declared.command.Request.{Request}
+use Rattle.reverse_debug.specs.declared.command.Request.TheVariants as code
+use Rattle.reverse_debug.specs.Commands.{Command, are_words}
+use Rattle.reverse_debug.specs.Commands.Command.{Step, Back, Goto, End, Regs, Mem, Pins, Pio, LastWrite, Quit, Bad}
+
+abbrev pub meant : Request → Command
+meant (code.Step n) = Step n
+meant (code.Back n) = Back n
+meant (code.Goto cycle) = Goto cycle
+meant code.End = End
+meant code.Regs = Regs
+meant (code.Mem address count) = Mem address count
+meant code.Pins = Pins
+meant (code.Pio block machine) = Pio block machine
+meant (code.LastWrite address) = LastWrite address
+meant code.Quit = Quit
+meant code.Bad = Bad
+
+-- numbers have at most 10 digits, and what is to be shown is there
+abbrev pub Fits : Request → Type 0
+Fits (code.Step n) = n < 10 ^ 10
+Fits (code.Back n) = n < 10 ^ 10
+Fits (code.Goto cycle) = cycle < 10 ^ 10
+Fits (code.Mem address count) = are_words address count ≡ true
+Fits (code.Pio block machine) = (block ≤ 1) × (machine ≤ 3)
+Fits (code.LastWrite address) = are_words address 1 ≡ true
+Fits _ = Unit {0}

@@ -1,0 +1,152 @@
+-- What the debugger answers (the project's own). A session stands at one cycle of a run. Each line moves it to a cycle and has a
+-- reply, which shows a part of the run's state at the cycle reached.
+use Rattle.std.specs.Prelude.{ℕ, zero, suc, ◌+◌, ◌-◌, Bool, true, false, not, ◌==◌, nat_lt, if◌then◌else◌, List, [], ◌∷◌, ◌++◌, drop, flat_map, Option, Some, None, codes, decimal}
+use Rattle.std.specs.List.{range_with_len}
+use Rattle.word_bits.specs.Word.{has_bit}
+use Rattle.rp_base.specs.declared.Why.{Why}
+use Rattle.rp_base.specs.AddressMap.{place_of}
+use Rattle.trace_text.specs.Line.{hex_word, level_digit, spaced_word, stop_text, register_text}
+use Rattle.outer_lane.specs.Setting.{Setting}
+use Rattle.rp_machine.specs.State.{State}
+use Rattle.rp_machine.specs.Cycle.{stop, next}
+use Rattle.rp_machine.specs.Sram.{ram_word}
+use Rattle.rp_machine.specs.Readers.{registers_of, pio_registers}
+use Rattle.rp_machine.specs.Run.{states, last_state}
+use Rattle.reverse_debug.specs.Commands.{Command, addresses, command_of}
+use Rattle.reverse_debug.specs.Commands.Command.{Step, Back, Goto, End, Regs, Mem, Pins, Pio, LastWrite, Quit, Bad}
+
+-- where the session stands after a line, the reply, and whether the line ends the session
+pub record Said : Type 0 where
+  pub cycle : ℕ
+  pub reply : List ℕ
+  pub quits : Bool
+
+abbrev pub said : ℕ → List ℕ → Said
+said cycle reply = record { cycle = cycle; reply = reply; quits = false }
+
+-- ---- parts of a state
+
+-- the line of the stop at a cycle
+abbrev pub stop_line : Option Why → ℕ → List ℕ
+stop_line None cycle = []
+stop_line (Some why) cycle = stop_text why cycle
+
+-- the word of SRAM at an address
+abbrev pub or_zero : Option ℕ → ℕ
+or_zero None = 0
+or_zero (Some word) = word
+
+abbrev pub word_at : State → ℕ → ℕ
+word_at s address = or_zero (ram_word s.sram (place_of address))
+
+unfoldable pub regs_reply : State → List ℕ
+regs_reply s = register_text 0 (registers_of 0 s) ++ register_text 1 (registers_of 1 s)
+
+unfoldable pub mem_reply : State → ℕ → ℕ → List ℕ
+mem_reply s address count =
+    codes "mem " ++ hex_word address ++ flat_map (λ a. spaced_word (word_at s a)) (addresses address count) ++ codes "\n"
+
+-- a digit for each pad, pad 0 first
+unfoldable pub pins_reply : State → List ℕ
+pins_reply s =
+    codes "pins " ++ flat_map (λ pin. level_digit (has_bit s.outer.pads.current pin)) (range_with_len 0 30) ++ codes "\n"
+
+-- PC with the last two of its digits; X, Y, ISR and OSR with eight
+abbrev pub pio_words : List ℕ → List ℕ
+pio_words [] = []
+pio_words (counter ∷ registers) = codes " " ++ drop 6 (hex_word counter) ++ flat_map spaced_word registers
+
+unfoldable pub pio_reply : State → ℕ → ℕ → List ℕ
+pio_reply s block machine =
+    codes "pio " ++ decimal block ++ codes " " ++ decimal machine ++ pio_words (pio_registers block machine s) ++ codes "\n"
+
+-- ---- moves: no session stands beyond the last cycle, that of the first state with a stop
+
+unfoldable pub at_reply : ℕ → List ℕ
+at_reply cycle = codes "at " ++ decimal cycle ++ codes "\n"
+
+abbrev pub last_cycle : Setting → State → ℕ
+last_cycle w s = (last_state w s).cycle
+
+-- at the last cycle, with the line of its stop
+abbrev pub at_last : Setting → State → Said
+at_last w s = said (last_cycle w s) (stop_line (stop w (last_state w s)) (last_cycle w s))
+
+unfoldable pub moved_to : Setting → State → ℕ → Said
+moved_to w s cycle = if nat_lt (last_cycle w s) cycle then at_last w s else said cycle (at_reply cycle)
+
+unfoldable pub moved_back : Setting → State → ℕ → ℕ → Said
+moved_back w s cycle back =
+    if nat_lt cycle back then said 0 (codes "at start\n") else said (cycle - back) (at_reply (cycle - back))
+
+-- ---- the last write: the greatest cycle below the present one that changed a word
+
+-- the cycle changes the word at an address
+abbrev pub changes : Setting → State → ℕ → ℕ → Bool
+changes w s address cycle =
+    not (word_at (next w (states w s cycle)) address == word_at (states w s cycle) address)
+
+unfoldable pub last_write : Setting → State → ℕ → ℕ → Option ℕ
+last_write w s address zero = None
+last_write w s address (suc cycle) = if changes w s address cycle then Some cycle else last_write w s address cycle
+
+abbrev pub write_text : Option ℕ → List ℕ
+write_text None = codes "none"
+write_text (Some cycle) = decimal cycle
+
+unfoldable pub last_write_reply : ℕ → Option ℕ → List ℕ
+last_write_reply address write = codes "lastwrite " ++ hex_word address ++ codes " " ++ write_text write ++ codes "\n"
+
+-- ---- a line
+
+-- what is said to a command at a cycle of the run from a first state
+abbrev pub answer : Setting → State → ℕ → Command → Said
+answer w s cycle (Step n) = moved_to w s (cycle + n)
+answer w s cycle (Back n) = moved_back w s cycle n
+answer w s cycle (Goto target) = moved_to w s target
+answer w s cycle End = at_last w s
+answer w s cycle Regs = said cycle (regs_reply (states w s cycle))
+answer w s cycle (Mem address count) = said cycle (mem_reply (states w s cycle) address count)
+answer w s cycle Pins = said cycle (pins_reply (states w s cycle))
+answer w s cycle (Pio block machine) = said cycle (pio_reply (states w s cycle) block machine)
+answer w s cycle (LastWrite address) = said cycle (last_write_reply address (last_write w s address cycle))
+answer w s cycle Quit = record { cycle = cycle; reply = []; quits = true }
+answer w s cycle Bad = said cycle (codes "bad command\n")
+
+unfoldable pub heard : Setting → State → ℕ → List ℕ → Said
+heard w s cycle line = answer w s cycle (command_of line)
+
+-- ---- the cycles that are stepped for a line, at most, where states are kept every so many cycles
+
+-- for a move from one cycle to another
+abbrev pub move_cost : ℕ → ℕ → ℕ → ℕ
+move_cost spacing cycle target = if nat_lt target cycle then spacing - 1 else target - cycle
+
+abbrev pub command_cost : ℕ → ℕ → ℕ → Command → ℕ
+command_cost spacing cycle target (LastWrite address) = cycle + spacing - 1
+command_cost spacing cycle target _ = move_cost spacing cycle target
+
+unfoldable pub cost : Setting → State → ℕ → ℕ → List ℕ → ℕ
+cost w s spacing cycle line = command_cost spacing cycle (heard w s cycle line).cycle (command_of line)
+
+-- ---- a whole session: lines one after another, up to the first that ends it
+
+abbrev pub after_reply : List ℕ → Said → Said
+after_reply reply rest = record rest { reply = reply ++ rest.reply }
+
+unfoldable pub heard_all : Setting → State → ℕ → List (List ℕ) → Said
+heard_all w s cycle [] = said cycle []
+heard_all w s cycle (line ∷ lines) =
+    let one = heard w s cycle line in
+    if one.quits then one else after_reply one.reply (heard_all w s one.cycle lines)
+
+-- the text of the session that begins in this state
+abbrev pub replies : Setting → State → List (List ℕ) → List ℕ
+replies w s lines = (heard_all w s 0 lines).reply
+
+-- the cycles that are stepped for all lines, at most
+unfoldable pub cost_all : Setting → State → ℕ → ℕ → List (List ℕ) → ℕ
+cost_all w s spacing cycle [] = 0
+cost_all w s spacing cycle (line ∷ lines) =
+    let one = heard w s cycle line in
+    if one.quits then 0 else cost w s spacing cycle line + cost_all w s spacing one.cycle lines

@@ -1,0 +1,34 @@
+//! How a machine goes forward.
+
+ghost use Rattle.std.specs.Prelude.{◌≤◌, ◌<◌, ◌≡◌, ℕ};
+ghost use Rattle.outer_lane.specs.Setting.{setting_of};
+ghost use Rattle.reverse_debug.specs.Advance.{Advances, CountsMove};
+
+use lane_look::{Device, Marks};
+use rp_base::Why;
+use rp_machine::{Machine, Steps, World};
+use std::sync::ledger::Ledger;
+
+/// Steps a machine up to a cycle. None where it stands there, also where it would stop there; else the cause of the stop below
+/// that cycle at which it stands.
+pub(crate) fn advance<X: Device, L: Ledger>(
+    machine: &mut Machine,
+    world: &World<'_, X>,
+    to: u64,
+    steps: &mut Steps<L>,
+) -> Option<Why>
+    requires low { machine.old.cycle ≤ world.now.limit }
+    requires ahead { machine.old.cycle ≤ to }
+    ensures way { Advances (setting_of world.now.script.now (X.meaning world.now.device.now) world.now.limit)
+        machine.old to machine.new result }
+    ensures steps { CountsMove machine.old machine.new steps.old steps.new }
+{
+    let mut marks = Marks::new();
+    'cycles: while machine.number() < to {
+        match machine.cycle(world, &mut marks, steps) {
+            Some(why) => return Some(why),
+            None => continue 'cycles,
+        }
+    }
+    None
+}

@@ -1,0 +1,160 @@
+//! The commands, and how a line asks for them.
+
+ghost use Rattle.std.specs.Prelude.{◌≡◌};
+ghost use Rattle.reverse_debug.specs.Commands.{command_of, alone, with_one, with_two, mem_of, last_write_of, pio_of};
+ghost use Rattle.reverse_debug.specs.Reading.{meant, Fits};
+
+use crate::words::{address_of, are_words, first_word, is, number_of};
+
+/// What a line asks for.
+#[derive(Clone, Copy, Debug, PartialEq, Eq)]
+pub(crate) enum Request {
+    /// Move so many cycles forward.
+    Step(u64),
+    /// Move so many cycles back.
+    Back(u64),
+    /// Move to a cycle.
+    Goto(u64),
+    /// Move to the last cycle.
+    End,
+    /// Show the registers of both cores.
+    Regs,
+    /// Show words of SRAM.
+    Mem {
+        /// The address of the first, a multiple of 4.
+        address: u32,
+        /// How many, 1 to 16.
+        count: u64,
+    },
+    /// Show the levels of the pads.
+    Pins,
+    /// Show the registers of a machine of a PIO block.
+    Pio {
+        /// The block, 0 or 1.
+        block: u8,
+        /// The machine, 0 to 3.
+        machine: u8,
+    },
+    /// Name the last cycle that changed the word of SRAM at an address.
+    LastWrite(u32),
+    /// End the session.
+    Quit,
+    /// The line is no command.
+    Bad,
+}
+
+/// A command of one word.
+fn alone(name: &[u8]) -> Request
+    ensures meaning { meant result ≡ alone name.now }
+    ensures fits { Fits result }
+{
+    if is(name, b"step") {
+        Request::Step(1)
+    } else if is(name, b"back") {
+        Request::Back(1)
+    } else if is(name, b"end") {
+        Request::End
+    } else if is(name, b"regs") {
+        Request::Regs
+    } else if is(name, b"pins") {
+        Request::Pins
+    } else if is(name, b"quit") {
+        Request::Quit
+    } else {
+        Request::Bad
+    }
+}
+
+/// `mem` with its operands.
+fn mem_of(address: Option<u32>, count: Option<u64>) -> Request
+    ensures meaning { meant result ≡ mem_of address count }
+    ensures fits { Fits result }
+{
+    match (address, count) {
+        (Some(address), Some(count)) if are_words(address, count) => Request::Mem {
+            address,
+            count,
+        },
+        _ => Request::Bad,
+    }
+}
+
+/// `lastwrite` with its operand.
+fn last_write_of(address: Option<u32>) -> Request
+    ensures meaning { meant result ≡ last_write_of address }
+    ensures fits { Fits result }
+{
+    match address {
+        Some(address) if are_words(address, 1) => Request::LastWrite(address),
+        _ => Request::Bad,
+    }
+}
+
+/// `pio` with its operands.
+fn pio_of(block: Option<u64>, machine: Option<u64>) -> Request
+    ensures meaning { meant result ≡ pio_of block machine }
+    ensures fits { Fits result }
+{
+    match (block, machine) {
+        (Some(block), Some(machine)) if block <= 1 && machine <= 3 => Request::Pio {
+            block: block as u8,
+            machine: machine as u8,
+        },
+        _ => Request::Bad,
+    }
+}
+
+/// A command with one operand.
+fn with_one(name: &[u8], word: &[u8]) -> Request
+    ensures meaning { meant result ≡ with_one name.now word.now }
+    ensures fits { Fits result }
+{
+    if is(name, b"step") {
+        number_of(word).map_or(Request::Bad, Request::Step)
+    } else if is(name, b"back") {
+        number_of(word).map_or(Request::Bad, Request::Back)
+    } else if is(name, b"goto") {
+        number_of(word).map_or(Request::Bad, Request::Goto)
+    } else if is(name, b"mem") {
+        mem_of(address_of(word), Some(1))
+    } else if is(name, b"lastwrite") {
+        last_write_of(address_of(word))
+    } else {
+        Request::Bad
+    }
+}
+
+/// A command with two operands.
+fn with_two(name: &[u8], first: &[u8], second: &[u8]) -> Request
+    ensures meaning { meant result ≡ with_two name.now first.now second.now }
+    ensures fits { Fits result }
+{
+    if is(name, b"mem") {
+        mem_of(address_of(first), number_of(second))
+    } else if is(name, b"pio") {
+        pio_of(number_of(first), number_of(second))
+    } else {
+        Request::Bad
+    }
+}
+
+/// What a line asks for.
+#[tactic(auto, unfolding(crate::specs::Commands::command_of, crate::specs::Commands::command_by))]
+pub(crate) fn request_of(line: &[u8]) -> Request
+    ensures meaning { meant result ≡ command_of line.now }
+    ensures fits { Fits result }
+{
+    if line.len() > 255 {
+        return Request::Bad;
+    }
+    let Some((name, operands)) = first_word(line) else {
+        return alone(line);
+    };
+    let Some((first, rest)) = first_word(operands) else {
+        return with_one(name, operands);
+    };
+    match first_word(rest) {
+        None => with_two(name, first, rest),
+        Some(_) => Request::Bad,
+    }
+}

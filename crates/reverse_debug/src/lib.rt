@@ -1,0 +1,7 @@
+//! The reverse debugger: a session that stands at a cycle of a run and answers commands there, forward and backward.
+#![tactic(auto)]
+
+mod advance;
+mod command;
+mod reply;
+mod words;
