@@ -5,5 +5,7 @@ pub mod laws;
 mod pages;
 mod place;
 mod ring;
+#[cfg(test)]
+mod tests;
 
 pub use ring::Ring;
