@@ -1,15 +1,18 @@
 -- The options behind a command's argument: pairs of a name and a value, in any order and each at most once (the project's own).
 use Rattle.std.specs.Prelude.{ℕ, Bool, true, false, not, ◌&&◌, ◌||◌, is_none, if◌then◌else◌, List, [], ◌∷◌, Option, Some, None, codes}
 use Rattle.std.specs.Str.{bytes_eq}
-use Rattle.command_words.specs.declared.options.Table.{Table}
-use Rattle.command_words.specs.declared.options.Table.TheVariants.{Run, Dis}
 use Rattle.command_words.specs.Numbers.{begins_with, number_within}
 
--- the names that a command has
-abbrev pub is_option : Table → List ℕ → Bool
-is_option Run name =
-    bytes_eq name (codes "--cycles") || bytes_eq name (codes "--script") || bytes_eq name (codes "--pio")
-is_option Dis name = bytes_eq name (codes "--side") || bytes_eq name (codes "--opt")
+-- the commands, by their words
+abbrev pub is_command : List ℕ → Bool
+is_command command = bytes_eq command (codes "run") || bytes_eq command (codes "dis") || bytes_eq command (codes "asm")
+
+-- the names of the options that a command has
+abbrev pub is_option : List ℕ → List ℕ → Bool
+is_option command name =
+    if bytes_eq command (codes "run")
+    then bytes_eq name (codes "--cycles") || bytes_eq name (codes "--script") || bytes_eq name (codes "--pio")
+    else if bytes_eq command (codes "dis") then bytes_eq name (codes "--side") || bytes_eq name (codes "--opt") else false
 
 -- the value of the option of this name
 abbrev pub value_for : List ℕ → List (List ℕ) → Option (List ℕ)
@@ -19,14 +22,21 @@ value_for name (other ∷ value ∷ options) = if bytes_eq other name then Some 
 
 -- a pair may stand before these options: the command has the name, which does not come again, and the value does not begin with
 -- a dash
-unfoldable pub may_lead : Table → List ℕ → List ℕ → List (List ℕ) → Bool
-may_lead table name value options = is_option table name && not (begins_with 45 value) && is_none (value_for name options)
+unfoldable pub may_lead : List ℕ → List ℕ → List ℕ → List (List ℕ) → Bool
+may_lead command name value options = is_option command name && not (begins_with 45 value) && is_none (value_for name options)
 
 -- the words are options of the command
-abbrev pub are_options : Table → List (List ℕ) → Bool
-are_options table [] = true
-are_options table (name ∷ []) = false
-are_options table (name ∷ value ∷ options) = may_lead table name value options && are_options table options
+abbrev pub are_options : List ℕ → List (List ℕ) → Bool
+are_options command [] = true
+are_options command (name ∷ []) = false
+are_options command (name ∷ value ∷ options) = may_lead command name value options && are_options command options
+
+-- The words are in normal form: a command, its one argument, and then pairs of the name of an option and its value, each name at most
+-- once; neither the argument nor a value begins with a dash.
+unfoldable pub is_normal : List (List ℕ) → Bool
+is_normal [] = false
+is_normal (command ∷ []) = false
+is_normal (command ∷ argument ∷ options) = is_command command && not (begins_with 45 argument) && are_options command options
 
 -- a number from 0 to high, 0 where there is none
 abbrev pub number_or_zero : ℕ → Option (List ℕ) → Option ℕ

@@ -1,12 +1,12 @@
 -- The words of a command line, and what they ask for: `run <image> --cycles N [--script FILE] [--pio LIST]`,
 -- `dis <hex> [--side S] [--opt T]` or `asm <file>`. The project's own.
-use Rattle.std.specs.Prelude.{ℕ, not, ◌&&◌, if◌then◌else◌, List, [], ◌∷◌, Option, Some, None, codes}
+use Rattle.std.specs.Prelude.{ℕ, if◌then◌else◌, List, [], ◌∷◌, Option, Some, None, codes}
 use Rattle.std.specs.Option.{option_and_then}
 use Rattle.std.specs.Str.{bytes_eq}
 use Rattle.pio_words.specs.declared.side.SideConfig.{SideConfig}
-use Rattle.command_words.specs.declared.options.Table.TheVariants.{Run as RunOptions}
-use Rattle.command_words.specs.Numbers.{begins_with, number_within}
-use Rattle.command_words.specs.Options.{value_for, are_options}
+use Rattle.line_words.specs.Line.{line_in}
+use Rattle.command_words.specs.Numbers.{number_within}
+use Rattle.command_words.specs.Options.{value_for, is_normal}
 use Rattle.command_words.specs.Entries.{Entry, entries_of}
 use Rattle.command_words.specs.Dis.{words_of, side_of}
 
@@ -43,32 +43,29 @@ run_with image None script pio = None
 run_with image (Some n) script None = None
 run_with image (Some n) script (Some entries) = Some (RunImage (record { image = image; cycles = n; script = script; pio = entries }))
 
--- `<image> --cycles N [--script FILE] [--pio LIST]`; the image's name does not begin with a dash
-unfoldable pub run_reading : List (List ℕ) → Option Command
-run_reading [] = None
-run_reading (image ∷ options) =
-    if not (begins_with 45 image) && are_options RunOptions options
-    then run_with image (cycles_in options) (script_in options) (pio_in options) else None
+-- `run <image> --cycles N [--script FILE] [--pio LIST]`
+unfoldable pub run_reading : List ℕ → List (List ℕ) → Option Command
+run_reading image options = run_with image (cycles_in options) (script_in options) (pio_in options)
 
 abbrev pub disassemble : Option (List ℕ) → Option SideConfig → Option Command
 disassemble (Some words) (Some side) = Some (Disassemble words side)
 disassemble (Some words) None = None
 disassemble None side = None
 
--- `<hex> [--side S] [--opt T]`
-unfoldable pub dis_reading : List (List ℕ) → Option Command
-dis_reading [] = None
-dis_reading (hex ∷ options) = disassemble (words_of hex) (side_of options)
+-- `dis <hex> [--side S] [--opt T]`
+unfoldable pub dis_reading : List ℕ → List (List ℕ) → Option Command
+dis_reading hex options = disassemble (words_of hex) (side_of options)
 
--- `<file>`: one word, which does not begin with a dash
-unfoldable pub asm_reading : List (List ℕ) → Option Command
-asm_reading (name ∷ []) = if begins_with 45 name then None else Some (Assemble name)
-asm_reading _ = None
+-- what a command, its argument and its options ask for
+unfoldable pub written : List (List ℕ) → Option Command
+written [] = None
+written (command ∷ []) = None
+written (command ∷ argument ∷ options) =
+    if bytes_eq command (codes "run") then run_reading argument options
+    else if bytes_eq command (codes "dis") then dis_reading argument options
+    else if bytes_eq command (codes "asm") then Some (Assemble argument) else None
 
--- the reading of the words, or none where they are refused
+-- The reading of the words, or none where they are refused. Words in normal form are read as they are written. All others are read as
+-- `clap` reads them.
 unfoldable pub reading : List (List ℕ) → Option Command
-reading [] = None
-reading (command ∷ words) =
-    if bytes_eq command (codes "run") then run_reading words
-    else if bytes_eq command (codes "dis") then dis_reading words
-    else if bytes_eq command (codes "asm") then asm_reading words else None
+reading words = if is_normal words then written words else option_and_then written (line_in words)

@@ -5,7 +5,7 @@ ghost use Rattle.std.specs.Option.{option_map};
 ghost use Rattle.std.specs.String.{string_bytes};
 ghost use Rattle.command_words.specs.Dis.{halves, words_of, config_of, side_of};
 
-use crate::options::{Table, are_options, number_for};
+use crate::options::number_for;
 use hex::FromHexError;
 use pio_words::SideConfig;
 use std::alloc::{AllocError, Global};
@@ -68,9 +68,6 @@ fn config(count: u64, opt: u64) -> Option<SideConfig>
 pub fn side_config(options: &[String]) -> Option<SideConfig>
     ensures { result ≡ side_of (map string_bytes options.now) }
 {
-    if !are_options(Table::Dis, options) {
-        return None;
-    }
     let count = number_for("--side", 5, options)?;
     let opt = number_for("--opt", 1, options)?;
     config(count, opt)

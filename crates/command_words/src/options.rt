@@ -1,33 +1,32 @@
-//! The options behind a command's argument: pairs of a name and a value, in any order.
+//! The normal form of a command line: a command, its argument, and its options as pairs of a name and a value, in any order.
 
 ghost use Rattle.std.specs.Prelude.{◌≡◌, None, Some, map, MatchOption};
 ghost use Rattle.std.specs.String.{string_bytes};
 ghost use Rattle.command_words.specs.Numbers.{begins_with};
-ghost use Rattle.command_words.specs.Options.{is_option, value_for, may_lead, are_options, number_for};
+ghost use Rattle.command_words.specs.Options.{is_command, is_option, value_for, may_lead, are_options, is_normal, number_for};
 
 use crate::number::number_within;
 
-/// A command with options.
-#[derive(Clone, Copy)]
-pub enum Table {
-    /// `run`: `--cycles`, `--script` and `--pio`.
-    Run,
-    /// `dis`: `--side` and `--opt`.
-    Dis,
+/// Whether a word is a command.
+fn is_command(word: &str) -> bool
+    ensures { result ≡ is_command word.now }
+{
+    word == "run" || word == "dis" || word == "asm"
 }
 
 /// Whether a command has an option of this name.
-fn is_option(table: Table, name: &str) -> bool
-    ensures { result ≡ is_option table name.now }
+fn is_option(command: &str, name: &str) -> bool
+    ensures { result ≡ is_option command.now name.now }
 {
-    match table {
-        Table::Run => name == "--cycles" || name == "--script" || name == "--pio",
-        Table::Dis => name == "--side" || name == "--opt",
+    match command {
+        "run" => name == "--cycles" || name == "--script" || name == "--pio",
+        "dis" => name == "--side" || name == "--opt",
+        _ => false,
     }
 }
 
 /// Whether a word begins with a dash.
-pub fn is_dashed(word: &str) -> bool
+fn is_dashed(word: &str) -> bool
     ensures { result ≡ begins_with 45 word.now }
 {
     word.as_bytes().first() == Some(&b'-')
@@ -51,24 +50,37 @@ pub fn value_for<'a>(name: &str, options: &'a [String]) -> Option<&'a str>
 /// Whether a pair may stand before these options: the command has the name, which does not come again, and the value
 /// does not begin with a dash.
 #[tactic(auto, unfolding(crate::specs::Options::may_lead))]
-fn may_lead(table: Table, name: &str, value: &str, options: &[String]) -> bool
-    ensures { result ≡ may_lead table name.now value.now (map string_bytes options.now) }
+fn may_lead(command: &str, name: &str, value: &str, options: &[String]) -> bool
+    ensures { result ≡ may_lead command.now name.now value.now (map string_bytes options.now) }
 {
-    is_option(table, name) && !is_dashed(value) && value_for(name, options).is_none()
+    is_option(command, name) && !is_dashed(value) && value_for(name, options).is_none()
 }
 
 /// Whether the words are options of a command, each at most once.
-pub fn are_options(table: Table, options: &[String]) -> bool
-    ensures { result ≡ are_options table (map string_bytes options.now) }
+fn are_options(command: &str, options: &[String]) -> bool
+    ensures { result ≡ are_options command.now (map string_bytes options.now) }
 {
     let mut left = options;
     while let [name, value, rest @ ..] = left {
-        if !may_lead(table, name.as_str(), value.as_str(), rest) {
+        if !may_lead(command, name.as_str(), value.as_str(), rest) {
             return false;
         }
         left = rest;
     }
     left.is_empty()
+}
+
+/// Whether the words are a command, its argument, and its options, in normal form.
+#[tactic(auto, unfolding(crate::specs::Options::is_normal))]
+pub fn is_normal(words: &[String]) -> bool
+    ensures { result ≡ is_normal (map string_bytes words.now) }
+{
+    let [command, argument, options @ ..] = words else {
+        return false;
+    };
+    is_command(command.as_str())
+        && !is_dashed(argument.as_str())
+        && are_options(command.as_str(), options)
 }
 
 /// The number of an option, from 0 to `high`; 0 where it is not given.

@@ -3,14 +3,16 @@
 ghost use Rattle.std.specs.Prelude.{◌≡◌, map, Some, IfOk};
 ghost use Rattle.std.specs.Option.{option_map};
 ghost use Rattle.std.specs.String.{string_bytes};
-ghost use Rattle.command_words.specs.Words.{run_with, cycles_in, script_in, pio_in, run_reading, dis_reading, asm_reading, reading};
+ghost use Rattle.command_words.specs.Words.{run_with, cycles_in, script_in, pio_in, run_reading, dis_reading, written, reading};
+ghost use Rattle.command_words.specs.Words.Command.{Assemble};
 ghost use Rattle.command_words.specs.Read.{ReadsAs, ReadsEntries, entry_in};
 
 use crate::dis::{DisWords, instruction_words, side_config};
 use crate::entries::entries_in;
 use crate::entry::PioEntry;
 use crate::number::number_within;
-use crate::options::{Table, are_options, is_dashed, value_for};
+use crate::options::{is_normal, value_for};
+use line_words::line_in;
 use std::alloc::{AllocError, Global};
 
 /// The words of a run.
@@ -105,63 +107,63 @@ fn owned(
     }
 }
 
-/// Reads the words after `run`.
+/// Reads `run <image> --cycles N [--script FILE] [--pio LIST]`.
 #[tactic(auto, unfolding(crate::specs::Words::run_reading))]
-fn read_run(alloc: Global, words: &[String]) -> Result<Reading, WordsFault>
-    ensures { ReadsAs (run_reading (map string_bytes words.now)) result }
+fn read_run(alloc: Global, image: &str, options: &[String]) -> Result<Reading, WordsFault>
+    ensures { ReadsAs (run_reading image.now (map string_bytes options.now)) result }
 {
-    let [image, options @ ..] = words else {
-        return Err(WordsFault::Words);
-    };
-    if is_dashed(image.as_str()) || !are_options(Table::Run, options) {
-        return Err(WordsFault::Words);
-    }
     let Some(cycles) = cycles_in(options) else {
         return Err(WordsFault::Words);
     };
     match pio_in(alloc, options) {
-        Ok(pio) => owned(alloc, image.as_str(), cycles, options, pio),
+        Ok(pio) => owned(alloc, image, cycles, options, pio),
         Err(fault) => Err(fault),
     }
 }
 
-/// Reads the words after `dis`.
+/// Reads `dis <hex> [--side S] [--opt T]`.
 #[tactic(auto, unfolding(crate::specs::Words::dis_reading))]
-fn read_dis(alloc: Global, words: &[String]) -> Result<Reading, WordsFault>
-    ensures { ReadsAs (dis_reading (map string_bytes words.now)) result }
+fn read_dis(alloc: Global, hex: &str, options: &[String]) -> Result<Reading, WordsFault>
+    ensures { ReadsAs (dis_reading hex.now (map string_bytes options.now)) result }
 {
-    let [hex, options @ ..] = words else {
-        return Err(WordsFault::Words);
-    };
     let Some(side) = side_config(options) else {
         return Err(WordsFault::Words);
     };
-    match instruction_words(alloc, hex.as_str()) {
+    match instruction_words(alloc, hex) {
         Ok(Some(words)) => Ok(Reading::Dis(DisWords { words, side })),
         Ok(None) => Err(WordsFault::Words),
         Err(_) => Err(WordsFault::Memory),
     }
 }
 
-/// Reads the words after `asm`: one name, which does not begin with a dash.
-#[tactic(auto, unfolding(crate::specs::Words::asm_reading))]
-fn read_asm(alloc: Global, words: &[String]) -> Result<Reading, WordsFault>
-    ensures { ReadsAs (asm_reading (map string_bytes words.now)) result }
+/// Reads `asm <file>`.
+fn read_asm(alloc: Global, name: &str) -> Result<Reading, WordsFault>
+    ensures { ReadsAs (Some (Assemble name.now)) result }
 {
-    let [name] = words else {
-        return Err(WordsFault::Words);
-    };
-    if is_dashed(name.as_str()) {
-        return Err(WordsFault::Words);
-    }
-    match String::from_str(alloc, name.as_str()) {
+    match String::from_str(alloc, name) {
         Ok(name) => Ok(Reading::Asm(name)),
         Err(_) => Err(WordsFault::Memory),
     }
 }
 
-/// Reads `run <image> --cycles N [--script FILE] [--pio LIST]`, `dis <hex> [--side S] [--opt T]` or `asm <file>`, the
-/// options in any order and each at most once.
+/// Reads a command, its argument and its options.
+#[tactic(auto, unfolding(crate::specs::Words::written))]
+fn read_written(alloc: Global, words: &[String]) -> Result<Reading, WordsFault>
+    ensures { ReadsAs (written (map string_bytes words.now)) result }
+{
+    let [command, argument, options @ ..] = words else {
+        return Err(WordsFault::Words);
+    };
+    match command.as_str() {
+        "run" => read_run(alloc, argument.as_str(), options),
+        "dis" => read_dis(alloc, argument.as_str(), options),
+        "asm" => read_asm(alloc, argument.as_str()),
+        _ => Err(WordsFault::Words),
+    }
+}
+
+/// Reads `run <image> --cycles N [--script FILE] [--pio LIST]`, `dis <hex> [--side S] [--opt T]` or `asm <file>`. Words in this
+/// form, the options in any order and each at most once, are read as they are written, all others as `clap` reads them.
 ///
 /// # Errors
 ///
@@ -170,13 +172,12 @@ fn read_asm(alloc: Global, words: &[String]) -> Result<Reading, WordsFault>
 pub fn read_words(alloc: Global, words: &[String]) -> Result<Reading, WordsFault>
     ensures { ReadsAs (reading (map string_bytes words.now)) result }
 {
-    let [command, rest @ ..] = words else {
-        return Err(WordsFault::Words);
-    };
-    match command.as_str() {
-        "run" => read_run(alloc, rest),
-        "dis" => read_dis(alloc, rest),
-        "asm" => read_asm(alloc, rest),
-        _ => Err(WordsFault::Words),
+    if is_normal(words) {
+        return read_written(alloc, words);
+    }
+    match line_in(alloc, words) {
+        Ok(Some(line)) => read_written(alloc, &line),
+        Ok(None) => Err(WordsFault::Words),
+        Err(_) => Err(WordsFault::Memory),
     }
 }

@@ -1,0 +1,40 @@
+-- The commands of a command line, as the crate `clap` sees them: one command with a subcommand for each. Each has one argument, and
+-- options with a value each. The table is the project's own.
+use Rattle.std.specs.Prelude.{true, Some, codes}
+use Rattle.clap.specs.Walk.{Rule, Text}
+use Rattle.clap.specs.Simple.{App, new_app, new_rule, on_top, with_rule, with_subcommand}
+
+-- the argument of a command, which must be given
+abbrev pub argument : Rule
+argument = record (new_rule (codes "argument")) { required = true }
+
+-- the option `--name`
+abbrev pub option : Text → Rule
+option name = record (new_rule name) { long = Some name }
+
+-- an option that must be given
+abbrev pub needed : Text → Rule
+needed name = record (option name) { required = true }
+
+-- a command with its argument
+abbrev pub command : Text → App
+command name = with_rule (new_app name) argument
+
+-- `run <image> --cycles N [--script FILE] [--pio LIST]`
+abbrev pub run : App
+run = with_rule (with_rule (with_rule (command (codes "run")) (needed (codes "cycles"))) (option (codes "script"))) (option (codes "pio"))
+
+-- `asm <file>`
+abbrev pub asm : App
+asm = command (codes "asm")
+
+-- `dis <hex> [--side S] [--opt T]`
+abbrev pub dis : App
+dis = with_rule (with_rule (command (codes "dis")) (option (codes "side"))) (option (codes "opt"))
+
+-- the first word is no program's name
+abbrev pub top : App
+top = on_top (λ s. record s { no_binary_name = true }) (new_app (codes "pico"))
+
+unfoldable pub table : App
+table = with_subcommand (with_subcommand (with_subcommand top run.top) asm.top) dis.top

@@ -1,0 +1,54 @@
+//! The commands, as `clap` sees them.
+
+ghost use Rattle.std.specs.Prelude.{◌≡◌, false, IfOk};
+ghost use Rattle.clap.specs.Words.{app_of};
+ghost use Rattle.clap.specs.Walk.{rule_of};
+ghost use Rattle.line_words.specs.Table.{argument, needed, option, table};
+
+use clap::{Arg, Command};
+use std::alloc::{AllocError, Global};
+
+/// The argument of a command.
+fn argument<'a>(alloc: Global) -> Arg<'a>
+    ensures rule { rule_of result ≡ argument }
+    ensures local { result.global ≡ false }
+{
+    Arg::new(alloc, "argument").required(true)
+}
+
+/// An option with a value.
+fn option<'a>(alloc: Global, name: &'a str) -> Arg<'a>
+    ensures rule { rule_of result ≡ option name.now }
+    ensures local { result.global ≡ false }
+{
+    Arg::new(alloc, name).long(name)
+}
+
+/// An option with a value that must be given.
+fn needed<'a>(alloc: Global, name: &'a str) -> Arg<'a>
+    ensures rule { rule_of result ≡ needed name.now }
+    ensures local { result.global ≡ false }
+{
+    Arg::new(alloc, name).long(name).required(true)
+}
+
+/// The commands, each as a subcommand of one.
+pub fn table<'a>(alloc: Global) -> Result<Command<'a>, AllocError>
+    ensures { IfOk result (λ command. app_of command ≡ table) }
+{
+    let run = Command::new(alloc, "run")
+        .arg(argument(alloc))?
+        .arg(needed(alloc, "cycles"))?
+        .arg(option(alloc, "script"))?
+        .arg(option(alloc, "pio"))?;
+    let asm = Command::new(alloc, "asm").arg(argument(alloc))?;
+    let dis = Command::new(alloc, "dis")
+        .arg(argument(alloc))?
+        .arg(option(alloc, "side"))?
+        .arg(option(alloc, "opt"))?;
+    Command::new(alloc, "pico")
+        .no_binary_name(true)
+        .subcommand(run)?
+        .subcommand(asm)?
+        .subcommand(dis)
+}

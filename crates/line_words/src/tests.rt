@@ -1,0 +1,67 @@
+//! Lines in other forms, and what they are read as.
+
+use crate::line_in;
+use std::alloc::{AllocError, Global};
+use std::test::Fail;
+
+fn owned(alloc: Global, words: &[&str]) -> Result<Vec<String>, AllocError> {
+    let mut all = Vec::new(alloc);
+    for word in words {
+        all.push(String::from_str(alloc, word)?)?;
+    }
+    Ok(all)
+}
+
+/// Whether the words are read as this line, or as none.
+fn reads(alloc: Global, words: &[&str], want: Option<&[&str]>) -> Result<bool, AllocError> {
+    let line = line_in(alloc, &owned(alloc, words)?)?;
+    match (line, want) {
+        (None, None) => Ok(true),
+        (Some(line), Some(want)) => Ok(line == owned(alloc, want)?),
+        _ => Ok(false),
+    }
+}
+
+#[test]
+fn lines_in_other_forms(rt: HostRuntime) -> Result<(), Fail> {
+    let alloc = rt.alloc();
+    let run = ["run", "a.uf2", "--cycles", "10"];
+    assert!(rt; reads(alloc, &["run", "--cycles=10", "a.uf2"], Some(&run))?);
+    assert!(rt; reads(alloc, &["run", "--cycles", "10", "a.uf2"], Some(&run))?);
+    assert!(rt;
+        reads(
+            alloc,
+            &["run", "--cycles=10", "--", "-b"],
+            Some(&["run", "-b", "--cycles", "10"])
+        )?
+    );
+    assert!(rt;
+        reads(
+            alloc,
+            &["dis", "--opt=1", "--side=2", "e081"],
+            Some(&["dis", "e081", "--side", "2", "--opt", "1"])
+        )?
+    );
+    assert!(rt; reads(alloc, &["asm", "-"], Some(&["asm", "-"]))?);
+    Ok(())
+}
+
+#[test]
+fn lines_that_are_refused(rt: HostRuntime) -> Result<(), Fail> {
+    let alloc = rt.alloc();
+    assert!(rt; reads(alloc, &[], None)?);
+    assert!(rt; reads(alloc, &["run", "a.uf2"], None)?);
+    assert!(rt;
+        reads(
+            alloc,
+            &["run", "a.uf2", "--cycles", "10", "--cycles", "11"],
+            None
+        )?
+    );
+    assert!(rt; reads(alloc, &["run", "a.uf2", "--cycles"], None)?);
+    assert!(rt; reads(alloc, &["run", "a.uf2", "--cycles=10", "--side=1"], None)?);
+    assert!(rt; reads(alloc, &["--help"], None)?);
+    assert!(rt; reads(alloc, &["help"], None)?);
+    assert!(rt; reads(alloc, &["run", "-h"], None)?);
+    Ok(())
+}
