@@ -1,9 +1,10 @@
 -- A cycle in which core 0 alone is at work is the one that the definition says.
-use Rattle.std.proofs.Common.{◌≡◌, ◌≢◌, ◌+◌, ◌==◌, ℕ, Bool, true, false, List, [], ◌∷◌, ◌++◌, Option, Some, None, refl, sym, ap, ◌∙◌}
+use Rattle.std.proofs.Common.{◌≡◌, ◌≢◌, ◌+◌, ◌==◌, ℕ, ◌&&◌, Bool, true, false, not, List, [], ◌∷◌, ◌++◌, Option, Some, None, refl, sym, ap, ◌∙◌}
 use Rattle.rp_base.specs.declared.Master.TheVariants as master
 use Rattle.rp_base.specs.declared.Why.{Why}
 use Rattle.lane_look.specs.declared.marks.Mark.{Mark}
 use Rattle.lane_look.specs.declared.lane.Want.{Want}
+use Rattle.lane_look.specs.declared.lane.Want.TheVariants as want
 use Rattle.lane_look.specs.declared.lane.Turn.{Turn}
 use Rattle.lane_look.specs.declared.lane.Turn.TheVariants as turn
 use Rattle.m0_core.specs.State.{State as Core}
@@ -26,8 +27,9 @@ use Rattle.rp_machine.specs.declared.begun.Begun.{Begun}
 use Rattle.rp_machine.specs.State.{State}
 use Rattle.rp_machine.specs.Deeds.{asked_of, turn_of, deed_of, cause_of}
 use Rattle.rp_machine.specs.Cycle.{begun, wanted, wanted_by, first_cause, cause_in, stop, asked, granted, turns, turn_for, deeds, with_turns, with_grants, after_deed, after_deeds, stepped, next_by, next, mark}
-use Rattle.rp_machine.specs.Quiet.{quiet_core1}
-use Rattle.rp_machine.specs.Alone.{IsAlone, asked_alone, beside, stepped_alone, turn_alone, alone_next}
+use Rattle.rp_machine.specs.Quiet.{is_nothing, quiet_core1}
+use Rattle.rp_machine.proofs.Quiet.{both, nothing, is_false}
+use Rattle.rp_machine.specs.Alone.{IsAlone, asked_alone, beside, stepped_alone, turn_alone, alone_quiet, alone_next}
 
 -- ---- what the parts at rest begin
 
@@ -153,3 +155,16 @@ none_granted access s is e h = rw is (sym (nobody-after s (e ∙ h)))
 pub one_granted : (access : Option (ℕ × Bool)) (port : ℕ) (writes : Bool) (s : Crossbar) {holds : Bool} → access ≡ Some (port, writes)
     → port ≢ 6 → has_hold s ≡ holds → holds ≡ false → served port master.Core0 s ≡ after_grant (asked_alone access) s
 one_granted access port writes s is apart e h = rw is (sym (alone-after master.Core0 (port, writes) s (e ∙ h) apart))
+
+-- ---- a cycle in which core 0 wants nothing, and no access lasts
+
+quiet_by : (w : Setting) (b : Doing) (seen : Seen) (x : Want) (s : State) → x ≡ want.Nothing → has_hold s.fabric ≡ false
+    → alone_quiet w b seen s ≡ alone_next w b seen x s
+unfolding alone_next alone_quiet turn_of deed_of asked_of after_deed
+quiet_by w b seen x s e free = rw (e, nobody-after s.fabric free) refl
+
+pub quiet_alone : (w : Setting) (b : Doing) (seen : Seen) (x : Want) (s : State) → (is_nothing x && not (has_hold s.fabric)) ≡ true
+    → alone_quiet w b seen s ≡ alone_next w b seen x s
+quiet_alone w b seen x s h =
+    let parts = both (is_nothing x) _ h in
+    quiet_by w b seen x s (nothing x parts.0) (is_false (has_hold s.fabric) parts.1)

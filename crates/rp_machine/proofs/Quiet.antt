@@ -16,11 +16,11 @@ use Rattle.rp_machine.specs.Deeds.{asked_of, turn_of, deed_of}
 use Rattle.rp_machine.specs.Cycle.{begun, wanted, asked, granted, turns, deeds, with_turns, with_sio, started_by, after_deed, after_launcher, ended, after_deeds, stepped, next_by, next}
 use Rattle.rp_machine.specs.Quiet.{is_nothing, wants_nothing, is_quiet, no_turns, quiet_core1, quiet_next, QuietCyclesChangeTheLanesAlone}
 
-both : (a b : Bool) → (a && b) ≡ true → (a ≡ true) × (b ≡ true)
+pub both : (a b : Bool) → (a && b) ≡ true → (a ≡ true) × (b ≡ true)
 both true b h = (refl, h)
 both false b h = absurd (cc h)
 
-nothing : (v : Want) → is_nothing v ≡ true → v ≡ want.Nothing
+pub nothing : (v : Want) → is_nothing v ≡ true → v ≡ want.Nothing
 nothing want.Nothing h = refl
 nothing (want.Ram request) h = absurd (cc h)
 nothing (want.Outward request) h = absurd (cc h)
@@ -50,7 +50,7 @@ quiet_by w b (x0 ∷ x1 ∷ []) s l all free = absurd (omega (arith, l))
 quiet_by w b (x0 ∷ x1 ∷ x2 ∷ []) s l all free = absurd (omega (arith, l))
 quiet_by w b (x0 ∷ x1 ∷ x2 ∷ x3 ∷ x4 ∷ xs) s l all free = absurd (omega (arith, l))
 
-is_false : (b : Bool) → not b ≡ true → b ≡ false
+pub is_false : (b : Bool) → not b ≡ true → b ≡ false
 is_false true h = absurd (cc h)
 is_false false h = refl
 

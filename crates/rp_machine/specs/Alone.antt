@@ -66,3 +66,8 @@ alone_next w b seen x s =
     record (ended (with_store (deed_alone w seen x s)
     (quiet_core1 (after_deed w master.Core0 (deed_alone w seen x s)
     (stepped_alone w b seen (turn_alone w seen x s) (with_grant x s)))))) { cycle = s.cycle + 1 }
+
+-- the same where core 0 wants nothing, and no access lasts
+unfoldable pub alone_quiet : Setting → Doing → Seen → State → State
+alone_quiet w b seen s =
+    record (ended (quiet_core1 (stepped_alone w b seen turn.Nothing s))) { cycle = s.cycle + 1 }

@@ -8,6 +8,7 @@ ghost use Rattle.rp_machine.specs.Alone.{asked_alone};
 
 use crate::access::asked_of;
 use crate::begun::begin_lane;
+use crate::cycle::wants_nothing;
 use crate::machine::Machine;
 use crate::steps::Steps;
 use crate::wanted::Wanted;
@@ -51,11 +52,13 @@ fn want_of(begun: &Doing) -> Want
 }
 
 impl Machine {
-    ghost use Rattle.std.specs.Prelude.{◌≡◌, ◌+◌, ◌-◌, ◌^◌, ◌<◌, ◌≤◌, ◌∷◌, ◌++◌, if◌then◌else◌, is_some, [], length, true};
+    ghost use Rattle.std.specs.Prelude.{◌≡◌, ◌+◌, ◌-◌, ◌^◌, ◌<◌, ◌≤◌, ◌∷◌, ◌++◌, if◌then◌else◌, is_some, [], length, true, ◌&&◌, not};
     ghost use Rattle.outer_lane.specs.Setting.{setting_of};
     ghost use Rattle.outer_lane.specs.Step.{marked};
     ghost use Rattle.rp_machine.specs.Cycle.{begun, wanted, cause_in, next, mark};
-    ghost use Rattle.rp_machine.specs.Alone.{IsAlone, alone_next};
+    ghost use Rattle.rp_machine.specs.Alone.{IsAlone, alone_quiet, alone_next};
+    ghost use Rattle.rp_machine.specs.Quiet.{is_nothing};
+    ghost use Rattle.bus_fabric.specs.State.{has_hold};
 
     /// Core 1 sleeps, and the DMA engine and both PIO blocks are at rest.
     #[inline(always)]
@@ -86,6 +89,41 @@ impl Machine {
         begin_lane(self, 5, &self.outer, world)
     }
 
+    /// The master wants nothing, and no access lasts.
+    #[inline(always)]
+    fn is_quiet_alone(&self, wanted: &Wanted) -> bool
+        ensures { result ≡ (is_nothing wanted.now.want && not (has_hold self.now.fabric)) }
+    {
+        wants_nothing(wanted) && !self.fabric.holds()
+    }
+
+    /// One cycle in which core 0, which is alone, has begun this and wants nothing, and no access lasts.
+    #[inline(always)]
+    #[tactic(auto, unfolding(crate::specs::Alone::alone_quiet))]
+    fn step_alone_quietly<X: Device>(
+        &mut self,
+        world: &World<'_, X>,
+        core0: &Doing,
+        outer: &Seen,
+        marks: &mut Marks,
+    )
+        requires number { self.old.cycle < 2 ^ 64 - 1 }
+        requires marks { length marks.old < 256 }
+        ensures state { self.new ≡ alone_quiet
+            (setting_of world.now.script.now (X.meaning world.now.device.now) world.now.limit)
+            core0.now outer.now self.old }
+        ensures marks { marks.new ≡ marks.old ++ marked
+            (setting_of world.now.script.now (X.meaning world.now.device.now) world.now.limit)
+            self.old.outer outer.now ∷ [] }
+    {
+        let at = self.at;
+        self.core0.finish(&(), core0, [Turn::Nothing; 2], marks);
+        self.outer.finish(world, outer, [Turn::Nothing; 2], marks);
+        self.rest_core1();
+        self.end();
+        self.at = at + 1;
+    }
+
     /// One cycle in which core 0, which is alone, has begun this and wants that.
     #[tactic(auto, unfolding(crate::specs::Alone::alone_next))]
     fn step_alone<X: Device>(
@@ -106,6 +144,10 @@ impl Machine {
             (setting_of world.now.script.now (X.meaning world.now.device.now) world.now.limit)
             self.old.outer outer.now ∷ [] }
     {
+        if self.is_quiet_alone(wanted) {
+            self.step_alone_quietly(world, core0, outer, marks);
+            return;
+        }
         let at = self.at;
         let mut fabric = self.fabric;
         let granted = grant_alone(&mut fabric, asked_of(&wanted.want));

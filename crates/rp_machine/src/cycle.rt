@@ -36,7 +36,7 @@ fn asked(wants: &[Wanted; 4]) -> [Option<(u8, bool)>; 4]
 
 /// A master wants nothing.
 #[inline(always)]
-fn wants_nothing(wanted: &Wanted) -> bool
+pub(crate) fn wants_nothing(wanted: &Wanted) -> bool
     ensures { result ≡ wants_nothing wanted.now }
 {
     match wanted.want {
@@ -369,6 +369,38 @@ impl Machine {
         self.at = at + 1;
     }
 
+    /// One cycle below the limit, in which each lane may be at work.
+    #[inline(never)]
+    #[tactic(auto, unfolding(crate::specs::Cycle::next, crate::specs::Cycle::mark))]
+    fn cycle_of_all<X: Device, L: Ledger>(
+        &mut self,
+        world: &World<'_, X>,
+        marks: &mut Marks,
+        steps: &mut Steps<L>,
+    ) -> Option<Why>
+        requires { self.old.cycle < 2 ^ 64 - 1 }
+        ensures cause { result ≡ cause_in
+            (setting_of world.now.script.now (X.meaning world.now.device.now) world.now.limit)
+            (begun self.old) (wanted (begun self.old)) self.old }
+        ensures state { self.new ≡ (if is_some result then self.old else next
+            (setting_of world.now.script.now (X.meaning world.now.device.now) world.now.limit)
+            self.old) }
+        ensures marks { marks.new ≡ (if is_some result then marks.old else mark
+            (setting_of world.now.script.now (X.meaning world.now.device.now) world.now.limit)
+            self.old ∷ []) }
+        ensures steps { steps.new ≡ (if is_some result then steps.old else steps.old + 1) }
+    {
+        let begun = self.begin(world);
+        let wants = all_wanted(&begun);
+        if let Some(why) = self.cause_in(world, &begun, &wants) {
+            return Some(why);
+        }
+        marks.clear();
+        steps.tick();
+        self.step(world, &begun, &wants, marks);
+        None
+    }
+
     /// Does one cycle, counts it and leaves its mark alone in the marks; or changes nothing and names the stop.
     #[tactic(auto, unfolding(crate::specs::Cycle::stop, crate::specs::Cycle::next, crate::specs::Cycle::mark))]
     pub fn cycle<X: Device, L: Ledger>(
@@ -395,14 +427,6 @@ impl Machine {
         if self.is_core0_alone() {
             return self.cycle_alone(world, marks, steps);
         }
-        let begun = self.begin(world);
-        let wants = all_wanted(&begun);
-        if let Some(why) = self.cause_in(world, &begun, &wants) {
-            return Some(why);
-        }
-        marks.clear();
-        steps.tick();
-        self.step(world, &begun, &wants, marks);
-        None
+        self.cycle_of_all(world, marks, steps)
     }
 }
