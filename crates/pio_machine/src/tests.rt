@@ -18,9 +18,12 @@ fn seen(program: &[u16; 4]) -> Seen {
     }
 }
 
-/// A word written to INSTR of a machine that is not enabled, in place 7 with X 5, Y 0, 8 bits of 12345678 in the ISR and 4
-/// bits out of the OSR, which has 9abcdef0; and then PC, X, Y, both shift registers and both counts.
-const WORDS: [(u16, u8, u32, u32, u32, u32, u8, u8); 20] = [
+/// A word, and then PC, X, Y, both shift registers and both counts.
+type Row = (u16, u8, u32, u32, u32, u32, u8, u8);
+
+/// Words written to INSTR of a machine that is not enabled, in place 7 with X 5, Y 0, 8 bits of 12345678 in the ISR and 4
+/// bits out of the OSR, which has 9abcdef0.
+const WORDS: [Row; 20] = [
     // jmp !x 3; jmp x-- 3; jmp !y 3; jmp y-- 3; jmp x!=y 3; jmp !osre 3
     (0x0023, 7, 5, 0, 0x1234_5678, 0x9abc_def0, 8, 4),
     (0x0043, 3, 4, 0, 0x1234_5678, 0x9abc_def0, 8, 4),
@@ -49,29 +52,37 @@ const WORDS: [(u16, u8, u32, u32, u32, u32, u8, u8); 20] = [
     (0x8001, 7, 5, 0, 0x1234_5678, 0x9abc_def0, 8, 4),
 ];
 
+/// The word of the row is gone after a cycle, and leaves this.
+fn leaves(row: &Row) -> bool {
+    let (word, pc, x, y, isr, osr, isr_count, osr_count) = *row;
+    let mut machine = Machine1::new();
+    machine.pc = 7;
+    machine.x = 5;
+    machine.isr = 0x1234_5678;
+    machine.isr_count = 8;
+    machine.osr = 0x9abc_def0;
+    machine.osr_count = 4;
+    machine.waiting = Some(Waiting::forced(word));
+    tick(&mut machine, 0, &seen(&[0; 4]), &mut Done::new());
+    machine.waiting.is_none()
+        && (machine.pc, machine.x, machine.y) == (pc, x, y)
+        && (machine.isr, machine.isr_count) == (isr, isr_count)
+        && (machine.osr, machine.osr_count) == (osr, osr_count)
+}
+
+/// The first row that is not so.
+fn first_wrong(rows: &[Row]) -> Option<usize> {
+    for (place, row) in rows.iter().enumerate() {
+        if !leaves(row) {
+            return Some(place);
+        }
+    }
+    None
+}
+
 #[test]
 fn single_words(rt: HostRuntime) {
-    let seen = seen(&[0; 4]);
-    for (word, pc, x, y, isr, osr, isr_count, osr_count) in WORDS {
-        let mut machine = Machine1::new();
-        machine.pc = 7;
-        machine.x = 5;
-        machine.isr = 0x1234_5678;
-        machine.isr_count = 8;
-        machine.osr = 0x9abc_def0;
-        machine.osr_count = 4;
-        machine.waiting = Some(Waiting::forced(word));
-        let mut done = Done::new();
-        tick(&mut machine, 0, &seen, &mut done);
-        assert!(rt; machine.waiting.is_none(), "{word:x}");
-        assert_eq!(rt; machine.pc, pc, "{word:x}");
-        assert_eq!(rt; machine.x, x, "{word:x}");
-        assert_eq!(rt; machine.y, y, "{word:x}");
-        assert_eq!(rt; machine.isr, isr, "{word:x}");
-        assert_eq!(rt; machine.osr, osr, "{word:x}");
-        assert_eq!(rt; machine.isr_count, isr_count, "{word:x}");
-        assert_eq!(rt; machine.osr_count, osr_count, "{word:x}");
-    }
+    assert_eq!(rt; first_wrong(&WORDS), None);
 }
 
 /// Runs a machine for some cycles, whose levels of pin 0 are `levels` from the first one on, where `.` says that none was
