@@ -8,7 +8,6 @@ use pin_script::read_script;
 use rp_machine::{Machine, Steps, World};
 use std::alloc::Global;
 use std::marker::Brand;
-use std::process::Abort;
 use std::sync::ledger::{Blank, Ledger};
 use std::test::Fail;
 use uf2_image::read_image;
@@ -54,8 +53,23 @@ fn run_to<L: Ledger>(
     }
 }
 
-/// Keeps the machine at 0, 4096 and 8192, and goes back to 4096.
-fn keeps_three<L: Ledger>(rt: &impl Abort, alloc: Global, blank: Blank) -> Result<(), Fail>
+/// What a ring answered, and the cycle and a word of the machine after each way back.
+#[derive(Clone, Copy)]
+struct Seen {
+    keeps: [bool; 6],
+    stored: [u32; 2],
+    nearest: [Option<u64>; 2],
+    restores: [bool; 3],
+    back: [(u64, Option<u32>); 3],
+}
+
+/// The cycle of a machine, and the word that the program stores.
+fn shown(machine: &Machine) -> (u64, Option<u32>) {
+    (machine.number(), machine.word(0x2000_0100))
+}
+
+/// Keeps the machine at 0, 4095, 4096 (twice) and 8192, goes back to 8191, 4096 and 0, and keeps it there.
+fn keeps_three<L: Ledger>(alloc: Global, blank: Blank) -> Result<Seen, Fail>
     requires name { blank.name ≡ L.name }
     requires parts { blank.parts ≡ L.parts }
     requires some { 0 < blank.parts }
@@ -71,32 +85,40 @@ fn keeps_three<L: Ledger>(rt: &impl Abort, alloc: Global, blank: Blank) -> Resul
     };
     let mut machine = Machine::boot(alloc, &image, &[], &world)?;
     let mut ring = Ring::new(alloc, &machine, world.limit)?;
-    assert_eq!(rt; ring.spacing(), 4096);
-    assert_eq!(rt; ring.nearest(10_000), None);
-    assert!(rt; ring.keep(&machine));
-    assert_eq!(rt; ring.stored(), 264);
+    let none = ring.nearest(ring.spacing());
+    let start = ring.keep(&machine);
+    let one = ring.stored();
     run_to(&mut machine, &world, &mut steps, 4095);
-    assert!(rt; !ring.keep(&machine));
+    let early = ring.keep(&machine);
     run_to(&mut machine, &world, &mut steps, 4096);
-    assert!(rt; ring.keep(&machine));
-    assert!(rt; !ring.keep(&machine));
+    let second = ring.keep(&machine);
+    let twice = ring.keep(&machine);
     run_to(&mut machine, &world, &mut steps, 8192);
-    assert!(rt; ring.keep(&machine));
-    assert_eq!(rt; ring.stored(), 265);
-    assert_eq!(rt; ring.nearest(8191), Some(4096));
-    assert!(rt; !ring.restore(8191, &mut machine));
-    assert_eq!(rt; machine.number(), 8192);
-    assert!(rt; ring.restore(4096, &mut machine));
-    assert_eq!(rt; machine.number(), 4096);
-    assert_eq!(rt; machine.word(0x2000_0100), Some(0x2000_0100));
-    assert_eq!(rt; machine.registers(1), None);
-    assert!(rt; !ring.keep(&machine));
-    assert!(rt; ring.restore(0, &mut machine));
-    assert_eq!(rt; machine.word(0x2000_0100), Some(0));
-    Ok(())
+    let third = ring.keep(&machine);
+    let three = ring.stored();
+    let nearest = ring.nearest(8191);
+    let missed = ring.restore(8191, &mut machine);
+    let unchanged = shown(&machine);
+    let middle = ring.restore(4096, &mut machine);
+    let stored = shown(&machine);
+    let first = ring.restore(0, &mut machine);
+    Ok(Seen {
+        keeps: [start, early, second, twice, third, ring.keep(&machine)],
+        stored: [one, three],
+        nearest: [none, nearest],
+        restores: [missed, middle, first],
+        back: [unchanged, stored, shown(&machine)],
+    })
 }
 
 #[test]
 fn three_are_kept(rt: HostRuntime) -> Result<(), Fail> {
-    keeps_three::<Brand>(&rt, rt.alloc(), Blank::new(1))
+    let seen = keeps_three::<Brand>(rt.alloc(), Blank::new(1))?;
+    assert_eq!(rt; seen.keeps, [true, false, true, false, true, false]);
+    assert_eq!(rt; seen.stored, [264, 265]);
+    assert_eq!(rt; seen.nearest, [None, Some(4096)]);
+    assert_eq!(rt; seen.restores, [false, true, true]);
+    let word = Some(0x2000_0100);
+    assert_eq!(rt; seen.back, [(8192, word), (4096, word), (0, Some(0))]);
+    Ok(())
 }
