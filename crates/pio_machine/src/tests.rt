@@ -135,42 +135,176 @@ fn lamp_bits(rt: HostRuntime) {
     run(&rt, &mut machine, &seen, b"0..1.1....0..1.0....0..1.");
 }
 
-// IN of 32 bits under autopush shifts once, also where it stalls; and PUSH tells a full FIFO.
-#[test]
-fn stalls(rt: HostRuntime) {
-    // in y, 32; push noblock; set y, 2; jmp 0
-    let seen = seen(&[0x4040, 0x8000, 0xe042, 0]);
-    let mut machine = Machine1::new();
-    machine.enabled = true;
-    machine.y = 1;
-    machine.shiftctrl = 0x000d_0000;
-    for level in 0..4 {
-        assert_eq!(rt; machine.rx.level(), level);
+/// What is done to a machine, or seen of it.
+#[derive(Clone, Copy)]
+enum Deed {
+    /// CTRL enables it, or not.
+    Enable(bool),
+    /// SHIFTCTRL.
+    Shifts(u32),
+    /// X and Y.
+    Scratch(u32, u32),
+    /// Four nines are put into the RX FIFO.
+    Nines,
+    /// The RX FIFO gives this word.
+    Took(u32),
+    /// The RX FIFO is emptied.
+    Empty,
+    /// A word is written to INSTR.
+    Word(u16),
+    /// FDEBUG.RXSTALL is cleared.
+    Clear,
+    /// SM_RESTART.
+    Restart,
+    /// A copy takes its place.
+    Copy,
+    /// So many cycles.
+    Cycles(u8),
+    /// A cycle with these flags, which sets and clears those.
+    Flags(u8, u8, u8),
+    /// PC.
+    Counter(u8),
+    /// The ISR.
+    Isr(u32),
+    /// Y.
+    Y(u32),
+    /// How many bits were shifted out of the OSR.
+    Out(u8),
+    /// How many words the RX FIFO has, and the first one.
+    Level(u8, u32),
+    /// RXSTALL, and that the word at PC has shifted.
+    Stalled(bool, bool),
+    /// The places of both FIFOs, and that both are full.
+    Depths(u8, u8, bool),
+}
+
+/// Four nines are put into an empty FIFO.
+fn fill(machine: &mut Machine1) -> bool {
+    for _ in 0..4 {
+        if machine.rx.level() >= 4 {
+            return false;
+        }
         machine.rx.push(9);
     }
-    run(&rt, &mut machine, &seen, b"..");
-    assert!(rt; machine.rx_stall && machine.progress.shifted);
-    assert_eq!(rt; machine.isr, 1);
-    machine.y = 7;
-    assert!(rt; machine.rx.pull() == Some(9));
-    run(&rt, &mut machine, &seen, b".");
-    assert_eq!(rt; machine.rx.level(), 4);
-    assert_eq!(rt; machine.rx.first(), 9);
-    assert_eq!(rt; machine.pc, 1);
-    machine.rx_stall = false;
-    run(&rt, &mut machine, &seen, b"..");
-    assert!(rt; machine.rx_stall);
-    assert_eq!(rt; machine.y, 2);
-    machine.restart();
-    assert_eq!(rt; machine.osr_count, 32);
-    let mut other = Machine1::new();
-    other.copy_from(&machine);
-    assert_eq!(rt; other.rx.level(), 4);
-    other.rx.clear();
-    assert!(rt; !other.is_rx_full() && !other.is_tx_full());
-    other.shiftctrl = 0xc000_0000;
-    assert!(rt; other.rx_depth() == 0 && other.tx_depth() == 0);
-    assert!(rt; other.is_rx_full() && other.is_tx_full());
+    true
+}
+
+/// A copy takes the machine's place.
+fn replace(machine: &mut Machine1) {
+    let mut copy = Machine1::new();
+    copy.copy_from(machine);
+    *machine = copy;
+}
+
+/// What is done to its registers.
+fn sets(machine: &mut Machine1, deed: &Deed) -> bool {
+    match *deed {
+        Deed::Enable(enabled) => machine.enabled = enabled,
+        Deed::Shifts(word) => machine.shiftctrl = word,
+        Deed::Scratch(x, y) => {
+            machine.x = x;
+            machine.y = y;
+        }
+        Deed::Nines => return fill(machine),
+        Deed::Took(word) => return machine.rx.pull() == Some(word),
+        Deed::Empty => machine.rx.clear(),
+        Deed::Word(word) => machine.waiting = Some(Waiting::forced(word)),
+        Deed::Clear => machine.rx_stall = false,
+        Deed::Restart => machine.restart(),
+        Deed::Copy => replace(machine),
+        _ => {}
+    }
+    true
+}
+
+/// What is seen of it.
+fn shows(machine: &Machine1, deed: &Deed) -> bool {
+    match *deed {
+        Deed::Counter(pc) => machine.pc == pc,
+        Deed::Isr(isr) => machine.isr == isr,
+        Deed::Y(y) => machine.y == y,
+        Deed::Out(count) => machine.osr_count == count,
+        Deed::Level(level, first) => machine.rx.level() == level && machine.rx.first() == first,
+        Deed::Stalled(stalled, shifted) => {
+            machine.rx_stall == stalled && machine.progress.shifted == shifted
+        }
+        Deed::Depths(tx, rx, full) => {
+            (machine.tx_depth(), machine.rx_depth()) == (tx, rx)
+                && (machine.is_tx_full(), machine.is_rx_full()) == (full, full)
+        }
+        _ => true,
+    }
+}
+
+/// Its cycles.
+fn runs(machine: &mut Machine1, seen: &mut Seen, deed: &Deed) -> bool {
+    match *deed {
+        Deed::Cycles(count) => {
+            for _ in 0..count {
+                tick(machine, 0, seen, &mut Done::new());
+            }
+            true
+        }
+        Deed::Flags(flags, set, clear) => {
+            let mut done = Done::new();
+            seen.flags = flags;
+            tick(machine, 0, seen, &mut done);
+            done.set == set && done.clear == clear
+        }
+        _ => true,
+    }
+}
+
+/// The first of these that is not so, of an enabled machine that runs this program, with one more word at place 5.
+fn first_fault(program: &[u16; 4], fifth: u16, deeds: &[Deed]) -> Option<usize> {
+    let mut seen = seen(program);
+    seen.memory[5] = fifth;
+    let mut machine = Machine1::new();
+    machine.enabled = true;
+    for (place, deed) in deeds.iter().enumerate() {
+        let so = sets(&mut machine, deed)
+            && runs(&mut machine, &mut seen, deed)
+            && shows(&machine, deed);
+        if !so {
+            return Some(place);
+        }
+    }
+    None
+}
+
+/// IN of 32 bits under autopush shifts once, also where it stalls; and PUSH tells a full FIFO: in y, 32; push noblock; set y,
+/// 2; jmp 0.
+const STALLS: [Deed; 24] = [
+    Deed::Scratch(0, 1),
+    Deed::Shifts(0x000d_0000),
+    Deed::Nines,
+    Deed::Cycles(2),
+    Deed::Stalled(true, true),
+    Deed::Isr(1),
+    Deed::Scratch(0, 7),
+    Deed::Took(9),
+    Deed::Cycles(1),
+    Deed::Level(4, 9),
+    Deed::Counter(1),
+    Deed::Clear,
+    Deed::Cycles(2),
+    Deed::Stalled(true, false),
+    Deed::Y(2),
+    Deed::Restart,
+    Deed::Out(32),
+    Deed::Copy,
+    Deed::Level(4, 9),
+    Deed::Empty,
+    Deed::Depths(4, 4, false),
+    Deed::Shifts(0xc000_0000),
+    Deed::Depths(0, 0, true),
+    Deed::Level(0, 0),
+];
+
+#[test]
+fn stalls(rt: HostRuntime) {
+    let program = [0x4040, 0x8000, 0xe042, 0];
+    assert_eq!(rt; first_fault(&program, 0, &STALLS), None);
 }
 
 // irq wait 2 rel by machine 3 waits for flag 1, which wait 1 irq 1 clears; the waiting word of mov exec and its side-set
@@ -243,84 +377,84 @@ fn pins_wrap(rt: HostRuntime) {
     assert_eq!(rt; machine.pc, 0);
 }
 
-/// A machine that runs from place 0 with autopush at 32 bits to the left, X 7 and Y 3, and whose RX FIFO is full of nines.
-fn full(rt: &impl Abort) -> Machine1 {
-    let mut machine = Machine1::new();
-    machine.enabled = true;
-    machine.shiftctrl = 0x0001_0000;
-    machine.x = 7;
-    machine.y = 3;
-    for level in 0..4 {
-        assert_eq!(rt; machine.rx.level(), level);
-        machine.rx.push(9);
-    }
-    machine
-}
+/// A fetched in y, 32 stalls, and a written jmp 5 leads to in x, 8, which shifts.
+const JUMP: [Deed; 13] = [
+    Deed::Scratch(7, 3),
+    Deed::Shifts(0x0001_0000),
+    Deed::Nines,
+    Deed::Cycles(2),
+    Deed::Isr(3),
+    Deed::Word(0x0005),
+    Deed::Cycles(2),
+    Deed::Took(9),
+    Deed::Cycles(1),
+    Deed::Took(9),
+    Deed::Took(9),
+    Deed::Took(9),
+    Deed::Took(0x307),
+];
 
-/// Takes a word from the RX FIFO, lets the word that stalls complete, and gives what it pushed.
-fn pushed(rt: &impl Abort, machine: &mut Machine1, seen: &Seen) -> Option<u32> {
-    assert!(rt; machine.rx.pull() == Some(9));
-    run(rt, machine, seen, b".");
-    for _ in 0..3 {
-        assert!(rt; machine.rx.pull() == Some(9));
-    }
-    machine.rx.pull()
-}
+/// A written in x, 32 in place of a written in y, 32 that stalls shifts itself.
+const NEWER: [Deed; 16] = [
+    Deed::Scratch(7, 3),
+    Deed::Shifts(0x0001_0000),
+    Deed::Nines,
+    Deed::Enable(false),
+    Deed::Word(0x4040),
+    Deed::Cycles(2),
+    Deed::Isr(3),
+    Deed::Word(0x4020),
+    Deed::Cycles(2),
+    Deed::Isr(7),
+    Deed::Took(9),
+    Deed::Cycles(1),
+    Deed::Took(9),
+    Deed::Took(9),
+    Deed::Took(9),
+    Deed::Took(7),
+];
 
-// Each word has its own memory of what it did.
+/// A written in x, 8 over a fetched in y, 32 that stalls shifts once, and the fetched one does not shift again.
+const OVER: [Deed; 15] = [
+    Deed::Scratch(7, 3),
+    Deed::Shifts(0x0001_0000),
+    Deed::Nines,
+    Deed::Cycles(2),
+    Deed::Word(0x4028),
+    Deed::Cycles(2),
+    Deed::Took(9),
+    Deed::Cycles(1),
+    Deed::Took(9),
+    Deed::Took(9),
+    Deed::Took(9),
+    Deed::Took(0x307),
+    Deed::Cycles(1),
+    Deed::Counter(1),
+    Deed::Isr(0),
+];
+
+// Each word has its own memory of what it did: in y, 32; at place 5 in x, 8.
 #[test]
 fn memories(rt: HostRuntime) {
-    // in y, 32; at place 5 in x, 8
-    let mut in_y = seen(&[0x4040, 0, 0, 0]);
-    in_y.memory[5] = 0x4028;
-    // a fetched in y, 32 stalls, and a written jmp 5 leads to in x, 8, which shifts
-    let mut machine = full(&rt);
-    run(&rt, &mut machine, &in_y, b"..");
-    assert_eq!(rt; machine.isr, 3);
-    machine.waiting = Some(Waiting::forced(0x0005));
-    run(&rt, &mut machine, &in_y, b"..");
-    assert_eq!(rt; pushed(&rt, &mut machine, &in_y), Some(0x307));
-    // a written in x, 32 in place of a written in y, 32 that stalls shifts itself
-    let mut machine = full(&rt);
-    machine.enabled = false;
-    for (word, isr) in [(0x4040, 3), (0x4020, 7)] {
-        machine.waiting = Some(Waiting::forced(word));
-        run(&rt, &mut machine, &in_y, b"..");
-        assert_eq!(rt; machine.isr, isr);
-    }
-    assert_eq!(rt; pushed(&rt, &mut machine, &in_y), Some(7));
-    // a written in x, 8 over a fetched in y, 32 that stalls shifts once, and the fetched one does not shift again
-    let mut machine = full(&rt);
-    run(&rt, &mut machine, &in_y, b"..");
-    machine.waiting = Some(Waiting::forced(0x4028));
-    run(&rt, &mut machine, &in_y, b"..");
-    assert_eq!(rt; pushed(&rt, &mut machine, &in_y), Some(0x307));
-    run(&rt, &mut machine, &in_y, b".");
-    assert_eq!(rt; machine.pc, 1);
-    assert_eq!(rt; machine.isr, 0);
+    let program = [0x4040, 0, 0, 0];
+    assert_eq!(rt; first_fault(&program, 0x4028, &JUMP), None);
+    assert_eq!(rt; first_fault(&program, 0x4028, &NEWER), None);
+    assert_eq!(rt; first_fault(&program, 0x4028, &OVER), None);
 }
 
-// A written irq wait 1 over a fetched irq wait 0 that stalls raises flag 1, and flag 0 is not raised again.
+/// A written irq wait 1 over a fetched irq wait 0 that stalls raises flag 1, and flag 0 is not raised again.
+const RAISED: [Deed; 8] = [
+    Deed::Flags(0, 1, 0),
+    Deed::Word(0xc021),
+    Deed::Flags(1, 2, 0),
+    Deed::Flags(3, 0, 0),
+    Deed::Flags(1, 0, 0),
+    Deed::Flags(1, 0, 0),
+    Deed::Flags(0, 0, 0),
+    Deed::Counter(1),
+];
+
 #[test]
 fn memories_of_flags(rt: HostRuntime) {
-    let mut seen = seen(&[0xc020, 0, 0, 0]);
-    let mut machine = Machine1::new();
-    machine.enabled = true;
-    for (flags, written, set) in [
-        (0, None, 1),
-        (1, Some(Waiting::forced(0xc021)), 2),
-        (3, None, 0),
-        (1, None, 0),
-        (1, None, 0),
-        (0, None, 0),
-    ] {
-        if written.is_some() {
-            machine.waiting = written;
-        }
-        let mut done = Done::new();
-        seen.flags = flags;
-        tick(&mut machine, 0, &seen, &mut done);
-        assert_eq!(rt; done.set, set);
-    }
-    assert_eq!(rt; machine.pc, 1);
+    assert_eq!(rt; first_fault(&[0xc020, 0, 0, 0], 0, &RAISED), None);
 }
