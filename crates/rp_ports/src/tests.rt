@@ -1,9 +1,11 @@
-//! A shelf and a sink in memory, each with a call that fails.
+//! A shelf, a source and a sink in memory, each with a call that fails.
 
 use crate::mem_shelf::{HeldFile, MemShelf};
 use crate::mem_sink::MemSink;
+use crate::mem_source::MemSource;
 use crate::shelf::{Loaded, Shelf};
 use crate::sink::{Put, Sink};
+use crate::source::{Source, Taken};
 use std::alloc::{AllocError, Global};
 use std::test::Fail;
 
@@ -41,5 +43,20 @@ fn a_sink_answers_each_put(rt: HostRuntime) -> Result<(), Fail> {
     assert_eq!(rt; sink.put(b"three\n"), Put::Took(6));
     assert_eq!(rt; sink.bytes.as_slice(), b"one\nthree\n".as_slice());
     assert_eq!(rt; sink.faults, 1);
+    Ok(())
+}
+
+#[test]
+fn a_source_answers_each_take(rt: HostRuntime) -> Result<(), Fail> {
+    let alloc = rt.alloc();
+    let mut source = MemSource::new(Vec::from_slice(alloc, b"abcde")?, vec![in alloc; 1]?);
+    let mut buf = [0u8; 3];
+    assert_eq!(rt; source.take(&mut buf), Taken::Took(3));
+    assert_eq!(rt; buf, *b"abc");
+    assert_eq!(rt; source.take(&mut buf), Taken::Failed);
+    assert_eq!(rt; source.take(&mut buf), Taken::Took(2));
+    assert_eq!(rt; buf, *b"dec");
+    assert_eq!(rt; source.take(&mut buf), Taken::End);
+    assert_eq!(rt; source.faults, 1);
     Ok(())
 }

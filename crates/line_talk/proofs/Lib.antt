@@ -1,0 +1,3 @@
+pub mod LineLists
+pub mod Takings
+pub mod Talks

@@ -1,0 +1,4 @@
+pub mod Hearing
+pub mod Lines
+pub mod Talk
+pub mod Going

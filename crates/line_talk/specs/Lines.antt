@@ -1,0 +1,49 @@
+-- The lines among the bytes that were taken from an input: the project's own. A line ends with LF, before which one CR is dropped.
+-- Of a line the first 257 bytes count: with a CR at their end these are 256 bytes at least, as those of a longer line.
+use Rattle.std.specs.Prelude.{ℕ, Bool, true, false, ◌==◌, ◌||◌, if◌then◌else◌, List, [], ◌∷◌, ◌++◌, take}
+use Rattle.std.specs.Str.Lines.{strip_carriage_return}
+
+-- how many bytes of a line count
+abbrev pub line_limit : ℕ
+line_limit = 257
+
+-- the line of the bytes before an LF
+abbrev pub line_of : List ℕ → List ℕ
+line_of bytes = strip_carriage_return (take line_limit bytes)
+
+-- the complete lines of a text that goes on with an open line
+abbrev pub complete_from : List ℕ → List ℕ → List (List ℕ)
+complete_from held [] = []
+complete_from held (b ∷ bs) = if b == 10 then line_of held ∷ complete_from [] bs else complete_from (held ++ b ∷ []) bs
+
+-- and what stands behind the last LF
+abbrev pub open_from : List ℕ → List ℕ → List ℕ
+open_from held [] = held
+open_from held (b ∷ bs) = if b == 10 then open_from [] bs else open_from (held ++ b ∷ []) bs
+
+abbrev pub complete_lines : List ℕ → List (List ℕ)
+complete_lines bytes = complete_from [] bytes
+
+abbrev pub open_line : List ℕ → List ℕ
+open_line bytes = open_from [] bytes
+
+-- at the end of an input an open line is one too, unless it is empty
+abbrev pub unless_empty : List ℕ → List (List ℕ)
+unless_empty [] = []
+unless_empty (b ∷ bs) = (b ∷ bs) ∷ []
+
+abbrev pub all_lines : List ℕ → List (List ℕ)
+all_lines bytes = complete_lines bytes ++ unless_empty (take line_limit (open_line bytes))
+
+-- the lines before the first that is a last one
+abbrev pub until : (List ℕ → Bool) → List (List ℕ) → List (List ℕ)
+until last [] = []
+until last (line ∷ lines) = if last line then [] else line ∷ until last lines
+
+abbrev pub has_last : (List ℕ → Bool) → List (List ℕ) → Bool
+has_last last [] = false
+has_last last (line ∷ lines) = last line || has_last last lines
+
+-- a last line stands among the complete ones
+abbrev pub closes : (List ℕ → Bool) → List ℕ → Bool
+closes last bytes = has_last last (complete_lines bytes)
