@@ -1,7 +1,9 @@
-//! The program: hands the command line, the real files and standard output to the top call, and ends with its status.
+//! The program: hands the command line, the real files, standard input and standard output to the top call, and ends with
+//! its status.
 #![tactic(auto)]
 
 mod file_shelf;
+mod stdin_source;
 mod stdout_sink;
 #[cfg(test)]
 mod tests;
@@ -18,6 +20,7 @@ use std::process::ExitCode;
 use std::rt::{Env, Files};
 use std::sync::ledger::{Blank, Ledger};
 use std::{env, io};
+use stdin_source::StdinSource;
 use stdout_sink::StdoutSink;
 
 /// The words after the program's name; none where the system does not give them as text.
@@ -33,9 +36,14 @@ fn words<R: Env + AllocGlobal>(rt: &R) -> Result<Vec<String>, AllocError> {
     }
 }
 
-/// Does what the words say over the real files and standard output, with no device, and answers the status. The cycles are counted by a
-/// ledger that nobody reads.
-fn serve<L: Ledger, R: Files + Print>(blank: Blank, rt: &R, alloc: Global, words: &[String]) -> u8
+/// Does what the words say over the real files, standard input and standard output, with no device, and answers the status. The
+/// cycles are counted by a ledger that nobody reads.
+fn serve<L: Ledger, R: Files + Input + Print>(
+    blank: Blank,
+    rt: &R,
+    alloc: Global,
+    words: &[String],
+) -> u8
     requires name { blank.name ≡ L.name }
     requires parts { blank.parts ≡ L.parts }
     requires some { 0 < blank.parts }
@@ -43,12 +51,15 @@ fn serve<L: Ledger, R: Files + Print>(blank: Blank, rt: &R, alloc: Global, words
     let (book, share) = blank.open::<L>();
     let mut steps = Steps::new(book, share);
     let mut files = FileShelf::new(rt, alloc);
+    let mut input = StdinSource::new(rt);
     let mut out = StdoutSink::new(rt);
-    pico(alloc, words, &mut files, &mut out, NoDevice, &mut steps)
+    pico(
+        alloc, words, &mut files, &mut input, &mut out, NoDevice, &mut steps,
+    )
 }
 
 /// Does what the arguments say, and ends with the status of it; with 9 and no word where the arguments find no memory.
-fn program<R: Env + Files + Print + AllocGlobal>(rt: &R) -> ExitCode {
+fn program<R: Env + Files + Input + Print + AllocGlobal>(rt: &R) -> ExitCode {
     let alloc = rt.alloc();
     let Ok(words) = words(rt) else {
         return ExitCode::from(9);

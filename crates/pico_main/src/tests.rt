@@ -2,9 +2,11 @@
 
 use crate::file_shelf::FileShelf;
 use crate::program;
+use crate::stdin_source::StdinSource;
 use crate::stdout_sink::StdoutSink;
 use rp_ports::shelf::{Loaded, Shelf};
 use rp_ports::sink::{Put, Sink};
+use rp_ports::source::{Source, Taken};
 use std::fs;
 use std::process::ExitCode;
 use std::test::Fail;
@@ -28,6 +30,15 @@ fn output_takes_a_piece(rt: HostRuntime) {
     let mut out = StdoutSink::new(&rt);
     assert_eq!(rt; out.put(b"a line\n"), Put::Took(7));
     assert_eq!(rt; out.put(b""), Put::Took(0));
+}
+
+/// The input of a test is empty.
+#[test]
+fn input_ends(rt: HostRuntime) {
+    let mut input = StdinSource::new(&rt);
+    let mut buf = [0u8; 16];
+    assert_eq!(rt; input.take(&mut buf), Taken::End);
+    assert_eq!(rt; input.take(&mut buf), Taken::End);
 }
 
 /// A file that fills the buffer of a read more than twice.

@@ -1,8 +1,10 @@
 pub mod Causing
+pub mod Completing
 pub mod Cycles
 pub mod EventLines
 pub mod Opens
 pub mod Pieces
 pub mod ProgramWalks
 pub mod Running
+pub mod Telling
 pub mod Walking

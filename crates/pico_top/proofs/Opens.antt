@@ -1,5 +1,5 @@
 -- What was opened, and where its walk ended.
-use Rattle.std.proofs.Common.{◌≡◌, ℕ, List, [], ◌∷◌, map, Option, None, Some, Result, Ok, Err, refl, sym, ap, inl, ◌∙◌, subst, arith, ◌==◌, true, false, if◌then◌else◌, Vec, Global}
+use Rattle.std.proofs.Common.{◌≡◌, ℕ, List, [], ◌∷◌, map, Option, None, Some, Result, Ok, Err, refl, sym, ap, inl, inr, ◌∙◌, subst, arith, ◌==◌, true, false, if◌then◌else◌, Vec, Global}
 use Rattle.lane_look.specs.Device.{DeviceMeaning}
 use Rattle.outer_lane.specs.Setting.{Setting, setting_of}
 use Rattle.rp_ports.specs.Shelf.{Files, Answers, failed_after}
@@ -25,14 +25,14 @@ use Rattle.pico_top.specs.declared.open.Stop.{Stop}
 use Rattle.pico_top.specs.declared.open.Stop.TheVariants.{Refusing, Memory}
 use Rattle.pico_top.specs.RunText.{run_text, run_cycles}
 use Rattle.pico_top.specs.Loads.{Placed, loads_of, plans_in}
-use Rattle.pico_top.specs.Dialogue.{Dialogue, behind_script, with_script, say_run, script_limit}
+use Rattle.pico_top.specs.Dialogue.{Cost, Dialogue, behind_script, with_script, say_run, script_limit}
 use Rattle.pico_top.specs.Dialogue.Cost.{Exactly}
-use Rattle.pico_top.specs.Dialogue.Dialogue.{Load, JudgeScript}
-use Rattle.pico_top.specs.Walk.{Walks, failed_names}
+use Rattle.pico_top.specs.Dialogue.Dialogue.{Load, JudgeScript, SayWords, Say}
+use Rattle.pico_top.specs.Walk.{Ending, Walks, failed_names}
 use Rattle.pico_top.specs.Walk.Ending.{Said, Refused}
 use Rattle.pico_top.specs.Answer.{Puts}
-use Rattle.pico_top.specs.Opening.{StopsAs, Opens, LoadsAs, Passes, Refuses, ReadsScript, Boots, opened_text, opened_cost, IsPlaced, ArePlaced, LoadsAll}
-use Rattle.pico_top.proofs.Walking.{some_walk}
+use Rattle.pico_top.specs.Opening.{StopsAs, Opens, LoadsAs, Passes, Refuses, ReadsScript, Boots, setting_in, IsPlaced, ArePlaced, LoadsAll}
+use Rattle.pico_top.proofs.Walking.{runs_out}
 
 -- a load failed
 pub load_lost : (files : Option Files) (failed failed' : List (List ℕ)) (name : List ℕ) (limit : ℕ) (stop : Stop) → failed' ≡ failed_after failed name Failed → StopsAs stop (Refused (Lost name)) → LoadsAs files failed failed' name limit (Err stop)
@@ -45,7 +45,7 @@ script_judged : (files : Option Files) (failed : List (List ℕ)) (bytes : List 
 script_judged files failed bytes (Ok script) is = (refl, λ next e w. subst (λ (v : Result (List ScriptEntry) ScriptFault). Walks files (JudgeScript v next) e) (sym is) (inl w))
 script_judged files failed bytes (Err (Refusing (Script fault))) is = λ next.
     (Refused (BadScript fault), subst (λ (v : Result (List ScriptEntry) ScriptFault). Walks files (JudgeScript v next) (Refused (BadScript fault))) (sym is) (inl refl), refl, refl)
-script_judged files failed bytes (Err Memory) is = λ next. let w = some_walk files failed (JudgeScript (script_of bytes) next) in (w.0, w.1, w.2, tt)
+script_judged files failed bytes (Err Memory) is = λ next. runs_out files failed (JudgeScript (script_of bytes) next)
 script_judged files failed bytes (Err (Refusing Words)) is = absurd is
 script_judged files failed bytes (Err (Refusing (File name))) is = absurd is
 script_judged files failed bytes (Err (Refusing (Large name long))) is = absurd is
@@ -68,8 +68,11 @@ script_read files failed failed' name bytes result answers same is =
 
 -- what was opened behind a part
 pub opens_behind : {X : Type 0} (files files' : Option Files) (a b c : List (List ℕ)) (device : DeviceMeaning) (part : (X → Dialogue) → Dialogue) (x : X) (next : X → Dialogue) (result : Result Opened Stop) → Passes files a b part (Ok x) → files' ≡ files → Opens files' b c device (next x) result → Opens files a c device (part next) result
-opens_behind files files' a b c device part x next result h same opens =
-    let s = subst (λ (f : Option Files). Opens f b c device (next x) result) same opens in
+opens_behind files files' a b c device part x next (Ok opened) h same opens =
+    let o = subst (λ (f : Option Files). Opens f b c device (next x) (Ok opened)) same opens in
+    (o.0 ∙ h.0, o.1, λ e w. h.1 next e (o.2 e w))
+opens_behind files files' a b c device part x next (Err stop) h same opens =
+    let s = subst (λ (f : Option Files). Opens f b c device (next x) (Err stop)) same opens in
     (s.0, h.1 next s.0 s.1, s.2 ∙ ap (λ f. failed_names f s.0) h.0, s.3)
 
 -- ---- a run
@@ -109,6 +112,13 @@ start_cycle : (device : DeviceMeaning) (image : Loaded) (loads : List PioLoad) �
 unfolding start
 start_cycle device image loads = loads_cycle loads (first_state device image) ∙ first_cycle device image
 
+-- a text that is said is one of its words
+said_words : (files : Option Files) (ps : List Placed) (programs : List Program) (text : List Program → List ℕ) (cost : List Program → Cost) (t : List ℕ) (k : Cost) (e : Ending) → ArePrograms (plans_in ps) programs → Said (text programs) (cost programs) ≡ Said t k → Walks files (Say t k) e → Walks files (SayWords (plans_in ps) text cost) e
+said_words files ps programs text cost t k e have is w = elim w [
+  | inl here ↦ inl (programs, have, here ∙ sym is)
+  | inr none ↦ inr none
+]
+
 -- the machine booted, or memory ran out
 boots_opens : (files : Option Files) (failed : List (List ℕ)) (device : DeviceMeaning) (script : List ScriptEntry) (limit : ℕ) (image : Loaded) (ps : List Placed) (loads : List PioLoad) (result : Result Opened Stop) → ArePlaced ps loads → Boots device image script loads limit result → Opens files failed failed device (say_run (setting_of script device limit) image ps) result
 boots_opens files failed device script limit image ps loads (Ok (Machine started)) placed h =
@@ -116,17 +126,23 @@ boots_opens files failed device script limit image ps loads (Ok (Machine started
     let first : State = start device image (loads_of ps (programs_of loads)) in
     let same : started.machine ≡ first = h.0 ∙ ap (start device image) (sym (same_loads ps loads placed)) in
     let at : started.machine.cycle ≡ 0 = ap (λ (m : State). m.cycle) h.0 ∙ start_cycle device image loads in
-    let here : Said (run_text w first) (Exactly (run_cycles w first)) ≡ Said (opened_text device (Machine started)) (opened_cost device (Machine started)) = rw (same, h.1, h.2) refl in
-    (Said (run_text w first) (Exactly (run_cycles w first)), inl (programs_of loads, have_words ps loads placed, refl), refl, (here, omega (arith, at)))
+    let v : Setting = setting_in device started in
+    let here : Said (run_text w first) (Exactly (run_cycles w first)) ≡ Said (run_text v started.machine) (Exactly (run_cycles v started.machine)) = rw (same, h.1, h.2) refl in (
+      refl,
+      omega (arith, at),
+      λ e walk. said_words files ps (programs_of loads) (λ programs. run_text w (start device image (loads_of ps programs))) (λ programs. Exactly (run_cycles w (start device image (loads_of ps programs)))) (run_text v started.machine) (Exactly (run_cycles v started.machine)) e (have_words ps loads placed) here walk,
+    )
 boots_opens files failed device script limit image ps loads (Ok (Text text)) placed h = absurd h
 boots_opens files failed device script limit image ps loads (Err (Refusing refusal)) placed h = absurd h
-boots_opens files failed device script limit image ps loads (Err Memory) placed h =
-    let w = some_walk files failed (say_run (setting_of script device limit) image ps) in (w.0, w.1, w.2, tt)
+boots_opens files failed device script limit image ps loads (Err Memory) placed h = runs_out files failed (say_run (setting_of script device limit) image ps)
 
 -- the programs of a run have their places, and the machine booted
 pub programs_open : (files : Option Files) (a b : List (List ℕ)) (device : DeviceMeaning) (run : Run) (image : Loaded) (script : List ScriptEntry) (loads : Vec PioLoad Global) (result : Result Opened Stop) → LoadsAll files a b run.pio (Ok loads) → Boots device image script loads.items run.cycles result → Opens files a b device (behind_script device run image script) result
-programs_open files a b device run image script loads result programs boots =
-    let last = boots_opens files a device script run.cycles image programs.2.0 loads.items result programs.2.1 boots in
+programs_open files a b device run image script loads (Ok opened) programs boots =
+    let last = boots_opens files a device script run.cycles image programs.2.0 loads.items (Ok opened) programs.2.1 boots in
+    (programs.0, last.1, λ e w. programs.2.2 (say_run (setting_of script device run.cycles) image) e (last.2 e w))
+programs_open files a b device run image script loads (Err stop) programs boots =
+    let last = boots_opens files a device script run.cycles image programs.2.0 loads.items (Err stop) programs.2.1 boots in
     (last.0, programs.2.2 (say_run (setting_of script device run.cycles) image) last.0 last.1, programs.0 ∙ last.2, last.3)
 
 -- the line of a refusal was put with its status

@@ -24,7 +24,7 @@ use Rattle.pico_top.specs.Dialogue.Dialogue.{JudgeSource, JudgePlace}
 use Rattle.pico_top.specs.Walk.{Ending, Walks, failed_names}
 use Rattle.pico_top.specs.Walk.Ending.{Refused}
 use Rattle.pico_top.specs.Opening.{Stops, LoadsAs, IsPlaced, ArePlaced, LeadsOn, place_part, PlacesAs, source_part, AddsBehind, AddsAs, LoadsAll, taken_by}
-use Rattle.pico_top.proofs.Walking.{some_walk}
+use Rattle.pico_top.proofs.Walking.{runs_out}
 
 -- ---- places
 
@@ -96,7 +96,7 @@ load_refused entry before loads new plan program fault h is at files failed next
 
 -- memory ran out
 pub load_out : (entry : Entry) (before : List Placed) (new : List PioLoad) (plan : Plan) → PlacesAs entry before plan new (Err Memory)
-load_out entry before new plan files failed next = let w = some_walk files failed (place_part entry before plan next) in (w.0, w.1, w.2, tt)
+load_out entry before new plan files failed next = runs_out files failed (place_part entry before plan next)
 
 -- the load was added, or memory ran out
 pub load_tried : (entry : Entry) (before : List Placed) (loads new : List PioLoad) (plan : Plan) (program : Program) (load : PioLoad) (result : Result (Unit {0}) Stop) → IfOk result (λ done. new ≡ loads ++ load ∷ []) → IfErr result (λ stop. stop ≡ Memory) → ArePlaced before loads → IsProgram plan program → AreLoads loads → IsLoad load → load ≡ record { block = entry.block; machine = entry.machine; offset = load.offset; program = program } → placed (taken_by 0 entry.block loads) program.origin (length program.words.items) ≡ Ok load.offset → PlacesAs entry before plan new result
@@ -140,7 +140,7 @@ source_bad entry before new bytes fault is files failed next =
     (Refused (BadSource fault), subst (λ (v : Result (List Plan) PioFault). Walks files (JudgeSource v (with_first entry before next)) (Refused (BadSource fault))) (sym is) (inl refl), refl, refl)
 
 pub source_out : (entry : Entry) (before : List Placed) (new : List PioLoad) (bytes : List ℕ) → AddsBehind entry before bytes new (Err Memory)
-source_out entry before new bytes files failed next = let w = some_walk files failed (source_part entry before bytes next) in (w.0, w.1, w.2, tt)
+source_out entry before new bytes files failed next = runs_out files failed (source_part entry before bytes next)
 
 -- ---- one entry
 

@@ -1,14 +1,15 @@
--- What a call answered, wrote and counted: the project's own.
+-- What a call answered, took, wrote and counted: the project's own.
 use Rattle.std.specs.Prelude.{◌≡◌, ◌⊎◌, ℕ, ◌+◌, ◌≤◌, List, Option, Result, Ok, Err, codes}
 use Rattle.trace_text.specs.Sent.{Sends}
 use Rattle.trace_text.specs.declared.writer.SinkFault.{SinkFault}
 use Rattle.command_words.specs.Words.{reading}
 use Rattle.refusal_lines.specs.Refusals.{line_of, status_of}
 use Rattle.pico_top.specs.Call.{Asked, Outside}
+use Rattle.line_talk.specs.Hearing.{way_status, IsTaken}
 use Rattle.pico_top.specs.Dialogue.{Cost}
 use Rattle.pico_top.specs.Dialogue.Cost.{Exactly, AtMost}
 use Rattle.pico_top.specs.Walk.{Ending, WalksFrom, failed_names}
-use Rattle.pico_top.specs.Walk.Ending.{Said, Refused, NoMemory}
+use Rattle.pico_top.specs.Walk.Ending.{Said, Heard, Refused, NoMemory}
 
 -- ---- the status and the bytes
 
@@ -29,9 +30,11 @@ memory_line = codes "error memory\n"
 abbrev pub RunsOut : Option (List ℕ) → Option (List ℕ) → ℕ → ℕ → ℕ → Type 0
 RunsOut old new before now status = Puts old new before now status 9 memory_line
 
--- the three cases of every return: the text of the ending was written with its status, the sink failed at it, or memory ran out
+-- The cases of every return: the text of the ending was written with its status, or the sink failed at it; where memory ran out,
+-- also for the line of a refusal, it was the line that says so.
 abbrev pub Ends : Option (List ℕ) → Option (List ℕ) → ℕ → ℕ → ℕ → Ending → Type 0
-Ends old new before now status (Said text cost) = Puts old new before now status 0 text ⊎ RunsOut old new before now status
+Ends old new before now status (Said text cost) = Puts old new before now status 0 text
+Ends old new before now status (Heard bytes way text cost) = Puts old new before now status (way_status way) text
 Ends old new before now status (Refused refusal) =
     Puts old new before now status (status_of refusal) (line_of refusal) ⊎ RunsOut old new before now status
 Ends old new before now status NoMemory = RunsOut old new before now status
@@ -47,26 +50,36 @@ abbrev pub most : Cost → ℕ
 most (Exactly cycles) = cycles
 most (AtMost cycles) = cycles
 
--- the steps of a call that said a text: its cost where the text was written whole, never more, and none where memory ran out
-pub record IsCounted (cost : Cost) (status before after : ℕ) : Type 0 where
-  pub whole : status ≡ 0 → Ticks cost before after
+-- the steps of a call that said a text: its cost where the text was written whole, and never more
+pub record IsCounted (cost : Cost) (status wanted before after : ℕ) : Type 0 where
+  pub whole : status ≡ wanted → Ticks cost before after
   pub forward : before ≤ after
   pub within : after ≤ before + most cost
-  pub none : status ≡ 9 → after ≡ before
 
 abbrev pub Counts : Ending → ℕ → ℕ → ℕ → Type 0
-Counts (Said text cost) status before after = IsCounted cost status before after
+Counts (Said text cost) status before after = IsCounted cost status 0 before after
+Counts (Heard bytes way text cost) status before after = IsCounted cost status (way_status way) before after
 Counts (Refused refusal) status before after = after ≡ before
 Counts NoMemory status before after = after ≡ before
 
+-- ---- the source
+
+-- what was heard was taken, and nothing else
+abbrev pub Takes : Option (List ℕ) → Option (List ℕ) → ℕ → ℕ → ℕ → Ending → Type 0
+Takes old new before now status (Said text cost) = (new ≡ old) × (now ≡ before)
+Takes old new before now status (Heard bytes way text cost) = IsTaken old new before now status bytes way
+Takes old new before now status (Refused refusal) = (new ≡ old) × (now ≡ before)
+Takes old new before now status NoMemory = (new ≡ old) × (now ≡ before)
+
 -- ---- the call
 
--- a call with this status: a walk of its dialogue ended so, and what it wrote and counted goes with that ending; the files are
--- as before
+-- A call with this status: a walk of its dialogue ended so, and what it took, wrote and counted goes with that ending. The files
+-- are as before.
 pub record Converses (asked : Asked) (before after : Outside) (status : ℕ) : Type 0 where
   pub ending : Ending
   pub walked : WalksFrom before.files asked.device (reading asked.words) ending
   pub failed : after.failed ≡ failed_names before.failed ending
   pub kept : after.files ≡ before.files
-  pub ends : Ends before.written after.written before.faults after.faults status ending
+  pub takes : Takes before.left after.left before.source_faults after.source_faults status ending
+  pub ends : Ends before.written after.written before.sink_faults after.sink_faults status ending
   pub counted : Counts ending status before.steps after.steps

@@ -8,11 +8,13 @@ pub record Asked : Type 0 where
   pub words : List (List ℕ)
   pub device : DeviceMeaning
 
--- the files of the shelf by name, where it tells them, and the names whose loads failed; what the sink has written, where it
--- tells it, and its count of faults; and the steps that were counted
+-- the files of the shelf by name, where it tells them, and the names whose loads failed; the bytes that the source has left and
+-- those that the sink has written, where they tell them, and the count of faults of each; and the steps that were counted
 pub record Outside : Type 0 where
   pub files : Option Files
   pub failed : List (List ℕ)
+  pub left : Option (List ℕ)
+  pub source_faults : ℕ
   pub written : Option (List ℕ)
-  pub faults : ℕ
+  pub sink_faults : ℕ
   pub steps : ℕ

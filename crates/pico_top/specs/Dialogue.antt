@@ -1,5 +1,6 @@
--- What a call does for its words: it loads files and judges each, one after another, and says a text. The project's own.
-use Rattle.std.specs.Prelude.{ℕ, List, [], ◌∷◌, ◌++◌, Option, None, Some, Result}
+-- What a call does for its words: it loads files and judges each, one after another, and says a text, or hears lines and answers
+-- them. The project's own.
+use Rattle.std.specs.Prelude.{ℕ, Bool, List, [], ◌∷◌, ◌++◌, Option, None, Some, Result}
 use Rattle.lane_look.specs.Device.{DeviceMeaning}
 use Rattle.uf2_image.specs.Uf2.{image_of}
 use Rattle.uf2_image.specs.declared.parts.Image.{Image}
@@ -25,11 +26,18 @@ pub data Cost : Type 0 where
   Exactly : (cycles : ℕ) → Cost
   AtMost : (cycles : ℕ) → Cost
 
+-- a text and its cost
+pub record Told : Type 0 where
+  pub text : List ℕ
+  pub cost : Cost
+
 -- Load: the file of this name is loaded, if it has at most so many bytes, and what is next goes on with its bytes.
 -- JudgeImage, JudgeScript, JudgeSource, JudgePlace: what is next goes on with the image, the script, the programs or the offset of
 -- a program; where there is a fault in its place, the dialogue ends with it.
 -- SayWords: a text of programs is said, each with the words that stand with its lines.
 -- Say: a text is said.
+-- Hear: at most so many bytes are taken from the input, up to the first complete line that is a last one, and the lines before it
+-- are answered.
 pub data Dialogue : Type 0 where
   Load : (name : List ℕ) → (limit : ℕ) → (next : List ℕ → Dialogue) → Dialogue
   JudgeImage : (verdict : Result Image ImageFault) → (next : Image → Dialogue) → Dialogue
@@ -38,6 +46,7 @@ pub data Dialogue : Type 0 where
   JudgePlace : (verdict : Result ℕ PioFault) → (next : ℕ → Dialogue) → Dialogue
   SayWords : (plans : List Plan) → (text : List Program → List ℕ) → (cost : List Program → Cost) → Dialogue
   Say : (text : List ℕ) → (cost : Cost) → Dialogue
+  Hear : (limit : ℕ) → (last : List ℕ → Bool) → (told : List (List ℕ) → Told) → Dialogue
 
 -- ---- the inputs
 

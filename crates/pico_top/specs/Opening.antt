@@ -8,7 +8,7 @@ use Rattle.command_words.specs.Words.{Command}
 use Rattle.refusal_lines.specs.declared.Refusal.TheVariants.{Words, File, Large, Image as BadImage, Script, Source}
 use Rattle.refusal_lines.specs.Meant.{meant}
 use Rattle.refusal_lines.specs.Refusals.{line_of, status_of}
-use Rattle.pico_top.specs.Answer.{Puts, RunsOut}
+use Rattle.pico_top.specs.Answer.{Puts, RunsOut, Takes, Ends, Counts}
 use Rattle.lane_look.specs.Device.{DeviceMeaning}
 use Rattle.outer_lane.specs.Setting.{Setting, setting_of}
 use Rattle.rp_machine.specs.declared.load.PioLoad.{PioLoad}
@@ -26,51 +26,55 @@ use Rattle.pico_top.specs.RunText.{run_text, run_cycles}
 use Rattle.pio_asm.specs.Assembly.{Plan, IsProgram}
 use Rattle.pio_listing.specs.Listing.{plans_of}
 use Rattle.pico_top.specs.Loads.{Placed, placed_as, offset_of}
-use Rattle.pico_top.specs.Dialogue.{Cost, Dialogue, with_first, with_program, with_programs}
-use Rattle.pico_top.specs.Dialogue.Dialogue.{Load, JudgeSource, JudgePlace}
+use Rattle.pico_top.specs.Dialogue.{Dialogue, with_first, with_program, with_programs}
+use Rattle.pico_top.specs.Dialogue.Dialogue.{Load, JudgeSource, JudgePlace, Say}
 use Rattle.pico_top.specs.Dialogue.Cost.{Exactly}
 use Rattle.pico_top.specs.Walk.{Ending, Walks, WalksFrom, failed_names}
-use Rattle.pico_top.specs.Walk.Ending.{Said, Refused}
+use Rattle.pico_top.specs.Walk.Ending.{Said, Heard, Refused, NoMemory}
 
 -- what the run of a machine is given
 abbrev pub setting_in : DeviceMeaning → Started → Setting
 setting_in device started = setting_of started.script device started.limit
 
--- the text of what was opened, and its cost
-abbrev pub opened_text : DeviceMeaning → Opened → List ℕ
-opened_text device (Machine started) = run_text (setting_in device started) started.machine
-opened_text device (Text text) = text.items
-
-abbrev pub opened_cost : DeviceMeaning → Opened → Cost
-opened_cost device (Machine started) = Exactly (run_cycles (setting_in device started) started.machine)
-opened_cost device (Text text) = Exactly 0
+-- what is left of the dialogue when this is opened
+abbrev pub opened_dialogue : DeviceMeaning → Opened → Dialogue
+opened_dialogue device (Machine started) =
+    Say (run_text (setting_in device started) started.machine) (Exactly (run_cycles (setting_in device started) started.machine))
+opened_dialogue device (Text text) = Say text.items (Exactly 0)
 
 -- a machine has not passed its limit
 abbrev pub IsReady : Opened → Type 0
 IsReady (Machine started) = started.machine.cycle ≤ started.limit
 IsReady (Text text) = Unit {0}
 
--- the ending in which an opening stopped; memory may run out in the place of any
+-- nothing is said or heard
+abbrev pub IsShort : Ending → Type 0
+IsShort (Said text cost) = ⊥
+IsShort (Heard bytes way text cost) = ⊥
+IsShort (Refused refusal) = Unit {0}
+IsShort NoMemory = Unit {0}
+
+-- the ending in which an opening stopped; memory may run out in the place of a refusal
 abbrev pub StopsAs : Stop → Ending → Type 0
 StopsAs (Refusing refusal) e = e ≡ Refused (meant refusal)
-StopsAs Memory e = Unit {0}
+StopsAs Memory e = IsShort e
 
-abbrev pub OpensAs : DeviceMeaning → Result Opened Stop → Ending → Type 0
-OpensAs device (Ok opened) e = (e ≡ Said (opened_text device opened) (opened_cost device opened)) × IsReady opened
-OpensAs device (Err stop) e = StopsAs stop e
-
--- a walk of the dialogue ended so, over a shelf with these files, and with these failed names before and after it
-abbrev pub Opens : Option Files → List (List ℕ) → List (List ℕ) → DeviceMeaning → Dialogue → Result Opened Stop → Type 0
-Opens files failed failed' device d result =
-    (e : Ending) × Walks files d e × (failed' ≡ failed_names failed e) × OpensAs device result e
-
-abbrev pub OpensFrom : Option Files → List (List ℕ) → List (List ℕ) → DeviceMeaning → Option Command → Result Opened Stop → Type 0
-OpensFrom files failed failed' device asked result =
-    (e : Ending) × WalksFrom files device asked e × (failed' ≡ failed_names failed e) × OpensAs device result e
-
--- a walk of the dialogue ended in this stop
+-- a walk of the dialogue ended in this stop, over a shelf with these files, and with these failed names before and after it
 abbrev pub Stops : Option Files → List (List ℕ) → List (List ℕ) → Dialogue → Stop → Type 0
 Stops files failed failed' d stop = (e : Ending) × Walks files d e × (failed' ≡ failed_names failed e) × StopsAs stop e
+
+-- something was opened from which every walk is one of the dialogue; or a walk ended in a stop
+abbrev pub Opens : Option Files → List (List ℕ) → List (List ℕ) → DeviceMeaning → Dialogue → Result Opened Stop → Type 0
+Opens files failed failed' device d (Ok opened) =
+    (failed' ≡ failed) × IsReady opened × ((e : Ending) → Walks files (opened_dialogue device opened) e → Walks files d e)
+Opens files failed failed' device d (Err stop) = Stops files failed failed' d stop
+
+-- the same of the dialogue of what the words ask for
+abbrev pub OpensFrom : Option Files → List (List ℕ) → List (List ℕ) → DeviceMeaning → Option Command → Result Opened Stop → Type 0
+OpensFrom files failed failed' device asked (Ok opened) =
+    (failed' ≡ failed) × IsReady opened × ((e : Ending) → Walks files (opened_dialogue device opened) e → WalksFrom files device asked e)
+OpensFrom files failed failed' device asked (Err stop) =
+    (e : Ending) × WalksFrom files device asked e × (failed' ≡ failed_names failed e) × StopsAs stop e
 
 -- a load gave these bytes, or the walk ended at it, whatever comes behind
 abbrev pub LoadsAs : Option Files → List (List ℕ) → List (List ℕ) → List ℕ → ℕ → Result (Vec ℕ Global) Stop → Type 0
@@ -167,3 +171,20 @@ abbrev pub Refuses : Option (List ℕ) → Option (List ℕ) → ℕ → ℕ →
 Refuses old new before now status (Refusing refusal) =
     Puts old new before now status (status_of (meant refusal)) (line_of (meant refusal)) ⊎ RunsOut old new before now status
 Refuses old new before now status Memory = RunsOut old new before now status
+
+-- something is said or heard
+abbrev pub IsTold : Ending → Type 0
+IsTold (Said text cost) = Unit {0}
+IsTold (Heard bytes way text cost) = Unit {0}
+IsTold (Refused refusal) = ⊥
+IsTold NoMemory = ⊥
+
+-- what is left of a dialogue was told: a walk of it ended so, whatever the files, and what was taken, written and counted goes
+-- with that ending
+pub record Tells (d : Dialogue) (left left' : Option (List ℕ)) (lost lost' : ℕ) (old new : Option (List ℕ)) (before now : ℕ) (steps steps' : ℕ) (status : ℕ) : Type 0 where
+  pub ending : Ending
+  pub walked : (files : Option Files) → Walks files d ending
+  pub told : IsTold ending
+  pub takes : Takes left left' lost lost' status ending
+  pub ends : Ends old new before now status ending
+  pub counted : Counts ending status steps steps'

@@ -1,5 +1,5 @@
 -- The walks of a dialogue over a shelf of files, and where they end. The project's own.
-use Rattle.std.specs.Prelude.{◌≡◌, ◌⊎◌, ℕ, nat_le, if◌then◌else◌, List, length, Option, Some, None, Ok, Err}
+use Rattle.std.specs.Prelude.{◌≡◌, ◌⊎◌, ℕ, ◌≤◌, nat_le, Bool, not, ◌&&◌, if◌then◌else◌, List, ◌++◌, length, take, Option, Some, None, Ok, Err}
 use Rattle.lane_look.specs.Device.{DeviceMeaning}
 use Rattle.rp_ports.specs.Shelf.{Files, Answers, failed_after}
 use Rattle.rp_ports.specs.declared.shelf.Loaded.{Loaded}
@@ -9,12 +9,17 @@ use Rattle.pio_asm.specs.declared.program.Program.{Program}
 use Rattle.command_words.specs.Words.{Command}
 use Rattle.refusal_lines.specs.Refusals.{Refusal}
 use Rattle.refusal_lines.specs.Refusals.Refusal.{BadWords, Lost, TooLarge, BadImage, BadScript, BadSource}
-use Rattle.pico_top.specs.Dialogue.{Cost, Dialogue, dialogue_of}
-use Rattle.pico_top.specs.Dialogue.Dialogue.{Load, JudgeImage, JudgeScript, JudgeSource, JudgePlace, SayWords, Say}
+use Rattle.line_talk.specs.Lines.{closes}
+use Rattle.line_talk.specs.declared.way.Way.{Way}
+use Rattle.line_talk.specs.Hearing.{MayEnd, lines_heard, way_line}
+use Rattle.pico_top.specs.Dialogue.{Cost, Told, Dialogue, dialogue_of}
+use Rattle.pico_top.specs.Dialogue.Dialogue.{Load, JudgeImage, JudgeScript, JudgeSource, JudgePlace, SayWords, Say, Hear}
 
--- how a walk ends: its text was said, an input was refused with every input before it accepted, or memory ran out
+-- how a walk ends: its text was said, these bytes were heard up to an end and this was told, an input was refused with every
+-- input before it accepted, or memory ran out
 pub data Ending : Type 0 where
   Said : (text : List ℕ) → (cost : Cost) → Ending
+  Heard : (bytes : List ℕ) → (way : Way) → (text : List ℕ) → (cost : Cost) → Ending
   Refused : (refusal : Refusal) → Ending
   NoMemory : Ending
 
@@ -25,8 +30,13 @@ AfterLoad (Large long) name e on = e ≡ Refused (TooLarge name long)
 AfterLoad Failed name e on = e ≡ Refused (Lost name)
 AfterLoad Memory name e on = e ≡ NoMemory
 
+-- the answers to the lines that were heard, and the line of the way
+abbrev pub heard_as : (List ℕ → Bool) → (List (List ℕ) → Told) → List ℕ → Way → Ending
+heard_as last told bytes way =
+    let t = told (lines_heard last way bytes) in Heard bytes way (t.text ++ way_line way) t.cost
+
 -- A walk of the dialogue ends so: each load was answered by the shelf, each input was accepted or was the last one, and each
--- program has the words that stand with its lines. Memory may run out at every step before the text.
+-- program has the words that stand with its lines. Memory may run out at every step, and nothing is said then.
 abbrev pub Walks : Option Files → Dialogue → Ending → Type 0
 Walks files (Load name limit next) e =
     (answer : Loaded) × (bytes : List ℕ) × Answers files name limit answer bytes × AfterLoad answer name e (Walks files (next bytes) e)
@@ -40,7 +50,10 @@ Walks files (JudgePlace (Ok offset) next) e = Walks files (next offset) e ⊎ (e
 Walks files (JudgePlace (Err fault) next) e = (e ≡ Refused (BadSource fault)) ⊎ (e ≡ NoMemory)
 Walks files (SayWords plans text cost) e =
     ((programs : List Program) × ArePrograms plans programs × (e ≡ Said (text programs) (cost programs))) ⊎ (e ≡ NoMemory)
-Walks files (Say text cost) e = e ≡ Said text cost
+Walks files (Say text cost) e = (e ≡ Said text cost) ⊎ (e ≡ NoMemory)
+Walks files (Hear limit last told) e =
+    ((bytes : List ℕ) × (way : Way) × (length bytes ≤ limit) × MayEnd limit (closes last bytes) (length bytes) way
+    × (e ≡ heard_as last told bytes way)) ⊎ (e ≡ NoMemory)
 
 -- a walk from the reading of the words, which are refused where they have none
 abbrev pub WalksFrom : Option Files → DeviceMeaning → Option Command → Ending → Type 0
@@ -50,6 +63,7 @@ WalksFrom files device (Some command) e = Walks files (dialogue_of device comman
 -- the failed names of the shelf after a walk: one more where a load failed
 abbrev pub failed_names : List (List ℕ) → Ending → List (List ℕ)
 failed_names failed (Said text cost) = failed
+failed_names failed (Heard bytes way text cost) = failed
 failed_names failed (Refused BadWords) = failed
 failed_names failed (Refused (Lost name)) = failed_after failed name Failed
 failed_names failed (Refused (TooLarge name long)) = failed
@@ -60,25 +74,36 @@ failed_names failed NoMemory = failed
 
 -- ---- the walk over files that are told
 
+-- where a dialogue leads: to a refusal, to a text, or to the hearing of an input
+pub data Verdict : Type 0 where
+  Refuses : (refusal : Refusal) → Verdict
+  Says : Verdict
+  Hears : (limit : ℕ) → (last : List ℕ → Bool) → Verdict
+
 -- a file that is not held is lost, and one above its limit is too large
-abbrev pub on_held : Option (List ℕ) → List ℕ → ℕ → (List ℕ → Option Refusal) → Option Refusal
-on_held None name limit next = Some (Lost name)
-on_held (Some bytes) name limit next = if nat_le (length bytes) limit then next bytes else Some (TooLarge name (length bytes))
+abbrev pub on_held : Option (List ℕ) → List ℕ → ℕ → (List ℕ → Verdict) → Verdict
+on_held None name limit next = Refuses (Lost name)
+on_held (Some bytes) name limit next = if nat_le (length bytes) limit then next bytes else Refuses (TooLarge name (length bytes))
 
--- the first refusal of a dialogue over these files, or none where every input is accepted
-abbrev pub first_refusal : Files → Dialogue → Option Refusal
-first_refusal files (Load name limit next) = on_held (files name) name limit (λ bytes. first_refusal files (next bytes))
-first_refusal files (JudgeImage (Ok image) next) = first_refusal files (next image)
-first_refusal files (JudgeImage (Err fault) next) = Some (BadImage fault)
-first_refusal files (JudgeScript (Ok script) next) = first_refusal files (next script)
-first_refusal files (JudgeScript (Err fault) next) = Some (BadScript fault)
-first_refusal files (JudgeSource (Ok plans) next) = first_refusal files (next plans)
-first_refusal files (JudgeSource (Err fault) next) = Some (BadSource fault)
-first_refusal files (JudgePlace (Ok offset) next) = first_refusal files (next offset)
-first_refusal files (JudgePlace (Err fault) next) = Some (BadSource fault)
-first_refusal files (SayWords plans text cost) = None
-first_refusal files (Say text cost) = None
+-- the verdict of a dialogue over these files: its first refusal, or none where every input is accepted
+abbrev pub verdict : Files → Dialogue → Verdict
+verdict files (Load name limit next) = on_held (files name) name limit (λ bytes. verdict files (next bytes))
+verdict files (JudgeImage (Ok image) next) = verdict files (next image)
+verdict files (JudgeImage (Err fault) next) = Refuses (BadImage fault)
+verdict files (JudgeScript (Ok script) next) = verdict files (next script)
+verdict files (JudgeScript (Err fault) next) = Refuses (BadScript fault)
+verdict files (JudgeSource (Ok plans) next) = verdict files (next plans)
+verdict files (JudgeSource (Err fault) next) = Refuses (BadSource fault)
+verdict files (JudgePlace (Ok offset) next) = verdict files (next offset)
+verdict files (JudgePlace (Err fault) next) = Refuses (BadSource fault)
+verdict files (SayWords plans text cost) = Says
+verdict files (Say text cost) = Says
+verdict files (Hear limit last told) = Hears limit last
 
-abbrev pub refusal_from : Files → DeviceMeaning → Option Command → Option Refusal
-refusal_from files device None = Some BadWords
-refusal_from files device (Some command) = first_refusal files (dialogue_of device command)
+abbrev pub verdict_from : Files → DeviceMeaning → Option Command → Verdict
+verdict_from files device None = Refuses BadWords
+verdict_from files device (Some command) = verdict files (dialogue_of device command)
+
+-- the status of hearing these bytes: 10 where the limit is reached before a last line is complete
+abbrev pub status_over : ℕ → (List ℕ → Bool) → List ℕ → ℕ
+status_over limit last bytes = if nat_le limit (length bytes) && not (closes last (take limit bytes)) then 10 else 0

@@ -5,17 +5,20 @@ ghost use Rattle.std.specs.Prelude.{◌≡◌, ◌<◌};
 use crate::pico;
 use lane_look::NoDevice;
 use rp_machine::Steps;
+use rp_ports::mem_source::MemSource;
 use rp_ports::shelf::Shelf;
 use rp_ports::sink::Sink;
+use rp_ports::source::Source;
 use std::alloc::Global;
 use std::marker::Brand;
 use std::sync::ledger::{Blank, Ledger};
 
-fn counted<F: Shelf, O: Sink, L: Ledger>(
+fn counted<F: Shelf, I: Source, O: Sink, L: Ledger>(
     blank: Blank,
     alloc: Global,
     words: &[String],
     files: &mut F,
+    input: &mut I,
     out: &mut O,
 ) -> u8
     requires name { blank.name ≡ L.name }
@@ -24,15 +27,27 @@ fn counted<F: Shelf, O: Sink, L: Ledger>(
 {
     let (book, share) = blank.open::<L>();
     let mut steps = Steps::new(book, share);
-    pico(alloc, words, files, out, NoDevice, &mut steps)
+    pico(alloc, words, files, input, out, NoDevice, &mut steps)
 }
 
-/// What `pico` answers.
+/// What `pico` answers where its lines come from a source.
+pub fn hear_words<F: Shelf, I: Source, O: Sink>(
+    alloc: Global,
+    words: &[String],
+    files: &mut F,
+    input: &mut I,
+    out: &mut O,
+) -> u8 {
+    counted::<F, I, O, Brand>(Blank::new(1), alloc, words, files, input, out)
+}
+
+/// What `pico` answers where there is no input.
 pub fn run_words<F: Shelf, O: Sink>(
     alloc: Global,
     words: &[String],
     files: &mut F,
     out: &mut O,
 ) -> u8 {
-    counted::<F, O, Brand>(Blank::new(1), alloc, words, files, out)
+    let mut input = MemSource::new(Vec::new(alloc), Vec::new(alloc));
+    hear_words(alloc, words, files, &mut input, out)
 }

@@ -1,4 +1,5 @@
-//! The top call: the words of a command line, the files and the sink that are handed in, and the text that is written.
+//! The top call: the words of a command line, the files, the source and the sink that are handed in, and the text that is
+//! written.
 #![tactic(auto)]
 
 mod events;
@@ -20,74 +21,144 @@ use open::open;
 use rp_machine::Steps;
 use rp_ports::shelf::Shelf;
 use rp_ports::sink::Sink;
+use rp_ports::source::Source;
 use std::alloc::Global;
 use std::sync::ledger::Ledger;
 use tell::{refuse, tell_into};
 
 /// Loads the files that the words name, and writes the text.
-fn converse<F: Shelf, O: Sink, X: Device, L: Ledger>(
+fn converse<F: Shelf, I: Source, O: Sink, X: Device, L: Ledger>(
     alloc: Global,
     words: &[String],
     files: &mut F,
+    input: &mut I,
     out: &mut O,
     device: &X,
     steps: &mut Steps<L>,
 ) -> u8
     ensures { Converses record { words = map string_bytes words.now; device = X.meaning device.now }
-        record { files = F.files files.old; failed = F.failed files.old; written = O.written out.old; faults = O.faults out.old; steps = steps.old }
-        record { files = F.files files.new; failed = F.failed files.new; written = O.written out.new; faults = O.faults out.new; steps = steps.new }
+        record {
+          files = F.files files.old;
+          failed = F.failed files.old;
+          left = I.left input.old;
+          source_faults = I.faults input.old;
+          written = O.written out.old;
+          sink_faults = O.faults out.old;
+          steps = steps.old;
+        }
+        record {
+          files = F.files files.new;
+          failed = F.failed files.new;
+          left = I.left input.new;
+          source_faults = I.faults input.new;
+          written = O.written out.new;
+          sink_faults = O.faults out.new;
+          steps = steps.new;
+        }
         result }
 {
     match open(alloc, words, files, device) {
-        Ok(opened) => tell_into(opened, device, out, steps),
+        Ok(opened) => tell_into(opened, device, input, out, steps),
         Err(stop) => refuse(alloc, &stop, out),
     }
 }
 
-/// Does what the words say: loads their files from the shelf, and writes the text to the sink.
+/// Does what the words say: loads their files from the shelf, takes the lines that it answers from the source, and writes
+/// the text to the sink.
 ///
 /// The answer is the status: 0 where the text was written, 2 where the words are refused, 3 where a file could not be
 /// loaded or is too large, 4 where the image has a fault, 5 where a PIO source has one or its program finds no room, 6 where
-/// the script has one, 7 where the sink failed, 9 where memory ran out. A refusal has its one line, `error ..`, for its
-/// text. The `device` stands at the pads of a run and at the addresses that no block covers. Each cycle of a run counts as
+/// the script has one, 7 where the sink failed, 8 where the source failed, 9 where memory ran out, 10 where the input is
+/// longer than its limit. A refusal has its one line, `error ..`, for its text; at 8 and 10 such a line comes behind the
+/// answers. The `device` stands at the pads of a run and at the addresses that no block covers. Each cycle of a run counts as
 /// one of the `steps`.
-pub fn pico<F: Shelf, O: Sink, X: Device, L: Ledger>(
+pub fn pico<F: Shelf, I: Source, O: Sink, X: Device, L: Ledger>(
     alloc: Global,
     words: &[String],
     files: &mut F,
+    input: &mut I,
     out: &mut O,
     device: X,
     steps: &mut Steps<L>,
 ) -> u8
     // A walk of the words' dialogue over the shelf ended, and its text was written whole with its status; or a part of it,
-    // and the sink failed; or memory ran out, and the line that says so was written alone. So many steps were counted as
-    // that text costs.
+    // and the sink failed; or memory ran out, and the line that says so was written alone. The bytes that were heard were
+    // taken from the source. So many steps were counted as that text costs.
     ensures text { Converses record { words = map string_bytes words.now; device = X.meaning device }
-        record { files = F.files files.old; failed = F.failed files.old; written = O.written out.old; faults = O.faults out.old; steps = steps.old }
-        record { files = F.files files.new; failed = F.failed files.new; written = O.written out.new; faults = O.faults out.new; steps = steps.new }
+        record {
+          files = F.files files.old;
+          failed = F.failed files.old;
+          left = I.left input.old;
+          source_faults = I.faults input.old;
+          written = O.written out.old;
+          sink_faults = O.faults out.old;
+          steps = steps.old;
+        }
+        record {
+          files = F.files files.new;
+          failed = F.failed files.new;
+          left = I.left input.new;
+          source_faults = I.faults input.new;
+          written = O.written out.new;
+          sink_faults = O.faults out.new;
+          steps = steps.new;
+        }
         result }
 
     // Status 2 comes exactly where the words are refused.
     ensures words { result ≡ 2 → reading (map string_bytes words.now) ≡ None }
     ensures refused { reading (map string_bytes words.now) ≡ None → IsStatus result 2 }
 
-    // Statuses 3 to 6 come only of the input at which the walk ended.
+    // Statuses 3 to 6 come only of the input at which the walk ended, 8 only where the source's count of faults rose, 10
+    // only where the limit of its bytes was reached.
     ensures cause { HasCause record { words = map string_bytes words.now; device = X.meaning device }
-        record { files = F.files files.old; failed = F.failed files.old; written = O.written out.old; faults = O.faults out.old; steps = steps.old }
-        record { files = F.files files.new; failed = F.failed files.new; written = O.written out.new; faults = O.faults out.new; steps = steps.new }
+        record {
+          files = F.files files.old;
+          failed = F.failed files.old;
+          left = I.left input.old;
+          source_faults = I.faults input.old;
+          written = O.written out.old;
+          sink_faults = O.faults out.old;
+          steps = steps.old;
+        }
+        record {
+          files = F.files files.new;
+          failed = F.failed files.new;
+          left = I.left input.new;
+          source_faults = I.faults input.new;
+          written = O.written out.new;
+          sink_faults = O.faults out.new;
+          steps = steps.new;
+        }
         result }
 
     // Status 7 comes only where the sink's count of faults rose.
     ensures sink { result ≡ 7 → Rose (O.faults out.old) (O.faults out.new) }
 
-    // Where the shelf tells its files and no load failed, the status is that of the dialogue over these files, unless the
-    // sink failed or memory ran out.
+    // Where the shelf tells its files and no load failed, the status is that of the dialogue over these files, and where it
+    // hears an input, over the bytes of the source, unless the sink failed or memory ran out.
     ensures held { IsComplete record { words = map string_bytes words.now; device = X.meaning device }
-        record { files = F.files files.old; failed = F.failed files.old; written = O.written out.old; faults = O.faults out.old; steps = steps.old }
-        record { files = F.files files.new; failed = F.failed files.new; written = O.written out.new; faults = O.faults out.new; steps = steps.new }
+        record {
+          files = F.files files.old;
+          failed = F.failed files.old;
+          left = I.left input.old;
+          source_faults = I.faults input.old;
+          written = O.written out.old;
+          sink_faults = O.faults out.old;
+          steps = steps.old;
+        }
+        record {
+          files = F.files files.new;
+          failed = F.failed files.new;
+          left = I.left input.new;
+          source_faults = I.faults input.new;
+          written = O.written out.new;
+          sink_faults = O.faults out.new;
+          steps = steps.new;
+        }
         result }
 {
-    converse(alloc, words, files, out, &device, steps)
+    converse(alloc, words, files, input, out, &device, steps)
 }
 
 #[cfg(test)]

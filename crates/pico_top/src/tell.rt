@@ -5,8 +5,8 @@ ghost use Rattle.trace_text.specs.Sent.{Sends};
 ghost use Rattle.refusal_lines.specs.Refusals.{line_of, status_of};
 ghost use Rattle.refusal_lines.specs.Meant.{meant};
 ghost use Rattle.pico_top.specs.RunText.{run_text, run_cycles};
-ghost use Rattle.pico_top.specs.Answer.{Puts, RunsOut, Ticks, most};
-ghost use Rattle.pico_top.specs.Opening.{setting_in, opened_text, opened_cost, IsReady, Refuses};
+ghost use Rattle.pico_top.specs.Answer.{Puts, RunsOut};
+ghost use Rattle.pico_top.specs.Opening.{setting_in, opened_dialogue, IsReady, Refuses, Tells};
 
 use crate::open::{Opened, Started, Stop};
 use crate::runner::run_to_stop;
@@ -15,6 +15,7 @@ use lane_look::Device;
 use refusal_lines::{refusal_line, status};
 use rp_machine::{Steps, World};
 use rp_ports::sink::Sink;
+use rp_ports::source::Source;
 use std::alloc::Global;
 use std::sync::ledger::Ledger;
 use trace_text::writer::{SinkFault, Writer};
@@ -51,45 +52,56 @@ fn run<X: Device, O: Sink, L: Ledger>(
     }
 }
 
-/// Puts the text of what was opened.
-fn tell<X: Device, O: Sink, L: Ledger>(
-    opened: Opened,
-    device: &X,
-    writer: &mut Writer<'_, O>,
-    steps: &mut Steps<L>,
-) -> Result<(), SinkFault>
-    requires { IsReady opened }
-    ensures sends { Sends (O.written writer.old.out.now) (O.written writer.new.out.now)
-        (O.faults writer.old.out.now) (O.faults writer.new.out.now) (opened_text (X.meaning device.now) opened) result }
-    ensures same_sink { writer.new.out.ghost_name ≡ writer.old.out.ghost_name }
-    ensures whole { OnOk result (Ticks (opened_cost (X.meaning device.now) opened) steps.old steps.new) }
-    ensures forward { steps.old ≤ steps.new }
-    ensures within { steps.new ≤ steps.old + most (opened_cost (X.meaning device.now) opened) }
-{
-    match opened {
-        Opened::Machine(started) => run(started, device, writer, steps),
-        Opened::Text(text) => send_text(&text, writer),
-    }
-}
-
-/// Puts the text of what was opened into a sink, and answers 0, or 7 where the sink fails.
-pub fn tell_into<X: Device, O: Sink, L: Ledger>(
-    opened: Opened,
+/// Runs a machine into a sink, and answers 0, or 7 where the sink fails.
+fn run_into<X: Device, O: Sink, L: Ledger>(
+    started: Started,
     device: &X,
     out: &mut O,
     steps: &mut Steps<L>,
 ) -> u8
-    requires { IsReady opened }
+    requires { started.machine.cycle ≤ started.limit }
     ensures puts { Puts (O.written out.old) (O.written out.new) (O.faults out.old) (O.faults out.new)
-        result 0 (opened_text (X.meaning device.now) opened) }
-    ensures whole { result ≡ 0 → Ticks (opened_cost (X.meaning device.now) opened) steps.old steps.new }
+        result 0 (run_text (setting_in (X.meaning device.now) started) started.machine) }
+    ensures whole { result ≡ 0 → steps.new ≡ steps.old + run_cycles (setting_in (X.meaning device.now) started) started.machine }
     ensures forward { steps.old ≤ steps.new }
-    ensures within { steps.new ≤ steps.old + most (opened_cost (X.meaning device.now) opened) }
+    ensures within { steps.new ≤ steps.old + run_cycles (setting_in (X.meaning device.now) started) started.machine }
 {
     let mut writer = Writer { out };
-    match tell(opened, device, &mut writer, steps) {
+    match run(started, device, &mut writer, steps) {
         Ok(()) => 0,
         Err(_) => 7,
+    }
+}
+
+/// Puts a text into a sink, and answers 0, or 7 where the sink fails.
+fn text_into<O: Sink>(text: &[u8], out: &mut O) -> u8
+    ensures { Puts (O.written out.old) (O.written out.new) (O.faults out.old) (O.faults out.new) result 0 text.now }
+{
+    let mut writer = Writer { out };
+    match send_text(text, &mut writer) {
+        Ok(()) => 0,
+        Err(_) => 7,
+    }
+}
+
+/// Puts the text of what was opened into a sink, or what is told of the lines of the source, and answers the status, 7 where
+/// the sink fails.
+pub fn tell_into<I: Source, X: Device, O: Sink, L: Ledger>(
+    opened: Opened,
+    device: &X,
+    input: &mut I,
+    out: &mut O,
+    steps: &mut Steps<L>,
+) -> u8
+    requires { IsReady opened }
+    ensures { Tells (opened_dialogue (X.meaning device.now) opened)
+        (I.left input.old) (I.left input.new) (I.faults input.old) (I.faults input.new)
+        (O.written out.old) (O.written out.new) (O.faults out.old) (O.faults out.new) steps.old steps.new result }
+{
+    let _ = input;
+    match opened {
+        Opened::Machine(started) => run_into(started, device, out, steps),
+        Opened::Text(text) => text_into(&text, out),
     }
 }
 

@@ -1,4 +1,5 @@
-use Rattle.pico_top.proofs.Causing.{words_from, refused_from, causes_from, sink_from, complete_from}
+use Rattle.pico_top.proofs.Causing.{words_from, refused_from, causes_from, sink_from}
+use Rattle.pico_top.proofs.Completing.{complete_from}
 use Rattle.pico_top.proofs.pico.Goals as goal
 
 pub returns-clause-words : goal.returns-clause-words

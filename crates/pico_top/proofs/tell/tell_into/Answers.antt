@@ -1,0 +1,12 @@
+use Rattle.std.proofs.Common.{arith}
+use Rattle.pico_top.specs.Dialogue.Cost.{Exactly}
+use Rattle.pico_top.proofs.Telling.{tells_said}
+use Rattle.pico_top.proofs.tell.tell_into.Goals as goal
+
+pub returns-in-Machine : goal.returns-in-Machine
+returns-in-Machine g c = let h = c.run_into.ensures in rw c.in-Machine.is (tells_said _ _ _ _ _ _ _ _ _ _ _ h.puts h.whole h.forward h.within)
+
+pub returns-in-Text : goal.returns-in-Text
+returns-in-Text g c =
+    let puts = rw c.deref.ensures.value at c.text_into.ensures in
+    rw c.in-Text.is (tells_said c.in-Text.text.items (Exactly 0) _ _ _ _ _ _ _ _ _ puts (λ e. omega arith) (omega arith) (omega arith))
