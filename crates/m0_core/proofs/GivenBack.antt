@@ -34,7 +34,7 @@ use Rattle.m0_core.specs.Waiting.{Served, after_all_served}
 use Rattle.m0_core.specs.ExceptionLaws.{candidates}
 use Rattle.m0_core.specs.Law.{lines_in}
 use Rattle.m0_core.specs.Handlers.{last_lines, ends_in, left_of, want_in, wants_through, lines_of, Stays, entry_beats, Takes, HandlerBegins, BeginsReturn, HasFrame, after_leaving, IsBack, IsSound, IsThere, written, AreThere, IsGivenBack, KeepsTheRest, AReturnGivesBackWhatAnEntryFound}
-use Rattle.m0_core.proofs.Exceptions.{what_is_taken_is_the_least}
+use Rattle.m0_core.proofs.Taken.{what_is_taken_is_the_least}
 use Rattle.m0_core.proofs.Handlers.{active_cycle, an_entry_takes_its_beats, a_return_takes_its_beats}
 
 contrary : {A : Type 0} (b : Bool) → b ≡ true → b ≡ false → A

@@ -1,8 +1,8 @@
 pub mod Carrying
-mod Exceptions
 mod GivenBack
 mod Handlers
 mod ReadCount
+mod Taken
 mod TakesBeats
 mod Waits
 mod Walk

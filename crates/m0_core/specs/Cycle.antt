@@ -6,6 +6,7 @@ use Rattle.rp_base.specs.declared.Request.{Request}
 use Rattle.rp_base.specs.declared.op.Op.{Op}
 use Rattle.m0_beats.specs.Beats.{beats_of}
 use Rattle.m0_beats.specs.Effects.{effect_of, return_of}
+use Rattle.m0_nvic.specs.declared.numbers.TheConstants.{HARDFAULT, SVCALL}
 use Rattle.m0_nvic.specs.State.{Exceptions}
 use Rattle.m0_nvic.specs.Changes.{pended}
 use Rattle.m0_nvic.specs.Priority.{wakes_of}
@@ -19,6 +20,7 @@ use Rattle.m0_core.specs.declared.doing.Act.TheVariants as act
 use Rattle.m0_core.specs.declared.doing.Work.{Work}
 use Rattle.m0_core.specs.declared.doing.Work.TheVariants as works
 use Rattle.m0_core.specs.declared.doing.Doing.{Doing}
+use Rattle.m0_core.specs.declared.exceptions.TheConstants.{ENTRY_BEATS, RETURN_BEATS}
 use Rattle.m0_core.specs.Kinds.{is_signal, awaits_event, awaits_interrupt, is_call}
 use Rattle.m0_core.specs.Entry.{taken_first, entry_ended}
 use Rattle.m0_core.specs.Return.{return_ended}
@@ -74,7 +76,7 @@ returning (Some value) = Some (works.Return value)
 
 -- SVC makes its exception pending
 abbrev pub called : Op → Exceptions → Exceptions
-called op e = if is_call op then pended 11 e else e
+called op e = if is_call op then pended SVCALL e else e
 
 -- the last beat of an instruction is over: registers and flags change, and WFE clears the event register
 unfoldable pub ended : Op → State → State
@@ -95,10 +97,10 @@ unfoldable pub passed_instruction : Op → State → State
 passed_instruction op s = passed_of (works.Instruction op) (length (beats_of op s.regs)) (ended op s) s
 
 unfoldable pub passed_entry : ℕ → State → State
-passed_entry n s = passed_of (works.Entry n) 15 (entry_ended n s) s
+passed_entry n s = passed_of (works.Entry n) ENTRY_BEATS (entry_ended n s) s
 
 unfoldable pub passed_return : ℕ → State → State
-passed_return value s = passed_of (works.Return value) 13 (return_ended value s) s
+passed_return value s = passed_of (works.Return value) RETURN_BEATS (return_ended value s) s
 
 abbrev pub passed_work : Work → State → State
 passed_work (works.Instruction op) s = passed_instruction op s
@@ -124,7 +126,7 @@ after_inner work s = if is_held work s then waiting work s else passed work None
 
 -- a fault changes nothing but HardFault's pending bit, and what was in progress is over
 unfoldable pub faulted : State → State
-faulted s = record s { nvic = pended 3 s.nvic; work = None; place = 0; read = [] }
+faulted s = record s { nvic = pended HARDFAULT s.nvic; work = None; place = 0; read = [] }
 
 -- ---- the end of an access
 

@@ -10,6 +10,7 @@ use Rattle.m0_beats.specs.Beats.{access}
 use Rattle.m0_beats.specs.Registers.{is_thread, sp_of, with_sp, xpsr_of}
 use Rattle.m0_nvic.specs.State.{Exceptions}
 use Rattle.m0_nvic.specs.Changes.{entered}
+use Rattle.m0_core.specs.declared.exceptions.TheConstants.{TO_HANDLER, TO_MAIN, TO_PROCESS}
 use Rattle.m0_core.specs.State.{State}
 
 -- the frame is below the active stack and a multiple of 8
@@ -42,7 +43,7 @@ entry_beat n s =
 
 -- what LR tells the return: the mode and the stack that were left
 abbrev pub link_of : Regs → ℕ
-link_of r = if is_thread r then (if r.spsel then 0xFFFFFFFD else 0xFFFFFFF9) else 0xFFFFFFF1
+link_of r = if is_thread r then (if r.spsel then TO_PROCESS else TO_MAIN) else TO_HANDLER
 
 -- the handler begins at its vector, in Handler mode on the main stack
 abbrev pub with_entry : ℕ → ℕ → Regs → Regs

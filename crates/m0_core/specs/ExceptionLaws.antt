@@ -4,6 +4,7 @@ use Rattle.std.specs.Prelude.{◌≡◌, ◌⊎◌, ℕ, Bool, true, false, ◌|
 use Rattle.rp_base.specs.declared.op.Op.{Op}
 use Rattle.rp_base.specs.declared.op.Op.TheVariants as op
 use Rattle.m0_beats.specs.Effects.{effect_of}
+use Rattle.m0_nvic.specs.declared.numbers.TheConstants.{NMI, HARDFAULT}
 use Rattle.m0_nvic.specs.Numbers.{is_member}
 use Rattle.m0_nvic.specs.Changes.{pended}
 use Rattle.m0_nvic.specs.Priority.{IsLeast, rank_of, priority_of, wakes_of}
@@ -49,9 +50,9 @@ pub record OnlyPendsHardFault (cycle : ℕ) (g : Given) (s t : State) : Type 0 w
   pub between : t.work ≡ None
   pub first : t.place ≡ 0
   pub fresh : t.read ≡ []
-  pub exceptions : t.nvic ≡ nvic.after_cycle (lines_in g) cycle (pended 3 s.nvic)
-  pub event : t.event ≡ (s.event || nvic.is_event (lines_in g) cycle (pended 3 s.nvic))
-  pub then_taken : is_member 3 s.nvic.enabled ≡ true → (taken_of t ≡ Some 3) ⊎ (taken_of t ≡ Some 2)
+  pub exceptions : t.nvic ≡ nvic.after_cycle (lines_in g) cycle (pended HARDFAULT s.nvic)
+  pub event : t.event ≡ (s.event || nvic.is_event (lines_in g) cycle (pended HARDFAULT s.nvic))
+  pub then_taken : is_member HARDFAULT s.nvic.enabled ≡ true → (taken_of t ≡ Some HARDFAULT) ⊎ (taken_of t ≡ Some NMI)
 
 abbrev pub AFaultPendsHardFaultAlone : Type 0
 AFaultPendsHardFaultAlone =

@@ -2,7 +2,7 @@
 -- boundary between two instructions it takes an exception or fetches and decodes the next instruction, which begins with
 -- its first beat; elsewhere the next beat of what is in progress begins (ARMv6-M Architecture Reference Manual, A5.1,
 -- instruction set encoding, A6.7, BKPT, SVC and UDF, B1.5.4, which exception is taken, and B1.5.15, lockup).
-use Rattle.std.specs.Prelude.{ℕ, ◌+◌, ◌%◌, ◌^◌, ◌==◌, ◌||◌, ◌&&◌, Bool, true, false, not, if◌then◌else◌, slice_get, slice_index, Option, Some, None, unwrap_or, pos, int_lt}
+use Rattle.std.specs.Prelude.{ℕ, ◌+◌, ◌-◌, ◌%◌, ◌^◌, ◌==◌, ◌||◌, ◌&&◌, Bool, true, false, not, if◌then◌else◌, slice_get, slice_index, Option, Some, None, unwrap_or, pos, int_lt}
 use Rattle.rp_base.specs.declared.Request.{Request}
 use Rattle.rp_base.specs.declared.Why.{Why}
 use Rattle.rp_base.specs.declared.Why.TheVariants as why
@@ -15,6 +15,7 @@ use Rattle.thumb_rows.specs.Rows.{begins_long, operation_of}
 use Rattle.m0_beats.specs.declared.timing.Beat.{Beat}
 use Rattle.m0_beats.specs.declared.timing.Beat.TheVariants.{Inner, Access}
 use Rattle.m0_beats.specs.Beats.{beats_of, is_unaligned_of}
+use Rattle.m0_nvic.specs.declared.numbers.TheConstants.{SVCALL}
 use Rattle.m0_nvic.specs.Priority.{best_of, priority_of, comes_before, rank_of}
 use Rattle.m0_nvic.specs.Words.{is_allowed}
 use Rattle.lane_look.specs.declared.lane.Ask.TheVariants.{Lines, Half, Word}
@@ -25,6 +26,7 @@ use Rattle.m0_core.specs.declared.doing.Act.TheVariants as act
 use Rattle.m0_core.specs.declared.doing.Work.{Work}
 use Rattle.m0_core.specs.declared.doing.Work.TheVariants as works
 use Rattle.m0_core.specs.declared.doing.Doing.{Doing}
+use Rattle.m0_core.specs.declared.exceptions.TheConstants.{RETURN_BEATS}
 use Rattle.m0_core.specs.Kinds.{is_breakpoint, is_call, is_undefined}
 use Rattle.m0_core.specs.Entry.{entry_beat}
 use Rattle.m0_core.specs.Return.{return_beat, is_bad, is_misfit}
@@ -53,7 +55,7 @@ asks_fault s = if is_locked s then stopped (why.Lockup s.number) else Ready act.
 
 -- SVC has an exception that can be taken at once (B1.5.4)
 unfoldable pub is_callable : State → Bool
-is_callable s = int_lt (rank_of s.nvic 11) (priority_of s.nvic s.regs.primask)
+is_callable s = int_lt (rank_of s.nvic SVCALL) (priority_of s.nvic s.regs.primask)
 
 -- no instruction, one without T, one with an unaligned access, and SVC where its exception would wait
 abbrev pub is_faulty : Op → State → Bool
@@ -99,7 +101,7 @@ asks_beat work s = in_beat work s (beat_of_work work s)
 -- a return with a bad value faults in its first beat, and one whose stacked exception number does not fit the mode at its
 -- end
 abbrev pub locks_last : ℕ → State → Bool
-locks_last value s = (s.place == 12) && (is_misfit value (slice_index s.read 7) && is_locked s)
+locks_last value s = (s.place == RETURN_BEATS - 1) && (is_misfit value (slice_index s.read 7) && is_locked s)
 
 unfoldable pub asks_return : ℕ → State → Asking Act
 asks_return value s =

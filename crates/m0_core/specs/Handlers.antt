@@ -7,6 +7,7 @@ use Rattle.m0_beats.specs.declared.registers.Regs.{Regs}
 use Rattle.m0_beats.specs.declared.timing.Beat.{Beat}
 use Rattle.m0_beats.specs.declared.timing.Beat.TheVariants.{Inner, Access}
 use Rattle.m0_beats.specs.Registers.{is_thread, sp_of}
+use Rattle.m0_nvic.specs.declared.numbers.TheConstants.{INTERRUPT_0}
 use Rattle.m0_nvic.specs.State.{Exceptions}
 use Rattle.m0_nvic.specs.Numbers.{numbers_from, is_member}
 use Rattle.m0_nvic.specs.Changes.{entered, left}
@@ -17,6 +18,7 @@ use Rattle.lane_look.specs.declared.lane.Want.{Want}
 use Rattle.lane_look.specs.declared.lane.Want.TheVariants as want
 use Rattle.m0_core.specs.declared.doing.Work.{Work}
 use Rattle.m0_core.specs.declared.doing.Work.TheVariants as works
+use Rattle.m0_core.specs.declared.exceptions.TheConstants.{ENTRY_BEATS, RETURN_BEATS}
 use Rattle.m0_core.specs.Entry.{entry_frame, vector_address, entry_beat, with_entry}
 use Rattle.m0_core.specs.Return.{return_frame, return_beat, is_bad, is_misfit, with_return}
 use Rattle.m0_core.specs.Fetch.{is_ram, taken_of}
@@ -69,7 +71,7 @@ Stays address word (x ∷ xs) = (x.given.answers (Word address) % 2 ^ 32 ≡ wor
 
 -- the beats of an entry, the state being that at its start
 abbrev pub entry_beats : ℕ → State → List Beat
-entry_beats n s = map (λ k. entry_beat n (record s { place = k })) (numbers_from 0 15)
+entry_beats n s = map (λ k. entry_beat n (record s { place = k })) (numbers_from 0 ENTRY_BEATS)
 
 -- an awake core is at a boundary, and takes exception n there
 pub record Takes (n : ℕ) (s : State) : Type 0 where
@@ -113,7 +115,7 @@ pub record Enters (n vector cycle : ℕ) (xs : List Served) (s : State) : Type 0
   pub over : left_of (entry_beats n s) xs ≡ Some [] → HandlerBegins n vector cycle xs s (after_all_served cycle xs s)
   pub wants : (beats : List Beat) → left_of (entry_beats n s) xs ≡ Some beats
       → wants_served cycle xs s ≡ wants_through (entry_beats n s) xs
-  pub count : AllDone xs → length xs ≡ 15 → left_of (entry_beats n s) xs ≡ Some []
+  pub count : AllDone xs → length xs ≡ ENTRY_BEATS → left_of (entry_beats n s) xs ≡ Some []
 
 abbrev pub AnEntryTakesItsBeats : Type 0
 AnEntryTakesItsBeats =
@@ -125,7 +127,7 @@ AnEntryTakesItsBeats =
 -- ---- return
 
 abbrev pub return_beats : ℕ → State → List Beat
-return_beats value s = map (λ k. return_beat value (record s { place = k })) (numbers_from 0 13)
+return_beats value s = map (λ k. return_beat value (record s { place = k })) (numbers_from 0 RETURN_BEATS)
 
 -- an awake core begins a return with that value, which fits the exceptions that are active
 pub record BeginsReturn (value : ℕ) (s : State) : Type 0 where
@@ -162,7 +164,7 @@ pub record Returns (value : ℕ) (words : List ℕ) (cycle : ℕ) (xs : List Ser
   pub over : left_of (return_beats value s) xs ≡ Some [] → IsBack value words cycle xs s (after_all_served cycle xs s)
   pub wants : (beats : List Beat) → left_of (return_beats value s) xs ≡ Some beats
       → wants_served cycle xs s ≡ wants_through (return_beats value s) xs
-  pub count : AllDone xs → length xs ≡ 13 → left_of (return_beats value s) xs ≡ Some []
+  pub count : AllDone xs → length xs ≡ RETURN_BEATS → left_of (return_beats value s) xs ≡ Some []
 
 abbrev pub AReturnTakesItsBeats : Type 0
 AReturnTakesItsBeats =
@@ -250,8 +252,8 @@ pub record ComesBack (cycle : ℕ) (ys : List Served) (s u t v : State) : Type 0
   pub whole : KeepsTheRest u.regs t.regs → v.regs ≡ s.regs
   pub active : v.nvic.active ≡ s.nvic.active
   -- interrupt i is pending again where its line is high in the last cycle of its return
-  pub again : (i : ℕ) → i < 32 → u.regs.ipsr ≡ 16 + i → has_bit (last_lines ys) i ≡ true
-      → is_member (16 + i) v.nvic.pending ≡ true
+  pub again : (i : ℕ) → i < 32 → u.regs.ipsr ≡ INTERRUPT_0 + i → has_bit (last_lines ys) i ≡ true
+      → is_member (INTERRUPT_0 + i) v.nvic.pending ≡ true
   pub exceptions : v.nvic ≡ after_leaving u.regs.ipsr cycle (lines_of ys) t.nvic
 
 -- a core takes an exception, some handler runs, and returns while SRAM still has what the entry wrote. The entry has the cycles

@@ -8,21 +8,23 @@ use Rattle.m0_beats.specs.declared.timing.Beat.{Beat}
 use Rattle.m0_beats.specs.declared.timing.Beat.TheVariants.{Inner}
 use Rattle.m0_beats.specs.Beats.{access}
 use Rattle.m0_beats.specs.Registers.{with_flags_word}
+use Rattle.m0_nvic.specs.declared.numbers.TheConstants.{HARDFAULT}
 use Rattle.m0_nvic.specs.State.{Exceptions}
 use Rattle.m0_nvic.specs.Changes.{pended, left}
 use Rattle.m0_nvic.specs.Changes as nvic
+use Rattle.m0_core.specs.declared.exceptions.TheConstants.{TO_HANDLER, TO_MAIN, TO_PROCESS}
 use Rattle.m0_core.specs.State.{State}
 
 -- ---- values: to Handler mode, to Thread mode on the main stack, to Thread mode on the process stack
 
 abbrev pub is_to_handler : ℕ → Bool
-is_to_handler value = value == 0xFFFFFFF1
+is_to_handler value = value == TO_HANDLER
 
 abbrev pub is_to_process : ℕ → Bool
-is_to_process value = value == 0xFFFFFFFD
+is_to_process value = value == TO_PROCESS
 
 abbrev pub is_to_thread : ℕ → Bool
-is_to_thread value = value == 0xFFFFFFF9 || is_to_process value
+is_to_thread value = value == TO_MAIN || is_to_process value
 
 -- no other exception than the current one is active
 unfoldable pub is_alone : State → Bool
@@ -86,7 +88,7 @@ with_return value words r =
 
 -- the exception is not active any more; a number that does not fit the mode is a HardFault
 unfoldable pub after_return : ℕ → ℕ → ℕ → Exceptions → Exceptions
-after_return value xpsr n e = if is_misfit value xpsr then pended 3 (left n e) else left n e
+after_return value xpsr n e = if is_misfit value xpsr then pended HARDFAULT (left n e) else left n e
 
 -- the last beat is over, which sets the event register
 unfoldable pub return_ended : ℕ → State → State

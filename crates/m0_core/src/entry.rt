@@ -3,6 +3,7 @@
 ghost use Rattle.std.specs.Prelude.{◌≡◌, ◌+◌, ◌<◌, slice_index};
 ghost use Rattle.m0_core.specs.Entry.{entry_frame, stacked_xpsr, stacked, vector_address, stacking, entry_beat, link_of, with_entry, entry_ended, taken_first};
 
+use crate::exceptions::{TO_HANDLER, TO_MAIN, TO_PROCESS};
 use crate::processor::Core;
 use crate::returns::value_at;
 use m0_beats::{Beat, Regs};
@@ -60,11 +61,11 @@ fn link_of(regs: &Regs) -> u32
     ensures { result ≡ link_of regs.now }
 {
     if !regs.is_thread() {
-        0xffff_fff1
+        TO_HANDLER
     } else if regs.spsel {
-        0xffff_fffd
+        TO_PROCESS
     } else {
-        0xffff_fff9
+        TO_MAIN
     }
 }
 

@@ -8,11 +8,13 @@ ghost use Rattle.rp_base.specs.Access.{master_of};
 ghost use Rattle.m0_core.specs.Fetch.{is_ram, is_locked, asks_fault, is_callable, is_faulty, beat_of, beat_of_work, in_ram, in_private, at_spot, asks_beat, locks_last, asks_return, asks_decoded, asks_second, asks_first, taken_of, asks_boundary, asks_work, asks_awake};
 
 use crate::doing::{Act, Work};
+use crate::exceptions::RETURN_BEATS;
 use crate::kinds::{is_breakpoint, is_call, is_undefined};
 use crate::processor::Core;
 use crate::returns::{is_misfit, value_at};
 use lane_look::{Ask, Look};
 use m0_beats::{Beat, beat_at, is_unaligned};
+use m0_nvic::numbers::SVCALL;
 use rp_base::access::{master_of, word_written};
 use rp_base::map::{Spot, place};
 use rp_base::op::Op;
@@ -133,7 +135,7 @@ impl Core {
     fn is_callable(&self) -> bool
         ensures { result ≡ is_callable self.now }
     {
-        self.nvic.rank(11) < self.nvic.priority(self.regs.primask)
+        self.nvic.rank(SVCALL) < self.nvic.priority(self.regs.primask)
     }
 
     /// The instruction faults.
@@ -150,7 +152,9 @@ impl Core {
     fn locks_last(&self, value: u32) -> bool
         ensures { result ≡ locks_last value self.now }
     {
-        self.place == 12 && is_misfit(value, value_at(self.read.as_slice(), 7)) && self.is_locked()
+        self.place == RETURN_BEATS - 1
+            && is_misfit(value, value_at(self.read.as_slice(), 7))
+            && self.is_locked()
     }
 
     /// The next beat of a return.

@@ -5,10 +5,12 @@ ghost use Rattle.m0_beats.specs.Beats.{beats_of};
 ghost use Rattle.m0_core.specs.Cycle.{signals, want_of, with_value, waiting, followed, with_read, returning, called, ended, passed_instruction, passed_entry, passed_return, passed_work, passed, is_held_op, is_held, after_inner, faulted, word_of, done_word, after_access, value_of, after_outward, after_private, after, closed, is_idle};
 
 use crate::doing::{Act, Doing, Work};
+use crate::exceptions::{ENTRY_BEATS, RETURN_BEATS};
 use crate::kinds::{awaits_event, awaits_interrupt, is_call, is_signal};
 use crate::processor::Core;
 use lane_look::{Turn, Want};
 use m0_beats::{beat_count, effect, exception_return};
+use m0_nvic::numbers::{HARDFAULT, SVCALL};
 use rp_base::Request;
 use rp_base::access::lanes;
 use rp_base::op::Op;
@@ -112,7 +114,7 @@ impl Core {
         ensures { self.new ≡ record self.old { nvic = called op.now self.old.nvic } }
     {
         if is_call(op) {
-            self.nvic.pend(11);
+            self.nvic.pend(SVCALL);
         }
     }
 
@@ -151,7 +153,7 @@ impl Core {
     fn pass_entry(&mut self, number: u8)
         ensures { self.new ≡ passed_entry number self.old }
     {
-        if self.place < 14 {
+        if self.place < ENTRY_BEATS - 1 {
             self.follow(Work::Entry(number));
         } else {
             self.end_entry(number);
@@ -163,7 +165,7 @@ impl Core {
     fn pass_return(&mut self, value: u32)
         ensures { self.new ≡ passed_return value self.old }
     {
-        if self.place < 12 {
+        if self.place < RETURN_BEATS - 1 {
             self.follow(Work::Return(value));
         } else {
             self.end_return(value);
@@ -231,7 +233,7 @@ impl Core {
     fn fault(&mut self)
         ensures { self.new ≡ faulted self.old }
     {
-        self.nvic.pend(3);
+        self.nvic.pend(HARDFAULT);
         self.work = None;
         self.place = 0;
         self.read.clear();

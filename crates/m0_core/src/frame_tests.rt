@@ -1,6 +1,7 @@
 //! Frames on the process stack, frames that a handler changed, and an exception that ends WFE.
 
 use crate::tests::{Memory, behind, has, pass, run};
+use m0_nvic::numbers::{HARDFAULT, INTERRUPT_0, SVCALL};
 use rp_base::Why;
 
 #[test]
@@ -10,7 +11,7 @@ fn process_stack(rt: HostRuntime) {
         0x4803, 0xf380, 0x8809, 0x2102, 0xf381, 0x8814, 0xdf00, 0xbe00, 0x1fe4, 0x2004, 0xf3ef,
         0x8409, 0xf3ef, 0x8508, 0x4676, 0x4770,
     ];
-    let mut memory = Memory::with_vectors(&[(11, 0x2000_0095)], &code);
+    let mut memory = Memory::with_vectors(&[(SVCALL, 0x2000_0095)], &code);
     let mut core = behind(0x2004_2000);
     assert!(rt; run(&mut core, &mut memory) == (47, Some(Why::Bkpt(0))));
     let registers = [
@@ -27,7 +28,7 @@ fn process_stack(rt: HostRuntime) {
     assert_eq!(rt; memory.word(0x2004_1fdc), 0x100_0200);
     // A handler that sets bit 9 of the stacked xPSR returns to a stack that is 4 higher.
     let code = [0xdf00, 0xbe00, 0x4a01, 0x9207, 0x4770, 0, 0x0200, 0x0100];
-    let mut memory = Memory::with_vectors(&[(11, 0x2000_0085)], &code);
+    let mut memory = Memory::with_vectors(&[(SVCALL, 0x2000_0085)], &code);
     let mut core = behind(0x2004_1fe0);
     assert!(rt; run(&mut core, &mut memory) == (35, Some(Why::Bkpt(0))));
     has(
@@ -41,7 +42,7 @@ fn process_stack(rt: HostRuntime) {
 fn misfits(rt: HostRuntime) {
     // SVC, whose handler writes the exception number 5 into the frame of Thread mode: a HardFault at the end of the return.
     let code = [0xdf00, 0xbe00, 0x2005, 0x9007, 0x4770, 0xbe01];
-    let vectors = [(3, 0x2000_008b), (11, 0x2000_0085)];
+    let vectors = [(HARDFAULT, 0x2000_008b), (SVCALL, 0x2000_0085)];
     let mut memory = Memory::with_vectors(&vectors, &code);
     let mut core = behind(0x2004_2000);
     assert!(rt; run(&mut core, &mut memory) == (49, Some(Why::Bkpt(0))));
@@ -56,7 +57,7 @@ fn misfits(rt: HostRuntime) {
     assert_eq!(rt; memory.word(0x2004_1ffc), 5);
     // The same inside HardFault locks the core up in the last cycle of the return.
     let code = [0xde00, 0xbe00, 0x2005, 0x9007, 0x4770];
-    let mut memory = Memory::with_vectors(&[(3, 0x2000_0085)], &code);
+    let mut memory = Memory::with_vectors(&[(HARDFAULT, 0x2000_0085)], &code);
     let mut core = behind(0x2004_2000);
     assert!(rt; run(&mut core, &mut memory) == (33, Some(Why::Lockup(0))));
     has(
@@ -74,7 +75,7 @@ fn woken(rt: HostRuntime) {
         0x4805, 0x2101, 0x6001, 0xb672, 0xbf20, 0x2201, 0xb662, 0xbf20, 0xbe00, 0x2409, 0x4770, 0,
         0xe100, 0xe000,
     ];
-    let mut memory = Memory::with_vectors(&[(16, 0x2000_0093)], &code);
+    let mut memory = Memory::with_vectors(&[(INTERRUPT_0, 0x2000_0093)], &code);
     let mut core = behind(0x2004_2000);
     pass(&rt, &mut core, &mut memory, 40);
     has(&rt, &core, &[(2, 0), (15, 0x2000_0088)]);
@@ -107,7 +108,7 @@ fn held_line(rt: HostRuntime) {
     let code = [
         0x4802, 0x2101, 0x6001, 0xe7fe, 0x3401, 0x4770, 0xe100, 0xe000,
     ];
-    let mut memory = Memory::with_vectors(&[(16, 0x2000_0089)], &code);
+    let mut memory = Memory::with_vectors(&[(INTERRUPT_0, 0x2000_0089)], &code);
     let mut core = behind(0x2004_2000);
     pass(&rt, &mut core, &mut memory, 9);
     memory.lines = 1;

@@ -7,6 +7,7 @@
 
 pub mod doing;
 mod entry;
+pub mod exceptions;
 mod fetch;
 mod finish;
 #[cfg(test)]

@@ -7,6 +7,7 @@ use crate::doing::Work;
 use arrayvec::ArrayVec;
 use m0_beats::Regs;
 use m0_nvic::Nvic;
+use m0_nvic::registers::VTOR;
 use std::marker::Model;
 
 /// One core of the RP2040 (ARMv6-M Architecture Reference Manual, B1), between two cycles.
@@ -57,7 +58,7 @@ fn with_vectors(vtor: u32) -> Nvic
     ensures { result ≡ with_vectors vtor }
 {
     let mut nvic = Nvic::new();
-    let _ = nvic.effect(0xd08, Some(vtor));
+    let _ = nvic.effect(VTOR, Some(vtor));
     nvic
 }
 

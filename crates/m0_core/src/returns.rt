@@ -3,17 +3,12 @@
 ghost use Rattle.std.specs.Prelude.{◌≡◌, ◌<◌, slice_index, length};
 ghost use Rattle.m0_core.specs.Return.{is_to_handler, is_to_process, is_to_thread, is_alone, is_bad, return_frame, unstacking, return_beat, stacked_number, is_misfit, stack_after, with_stack, with_five, with_frame, with_return, after_return, return_ended};
 
+use crate::exceptions::{TO_HANDLER, TO_MAIN, TO_PROCESS};
 use crate::processor::Core;
 use m0_beats::{Beat, Regs};
 use m0_nvic::Nvic;
+use m0_nvic::numbers::HARDFAULT;
 use rp_base::{Request, Size};
-
-/// The value of a return to Handler mode.
-const TO_HANDLER: u32 = 0xffff_fff1;
-/// The value of a return to Thread mode on the main stack.
-const TO_MAIN: u32 = 0xffff_fff9;
-/// The value of a return to Thread mode on the process stack.
-const TO_PROCESS: u32 = 0xffff_fffd;
 
 /// The word at a place, 0 past the end.
 pub(crate) fn value_at(words: &[u32], place: usize) -> u32
@@ -122,7 +117,7 @@ fn leave(nvic: &mut Nvic, value: u32, xpsr: u32, number: u8)
 {
     nvic.leave(number);
     if is_misfit(value, xpsr) {
-        nvic.pend(3);
+        nvic.pend(HARDFAULT);
     }
 }
 

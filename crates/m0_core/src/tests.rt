@@ -2,6 +2,7 @@
 
 use crate::Core;
 use lane_look::{Ask, Lane, Look, Marks, Turn, Want};
+use m0_nvic::numbers::{HARDFAULT, INTERRUPT_0, PENDSV, SVCALL, SYSTICK};
 use rp_base::map::{Spot, place};
 use rp_base::{Master, Request, Size, Why};
 use std::process::Abort;
@@ -46,7 +47,7 @@ impl Memory {
     }
 
     /// Vectors from the start of SRAM, by their numbers, and code behind 32 of them.
-    pub(crate) fn with_vectors(vectors: &[(u32, u32)], code: &[u16]) -> Memory {
+    pub(crate) fn with_vectors(vectors: &[(u8, u32)], code: &[u16]) -> Memory {
         let mut halves = [0; 128];
         for (k, half) in code.iter().enumerate() {
             if k < 64 {
@@ -55,7 +56,7 @@ impl Memory {
         }
         let mut memory = Memory::with_code(&halves);
         for (number, vector) in vectors {
-            memory.set_word(0x2000_0000 + 4 * (*number % 64), *vector);
+            memory.set_word(0x2000_0000 + 4 * u32::from(*number % 64), *vector);
         }
         memory
     }
@@ -329,7 +330,7 @@ fn handlers(rt: HostRuntime) {
         0x4805, 0x4906, 0xdf00, 0xbe00, 0x6001, 0x4770, 0x2407, 0x6805, 0x4770, 0, 0, 0, 0xed04,
         0xe000, 0x0000, 0x1000,
     ];
-    let mut memory = Memory::with_vectors(&[(11, 0x2000_0089), (14, 0x2000_008d)], &code);
+    let mut memory = Memory::with_vectors(&[(SVCALL, 0x2000_0089), (PENDSV, 0x2000_008d)], &code);
     let mut core = behind(0x2004_2000);
     assert!(rt; run(&mut core, &mut memory) == (70, bkpt));
     let registers = [
@@ -341,7 +342,7 @@ fn handlers(rt: HostRuntime) {
     ];
     has(&rt, &core, &registers);
     // A frame of a stack that is no multiple of 8.
-    let mut memory = Memory::with_vectors(&[(11, 0x2000_0085)], &[0xdf00, 0xbe00, 0x4770]);
+    let mut memory = Memory::with_vectors(&[(SVCALL, 0x2000_0085)], &[0xdf00, 0xbe00, 0x4770]);
     let mut core = behind(0x2004_1ffc);
     assert!(rt; run(&mut core, &mut memory) == (31, bkpt));
     has(
@@ -355,7 +356,7 @@ fn handlers(rt: HostRuntime) {
     let code = [
         0x4804, 0x2127, 0x6041, 0x2107, 0x6001, 0xe7fe, 0x3401, 0x4770, 0, 0, 0xe010, 0xe000,
     ];
-    let mut memory = Memory::with_vectors(&[(15, 0x2000_008d)], &code);
+    let mut memory = Memory::with_vectors(&[(SYSTICK, 0x2000_008d)], &code);
     let mut core = behind(0x2004_2000);
     for (count, total) in [(63, 0), (1, 1), (38, 1), (1, 2)] {
         pass(&rt, &mut core, &mut memory, count);
@@ -379,7 +380,7 @@ fn interrupts(rt: HostRuntime) {
         0x4804, 0x2101, 0x6001, 0xb672, 0xbf30, 0x2201, 0xb662, 0xbe00, 0x2409, 0x4770, 0xe100,
         0xe000,
     ];
-    let mut memory = Memory::with_vectors(&[(16, 0x2000_0091)], &code);
+    let mut memory = Memory::with_vectors(&[(INTERRUPT_0, 0x2000_0091)], &code);
     let mut core = behind(0x2004_2000);
     pass(&rt, &mut core, &mut memory, 40);
     has(&rt, &core, &[(2, 0), (15, 0x2000_0088)]);
@@ -395,7 +396,10 @@ fn interrupts(rt: HostRuntime) {
         0x4807, 0x4908, 0x2203, 0x6002, 0x2240, 0x0212, 0x600a, 0xbf30, 0xbe00, 0x2401, 0x002e,
         0x4770, 0x2505, 0x0027, 0x4770, 0, 0xe100, 0xe000, 0xe400, 0xe000,
     ];
-    let mut memory = Memory::with_vectors(&[(16, 0x2000_0099), (17, 0x2000_0093)], &code);
+    let mut memory = Memory::with_vectors(
+        &[(INTERRUPT_0, 0x2000_0099), (INTERRUPT_0 + 1, 0x2000_0093)],
+        &code,
+    );
     let mut core = behind(0x2004_2000);
     pass(&rt, &mut core, &mut memory, 40);
     for lines in [2, 0, 0, 0, 1, 0] {
@@ -413,7 +417,7 @@ fn interrupts(rt: HostRuntime) {
 #[test]
 fn faults(rt: HostRuntime) {
     // A return with a value that no entry gives is a HardFault, and PC is that of the BX.
-    let vectors = [(3, 0x2000_0089), (11, 0x2000_0083)];
+    let vectors = [(HARDFAULT, 0x2000_0089), (SVCALL, 0x2000_0083)];
     let code = [0xdf00, 0x2000, 0x43c0, 0x4700, 0xbe00];
     let mut memory = Memory::with_vectors(&vectors, &code);
     let mut core = behind(0x2004_2000);
@@ -425,7 +429,7 @@ fn faults(rt: HostRuntime) {
     );
     assert_eq!(rt; memory.word(0x2004_1fd8), 0x2000_0086);
     // A fault inside HardFault.
-    let mut memory = Memory::with_vectors(&[(3, 0x2000_0083)], &[0xde00, 0xde01]);
+    let mut memory = Memory::with_vectors(&[(HARDFAULT, 0x2000_0083)], &[0xde00, 0xde01]);
     let mut core = behind(0x2004_2000);
     assert!(rt; run(&mut core, &mut memory) == (16, Some(Why::Lockup(0))));
     has(

@@ -2,6 +2,7 @@
 -- and B3.4.1, level-sensitive and pulse interrupts; RP2040 Datasheet, 4.7.2, Tick Generation).
 use Rattle.std.specs.Prelude.{ℕ, ◌+◌, ◌-◌, ◌%◌, Bool, true, false, ◌||◌, ◌&&◌, ◌==◌, if◌then◌else◌, bit_and}
 use Rattle.word_bits.specs.Word.{has_bit}
+use Rattle.m0_nvic.specs.declared.numbers.TheConstants.{SYSTICK}
 use Rattle.m0_nvic.specs.declared.systick.SysTick.{SysTick}
 use Rattle.m0_nvic.specs.State.{Exceptions}
 use Rattle.m0_nvic.specs.Numbers.{minus, of_interrupts}
@@ -31,7 +32,7 @@ with_timer t s = record s { systick = t }
 abbrev pub after_timer : ℕ → Exceptions → Exceptions
 after_timer cycle s =
     let t = with_timer (timer_after cycle s.systick) s in
-    if timer_pends cycle s.systick then pended 15 t else t
+    if timer_pends cycle s.systick then pended SYSTICK t else t
 
 -- an interrupt becomes pending where its line is high, unless it was high before and the interrupt is active
 abbrev pub risen : ℕ → Exceptions → ℕ

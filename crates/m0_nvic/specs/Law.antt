@@ -2,6 +2,7 @@
 -- leaves (B3.4.1).
 use Rattle.std.specs.Prelude.{◌≡◌, ℕ, ◌+◌, ◌^◌, ◌<◌, Bool, true, false, ◌⊎◌, ℤ, pos, int_lt, List, [], ◌∷◌, length}
 use Rattle.word_bits.specs.Word.{has_bit}
+use Rattle.m0_nvic.specs.declared.numbers.TheConstants.{INTERRUPT_0}
 use Rattle.m0_nvic.specs.State.{Exceptions}
 use Rattle.m0_nvic.specs.Numbers.{is_member}
 use Rattle.m0_nvic.specs.Priority.{rank_of, priority_of}
@@ -40,9 +41,9 @@ IsHeld i (lines ∷ more) = (has_bit lines i ≡ true) × IsHeld i more
 -- after these cycles of its handler interrupt i is not pending. Behind a return in the cycle that follows them it is pending
 -- exactly where its line is still high in that cycle
 pub record PendsAgain (i cycle : ℕ) (held : List ℕ) (last : ℕ) (s : Exceptions) : Type 0 where
-  pub silent : is_member (16 + i) (after_cycles cycle held (entered (16 + i) s)).pending ≡ false
-  pub again : is_member (16 + i) (after_cycle last (cycle + length held)
-      (left (16 + i) (after_cycles cycle held (entered (16 + i) s)))).pending ≡ has_bit last i
+  pub silent : is_member (INTERRUPT_0 + i) (after_cycles cycle held (entered (INTERRUPT_0 + i) s)).pending ≡ false
+  pub again : is_member (INTERRUPT_0 + i) (after_cycle last (cycle + length held)
+      (left (INTERRUPT_0 + i) (after_cycles cycle held (entered (INTERRUPT_0 + i) s)))).pending ≡ has_bit last i
 
 -- an interrupt is taken whose line is high, and the line is held high through its handler
 abbrev pub AHeldLinePendsAgain : Type 0

@@ -2,10 +2,11 @@
 -- and B3.4, the NVIC registers with one bit for each interrupt).
 use Rattle.std.specs.Prelude.{ℕ, zero, suc, ◌+◌, ◌-◌, ◌*◌, ◌/◌, ◌%◌, ◌^◌, Bool, ◌&&◌, nat_lt, List, [], ◌∷◌, bit_and, filter}
 use Rattle.word_bits.specs.Word.{has_bit}
+use Rattle.m0_nvic.specs.declared.numbers.TheConstants.{NUMBERS}
 
 -- there are 48 exception numbers: 16 of the system and 32 interrupts
 abbrev pub is_number : ℕ → Bool
-is_number n = nat_lt n 48
+is_number n = nat_lt n NUMBERS
 
 -- so many numbers from a first one on
 abbrev pub numbers_from : ℕ → ℕ → List ℕ
@@ -13,7 +14,7 @@ numbers_from first zero = []
 numbers_from first (suc count) = first ∷ numbers_from (first + 1) count
 
 unfoldable pub numbers : List ℕ
-numbers = numbers_from 0 48
+numbers = numbers_from 0 NUMBERS
 
 -- the members of a set, ascending
 abbrev pub members : ℕ → List ℕ

@@ -2,12 +2,13 @@
 use Rattle.std.specs.Prelude.{◌≡◌, ℕ, Bool, true, false, ◌||◌, ◌&&◌, ◌==◌, nat_lt, ℤ, pos, negsuc, int_lt, if◌then◌else◌, List, [], ◌∷◌, Option, Some, None, bit_and, slice_index}
 use Rattle.std.specs.Int.{int_min}
 use Rattle.std.specs.Ordering.{int_eq}
+use Rattle.m0_nvic.specs.declared.numbers.TheConstants.{NMI, HARDFAULT}
 use Rattle.m0_nvic.specs.State.{Exceptions}
 use Rattle.m0_nvic.specs.Numbers.{members, is_member}
 
 -- the priority of an exception: NMI and HardFault have fixed ones
 abbrev pub rank_of : Exceptions → ℕ → ℤ
-rank_of s n = if n == 2 then negsuc 1 else if n == 3 then negsuc 0 else pos (slice_index s.priorities n)
+rank_of s n = if n == NMI then negsuc 1 else if n == HARDFAULT then negsuc 0 else pos (slice_index s.priorities n)
 
 -- pairs of priority and number in their order
 abbrev pub precedes : Exceptions → ℕ → ℕ → Bool

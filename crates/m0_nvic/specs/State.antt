@@ -1,6 +1,7 @@
 -- The exceptions of a core as sets (ARMv6-M Architecture Reference Manual, B1.5.2 and B3.4): an exception has a number,
 -- Reset 1, NMI 2, HardFault 3, SVCall 11, PendSV 14, SysTick 15, and 16 + n for interrupt n.
 use Rattle.std.specs.Prelude.{ℕ, ◌+◌, ◌^◌, Bool, false, List, replicate}
+use Rattle.m0_nvic.specs.declared.numbers.TheConstants.{NMI, HARDFAULT, SVCALL, PENDSV, SYSTICK}
 use Rattle.m0_nvic.specs.declared.systick.SysTick.{SysTick}
 
 -- a set of exceptions is a number whose bit n tells whether exception n is in it
@@ -29,7 +30,7 @@ at_reset =
     record {
       pending = 0;
       active = 0;
-      enabled = 2 ^ 2 + 2 ^ 3 + 2 ^ 11 + 2 ^ 14 + 2 ^ 15;
+      enabled = 2 ^ NMI + 2 ^ HARDFAULT + 2 ^ SVCALL + 2 ^ PENDSV + 2 ^ SYSTICK;
       priorities = replicate 48 0;
       lines = 0;
       arrived = false;

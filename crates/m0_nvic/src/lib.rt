@@ -10,16 +10,16 @@ ghost use Rattle.m0_nvic.specs.Changes.{pended, entered, left, is_alone, with_pe
 ghost use Rattle.m0_nvic.specs.Cycle.{after_timer, after_lines, after_cycle, is_event};
 
 pub mod laws;
+pub mod numbers;
+pub mod registers;
 pub mod systick;
 #[cfg(test)]
 mod tests;
 mod words;
 
+use numbers::{HARDFAULT, NMI, NUMBERS, SYSTICK};
 use std::marker::Model;
 use systick::SysTick;
-
-/// How many exception numbers there are: 16 of the system and 32 interrupts.
-const NUMBERS: u8 = 48;
 
 /// The exceptions of a core. A `number` is an exception number: Reset 1, NMI 2, HardFault 3, SVCall 11, PendSV 14,
 /// SysTick 15, and 16 + n for interrupt n, 0 to 31 (ARMv6-M Architecture Reference Manual, B1.5.2).
@@ -189,7 +189,7 @@ impl Nvic {
         ensures { self.new ≡ after_timer cycle self.old }
     {
         if self.systick.end_cycle(cycle) {
-            self.pend(15);
+            self.pend(SYSTICK);
         }
     }
 
@@ -207,8 +207,8 @@ impl Nvic {
         ensures { result ≡ rank_of self.now number }
     {
         match number {
-            2 => -2,
-            3 => -1,
+            NMI => -2,
+            HARDFAULT => -1,
             _ if number < NUMBERS => i32::from(self.priorities[number as usize]),
             _ => 0,
         }

@@ -1,31 +1,36 @@
 //! Words as the manual gives them, and a run of the system timer.
 
 use crate::Nvic;
+use crate::numbers::{INTERRUPT_0, SYSTICK};
+use crate::registers::{
+    AIRCR, CCR, CPUID, ICSR, NVIC_ICER, NVIC_ICPR, NVIC_IPR0, NVIC_IPR7, NVIC_ISER, NVIC_ISPR, SCR,
+    SHPR2, SHPR3, SYST_CALIB, SYST_CSR, SYST_CVR, SYST_RVR, VTOR,
+};
 
 /// Offsets, what is written there, and what is read after.
 const WORDS: [(u16, u32, u32); 22] = [
-    (0x014, 0xffff_ffff, 0x00ff_ffff),
-    (0x018, 0x0000_1234, 0x0000_0000),
-    (0x01c, 0xffff_ffff, 0x0000_0000),
-    (0x100, 0x8000_0003, 0x8000_0003),
-    (0x180, 0x0000_0001, 0x8000_0002),
-    (0x200, 0x8000_0030, 0x8000_0030),
-    (0x280, 0x0000_0010, 0x8000_0020),
-    (0x400, 0xffff_ffff, 0xc0c0_c0c0),
-    (0x400, 0x0000_4080, 0x0000_4080),
-    (0x41c, 0x80ff_c07f, 0x80c0_c040),
-    (0xd00, 0x0000_0000, 0x410c_c601),
-    (0xd04, 0x9400_0000, 0x9440_2000),
-    (0xd04, 0x0a00_0000, 0x8040_2000),
-    (0xd04, 0x1800_0000, 0x8040_2000),
-    (0xd08, 0x2000_01ff, 0x2000_0100),
-    (0xd0c, 0x05fa_0000, 0xfa05_0000),
-    (0xd0c, 0x0000_0004, 0xfa05_0000),
-    (0xd10, 0xffff_ffff, 0x0000_0016),
-    (0xd14, 0xffff_ffff, 0x0000_0208),
-    (0xd1c, 0xffff_ffff, 0xc000_0000),
-    (0xd20, 0xffff_ffff, 0xc0c0_0000),
-    (0xd20, 0x4080_0000, 0x4080_0000),
+    (SYST_RVR, 0xffff_ffff, 0x00ff_ffff),
+    (SYST_CVR, 0x0000_1234, 0x0000_0000),
+    (SYST_CALIB, 0xffff_ffff, 0x0000_0000),
+    (NVIC_ISER, 0x8000_0003, 0x8000_0003),
+    (NVIC_ICER, 0x0000_0001, 0x8000_0002),
+    (NVIC_ISPR, 0x8000_0030, 0x8000_0030),
+    (NVIC_ICPR, 0x0000_0010, 0x8000_0020),
+    (NVIC_IPR0, 0xffff_ffff, 0xc0c0_c0c0),
+    (NVIC_IPR0, 0x0000_4080, 0x0000_4080),
+    (NVIC_IPR7, 0x80ff_c07f, 0x80c0_c040),
+    (CPUID, 0x0000_0000, 0x410c_c601),
+    (ICSR, 0x9400_0000, 0x9440_2000),
+    (ICSR, 0x0a00_0000, 0x8040_2000),
+    (ICSR, 0x1800_0000, 0x8040_2000),
+    (VTOR, 0x2000_01ff, 0x2000_0100),
+    (AIRCR, 0x05fa_0000, 0xfa05_0000),
+    (AIRCR, 0x0000_0004, 0xfa05_0000),
+    (SCR, 0xffff_ffff, 0x0000_0016),
+    (CCR, 0xffff_ffff, 0x0000_0208),
+    (SHPR2, 0xffff_ffff, 0xc000_0000),
+    (SHPR3, 0xffff_ffff, 0xc0c0_0000),
+    (SHPR3, 0x4080_0000, 0x4080_0000),
 ];
 
 /// Offsets of no word.
@@ -45,33 +50,33 @@ fn words(rt: HostRuntime) {
         assert_eq!(rt; nvic.read(offset, 0), None, "{offset:x}");
         assert!(rt; !nvic.effect(offset, None), "{offset:x}");
     }
-    assert!(rt; !nvic.effect(0xd0c, Some(0x05fa_0004)));
+    assert!(rt; !nvic.effect(AIRCR, Some(0x05fa_0004)));
 }
 
 #[test]
 fn timer_and_priorities(rt: HostRuntime) {
     let mut nvic = Nvic::new();
-    assert!(rt; nvic.effect(0x014, Some(2)) && nvic.effect(0x010, Some(7)));
+    assert!(rt; nvic.effect(SYST_RVR, Some(2)) && nvic.effect(SYST_CSR, Some(7)));
     for (cycle, current) in CURRENT {
         nvic.end_cycle(0, cycle);
-        assert_eq!(rt; nvic.read(0x018, 0), Some(current), "cycle {cycle}");
+        assert_eq!(rt; nvic.read(SYST_CVR, 0), Some(current), "cycle {cycle}");
     }
-    assert_eq!(rt; nvic.best(), Some(15));
-    assert_eq!(rt; nvic.read(0x010, 0), Some(0x1_0007));
-    assert!(rt; nvic.effect(0x010, None));
-    assert_eq!(rt; nvic.read(0x010, 0), Some(7));
+    assert_eq!(rt; nvic.best(), Some(SYSTICK));
+    assert_eq!(rt; nvic.read(SYST_CSR, 0), Some(0x1_0007));
+    assert!(rt; nvic.effect(SYST_CSR, None));
+    assert_eq!(rt; nvic.read(SYST_CSR, 0), Some(7));
     // interrupt 3 has a lower priority than SysTick, then a higher one
-    assert!(rt; nvic.effect(0x100, Some(8)) && nvic.effect(0x400, Some(0x4000_0000)));
+    assert!(rt; nvic.effect(NVIC_ISER, Some(8)) && nvic.effect(NVIC_IPR0, Some(0x4000_0000)));
     nvic.end_cycle(8, 10);
-    assert_eq!(rt; nvic.best(), Some(15));
-    nvic.enter(15);
-    assert_eq!(rt; nvic.best(), Some(19));
+    assert_eq!(rt; nvic.best(), Some(SYSTICK));
+    nvic.enter(SYSTICK);
+    assert_eq!(rt; nvic.best(), Some(INTERRUPT_0 + 3));
     assert!(rt; !nvic.wakes());
-    nvic.leave(15);
+    nvic.leave(SYSTICK);
     assert!(rt; nvic.wakes());
     assert!(rt; nvic.is_alone(3));
-    nvic.enter(19);
-    assert!(rt; nvic.is_alone(19) && !nvic.is_alone(3));
+    nvic.enter(INTERRUPT_0 + 3);
+    assert!(rt; nvic.is_alone(INTERRUPT_0 + 3) && !nvic.is_alone(3));
     assert_eq!(rt; nvic.priority(false), 64);
     assert_eq!(rt; nvic.priority(true), 0);
 }
@@ -80,15 +85,15 @@ fn timer_and_priorities(rt: HostRuntime) {
 fn slow_clock(rt: HostRuntime) {
     // without CLKSOURCE the timer counts at the end of each 125th cycle, once a microsecond
     let mut nvic = Nvic::new();
-    assert!(rt; nvic.effect(0x014, Some(1)) && nvic.effect(0x010, Some(3)));
+    assert!(rt; nvic.effect(SYST_RVR, Some(1)) && nvic.effect(SYST_CSR, Some(3)));
     for (cycle, current) in [(0, 0), (123, 0), (124, 1), (125, 1), (248, 1)] {
         nvic.end_cycle(0, cycle);
-        assert_eq!(rt; nvic.read(0x018, 0), Some(current), "cycle {cycle}");
+        assert_eq!(rt; nvic.read(SYST_CVR, 0), Some(current), "cycle {cycle}");
     }
     assert_eq!(rt; nvic.best(), None);
     nvic.end_cycle(0, 249);
-    assert_eq!(rt; nvic.best(), Some(15));
-    assert_eq!(rt; nvic.read(0x010, 0), Some(0x1_0003));
+    assert_eq!(rt; nvic.best(), Some(SYSTICK));
+    assert_eq!(rt; nvic.read(SYST_CSR, 0), Some(0x1_0003));
 }
 
 #[test]
@@ -96,23 +101,23 @@ fn events_and_held_lines(rt: HostRuntime) {
     // with SEVONPEND an interrupt that becomes pending is an event, enabled or not, and one that is pending is none
     let mut nvic = Nvic::new();
     assert!(rt; !nvic.end_cycle(1, 0));
-    assert!(rt; nvic.effect(0xd10, Some(0x10)));
+    assert!(rt; nvic.effect(SCR, Some(0x10)));
     assert!(rt; !nvic.end_cycle(1, 1));
     assert!(rt; nvic.end_cycle(3, 2));
     assert_eq!(rt; nvic.best(), None);
     // a line that is held high pends again only once its interrupt is not active any more
-    assert!(rt; nvic.effect(0x100, Some(1)));
-    assert_eq!(rt; nvic.best(), Some(16));
-    nvic.enter(16);
+    assert!(rt; nvic.effect(NVIC_ISER, Some(1)));
+    assert_eq!(rt; nvic.best(), Some(INTERRUPT_0));
+    nvic.enter(INTERRUPT_0);
     for cycle in 3..5 {
         nvic.end_cycle(1, cycle);
         assert_eq!(rt; nvic.best(), None);
     }
-    nvic.leave(16);
+    nvic.leave(INTERRUPT_0);
     nvic.end_cycle(1, 5);
-    assert_eq!(rt; nvic.best(), Some(16));
-    nvic.enter(16);
-    nvic.leave(16);
+    assert_eq!(rt; nvic.best(), Some(INTERRUPT_0));
+    nvic.enter(INTERRUPT_0);
+    nvic.leave(INTERRUPT_0);
     nvic.end_cycle(0, 6);
     assert_eq!(rt; nvic.best(), None);
 }

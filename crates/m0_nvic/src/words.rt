@@ -5,6 +5,11 @@ ghost use Rattle.word_bits.specs.Word.{bit_number};
 ghost use Rattle.word_bits.specs.Word.{byte_of};
 ghost use Rattle.m0_nvic.specs.Words.{csr_of, timer_word, timer_written, timer_read, interrupt_word, interrupts_written, four_priorities, priority_word, with_four, priorities_written, is_priority_offset, icsr_of, shpr2_of, shpr3_of, fixed_word, control_word, pended_if, cleared_if, icsr_written, control_written, word_of, asks_reset, is_allowed, after_write, effect_of};
 
+use crate::numbers::{INTERRUPT_0, NMI, PENDSV, SVCALL, SYSTICK};
+use crate::registers::{
+    AIRCR, CCR, CPUID, ICSR, NVIC_ICER, NVIC_ICPR, NVIC_IPR0, NVIC_IPR7, NVIC_ISER, NVIC_ISPR, SCR,
+    SHPR2, SHPR3, SYST_CALIB, SYST_CSR, SYST_CVR, SYST_RVR, VTOR,
+};
 use crate::systick::SysTick;
 use crate::{Nvic, bit, interrupts, is_member, of_interrupts};
 
@@ -14,11 +19,11 @@ impl Nvic {
     pub fn read(&self, offset: u16, ipsr: u8) -> Option<u32>
         ensures { result ≡ word_of self.now offset ipsr }
     {
-        if offset < 0x100 {
+        if offset < NVIC_ISER {
             self.systick.read(offset)
-        } else if offset < 0x400 {
+        } else if offset < NVIC_IPR0 {
             self.read_interrupts(offset)
-        } else if offset < 0xd00 {
+        } else if offset < CPUID {
             self.read_priorities(offset)
         } else {
             self.read_control(offset, ipsr)
@@ -52,11 +57,11 @@ impl Nvic {
     fn write(&mut self, offset: u16, word: u32)
         ensures { self.new ≡ after_write offset word self.old }
     {
-        if offset < 0x100 {
+        if offset < NVIC_ISER {
             self.systick.write(offset, word);
-        } else if offset < 0x400 {
+        } else if offset < NVIC_IPR0 {
             self.write_interrupts(offset, word);
-        } else if offset < 0xd00 {
+        } else if offset < CPUID {
             self.write_priorities(offset, word);
         } else {
             self.write_control(offset, word);
@@ -68,8 +73,8 @@ impl Nvic {
         ensures { result ≡ interrupt_word self.now offset }
     {
         match offset {
-            0x100 | 0x180 => Some(interrupts(self.enabled)),
-            0x200 | 0x280 => Some(interrupts(self.pending)),
+            NVIC_ISER | NVIC_ICER => Some(interrupts(self.enabled)),
+            NVIC_ISPR | NVIC_ICPR => Some(interrupts(self.pending)),
             _ => None,
         }
     }
@@ -80,10 +85,10 @@ impl Nvic {
     {
         let set = of_interrupts(word);
         match offset {
-            0x100 => self.enabled |= set,
-            0x180 => self.enabled &= !set,
-            0x200 => self.add_pending(set),
-            0x280 => self.pending &= !set,
+            NVIC_ISER => self.enabled |= set,
+            NVIC_ICER => self.enabled &= !set,
+            NVIC_ISPR => self.add_pending(set),
+            NVIC_ICPR => self.pending &= !set,
             _ => {}
         }
     }
@@ -93,7 +98,10 @@ impl Nvic {
         ensures { result ≡ priority_word self.now offset }
     {
         if is_priority_offset(offset) {
-            Some(four_priorities(&self.priorities, (offset - 0x400) as usize + 16))
+            Some(four_priorities(
+                &self.priorities,
+                (offset - NVIC_IPR0) as usize + INTERRUPT_0 as usize,
+            ))
         } else {
             None
         }
@@ -104,7 +112,11 @@ impl Nvic {
         ensures { self.new ≡ priorities_written offset word self.old }
     {
         if is_priority_offset(offset) {
-            set_four(&mut self.priorities, (offset - 0x400) as usize + 16, word);
+            set_four(
+                &mut self.priorities,
+                (offset - NVIC_IPR0) as usize + INTERRUPT_0 as usize,
+                word,
+            );
         }
     }
 
@@ -113,14 +125,14 @@ impl Nvic {
         ensures { result ≡ control_word self.now offset ipsr }
     {
         match offset {
-            0xd04 => Some(self.icsr(ipsr)),
-            0xd08 => Some(self.vtor),
-            0xd10 => Some(self.scr),
-            0xd1c => Some(u32::from(self.priorities[11]) * 0x100_0000),
-            0xd20 => {
+            ICSR => Some(self.icsr(ipsr)),
+            VTOR => Some(self.vtor),
+            SCR => Some(self.scr),
+            SHPR2 => Some(u32::from(self.priorities[SVCALL as usize]) * 0x100_0000),
+            SHPR3 => {
                 Some(
-                    u32::from(self.priorities[15]) * 0x100_0000
-                        + u32::from(self.priorities[14]) * 0x1_0000,
+                    u32::from(self.priorities[SYSTICK as usize]) * 0x100_0000
+                        + u32::from(self.priorities[PENDSV as usize]) * 0x1_0000,
                 )
             }
             _ => fixed_word(offset),
@@ -131,9 +143,9 @@ impl Nvic {
     fn icsr(&self, ipsr: u8) -> u32
         ensures { result ≡ icsr_of self.now ipsr }
     {
-        one(is_member(self.pending, 2)) * 0x8000_0000
-            + one(is_member(self.pending, 14)) * 0x1000_0000
-            + one(is_member(self.pending, 15)) * 0x400_0000
+        one(is_member(self.pending, NMI)) * 0x8000_0000
+            + one(is_member(self.pending, PENDSV)) * 0x1000_0000
+            + one(is_member(self.pending, SYSTICK)) * 0x400_0000
             + one(interrupts(self.pending) != 0) * 0x40_0000
             + u32::from(self.best().unwrap_or(0)) * 0x1000
             + u32::from(ipsr)
@@ -144,13 +156,13 @@ impl Nvic {
         ensures { self.new ≡ control_written offset word self.old }
     {
         match offset {
-            0xd04 => self.write_icsr(word),
-            0xd08 => self.vtor = word & !0xff,
-            0xd10 => self.scr = word & 0x16,
-            0xd1c => self.priorities[11] = level(word, 3),
-            0xd20 => {
-                self.priorities[15] = level(word, 3);
-                self.priorities[14] = level(word, 2);
+            ICSR => self.write_icsr(word),
+            VTOR => self.vtor = word & !0xff,
+            SCR => self.scr = word & 0x16,
+            SHPR2 => self.priorities[SVCALL as usize] = level(word, 3),
+            SHPR3 => {
+                self.priorities[SYSTICK as usize] = level(word, 3);
+                self.priorities[PENDSV as usize] = level(word, 2);
             }
             _ => {}
         }
@@ -160,11 +172,11 @@ impl Nvic {
     fn write_icsr(&mut self, word: u32)
         ensures { self.new ≡ icsr_written word self.old }
     {
-        self.pend_if((word >> 31) & 1 == 1, 2);
-        self.pend_if((word >> 28) & 1 == 1, 14);
-        self.pend_if((word >> 26) & 1 == 1, 15);
-        self.clear_if((word >> 27) & 1 == 1, 14);
-        self.clear_if((word >> 25) & 1 == 1, 15);
+        self.pend_if((word >> 31) & 1 == 1, NMI);
+        self.pend_if((word >> 28) & 1 == 1, PENDSV);
+        self.pend_if((word >> 26) & 1 == 1, SYSTICK);
+        self.clear_if((word >> 27) & 1 == 1, PENDSV);
+        self.clear_if((word >> 25) & 1 == 1, SYSTICK);
     }
 
     fn pend_if(&mut self, asked: bool, number: u8)
@@ -191,10 +203,10 @@ impl SysTick {
         ensures { result ≡ timer_word self.now offset }
     {
         match offset {
-            0x10 => Some(self.csr()),
-            0x14 => Some(self.reload),
-            0x18 => Some(self.current),
-            0x1c => Some(0),
+            SYST_CSR => Some(self.csr()),
+            SYST_RVR => Some(self.reload),
+            SYST_CVR => Some(self.current),
+            SYST_CALIB => Some(0),
             _ => None,
         }
     }
@@ -213,7 +225,7 @@ impl SysTick {
     fn after_read(&mut self, offset: u16)
         ensures { self.new ≡ timer_read offset self.old }
     {
-        if offset == 0x10 {
+        if offset == SYST_CSR {
             self.counted = false;
         }
     }
@@ -223,13 +235,13 @@ impl SysTick {
         ensures { self.new ≡ timer_written offset word self.old }
     {
         match offset {
-            0x10 => {
+            SYST_CSR => {
                 self.enable = word & 1 == 1;
                 self.interrupt = (word >> 1) & 1 == 1;
                 self.core_clock = (word >> 2) & 1 == 1;
             }
-            0x14 => self.reload = word & 0xff_ffff,
-            0x18 => {
+            SYST_RVR => self.reload = word & 0xff_ffff,
+            SYST_CVR => {
                 self.current = 0;
                 self.counted = false;
             }
@@ -242,7 +254,7 @@ impl SysTick {
 fn is_priority_offset(offset: u16) -> bool
     ensures { result ≡ is_priority_offset offset }
 {
-    0x400 <= offset && offset <= 0x41c && offset % 4 == 0
+    NVIC_IPR0 <= offset && offset <= NVIC_IPR7 && offset % 4 == 0
 }
 
 /// The priorities of four exceptions from a first one on, the first in the lowest byte.
@@ -281,9 +293,9 @@ fn fixed_word(offset: u16) -> Option<u32>
     ensures { result ≡ fixed_word offset }
 {
     match offset {
-        0xd00 => Some(0x410c_c601),
-        0xd0c => Some(0xfa05_0000),
-        0xd14 => Some(0x208),
+        CPUID => Some(0x410c_c601),
+        AIRCR => Some(0xfa05_0000),
+        CCR => Some(0x208),
         _ => None,
     }
 }
@@ -293,7 +305,7 @@ fn asks_reset(offset: u16, write: Option<u32>) -> bool
     ensures { result ≡ asks_reset offset write }
 {
     match write {
-        Some(word) => offset == 0xd0c && word >> 16 == 0x5fa && (word >> 2) & 1 == 1,
+        Some(word) => offset == AIRCR && word >> 16 == 0x5fa && (word >> 2) & 1 == 1,
         None => false,
     }
 }

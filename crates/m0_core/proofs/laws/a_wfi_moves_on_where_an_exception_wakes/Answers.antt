@@ -1,4 +1,4 @@
-use Rattle.m0_core.proofs.Exceptions.{a_wfi_moves_on_where_an_exception_wakes}
+use Rattle.m0_core.proofs.Taken.{a_wfi_moves_on_where_an_exception_wakes}
 use Rattle.m0_core.proofs.laws.a_wfi_moves_on_where_an_exception_wakes.Goals as goal
 
 pub returns : goal.returns
