@@ -3,4 +3,5 @@ pub mod Conditions
 pub mod Effects
 pub mod Registers
 pub mod Rows
+pub mod Shapes
 pub mod Special

@@ -1,66 +1,41 @@
 //! How many beats an instruction has, by the timing table (ARM Cortex-M0+ Technical Reference Manual, 3.3).
 
 ghost use Rattle.std.specs.Prelude.{◌≡◌, ◌≤◌, length};
-ghost use Rattle.m0_beats.specs.Beats.{registers_of, beats_of_action, beats_of};
+ghost use Rattle.m0_beats.specs.Beats.{registers_of, beats_of};
+ghost use Rattle.m0_beats.specs.Shapes.{beats_of_shape};
 
 use crate::effects::is_listed;
 use crate::registers::Regs;
-use crate::rows::{Action, classify};
-use crate::timing::address;
+use crate::table::{Shape, shape_of};
 use rp_base::op::Op;
 
 /// How many beats the instruction has: the length of the list that `beats` gives.
-#[tactic(auto, unfolding(crate::specs::Beats::beats_of))]
+#[inline(always)]
 pub fn beat_count(op: &Op, regs: &Regs) -> usize
     ensures { result ≡ length (beats_of op.now regs.now) }
 {
-    let action = classify(op);
-    action_count(&action, regs)
+    shape_count(&shape_of(op, regs), regs)
 }
 
-/// How many beats an action has.
-fn action_count(action: &Action, regs: &Regs) -> usize
-    ensures { result ≡ length (beats_of_action action.now regs.now) }
+/// How many beats a row of the table has.
+#[inline(always)]
+fn shape_count(shape: &Shape, regs: &Regs) -> usize
+    ensures { result ≡ length (beats_of_shape shape.now regs.now) }
 {
-    match *action {
-        Action::Move(d, _) | Action::Place(d, _, _) => { if d >= 15 { 2 } else { 1 } }
-        Action::Branch(..) | Action::Exchange(..) | Action::ExchangeLink(..) | Action::Pause => 2,
-        Action::BranchIf(condition, _) => {
-            if regs.condition_holds(condition) {
-                2
-            } else {
-                1
-            }
-        }
-        Action::BranchLink(..)
-        | Action::ReadSpecial(..)
-        | Action::WriteSpecial(..)
-        | Action::Barrier => 3,
-        Action::Load(_, _, _, x, y) | Action::Store(_, _, x, y) => {
-            if address(x, y, regs) >> 28 == 0xd {
-                1
-            } else {
-                2
-            }
-        }
-        Action::LoadMany(_, list) => 1 + register_count(list),
-        Action::StoreMany(_, list) => 1 + register_count(list),
-        Action::Push(list) => 1 + register_count(list),
-        Action::Pop(list) => {
+    match *shape {
+        Shape::Once => 1,
+        Shape::Twice => 2,
+        Shape::Thrice => 3,
+        Shape::Single(address, _, _) => { if address >> 28 == 0xd { 1 } else { 2 } }
+        Shape::Reads(_, list) => 1 + register_count(list),
+        Shape::Writes(_, list) => 1 + register_count(list),
+        Shape::Pop(list) => {
             if is_listed(list, 15) {
                 3 + register_count(list)
             } else {
                 1 + register_count(list)
             }
         }
-        Action::Shift(..)
-        | Action::Sum(..)
-        | Action::Word(..)
-        | Action::Extend(..)
-        | Action::LowerSp(..)
-        | Action::Mask(..)
-        | Action::Nothing
-        | Action::Never => 1,
     }
 }
 

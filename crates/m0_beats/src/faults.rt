@@ -1,62 +1,41 @@
 //! Which instructions fault at their addresses, and which begin an exception return.
 
 ghost use Rattle.std.specs.Prelude.{◌≡◌};
-ghost use Rattle.m0_beats.specs.Beats.{bytes_of, TellsUnaligned, is_unaligned_of_action, is_unaligned_of};
+ghost use Rattle.m0_beats.specs.Beats.{bytes_of, TellsUnaligned, is_unaligned_beat, is_unaligned_of};
+ghost use Rattle.std.specs.List.{list_any};
+ghost use Rattle.m0_beats.specs.Shapes.{beats_of_shape};
 ghost use Rattle.m0_beats.specs.Effects.{return_of, last_read};
 ghost use Rattle.m0_beats.specs.Conditions.{is_exception_return};
 ghost use Rattle.std.specs.Bool.{then_some};
 
 use crate::conditions::is_exception_return;
-use crate::effects::{is_listed, push_address, value_at};
+use crate::effects::{is_listed, value_at};
 use crate::registers::Regs;
 use crate::rows::{Action, classify};
-use crate::timing::address;
+use crate::table::{Shape, shape_of};
 use rp_base::Size;
 use rp_base::op::Op;
 
 /// The instruction makes an access whose address is no multiple of its size, and so faults (ARMv6-M Architecture Reference
 /// Manual, A3.2.1).
-#[tactic(auto, unfolding(crate::specs::Beats::is_unaligned_of))]
+#[tactic(auto, unfolding(crate::specs::Beats::is_unaligned_of, crate::specs::Beats::beats_of))]
 pub fn is_unaligned(op: &Op, regs: &Regs) -> bool
     ensures { result ≡ is_unaligned_of op.now regs.now }
 {
-    let action = classify(op);
-    action_is_unaligned(&action, regs)
+    shape_is_unaligned(&shape_of(op, regs), regs)
 }
 
-/// An action makes such an access.
-fn action_is_unaligned(action: &Action, regs: &Regs) -> bool
-    ensures { result ≡ is_unaligned_of_action action.now regs.now }
+/// A row of the table has such an access, as `is_unaligned` says.
+#[inline(always)]
+pub fn shape_is_unaligned(shape: &Shape, regs: &Regs) -> bool
+    ensures { result ≡ list_any is_unaligned_beat (beats_of_shape shape.now regs.now) }
 {
-    match *action {
-        Action::Load(_, size, _, x, y) | Action::Store(_, size, x, y) => {
-            address(x, y, regs) % bytes(size) != 0
-        }
-        Action::LoadMany(n, list) | Action::StoreMany(n, list) => are_unaligned(
-            list,
-            regs.register(n),
-        ),
-        Action::Push(list) => are_unaligned(list, push_address(list, regs)),
-        Action::Pop(list) => are_unaligned(list, regs.active_sp()),
-        Action::Shift(..)
-        | Action::Sum(..)
-        | Action::Word(..)
-        | Action::Extend(..)
-        | Action::Move(..)
-        | Action::Place(..)
-        | Action::LowerSp(..)
-        | Action::Branch(..)
-        | Action::BranchIf(..)
-        | Action::BranchLink(..)
-        | Action::Exchange(..)
-        | Action::ExchangeLink(..)
-        | Action::ReadSpecial(..)
-        | Action::WriteSpecial(..)
-        | Action::Mask(..)
-        | Action::Barrier
-        | Action::Pause
-        | Action::Nothing
-        | Action::Never => false,
+    match *shape {
+        Shape::Once | Shape::Twice | Shape::Thrice => false,
+        Shape::Single(address, size, _) => address % bytes(size) != 0,
+        Shape::Reads(from, list) => are_unaligned(list, from),
+        Shape::Writes(from, list) => are_unaligned(list, from),
+        Shape::Pop(list) => are_unaligned(list, regs.active_sp()),
     }
 }
 

@@ -10,13 +10,15 @@ pub mod one_beat;
 pub mod registers;
 pub mod rows;
 pub mod special;
+pub mod table;
 #[cfg(test)]
 mod tests;
 pub mod timing;
 
 pub use cycles::beat_count;
 pub use effects::effect;
-pub use faults::{exception_return, is_unaligned};
-pub use one_beat::beat_at;
+pub use faults::{exception_return, is_unaligned, shape_is_unaligned};
+pub use one_beat::{beat_at, shape_beat};
 pub use registers::Regs;
+pub use table::{Shape, shape_of};
 pub use timing::{Beat, beats};

@@ -1,66 +1,38 @@
 //! The beats of an instruction one by one, without a list of them.
 
 ghost use Rattle.std.specs.Prelude.{◌≡◌, ◌∷◌, ◌≤◌, ◌+◌, ◌*◌, ◌%◌, ◌^◌, slice_get};
-ghost use Rattle.m0_beats.specs.Beats.{registers_of, reads, writes, single, access, inner, inner_to, pop_end, pop_beats, beats_of_action, beats_of};
+ghost use Rattle.m0_beats.specs.Beats.{registers_of, reads, writes, single, access, inner, pop_end, pop_beats, beats_of};
+ghost use Rattle.m0_beats.specs.Shapes.{beats_of_shape};
 ghost use Rattle.m0_beats.specs.declared.timing.Beat.TheVariants.{Inner};
 
-use crate::effects::{is_listed, push_address};
+use crate::effects::is_listed;
 use crate::registers::Regs;
-use crate::rows::{Action, classify};
-use crate::timing::{Beat, access, address, stored};
+use crate::table::{Shape, shape_of};
+use crate::timing::{Beat, access};
 use rp_base::Size;
 use rp_base::op::Op;
 
 /// The beat at a place of the list that `beats` gives, 0 the first; `None` past the last. It takes the time of that beat
 /// alone, for a core that goes through an instruction a cycle at a time.
-#[tactic(auto, unfolding(crate::specs::Beats::beats_of))]
 pub fn beat_at(op: &Op, regs: &Regs, place: usize) -> Option<Beat>
     ensures { result ≡ slice_get (beats_of op.now regs.now) place }
 {
-    let action = classify(op);
-    action_beat(&action, regs, place)
+    shape_beat(&shape_of(op, regs), regs, place)
 }
 
-/// The beat of an action at a place.
-fn action_beat(action: &Action, regs: &Regs, place: usize) -> Option<Beat>
-    ensures { result ≡ slice_get (beats_of_action action.now regs.now) place }
+/// The beat of a row of the table at a place, as `beat_at` has it.
+#[inline(always)]
+pub fn shape_beat(shape: &Shape, regs: &Regs, place: usize) -> Option<Beat>
+    ensures { result ≡ slice_get (beats_of_shape shape.now regs.now) place }
 {
-    match *action {
-        Action::Move(d, _) | Action::Place(d, _, _) => inner_to_at(d, place),
-        Action::Branch(..) | Action::Exchange(..) | Action::ExchangeLink(..) | Action::Pause =>
-            inner_at(2, place),
-        Action::BranchIf(condition, _) => {
-            if regs.condition_holds(condition) {
-                inner_at(2, place)
-            } else {
-                inner_at(1, place)
-            }
-        }
-        Action::BranchLink(..)
-        | Action::ReadSpecial(..)
-        | Action::WriteSpecial(..)
-        | Action::Barrier => { inner_at(3, place) }
-        Action::Load(_, size, _, x, y) => single_at(address(x, y, regs), size, None, place),
-        Action::Store(t, size, x, y) => {
-            single_at(
-                address(x, y, regs),
-                size,
-                Some(stored(size, regs.register(t))),
-                place,
-            )
-        }
-        Action::LoadMany(n, list) => read_at(regs.register(n), list, place),
-        Action::StoreMany(n, list) => write_at(regs.register(n), list, regs, place),
-        Action::Push(list) => write_at(push_address(list, regs), list, regs, place),
-        Action::Pop(list) => pop_at(list, regs, place),
-        Action::Shift(..)
-        | Action::Sum(..)
-        | Action::Word(..)
-        | Action::Extend(..)
-        | Action::LowerSp(..)
-        | Action::Mask(..)
-        | Action::Nothing
-        | Action::Never => inner_at(1, place),
+    match *shape {
+        Shape::Once => inner_at(1, place),
+        Shape::Twice => inner_at(2, place),
+        Shape::Thrice => inner_at(3, place),
+        Shape::Single(address, size, write) => single_at(address, size, write, place),
+        Shape::Reads(from, list) => read_at(from, list, place),
+        Shape::Writes(from, list) => write_at(from, list, regs, place),
+        Shape::Pop(list) => pop_at(list, regs, place),
     }
 }
 
@@ -72,17 +44,6 @@ fn inner_at(count: usize, place: usize) -> Option<Beat>
         Some(Beat::Inner)
     } else {
         None
-    }
-}
-
-/// A place of one inner beat, and of two where PC is written.
-fn inner_to_at(d: u8, place: usize) -> Option<Beat>
-    ensures { result ≡ slice_get (inner_to d) place }
-{
-    if d >= 15 {
-        inner_at(2, place)
-    } else {
-        inner_at(1, place)
     }
 }
 

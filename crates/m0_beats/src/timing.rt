@@ -2,12 +2,12 @@
 
 ghost use Rattle.std.specs.Prelude.{◌≡◌, ◌≤◌, ◌++◌, ◌∷◌, [], ◌+◌, length};
 ghost use Rattle.arrayvec.specs.ArrayVec.{array_vec_len};
-ghost use Rattle.m0_beats.specs.Beats.{address_of, stored, access, registers_of, reads, writes, single, inner, inner_to, pop_beats, beats_of_action, beats_of};
+ghost use Rattle.m0_beats.specs.Beats.{access, registers_of, reads, writes, single, inner, pop_beats, beats_of};
 ghost use Rattle.m0_beats.specs.Registers.{register_of};
 
-use crate::effects::{is_listed, push_address};
+use crate::effects::is_listed;
 use crate::registers::Regs;
-use crate::rows::{Action, Operand, classify};
+use crate::table::{Shape, shape_of};
 use arrayvec::ArrayVec;
 use rp_base::op::Op;
 use rp_base::{Request, Size};
@@ -27,65 +27,25 @@ type Beats = ArrayVec<Beat, 32>;
 
 /// The beats of the instruction at `regs.pc`, in order: how many cycles it takes inside the core, and which accesses it
 /// makes. An access has the address as the instruction computes it, also an unaligned one.
-#[tactic(auto, unfolding(crate::specs::Beats::beats_of))]
 pub fn beats(op: &Op, regs: &Regs) -> ArrayVec<Beat, 32>
     ensures { result.items ≡ beats_of op.now regs.now }
 {
-    let action = classify(op);
-    action_beats(&action, regs)
-}
-
-/// The beats of an action.
-fn action_beats(action: &Action, regs: &Regs) -> Beats
-    ensures { result.items ≡ beats_of_action action.now regs.now }
-{
-    match *action {
-        Action::Move(d, _) | Action::Place(d, _, _) => inner_to(d),
-        Action::Branch(..) | Action::Exchange(..) | Action::ExchangeLink(..) | Action::Pause =>
-            inner_twice(),
-        Action::BranchIf(condition, _) => {
-            if regs.condition_holds(condition) {
-                inner_twice()
-            } else {
-                inner_once()
-            }
-        }
-        Action::BranchLink(..)
-        | Action::ReadSpecial(..)
-        | Action::WriteSpecial(..)
-        | Action::Barrier => inner_thrice(),
-        Action::Load(_, size, _, x, y) => single(address(x, y, regs), size, None),
-        Action::Store(t, size, x, y) => {
-            single(
-                address(x, y, regs),
-                size,
-                Some(stored(size, regs.register(t))),
-            )
-        }
-        Action::LoadMany(n, list) => {
+    match shape_of(op, regs) {
+        Shape::Once => inner_once(),
+        Shape::Twice => inner_twice(),
+        Shape::Thrice => inner_thrice(),
+        Shape::Single(address, size, write) => single(address, size, write),
+        Shape::Reads(from, list) => {
             let mut out = inner_once();
-            push_reads(&mut out, regs.register(n), list);
+            push_reads(&mut out, from, list);
             out
         }
-        Action::StoreMany(n, list) => {
+        Shape::Writes(from, list) => {
             let mut out = inner_once();
-            push_writes(&mut out, regs.register(n), list, regs);
+            push_writes(&mut out, from, list, regs);
             out
         }
-        Action::Push(list) => {
-            let mut out = inner_once();
-            push_writes(&mut out, push_address(list, regs), list, regs);
-            out
-        }
-        Action::Pop(list) => pop(list, regs),
-        Action::Shift(..)
-        | Action::Sum(..)
-        | Action::Word(..)
-        | Action::Extend(..)
-        | Action::LowerSp(..)
-        | Action::Mask(..)
-        | Action::Nothing
-        | Action::Never => inner_once(),
+        Shape::Pop(list) => pop(list, regs),
     }
 }
 
@@ -114,31 +74,6 @@ fn inner_thrice() -> Beats
     let mut out = inner_twice();
     out.push(Beat::Inner);
     out
-}
-
-/// One inner beat, and two where PC is written.
-fn inner_to(d: u8) -> Beats
-    ensures { result.items ≡ inner_to d }
-{
-    if d >= 15 { inner_twice() } else { inner_once() }
-}
-
-/// The address of a single load or store.
-pub(crate) fn address(x: Operand, y: Operand, regs: &Regs) -> u32
-    ensures { result ≡ address_of x y regs.now }
-{
-    x.value(regs).wrapping_add(y.value(regs))
-}
-
-/// The low bytes of a register.
-pub(crate) fn stored(size: Size, value: u32) -> u32
-    ensures { result ≡ stored size value }
-{
-    match size {
-        Size::Byte => value & 0xff,
-        Size::Half => value & 0xffff,
-        Size::Word => value,
-    }
 }
 
 /// An access.

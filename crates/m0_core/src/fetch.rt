@@ -5,6 +5,8 @@ ghost use Rattle.rp_base.specs.AddressMap.{place_of};
 ghost use Rattle.lane_look.specs.Asking.{Runs};
 ghost use Rattle.lane_look.specs.Asking.Asking.{Ready};
 ghost use Rattle.rp_base.specs.Access.{master_of};
+ghost use Rattle.m0_beats.specs.Beats.{beats_of};
+ghost use Rattle.m0_beats.specs.Shapes.{beats_of_shape};
 ghost use Rattle.m0_core.specs.Fetch.{is_ram, is_locked, asks_fault, is_callable, is_faulty, beat_of, beat_of_work, in_ram, in_private, at_spot, asks_beat, locks_last, asks_return, asks_decoded, asks_second, asks_first, taken_of, asks_boundary, asks_work, asks_awake};
 
 use crate::doing::{Act, Work};
@@ -13,7 +15,7 @@ use crate::kinds::{is_breakpoint, is_call, is_undefined};
 use crate::processor::Core;
 use crate::returns::{is_misfit, value_at};
 use lane_look::{Ask, Look};
-use m0_beats::{Beat, beat_at, is_unaligned};
+use m0_beats::{Beat, Shape, beat_at, shape_beat, shape_is_unaligned, shape_of};
 use m0_nvic::numbers::SVCALL;
 use rp_base::access::{master_of, word_written};
 use rp_base::map::{Spot, place};
@@ -138,13 +140,15 @@ impl Core {
         self.nvic.rank(SVCALL) < self.nvic.priority(self.regs.primask)
     }
 
-    /// The instruction faults.
-    fn is_faulty(&self, op: &Op) -> bool
+    /// The instruction of these beats faults.
+    #[tactic(auto, using(crate::proofs::Shapes::unaligned))]
+    fn is_faulty(&self, op: &Op, shape: &Shape) -> bool
+        requires { beats_of_shape shape.now self.now.regs ≡ beats_of op.now self.now.regs }
         ensures { result ≡ is_faulty op.now self.now }
     {
         is_undefined(op)
             || !self.regs.t
-            || is_unaligned(op, &self.regs)
+            || shape_is_unaligned(shape, &self.regs)
             || is_call(op) && !self.is_callable()
     }
 
@@ -171,6 +175,20 @@ impl Core {
         }
     }
 
+    /// The next beat of an instruction of these beats.
+    #[inline(always)]
+    #[tactic(auto, unfolding(crate::specs::Fetch::asks_beat, crate::specs::Fetch::beat_of))]
+    fn begin_shape<K: Look>(&self, op: Op, shape: &Shape, look: &mut K) -> Act
+        requires { beats_of_shape shape.now self.now.regs ≡ beats_of op self.now.regs }
+        ensures { Runs K.answers look.old (asks_beat (Work.Instruction op) self.now) result look.new }
+    {
+        let work = Work::Instruction(op);
+        match shape_beat(shape, &self.regs, self.place).unwrap_or(Beat::Inner) {
+            Beat::Inner => Act::Inner(work),
+            Beat::Access(request) => self.begin_access(work, request, look),
+        }
+    }
+
     /// The first beat of an instruction, or the stop at it.
     #[inline(always)]
     #[tactic(auto, unfolding(crate::specs::Fetch::asks_decoded))]
@@ -178,11 +196,13 @@ impl Core {
         ensures { Runs K.answers look.old (asks_decoded op self.now) result look.new }
     {
         if is_breakpoint(&op) {
-            Act::Stopped(Why::Bkpt(self.number()))
-        } else if self.is_faulty(&op) {
+            return Act::Stopped(Why::Bkpt(self.number()));
+        }
+        let shape = shape_of(&op, &self.regs);
+        if self.is_faulty(&op, &shape) {
             self.begin_fault()
         } else {
-            self.begin_beat(Work::Instruction(op), look)
+            self.begin_shape(op, &shape, look)
         }
     }
 
