@@ -1,4 +1,9 @@
+pub mod Changes
 pub mod Digits
 pub mod Listing
+pub mod Moves
 pub mod Paths
 pub mod Reading
+pub mod Rings
+pub mod Sessions
+pub mod Writes

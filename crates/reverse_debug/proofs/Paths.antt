@@ -15,7 +15,7 @@ pub record Path (w : Setting) (s t : State) : Type 0 where
   pub is : t ≡ states w s (t.cycle - s.cycle)
   pub forward : s.cycle ≤ t.cycle
 
-none_first : (w : Setting) (s : State) → states w s zero ≡ s
+pub none_first : (w : Setting) (s : State) → states w s zero ≡ s
 unfolding states
 none_first w s = refl
 
@@ -143,6 +143,9 @@ pub way_there : (w : Setting) (s t : State) (to before now : ℕ) → Way w s t 
 way_there w s t to before now k le =
     let within : t.cycle ≤ to = k.within in
     record { state = k.path.is; forward = k.path.forward; low = k.low; within = k.within; there = omega arith; stopped = tt }
+
+pub nearer_by_one : (t u : State) (n to : ℕ) → n ≡ t.cycle → u.cycle ≡ n + 1 → t.cycle < to → to - u.cycle < to - t.cycle
+nearer_by_one t u n to e one lt = omega arith
 
 pub way_nearer : (w : Setting) (t u : State) (to : ℕ) → u ≡ next w t → t.cycle < to → to - u.cycle < to - t.cycle
 way_nearer w t u to e lt = let one : u.cycle ≡ t.cycle + 1 = next_at w t u e in omega arith

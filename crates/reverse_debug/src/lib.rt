@@ -3,5 +3,9 @@
 
 mod advance;
 mod command;
+mod last_change;
 mod reply;
+pub mod session;
 mod words;
+
+pub use session::Session;

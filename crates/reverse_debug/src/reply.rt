@@ -29,8 +29,8 @@ pub(crate) fn word_at(machine: &Machine, address: u32) -> u32
 /// The lines of both cores.
 #[tactic(auto, unfolding(crate::specs::Replies::regs_reply))]
 pub(crate) fn put_registers(machine: &Machine, reply: &mut Reply)
-    requires { array_vec_len reply.old ≡ 0 }
-    ensures { reply.new.items ≡ reply.old.items ++ regs_reply machine.now }
+    requires { reply.old.items ≡ [] }
+    ensures { reply.new.items ≡ regs_reply machine.now }
 {
     let mut line = ArrayVec::<u8, 192>::new();
     register_line(0, machine.registers(0), &mut line);
@@ -68,9 +68,9 @@ fn push_words(machine: &Machine, address: u32, count: u64, reply: &mut Reply)
 /// Words of SRAM.
 #[tactic(auto, unfolding(crate::specs::Replies::mem_reply))]
 pub(crate) fn put_words(machine: &Machine, address: u32, count: u64, reply: &mut Reply)
-    requires empty { array_vec_len reply.old ≡ 0 }
+    requires empty { reply.old.items ≡ [] }
     requires words { are_words address count ≡ true }
-    ensures { reply.new.items ≡ reply.old.items ++ mem_reply machine.now address count }
+    ensures { reply.new.items ≡ mem_reply machine.now address count }
 {
     push_text(b"mem ", reply);
     push_word(address, reply);
@@ -99,8 +99,8 @@ fn push_levels(pads: u32, reply: &mut Reply)
 /// The levels of the pads.
 #[tactic(auto, unfolding(crate::specs::Replies::pins_reply))]
 pub(crate) fn put_pins(machine: &Machine, reply: &mut Reply)
-    requires { array_vec_len reply.old ≡ 0 }
-    ensures { reply.new.items ≡ reply.old.items ++ pins_reply machine.now }
+    requires { reply.old.items ≡ [] }
+    ensures { reply.new.items ≡ pins_reply machine.now }
 {
     push_text(b"pins ", reply);
     push_levels(machine.pads(), reply);
@@ -136,10 +136,10 @@ fn push_pio_words(words: &[u32; 5], reply: &mut Reply)
 /// The registers of a machine of a PIO block.
 #[tactic(auto, unfolding(crate::specs::Replies::pio_reply))]
 pub(crate) fn put_pio(machine: &Machine, block: u8, number: u8, reply: &mut Reply)
-    requires empty { array_vec_len reply.old ≡ 0 }
+    requires empty { reply.old.items ≡ [] }
     requires block { block ≤ 1 }
     requires number { number ≤ 3 }
-    ensures { reply.new.items ≡ reply.old.items ++ pio_reply machine.now block number }
+    ensures { reply.new.items ≡ pio_reply machine.now block number }
 {
     push_text(b"pio ", reply);
     push_number(u64::from(block), reply);
@@ -152,8 +152,8 @@ pub(crate) fn put_pio(machine: &Machine, block: u8, number: u8, reply: &mut Repl
 /// The cycle at which the session stands.
 #[tactic(auto, unfolding(crate::specs::Replies::at_reply))]
 pub(crate) fn put_cycle(cycle: u64, reply: &mut Reply)
-    requires { array_vec_len reply.old ≡ 0 }
-    ensures { reply.new.items ≡ reply.old.items ++ at_reply cycle }
+    requires { reply.old.items ≡ [] }
+    ensures { reply.new.items ≡ at_reply cycle }
 {
     push_text(b"at ", reply);
     push_number(cycle, reply);
@@ -163,8 +163,8 @@ pub(crate) fn put_cycle(cycle: u64, reply: &mut Reply)
 /// The last cycle that changed a word.
 #[tactic(auto, unfolding(crate::specs::Replies::last_write_reply))]
 pub(crate) fn put_last_write(address: u32, write: Option<u64>, reply: &mut Reply)
-    requires { array_vec_len reply.old ≡ 0 }
-    ensures { reply.new.items ≡ reply.old.items ++ last_write_reply address write }
+    requires { reply.old.items ≡ [] }
+    ensures { reply.new.items ≡ last_write_reply address write }
 {
     push_text(b"lastwrite ", reply);
     push_word(address, reply);

@@ -1,0 +1,152 @@
+-- Moves, and what is answered.
+use Rattle.std.proofs.Common.{◌≡◌, ◌⊎◌, ℕ, ◌+◌, ◌-◌, ◌<◌, ◌≤◌, nat_lt, Bool, true, false, cond, List, [], ◌++◌, Option, Some, None, inl, inr, refl, sym, ap, subst, arith, ◌∙◌}
+use Rattle.std.proofs.lemmas.Bool.{cases_lt}
+use Rattle.std.proofs.lemmas.Bool.Decides.{nat_tests}
+use Rattle.std.specs.Prelude.{codes}
+use Rattle.rp_base.specs.declared.Why.{Why}
+use Rattle.trace_text.specs.Line.{stop_text}
+use Rattle.outer_lane.specs.Setting.{Setting}
+use Rattle.rp_machine.specs.State.{State}
+use Rattle.rp_machine.specs.Cycle.{stop}
+use Rattle.rp_machine.specs.Run.{last_state}
+use Rattle.reverse_debug.specs.Replies.{Said, said, last_cycle, at_last, at_reply, stop_line, moved_to, moved_back, move_cost}
+use Rattle.reverse_debug.specs.Advance.{CountsMove}
+use Rattle.reverse_debug.specs.Standing.{Standing, first_of, StandsFor, StaysFor, GoesOn, Lands, Does}
+use Rattle.reverse_debug.proofs.Paths.{path_last}
+use Rattle.reverse_debug.proofs.Sessions.{now_in_last, now_low, path_of, stays_on}
+
+-- ---- what a move is
+
+moved_within : (w : Setting) (f : State) (target : ℕ) → target ≤ last_cycle w f → moved_to w f target ≡ said target (at_reply target)
+unfolding moved_to
+moved_within w f target le = let isnt : nat_lt (last_cycle w f) target ≡ false = grind (arith, nat_tests) in rw isnt refl
+
+moved_beyond : (w : Setting) (f t : State) (why : Why) (target : ℕ) → last_state w f ≡ t → stop w t ≡ Some why → t.cycle < target → moved_to w f target ≡ said t.cycle (stop_text why t.cycle)
+unfolding moved_to
+moved_beyond w f t why target last stops lt =
+    let e : last_cycle w f ≡ t.cycle = ap (λ (x : State). x.cycle) last in
+    let yes : nat_lt (last_cycle w f) target ≡ true = grind (arith, nat_tests) in
+    let s : stop w (last_state w f) ≡ Some why = ap (stop w) last ∙ stops in
+    rw yes (rw s (ap (λ n. said n (stop_text why n)) e))
+
+-- ---- what a move costs
+
+move_within : (d c m t before after : ℕ) → after + m ≡ before + t → m ≤ t → (t < c → t < m + d) → (c ≤ t → c ≤ m) → after ≤ before + move_cost d c t
+move_within d c m t before after count le back ahead = elim (cases_lt t c) [
+  | inl lt ↦
+      let yes : nat_lt t c ≡ true = grind (arith, nat_tests) in
+      let near : t < m + d = back lt in
+      rw yes (omega arith)
+  | inr ge ↦
+      let isnt : nat_lt t c ≡ false = grind (arith, nat_tests) in
+      let far : c ≤ m = ahead ge in
+      rw isnt (omega arith)
+]
+
+-- ---- a move to a cycle: first to a kept state, and then forward
+
+pub moved_there : (w : Setting) (old mid new : Standing) (target : ℕ) (reply : List ℕ) (before after : ℕ) → StandsFor w old → Lands w old target mid → GoesOn w mid target new None →
+    new.now.cycle ≡ target → CountsMove mid.now new.now before after → reply ≡ at_reply target →
+    Does w old (moved_to w (first_of old) target) (move_cost old.ring.spacing old.now.cycle (moved_to w (first_of old) target).cycle) new reply before after
+moved_there w old mid new target reply before after k land go there count is =
+    let stays : StaysFor w old new = stays_on w old mid new land.stays go.stays in
+    let last : new.now.cycle ≤ last_cycle w (first_of new) = now_in_last w (first_of new) new stays.stands in
+    let same : last_cycle w (first_of new) ≡ last_cycle w (first_of old) = ap (last_cycle w) stays.first in
+    let what = moved_within w (first_of old) target (omega arith) in
+    let le : mid.now.cycle ≤ target = land.below in
+    subst (λ (x : Said). Does w old x (move_cost old.ring.spacing old.now.cycle x.cycle) new reply before after) (sym what) (record {
+      stays = stays;
+      cycle = there;
+      said = is;
+      steps = move_within old.ring.spacing old.now.cycle mid.now.cycle target before after (omega arith) le land.back land.ahead;
+    })
+
+pub moved_stopped : (w : Setting) (old mid new : Standing) (target : ℕ) (why : Why) (reply : List ℕ) (before after : ℕ) → StandsFor w old → Lands w old target mid → GoesOn w mid target new (Some why) →
+    CountsMove mid.now new.now before after → reply ≡ stop_text why new.now.cycle →
+    Does w old (moved_to w (first_of old) target) (move_cost old.ring.spacing old.now.cycle (moved_to w (first_of old) target).cycle) new reply before after
+moved_stopped w old mid new target why reply before after k land go count is =
+    let stays : StaysFor w old new = stays_on w old mid new land.stays go.stays in
+    let stops = go.stopped.0 in
+    let lt : new.now.cycle < target = go.stopped.1 in
+    let last_new : last_state w (first_of new) ≡ new.now =
+        path_last w (first_of new) new.now why (path_of w (first_of new) new stays.stands) stops (now_low w (first_of new) new stays.stands)
+    in
+    let last : last_state w (first_of old) ≡ new.now = ap (last_state w) (sym stays.first) ∙ last_new in
+    let here : old.now.cycle ≤ last_cycle w (first_of old) = now_in_last w (first_of old) old k in
+    let end : last_cycle w (first_of old) ≡ new.now.cycle = ap (λ (x : State). x.cycle) last in
+    let what = moved_beyond w (first_of old) new.now why target last stops lt in
+    let on : mid.now.cycle ≤ new.now.cycle = go.forward in
+    let from : old.now.cycle ≤ mid.now.cycle = land.ahead (omega arith) in
+    subst (λ (x : Said). Does w old x (move_cost old.ring.spacing old.now.cycle x.cycle) new reply before after) (sym what) (record {
+      stays = stays;
+      cycle = refl;
+      said = is;
+      steps = move_within old.ring.spacing old.now.cycle mid.now.cycle new.now.cycle before after count on (λ bad. absurd (omega arith)) (λ _. from);
+    })
+
+-- ---- a move back
+
+back_to_start : (w : Setting) (f : State) (cycle back : ℕ) → cycle < back → moved_back w f cycle back ≡ said 0 (codes "at start\n")
+unfolding moved_back
+back_to_start w f cycle back lt = let yes : nat_lt cycle back ≡ true = grind (arith, nat_tests) in rw yes refl
+
+back_within : (w : Setting) (f : State) (cycle back : ℕ) → back ≤ cycle → cycle ≤ last_cycle w f → moved_back w f cycle back ≡ moved_to w f (cycle - back)
+unfolding moved_back
+back_within w f cycle back le last =
+    let isnt : nat_lt cycle back ≡ false = grind (arith, nat_tests) in
+    rw isnt (sym (moved_within w f (cycle - back) (omega arith)))
+
+pub moved_to_start : (w : Setting) (old new : Standing) (back : ℕ) (reply : List ℕ) (steps : ℕ) → StandsFor w old → Lands w old 0 new → old.now.cycle < back → reply ≡ codes "at start\n" →
+    Does w old (moved_back w (first_of old) old.now.cycle back) (move_cost old.ring.spacing old.now.cycle (moved_back w (first_of old) old.now.cycle back).cycle) new reply steps steps
+moved_to_start w old new back reply steps k land lt is =
+    let what = back_to_start w (first_of old) old.now.cycle back lt in
+    let low : new.now.cycle ≤ 0 = land.below in
+    subst (λ (x : Said). Does w old x (move_cost old.ring.spacing old.now.cycle x.cycle) new reply steps steps) (sym what) (record {
+      stays = land.stays;
+      cycle = omega arith;
+      said = is;
+      steps = omega arith;
+    })
+
+pub moved_back_to : (w : Setting) (old new : Standing) (back : ℕ) (reply : List ℕ) (before after : ℕ) → StandsFor w old → back ≤ old.now.cycle →
+    Does w old (moved_to w (first_of old) (old.now.cycle - back)) (move_cost old.ring.spacing old.now.cycle (moved_to w (first_of old) (old.now.cycle - back)).cycle) new reply before after →
+    Does w old (moved_back w (first_of old) old.now.cycle back) (move_cost old.ring.spacing old.now.cycle (moved_back w (first_of old) old.now.cycle back).cycle) new reply before after
+moved_back_to w old new back reply before after k le does =
+    let what = back_within w (first_of old) old.now.cycle back le (now_in_last w (first_of old) old k) in
+    subst (λ (x : Said). Does w old x (move_cost old.ring.spacing old.now.cycle x.cycle) new reply before after) (sym what) does
+
+-- ---- a move to the end
+
+pub moved_to_end : (w : Setting) (f : State) (target : ℕ) → last_cycle w f < target → moved_to w f target ≡ at_last w f
+unfolding moved_to
+moved_to_end w f target lt = let yes : nat_lt (last_cycle w f) target ≡ true = grind (arith, nat_tests) in rw yes refl
+
+-- ---- what is shown
+
+pub shown : (w : Setting) (old : Standing) (text reply : List ℕ) (steps most : ℕ) → StandsFor w old → reply ≡ text → Does w old (said old.now.cycle text) most old reply steps steps
+shown w old text reply steps most k is = record {
+  stays = record { stands = k; first = refl; spacing = refl };
+  cycle = refl;
+  said = is;
+  steps = omega arith;
+}
+
+-- ---- as it is written
+
+pub stop_written : (before after : List ℕ) (why : Why) (n cycle : ℕ) → before ≡ [] → n ≡ cycle → after ≡ before ++ stop_text why n → after ≡ stop_text why cycle
+stop_written before after why n cycle empty e h = h ∙ ap (λ t. t ++ stop_text why n) empty ∙ ap (stop_text why) e
+
+pub text_written : (before after text : List ℕ) → before ≡ [] → after ≡ before ++ text → after ≡ text
+text_written before after text empty h = h ∙ ap (λ t. t ++ text) empty
+
+pub back_written : (w : Setting) (old new : Standing) (back now : ℕ) (reply : List ℕ) (before after : ℕ) → StandsFor w old → now ≡ old.now.cycle → back ≤ now →
+    Does w old (moved_to w (first_of old) (now - back)) (move_cost old.ring.spacing old.now.cycle (moved_to w (first_of old) (now - back)).cycle) new reply before after →
+    Does w old (moved_back w (first_of old) old.now.cycle back) (move_cost old.ring.spacing old.now.cycle (moved_back w (first_of old) old.now.cycle back).cycle) new reply before after
+back_written w old new back now reply before after k e le does =
+    moved_back_to w old new back reply before after k (subst (λ n. back ≤ n) e le)
+        (subst (λ n. Does w old (moved_to w (first_of old) (n - back)) (move_cost old.ring.spacing old.now.cycle (moved_to w (first_of old) (n - back)).cycle) new reply before after) e does)
+
+pub start_written : (w : Setting) (old new : Standing) (back now : ℕ) (empty reply : List ℕ) (steps : ℕ) → StandsFor w old → Lands w old 0 new → now ≡ old.now.cycle → now < back → empty ≡ [] → reply ≡ empty ++ codes "at start\n" →
+    Does w old (moved_back w (first_of old) old.now.cycle back) (move_cost old.ring.spacing old.now.cycle (moved_back w (first_of old) old.now.cycle back).cycle) new reply steps steps
+start_written w old new back now empty reply steps k land e lt none is =
+    moved_to_start w old new back reply steps k land (subst (λ n. n < back) e lt) (text_written empty reply (codes "at start\n") none is)

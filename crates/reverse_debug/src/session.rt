@@ -1,0 +1,237 @@
+//! A session: where it stands, how it moves, and what it answers.
+
+ghost use Rattle.std.specs.Prelude.{◌≡◌, ◌≤◌, ◌<◌, ◌+◌, ◌-◌, ◌%◌, ◌^◌, ◌||◌, nat_lt, max};
+
+use crate::advance::advance;
+use crate::last_change::last_change;
+use crate::reply::{Reply, put_cycle};
+use lane_look::Device;
+use rp_base::Why;
+use rp_machine::{Machine, Steps, World};
+use snap_ring::Ring;
+use std::alloc::{AllocError, Global};
+use std::marker::Model;
+use std::sync::ledger::Ledger;
+use trace_text::line::{push_text, stop_line};
+
+/// A kept state is nearer to a target than the present one, or the present one is beyond the target.
+fn is_nearer(target: u64, now: u64, kept: u64) -> bool
+    ensures { result ≡ (nat_lt target now || nat_lt now kept) }
+{
+    target < now || now < kept
+}
+
+/// The next multiple of a spacing after a cycle, at most a cycle.
+#[tactic(auto, using(crate::proofs::Rings::next_above))]
+fn next_stop(at: u64, spacing: u64, to: u64) -> u64
+    requires some { 0 < spacing }
+    requires small { at + spacing < 2 ^ 64 }
+    requires ahead { at < to }
+    ensures within { result ≤ to }
+    ensures near { result ≤ at - at % spacing + spacing }
+    ensures ahead { at < result }
+{
+    let next = at - at % spacing + spacing;
+    if next < to { next } else { to }
+}
+
+/// The greater of two cycles.
+fn greater(one: u64, other: u64) -> u64
+    ensures { result ≡ max one other }
+{
+    if one < other { other } else { one }
+}
+
+/// A session of the debugger. It stands at one cycle of a run; states of the run that it has reached are kept in a ring, so that
+/// it can go back. All memory is taken by `open`.
+#[derive(Drop)]
+pub struct Session {
+    /// The machine at the present cycle.
+    machine: Machine,
+    /// The states that are kept.
+    ring: Ring,
+    /// The cycle at which the run ends at the latest.
+    limit: u64,
+    /// The greatest cycle that was reached.
+    reached: u64,
+}
+
+impl Model for Session {
+    ghost use Rattle.reverse_debug.specs.Standing.{Standing};
+
+    ghost Value = { Standing };
+
+    ghost view = { λ s. record {
+      now = s.machine;
+      ring = s.ring;
+      limit = s.limit;
+      reached = s.reached;
+    } };
+}
+
+impl Session {
+    ghost use Rattle.std.specs.Prelude.{◌≡◌, ◌≤◌, ◌<◌, ◌+◌, IfOk, IfNone, []};
+    ghost use Rattle.outer_lane.specs.Setting.{setting_of};
+    ghost use Rattle.reverse_debug.specs.Replies.{moved_to, moved_back, move_cost, last_write};
+    ghost use Rattle.reverse_debug.specs.Advance.{CountsMove};
+    ghost use Rattle.reverse_debug.specs.Standing.{first_of, StandsFor, OpensAt, GoesOn, Lands, Does};
+
+    /// A session at the state of a machine before its first cycle, for runs up to a limit of at most 1,000,000,000 cycles. It takes
+    /// the memory for 64 states that will be kept.
+    ///
+    /// # Errors
+    ///
+    /// Want of memory.
+    pub fn open(alloc: Global, machine: &Machine, limit: u64) -> Result<Session, AllocError>
+        requires start { machine.now.cycle ≡ 0 }
+        requires limit { limit ≤ 1000000000 }
+        ensures { IfOk result (λ session. OpensAt machine.now limit session) }
+    {
+        let mut ring = Ring::new(alloc, machine, limit)?;
+        ring.keep(machine);
+        Ok(Session {
+            machine: machine.twin(alloc)?,
+            ring,
+            limit,
+            reached: 0,
+        })
+    }
+
+    /// The cycle at which the session stands.
+    fn cycle(&self) -> u64
+        ensures { result ≡ self.now.now.cycle }
+    {
+        self.machine.number()
+    }
+
+    /// Restores the nearest kept state, where the machine is beyond the target, or before that state.
+    fn jump<X: Device>(&mut self, world: &World<'_, X>, target: u64)
+        requires { StandsFor (setting_of world.now.script.now (X.meaning world.now.device.now) world.now.limit) self.old }
+        ensures { Lands (setting_of world.now.script.now (X.meaning world.now.device.now) world.now.limit)
+            self.old target self.new }
+    {
+        let _world = world;
+        let now = self.machine.number();
+        match self.ring.nearest(target) {
+            None => return,
+            Some(nearest) => {
+                if !is_nearer(target, now, nearest) {
+                    return;
+                }
+                self.ring.restore(nearest, &mut self.machine);
+            }
+        }
+    }
+
+    /// Goes forward up to the next cycle whose state is to be kept, at most to a cycle, and keeps the state there.
+    fn stretch<X: Device, L: Ledger>(
+        &mut self,
+        world: &World<'_, X>,
+        to: u64,
+        steps: &mut Steps<L>,
+    ) -> Option<Why>
+        requires stands { StandsFor (setting_of world.now.script.now (X.meaning world.now.device.now) world.now.limit) self.old }
+        requires ahead { self.old.now.cycle < to }
+        ensures way { GoesOn (setting_of world.now.script.now (X.meaning world.now.device.now) world.now.limit)
+            self.old to self.new result }
+        ensures nearer { IfNone result (self.old.now.cycle < self.new.now.cycle) }
+        ensures steps { CountsMove self.old.now self.new.now steps.old steps.new }
+    {
+        let at = self.machine.number();
+        let spacing = self.ring.spacing();
+        let until = next_stop(at, spacing, to);
+        let why = advance(&mut self.machine, world, until, steps);
+        self.reached = greater(self.reached, self.machine.number());
+        self.ring.keep(&self.machine);
+        why
+    }
+
+    /// Goes forward to a cycle. None where the session stands there; else the cause of the stop below it.
+    fn forward<X: Device, L: Ledger>(
+        &mut self,
+        world: &World<'_, X>,
+        to: u64,
+        steps: &mut Steps<L>,
+    ) -> Option<Why>
+        requires stands { StandsFor (setting_of world.now.script.now (X.meaning world.now.device.now) world.now.limit) self.old }
+        requires ahead { self.old.now.cycle ≤ to }
+        ensures way { GoesOn (setting_of world.now.script.now (X.meaning world.now.device.now) world.now.limit)
+            self.old to self.new result }
+        ensures there { IfNone result (self.new.now.cycle ≡ to) }
+        ensures steps { CountsMove self.old.now self.new.now steps.old steps.new }
+    {
+        'stretches: while self.machine.number() < to {
+            match self.stretch(world, to, steps) {
+                Some(why) => return Some(why),
+                None => continue 'stretches,
+            }
+        }
+        None
+    }
+
+    /// Moves to a cycle, or to the last one below it, and writes the reply.
+    fn move_to<X: Device, L: Ledger>(
+        &mut self,
+        world: &World<'_, X>,
+        target: u64,
+        reply: &mut Reply,
+        steps: &mut Steps<L>,
+    )
+        requires stands { StandsFor (setting_of world.now.script.now (X.meaning world.now.device.now) world.now.limit) self.old }
+        requires empty { reply.old.items ≡ [] }
+        ensures {
+            let w = setting_of world.now.script.now (X.meaning world.now.device.now) world.now.limit in
+            let what = moved_to w (first_of self.old) target in
+            Does w self.old what (move_cost self.old.ring.spacing self.old.now.cycle what.cycle) self.new reply.new.items
+                steps.old steps.new }
+    {
+        self.jump(world, target);
+        match self.forward(world, target, steps) {
+            None => put_cycle(target, reply),
+            Some(why) => stop_line(&why, self.cycle(), reply),
+        }
+    }
+
+    /// Moves so many cycles back, or to the start, and writes the reply.
+    fn move_back<X: Device, L: Ledger>(
+        &mut self,
+        world: &World<'_, X>,
+        cycles: u64,
+        reply: &mut Reply,
+        steps: &mut Steps<L>,
+    )
+        requires stands { StandsFor (setting_of world.now.script.now (X.meaning world.now.device.now) world.now.limit) self.old }
+        requires empty { reply.old.items ≡ [] }
+        ensures {
+            let w = setting_of world.now.script.now (X.meaning world.now.device.now) world.now.limit in
+            let what = moved_back w (first_of self.old) self.old.now.cycle cycles in
+            Does w self.old what (move_cost self.old.ring.spacing self.old.now.cycle what.cycle) self.new reply.new.items
+                steps.old steps.new }
+    {
+        let now = self.cycle();
+        if now < cycles {
+            self.jump(world, 0);
+            push_text(b"at start\n", reply);
+        } else {
+            self.move_to(world, now - cycles, reply, steps);
+        }
+    }
+
+    /// The last cycle below the present one that changed the word of SRAM at an address. The session is as before.
+    fn last_write<X: Device, L: Ledger>(
+        &mut self,
+        world: &World<'_, X>,
+        address: u32,
+        steps: &mut Steps<L>,
+    ) -> Option<u64>
+        requires { StandsFor (setting_of world.now.script.now (X.meaning world.now.device.now) world.now.limit) self.old }
+        ensures write { result ≡ last_write (setting_of world.now.script.now (X.meaning world.now.device.now) world.now.limit)
+            (first_of self.old) address self.old.now.cycle }
+        ensures same { self.new ≡ self.old }
+        ensures steps { steps.new ≡ steps.old + self.old.now.cycle }
+    {
+        let now = self.cycle();
+        self.ring.restore(0, &mut self.machine);
+        last_change(&mut self.machine, world, address, now, steps)
+    }
+}
