@@ -57,8 +57,8 @@ changing_to w f t u address to last next_last before now after begins k a lt mor
     let here : t ≡ states w f t.cycle = k.path.is ∙ ap (states w f) far in
     let nexts : u ≡ next w t = one_next w t u a in
     let same : changes w f address t.cycle ≡ not (word_at u address == word_at t address) =
-        ap (λ (x : State). not (word_at (next w x) address == word_at x address)) (sym here)
-        ∙ ap (λ (x : State). not (word_at x address == word_at t address)) (sym nexts)
+    ap (λ (x : State). not (word_at (next w x) address == word_at x address)) (sym here)
+    ∙ ap (λ (x : State). not (word_at x address == word_at t address)) (sym nexts)
     in
     record {
       path = path_join w f t u k.path (record { is = a.state; forward = a.forward });
@@ -75,9 +75,9 @@ pub changing_on : (w : Setting) (f t u : State) (address to : ℕ) (last next_la
     t.cycle < to → x ≡ word_at u address → y ≡ word_at t address → next_last ≡ (if not (x == y) then Some n else last) → CountsMove t u now after → Changing w f u address to next_last before after
 changing_on w f t u address to last next_last before now after n x y begins k en a lt ex ey more count =
     changing_to w f t u address to last next_last before now after begins k (subst (λ m. Advances w t (m + 1) u None) en a) lt
-        (more ∙ ap (λ m. cond (not (m == y)) (Some n) last) ex ∙ ap (λ m. cond (not (word_at u address == m)) (Some n) last) ey
-        ∙ ap (λ m. cond (not (word_at u address == word_at t address)) (Some m) last) en)
-        count
+    (more ∙ ap (λ m. cond (not (m == y)) (Some n) last) ex ∙ ap (λ m. cond (not (word_at u address == m)) (Some n) last) ey
+    ∙ ap (λ m. cond (not (word_at u address == word_at t address)) (Some m) last) en)
+    count
 
 -- the run does not end before the cycle
 pub never_stopped : (w : Setting) (f t u : State) (address to : ℕ) (last : Option ℕ) (before now n : ℕ) (why : Why) → Changing w f t address to last before now → n ≡ t.cycle → Advances w t (n + 1) u (Some why) → t.cycle < to → to ≤ last_cycle w f → ⊥

@@ -69,7 +69,7 @@ moved_stopped w old mid new target why reply before after k land go count is =
     let stops = go.stopped.0 in
     let lt : new.now.cycle < target = go.stopped.1 in
     let last_new : last_state w (first_of new) ≡ new.now =
-        path_last w (first_of new) new.now why (path_of w (first_of new) new stays.stands) stops (now_low w (first_of new) new stays.stands)
+    path_last w (first_of new) new.now why (path_of w (first_of new) new stays.stands) stops (now_low w (first_of new) new stays.stands)
     in
     let last : last_state w (first_of old) ≡ new.now = ap (last_state w) (sym stays.first) ∙ last_new in
     let here : old.now.cycle ≤ last_cycle w (first_of old) = now_in_last w (first_of old) old k in
@@ -144,7 +144,7 @@ pub back_written : (w : Setting) (old new : Standing) (back now : ℕ) (reply : 
     Does w old (moved_back w (first_of old) old.now.cycle back) (move_cost old.ring.spacing old.now.cycle (moved_back w (first_of old) old.now.cycle back).cycle) new reply before after
 back_written w old new back now reply before after k e le does =
     moved_back_to w old new back reply before after k (subst (λ n. back ≤ n) e le)
-        (subst (λ n. Does w old (moved_to w (first_of old) (n - back)) (move_cost old.ring.spacing old.now.cycle (moved_to w (first_of old) (n - back)).cycle) new reply before after) e does)
+    (subst (λ n. Does w old (moved_to w (first_of old) (n - back)) (move_cost old.ring.spacing old.now.cycle (moved_to w (first_of old) (n - back)).cycle) new reply before after) e does)
 
 pub start_written : (w : Setting) (old new : Standing) (back now : ℕ) (empty reply : List ℕ) (steps : ℕ) → StandsFor w old → Lands w old 0 new → now ≡ old.now.cycle → now < back → empty ≡ [] → reply ≡ empty ++ codes "at start\n" →
     Does w old (moved_back w (first_of old) old.now.cycle back) (move_cost old.ring.spacing old.now.cycle (moved_back w (first_of old) old.now.cycle back).cycle) new reply steps steps

@@ -20,7 +20,7 @@ next_multiple at d c some none lt = elim (cases_lt c (at - at % d + d)) [
       let small : c - d * (at / d) < d = omega arith in
       let parts : d * (at / d) + (c - d * (at / d)) ≡ c = omega arith in
       let left : c % d ≡ c - d * (at / d) =
-          ap (λ n. n % d) (sym parts) ∙ mul-add-mod_self_left d (at / d) (c - d * (at / d)) ∙ mod-eq_of_lt small
+      ap (λ n. n % d) (sym parts) ∙ mul-add-mod_self_left d (at / d) (c - d * (at / d)) ∙ mod-eq_of_lt small
       in
       omega arith)
 ]
@@ -94,9 +94,9 @@ AreOfRun w first kept = (c : ℕ) (own : State) → is_kept c kept ≡ true → 
 pub one_of_run : (w : Setting) (first s : State) (ring : Snapshots) → s ≡ states w first s.cycle → AreOfRun w first ring.kept → AreOfRun w first (kept_with s ring).kept
 one_of_run w first s ring of older c own h = elim (cases_Bool (is_due ring.spacing ring.kept s.cycle)) [
   | inl is ↦ let h2 : is_kept c (s ∷ ring.kept) ≡ true = rw is at h in rw is (elim (cases_Bool (s.cycle == c)) [
-      | inl same ↦ rw same (of ∙ ap (states w first) (eqb-true s.cycle c same))
-      | inr other ↦ let h3 : is_kept c ring.kept ≡ true = rw other at h2 in rw other (older c own h3)
-    ])
+    | inl same ↦ rw same (of ∙ ap (states w first) (eqb-true s.cycle c same))
+    | inr other ↦ let h3 : is_kept c ring.kept ≡ true = rw other at h2 in rw other (older c own h3)
+  ])
   | inr isnt ↦ let h2 : is_kept c ring.kept ≡ true = rw isnt at h in rw isnt (older c own h2)
 ]
 
@@ -107,9 +107,9 @@ AreBelow most kept = (c : ℕ) → is_kept c kept ≡ true → c ≤ most
 pub one_below : (s : State) (ring : Snapshots) (most more : ℕ) → most ≤ more → s.cycle ≤ more → AreBelow most ring.kept → AreBelow more (kept_with s ring).kept
 one_below s ring most more le here older c h = elim (cases_Bool (is_due ring.spacing ring.kept s.cycle)) [
   | inl is ↦ let h2 : is_kept c (s ∷ ring.kept) ≡ true = rw is at h in elim (cases_Bool (s.cycle == c)) [
-      | inl same ↦ let e : s.cycle ≡ c = eqb-true s.cycle c same in omega arith
-      | inr other ↦ let h3 : is_kept c ring.kept ≡ true = rw other at h2 in (let low : c ≤ most = older c h3 in omega arith)
-    ]
+    | inl same ↦ let e : s.cycle ≡ c = eqb-true s.cycle c same in omega arith
+    | inr other ↦ let h3 : is_kept c ring.kept ≡ true = rw other at h2 in (let low : c ≤ most = older c h3 in omega arith)
+  ]
   | inr isnt ↦ let h2 : is_kept c ring.kept ≡ true = rw isnt at h in (let low : c ≤ most = older c h2 in omega arith)
 ]
 
@@ -122,14 +122,14 @@ never false b h = cc
 pub found_still : (s : State) (ring : Snapshots) (c : ℕ) (own other : State) → is_kept c ring.kept ≡ true → restored (state_at c (kept_with s ring).kept) own ≡ restored (state_at c ring.kept) other
 found_still s ring c own other h = elim (cases_Bool (is_due ring.spacing ring.kept s.cycle)) [
   | inl is ↦ rw is (elim (cases_Bool (s.cycle == c)) [
-      | inl same ↦ absurd (
-          let e : s.cycle ≡ c = eqb-true s.cycle c same in
-          let h2 : is_kept s.cycle ring.kept ≡ true = subst (λ n. is_kept n ring.kept ≡ true) (sym e) h in
-          let bad : (s.cycle % ring.spacing == 0 && (nat_lt s.cycle (64 * ring.spacing) && not true)) ≡ true =
-              subst (λ b. (s.cycle % ring.spacing == 0 && (nat_lt s.cycle (64 * ring.spacing) && not b)) ≡ true) h2 is
-          in
-          never (s.cycle % ring.spacing == 0) (nat_lt s.cycle (64 * ring.spacing)) bad)
-      | inr isnt ↦ rw isnt (restored_any c ring.kept own other h)
-    ])
+    | inl same ↦ absurd (
+        let e : s.cycle ≡ c = eqb-true s.cycle c same in
+        let h2 : is_kept s.cycle ring.kept ≡ true = subst (λ n. is_kept n ring.kept ≡ true) (sym e) h in
+        let bad : (s.cycle % ring.spacing == 0 && (nat_lt s.cycle (64 * ring.spacing) && not true)) ≡ true =
+        subst (λ b. (s.cycle % ring.spacing == 0 && (nat_lt s.cycle (64 * ring.spacing) && not b)) ≡ true) h2 is
+        in
+        never (s.cycle % ring.spacing == 0) (nat_lt s.cycle (64 * ring.spacing)) bad)
+    | inr isnt ↦ rw isnt (restored_any c ring.kept own other h)
+  ])
   | inr isnt ↦ rw isnt (restored_any c ring.kept own other h)
 ]

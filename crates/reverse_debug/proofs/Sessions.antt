@@ -76,7 +76,7 @@ multiples_after w first old s k near c multiple reached low =
       | inl lt ↦
           let here : old.now.cycle ≤ old.reached = k.here in
           let next : old.now.cycle - old.now.cycle % old.ring.spacing + old.ring.spacing ≤ c =
-              next_multiple old.now.cycle old.ring.spacing c (spacing_some w first old k) m (omega arith)
+          next_multiple old.now.cycle old.ring.spacing c (spacing_some w first old k) m (omega arith)
           in
           let same : s.cycle ≡ c = omega arith in
           let ms : s.cycle % old.ring.spacing ≡ 0 = subst (λ n. n % old.ring.spacing ≡ 0) (sym same) m in
@@ -140,8 +140,8 @@ pub stretched : (w : Setting) (old : Standing) (s : State) (ring : Snapshots) (r
     GoesOn w old to (record { now = s; ring = ring; limit = old.limit; reached = reached }) why
 stretched w old s ring reached to until why k a le near e f =
     subst (λ (r : Snapshots). GoesOn w old to (record { now = s; ring = r; limit = old.limit; reached = reached }) why) (sym e)
-        (subst (λ n. GoesOn w old to (record { now = s; ring = kept_with s old.ring; limit = old.limit; reached = n }) why) (sym f)
-            (advanced w old s to until why k a le near))
+    (subst (λ n. GoesOn w old to (record { now = s; ring = kept_with s old.ring; limit = old.limit; reached = n }) why) (sym f)
+    (advanced w old s to until why k a le near))
 
 -- ---- stretch by stretch
 
@@ -266,10 +266,10 @@ pub part_stretched : (w : Setting) (v old : Standing) (s : State) (ring : Snapsh
     GoesOn w old to (record { now = s; ring = ring; limit = v.limit; reached = reached }) why
 part_stretched w v old s ring reached to until at spacing why e k ea es a le near r f =
     let near_v : until ≤ v.now.cycle - v.now.cycle % v.ring.spacing + v.ring.spacing =
-        subst (λ d. until ≤ v.now.cycle - v.now.cycle % d + d) es (subst (λ n. until ≤ n - n % spacing + spacing) ea near)
+    subst (λ d. until ≤ v.now.cycle - v.now.cycle % d + d) es (subst (λ n. until ≤ n - n % spacing + spacing) ea near)
     in
     subst (λ (x : Standing). GoesOn w x to (record { now = s; ring = ring; limit = v.limit; reached = reached }) why) e
-        (stretched w v s ring reached to until why (subst (λ (x : Standing). StandsFor w x) (sym e) k) a le near_v r f)
+    (stretched w v s ring reached to until why (subst (λ (x : Standing). StandsFor w x) (sym e) k) a le near_v r f)
 
 either : (a b : Bool) → (a || b) ≡ true → (a ≡ true) ⊎ (b ≡ true)
 either true b h = inl refl
@@ -288,7 +288,7 @@ part_landed w v old target found now s e k en g r far =
       | inr is ↦ inr (ltb-true _ _ is)
     ] in
     subst (λ (x : Standing). Lands w x target (record { now = s; ring = v.ring; limit = v.limit; reached = v.reached })) e
-        (landed w v target found s (subst (λ (x : Standing). StandsFor w x) (sym e) k) g r ways)
+    (landed w v target found s (subst (λ (x : Standing). StandsFor w x) (sym e) k) g r ways)
 
 pub part_stayed : (w : Setting) (v old : Standing) (target found now : ℕ) → v ≡ old → StandsFor w old → now ≡ v.now.cycle → (nat_lt target now || nat_lt now found) ≡ false → Lands w old target v
 part_stayed w v old target found now e k en far =
@@ -329,7 +329,7 @@ opened_along w machine limit begins small same =
     let is : machine ≡ states w machine machine.cycle = sym (ap (states w machine) begins ∙ none_first w machine) in
     let some : 0 < spacing_of limit = some_spacing limit in
     let first_in : is_kept machine.cycle (kept_with machine (empty_ring limit)).kept ≡ true =
-        kept_now machine (empty_ring limit) (ap (λ n. n % spacing_of limit) begins ∙ zero-mod (spacing_of limit)) (omega arith)
+    kept_now machine (empty_ring limit) (ap (λ n. n % spacing_of limit) begins ∙ zero-mod (spacing_of limit)) (omega arith)
     in
     record {
       limit = sym same;
@@ -342,9 +342,9 @@ opened_along w machine limit begins small same =
       kept = one_of_run w machine machine (empty_ring limit) is (none_kept w machine);
       below = one_below machine (empty_ring limit) 0 0 (omega arith) (omega arith) none_below;
       multiples = λ c multiple reached low. (
-        let e : machine.cycle ≡ c = omega arith in
-        subst (λ n. is_kept n (kept_with machine (empty_ring limit)).kept ≡ true) e first_in
-      );
+          let e : machine.cycle ≡ c = omega arith in
+          subst (λ n. is_kept n (kept_with machine (empty_ring limit)).kept ≡ true) e first_in
+          );
     }
 
 opens : (machine : State) (limit : ℕ) → machine.cycle ≡ 0 → limit ≤ 1000000000 → OpensAt machine limit (record { now = machine; ring = kept_with machine (empty_ring limit); limit = limit; reached = 0 })
@@ -353,8 +353,8 @@ opens machine limit begins small = record {
   now = refl;
   spacing = spacing_stays machine (empty_ring limit);
   stands = λ w same.
-    subst (λ (f : State). IsAlong w f (record { now = machine; ring = kept_with machine (empty_ring limit); limit = limit; reached = 0 }))
-        (sym (opened_first machine machine limit begins)) (opened_along w machine limit begins small same);
+      subst (λ (f : State). IsAlong w f (record { now = machine; ring = kept_with machine (empty_ring limit); limit = limit; reached = 0 }))
+      (sym (opened_first machine machine limit begins)) (opened_along w machine limit begins small same);
 }
 
 pub opened : (machine s : State) (limit : ℕ) (r ring : Snapshots) → machine.cycle ≡ 0 → limit ≤ 1000000000 → r ≡ empty_ring limit → ring ≡ kept_with machine r → s ≡ machine →
@@ -362,5 +362,5 @@ pub opened : (machine s : State) (limit : ℕ) (r ring : Snapshots) → machine.
 opened machine s limit r ring begins small er ek es =
     let e : ring ≡ kept_with machine (empty_ring limit) = ek ∙ ap (kept_with machine) er in
     subst (λ (x : State). OpensAt machine limit (record { now = x; ring = ring; limit = limit; reached = 0 })) (sym es)
-        (subst (λ (x : Snapshots). OpensAt machine limit (record { now = machine; ring = x; limit = limit; reached = 0 })) (sym e)
-            (opens machine limit begins small))
+    (subst (λ (x : Snapshots). OpensAt machine limit (record { now = machine; ring = x; limit = limit; reached = 0 })) (sym e)
+    (opens machine limit begins small))

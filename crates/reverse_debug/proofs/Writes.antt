@@ -28,7 +28,7 @@ pub back_again : (w : Setting) (v old : Standing) (s t : State) (now : ℕ) → 
     record { now = t; ring = v.ring; limit = v.limit; reached = v.reached } ≡ old
 back_again w v old s t now e k is en h =
     let there : t ≡ old.now =
-        h ∙ ap (λ (x : State). states w x now) (set_first v old s e is) ∙ ap (states w (first_of old)) en ∙ sym k.now
+    h ∙ ap (λ (x : State). states w x now) (set_first v old s e is) ∙ ap (states w (first_of old)) en ∙ sym k.now
     in
     let here : t ≡ v.now = there ∙ ap (λ (x : Standing). x.now) (sym e) in
     ap (λ (x : State). record { now = x; ring = v.ring; limit = v.limit; reached = v.reached }) here ∙ e

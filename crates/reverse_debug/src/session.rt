@@ -179,11 +179,10 @@ impl Session {
     )
         requires stands { StandsFor (setting_of world.now.script.now (X.meaning world.now.device.now) world.now.limit) self.old }
         requires empty { reply.old.items ≡ [] }
-        ensures {
-            let w = setting_of world.now.script.now (X.meaning world.now.device.now) world.now.limit in
+        ensures { let w = setting_of world.now.script.now (X.meaning world.now.device.now) world.now.limit in
             let what = moved_to w (first_of self.old) target in
             Does w self.old what (move_cost self.old.ring.spacing self.old.now.cycle what.cycle) self.new reply.new.items
-                steps.old steps.new }
+            steps.old steps.new }
     {
         self.jump(world, target);
         match self.forward(world, target, steps) {
@@ -202,11 +201,10 @@ impl Session {
     )
         requires stands { StandsFor (setting_of world.now.script.now (X.meaning world.now.device.now) world.now.limit) self.old }
         requires empty { reply.old.items ≡ [] }
-        ensures {
-            let w = setting_of world.now.script.now (X.meaning world.now.device.now) world.now.limit in
+        ensures { let w = setting_of world.now.script.now (X.meaning world.now.device.now) world.now.limit in
             let what = moved_back w (first_of self.old) self.old.now.cycle cycles in
             Does w self.old what (move_cost self.old.ring.spacing self.old.now.cycle what.cycle) self.new reply.new.items
-                steps.old steps.new }
+            steps.old steps.new }
     {
         let now = self.cycle();
         if now < cycles {

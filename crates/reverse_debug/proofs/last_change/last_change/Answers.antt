@@ -15,7 +15,7 @@ pub cycles-preserved : goal.cycles-preserved
 cycles-preserved g c =
     let lt : c.cycles.machine.cycle < c.args.to = omega arith in
     changing_on _ _ _ _ _ _ _ _ _ _ _ _ _ _ c.requires.start c.cycles.invariant c.number-cycle.ensures c.in-None.ensures.way lt c.word_at.ensures
-        c.word_at-before.ensures c.later-last.ensures c.in-None.ensures.steps
+    c.word_at-before.ensures c.later-last.ensures c.in-None.ensures.steps
 
 pub returns-in-Some-clause-state : goal.returns-in-Some-clause-state
 returns-in-Some-clause-state g c =

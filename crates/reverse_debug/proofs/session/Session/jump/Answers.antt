@@ -8,4 +8,4 @@ returns-in-None g c = absurd (part_near _ _ _ _ c.self.view_is c.requires c.in-N
 pub returns : goal.returns
 returns g c =
     part_landed _ _ _ _ _ _ _ c.self.view_is c.requires c.number-now.ensures c.in-Some.ensures c.restore.ensures.machine
-        (sym c.is_nearer.ensures ∙ c.if-not-is_nearer.false)
+    (sym c.is_nearer.ensures ∙ c.if-not-is_nearer.false)

@@ -4,9 +4,9 @@ use Rattle.reverse_debug.proofs.session.Session.move_to.Goals as goal
 pub returns-in-None : goal.returns-in-None
 returns-in-None g c =
     moved_there _ _ _ _ _ _ _ _ c.requires.stands c.jump.ensures c.in-None.ensures.way c.in-None.ensures.there c.in-None.ensures.steps
-        c.put_cycle.ensures
+    c.put_cycle.ensures
 
 pub returns-in-Some : goal.returns-in-Some
 returns-in-Some g c =
     moved_stopped _ _ _ _ _ _ _ _ _ c.requires.stands c.jump.ensures c.in-Some.ensures.way c.in-Some.ensures.steps
-        (stop_written _ _ _ _ _ c.requires.empty c.cycle.ensures c.stop_line.ensures)
+    (stop_written _ _ _ _ _ c.requires.empty c.cycle.ensures c.stop_line.ensures)

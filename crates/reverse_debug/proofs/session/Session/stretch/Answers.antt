@@ -8,8 +8,8 @@ advance-why-requires-clause-low g c κs within = part_low _ _ _ c.self.view_is c
 pub returns-clause-way : goal.returns-clause-way
 returns-clause-way g c =
     part_stretched _ _ _ _ _ _ _ _ _ _ _ c.self.view_is c.requires.stands c.number-at.ensures c.spacing-spacing.ensures c.advance-why.ensures.way
-        c.next_stop-until.ensures.within c.next_stop-until.ensures.near c.keep.ensures.kept
-        (c.greater-self-inside.ensures ∙ ap (λ n. max c.self.inside.reached n) c.number.ensures)
+    c.next_stop-until.ensures.within c.next_stop-until.ensures.near c.keep.ensures.kept
+    (c.greater-self-inside.ensures ∙ ap (λ n. max c.self.inside.reached n) c.number.ensures)
 
 pub next_stop-until-requires-clause-small : goal.next_stop-until-requires-clause-small
 next_stop-until-requires-clause-small g c = part_sum _ _ _ _ _ c.self.view_is c.requires.stands c.number-at.ensures c.spacing-spacing.ensures
