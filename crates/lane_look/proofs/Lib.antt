@@ -1,2 +1,10 @@
 pub mod Answers
+pub mod Driven
+pub mod Entries
+pub mod Least
 pub mod Pairs
+pub mod Records
+pub mod Replays
+pub mod Rewinds
+pub mod RunsAlone
+pub mod Trees

@@ -1,6 +1,10 @@
-//! The laws of devices, each the contract of a function without arguments.
+//! The laws of devices and of replays, each the contract of a function without arguments.
 
 ghost use Rattle.lane_look.specs.DeviceLaws.{TheFirstDeviceDrives, NoneAddsNothing};
+ghost use Rattle.lane_look.specs.Replay.{meaning};
+ghost use Rattle.lane_look.specs.Truth.{Follows};
+
+use crate::lane::Lane;
 
 /// The level of each pad of two devices is the first device's where that one drives the pad, and else the second one's.
 pub fn the_first_device_drives()
@@ -10,4 +14,9 @@ pub fn the_first_device_drives()
 /// A device beside one that is none does what it does alone.
 pub fn none_adds_nothing()
     ensures { NoneAddsNothing }
+{}
+
+/// A lane that is answered as a log has it, and whose accesses to SRAM are done at once, goes the way of the log's replay.
+pub fn follows<E, S: Lane<E>>()
+    ensures { Follows (meaning S.asks S.wanted S.next S.marked) }
 {}

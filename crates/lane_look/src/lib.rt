@@ -5,15 +5,21 @@
 //! by what the bus gave it. The device that the caller attaches steps with the peripherals.
 #![tactic(auto)]
 
+pub mod alone;
 pub mod device;
 pub mod lane;
 pub mod laws;
+pub mod log;
 pub mod marks;
 pub mod pair;
+pub mod replay;
 #[cfg(test)]
 mod tests;
 
+pub use alone::{Around, run_alone};
 pub use device::{Device, NoDevice, Wires};
 pub use lane::{Ask, Lane, Look, Turn, Want};
+pub use log::{Log, LogLook};
 pub use marks::{Mark, Marks};
 pub use pair::Pair;
+pub use replay::{Report, rewind};
