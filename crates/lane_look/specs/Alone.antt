@@ -1,5 +1,5 @@
 -- What a lane does that is answered by functions; and a run alone, in which what it is answered depends on what it stored.
-use Rattle.std.specs.Prelude.{ℕ, zero, suc, ◌+◌, Bool, true, false, ◌||◌, if◌then◌else◌, nat_lt, List, [], ◌∷◌, ◌++◌, length}
+use Rattle.std.specs.Prelude.{ℕ, zero, suc, ◌+◌, Bool, true, false, not, ◌||◌, nat_eq, if◌then◌else◌, nat_lt, List, [], ◌∷◌, ◌++◌, length}
 use Rattle.lane_look.specs.Asking.{Asking, answered}
 use Rattle.lane_look.specs.Asking.Asking.{Ready, Question}
 use Rattle.lane_look.specs.declared.lane.Ask.{Ask}
@@ -106,3 +106,18 @@ recorded log entry = if nat_lt (length log) 2048 then log ++ entry ∷ [] else l
 -- what a lane, a log and marks stand for
 abbrev pub standing : {S W : Type 0} → S → W → List Entry → List Mark → Alone S W
 standing state around talk marks = record { state = state; around = around; talk = talk; marks = marks }
+
+-- ---- what a run alone asks and wants in its cycle k
+
+unfoldable pub asked_in : {E S B W : Type 0} → Meaning E S B → Surroundings W → E → S → ℕ → W → ℕ → List Entry
+asked_in m a env before start around k =
+    let r = alone m a env before start around k in asked (a.answer r.around) (m.asks env r.state (start + k))
+
+unfoldable pub wanted_in : {E S B W : Type 0} → Meaning E S B → Surroundings W → E → S → ℕ → W → ℕ → List Want
+wanted_in m a env before start around k =
+    let r = alone m a env before start around k in m.wanted (begun_alone m a env (start + k) r.state r.around)
+
+-- some answer is not the one that a function gives
+abbrev pub differs : (Ask → ℕ) → List Entry → Bool
+differs f [] = false
+differs f (entry ∷ entries) = not (nat_eq (f entry.0) entry.1) || differs f entries

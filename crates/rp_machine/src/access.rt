@@ -37,7 +37,7 @@ fn asked_at(request: &Request, spot: &Spot) -> Option<(u8, bool)>
 /// The port that a want asks for, and whether to write.
 #[inline(always)]
 #[tactic(auto, unfolding(crate::specs::Deeds::asked_of))]
-pub(crate) fn asked_of(want: &Want) -> Option<(u8, bool)>
+pub fn asked_of(want: &Want) -> Option<(u8, bool)>
     ensures port { HasPort result }
     ensures value { result ≡ asked_of want.now }
 {

@@ -336,9 +336,9 @@ impl Machine {
         self.at = at + 1;
     }
 
-    /// One cycle in which this was begun and wanted.
+    /// One cycle in which this was begun and wanted. Its mark goes to the end of the marks.
     #[tactic(auto, unfolding(crate::specs::Cycle::next_by, crate::specs::Cycle::stepped, crate::specs::Cycle::granted))]
-    fn step<X: Device>(
+    pub fn step<X: Device>(
         &mut self,
         world: &World<'_, X>,
         begun: &Begun,

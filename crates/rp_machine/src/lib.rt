@@ -24,6 +24,7 @@ pub mod steps;
 mod tests;
 pub mod wanted;
 
+pub use access::asked_of;
 pub use load::PioLoad;
 pub use machine::Machine;
 pub use outer_lane::World;

@@ -50,18 +50,32 @@ pub(crate) struct MachineLook<'a> {
     pub(crate) machine: &'a Machine,
 }
 
+impl Machine {
+    ghost use Rattle.std.specs.Prelude.{◌≡◌};
+    ghost use Rattle.rp_machine.specs.Answers.{answer_of};
+
+    /// What the state answers a lane, by its number: 0 and 1 are the cores, 2 is the DMA engine, 3 and 4 are the PIO blocks,
+    /// and 5 has the peripherals.
+    #[inline(always)]
+    pub fn answer(&self, lane: u8, ask: Ask) -> u128
+        ensures { result ≡ answer_of lane self.now ask }
+    {
+        match ask {
+            Ask::Lines => u128::from(self.lines(lane)),
+            Ask::Half(address) => u128::from(half_at(word_in(&self.ram, address), address)),
+            Ask::Word(address) => u128::from(word_in(&self.ram, address)),
+            Ask::Pacing => self.pacing(),
+            Ask::Inputs => self.inputs(),
+            Ask::Outs(block) => self.outs(block),
+        }
+    }
+}
+
 impl Look for MachineLook<'_> {
     ghost answers = { λ old ask answer new. (answer ≡ answer_of old.lane old.machine.now ask) × (new ≡ old) };
 
+    #[inline(always)]
     fn ask(&mut self, ask: Ask) -> u128 {
-        let machine = self.machine;
-        match ask {
-            Ask::Lines => u128::from(machine.lines(self.lane)),
-            Ask::Half(address) => u128::from(half_at(word_in(&machine.ram, address), address)),
-            Ask::Word(address) => u128::from(word_in(&machine.ram, address)),
-            Ask::Pacing => machine.pacing(),
-            Ask::Inputs => machine.inputs(),
-            Ask::Outs(block) => machine.outs(block),
-        }
+        self.machine.answer(self.lane, ask)
     }
 }

@@ -21,7 +21,7 @@ pub struct Wanted {
 /// What the four masters want in a cycle in which this was begun, in their order.
 #[inline(always)]
 #[tactic(auto, unfolding(crate::specs::Cycle::wanted))]
-pub(crate) fn all_wanted(begun: &Begun) -> [Wanted; 4]
+pub fn all_wanted(begun: &Begun) -> [Wanted; 4]
     ensures { result ≡ wanted begun.now }
 {
     let [core0, _] = <Core as Lane<()>>::wants(&begun.core0);

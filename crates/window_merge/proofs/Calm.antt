@@ -1,0 +1,305 @@
+-- A cycle in which every want is nothing or an access to SRAM, no two accesses name one port and none lasts: each lane steps as
+-- if it ran alone.
+use Rattle.std.proofs.Common.{◌≡◌, ◌==◌, ◌||◌, ◌&&◌, ℕ, ◌+◌, ◌<◌, Bool, true, false, not, nat_lt, if◌then◌else◌, List, [], ◌∷◌, ◌++◌, length, map, Option, Some, None, refl, sym, ap, ◌∙◌, subst}
+use Rattle.std.specs.Prelude.{is_some}
+use Rattle.rp_base.specs.AddressMap.{place_of, port_of}
+use Rattle.rp_base.specs.declared.Master.{Master}
+use Rattle.rp_base.specs.declared.Master.TheVariants as master
+use Rattle.rp_base.specs.declared.Request.{Request}
+use Rattle.rp_base.specs.declared.map.Spot.{Spot}
+use Rattle.rp_base.specs.declared.map.Spot.TheVariants as spot
+use Rattle.lane_look.specs.declared.lane.Want.{Want}
+use Rattle.lane_look.specs.declared.lane.Want.TheVariants as want
+use Rattle.lane_look.specs.declared.lane.Turn.{Turn}
+use Rattle.lane_look.specs.declared.lane.Turn.TheVariants as turn
+use Rattle.lane_look.specs.Replay.{turn_alone}
+use Rattle.lane_look.specs.Alone.{ends_want}
+use Rattle.m0_core.specs.Fetch.{is_ram_spot}
+use Rattle.m0_core.specs.State.{State as Core}
+use Rattle.m0_core.specs.Cycle as core
+use Rattle.dma_engine.specs.Cycle as dma
+use Rattle.pio_block.specs.Cycle as pio
+use Rattle.outer_lane.specs.Setting.{Setting}
+use Rattle.outer_lane.specs.declared.world.Seen.{Seen}
+use Rattle.outer_lane.specs.State.{OuterState}
+use Rattle.outer_lane.specs.Step as outer
+use Rattle.bus_fabric.specs.State.{has_hold}
+use Rattle.sio_block.specs.State.{SioState}
+use Rattle.sio_block.specs.Mailbox.{Mailbox}
+use Rattle.sio_block.specs.Launcher.{offers_of, after_turn, launch_of}
+use Rattle.sio_block.specs.Cycle.{after_cycle}
+use Rattle.rp_machine.specs.declared.begun.Begun.{Begun}
+use Rattle.rp_machine.specs.declared.wanted.Wanted.{Wanted}
+use Rattle.rp_machine.specs.declared.deed.Deed.{Deed}
+use Rattle.rp_machine.specs.declared.deed.Deed.TheVariants as deed
+use Rattle.rp_machine.specs.State.{State}
+use Rattle.rp_machine.specs.Deeds.{port_at, asked_at, asked_of, turn_of, turn_at, stored_at, deed_of}
+use Rattle.rp_machine.specs.Cycle.{wanted, asked, granted, turns, turns_by, with_turns, deeds, deeds_by, with_sio, with_offer, with_pins, pins_of, after_deed, after_launcher, started_by, after_core1, after_masters, with_stores, ended, after_deeds, with_grants, stepped, next_by}
+use Rattle.window_merge.specs.Window.{is_port_of, share_port}
+use Rattle.window_merge.specs.Merging.{IsRested, Knows}
+use Rattle.window_merge.proofs.Banks.{HasBank, has_bank}
+use Rattle.window_merge.proofs.InSram.{IsPlaced}
+use Rattle.window_merge.proofs.Keeping.{core_keeps, outer_keeps}
+use Rattle.window_merge.proofs.Ports.{InBank, Apart, free_done, free_after}
+
+-- ---- one want
+
+in_bank_at : (request : Request) (place : Spot) → is_ram_spot place ≡ true → HasBank place → InBank (asked_at request (port_at place))
+in_bank_at request (spot.Ram index bank) e h = h
+in_bank_at request (spot.Reg block offset alias) e h = absurd (cc e)
+in_bank_at request (spot.Sio offset) e h = absurd (cc e)
+in_bank_at request (spot.Ppb offset) e h = absurd (cc e)
+in_bank_at request spot.Outside e h = absurd (cc e)
+
+asks_at : (request : Request) (place : Spot) → is_ram_spot place ≡ true → is_some (asked_at request (port_at place)) ≡ true
+asks_at request (spot.Ram index bank) e = refl
+asks_at request (spot.Reg block offset alias) e = absurd (cc e)
+asks_at request (spot.Sio offset) e = absurd (cc e)
+asks_at request (spot.Ppb offset) e = absurd (cc e)
+asks_at request spot.Outside e = absurd (cc e)
+
+pub in_bank : (v : Want) → ends_want v ≡ false → IsPlaced v → InBank (asked_of v)
+unfolding asked_of
+in_bank want.Nothing calm placed = tt
+in_bank (want.Ram request) calm placed = in_bank_at request (place_of request.address) placed (has_bank request.address)
+in_bank (want.Outward request) calm placed = absurd (cc calm)
+in_bank want.Signal calm placed = tt
+in_bank (want.Stopped cause) calm placed = tt
+
+-- its turn is that of a lane that runs alone, where each access is done
+turn_calm : (w : Setting) (seen : Seen) (rival : Want) (m : Master) (v : Want) (s : State) → ends_want v ≡ false → IsPlaced v → turn_of w seen rival (is_some (asked_of v)) m v s ≡ turn_alone v
+unfolding turn_of asked_of
+turn_calm w seen rival m want.Nothing s calm placed = refl
+turn_calm w seen rival m (want.Ram request) s calm placed = rw (asks_at request (place_of request.address) placed) refl
+turn_calm w seen rival m (want.Outward request) s calm placed = absurd (cc calm)
+turn_calm w seen rival m want.Signal s calm placed = absurd (cc calm)
+turn_calm w seen rival m (want.Stopped cause) s calm placed = absurd (cc calm)
+
+-- nothing is to be done but to store
+abbrev pub IsStore : Deed → Type 0
+IsStore deed.Nothing = Unit {0}
+IsStore (deed.Store index lanes value) = Unit {0}
+IsStore _ = ⊥
+
+stored_calm : (request : Request) (write : Option ℕ) (place : Spot) → IsStore (stored_at request write place)
+stored_calm request None place = tt
+stored_calm request (Some value) (spot.Ram index bank) = tt
+stored_calm request (Some value) (spot.Reg block offset alias) = tt
+stored_calm request (Some value) (spot.Sio offset) = tt
+stored_calm request (Some value) (spot.Ppb offset) = tt
+stored_calm request (Some value) spot.Outside = tt
+
+either_calm : (c : Bool) (d : Deed) → IsStore d → IsStore (if c then d else deed.Nothing)
+either_calm true d h = h
+either_calm false d h = tt
+
+deed_calm : (w : Setting) (seen : Seen) (grant : Bool) (v : Want) (s : State) → ends_want v ≡ false → IsStore (deed_of w seen grant v s)
+unfolding deed_of
+deed_calm w seen grant want.Nothing s calm = tt
+deed_calm w seen grant (want.Ram request) s calm = either_calm grant _ (stored_calm request request.write (place_of request.address))
+deed_calm w seen grant (want.Outward request) s calm = absurd (cc calm)
+deed_calm w seen grant want.Signal s calm = absurd (cc calm)
+deed_calm w seen grant (want.Stopped cause) s calm = absurd (cc calm)
+
+nothing_done : (w : Setting) (m : Master) (d : Deed) (s : State) → IsStore d → after_deed w m d s ≡ s
+unfolding after_deed
+nothing_done w m deed.Nothing s h = refl
+nothing_done w m (deed.Store index lanes value) s h = refl
+nothing_done w m deed.Signal s h = absurd h
+nothing_done w m (deed.Register block offset write) s h = absurd h
+nothing_done w m (deed.SingleCycle offset write) s h = absurd h
+nothing_done w m (deed.Device address write) s h = absurd h
+
+-- ---- SIO and what is known of it
+
+pub rested_after : (s : SioState) → IsRested (after_cycle s)
+rested_after s = record { first = refl; second = refl }
+
+offers_on : (s : SioState) → IsRested s → offers_of (after_cycle s) ≡ offers_of s
+offers_on s h = rw (h.first, h.second) refl
+
+told_nothing : (sio : SioState) (s : State) → sio ≡ s.sio → s.core1.offer ≡ offers_of s.sio → s.outer.sio ≡ pins_of s.sio → with_sio sio s ≡ s
+unfolding with_sio
+told_nothing sio s e offer pins = rw (e, ← offer, ← pins) refl
+
+-- the launcher has nothing to do
+launcher_rests : (s : State) → offers_of s.sio ≡ false → s.core1.offer ≡ offers_of s.sio → s.outer.sio ≡ pins_of s.sio → after_launcher s ≡ s
+unfolding after_launcher
+launcher_rests s none offer pins = rw none (told_nothing s.sio s refl offer pins)
+
+core1_rests_by : (asleep : Bool) (s : State) → (asleep && s.core1.offer) ≡ false → s.core1.offer ≡ offers_of s.sio → s.outer.sio ≡ pins_of s.sio → (if asleep then after_launcher s else s) ≡ s
+core1_rests_by true s none offer pins = launcher_rests s (sym offer ∙ none) offer pins
+core1_rests_by false s none offer pins = refl
+
+-- ---- the cycle
+
+-- what is known of a cycle in which this is begun
+pub record IsCalm (b : Begun) (s : State) : Type 0 where
+  pub calm0 : ends_want (core.want_of b.core0) ≡ false
+  pub calm1 : ends_want (core.want_of b.core1) ≡ false
+  pub calm_read : ends_want (dma.want_of b.dma.read) ≡ false
+  pub calm_write : ends_want (dma.want_of b.dma.write) ≡ false
+  pub placed0 : IsPlaced (core.want_of b.core0)
+  pub placed1 : IsPlaced (core.want_of b.core1)
+  pub placed_read : IsPlaced (dma.want_of b.dma.read)
+  pub placed_write : IsPlaced (dma.want_of b.dma.write)
+  pub apart : Apart (asked_of (core.want_of b.core0)) (asked_of (core.want_of b.core1)) (asked_of (dma.want_of b.dma.read)) (asked_of (dma.want_of b.dma.write))
+  pub free : has_hold s.fabric ≡ false
+  pub launcher : (s.core1.asleep && s.core1.offer) ≡ false
+  pub knows : Knows s
+
+-- the lanes have stepped as if each ran alone, and what is needed for the next cycle holds again
+pub record IsStepped (w : Setting) (b : Begun) (s t : State) : Type 0 where
+  pub cycle : t.cycle ≡ s.cycle + 1
+  pub core0 : t.core0 ≡ core.next s.core0 b.core0 (map turn_alone (core.wanted b.core0))
+  pub core1 : t.core1 ≡ core.next s.core1 b.core1 (map turn_alone (core.wanted b.core1))
+  pub dma : t.dma ≡ dma.next s.dma b.dma (map turn_alone (dma.wanted b.dma))
+  pub pio0 : t.pio0 ≡ pio.next b.pio0 s.pio0
+  pub pio1 : t.pio1 ≡ pio.next b.pio1 s.pio1
+  pub outer : t.outer ≡ outer.next w s.outer b.outer
+  pub free : has_hold t.fabric ≡ false
+  pub asleep : t.core1.asleep ≡ s.core1.asleep
+  pub offer : t.core1.offer ≡ s.core1.offer
+  pub knows : Knows t
+
+granted_calm : (b : Begun) (s : State) → IsCalm b s → granted (wanted b) s ≡
+    is_some (asked_of (core.want_of b.core0)) ∷ is_some (asked_of (core.want_of b.core1)) ∷ is_some (asked_of (dma.want_of b.dma.read)) ∷ is_some (asked_of (dma.want_of b.dma.write)) ∷ []
+unfolding granted asked wanted
+granted_calm b s h = free_done _ _ _ _ s.fabric h.apart
+    (in_bank (core.want_of b.core0) h.calm0 h.placed0) (in_bank (core.want_of b.core1) h.calm1 h.placed1)
+    (in_bank (dma.want_of b.dma.read) h.calm_read h.placed_read) (in_bank (dma.want_of b.dma.write) h.calm_write h.placed_write)
+
+still_free : (b : Begun) (s : State) → IsCalm b s → has_hold (with_grants (wanted b) s).fabric ≡ false
+unfolding asked wanted
+still_free b s h = free_after (asked_of (core.want_of b.core0)) (asked_of (core.want_of b.core1)) (asked_of (dma.want_of b.dma.read)) (asked_of (dma.want_of b.dma.write)) s.fabric h.free
+    (in_bank (core.want_of b.core0) h.calm0 h.placed0) (in_bank (core.want_of b.core1) h.calm1 h.placed1)
+    (in_bank (dma.want_of b.dma.read) h.calm_read h.placed_read) (in_bank (dma.want_of b.dma.write) h.calm_write h.placed_write)
+
+abbrev calm_turns : Begun → List Turn
+calm_turns b = turn_alone (core.want_of b.core0) ∷ turn_alone (core.want_of b.core1) ∷ turn_alone (dma.want_of b.dma.read) ∷ turn_alone (dma.want_of b.dma.write) ∷ []
+
+turns_calm : (w : Setting) (b : Begun) (s : State) → IsCalm b s → turns w b (wanted b) s (granted (wanted b) s) ≡ calm_turns b
+unfolding turns wanted
+turns_calm w b s h =
+    ap (turns w b (wanted b) s) (granted_calm b s h)
+    ∙ rw (
+      turn_calm w b.outer (core.want_of b.core0) master.Core0 (core.want_of b.core0) s h.calm0 h.placed0,
+      turn_calm w b.outer (core.want_of b.core0) master.Core1 (core.want_of b.core1) s h.calm1 h.placed1,
+      turn_calm w b.outer (core.want_of b.core0) master.DmaRead (dma.want_of b.dma.read) s h.calm_read h.placed_read,
+      turn_calm w b.outer (core.want_of b.core0) master.DmaWrite (dma.want_of b.dma.write) s h.calm_write h.placed_write,
+    ) refl
+
+-- the deeds of the masters but for what they store
+masters_calm : (w : Setting) (d0 d1 d2 d3 : Deed) (t : State) → IsStore d0 → IsStore d1 → IsStore d2 → IsStore d3
+    → (if t.core1.asleep then after_launcher t else t) ≡ t
+    → after_masters w (master.Core0 ∷ master.Core1 ∷ master.DmaRead ∷ master.DmaWrite ∷ []) (d0 ∷ d1 ∷ d2 ∷ d3 ∷ []) t ≡ t
+masters_calm w d0 d1 d2 d3 t h0 h1 h2 h3 rests =
+    rw (nothing_done w master.Core0 d0 t h0, nothing_done w master.Core1 d1 t h1, rests, nothing_done w master.DmaRead d2 t h2, nothing_done w master.DmaWrite d3 t h3) refl
+
+same_offer : (offer : Bool) (c : Core) → offer ≡ c.offer → with_offer offer c ≡ c
+same_offer offer c e = rw e refl
+
+pins_same : (pins : List ℕ) (o : OuterState) → pins ≡ o.sio → with_pins pins o ≡ o
+pins_same pins o e = rw e refl
+
+-- the state in which the lanes have stepped
+abbrev after_lanes : Setting → Begun → State → State
+after_lanes w b s = with_turns w b (calm_turns b) (with_grants (wanted b) s)
+
+core1_after : (w : Setting) (b : Begun) (s : State) → core.next s.core1 b.core1 (turn_alone (core.want_of b.core1) ∷ turn.Nothing ∷ []) ≡ (after_lanes w b s).core1
+unfolding with_turns
+core1_after w b s = refl
+
+-- core 1 and the pads know of SIO what they have to know
+record KnowsOn (w : Setting) (b : Begun) (s t : State) : Type 0 where
+  asleep : t.core1.asleep ≡ s.core1.asleep
+  offer : t.core1.offer ≡ s.core1.offer
+  pins : t.outer.sio ≡ s.outer.sio
+  sio : t.sio ≡ s.sio
+
+knows_on : (w : Setting) (b : Begun) (s : State) → KnowsOn w b s (after_lanes w b s)
+unfolding with_turns
+knows_on w b s =
+    let k = core_keeps s.core1 b.core1 (turn_alone (core.want_of b.core1) ∷ turn.Nothing ∷ []) in
+    record { asleep = k.asleep; offer = k.offer; pins = outer_keeps w s.outer b.outer; sio = refl }
+
+rests_on : (w : Setting) (b : Begun) (s : State) → IsCalm b s → (if (after_lanes w b s).core1.asleep then after_launcher (after_lanes w b s) else after_lanes w b s) ≡ after_lanes w b s
+rests_on w b s h =
+    let k = knows_on w b s in
+    core1_rests_by (after_lanes w b s).core1.asleep (after_lanes w b s) (rw (k.asleep, k.offer) h.launcher)
+    (k.offer ∙ h.knows.offer ∙ sym (ap offers_of k.sio)) (k.pins ∙ h.knows.pins ∙ sym (ap pins_of k.sio))
+
+abbrev calm_deeds : Setting → Begun → State → List Deed
+calm_deeds w b s =
+    deed_of w b.outer (is_some (asked_of (core.want_of b.core0))) (core.want_of b.core0) s
+    ∷ deed_of w b.outer (is_some (asked_of (core.want_of b.core1))) (core.want_of b.core1) s
+    ∷ deed_of w b.outer (is_some (asked_of (dma.want_of b.dma.read))) (dma.want_of b.dma.read) s
+    ∷ deed_of w b.outer (is_some (asked_of (dma.want_of b.dma.write))) (dma.want_of b.dma.write) s
+    ∷ []
+
+deeds_calm : (w : Setting) (b : Begun) (s : State) → IsCalm b s → deeds w b (wanted b) s (granted (wanted b) s) ≡ calm_deeds w b s
+unfolding deeds wanted
+deeds_calm w b s h = ap (deeds w b (wanted b) s) (granted_calm b s h)
+
+done_calm : (w : Setting) (b : Begun) (s : State) → IsCalm b s → after_deeds w (calm_deeds w b s) (after_lanes w b s) ≡ ended (with_stores (calm_deeds w b s) (after_lanes w b s))
+unfolding after_deeds
+done_calm w b s h =
+    ap (λ t. ended (with_stores (calm_deeds w b s) t))
+    (masters_calm w _ _ _ _ (after_lanes w b s)
+    (deed_calm w b.outer _ (core.want_of b.core0) s h.calm0) (deed_calm w b.outer _ (core.want_of b.core1) s h.calm1)
+    (deed_calm w b.outer _ (dma.want_of b.dma.read) s h.calm_read) (deed_calm w b.outer _ (dma.want_of b.dma.write) s h.calm_write)
+    (rests_on w b s h))
+
+-- the state after the cycle
+abbrev after_calm : Setting → Begun → State → State
+after_calm w b s = record (ended (with_stores (calm_deeds w b s) (after_lanes w b s))) { cycle = s.cycle + 1 }
+
+stepped_calm : (w : Setting) (b : Begun) (s : State) → IsCalm b s → next_by w b (wanted b) s ≡ after_calm w b s
+unfolding next_by stepped
+stepped_calm w b s h =
+    ap (λ ts. record (after_deeds w (deeds w b (wanted b) s (granted (wanted b) s)) (with_turns w b ts (with_grants (wanted b) s))) { cycle = s.cycle + 1 }) (turns_calm w b s h)
+    ∙ ap (λ ds. record (after_deeds w ds (after_lanes w b s)) { cycle = s.cycle + 1 }) (deeds_calm w b s h)
+    ∙ ap (λ (t : State). record t { cycle = s.cycle + 1 }) (done_calm w b s h)
+
+core1_calm : (w : Setting) (b : Begun) (s : State) → IsCalm b s → (after_calm w b s).core1 ≡ (after_lanes w b s).core1
+unfolding ended with_sio
+core1_calm w b s h =
+    let k = knows_on w b s in
+    same_offer (offers_of (after_cycle (after_lanes w b s).sio)) (after_lanes w b s).core1
+    (ap (λ sio. offers_of (after_cycle sio)) k.sio ∙ offers_on s.sio h.knows.rested ∙ sym h.knows.offer ∙ sym k.offer)
+
+same_pins : (w : Setting) (b : Begun) (s : State) → IsCalm b s → (after_calm w b s).outer ≡ (after_lanes w b s).outer
+unfolding ended with_sio
+same_pins w b s h =
+    let k = knows_on w b s in
+    pins_same (pins_of (after_lanes w b s).sio) (after_lanes w b s).outer (ap pins_of k.sio ∙ sym h.knows.pins ∙ sym k.pins)
+
+knows_calm : (w : Setting) (b : Begun) (s : State) → Knows (after_calm w b s)
+unfolding ended with_sio
+knows_calm w b s = record { pins = refl; offer = refl; rested = rested_after (after_lanes w b s).sio }
+
+free_calm : (w : Setting) (b : Begun) (s : State) → IsCalm b s → has_hold (after_calm w b s).fabric ≡ false
+unfolding ended with_sio with_turns
+free_calm w b s h = still_free b s h
+
+lanes_calm : (w : Setting) (b : Begun) (s : State) → IsCalm b s → IsStepped w b s (after_calm w b s)
+unfolding ended with_sio with_turns
+lanes_calm w b s h =
+    let k = knows_on w b s in
+    let c1 = core1_calm w b s h in
+    record {
+      cycle = refl;
+      core0 = refl;
+      core1 = c1;
+      dma = refl;
+      pio0 = refl;
+      pio1 = refl;
+      outer = same_pins w b s h;
+      free = free_calm w b s h;
+      asleep = ap (λ (c : Core). c.asleep) c1 ∙ k.asleep;
+      offer = ap (λ (c : Core). c.offer) c1 ∙ k.offer;
+      knows = knows_calm w b s;
+    }
+
+pub calm_next : (w : Setting) (b : Begun) (s : State) → IsCalm b s → IsStepped w b s (next_by w b (wanted b) s)
+calm_next w b s h = subst (IsStepped w b s) (sym (stepped_calm w b s h)) (lanes_calm w b s h)

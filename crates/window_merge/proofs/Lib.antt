@@ -1,0 +1,10 @@
+pub mod Agree
+pub mod Banks
+pub mod Calm
+pub mod Comparing
+pub mod InSram
+pub mod Keeping
+pub mod Lanes
+pub mod Ports
+pub mod Told
+pub mod Windows

@@ -1,0 +1,118 @@
+-- Where no two accesses to SRAM name one port, and no access lasts, each of them is done.
+use Rattle.std.proofs.Common.{◌≡◌, ◌≢◌, ◌==◌, ℕ, ◌<◌, Bool, true, false, not, ◌||◌, ◌&&◌, nat_eq, inl, inr, List, [], ◌∷◌, Option, Some, None, refl, sym, ap, ◌∙◌, arith}
+use Rattle.std.specs.Prelude.{is_some, is_none}
+use Rattle.std.specs.List.{list_all, find}
+use Rattle.std.proofs.lemmas.Bool.Decides.{eqb_tells}
+use Rattle.rp_base.specs.declared.Master.{Master}
+use Rattle.rp_base.specs.declared.Master.TheVariants.{Core0, Core1, DmaRead, DmaWrite}
+use Rattle.bus_fabric.specs.declared.Hold.{Hold}
+use Rattle.bus_fabric.specs.Masters.{masters, Access, access_of, is_on, asks_on}
+use Rattle.bus_fabric.specs.State.{Crossbar, last_on, has_hold}
+use Rattle.bus_fabric.specs.Grant.{apb, is_high, wins, winner_of, is_done, done_of, hold_after, after_grant}
+use Rattle.bus_fabric.specs.Laws.{IsArbitrated}
+use Rattle.bus_fabric.proofs.Arbitration.{arbitrated}
+use Rattle.window_merge.specs.Window.{is_port_of}
+
+-- an access to SRAM, or none
+abbrev pub InBank : Option Access → Type 0
+InBank None = Unit {0}
+InBank (Some access) = access.0 < 6
+
+-- no two of four accesses name one port
+pub record Apart (a0 a1 a2 a3 : Option Access) : Type 0 where
+  pub apart01 : is_port_of a0 a1 ≡ false
+  pub apart02 : is_port_of a0 a2 ≡ false
+  pub apart03 : is_port_of a0 a3 ≡ false
+  pub apart12 : is_port_of a1 a2 ≡ false
+  pub apart13 : is_port_of a1 a3 ≡ false
+  pub apart23 : is_port_of a2 a3 ≡ false
+
+itself : (x : ℕ) → nat_eq x x ≡ true
+itself x = elim (eqb_tells x x) [
+  | inl h ↦ h.0
+  | inr h ↦ absurd (h.1 refl)
+]
+
+turned_number : (x y : ℕ) → nat_eq x y ≡ false → nat_eq y x ≡ false
+turned_number x y e = elim (eqb_tells y x) [
+  | inl h ↦ absurd (let same : y ≡ x = h.1 in let there : nat_eq x y ≡ true = rw same (itself x) in cc (e, there))
+  | inr h ↦ h.0
+]
+
+turned : (a b : Option Access) → is_port_of a b ≡ false → is_port_of b a ≡ false
+turned None None e = refl
+turned None (Some b) e = refl
+turned (Some a) None e = refl
+turned (Some a) (Some b) e = turned_number b.0 a.0 e
+
+-- a bank of SRAM is not APB
+not_apb : (port : ℕ) → port < 6 → nat_eq port apb ≡ false
+not_apb port lt = elim (eqb_tells port apb) [
+  | inl h ↦ absurd (let same : port ≡ 6 = h.1 in omega arith)
+  | inr h ↦ h.0
+]
+
+-- ---- each access is done
+
+done_at : (asked : List (Option Access)) (s : Crossbar) (m : Master) (a : Option Access) → access_of asked m ≡ a → InBank a →
+    ((n : Master) → n ≢ m → is_port_of a (access_of asked n) ≡ false) → is_done asked s m ≡ is_some a
+done_at asked s m None e bank others = rw e refl
+done_at asked s m (Some access) e bank others =
+    let asks : asks_on asked access.0 m ≡ true = ap (is_on access.0) e ∙ itself access.0 in
+    rw (e, not_apb access.0 bank) ((arbitrated (is_high s.priority) (last_on access.0 s) (asks_on asked access.0)).alone m asks others)
+
+abbrev pub four : Option Access → Option Access → Option Access → Option Access → List (Option Access)
+four a0 a1 a2 a3 = a0 ∷ a1 ∷ a2 ∷ a3 ∷ []
+
+pub free_done : (a0 a1 a2 a3 : Option Access) (s : Crossbar) → Apart a0 a1 a2 a3 → InBank a0 → InBank a1 → InBank a2 → InBank a3 →
+    done_of (four a0 a1 a2 a3) s ≡ is_some a0 ∷ is_some a1 ∷ is_some a2 ∷ is_some a3 ∷ []
+free_done a0 a1 a2 a3 s h b0 b1 b2 b3 =
+    rw (done_at (four a0 a1 a2 a3) s Core0 a0 refl b0 elim [
+      | Core0 ↦ λ ne. absurd (ne refl)
+      | Core1 ↦ λ ne. h.apart01
+      | DmaRead ↦ λ ne. h.apart02
+      | DmaWrite ↦ λ ne. h.apart03
+    ])
+    (rw (done_at (four a0 a1 a2 a3) s Core1 a1 refl b1 elim [
+      | Core0 ↦ λ ne. turned a0 a1 h.apart01
+      | Core1 ↦ λ ne. absurd (ne refl)
+      | DmaRead ↦ λ ne. h.apart12
+      | DmaWrite ↦ λ ne. h.apart13
+    ])
+    (rw (done_at (four a0 a1 a2 a3) s DmaRead a2 refl b2 elim [
+      | Core0 ↦ λ ne. turned a0 a2 h.apart02
+      | Core1 ↦ λ ne. turned a1 a2 h.apart12
+      | DmaRead ↦ λ ne. absurd (ne refl)
+      | DmaWrite ↦ λ ne. h.apart23
+    ])
+    (rw (done_at (four a0 a1 a2 a3) s DmaWrite a3 refl b3 elim [
+      | Core0 ↦ λ ne. turned a0 a3 h.apart03
+      | Core1 ↦ λ ne. turned a1 a3 h.apart13
+      | DmaRead ↦ λ ne. turned a2 a3 h.apart23
+      | DmaWrite ↦ λ ne. absurd (ne refl)
+    ]) refl)))
+
+-- ---- and none lasts
+
+off_apb : (a : Option Access) → InBank a → is_on apb a ≡ false
+off_apb None bank = refl
+off_apb (Some access) bank = not_apb access.0 bank
+
+no_winner : (asked : List (Option Access)) (high : Master → Bool) (last : Master) → ((m : Master) → asks_on asked apb m ≡ false) → winner_of high last (asks_on asked apb) ≡ None
+no_winner asked high last h = rw (h Core0) (rw (h Core1) (rw (h DmaRead) (rw (h DmaWrite) refl)))
+
+hold_none : (asked : List (Option Access)) (s : Crossbar) (hold : Option Hold) → s.hold ≡ hold → is_some hold ≡ false → ((m : Master) → asks_on asked apb m ≡ false) → is_some (hold_after asked s hold) ≡ false
+hold_none asked s None e free h = rw (e, no_winner asked (is_high s.priority) (last_on apb s) h) refl
+hold_none asked s (Some hold) e free h = absurd (cc free)
+
+holds_none : (asked : List (Option Access)) (s : Crossbar) → has_hold s ≡ false → ((m : Master) → asks_on asked apb m ≡ false) → has_hold (after_grant asked s) ≡ false
+holds_none asked s free h = hold_none asked s s.hold refl free h
+
+pub free_after : (a0 a1 a2 a3 : Option Access) (s : Crossbar) → has_hold s ≡ false → InBank a0 → InBank a1 → InBank a2 → InBank a3 →
+    has_hold (after_grant (four a0 a1 a2 a3) s) ≡ false
+free_after a0 a1 a2 a3 s free b0 b1 b2 b3 = holds_none (four a0 a1 a2 a3) s free elim [
+  | Core0 ↦ off_apb a0 b0
+  | Core1 ↦ off_apb a1 b1
+  | DmaRead ↦ off_apb a2 b2
+  | DmaWrite ↦ off_apb a3 b3
+]

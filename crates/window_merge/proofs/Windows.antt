@@ -1,0 +1,524 @@
+-- A window, cycle by cycle: where the machine, the six lanes and their logs stand.
+use Rattle.std.proofs.Common.{◌≡◌, ◌≢◌, ℕ, zero, suc, ◌+◌, ◌-◌, ◌<◌, ◌≤◌, ◌==◌, Bool, true, false, not, ◌||◌, ◌&&◌, nat_eq, nat_le, if◌then◌else◌, inl, inr, List, [], ◌∷◌, ◌++◌, length, length-append, map, Option, Some, None, refl, ap, sym, ◌∙◌, subst, add-one, arith}
+use Rattle.std.proofs.lemmas.Bool.Decides.{eqb_tells, leb_tells}
+use Rattle.lane_look.specs.Asking.{answered}
+use Rattle.lane_look.specs.declared.lane.Want.{Want}
+use Rattle.lane_look.specs.declared.lane.Want.TheVariants as want
+use Rattle.lane_look.specs.declared.marks.Mark.{Mark}
+use Rattle.lane_look.specs.Replay.{Entry, told, left, talk}
+use Rattle.lane_look.specs.Alone.{ends_want, ends_wants, alone_length, wanted_in, differs, least}
+use Rattle.lane_look.proofs.Least.{is_least}
+use Rattle.rp_base.specs.declared.Master.{Master}
+use Rattle.m0_core.specs.State.{State as Core}
+use Rattle.m0_core.specs.Fetch as core_asks
+use Rattle.m0_core.specs.Cycle as core
+use Rattle.dma_engine.specs.Asks as dma_asks
+use Rattle.dma_engine.specs.Cycle as dma
+use Rattle.pio_block.specs.Cycle as pio
+use Rattle.outer_lane.specs.Setting.{Setting}
+use Rattle.outer_lane.specs.declared.world.Seen.{Seen}
+use Rattle.outer_lane.specs.Step as outer
+use Rattle.bus_fabric.specs.State.{has_hold}
+use Rattle.rp_machine.specs.declared.begun.Begun.{Begun}
+use Rattle.rp_machine.specs.declared.wanted.Wanted.{Wanted}
+use Rattle.rp_machine.specs.State.{State}
+use Rattle.rp_machine.specs.Answers.{answer_of}
+use Rattle.rp_machine.specs.Deeds.{asked_of, cause_by, cause_of}
+use Rattle.rp_machine.specs.Cycle.{begun, wanted, first_cause, cause_in, stop, next_by, next, mark}
+use Rattle.rp_machine.specs.Run.{states, unless_stopped}
+use Rattle.rp_machine.proofs.Joining.{runs_follow}
+use Rattle.window_merge.specs.Lanes.{Run, core_lane, dma_lane, pio_lane, peripheral_lane, around, is_launching, core1_bound, runs_of}
+use Rattle.window_merge.specs.Window.{longest, ends_in, differs_in, clash, clash_in, is_port_of, share_port, closes, window_length}
+use Rattle.window_merge.specs.declared.runs.Runs.{Runs}
+use Rattle.window_merge.specs.Merging.{Rests, begun_by, left_by, differs_by, wants_of, fits, marks_in, Knows, AreRunsAlone, IsWithin, rests_at, end_at}
+use Rattle.window_merge.proofs.Agree.{both_false}
+use Rattle.window_merge.proofs.Calm.{IsCalm, IsStepped, calm_next}
+use Rattle.window_merge.proofs.InSram.{core_placed, dma_placed}
+use Rattle.window_merge.proofs.Lanes.{LaneStands, lane_first, LaneTold, lane_told, lane_next, lane_goes_on, lane_agrees, no_cycles}
+use Rattle.window_merge.proofs.Ports.{Apart}
+
+-- how many cycles the runs have
+pub record Lengths : Type 0 where
+  pub core0 : ℕ
+  pub core1 : ℕ
+  pub dma : ℕ
+  pub pio0 : ℕ
+  pub pio1 : ℕ
+  pub outer : ℕ
+
+-- each is the length of the lane's run alone
+pub record AreLengths (w : Setting) (s : State) (n : Lengths) : Type 0 where
+  pub core0 : n.core0 ≡ alone_length core_lane (around 0) tt s.core0 s.cycle s (longest w s)
+  pub core1 : n.core1 ≡ alone_length core_lane (around 1) tt s.core1 s.cycle s (core1_bound s (longest w s))
+  pub dma : n.dma ≡ alone_length dma_lane (around 2) tt s.dma s.cycle s (longest w s)
+  pub pio0 : n.pio0 ≡ alone_length pio_lane (around 3) tt s.pio0 s.cycle s (longest w s)
+  pub pio1 : n.pio1 ≡ alone_length pio_lane (around 4) tt s.pio1 s.cycle s (longest w s)
+  pub outer : n.outer ≡ alone_length (peripheral_lane w) (around 5) tt s.outer s.cycle s (longest w s)
+
+-- no run ends at k
+pub record AreOn (n : Lengths) (k : ℕ) : Type 0 where
+  pub core0 : k ≢ n.core0
+  pub core1 : k ≢ n.core1
+  pub dma : k ≢ n.dma
+  pub pio0 : k ≢ n.pio0
+  pub pio1 : k ≢ n.pio1
+  pub outer : k ≢ n.outer
+
+-- where the loop stands after k cycles
+pub record Stands (w : Setting) (s : State) (n : Lengths) (k : ℕ) (now : State) (rests : Rests) (marks : List Mark) : Type 0 where
+  pub is_states : now ≡ states w s k
+  pub at : now.cycle ≡ s.cycle + k
+  pub free : has_hold now.fabric ≡ false
+  pub knows : Knows now
+  pub asleep : now.core1.asleep ≡ s.core1.asleep
+  pub offer : now.core1.offer ≡ s.core1.offer
+  pub core0 : LaneStands core_lane 0 s.core0 s n.core0 k now.core0 rests.core0
+  pub core1 : LaneStands core_lane 1 s.core1 s n.core1 k now.core1 rests.core1
+  pub dma : LaneStands dma_lane 2 s.dma s n.dma k now.dma rests.dma
+  pub pio0 : LaneStands pio_lane 3 s.pio0 s n.pio0 k now.pio0 rests.pio0
+  pub pio1 : LaneStands pio_lane 4 s.pio1 s n.pio1 k now.pio1 rests.pio1
+  pub outer : LaneStands (peripheral_lane w) 5 s.outer s n.outer k now.outer rests.outer
+  pub goes : (j : ℕ) → j < k → closes w s j ≡ false
+  pub is_marks : marks ≡ marks_in w s k
+  pub few : length marks ≡ k
+
+-- what the logs tell the lanes in the next cycle
+record AreTold (w : Setting) (s : State) (n : Lengths) (k : ℕ) (now : State) (rests : Rests) : Type 0 where
+  core0 : LaneTold core_lane 0 s.core0 s n.core0 k now.core0 now.cycle rests.core0
+  core1 : LaneTold core_lane 1 s.core1 s n.core1 k now.core1 now.cycle rests.core1
+  dma : LaneTold dma_lane 2 s.dma s n.dma k now.dma now.cycle rests.dma
+  pio0 : LaneTold pio_lane 3 s.pio0 s n.pio0 k now.pio0 now.cycle rests.pio0
+  pio1 : LaneTold pio_lane 4 s.pio1 s n.pio1 k now.pio1 now.cycle rests.pio1
+  outer : LaneTold (peripheral_lane w) 5 s.outer s n.outer k now.outer now.cycle rests.outer
+
+-- the loop tries the cycle k, in which no run ends
+pub record Tries (w : Setting) (s : State) (n : Lengths) (k : ℕ) (now : State) (rests : Rests) (marks : List Mark) : Type 0 where
+  pub stands : Stands w s n k now rests marks
+  pub lengths : AreLengths w s n
+  pub on : AreOn n k
+  pub below : k < longest w s
+
+all_told : (w : Setting) (s : State) (n : Lengths) (k : ℕ) (now : State) (rests : Rests) (marks : List Mark) → Tries w s n k now rests marks → AreTold w s n k now rests
+all_told w s n k now rests marks t = record {
+  core0 = lane_told core_lane 0 s.core0 s n.core0 k now.core0 now.cycle rests.core0 t.stands.core0 t.on.core0 t.stands.at;
+  core1 = lane_told core_lane 1 s.core1 s n.core1 k now.core1 now.cycle rests.core1 t.stands.core1 t.on.core1 t.stands.at;
+  dma = lane_told dma_lane 2 s.dma s n.dma k now.dma now.cycle rests.dma t.stands.dma t.on.dma t.stands.at;
+  pio0 = lane_told pio_lane 3 s.pio0 s n.pio0 k now.pio0 now.cycle rests.pio0 t.stands.pio0 t.on.pio0 t.stands.at;
+  pio1 = lane_told pio_lane 4 s.pio1 s n.pio1 k now.pio1 now.cycle rests.pio1 t.stands.pio1 t.on.pio1 t.stands.at;
+  outer = lane_told (peripheral_lane w) 5 s.outer s n.outer k now.outer now.cycle rests.outer t.stands.outer t.on.outer t.stands.at;
+}
+
+-- ---- whether the window goes on
+
+not_equal : (x y : ℕ) → x ≢ y → nat_eq x y ≡ false
+not_equal x y ne = elim (eqb_tells x y) [
+  | inl h ↦ absurd (let same : x ≡ y = h.1 in omega arith)
+  | inr h ↦ h.0
+]
+
+-- the wants of six lanes, one after another
+abbrev joined : List Want → List Want → List Want → List Want → List Want → List Want → List Want
+joined v0 v1 v2 v3 v4 v5 = v0 ++ (v1 ++ (v2 ++ (v3 ++ (v4 ++ (v5 ++ [])))))
+
+joined_same : (v0 v1 v2 v3 v4 v5 u0 u1 u2 u3 u4 u5 : List Want) → v0 ≡ u0 → v1 ≡ u1 → v2 ≡ u2 → v3 ≡ u3 → v4 ≡ u4 → v5 ≡ u5 → clash (joined v0 v1 v2 v3 v4 v5) ≡ clash (joined u0 u1 u2 u3 u4 u5)
+joined_same v0 v1 v2 v3 v4 v5 u0 u1 u2 u3 u4 u5 e0 e1 e2 e3 e4 e5 = rw (e0, e1, e2, e3, e4, e5) refl
+
+clash_here : (w : Setting) (s : State) (n : Lengths) (k : ℕ) (now : State) (rests : Rests) → AreTold w s n k now rests
+    → clash (wants_of (begun_by rests now)) ≡ clash_in (runs_of w s (longest w s)) k
+clash_here w s n k now rests t = joined_same
+    (core.wanted (begun_by rests now).core0) (core.wanted (begun_by rests now).core1) (dma.wanted (begun_by rests now).dma) pio.wanted pio.wanted (outer.wanted (begun_by rests now).outer)
+    (wanted_in core_lane (around 0) tt s.core0 s.cycle s k) (wanted_in core_lane (around 1) tt s.core1 s.cycle s k) (wanted_in dma_lane (around 2) tt s.dma s.cycle s k)
+    (wanted_in pio_lane (around 3) tt s.pio0 s.cycle s k) (wanted_in pio_lane (around 4) tt s.pio1 s.cycle s k) (wanted_in (peripheral_lane w) (around 5) tt s.outer s.cycle s k)
+    t.core0.wanted_here t.core1.wanted_here t.dma.wanted_here t.pio0.wanted_here t.pio1.wanted_here t.outer.wanted_here
+
+differs_here : (w : Setting) (s : State) (n : Lengths) (k : ℕ) (now : State) (rests : Rests) → AreTold w s n k now rests
+    → differs_by rests now ≡ differs_in (runs_of w s (longest w s)) now k
+differs_here w s n k now rests t =
+    rw (t.core0.talk_here, t.core1.talk_here, t.dma.talk_here, t.pio0.talk_here, t.pio1.talk_here, t.outer.talk_here) refl
+
+-- whether the cycle fits is whether nothing differs and nothing clashes in it
+fits_here : (w : Setting) (s : State) (n : Lengths) (k : ℕ) (now : State) (rests : Rests) → now ≡ states w s k → AreTold w s n k now rests
+    → fits rests now ≡ not (differs_in (runs_of w s (longest w s)) (states w s k) k || clash_in (runs_of w s (longest w s)) k)
+fits_here w s n k now rests e t =
+    ap (λ d. not (d || clash (wants_of (begun_by rests now)))) (differs_here w s n k now rests t ∙ ap (λ x. differs_in (runs_of w s (longest w s)) x k) e)
+    ∙ ap (λ c. not (differs_in (runs_of w s (longest w s)) (states w s k) k || c)) (clash_here w s n k now rests t)
+
+none_ends : (w : Setting) (s : State) (n : Lengths) (k : ℕ) → AreLengths w s n → AreOn n k → ends_in (runs_of w s (longest w s)) k ≡ false
+none_ends w s n k e on =
+    rw (
+      ← e.core0,
+      ← e.core1,
+      ← e.dma,
+      ← e.pio0,
+      ← e.pio1,
+      ← e.outer,
+      not_equal k n.core0 on.core0,
+      not_equal k n.core1 on.core1,
+      not_equal k n.dma on.dma,
+      not_equal k n.pio0 on.pio0,
+      not_equal k n.pio1 on.pio1,
+      not_equal k n.outer on.outer,
+    ) refl
+
+twice_not : (a b : Bool) → a ≡ not b → b ≡ not a
+twice_not a true e = ap not (sym e)
+twice_not a false e = ap not (sym e)
+
+closes_tried : (w : Setting) (s : State) (n : Lengths) (k : ℕ) (now : State) (rests : Rests) (marks : List Mark) → Tries w s n k now rests marks → closes w s k ≡ not (fits rests now)
+unfolding closes
+closes_tried w s n k now rests marks t =
+    let runs = runs_of w s (longest w s) in
+    rw (none_ends w s n k t.lengths t.on)
+    (twice_not (fits rests now) (differs_in runs (states w s k) k || clash_in runs k) (fits_here w s n k now rests t.stands.is_states (all_told w s n k now rests marks t)))
+
+-- ---- a cycle that fits
+
+-- four wants and eight of the rest
+apart_by : (c0 c1 r v : Want)
+    → clash (c0 ∷ want.Nothing ∷ c1 ∷ want.Nothing ∷ r ∷ v ∷ want.Nothing ∷ want.Nothing ∷ want.Nothing ∷ want.Nothing ∷ want.Nothing ∷ want.Nothing ∷ []) ≡ false
+    → Apart (asked_of c0) (asked_of c1) (asked_of r) (asked_of v)
+apart_by c0 c1 r v e =
+    let a = both_false (share_port c0 want.Nothing || (share_port c0 c1 || (share_port c0 want.Nothing || (share_port c0 r || (share_port c0 v || (share_port c0 want.Nothing || (share_port c0 want.Nothing || (share_port c0 want.Nothing || (share_port c0 want.Nothing || (share_port c0 want.Nothing || (share_port c0 want.Nothing || false)))))))))))
+    (clash (want.Nothing ∷ c1 ∷ want.Nothing ∷ r ∷ v ∷ want.Nothing ∷ want.Nothing ∷ want.Nothing ∷ want.Nothing ∷ want.Nothing ∷ want.Nothing ∷ [])) e in
+    let a1 = both_false (share_port c0 want.Nothing) _ a.0 in
+    let a2 = both_false (share_port c0 c1) _ a1.1 in
+    let a3 = both_false (share_port c0 want.Nothing) _ a2.1 in
+    let a4 = both_false (share_port c0 r) _ a3.1 in
+    let a5 = both_false (share_port c0 v) _ a4.1 in
+    let b = both_false _ (clash (c1 ∷ want.Nothing ∷ r ∷ v ∷ want.Nothing ∷ want.Nothing ∷ want.Nothing ∷ want.Nothing ∷ want.Nothing ∷ want.Nothing ∷ [])) a.1 in
+    let c = both_false _ (clash (want.Nothing ∷ r ∷ v ∷ want.Nothing ∷ want.Nothing ∷ want.Nothing ∷ want.Nothing ∷ want.Nothing ∷ want.Nothing ∷ [])) b.1 in
+    let c1' = both_false (share_port c1 want.Nothing) _ c.0 in
+    let c2 = both_false (share_port c1 r) _ c1'.1 in
+    let c3 = both_false (share_port c1 v) _ c2.1 in
+    let d = both_false _ (clash (r ∷ v ∷ want.Nothing ∷ want.Nothing ∷ want.Nothing ∷ want.Nothing ∷ want.Nothing ∷ want.Nothing ∷ [])) c.1 in
+    let f = both_false _ (clash (v ∷ want.Nothing ∷ want.Nothing ∷ want.Nothing ∷ want.Nothing ∷ want.Nothing ∷ want.Nothing ∷ [])) d.1 in
+    let f1 = both_false (share_port r v) _ f.0 in
+    record { apart01 = a2.0; apart02 = a4.0; apart03 = a5.0; apart12 = c2.0; apart13 = c3.0; apart23 = f1.0 }
+
+is_not : (a : Bool) → not a ≡ true → a ≡ false
+is_not true e = absurd (cc e)
+is_not false e = refl
+
+-- no answer of a lane differs
+record Same (rests : Rests) (now : State) : Type 0 where
+  core0 : differs (answer_of 0 now) (talk rests.core0 (core_asks.asks now.core0 now.cycle)) ≡ false
+  core1 : differs (answer_of 1 now) (talk rests.core1 (core_asks.asks now.core1 now.cycle)) ≡ false
+  dma : differs (answer_of 2 now) (talk rests.dma (dma_asks.asks now.dma)) ≡ false
+  pio0 : differs (answer_of 3 now) (talk rests.pio0 (pio.asks now.pio0)) ≡ false
+  pio1 : differs (answer_of 4 now) (talk rests.pio1 (pio.asks now.pio1)) ≡ false
+  outer : differs (answer_of 5 now) (talk rests.outer (outer.asks now.outer now.cycle)) ≡ false
+
+all_same : (rests : Rests) (now : State) → differs_by rests now ≡ false → Same rests now
+all_same rests now e =
+    let a = both_false (differs (answer_of 0 now) (talk rests.core0 (core_asks.asks now.core0 now.cycle))) _ e in
+    let b = both_false (differs (answer_of 1 now) (talk rests.core1 (core_asks.asks now.core1 now.cycle))) _ a.1 in
+    let c = both_false (differs (answer_of 2 now) (talk rests.dma (dma_asks.asks now.dma))) _ b.1 in
+    let d = both_false (differs (answer_of 3 now) (talk rests.pio0 (pio.asks now.pio0))) _ c.1 in
+    let f = both_false (differs (answer_of 4 now) (talk rests.pio1 (pio.asks now.pio1))) _ d.1 in
+    let g = both_false (differs (answer_of 5 now) (talk rests.outer (outer.asks now.outer now.cycle))) _ f.1 in
+    record { core0 = a.0; core1 = b.0; dma = c.0; pio0 = d.0; pio1 = f.0; outer = g.0 }
+
+-- the lanes begin what the machine begins
+begins_same : (w : Setting) (s : State) (n : Lengths) (k : ℕ) (now : State) (rests : Rests) → AreTold w s n k now rests → Same rests now → begun_by rests now ≡ begun now
+unfolding begun
+begins_same w s n k now rests t same =
+    rw (
+      lane_agrees core_lane 0 s.core0 s n.core0 k now.core0 now.cycle rests.core0 (answer_of 0 now) t.core0 same.core0,
+      lane_agrees core_lane 1 s.core1 s n.core1 k now.core1 now.cycle rests.core1 (answer_of 1 now) t.core1 same.core1,
+      lane_agrees dma_lane 2 s.dma s n.dma k now.dma now.cycle rests.dma (answer_of 2 now) t.dma same.dma,
+      lane_agrees pio_lane 3 s.pio0 s n.pio0 k now.pio0 now.cycle rests.pio0 (answer_of 3 now) t.pio0 same.pio0,
+      lane_agrees pio_lane 4 s.pio1 s n.pio1 k now.pio1 now.cycle rests.pio1 (answer_of 4 now) t.pio1 same.pio1,
+      lane_agrees (peripheral_lane w) 5 s.outer s n.outer k now.outer now.cycle rests.outer (answer_of 5 now) t.outer same.outer,
+    ) refl
+
+first_ends : (v u : Want) → ends_wants (v ∷ u ∷ []) ≡ false → (ends_want v ≡ false) × (ends_want u ≡ false)
+first_ends v u e =
+    let a = both_false (ends_want v) _ e in
+    let b = both_false (ends_want u) _ a.1 in
+    (a.0, b.0)
+
+-- what is wanted is nothing, or an access to SRAM
+record AreCalm (b : Begun) : Type 0 where
+  calm0 : ends_want (core.want_of b.core0) ≡ false
+  calm1 : ends_want (core.want_of b.core1) ≡ false
+  calm_read : ends_want (dma.want_of b.dma.read) ≡ false
+  calm_write : ends_want (dma.want_of b.dma.write) ≡ false
+
+all_calm : (w : Setting) (s : State) (n : Lengths) (k : ℕ) (now : State) (rests : Rests) (marks : List Mark) → Tries w s n k now rests marks → AreCalm (begun_by rests now)
+all_calm w s n k now rests marks t =
+    let told_here = all_told w s n k now rests marks t in
+    let c0 = lane_goes_on core_lane 0 s.core0 s (longest w s) n.core0 k now.core0 now.cycle rests.core0 t.stands.core0 t.on.core0 t.lengths.core0 told_here.core0 in
+    let c1 = lane_goes_on core_lane 1 s.core1 s (core1_bound s (longest w s)) n.core1 k now.core1 now.cycle rests.core1 t.stands.core1 t.on.core1 t.lengths.core1 told_here.core1 in
+    let d = lane_goes_on dma_lane 2 s.dma s (longest w s) n.dma k now.dma now.cycle rests.dma t.stands.dma t.on.dma t.lengths.dma told_here.dma in
+    record {
+      calm0 = (first_ends (core.want_of (begun_by rests now).core0) want.Nothing c0).0;
+      calm1 = (first_ends (core.want_of (begun_by rests now).core1) want.Nothing c1).0;
+      calm_read = (first_ends (dma.want_of (begun_by rests now).dma.read) (dma.want_of (begun_by rests now).dma.write) d).0;
+      calm_write = (first_ends (dma.want_of (begun_by rests now).dma.read) (dma.want_of (begun_by rests now).dma.write) d).1;
+    }
+
+-- core 1 has no word of its launcher to take
+launching_by : (c : Bool) (s : State) (bound n k : ℕ) → n ≡ alone_length core_lane (around 1) tt s.core1 s.cycle s (if c then 0 else bound) → k ≤ n → k ≢ n → c ≡ false
+launching_by true s bound n k e le on =
+    let none : n ≡ 0 = e ∙ no_cycles core_lane 1 s.core1 s in
+    absurd (omega arith)
+launching_by false s bound n k e le on = refl
+
+not_launching : (w : Setting) (s : State) (n : Lengths) (k : ℕ) (now : State) (rests : Rests) (marks : List Mark) → Tries w s n k now rests marks → (now.core1.asleep && now.core1.offer) ≡ false
+not_launching w s n k now rests marks t =
+    rw (t.stands.asleep, t.stands.offer)
+    (launching_by (is_launching s.core1) s (longest w s) n.core1 k t.lengths.core1 t.stands.core1.within t.on.core1)
+
+-- such a cycle is calm
+calm_here : (w : Setting) (s : State) (n : Lengths) (k : ℕ) (now : State) (rests : Rests) (marks : List Mark) → Tries w s n k now rests marks → begun_by rests now ≡ begun now → clash (wants_of (begun_by rests now)) ≡ false → IsCalm (begun now) now
+unfolding begun
+calm_here w s n k now rests marks t same none =
+    let calm = subst AreCalm same (all_calm w s n k now rests marks t) in
+    let apart = ap (λ b. clash (wants_of b)) (sym same) ∙ none in
+    record {
+      calm0 = calm.calm0;
+      calm1 = calm.calm1;
+      calm_read = calm.calm_read;
+      calm_write = calm.calm_write;
+      placed0 = core_placed (answer_of 0 now) now.core0 now.cycle;
+      placed1 = core_placed (answer_of 1 now) now.core1 now.cycle;
+      placed_read = (dma_placed (answer_of 2 now) now.dma).read;
+      placed_write = (dma_placed (answer_of 2 now) now.dma).write;
+      apart = apart_by _ _ _ _ apart;
+      free = t.stands.free;
+      launcher = not_launching w s n k now rests marks t;
+      knows = t.stands.knows;
+    }
+
+-- ---- such a cycle does not stop
+
+no_cause : (w : Setting) (seen : Seen) (m : Master) (v : Want) (s : State) → ends_want v ≡ false → cause_by w seen m v s ≡ None
+no_cause w seen m want.Nothing s e = refl
+no_cause w seen m (want.Ram request) s e = refl
+no_cause w seen m (want.Outward request) s e = absurd (cc e)
+no_cause w seen m want.Signal s e = absurd (cc e)
+no_cause w seen m (want.Stopped cause) s e = absurd (cc e)
+
+none_stops : (w : Setting) (b : Begun) (s : State) → IsCalm b s → cause_in w b (wanted b) s ≡ None
+unfolding cause_in cause_of wanted
+none_stops w b s h =
+    rw (
+      no_cause w b.outer _ (core.want_of b.core0) s h.calm0,
+      no_cause w b.outer _ (core.want_of b.core1) s h.calm1,
+      no_cause w b.outer _ (dma.want_of b.dma.read) s h.calm_read,
+      no_cause w b.outer _ (dma.want_of b.dma.write) s h.calm_write,
+    ) refl
+
+runs_on : (w : Setting) (s : State) → s.cycle ≢ w.limit → IsCalm (begun s) s → stop w s ≡ None
+unfolding stop
+runs_on w s ne h = rw (not_equal s.cycle w.limit ne) (none_stops w (begun s) s h)
+
+short : (w : Setting) (s : State) → longest w s ≤ w.limit - s.cycle
+short w s = elim (leb_tells (w.limit - s.cycle) 256) [
+  | inl h ↦ rw h.0 (omega arith)
+  | inr h ↦ let more = h.1 in rw h.0 (omega arith)
+]
+
+pub at_most : (w : Setting) (s : State) → longest w s ≤ 256
+at_most w s = elim (leb_tells (w.limit - s.cycle) 256) [
+  | inl h ↦ let few = h.1 in rw h.0 (omega arith)
+  | inr h ↦ rw h.0 (omega arith)
+]
+
+-- ---- the next cycle
+
+one_more : (w : Setting) (s : State) → stop w s ≡ None → states w s 1 ≡ next w s
+unfolding states
+one_more w s e = rw e refl
+
+states_next : (w : Setting) (s : State) (k : ℕ) → stop w (states w s k) ≡ None → states w s (k + 1) ≡ next w (states w s k)
+states_next w s k e = (runs_follow w s k 1).state ∙ one_more w (states w s k) e
+
+marks_next : (w : Setting) (s : State) (k : ℕ) → marks_in w s (k + 1) ≡ marks_in w s k ++ mark w (states w s k) ∷ []
+unfolding marks_in
+marks_next w s k = rw add-one refl
+
+below_next : (test : ℕ → Bool) (k : ℕ) → ((j : ℕ) → j < k → test j ≡ false) → test k ≡ false → (j : ℕ) → j < k + 1 → test j ≡ false
+below_next test k below here j lt = elim (eqb_tells j k) [
+  | inl e ↦ ap test e.1 ∙ here
+  | inr e ↦ let ne : j ≢ k = e.1 in below j (omega arith)
+]
+
+-- ---- the loop
+
+pub stands_first : (w : Setting) (s : State) (n : Lengths) (rests : Rests) (marks : List Mark)
+    → has_hold s.fabric ≡ false → Knows s
+    → LaneStands core_lane 0 s.core0 s n.core0 0 s.core0 rests.core0
+    → LaneStands core_lane 1 s.core1 s n.core1 0 s.core1 rests.core1
+    → LaneStands dma_lane 2 s.dma s n.dma 0 s.dma rests.dma
+    → LaneStands pio_lane 3 s.pio0 s n.pio0 0 s.pio0 rests.pio0
+    → LaneStands pio_lane 4 s.pio1 s n.pio1 0 s.pio1 rests.pio1
+    → LaneStands (peripheral_lane w) 5 s.outer s n.outer 0 s.outer rests.outer
+    → marks ≡ [] → Stands w s n 0 s rests marks
+unfolding states marks_in
+stands_first w s n rests marks free knows l0 l1 l2 l3 l4 l5 e = record {
+  is_states = refl;
+  at = omega arith;
+  free = free;
+  knows = knows;
+  asleep = refl;
+  offer = refl;
+  core0 = l0;
+  core1 = l1;
+  dma = l2;
+  pio0 = l3;
+  pio1 = l4;
+  outer = l5;
+  goes = λ j lt. absurd (omega arith);
+  is_marks = e;
+  few = rw e refl;
+}
+
+-- what is known of a cycle that fits
+record Fitted (w : Setting) (s : State) (n : Lengths) (k : ℕ) (now : State) (rests : Rests) : Type 0 where
+  same : begun_by rests now ≡ begun now
+  calm : IsCalm (begun now) now
+  runs : stop w now ≡ None
+
+fitted : (w : Setting) (s : State) (n : Lengths) (k : ℕ) (now : State) (rests : Rests) (marks : List Mark) → Tries w s n k now rests marks → fits rests now ≡ true → Fitted w s n k now rests
+fitted w s n k now rests marks t e =
+    let parts = both_false (differs_by rests now) (clash (wants_of (begun_by rests now))) (is_not _ e) in
+    let same = begins_same w s n k now rests (all_told w s n k now rests marks t) (all_same rests now parts.0) in
+    let calm = calm_here w s n k now rests marks t same parts.1 in
+    let below = t.below in
+    let least_limit = short w s in
+    let at = t.stands.at in
+    let ne : now.cycle ≢ w.limit = λ here. omega (arith, here) in
+    record { same = same; calm = calm; runs = runs_on w now ne calm }
+
+pub stands_next : (w : Setting) (s : State) (n : Lengths) (k : ℕ) (now : State) (rests : Rests) (marks : List Mark) (fitting : Bool) (now' : State) (rests' : Rests) (marks' : List Mark)
+    → Tries w s n k now rests marks → fitting ≡ fits rests now → fitting ≡ true
+    → now' ≡ (if fitting then next_by w (begun_by rests now) (wanted (begun_by rests now)) now else now)
+    → rests' ≡ left_by rests now
+    → marks' ≡ marks ++ (if fitting then outer.marked w now.outer (begun_by rests now).outer ∷ [] else [])
+    → Stands w s n (k + 1) now' rests' marks'
+unfolding next mark
+stands_next w s n k now rests marks fitting now' rests' marks' t is_fitting is_true e_if e_rests e_marks_if =
+    let f = fitted w s n k now rests marks t (sym is_fitting ∙ is_true) in
+    let told_here = all_told w s n k now rests marks t in
+    let e_now : now' ≡ next_by w (begun_by rests now) (wanted (begun_by rests now)) now = rw is_true at e_if in
+    let e_marks : marks' ≡ marks ++ outer.marked w now.outer (begun_by rests now).outer ∷ [] = rw is_true at e_marks_if in
+    let calm = subst (λ b. IsCalm b now) (sym f.same) f.calm in
+    let stepped = subst (IsStepped w (begun_by rests now) now) (sym e_now) (calm_next w (begun_by rests now) now calm) in
+    let at = t.stands.at in
+    let count = t.stands.few in
+    let cycle = stepped.cycle in
+    let runs_here : stop w (states w s k) ≡ None = ap (stop w) (sym t.stands.is_states) ∙ f.runs in
+    let goes_on : closes w s k ≡ false = closes_tried w s n k now rests marks t ∙ ap not (sym is_fitting ∙ is_true) in
+    record {
+      is_states = e_now ∙ ap (λ b. next_by w b (wanted b) now) f.same ∙ ap (next w) t.stands.is_states ∙ sym (states_next w s k runs_here);
+      at = omega arith;
+      free = stepped.free;
+      knows = stepped.knows;
+      asleep = stepped.asleep ∙ t.stands.asleep;
+      offer = stepped.offer ∙ t.stands.offer;
+      core0 = lane_next core_lane 0 s.core0 s n.core0 k now.core0 now.cycle rests.core0 now'.core0 rests'.core0 t.stands.core0 t.on.core0 told_here.core0 stepped.core0 (ap (λ (r : Rests). r.core0) e_rests);
+      core1 = lane_next core_lane 1 s.core1 s n.core1 k now.core1 now.cycle rests.core1 now'.core1 rests'.core1 t.stands.core1 t.on.core1 told_here.core1 stepped.core1 (ap (λ (r : Rests). r.core1) e_rests);
+      dma = lane_next dma_lane 2 s.dma s n.dma k now.dma now.cycle rests.dma now'.dma rests'.dma t.stands.dma t.on.dma told_here.dma stepped.dma (ap (λ (r : Rests). r.dma) e_rests);
+      pio0 = lane_next pio_lane 3 s.pio0 s n.pio0 k now.pio0 now.cycle rests.pio0 now'.pio0 rests'.pio0 t.stands.pio0 t.on.pio0 told_here.pio0 stepped.pio0 (ap (λ (r : Rests). r.pio0) e_rests);
+      pio1 = lane_next pio_lane 4 s.pio1 s n.pio1 k now.pio1 now.cycle rests.pio1 now'.pio1 rests'.pio1 t.stands.pio1 t.on.pio1 told_here.pio1 stepped.pio1 (ap (λ (r : Rests). r.pio1) e_rests);
+      outer = lane_next (peripheral_lane w) 5 s.outer s n.outer k now.outer now.cycle rests.outer now'.outer rests'.outer t.stands.outer t.on.outer told_here.outer stepped.outer (ap (λ (r : Rests). r.outer) e_rests);
+      goes = below_next (closes w s) k t.stands.goes goes_on;
+      is_marks = e_marks ∙ ap (λ b. marks ++ outer.marked w now.outer b.outer ∷ []) f.same ∙ ap (λ ms. ms ++ mark w now ∷ []) t.stands.is_marks ∙ ap (λ x. marks_in w s k ++ mark w x ∷ []) t.stands.is_states ∙ sym (marks_next w s k);
+      few = rw (e_marks, length-append) (omega arith);
+    }
+
+-- ---- the ways out of the loop
+
+pub ends_tried : (w : Setting) (s : State) (n : Lengths) (k : ℕ) (now : State) (rests : Rests) (marks : List Mark) (fitting : Bool) → Tries w s n k now rests marks → fitting ≡ fits rests now → fitting ≡ false → k ≡ window_length w s
+unfolding window_length
+ends_tried w s n k now rests marks fitting t is_fitting is_false =
+    let below = t.below in
+    let ends : closes w s k ≡ true = closes_tried w s n k now rests marks t ∙ ap not (sym is_fitting ∙ is_false) in
+    sym (is_least (closes w s) (longest w s) k (omega arith) t.stands.goes (λ lt. ends))
+
+pub ends_run : (w : Setting) (s : State) (n : Lengths) (k : ℕ) (now : State) (rests : Rests) (marks : List Mark) → Stands w s n k now rests marks → k < longest w s → ends_in (runs_of w s (longest w s)) k ≡ true → k ≡ window_length w s
+unfolding window_length closes
+ends_run w s n k now rests marks t below here =
+    sym (is_least (closes w s) (longest w s) k (omega arith) t.goes (λ lt. rw here refl))
+
+pub ends_full : (w : Setting) (s : State) (n : Lengths) (k : ℕ) (now : State) (rests : Rests) (marks : List Mark) → Stands w s n k now rests marks → k ≡ longest w s → k ≡ window_length w s
+unfolding window_length
+ends_full w s n k now rests marks t e =
+    sym (is_least (closes w s) (longest w s) k (omega arith) t.goes (λ lt. absurd (omega arith)))
+
+-- ---- six reports
+
+abbrev pub lengths_of : Runs → Lengths
+lengths_of runs = record {
+  core0 = runs.core0.now.length;
+  core1 = runs.core1.now.length;
+  dma = runs.dma.now.length;
+  pio0 = runs.pio0.now.length;
+  pio1 = runs.pio1.now.length;
+  outer = runs.outer.now.length;
+}
+
+pub are_lengths : (w : Setting) (s : State) (runs : Runs) → AreRunsAlone w s runs → AreLengths w s (lengths_of runs)
+are_lengths w s runs h = record {
+  core0 = h.core0.same_length;
+  core1 = h.core1.same_length;
+  dma = h.dma.same_length;
+  pio0 = h.pio0.same_length;
+  pio1 = h.pio1.same_length;
+  outer = h.outer.same_length;
+}
+
+-- the loop begins with nothing used
+pub stands_at_first : (w : Setting) (s : State) (runs : Runs) (marks : List Mark) → has_hold s.fabric ≡ false → Knows s → AreRunsAlone w s runs → marks ≡ []
+    → Stands w s (lengths_of runs) 0 s (rests_at runs (record { core0 = 0; core1 = 0; dma = 0; pio0 = 0; pio1 = 0; outer = 0 })) marks
+stands_at_first w s runs marks free knows h e = stands_first w s (lengths_of runs) (rests_at runs (record { core0 = 0; core1 = 0; dma = 0; pio0 = 0; pio1 = 0; outer = 0 })) marks free knows
+    (lane_first core_lane 0 s.core0 s runs.core0.now.length runs.core0.now.log h.core0.same_log)
+    (lane_first core_lane 1 s.core1 s runs.core1.now.length runs.core1.now.log h.core1.same_log)
+    (lane_first dma_lane 2 s.dma s runs.dma.now.length runs.dma.now.log h.dma.same_log)
+    (lane_first pio_lane 3 s.pio0 s runs.pio0.now.length runs.pio0.now.log h.pio0.same_log)
+    (lane_first pio_lane 4 s.pio1 s runs.pio1.now.length runs.pio1.now.log h.pio1.same_log)
+    (lane_first (peripheral_lane w) 5 s.outer s runs.outer.now.length runs.outer.now.log h.outer.same_log) e
+
+pub within_first : (runs : Runs) → IsWithin runs (record { core0 = 0; core1 = 0; dma = 0; pio0 = 0; pio1 = 0; outer = 0 })
+within_first runs = record { core0 = omega arith; core1 = omega arith; dma = omega arith; pio0 = omega arith; pio1 = omega arith; outer = omega arith }
+
+-- whether a run ends at k
+ends_as : (w : Setting) (s : State) (runs : Runs) (k : ℕ) → AreRunsAlone w s runs → ends_in (runs_of w s (longest w s)) k ≡ end_at runs k
+ends_as w s runs k h =
+    rw (← h.core0.same_length, ← h.core1.same_length, ← h.dma.same_length, ← h.pio0.same_length, ← h.pio1.same_length, ← h.outer.same_length) refl
+
+pub ends_at_run : (w : Setting) (s : State) (runs : Runs) (k : ℕ) (now : State) (rests : Rests) (marks : List Mark) (ended : Bool) → AreRunsAlone w s runs → Stands w s (lengths_of runs) k now rests marks → k < longest w s → ended ≡ end_at runs k → ended ≡ true → k ≡ window_length w s
+ends_at_run w s runs k now rests marks ended h t below e is_true =
+    ends_run w s (lengths_of runs) k now rests marks t below (ends_as w s runs k h ∙ sym e ∙ is_true)
+
+differ_of : (x y : ℕ) → nat_eq x y ≡ false → x ≢ y
+differ_of x y e = elim (eqb_tells x y) [
+  | inl h ↦ absurd (let there = h.0 in cc (e, there))
+  | inr h ↦ h.1
+]
+
+on_of : (runs : Runs) (k : ℕ) → end_at runs k ≡ false → AreOn (lengths_of runs) k
+on_of runs k e =
+    let a = both_false (nat_eq k runs.core0.now.length) _ e in
+    let b = both_false (nat_eq k runs.core1.now.length) _ a.1 in
+    let c = both_false (nat_eq k runs.dma.now.length) _ b.1 in
+    let d = both_false (nat_eq k runs.pio0.now.length) _ c.1 in
+    let f = both_false (nat_eq k runs.pio1.now.length) _ d.1 in
+    let g = both_false (nat_eq k runs.outer.now.length) _ f.1 in
+    record {
+      core0 = differ_of k runs.core0.now.length a.0;
+      core1 = differ_of k runs.core1.now.length b.0;
+      dma = differ_of k runs.dma.now.length c.0;
+      pio0 = differ_of k runs.pio0.now.length d.0;
+      pio1 = differ_of k runs.pio1.now.length f.0;
+      outer = differ_of k runs.outer.now.length g.0;
+    }
+
+pub tries_at : (w : Setting) (s : State) (runs : Runs) (k : ℕ) (now : State) (rests : Rests) (marks : List Mark) (ended : Bool) → AreRunsAlone w s runs → Stands w s (lengths_of runs) k now rests marks → k < longest w s → ended ≡ end_at runs k → ended ≡ false → Tries w s (lengths_of runs) k now rests marks
+tries_at w s runs k now rests marks ended h t below e is_false = record {
+  stands = t;
+  lengths = are_lengths w s runs h;
+  on = on_of runs k (sym e ∙ is_false);
+  below = below;
+}

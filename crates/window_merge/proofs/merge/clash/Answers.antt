@@ -1,0 +1,13 @@
+use Rattle.std.proofs.Common.{sym, ◌∙◌}
+use Rattle.m0_core.specs.Cycle as core
+use Rattle.dma_engine.specs.Cycle as dma
+use Rattle.rp_machine.specs.Cycle.{wanted}
+use Rattle.window_merge.proofs.Comparing.{clash_four}
+use Rattle.window_merge.proofs.merge.clash.Goals as goal
+
+pub returns : goal.returns
+unfolding wanted
+returns c =
+    let b = c.args.begun.now in
+    let shared = rw c.requires at c.any_shared.ensures in
+    shared ∙ sym (clash_four (core.want_of b.core0) (core.want_of b.core1) (dma.want_of b.dma.read) (dma.want_of b.dma.write))

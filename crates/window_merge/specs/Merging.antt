@@ -1,0 +1,138 @@
+-- One cycle of a window, by what is left of the logs of the six runs. The project's own.
+use Rattle.std.specs.Prelude.{◌≡◌, ℕ, zero, suc, ◌+◌, ◌≤◌, ◌==◌, nat_lt, if◌then◌else◌, not, ◌||◌, Bool, false, List, [], ◌∷◌, ◌++◌, length, drop}
+use Rattle.lane_look.specs.declared.lane.Want.{Want}
+use Rattle.lane_look.specs.declared.marks.Mark.{Mark}
+use Rattle.lane_look.specs.declared.replay.Report.{Report}
+use Rattle.lane_look.specs.Replay.{Meaning, Entry, told, left, talk}
+use Rattle.lane_look.specs.Alone.{alone, alone_length, differs}
+use Rattle.m0_core.specs.Fetch as core_asks
+use Rattle.m0_core.specs.Cycle as core
+use Rattle.dma_engine.specs.Asks as dma_asks
+use Rattle.dma_engine.specs.Cycle as dma
+use Rattle.pio_block.specs.Cycle as pio
+use Rattle.outer_lane.specs.Setting.{Setting}
+use Rattle.outer_lane.specs.Step as outer
+use Rattle.sio_block.specs.State.{SioState}
+use Rattle.sio_block.specs.Launcher.{offers_of}
+use Rattle.rp_machine.specs.declared.begun.Begun.{Begun}
+use Rattle.rp_machine.specs.State.{State}
+use Rattle.rp_machine.specs.Answers.{answer_of}
+use Rattle.rp_machine.specs.Cycle.{pins_of, next, mark}
+use Rattle.rp_machine.specs.Run.{states}
+use Rattle.window_merge.specs.declared.runs.Runs.{Runs}
+use Rattle.window_merge.specs.declared.runs.Places.{Places}
+use Rattle.window_merge.specs.Lanes.{around, core_lane, dma_lane, pio_lane, peripheral_lane, core1_bound}
+use Rattle.window_merge.specs.Window.{longest, clash}
+
+-- a report is the run alone of a lane, of at most so many cycles
+pub record IsRunAlone {S B : Type 0} (m : Meaning (Unit {0}) S B) (lane : ℕ) (before : S) (s : State) (bound : ℕ) (report : Report S) : Type 0 where
+  pub same_start : report.start ≡ s.cycle
+  pub same_lane : report.before ≡ before
+  pub same_length : report.length ≡ alone_length m (around lane) tt before s.cycle s bound
+  pub same_log : report.log ≡ (alone m (around lane) tt before s.cycle s report.length).talk
+
+-- what is left of the logs of the lanes
+pub record Rests : Type 0 where
+  pub core0 : List Entry
+  pub core1 : List Entry
+  pub dma : List Entry
+  pub pio0 : List Entry
+  pub pio1 : List Entry
+  pub outer : List Entry
+
+-- what the lanes begin, where the logs answer
+abbrev pub begun_by : Rests → State → Begun
+begun_by rests s = record {
+  core0 = told rests.core0 (core_asks.asks s.core0 s.cycle);
+  core1 = told rests.core1 (core_asks.asks s.core1 s.cycle);
+  dma = told rests.dma (dma_asks.asks s.dma);
+  pio0 = told rests.pio0 (pio.asks s.pio0);
+  pio1 = told rests.pio1 (pio.asks s.pio1);
+  outer = told rests.outer (outer.asks s.outer s.cycle);
+}
+
+-- what is left of the logs then
+abbrev pub left_by : Rests → State → Rests
+left_by rests s = record {
+  core0 = left rests.core0 (core_asks.asks s.core0 s.cycle);
+  core1 = left rests.core1 (core_asks.asks s.core1 s.cycle);
+  dma = left rests.dma (dma_asks.asks s.dma);
+  pio0 = left rests.pio0 (pio.asks s.pio0);
+  pio1 = left rests.pio1 (pio.asks s.pio1);
+  outer = left rests.outer (outer.asks s.outer s.cycle);
+}
+
+-- some answer of a log is not the one that the machine gives
+abbrev pub differs_by : Rests → State → Bool
+differs_by rests s =
+    differs (answer_of 0 s) (talk rests.core0 (core_asks.asks s.core0 s.cycle))
+    || (differs (answer_of 1 s) (talk rests.core1 (core_asks.asks s.core1 s.cycle))
+    || (differs (answer_of 2 s) (talk rests.dma (dma_asks.asks s.dma))
+    || (differs (answer_of 3 s) (talk rests.pio0 (pio.asks s.pio0))
+    || (differs (answer_of 4 s) (talk rests.pio1 (pio.asks s.pio1))
+    || (differs (answer_of 5 s) (talk rests.outer (outer.asks s.outer s.cycle)) || false)))))
+
+-- the wants of the lanes
+abbrev pub wants_of : Begun → List Want
+wants_of b =
+    core.wanted b.core0 ++ (core.wanted b.core1 ++ (dma.wanted b.dma ++ (pio.wanted ++ (pio.wanted ++ (outer.wanted b.outer ++ [])))))
+
+-- the cycle is one of the window: each logged answer is what the machine answers, and no two accesses name one port
+abbrev pub fits : Rests → State → Bool
+fits rests s = not (differs_by rests s || clash (wants_of (begun_by rests s)))
+
+-- the marks of the first cycles
+unfoldable pub marks_in : Setting → State → ℕ → List Mark
+marks_in w s zero = []
+marks_in w s (suc n) = marks_in w s n ++ mark w (states w s n) ∷ []
+
+-- the mailboxes are as a cycle leaves them
+pub record IsRested (s : SioState) : Type 0 where
+  pub first : s.core0.mailbox.before ≡ length s.core0.mailbox.words
+  pub second : s.core1.mailbox.before ≡ length s.core1.mailbox.words
+
+-- the pads know what SIO puts out, and core 1 whether its launcher has a word
+pub record Knows (s : State) : Type 0 where
+  pub pins : s.outer.sio ≡ pins_of s.sio
+  pub offer : s.core1.offer ≡ offers_of s.sio
+  pub rested : IsRested s.sio
+
+-- ---- the six reports, and how much of their logs is used
+
+-- the place behind that of the next entry
+abbrev pub next_place : List Entry → ℕ → ℕ
+next_place log place = if nat_lt place (length log) then place + 1 else place
+
+abbrev pub rests_at : Runs → Places → Rests
+rests_at runs places = record {
+  core0 = drop places.core0 runs.core0.now.log;
+  core1 = drop places.core1 runs.core1.now.log;
+  dma = drop places.dma runs.dma.now.log;
+  pio0 = drop places.pio0 runs.pio0.now.log;
+  pio1 = drop places.pio1 runs.pio1.now.log;
+  outer = drop places.outer runs.outer.now.log;
+}
+
+-- no more than the logs have
+pub record IsWithin (runs : Runs) (places : Places) : Type 0 where
+  pub core0 : places.core0 ≤ length runs.core0.now.log
+  pub core1 : places.core1 ≤ length runs.core1.now.log
+  pub dma : places.dma ≤ length runs.dma.now.log
+  pub pio0 : places.pio0 ≤ length runs.pio0.now.log
+  pub pio1 : places.pio1 ≤ length runs.pio1.now.log
+  pub outer : places.outer ≤ length runs.outer.now.log
+
+-- some run has this length
+abbrev pub end_at : Runs → ℕ → Bool
+end_at runs k =
+    (k == runs.core0.now.length) || ((k == runs.core1.now.length) || ((k == runs.dma.now.length) || ((k == runs.pio0.now.length)
+    || ((k == runs.pio1.now.length) || ((k == runs.outer.now.length) || false)))))
+
+-- they are the runs alone of the machine's six lanes
+pub record AreRunsAlone (w : Setting) (s : State) (runs : Runs) : Type 0 where
+  pub core0 : IsRunAlone core_lane 0 s.core0 s (longest w s) runs.core0.now
+  pub core1 : IsRunAlone core_lane 1 s.core1 s (core1_bound s (longest w s)) runs.core1.now
+  pub dma : IsRunAlone dma_lane 2 s.dma s (longest w s) runs.dma.now
+  pub pio0 : IsRunAlone pio_lane 3 s.pio0 s (longest w s) runs.pio0.now
+  pub pio1 : IsRunAlone pio_lane 4 s.pio1 s (longest w s) runs.pio1.now
+  pub outer : IsRunAlone (peripheral_lane w) 5 s.outer s (longest w s) runs.outer.now

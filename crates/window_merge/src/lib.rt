@@ -1,0 +1,9 @@
+//! Windows: the six lanes run ahead of each other, and are kept as far as they all would go the same together.
+#![tactic(auto)]
+
+mod compare;
+pub mod merge;
+pub mod runs;
+
+pub use merge::merge_runs;
+pub use runs::{Places, Runs};

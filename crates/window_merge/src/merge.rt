@@ -1,0 +1,136 @@
+//! A window: six runs alone, kept as far as they go the machine's way.
+
+ghost use Rattle.std.specs.Prelude.{◌≡◌, ◌+◌, ◌-◌, ◌^◌, ◌<◌, ◌≤◌, ◌++◌, ◌∷◌, ◌||◌, [], false, if◌then◌else◌, length};
+ghost use Rattle.outer_lane.specs.Setting.{setting_of};
+ghost use Rattle.outer_lane.specs.Step.{marked};
+ghost use Rattle.bus_fabric.specs.State.{has_hold};
+ghost use Rattle.rp_machine.specs.Cycle.{wanted, next_by};
+ghost use Rattle.rp_machine.specs.Run.{states};
+ghost use Rattle.window_merge.specs.Window.{share_port, clash, longest, window_length};
+ghost use Rattle.window_merge.specs.Merging.{AreRunsAlone, IsWithin, rests_at, begun_by, left_by, wants_of, fits, marks_in, Knows};
+
+use crate::compare::{Comparison, compare};
+use crate::runs::{Places, Runs};
+use lane_look::{Device, Marks, Want};
+use outer_lane::World;
+use rp_machine::begun::Begun;
+use rp_machine::wanted::{Wanted, all_wanted};
+use rp_machine::{Machine, Steps, asked_of};
+use std::sync::ledger::Ledger;
+
+/// Two wants ask for one port.
+fn share_port(first: &Want, second: &Want) -> bool
+    ensures { result ≡ share_port first.now second.now }
+{
+    match (asked_of(first), asked_of(second)) {
+        (Some((port, _)), Some((other, _))) => other == port,
+        _ => false,
+    }
+}
+
+/// Two of four wants ask for one port.
+fn any_shared(a: &Want, b: &Want, c: &Want, d: &Want) -> bool
+    ensures { result ≡ share_port a.now b.now || (share_port a.now c.now || (share_port a.now d.now
+        || (share_port b.now c.now || (share_port b.now d.now || share_port c.now d.now)))) }
+{
+    share_port(a, b)
+        || share_port(a, c)
+        || share_port(a, d)
+        || share_port(b, c)
+        || share_port(b, d)
+        || share_port(c, d)
+}
+
+/// Two of the masters' wants ask for one port.
+fn clash(begun: &Begun, wants: &[Wanted; 4]) -> bool
+    requires { wants.now ≡ wanted begun.now }
+    ensures { result ≡ clash (wants_of begun.now) }
+{
+    let [core0, core1, read, write] = wants;
+    any_shared(&core0.want, &core1.want, &read.want, &write.want)
+}
+
+/// One cycle of a window, where each logged answer is what the machine answers and no two accesses name one port. Otherwise
+/// the machine and the marks stay.
+fn try_cycle<X: Device>(
+    machine: &mut Machine,
+    world: &World<'_, X>,
+    runs: &Runs<'_>,
+    places: &mut Places,
+    marks: &mut Marks,
+) -> bool
+    requires number { machine.old.cycle < 2 ^ 64 - 1 }
+    requires marks { length marks.old < 256 }
+    requires within { IsWithin runs.now places.old }
+    ensures fits { result ≡ fits (rests_at runs.now places.old) machine.old }
+    ensures within { IsWithin runs.now places.new }
+    ensures places { rests_at runs.now places.new ≡ left_by (rests_at runs.now places.old) machine.old }
+    ensures state { machine.new ≡ (if result then next_by
+        (setting_of world.now.script.now (X.meaning world.now.device.now) world.now.limit)
+        (begun_by (rests_at runs.now places.old) machine.old)
+        (wanted (begun_by (rests_at runs.now places.old) machine.old)) machine.old else machine.old) }
+    ensures marks { marks.new ≡ marks.old ++ (if result then marked
+        (setting_of world.now.script.now (X.meaning world.now.device.now) world.now.limit)
+        machine.old.outer (begun_by (rests_at runs.now places.old) machine.old).outer ∷ [] else []) }
+{
+    let Comparison {
+        begun,
+        places: used,
+        same,
+    } = compare(machine, world, runs, places);
+    *places = used;
+    let wants = all_wanted(&begun);
+    let fits = same && !clash(&begun, &wants);
+    if fits {
+        machine.step(world, &begun, &wants, marks);
+    }
+    fits
+}
+
+/// How many cycles a window may have.
+fn longest<X: Device>(machine: &Machine, world: &World<'_, X>) -> u16
+    requires { machine.now.cycle ≤ world.now.limit }
+    ensures value { result ≡ longest
+        (setting_of world.now.script.now (X.meaning world.now.device.now) world.now.limit) machine.now }
+    ensures number { machine.now.cycle + result < 2 ^ 64 }
+{
+    let cycles = world.limit - machine.at;
+    if cycles <= 256 { cycles as u16 } else { 256 }
+}
+
+/// Moves the machine by the window of six runs alone from its state, and gives the window's length. The marks of its cycles
+/// are left in `marks`, and each counts as one of the steps.
+pub fn merge_runs<X: Device, L: Ledger>(
+    machine: &mut Machine,
+    world: &World<'_, X>,
+    runs: &Runs<'_>,
+    marks: &mut Marks,
+    steps: &mut Steps<L>,
+) -> u16
+    requires number { machine.old.cycle ≤ world.now.limit }
+    requires free { has_hold machine.old.fabric ≡ false }
+    requires knows { Knows machine.old }
+    requires runs { AreRunsAlone
+        (setting_of world.now.script.now (X.meaning world.now.device.now) world.now.limit) machine.old runs.now }
+    ensures length { result ≡ window_length
+        (setting_of world.now.script.now (X.meaning world.now.device.now) world.now.limit) machine.old }
+    ensures state { machine.new ≡ states
+        (setting_of world.now.script.now (X.meaning world.now.device.now) world.now.limit) machine.old result }
+    ensures marks { marks.new ≡ marks_in
+        (setting_of world.now.script.now (X.meaning world.now.device.now) world.now.limit) machine.old result }
+    ensures steps { steps.new ≡ steps.old + result }
+{
+    marks.clear();
+    let longest = longest(machine, world);
+    let mut places = Places::first();
+    for k in 0..longest {
+        if runs.end_at(k) {
+            return k;
+        }
+        if !try_cycle(machine, world, runs, &mut places, marks) {
+            return k;
+        }
+        steps.tick();
+    }
+    longest
+}
