@@ -2,6 +2,7 @@ pub mod Agree
 pub mod Banks
 pub mod Calm
 pub mod Comparing
+pub mod Copying
 pub mod InSram
 pub mod Keeping
 pub mod Lanes

@@ -1,3 +1,4 @@
+pub mod Around
 pub mod Lanes
 pub mod Merging
 pub mod Window

@@ -2,8 +2,12 @@
 #![tactic(auto)]
 
 mod compare;
+pub mod copies;
 pub mod merge;
 pub mod runs;
+pub mod sets;
 
+pub use copies::Copies;
 pub use merge::merge_runs;
 pub use runs::{Places, Runs};
+pub use sets::{Set, Sets, window};

@@ -4,10 +4,11 @@ ghost use Rattle.std.specs.Prelude.{◌≡◌, ◌+◌, ◌-◌, ◌^◌, ◌<�
 ghost use Rattle.outer_lane.specs.Setting.{setting_of};
 ghost use Rattle.outer_lane.specs.Step.{marked};
 ghost use Rattle.bus_fabric.specs.State.{has_hold};
-ghost use Rattle.rp_machine.specs.Cycle.{wanted, next_by};
+ghost use Rattle.sio_block.specs.Launcher.{offers_of};
+ghost use Rattle.rp_machine.specs.Cycle.{pins_of, wanted, next_by};
 ghost use Rattle.rp_machine.specs.Run.{states};
 ghost use Rattle.window_merge.specs.Window.{share_port, clash, longest, window_length};
-ghost use Rattle.window_merge.specs.Merging.{AreRunsAlone, IsWithin, rests_at, begun_by, left_by, wants_of, fits, marks_in, Knows};
+ghost use Rattle.window_merge.specs.Merging.{AreRunsAlone, IsWithin, rests_at, begun_by, left_by, wants_of, fits, marks_in, IsRested};
 
 use crate::compare::{Comparison, compare};
 use crate::runs::{Places, Runs};
@@ -88,14 +89,23 @@ fn try_cycle<X: Device>(
 }
 
 /// How many cycles a window may have.
-fn longest<X: Device>(machine: &Machine, world: &World<'_, X>) -> u16
+pub(crate) fn longest<X: Device>(machine: &Machine, world: &World<'_, X>) -> u16
     requires { machine.now.cycle ≤ world.now.limit }
     ensures value { result ≡ longest
         (setting_of world.now.script.now (X.meaning world.now.device.now) world.now.limit) machine.now }
     ensures number { machine.now.cycle + result < 2 ^ 64 }
+    ensures few { result ≤ 256 }
 {
     let cycles = world.limit - machine.at;
     if cycles <= 256 { cycles as u16 } else { 256 }
+}
+
+/// What the lanes keep of SIO is what it holds: the machine's type keeps it.
+fn is_known(machine: &Machine)
+    ensures pins { machine.now.outer.sio ≡ pins_of machine.now.sio }
+    ensures offer { machine.now.core1.offer ≡ offers_of machine.now.sio }
+{
+    let _number = machine.at;
 }
 
 /// Moves the machine by the window of six runs alone from its state, and gives the window's length. The marks of its cycles
@@ -109,7 +119,7 @@ pub fn merge_runs<X: Device, L: Ledger>(
 ) -> u16
     requires number { machine.old.cycle ≤ world.now.limit }
     requires free { has_hold machine.old.fabric ≡ false }
-    requires knows { Knows machine.old }
+    requires rested { IsRested machine.old.sio }
     requires runs { AreRunsAlone
         (setting_of world.now.script.now (X.meaning world.now.device.now) world.now.limit) machine.old runs.now }
     ensures length { result ≡ window_length
@@ -120,6 +130,7 @@ pub fn merge_runs<X: Device, L: Ledger>(
         (setting_of world.now.script.now (X.meaning world.now.device.now) world.now.limit) machine.old result }
     ensures steps { steps.new ≡ steps.old + result }
 {
+    is_known(machine);
     marks.clear();
     let longest = longest(machine, world);
     let mut places = Places::first();

@@ -7,6 +7,7 @@ use outer_lane::Outer;
 use pio_block::PioBlock;
 
 /// The reports of the six lanes.
+#[derive(Drop)]
 pub struct Runs<'a> {
     /// Of core 0.
     pub core0: &'a Report<Core>,

@@ -1,0 +1,125 @@
+//! What a lane that runs alone can ask of the rest of the machine, copied from a state.
+
+ghost use Rattle.std.specs.Prelude.{◌≡◌};
+ghost use Rattle.rp_base.specs.AddressMap.{place_of};
+ghost use Rattle.rp_machine.specs.Cycle.{stored};
+ghost use Rattle.rp_machine.specs.Deeds.{stored_at};
+ghost use Rattle.rp_machine.specs.Sram.{half_of};
+ghost use Rattle.rp_machine.specs.Answers.{word_in};
+ghost use Rattle.window_merge.specs.Around.{copies_of};
+
+use lane_look::{Around, Ask, Want};
+use ram_banks::Ram;
+use rp_base::Request;
+use rp_base::access::{lanes_at, replicated};
+use rp_base::map::{Spot, place};
+use rp_machine::Machine;
+use std::alloc::{AllocError, Global};
+
+/// What a lane can ask: SRAM, its interrupt lines, the counts that pace DMA channels, the input words of the pins, and what the
+/// PIO blocks put out.
+#[derive(Drop)]
+pub struct Copies {
+    /// SRAM, with what the lane wrote since.
+    pub ram: Ram,
+    /// The interrupt lines of the lane's core.
+    pub lines: u128,
+    /// The counts that pace DMA channels, six bits each.
+    pub pacing: u128,
+    /// The input words, that of the levels now lowest.
+    pub inputs: u128,
+    /// What PIO block 0 puts out, the levels lowest.
+    pub pio0: u128,
+    /// What PIO block 1 puts out.
+    pub pio1: u128,
+}
+
+/// The halfword of SRAM at an address, 0 where there is none.
+fn half_in(ram: &Ram, address: u32) -> u32
+    ensures { result ≡ half_of (word_in ram.now address) address }
+{
+    let word = word_in(ram, address);
+    if address / 2 % 2 == 0 {
+        word % 0x1_0000
+    } else {
+        word / 0x1_0000
+    }
+}
+
+/// The word of SRAM that holds an address, 0 where there is none.
+fn word_in(ram: &Ram, address: u32) -> u32
+    ensures { result ≡ word_in ram.now address }
+{
+    match place(address) {
+        Spot::Ram { index, .. } => ram.read(index),
+        Spot::Reg { .. } | Spot::Sio { .. } | Spot::Ppb { .. } | Spot::Outside => 0,
+    }
+}
+
+/// Does an access to SRAM.
+fn store(ram: &mut Ram, request: &Request)
+    ensures { ram.new ≡ stored (stored_at request.now request.now.write (place_of request.now.address)) ram.old }
+{
+    if let Some(value) = request.write {
+        if let Spot::Ram { index, .. } = place(request.address) {
+            let lanes = lanes_at(request.size, request.address);
+            ram.write(index, lanes, replicated(request.size, value));
+        }
+    }
+}
+
+impl Around for Copies {
+    ghost use Rattle.window_merge.specs.Around.{copied_answer, copied_store};
+
+    ghost answer = { copied_answer };
+
+    ghost stored = { copied_store };
+
+    #[inline(always)]
+    fn answer(&self, ask: Ask) -> u128 {
+        match ask {
+            Ask::Lines => self.lines,
+            Ask::Half(address) => u128::from(half_in(&self.ram, address)),
+            Ask::Word(address) => u128::from(word_in(&self.ram, address)),
+            Ask::Pacing => self.pacing,
+            Ask::Inputs => self.inputs,
+            Ask::Outs(block) => { if block == 0 { self.pio0 } else { self.pio1 } }
+        }
+    }
+
+    #[inline(always)]
+    fn store(&mut self, want: &Want) {
+        if let Want::Ram(request) = want {
+            store(&mut self.ram, request);
+        }
+    }
+}
+
+impl Copies {
+    ghost use Rattle.std.specs.Prelude.{◌≡◌};
+    ghost use Rattle.window_merge.specs.Around.{copies_of};
+
+    /// Copies of nothing, with room for SRAM.
+    pub fn new(alloc: Global) -> Result<Copies, AllocError> {
+        Ok(Copies {
+            ram: Ram::new(alloc)?,
+            lines: 0,
+            pacing: 0,
+            inputs: 0,
+            pio0: 0,
+            pio1: 0,
+        })
+    }
+
+    /// Takes what a lane of that number can ask of a machine.
+    pub fn take(&mut self, machine: &Machine, lane: u8)
+        ensures { self.new ≡ copies_of lane machine.now }
+    {
+        self.ram.copy_from(&machine.ram);
+        self.lines = machine.answer(lane, Ask::Lines);
+        self.pacing = machine.answer(lane, Ask::Pacing);
+        self.inputs = machine.answer(lane, Ask::Inputs);
+        self.pio0 = machine.answer(lane, Ask::Outs(0));
+        self.pio1 = machine.answer(lane, Ask::Outs(1));
+    }
+}
