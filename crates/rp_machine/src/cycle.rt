@@ -401,6 +401,20 @@ impl Machine {
         None
     }
 
+    /// The cause for which the next cycle does not happen, if there is one.
+    #[tactic(auto, unfolding(crate::specs::Cycle::stop))]
+    pub fn stop<X: Device>(&self, world: &World<'_, X>) -> Option<Why>
+        ensures { result ≡ stop
+            (setting_of world.now.script.now (X.meaning world.now.device.now) world.now.limit)
+            self.now }
+    {
+        if self.at == world.limit {
+            return Some(Why::Limit);
+        }
+        let begun = self.begin(world);
+        self.cause_in(world, &begun, &all_wanted(&begun))
+    }
+
     /// Does one cycle, counts it and leaves its mark alone in the marks; or changes nothing and names the stop.
     #[tactic(auto, unfolding(crate::specs::Cycle::stop, crate::specs::Cycle::next, crate::specs::Cycle::mark))]
     pub fn cycle<X: Device, L: Ledger>(

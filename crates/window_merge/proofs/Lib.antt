@@ -7,5 +7,6 @@ pub mod InSram
 pub mod Keeping
 pub mod Lanes
 pub mod Ports
+pub mod Resting
 pub mod Told
 pub mod Windows

@@ -1,5 +1,5 @@
 -- One cycle of a window, by what is left of the logs of the six runs. The project's own.
-use Rattle.std.specs.Prelude.{◌≡◌, ℕ, zero, suc, ◌+◌, ◌≤◌, ◌==◌, nat_lt, if◌then◌else◌, not, ◌||◌, Bool, false, List, [], ◌∷◌, ◌++◌, length, drop}
+use Rattle.std.specs.Prelude.{◌≡◌, ℕ, zero, suc, ◌+◌, ◌≤◌, Option, Some, None, true, ◌==◌, nat_lt, if◌then◌else◌, not, ◌||◌, Bool, false, List, [], ◌∷◌, ◌++◌, length, drop}
 use Rattle.lane_look.specs.declared.lane.Want.{Want}
 use Rattle.lane_look.specs.declared.marks.Mark.{Mark}
 use Rattle.lane_look.specs.declared.replay.Report.{Report}
@@ -17,12 +17,14 @@ use Rattle.sio_block.specs.Launcher.{offers_of}
 use Rattle.rp_machine.specs.declared.begun.Begun.{Begun}
 use Rattle.rp_machine.specs.State.{State}
 use Rattle.rp_machine.specs.Answers.{answer_of}
-use Rattle.rp_machine.specs.Cycle.{pins_of, next, mark}
+use Rattle.rp_machine.specs.Cycle.{pins_of, stop, next, mark}
 use Rattle.rp_machine.specs.Run.{states}
 use Rattle.window_merge.specs.declared.runs.Runs.{Runs}
 use Rattle.window_merge.specs.declared.runs.Places.{Places}
 use Rattle.window_merge.specs.Lanes.{around, core_lane, dma_lane, pio_lane, peripheral_lane, core1_bound}
-use Rattle.window_merge.specs.Window.{longest, clash}
+use Rattle.window_merge.specs.declared.position.Moved.{Moved}
+use Rattle.window_merge.specs.declared.position.Moved.TheVariants as moved
+use Rattle.window_merge.specs.Window.{longest, clash, is_tried, window_length}
 
 -- a report is the run alone of a lane, of at most so many cycles
 pub record IsRunAlone {S B : Type 0} (m : Meaning (Unit {0}) S B) (lane : ℕ) (before : S) (s : State) (bound : ℕ) (report : Report S) : Type 0 where
@@ -136,3 +138,14 @@ pub record AreRunsAlone (w : Setting) (s : State) (runs : Runs) : Type 0 where
   pub pio0 : IsRunAlone pio_lane 3 s.pio0 s (longest w s) runs.pio0.now
   pub pio1 : IsRunAlone pio_lane 4 s.pio1 s (longest w s) runs.pio1.now
   pub outer : IsRunAlone (peripheral_lane w) 5 s.outer s (longest w s) runs.outer.now
+
+-- ---- from one position of a run to the next
+
+-- it stopped, and nothing changed; or it went by a window; or by one cycle
+abbrev pub IsStep : Setting → Bool → Moved → State → State → List Mark → List Mark → ℕ → ℕ → Type 0
+IsStep w after_empty (moved.Stopped why) s t marks marks' steps steps' =
+    (stop w s ≡ Some why) × (t ≡ s) × (steps' ≡ steps)
+IsStep w after_empty (moved.Window n) s t marks marks' steps steps' =
+    (stop w s ≡ None) × (is_tried after_empty s ≡ true) × (n ≡ window_length w s) × (t ≡ states w s n) × (marks' ≡ marks_in w s n) × (steps' ≡ steps + n)
+IsStep w after_empty moved.Cycle s t marks marks' steps steps' =
+    (stop w s ≡ None) × (is_tried after_empty s ≡ false) × (t ≡ next w s) × (marks' ≡ mark w s ∷ []) × (steps' ≡ steps + 1)

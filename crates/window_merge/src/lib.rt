@@ -4,10 +4,12 @@
 mod compare;
 pub mod copies;
 pub mod merge;
+pub mod position;
 pub mod runs;
 pub mod sets;
 
 pub use copies::Copies;
 pub use merge::merge_runs;
+pub use position::{Moved, advance};
 pub use runs::{Places, Runs};
 pub use sets::{Set, Sets, window};

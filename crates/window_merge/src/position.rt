@@ -1,0 +1,57 @@
+//! The positions at which a run stands between windows and single cycles.
+
+ghost use Rattle.std.specs.Prelude.{◌≡◌, ◌+◌, ◌≤◌, ◌&&◌, ◌∷◌, [], if◌then◌else◌, false, not, is_some};
+ghost use Rattle.outer_lane.specs.Setting.{setting_of};
+ghost use Rattle.bus_fabric.specs.State.{has_hold};
+ghost use Rattle.rp_machine.specs.Cycle.{stop};
+ghost use Rattle.window_merge.specs.Window.{is_tried, window_length};
+ghost use Rattle.window_merge.specs.Merging.{IsRested, IsStep};
+
+use crate::sets::{Sets, window};
+use lane_look::{Device, Marks};
+use outer_lane::World;
+use rp_base::Why;
+use rp_machine::{Machine, Steps};
+use std::sync::ledger::Ledger;
+
+/// How a run came from one position to the next.
+#[derive(Clone, Copy, PartialEq, Eq)]
+pub enum Moved {
+    /// It stands at a stop.
+    Stopped(Why),
+    /// By a window of so many cycles.
+    Window(u16),
+    /// By one cycle.
+    Cycle,
+}
+
+/// Moves the machine to the next position of a run: by a window where no access lasts and the last step was not a window
+/// without a cycle, and else by one cycle. The marks of its cycles are left in `marks`, and each counts as one of the steps.
+pub fn advance<X: Device, L: Ledger>(
+    machine: &mut Machine,
+    world: &World<'_, X>,
+    sets: Sets,
+    after_empty: bool,
+    marks: &mut Marks,
+    steps: &mut Steps<L>,
+) -> (Sets, Moved)
+    requires number { machine.old.cycle ≤ world.now.limit }
+    requires rested { IsRested machine.old.sio }
+    ensures moved { IsStep
+        (setting_of world.now.script.now (X.meaning world.now.device.now) world.now.limit)
+        after_empty result.1 machine.old machine.new marks.old marks.new steps.old steps.new }
+    ensures rested { IsRested machine.new.sio }
+{
+    if after_empty || machine.fabric.holds() {
+        let moved = match machine.cycle(world, marks, steps) {
+            Some(why) => Moved::Stopped(why),
+            None => Moved::Cycle,
+        };
+        return (sets, moved);
+    }
+    if let Some(why) = machine.stop(world) {
+        return (sets, Moved::Stopped(why));
+    }
+    let (sets, length) = window(machine, world, sets, marks, steps);
+    (sets, Moved::Window(length))
+}
