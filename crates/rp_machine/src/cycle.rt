@@ -411,8 +411,8 @@ impl Machine {
         if self.at == world.limit {
             return Some(Why::Limit);
         }
-        let begun = self.begin(world);
-        self.cause_in(world, &begun, &all_wanted(&begun))
+        let named = self.begin(world);
+        self.cause_in(world, &named, &all_wanted(&named))
     }
 
     /// Does one cycle, counts it and leaves its mark alone in the marks; or changes nothing and names the stop.
