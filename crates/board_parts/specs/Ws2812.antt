@@ -1,8 +1,8 @@
 -- The decoder of a strip of lights (WS2812): each bit is a high level, whose length says which one, and a long low level ends a
 -- frame. The lengths are the project's own, in cycles of 8 ns. The state is the cycle of the latest change, how many colours
--- there were, the last of them, and the bits since then, the latest first.
+-- there were, the last of them, and the bits since the last colour or frame, the latest first.
 use Rattle.std.specs.Prelude.{ℕ, ◌+◌, ◌-◌, ◌*◌, ◌/◌, ◌%◌, ◌^◌, ◌==◌, nat_lt, nat_le, if◌then◌else◌, Bool, true, false, List, [], ◌∷◌, ◌++◌, length, map, codes, decimal}
-use Rattle.trace_text.specs.Line.{hex_digit}
+use Rattle.std.specs.Char.{digit_char}
 use Rattle.board_parts.specs.Probe.{ProbeMeaning, one_more}
 
 -- the bit of a high level of so many cycles
@@ -30,7 +30,7 @@ decoded cycle level _ = []
 
 -- the six hexadecimal digits of a colour, the highest first
 unfoldable pub hex_colour : ℕ → List ℕ
-hex_colour colour = map (λ k. hex_digit (colour / 16 ^ k % 16)) (5 ∷ 4 ∷ 3 ∷ 2 ∷ 1 ∷ 0 ∷ [])
+hex_colour colour = map (λ k. digit_char (colour / 16 ^ k % 16)) (5 ∷ 4 ∷ 3 ∷ 2 ∷ 1 ∷ 0 ∷ [])
 
 abbrev pub colours_text : List ℕ → List ℕ
 colours_text (since ∷ colours ∷ last ∷ bits) = codes "colours " ++ decimal colours ++ codes " last " ++ hex_colour last

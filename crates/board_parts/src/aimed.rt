@@ -13,14 +13,14 @@ use trace_text::line::{push_number, push_text};
 pub struct Aimed {
     /// Its place among the probes.
     pub index: u64,
-    /// Its pin, 0 to 29.
+    /// Its pin.
     pub pin: u8,
     /// The probe.
     pub probe: Box<dyn Probe>,
 }
 
 impl Aimed {
-    /// Aims a probe at a pin, 0 to 29, where `index` is its place among the probes.
+    /// Aims a probe at a pin, where `index` is its place among the probes.
     pub fn new(index: u64, pin: u8, probe: Box<dyn Probe>) -> Aimed
         ensures { record {
           index = result.index;

@@ -5,7 +5,7 @@
 pub struct PinChange {
     /// The number of the cycle.
     pub cycle: u64,
-    /// The number of the pin, 0 to 29.
+    /// The number of the pin.
     pub pin: u8,
     /// The level after the change, true where it is high.
     pub level: bool,

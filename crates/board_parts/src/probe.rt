@@ -13,7 +13,7 @@ pub trait Probe: Drop {
     /// What it does, by its state. No call changes it.
     ghost meaning: { Self → ProbeMeaning };
 
-    /// Aims it at a pin, 0 to 29: it begins anew.
+    /// Aims it at a pin: it begins anew.
     fn aim(&mut self, pin: u8)
         ensures same { meaning self.new ≡ meaning self.old }
         ensures state { state self.new ≡ (meaning self.old).aimed pin };

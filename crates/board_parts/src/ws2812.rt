@@ -4,7 +4,7 @@ ghost use Rattle.std.specs.Prelude.{◌≡◌, ◌<◌, ◌^◌, ◌+◌, ◌≤
 ghost use Rattle.arrayvec.specs.ArrayVec.{array_vec_len};
 ghost use Rattle.board_parts.specs.Bits.{bits_in};
 ghost use Rattle.board_parts.specs.Ws2812.{ws2812, bit_of, decoded, hex_colour};
-ghost use Rattle.trace_text.specs.Line.{hex_digit};
+ghost use Rattle.std.specs.Char.{digit_char};
 
 use crate::probe::Probe;
 use arrayvec::ArrayVec;
@@ -101,7 +101,7 @@ impl Ws2812 {
 /// The lower-case hexadecimal digit of a number below 16.
 fn hex_digit_of(digit: u32) -> u8
     requires { digit < 16 }
-    ensures { result ≡ hex_digit digit }
+    ensures { result ≡ digit_char digit }
 {
     if digit < 10 {
         b'0' + digit as u8

@@ -1,4 +1,4 @@
-//! Programs that are generated from a number: an image that fills half a bank of SRAM and runs for ever.
+//! Programs that are generated from a number: an image of 32,768 bytes at the start of SRAM that runs for ever.
 #![tactic(auto)]
 
 ghost use Rattle.std.specs.Prelude.{◌≡◌, ◌≤◌, ◌/◌, ◌%◌, ◌++◌, IfOk};

@@ -8,8 +8,9 @@ pub fn the_priority_is_the_least()
     ensures { ThePriorityIsTheLeast }
 {}
 
-/// An interrupt whose line is held high through its handler is not pending there. After the return it is pending again exactly
-/// where the line is still high in the cycle in which the interrupt ceases to be active.
+/// An interrupt whose line is held high from its entry on is not pending while it is active, in cycles in which only the timer
+/// and the lines act on the exceptions. After the return it is pending again exactly where the line is still high in the cycle
+/// in which the interrupt ceases to be active.
 pub fn a_held_line_pends_again()
     ensures { AHeldLinePendsAgain }
 {}

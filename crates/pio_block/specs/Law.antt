@@ -56,7 +56,7 @@ AreWithin [] = Unit {0}
 AreWithin (m ∷ ms) = IsWithin m × AreWithin ms
 
 -- what happens to a block: a cycle, with what it has begun in it, an access to a word, a hold by RESETS or its end, and a
--- program counter that a debugger sets
+-- program counter that is set where a program is loaded
 pub data Happening : Type 0 where
   Cycle : (begun : Option Inputs) → Happening
   Access : (offset : ℕ) (write : Option ℕ) → Happening

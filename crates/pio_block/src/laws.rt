@@ -13,7 +13,7 @@ pub fn a_held_block_stays()
 {}
 
 /// No FIFO holds more words than it has places, whatever happens to a block from its reset state on: cycles, accesses to any
-/// of its words, holds by RESETS, and program counters that a debugger sets.
+/// of its words, holds by RESETS, and the program counter that is set where a program is loaded before a run.
 pub fn no_fifo_holds_too_much()
     ensures { NoFifoHoldsTooMuch }
 {}

@@ -25,7 +25,8 @@ pub fn a_cycle_keeps_the_fifos_within()
     ensures { ACycleKeepsTheFifosWithin }
 {}
 
-/// The bits that OUTs give up to the threshold, and then those that wait, are the bits of the words that were sent, in order.
+/// The bits that OUTs give up to the threshold, and then those that wait, are the bits of the words that were sent, in order,
+/// while nothing but autopull loads the OSR (no PULL that does something, no MOV to it) and SHIFTCTRL stays.
 pub fn the_bits_out_are_those_sent()
     ensures { TheBitsOutAreThoseSent }
 {}
