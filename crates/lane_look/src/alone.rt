@@ -39,7 +39,8 @@ impl<W: Around> Look for Recorder<W> {
     ghost use Rattle.std.specs.Prelude.{◌≡◌};
     ghost use Rattle.lane_look.specs.Alone.{recorded};
 
-    ghost answers = { λ old ask answer new. (answer ≡ W.answer old.around ask) × (new ≡ record old { log = recorded old.log (ask, answer) }) };
+    ghost answers = { λ old ask answer new. (answer ≡ W.answer old.around ask) ×
+        (new ≡ record old { log = recorded old.log (ask, answer) }) };
 
     fn ask(&mut self, ask: Ask) -> u128 {
         let answer = self.around.answer(ask);
@@ -87,8 +88,12 @@ fn cycle_alone<E, S: Lane<E>, W: Around>(
 ) -> bool
     requires marks { length marks.old < 256 }
     requires room { length look.old.log + 8 ≤ 2048 }
-    ensures goes { result ≡ not (ends_now (meaning S.asks S.wanted S.next S.marked) (surroundings W.answer W.stored) env.now cycle lane.old look.old.around) }
-    ensures state { standing lane.new look.new.around look.new.log marks.new ≡ (if result then alone_cycle (meaning S.asks S.wanted S.next S.marked) (surroundings W.answer W.stored) env.now cycle (standing lane.old look.old.around look.old.log marks.old) else standing lane.old look.old.around look.old.log marks.old) }
+    ensures goes { result ≡ not (ends_now (meaning S.asks S.wanted S.next S.marked)
+        (surroundings W.answer W.stored) env.now cycle lane.old look.old.around) }
+    ensures state { standing lane.new look.new.around look.new.log marks.new ≡
+        (if result then alone_cycle (meaning S.asks S.wanted S.next S.marked)
+        (surroundings W.answer W.stored) env.now cycle (standing lane.old look.old.around
+        look.old.log marks.old) else standing lane.old look.old.around look.old.log marks.old) }
     ensures log { length look.new.log ≤ length look.old.log + 8 }
     ensures marks { length marks.new ≤ length marks.old + 1 }
 {
@@ -117,9 +122,12 @@ fn cycles_alone<E, S: Lane<E>, W: Around>(
     requires number { start + at_most < 2 ^ 64 }
     requires marks { marks.old ≡ [] }
     requires log { look.old.log ≡ [] }
-    ensures length { result ≡ alone_length (meaning S.asks S.wanted S.next S.marked) (surroundings W.answer W.stored) env.now lane.old start look.old.around at_most }
+    ensures length { result ≡ alone_length (meaning S.asks S.wanted S.next S.marked)
+        (surroundings W.answer W.stored) env.now lane.old start look.old.around at_most }
     ensures within { result ≤ at_most }
-    ensures state { standing lane.new look.new.around look.new.log marks.new ≡ alone (meaning S.asks S.wanted S.next S.marked) (surroundings W.answer W.stored) env.now lane.old start look.old.around result }
+    ensures state { standing lane.new look.new.around look.new.log marks.new ≡ alone
+        (meaning S.asks S.wanted S.next S.marked) (surroundings W.answer W.stored) env.now lane.old
+        start look.old.around result }
 {
     for k in 0..at_most {
         if !cycle_alone(lane, env, start + u64::from(k), look, marks) {
@@ -142,8 +150,11 @@ pub fn run_alone<E, S: Lane<E>, W: Around>(
     ensures holds { IsTrue (meaning S.asks S.wanted S.next S.marked) env.now result.0 }
     ensures start { result.0.start ≡ report.start }
     ensures before { result.0.before ≡ report.before }
-    ensures length { result.0.length ≡ alone_length (meaning S.asks S.wanted S.next S.marked) (surroundings W.answer W.stored) env.now report.before report.start around at_most }
-    ensures run { standing result.0.after result.1 result.0.log result.0.marks ≡ alone (meaning S.asks S.wanted S.next S.marked) (surroundings W.answer W.stored) env.now report.before report.start around result.0.length }
+    ensures length { result.0.length ≡ alone_length (meaning S.asks S.wanted S.next S.marked)
+        (surroundings W.answer W.stored) env.now report.before report.start around at_most }
+    ensures run { standing result.0.after result.1 result.0.log result.0.marks ≡ alone
+        (meaning S.asks S.wanted S.next S.marked) (surroundings W.answer W.stored) env.now
+        report.before report.start around result.0.length }
 {
     let Report {
         start,

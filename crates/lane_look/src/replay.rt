@@ -46,8 +46,10 @@ fn turns_alone(wants: &[Want; 2]) -> [Turn; 2]
 /// Ends a cycle of a lane that runs alone.
 pub fn finish_alone<E, S: Lane<E>>(lane: &mut S, env: &E, begun: &S::Begun, marks: &mut Marks)
     requires { length marks.old < 256 }
-    ensures state { lane.new ≡ after_begun (meaning S.asks S.wanted S.next S.marked) env.now lane.old begun.now }
-    ensures marks { marks.new ≡ marks_with (meaning S.asks S.wanted S.next S.marked) env.now lane.old begun.now marks.old }
+    ensures state { lane.new ≡ after_begun (meaning S.asks S.wanted S.next S.marked) env.now
+        lane.old begun.now }
+    ensures marks { marks.new ≡ marks_with (meaning S.asks S.wanted S.next S.marked) env.now
+        lane.old begun.now marks.old }
 {
     let turns = turns_alone(&S::wants(begun));
     lane.finish(env, begun, turns, marks);
@@ -65,9 +67,12 @@ fn replay<E, S: Lane<E>>(
     requires cycles { n ≤ 256 }
     requires number { start + n < 2 ^ 64 }
     requires none { marks.old ≡ [] }
-    ensures state { lane.new ≡ (replayed (meaning S.asks S.wanted S.next S.marked) env.now lane.old start log.now n).state }
-    ensures marks { marks.new ≡ (replayed (meaning S.asks S.wanted S.next S.marked) env.now lane.old start log.now n).marks }
-    ensures used { length log.now ≡ result + length (replayed (meaning S.asks S.wanted S.next S.marked) env.now lane.old start log.now n).rest }
+    ensures state { lane.new ≡ (replayed (meaning S.asks S.wanted S.next S.marked) env.now lane.old
+        start log.now n).state }
+    ensures marks { marks.new ≡ (replayed (meaning S.asks S.wanted S.next S.marked) env.now lane.old
+        start log.now n).marks }
+    ensures used { length log.now ≡ result + length (replayed
+        (meaning S.asks S.wanted S.next S.marked) env.now lane.old start log.now n).rest }
 {
     let mut look = LogLook::new(log);
     for k in 0..n {
@@ -82,7 +87,8 @@ pub fn rewind<E, S: Lane<E>>(report: &mut Report<S>, env: &E, n: u16)
     requires report { IsTrue (meaning S.asks S.wanted S.next S.marked) env.now report.old }
     requires within { n ≤ report.old.length }
     ensures report { IsTrue (meaning S.asks S.wanted S.next S.marked) env.now report.new }
-    ensures state { report.new.after ≡ (replay_of (meaning S.asks S.wanted S.next S.marked) env.now report.old n).state }
+    ensures state { report.new.after ≡ (replay_of (meaning S.asks S.wanted S.next S.marked) env.now
+        report.old n).state }
     ensures before { report.new.before ≡ report.old.before }
     ensures start { report.new.start ≡ report.old.start }
     ensures length { report.new.length ≡ n }

@@ -42,7 +42,12 @@ impl<'a, 'b> Look for Comparer<'a, 'b> {
     ghost use Rattle.rp_machine.specs.Answers.{answer_of};
     ghost use Rattle.window_merge.specs.Merging.{next_place};
 
-    ghost answers = { λ old ask answer new. (answer ≡ first_answer (drop old.place old.log.now)) × (new ≡ record old { place = next_place old.log.now old.place; same = old.same && nat_eq (answer_of old.lane old.machine.now ask) answer }) };
+    ghost answers = { λ old ask answer new. (answer ≡ first_answer (drop old.place old.log.now)) ×
+        (new ≡ record old {
+          place = next_place old.log.now old.place;
+          same = old.same && nat_eq
+              (answer_of old.lane old.machine.now ask) answer;
+        }) };
 
     #[inline(always)]
     fn ask(&mut self, ask: Ask) -> u128 {
@@ -75,9 +80,11 @@ fn begin_compared<E, S: Lane<E>>(
     place: u16,
 ) -> Compared<S::Begun>
     requires { place ≤ length log.now }
-    ensures begun { result.begun ≡ told (drop place log.now) (S.asks env.now lane.now machine.now.cycle) }
+    ensures begun { result.begun ≡ told (drop place log.now)
+        (S.asks env.now lane.now machine.now.cycle) }
     ensures within { result.place ≤ length log.now }
-    ensures place { drop result.place log.now ≡ left (drop place log.now) (S.asks env.now lane.now machine.now.cycle) }
+    ensures place { drop result.place log.now ≡ left (drop place log.now)
+        (S.asks env.now lane.now machine.now.cycle) }
     ensures same { result.same ≡ not (differs
         (answer_of number machine.now)
         (talk (drop place log.now) (S.asks env.now lane.now machine.now.cycle))) }
@@ -119,7 +126,8 @@ pub(crate) fn compare<X: Device>(
     requires { IsWithin runs.now places.now }
     ensures begun { result.begun ≡ begun_by (rests_at runs.now places.now) machine.now }
     ensures within { IsWithin runs.now result.places }
-    ensures places { rests_at runs.now result.places ≡ left_by (rests_at runs.now places.now) machine.now }
+    ensures places { rests_at runs.now result.places ≡ left_by (rests_at runs.now places.now)
+        machine.now }
     ensures same { result.same ≡ not (differs_by (rests_at runs.now places.now) machine.now) }
 {
     let core0 = begin_compared(

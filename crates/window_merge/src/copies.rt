@@ -58,7 +58,8 @@ fn word_in(ram: &Ram, address: u32) -> u32
 
 /// Does an access to SRAM.
 fn store(ram: &mut Ram, request: &Request)
-    ensures { ram.new ≡ stored (stored_at request.now request.now.write (place_of request.now.address)) ram.old }
+    ensures { ram.new ≡ stored (stored_at request.now request.now.write
+        (place_of request.now.address)) ram.old }
 {
     if let Some(value) = request.write {
         if let Spot::Ram { index, .. } = place(request.address) {

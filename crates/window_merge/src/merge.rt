@@ -65,7 +65,8 @@ fn try_cycle<X: Device>(
     requires within { IsWithin runs.now places.old }
     ensures fits { result ≡ fits (rests_at runs.now places.old) machine.old }
     ensures within { IsWithin runs.now places.new }
-    ensures places { rests_at runs.now places.new ≡ left_by (rests_at runs.now places.old) machine.old }
+    ensures places { rests_at runs.now places.new ≡ left_by (rests_at runs.now places.old)
+        machine.old }
     ensures state { machine.new ≡ (if result then next_by
         (setting_of world.now.script.now (X.meaning world.now.device.now) world.now.limit)
         (begun_by (rests_at runs.now places.old) machine.old)

@@ -58,7 +58,8 @@ fn run_set<E, S: Lane<E>>(
 ) -> Set<S>
     requires cycles { at_most ≤ 256 }
     requires number { machine.now.cycle + at_most < 2 ^ 64 }
-    ensures { RanAlone (meaning S.asks S.wanted S.next S.marked) env.now number lane.now machine.now at_most result.report }
+    ensures { RanAlone (meaning S.asks S.wanted S.next S.marked) env.now number lane.now machine.now
+        at_most result.report }
 {
     let Set {
         mut copies,
