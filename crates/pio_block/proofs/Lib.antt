@@ -1,3 +1,4 @@
-pub mod Highest
-pub mod Held
 pub mod Depths
+pub mod Held
+pub mod Highest
+pub mod Masks

@@ -188,17 +188,27 @@ impl State {
             + self.machines.with_words()
     }
 
-    /// INTS of line 0.
+    /// INTS of line 0. Where no interrupt is enabled INTR is not looked at.
+    #[inline(always)]
+    #[tactic(auto, using(crate::proofs::Masks::none_enabled))]
     pub(crate) fn ints0(&self) -> u32
         ensures { result ≡ ints0_of self.now }
     {
+        if self.inte0 == 0 {
+            return u32::from(self.intf0);
+        }
         (self.intr() & u32::from(self.inte0)) | u32::from(self.intf0)
     }
 
-    /// INTS of line 1.
+    /// INTS of line 1. Where no interrupt is enabled INTR is not looked at.
+    #[inline(always)]
+    #[tactic(auto, using(crate::proofs::Masks::none_enabled))]
     pub(crate) fn ints1(&self) -> u32
         ensures { result ≡ ints1_of self.now }
     {
+        if self.inte1 == 0 {
+            return u32::from(self.intf1);
+        }
         (self.intr() & u32::from(self.inte1)) | u32::from(self.intf1)
     }
 
