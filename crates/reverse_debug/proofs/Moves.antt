@@ -1,5 +1,5 @@
 -- Moves, and what is answered.
-use Rattle.std.proofs.Common.{◌≡◌, ◌⊎◌, ℕ, ◌+◌, ◌-◌, ◌<◌, ◌≤◌, nat_lt, Bool, true, false, cond, List, [], ◌++◌, Option, Some, None, inl, inr, refl, sym, ap, subst, arith, ◌∙◌}
+use Rattle.std.proofs.Common.{◌≡◌, ℕ, ◌+◌, ◌-◌, ◌<◌, ◌≤◌, ◌^◌, nat_lt, Bool, true, false, not, cond, List, [], ◌++◌, Some, None, inl, inr, refl, sym, ap, subst, arith, ◌∙◌}
 use Rattle.std.proofs.lemmas.Bool.{cases_lt}
 use Rattle.std.proofs.lemmas.Bool.Decides.{nat_tests}
 use Rattle.std.specs.Prelude.{codes}
@@ -9,10 +9,15 @@ use Rattle.outer_lane.specs.Setting.{Setting}
 use Rattle.rp_machine.specs.State.{State}
 use Rattle.rp_machine.specs.Cycle.{stop}
 use Rattle.rp_machine.specs.Run.{last_state}
-use Rattle.reverse_debug.specs.Replies.{Said, said, last_cycle, at_last, at_reply, stop_line, moved_to, moved_back, move_cost}
+use Rattle.reverse_debug.specs.Replies.{Said, said, last_cycle, at_last, at_reply, moved_to, moved_back, move_cost, answer, heard, command_cost}
+use Rattle.reverse_debug.specs.Commands.{Command, command_of}
+use Rattle.reverse_debug.specs.Commands.Command.{Step, Back, Goto, End, Regs, Mem, Pins, Pio, LastWrite, Quit, Bad}
+use Rattle.reverse_debug.specs.declared.command.Command.{Command as Asked}
+use Rattle.reverse_debug.specs.declared.command.Command.TheVariants as code
+use Rattle.reverse_debug.specs.Reading.{meant, is_quit, Fits}
 use Rattle.reverse_debug.specs.Advance.{CountsMove}
 use Rattle.reverse_debug.specs.Standing.{Standing, first_of, StandsFor, StaysFor, GoesOn, Lands, Does}
-use Rattle.reverse_debug.proofs.Paths.{path_last}
+use Rattle.reverse_debug.proofs.Paths.{path_last, last_within}
 use Rattle.reverse_debug.proofs.Sessions.{now_in_last, now_low, path_of, stays_on}
 
 -- ---- what a move is
@@ -150,3 +155,55 @@ pub start_written : (w : Setting) (old new : Standing) (back now : ℕ) (empty r
     Does w old (moved_back w (first_of old) old.now.cycle back) (move_cost old.ring.spacing old.now.cycle (moved_back w (first_of old) old.now.cycle back).cycle) new reply steps steps
 start_written w old new back now empty reply steps k land e lt none is =
     moved_to_start w old new back reply steps k land (subst (λ n. n < back) e lt) (text_written empty reply (codes "at start\n") none is)
+
+-- ---- what each command does
+
+abbrev pub Obeys : Setting → Standing → Command → Standing → List ℕ → ℕ → ℕ → Type 0
+Obeys w old q new reply before after =
+    Does w old (answer w (first_of old) old.now.cycle q) (command_cost old.ring.spacing old.now.cycle (answer w (first_of old) old.now.cycle q).cycle q) new reply before after
+
+-- a number of a command is added to a cycle
+pub sum_fits : (w : Setting) (old : Standing) (q : Asked) (now n : ℕ) → StandsFor w old → Fits q → q ≡ code.Step n → now ≡ old.now.cycle → now + n < 2 ^ 64
+sum_fits w old q now n k fits is e =
+    let few : n < 10 ^ 10 = subst Fits is fits in
+    let low : old.now.cycle ≤ w.limit = now_low w (first_of old) old k in
+    let same : old.limit ≡ w.limit = k.limit in
+    let small : old.limit ≤ 1000000000 = k.small in
+    omega arith
+
+obeys_end : (w : Setting) (v old new : Standing) (reply : List ℕ) (before after : ℕ) → v ≡ old → StandsFor w old →
+    Does w old (moved_to w (first_of old) (v.limit + 1)) (move_cost old.ring.spacing old.now.cycle (moved_to w (first_of old) (v.limit + 1)).cycle) new reply before after → Obeys w old End new reply before after
+obeys_end w v old new reply before after e k does =
+    let begins : (first_of old).cycle ≡ 0 = k.begins in
+    let last : last_cycle w (first_of old) ≤ w.limit = last_within w (first_of old) (omega arith) in
+    let same : old.limit ≡ w.limit = k.limit in
+    let lim : v.limit ≡ old.limit = ap (λ (x : Standing). x.limit) e in
+    let what = moved_to_end w (first_of old) (v.limit + 1) (omega arith) in
+    subst (λ (x : Said). Does w old x (move_cost old.ring.spacing old.now.cycle x.cycle) new reply before after) what does
+
+pub end_obeyed : (w : Setting) (v old new : Standing) (q : Asked) (reply : List ℕ) (before after : ℕ) → q ≡ code.End → v ≡ old → StandsFor w old →
+    Does w old (moved_to w (first_of old) (v.limit + 1)) (move_cost old.ring.spacing old.now.cycle (moved_to w (first_of old) (v.limit + 1)).cycle) new reply before after → Obeys w old (meant q) new reply before after
+end_obeyed w v old new q reply before after is e k does = subst (λ (x : Asked). Obeys w old (meant x) new reply before after) (sym is) (obeys_end w v old new reply before after e k does)
+
+quits_moved : (b : Bool) (x y : Said) → x.quits ≡ false → y.quits ≡ false → (cond b x y).quits ≡ false
+quits_moved true x y h k = h
+quits_moved false x y h k = k
+
+pub quits_exactly : (w : Setting) (f : State) (cycle : ℕ) (q : Command) → (answer w f cycle q).quits ≡ is_quit q
+unfolding moved_to moved_back
+quits_exactly w f cycle (Step n) = quits_moved (nat_lt (last_cycle w f) (cycle + n)) _ _ refl refl
+quits_exactly w f cycle (Back n) = quits_moved (nat_lt cycle n) _ _ refl refl
+quits_exactly w f cycle (Goto target) = quits_moved (nat_lt (last_cycle w f) target) _ _ refl refl
+quits_exactly w f cycle End = refl
+quits_exactly w f cycle Regs = refl
+quits_exactly w f cycle (Mem address count) = refl
+quits_exactly w f cycle Pins = refl
+quits_exactly w f cycle (Pio block machine) = refl
+quits_exactly w f cycle (LastWrite address) = refl
+quits_exactly w f cycle Quit = refl
+quits_exactly w f cycle Bad = refl
+
+pub quits_as_heard : (w : Setting) (f : State) (cycle : ℕ) (line : List ℕ) (q : Command) (result : Bool) → q ≡ command_of line → result ≡ not (is_quit q) → result ≡ not (heard w f cycle line).quits
+unfolding heard
+quits_as_heard w f cycle line q result e is =
+    is ∙ ap not (sym (quits_exactly w f cycle q)) ∙ ap (λ (x : Command). not (answer w f cycle x).quits) e

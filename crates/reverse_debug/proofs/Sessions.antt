@@ -1,19 +1,18 @@
 -- Sessions as they move.
-use Rattle.std.proofs.Common.{◌≡◌, ◌⊎◌, ℕ, zero, ◌+◌, ◌-◌, ◌*◌, ◌%◌, ◌==◌, ◌<◌, ◌≤◌, ◌^◌, ◌||◌, max, nat_lt, Bool, true, false, cond, if◌then◌else◌, List, [], ◌∷◌, Option, Some, None, IfSome, inl, inr, refl, sym, ap, subst, arith, ◌∙◌}
-use Rattle.std.proofs.lemmas.Bool.{cases_Bool, cases_lt, ltb-true, eq-eqb}
+use Rattle.std.proofs.Common.{◌≡◌, ◌⊎◌, ℕ, ◌+◌, ◌-◌, ◌*◌, ◌%◌, ◌==◌, ◌<◌, ◌≤◌, ◌^◌, ◌||◌, max, nat_lt, Bool, true, false, [], Option, Some, None, IfSome, inl, inr, refl, sym, ap, subst, arith, ◌∙◌}
+use Rattle.std.proofs.lemmas.Bool.{cases_lt, ltb-true, eq-eqb}
 use Rattle.std.proofs.lemmas.Bool.Decides.{nat_tests}
 use Rattle.std.proofs.Math.Nat.{mod-lt, zero-mod}
 use Rattle.rp_base.specs.declared.Why.{Why}
-use Rattle.trace_text.specs.Line.{stop_text}
 use Rattle.outer_lane.specs.Setting.{Setting}
 use Rattle.rp_machine.specs.State.{State}
 use Rattle.rp_machine.specs.Cycle.{stop}
-use Rattle.rp_machine.specs.Run.{states, last_state}
+use Rattle.rp_machine.specs.Run.{states}
 use Rattle.snap_ring.specs.Snapshots.{Snapshots, spacing_of, is_kept, is_due, kept_with, state_at, restored, IsGreatest, IsNearest}
-use Rattle.reverse_debug.specs.Replies.{Said, said, last_cycle, at_last, at_reply, moved_to, moved_back, move_cost}
-use Rattle.reverse_debug.specs.Advance.{Advances, CountsMove}
-use Rattle.reverse_debug.specs.Standing.{Standing, first_of, IsAlong, StandsFor, OpensAt, StaysFor, GoesOn, Lands, Does}
-use Rattle.reverse_debug.proofs.Paths.{Path, path_join, path_last, path_in_last, last_within, none_first}
+use Rattle.reverse_debug.specs.Replies.{last_cycle}
+use Rattle.reverse_debug.specs.Advance.{Advances}
+use Rattle.reverse_debug.specs.Standing.{Standing, first_of, IsAlong, StandsFor, OpensAt, StaysFor, GoesOn, Lands}
+use Rattle.reverse_debug.proofs.Paths.{Path, path_join, path_in_last, last_within, none_first}
 use Rattle.reverse_debug.proofs.Rings.{next_multiple, multiple_below, restored_cycle, restored_any, spacing_stays, kept_still, kept_now, one_of_run, one_below, found_still}
 
 -- ---- what holds of a session that stands for a run

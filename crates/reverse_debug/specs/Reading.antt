@@ -1,11 +1,11 @@
 -- What the commands of the code stand for.
-use Rattle.std.specs.Prelude.{◌≡◌, true, ◌^◌, ◌<◌, ◌≤◌}
-use Rattle.reverse_debug.specs.declared.command.Request.{Request}
-use Rattle.reverse_debug.specs.declared.command.Request.TheVariants as code
+use Rattle.std.specs.Prelude.{◌≡◌, Bool, true, false, ◌^◌, ◌<◌, ◌≤◌}
+use Rattle.reverse_debug.specs.declared.command.Command.{Command as Asked}
+use Rattle.reverse_debug.specs.declared.command.Command.TheVariants as code
 use Rattle.reverse_debug.specs.Commands.{Command, are_words}
 use Rattle.reverse_debug.specs.Commands.Command.{Step, Back, Goto, End, Regs, Mem, Pins, Pio, LastWrite, Quit, Bad}
 
-abbrev pub meant : Request → Command
+abbrev pub meant : Asked → Command
 meant (code.Step n) = Step n
 meant (code.Back n) = Back n
 meant (code.Goto cycle) = Goto cycle
@@ -18,8 +18,12 @@ meant (code.LastWrite address) = LastWrite address
 meant code.Quit = Quit
 meant code.Bad = Bad
 
+abbrev pub is_quit : Command → Bool
+is_quit Quit = true
+is_quit _ = false
+
 -- numbers have at most 10 digits, and what is to be shown is there
-abbrev pub Fits : Request → Type 0
+abbrev pub Fits : Asked → Type 0
 Fits (code.Step n) = n < 10 ^ 10
 Fits (code.Back n) = n < 10 ^ 10
 Fits (code.Goto cycle) = cycle < 10 ^ 10

@@ -1,14 +1,14 @@
 //! The commands, and how a line asks for them.
 
-ghost use Rattle.std.specs.Prelude.{◌≡◌};
+ghost use Rattle.std.specs.Prelude.{◌≡◌, not};
 ghost use Rattle.reverse_debug.specs.Commands.{command_of, alone, with_one, with_two, mem_of, last_write_of, pio_of};
-ghost use Rattle.reverse_debug.specs.Reading.{meant, Fits};
+ghost use Rattle.reverse_debug.specs.Reading.{meant, is_quit, Fits};
 
 use crate::words::{address_of, are_words, first_word, is, number_of};
 
 /// What a line asks for.
 #[derive(Clone, Copy, Debug, PartialEq, Eq)]
-pub(crate) enum Request {
+pub(crate) enum Command {
     /// Move so many cycles forward.
     Step(u64),
     /// Move so many cycles back.
@@ -44,88 +44,88 @@ pub(crate) enum Request {
 }
 
 /// A command of one word.
-fn alone(name: &[u8]) -> Request
+fn alone(name: &[u8]) -> Command
     ensures meaning { meant result ≡ alone name.now }
     ensures fits { Fits result }
 {
     if is(name, b"step") {
-        Request::Step(1)
+        Command::Step(1)
     } else if is(name, b"back") {
-        Request::Back(1)
+        Command::Back(1)
     } else if is(name, b"end") {
-        Request::End
+        Command::End
     } else if is(name, b"regs") {
-        Request::Regs
+        Command::Regs
     } else if is(name, b"pins") {
-        Request::Pins
+        Command::Pins
     } else if is(name, b"quit") {
-        Request::Quit
+        Command::Quit
     } else {
-        Request::Bad
+        Command::Bad
     }
 }
 
 /// `mem` with its operands.
-fn mem_of(address: Option<u32>, count: Option<u64>) -> Request
+fn mem_of(address: Option<u32>, count: Option<u64>) -> Command
     ensures meaning { meant result ≡ mem_of address count }
     ensures fits { Fits result }
 {
     match (address, count) {
-        (Some(address), Some(count)) if are_words(address, count) => Request::Mem {
+        (Some(address), Some(count)) if are_words(address, count) => Command::Mem {
             address,
             count,
         },
-        _ => Request::Bad,
+        _ => Command::Bad,
     }
 }
 
 /// `lastwrite` with its operand.
-fn last_write_of(address: Option<u32>) -> Request
+fn last_write_of(address: Option<u32>) -> Command
     ensures meaning { meant result ≡ last_write_of address }
     ensures fits { Fits result }
 {
     match address {
-        Some(address) if are_words(address, 1) => Request::LastWrite(address),
-        _ => Request::Bad,
+        Some(address) if are_words(address, 1) => Command::LastWrite(address),
+        _ => Command::Bad,
     }
 }
 
 /// `pio` with its operands.
-fn pio_of(block: Option<u64>, machine: Option<u64>) -> Request
+fn pio_of(block: Option<u64>, machine: Option<u64>) -> Command
     ensures meaning { meant result ≡ pio_of block machine }
     ensures fits { Fits result }
 {
     match (block, machine) {
-        (Some(block), Some(machine)) if block <= 1 && machine <= 3 => Request::Pio {
+        (Some(block), Some(machine)) if block <= 1 && machine <= 3 => Command::Pio {
             block: block as u8,
             machine: machine as u8,
         },
-        _ => Request::Bad,
+        _ => Command::Bad,
     }
 }
 
 /// A command with one operand.
-fn with_one(name: &[u8], word: &[u8]) -> Request
+fn with_one(name: &[u8], word: &[u8]) -> Command
     ensures meaning { meant result ≡ with_one name.now word.now }
     ensures fits { Fits result }
 {
     if is(name, b"step") {
-        number_of(word).map_or(Request::Bad, Request::Step)
+        number_of(word).map_or(Command::Bad, Command::Step)
     } else if is(name, b"back") {
-        number_of(word).map_or(Request::Bad, Request::Back)
+        number_of(word).map_or(Command::Bad, Command::Back)
     } else if is(name, b"goto") {
-        number_of(word).map_or(Request::Bad, Request::Goto)
+        number_of(word).map_or(Command::Bad, Command::Goto)
     } else if is(name, b"mem") {
         mem_of(address_of(word), Some(1))
     } else if is(name, b"lastwrite") {
         last_write_of(address_of(word))
     } else {
-        Request::Bad
+        Command::Bad
     }
 }
 
 /// A command with two operands.
-fn with_two(name: &[u8], first: &[u8], second: &[u8]) -> Request
+fn with_two(name: &[u8], first: &[u8], second: &[u8]) -> Command
     ensures meaning { meant result ≡ with_two name.now first.now second.now }
     ensures fits { Fits result }
 {
@@ -134,18 +134,18 @@ fn with_two(name: &[u8], first: &[u8], second: &[u8]) -> Request
     } else if is(name, b"pio") {
         pio_of(number_of(first), number_of(second))
     } else {
-        Request::Bad
+        Command::Bad
     }
 }
 
 /// What a line asks for.
 #[tactic(auto, unfolding(crate::specs::Commands::command_of, crate::specs::Commands::command_by))]
-pub(crate) fn request_of(line: &[u8]) -> Request
+pub(crate) fn command_of(line: &[u8]) -> Command
     ensures meaning { meant result ≡ command_of line.now }
     ensures fits { Fits result }
 {
     if line.len() > 255 {
-        return Request::Bad;
+        return Command::Bad;
     }
     let Some((name, operands)) = first_word(line) else {
         return alone(line);
@@ -155,6 +155,13 @@ pub(crate) fn request_of(line: &[u8]) -> Request
     };
     match first_word(rest) {
         None => with_two(name, first, rest),
-        Some(_) => Request::Bad,
+        Some(_) => Command::Bad,
     }
+}
+
+/// The session goes on after this.
+pub(crate) fn goes_on(command: Command) -> bool
+    ensures { result ≡ not (is_quit (meant command)) }
+{
+    !matches!(command, Command::Quit)
 }

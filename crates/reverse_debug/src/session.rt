@@ -3,8 +3,10 @@
 ghost use Rattle.std.specs.Prelude.{◌≡◌, ◌≤◌, ◌<◌, ◌+◌, ◌-◌, ◌%◌, ◌^◌, ◌||◌, nat_lt, max};
 
 use crate::advance::advance;
+use crate::command::{Command, command_of, goes_on};
 use crate::last_change::last_change;
-use crate::reply::{Reply, put_cycle};
+use crate::reply::{Reply, put_cycle, put_last_write, put_pins, put_pio, put_registers, put_words};
+use arrayvec::ArrayVec;
 use lane_look::Device;
 use rp_base::Why;
 use rp_machine::{Machine, Steps, World};
@@ -70,11 +72,13 @@ impl Model for Session {
 }
 
 impl Session {
-    ghost use Rattle.std.specs.Prelude.{◌≡◌, ◌≤◌, ◌<◌, ◌+◌, IfOk, IfNone, []};
+    ghost use Rattle.std.specs.Prelude.{◌≡◌, ◌≤◌, ◌<◌, ◌+◌, IfOk, IfNone, not, []};
     ghost use Rattle.outer_lane.specs.Setting.{setting_of};
-    ghost use Rattle.reverse_debug.specs.Replies.{moved_to, moved_back, move_cost, last_write};
+    ghost use Rattle.reverse_debug.specs.Commands.{are_words};
+    ghost use Rattle.reverse_debug.specs.Reading.{meant, Fits};
+    ghost use Rattle.reverse_debug.specs.Replies.{heard, answer, cost, command_cost, moved_to, moved_back, move_cost, last_write};
     ghost use Rattle.reverse_debug.specs.Advance.{CountsMove};
-    ghost use Rattle.reverse_debug.specs.Standing.{first_of, StandsFor, OpensAt, GoesOn, Lands, Does};
+    ghost use Rattle.reverse_debug.specs.Standing.{first_of, StandsFor, OpensAt, StaysFor, GoesOn, Lands, Does};
 
     /// A session at the state of a machine before its first cycle, for runs up to a limit of at most 1,000,000,000 cycles. It takes
     /// the memory for 64 states that will be kept.
@@ -231,5 +235,75 @@ impl Session {
         let now = self.cycle();
         self.ring.restore(0, &mut self.machine);
         last_change(&mut self.machine, world, address, now, steps)
+    }
+
+    /// Does what a line asks for, and writes the reply.
+    fn obey<X: Device, L: Ledger>(
+        &mut self,
+        world: &World<'_, X>,
+        command: Command,
+        reply: &mut Reply,
+        steps: &mut Steps<L>,
+    )
+        requires stands { StandsFor (setting_of world.now.script.now (X.meaning world.now.device.now) world.now.limit) self.old }
+        requires fits { Fits command }
+        requires empty { reply.old.items ≡ [] }
+        ensures { let w = setting_of world.now.script.now (X.meaning world.now.device.now) world.now.limit in
+            let what = answer w (first_of self.old) self.old.now.cycle (meant command) in
+            Does w self.old what (command_cost self.old.ring.spacing self.old.now.cycle what.cycle (meant command)) self.new
+            reply.new.items steps.old steps.new }
+    {
+        let now = self.cycle();
+        match command {
+            Command::Step(cycles) => self.move_to(world, now + cycles, reply, steps),
+            Command::Back(cycles) => self.move_back(world, cycles, reply, steps),
+            Command::Goto(cycle) => self.move_to(world, cycle, reply, steps),
+            Command::End => self.move_to(world, self.limit + 1, reply, steps),
+            Command::Regs => put_registers(&self.machine, reply),
+            Command::Mem { address, count } => put_words(&self.machine, address, count, reply),
+            Command::Pins => put_pins(&self.machine, reply),
+            Command::Pio { block, machine } => put_pio(&self.machine, block, machine, reply),
+            Command::LastWrite(address) => {
+                let write = self.last_write(world, address, steps);
+                put_last_write(address, write, reply);
+            }
+            Command::Quit => {}
+            Command::Bad => push_text(b"bad command\n", reply),
+        }
+    }
+
+    /// Answers a line, without its LF and a CR before that, and leaves the lines of the reply with their LFs in `reply`. False
+    /// exactly for `quit`, which has no reply. It takes no memory.
+    ///
+    /// The session has to stand for the world that is handed in, as it does after `open` for each world of its limit, and after a
+    /// command for the same world.
+    #[tactic(auto, unfolding(crate::specs::Replies::heard, crate::specs::Replies::cost))]
+    pub fn command<X: Device, L: Ledger>(
+        &mut self,
+        world: &World<'_, X>,
+        line: &[u8],
+        reply: &mut ArrayVec<u8, 1024>,
+        steps: &mut Steps<L>,
+    ) -> bool
+        requires { StandsFor (setting_of world.now.script.now (X.meaning world.now.device.now) world.now.limit) self.old }
+        ensures stays { StaysFor (setting_of world.now.script.now (X.meaning world.now.device.now) world.now.limit)
+            self.old self.new }
+        ensures cycle { self.new.now.cycle
+            ≡ (heard (setting_of world.now.script.now (X.meaning world.now.device.now) world.now.limit)
+            (first_of self.old) self.old.now.cycle line.now).cycle }
+        ensures reply { reply.new.items
+            ≡ (heard (setting_of world.now.script.now (X.meaning world.now.device.now) world.now.limit)
+            (first_of self.old) self.old.now.cycle line.now).reply }
+        ensures quit { result
+            ≡ not (heard (setting_of world.now.script.now (X.meaning world.now.device.now) world.now.limit)
+            (first_of self.old) self.old.now.cycle line.now).quits }
+        ensures steps { steps.new ≤ steps.old
+            + cost (setting_of world.now.script.now (X.meaning world.now.device.now) world.now.limit)
+            (first_of self.old) self.old.ring.spacing self.old.now.cycle line.now }
+    {
+        let command = command_of(line);
+        reply.clear();
+        self.obey(world, command, reply, steps);
+        goes_on(command)
     }
 }

@@ -1,5 +1,5 @@
 use Rattle.reverse_debug.proofs.Reading.{many_words}
-use Rattle.reverse_debug.proofs.command.request_of.Goals as goal
+use Rattle.reverse_debug.proofs.command.command_of.Goals as goal
 
 pub returns-in-Some-first_word-2-clause-meaning : goal.returns-in-Some-first_word-2-clause-meaning
 returns-in-Some-first_word-2-clause-meaning c =
