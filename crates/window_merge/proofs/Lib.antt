@@ -7,6 +7,7 @@ pub mod InSram
 pub mod Keeping
 pub mod Lanes
 pub mod Ports
+pub mod Positions
 pub mod Resting
 pub mod Told
 pub mod Windows

@@ -1,4 +1,5 @@
 pub mod Around
 pub mod Lanes
+pub mod Laws
 pub mod Merging
 pub mod Window

@@ -3,10 +3,13 @@
 
 mod compare;
 pub mod copies;
+pub mod laws;
 pub mod merge;
 pub mod position;
 pub mod runs;
 pub mod sets;
+#[cfg(test)]
+mod tests;
 
 pub use copies::Copies;
 pub use merge::merge_runs;

@@ -14,11 +14,12 @@ use crate::copies::Copies;
 use crate::merge::{longest, merge_runs};
 use crate::runs::Runs;
 use dma_engine::Dma;
-use lane_look::{Device, Lane, Marks, Report, run_alone};
+use lane_look::{Device, Lane, Log, Marks, Report, run_alone};
 use m0_core::Core;
 use outer_lane::{Outer, World};
 use pio_block::PioBlock;
 use rp_machine::{Machine, Steps};
+use std::alloc::{AllocError, Global};
 use std::sync::ledger::Ledger;
 
 /// What a lane needs to run alone: copies of what it can ask, and a report.
@@ -210,4 +211,37 @@ pub fn window<X: Device, L: Ledger>(
     };
     let length = merge_runs(machine, world, &runs, marks, steps);
     (sets, length)
+}
+
+/// A set for a lane, with room for its log and for SRAM.
+fn set_of<S: Drop>(alloc: Global, before: S, after: S) -> Result<Set<S>, AllocError> {
+    Ok(Set {
+        copies: Copies::new(alloc)?,
+        report: Report {
+            start: 0,
+            length: 0,
+            before,
+            after,
+            log: Log::new(alloc)?,
+            marks: Marks::new(),
+        },
+    })
+}
+
+impl Sets {
+    /// Sets for the six lanes of a machine with this device. Nothing that uses them takes memory.
+    ///
+    /// # Errors
+    ///
+    /// Want of memory.
+    pub fn new<X: Device>(alloc: Global, device: &X) -> Result<Sets, AllocError> {
+        Ok(Sets {
+            core0: set_of(alloc, Core::new(0), Core::new(0))?,
+            core1: set_of(alloc, Core::new(1), Core::new(1))?,
+            dma: set_of(alloc, Dma::new(), Dma::new())?,
+            pio0: set_of(alloc, PioBlock::new(), PioBlock::new())?,
+            pio1: set_of(alloc, PioBlock::new(), PioBlock::new())?,
+            outer: set_of(alloc, Outer::new(device), Outer::new(device))?,
+        })
+    }
 }

@@ -1,0 +1,5 @@
+use Rattle.window_merge.specs.Merging.{IsRested}
+use Rattle.window_merge.proofs.tests.windows_of.Given as goal
+
+abbrev pub invariant-loop : goal.invariant-loop
+invariant-loop g l = record { rested : IsRested l.machine.sio }

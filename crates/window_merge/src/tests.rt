@@ -1,0 +1,126 @@
+//! Windows of a program: a DMA copy whose second read and first write meet on one bank.
+
+ghost use Rattle.std.specs.Prelude.{◌≡◌, ◌<◌};
+
+use crate::{Moved, Sets, advance};
+use arrayvec::ArrayVec;
+use lane_look::{Marks, NoDevice};
+use pin_script::read_script;
+use rp_base::Why;
+use rp_machine::{Machine, Steps, World};
+use std::alloc::Global;
+use std::marker::Brand;
+use std::sync::ledger::{Blank, Ledger};
+use std::test::Fail;
+use uf2_image::read_image;
+
+/// ADR of the words, LDM, a store that begins the copy, and a loop; then the words of the channel, and what is copied.
+const COPY: [u8; 36] = [
+    0x02, 0xa5, 0x50, 0x20, 0x00, 0x06, 0x1e, 0xcd, 0x1e, 0xc0, 0xfe, 0xe7, // the code
+    0x1c, 0x00, 0x00, 0x20, 0x00, 0x01, 0x00, 0x20, 0x02, 0x00, 0x00, 0x00, // from, to, two words
+    0x39, 0x80, 0x1f, 0x00, 0x44, 0x33, 0x22, 0x11, 0x88, 0x77, 0x66, 0x55, // CTRL; the words
+];
+
+/// The same from and to words that all lie in one bank, and three of them.
+const COPY_IN_A_BANK: [u8; 36] = [
+    0x02, 0xa5, 0x50, 0x20, 0x00, 0x06, 0x1e, 0xcd, 0x1e, 0xc0, 0xfe, 0xe7, // the code
+    0x00, 0x00, 0x00, 0x21, 0x40, 0x00, 0x00, 0x21, 0x03, 0x00, 0x00, 0x00, // from, to, three words
+    0x39, 0x80, 0x1f, 0x00, 0x44, 0x33, 0x22, 0x11, 0x88, 0x77, 0x66, 0x55, // CTRL; two words
+];
+
+/// The UF2 block of a program that is loaded at 20000000.
+fn block(code: &[u8; 36]) -> [u8; 512] {
+    let mut bytes = [0u8; 512];
+    let words = [
+        0x0a32_4655,
+        0x9e5d_5157,
+        0x2000,
+        0x2000_0000,
+        36,
+        0,
+        1,
+        0xe48b_ff56u32,
+    ];
+    for (place, word) in words.iter().enumerate() {
+        bytes[4 * place..4 * place + 4].copy_from_slice(&word.to_le_bytes());
+    }
+    bytes[32..68].copy_from_slice(code);
+    bytes[508..512].copy_from_slice(&u32::to_le_bytes(0x0ab1_6f30));
+    bytes
+}
+
+/// The lengths of the windows of a run, and the cycle at which it stops for its limit.
+fn windows_of<L: Ledger>(
+    alloc: Global,
+    blank: Blank,
+    code: &[u8; 36],
+    limit: u64,
+) -> Result<(ArrayVec<u16, 16>, u64), Fail>
+    requires name { blank.name ≡ L.name }
+    requires parts { blank.parts ≡ L.parts }
+    requires some { 0 < blank.parts }
+{
+    let (book, share) = blank.open::<L>();
+    let mut steps = Steps::new(book, share);
+    let image = read_image(alloc, &block(code))?;
+    let script = read_script(alloc, b"")?;
+    let world = World {
+        script: &script,
+        device: &NoDevice,
+        limit,
+    };
+    let mut machine = Machine::boot(alloc, &image, &[], &world)?;
+    let mut sets = Sets::new(alloc, &NoDevice)?;
+    let mut marks = Marks::new();
+    let mut lengths = ArrayVec::new();
+    let mut after_empty = false;
+    for _ in 0..40 {
+        if machine.number() > limit {
+            break;
+        }
+        let (again, moved) = advance(
+            &mut machine,
+            &world,
+            sets,
+            after_empty,
+            &mut marks,
+            &mut steps,
+        );
+        sets = again;
+        match moved {
+            Moved::Stopped(why) => {
+                return match why {
+                    Why::Limit => Ok((lengths, machine.number())),
+                    _ => Err("another stop".into()),
+                };
+            }
+            Moved::Window(length) => {
+                after_empty = length == 0;
+                if !lengths.is_full() {
+                    lengths.push(length);
+                }
+            }
+            Moved::Cycle => after_empty = false,
+        }
+    }
+    Err("no stop".into())
+}
+
+#[test]
+fn a_clash_closes_a_window(rt: HostRuntime) -> Result<(), Fail> {
+    let (lengths, at) = windows_of::<Brand>(rt.alloc(), Blank::new(1), &COPY, 100)?;
+    assert_eq!(rt; lengths.as_slice(), [9u16, 0, 0, 0, 0, 2, 0, 84].as_slice());
+    assert_eq!(rt; at, 100);
+    Ok(())
+}
+
+#[test]
+fn words_of_one_bank_close_more(rt: HostRuntime) -> Result<(), Fail> {
+    let (lengths, at) = windows_of::<Brand>(rt.alloc(), Blank::new(1), &COPY_IN_A_BANK, 100)?;
+    assert_eq!(rt;
+        lengths.as_slice(),
+        [9u16, 0, 0, 0, 0, 2, 0, 1, 0, 82].as_slice()
+    );
+    assert_eq!(rt; at, 100);
+    Ok(())
+}
