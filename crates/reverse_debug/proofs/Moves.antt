@@ -63,6 +63,7 @@ moved_there w old mid new target reply before after k land go there count is =
       stays = stays;
       cycle = there;
       said = is;
+      forward = omega arith;
       steps = move_within old.ring.spacing old.now.cycle mid.now.cycle target before after (omega arith) le land.back land.ahead;
     })
 
@@ -86,6 +87,7 @@ moved_stopped w old mid new target why reply before after k land go count is =
       stays = stays;
       cycle = refl;
       said = is;
+      forward = omega arith;
       steps = move_within old.ring.spacing old.now.cycle mid.now.cycle new.now.cycle before after count on (λ bad. absurd (omega arith)) (λ _. from);
     })
 
@@ -110,6 +112,7 @@ moved_to_start w old new back reply steps k land lt is =
       stays = land.stays;
       cycle = omega arith;
       said = is;
+      forward = omega arith;
       steps = omega arith;
     })
 
@@ -133,6 +136,7 @@ shown w old text reply steps most k is = record {
   stays = record { stands = k; first = refl; spacing = refl };
   cycle = refl;
   said = is;
+  forward = omega arith;
   steps = omega arith;
 }
 

@@ -75,4 +75,5 @@ pub record Does (w : Setting) (old : Standing) (what : Said) (most : ℕ) (new :
   pub stays : StaysFor w old new
   pub cycle : new.now.cycle ≡ what.cycle
   pub said : reply ≡ what.reply
+  pub forward : before ≤ after
   pub steps : after ≤ before + most

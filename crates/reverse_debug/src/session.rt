@@ -297,6 +297,7 @@ impl Session {
         ensures quit { result
             ≡ not (heard (setting_of world.now.script.now (X.meaning world.now.device.now) world.now.limit)
             (first_of self.old) self.old.now.cycle line.now).quits }
+        ensures forward { steps.old ≤ steps.new }
         ensures steps { steps.new ≤ steps.old
             + cost (setting_of world.now.script.now (X.meaning world.now.device.now) world.now.limit)
             (first_of self.old) self.old.ring.spacing self.old.now.cycle line.now }
