@@ -1,0 +1,161 @@
+//! Sessions over two small programs: one that stores a word and stands in a loop, and one in which the DMA engine copies.
+
+ghost use Rattle.std.specs.Prelude.{◌≡◌, ◌≤◌, ◌<◌};
+ghost use Rattle.outer_lane.specs.Setting.{setting_of};
+ghost use Rattle.reverse_debug.specs.Standing.{StandsFor};
+
+use crate::Session;
+use arrayvec::ArrayVec;
+use lane_look::{Device, NoDevice};
+use pin_script::read_script;
+use rp_machine::{Machine, Steps, World};
+use std::alloc::Global;
+use std::marker::Brand;
+use std::sync::ledger::{Blank, Ledger};
+use std::test::Fail;
+use uf2_image::read_image;
+
+/// A line, and its reply.
+type Row = (&'static [u8], &'static [u8]);
+
+/// LDR of the address 20000100, a store to it, a branch to itself.
+const STORES_ONCE: [u32; 9] = [0x6000_4801, 0x0000_e7fe, 0x2000_0100, 0, 0, 0, 0, 0, 0];
+
+/// What is answered over 10000 cycles of it. The last line is not heard.
+const STORED: [Row; 21] = [
+    (b"goto 5000", b"at 5000\n"),
+    (b"back 1", b"at 4999\n"),
+    (
+        b"regs",
+        b"core0 20000100 00000000 00000000 00000000 00000000 00000000 00000000 00000000 \
+        00000000 00000000 00000000 00000000 00000000 20042000 ffffffff 20000004 01000000\n\
+        core1 asleep\n",
+    ),
+    (b"lastwrite 20000100", b"lastwrite 20000100 3\n"),
+    (b"goto 4096", b"at 4096\n"),
+    (b"back", b"at 4095\n"),
+    (b"step 2", b"at 4097\n"),
+    (b"mem 20000100 2", b"mem 20000100 20000100 00000000\n"),
+    (b"pins", b"pins 000000000000000000000000000000\n"),
+    (
+        b"pio 1 3",
+        b"pio 1 3 00 00000000 00000000 00000000 00000000\n",
+    ),
+    (b"back 4097", b"at 0\n"),
+    (b"step", b"at 1\n"),
+    (b"back 5000", b"at start\n"),
+    (b"lastwrite 20000100", b"lastwrite 20000100 none\n"),
+    (b"goto 20000", b"stop limit 10000\n"),
+    (b"jump", b"bad command\n"),
+    (b"back 0", b"at 10000\n"),
+    (b"step", b"stop limit 10000\n"),
+    (b"end", b"stop limit 10000\n"),
+    (b"quit", b""),
+    (b"regs", b""),
+];
+
+/// A copy of three words by the DMA engine, in which all reads and writes are on one bank.
+const COPIES: [u32; 9] = [
+    0x2050_a502,
+    0xcd1e_0600,
+    0xe7fe_c01e,
+    0x2100_0000,
+    0x2100_0040,
+    0x0000_0003,
+    0x001f_8039,
+    0x1122_3344,
+    0x5566_7788,
+];
+
+/// What is answered over 100 cycles of it.
+const COPIED: [Row; 5] = [
+    (b"goto 30", b"at 30\n"),
+    (b"lastwrite 20000100", b"lastwrite 20000100 15\n"),
+    (b"lastwrite 20000110", b"lastwrite 20000110 17\n"),
+    (b"lastwrite 20000120", b"lastwrite 20000120 19\n"),
+    (b"", b"bad command\n"),
+];
+
+/// The UF2 block of a program that is loaded at 20000000.
+fn block(code: &[u32; 9]) -> [u8; 512] {
+    let mut bytes = [0u8; 512];
+    let words = [
+        0x0a32_4655,
+        0x9e5d_5157,
+        0x2000,
+        0x2000_0000,
+        36,
+        0,
+        1,
+        0xe48b_ff56u32,
+    ];
+    for (place, word) in words.iter().enumerate() {
+        bytes[4 * place..4 * place + 4].copy_from_slice(&word.to_le_bytes());
+    }
+    for (place, word) in code.iter().enumerate() {
+        bytes[32 + 4 * place..36 + 4 * place].copy_from_slice(&word.to_le_bytes());
+    }
+    bytes[508..512].copy_from_slice(&u32::to_le_bytes(0x0ab1_6f30));
+    bytes
+}
+
+/// The first row whose reply is another or that ends the session, and whether its reply is right; else the number of rows.
+fn end_of<X: Device, L: Ledger>(
+    session: &mut Session,
+    world: &World<'_, X>,
+    rows: &[Row],
+    steps: &mut Steps<L>,
+) -> (usize, bool)
+    requires { StandsFor (setting_of world.now.script.now (X.meaning world.now.device.now) world.now.limit) session.old }
+{
+    let mut reply = ArrayVec::<u8, 1024>::new();
+    'rows: for (place, (line, expected)) in rows.iter().enumerate() {
+        let goes_on = session.command(world, line, &mut reply, steps);
+        let right = reply.as_slice() == *expected;
+        if !goes_on || !right {
+            return (place, right);
+        }
+    }
+    (rows.len(), true)
+}
+
+/// Where a session ends over a program.
+fn session_of<L: Ledger>(
+    alloc: Global,
+    blank: Blank,
+    code: &[u32; 9],
+    limit: u64,
+    rows: &[Row],
+) -> Result<(usize, bool), Fail>
+    requires name { blank.name ≡ L.name }
+    requires parts { blank.parts ≡ L.parts }
+    requires some { 0 < blank.parts }
+    requires limit { limit ≤ 10000 }
+{
+    let (book, share) = blank.open::<L>();
+    let mut steps = Steps::new(book, share);
+    let image = read_image(alloc, &block(code))?;
+    let script = read_script(alloc, b"")?;
+    let world = World {
+        script: &script,
+        device: &NoDevice,
+        limit,
+    };
+    let machine = Machine::boot(alloc, &image, &[], &world)?;
+    let mut session = Session::open(alloc, &machine, limit)?;
+    Ok(end_of(&mut session, &world, rows, &mut steps))
+}
+
+#[test]
+fn each_command_is_answered(rt: HostRuntime) -> Result<(), Fail> {
+    let end = session_of::<Brand>(rt.alloc(), Blank::new(1), &STORES_ONCE, 10_000, &STORED)?;
+    assert_eq!(rt; end, (19, true));
+    Ok(())
+}
+
+#[test]
+fn the_last_write_of_a_copy(rt: HostRuntime) -> Result<(), Fail> {
+    let end = session_of::<Brand>(rt.alloc(), Blank::new(1), &COPIES, 100, &COPIED)?;
+    assert_eq!(rt; end, (5, true));
+    Ok(())
+}
