@@ -19,7 +19,8 @@ pub(crate) fn advance<X: Device, L: Ledger>(
 ) -> Option<Why>
     requires low { machine.old.cycle ≤ world.now.limit }
     requires ahead { machine.old.cycle ≤ to }
-    ensures way { Advances (setting_of world.now.script.now (X.meaning world.now.device.now) world.now.limit)
+    ensures way { Advances
+        (setting_of world.now.script.now (X.meaning world.now.device.now) world.now.limit)
         machine.old to machine.new result }
     ensures steps { CountsMove machine.old machine.new steps.old steps.new }
 {

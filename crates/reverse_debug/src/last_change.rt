@@ -28,11 +28,17 @@ pub(crate) fn last_change<X: Device, L: Ledger>(
     steps: &mut Steps<L>,
 ) -> Option<u64>
     requires start { machine.old.cycle ≡ 0 }
-    requires to { to ≤ last_cycle (setting_of world.now.script.now (X.meaning world.now.device.now) world.now.limit) machine.old }
+    requires to { to ≤ last_cycle
+        (setting_of world.now.script.now (X.meaning world.now.device.now) world.now.limit)
+        machine.old }
     ensures state { machine.new
-        ≡ states (setting_of world.now.script.now (X.meaning world.now.device.now) world.now.limit) machine.old to }
+        ≡ states
+        (setting_of world.now.script.now (X.meaning world.now.device.now) world.now.limit)
+        machine.old to }
     ensures write { result
-        ≡ last_write (setting_of world.now.script.now (X.meaning world.now.device.now) world.now.limit) machine.old address to }
+        ≡ last_write
+        (setting_of world.now.script.now (X.meaning world.now.device.now) world.now.limit)
+        machine.old address to }
     ensures steps { steps.new ≡ steps.old + to }
 {
     let mut last = None;

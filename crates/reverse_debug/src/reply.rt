@@ -53,7 +53,9 @@ fn push_words(machine: &Machine, address: u32, count: u64, reply: &mut Reply)
     requires room { array_vec_len reply.old ≤ 100 }
     requires few { count ≤ 16 }
     requires low { address + 4 * count < 2 ^ 32 }
-    ensures text { reply.new.items ≡ reply.old.items ++ flat_map (λ a. spaced_word (word_at machine.now a)) (addresses address count) }
+    ensures text { reply.new.items
+        ≡ reply.old.items
+        ++ flat_map (λ a. spaced_word (word_at machine.now a)) (addresses address count) }
     ensures short { array_vec_len reply.new ≤ 300 }
 {
     let mut next = address;
@@ -88,7 +90,8 @@ fn level_digit(high: bool) -> u8
 /// A digit for each pad, pad 0 first.
 fn push_levels(pads: u32, reply: &mut Reply)
     requires { array_vec_len reply.old ≤ 100 }
-    ensures text { reply.new.items ≡ reply.old.items ++ flat_map (λ pin. level_digit (has_bit pads pin)) (range_with_len 0 30) }
+    ensures text { reply.new.items
+        ≡ reply.old.items ++ flat_map (λ pin. level_digit (has_bit pads pin)) (range_with_len 0 30) }
     ensures short { array_vec_len reply.new ≤ 130 }
 {
     for pin in 0..30 {

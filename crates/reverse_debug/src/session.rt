@@ -110,8 +110,11 @@ impl Session {
 
     /// Restores the nearest kept state, where the machine is beyond the target, or before that state.
     fn jump<X: Device>(&mut self, world: &World<'_, X>, target: u64)
-        requires { StandsFor (setting_of world.now.script.now (X.meaning world.now.device.now) world.now.limit) self.old }
-        ensures { Lands (setting_of world.now.script.now (X.meaning world.now.device.now) world.now.limit)
+        requires { StandsFor
+            (setting_of world.now.script.now (X.meaning world.now.device.now) world.now.limit)
+            self.old }
+        ensures { Lands
+            (setting_of world.now.script.now (X.meaning world.now.device.now) world.now.limit)
             self.old target self.new }
     {
         let _world = world;
@@ -134,9 +137,12 @@ impl Session {
         to: u64,
         steps: &mut Steps<L>,
     ) -> Option<Why>
-        requires stands { StandsFor (setting_of world.now.script.now (X.meaning world.now.device.now) world.now.limit) self.old }
+        requires stands { StandsFor
+            (setting_of world.now.script.now (X.meaning world.now.device.now) world.now.limit)
+            self.old }
         requires ahead { self.old.now.cycle < to }
-        ensures way { GoesOn (setting_of world.now.script.now (X.meaning world.now.device.now) world.now.limit)
+        ensures way { GoesOn
+            (setting_of world.now.script.now (X.meaning world.now.device.now) world.now.limit)
             self.old to self.new result }
         ensures nearer { IfNone result (self.old.now.cycle < self.new.now.cycle) }
         ensures steps { CountsMove self.old.now self.new.now steps.old steps.new }
@@ -157,9 +163,12 @@ impl Session {
         to: u64,
         steps: &mut Steps<L>,
     ) -> Option<Why>
-        requires stands { StandsFor (setting_of world.now.script.now (X.meaning world.now.device.now) world.now.limit) self.old }
+        requires stands { StandsFor
+            (setting_of world.now.script.now (X.meaning world.now.device.now) world.now.limit)
+            self.old }
         requires ahead { self.old.now.cycle ≤ to }
-        ensures way { GoesOn (setting_of world.now.script.now (X.meaning world.now.device.now) world.now.limit)
+        ensures way { GoesOn
+            (setting_of world.now.script.now (X.meaning world.now.device.now) world.now.limit)
             self.old to self.new result }
         ensures there { IfNone result (self.new.now.cycle ≡ to) }
         ensures steps { CountsMove self.old.now self.new.now steps.old steps.new }
@@ -181,11 +190,14 @@ impl Session {
         reply: &mut Reply,
         steps: &mut Steps<L>,
     )
-        requires stands { StandsFor (setting_of world.now.script.now (X.meaning world.now.device.now) world.now.limit) self.old }
+        requires stands { StandsFor
+            (setting_of world.now.script.now (X.meaning world.now.device.now) world.now.limit)
+            self.old }
         requires empty { reply.old.items ≡ [] }
         ensures { let w = setting_of world.now.script.now (X.meaning world.now.device.now) world.now.limit in
             let what = moved_to w (first_of self.old) target in
-            Does w self.old what (move_cost self.old.ring.spacing self.old.now.cycle what.cycle) self.new reply.new.items
+            Does w self.old what (move_cost self.old.ring.spacing self.old.now.cycle what.cycle)
+            self.new reply.new.items
             steps.old steps.new }
     {
         self.jump(world, target);
@@ -203,11 +215,14 @@ impl Session {
         reply: &mut Reply,
         steps: &mut Steps<L>,
     )
-        requires stands { StandsFor (setting_of world.now.script.now (X.meaning world.now.device.now) world.now.limit) self.old }
+        requires stands { StandsFor
+            (setting_of world.now.script.now (X.meaning world.now.device.now) world.now.limit)
+            self.old }
         requires empty { reply.old.items ≡ [] }
         ensures { let w = setting_of world.now.script.now (X.meaning world.now.device.now) world.now.limit in
             let what = moved_back w (first_of self.old) self.old.now.cycle cycles in
-            Does w self.old what (move_cost self.old.ring.spacing self.old.now.cycle what.cycle) self.new reply.new.items
+            Does w self.old what (move_cost self.old.ring.spacing self.old.now.cycle what.cycle)
+            self.new reply.new.items
             steps.old steps.new }
     {
         let now = self.cycle();
@@ -226,8 +241,11 @@ impl Session {
         address: u32,
         steps: &mut Steps<L>,
     ) -> Option<u64>
-        requires { StandsFor (setting_of world.now.script.now (X.meaning world.now.device.now) world.now.limit) self.old }
-        ensures write { result ≡ last_write (setting_of world.now.script.now (X.meaning world.now.device.now) world.now.limit)
+        requires { StandsFor
+            (setting_of world.now.script.now (X.meaning world.now.device.now) world.now.limit)
+            self.old }
+        ensures write { result ≡ last_write
+            (setting_of world.now.script.now (X.meaning world.now.device.now) world.now.limit)
             (first_of self.old) address self.old.now.cycle }
         ensures same { self.new ≡ self.old }
         ensures steps { steps.new ≡ steps.old + self.old.now.cycle }
@@ -245,12 +263,15 @@ impl Session {
         reply: &mut Reply,
         steps: &mut Steps<L>,
     )
-        requires stands { StandsFor (setting_of world.now.script.now (X.meaning world.now.device.now) world.now.limit) self.old }
+        requires stands { StandsFor
+            (setting_of world.now.script.now (X.meaning world.now.device.now) world.now.limit)
+            self.old }
         requires fits { Fits command }
         requires empty { reply.old.items ≡ [] }
         ensures { let w = setting_of world.now.script.now (X.meaning world.now.device.now) world.now.limit in
             let what = answer w (first_of self.old) self.old.now.cycle (meant command) in
-            Does w self.old what (command_cost self.old.ring.spacing self.old.now.cycle what.cycle (meant command)) self.new
+            Does w self.old what
+            (command_cost self.old.ring.spacing self.old.now.cycle what.cycle (meant command)) self.new
             reply.new.items steps.old steps.new }
     {
         let now = self.cycle();
@@ -285,21 +306,28 @@ impl Session {
         reply: &mut ArrayVec<u8, 1024>,
         steps: &mut Steps<L>,
     ) -> bool
-        requires { StandsFor (setting_of world.now.script.now (X.meaning world.now.device.now) world.now.limit) self.old }
-        ensures stays { StaysFor (setting_of world.now.script.now (X.meaning world.now.device.now) world.now.limit)
+        requires { StandsFor
+            (setting_of world.now.script.now (X.meaning world.now.device.now) world.now.limit)
+            self.old }
+        ensures stays { StaysFor
+            (setting_of world.now.script.now (X.meaning world.now.device.now) world.now.limit)
             self.old self.new }
         ensures cycle { self.new.now.cycle
-            ≡ (heard (setting_of world.now.script.now (X.meaning world.now.device.now) world.now.limit)
+            ≡ (heard
+            (setting_of world.now.script.now (X.meaning world.now.device.now) world.now.limit)
             (first_of self.old) self.old.now.cycle line.now).cycle }
         ensures reply { reply.new.items
-            ≡ (heard (setting_of world.now.script.now (X.meaning world.now.device.now) world.now.limit)
+            ≡ (heard
+            (setting_of world.now.script.now (X.meaning world.now.device.now) world.now.limit)
             (first_of self.old) self.old.now.cycle line.now).reply }
         ensures quit { result
-            ≡ not (heard (setting_of world.now.script.now (X.meaning world.now.device.now) world.now.limit)
+            ≡ not (heard
+            (setting_of world.now.script.now (X.meaning world.now.device.now) world.now.limit)
             (first_of self.old) self.old.now.cycle line.now).quits }
         ensures forward { steps.old ≤ steps.new }
         ensures steps { steps.new ≤ steps.old
-            + cost (setting_of world.now.script.now (X.meaning world.now.device.now) world.now.limit)
+            + cost
+            (setting_of world.now.script.now (X.meaning world.now.device.now) world.now.limit)
             (first_of self.old) self.old.ring.spacing self.old.now.cycle line.now }
     {
         let command = command_of(line);

@@ -106,7 +106,9 @@ fn end_of<X: Device, L: Ledger>(
     rows: &[Row],
     steps: &mut Steps<L>,
 ) -> (usize, bool)
-    requires { StandsFor (setting_of world.now.script.now (X.meaning world.now.device.now) world.now.limit) session.old }
+    requires { StandsFor
+        (setting_of world.now.script.now (X.meaning world.now.device.now) world.now.limit)
+        session.old }
 {
     let mut reply = ArrayVec::<u8, 1024>::new();
     'rows: for (place, (line, expected)) in rows.iter().enumerate() {

@@ -18,7 +18,8 @@ fn first_space(line: &[u8]) -> Option<usize>
 
 /// The first word of a line and what follows its space; none where the line is one word.
 pub(crate) fn first_word(line: &[u8]) -> Option<(&[u8], &[u8])>
-    ensures { MatchOption result (words line.now ≡ line.now ∷ []) (λ parts. words line.now ≡ parts.0.now ∷ words parts.1.now) }
+    ensures { MatchOption result (words line.now ≡ line.now ∷ [])
+        (λ parts. words line.now ≡ parts.0.now ∷ words parts.1.now) }
 {
     let end = first_space(line)?;
     Some((&line[..end], &line[end + 1..]))
@@ -34,7 +35,9 @@ pub(crate) fn is(word: &[u8], name: &[u8]) -> bool
 /// The value of at most 10 decimal digits.
 fn decimal(word: &[u8]) -> Option<u64>
     requires { length word.now ≤ 10 }
-    ensures value { result ≡ (if list_all is_ascii_digit word.now then Some (value_in 10 decimal_digit word.now) else None) }
+    ensures value { result
+        ≡ (if list_all is_ascii_digit word.now
+        then Some (value_in 10 decimal_digit word.now) else None) }
     ensures bound { IfSome result (λ n. n < 10 ^ length word.now) }
 {
     let mut value: u64 = 0;
@@ -76,7 +79,9 @@ fn hexadecimal_digit(digit: u8) -> u64
 /// The value of 8 hexadecimal digits.
 fn hexadecimal(word: &[u8]) -> Option<u32>
     requires { length word.now ≡ 8 }
-    ensures { result ≡ (if list_all is_ascii_hexdigit word.now then Some (value_in 16 hexadecimal_digit word.now) else None) }
+    ensures { result
+        ≡ (if list_all is_ascii_hexdigit word.now
+        then Some (value_in 16 hexadecimal_digit word.now) else None) }
 {
     let mut value: u64 = 0;
     for digit in word {
