@@ -5,12 +5,17 @@ use Rattle.command_words.specs.Numbers.{begins_with, number_within}
 
 -- the commands, by their words
 abbrev pub is_command : List ℕ → Bool
-is_command command = bytes_eq command (codes "run") || bytes_eq command (codes "dis") || bytes_eq command (codes "asm")
+is_command command =
+    bytes_eq command (codes "run") || bytes_eq command (codes "debug") || bytes_eq command (codes "dis") || bytes_eq command (codes "asm")
+
+-- the commands that run an image
+abbrev pub is_run : List ℕ → Bool
+is_run command = bytes_eq command (codes "run") || bytes_eq command (codes "debug")
 
 -- the names of the options that a command has
 abbrev pub is_option : List ℕ → List ℕ → Bool
 is_option command name =
-    if bytes_eq command (codes "run")
+    if is_run command
     then bytes_eq name (codes "--cycles") || bytes_eq name (codes "--script") || bytes_eq name (codes "--pio")
     else if bytes_eq command (codes "dis") then bytes_eq name (codes "--side") || bytes_eq name (codes "--opt") else false
 

@@ -11,7 +11,7 @@ use Rattle.command_words.specs.declared.words.WordsFault.{WordsFault}
 use Rattle.command_words.specs.declared.words.WordsFault.TheVariants.{Words, Memory}
 use Rattle.command_words.specs.Entries.{Entry}
 use Rattle.command_words.specs.Words.{Run, Command}
-use Rattle.command_words.specs.Words.Command.{RunImage, Disassemble, Assemble}
+use Rattle.command_words.specs.Words.Command.{RunImage, DebugImage, Disassemble, Assemble}
 
 -- the entry that the words of one stand for
 abbrev pub entry_in : PioEntry → Entry
@@ -29,6 +29,7 @@ run_in r = record {
 -- the command that a reading stands for
 abbrev pub command_in : Reading → Command
 command_in (readings.Run r) = RunImage (run_in r)
+command_in (readings.Debug r) = DebugImage (run_in r)
 command_in (readings.Dis d) = Disassemble d.words.items d.side
 command_in (readings.Asm name) = Assemble (string_bytes name)
 
@@ -37,6 +38,12 @@ abbrev pub ReadsAs : Option Command → Result Reading WordsFault → Type 0
 ReadsAs command (Ok r) = command ≡ Some (command_in r)
 ReadsAs command (Err Words) = command ≡ None
 ReadsAs command (Err Memory) = Unit {0}
+
+-- the words of a run are these, or Words where there are none; Memory says nothing
+abbrev pub ReadsRun : Option Run → Result RunWords WordsFault → Type 0
+ReadsRun run (Ok r) = run ≡ Some (run_in r)
+ReadsRun run (Err Words) = run ≡ None
+ReadsRun run (Err Memory) = Unit {0}
 
 -- the entries of a list are these, or Words where it is none; Memory says nothing
 abbrev pub ReadsEntries : Option (List Entry) → Result (Vec PioEntry Global) WordsFault → Type 0

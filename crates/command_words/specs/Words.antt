@@ -1,7 +1,7 @@
--- The words of a command line, and what they ask for: `run <image> --cycles N [--script FILE] [--pio LIST]`,
--- `dis <hex> [--side S] [--opt T]` or `asm <file>`. The project's own.
-use Rattle.std.specs.Prelude.{ℕ, if◌then◌else◌, List, [], ◌∷◌, Option, Some, None, codes}
-use Rattle.std.specs.Option.{option_and_then}
+-- The words of a command line, and what they ask for: `run <image> --cycles N [--script FILE] [--pio LIST]`, `debug` with the same
+-- words, `dis <hex> [--side S] [--opt T]` or `asm <file>`. The project's own.
+use Rattle.std.specs.Prelude.{ℕ, ◌≤◌, if◌then◌else◌, List, [], ◌∷◌, Option, Some, None, codes}
+use Rattle.std.specs.Option.{option_and_then, option_map}
 use Rattle.std.specs.Str.{bytes_eq}
 use Rattle.pio_words.specs.declared.side.SideConfig.{SideConfig}
 use Rattle.line_words.specs.Line.{line_in}
@@ -17,9 +17,10 @@ pub record Run : Type 0 where
   pub script : Option (List ℕ)
   pub pio : List Entry
 
--- what the words may ask for: a run, the source text of instruction words, or the listing of a source
+-- what the words may ask for: a run, the debugger on a run, the source text of instruction words, or the listing of a source
 pub data Command : Type 0 where
   RunImage : (run : Run) → Command
+  DebugImage : (run : Run) → Command
   Disassemble : (words : List ℕ) → (side : SideConfig) → Command
   Assemble : (source : List ℕ) → Command
 
@@ -38,13 +39,13 @@ pio_in options = entries_or_none (value_for (codes "--pio") options)
 abbrev pub script_in : List (List ℕ) → Option (List ℕ)
 script_in options = value_for (codes "--script") options
 
-abbrev pub run_with : List ℕ → Option ℕ → Option (List ℕ) → Option (List Entry) → Option Command
+abbrev pub run_with : List ℕ → Option ℕ → Option (List ℕ) → Option (List Entry) → Option Run
 run_with image None script pio = None
 run_with image (Some n) script None = None
-run_with image (Some n) script (Some entries) = Some (RunImage (record { image = image; cycles = n; script = script; pio = entries }))
+run_with image (Some n) script (Some entries) = Some (record { image = image; cycles = n; script = script; pio = entries })
 
--- `run <image> --cycles N [--script FILE] [--pio LIST]`
-unfoldable pub run_reading : List ℕ → List (List ℕ) → Option Command
+-- `<image> --cycles N [--script FILE] [--pio LIST]`
+unfoldable pub run_reading : List ℕ → List (List ℕ) → Option Run
 run_reading image options = run_with image (cycles_in options) (script_in options) (pio_in options)
 
 abbrev pub disassemble : Option (List ℕ) → Option SideConfig → Option Command
@@ -61,7 +62,8 @@ unfoldable pub written : List (List ℕ) → Option Command
 written [] = None
 written (command ∷ []) = None
 written (command ∷ argument ∷ options) =
-    if bytes_eq command (codes "run") then run_reading argument options
+    if bytes_eq command (codes "run") then option_map RunImage (run_reading argument options)
+    else if bytes_eq command (codes "debug") then option_map DebugImage (run_reading argument options)
     else if bytes_eq command (codes "dis") then dis_reading argument options
     else if bytes_eq command (codes "asm") then Some (Assemble argument) else None
 
@@ -69,3 +71,10 @@ written (command ∷ argument ∷ options) =
 -- `clap` reads them.
 unfoldable pub reading : List (List ℕ) → Option Command
 reading words = if is_normal words then written words else option_and_then written (line_in words)
+
+-- a run that is asked for has at most 1,000,000,000 cycles
+abbrev pub IsLimited : Command → Type 0
+IsLimited (RunImage run) = run.cycles ≤ 1000000000
+IsLimited (DebugImage run) = run.cycles ≤ 1000000000
+IsLimited (Disassemble words side) = Unit {0}
+IsLimited (Assemble source) = Unit {0}

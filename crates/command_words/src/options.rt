@@ -11,7 +11,7 @@ use crate::number::number_within;
 fn is_command(word: &str) -> bool
     ensures { result ≡ is_command word.now }
 {
-    word == "run" || word == "dis" || word == "asm"
+    word == "run" || word == "debug" || word == "dis" || word == "asm"
 }
 
 /// Whether a command has an option of this name.
@@ -19,7 +19,7 @@ fn is_option(command: &str, name: &str) -> bool
     ensures { result ≡ is_option command.now name.now }
 {
     match command {
-        "run" => name == "--cycles" || name == "--script" || name == "--pio",
+        "run" | "debug" => name == "--cycles" || name == "--script" || name == "--pio",
         "dis" => name == "--side" || name == "--opt",
         _ => false,
     }

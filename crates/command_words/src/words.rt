@@ -4,8 +4,8 @@ ghost use Rattle.std.specs.Prelude.{◌≡◌, map, Some, IfOk};
 ghost use Rattle.std.specs.Option.{option_map};
 ghost use Rattle.std.specs.String.{string_bytes};
 ghost use Rattle.command_words.specs.Words.{run_with, cycles_in, script_in, pio_in, run_reading, dis_reading, written, reading};
-ghost use Rattle.command_words.specs.Words.Command.{Assemble};
-ghost use Rattle.command_words.specs.Read.{ReadsAs, ReadsEntries, entry_in};
+ghost use Rattle.command_words.specs.Words.Command.{RunImage, DebugImage, Assemble};
+ghost use Rattle.command_words.specs.Read.{ReadsAs, ReadsRun, ReadsEntries, entry_in};
 
 use crate::dis::{DisWords, instruction_words, side_config};
 use crate::entries::entries_in;
@@ -33,6 +33,8 @@ pub struct RunWords {
 pub enum Reading {
     /// A run of an image.
     Run(RunWords),
+    /// The debugger on a run of an image.
+    Debug(RunWords),
     /// The source text of instruction words.
     Dis(DisWords),
     /// The listing of the source file of this name.
@@ -89,34 +91,54 @@ fn owned(
     cycles: u64,
     options: &[String],
     pio: Vec<PioEntry>,
-) -> Result<Reading, WordsFault>
-    ensures { ReadsAs (run_with image.now (Some cycles) (script_in (map string_bytes options.now))
+) -> Result<RunWords, WordsFault>
+    ensures { ReadsRun (run_with image.now (Some cycles) (script_in (map string_bytes options.now))
         (Some (map entry_in pio.items))) result }
 {
     let Ok(image) = String::from_str(alloc, image) else {
         return Err(WordsFault::Memory);
     };
     match script_in(alloc, options) {
-        Ok(script) => Ok(Reading::Run(RunWords {
+        Ok(script) => Ok(RunWords {
             image,
             cycles,
             script,
             pio,
-        })),
+        }),
         Err(_) => Err(WordsFault::Memory),
     }
 }
 
-/// Reads `run <image> --cycles N [--script FILE] [--pio LIST]`.
+/// Reads `<image> --cycles N [--script FILE] [--pio LIST]`.
 #[tactic(auto, unfolding(crate::specs::Words::run_reading))]
-fn read_run(alloc: Global, image: &str, options: &[String]) -> Result<Reading, WordsFault>
-    ensures { ReadsAs (run_reading image.now (map string_bytes options.now)) result }
+fn run_words(alloc: Global, image: &str, options: &[String]) -> Result<RunWords, WordsFault>
+    ensures { ReadsRun (run_reading image.now (map string_bytes options.now)) result }
 {
     let Some(cycles) = cycles_in(options) else {
         return Err(WordsFault::Words);
     };
     match pio_in(alloc, options) {
         Ok(pio) => owned(alloc, image, cycles, options, pio),
+        Err(fault) => Err(fault),
+    }
+}
+
+/// Reads `run` with the words of a run.
+fn read_run(alloc: Global, image: &str, options: &[String]) -> Result<Reading, WordsFault>
+    ensures { ReadsAs (option_map RunImage (run_reading image.now (map string_bytes options.now))) result }
+{
+    match run_words(alloc, image, options) {
+        Ok(run) => Ok(Reading::Run(run)),
+        Err(fault) => Err(fault),
+    }
+}
+
+/// Reads `debug` with the words of a run.
+fn read_debug(alloc: Global, image: &str, options: &[String]) -> Result<Reading, WordsFault>
+    ensures { ReadsAs (option_map DebugImage (run_reading image.now (map string_bytes options.now))) result }
+{
+    match run_words(alloc, image, options) {
+        Ok(run) => Ok(Reading::Debug(run)),
         Err(fault) => Err(fault),
     }
 }
@@ -156,14 +178,15 @@ fn read_written(alloc: Global, words: &[String]) -> Result<Reading, WordsFault>
     };
     match command.as_str() {
         "run" => read_run(alloc, argument.as_str(), options),
+        "debug" => read_debug(alloc, argument.as_str(), options),
         "dis" => read_dis(alloc, argument.as_str(), options),
         "asm" => read_asm(alloc, argument.as_str()),
         _ => Err(WordsFault::Words),
     }
 }
 
-/// Reads `run <image> --cycles N [--script FILE] [--pio LIST]`, `dis <hex> [--side S] [--opt T]` or `asm <file>`. Words in this
-/// form, the options in any order and each at most once, are read as they are written, all others as `clap` reads them.
+/// Reads `run <image> --cycles N [--script FILE] [--pio LIST]`, `debug` with the same words, `dis <hex> [--side S] [--opt T]` or
+/// `asm <file>`. Words in this form, the options in any order and each at most once, are read as they are written, all others as `clap` reads them.
 ///
 /// # Errors
 ///

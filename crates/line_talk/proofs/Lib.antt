@@ -1,3 +1,4 @@
 pub mod LineLists
+pub mod Sessions
 pub mod Takings
 pub mod Talks

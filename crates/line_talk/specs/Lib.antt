@@ -1,3 +1,4 @@
+pub mod Debugger
 pub mod Hearing
 pub mod Lines
 pub mod Talk

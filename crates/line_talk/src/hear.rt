@@ -1,19 +1,28 @@
-//! Lines from a source: each is answered before more is taken.
+//! Lines from a source for the debugger: each is answered before more is taken.
 
 ghost use Rattle.std.specs.Prelude.{◌≡◌, ◌<◌, ◌≤◌, ◌+◌, ◌++◌, ◌∷◌, [], ℕ, List, Option, true, false, not, length, take, if◌then◌else◌, IfOk, OnErr};
 ghost use Rattle.std.specs.Str.Lines.{strip_carriage_return};
 ghost use Rattle.arrayvec.specs.ArrayVec.{array_vec_len};
 ghost use Rattle.trace_text.specs.Sent.{Sends};
+ghost use Rattle.outer_lane.specs.Setting.{setting_of};
+ghost use Rattle.reverse_debug.specs.Standing.{first_of, StandsFor};
+ghost use Rattle.line_talk.specs.Debugger.{talk_of};
 ghost use Rattle.line_talk.specs.Lines.{all_lines};
 ghost use Rattle.line_talk.specs.Talk.{Talk, said_to, spent_on, Hears};
 ghost use Rattle.line_talk.specs.Going.{Along, Feeds, Finishes, Taking, Turns};
 
-use crate::talker::{REPLY, Talker};
 use crate::way::Way;
 use arrayvec::ArrayVec;
+use lane_look::Device;
+use reverse_debug::Session;
+use rp_machine::{Steps, World};
 use rp_ports::sink::Sink;
 use rp_ports::source::{Source, Taken};
+use std::sync::ledger::Ledger;
 use trace_text::writer::{SinkFault, Writer};
+
+/// The bytes of a reply are at most so many.
+const REPLY: usize = 1024;
 
 /// Of a line so many bytes count.
 pub const LINE: usize = 257;
@@ -51,26 +60,48 @@ fn keep(byte: u8, open: &mut ArrayVec<u8, LINE>)
     }
 }
 
+/// Lets the session answer a line, and leaves the reply in `reply`; false exactly for a last line.
+fn say<X: Device, L: Ledger>(
+    session: &mut Session,
+    world: &World<'_, X>,
+    line: &[u8],
+    reply: &mut ArrayVec<u8, REPLY>,
+    steps: &mut Steps<L>,
+) -> bool
+    requires stood { StandsFor (setting_of world.now.script.now (X.meaning world.now.device.now) world.now.limit) session.old }
+    ensures stands { StandsFor (setting_of world.now.script.now (X.meaning world.now.device.now) world.now.limit) session.new }
+    ensures first { first_of session.new ≡ first_of session.old }
+    ensures more { result ≡ not ((talk_of (setting_of world.now.script.now (X.meaning world.now.device.now) world.now.limit) (first_of session.old)).last line.now) }
+    ensures reply { result ≡ true → reply.new.items ≡ (talk_of (setting_of world.now.script.now (X.meaning world.now.device.now) world.now.limit) (first_of session.old)).reply session.old.now.cycle line.now }
+    ensures place { result ≡ true → session.new.now.cycle ≡ (talk_of (setting_of world.now.script.now (X.meaning world.now.device.now) world.now.limit) (first_of session.old)).next session.old.now.cycle line.now }
+    ensures forward { steps.old ≤ steps.new }
+    ensures within { steps.new ≤ steps.old + spent_on (talk_of (setting_of world.now.script.now (X.meaning world.now.device.now) world.now.limit) (first_of session.old)) session.old.now.cycle line.now }
+{
+    session.command(world, line, reply, steps)
+}
+
 /// Puts the reply to a line, and tells whether it is no last one.
-fn answer<A: Talker, O: Sink>(
-    talker: &mut A,
+fn answer<X: Device, O: Sink, L: Ledger>(
+    session: &mut Session,
+    world: &World<'_, X>,
     line: &[u8],
     writer: &mut Writer<'_, O>,
+    steps: &mut Steps<L>,
 ) -> Result<bool, SinkFault>
-    requires stood { A.stands talker.old }
-    ensures stands { A.stands talker.new }
-    ensures talk { A.talk talker.new ≡ A.talk talker.old }
+    requires stood { StandsFor (setting_of world.now.script.now (X.meaning world.now.device.now) world.now.limit) session.old }
+    ensures stands { StandsFor (setting_of world.now.script.now (X.meaning world.now.device.now) world.now.limit) session.new }
+    ensures first { first_of session.new ≡ first_of session.old }
     ensures same_sink { writer.new.out.ghost_name ≡ writer.old.out.ghost_name }
-    ensures more { IfOk result (λ more. more ≡ not ((A.talk talker.old).last line.now)) }
-    ensures other { OnErr result ((A.talk talker.old).last line.now ≡ false) }
+    ensures more { IfOk result (λ more. more ≡ not ((talk_of (setting_of world.now.script.now (X.meaning world.now.device.now) world.now.limit) (first_of session.old)).last line.now)) }
+    ensures other { OnErr result ((talk_of (setting_of world.now.script.now (X.meaning world.now.device.now) world.now.limit) (first_of session.old)).last line.now ≡ false) }
     ensures sends { Sends (O.written writer.old.out.now) (O.written writer.new.out.now) (O.faults writer.old.out.now)
-        (O.faults writer.new.out.now) (said_to (A.talk talker.old) (A.place talker.old) line.now) result }
-    ensures place { IfOk result (λ more. more ≡ true → A.place talker.new ≡ (A.talk talker.old).next (A.place talker.old) line.now) }
-    ensures forward { A.steps talker.old ≤ A.steps talker.new }
-    ensures within { A.steps talker.new ≤ A.steps talker.old + spent_on (A.talk talker.old) (A.place talker.old) line.now }
+        (O.faults writer.new.out.now) (said_to (talk_of (setting_of world.now.script.now (X.meaning world.now.device.now) world.now.limit) (first_of session.old)) session.old.now.cycle line.now) result }
+    ensures place { IfOk result (λ more. more ≡ true → session.new.now.cycle ≡ (talk_of (setting_of world.now.script.now (X.meaning world.now.device.now) world.now.limit) (first_of session.old)).next session.old.now.cycle line.now) }
+    ensures forward { steps.old ≤ steps.new }
+    ensures within { steps.new ≤ steps.old + spent_on (talk_of (setting_of world.now.script.now (X.meaning world.now.device.now) world.now.limit) (first_of session.old)) session.old.now.cycle line.now }
 {
     let mut reply = ArrayVec::<u8, REPLY>::new();
-    if !talker.answer(line, &mut reply) {
+    if !say(session, world, line, &mut reply, steps) {
         return Ok(false);
     }
     match writer.line(&reply) {
@@ -80,50 +111,54 @@ fn answer<A: Talker, O: Sink>(
 }
 
 /// Takes one byte into the open line, or answers the line that it ends; false where that is a last one.
-fn hear_byte<A: Talker, O: Sink>(
-    talker: &mut A,
+fn hear_byte<X: Device, O: Sink, L: Ledger>(
+    session: &mut Session,
+    world: &World<'_, X>,
     byte: u8,
     open: &mut ArrayVec<u8, LINE>,
     writer: &mut Writer<'_, O>,
+    steps: &mut Steps<L>,
 ) -> Result<bool, SinkFault>
-    requires stood { A.stands talker.old }
-    ensures stands { A.stands talker.new }
-    ensures talk { A.talk talker.new ≡ A.talk talker.old }
+    requires stood { StandsFor (setting_of world.now.script.now (X.meaning world.now.device.now) world.now.limit) session.old }
+    ensures stands { StandsFor (setting_of world.now.script.now (X.meaning world.now.device.now) world.now.limit) session.new }
+    ensures first { first_of session.new ≡ first_of session.old }
     ensures same_sink { writer.new.out.ghost_name ≡ writer.old.out.ghost_name }
-    ensures feeds { (place : ℕ) (seen : List ℕ) (old : Option (List ℕ)) (before steps : ℕ)
-        → Along (A.talk talker.old) place seen old (O.written writer.old.out.now) before (O.faults writer.old.out.now) steps
-        (A.steps talker.old) (A.place talker.old) open.old.items
-        → Feeds (A.talk talker.old) place (seen ++ byte ∷ []) old (O.written writer.new.out.now) before
-        (O.faults writer.new.out.now) steps (A.steps talker.new) (A.place talker.new) open.new.items result }
+    ensures feeds { (place : ℕ) (seen : List ℕ) (old : Option (List ℕ)) (before base : ℕ)
+        → Along (talk_of (setting_of world.now.script.now (X.meaning world.now.device.now) world.now.limit) (first_of session.old)) place seen old (O.written writer.old.out.now) before (O.faults writer.old.out.now) base
+        steps.old session.old.now.cycle open.old.items
+        → Feeds (talk_of (setting_of world.now.script.now (X.meaning world.now.device.now) world.now.limit) (first_of session.old)) place (seen ++ byte ∷ []) old (O.written writer.new.out.now) before
+        (O.faults writer.new.out.now) base steps.new session.new.now.cycle open.new.items result }
 {
     if byte != b'\n' {
         keep(byte, open);
         return Ok(true);
     }
-    let heard = answer(talker, without_return(open), writer);
+    let heard = answer(session, world, without_return(open), writer, steps);
     open.clear();
     heard
 }
 
 /// Takes some bytes, and answers each line that is complete with them; false where one of these is a last one.
-fn hear_bytes<A: Talker, O: Sink>(
-    talker: &mut A,
+fn hear_bytes<X: Device, O: Sink, L: Ledger>(
+    session: &mut Session,
+    world: &World<'_, X>,
     bytes: &[u8],
     open: &mut ArrayVec<u8, LINE>,
     writer: &mut Writer<'_, O>,
+    steps: &mut Steps<L>,
 ) -> Result<bool, SinkFault>
-    requires stood { A.stands talker.old }
-    ensures stands { A.stands talker.new }
-    ensures talk { A.talk talker.new ≡ A.talk talker.old }
+    requires stood { StandsFor (setting_of world.now.script.now (X.meaning world.now.device.now) world.now.limit) session.old }
+    ensures stands { StandsFor (setting_of world.now.script.now (X.meaning world.now.device.now) world.now.limit) session.new }
+    ensures first { first_of session.new ≡ first_of session.old }
     ensures same_sink { writer.new.out.ghost_name ≡ writer.old.out.ghost_name }
-    ensures feeds { (place : ℕ) (seen : List ℕ) (old : Option (List ℕ)) (before steps : ℕ)
-        → Along (A.talk talker.old) place seen old (O.written writer.old.out.now) before (O.faults writer.old.out.now) steps
-        (A.steps talker.old) (A.place talker.old) open.old.items
-        → Feeds (A.talk talker.old) place (seen ++ bytes.now) old (O.written writer.new.out.now) before
-        (O.faults writer.new.out.now) steps (A.steps talker.new) (A.place talker.new) open.new.items result }
+    ensures feeds { (place : ℕ) (seen : List ℕ) (old : Option (List ℕ)) (before base : ℕ)
+        → Along (talk_of (setting_of world.now.script.now (X.meaning world.now.device.now) world.now.limit) (first_of session.old)) place seen old (O.written writer.old.out.now) before (O.faults writer.old.out.now) base
+        steps.old session.old.now.cycle open.old.items
+        → Feeds (talk_of (setting_of world.now.script.now (X.meaning world.now.device.now) world.now.limit) (first_of session.old)) place (seen ++ bytes.now) old (O.written writer.new.out.now) before
+        (O.faults writer.new.out.now) base steps.new session.new.now.cycle open.new.items result }
 {
     for byte in bytes {
-        match hear_byte(talker, *byte, open, writer) {
+        match hear_byte(session, world, *byte, open, writer, steps) {
             Ok(true) => {}
             Ok(false) => return Ok(false),
             Err(fault) => return Err(fault),
@@ -133,59 +168,70 @@ fn hear_bytes<A: Talker, O: Sink>(
 }
 
 /// Answers the open line at the end of an input, unless it is empty.
-fn hear_end<A: Talker, O: Sink>(
-    talker: &mut A,
+fn hear_end<X: Device, O: Sink, L: Ledger>(
+    session: &mut Session,
+    world: &World<'_, X>,
     open: &[u8],
     writer: &mut Writer<'_, O>,
+    steps: &mut Steps<L>,
 ) -> Result<(), SinkFault>
-    requires stood { A.stands talker.old }
-    ensures stands { A.stands talker.new }
-    ensures talk { A.talk talker.new ≡ A.talk talker.old }
+    requires stood { StandsFor (setting_of world.now.script.now (X.meaning world.now.device.now) world.now.limit) session.old }
+    ensures stands { StandsFor (setting_of world.now.script.now (X.meaning world.now.device.now) world.now.limit) session.new }
+    ensures first { first_of session.new ≡ first_of session.old }
     ensures same_sink { writer.new.out.ghost_name ≡ writer.old.out.ghost_name }
-    ensures ends { (place : ℕ) (seen : List ℕ) (old : Option (List ℕ)) (before steps : ℕ)
-        → Along (A.talk talker.old) place seen old (O.written writer.old.out.now) before (O.faults writer.old.out.now) steps
-        (A.steps talker.old) (A.place talker.old) open.now
-        → Finishes (A.talk talker.old) place (all_lines seen) old (O.written writer.new.out.now) before
-        (O.faults writer.new.out.now) steps (A.steps talker.new) result }
+    ensures ends { (place : ℕ) (seen : List ℕ) (old : Option (List ℕ)) (before base : ℕ)
+        → Along (talk_of (setting_of world.now.script.now (X.meaning world.now.device.now) world.now.limit) (first_of session.old)) place seen old (O.written writer.old.out.now) before (O.faults writer.old.out.now) base
+        steps.old session.old.now.cycle open.now
+        → Finishes (talk_of (setting_of world.now.script.now (X.meaning world.now.device.now) world.now.limit) (first_of session.old)) place (all_lines seen) old (O.written writer.new.out.now) before
+        (O.faults writer.new.out.now) base steps.new result }
 {
     if open.is_empty() {
         return Ok(());
     }
-    match answer(talker, open, writer) {
+    match answer(session, world, open, writer, steps) {
         Ok(_) => Ok(()),
         Err(fault) => Err(fault),
     }
 }
 
 /// Takes at most as many bytes as a piece has, and answers the lines that are complete with them.
-fn take_piece<A: Talker, I: Source, O: Sink>(
-    talker: &mut A,
+fn take_piece<X: Device, I: Source, O: Sink, L: Ledger>(
+    session: &mut Session,
+    world: &World<'_, X>,
     input: &mut I,
     piece: &mut [u8],
     open: &mut ArrayVec<u8, LINE>,
     writer: &mut Writer<'_, O>,
+    steps: &mut Steps<L>,
 ) -> Result<Turn, SinkFault>
-    requires stood { A.stands talker.old }
+    requires stood { StandsFor (setting_of world.now.script.now (X.meaning world.now.device.now) world.now.limit) session.old }
     requires room { 0 < length piece.old }
-    ensures stands { A.stands talker.new }
-    ensures talk { A.talk talker.new ≡ A.talk talker.old }
+    ensures stands { StandsFor (setting_of world.now.script.now (X.meaning world.now.device.now) world.now.limit) session.new }
+    ensures first { first_of session.new ≡ first_of session.old }
     ensures same_sink { writer.new.out.ghost_name ≡ writer.old.out.ghost_name }
-    ensures turns { (place limit count : ℕ) (left : Option (List ℕ)) (lost : ℕ) (old : Option (List ℕ)) (before steps : ℕ)
+    ensures turns { (place limit count : ℕ) (left : Option (List ℕ)) (lost : ℕ) (old : Option (List ℕ)) (before base : ℕ)
         → count + length piece.old ≤ limit
-        → Taking (A.talk talker.old) place limit left (I.left input.old) lost (I.faults input.old) old
-        (O.written writer.old.out.now) before (O.faults writer.old.out.now) steps (A.steps talker.old) (A.place talker.old)
+        → Taking (talk_of (setting_of world.now.script.now (X.meaning world.now.device.now) world.now.limit) (first_of session.old)) place limit left (I.left input.old) lost (I.faults input.old) old
+        (O.written writer.old.out.now) before (O.faults writer.old.out.now) base steps.old session.old.now.cycle
         open.old.items count
-        → Turns (A.talk talker.old) place limit left (I.left input.new) lost (I.faults input.new) old
-        (O.written writer.new.out.now) before (O.faults writer.new.out.now) steps (A.steps talker.new) (A.place talker.new)
+        → Turns (talk_of (setting_of world.now.script.now (X.meaning world.now.device.now) world.now.limit) (first_of session.old)) place limit left (I.left input.new) lost (I.faults input.new) old
+        (O.written writer.new.out.now) before (O.faults writer.new.out.now) base steps.new session.new.now.cycle
         open.new.items count result }
 {
     match input.take(piece) {
-        Taken::Took(count) => match hear_bytes(talker, &piece[..count], open, writer) {
+        Taken::Took(count) => match hear_bytes(
+            session,
+            world,
+            &piece[..count],
+            open,
+            writer,
+            steps,
+        ) {
             Ok(true) => Ok(Turn::Took(count)),
             Ok(false) => Ok(Turn::Over(Way::Closed)),
             Err(fault) => Err(fault),
         },
-        Taken::End => match hear_end(talker, open, writer) {
+        Taken::End => match hear_end(session, world, open, writer, steps) {
             Ok(()) => Ok(Turn::Over(Way::Ended)),
             Err(fault) => Err(fault),
         },
@@ -199,17 +245,19 @@ fn take_piece<A: Talker, I: Source, O: Sink>(
 /// # Errors
 ///
 /// The sink failed; its count of faults rose.
-pub fn hear<A: Talker, I: Source, O: Sink>(
-    talker: &mut A,
+pub fn hear<X: Device, I: Source, O: Sink, L: Ledger>(
+    session: &mut Session,
+    world: &World<'_, X>,
     input: &mut I,
     limit: usize,
     writer: &mut Writer<'_, O>,
+    steps: &mut Steps<L>,
 ) -> Result<Way, SinkFault>
-    requires stood { A.stands talker.old }
-    ensures hears { Hears (A.talk talker.old) (A.place talker.old) limit (I.left input.old) (I.left input.new)
+    requires stood { StandsFor (setting_of world.now.script.now (X.meaning world.now.device.now) world.now.limit) session.old }
+    ensures hears { Hears (talk_of (setting_of world.now.script.now (X.meaning world.now.device.now) world.now.limit) (first_of session.old)) session.old.now.cycle limit (I.left input.old) (I.left input.new)
         (I.faults input.old) (I.faults input.new) (O.written writer.old.out.now) (O.written writer.new.out.now)
-        (O.faults writer.old.out.now) (O.faults writer.new.out.now) (A.steps talker.old) (A.steps talker.new) result }
-    ensures talk { A.talk talker.new ≡ A.talk talker.old }
+        (O.faults writer.old.out.now) (O.faults writer.new.out.now) steps.old steps.new result }
+    ensures first { first_of session.new ≡ first_of session.old }
     ensures same_sink { writer.new.out.ghost_name ≡ writer.old.out.ghost_name }
 {
     let mut open = ArrayVec::<u8, LINE>::new();
@@ -217,7 +265,15 @@ pub fn hear<A: Talker, I: Source, O: Sink>(
     let mut taken = 0;
     while taken < limit {
         let room = PIECE.min(limit - taken);
-        match take_piece(talker, input, &mut piece[..room], &mut open, writer) {
+        match take_piece(
+            session,
+            world,
+            input,
+            &mut piece[..room],
+            &mut open,
+            writer,
+            steps,
+        ) {
             Ok(Turn::Took(count)) => taken += count,
             Ok(Turn::Over(way)) => return Ok(way),
             Err(fault) => return Err(fault),

@@ -24,6 +24,10 @@ command name = with_rule (new_app name) argument
 abbrev pub run : App
 run = with_rule (with_rule (with_rule (command (codes "run")) (needed (codes "cycles"))) (option (codes "script"))) (option (codes "pio"))
 
+-- `debug <image> --cycles N [--script FILE] [--pio LIST]`
+abbrev pub debug : App
+debug = with_rule (with_rule (with_rule (command (codes "debug")) (needed (codes "cycles"))) (option (codes "script"))) (option (codes "pio"))
+
 -- `asm <file>`
 abbrev pub asm : App
 asm = command (codes "asm")
@@ -37,4 +41,4 @@ abbrev pub top : App
 top = on_top (λ s. record s { no_binary_name = true }) (new_app (codes "pico"))
 
 unfoldable pub table : App
-table = with_subcommand (with_subcommand (with_subcommand top run.top) asm.top) dis.top
+table = with_subcommand (with_subcommand (with_subcommand (with_subcommand top run.top) debug.top) asm.top) dis.top

@@ -41,6 +41,11 @@ pub fn table<'a>(alloc: Global) -> Result<Command<'a>, AllocError>
         .arg(needed(alloc, "cycles"))?
         .arg(option(alloc, "script"))?
         .arg(option(alloc, "pio"))?;
+    let debug = Command::new(alloc, "debug")
+        .arg(argument(alloc))?
+        .arg(needed(alloc, "cycles"))?
+        .arg(option(alloc, "script"))?
+        .arg(option(alloc, "pio"))?;
     let asm = Command::new(alloc, "asm").arg(argument(alloc))?;
     let dis = Command::new(alloc, "dis")
         .arg(argument(alloc))?
@@ -49,6 +54,7 @@ pub fn table<'a>(alloc: Global) -> Result<Command<'a>, AllocError>
     Command::new(alloc, "pico")
         .no_binary_name(true)
         .subcommand(run)?
+        .subcommand(debug)?
         .subcommand(asm)?
         .subcommand(dis)
 }

@@ -43,6 +43,13 @@ fn lines_in_other_forms(rt: HostRuntime) -> Result<(), Fail> {
         )?
     );
     assert!(rt; reads(alloc, &["asm", "-"], Some(&["asm", "-"]))?);
+    assert!(rt;
+        reads(
+            alloc,
+            &["debug", "--cycles=10", "a.uf2"],
+            Some(&["debug", "a.uf2", "--cycles", "10"])
+        )?
+    );
     Ok(())
 }
 

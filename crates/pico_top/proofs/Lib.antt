@@ -6,5 +6,6 @@ pub mod Opens
 pub mod Pieces
 pub mod ProgramWalks
 pub mod Running
+pub mod Talking
 pub mod Telling
 pub mod Walking

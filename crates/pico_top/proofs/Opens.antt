@@ -1,5 +1,5 @@
 -- What was opened, and where its walk ended.
-use Rattle.std.proofs.Common.{◌≡◌, ℕ, List, [], ◌∷◌, map, Option, None, Some, Result, Ok, Err, refl, sym, ap, inl, inr, ◌∙◌, subst, arith, ◌==◌, true, false, if◌then◌else◌, Vec, Global}
+use Rattle.std.proofs.Common.{◌≡◌, ℕ, List, [], ◌∷◌, map, Option, None, Some, Result, Ok, Err, refl, sym, ap, inl, inr, ◌∙◌, subst, arith, ◌==◌, Bool, true, false, if◌then◌else◌, Vec, Global}
 use Rattle.lane_look.specs.Device.{DeviceMeaning}
 use Rattle.outer_lane.specs.Setting.{Setting, setting_of}
 use Rattle.rp_ports.specs.Shelf.{Files, Answers, failed_after}
@@ -20,18 +20,22 @@ use Rattle.refusal_lines.specs.Refusals.{line_of, status_of}
 use Rattle.refusal_lines.specs.Refusals.Refusal.{Lost, BadScript}
 use Rattle.refusal_lines.specs.Meant.{meant}
 use Rattle.pico_top.specs.declared.open.Opened.{Opened}
-use Rattle.pico_top.specs.declared.open.Opened.TheVariants.{Machine, Text}
+use Rattle.pico_top.specs.declared.open.Opened.TheVariants.{Machine, Session, Text}
+use Rattle.pico_top.specs.declared.open.Purpose.{Purpose}
+use Rattle.pico_top.specs.declared.open.Purpose.TheVariants.{Run as ForRun, Debug as ForDebug}
+use Rattle.reverse_debug.specs.Standing.{first_of, OpensAt}
 use Rattle.pico_top.specs.declared.open.Stop.{Stop}
 use Rattle.pico_top.specs.declared.open.Stop.TheVariants.{Refusing, Memory}
 use Rattle.pico_top.specs.RunText.{run_text, run_cycles}
+use Rattle.line_talk.specs.Debugger.{quits}
 use Rattle.pico_top.specs.Loads.{Placed, loads_of, plans_in}
-use Rattle.pico_top.specs.Dialogue.{Cost, Dialogue, behind_script, with_script, say_run, script_limit}
+use Rattle.pico_top.specs.Dialogue.{Cost, Told, Dialogue, behind_script, with_script, input_limit, session_told, script_limit}
 use Rattle.pico_top.specs.Dialogue.Cost.{Exactly}
-use Rattle.pico_top.specs.Dialogue.Dialogue.{Load, JudgeScript, SayWords, Say}
-use Rattle.pico_top.specs.Walk.{Ending, Walks, failed_names}
+use Rattle.pico_top.specs.Dialogue.Dialogue.{Load, JudgeScript, SayWords, Say, Hear, HearWords}
+use Rattle.pico_top.specs.Walk.{Ending, IsHeard, Walks, failed_names}
 use Rattle.pico_top.specs.Walk.Ending.{Said, Refused}
 use Rattle.pico_top.specs.Answer.{Puts}
-use Rattle.pico_top.specs.Opening.{StopsAs, Opens, LoadsAs, Passes, Refuses, ReadsScript, Boots, setting_in, IsPlaced, ArePlaced, LoadsAll}
+use Rattle.pico_top.specs.Opening.{StopsAs, Opens, LoadsAs, Passes, Refuses, ReadsScript, Boots, use_for, setting_in, setting_by, IsPlaced, ArePlaced, LoadsAll}
 use Rattle.pico_top.proofs.Walking.{runs_out}
 
 -- a load failed
@@ -108,7 +112,7 @@ first_cycle : (device : DeviceMeaning) (image : Loaded) → (first_state device 
 unfolding first_state
 first_cycle device image = refl
 
-start_cycle : (device : DeviceMeaning) (image : Loaded) (loads : List PioLoad) → (start device image loads).cycle ≡ 0
+pub start_cycle : (device : DeviceMeaning) (image : Loaded) (loads : List PioLoad) → (start device image loads).cycle ≡ 0
 unfolding start
 start_cycle device image loads = loads_cycle loads (first_state device image) ∙ first_cycle device image
 
@@ -119,9 +123,30 @@ said_words files ps programs text cost t k e have is w = elim w [
   | inr none ↦ inr none
 ]
 
+-- and so is what is heard
+heard_words : (files : Option Files) (ps : List Placed) (programs : List Program) (limit : ℕ) (last : List ℕ → Bool) (told : List Program → List (List ℕ) → Told) (t : List (List ℕ) → Told) (e : Ending) → ArePrograms (plans_in ps) programs → told programs ≡ t → Walks files (Hear limit last t) e → Walks files (HearWords (plans_in ps) limit last told) e
+heard_words files ps programs limit last told t e have is w = elim w [
+  | inl here ↦ inl (programs, have, subst (λ (x : List (List ℕ) → Told). IsHeard limit last x e) (sym is) here)
+  | inr none ↦ inr none
+]
+
 -- the machine booted, or memory ran out
-boots_opens : (files : Option Files) (failed : List (List ℕ)) (device : DeviceMeaning) (script : List ScriptEntry) (limit : ℕ) (image : Loaded) (ps : List Placed) (loads : List PioLoad) (result : Result Opened Stop) → ArePlaced ps loads → Boots device image script loads limit result → Opens files failed failed device (say_run (setting_of script device limit) image ps) result
-boots_opens files failed device script limit image ps loads (Ok (Machine started)) placed h =
+boots_opens : (purpose : Purpose) (files : Option Files) (failed : List (List ℕ)) (device : DeviceMeaning) (script : List ScriptEntry) (limit : ℕ) (image : Loaded) (ps : List Placed) (loads : List PioLoad) (result : Result Opened Stop) → ArePlaced ps loads → Boots purpose (start device image loads) script limit result → Opens files failed failed device (use_for purpose (setting_of script device limit) image ps) result
+boots_opens ForDebug files failed device script limit image ps loads (Ok (Session debugging)) placed h =
+    let w : Setting = setting_of script device limit in
+    let first : State = start device image (loads_of ps (programs_of loads)) in
+    let own : State = first_of debugging.session in
+    let same : own ≡ first = h.0.first ∙ ap (start device image) (sym (same_loads ps loads placed)) in
+    let opens : OpensAt own limit debugging.session = subst (λ (s : State). OpensAt s limit debugging.session) (sym h.0.first) h.0 in
+    let v : Setting = setting_by device debugging in
+    let here : session_told w first ≡ session_told v own = rw (sym same, sym h.1, sym h.2) refl in (
+      refl,
+      subst (λ n. OpensAt own n debugging.session) (sym h.2) opens,
+      λ e walk. heard_words files ps (programs_of loads) input_limit quits (λ programs. session_told w (start device image (loads_of ps programs))) (session_told v own) e (have_words ps loads placed) here walk,
+    )
+boots_opens ForDebug files failed device script limit image ps loads (Ok (Machine started)) placed h = absurd h
+boots_opens ForRun files failed device script limit image ps loads (Ok (Session debugging)) placed h = absurd h
+boots_opens ForRun files failed device script limit image ps loads (Ok (Machine started)) placed h =
     let w : Setting = setting_of script device limit in
     let first : State = start device image (loads_of ps (programs_of loads)) in
     let same : started.machine ≡ first = h.0 ∙ ap (start device image) (sym (same_loads ps loads placed)) in
@@ -132,18 +157,21 @@ boots_opens files failed device script limit image ps loads (Ok (Machine started
       omega (arith, at),
       λ e walk. said_words files ps (programs_of loads) (λ programs. run_text w (start device image (loads_of ps programs))) (λ programs. Exactly (run_cycles w (start device image (loads_of ps programs)))) (run_text v started.machine) (Exactly (run_cycles v started.machine)) e (have_words ps loads placed) here walk,
     )
-boots_opens files failed device script limit image ps loads (Ok (Text text)) placed h = absurd h
-boots_opens files failed device script limit image ps loads (Err (Refusing refusal)) placed h = absurd h
-boots_opens files failed device script limit image ps loads (Err Memory) placed h = runs_out files failed (say_run (setting_of script device limit) image ps)
+boots_opens ForRun files failed device script limit image ps loads (Ok (Text text)) placed h = absurd h
+boots_opens ForRun files failed device script limit image ps loads (Err (Refusing refusal)) placed h = absurd h
+boots_opens ForRun files failed device script limit image ps loads (Err Memory) placed h = runs_out files failed (use_for ForRun (setting_of script device limit) image ps)
+boots_opens ForDebug files failed device script limit image ps loads (Ok (Text text)) placed h = absurd h
+boots_opens ForDebug files failed device script limit image ps loads (Err (Refusing refusal)) placed h = absurd h
+boots_opens ForDebug files failed device script limit image ps loads (Err Memory) placed h = runs_out files failed (use_for ForDebug (setting_of script device limit) image ps)
 
 -- the programs of a run have their places, and the machine booted
-pub programs_open : (files : Option Files) (a b : List (List ℕ)) (device : DeviceMeaning) (run : Run) (image : Loaded) (script : List ScriptEntry) (loads : Vec PioLoad Global) (result : Result Opened Stop) → LoadsAll files a b run.pio (Ok loads) → Boots device image script loads.items run.cycles result → Opens files a b device (behind_script device run image script) result
-programs_open files a b device run image script loads (Ok opened) programs boots =
-    let last = boots_opens files a device script run.cycles image programs.2.0 loads.items (Ok opened) programs.2.1 boots in
-    (programs.0, last.1, λ e w. programs.2.2 (say_run (setting_of script device run.cycles) image) e (last.2 e w))
-programs_open files a b device run image script loads (Err stop) programs boots =
-    let last = boots_opens files a device script run.cycles image programs.2.0 loads.items (Err stop) programs.2.1 boots in
-    (last.0, programs.2.2 (say_run (setting_of script device run.cycles) image) last.0 last.1, programs.0 ∙ last.2, last.3)
+pub programs_open : (purpose : Purpose) (files : Option Files) (a b : List (List ℕ)) (device : DeviceMeaning) (run : Run) (image : Loaded) (script : List ScriptEntry) (loads : Vec PioLoad Global) (result : Result Opened Stop) → LoadsAll files a b run.pio (Ok loads) → Boots purpose (start device image loads.items) script run.cycles result → Opens files a b device (behind_script (use_for purpose) device run image script) result
+programs_open purpose files a b device run image script loads (Ok opened) programs boots =
+    let last = boots_opens purpose files a device script run.cycles image programs.2.0 loads.items (Ok opened) programs.2.1 boots in
+    (programs.0, last.1, λ e w. programs.2.2 (use_for purpose (setting_of script device run.cycles) image) e (last.2 e w))
+programs_open purpose files a b device run image script loads (Err stop) programs boots =
+    let last = boots_opens purpose files a device script run.cycles image programs.2.0 loads.items (Err stop) programs.2.1 boots in
+    (last.0, programs.2.2 (use_for purpose (setting_of script device run.cycles) image) last.0 last.1, programs.0 ∙ last.2, last.3)
 
 -- the line of a refusal was put with its status
 pub refuses_by : (old new : Option (List ℕ)) (before now status : ℕ) (refusal : Written) (stop : Stop) (wanted : ℕ) (text : List ℕ) → stop ≡ Refusing refusal → wanted ≡ status_of (meant refusal) → text ≡ line_of (meant refusal) → Puts old new before now status wanted text → Refuses old new before now status stop

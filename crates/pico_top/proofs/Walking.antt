@@ -1,5 +1,5 @@
 -- Walks of dialogues.
-use Rattle.std.proofs.Common.{◌≡◌, ℕ, ◌<◌, ◌≤◌, List, [], ◌++◌, length, true, false, nat_le, Option, Some, None, Ok, Err, refl, sym, ap, subst, inl, inr, ◌⊎◌, arith, IsSomeAnd}
+use Rattle.std.proofs.Common.{◌≡◌, ℕ, ◌<◌, ◌≤◌, List, [], ◌++◌, length, Bool, true, false, nat_le, Option, Some, None, Ok, Err, refl, sym, ap, subst, inl, inr, ◌⊎◌, arith, IsSomeAnd}
 use Rattle.lane_look.specs.Device.{DeviceMeaning}
 use Rattle.rp_ports.specs.Shelf.{Files, Answers}
 use Rattle.rp_ports.specs.declared.shelf.Loaded.{Loaded}
@@ -11,9 +11,9 @@ use Rattle.pico_top.specs.declared.open.Stop.TheVariants.{Memory as OutOfMemory}
 use Rattle.line_talk.specs.Lines.{closes}
 use Rattle.line_talk.specs.declared.way.Way.{Way}
 use Rattle.line_talk.specs.Hearing.{MayEnd, lines_heard, way_line}
-use Rattle.pico_top.specs.Dialogue.{Cost, Dialogue, dialogue_of}
-use Rattle.pico_top.specs.Dialogue.Dialogue.{Load, JudgeImage, JudgeScript, JudgeSource, JudgePlace, SayWords, Say, Hear}
-use Rattle.pico_top.specs.Walk.{Ending, AfterLoad, Walks, WalksFrom, failed_names, Verdict, on_held, verdict, verdict_from}
+use Rattle.pico_top.specs.Dialogue.{Cost, Told, Dialogue, dialogue_of}
+use Rattle.pico_top.specs.Dialogue.Dialogue.{Load, JudgeImage, JudgeScript, JudgeSource, JudgePlace, SayWords, Say, Hear, HearWords}
+use Rattle.pico_top.specs.Walk.{Ending, IsHeard, AfterLoad, Walks, WalksFrom, failed_names, Verdict, on_held, verdict, verdict_from}
 use Rattle.pico_top.specs.Walk.Verdict.{Refuses, Says, Hears}
 use Rattle.pico_top.specs.Walk.Ending.{Said, Heard, Refused, NoMemory}
 use Rattle.pico_top.specs.Opening.{IsShort, Stops}
@@ -32,6 +32,7 @@ no_memory files (JudgePlace (Err fault) next) = inr refl
 no_memory files (SayWords plans text cost) = inr refl
 no_memory files (Say text cost) = inr refl
 no_memory files (Hear limit last told) = inr refl
+no_memory files (HearWords plans limit last told) = inr refl
 
 pub runs_out : (files : Option Files) (failed : List (List ℕ)) (d : Dialogue) → Stops files failed failed d OutOfMemory
 runs_out files failed d = (NoMemory, no_memory files d, refl, tt)
@@ -61,6 +62,7 @@ walk_reads files (JudgePlace (Err fault) next) h = elim h [ inl e ↦ absurd (cc
 walk_reads files (SayWords plans text cost) h = elim h [ inl w ↦ absurd (let e = w.2 in cc e) | inr e ↦ absurd (cc e) ]
 walk_reads files (Say text cost) h = elim h [ inl e ↦ absurd (cc e) | inr e ↦ absurd (cc e) ]
 walk_reads files (Hear limit last told) h = elim h [ inl w ↦ absurd (let e = w.4 in cc e) | inr e ↦ absurd (cc e) ]
+walk_reads files (HearWords plans limit last told) h = elim h [ inl w ↦ absurd (let e = w.2.4 in cc e) | inr e ↦ absurd (cc e) ]
 
 pub words_refused : (files : Option Files) (device : DeviceMeaning) (asked : Option Command) → WalksFrom files device asked (Refused BadWords) → asked ≡ None
 words_refused files device None h = refl
@@ -96,6 +98,10 @@ after_load_follows f e next on (Large n) bytes name limit first answers h =
 after_load_follows f e next on Failed bytes name limit first answers h = inr (inl (name, h))
 after_load_follows f e next on Memory bytes name limit first answers h = inl h
 
+-- what was heard ends as its verdict says
+heard_of : (limit : ℕ) (last : List ℕ → Bool) (told : List (List ℕ) → Told) (e : Ending) → IsHeard limit last told e → IsOf (Hears limit last) e
+heard_of limit last told e w = (w.0, w.1, w.2, w.3, (told (lines_heard last w.1 w.0)).text ++ way_line w.1, (told (lines_heard last w.1 w.0)).cost, w.4)
+
 pub walk_follows : (f : Files) (d : Dialogue) (e : Ending) → Walks (Some f) d e → Follows (verdict f d) e
 walk_follows f (Load name limit next) e h =
     after_load_follows f e (λ bytes. verdict f (next bytes)) _ h.0 h.1 name limit (λ w. walk_follows f (next h.1) e w) h.2 h.3
@@ -110,7 +116,11 @@ walk_follows f (JudgePlace (Err fault) next) e h = elim h [ inl is ↦ inr (inr 
 walk_follows f (SayWords plans text cost) e h = elim h [ inl w ↦ inr (inr (text w.0, cost w.0, w.2)) | inr none ↦ inl none ]
 walk_follows f (Say text cost) e h = elim h [ inl is ↦ inr (inr (text, cost, is)) | inr none ↦ inl none ]
 walk_follows f (Hear limit last told) e h = elim h [
-  | inl w ↦ inr (inr (w.0, w.1, w.2, w.3, (told (lines_heard last w.1 w.0)).text ++ way_line w.1, (told (lines_heard last w.1 w.0)).cost, w.4))
+  | inl w ↦ inr (inr (heard_of limit last told e w))
+  | inr none ↦ inl none
+]
+walk_follows f (HearWords plans limit last told) e h = elim h [
+  | inl w ↦ inr (inr (heard_of limit last (told w.0) e w.2))
   | inr none ↦ inl none
 ]
 

@@ -14,10 +14,14 @@ use Rattle.pio_asm.specs.declared.program.Program.{Program}
 use Rattle.pio_disasm.specs.Text.{source_text}
 use Rattle.pio_listing.specs.Listing.{plans_of, listing}
 use Rattle.outer_lane.specs.Setting.{Setting, setting_of}
+use Rattle.rp_machine.specs.State.{State}
 use Rattle.rp_machine.specs.Boot.{start}
 use Rattle.command_words.specs.Entries.{Entry}
 use Rattle.command_words.specs.Words.{Run, Command}
-use Rattle.command_words.specs.Words.Command.{RunImage, Disassemble, Assemble}
+use Rattle.command_words.specs.Words.Command.{RunImage, DebugImage, Disassemble, Assemble}
+use Rattle.snap_ring.specs.Snapshots.{spacing_of}
+use Rattle.reverse_debug.specs.Replies.{replies, cost_all}
+use Rattle.line_talk.specs.Debugger.{quits}
 use Rattle.pico_top.specs.Loads.{Placed, placed_as, offset_of, loads_of, plans_in}
 use Rattle.pico_top.specs.RunText.{run_text, run_cycles}
 
@@ -38,6 +42,7 @@ pub record Told : Type 0 where
 -- Say: a text is said.
 -- Hear: at most so many bytes are taken from the input, up to the first complete line that is a last one, and the lines before it
 -- are answered.
+-- HearWords: the same where what is told of the lines goes with programs, each with the words that stand with its lines.
 pub data Dialogue : Type 0 where
   Load : (name : List ℕ) → (limit : ℕ) → (next : List ℕ → Dialogue) → Dialogue
   JudgeImage : (verdict : Result Image ImageFault) → (next : Image → Dialogue) → Dialogue
@@ -47,6 +52,7 @@ pub data Dialogue : Type 0 where
   SayWords : (plans : List Plan) → (text : List Program → List ℕ) → (cost : List Program → Cost) → Dialogue
   Say : (text : List ℕ) → (cost : Cost) → Dialogue
   Hear : (limit : ℕ) → (last : List ℕ → Bool) → (told : List (List ℕ) → Told) → Dialogue
+  HearWords : (plans : List Plan) → (limit : ℕ) → (last : List ℕ → Bool) → (told : List Program → List (List ℕ) → Told) → Dialogue
 
 -- ---- the inputs
 
@@ -98,16 +104,35 @@ say_run w image placed = SayWords (plans_in placed)
     (λ programs. run_text w (start w.device image (loads_of placed programs)))
     (λ programs. Exactly (run_cycles w (start w.device image (loads_of placed programs))))
 
--- what comes behind a run's script: its programs, and its text
-abbrev pub behind_script : DeviceMeaning → Run → Image → List ScriptEntry → Dialogue
-behind_script device run image script = with_programs run.pio [] (say_run (setting_of script device run.cycles) image)
+-- an input has at most 1 MiB up to its last line
+abbrev pub input_limit : ℕ
+input_limit = 1048576
+
+-- what a session that begins in this state answers to lines; the cycles that it steps are counted
+abbrev pub session_told : Setting → State → List (List ℕ) → Told
+session_told w first lines = record { text = replies w first lines; cost = AtMost (cost_all w first (spacing_of w.limit) 0 lines) }
+
+-- the debugger hears lines at the first state of a run
+abbrev pub hear_run : Setting → Image → List Placed → Dialogue
+hear_run w image placed = HearWords (plans_in placed) input_limit quits
+    (λ programs. session_told w (start w.device image (loads_of placed programs)))
+
+-- what is done with a run: its text, or its debugger
+abbrev pub Use : Type 0
+Use = Setting → Image → List Placed → Dialogue
+
+-- what comes behind a run's script: its programs, and what is done with it
+abbrev pub behind_script : Use → DeviceMeaning → Run → Image → List ScriptEntry → Dialogue
+behind_script use_run device run image script = with_programs run.pio [] (use_run (setting_of script device run.cycles) image)
 
 -- what comes behind its image
-abbrev pub behind_image : DeviceMeaning → Run → Image → Dialogue
-behind_image device run image = with_script run.script (behind_script device run image)
+abbrev pub behind_image : Use → DeviceMeaning → Run → Image → Dialogue
+behind_image use_run device run image = with_script run.script (behind_script use_run device run image)
 
--- a run loads its image, its script and its programs, and a listing its source; the source text of instruction words needs no file
+-- a run and the debugger on it load its image, its script and its programs, and a listing its source; the source text of
+-- instruction words needs no file
 abbrev pub dialogue_of : DeviceMeaning → Command → Dialogue
-dialogue_of device (RunImage run) = with_image run.image (behind_image device run)
+dialogue_of device (RunImage run) = with_image run.image (behind_image say_run device run)
+dialogue_of device (DebugImage run) = with_image run.image (behind_image hear_run device run)
 dialogue_of device (Disassemble words side) = Say (source_text side words) (Exactly 0)
 dialogue_of device (Assemble name) = with_source name (λ plans. SayWords plans listing (λ programs. Exactly 0))

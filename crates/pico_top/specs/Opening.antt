@@ -17,17 +17,23 @@ use Rattle.pin_script.specs.Script.{script_of}
 use Rattle.pin_script.specs.declared.entry.Entry.{Entry as ScriptEntry}
 use Rattle.rp_machine.specs.Boot.{AreLoads, start}
 use Rattle.command_words.specs.Entries.{Entry}
+use Rattle.reverse_debug.specs.Standing.{first_of, OpensAt}
+use Rattle.rp_machine.specs.State.{State}
 use Rattle.pico_top.specs.declared.open.Started.{Started}
+use Rattle.pico_top.specs.declared.open.Debugging.{Debugging}
+use Rattle.pico_top.specs.declared.open.Purpose.{Purpose}
+use Rattle.pico_top.specs.declared.open.Purpose.TheVariants.{Run as ForRun, Debug as ForDebug}
 use Rattle.pico_top.specs.declared.open.Opened.{Opened}
-use Rattle.pico_top.specs.declared.open.Opened.TheVariants.{Machine, Text}
+use Rattle.pico_top.specs.declared.open.Opened.TheVariants.{Machine, Session, Text}
 use Rattle.pico_top.specs.declared.open.Stop.{Stop}
 use Rattle.pico_top.specs.declared.open.Stop.TheVariants.{Refusing, Memory}
 use Rattle.pico_top.specs.RunText.{run_text, run_cycles}
 use Rattle.pio_asm.specs.Assembly.{Plan, IsProgram}
 use Rattle.pio_listing.specs.Listing.{plans_of}
+use Rattle.line_talk.specs.Debugger.{quits}
 use Rattle.pico_top.specs.Loads.{Placed, placed_as, offset_of}
-use Rattle.pico_top.specs.Dialogue.{Dialogue, with_first, with_program, with_programs}
-use Rattle.pico_top.specs.Dialogue.Dialogue.{Load, JudgeSource, JudgePlace, Say}
+use Rattle.pico_top.specs.Dialogue.{Use, Dialogue, say_run, hear_run, input_limit, session_told, with_first, with_program, with_programs}
+use Rattle.pico_top.specs.Dialogue.Dialogue.{Load, JudgeSource, JudgePlace, Say, Hear}
 use Rattle.pico_top.specs.Dialogue.Cost.{Exactly}
 use Rattle.pico_top.specs.Walk.{Ending, Walks, WalksFrom, failed_names}
 use Rattle.pico_top.specs.Walk.Ending.{Said, Heard, Refused, NoMemory}
@@ -36,15 +42,21 @@ use Rattle.pico_top.specs.Walk.Ending.{Said, Heard, Refused, NoMemory}
 abbrev pub setting_in : DeviceMeaning → Started → Setting
 setting_in device started = setting_of started.script device started.limit
 
+abbrev pub setting_by : DeviceMeaning → Debugging → Setting
+setting_by device debugging = setting_of debugging.script device debugging.limit
+
 -- what is left of the dialogue when this is opened
 abbrev pub opened_dialogue : DeviceMeaning → Opened → Dialogue
 opened_dialogue device (Machine started) =
     Say (run_text (setting_in device started) started.machine) (Exactly (run_cycles (setting_in device started) started.machine))
+opened_dialogue device (Session debugging) =
+    Hear input_limit quits (session_told (setting_by device debugging) (first_of debugging.session))
 opened_dialogue device (Text text) = Say text.items (Exactly 0)
 
--- a machine has not passed its limit
+-- a machine has not passed its limit, and a session was opened at its first state
 abbrev pub IsReady : Opened → Type 0
 IsReady (Machine started) = started.machine.cycle ≤ started.limit
+IsReady (Session debugging) = OpensAt (first_of debugging.session) debugging.limit debugging.session
 IsReady (Text text) = Unit {0}
 
 -- nothing is said or heard
@@ -98,13 +110,22 @@ ReadsScript bytes (Err (Refusing (BadImage fault))) = ⊥
 ReadsScript bytes (Err (Refusing (Source fault))) = ⊥
 ReadsScript bytes (Err Memory) = Unit {0}
 
--- a machine in its first state, or memory ran out
-abbrev pub Boots : DeviceMeaning → Image → List ScriptEntry → List PioLoad → ℕ → Result Opened Stop → Type 0
-Boots device image script loads limit (Ok (Machine started)) =
-    (started.machine ≡ start device image loads) × (started.script ≡ script) × (started.limit ≡ limit)
-Boots device image script loads limit (Ok (Text text)) = ⊥
-Boots device image script loads limit (Err (Refusing refusal)) = ⊥
-Boots device image script loads limit (Err Memory) = Unit {0}
+-- a machine in its first state for a run, or a session there for the debugger, or memory ran out
+abbrev pub Boots : Purpose → State → List ScriptEntry → ℕ → Result Opened Stop → Type 0
+Boots ForRun first script limit (Ok (Machine started)) =
+    (started.machine ≡ first) × (started.script ≡ script) × (started.limit ≡ limit)
+Boots ForRun first script limit (Ok (Session debugging)) = ⊥
+Boots ForDebug first script limit (Ok (Session debugging)) =
+    OpensAt first limit debugging.session × (debugging.script ≡ script) × (debugging.limit ≡ limit)
+Boots ForDebug first script limit (Ok (Machine started)) = ⊥
+Boots purpose first script limit (Ok (Text text)) = ⊥
+Boots purpose first script limit (Err (Refusing refusal)) = ⊥
+Boots purpose first script limit (Err Memory) = Unit {0}
+
+-- what is done with a run for a purpose
+abbrev pub use_for : Purpose → Use
+use_for ForRun = say_run
+use_for ForDebug = hear_run
 
 -- ---- programs that have their places
 

@@ -13,7 +13,7 @@ use Rattle.line_talk.specs.Lines.{closes}
 use Rattle.line_talk.specs.declared.way.Way.{Way}
 use Rattle.line_talk.specs.Hearing.{MayEnd, lines_heard, way_line}
 use Rattle.pico_top.specs.Dialogue.{Cost, Told, Dialogue, dialogue_of}
-use Rattle.pico_top.specs.Dialogue.Dialogue.{Load, JudgeImage, JudgeScript, JudgeSource, JudgePlace, SayWords, Say, Hear}
+use Rattle.pico_top.specs.Dialogue.Dialogue.{Load, JudgeImage, JudgeScript, JudgeSource, JudgePlace, SayWords, Say, Hear, HearWords}
 
 -- how a walk ends: its text was said, these bytes were heard up to an end and this was told, an input was refused with every
 -- input before it accepted, or memory ran out
@@ -35,6 +35,12 @@ abbrev pub heard_as : (List ℕ → Bool) → (List (List ℕ) → Told) → Lis
 heard_as last told bytes way =
     let t = told (lines_heard last way bytes) in Heard bytes way (t.text ++ way_line way) t.cost
 
+-- so many bytes were heard, up to an end
+abbrev pub IsHeard : ℕ → (List ℕ → Bool) → (List (List ℕ) → Told) → Ending → Type 0
+IsHeard limit last told e =
+    (bytes : List ℕ) × (way : Way) × (length bytes ≤ limit) × MayEnd limit (closes last bytes) (length bytes) way
+    × (e ≡ heard_as last told bytes way)
+
 -- A walk of the dialogue ends so: each load was answered by the shelf, each input was accepted or was the last one, and each
 -- program has the words that stand with its lines. Memory may run out at every step, and nothing is said then.
 abbrev pub Walks : Option Files → Dialogue → Ending → Type 0
@@ -51,9 +57,9 @@ Walks files (JudgePlace (Err fault) next) e = (e ≡ Refused (BadSource fault)) 
 Walks files (SayWords plans text cost) e =
     ((programs : List Program) × ArePrograms plans programs × (e ≡ Said (text programs) (cost programs))) ⊎ (e ≡ NoMemory)
 Walks files (Say text cost) e = (e ≡ Said text cost) ⊎ (e ≡ NoMemory)
-Walks files (Hear limit last told) e =
-    ((bytes : List ℕ) × (way : Way) × (length bytes ≤ limit) × MayEnd limit (closes last bytes) (length bytes) way
-    × (e ≡ heard_as last told bytes way)) ⊎ (e ≡ NoMemory)
+Walks files (Hear limit last told) e = IsHeard limit last told e ⊎ (e ≡ NoMemory)
+Walks files (HearWords plans limit last told) e =
+    ((programs : List Program) × ArePrograms plans programs × IsHeard limit last (told programs) e) ⊎ (e ≡ NoMemory)
 
 -- a walk from the reading of the words, which are refused where they have none
 abbrev pub WalksFrom : Option Files → DeviceMeaning → Option Command → Ending → Type 0
@@ -99,6 +105,7 @@ verdict files (JudgePlace (Err fault) next) = Refuses (BadSource fault)
 verdict files (SayWords plans text cost) = Says
 verdict files (Say text cost) = Says
 verdict files (Hear limit last told) = Hears limit last
+verdict files (HearWords plans limit last told) = Hears limit last
 
 abbrev pub verdict_from : Files → DeviceMeaning → Option Command → Verdict
 verdict_from files device None = Refuses BadWords

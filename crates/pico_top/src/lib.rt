@@ -70,8 +70,8 @@ fn converse<F: Shelf, I: Source, O: Sink, X: Device, L: Ledger>(
 /// loaded or is too large, 4 where the image has a fault, 5 where a PIO source has one or its program finds no room, 6 where
 /// the script has one, 7 where the sink failed, 8 where the source failed, 9 where memory ran out, 10 where the input is
 /// longer than its limit. A refusal has its one line, `error ..`, for its text; at 8 and 10 such a line comes behind the
-/// answers. The `device` stands at the pads of a run and at the addresses that no block covers. Each cycle of a run counts as
-/// one of the `steps`.
+/// answers. The `device` stands at the pads of a run and at the addresses that no block covers. Each cycle of a run, and each that
+/// the debugger steps, counts as one of the `steps`.
 pub fn pico<F: Shelf, I: Source, O: Sink, X: Device, L: Ledger>(
     alloc: Global,
     words: &[String],

@@ -6,12 +6,12 @@ ghost use Rattle.std.specs.String.{string_bytes};
 ghost use Rattle.lane_look.specs.Device.{DeviceMeaning};
 ghost use Rattle.rp_ports.specs.Shelf.{Files};
 ghost use Rattle.uf2_image.specs.Uf2.{FitsSram};
-ghost use Rattle.rp_machine.specs.Boot.{AreLoads};
-ghost use Rattle.command_words.specs.Words.{reading};
-ghost use Rattle.command_words.specs.Words.Command.{RunImage, Assemble, Disassemble};
+ghost use Rattle.rp_machine.specs.Boot.{AreLoads, start};
+ghost use Rattle.command_words.specs.Words.{reading, IsLimited};
+ghost use Rattle.command_words.specs.Words.Command.{RunImage, DebugImage, Assemble, Disassemble};
 ghost use Rattle.command_words.specs.Read.{run_in, command_in};
 ghost use Rattle.pico_top.specs.Dialogue.{dialogue_of, behind_image, behind_script, with_image, with_script};
-ghost use Rattle.pico_top.specs.Opening.{Opens, OpensFrom, LoadsAs, Passes, ReadsScript, Boots};
+ghost use Rattle.pico_top.specs.Opening.{Opens, OpensFrom, LoadsAs, Passes, ReadsScript, Boots, use_for};
 
 use crate::programs::open_programs;
 use command_words::{DisWords, Reading, RunWords, WordsFault, read_words};
@@ -21,6 +21,7 @@ use pio_disasm::write_source;
 use pio_listing::{listing, programs_in};
 use pio_parse::PioFault;
 use refusal_lines::Refusal;
+use reverse_debug::Session;
 use rp_machine::{Machine, PioLoad, World};
 use rp_ports::shelf::{Loaded, Shelf};
 use std::alloc::Global;
@@ -55,11 +56,33 @@ pub struct Started {
     pub limit: u64,
 }
 
+/// A session of the debugger, with the script of its run and the limit of cycles.
+#[derive(Drop)]
+pub struct Debugging {
+    /// The session before its first line.
+    pub session: Session,
+    /// The levels that drive the pins.
+    pub script: Script,
+    /// The limit, 1 to 1,000,000,000.
+    pub limit: u64,
+}
+
+/// What a machine is booted for.
+#[derive(Clone, Copy, Debug, PartialEq, Eq)]
+pub enum Purpose {
+    /// It runs up to its first stop.
+    Run,
+    /// The debugger goes to and fro in its run.
+    Debug,
+}
+
 /// What stands when the files are loaded.
 #[derive(Drop)]
 pub enum Opened {
     /// A machine that can run.
     Machine(Started),
+    /// A session that can hear lines.
+    Session(Debugging),
     /// A text that needs no machine.
     Text(Vec<u8>),
 }
@@ -132,9 +155,39 @@ fn open_script<F: Shelf>(alloc: Global, run: &RunWords, files: &mut F) -> Result
     }
 }
 
-/// Boots the machine of a run.
+/// What a machine before its first cycle was booted for.
+fn begin(
+    alloc: Global,
+    purpose: Purpose,
+    machine: Machine,
+    script: Script,
+    limit: u64,
+) -> Result<Opened, Stop>
+    requires start { machine.cycle ≡ 0 }
+    requires limit { limit ≤ 1000000000 }
+    ensures { Boots purpose machine script limit result }
+{
+    match purpose {
+        Purpose::Run => Ok(Opened::Machine(Started {
+            machine,
+            script,
+            limit,
+        })),
+        Purpose::Debug => match Session::open(alloc, &machine, limit) {
+            Ok(session) => Ok(Opened::Session(Debugging {
+                session,
+                script,
+                limit,
+            })),
+            Err(_) => Err(Stop::Memory),
+        },
+    }
+}
+
+/// Boots the machine of a run for a purpose.
 fn boot<X: Device>(
     alloc: Global,
+    purpose: Purpose,
     image: &Image,
     script: Script,
     loads: &[PioLoad],
@@ -143,7 +196,8 @@ fn boot<X: Device>(
 ) -> Result<Opened, Stop>
     requires image { FitsSram image.now }
     requires loads { AreLoads loads.now }
-    ensures { Boots (X.meaning device.now) image.now script loads.now limit result }
+    requires limit { limit ≤ 1000000000 }
+    ensures { Boots purpose (start (X.meaning device.now) image.now loads.now) script limit result }
 {
     let world = World {
         script: &script,
@@ -151,11 +205,7 @@ fn boot<X: Device>(
         limit,
     };
     match Machine::boot(alloc, image, loads, &world) {
-        Ok(machine) => Ok(Opened::Machine(Started {
-            machine,
-            script,
-            limit,
-        })),
+        Ok(machine) => begin(alloc, purpose, machine, script, limit),
         Err(_) => Err(Stop::Memory),
     }
 }
@@ -163,19 +213,21 @@ fn boot<X: Device>(
 /// Loads the programs of a run behind its image and its script, and boots the machine.
 fn open_behind_script<F: Shelf, X: Device>(
     alloc: Global,
+    purpose: Purpose,
     run: &RunWords,
     image: &Image,
     script: Script,
     files: &mut F,
     device: &X,
 ) -> Result<Opened, Stop>
-    requires { FitsSram image.now }
+    requires image { FitsSram image.now }
+    requires limit { run.now.cycles ≤ 1000000000 }
     ensures kept { F.files files.new ≡ F.files files.old }
     ensures answer { Opens (F.files files.old) (F.failed files.old) (F.failed files.new) (X.meaning device.now)
-        (behind_script (X.meaning device.now) (run_in run.now) image.now script) result }
+        (behind_script (use_for purpose) (X.meaning device.now) (run_in run.now) image.now script) result }
 {
     match open_programs(alloc, &run.pio, files) {
-        Ok(loads) => boot(alloc, image, script, &loads, run.cycles, device),
+        Ok(loads) => boot(alloc, purpose, image, script, &loads, run.cycles, device),
         Err(stop) => Err(stop),
     }
 }
@@ -183,18 +235,20 @@ fn open_behind_script<F: Shelf, X: Device>(
 /// Loads the script of a run behind its image, and then what comes behind it.
 fn open_behind_image<F: Shelf, X: Device>(
     alloc: Global,
+    purpose: Purpose,
     run: &RunWords,
     image: &Image,
     files: &mut F,
     device: &X,
 ) -> Result<Opened, Stop>
-    requires { FitsSram image.now }
+    requires image { FitsSram image.now }
+    requires limit { run.now.cycles ≤ 1000000000 }
     ensures kept { F.files files.new ≡ F.files files.old }
     ensures answer { Opens (F.files files.old) (F.failed files.old) (F.failed files.new) (X.meaning device.now)
-        (behind_image (X.meaning device.now) (run_in run.now) image.now) result }
+        (behind_image (use_for purpose) (X.meaning device.now) (run_in run.now) image.now) result }
 {
     match open_script(alloc, run, files) {
-        Ok(script) => open_behind_script(alloc, run, image, script, files, device),
+        Ok(script) => open_behind_script(alloc, purpose, run, image, script, files, device),
         Err(stop) => Err(stop),
     }
 }
@@ -202,16 +256,19 @@ fn open_behind_image<F: Shelf, X: Device>(
 /// Loads the image of a run, and then what comes behind it.
 fn open_run<F: Shelf, X: Device>(
     alloc: Global,
+    purpose: Purpose,
     run: &RunWords,
     files: &mut F,
     device: &X,
 ) -> Result<Opened, Stop>
+    requires limit { run.now.cycles ≤ 1000000000 }
     ensures kept { F.files files.new ≡ F.files files.old }
     ensures answer { Opens (F.files files.old) (F.failed files.old) (F.failed files.new) (X.meaning device.now)
-        (dialogue_of (X.meaning device.now) (RunImage (run_in run.now))) result }
+        (with_image (run_in run.now).image
+        (behind_image (use_for purpose) (X.meaning device.now) (run_in run.now))) result }
 {
     match open_image(alloc, run.image.as_str(), files) {
-        Ok(image) => open_behind_image(alloc, run, &image, files, device),
+        Ok(image) => open_behind_image(alloc, purpose, run, &image, files, device),
         Err(stop) => Err(stop),
     }
 }
@@ -258,12 +315,14 @@ fn open_reading<F: Shelf, X: Device>(
     files: &mut F,
     device: &X,
 ) -> Result<Opened, Stop>
+    requires { IsLimited (command_in reading.now) }
     ensures kept { F.files files.new ≡ F.files files.old }
     ensures answer { Opens (F.files files.old) (F.failed files.old) (F.failed files.new) (X.meaning device.now)
         (dialogue_of (X.meaning device.now) (command_in reading.now)) result }
 {
     match reading {
-        Reading::Run(run) => open_run(alloc, run, files, device),
+        Reading::Run(run) => open_run(alloc, Purpose::Run, run, files, device),
+        Reading::Debug(run) => open_run(alloc, Purpose::Debug, run, files, device),
         Reading::Dis(asked) => open_text(alloc, asked),
         Reading::Asm(name) => open_source(alloc, name.as_str(), files, device),
     }

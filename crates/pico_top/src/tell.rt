@@ -6,12 +6,19 @@ ghost use Rattle.refusal_lines.specs.Refusals.{line_of, status_of};
 ghost use Rattle.refusal_lines.specs.Meant.{meant};
 ghost use Rattle.pico_top.specs.RunText.{run_text, run_cycles};
 ghost use Rattle.pico_top.specs.Answer.{Puts, RunsOut};
-ghost use Rattle.pico_top.specs.Opening.{setting_in, opened_dialogue, IsReady, Refuses, Tells};
+ghost use Rattle.line_talk.specs.Debugger.{quits};
+ghost use Rattle.line_talk.specs.Hearing.{way_line, way_status};
+ghost use Rattle.reverse_debug.specs.Standing.{first_of, OpensAt};
+ghost use Rattle.pico_top.specs.Dialogue.{input_limit, session_told};
+ghost use Rattle.pico_top.specs.Dialogue.Dialogue.{Hear};
+ghost use Rattle.pico_top.specs.Opening.{setting_in, setting_by, opened_dialogue, IsReady, Refuses, Tells};
 
-use crate::open::{Opened, Started, Stop};
+use crate::open::{Debugging, Opened, Started, Stop};
 use crate::runner::run_to_stop;
 use crate::send::{send_end, send_text};
 use lane_look::Device;
+use line_talk::hear::hear;
+use line_talk::way::Way;
 use refusal_lines::{refusal_line, status};
 use rp_machine::{Steps, World};
 use rp_ports::sink::Sink;
@@ -19,6 +26,9 @@ use rp_ports::source::Source;
 use std::alloc::Global;
 use std::sync::ledger::Ledger;
 use trace_text::writer::{SinkFault, Writer};
+
+/// An input has at most 1 MiB up to its last line.
+const INPUT_LIMIT: usize = 1_048_576;
 
 /// Runs a machine, puts the lines of its events, and then those of its end.
 fn run<X: Device, O: Sink, L: Ledger>(
@@ -84,6 +94,83 @@ fn text_into<O: Sink>(text: &[u8], out: &mut O) -> u8
     }
 }
 
+/// Puts one line, and answers the status that it goes with, or 7 where the sink fails.
+fn put<O: Sink>(status: u8, line: &[u8], writer: &mut Writer<'_, O>) -> u8
+    ensures puts { Puts (O.written writer.old.out.now) (O.written writer.new.out.now) (O.faults writer.old.out.now)
+        (O.faults writer.new.out.now) result status line.now }
+    ensures same_sink { writer.new.out.ghost_name ≡ writer.old.out.ghost_name }
+{
+    match writer.line(line) {
+        Ok(()) => status,
+        Err(_) => 7,
+    }
+}
+
+/// Puts the line of the way in which a hearing ended, and answers its status, or 7 where the sink fails.
+fn close<O: Sink>(way: Way, writer: &mut Writer<'_, O>) -> u8
+    ensures puts { Puts (O.written writer.old.out.now) (O.written writer.new.out.now) (O.faults writer.old.out.now)
+        (O.faults writer.new.out.now) result (way_status way) (way_line way) }
+    ensures same_sink { writer.new.out.ghost_name ≡ writer.old.out.ghost_name }
+{
+    match way {
+        Way::Closed => put(0, b"", writer),
+        Way::Ended => put(0, b"", writer),
+        Way::Broken => put(8, b"error source\n", writer),
+        Way::Full => put(10, b"error input\n", writer),
+    }
+}
+
+/// Hears the lines of a source and puts what the debugger answers, and then the line of the way in which the hearing ended; answers
+/// the status of that way, or 7 where the sink fails.
+fn talk<I: Source, X: Device, O: Sink, L: Ledger>(
+    debugging: Debugging,
+    device: &X,
+    input: &mut I,
+    writer: &mut Writer<'_, O>,
+    steps: &mut Steps<L>,
+) -> u8
+    requires { OpensAt (first_of debugging.session) debugging.limit debugging.session }
+    ensures tells { Tells (Hear input_limit quits
+        (session_told (setting_by (X.meaning device.now) debugging) (first_of debugging.session)))
+        (I.left input.old) (I.left input.new) (I.faults input.old) (I.faults input.new)
+        (O.written writer.old.out.now) (O.written writer.new.out.now) (O.faults writer.old.out.now)
+        (O.faults writer.new.out.now) steps.old steps.new result }
+    ensures same_sink { writer.new.out.ghost_name ≡ writer.old.out.ghost_name }
+{
+    let Debugging {
+        mut session,
+        script,
+        limit,
+    } = debugging;
+    let world = World {
+        script: &script,
+        device,
+        limit,
+    };
+    match hear(&mut session, &world, input, INPUT_LIMIT, writer, steps) {
+        Ok(way) => close(way, writer),
+        Err(_) => 7,
+    }
+}
+
+/// Hears the lines of a source into a sink.
+fn talk_into<I: Source, X: Device, O: Sink, L: Ledger>(
+    debugging: Debugging,
+    device: &X,
+    input: &mut I,
+    out: &mut O,
+    steps: &mut Steps<L>,
+) -> u8
+    requires { OpensAt (first_of debugging.session) debugging.limit debugging.session }
+    ensures { Tells (Hear input_limit quits
+        (session_told (setting_by (X.meaning device.now) debugging) (first_of debugging.session)))
+        (I.left input.old) (I.left input.new) (I.faults input.old) (I.faults input.new)
+        (O.written out.old) (O.written out.new) (O.faults out.old) (O.faults out.new) steps.old steps.new result }
+{
+    let mut writer = Writer { out };
+    talk(debugging, device, input, &mut writer, steps)
+}
+
 /// Puts the text of what was opened into a sink, or what is told of the lines of the source, and answers the status, 7 where
 /// the sink fails.
 pub fn tell_into<I: Source, X: Device, O: Sink, L: Ledger>(
@@ -98,9 +185,9 @@ pub fn tell_into<I: Source, X: Device, O: Sink, L: Ledger>(
         (I.left input.old) (I.left input.new) (I.faults input.old) (I.faults input.new)
         (O.written out.old) (O.written out.new) (O.faults out.old) (O.faults out.new) steps.old steps.new result }
 {
-    let _ = input;
     match opened {
         Opened::Machine(started) => run_into(started, device, out, steps),
+        Opened::Session(debugging) => talk_into(debugging, device, input, out, steps),
         Opened::Text(text) => text_into(&text, out),
     }
 }
@@ -110,10 +197,7 @@ fn say<O: Sink>(status: u8, line: &[u8], out: &mut O) -> u8
     ensures { Puts (O.written out.old) (O.written out.new) (O.faults out.old) (O.faults out.new) result status line.now }
 {
     let mut writer = Writer { out };
-    match writer.line(line) {
-        Ok(()) => status,
-        Err(_) => 7,
-    }
+    put(status, line, &mut writer)
 }
 
 /// Puts the line that says that memory ran out.

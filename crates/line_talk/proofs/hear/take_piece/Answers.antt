@@ -15,7 +15,7 @@ returns-in-Ok-false-clause-turns g c place limit count left lost old before step
 pub returns-in-Err-clause-turns : goal.returns-in-Err-clause-turns
 returns-in-Err-clause-turns g c place limit count left lost old before steps room k =
     let h = c.in-Took.ensures in
-    took_cut _ place limit left _ _ lost _ _ old _ _ before _ _ steps _ _ _ (g.A.Talker.place c.hear_bytes.new.talker) _ c.hear_bytes.new.open.items count c.in-Took.count c.take.new.buf c.in-Err.fault k h.content h.count (omega (arith, room, c.take.auto.buf)) (λ seen along. c.in-Err.ensures.feeds place seen old before steps along)
+    took_cut _ place limit left _ _ lost _ _ old _ _ before _ _ steps _ _ _ c.hear_bytes.new.session.now.cycle _ c.hear_bytes.new.open.items count c.in-Took.count c.take.new.buf c.in-Err.fault k h.content h.count (omega (arith, room, c.take.auto.buf)) (λ seen along. c.in-Err.ensures.feeds place seen old before steps along)
 
 pub returns-in-Ok-clause-turns : goal.returns-in-Ok-clause-turns
 returns-in-Ok-clause-turns g c place limit count left lost old before steps room k =

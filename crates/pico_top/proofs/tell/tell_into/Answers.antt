@@ -10,3 +10,6 @@ pub returns-in-Text : goal.returns-in-Text
 returns-in-Text g c =
     let puts = rw c.deref.ensures.value at c.text_into.ensures in
     rw c.in-Text.is (tells_said c.in-Text.text.items (Exactly 0) _ _ _ _ _ _ _ _ _ puts (λ e. omega arith) (omega arith) (omega arith))
+
+pub returns-in-Session : goal.returns-in-Session
+returns-in-Session g c = rw c.in-Session.is c.talk_into.ensures

@@ -1,0 +1,88 @@
+-- The limit of a run that the words ask for.
+use Rattle.std.proofs.Common.{◌≡◌, ℕ, ◌≤◌, nat_le, Bool, true, false, ◌&&◌, if◌then◌else◌, List, [], ◌∷◌, Option, Some, None, option_map, refl, subst}
+use Rattle.std.specs.Option.{option_and_then}
+use Rattle.std.specs.Prelude.{codes}
+use Rattle.std.specs.Str.{bytes_eq}
+use Rattle.std.proofs.lemmas.Option.{none-some, cond_some}
+use Rattle.std.proofs.lemmas.Bool.{leb-true}
+use Rattle.pio_words.specs.declared.side.SideConfig.{SideConfig}
+use Rattle.line_words.specs.Line.{line_in}
+use Rattle.command_words.specs.Numbers.{within, number_within, number_of}
+use Rattle.command_words.specs.Options.{is_normal, value_for}
+use Rattle.command_words.specs.Entries.{Entry}
+use Rattle.command_words.specs.Words.{Run, Command, IsLimited, cycles_in, run_with, run_reading, disassemble, dis_reading, written, reading}
+use Rattle.command_words.specs.Words.Command.{RunImage, DebugImage, Disassemble, Assemble}
+
+abbrev IsRunLimited : Option Run → Type 0
+IsRunLimited None = Unit {0}
+IsRunLimited (Some run) = run.cycles ≤ 1000000000
+
+abbrev AreLimited : Option Command → Type 0
+AreLimited None = Unit {0}
+AreLimited (Some command) = IsLimited command
+
+second : (a b : Bool) → (a && b) ≡ true → b ≡ true
+second true b e = e
+second false b e = absurd (cc e)
+
+within_high : (low high : ℕ) (n : Option ℕ) (k : ℕ) → option_and_then (within low high) n ≡ Some k → k ≤ high
+within_high low high None k e = absurd (none-some k e)
+within_high low high (Some n) k e =
+    let h = cond_some (nat_le low n && nat_le n high) n k e in
+    let le : n ≤ high = leb-true n high (second (nat_le low n) (nat_le n high) h.0) in
+    rw h.1 at le
+
+cycles_high : (value : Option (List ℕ)) (k : ℕ) → option_and_then (number_within 1 1000000000) value ≡ Some k → k ≤ 1000000000
+cycles_high None k e = absurd (none-some k e)
+cycles_high (Some word) k e = within_high 1 1000000000 (number_of word) k e
+
+with_limited : (image : List ℕ) (cycles : Option ℕ) (script : Option (List ℕ)) (pio : Option (List Entry)) → ((k : ℕ) → cycles ≡ Some k → k ≤ 1000000000) → IsRunLimited (run_with image cycles script pio)
+with_limited image None script pio h = tt
+with_limited image (Some n) script None h = tt
+with_limited image (Some n) script (Some entries) h = h n refl
+
+run_limited : (image : List ℕ) (options : List (List ℕ)) → IsRunLimited (run_reading image options)
+unfolding run_reading
+run_limited image options = with_limited image (cycles_in options) _ _ (λ k e. cycles_high (value_for (codes "--cycles") options) k e)
+
+as_run : (run : Option Run) → IsRunLimited run → AreLimited (option_map RunImage run)
+as_run None h = tt
+as_run (Some run) h = h
+
+as_debug : (run : Option Run) → IsRunLimited run → AreLimited (option_map DebugImage run)
+as_debug None h = tt
+as_debug (Some run) h = h
+
+disassembled : (words : Option (List ℕ)) (side : Option SideConfig) → AreLimited (disassemble words side)
+disassembled None side = tt
+disassembled (Some words) None = tt
+disassembled (Some words) (Some side) = tt
+
+dis_limited : (hex : List ℕ) (options : List (List ℕ)) → AreLimited (dis_reading hex options)
+unfolding dis_reading
+dis_limited hex options = disassembled _ _
+
+either : (b : Bool) (x y : Option Command) → AreLimited x → AreLimited y → AreLimited (if b then x else y)
+either true x y h k = h
+either false x y h k = k
+
+written_limited : (words : List (List ℕ)) → AreLimited (written words)
+unfolding written
+written_limited [] = tt
+written_limited (command ∷ []) = tt
+written_limited (command ∷ argument ∷ options) =
+    either (bytes_eq command (codes "run")) _ _ (as_run (run_reading argument options) (run_limited argument options))
+    (either (bytes_eq command (codes "debug")) _ _ (as_debug (run_reading argument options) (run_limited argument options))
+    (either (bytes_eq command (codes "dis")) _ _ (dis_limited argument options) (either (bytes_eq command (codes "asm")) _ _ tt tt)))
+
+line_limited : (line : Option (List (List ℕ))) → AreLimited (option_and_then written line)
+line_limited None = tt
+line_limited (Some line) = written_limited line
+
+read_limited : (words : List (List ℕ)) → AreLimited (reading words)
+unfolding reading
+read_limited words = either (is_normal words) _ _ (written_limited words) (line_limited (line_in words))
+
+-- the command that is read has a limit
+pub command_limited : (words : List (List ℕ)) (command : Command) → reading words ≡ Some command → IsLimited command
+command_limited words command e = subst (λ (c : Option Command). AreLimited c) e (read_limited words)

@@ -1,0 +1,26 @@
+-- The debugger as a talk about lines: it stands at a cycle. The project's own.
+use Rattle.std.specs.Prelude.{ℕ, Bool, true, false, List}
+use Rattle.outer_lane.specs.Setting.{Setting}
+use Rattle.rp_machine.specs.State.{State}
+use Rattle.snap_ring.specs.Snapshots.{spacing_of}
+use Rattle.reverse_debug.specs.Commands.{Command, command_of}
+use Rattle.reverse_debug.specs.Commands.Command.{Quit}
+use Rattle.reverse_debug.specs.Replies.{heard, cost}
+use Rattle.line_talk.specs.Talk.{Talk}
+
+-- the line that ends a session
+abbrev pub is_quit : Command → Bool
+is_quit Quit = true
+is_quit _ = false
+
+abbrev pub quits : List ℕ → Bool
+quits line = is_quit (command_of line)
+
+-- a session from the first state of a run
+abbrev pub talk_of : Setting → State → Talk
+talk_of w first = record {
+  reply = λ cycle line. (heard w first cycle line).reply;
+  next = λ cycle line. (heard w first cycle line).cycle;
+  cost = λ cycle line. cost w first (spacing_of w.limit) cycle line;
+  last = quits;
+}
