@@ -3,7 +3,7 @@
 ghost use Rattle.std.specs.Prelude.{◌≡◌, ◌-◌, [], Some, vec_len, vec_capacity};
 ghost use Rattle.rp_ports.specs.Fault.{one_more};
 ghost use Rattle.rp_ports.specs.Sink.{Writes, Counts};
-ghost use Rattle.rp_ports.specs.MemSink.{FailsWhereListed};
+ghost use Rattle.rp_ports.specs.MemSink.{FailsWhereListed, faults_after};
 
 use crate::sink::{Put, Sink};
 use std::alloc::Global;
@@ -41,6 +41,7 @@ impl MemSink {
     fn fail(&mut self) -> Put
         ensures failed { result ≡ Put.Failed }
         ensures count { Counts self.old.faults self.new.faults result }
+        ensures faults { self.new.faults ≡ one_more self.old.faults }
         ensures kept { self.new ≡ record self.old { faults = self.new.faults } }
     {
         self.faults = self.faults.saturating_add(1);
@@ -58,6 +59,7 @@ impl Sink for MemSink {
     fn put(&mut self, bytes: &[u8]) -> Put
         ensures content { Writes (Some self.old.bytes.items) (Some self.new.bytes.items) bytes.now result }
         ensures count { Counts self.old.faults self.new.faults result }
+        ensures faults { self.new.faults ≡ faults_after self.old.faults result }
         ensures exact { FailsWhereListed self.old.failing.items self.old.calls
             (vec_capacity self.old.bytes - vec_len self.old.bytes) bytes.now result }
         ensures counted { self.new.calls ≡ one_more self.old.calls }

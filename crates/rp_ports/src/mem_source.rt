@@ -1,9 +1,9 @@
 //! A source in memory.
 
-ghost use Rattle.std.specs.Prelude.{◌≡◌, ◌<◌, Some, length, min, take, drop};
+ghost use Rattle.std.specs.Prelude.{◌≡◌, ◌<◌, ◌-◌, Some, length, min, take, drop};
 ghost use Rattle.rp_ports.specs.Fault.{one_more};
 ghost use Rattle.rp_ports.specs.Source.{Takes, Counts};
-ghost use Rattle.rp_ports.specs.MemSource.{FailsWhereListed};
+ghost use Rattle.rp_ports.specs.MemSource.{FailsWhereListed, faults_after};
 
 use crate::source::{Source, Taken};
 
@@ -65,7 +65,9 @@ impl Source for MemSource {
         ensures content { Takes (Some (drop self.old.taken self.old.bytes.items))
             (Some (drop self.new.taken self.new.bytes.items)) buf.new result }
         ensures count { Counts self.old.faults self.new.faults result }
-        ensures exact { FailsWhereListed self.old.failing.items self.old.calls result }
+        ensures faults { self.new.faults ≡ faults_after self.old.faults result }
+        ensures exact { FailsWhereListed self.old.failing.items self.old.calls
+            (length self.old.bytes.items - self.old.taken) (length buf.old) result }
         ensures counted { self.new.calls ≡ one_more self.old.calls }
         ensures listed { self.new.failing ≡ self.old.failing }
     {
