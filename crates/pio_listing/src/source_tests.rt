@@ -1,6 +1,6 @@
 //! Sources of every kind, large ones too, with the first fault of each.
 
-use crate::programs::{fault_in, has_words};
+use crate::program_tests::{fault_in, has_words};
 use pio_parse::{PioFault, parse};
 use std::alloc::{AllocError, Global};
 

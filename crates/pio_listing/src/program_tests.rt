@@ -1,15 +1,13 @@
 //! Whole sources: the words that each gives, and the first fault of those that have one.
 
-use pio_asm::{assemble, place_program};
-use pio_parse::{PioFault, parse};
+use crate::programs_in;
+use pio_asm::place_program;
+use pio_parse::PioFault;
 use std::alloc::Global;
 
 pub(crate) fn fault_in(alloc: Global, text: &[u8]) -> Option<PioFault> {
-    match parse(alloc, text) {
-        Ok(source) => match assemble(alloc, &source) {
-            Ok(_) => None,
-            Err(fault) => Some(fault),
-        },
+    match programs_in(alloc, text) {
+        Ok(_) => None,
         Err(fault) => Some(fault),
     }
 }
@@ -20,17 +18,14 @@ fn fault_of(alloc: Global, text: &str) -> Option<PioFault> {
 
 // Whether a source has one program, with these words and these places of its wrap.
 pub(crate) fn has_words(alloc: Global, text: &[u8], words: &[u16], target: u8, wrap: u8) -> bool {
-    match parse(alloc, text) {
-        Ok(source) => match assemble(alloc, &source) {
-            Ok(programs) => match programs.as_slice() {
-                [program] => {
-                    program.words.as_slice() == words
-                        && program.target == target
-                        && program.wrap == wrap
-                }
-                _ => false,
-            },
-            Err(_) => false,
+    match programs_in(alloc, text) {
+        Ok(programs) => match programs.as_slice() {
+            [program] => {
+                program.words.as_slice() == words
+                    && program.target == target
+                    && program.wrap == wrap
+            }
+            _ => false,
         },
         Err(_) => false,
     }
@@ -137,13 +132,10 @@ fn faults_of_programs(rt: HostRuntime) {
 }
 
 fn place_of(alloc: Global, text: &str, used: u32) -> Option<Result<u8, PioFault>> {
-    match parse(alloc, text.as_bytes()) {
-        Ok(source) => match assemble(alloc, &source) {
-            Ok(programs) => match programs.as_slice() {
-                [program] => Some(place_program(used, program)),
-                _ => None,
-            },
-            Err(_) => None,
+    match programs_in(alloc, text.as_bytes()) {
+        Ok(programs) => match programs.as_slice() {
+            [program] => Some(place_program(used, program)),
+            _ => None,
         },
         Err(_) => None,
     }

@@ -1,6 +1,6 @@
 //! Each form of each instruction, as it is read and as it is written.
 
-use crate::programs::has_words;
+use crate::program_tests::has_words;
 use pio_disasm::write_source;
 use pio_words::SideConfig;
 use std::alloc::Global;
