@@ -1,3 +1,5 @@
+//! A program that is being assembled: its members with their words, and what its directives have said.
+
 ghost use Rattle.std.specs.Prelude.{◌≡◌, ◌++◌, ◌∷◌, [], ◌<◌, ◌≤◌, length, MatchResult, Ok, Err};
 ghost use Rattle.pio_asm.specs.Plan.{IsSound};
 ghost use Rattle.pio_asm.specs.Code.{AreWordsOf};

@@ -1,3 +1,5 @@
+//! What each directive does to the program that is being assembled.
+
 ghost use Rattle.std.specs.Prelude.{◌≡◌, ◌≤◌, ◌-◌, OnOk, IfSome};
 ghost use Rattle.pio_asm.specs.Plan.{IsOptionalConfig, IsSound};
 ghost use Rattle.pio_words.specs.Operation.{bit};

@@ -1,3 +1,5 @@
+//! A line of a program: its directive or its instruction.
+
 ghost use Rattle.std.specs.Prelude.{◌≡◌, OnOk};
 ghost use Rattle.pio_asm.specs.Plan.{IsOptionalConfig};
 ghost use Rattle.pio_asm.specs.Step.{Makes, instruction_step, line_step, statement_step};

@@ -1,3 +1,5 @@
+//! The delay and the side-set value of an instruction.
+
 ghost use Rattle.std.specs.Prelude.{◌≡◌, ◌≤◌, IfOk, true, false, is_some, ◌||◌, ◌==◌};
 ghost use Rattle.pio_asm.specs.Plan.{IsConfig, IsOptionalConfig, config_of, delay_bits, delay_part_in, greatest, side_part_in, side_value_of};
 

@@ -1,3 +1,5 @@
+//! The names that a source defines, and what a name stands for.
+
 ghost use Rattle.std.specs.Prelude.{◌≡◌, OnOk, IfOk};
 ghost use Rattle.pio_asm.specs.Value.{evaluated};
 ghost use Rattle.pio_asm.specs.Step.{definition_value, is_label_twice, is_member, is_seen, label_value, with_definition, with_label, with_line_names, with_name};

@@ -1,3 +1,5 @@
+//! Operands of an instruction, each within its field.
+
 ghost use Rattle.std.specs.Prelude.{◌≡◌, ◌≤◌, IfOk, IfSome};
 ghost use Rattle.pio_asm.specs.Value.{evaluated};
 ghost use Rattle.pio_asm.specs.Operand.{field_in, field_of, number_within, part_in, part_of, polarity_in};

@@ -1,3 +1,5 @@
+//! The operation of an instruction, with its operands evaluated.
+
 ghost use Rattle.std.specs.Prelude.{◌≡◌, ◌≤◌, IfOk, IfSome, false, Some, option_map, if◌then◌else◌};
 ghost use Rattle.pio_asm.specs.Fits.{IsInRange, IsWaitInRange};
 ghost use Rattle.pio_asm.specs.Operand.{field_in, polarity_in};

@@ -1,3 +1,5 @@
+//! Where a program goes among the places of an instruction memory.
+
 ghost use Rattle.std.specs.Prelude.{◌≡◌, ◌<◌, ◌≤◌, ◌↔◌, IsTrue, ℕ, None, length, IfOk, IfErr, IfSome};
 ghost use Rattle.pio_asm.specs.Place.{AreFree, HasNoPlace, IsFree, IsPlaceFor};
 

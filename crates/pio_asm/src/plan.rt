@@ -1,3 +1,5 @@
+//! What a line puts into its program: an operation with its side-set value and delay, or the value of a `.word`.
+
 ghost use Rattle.std.specs.Prelude.{◌≡◌, ◌≤◌, IfOk, IfSome, true, false, ◌||◌, ◌==◌};
 ghost use Rattle.pio_asm.specs.Fits.{IsInRange};
 ghost use Rattle.pio_asm.specs.Plan.{IsConfig, IsOptionalConfig, IsSound, delay_bits, greatest, instruction_in, member_of};

@@ -1,3 +1,5 @@
+//! A table of names with their values.
+
 ghost use Rattle.std.specs.Prelude.{◌≡◌, [], OnOk};
 ghost use Rattle.pio_asm.specs.Symbols.{found, put};
 

@@ -1,3 +1,5 @@
+//! The value of an expression.
+
 ghost use Rattle.std.specs.Prelude.{◌≡◌, ◌∷◌, [], ℕ, ◌+ℤ◌, ◌-ℤ◌, ◌*ℤ◌, neg_ℤ, OnOk, IfOk};
 ghost use Rattle.pio_asm.specs.Value.{bounded, bounded_option, evaluated, is_in_bounds, name_step, number_step, one_operand, operator_step, rest_of, reversed_bits, term_step, top_of, two_operands, unary_step, binary_step, value_in, with_result};
 

@@ -1,3 +1,5 @@
+//! The word of each member of a program.
+
 ghost use Rattle.pio_words.specs.Word.{IsWord};
 ghost use Rattle.pio_asm.specs.Fits.{FitsSide, IsInRange};
 ghost use Rattle.pio_asm.specs.Plan.{IsSound};

@@ -6,6 +6,8 @@ pub mod block;
 pub mod inputs;
 pub mod laws;
 mod machine;
+#[cfg(test)]
+mod machine_tests;
 mod machines;
 mod queues;
 pub mod registers;

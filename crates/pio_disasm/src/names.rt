@@ -1,3 +1,5 @@
+//! The words of the language that operands are written with.
+
 ghost use Rattle.std.specs.Prelude.{◌≡◌};
 ghost use Rattle.pio_disasm.specs.Names.{condition_name, in_source_name, mov_destination_name, mov_operation_name, mov_source_name, out_destination_name, set_destination_name};
 

@@ -1,3 +1,5 @@
+//! The source of a word, line by line.
+
 ghost use Rattle.std.specs.Prelude.{◌≡◌, ◌++◌, [], ◌<◌, ◌&&◌, if◌then◌else◌, OnOk, IfOk, codes, decimal};
 ghost use Rattle.std.specs.Char.{digit_char};
 ghost use Rattle.pio_disasm.specs.Text.{block_text, delay_text, hex_half, index_text, instruction_text, irq_mode_text, is_from_y, is_plain, is_to_y, is_written, line_text, mov_text, operation_text, side_set_text, side_text, source_text, wait_source_text, word_text};

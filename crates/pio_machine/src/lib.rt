@@ -17,8 +17,6 @@ mod operation;
 mod pins;
 mod queue;
 mod shifting;
-#[cfg(test)]
-mod tests;
 
 pub use cycle::tick;
 pub use fifo::Fifo;

@@ -1,3 +1,5 @@
+//! The tokens of a line that are not read yet, and why a line is not read to its end.
+
 ghost use Rattle.std.specs.Prelude.{◌≡◌, if◌then◌else◌};
 ghost use Rattle.pio_parse.specs.Calls.{Reads};
 ghost use Rattle.pio_parse.specs.Cursor.{after_head, head_kind, head_place, expected};

@@ -1,3 +1,5 @@
+//! Why a source is refused.
+
 use thiserror::Error;
 
 /// Why a source is refused, by its number in messages. Lines and columns count from 1.

@@ -1,3 +1,5 @@
+//! An instruction with its side-set value and its delay.
+
 ghost use Rattle.std.specs.Prelude.{◌≡◌};
 ghost use Rattle.pio_parse.specs.Calls.{Reads};
 ghost use Rattle.pio_parse.specs.Instruction.{delay_at, instruction_at, is_instruction, operands_at, side_at, modifiers_at};

@@ -1,3 +1,5 @@
+//! The operands of `jmp`.
+
 ghost use Rattle.std.specs.Prelude.{◌≡◌, Ok};
 ghost use Rattle.pio_parse.specs.Calls.{Reads};
 ghost use Rattle.pio_parse.specs.Instruction.{conditional_at, decrement_at, jmp_at, jmp_condition_at, not_condition_at, x_condition_at};

@@ -1,3 +1,5 @@
+//! Names, of which a short one takes no block of memory.
+
 ghost use Rattle.std.specs.Prelude.{◌≡◌, IfOk};
 
 use std::alloc::{AllocError, Global};

@@ -1,3 +1,5 @@
+//! Commas that may be missing, and the operands behind them.
+
 ghost use Rattle.std.specs.Prelude.{◌≡◌, Ok};
 ghost use Rattle.pio_parse.specs.Calls.{Reads};
 ghost use Rattle.pio_parse.specs.Cursor.{head_kind};

@@ -1,3 +1,5 @@
+//! The lines of a file, gathered into programs.
+
 ghost use Rattle.std.specs.Prelude.{◌≡◌, Ok, Some, IfOk, IfErr, OnOk, []};
 ghost use Rattle.pio_parse.specs.Statement.{is_end};
 ghost use Rattle.pio_parse.specs.Source.{IsFault, parsed, source_of};

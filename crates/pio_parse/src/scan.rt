@@ -1,3 +1,5 @@
+//! From characters to tokens.
+
 ghost use Rattle.std.specs.Prelude.{◌≡◌, ◌≤◌, ◌<◌, ◌+◌, ◌-◌, ◌^◌, ◌++◌, length, IfOk, IfErr, OnOk, Ok, option_to_list};
 ghost use Rattle.pio_parse.specs.Outcome.{map_ok};
 ghost use Rattle.pio_parse.specs.Scan.{begins, ends, finishes, IsCharFault, next_place, quietly, scanned, sign_of, single_token, skips, steps, word_ends};

@@ -1,3 +1,5 @@
+//! A line: its label, its directive or its instruction.
+
 ghost use Rattle.std.specs.Prelude.{◌≡◌};
 ghost use Rattle.pio_parse.specs.Calls.{Reads};
 ghost use Rattle.pio_parse.specs.Statement.{define_at, directive_at, end_at, is_end_after, is_first, is_program, label_at, line_at, name_token_at, side_set_at, statement_at, version_at};

@@ -1,3 +1,5 @@
+//! What a source says, line by line, with its expressions not evaluated.
+
 ghost use Rattle.std.specs.Prelude.{◌≡◌, ◌++◌, ◌∷◌, [], IfOk, OnOk};
 
 use crate::expression::Expression;

@@ -1,3 +1,5 @@
+//! Tokens and their places.
+
 ghost use Rattle.std.specs.Prelude.{◌≡◌, ◌<◌, ◌^◌};
 
 /// A place in a file of less than 4 GiB: lines and columns count from 1, and a column is a byte.

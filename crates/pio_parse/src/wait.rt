@@ -1,3 +1,5 @@
+//! The operands of `wait` and `irq`.
+
 ghost use Rattle.std.specs.Prelude.{◌≡◌, Ok};
 ghost use Rattle.pio_parse.specs.Calls.{Reads};
 ghost use Rattle.pio_parse.specs.Cursor.{head_kind};

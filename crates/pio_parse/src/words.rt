@@ -1,3 +1,5 @@
+//! Which token a run of letters, digits and signs is.
+
 ghost use Rattle.std.specs.Prelude.{◌≡◌, ◌<◌, ◌≤◌, find, length, Some, None};
 ghost use Rattle.pio_parse.specs.Words.{digit_of, digits_value, directive_kind_of, directive_name, directive_of, directives, is_word_char, keyword_name, keyword_of, keywords, name_kind_of, number_kind_of, number_of, same_word, word_kind};
 

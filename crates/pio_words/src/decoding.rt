@@ -1,3 +1,5 @@
+//! From an instruction word to its operation.
+
 ghost use Rattle.std.specs.Prelude.{◌≡◌, ◌≢◌, ◌==◌, ◌/◌, ◌%◌, ◌<◌, IfSome};
 ghost use Rattle.pio_words.specs.Table.{entry};
 ghost use Rattle.pio_words.specs.JmpCondition.{conditions};

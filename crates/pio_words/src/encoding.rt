@@ -1,3 +1,5 @@
+//! From an operation to its instruction word.
+
 ghost use Rattle.std.specs.Prelude.{◌≡◌, ℕ, ◌<◌, ◌≤◌, ◌+◌, ◌*◌, ◌/◌, ◌%◌, IfSome, Some};
 ghost use Rattle.pio_words.specs.Table.{entry};
 ghost use Rattle.pio_words.specs.JmpCondition.{conditions};
@@ -292,82 +294,3 @@ pub fn encoded_decodes()
     ensures side_decodes { SideDecodesBack }
     ensures unique { IsOneWord }
 {}
-
-#[cfg(test)]
-mod tests {
-    use super::*;
-    use crate::decoding::decode_word;
-    use crate::side::{SideDelay, decode_side};
-
-    const PLAIN: SideConfig = SideConfig {
-        count: 1,
-        opt: false,
-        pindirs: false,
-    };
-
-    const NO_SIDE: SideConfig = SideConfig {
-        count: 0,
-        opt: false,
-        pindirs: false,
-    };
-
-    const OPTIONAL: SideConfig = SideConfig {
-        count: 2,
-        opt: true,
-        pindirs: false,
-    };
-
-    fn is_word(op: PioOp, side: SideConfig, value: Option<u8>, delay: u8, word: u16) -> bool {
-        encode(&op, &side, value, delay) == Some(word)
-            && decode_word(word) == op
-            && decode_side(word, &side) == Some(SideDelay { value, delay })
-    }
-
-    // The words of `out x, 1 side 0 [2]`, `jmp !x 3 side 1 [1]` and so on, as pioasm makes them.
-    #[test]
-    fn words_of_known_instructions(rt: HostRuntime) {
-        let out = PioOp::Out {
-            destination: OutDestination::X,
-            count: 1,
-        };
-        assert!(rt; is_word(out, PLAIN, Some(0), 2, 0x6221));
-        let jmp = PioOp::Jmp {
-            condition: JmpCondition::XZero,
-            address: 3,
-        };
-        assert!(rt; is_word(jmp, PLAIN, Some(1), 1, 0x1123));
-        let nop = PioOp::Mov {
-            destination: MovDestination::Y,
-            operation: MovOperation::Plain,
-            source: MovSource::Y,
-        };
-        assert!(rt; is_word(nop, PLAIN, Some(0), 4, 0xa442));
-        let set = PioOp::Set {
-            destination: SetDestination::Pindirs,
-            value: 1,
-        };
-        assert!(rt; is_word(set, NO_SIDE, None, 0, 0xe081));
-        let pull = PioOp::Pull {
-            if_empty: false,
-            block: true,
-        };
-        assert!(rt; is_word(pull, OPTIONAL, Some(1), 3, 0x97a0));
-        let input = PioOp::In {
-            source: InSource::Pins,
-            count: 32,
-        };
-        assert!(rt; is_word(input, NO_SIDE, None, 31, 0x5f00));
-        let index = IrqIndex {
-            number: 5,
-            relative: true,
-        };
-        let wait = PioOp::Wait {
-            polarity: true,
-            source: WaitSource::Irq(index),
-        };
-        assert!(rt; is_word(wait, OPTIONAL, None, 0, 0x20d5));
-        assert!(rt; decode_word(0x8001) == PioOp::Reserved);
-        assert!(rt; encode(&out, &PLAIN, Some(0), 16).is_none());
-        assert!(rt; encode(&out, &PLAIN, None, 0).is_none());
-    }
-}

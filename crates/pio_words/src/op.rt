@@ -1,3 +1,5 @@
+//! The operations of a machine, with their operands.
+
 /// When a `jmp` is taken (RP2040 Datasheet, 3.4.2).
 #[derive(Clone, Copy, PartialEq, Eq)]
 pub enum JmpCondition {

@@ -1,3 +1,5 @@
+//! The bits that side-set and delay share.
+
 ghost use Rattle.std.specs.Prelude.{◌≡◌, ℕ, ◌<◌, ◌≤◌, ◌^◌, ◌+◌, ◌-◌, ◌*◌, ◌/◌, ◌%◌, IfSome, Option};
 ghost use Rattle.pio_words.specs.Side.{IsOptionalSide, IsPlainSide, IsSideField, IsScaledSide, optional_side_at, plain_side_at, scaled_side, side_at};
 

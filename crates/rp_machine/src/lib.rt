@@ -20,8 +20,6 @@ pub mod machine;
 mod registers;
 pub mod rest;
 pub mod steps;
-#[cfg(test)]
-mod tests;
 pub mod wanted;
 
 pub use access::asked_of;

@@ -1,3 +1,5 @@
+//! Words of a real assembler, and words that no row fits.
+
 use crate::decode;
 use rp_base::op::Op;
 

@@ -1,6 +1,6 @@
-//! Single instructions, and runs of small programs.
+//! One machine: single instructions, and runs of small programs.
 
-use crate::{Done, Machine1, Seen, Waiting, tick};
+use pio_machine::{Done, Machine1, Seen, Waiting, tick};
 use std::process::Abort;
 
 /// What a program sees where all pins are low.
