@@ -3,6 +3,7 @@
 
 pub mod event;
 pub mod line;
+pub mod tape;
 #[cfg(test)]
 mod tests;
 pub mod writer;

@@ -45,7 +45,7 @@ along_states w s zero le = along_here w s le
 along_states w s (suc n) le = along_by w s n (stop w s) refl le (λ runs. along_states w (next w s) n (along_next w s runs le).within)
 
 -- a window with a cycle moves on
-moves_on : (w : Setting) (s : State) (n : ℕ) → stop w s ≡ None → s.cycle ≤ w.limit → s.cycle < (states w s (suc n)).cycle
+pub moves_on : (w : Setting) (s : State) (n : ℕ) → stop w s ≡ None → s.cycle ≤ w.limit → s.cycle < (states w s (suc n)).cycle
 moves_on w s n runs le =
     let a = along_next w s runs le in
     let b = along_states w (next w s) n a.within in
@@ -59,9 +59,9 @@ moves_on w s n runs le =
 abbrev pub left_of : Setting → Position → ℕ
 left_of w p = 2 * (w.limit - p.state.cycle) + (if p.after_empty then 0 else 1)
 
-record Nearer (w : Setting) (p q : Position) : Type 0 where
-  along : Along w p.state q.state
-  fewer : left_of w q < left_of w p
+pub record Nearer (w : Setting) (p q : Position) : Type 0 where
+  pub along : Along w p.state q.state
+  pub fewer : left_of w q < left_of w p
 
 -- a window without a cycle is not tried again
 nearer_none : (w : Setting) (p : Position) → p.after_empty ≡ false → left_of w (by_window w 0 p) < left_of w p
@@ -107,7 +107,7 @@ nearer_step : (w : Setting) (p : Position) (tried : Bool) → is_tried p.after_e
 nearer_step w p true e runs le = nearer_window w p (window_length w p.state) (not_empty p.after_empty (not (has_hold p.state.fabric)) e) runs le
 nearer_step w p false e runs le = nearer_cycle w p runs le
 
-nearer : (w : Setting) (p : Position) → stop w p.state ≡ None → p.state.cycle ≤ w.limit → Nearer w p (next_position w p)
+pub nearer : (w : Setting) (p : Position) → stop w p.state ≡ None → p.state.cycle ≤ w.limit → Nearer w p (next_position w p)
 unfolding next_position
 nearer w p runs le = nearer_step w p (is_tried p.after_empty p.state) refl runs le
 

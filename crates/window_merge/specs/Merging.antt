@@ -146,6 +146,6 @@ abbrev pub IsStep : Setting → Bool → Moved → State → State → List Mark
 IsStep w after_empty (moved.Stopped why) s t marks marks' steps steps' =
     (stop w s ≡ Some why) × (t ≡ s) × (steps' ≡ steps)
 IsStep w after_empty (moved.Window n) s t marks marks' steps steps' =
-    (stop w s ≡ None) × (is_tried after_empty s ≡ true) × (n ≡ window_length w s) × (t ≡ states w s n) × (marks' ≡ marks_in w s n) × (steps' ≡ steps + n)
+    (stop w s ≡ None) × (is_tried after_empty s ≡ true) × (n ≡ window_length w s) × (t ≡ states w s n) × (marks' ≡ marks_in w s n) × (steps' ≡ steps + n) × (t.cycle ≡ s.cycle + n)
 IsStep w after_empty moved.Cycle s t marks marks' steps steps' =
     (stop w s ≡ None) × (is_tried after_empty s ≡ false) × (t ≡ next w s) × (marks' ≡ mark w s ∷ []) × (steps' ≡ steps + 1)

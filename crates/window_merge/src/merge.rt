@@ -127,6 +127,7 @@ pub fn merge_runs<X: Device, L: Ledger>(
         (setting_of world.now.script.now (X.meaning world.now.device.now) world.now.limit) machine.old }
     ensures state { machine.new ≡ states
         (setting_of world.now.script.now (X.meaning world.now.device.now) world.now.limit) machine.old result }
+    ensures number { machine.new.cycle ≡ machine.old.cycle + result }
     ensures marks { marks.new ≡ marks_in
         (setting_of world.now.script.now (X.meaning world.now.device.now) world.now.limit) machine.old result }
     ensures steps { steps.new ≡ steps.old + result }

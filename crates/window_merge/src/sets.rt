@@ -196,6 +196,7 @@ pub fn window<X: Device, L: Ledger>(
         (setting_of world.now.script.now (X.meaning world.now.device.now) world.now.limit) machine.old }
     ensures state { machine.new ≡ states
         (setting_of world.now.script.now (X.meaning world.now.device.now) world.now.limit) machine.old result.1 }
+    ensures number { machine.new.cycle ≡ machine.old.cycle + result.1 }
     ensures marks { marks.new ≡ marks_in
         (setting_of world.now.script.now (X.meaning world.now.device.now) world.now.limit) machine.old result.1 }
     ensures steps { steps.new ≡ steps.old + result.1 }

@@ -1,0 +1,6 @@
+pub mod Along
+pub mod CycleEvents
+pub mod Going
+pub mod Marks
+pub mod Pads
+pub mod Telling

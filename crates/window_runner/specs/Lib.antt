@@ -1,0 +1,4 @@
+pub mod Came
+pub mod Laws
+pub mod Parts
+pub mod Told
