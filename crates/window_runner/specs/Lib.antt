@@ -1,4 +1,0 @@
-pub mod Came
-pub mod Laws
-pub mod Parts
-pub mod Told
