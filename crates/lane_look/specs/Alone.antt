@@ -1,7 +1,6 @@
 -- What a lane does that is answered by functions; and a run alone, in which what it is answered depends on what it stored.
 use Rattle.std.specs.Prelude.{ℕ, zero, suc, ◌+◌, Bool, true, false, not, ◌||◌, nat_eq, if◌then◌else◌, nat_lt, List, [], ◌∷◌, ◌++◌, length}
 use Rattle.lane_look.specs.Asking.{Asking, answered}
-use Rattle.lane_look.specs.Asking.Asking.{Ready, Question}
 use Rattle.lane_look.specs.declared.lane.Ask.{Ask}
 use Rattle.lane_look.specs.declared.lane.Want.{Want}
 use Rattle.lane_look.specs.declared.lane.Want.TheVariants as want

@@ -1,6 +1,6 @@
 -- Parts of a word as words, and its bytes in another order (ARMv6-M Architecture Reference Manual, A6.7.50 to A6.7.52,
 -- A6.7.68 to A6.7.71).
-use Rattle.std.specs.Prelude.{ℕ, ◌+◌, ◌*◌, ◌/◌, ◌%◌, ◌^◌}
+use Rattle.std.specs.Prelude.{ℕ, ◌+◌, ◌*◌, ◌%◌, ◌^◌}
 use Rattle.std.specs.Int.{w8, w16, cast_signed}
 use Rattle.word_bits.specs.Word.{word_of, byte_of, joined}
 use Rattle.m0_alu.specs.declared.ExtendKind.{ExtendKind}

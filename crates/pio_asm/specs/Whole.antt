@@ -1,5 +1,5 @@
 -- What holds of every program of a source: its wrap lies in its members, and its side-set has at most five bits.
-use Rattle.std.specs.Prelude.{ℕ, ◌+◌, ◌<◌, ◌≤◌, List, [], ◌∷◌, length}
+use Rattle.std.specs.Prelude.{◌+◌, ◌<◌, ◌≤◌, List, [], ◌∷◌, length}
 use Rattle.word_bits.specs.Word.{bit_number}
 use Rattle.pio_asm.specs.Assembly.{Plan}
 

@@ -1,5 +1,5 @@
 -- The first program of a file.
-use Rattle.std.proofs.Common.{◌≡◌, ℕ, ◌+◌, ◌<◌, ◌≤◌, List, [], ◌∷◌, length, Option, Some, None, Result, Ok, Err, slice_index_or, refl, sym, ap, subst, arith, ◌∙◌, suc}
+use Rattle.std.proofs.Common.{◌≡◌, ℕ, ◌+◌, ◌<◌, ◌≤◌, List, [], ◌∷◌, length, Some, None, Result, Ok, Err, slice_index_or, refl, sym, subst, arith}
 use Rattle.pio_parse.specs.declared.fault.PioFault.{PioFault}
 use Rattle.pio_asm.specs.declared.program.Program.{Program}
 use Rattle.pio_asm.specs.Assembly.{Plan, IsProgram, ArePrograms, Assembles}
