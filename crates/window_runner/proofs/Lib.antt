@@ -1,0 +1,7 @@
+pub mod Accepting
+pub mod Finishing
+pub mod Least
+pub mod Merges
+pub mod Ordering
+pub mod Standing
+pub mod Taking

@@ -1,0 +1,171 @@
+-- The merge of six runs alone is a window.
+use Rattle.std.proofs.Common.{◌≡◌, ◌≢◌, ℕ, zero, suc, ◌<◌, ◌≤◌, ◌||◌, Bool, true, false, not, nat_eq, inl, inr, List, [], ◌∷◌, ◌++◌, refl, ap, sym, ◌∙◌, add-one, arith}
+use Rattle.std.proofs.lemmas.Bool.Decides.{eqb_tells}
+use Rattle.lane_look.specs.declared.marks.Mark.{Mark}
+use Rattle.bus_fabric.specs.State.{has_hold}
+use Rattle.outer_lane.specs.Setting.{Setting}
+use Rattle.outer_lane.specs.Step as outer
+use Rattle.rp_machine.specs.State.{State}
+use Rattle.rp_machine.specs.Cycle.{wanted, next_by}
+use Rattle.rp_machine.specs.Run.{states}
+use Rattle.window_merge.specs.Lanes.{core_lane, dma_lane, pio_lane, peripheral_lane, runs_of}
+use Rattle.window_merge.specs.Window.{longest, ends_in, window_length}
+use Rattle.window_merge.specs.Merging.{Rests, begun_by, left_by, fits, Knows}
+use Rattle.window_merge.proofs.Agree.{both_false}
+use Rattle.window_merge.proofs.Lanes.{lane_first, below_least}
+use Rattle.window_merge.proofs.Windows.{Lengths, AreLengths, AreOn, Stands, Tries, stands_first, stands_next, ends_tried, ends_run, ends_full}
+use Rattle.window_runner.specs.Reports.{SixReports}
+use Rattle.window_runner.specs.Merge.{logs_of, by_logs, any_ends, merge_ends, merged_length, merged}
+use Rattle.window_runner.proofs.Least.{least_meets}
+use Rattle.window_runner.proofs.Taking.{AreAlone}
+
+abbrev lengths_of : SixReports → Lengths
+lengths_of six = record {
+  core0 = six.core0.length;
+  core1 = six.core1.length;
+  dma = six.dma.length;
+  pio0 = six.pio0.length;
+  pio1 = six.pio1.length;
+  outer = six.outer.length;
+}
+
+are_lengths : (w : Setting) (s : State) (six : SixReports) → AreAlone w s six → AreLengths w s (lengths_of six)
+are_lengths w s six h = record {
+  core0 = h.core0.same_length;
+  core1 = h.core1.same_length;
+  dma = h.dma.same_length;
+  pio0 = h.pio0.same_length;
+  pio1 = h.pio1.same_length;
+  outer = h.outer.same_length;
+}
+
+ends_as : (w : Setting) (s : State) (six : SixReports) (k : ℕ) → AreAlone w s six → ends_in (runs_of w s (longest w s)) k ≡ any_ends six k
+ends_as w s six k h =
+    rw (← h.core0.same_length, ← h.core1.same_length, ← h.dma.same_length, ← h.pio0.same_length, ← h.pio1.same_length, ← h.outer.same_length) refl
+
+differ_of : (x y : ℕ) → nat_eq x y ≡ false → x ≢ y
+differ_of x y e = elim (eqb_tells x y) [
+  | inl h ↦ absurd (let there = h.0 in cc (e, there))
+  | inr h ↦ h.1
+]
+
+on_of : (six : SixReports) (k : ℕ) → any_ends six k ≡ false → AreOn (lengths_of six) k
+on_of six k e =
+    let a = both_false (nat_eq k six.core0.length) _ e in
+    let b = both_false (nat_eq k six.core1.length) _ a.1 in
+    let c = both_false (nat_eq k six.dma.length) _ b.1 in
+    let d = both_false (nat_eq k six.pio0.length) _ c.1 in
+    let f = both_false (nat_eq k six.pio1.length) _ d.1 in
+    let g = both_false (nat_eq k six.outer.length) _ f.1 in
+    record {
+      core0 = differ_of k six.core0.length a.0;
+      core1 = differ_of k six.core1.length b.0;
+      dma = differ_of k six.dma.length c.0;
+      pio0 = differ_of k six.pio0.length d.0;
+      pio1 = differ_of k six.pio1.length f.0;
+      outer = differ_of k six.outer.length g.0;
+    }
+
+not_false : (a : Bool) → not a ≡ false → a ≡ true
+not_false true e = refl
+not_false false e = absurd (cc e)
+
+-- what the merge begins with
+pub record Starts (w : Setting) (s : State) (six : SixReports) : Type 0 where
+  pub free : has_hold s.fabric ≡ false
+  pub knows : Knows s
+  pub alone : AreAlone w s six
+
+-- after k cycles none of which ends it, it stands where the window stands
+record AtCycle (w : Setting) (s : State) (six : SixReports) (k : ℕ) : Type 0 where
+  marks : List Mark
+  stands : Stands w s (lengths_of six) k (by_logs w six s k).state (by_logs w six s k).rests marks
+
+first_at : (w : Setting) (s : State) (six : SixReports) → Starts w s six → AtCycle w s six 0
+unfolding by_logs
+first_at w s six h = record {
+  marks = [];
+  stands = stands_first w s (lengths_of six) (logs_of six) [] h.free h.knows
+      (lane_first core_lane 0 s.core0 s six.core0.length six.core0.log h.alone.core0.same_log)
+      (lane_first core_lane 1 s.core1 s six.core1.length six.core1.log h.alone.core1.same_log)
+      (lane_first dma_lane 2 s.dma s six.dma.length six.dma.log h.alone.dma.same_log)
+      (lane_first pio_lane 3 s.pio0 s six.pio0.length six.pio0.log h.alone.pio0.same_log)
+      (lane_first pio_lane 4 s.pio1 s six.pio1.length six.pio1.log h.alone.pio1.same_log)
+      (lane_first (peripheral_lane w) 5 s.outer s six.outer.length six.outer.log h.alone.outer.same_log) refl;
+}
+
+tries_at : (w : Setting) (s : State) (six : SixReports) (k : ℕ) (now : State) (rests : Rests) (marks : List Mark) → AreAlone w s six
+    → Stands w s (lengths_of six) k now rests marks → any_ends six k ≡ false → k < longest w s → Tries w s (lengths_of six) k now rests marks
+tries_at w s six k now rests marks h stands e lt =
+    record { stands = stands; lengths = are_lengths w s six h; on = on_of six k e; below = lt }
+
+next_stands : (w : Setting) (s : State) (six : SixReports) (k : ℕ) (now : State) (rests : Rests) (marks : List Mark)
+    → Tries w s (lengths_of six) k now rests marks → fits rests now ≡ true
+    → Stands w s (lengths_of six) (suc k) (next_by w (begun_by rests now) (wanted (begun_by rests now)) now) (left_by rests now)
+    (marks ++ outer.marked w now.outer (begun_by rests now).outer ∷ [])
+next_stands w s six k now rests marks t e =
+    rw (← add-one) (stands_next w s (lengths_of six) k now rests marks true (next_by w (begun_by rests now) (wanted (begun_by rests now)) now)
+    (left_by rests now) (marks ++ outer.marked w now.outer (begun_by rests now).outer ∷ []) t (sym e) refl refl refl refl)
+
+next_at : (w : Setting) (s : State) (six : SixReports) (k : ℕ) → AreAlone w s six → AtCycle w s six k → merge_ends w six s k ≡ false
+    → k < longest w s → AtCycle w s six (suc k)
+unfolding by_logs merge_ends
+next_at w s six k h at e lt =
+    let now = by_logs w six s k in
+    let parts = both_false (any_ends six k) (not (fits now.rests now.state)) e in
+    let t = tries_at w s six k now.state now.rests at.marks h at.stands parts.0 lt in
+    record {
+      marks = at.marks ++ outer.marked w now.state.outer (begun_by now.rests now.state).outer ∷ [];
+      stands = next_stands w s six k now.state now.rests at.marks t (not_false (fits now.rests now.state) parts.1);
+    }
+
+at_cycle : (w : Setting) (s : State) (six : SixReports) (k : ℕ) → Starts w s six → k ≤ longest w s
+    → ((j : ℕ) → j < k → merge_ends w six s j ≡ false) → AtCycle w s six k
+at_cycle w s six zero h le on = first_at w s six h
+at_cycle w s six (suc k) h le on =
+    next_at w s six k h.alone (at_cycle w s six k h (omega arith) (λ j lt. on j (omega arith))) (on k (omega arith)) (omega arith)
+
+-- ---- its end
+
+is_not : (a : Bool) → not a ≡ true → a ≡ false
+is_not true e = absurd (cc e)
+is_not false e = refl
+
+ends_by : (w : Setting) (s : State) (six : SixReports) (k : ℕ) (now : State) (rests : Rests) (marks : List Mark) (ended : Bool)
+    → AreAlone w s six → Stands w s (lengths_of six) k now rests marks → k < longest w s → any_ends six k ≡ ended
+    → (ended || not (fits rests now)) ≡ true → k ≡ window_length w s
+ends_by w s six k now rests marks true h stands lt e either =
+    ends_run w s (lengths_of six) k now rests marks stands lt (ends_as w s six k h ∙ e)
+ends_by w s six k now rests marks false h stands lt e either =
+    ends_tried w s (lengths_of six) k now rests marks (fits rests now) (tries_at w s six k now rests marks h stands e lt) refl
+    (is_not (fits rests now) either)
+
+ends_here : (w : Setting) (s : State) (six : SixReports) (k : ℕ) → AreAlone w s six → AtCycle w s six k → k < longest w s
+    → merge_ends w six s k ≡ true → k ≡ window_length w s
+unfolding merge_ends
+ends_here w s six k h at lt e =
+    let now = by_logs w six s k in
+    ends_by w s six k now.state now.rests at.marks (any_ends six k) h at.stands lt refl e
+
+ends_at : (w : Setting) (s : State) (six : SixReports) (k : ℕ) → AreAlone w s six → AtCycle w s six k → k ≤ longest w s
+    → (k < longest w s → merge_ends w six s k ≡ true) → k ≡ window_length w s
+ends_at w s six k h at le met = elim (eqb_tells k (longest w s)) [
+  | inl e ↦ ends_full w s (lengths_of six) k (by_logs w six s k).state (by_logs w six s k).rests at.marks at.stands e.1
+  | inr e ↦ let ne : k ≢ longest w s = e.1 in
+      let lt : k < longest w s = omega arith in
+      ends_here w s six k h at lt (met lt)
+]
+
+-- the length and the state of the window
+pub record IsWindow (w : Setting) (s : State) (six : SixReports) : Type 0 where
+  pub length : merged_length w six s ≡ window_length w s
+  pub state : merged w six s ≡ states w s (window_length w s)
+
+pub merges : (w : Setting) (s : State) (six : SixReports) → Starts w s six → IsWindow w s six
+unfolding merged_length
+merges w s six h =
+    let n = merged_length w six s in
+    let end = least_meets (merge_ends w six s) (longest w s) in
+    let at = at_cycle w s six n h end.within (λ j lt. below_least (merge_ends w six s) (longest w s) j lt) in
+    let same = ends_at w s six n h.alone at end.within end.met in
+    record { length = same; state = at.stands.is_states ∙ ap (states w s) same }

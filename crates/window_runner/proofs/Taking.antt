@@ -1,0 +1,103 @@
+-- Whatever true reports come: the reports that are taken are the six runs alone.
+use Rattle.std.proofs.Common.{◌≡◌, ℕ, inl, inr, Option, Some, None, subst}
+use Rattle.lane_look.specs.declared.replay.Report.{Report}
+use Rattle.lane_look.specs.Replay.{Meaning}
+use Rattle.lane_look.specs.Truth.{IsTrue}
+use Rattle.outer_lane.specs.Setting.{Setting}
+use Rattle.rp_machine.specs.State.{State}
+use Rattle.window_merge.specs.Lanes.{core_lane, dma_lane, pio_lane, peripheral_lane, core1_bound}
+use Rattle.window_merge.specs.Window.{longest}
+use Rattle.window_merge.specs.Merging.{IsRunAlone}
+use Rattle.window_runner.specs.Reports.{OneReport, IsTrueOrNone, core0_in, core1_in, dma_in, pio0_in, pio1_in, outer_in, IsAccepted, bound_under, IsTaken, SixReports, AreTaken}
+use Rattle.window_runner.specs.Reports.OneReport.{OfCore0, OfCore1, OfDma, OfPio0, OfPio1, OfOuter}
+use Rattle.window_runner.proofs.Accepting.{accepted_alone}
+
+-- what came for a lane is true, if anything came
+abbrev TrueIn : {S B : Type 0} → Meaning (Unit {0}) S B → ℕ → Option (ℕ × Report S) → Type 0
+TrueIn m limit None = Unit {0}
+TrueIn m limit (Some x) = (x.0 ≡ limit) × IsTrue m tt x.1
+
+core0_true : (w : Setting) (came : Option OneReport) → IsTrueOrNone w came → TrueIn core_lane w.limit (core0_in came)
+core0_true w None h = tt
+core0_true w (Some (OfCore0 limit report)) h = h
+core0_true w (Some (OfCore1 limit report)) h = tt
+core0_true w (Some (OfDma limit report)) h = tt
+core0_true w (Some (OfPio0 limit report)) h = tt
+core0_true w (Some (OfPio1 limit report)) h = tt
+core0_true w (Some (OfOuter limit report)) h = tt
+
+core1_true : (w : Setting) (came : Option OneReport) → IsTrueOrNone w came → TrueIn core_lane w.limit (core1_in came)
+core1_true w None h = tt
+core1_true w (Some (OfCore0 limit report)) h = tt
+core1_true w (Some (OfCore1 limit report)) h = h
+core1_true w (Some (OfDma limit report)) h = tt
+core1_true w (Some (OfPio0 limit report)) h = tt
+core1_true w (Some (OfPio1 limit report)) h = tt
+core1_true w (Some (OfOuter limit report)) h = tt
+
+dma_true : (w : Setting) (came : Option OneReport) → IsTrueOrNone w came → TrueIn dma_lane w.limit (dma_in came)
+dma_true w None h = tt
+dma_true w (Some (OfCore0 limit report)) h = tt
+dma_true w (Some (OfCore1 limit report)) h = tt
+dma_true w (Some (OfDma limit report)) h = h
+dma_true w (Some (OfPio0 limit report)) h = tt
+dma_true w (Some (OfPio1 limit report)) h = tt
+dma_true w (Some (OfOuter limit report)) h = tt
+
+pio0_true : (w : Setting) (came : Option OneReport) → IsTrueOrNone w came → TrueIn pio_lane w.limit (pio0_in came)
+pio0_true w None h = tt
+pio0_true w (Some (OfCore0 limit report)) h = tt
+pio0_true w (Some (OfCore1 limit report)) h = tt
+pio0_true w (Some (OfDma limit report)) h = tt
+pio0_true w (Some (OfPio0 limit report)) h = h
+pio0_true w (Some (OfPio1 limit report)) h = tt
+pio0_true w (Some (OfOuter limit report)) h = tt
+
+pio1_true : (w : Setting) (came : Option OneReport) → IsTrueOrNone w came → TrueIn pio_lane w.limit (pio1_in came)
+pio1_true w None h = tt
+pio1_true w (Some (OfCore0 limit report)) h = tt
+pio1_true w (Some (OfCore1 limit report)) h = tt
+pio1_true w (Some (OfDma limit report)) h = tt
+pio1_true w (Some (OfPio0 limit report)) h = tt
+pio1_true w (Some (OfPio1 limit report)) h = h
+pio1_true w (Some (OfOuter limit report)) h = tt
+
+outer_true : (w : Setting) (came : Option OneReport) → IsTrueOrNone w came → TrueIn (peripheral_lane w) w.limit (outer_in came)
+outer_true w None h = tt
+outer_true w (Some (OfCore0 limit report)) h = tt
+outer_true w (Some (OfCore1 limit report)) h = tt
+outer_true w (Some (OfDma limit report)) h = tt
+outer_true w (Some (OfPio0 limit report)) h = tt
+outer_true w (Some (OfPio1 limit report)) h = tt
+outer_true w (Some (OfOuter limit report)) h = (h.0, h.2)
+
+-- ---- what is taken for a lane
+
+taken_alone : {S B : Type 0} (m : Meaning (Unit {0}) S B) (lane : ℕ) (before : S) (s : State) (bound : ℕ → ℕ) (limit : ℕ)
+    (came : Option (ℕ × Report S)) (report : Report S) → TrueIn m limit came → IsTaken m lane before s bound limit came report
+    → IsRunAlone m lane before s (bound limit) report
+taken_alone m lane before s bound limit came report truth (inl h) =
+    let t = subst (TrueIn m limit) h.1 truth in
+    accepted_alone m lane before s (bound limit) report t.1
+    (subst (λ (l : ℕ). IsAccepted m lane before s (bound l) report) t.0 h.2)
+taken_alone m lane before s bound limit came report truth (inr h) = h.1
+
+-- the six
+pub record AreAlone (w : Setting) (s : State) (six : SixReports) : Type 0 where
+  pub core0 : IsRunAlone core_lane 0 s.core0 s (longest w s) six.core0
+  pub core1 : IsRunAlone core_lane 1 s.core1 s (core1_bound s (longest w s)) six.core1
+  pub dma : IsRunAlone dma_lane 2 s.dma s (longest w s) six.dma
+  pub pio0 : IsRunAlone pio_lane 3 s.pio0 s (longest w s) six.pio0
+  pub pio1 : IsRunAlone pio_lane 4 s.pio1 s (longest w s) six.pio1
+  pub outer : IsRunAlone (peripheral_lane w) 5 s.outer s (longest w s) six.outer
+
+pub all_alone : (w : Setting) (s : State) (came : ℕ → Option OneReport) (six : SixReports)
+    → ((lane : ℕ) → IsTrueOrNone w (came lane)) → AreTaken w s came six → AreAlone w s six
+all_alone w s came six truth h = record {
+  core0 = taken_alone core_lane 0 s.core0 s (bound_under w s) w.limit (core0_in (came 0)) six.core0 (core0_true w (came 0) (truth 0)) h.core0;
+  core1 = taken_alone core_lane 1 s.core1 s (λ limit. core1_bound s (bound_under w s limit)) w.limit (core1_in (came 1)) six.core1 (core1_true w (came 1) (truth 1)) h.core1;
+  dma = taken_alone dma_lane 2 s.dma s (bound_under w s) w.limit (dma_in (came 2)) six.dma (dma_true w (came 2) (truth 2)) h.dma;
+  pio0 = taken_alone pio_lane 3 s.pio0 s (bound_under w s) w.limit (pio0_in (came 3)) six.pio0 (pio0_true w (came 3) (truth 3)) h.pio0;
+  pio1 = taken_alone pio_lane 4 s.pio1 s (bound_under w s) w.limit (pio1_in (came 4)) six.pio1 (pio1_true w (came 4) (truth 4)) h.pio1;
+  outer = taken_alone (peripheral_lane w) 5 s.outer s (bound_under w s) w.limit (outer_in (came 5)) six.outer (outer_true w (came 5) (truth 5)) h.outer;
+}
