@@ -172,3 +172,9 @@ AnyOrder =
     (w : Setting) (s : State) (seats : ℕ) → Begins w s
     → (events : List Event) (r : RunState) → Goes w (beginning s seats) events r
     → r.position.state ≡ window_start w s (commits_in events)
+
+-- an example: from each state that begins a run and has no stop, one seat alone can pass a window, also where no report comes
+abbrev pub AWindowPasses : Type 0
+AWindowPasses =
+    (w : Setting) (s : State) → Begins w s → stop w s ≡ None
+    → (events : List Event) × (r : RunState) × Goes w (beginning s 1) events r × (commits_in events ≡ 1)
