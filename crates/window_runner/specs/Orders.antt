@@ -156,8 +156,10 @@ numbers_in (x ∷ came) = x.0 ∷ numbers_in came
 -- where a window may be committed, each of its six numbers was finished once: what came with it is what that finish brought
 abbrev pub EachCameOnce : Type 0
 EachCameOnce =
-    (w : Setting) (s : State) (seats : ℕ) (events : List Event) (r : RunState) → Goes w (beginning s seats) events r
-    → IsLegal w r Commit → (lane : ℕ) → lane < 6 → times (6 * r.commits + lane) (numbers_in r.came) ≡ 1
+    (w : Setting) (s : State) (seats : ℕ)
+    → (events : List Event) (r : RunState) → Goes w (beginning s seats) events r
+    → IsLegal w r Commit → (lane : ℕ) → lane < 6
+    → times (6 * r.commits + lane) (numbers_in r.came) ≡ 1
 
 -- how many windows a list commits
 abbrev pub commits_in : List Event → ℕ
@@ -177,4 +179,5 @@ AnyOrder =
 abbrev pub AWindowPasses : Type 0
 AWindowPasses =
     (w : Setting) (s : State) → Begins w s → stop w s ≡ None
-    → (events : List Event) × (r : RunState) × Goes w (beginning s 1) events r × (commits_in events ≡ 1)
+    → (events : List Event) × (r : RunState)
+    × Goes w (beginning s 1) events r × (commits_in events ≡ 1)
