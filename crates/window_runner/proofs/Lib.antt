@@ -1,8 +1,13 @@
 pub mod Accepting
+pub mod Along
+pub mod CycleEvents
 pub mod Finishing
 pub mod Least
+pub mod Marks
 pub mod Merges
 pub mod Ordering
+pub mod Pads
 pub mod Passing
 pub mod Standing
 pub mod Taking
+pub mod Telling

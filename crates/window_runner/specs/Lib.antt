@@ -1,3 +1,6 @@
+pub mod Laws
 pub mod Merge
 pub mod Orders
+pub mod Parts
 pub mod Reports
+pub mod Told

@@ -1,5 +1,6 @@
 //! The laws of runs of windows, each the contract of a function without arguments.
 
+ghost use Rattle.window_runner.specs.Laws.{TheEventsAreThoseOfCycles, TheMarksTellTheEvents, WindowsAreFew};
 ghost use Rattle.window_runner.specs.Orders.{AnyOrder, EachCameOnce, AWindowPasses};
 
 /// Whatever the seats do in whatever order, and whatever true reports come or do not come: the machine after m commits is
@@ -16,4 +17,19 @@ pub fn each_came_once()
 /// From each state that begins a run and has no stop, one seat alone can pass a window, also where no report comes.
 pub fn a_window_passes()
     ensures { AWindowPasses }
+{}
+
+/// A run that goes by windows and single cycles has the events of the run by single cycles, in the same order.
+pub fn the_events_are_those_of_cycles()
+    ensures { TheEventsAreThoseOfCycles }
+{}
+
+/// The marks of cycles that were all done tell their events, from the levels of the pads before them.
+pub fn the_marks_tell_the_events()
+    ensures { TheMarksTellTheEvents }
+{}
+
+/// A run tries at most as many windows as it has cycles.
+pub fn windows_are_few()
+    ensures { WindowsAreFew }
 {}

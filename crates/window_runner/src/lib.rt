@@ -1,4 +1,6 @@
-//! Runs of windows: the six lanes of each window are run by several seats at a board, in any order.
+//! Runs of windows: the six lanes of each window are run by several seats at a board, in any order; and the events of a run, told to
+//! a tape.
 #![tactic(auto)]
 
+pub mod events;
 pub mod laws;

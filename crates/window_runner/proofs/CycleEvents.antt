@@ -1,0 +1,131 @@
+-- The events of a cycle, part by part.
+use Rattle.std.proofs.Common.{◌≡◌, ℕ, suc, ◌+◌, ◌-◌, ◌<◌, ◌≤◌, List, [], ◌∷◌, ◌++◌, length, drop, map, Bool, true, false, Option, Some, None, bit_xor, get_or, slice_get, refl, sym, ap, subst, ◌∙◌, arith, append_assoc}
+use Rattle.std.specs.List.{filter, range_with_len}
+use Rattle.std.proofs.lemmas.List.{drop_more, drop_all}
+use Rattle.std.proofs.lemmas.Option.{slice_get_within, get_or_from_slice_get}
+use Rattle.word_bits.specs.Word.{has_bit}
+use Rattle.lane_look.specs.declared.marks.Mark.{Mark}
+use Rattle.trace_text.specs.declared.event.Event.{Event as Shown}
+use Rattle.rp_machine.specs.Events.{Event, bytes_of, changes_of, events_of}
+use Rattle.rp_machine.specs.Events.Event.{Byte, Pin}
+use Rattle.window_runner.specs.Told.{shown_as, all_shown, events_by}
+use Rattle.window_runner.specs.Parts.{byte_of, change_of}
+
+-- events as a tape takes them, one after another
+pub shown_none : all_shown [] ≡ []
+unfolding all_shown
+shown_none = refl
+
+pub shown_both : (xs ys : List Event) → all_shown (xs ++ ys) ≡ all_shown xs ++ all_shown ys
+unfolding all_shown
+shown_both [] ys = refl
+shown_both (x ∷ xs) ys = ap (λ r. shown_as x ∷ r) (shown_both xs ys)
+
+pub shown_one : (x : Event) → shown_as x ∷ [] ≡ all_shown (x ∷ [])
+unfolding all_shown
+shown_one x = refl
+
+-- ---- bytes
+
+pub bytes_both : (cycle : ℕ) (bytes : List (Option ℕ)) → length bytes ≡ 2
+    → all_shown (byte_of cycle 0 (get_or bytes 0 None)) ++ all_shown (byte_of cycle 1 (get_or bytes 1 None)) ≡ all_shown (bytes_of cycle 0 bytes)
+bytes_both cycle [] two = absurd (omega (arith, two))
+bytes_both cycle (x ∷ []) two = absurd (omega (arith, two))
+bytes_both cycle (x ∷ y ∷ z ∷ zs) two = absurd (omega (arith, two))
+bytes_both cycle (x ∷ y ∷ []) two = sym (shown_both (byte_of cycle 0 x) (byte_of cycle 1 y)) ∙ ap all_shown (joined x y)
+  where
+    joined : (x y : Option ℕ) → byte_of cycle 0 x ++ byte_of cycle 1 y ≡ bytes_of cycle 0 (x ∷ y ∷ [])
+    joined None None = refl
+    joined None (Some b) = refl
+    joined (Some a) None = refl
+    joined (Some a) (Some b) = refl
+
+pub no_byte : (cycle uart : ℕ) (byte : Option ℕ) → byte ≡ None → all_shown (byte_of cycle uart byte) ≡ []
+no_byte cycle uart byte none = ap (λ b. all_shown (byte_of cycle uart b)) none ∙ shown_none
+
+pub one_byte : (cycle uart : ℕ) (byte : Option ℕ) (sent : ℕ) → byte ≡ Some sent → shown_as (Byte cycle uart sent) ∷ [] ≡ all_shown (byte_of cycle uart byte)
+one_byte cycle uart byte sent some = shown_one (Byte cycle uart sent) ∙ ap (λ b. all_shown (byte_of cycle uart b)) (sym some)
+
+-- ---- changes
+
+pub no_change : (cycle changed after pin n : ℕ) → n ≡ pin → has_bit changed n ≡ false → all_shown (change_of cycle changed after pin) ≡ []
+no_change cycle changed after pin n same low =
+    let here : has_bit changed pin ≡ false = subst (λ (k : ℕ). has_bit changed k ≡ false) same low in rw here shown_none
+
+pub one_change : (cycle changed after pin n k : ℕ) (level : Bool) → n ≡ pin → k ≡ pin → has_bit changed n ≡ true → level ≡ has_bit after k
+    → shown_as (Pin cycle pin level) ∷ [] ≡ all_shown (change_of cycle changed after pin)
+one_change cycle changed after pin n k level same again high is =
+    let here : has_bit changed pin ≡ true = subst (λ (x : ℕ). has_bit changed x ≡ true) same high in
+    let now : level ≡ has_bit after pin = is ∙ ap (has_bit after) again in
+    rw (here, now) (shown_one (Pin cycle pin (has_bit after pin)))
+
+-- those of the pins from one on
+abbrev pub changes_from : ℕ → ℕ → ℕ → ℕ → ℕ → List Event
+changes_from cycle changed after pin count = map (λ p. Pin cycle p (has_bit after p)) (filter (has_bit changed) (range_with_len pin count))
+
+unfoldable pub shown_from : ℕ → ℕ → ℕ → ℕ → ℕ → List Shown
+shown_from cycle changed after pin count = all_shown (changes_from cycle changed after pin count)
+
+pub from_first : (cycle before after : ℕ) → all_shown (changes_of cycle before after) ≡ shown_from cycle (bit_xor before after) after 0 30
+unfolding shown_from
+from_first cycle before after = refl
+
+from_none : (cycle changed after pin : ℕ) → shown_from cycle changed after pin 0 ≡ []
+unfolding shown_from
+from_none cycle changed after pin = shown_none
+
+pub no_changes : (cycle before after : ℕ) → bit_xor before after ≡ 0 → all_shown (changes_of cycle before after) ≡ []
+no_changes cycle before after same = ap (λ x. all_shown (changes_from cycle x after 0 30)) same ∙ shown_none
+
+from_on : (cycle changed after pin count : ℕ) → shown_from cycle changed after pin (suc count) ≡ all_shown (change_of cycle changed after pin) ++ shown_from cycle changed after (pin + 1) count
+unfolding shown_from
+from_on cycle changed after pin count = elim (has_bit changed pin) as (λ b. has_bit changed pin ≡ b → all_shown (changes_from cycle changed after pin (suc count)) ≡ all_shown (change_of cycle changed after pin) ++ all_shown (changes_from cycle changed after (pin + 1) count)) [
+  | true ↦ λ e. rw e (shown_both (Pin cycle pin (has_bit after pin) ∷ []) (changes_from cycle changed after (pin + 1) count))
+  | false ↦ λ e. rw e (shown_both [] (changes_from cycle changed after (pin + 1) count))
+] refl
+
+-- one pin more of those that are left
+pub from_step : (cycle changed after pin : ℕ) → pin < 30 → shown_from cycle changed after pin (30 - pin) ≡ all_shown (change_of cycle changed after pin) ++ shown_from cycle changed after (pin + 1) (30 - (pin + 1))
+from_step cycle changed after pin lt =
+    let e : 30 - pin ≡ suc (30 - (pin + 1)) = omega (arith, lt) in
+    ap (λ n. shown_from cycle changed after pin n) e ∙ from_on cycle changed after pin (30 - (pin + 1))
+
+-- no pin is left
+pub from_end : (cycle changed after pin : ℕ) → 30 ≤ pin → shown_from cycle changed after pin (30 - pin) ≡ []
+from_end cycle changed after pin le = let last : 30 - pin ≡ 0 = omega (arith, le) in ap (λ n. shown_from cycle changed after pin n) last ∙ from_none cycle changed after pin
+
+-- bytes first, then changes
+pub events_both : (cycle before : ℕ) (mark : Mark) → all_shown (bytes_of cycle 0 mark.uart) ++ all_shown (changes_of cycle before mark.pads) ≡ all_shown (events_of cycle before mark)
+unfolding events_of
+events_both cycle before mark = sym (shown_both (bytes_of cycle 0 mark.uart) (changes_of cycle before mark.pads))
+
+-- ---- marks
+
+-- those of the marks from a place on
+unfoldable pub shown_behind : ℕ → ℕ → List Mark → ℕ → List Shown
+shown_behind cycle before marks place = all_shown (events_by (cycle + place) before (drop place marks))
+
+pub behind_first : (cycle before : ℕ) (marks : List Mark) → all_shown (events_by cycle before marks) ≡ shown_behind cycle before marks 0
+unfolding shown_behind
+behind_first cycle before marks = let same : cycle + 0 ≡ cycle = omega arith in ap (λ n. all_shown (events_by n before marks)) (sym same)
+
+next_mark : (marks : List Mark) (place : ℕ) (mark : Mark) → slice_get marks place ≡ Some mark → drop place marks ≡ mark ∷ drop (place + 1) marks
+next_mark marks place mark e =
+    drop_more marks place mark (slice_get_within marks place mark e)
+    ∙ ap (λ m. m ∷ drop (place + 1) marks) (get_or_from_slice_get marks place mark mark e)
+
+-- one more of those that are left
+pub behind_step : (cycle before : ℕ) (marks : List Mark) (place n : ℕ) (mark : Mark) → n ≡ place → slice_get marks place ≡ Some mark
+    → shown_behind cycle before marks place ≡ all_shown (events_of (cycle + n) before mark) ++ shown_behind cycle mark.pads marks (place + 1)
+unfolding shown_behind
+behind_step cycle before marks place n mark same e =
+    let next : cycle + place + 1 ≡ cycle + (place + 1) = omega arith in
+    ap (λ ms. all_shown (events_by (cycle + place) before ms)) (next_mark marks place mark e)
+    ∙ shown_both (events_of (cycle + place) before mark) (events_by (cycle + place + 1) mark.pads (drop (place + 1) marks))
+    ∙ ap (λ n. all_shown (events_of (cycle + place) before mark) ++ all_shown (events_by n mark.pads (drop (place + 1) marks))) next
+    ∙ ap (λ k. all_shown (events_of (cycle + k) before mark) ++ all_shown (events_by (cycle + (place + 1)) mark.pads (drop (place + 1) marks))) (sym same)
+
+-- none is left
+pub behind_end : (cycle before : ℕ) (marks : List Mark) (place : ℕ) → length marks ≤ place → shown_behind cycle before marks place ≡ []
+unfolding shown_behind
+behind_end cycle before marks place le = ap (λ ms. all_shown (events_by (cycle + place) before ms)) (drop_all place marks le) ∙ shown_none

@@ -1,0 +1,173 @@
+-- The levels that a cycle marks are those of the pads after it: what is done in the cycle leaves them.
+use Rattle.std.proofs.Common.{◌≡◌, ◌+◌, ◌==◌, ◌/◌, ◌%◌, ◌^◌, ◌-◌, ℕ, Bool, true, false, not, ◌&&◌, nat_lt, if◌then◌else◌, List, [], ◌∷◌, Option, Some, None, refl, ap, ◌∙◌}
+use Rattle.rp_base.specs.declared.Master.{Master}
+use Rattle.rp_base.specs.declared.Master.TheVariants as master
+use Rattle.rp_base.specs.declared.map.Block.{Block}
+use Rattle.rp_base.specs.declared.map.Block.TheVariants as block
+use Rattle.bus_fabric.specs.Masters.{masters}
+use Rattle.io_bank.specs.State.{Bank, with_bank_held, with_pads_held, after_held}
+use Rattle.io_bank.specs.Words as bank
+use Rattle.outer_lane.specs.Setting.{Setting}
+use Rattle.outer_lane.specs.State.{outer_reset}
+use Rattle.outer_lane.specs.Words.{bank_accessed, outer_accessed}
+use Rattle.outer_lane.specs.Device.{device_accessed, device_words}
+use Rattle.outer_lane.specs.State.{OuterState}
+use Rattle.outer_lane.specs.Step as outer
+use Rattle.outer_lane.specs.Step.{is_fitting}
+use Rattle.sio_block.specs.declared.Launch.{Launch}
+use Rattle.sio_block.specs.Launcher.{launch_of, after_turn}
+use Rattle.rp_machine.specs.declared.deed.Deed.{Deed}
+use Rattle.rp_machine.specs.declared.deed.Deed.TheVariants as deed
+use Rattle.rp_machine.specs.State.{State}
+use Rattle.rp_machine.specs.Registers.{with_reset, resets_written, block_accessed}
+use Rattle.rp_machine.specs.Cycle.{begun, wanted, granted, with_sio, sio_accessed, after_deed, started_by, after_launcher, after_master, after_masters, with_stores, ended, deeds, after_deeds, with_turns, stepped, next_by, next, mark}
+
+-- the levels now
+abbrev pub levels : State → ℕ
+levels s = s.outer.pads.current
+
+-- one way or the other
+either : {A : Type 0} (part : A → ℕ) (c : Bool) (x y s : A) → part x ≡ part s → part y ≡ part s → part (if c then x else y) ≡ part s
+either part true x y s h k = h
+either part false x y s h k = k
+
+abbrev current : Bank → ℕ
+current b = b.current
+
+-- ---- the registers of the pads
+
+bank_same : (held : Bool) (b : Bank) → current (with_bank_held held b) ≡ current b
+bank_same true b = refl
+bank_same false b = refl
+
+pads_same : (held : Bool) (b : Bank) → current (with_pads_held held b) ≡ current b
+pads_same true b = refl
+pads_same false b = refl
+
+held_same : (first second : Bool) (b : Bank) → current (after_held first second b) ≡ current b
+held_same first second b = pads_same second (with_bank_held first b) ∙ bank_same first b
+
+pin_same : (offset w : ℕ) (b : Bank) → current (bank.pin_written offset w b) ≡ current b
+pin_same offset w b = either current (offset % 8 == 0) _ _ b refl refl
+
+events_same : (row place w : ℕ) (b : Bank) → current (bank.events_written row place w b) ≡ current b
+events_same row place w b =
+    either current (row == 0xF) _ _ b refl
+    (either current (row == 0x10) _ _ b refl
+    (either current (row == 0x11) _ _ b refl
+    (either current (row == 0x13) _ _ b refl (either current (row == 0x14) _ _ b refl refl))))
+
+pad_same : (offset w : ℕ) (b : Bank) → current (bank.pad_written offset w b) ≡ current b
+pad_same offset w b = either current (offset == 0x1000) _ _ b refl refl
+
+written_same : (offset w : ℕ) (b : Bank) → current (bank.after_write offset w b) ≡ current b
+written_same offset w b =
+    either current (nat_lt offset 0xF0) _ _ b (pin_same offset w b)
+    (either current (nat_lt offset 0x1000) _ _ b (events_same (offset / 16) (offset % 16 / 4) w b) (pad_same offset w b))
+
+effect_same : (offset : ℕ) (write : Option ℕ) (b : Bank) → current (bank.effect_of offset write b) ≡ current b
+effect_same offset None b = refl
+effect_same offset (Some w) b = either current (bank.is_word offset && not (bank.is_held b offset)) _ _ b (written_same offset w b) refl
+
+-- ---- the peripherals
+
+abbrev pads_now : OuterState → ℕ
+pads_now o = o.pads.current
+
+reset_same : (w : ℕ) (o : OuterState) → pads_now (outer_reset w o) ≡ pads_now o
+unfolding outer_reset
+reset_same w o = held_same _ _ o.pads
+
+bank_access_same : (offset : ℕ) (write : Option ℕ) (b : Bank) → current (bank_accessed offset write b) ≡ current b
+bank_access_same offset write b = either current (nat_lt offset 0x1000) _ _ b (effect_same offset write b) refl
+
+outer_same : (b : Block) (offset : ℕ) (write : Option ℕ) (o : OuterState) → pads_now (outer_accessed b offset write o) ≡ pads_now o
+unfolding outer_accessed
+outer_same block.IoBank0 offset write o = bank_access_same offset write o.pads
+outer_same block.PadsBank0 offset write o = effect_same (0x1000 + offset) write o.pads
+outer_same block.Uart0 offset write o = refl
+outer_same block.Uart1 offset write o = refl
+outer_same block.Timer offset write o = refl
+outer_same block.Resets offset write o = refl
+outer_same block.Busctrl offset write o = refl
+outer_same block.Dma offset write o = refl
+outer_same block.Pio0 offset write o = refl
+outer_same block.Pio1 offset write o = refl
+
+device_same : (w : Setting) (address : ℕ) (write : Option ℕ) (o : OuterState) → pads_now (device_accessed w address write o) ≡ pads_now o
+unfolding device_accessed
+device_same w address write o =
+    either pads_now (is_fitting w.device o.device) (record o { device = device_words w.device address write o.device }) o o refl refl
+
+-- ---- what is done in a cycle
+
+resets_same : (offset w : ℕ) (s : State) → levels (resets_written offset w s) ≡ levels s
+unfolding with_reset
+resets_same offset w s =
+    either levels (offset == 0x0) _ _ s (reset_same (w % 2 ^ 25) s.outer) (either levels (offset == 0x4) _ _ s refl refl)
+
+block_same : (b : Block) (offset : ℕ) (write : Option ℕ) (s : State) → levels (block_accessed b offset write s) ≡ levels s
+unfolding block_accessed
+block_same block.Resets offset None s = refl
+block_same block.Resets offset (Some w) s = resets_same offset w s
+block_same block.Busctrl offset None s = refl
+block_same block.Busctrl offset (Some w) s = refl
+block_same block.Dma offset write s = refl
+block_same block.Pio0 offset write s = refl
+block_same block.Pio1 offset write s = refl
+block_same block.IoBank0 offset write s = outer_same block.IoBank0 offset write s.outer
+block_same block.PadsBank0 offset write s = outer_same block.PadsBank0 offset write s.outer
+block_same block.Uart0 offset write s = outer_same block.Uart0 offset write s.outer
+block_same block.Uart1 offset write s = outer_same block.Uart1 offset write s.outer
+block_same block.Timer offset write s = outer_same block.Timer offset write s.outer
+
+access_same : (m : Master) (offset : ℕ) (write : Option ℕ) (s : State) → levels (sio_accessed m offset write s) ≡ levels s
+unfolding with_sio
+access_same master.Core0 offset write s = refl
+access_same master.Core1 offset write s = refl
+access_same master.DmaRead offset write s = refl
+access_same master.DmaWrite offset write s = refl
+
+deed_same : (w : Setting) (m : Master) (d : Deed) (s : State) → levels (after_deed w m d s) ≡ levels s
+unfolding after_deed
+deed_same w m deed.Nothing s = refl
+deed_same w m deed.Signal s = refl
+deed_same w m (deed.Store index lanes value) s = refl
+deed_same w m (deed.Register b offset write) s = block_same b offset write s
+deed_same w m (deed.SingleCycle offset write) s = access_same m offset write s
+deed_same w m (deed.Device address write) s = device_same w address write s.outer
+
+start_same : (l : Option Launch) (s : State) → levels (started_by l s) ≡ levels s
+start_same None s = refl
+start_same (Some l) s = refl
+
+launcher_same : (s : State) → levels (after_launcher s) ≡ levels s
+unfolding after_launcher with_sio
+launcher_same s = start_same (launch_of s.sio) (with_sio (after_turn s.sio) s)
+
+master_same : (w : Setting) (m : Master) (d : Deed) (s : State) → levels (after_master w m d s) ≡ levels s
+master_same w master.Core0 d s = deed_same w master.Core0 d s
+master_same w master.Core1 d s = either levels s.core1.asleep _ _ s (launcher_same s) (deed_same w master.Core1 d s)
+master_same w master.DmaRead d s = deed_same w master.DmaRead d s
+master_same w master.DmaWrite d s = deed_same w master.DmaWrite d s
+
+masters_same : (w : Setting) (ms : List Master) (ds : List Deed) (s : State) → levels (after_masters w ms ds s) ≡ levels s
+masters_same w [] ds s = refl
+masters_same w (m ∷ ms) [] s = refl
+masters_same w (m ∷ ms) (d ∷ ds) s = masters_same w ms ds (after_master w m d s) ∙ master_same w m d s
+
+deeds_same : (w : Setting) (ds : List Deed) (s : State) → levels (after_deeds w ds s) ≡ levels s
+unfolding after_deeds ended with_sio
+deeds_same w ds s = masters_same w masters ds s
+
+-- ---- the cycle
+
+stepped_levels : (w : Setting) (s : State) → levels (stepped w (begun s) (wanted (begun s)) s) ≡ (mark w s).pads
+unfolding stepped with_turns mark outer.next outer.next_by outer.pads_by outer.marked outer.marked_by outer.levels_by
+stepped_levels w s = refl
+
+pub next_levels : (w : Setting) (s : State) → levels (next w s) ≡ (mark w s).pads
+unfolding next next_by
+next_levels w s =
+    deeds_same w (deeds w (begun s) (wanted (begun s)) s (granted (wanted (begun s)) s)) (stepped w (begun s) (wanted (begun s)) s)
+    ∙ stepped_levels w s

@@ -1,0 +1,121 @@
+//! The events of cycles, one after another, to a tape.
+
+ghost use Rattle.std.specs.Prelude.{◌≡◌, ◌+◌, ◌<◌, ◌^◌, List, Option, length};
+ghost use Rattle.trace_text.specs.Tape.{Tells};
+ghost use Rattle.rp_machine.specs.Events.{bytes_of, changes_of, events_of};
+ghost use Rattle.window_runner.specs.Told.{all_shown, events_by};
+ghost use Rattle.window_runner.specs.Parts.{byte_of, change_of};
+
+use lane_look::{Mark, Marks};
+use trace_text::event::Event;
+use trace_text::tape::Tape;
+use trace_text::writer::SinkFault;
+use word_bits::has_bit;
+
+/// Tells the byte that a UART sent, if it sent one.
+fn tell_byte<T: Tape>(
+    cycle: u64,
+    number: u8,
+    byte: Option<u8>,
+    tape: &mut T,
+) -> Result<(), SinkFault>
+    ensures { Tells T.took T.missed tape.old tape.new (T.faults tape.old) (T.faults tape.new)
+        (all_shown (byte_of cycle number byte)) result }
+{
+    match byte {
+        None => Ok(()),
+        Some(byte) => tape.event(&Event::Uart {
+            cycle,
+            number,
+            byte,
+        }),
+    }
+}
+
+/// Tells the bytes that the UARTs sent in a cycle.
+fn tell_bytes<T: Tape>(cycle: u64, bytes: &[Option<u8>; 2], tape: &mut T) -> Result<(), SinkFault>
+    ensures { Tells T.took T.missed tape.old tape.new (T.faults tape.old) (T.faults tape.new)
+        (all_shown (bytes_of cycle 0 bytes.now)) result }
+{
+    let [first, second] = *bytes;
+    match tell_byte(cycle, 0, first, tape) {
+        Ok(()) => tell_byte(cycle, 1, second, tape),
+        Err(fault) => Err(fault),
+    }
+}
+
+/// Tells of a pin, if its level changed.
+fn tell_change<T: Tape>(
+    cycle: u64,
+    changed: u32,
+    after: u32,
+    pin: u8,
+    tape: &mut T,
+) -> Result<(), SinkFault>
+    requires { pin < 30 }
+    ensures { Tells T.took T.missed tape.old tape.new (T.faults tape.old) (T.faults tape.new)
+        (all_shown (change_of cycle changed after pin)) result }
+{
+    if has_bit(changed, u32::from(pin)) {
+        let level = has_bit(after, u32::from(pin));
+        tape.event(&Event::Pin { cycle, pin, level })
+    } else {
+        Ok(())
+    }
+}
+
+/// Tells of the pins whose levels changed in a cycle.
+fn tell_changes<T: Tape>(cycle: u64, before: u32, after: u32, tape: &mut T) -> Result<(), SinkFault>
+    ensures { Tells T.took T.missed tape.old tape.new (T.faults tape.old) (T.faults tape.new)
+        (all_shown (changes_of cycle before after)) result }
+{
+    let changed = before ^ after;
+    if changed == 0 {
+        return Ok(());
+    }
+    for pin in 0..30u8 {
+        match tell_change(cycle, changed, after, pin, tape) {
+            Ok(()) => {}
+            Err(fault) => return Err(fault),
+        }
+    }
+    Ok(())
+}
+
+/// Tells the events of a cycle that left this mark, where the pads had these levels before.
+fn tell_cycle<T: Tape>(cycle: u64, before: u32, mark: &Mark, tape: &mut T) -> Result<(), SinkFault>
+    ensures { Tells T.took T.missed tape.old tape.new (T.faults tape.old) (T.faults tape.new)
+        (all_shown (events_of cycle before mark.now)) result }
+{
+    match tell_bytes(cycle, &mark.uart, tape) {
+        Ok(()) => tell_changes(cycle, before, mark.pads, tape),
+        Err(fault) => Err(fault),
+    }
+}
+
+/// Tells the events of cycles, from that number on, that left these marks, where the pads had these levels before them. It takes no
+/// memory.
+///
+/// # Errors
+///
+/// The tape failed at an event, and its count of faults rose. It has the events before that one.
+pub fn tell_marks<T: Tape>(
+    cycle: u64,
+    before: u32,
+    marks: &Marks,
+    tape: &mut T,
+) -> Result<(), SinkFault>
+    requires { cycle + length marks.now < 2 ^ 64 }
+    ensures { Tells T.took T.missed tape.old tape.new (T.faults tape.old) (T.faults tape.new)
+        (all_shown (events_by cycle before marks.now)) result }
+{
+    let mut levels = before;
+    for place in 0..marks.count() {
+        let mark = marks.entry(place);
+        match tell_cycle(cycle + u64::from(place), levels, &mark, tape) {
+            Ok(()) => levels = mark.pads,
+            Err(fault) => return Err(fault),
+        }
+    }
+    Ok(())
+}
