@@ -1,11 +1,11 @@
 -- The marks of some cycles tell their events.
-use Rattle.std.proofs.Common.{◌≡◌, ℕ, zero, suc, ◌+◌, ◌≤◌, List, [], ◌∷◌, ◌++◌, length, length-append, Option, Some, None, refl, ap, sym, ◌∙◌, subst, arith}
+use Rattle.std.proofs.Common.{◌≡◌, ℕ, zero, suc, ◌+◌, List, [], ◌∷◌, ◌++◌, length, length-append, Option, Some, None, refl, ap, sym, ◌∙◌, arith}
 use Rattle.rp_base.specs.declared.Why.{Why}
 use Rattle.lane_look.specs.declared.marks.Mark.{Mark}
 use Rattle.outer_lane.specs.Setting.{Setting}
 use Rattle.rp_machine.specs.State.{State}
 use Rattle.rp_machine.specs.Cycle.{stop, next, mark}
-use Rattle.rp_machine.specs.Events.{events_of, events}
+use Rattle.rp_machine.specs.Events.{events}
 use Rattle.rp_machine.specs.Run.{states, events_in}
 use Rattle.rp_machine.proofs.Runs.{states_here, states_on, events_more, next_cycle}
 use Rattle.window_merge.specs.Merging.{marks_in}

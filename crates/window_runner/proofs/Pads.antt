@@ -1,5 +1,5 @@
 -- The levels that a cycle marks are those of the pads after it: what is done in the cycle leaves them.
-use Rattle.std.proofs.Common.{◌≡◌, ◌+◌, ◌==◌, ◌/◌, ◌%◌, ◌^◌, ◌-◌, ℕ, Bool, true, false, not, ◌&&◌, nat_lt, if◌then◌else◌, List, [], ◌∷◌, Option, Some, None, refl, ap, ◌∙◌}
+use Rattle.std.proofs.Common.{◌≡◌, ◌+◌, ◌==◌, ◌/◌, ◌%◌, ◌^◌, ℕ, Bool, true, false, not, ◌&&◌, nat_lt, if◌then◌else◌, List, [], ◌∷◌, Option, Some, None, refl, ◌∙◌}
 use Rattle.rp_base.specs.declared.Master.{Master}
 use Rattle.rp_base.specs.declared.Master.TheVariants as master
 use Rattle.rp_base.specs.declared.map.Block.{Block}
@@ -20,7 +20,7 @@ use Rattle.rp_machine.specs.declared.deed.Deed.{Deed}
 use Rattle.rp_machine.specs.declared.deed.Deed.TheVariants as deed
 use Rattle.rp_machine.specs.State.{State}
 use Rattle.rp_machine.specs.Registers.{with_reset, resets_written, block_accessed}
-use Rattle.rp_machine.specs.Cycle.{begun, wanted, granted, with_sio, sio_accessed, after_deed, started_by, after_launcher, after_master, after_masters, with_stores, ended, deeds, after_deeds, with_turns, stepped, next_by, next, mark}
+use Rattle.rp_machine.specs.Cycle.{begun, wanted, granted, with_sio, sio_accessed, after_deed, started_by, after_launcher, after_master, after_masters, ended, deeds, after_deeds, with_turns, stepped, next_by, next, mark}
 
 -- the levels now
 abbrev pub levels : State → ℕ
