@@ -10,7 +10,7 @@ use Rattle.lane_look.specs.Asking.Asking.{Ready}
 use Rattle.dma_engine.specs.declared.channel.Channel.{Channel}
 use Rattle.dma_engine.specs.declared.doing.Doing.{Doing}
 use Rattle.dma_engine.specs.declared.doing.Access.TheVariants as access
-use Rattle.dma_engine.specs.declared.waiting.Waiting.{Waiting}
+use Rattle.dma_engine.specs.declared.waiting.WaitingWrite.{WaitingWrite}
 use Rattle.dma_engine.specs.State.{Engine, idle_channel}
 use Rattle.dma_engine.specs.Asks.{waits_for_counts, write_begun, next_request, asks_read, asks, idle_begun}
 use Rattle.dma_engine.specs.Choice.{is_candidate, first_in_turn, choice_of}
@@ -32,7 +32,7 @@ none_is : (o : Option ℕ) → is_none o ≡ true → o ≡ None
 none_is None h = refl
 none_is (Some n) h = absurd (cc)
 
-empty_is : (ws : List Waiting) → nat_eq (length ws) 0 ≡ true → ws ≡ []
+empty_is : (ws : List WaitingWrite) → nat_eq (length ws) 0 ≡ true → ws ≡ []
 empty_is [] h = refl
 empty_is (w ∷ ws) h = absurd (grind (arith, nat_tests, common_steps))
 
@@ -97,7 +97,7 @@ maybe_read_at_rest : (s : Engine) (word : Option ℕ) → Rests s → after_read
 maybe_read_at_rest s None r = refl
 maybe_read_at_rest s (Some word) r = read_at_rest s word r
 
-nothing_leaves : (ws : List Waiting) → ws ≡ [] → drop 1 ws ≡ ws
+nothing_leaves : (ws : List WaitingWrite) → ws ≡ [] → drop 1 ws ≡ ws
 nothing_leaves [] h = refl
 nothing_leaves (w ∷ ws) h = absurd (cc)
 

@@ -4,7 +4,7 @@ use Rattle.std.specs.Prelude.{map}
 use Rattle.std.specs.List.{list_all, list_any}
 use Rattle.dma_engine.specs.declared.pace.Pace.{Pace}
 use Rattle.dma_engine.specs.declared.pace.Pace.TheVariants as pace
-use Rattle.dma_engine.specs.declared.timer.Timer.{Timer}
+use Rattle.dma_engine.specs.declared.timer.PacingTimer.{PacingTimer}
 use Rattle.dma_engine.specs.State.{Engine, channel_at}
 use Rattle.dma_engine.specs.Control.{treq_of}
 use Rattle.dma_engine.specs.Choice.{pace_of}
@@ -28,18 +28,18 @@ both_not : (a b : Bool) → b ≡ false → (a && b) ≡ false
 both_not true b h = h
 both_not false b h = refl
 
-still : (t : Timer) → stands_still t ≡ true → stepped t ≡ t
+still : (t : PacingTimer) → stands_still t ≡ true → stepped t ≡ t
 still t h = rw (not_is _ h) refl
 
-gives_none : (t : Timer) → stands_still t ≡ true → gives t ≡ false
+gives_none : (t : PacingTimer) → stands_still t ≡ true → gives t ≡ false
 gives_none t h = rw (not_is _ h) refl
 
-timers_still : (ts : List Timer) → list_all stands_still ts ≡ true → map stepped ts ≡ ts
+timers_still : (ts : List PacingTimer) → list_all stands_still ts ≡ true → map stepped ts ≡ ts
 timers_still [] h = refl
 timers_still (t ∷ ts) h =
     rw (timers_still ts (both_right (stands_still t) _ h)) (ap (λ x. x ∷ ts) (still t (both_left (stands_still t) _ h)))
 
-none_given : (ts : List Timer) (k : ℕ) → list_all stands_still ts ≡ true → get_or (given_by ts) k false ≡ false
+none_given : (ts : List PacingTimer) (k : ℕ) → list_all stands_still ts ≡ true → get_or (given_by ts) k false ≡ false
 none_given [] k h = refl
 none_given (t ∷ ts) zero h = gives_none t (both_left (stands_still t) _ h)
 none_given (t ∷ ts) (suc k) h = none_given ts k (both_right (stands_still t) _ h)

@@ -13,7 +13,7 @@ use Rattle.lane_look.specs.declared.lane.Ask.TheVariants.{Pacing, Word}
 use Rattle.lane_look.specs.Asking.{Asking}
 use Rattle.lane_look.specs.Asking.Asking.{Ready, Question}
 use Rattle.dma_engine.specs.declared.channel.Channel.{Channel}
-use Rattle.dma_engine.specs.declared.waiting.Waiting.{Waiting}
+use Rattle.dma_engine.specs.declared.waiting.WaitingWrite.{WaitingWrite}
 use Rattle.dma_engine.specs.declared.doing.Access.{Access}
 use Rattle.dma_engine.specs.declared.doing.Access.TheVariants as access
 use Rattle.dma_engine.specs.declared.doing.Doing.{Doing}
@@ -39,7 +39,7 @@ elsewhere master request _ = outside master request
 
 -- ---- the write
 
-abbrev pub first_write : List Waiting → Option Request
+abbrev pub first_write : List WaitingWrite → Option Request
 first_write [] = None
 first_write (w ∷ ws) = Some (request_of w)
 

@@ -4,7 +4,7 @@ use Rattle.std.specs.Prelude.{ℕ, zero, suc, ◌+◌, ◌-◌, ◌/◌, ◌%◌
 use Rattle.std.specs.List.{count_by}
 use Rattle.word_bits.specs.Word.{bit_number}
 use Rattle.dma_engine.specs.declared.channel.Channel.{Channel}
-use Rattle.dma_engine.specs.declared.waiting.Waiting.{Waiting}
+use Rattle.dma_engine.specs.declared.waiting.WaitingWrite.{WaitingWrite}
 use Rattle.dma_engine.specs.declared.pace.Pace.{Pace}
 use Rattle.dma_engine.specs.declared.pace.Pace.TheVariants as pace
 use Rattle.dma_engine.specs.Control.{is_high, treq_of}
@@ -44,7 +44,7 @@ unread treq s = bit_number (chosen_by treq s s.chosen)
 
 -- and those that are chosen and not written: their writes wait
 unfoldable pub writes_of : ℕ → Engine → ℕ
-writes_of treq s = count_by (λ (w : Waiting). is_paced_by treq s w.channel) s.waiting
+writes_of treq s = count_by (λ (w : WaitingWrite). is_paced_by treq s w.channel) s.waiting
 
 abbrev pub unwritten : ℕ → Engine → ℕ
 unwritten treq s = unread treq s + writes_of treq s

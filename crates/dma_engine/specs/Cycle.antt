@@ -7,7 +7,7 @@ use Rattle.lane_look.specs.declared.lane.Want.TheVariants as want
 use Rattle.lane_look.specs.declared.lane.Turn.{Turn}
 use Rattle.lane_look.specs.declared.lane.Turn.TheVariants.{Done}
 use Rattle.dma_engine.specs.declared.channel.Channel.{Channel}
-use Rattle.dma_engine.specs.declared.waiting.Waiting.{Waiting}
+use Rattle.dma_engine.specs.declared.waiting.WaitingWrite.{WaitingWrite}
 use Rattle.dma_engine.specs.declared.doing.Access.{Access}
 use Rattle.dma_engine.specs.declared.doing.Access.TheVariants as access
 use Rattle.dma_engine.specs.declared.doing.Doing.{Doing}
@@ -39,8 +39,8 @@ abbrev pub is_chosen : ℕ → Option ℕ → Bool
 is_chosen n None = false
 is_chosen n (Some m) = m == n
 
-abbrev pub has_write : ℕ → List Waiting → Bool
-has_write n writes = list_any (λ (w : Waiting). w.channel == n) writes
+abbrev pub has_write : ℕ → List WaitingWrite → Bool
+has_write n writes = list_any (λ (w : WaitingWrite). w.channel == n) writes
 
 -- a transfer of the channel is chosen and not written
 abbrev pub is_in_flight : ℕ → Engine → Bool

@@ -2,7 +2,7 @@
 use Rattle.std.specs.Prelude.{◌≡◌, List, [], ◌∷◌, Bool, not, ◌&&◌, ◌==◌, length, is_none}
 use Rattle.std.specs.List.{list_all}
 use Rattle.dma_engine.specs.declared.channel.Channel.{Channel}
-use Rattle.dma_engine.specs.declared.timer.Timer.{Timer}
+use Rattle.dma_engine.specs.declared.timer.PacingTimer.{PacingTimer}
 use Rattle.lane_look.specs.Asking.Asking.{Ready}
 use Rattle.lane_look.specs.declared.lane.Turn.{Turn}
 use Rattle.lane_look.specs.declared.lane.Want.TheVariants as want
@@ -15,7 +15,7 @@ use Rattle.dma_engine.specs.State.{Engine}
 abbrev pub is_idle_channel : Channel → Bool
 is_idle_channel c = not c.busy
 
-abbrev pub stands_still : Timer → Bool
+abbrev pub stands_still : PacingTimer → Bool
 stands_still t = not (runs t)
 
 -- no channel is busy or chosen, no write waits, and no timer runs

@@ -1,9 +1,9 @@
 -- The DMA engine between two cycles (RP2040 Datasheet, 2.5 "DMA").
 use Rattle.std.specs.Prelude.{ℕ, Bool, true, false, List, [], replicate, Option, None, slice_index_or}
 use Rattle.dma_engine.specs.declared.channel.Channel.{Channel}
-use Rattle.dma_engine.specs.declared.waiting.Waiting.{Waiting}
-use Rattle.dma_engine.specs.declared.timer.Timer.{Timer}
-use Rattle.dma_engine.specs.declared.line.Line.{Line}
+use Rattle.dma_engine.specs.declared.waiting.WaitingWrite.{WaitingWrite}
+use Rattle.dma_engine.specs.declared.timer.PacingTimer.{PacingTimer}
+use Rattle.dma_engine.specs.declared.line.InterruptLine.{InterruptLine}
 
 pub record Engine : Type 0 where
   -- the twelve channels
@@ -13,14 +13,14 @@ pub record Engine : Type 0 where
   -- the channel that was chosen last
   pub last_chosen : ℕ
   -- the writes that wait, the oldest first
-  pub waiting : List Waiting
+  pub waiting : List WaitingWrite
   -- INTR: the channels that raised their interrupt, by bits
   pub raised : ℕ
   -- INTE and INTF of the two interrupt lines
-  pub line_0 : Line
-  pub line_1 : Line
+  pub line_0 : InterruptLine
+  pub line_1 : InterruptLine
   -- the four pacing timers
-  pub timers : List Timer
+  pub timers : List PacingTimer
   -- the engine's bit of RESETS is set
   pub held : Bool
 
@@ -32,13 +32,13 @@ idle_channel =
 abbrev pub channel_at : ℕ → Engine → Channel
 channel_at n e = slice_index_or e.channels n idle_channel
 
-abbrev pub stopped_timer : Timer
+abbrev pub stopped_timer : PacingTimer
 stopped_timer = record { x = 0; y = 0; accumulator = 0 }
 
-abbrev pub timer_at : ℕ → List Timer → Timer
+abbrev pub timer_at : ℕ → List PacingTimer → PacingTimer
 timer_at k timers = slice_index_or timers k stopped_timer
 
-abbrev pub silent_line : Line
+abbrev pub silent_line : InterruptLine
 silent_line = record { enable = 0; force = 0 }
 
 -- after a reset nothing is in progress and every register is 0; the first channel to be looked at is channel 0, which

@@ -4,35 +4,35 @@ use Rattle.std.specs.Prelude.{ℕ, ◌+◌, ◌-◌, Bool, false, not, ◌&&◌,
 use Rattle.dma_engine.specs.declared.channel.Channel.{Channel}
 use Rattle.dma_engine.specs.declared.pace.Pace.{Pace}
 use Rattle.dma_engine.specs.declared.pace.Pace.TheVariants as pace
-use Rattle.dma_engine.specs.declared.timer.Timer.{Timer}
+use Rattle.dma_engine.specs.declared.timer.PacingTimer.{PacingTimer}
 use Rattle.dma_engine.specs.Control.{treq_of}
 use Rattle.dma_engine.specs.Channels.{changed, in_turn}
 use Rattle.dma_engine.specs.Choice.{pace_of}
 use Rattle.dma_engine.specs.State.{Engine, channel_at}
 
 -- a timer with X or Y 0 stands still
-abbrev pub runs : Timer → Bool
+abbrev pub runs : PacingTimer → Bool
 runs t = not (t.x == 0) && not (t.y == 0)
 
 -- what a cycle adds, and what the sum comes to
-abbrev pub step_of : Timer → ℕ
+abbrev pub step_of : PacingTimer → ℕ
 step_of t = min t.x t.y
 
-abbrev pub sum_of : Timer → ℕ
+abbrev pub sum_of : PacingTimer → ℕ
 sum_of t = t.accumulator + step_of t
 
 -- the sum arrives at Y: the channels of the timer get a credit
-abbrev pub gives : Timer → Bool
+abbrev pub gives : PacingTimer → Bool
 gives t = runs t && nat_le t.y (sum_of t)
 
-abbrev pub accumulated : Timer → ℕ
+abbrev pub accumulated : PacingTimer → ℕ
 accumulated t = if nat_le t.y (sum_of t) then sum_of t - t.y else sum_of t
 
-abbrev pub stepped : Timer → Timer
+abbrev pub stepped : PacingTimer → PacingTimer
 stepped t = if runs t then record t { accumulator = accumulated t } else t
 
 -- which timers give a credit
-abbrev pub given_by : List Timer → List Bool
+abbrev pub given_by : List PacingTimer → List Bool
 given_by timers = map gives timers
 
 abbrev pub is_given : List Bool → Pace → Bool

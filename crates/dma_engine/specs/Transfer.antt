@@ -7,7 +7,7 @@ use Rattle.rp_base.specs.Access.{lanes_of}
 use Rattle.m0_alu.specs.Extend.{extended}
 use Rattle.m0_alu.specs.declared.ExtendKind.TheVariants.{Rev, Rev16}
 use Rattle.dma_engine.specs.declared.channel.Channel.{Channel}
-use Rattle.dma_engine.specs.declared.waiting.Waiting.{Waiting}
+use Rattle.dma_engine.specs.declared.waiting.WaitingWrite.{WaitingWrite}
 use Rattle.dma_engine.specs.Control.{size_of, increments_read, increments_write, ring_of, rings_write, swaps}
 
 -- ---- addresses
@@ -64,9 +64,9 @@ unfoldable pub read_of : Channel → Request
 read_of c = record { address = rounded (size_of c) c.read; size = size_of c; write = None }
 
 -- the write of what was read
-unfoldable pub write_after : ℕ → Channel → ℕ → Waiting
+unfoldable pub write_after : ℕ → Channel → ℕ → WaitingWrite
 write_after n c word =
     record { channel = n; address = rounded (size_of c) c.write; size = size_of c; value = data_of c word }
 
-unfoldable pub request_of : Waiting → Request
+unfoldable pub request_of : WaitingWrite → Request
 request_of w = record { address = w.address; size = w.size; write = Some w.value }

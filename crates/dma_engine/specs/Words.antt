@@ -2,12 +2,13 @@
 -- "List of Registers").
 use Rattle.std.specs.Prelude.{ℕ, ◌+◌, ◌-◌, ◌*◌, ◌/◌, ◌%◌, ◌^◌, Bool, not, ◌&&◌, ◌==◌, nat_lt, if◌then◌else◌, List, [], ◌∷◌, Option, Some, None, bit_and, bit_or, slice_index_or, slice_set, is_some}
 use Rattle.word_bits.specs.Word.{has_bit, bit_number}
+use Rattle.register_block.specs.Held.{unless_held, after_access}
 use Rattle.dma_engine.specs.declared.channel.Channel.{Channel}
 use Rattle.dma_engine.specs.declared.registers.TheConstants.{INTR, INTE0, INTF0, INTS0, INTE1, INTF1, INTS1, TIMER0, MULTI_CHAN_TRIGGER, CHAN_ABORT, N_CHANNELS}
 use Rattle.dma_engine.specs.declared.registers.Register.{Register}
 use Rattle.dma_engine.specs.declared.registers.Register.TheVariants.{ReadAddress, WriteAddress, Count, Control}
-use Rattle.dma_engine.specs.declared.timer.Timer.{Timer}
-use Rattle.dma_engine.specs.declared.line.Line.{Line}
+use Rattle.dma_engine.specs.declared.timer.PacingTimer.{PacingTimer}
+use Rattle.dma_engine.specs.declared.line.InterruptLine.{InterruptLine}
 use Rattle.dma_engine.specs.Control.{is_quiet}
 use Rattle.dma_engine.specs.Channels.{changed, with_trigger, with_abort, with_raised, in_turn}
 use Rattle.dma_engine.specs.State.{Engine, channel_at, timer_at}
@@ -76,7 +77,7 @@ channel_written offset w e =
 
 -- ---- interrupts: INTR, and INTE, INTF and INTS of two lines
 
-abbrev pub status_of : ℕ → Line → ℕ
+abbrev pub status_of : ℕ → InterruptLine → ℕ
 status_of raised line = bit_or (bit_and raised line.enable) line.force
 
 abbrev pub interrupt_word : Engine → ℕ → Option ℕ
@@ -93,10 +94,10 @@ interrupt_word s offset =
 abbrev pub without_raised : ℕ → Engine → Engine
 without_raised w e = record e { raised = bit_and e.raised (2 ^ 16 - 1 - w % 2 ^ 16) }
 
-abbrev pub with_enable : ℕ → Line → Line
+abbrev pub with_enable : ℕ → InterruptLine → InterruptLine
 with_enable w line = record line { enable = w % 2 ^ 16 }
 
-abbrev pub with_force : ℕ → Line → Line
+abbrev pub with_force : ℕ → InterruptLine → InterruptLine
 with_force w line = record line { force = w % 2 ^ 16 }
 
 abbrev pub interrupt_written : ℕ → ℕ → Engine → Engine
@@ -114,19 +115,19 @@ interrupt_written offset w e =
 abbrev pub timer_number : ℕ → ℕ
 timer_number offset = (offset - TIMER0) / 4
 
-abbrev pub word_of_timer : Timer → ℕ
+abbrev pub word_of_timer : PacingTimer → ℕ
 word_of_timer t = t.x * 2 ^ 16 + t.y
 
 abbrev pub timer_word : Engine → ℕ → Option ℕ
 timer_word s offset = Some (word_of_timer (timer_at (timer_number offset) s.timers))
 
-abbrev pub with_timer_word : ℕ → Timer → Timer
+abbrev pub with_timer_word : ℕ → PacingTimer → PacingTimer
 with_timer_word w t = record t { x = w / 2 ^ 16; y = w % 2 ^ 16 }
 
-abbrev pub with_timers : List Timer → Engine → Engine
+abbrev pub with_timers : List PacingTimer → Engine → Engine
 with_timers timers e = record e { timers = timers }
 
-abbrev pub with_timer : ℕ → ℕ → List Timer → List Timer
+abbrev pub with_timer : ℕ → ℕ → List PacingTimer → List PacingTimer
 with_timer k w timers = slice_set timers k (with_timer_word w (timer_at k timers))
 
 abbrev pub timer_written : ℕ → ℕ → Engine → Engine
@@ -153,13 +154,8 @@ listed_word s offset =
     if nat_lt offset TIMER0 then interrupt_word s offset else
     if nat_lt offset MULTI_CHAN_TRIGGER then timer_word s offset else control_word offset
 
--- an engine that is held reads 0
-abbrev pub zero_of : Option ℕ → Option ℕ
-zero_of None = None
-zero_of (Some w) = Some 0
-
 abbrev pub word_of : Engine → ℕ → Option ℕ
-word_of s offset = if s.held then zero_of (listed_word s offset) else listed_word s offset
+word_of s offset = unless_held s.held (listed_word s offset)
 
 abbrev pub is_allowed : Engine → ℕ → Bool
 is_allowed s offset = is_some (listed_word s offset)
@@ -170,18 +166,18 @@ written offset w e =
     if nat_lt offset TIMER0 then interrupt_written offset w e else
     if nat_lt offset MULTI_CHAN_TRIGGER then timer_written offset w e else control_written offset w e
 
-abbrev pub after_access : ℕ → Option ℕ → Engine → Engine
-after_access offset None e = e
-after_access offset (Some w) e = written offset w e
+-- a read does nothing
+abbrev pub after_any : ℕ → Option ℕ → Engine → Engine
+after_any offset None e = e
+after_any offset (Some w) e = written offset w e
 
--- what a read or a write does: a read does nothing, and nothing happens where there is no such word or the engine is held
 abbrev pub effect_of : ℕ → Option ℕ → Engine → Engine
-effect_of offset write s = if is_allowed s offset && not s.held then after_access offset write s else s
+effect_of offset write s = after_access (is_allowed s offset) s.held s (after_any offset write s)
 
 -- ---- interrupt lines
 
 -- some bit of INTS is set
-abbrev pub is_raised : ℕ → Line → Bool
+abbrev pub is_raised : ℕ → InterruptLine → Bool
 is_raised raised line = not (status_of raised line == 0)
 
 abbrev pub lines_of : Engine → List Bool

@@ -7,11 +7,11 @@ ghost use Rattle.dma_engine.specs.Cycle.{is_chosen, has_write, is_in_flight, is_
 
 use crate::channel::Channel;
 use crate::engine::{CHANNELS, Engine};
-use crate::waiting::Waiting;
+use crate::waiting::WaitingWrite;
 use word_bits::has_bit;
 
 /// A write of the channel waits.
-fn has_write(writes: &[Waiting], number: u8) -> bool
+fn has_write(writes: &[WaitingWrite], number: u8) -> bool
     ensures { result ≡ has_write number writes.now }
 {
     writes.iter().any(|write| write.channel == number)

@@ -3,9 +3,9 @@
 ghost use Rattle.std.specs.Prelude.{◌≡◌};
 
 use crate::channel::Channel;
-use crate::line::Line;
-use crate::timer::Timer;
-use crate::waiting::Waiting;
+use crate::line::InterruptLine;
+use crate::timer::PacingTimer;
+use crate::waiting::WaitingWrite;
 use arrayvec::ArrayVec;
 use std::marker::Model;
 
@@ -18,11 +18,11 @@ pub(crate) struct Engine {
     pub(crate) channels: [Channel; 12],
     pub(crate) chosen: Option<u8>,
     pub(crate) last_chosen: u8,
-    pub(crate) waiting: ArrayVec<Waiting, 2>,
+    pub(crate) waiting: ArrayVec<WaitingWrite, 2>,
     pub(crate) raised: u16,
-    pub(crate) line_0: Line,
-    pub(crate) line_1: Line,
-    pub(crate) timers: [Timer; 4],
+    pub(crate) line_0: InterruptLine,
+    pub(crate) line_1: InterruptLine,
+    pub(crate) timers: [PacingTimer; 4],
     pub(crate) held: bool,
 }
 
@@ -48,9 +48,9 @@ impl Engine {
             last_chosen: CHANNELS - 1,
             waiting: ArrayVec::new(),
             raised: 0,
-            line_0: Line::SILENT,
-            line_1: Line::SILENT,
-            timers: [Timer::STOPPED; 4],
+            line_0: InterruptLine::SILENT,
+            line_1: InterruptLine::SILENT,
+            timers: [PacingTimer::STOPPED; 4],
             held,
         }
     }

@@ -16,7 +16,7 @@ use crate::channel::Channel;
 use crate::doing::{Access, Doing};
 use crate::engine::{CHANNELS, Engine};
 use crate::pace::{Pace, pace_of, uses_credits};
-use crate::timer::Timer;
+use crate::timer::PacingTimer;
 use lane_look::{Turn, Want};
 
 /// What an access wants of the bus.
@@ -60,7 +60,7 @@ fn are_idle(channels: &[Channel; 12]) -> bool
 }
 
 /// No timer runs.
-fn stand_still(timers: &[Timer; 4]) -> bool
+fn stand_still(timers: &[PacingTimer; 4]) -> bool
     ensures { result ≡ list_all stands_still timers.now }
 {
     timers.iter().all(|timer| !timer.runs())
@@ -68,7 +68,7 @@ fn stand_still(timers: &[Timer; 4]) -> bool
 
 /// Which timers give a credit.
 #[tactic(auto, using(crate::proofs::Four::four))]
-fn given_by(timers: &[Timer; 4]) -> [bool; 4]
+fn given_by(timers: &[PacingTimer; 4]) -> [bool; 4]
     ensures { result ≡ given_by timers.now }
 {
     [
@@ -81,7 +81,7 @@ fn given_by(timers: &[Timer; 4]) -> [bool; 4]
 
 /// The timers after a cycle.
 #[tactic(auto, using(crate::proofs::Four::four))]
-fn stepped(timers: &[Timer; 4]) -> [Timer; 4]
+fn stepped(timers: &[PacingTimer; 4]) -> [PacingTimer; 4]
     ensures { result ≡ map stepped timers.now }
 {
     [

@@ -9,15 +9,16 @@
 mod asks;
 pub mod channel;
 mod choice;
+pub mod dma;
 pub mod doing;
 mod ends;
 mod engine;
 mod finish;
+mod lane;
 pub mod laws;
 pub mod line;
 pub mod pace;
 pub mod registers;
-mod step;
 #[cfg(test)]
 mod tests;
 pub mod timer;
@@ -25,5 +26,5 @@ mod transfer;
 pub mod waiting;
 mod words;
 
+pub use dma::Dma;
 pub use doing::{Access, Doing};
-pub use step::Dma;

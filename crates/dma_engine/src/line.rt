@@ -5,16 +5,16 @@ ghost use Rattle.dma_engine.specs.Words.{status_of, is_raised};
 
 /// What an interrupt line is made of (RP2040 Datasheet, 2.5.7, INTE0 and INTF0), by the bits of channels.
 #[derive(Clone, Copy)]
-pub struct Line {
+pub struct InterruptLine {
     /// INTE: the interrupts that the line passes on.
     pub enable: u16,
     /// INTF: the interrupts that are forced.
     pub force: u16,
 }
 
-impl Line {
+impl InterruptLine {
     /// A line after a reset.
-    pub(crate) const SILENT: Line = Line {
+    pub(crate) const SILENT: InterruptLine = InterruptLine {
         enable: 0,
         force: 0,
     };

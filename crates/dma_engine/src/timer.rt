@@ -5,7 +5,7 @@ ghost use Rattle.dma_engine.specs.Timers.{runs, step_of, gives, accumulated, ste
 
 /// One pacing timer (RP2040 Datasheet, 2.5.7, TIMER0): it gives a credit in X of each Y cycles.
 #[derive(Clone, Copy)]
-pub struct Timer {
+pub struct PacingTimer {
     /// X.
     pub x: u16,
     /// Y.
@@ -14,9 +14,9 @@ pub struct Timer {
     pub accumulator: u16,
 }
 
-impl Timer {
+impl PacingTimer {
     /// A timer after a reset.
-    pub(crate) const STOPPED: Timer = Timer {
+    pub(crate) const STOPPED: PacingTimer = PacingTimer {
         x: 0,
         y: 0,
         accumulator: 0,
@@ -57,13 +57,13 @@ impl Timer {
     }
 
     /// The timer after a cycle.
-    pub(crate) fn stepped(&self) -> Timer
+    pub(crate) fn stepped(&self) -> PacingTimer
         ensures { result ≡ stepped self.now }
     {
         if !self.runs() {
             return *self;
         }
-        Timer {
+        PacingTimer {
             x: self.x,
             y: self.y,
             accumulator: self.accumulated(),

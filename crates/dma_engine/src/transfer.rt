@@ -4,7 +4,7 @@ ghost use Rattle.std.specs.Prelude.{◌≡◌, ◌^◌, ◌<◌, ◌≤◌};
 ghost use Rattle.dma_engine.specs.Transfer.{bytes_of, rounded, advanced, ring_of_read, ring_of_write, next_read, next_write, moved, swapped, data_of, read_of, write_after, request_of};
 
 use crate::channel::Channel;
-use crate::waiting::Waiting;
+use crate::waiting::WaitingWrite;
 use m0_alu::{ExtendKind, extend};
 use rp_base::access::lanes;
 use rp_base::{Request, Size};
@@ -126,10 +126,10 @@ impl Channel {
 
     /// The write of what was read, where the channel has that number.
     #[tactic(auto, unfolding(crate::specs::Transfer::write_after))]
-    pub(crate) fn write_after(&self, number: u8, word: u32) -> Waiting
+    pub(crate) fn write_after(&self, number: u8, word: u32) -> WaitingWrite
         ensures { result ≡ write_after number self.now word }
     {
-        Waiting {
+        WaitingWrite {
             channel: number,
             address: rounded(self.size(), self.write),
             size: self.size(),
@@ -138,7 +138,7 @@ impl Channel {
     }
 }
 
-impl Waiting {
+impl WaitingWrite {
     /// The access of the write.
     #[tactic(auto, unfolding(crate::specs::Transfer::request_of))]
     pub(crate) fn request(&self) -> Request

@@ -4,7 +4,7 @@ use rp_base::Size;
 
 /// The write of a transfer whose read is done.
 #[derive(Clone, Copy)]
-pub struct Waiting {
+pub struct WaitingWrite {
     /// The channel of the transfer.
     pub channel: u8,
     /// The address of the write, rounded down to its size.
@@ -15,9 +15,9 @@ pub struct Waiting {
     pub value: u32,
 }
 
-impl Default for Waiting {
-    fn default() -> Waiting {
-        Waiting {
+impl Default for WaitingWrite {
+    fn default() -> WaitingWrite {
+        WaitingWrite {
             channel: 0,
             address: 0,
             size: Size::Byte,

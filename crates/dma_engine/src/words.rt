@@ -8,7 +8,8 @@ use crate::registers::{
     CHAN_ABORT, INTE0, INTE1, INTF0, INTF1, INTR, INTS0, INTS1, MULTI_CHAN_TRIGGER, N_CHANNELS,
     TIMER0, register_at,
 };
-use crate::timer::Timer;
+use crate::timer::PacingTimer;
+use register_block::unless_held;
 
 /// The number of the channel of an offset, and the index of the word among its sixteen.
 fn channel_index(offset: u16) -> (u16, u16)
@@ -37,7 +38,7 @@ fn control_word(offset: u16) -> Option<u32>
     }
 }
 
-impl Timer {
+impl PacingTimer {
     /// X above Y.
     fn word(&self) -> u32
         ensures { result ≡ word_of_timer self.now }
@@ -77,10 +78,7 @@ impl Engine {
     pub(crate) fn read(&self, offset: u16) -> Option<u32>
         ensures { result ≡ word_of self.now offset }
     {
-        match self.listed(offset) {
-            Some(_) if self.held => Some(0),
-            word => word,
-        }
+        unless_held(self.held, self.listed(offset))
     }
 
     /// There is a word at the offset.

@@ -36,16 +36,16 @@ bits_below-lt f zero = rw (bits_below-none f) (omega arith)
 bits_below-lt f (suc n) = bits_below-lt_suc f n (bits_below-lt f n)
 
 -- a number with one more bit at its top
-top_bit : (set place : ℕ) → set < 2 ^ place → bit_or set (2 ^ place) ≡ set + 2 ^ place
-top_bit set place h =
-    or_comm set (2 ^ place)
-    ∙ subst (λ q. bit_or q set ≡ q + set) (omega arith) (or_shifted 1 place set h)
-    ∙ add_comm (2 ^ place) set
+top_bit : (set bit : ℕ) → set < 2 ^ bit → bit_or set (2 ^ bit) ≡ set + 2 ^ bit
+top_bit set bit h =
+    or_comm set (2 ^ bit)
+    ∙ subst (λ q. bit_or q set ≡ q + set) (omega arith) (or_shifted 1 bit set h)
+    ∙ add_comm (2 ^ bit) set
 
-pub with_top_bit : (set place : ℕ) → set < 2 ^ place → place < 32 →
-    bit_or set (1 * 2 ^ place % 2 ^ 32) ≡ set + 1 * 2 ^ place
-with_top_bit set place h lt =
-    rw (one_shl place 32 lt) (top_bit set place h ∙ omega arith)
+pub with_top_bit : (set bit : ℕ) → set < 2 ^ bit → bit < 32 →
+    bit_or set (1 * 2 ^ bit % 2 ^ 32) ≡ set + 1 * 2 ^ bit
+with_top_bit set bit h lt =
+    rw (one_shl bit 32 lt) (top_bit set bit h ∙ omega arith)
 
 pub ruleset bits = (bits_below-none, bits_below-more, bits_below-lt)
 

@@ -9,14 +9,14 @@ use Rattle.io_bank.specs.Pins.{bits_below, pins_where}
 use Rattle.io_bank.specs.State.{Bank}
 use Rattle.io_bank.specs.Levels.{input_of}
 
--- the pins of a kind of event, by its place among a pin's four bits
+-- the pins of a kind of event, by its number among a pin's four bits
 abbrev pub kind_of : Events → ℕ → ℕ
 kind_of e kind =
     if kind == 0 then e.level_low else if kind == 1 then e.level_high else if kind == 2 then e.edge_low else e.edge_high
 
--- the word of the eight pins from 8 * place on
+-- the word of the eight pins from 8 * number on
 abbrev pub event_word : Events → ℕ → ℕ
-event_word e place = bits_below (λ bit. has_bit (kind_of e (bit % 4)) (8 * place + bit / 4)) 32
+event_word e number = bits_below (λ bit. has_bit (kind_of e (bit % 4)) (8 * number + bit / 4)) 32
 
 -- a word's bit of a pin and a kind
 abbrev pub is_named : ℕ → ℕ → ℕ → Bool
@@ -24,16 +24,16 @@ is_named word kind pin = has_bit word (4 * (pin % 8) + kind)
 
 -- a set of pins, of which a word gives eight
 abbrev pub with_eight : ℕ → ℕ → ℕ → ℕ → ℕ
-with_eight place word kind set =
-    pins_where (λ pin. if pin / 8 == place then is_named word kind pin else has_bit set pin)
+with_eight number word kind set =
+    pins_where (λ pin. if pin / 8 == number then is_named word kind pin else has_bit set pin)
 
 abbrev pub with_word : ℕ → ℕ → Events → Events
-with_word place word e =
+with_word number word e =
     record {
-      level_low = with_eight place word 0 e.level_low;
-      level_high = with_eight place word 1 e.level_high;
-      edge_low = with_eight place word 2 e.edge_low;
-      edge_high = with_eight place word 3 e.edge_high;
+      level_low = with_eight number word 0 e.level_low;
+      level_high = with_eight number word 1 e.level_high;
+      edge_low = with_eight number word 2 e.edge_low;
+      edge_high = with_eight number word 3 e.edge_high;
     }
 
 -- INTR: the levels of the inputs, and the latched edges
@@ -66,12 +66,12 @@ line_of s i = is_any (shown (raw_of s) i)
 
 -- the edges that stay where a word is written to INTR: a 1 clears, but no edge of the same cycle
 abbrev pub left_of : ℕ → ℕ → ℕ → ℕ → ℕ → ℕ
-left_of place word kind latched fresh =
-    pins_where (λ pin. has_bit latched pin && (has_bit fresh pin || not (pin / 8 == place && is_named word kind pin)))
+left_of number word kind latched fresh =
+    pins_where (λ pin. has_bit latched pin && (has_bit fresh pin || not (pin / 8 == number && is_named word kind pin)))
 
 abbrev pub cleared : ℕ → ℕ → Edges → Edges → Edges
-cleared place word latched fresh =
+cleared number word latched fresh =
     record {
-      low = left_of place word 2 latched.low fresh.low;
-      high = left_of place word 3 latched.high fresh.high;
+      low = left_of number word 2 latched.low fresh.low;
+      high = left_of number word 3 latched.high fresh.high;
     }

@@ -3,7 +3,7 @@
 use Rattle.std.specs.Prelude.{ℕ, zero, suc, ◌+◌, ◌*◌, ◌/◌, ◌%◌, ◌^◌, Bool, not, ◌==◌, if◌then◌else◌}
 use Rattle.word_bits.specs.Word.{bit_number}
 
--- the number whose bits below a count are what a test says of their places
+-- the number whose bits below a count are what a test says of them
 unfoldable pub bits_below : (ℕ → Bool) → ℕ → ℕ
 bits_below f zero = 0
 bits_below f (suc n) = bits_below f n + bit_number (f n) * 2 ^ n

@@ -2,20 +2,22 @@
 -- (RP2040 Datasheet, 2.19.6.1, IO - User Bank, and 2.19.6.3, Pad Control - User Bank).
 use Rattle.std.specs.Prelude.{ℕ, ◌+◌, ◌-◌, ◌*◌, ◌/◌, ◌%◌, ◌^◌, Bool, not, ◌&&◌, ◌||◌, ◌==◌, nat_lt, nat_le, if◌then◌else◌, Option, Some, None, bit_and, slice_set}
 use Rattle.word_bits.specs.Word.{bit_number}
+use Rattle.register_block.specs.Held.{unless_held, after_access}
 use Rattle.io_bank.specs.declared.outputs.Outs.{Outs}
 use Rattle.io_bank.specs.declared.events.Events.{Events}
 use Rattle.io_bank.specs.declared.events.Interrupts.{Interrupts}
+use Rattle.io_bank.specs.declared.registers.TheConstants.{GPIO0_STATUS, INTR0, PROC0_INTE0, PROC0_INTF0, PROC0_INTS0, PROC1_INTE0, PROC1_INTF0, IO_BANK0_END, PADS_BANK0, VOLTAGE_SELECT, PAD_GPIO0, PAD_GPIO29}
 use Rattle.io_bank.specs.State.{Bank}
 use Rattle.io_bank.specs.Levels.{control_of, pad_of, level_from, enable_from, level_to, enable_to, level_sensed, input_of}
 use Rattle.io_bank.specs.Interrupts.{event_word, with_word, raw_of, shown, cleared}
 
 -- STATUS and CTRL of each pin, the interrupt words, VOLTAGE_SELECT and the pads
 abbrev pub is_word : ℕ → Bool
-is_word offset = offset % 4 == 0 && (nat_lt offset 0x160 || (nat_le 0x1000 offset && nat_le offset 0x1078))
+is_word offset = offset % 4 == 0 && (nat_lt offset IO_BANK0_END || (nat_le PADS_BANK0 offset && nat_le offset PAD_GPIO29))
 
 -- the block of a word is held in reset
 abbrev pub is_held : Bank → ℕ → Bool
-is_held s offset = if nat_lt offset 0x1000 then s.bank_held else s.pads_held
+is_held s offset = if nat_lt offset PADS_BANK0 then s.bank_held else s.pads_held
 
 -- ---- what is read
 
@@ -30,65 +32,70 @@ status_of s outs pin =
     + bit_number (input_of s s.current pin) * 2 ^ 19
 
 abbrev pub pin_word : Bank → Outs → ℕ → ℕ
-pin_word s outs offset = if offset % 8 == 0 then status_of s outs (offset / 8) else control_of s (offset / 8)
+pin_word s outs offset = if offset % 8 == GPIO0_STATUS then status_of s outs (offset / 8) else control_of s (offset / 8)
 
--- INTR, and for each core INTE, INTF and INTS, four words each
+-- INTR, and for each core INTE, INTF and INTS, by the offset of the first of its four words
 abbrev pub events_at : Bank → ℕ → Events
-events_at s row =
-    if row == 0xF then raw_of s else
-    if row == 0x10 then s.core0.enable else
-    if row == 0x11 then s.core0.force else
-    if row == 0x12 then shown (raw_of s) s.core0 else
-    if row == 0x13 then s.core1.enable else
-    if row == 0x14 then s.core1.force else shown (raw_of s) s.core1
+events_at s first =
+    if first == INTR0 then raw_of s else
+    if first == PROC0_INTE0 then s.core0.enable else
+    if first == PROC0_INTF0 then s.core0.force else
+    if first == PROC0_INTS0 then shown (raw_of s) s.core0 else
+    if first == PROC1_INTE0 then s.core1.enable else
+    if first == PROC1_INTF0 then s.core1.force else shown (raw_of s) s.core1
 
 abbrev pub pad_word : Bank → ℕ → ℕ
-pad_word s offset = if offset == 0x1000 then s.voltage else pad_of s ((offset - 0x1004) / 4)
+pad_word s offset = if offset == VOLTAGE_SELECT then s.voltage else pad_of s ((offset - PAD_GPIO0) / 4)
 
 abbrev pub word_at : Bank → Outs → ℕ → ℕ
 word_at s outs offset =
-    if nat_lt offset 0xF0 then pin_word s outs offset else
-    if nat_lt offset 0x1000 then event_word (events_at s (offset / 16)) (offset % 16 / 4) else pad_word s offset
+    if nat_lt offset INTR0 then pin_word s outs offset else
+    if nat_lt offset PADS_BANK0 then event_word (events_at s (offset - offset % 16)) (offset % 16 / 4) else pad_word s offset
 
--- a held block reads 0; None where there is no word
+-- None where there is no word
+abbrev pub listed_word : Bank → Outs → ℕ → Option ℕ
+listed_word s outs offset = if is_word offset then Some (word_at s outs offset) else None
+
 abbrev pub word_of : Bank → Outs → ℕ → Option ℕ
-word_of s outs offset =
-    if is_word offset then Some (if is_held s offset then 0 else word_at s outs offset) else None
+word_of s outs offset = unless_held (is_held s offset) (listed_word s outs offset)
 
 -- ---- what a write does
 
 -- CTRL keeps FUNCSEL and the overrides; STATUS is read-only
 abbrev pub pin_written : ℕ → ℕ → Bank → Bank
 pin_written offset w s =
-    if offset % 8 == 0 then s else record s { controls = slice_set s.controls (offset / 8) (bit_and w 0x3331F) }
+    if offset % 8 == GPIO0_STATUS then s else record s { controls = slice_set s.controls (offset / 8) (bit_and w 0x3331F) }
 
 abbrev pub with_enable : ℕ → ℕ → Interrupts → Interrupts
-with_enable place w i = record i { enable = with_word place w i.enable }
+with_enable number w i = record i { enable = with_word number w i.enable }
 
 abbrev pub with_force : ℕ → ℕ → Interrupts → Interrupts
-with_force place w i = record i { force = with_word place w i.force }
+with_force number w i = record i { force = with_word number w i.force }
 
 -- a 1 written to INTR clears an edge; INTS is read-only
 abbrev pub events_written : ℕ → ℕ → ℕ → Bank → Bank
-events_written row place w s =
-    if row == 0xF then record s { latched = cleared place w s.latched s.fresh } else
-    if row == 0x10 then record s { core0 = with_enable place w s.core0 } else
-    if row == 0x11 then record s { core0 = with_force place w s.core0 } else
-    if row == 0x13 then record s { core1 = with_enable place w s.core1 } else
-    if row == 0x14 then record s { core1 = with_force place w s.core1 } else s
+events_written first number w s =
+    if first == INTR0 then record s { latched = cleared number w s.latched s.fresh } else
+    if first == PROC0_INTE0 then record s { core0 = with_enable number w s.core0 } else
+    if first == PROC0_INTF0 then record s { core0 = with_force number w s.core0 } else
+    if first == PROC1_INTE0 then record s { core1 = with_enable number w s.core1 } else
+    if first == PROC1_INTF0 then record s { core1 = with_force number w s.core1 } else s
 
 -- a pad keeps eight bits
 abbrev pub pad_written : ℕ → ℕ → Bank → Bank
 pad_written offset w s =
-    if offset == 0x1000 then record s { voltage = w }
-    else record s { pads = slice_set s.pads ((offset - 0x1004) / 4) (w % 2 ^ 8) }
+    if offset == VOLTAGE_SELECT then record s { voltage = w }
+    else record s { pads = slice_set s.pads ((offset - PAD_GPIO0) / 4) (w % 2 ^ 8) }
 
 abbrev pub after_write : ℕ → ℕ → Bank → Bank
 after_write offset w s =
-    if nat_lt offset 0xF0 then pin_written offset w s else
-    if nat_lt offset 0x1000 then events_written (offset / 16) (offset % 16 / 4) w s else pad_written offset w s
+    if nat_lt offset INTR0 then pin_written offset w s else
+    if nat_lt offset PADS_BANK0 then events_written (offset - offset % 16) (offset % 16 / 4) w s else pad_written offset w s
 
--- a read does nothing, and so does a write to a held block or to a place without a word
+-- a read does nothing
+abbrev pub after_any : ℕ → Option ℕ → Bank → Bank
+after_any offset None s = s
+after_any offset (Some w) s = after_write offset w s
+
 abbrev pub effect_of : ℕ → Option ℕ → Bank → Bank
-effect_of offset None s = s
-effect_of offset (Some w) s = if is_word offset && not (is_held s offset) then after_write offset w s else s
+effect_of offset write s = after_access (is_word offset) (is_held s offset) s (after_any offset write s)

@@ -120,9 +120,9 @@ fn acts(bench: &mut Bench, deed: &Deed) -> bool {
 /// The first of these from the reset state on that is not so.
 fn first_wrong(deeds: &[Deed]) -> Option<usize> {
     let mut bench = at_rest();
-    for (place, deed) in deeds.iter().enumerate() {
+    for (index, deed) in deeds.iter().enumerate() {
         if !reads(&mut bench, deed) || !acts(&mut bench, deed) || !shows(&bench, deed) {
-            return Some(place);
+            return Some(index);
         }
     }
     None

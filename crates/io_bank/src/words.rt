@@ -2,9 +2,10 @@
 
 ghost use Rattle.std.specs.Prelude.{◌≡◌, ◌<◌, ◌≤◌, ◌%◌, ◌+◌, ◌*◌, true};
 ghost use Rattle.io_bank.specs.Levels.{level_sensed};
-ghost use Rattle.io_bank.specs.Words.{is_word, is_held, status_of, pin_word, events_at, pad_word, word_at, word_of, pin_written, events_written, pad_written, after_write, effect_of};
+ghost use Rattle.io_bank.specs.Words.{is_word, is_held, status_of, pin_word, events_at, pad_word, word_at, listed_word, word_of, pin_written, events_written, pad_written, after_write, effect_of};
+ghost use Rattle.io_bank.specs.declared.registers.TheConstants.{INTR0, PADS_BANK0, PAD_GPIO29};
 
-use crate::IoBank;
+use crate::bank::IoBank;
 use crate::events::Events;
 use crate::outputs::Outs;
 use crate::registers::{
@@ -13,34 +14,18 @@ use crate::registers::{
 };
 use crate::routes::Routes;
 use crate::sets::overridden;
+use register_block::{Registers, unless_held};
 use word_bits::{bit_number, has_bit};
 
-/// The rows of four interrupt words, by their offsets divided by 16.
-const INTR: u16 = INTR0 / 16;
-
-const PROC0_INTE: u16 = PROC0_INTE0 / 16;
-
-const PROC0_INTF: u16 = PROC0_INTF0 / 16;
-
-const PROC0_INTS: u16 = PROC0_INTS0 / 16;
-
-const PROC1_INTE: u16 = PROC1_INTE0 / 16;
-
-const PROC1_INTF: u16 = PROC1_INTF0 / 16;
-
 impl IoBank {
+    ghost use Rattle.io_bank.specs.declared.registers.TheConstants.{INTR0, PADS_BANK0, PAD_GPIO29};
+
     /// The word at an offset, where the parts put out `outs` at the start of the cycle; a held block reads 0. None exactly
     /// where there is no such word.
     pub fn read(&self, offset: u16, outs: &Outs) -> Option<u32>
         ensures { result ≡ word_of self.now outs.now offset }
     {
-        if !is_word(offset) {
-            return None;
-        }
-        if self.is_held(offset) {
-            return Some(0);
-        }
-        Some(self.word_at(offset, outs))
+        unless_held(self.is_held(offset), self.listed(offset, outs))
     }
 
     /// A read, or a write of a word, is allowed: there is such a word, whether or not its block is held.
@@ -76,6 +61,17 @@ impl IoBank {
         }
     }
 
+    /// The word at an offset, where its block is not held.
+    fn listed(&self, offset: u16, outs: &Outs) -> Option<u32>
+        ensures { result ≡ listed_word self.now outs.now offset }
+    {
+        if is_word(offset) {
+            Some(self.word_at(offset, outs))
+        } else {
+            None
+        }
+    }
+
     /// A word of a block that is not held.
     fn word_at(&self, offset: u16, outs: &Outs) -> u32
         requires { is_word offset ≡ true }
@@ -84,7 +80,7 @@ impl IoBank {
         if offset < INTR0 {
             self.pin_word(offset, outs)
         } else if offset < PADS_BANK0 {
-            self.events_at(offset / 16).word(u32::from(offset % 16 / 4))
+            self.events_at(offset - offset % 16).word(u32::from(offset % 16 / 4))
         } else {
             self.pad_word(offset)
         }
@@ -98,7 +94,7 @@ impl IoBank {
         if offset < INTR0 {
             self.write_pin(offset, word);
         } else if offset < PADS_BANK0 {
-            self.write_events(offset / 16, u32::from(offset % 16 / 4), word);
+            self.write_events(offset - offset % 16, u32::from(offset % 16 / 4), word);
         } else {
             self.write_pad(offset, word);
         }
@@ -106,7 +102,7 @@ impl IoBank {
 
     /// STATUS or CTRL of a pin.
     fn pin_word(&self, offset: u16, outs: &Outs) -> u32
-        requires { offset < 0xF0 }
+        requires { offset < INTR0 }
         ensures { result ≡ pin_word self.now outs.now offset }
     {
         let pin = offset / 8;
@@ -145,7 +141,7 @@ impl IoBank {
 
     /// A write of CTRL; STATUS is read-only.
     fn write_pin(&mut self, offset: u16, word: u32)
-        requires { offset < 0xF0 }
+        requires { offset < INTR0 }
         ensures { self.new ≡ pin_written offset word self.old }
     {
         if offset % 8 != GPIO0_STATUS {
@@ -154,39 +150,39 @@ impl IoBank {
         }
     }
 
-    /// INTR, and for each core INTE, INTF and INTS, by the offset divided by 16.
-    fn events_at(&self, row: u16) -> Events
-        ensures { result ≡ events_at self.now row }
+    /// INTR, and for each core INTE, INTF and INTS, by the offset of the first of its four words.
+    fn events_at(&self, first: u16) -> Events
+        ensures { result ≡ events_at self.now first }
     {
-        match row {
-            INTR => self.raw(),
-            PROC0_INTE => self.core0.enable,
-            PROC0_INTF => self.core0.force,
-            PROC0_INTS => self.core0.shown(&self.raw()),
-            PROC1_INTE => self.core1.enable,
-            PROC1_INTF => self.core1.force,
+        match first {
+            INTR0 => self.raw(),
+            PROC0_INTE0 => self.core0.enable,
+            PROC0_INTF0 => self.core0.force,
+            PROC0_INTS0 => self.core0.shown(&self.raw()),
+            PROC1_INTE0 => self.core1.enable,
+            PROC1_INTF0 => self.core1.force,
             _ => self.core1.shown(&self.raw()),
         }
     }
 
     /// A write of the word of that number of INTR, INTE or INTF; INTS is read-only.
-    fn write_events(&mut self, row: u16, number: u32, word: u32)
-        ensures { self.new ≡ events_written row number word self.old }
+    fn write_events(&mut self, first: u16, number: u32, word: u32)
+        ensures { self.new ≡ events_written first number word self.old }
     {
-        match row {
-            INTR => self.latched = self.latched.cleared(number, word, self.fresh),
-            PROC0_INTE => self.core0.enable = self.core0.enable.with_word(number, word),
-            PROC0_INTF => self.core0.force = self.core0.force.with_word(number, word),
-            PROC1_INTE => self.core1.enable = self.core1.enable.with_word(number, word),
-            PROC1_INTF => self.core1.force = self.core1.force.with_word(number, word),
+        match first {
+            INTR0 => self.latched = self.latched.cleared(number, word, self.fresh),
+            PROC0_INTE0 => self.core0.enable = self.core0.enable.with_word(number, word),
+            PROC0_INTF0 => self.core0.force = self.core0.force.with_word(number, word),
+            PROC1_INTE0 => self.core1.enable = self.core1.enable.with_word(number, word),
+            PROC1_INTF0 => self.core1.force = self.core1.force.with_word(number, word),
             _ => {}
         }
     }
 
     /// VOLTAGE_SELECT or the register of a pad.
     fn pad_word(&self, offset: u16) -> u32
-        requires low { 0x1000 ≤ offset }
-        requires high { offset ≤ 0x1078 }
+        requires low { PADS_BANK0 ≤ offset }
+        requires high { offset ≤ PAD_GPIO29 }
         requires whole { offset % 4 ≡ 0 }
         ensures { result ≡ pad_word self.now offset }
     {
@@ -199,8 +195,8 @@ impl IoBank {
 
     /// A write of VOLTAGE_SELECT or of a pad's register, which keeps eight bits.
     fn write_pad(&mut self, offset: u16, word: u32)
-        requires low { 0x1000 ≤ offset }
-        requires high { offset ≤ 0x1078 }
+        requires low { PADS_BANK0 ≤ offset }
+        requires high { offset ≤ PAD_GPIO29 }
         requires whole { offset % 4 ≡ 0 }
         ensures { self.new ≡ pad_written offset word self.old }
     {
@@ -210,6 +206,26 @@ impl IoBank {
             self.pads[((offset - PAD_GPIO0) / 4) as usize] = word & 0xff;
             self.routes = Routes::of(&self.controls, &self.pads);
         }
+    }
+}
+
+impl Registers<Outs> for IoBank {
+    ghost word = { λ outs s offset. word_of s outs offset };
+
+    ghost allowed = { λ s offset _. is_word offset };
+
+    ghost accessed = { effect_of };
+
+    fn read(&self, seen: &Outs, offset: u16) -> Option<u32> {
+        self.read(offset, seen)
+    }
+
+    fn allows(&self, offset: u16, write: Option<u32>) -> bool {
+        self.allows(offset, write)
+    }
+
+    fn effect(&mut self, offset: u16, write: Option<u32>) -> bool {
+        self.effect(offset, write)
     }
 }
 

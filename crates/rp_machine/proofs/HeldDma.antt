@@ -7,13 +7,13 @@ use Rattle.dma_engine.specs.declared.channel.Channel.{Channel}
 use Rattle.dma_engine.specs.declared.doing.Doing.{Doing}
 use Rattle.dma_engine.specs.State.{Engine, channel_at, with_hold}
 use Rattle.dma_engine.specs.declared.registers.TheConstants.{INTR, INTE0, INTF0, INTS0, INTE1, INTF1, INTS1}
-use Rattle.dma_engine.specs.declared.line.Line.{Line}
+use Rattle.dma_engine.specs.declared.line.InterruptLine.{InterruptLine}
 use Rattle.dma_engine.specs.Control.{is_quiet}
 use Rattle.dma_engine.specs.Channels.{triggered, aborted, idle, with_channels, changed, with_trigger, with_abort, with_raised, with_report, with_chain, with_end_of, with_end, in_turn}
 use Rattle.dma_engine.specs.Timers.{gets_credit, credited, with_credit, after_timers}
 use Rattle.dma_engine.specs.Choice.{choice_of}
 use Rattle.dma_engine.specs.Cycle.{is_over, after_ends, word_of, word_read, is_written, after_read_of, after_write_of, with_data, with_read_by, with_read, after_read, after_write, counted, choice_where_none, after_transfers, next}
-use Rattle.dma_engine.specs.Words.{null_trigger, trigger_word, with_word_of, with_register, register_at, index_of, number_of, channel_written, without_raised, with_enable, with_force, interrupt_written, timer_written, control_written, written, after_access, effect_of}
+use Rattle.dma_engine.specs.Words.{null_trigger, trigger_word, with_word_of, with_register, register_at, index_of, number_of, channel_written, without_raised, with_enable, with_force, interrupt_written, timer_written, control_written, written, after_any, effect_of}
 
 pub either_way : {A : Type 0} (P : A → Type 0) (c : Bool) (x y : A) → P x → P y → P (if c then x else y)
 either_way P true x y h k = h
@@ -123,16 +123,16 @@ channel_holds offset w bit e h =
 cleared_holds : (w : ℕ) (bit : Bool) (e : Engine) → Holds bit e → Holds bit (without_raised w e)
 cleared_holds w bit e h = record { is = h.is }
 
-abbrev with_line_0 : Line → Engine → Engine
+abbrev with_line_0 : InterruptLine → Engine → Engine
 with_line_0 line e = record e { line_0 = line }
 
-abbrev with_line_1 : Line → Engine → Engine
+abbrev with_line_1 : InterruptLine → Engine → Engine
 with_line_1 line e = record e { line_1 = line }
 
-line_0_holds : (line : Line) (bit : Bool) (e : Engine) → Holds bit e → Holds bit (with_line_0 line e)
+line_0_holds : (line : InterruptLine) (bit : Bool) (e : Engine) → Holds bit e → Holds bit (with_line_0 line e)
 line_0_holds line bit e h = record { is = h.is }
 
-line_1_holds : (line : Line) (bit : Bool) (e : Engine) → Holds bit e → Holds bit (with_line_1 line e)
+line_1_holds : (line : InterruptLine) (bit : Bool) (e : Engine) → Holds bit e → Holds bit (with_line_1 line e)
 line_1_holds line bit e h = record { is = h.is }
 
 -- of seven ways and none
@@ -171,12 +171,12 @@ written_holds offset w bit e h =
     (way bit _ _ _ (interrupt_holds offset w bit e h)
     (way bit _ _ _ (timer_holds offset w bit e h) (control_holds offset w bit e h)))
 
-access_holds : (offset : ℕ) (write : Option ℕ) (bit : Bool) (e : Engine) → Holds bit e → Holds bit (after_access offset write e)
+access_holds : (offset : ℕ) (write : Option ℕ) (bit : Bool) (e : Engine) → Holds bit e → Holds bit (after_any offset write e)
 access_holds offset None bit e h = h
 access_holds offset (Some w) bit e h = written_holds offset w bit e h
 
 pub dma_effect : (offset : ℕ) (write : Option ℕ) (bit : Bool) (s : Engine) → Holds bit s → Holds bit (effect_of offset write s)
-dma_effect offset write bit s h = way bit _ _ _ (access_holds offset write bit s h) h
+dma_effect offset write bit s h = way bit _ _ _ (way bit _ _ _ h (access_holds offset write bit s h)) h
 
 -- ---- RESETS
 

@@ -4,7 +4,7 @@ ghost use Rattle.std.specs.Prelude.{◌≡◌, ◌≤◌};
 ghost use Rattle.rp_uart.specs.State.{no_errors};
 ghost use Rattle.rp_uart.specs.Interrupts.{depth_of, trigger_of, receive_trigger, transmit_trigger, error_bits, error_interrupts, told, told_if, cleared, cleared_if, settled};
 
-use crate::Uart;
+use crate::uart::Uart;
 use crate::receiver::Errors;
 use word_bits::bit_number;
 

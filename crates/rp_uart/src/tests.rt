@@ -1,6 +1,6 @@
 //! Registers as the manuals give them, bytes sent at 115200 baud, frames that are received, and interrupts.
 
-use crate::Uart;
+use crate::uart::Uart;
 use crate::registers::{CR, DMACR, DR, FBRD, FR, IBRD, ICR, IFLS, IMSC, LCR_H, MIS, RIS, RSR};
 
 /// Offsets, and what is read there after reset.

@@ -3,12 +3,13 @@
 ghost use Rattle.std.specs.Prelude.{◌≡◌, ◌≤◌, slice_get};
 ghost use Rattle.rp_uart.specs.Words.{received_word, status_of, after_taking, after_giving, is_busy, flags_of, byte_word, byte_written, code_of, width_of_code, line_control_of, line_control_from, control_of, control_from, line_word, line_written, dma_control_of, dma_control_from, interrupt_word, interrupt_written, word_of, is_allowed, after_write, after_read, effect_of};
 
-use crate::Uart;
 use crate::control::{Control, DmaControl};
 use crate::frame::{LineControl, WordLength};
 use crate::receiver::{Errors, Received};
 use crate::registers::{CR, DMACR, DR, FBRD, FR, IBRD, ICR, IFLS, IMSC, LCR_H, MIS, RIS, RSR};
 use crate::sender::Sender;
+use crate::uart::Uart;
+use register_block::Registers;
 use word_bits::{bit_number, has_bit};
 
 impl Uart {
@@ -214,6 +215,26 @@ impl Uart {
             DMACR => self.dma = DmaControl::from_word(word),
             _ => {}
         }
+    }
+}
+
+impl Registers<()> for Uart {
+    ghost word = { λ _ s offset. word_of s offset };
+
+    ghost allowed = { λ s offset _. is_allowed s offset };
+
+    ghost accessed = { effect_of };
+
+    fn read(&self, _seen: &(), offset: u16) -> Option<u32> {
+        self.read(offset)
+    }
+
+    fn allows(&self, offset: u16, write: Option<u32>) -> bool {
+        self.allows(offset, write)
+    }
+
+    fn effect(&mut self, offset: u16, write: Option<u32>) -> bool {
+        self.effect(offset, write)
     }
 }
 

@@ -1,8 +1,8 @@
 use Rattle.std.proofs.Common.{ap, ◌∙◌, sym}
 use Rattle.io_bank.proofs.Routed.{edges_of-held, edges_of-still, edges_of-changed}
-use Rattle.io_bank.specs.contracts.IoBank.{the_view}
-use Rattle.io_bank.proofs.IoBank.edges.Goals.{then-self-via-then-self, then-self-via-else-self+then-self-2}
-use Rattle.io_bank.proofs.IoBank.edges.Goals as goal
+use Rattle.io_bank.specs.contracts.bank.IoBank.{the_view}
+use Rattle.io_bank.proofs.bank.IoBank.edges.Goals.{then-self-via-then-self, then-self-via-else-self+then-self-2}
+use Rattle.io_bank.proofs.bank.IoBank.edges.Goals as goal
 
 pub returns-then-self : goal.returns-then-self
 returns-then-self c =

@@ -2,7 +2,7 @@ use Rattle.std.proofs.Common.{ap, ◌∙◌}
 use Rattle.io_bank.specs.Edges.{edges_of}
 use Rattle.io_bank.specs.Step.{with_edges, with_levels}
 use Rattle.io_bank.proofs.Routed.{levels_of-list}
-use Rattle.io_bank.proofs.IoBank.step.Goals as goal
+use Rattle.io_bank.proofs.bank.IoBank.step.Goals as goal
 
 pub returns-clause-levels : goal.returns-clause-levels
 returns-clause-levels c =

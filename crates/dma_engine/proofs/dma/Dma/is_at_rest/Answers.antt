@@ -1,7 +1,7 @@
 use Rattle.std.proofs.Common.{sym, ap, ◌∙◌}
 use Rattle.dma_engine.specs.Rest.{is_at_rest}
 use Rattle.dma_engine.proofs.AtRest.{stays_at_rest, told}
-use Rattle.dma_engine.proofs.step.Dma.is_at_rest.Goals as goal
+use Rattle.dma_engine.proofs.dma.Dma.is_at_rest.Goals as goal
 
 pub returns : goal.returns
 returns c = λ e.

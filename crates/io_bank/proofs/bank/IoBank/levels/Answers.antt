@@ -2,8 +2,8 @@ use Rattle.std.proofs.Common.{ap, ◌∙◌}
 use Rattle.io_bank.specs.Levels.{levels_of, by_sets}
 use Rattle.io_bank.specs.Routes.{routed_levels}
 use Rattle.io_bank.proofs.Routed.{routed_levels-is}
-use Rattle.io_bank.specs.contracts.IoBank.{the_view}
-use Rattle.io_bank.proofs.IoBank.levels.Goals as goal
+use Rattle.io_bank.specs.contracts.bank.IoBank.{the_view}
+use Rattle.io_bank.proofs.bank.IoBank.levels.Goals as goal
 
 pub returns : goal.returns
 returns c =

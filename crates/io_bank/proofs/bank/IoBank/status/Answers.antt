@@ -1,5 +1,5 @@
 use Rattle.std.proofs.Common.{◌≡◌, ℕ, ◌/◌, refl, arith}
-use Rattle.io_bank.proofs.IoBank.status.Goals as goal
+use Rattle.io_bank.proofs.bank.IoBank.status.Goals as goal
 
 by_one : (n : ℕ) → n / 1 ≡ n
 by_one n = omega arith

@@ -1,7 +1,7 @@
 use Rattle.std.proofs.Common.{ap, sym, ◌∙◌}
 use Rattle.io_bank.specs.Levels.{pins_of}
 use Rattle.io_bank.proofs.Routed.{uart-is, pio0-is, pio1-is}
-use Rattle.io_bank.proofs.IoBank.pins_of.Goals as goal
+use Rattle.io_bank.proofs.bank.IoBank.pins_of.Goals as goal
 
 pub returns-in-2 : goal.returns-in-2
 returns-in-2 c =

@@ -1,19 +1,18 @@
-//! The engine as the rest of the machine sees it, and as a lane of the machine.
+//! The engine as the rest of the machine sees it.
 
-ghost use Rattle.std.specs.Prelude.{◌≡◌, None};
+ghost use Rattle.std.specs.Prelude.{◌≡◌};
+ghost use Rattle.dma_engine.specs.Words.{word_of, is_allowed, effect_of};
 
-use crate::doing::{Access, Doing};
 use crate::engine::Engine;
-use crate::finish::want;
-use lane_look::{Lane, Look, Marks, Turn, Want};
+use register_block::Registers;
 use std::marker::Model;
 
 /// The DMA engine: its channels, pacing timers and interrupts, the transfer that is chosen, and the writes that wait.
 #[derive(Drop)]
 pub struct Dma {
-    engine: Engine,
+    pub(crate) engine: Engine,
     /// Nothing happens until a register is written.
-    at_rest: bool,
+    pub(crate) at_rest: bool,
 }
 
 impl Model for Dma {
@@ -93,56 +92,22 @@ impl Dma {
     }
 }
 
-impl Lane<()> for Dma {
-    ghost use Rattle.std.proofs.Common.{rules};
-    ghost use Rattle.dma_engine.specs.Asks.{asks};
-    ghost use Rattle.dma_engine.specs.Bounds.{two_at_most, reads_none};
-    ghost use Rattle.dma_engine.specs.Cycle.{wanted, next};
+impl Registers<()> for Dma {
+    ghost word = { λ _ s offset. word_of s offset };
 
-    type Begun = Doing;
+    ghost allowed = { λ s offset _. is_allowed s offset };
 
-    ghost asks = { λ _ s cycle. asks s };
+    ghost accessed = { effect_of };
 
-    ghost most = { 2 };
-
-    ghost wanted = { wanted };
-
-    ghost next = { λ _ s begun turns. next s begun turns };
-
-    ghost marked = { λ _ s begun turns. None };
-
-    #[tactic(auto, using(crate::proofs::AtRest::at_rest))]
-    fn begin<K: Look>(&self, _env: &(), _cycle: u64, look: &mut K) -> Doing {
-        if self.at_rest {
-            return Doing {
-                read: Access::Nothing,
-                write: Access::Nothing,
-                counts: 0,
-            };
-        }
-        self.engine.ask(look)
+    fn read(&self, _seen: &(), offset: u16) -> Option<u32> {
+        self.read(offset)
     }
 
-    fn wants(begun: &Doing) -> [Want; 2] {
-        [want(&begun.read), want(&begun.write)]
+    fn allows(&self, offset: u16, write: Option<u32>) -> bool {
+        self.allows(offset, write)
     }
 
-    #[tactic(auto, using(crate::proofs::AtRest::at_rest))]
-    fn finish(&mut self, _env: &(), begun: &Doing, turns: [Turn; 2], _marks: &mut Marks) {
-        if !self.at_rest {
-            self.engine.finish(begun, &turns);
-            self.at_rest = self.engine.is_at_rest();
-        }
+    fn effect(&mut self, offset: u16, write: Option<u32>) -> bool {
+        self.effect(offset, write)
     }
-
-    fn copy_from(&mut self, other: &Dma) {
-        self.at_rest = false;
-        self.engine.copy_from(&other.engine);
-    }
-
-    ghost few = { Prim.search rules };
-
-    ghost asks_at_most = { λ _ s cycle. two_at_most s };
-
-    ghost reads_no_word = { λ _ s begun turns. reads_none s begun turns };
 }

@@ -2,8 +2,8 @@ use Rattle.std.proofs.Common.{ap, ◌∙◌}
 use Rattle.io_bank.specs.Levels.{inputs_of}
 use Rattle.io_bank.specs.Routes.{routed_inputs}
 use Rattle.io_bank.proofs.Routed.{routed_inputs-is}
-use Rattle.io_bank.specs.contracts.IoBank.{the_view}
-use Rattle.io_bank.proofs.IoBank.sensed.Goals as goal
+use Rattle.io_bank.specs.contracts.bank.IoBank.{the_view}
+use Rattle.io_bank.proofs.bank.IoBank.sensed.Goals as goal
 
 pub returns : goal.returns
 returns c =

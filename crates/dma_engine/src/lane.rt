@@ -1,0 +1,62 @@
+//! The engine as a lane of the machine.
+
+ghost use Rattle.std.specs.Prelude.{None};
+
+use crate::dma::Dma;
+use crate::doing::{Access, Doing};
+use crate::finish::want;
+use lane_look::{Lane, Look, Marks, Turn, Want};
+
+impl Lane<()> for Dma {
+    ghost use Rattle.std.proofs.Common.{rules};
+    ghost use Rattle.dma_engine.specs.Asks.{asks};
+    ghost use Rattle.dma_engine.specs.Bounds.{two_at_most, reads_none};
+    ghost use Rattle.dma_engine.specs.Cycle.{wanted, next};
+
+    type Begun = Doing;
+
+    ghost asks = { λ _ s cycle. asks s };
+
+    ghost most = { 2 };
+
+    ghost wanted = { wanted };
+
+    ghost next = { λ _ s begun turns. next s begun turns };
+
+    ghost marked = { λ _ s begun turns. None };
+
+    #[tactic(auto, using(crate::proofs::AtRest::at_rest))]
+    fn begin<K: Look>(&self, _env: &(), _cycle: u64, look: &mut K) -> Doing {
+        if self.at_rest {
+            return Doing {
+                read: Access::Nothing,
+                write: Access::Nothing,
+                counts: 0,
+            };
+        }
+        self.engine.ask(look)
+    }
+
+    fn wants(begun: &Doing) -> [Want; 2] {
+        [want(&begun.read), want(&begun.write)]
+    }
+
+    #[tactic(auto, using(crate::proofs::AtRest::at_rest))]
+    fn finish(&mut self, _env: &(), begun: &Doing, turns: [Turn; 2], _marks: &mut Marks) {
+        if !self.at_rest {
+            self.engine.finish(begun, &turns);
+            self.at_rest = self.engine.is_at_rest();
+        }
+    }
+
+    fn copy_from(&mut self, other: &Dma) {
+        self.at_rest = false;
+        self.engine.copy_from(&other.engine);
+    }
+
+    ghost few = { Prim.search rules };
+
+    ghost asks_at_most = { λ _ s cycle. two_at_most s };
+
+    ghost reads_no_word = { λ _ s begun turns. reads_none s begun turns };
+}
