@@ -15,9 +15,9 @@ use Rattle.pio_block.specs.Control.{restarted_if, with_divider_restarted, with_e
 use Rattle.pio_block.specs.Queues.{with_stalls_cleared, debug_written, with_sent, sent, with_rx, with_taken, taken}
 use Rattle.pio_machine.specs.Progress.{forced}
 use Rattle.pio_block.specs.Registers.{execctrl_bits, joined, with_shiftctrl, register_written}
-use Rattle.pio_block.specs.Cycle.{seen_by, all_stepped, with_stepped, next, after_cycle}
+use Rattle.pio_block.specs.Cycle.{seen_by, all_stepped, next, after_cycle}
 use Rattle.pio_block.specs.Cycle as block
-use Rattle.pio_block.specs.Words.{fifo_number, is_rxf, register_number, register_offset, after_control, after_fifo, after_pin, after_memory, after_machine, after_interrupt, is_allowed, after_write, after_read, after_access, effect_of}
+use Rattle.pio_block.specs.Words.{fifo_number, is_rxf, register_number, register_offset, after_control, after_fifo, after_pin, after_memory, after_machine, after_interrupt, is_allowed, after_write, after_read, after_any, effect_of}
 use Rattle.pio_block.specs.Law.{AreWithin, Happening, after, after_all, NoFifoHoldsTooMuch}
 use Rattle.pio_block.specs.Law.Happening.{Cycle, Access, Hold, Counter}
 
@@ -179,7 +179,7 @@ read-within : (offset : ℕ) (s : Block) → Within s → Within (after_read off
 unfolding after_read taken
 read-within offset s w = either (is_rxf offset) _ _ (changes (fifo_number offset) with_taken s.machines takes w) w
 
-access-within : (offset : ℕ) (write : Option ℕ) (s : Block) → Within s → Within (after_access offset write s)
+access-within : (offset : ℕ) (write : Option ℕ) (s : Block) → Within s → Within (after_any offset write s)
 access-within offset None s w = read-within offset s w
 access-within offset (Some word) s w = write-within offset word s w
 

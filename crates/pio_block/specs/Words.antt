@@ -1,6 +1,7 @@
 -- The words of a block by their offsets (RP2040 Datasheet, 3.7), what they read as and what an access does.
 use Rattle.std.specs.Prelude.{ℕ, ◌+◌, ◌-◌, ◌*◌, ◌/◌, ◌%◌, ◌^◌, Bool, false, not, ◌&&◌, ◌||◌, ◌==◌, nat_lt, nat_le, if◌then◌else◌, Option, Some, None, List, [], ◌∷◌, length, bit_and, bit_or, slice_set}
 use Rattle.word_bits.specs.Word.{has_bit}
+use Rattle.register_block.specs.Held.{unless_held, after_access}
 use Rattle.pio_machine.specs.Fields.{is_tx_full, tx_depth}
 use Rattle.pio_machine.specs.declared.machine.Machine1.{Machine1}
 use Rattle.pio_machine.specs.Operation.{with_pc}
@@ -125,9 +126,12 @@ value_of s offset =
     if nat_lt offset SM0_CLKDIV then 0 else
     if nat_lt offset INTR then machine_word s offset else interrupt_word s offset
 
--- what a word reads as; None where there is none. A block that is held reads 0
+-- what a word reads as where the block is not held; None where there is no such word
+unfoldable pub listed_word : Block → ℕ → Option ℕ
+listed_word s offset = if is_word offset then Some (value_of s offset) else None
+
 unfoldable pub word_of : Block → ℕ → Option ℕ
-word_of s offset = if is_word offset then Some (if s.held then 0 else value_of s offset) else None
+word_of s offset = unless_held s.held (listed_word s offset)
 
 -- OUT_STICKY and INLINE_OUT_EN of EXECCTRL are left out: a write that sets one of them is not allowed
 abbrev pub sets_left_out : ℕ → Option ℕ → Bool
@@ -150,14 +154,12 @@ after_write offset w s =
 unfoldable pub after_read : ℕ → Block → Block
 after_read offset s = if is_rxf offset then taken (fifo_number offset) s else s
 
-abbrev pub after_access : ℕ → Option ℕ → Block → Block
-after_access offset None s = after_read offset s
-after_access offset (Some w) s = after_write offset w s
+abbrev pub after_any : ℕ → Option ℕ → Block → Block
+after_any offset None s = after_read offset s
+after_any offset (Some w) s = after_write offset w s
 
--- what a read or a write does; nothing where it is not allowed, and nothing to a block that is held
 unfoldable pub effect_of : ℕ → Option ℕ → Block → Block
-effect_of offset write s =
-    if is_allowed offset write then (if s.held then s else after_access offset write s) else s
+effect_of offset write s = after_access (is_allowed offset write) s.held s (after_any offset write s)
 
 -- ---- what the rest of the machine is told
 

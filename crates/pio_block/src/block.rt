@@ -1,31 +1,31 @@
-//! The block as the machine above sees it.
+//! The block as the rest of the machine sees it.
 
 ghost use Rattle.std.specs.Prelude.{◌≡◌};
-ghost use Rattle.pio_block.specs.Cycle.{inputs_of};
+ghost use Rattle.pio_block.specs.Words.{word_of, is_allowed, effect_of};
 
 use crate::inputs::Inputs;
 use crate::state::State;
 use crate::words::is_allowed;
-use lane_look::{Ask, Lane, Look, Marks, Turn, Want};
+use register_block::Registers;
 use std::marker::Model;
 
 /// A PIO block (RP2040 Datasheet, chapter 3).
 #[derive(Drop)]
 pub struct PioBlock {
     state: State,
-    /// A machine is enabled, or a written word waits.
-    busy: bool,
+    /// No machine is enabled, and no written word waits.
+    at_rest: bool,
 }
 
 impl Model for PioBlock {
-    ghost use Rattle.std.specs.Prelude.{◌≡◌};
+    ghost use Rattle.std.specs.Prelude.{◌≡◌, not};
     ghost use Rattle.pio_block.specs.State.{Block, is_busy};
 
     ghost Value = { Block };
 
     ghost view = { λ b. b.state };
 
-    ghost invariant = { λ b. b.busy ≡ is_busy b.state };
+    ghost invariant = { λ b. b.at_rest ≡ not (is_busy b.state) };
 }
 
 impl PioBlock {
@@ -40,7 +40,7 @@ impl PioBlock {
     {
         PioBlock {
             state: State::new(),
-            busy: false,
+            at_rest: true,
         }
     }
 
@@ -65,7 +65,7 @@ impl PioBlock {
         ensures allowed { result ≡ is_allowed offset write }
     {
         let allowed = self.state.effect(offset, write);
-        self.busy = self.state.is_busy();
+        self.at_rest = !self.state.is_busy();
         allowed
     }
 
@@ -91,7 +91,7 @@ impl PioBlock {
         ensures { self.new ≡ counter_set machine place self.old }
     {
         self.state.set_counter(machine, place);
-        self.busy = self.state.is_busy();
+        self.at_rest = !self.state.is_busy();
     }
 
     /// Holds the block in its reset state, or lets it go.
@@ -99,7 +99,7 @@ impl PioBlock {
         ensures { self.new ≡ with_held held self.old }
     {
         self.state.set_held(held);
-        self.busy = self.state.is_busy();
+        self.at_rest = !self.state.is_busy();
     }
 
     /// What the machines have written to the pins: the levels, and the enables.
@@ -117,86 +117,48 @@ impl PioBlock {
     }
 
     /// A cycle in which the block steps.
-    fn step(&mut self, inputs: Inputs)
+    pub(crate) fn step(&mut self, inputs: Inputs)
         ensures { self.new ≡ after_cycle inputs.now inputs.second self.old }
     {
         self.state.step(inputs);
-        self.busy = self.state.is_busy();
+        self.at_rest = !self.state.is_busy();
     }
 
     /// No machine is enabled, and no written word waits: in a cycle the block asks and wants nothing, and stays as it is.
     #[inline(always)]
     #[tactic(auto, unfolding(crate::specs::Cycle::asks, crate::specs::Cycle::next))]
-    pub fn is_idle(&self) -> bool
+    pub fn is_at_rest(&self) -> bool
         ensures value { result ≡ not (is_busy self.now) }
         ensures rests { IsTrue result → Rests self.now }
     {
-        !self.busy
+        self.at_rest
     }
 
-    fn take_state(&mut self, other: &PioBlock)
+    /// Takes the state of another block.
+    pub(crate) fn take_state(&mut self, other: &PioBlock)
         ensures { self.new ≡ other.now }
     {
         self.state.copy_from(&other.state);
-        self.busy = other.busy;
+        self.at_rest = other.at_rest;
     }
 }
 
-/// The two words of an answer.
-fn inputs_of(answer: u128) -> Inputs
-    ensures { result ≡ inputs_of answer }
-{
-    Inputs {
-        now: (answer & 0xffff_ffff) as u32,
-        second: ((answer >> 32) & 0xffff_ffff) as u32,
-    }
-}
+impl Registers<()> for PioBlock {
+    ghost word = { λ _. word_of };
 
-impl Lane<()> for PioBlock {
-    ghost use Rattle.std.specs.Prelude.{None};
-    ghost use Rattle.std.proofs.Common.{refl, rules};
-    ghost use Rattle.pio_block.specs.Cycle.{asks, wanted, next};
-    ghost use Rattle.pio_block.specs.Bounds.{one_at_most};
+    ghost allowed = { λ _. is_allowed };
 
-    type Begun = Option<Inputs>;
+    ghost accessed = { effect_of };
 
-    ghost asks = { λ _ s cycle. asks s };
-
-    ghost most = { 1 };
-
-    ghost wanted = { λ _. wanted };
-
-    ghost next = { λ _ s begun turns. next begun s };
-
-    ghost marked = { λ _ s begun turns. None };
-
-    #[tactic(auto, unfolding(crate::specs::Cycle::asks))]
-    fn begin<K: Look>(&self, _env: &(), _cycle: u64, look: &mut K) -> Option<Inputs> {
-        if self.is_idle() {
-            None
-        } else {
-            Some(inputs_of(look.ask(Ask::Inputs)))
-        }
+    fn read(&self, _seen: &(), offset: u16) -> Option<u32> {
+        self.read(offset)
     }
 
-    fn wants(_begun: &Option<Inputs>) -> [Want; 2] {
-        [Want::Nothing, Want::Nothing]
+    fn allows(&self, offset: u16, write: Option<u32>) -> bool {
+        self.allows(offset, write)
     }
 
-    #[tactic(auto, unfolding(crate::specs::Cycle::next))]
-    fn finish(&mut self, _env: &(), begun: &Option<Inputs>, _turns: [Turn; 2], _marks: &mut Marks) {
-        if let Some(inputs) = *begun {
-            self.step(inputs);
-        }
+    fn effect(&mut self, offset: u16, write: Option<u32>) -> bool {
+        self.effect(offset, write)
     }
-
-    fn copy_from(&mut self, other: &PioBlock) {
-        self.take_state(other);
-    }
-
-    ghost few = { Prim.search rules };
-
-    ghost asks_at_most = { λ _ s cycle. one_at_most s };
-
-    ghost reads_no_word = { λ _ s begun turns. refl };
 }

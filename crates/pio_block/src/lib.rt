@@ -4,6 +4,7 @@
 
 pub mod block;
 pub mod inputs;
+mod lane;
 pub mod laws;
 mod machine;
 #[cfg(test)]

@@ -121,7 +121,7 @@ fn acts(block: &mut PioBlock, look: &mut Levels, deed: &Deed) -> bool {
             }
         }
         Deed::Lines(first, second) => return block.lines() == [first, second],
-        Deed::Idle(idle) => return block.is_idle() == idle,
+        Deed::Idle(idle) => return block.is_at_rest() == idle,
         Deed::Copy => replace(block),
         _ => {}
     }
@@ -136,9 +136,9 @@ fn first_wrong(deeds: &[Deed]) -> Option<usize> {
         second: 0,
         asked: 0,
     };
-    for (place, deed) in deeds.iter().enumerate() {
+    for (index, deed) in deeds.iter().enumerate() {
         if !reads(&mut block, deed) || !acts(&mut block, &mut look, deed) {
-            return Some(place);
+            return Some(index);
         }
     }
     None

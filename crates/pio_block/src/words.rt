@@ -11,6 +11,7 @@ use crate::registers::{
     SM0_CLKDIV, TXF0,
 };
 use crate::state::State;
+use register_block::unless_held;
 use word_bits::has_bit;
 
 /// The pins of the chip.
@@ -21,7 +22,7 @@ impl State {
     ghost use Rattle.pio_block.specs.declared.registers.TheConstants.{INSTR_MEM0, SM0_CLKDIV, INTR};
     ghost use Rattle.pio_block.specs.Control.{control_written};
     ghost use Rattle.pio_block.specs.Queues.{fdebug_of, debug_written, sent, taken, first_of, is_rx_empty};
-    ghost use Rattle.pio_block.specs.Words.{control_word, after_control, fifo_word, after_fifo, fifo_number, is_rxf, pin_word, after_pin, after_memory, register_number, register_offset, machine_word, after_machine, intr_of, ints_of, ints0_of, ints1_of, interrupt_word, after_interrupt, value_of, word_of, after_write, after_read, after_access, effect_of, is_allowed, lines_of};
+    ghost use Rattle.pio_block.specs.Words.{control_word, after_control, fifo_word, after_fifo, fifo_number, is_rxf, pin_word, after_pin, after_memory, register_number, register_offset, machine_word, after_machine, intr_of, ints_of, ints0_of, ints1_of, interrupt_word, after_interrupt, value_of, listed_word, word_of, after_write, after_read, after_any, effect_of, is_allowed, lines_of};
 
     /// FDEBUG.
     #[tactic(auto, unfolding(crate::specs::Queues::fdebug_of))]
@@ -270,16 +271,24 @@ impl State {
         }
     }
 
-    /// The word at an offset; 0 while the block is held.
+    /// The word at an offset, where the block is not held.
+    #[tactic(auto, unfolding(crate::specs::Words::listed_word))]
+    fn listed(&self, offset: u16) -> Option<u32>
+        ensures { result ≡ listed_word self.now offset }
+    {
+        if is_word(offset) {
+            Some(self.value(offset))
+        } else {
+            None
+        }
+    }
+
+    /// The word at an offset.
     #[tactic(auto, unfolding(crate::specs::Words::word_of))]
     pub(crate) fn read(&self, offset: u16) -> Option<u32>
         ensures { result ≡ word_of self.now offset }
     {
-        if is_word(offset) {
-            Some(if self.held { 0 } else { self.value(offset) })
-        } else {
-            None
-        }
+        unless_held(self.held, self.listed(offset))
     }
 
     /// A write of a word.
@@ -314,7 +323,7 @@ impl State {
 
     /// What a read does, or a write of this word.
     fn access(&mut self, offset: u16, write: Option<u32>)
-        ensures { self.new ≡ after_access offset write self.old }
+        ensures { self.new ≡ after_any offset write self.old }
     {
         match write {
             Some(word) => self.write(offset, word),
@@ -371,7 +380,7 @@ fn register_number(offset: u16) -> u8
     ((offset - SM0_CLKDIV) / SM_BYTES) as u8
 }
 
-/// The place of a register among those of its machine.
+/// The offset of a register from the first one of its machine.
 fn register_offset(offset: u16) -> u16
     ensures { result ≡ register_offset offset }
 {
