@@ -4,3 +4,4 @@ pub mod Laws
 pub mod Masters
 pub mod State
 pub mod Winners
+pub mod Words

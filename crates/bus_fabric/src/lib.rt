@@ -7,8 +7,10 @@ ghost use Rattle.bus_fabric.specs.Winners.{remembered};
 ghost use Rattle.bus_fabric.specs.Grant.{beats, is_high, is_last, is_master, cycles_left, hold_of, kept_holder, shortened};
 
 pub mod laws;
+pub mod registers;
 #[cfg(test)]
 mod tests;
+mod words;
 
 use rp_base::Master;
 use std::marker::Model;
@@ -249,7 +251,7 @@ impl Fabric {
     }
 }
 
-/// The place of a master in their order.
+/// The index of a master in their order.
 #[inline(always)]
 fn number(master: Master) -> usize
     ensures value { result ≡ number_of master }
@@ -290,7 +292,7 @@ fn asks_on(asked: &[Option<(u8, bool)>; 4], port: u8, master: Master) -> bool
     ensures { result ≡ asks_on asked.now port master }
 {
     match asked[number(master)] {
-        Some((place, _)) => place == port,
+        Some((asked, _)) => asked == port,
         None => false,
     }
 }

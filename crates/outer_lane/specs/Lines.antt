@@ -20,12 +20,12 @@ block_lines bank first second = bit_number bank * 2 ^ 13 + bit_number first * 2 
 unfoldable pub outer_lines : ℕ → OuterState → ℕ
 outer_lines core s =
     bit_or s.irq
-    (bit_or (lines_of s.timer)
-    (block_lines (bank_line core s.pads) (is_line_high s.uart0) (is_line_high s.uart1)))
+    (bit_or (lines_of s.timer.block)
+    (block_lines (bank_line core s.pads) (is_line_high s.uart0.block) (is_line_high s.uart1.block)))
 
 -- what paces DMA channels: the free places of the transmit FIFO and the words of the receive FIFO, of UART0 and then of UART1
 abbrev pub outer_pacing : OuterState → List ℕ
-outer_pacing s = pacing_of s.uart0 ++ pacing_of s.uart1
+outer_pacing s = pacing_of s.uart0.block ++ pacing_of s.uart1.block
 
 -- the input words, of the levels of the pads now and of the second ones
 abbrev pub outer_inputs : OuterState → List ℕ

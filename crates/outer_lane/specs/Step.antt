@@ -2,6 +2,8 @@
 -- device and the script drive acts on the pads in the same cycle (RP2040 Datasheet, 2.19, GPIO, 4.2, UART, and 4.6, Timer; the
 -- script and the device are the project's own).
 use Rattle.std.specs.Prelude.{ℕ, ◌/◌, ◌%◌, ◌-◌, ◌^◌, ◌==◌, Bool, if◌then◌else◌, List, [], ◌∷◌, length, Option, Some, None}
+use Rattle.register_block.specs.declared.resettable.Resettable.{Resettable}
+use Rattle.register_block.specs.Resettable.{unless_held_becomes}
 use Rattle.lane_look.specs.declared.lane.Ask.TheVariants as ask
 use Rattle.lane_look.specs.declared.lane.Want.{Want}
 use Rattle.lane_look.specs.declared.lane.Want.TheVariants as want
@@ -78,7 +80,7 @@ outs_of wires seen s = record {
   pio0 = seen.pio0;
   pio1 = seen.pio1;
   pwm = wires.pwm ∷ (2 ^ 30 - 1) ∷ [];
-  uart = uart_outputs (uart.output_of s.uart0) (uart.output_of s.uart1);
+  uart = uart_outputs (uart.output_of s.uart0.block) (uart.output_of s.uart1.block);
 }
 
 -- a scripted level drives a pad, else the device does
@@ -98,23 +100,23 @@ pads_by script wires seen s = pads.after_step (outs_of wires seen s) (outside_of
 
 -- ---- the UARTs and the timer; one that is held does not step
 
-abbrev pub uart_after : Bool → Bool → SerialPort → SerialPort
-uart_after held line u = if held then u else uart.after_step line u
+abbrev pub uart_after : Bool → Resettable SerialPort → Resettable SerialPort
+uart_after line u = unless_held_becomes u (uart.after_step line u.block)
 
-abbrev pub byte_of : Bool → SerialPort → Option ℕ
-byte_of held u = if held then None else uart.sent_byte u
+abbrev pub byte_of : Resettable SerialPort → Option ℕ
+byte_of u = if u.held then None else uart.sent_byte u.block
 
-abbrev pub timer_after : Bool → ℕ → TimerState → TimerState
-timer_after held cycle t = if held then t else timer.after_step cycle t
+abbrev pub timer_after : ℕ → Resettable TimerState → Resettable TimerState
+timer_after cycle t = unless_held_becomes t (timer.after_step cycle t.block)
 
 -- ---- the cycle
 
 -- all but the device's words, by what the device drives. A UART hears the second level of its lowest RX pin
 unfoldable pub next_by : List Entry → Wires → Seen → OuterState → OuterState
 next_by script wires seen s = record s {
-  timer = timer_after s.timer_held seen.cycle s.timer;
-  uart0 = uart_after s.uart0_held (receive_level 0 s.pads) s.uart0;
-  uart1 = uart_after s.uart1_held (receive_level 1 s.pads) s.uart1;
+  timer = timer_after seen.cycle s.timer;
+  uart0 = uart_after (receive_level 0 s.pads) s.uart0;
+  uart1 = uart_after (receive_level 1 s.pads) s.uart1;
   pads = pads_by script wires seen s;
   irq = wires.irq;
 }
@@ -126,7 +128,7 @@ next w s seen =
 -- the bytes whose frames ended, and the levels of the pads
 unfoldable pub marked_by : List Entry → Wires → Seen → OuterState → Mark
 marked_by script wires seen s = record {
-  uart = byte_of s.uart0_held s.uart0 ∷ byte_of s.uart1_held s.uart1 ∷ [];
+  uart = byte_of s.uart0 ∷ byte_of s.uart1 ∷ [];
   pads = levels_by script wires seen s;
 }
 

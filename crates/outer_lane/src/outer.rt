@@ -5,6 +5,8 @@ use arrayvec::ArrayVec;
 use io_bank::IoBank;
 use lane_look::Device;
 use pin_script::Cursor;
+use register_block::Resettable;
+use register_block::resets::{IO_BANK0, PADS_BANK0, TIMER, UART0, UART1};
 use rp_timer::Timer;
 use rp_uart::Uart;
 use std::marker::Model;
@@ -12,24 +14,21 @@ use word_bits::has_bit;
 
 /// The timer, both UARTs, the pads and the words of the device, between two cycles (RP2040 Datasheet, 2.19, 4.2 and 4.6).
 ///
-/// The copies of the bits TIMER, UART0 and UART1 of RESETS are kept here, as `reset` sets them. A block that is held does
-/// not step, reads 0 and ignores accesses.
+/// The timer and the UARTs stand beside their bits of RESETS, as `reset` sets them. A block that is held does not step, reads 0
+/// and ignores accesses.
 #[derive(Drop)]
 pub struct Outer {
     /// The timer.
-    pub timer: Timer,
+    pub timer: Resettable<Timer>,
     /// UART0.
-    pub uart0: Uart,
+    pub uart0: Resettable<Uart>,
     /// UART1.
-    pub uart1: Uart,
+    pub uart1: Resettable<Uart>,
     /// The pads, IO_BANK0 and PADS_BANK0.
     pub pads: IoBank,
     /// The interrupt lines of the device, as it drove them in the last cycle.
     pub irq: u32,
     pub(crate) device: ArrayVec<u32, 128>,
-    pub(crate) timer_held: bool,
-    pub(crate) uart0_held: bool,
-    pub(crate) uart1_held: bool,
     pub(crate) sio: [u32; 2],
     // where what the script drives is looked for first
     pub(crate) cursor: Cursor,
@@ -52,9 +51,6 @@ impl Model for Outer {
       pads = o.pads;
       irq = o.irq;
       device = o.device.items;
-      timer_held = o.timer_held;
-      uart0_held = o.uart0_held;
-      uart1_held = o.uart1_held;
       sio = o.sio;
     } };
 
@@ -73,15 +69,12 @@ impl Outer {
         ensures { result ≡ outer_at_start (first_words (X.meaning device.now)) }
     {
         Outer {
-            timer: Timer::new(),
-            uart0: Uart::new(),
-            uart1: Uart::new(),
+            timer: Resettable::new(Timer::new()),
+            uart0: Resettable::new(Uart::new()),
+            uart1: Resettable::new(Uart::new()),
             pads: IoBank::new(),
             irq: 0,
             device: started(device),
-            timer_held: false,
-            uart0_held: false,
-            uart1_held: false,
             sio: [0, 0],
             cursor: Cursor::new(),
             still: false,
@@ -95,13 +88,11 @@ impl Outer {
         ensures { self.new ≡ outer_reset bits self.old }
     {
         self.still = false;
-        self.timer_held = has_bit(bits, 21);
-        self.uart0_held = has_bit(bits, 22);
-        self.uart1_held = has_bit(bits, 23);
-        reset_timer(&mut self.timer, self.timer_held);
-        reset_uart(&mut self.uart0, self.uart0_held);
-        reset_uart(&mut self.uart1, self.uart1_held);
-        self.pads.set_held(has_bit(bits, 5), has_bit(bits, 8));
+        self.timer.set_held(has_bit(bits, TIMER));
+        self.uart0.set_held(has_bit(bits, UART0));
+        self.uart1.set_held(has_bit(bits, UART1));
+        self.pads
+            .set_held(has_bit(bits, IO_BANK0), has_bit(bits, PADS_BANK0));
     }
 
     /// Takes the levels and the enables that SIO puts out.
@@ -122,7 +113,9 @@ impl Outer {
     {
         let [bank0, bank1] = self.pads.lines();
         let bank = if core == 0 { bank0 } else { bank1 };
-        self.irq | (self.timer.lines() | block_lines(bank, self.uart0.line(), self.uart1.line()))
+        self.irq
+            | (self.timer.block.lines()
+                | block_lines(bank, self.uart0.block.line(), self.uart1.block.line()))
     }
 
     /// The levels of the pads, pad 0 in bit 0.
@@ -145,8 +138,8 @@ impl Outer {
     pub fn pacing(&self) -> [u8; 4]
         ensures { result ≡ outer_pacing self.now }
     {
-        let [free0, words0] = self.uart0.pacing();
-        let [free1, words1] = self.uart1.pacing();
+        let [free0, words0] = self.uart0.block.pacing();
+        let [free1, words1] = self.uart1.block.pacing();
         [free0, words0, free1, words1]
     }
 
@@ -169,16 +162,16 @@ impl Outer {
     pub(crate) fn take(&mut self, other: &Outer)
         ensures { self.new ≡ other.now }
     {
-        self.timer = other.timer;
-        self.uart0.copy_from(&other.uart0);
-        self.uart1.copy_from(&other.uart1);
+        self.timer.block = other.timer.block;
+        self.timer.held = other.timer.held;
+        self.uart0.block.copy_from(&other.uart0.block);
+        self.uart0.held = other.uart0.held;
+        self.uart1.block.copy_from(&other.uart1.block);
+        self.uart1.held = other.uart1.held;
         self.pads = other.pads;
         self.irq = other.irq;
         self.device.clear();
         let _ = self.device.try_extend_from_slice(other.device.as_slice());
-        self.timer_held = other.timer_held;
-        self.uart0_held = other.uart0_held;
-        self.uart1_held = other.uart1_held;
         self.sio = other.sio;
         self.cursor = other.cursor;
         self.still = other.still;
@@ -187,7 +180,7 @@ impl Outer {
 }
 
 ghost use Rattle.std.specs.Prelude.{◌≡◌, ◌<◌, ◌≤◌, ◌^◌, replicate};
-ghost use Rattle.outer_lane.specs.State.{first_words, timer_reset, uart_reset};
+ghost use Rattle.outer_lane.specs.State.{first_words};
 ghost use Rattle.outer_lane.specs.Lines.{block_lines};
 
 /// Words that are 0.
@@ -210,24 +203,6 @@ fn started<X: Device>(device: &X) -> ArrayVec<u32, 128>
     let mut words = zeros(device.words());
     device.start(words.as_mut_slice());
     words
-}
-
-/// The bit of the timer in RESETS.
-fn reset_timer(timer: &mut Timer, held: bool)
-    ensures { timer.new ≡ timer_reset held timer.old }
-{
-    if held {
-        *timer = Timer::new();
-    }
-}
-
-/// The bit of a UART in RESETS.
-fn reset_uart(uart: &mut Uart, held: bool)
-    ensures { uart.new ≡ uart_reset held uart.old }
-{
-    if held {
-        *uart = Uart::new();
-    }
 }
 
 /// The line of IO_BANK0 and those of the UARTs.

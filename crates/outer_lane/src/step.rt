@@ -11,6 +11,7 @@ use arrayvec::ArrayVec;
 use io_bank::{Outs, uart_outputs};
 use lane_look::{Device, Mark, Wires};
 use pin_script::{Drives, Script};
+use register_block::Resettable;
 use rp_timer::Timer;
 use rp_uart::Uart;
 
@@ -36,19 +37,23 @@ pub(crate) fn step_device<X: Device>(
 }
 
 /// A UART steps unless it is held; the byte whose frame ended.
-pub(crate) fn step_uart(uart: &mut Uart, held: bool, line: bool) -> Option<u8>
-    ensures after { uart.new ≡ uart_after held line uart.old }
-    ensures byte { result ≡ byte_of held uart.old }
+pub(crate) fn step_uart(uart: &mut Resettable<Uart>, line: bool) -> Option<u8>
+    ensures after { uart.new ≡ uart_after line uart.old }
+    ensures byte { result ≡ byte_of uart.old }
 {
-    if held { None } else { uart.step(line) }
+    if uart.held {
+        None
+    } else {
+        uart.block.step(line)
+    }
 }
 
 /// The timer steps unless it is held.
-pub(crate) fn step_timer(timer: &mut Timer, held: bool, cycle: u64)
-    ensures { timer.new ≡ timer_after held cycle timer.old }
+pub(crate) fn step_timer(timer: &mut Resettable<Timer>, cycle: u64)
+    ensures { timer.new ≡ timer_after cycle timer.old }
 {
-    if !held {
-        timer.step(cycle);
+    if !timer.held {
+        timer.block.step(cycle);
     }
 }
 
@@ -73,7 +78,7 @@ impl Outer {
         ensures driven { result.driven ≡ drives.driven }
         ensures high { result.high ≡ drives.high }
     {
-        let uart = uart_outputs(self.uart0.out(), self.uart1.out());
+        let uart = uart_outputs(self.uart0.block.out(), self.uart1.block.out());
         Drivers {
             pio0_levels: seen.pio0[0],
             pio0_enables: seen.pio0[1],
@@ -122,11 +127,11 @@ impl Outer {
         let line1 = self.pads.receive_level(1);
         let pads = self.step_pads(script, wires, seen);
         self.irq = wires.irq;
-        step_timer(&mut self.timer, self.timer_held, seen.cycle);
+        step_timer(&mut self.timer, seen.cycle);
         Mark {
             uart: [
-                step_uart(&mut self.uart0, self.uart0_held, line0),
-                step_uart(&mut self.uart1, self.uart1_held, line1),
+                step_uart(&mut self.uart0, line0),
+                step_uart(&mut self.uart1, line1),
             ],
             pads,
         }
@@ -141,7 +146,7 @@ impl Outer {
             pio0: seen.pio0,
             pio1: seen.pio1,
             pwm: [wires.pwm, PINS],
-            uart: uart_outputs(self.uart0.out(), self.uart1.out()),
+            uart: uart_outputs(self.uart0.block.out(), self.uart1.block.out()),
         }
     }
 }

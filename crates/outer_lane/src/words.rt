@@ -1,19 +1,28 @@
 //! The words of the register blocks.
 
-ghost use Rattle.std.specs.Prelude.{◌≡◌};
+ghost use Rattle.std.specs.Prelude.{◌≡◌, ◌+◌};
+ghost use Rattle.register_block.specs.Held.{unless_held};
+ghost use Rattle.register_block.specs.Resettable.{unless_held_becomes};
+ghost use Rattle.io_bank.specs.declared.registers.TheConstants.{PADS_BANK0};
+ghost use Rattle.io_bank.specs.Words.{effect_of};
+ghost use Rattle.outer_lane.specs.Words.{bank_accessed};
 
 use crate::outer::Outer;
 use crate::step::step_device;
 use crate::world::{Seen, World};
 use arrayvec::ArrayVec;
-use io_bank::Outs;
-use lane_look::{Device, Wires};
+use io_bank::registers::{PAD_GPIO29, PADS_BANK0};
+use io_bank::{IoBank, Outs};
+use lane_look::Device;
+use register_block::{Registers, Resettable};
 use rp_base::map::Block;
-use rp_timer::Timer;
-use rp_uart::Uart;
+
+/// The last offset of PADS_BANK0.
+const LAST_PAD: u16 = PAD_GPIO29 - PADS_BANK0;
 
 impl Outer {
     ghost use Rattle.std.specs.Prelude.{◌≡◌, ◌+◌};
+    ghost use Rattle.io_bank.specs.declared.registers.TheConstants.{PADS_BANK0};
     ghost use Rattle.outer_lane.specs.Setting.{setting_of};
     ghost use Rattle.outer_lane.specs.Step.{wires_of};
     ghost use Rattle.outer_lane.specs.Words.{outs_now, pads_word, bank_word, outer_word, outer_allowed, outer_accessed};
@@ -33,24 +42,24 @@ impl Outer {
         match block {
             Block::IoBank0 => self.read_bank(world, seen, offset),
             Block::PadsBank0 => self.read_pads(world, seen, offset),
-            Block::Uart0 => unless_held(self.uart0_held, self.uart0.read(offset)),
-            Block::Uart1 => unless_held(self.uart1_held, self.uart1.read(offset)),
-            Block::Timer => unless_held(self.timer_held, self.timer.read(offset)),
+            Block::Uart0 => word(&self.uart0, offset),
+            Block::Uart1 => word(&self.uart1, offset),
+            Block::Timer => word(&self.timer, offset),
             _ => None,
         }
     }
 
-    /// A word of IO_BANK0, whose offsets end below 1000.
+    /// A word of IO_BANK0, whose offsets end below those of PADS_BANK0.
     fn read_bank<X: Device>(&self, world: &World<'_, X>, seen: &Seen, offset: u16) -> Option<u32>
         ensures { result ≡ bank_word (setting_of world.now.script.now (X.meaning world.now.device.now) world.now.limit) seen.now offset self.now }
     {
-        if offset >= 0x1000 {
+        if offset >= PADS_BANK0 {
             return None;
         }
         self.read_pin_word(world, seen, offset)
     }
 
-    /// A word of IO_BANK0, or from 1000 on of PADS_BANK0.
+    /// A word of IO_BANK0, or from there on of PADS_BANK0.
     #[tactic(auto, unfolding(crate::specs::Words::pads_word))]
     fn read_pin_word<X: Device>(
         &self,
@@ -67,12 +76,12 @@ impl Outer {
     /// A word of PADS_BANK0, of which there are 31.
     #[tactic(auto, unfolding(crate::specs::Words::pads_word), using(crate::proofs::PadWords::no_pad_word))]
     fn read_pads<X: Device>(&self, world: &World<'_, X>, seen: &Seen, offset: u16) -> Option<u32>
-        ensures { result ≡ pads_word (setting_of world.now.script.now (X.meaning world.now.device.now) world.now.limit) seen.now (0x1000 + offset) self.now }
+        ensures { result ≡ pads_word (setting_of world.now.script.now (X.meaning world.now.device.now) world.now.limit) seen.now (PADS_BANK0 + offset) self.now }
     {
-        if offset > 0x78 {
+        if offset > LAST_PAD {
             return None;
         }
-        self.read_pin_word(world, seen, 0x1000 + offset)
+        self.read_pin_word(world, seen, PADS_BANK0 + offset)
     }
 
     /// The outputs of all parts in this cycle. The device says what it drives, on a copy of its words.
@@ -100,11 +109,11 @@ impl Outer {
         ensures { result ≡ outer_allowed block offset self.now }
     {
         match block {
-            Block::IoBank0 => offset < 0x1000 && self.pads.allows(offset, write),
-            Block::PadsBank0 => offset <= 0x78 && self.pads.allows(0x1000 + offset, write),
-            Block::Uart0 => self.uart0.allows(offset, write),
-            Block::Uart1 => self.uart1.allows(offset, write),
-            Block::Timer => self.timer.allows(offset, write),
+            Block::IoBank0 => offset < PADS_BANK0 && self.pads.allows(offset, write),
+            Block::PadsBank0 => offset <= LAST_PAD && self.pads.allows(PADS_BANK0 + offset, write),
+            Block::Uart0 => self.uart0.block.allows(offset, write),
+            Block::Uart1 => self.uart1.block.allows(offset, write),
+            Block::Timer => self.timer.block.allows(offset, write),
             _ => false,
         }
     }
@@ -119,28 +128,11 @@ impl Outer {
         match block {
             Block::IoBank0 => access_bank(&mut self.pads, offset, write),
             Block::PadsBank0 => access_pads(&mut self.pads, offset, write),
-            Block::Uart0 => access_uart(&mut self.uart0, self.uart0_held, offset, write),
-            Block::Uart1 => access_uart(&mut self.uart1, self.uart1_held, offset, write),
-            Block::Timer => access_timer(&mut self.timer, self.timer_held, offset, write),
+            Block::Uart0 => access(&mut self.uart0, offset, write),
+            Block::Uart1 => access(&mut self.uart1, offset, write),
+            Block::Timer => access(&mut self.timer, offset, write),
             _ => {}
         }
-    }
-}
-
-ghost use Rattle.std.specs.Prelude.{◌+◌};
-ghost use Rattle.io_bank.specs.Words.{effect_of};
-ghost use Rattle.outer_lane.specs.Words.{unless_held, bank_accessed, uart_accessed, timer_accessed};
-
-use io_bank::IoBank;
-
-/// A word of a block that is held reads 0.
-fn unless_held(held: bool, word: Option<u32>) -> Option<u32>
-    ensures { result ≡ unless_held held word }
-{
-    if held && word.is_some() {
-        Some(0)
-    } else {
-        word
     }
 }
 
@@ -148,7 +140,7 @@ fn unless_held(held: bool, word: Option<u32>) -> Option<u32>
 fn access_bank(pads: &mut IoBank, offset: u16, write: Option<u32>)
     ensures { pads.new ≡ bank_accessed offset write pads.old }
 {
-    if offset < 0x1000 {
+    if offset < PADS_BANK0 {
         let _ = pads.effect(offset, write);
     }
 }
@@ -156,27 +148,23 @@ fn access_bank(pads: &mut IoBank, offset: u16, write: Option<u32>)
 /// An access to PADS_BANK0.
 #[tactic(auto, using(crate::proofs::PadWords::no_pad_word))]
 fn access_pads(pads: &mut IoBank, offset: u16, write: Option<u32>)
-    ensures { pads.new ≡ effect_of (0x1000 + offset) write pads.old }
+    ensures { pads.new ≡ effect_of (PADS_BANK0 + offset) write pads.old }
 {
-    if offset <= 0x78 {
-        let _ = pads.effect(0x1000 + offset, write);
+    if offset <= LAST_PAD {
+        let _ = pads.effect(PADS_BANK0 + offset, write);
     }
 }
 
-/// An access to a UART.
-fn access_uart(uart: &mut Uart, held: bool, offset: u16, write: Option<u32>)
-    ensures { uart.new ≡ uart_accessed held offset write uart.old }
+/// An access to a block that has its bit of RESETS beside it.
+fn access<B: Registers<()>>(block: &mut Resettable<B>, offset: u16, write: Option<u32>)
+    ensures { block.new ≡ unless_held_becomes block.old (B.accessed offset write block.old.block) }
 {
-    if !held {
-        let _ = uart.effect(offset, write);
-    }
+    let _ = <Resettable<B> as Registers<()>>::effect(block, offset, write);
 }
 
-/// An access to the timer.
-fn access_timer(timer: &mut Timer, held: bool, offset: u16, write: Option<u32>)
-    ensures { timer.new ≡ timer_accessed held offset write timer.old }
+/// A word of such a block.
+fn word<B: Registers<()>>(block: &Resettable<B>, offset: u16) -> Option<u32>
+    ensures { result ≡ unless_held block.now.held (B.word tt block.now.block offset) }
 {
-    if !held {
-        let _ = timer.effect(offset, write);
-    }
+    block.read(&(), offset)
 }

@@ -110,6 +110,7 @@ impl PioBlock {
     }
 
     /// The interrupt lines 0 and 1.
+    #[inline(always)]
     pub fn lines(&self) -> [bool; 2]
         ensures { result ≡ lines_of self.now }
     {

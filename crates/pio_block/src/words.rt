@@ -214,6 +214,7 @@ impl State {
     }
 
     /// Both interrupt lines.
+    #[inline(always)]
     pub(crate) fn lines(&self) -> [bool; 2]
         ensures { result ≡ lines_of self.now }
     {

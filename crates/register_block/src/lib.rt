@@ -3,9 +3,8 @@
 #![tactic(auto)]
 
 pub mod registers;
+pub mod resets;
 pub mod resettable;
-
-
 
 pub use registers::Registers;
 pub use resettable::{Reset, Resettable, unless_held};

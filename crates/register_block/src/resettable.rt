@@ -1,7 +1,8 @@
 //! Blocks that RESETS holds in their reset states.
 
 ghost use Rattle.std.specs.Prelude.{◌≡◌, ℕ, Bool, Option};
-ghost use Rattle.register_block.specs.Held.{unless_held, stays_if, reset_if};
+ghost use Rattle.register_block.specs.Held.{unless_held};
+ghost use Rattle.register_block.specs.Resettable.{let_go, with_held, unless_held_becomes};
 
 use crate::registers::Registers;
 
@@ -36,10 +37,16 @@ pub fn unless_held(held: bool, word: Option<u32>) -> Option<u32>
 }
 
 impl<B: Reset> Resettable<B> {
+    /// A block out of reset.
+    pub fn new(block: B) -> Resettable<B>
+        ensures { result ≡ let_go block }
+    {
+        Resettable { block, held: false }
+    }
+
     /// Sets the copy of its bit of RESETS. A bit that is set puts the block in its reset state, and holds it.
     pub fn set_held(&mut self, held: bool)
-        ensures block { self.new.block ≡ reset_if held B.first self.old.block }
-        ensures held { self.new.held ≡ held }
+        ensures { self.new ≡ with_held held B.first self.old }
     {
         self.held = held;
         if held {
@@ -53,7 +60,7 @@ impl<V, B: Registers<V>> Registers<V> for Resettable<B> {
 
     ghost allowed = { λ s offset write. B.allowed s.block offset write };
 
-    ghost accessed = { λ offset write s. record s { block = stays_if s.held s.block (B.accessed offset write s.block) } };
+    ghost accessed = { λ offset write s. unless_held_becomes s (B.accessed offset write s.block) };
 
     fn read(&self, seen: &V, offset: u16) -> Option<u32> {
         unless_held(self.held, self.block.read(seen, offset))

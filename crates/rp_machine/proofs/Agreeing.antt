@@ -2,6 +2,7 @@
 use Rattle.std.proofs.Common.{◌≡◌, ◌<◌, ◌^◌, ℕ, Bool, true, false, if◌then◌else◌, List, [], ◌∷◌, Option, Some, None, refl, sym, ap, arith, ◌∙◌}
 use Rattle.std.specs.Prelude.{slice_index}
 use Rattle.word_bits.specs.Word.{has_bit}
+use Rattle.register_block.specs.declared.resets.TheConstants.{DMA, IO_BANK0, PADS_BANK0, PIO0, PIO1}
 use Rattle.rp_base.specs.declared.map.Block.{Block}
 use Rattle.lane_look.specs.Device.{DeviceMeaning}
 use Rattle.lane_look.specs.declared.lane.Turn.{Turn}
@@ -99,13 +100,13 @@ pub reset_agrees : (w : ℕ) (core1 : Core) (dma : Engine) (pio0 pio1 : Pio) (ou
     → w < 2 ^ 25
     → outer.sio ≡ pins_of sio
     → core1.offer ≡ offers_of sio
-    → Agree w core1 (with_hold (has_bit w 2) dma) (with_held (has_bit w 10) pio0) (with_held (has_bit w 11) pio1) (outer_reset w outer) sio
+    → Agree w core1 (with_hold (has_bit w DMA) dma) (with_held (has_bit w PIO0) pio0) (with_held (has_bit w PIO1) pio1) (outer_reset w outer) sio
 unfolding outer_reset
 reset_agrees w core1 dma pio0 pio1 outer sio bits pins offer =
-    let bank = bank_reset (has_bit w 5) (has_bit w 8) outer.pads in
+    let bank = bank_reset (has_bit w IO_BANK0) (has_bit w PADS_BANK0) outer.pads in
     record {
       bits = bits;
-      held = rw ((dma_reset (has_bit w 2) dma).is, bank.0, bank.1, (pio_reset (has_bit w 10) pio0).is, (pio_reset (has_bit w 11) pio1).is) refl;
+      held = rw ((dma_reset (has_bit w DMA) dma).is, bank.0, bank.1, (pio_reset (has_bit w PIO0) pio0).is, (pio_reset (has_bit w PIO1) pio1).is) refl;
       pins = pins;
       offer = offer;
     }

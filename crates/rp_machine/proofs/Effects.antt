@@ -14,6 +14,7 @@ use Rattle.sio_block.specs.declared.Launch.{Launch}
 use Rattle.sio_block.specs.Launcher.{launch_of, after_turn}
 use Rattle.rp_machine.specs.declared.deed.Deed.{Deed}
 use Rattle.rp_machine.specs.declared.deed.Deed.TheVariants as deed
+use Rattle.rp_machine.specs.declared.registers.TheConstants.{RESET, WDSEL}
 use Rattle.rp_machine.specs.State.{State}
 use Rattle.rp_machine.specs.Registers.{with_reset, resets_written, block_accessed}
 use Rattle.rp_machine.specs.Cycle.{begun, wanted, with_event, with_offer, with_pins, with_sio, sio_accessed, after_deed, started_by, after_launcher, after_master, after_masters, with_stores, ended, after_deeds, with_turns, stepped, next_by, next}
@@ -278,9 +279,9 @@ resets_core1 : (offset w : ℕ) (s : State) → core_alone (resets_written offse
 unfolding with_reset
 resets_core1 offset w s =
     let word = record s { resets = slice_set s.resets 1 w } in
-    either_way (λ (t : State). core_alone t.core1 ≡ core_alone s.core1) (offset == 0x0) (with_reset (w % 2 ^ 25) s)
-    (if offset == 0x4 then word else s) refl
-    (either_way (λ (t : State). core_alone t.core1 ≡ core_alone s.core1) (offset == 0x4) word s refl refl)
+    either_way (λ (t : State). core_alone t.core1 ≡ core_alone s.core1) (offset == RESET) (with_reset (w % 2 ^ 25) s)
+    (if offset == WDSEL then word else s) refl
+    (either_way (λ (t : State). core_alone t.core1 ≡ core_alone s.core1) (offset == WDSEL) word s refl refl)
 
 block_core1 : (b : Block) (offset : ℕ) (write : Option ℕ) (s : State) → core_alone (block_accessed b offset write s).core1 ≡ core_alone s.core1
 unfolding block_accessed

@@ -13,7 +13,8 @@ use Rattle.pio_block.specs.Control.{control_written}
 use Rattle.pio_block.specs.Queues.{debug_written, sent, taken}
 use Rattle.pio_block.specs.Cycle as pio
 use Rattle.pio_block.specs.Words as words
-use Rattle.io_bank.specs.State.{Bank, after_held, with_bank_held, with_pads_held}
+use Rattle.io_bank.specs.declared.registers.TheConstants.{GPIO0_STATUS, INTR0, PROC0_INTE0, PROC0_INTF0, PROC1_INTE0, PROC1_INTF0, PADS_BANK0, VOLTAGE_SELECT, PAD_GPIO0}
+use Rattle.io_bank.specs.State.{Bank, after_held}
 use Rattle.io_bank.specs.Interrupts.{cleared}
 use Rattle.io_bank.specs.Words as bank
 use Rattle.outer_lane.specs.Setting.{Setting}
@@ -126,7 +127,7 @@ read_holds : (offset : ℕ) (bit : Bool) (p : Pio) → PioHolds bit p → PioHol
 unfolding words.after_read
 read_holds offset bit p h = pio_way bit _ _ _ (taken_holds _ bit p h) h
 
-access_holds : (offset : ℕ) (write : Option ℕ) (bit : Bool) (p : Pio) → PioHolds bit p → PioHolds bit (words.after_access offset write p)
+access_holds : (offset : ℕ) (write : Option ℕ) (bit : Bool) (p : Pio) → PioHolds bit p → PioHolds bit (words.after_any offset write p)
 access_holds offset None bit p h = read_holds offset bit p h
 access_holds offset (Some w) bit p h = write_holds offset w bit p h
 
@@ -171,37 +172,42 @@ five false false false true f o t u v w x y ht hu hv hw hx hy = hw
 five false false false false true o t u v w x y ht hu hv hw hx hy = hx
 five false false false false false o t u v w x y ht hu hv hw hx hy = hy
 
-events_same : (row place w : ℕ) (b : Bank) → SameBank b (bank.events_written row place w b)
-events_same row place w b =
-    five (row == 0xF) (row == 0x10) (row == 0x11) (row == 0x13) (row == 0x14) b
-    (record b { latched = cleared place w b.latched b.fresh }) (record b { core0 = bank.with_enable place w b.core0 })
-    (record b { core0 = bank.with_force place w b.core0 }) (record b { core1 = bank.with_enable place w b.core1 })
-    (record b { core1 = bank.with_force place w b.core1 }) b
+events_same : (first number w : ℕ) (b : Bank) → SameBank b (bank.events_written first number w b)
+events_same first number w b =
+    five (first == INTR0) (first == PROC0_INTE0) (first == PROC0_INTF0) (first == PROC1_INTE0) (first == PROC1_INTF0) b
+    (record b { latched = cleared number w b.latched b.fresh }) (record b { core0 = bank.with_enable number w b.core0 })
+    (record b { core0 = bank.with_force number w b.core0 }) (record b { core1 = bank.with_enable number w b.core1 })
+    (record b { core1 = bank.with_force number w b.core1 }) b
     (record { bank = refl; pads = refl }) (record { bank = refl; pads = refl }) (record { bank = refl; pads = refl })
     (record { bank = refl; pads = refl }) (record { bank = refl; pads = refl }) (same_bank b)
 
 pin_same : (offset w : ℕ) (b : Bank) → SameBank b (bank.pin_written offset w b)
 pin_same offset w b =
-    bank_way b (offset % 8 == 0) b (record b { controls = slice_set b.controls (offset / 8) (bit_and w 0x3331F) }) (same_bank b)
+    bank_way b (offset % 8 == GPIO0_STATUS) b (record b { controls = slice_set b.controls (offset / 8) (bit_and w 0x3331F) }) (same_bank b)
     (record { bank = refl; pads = refl })
 
 pad_same : (offset w : ℕ) (b : Bank) → SameBank b (bank.pad_written offset w b)
 pad_same offset w b =
-    bank_way b (offset == 0x1000) (record b { voltage = w })
-    (record b { pads = slice_set b.pads ((offset - 0x1004) / 4) (w % 2 ^ 8) }) (record { bank = refl; pads = refl })
+    bank_way b (offset == VOLTAGE_SELECT) (record b { voltage = w })
+    (record b { pads = slice_set b.pads ((offset - PAD_GPIO0) / 4) (w % 2 ^ 8) }) (record { bank = refl; pads = refl })
     (record { bank = refl; pads = refl })
 
 written_same : (offset w : ℕ) (b : Bank) → SameBank b (bank.after_write offset w b)
 written_same offset w b =
-    bank_way b (nat_lt offset 0xF0) (bank.pin_written offset w b)
-    (if nat_lt offset 0x1000 then bank.events_written (offset / 16) (offset % 16 / 4) w b else bank.pad_written offset w b)
+    bank_way b (nat_lt offset INTR0) (bank.pin_written offset w b)
+    (if nat_lt offset PADS_BANK0 then bank.events_written (offset - offset % 16) (offset % 16 / 4) w b else bank.pad_written offset w b)
     (pin_same offset w b)
-    (bank_way b (nat_lt offset 0x1000) (bank.events_written (offset / 16) (offset % 16 / 4) w b) (bank.pad_written offset w b)
-    (events_same (offset / 16) (offset % 16 / 4) w b) (pad_same offset w b))
+    (bank_way b (nat_lt offset PADS_BANK0) (bank.events_written (offset - offset % 16) (offset % 16 / 4) w b) (bank.pad_written offset w b)
+    (events_same (offset - offset % 16) (offset % 16 / 4) w b) (pad_same offset w b))
+
+any_same : (offset : ℕ) (write : Option ℕ) (b : Bank) → SameBank b (bank.after_any offset write b)
+any_same offset None b = same_bank b
+any_same offset (Some w) b = written_same offset w b
 
 effect_same : (offset : ℕ) (write : Option ℕ) (b : Bank) → SameBank b (bank.effect_of offset write b)
-effect_same offset None b = same_bank b
-effect_same offset (Some w) b = bank_way b _ _ _ (written_same offset w b) (same_bank b)
+effect_same offset write b =
+    bank_way b (bank.is_word offset) _ b
+    (bank_way b (bank.is_held b offset) b _ (same_bank b) (any_same offset write b)) (same_bank b)
 
 accessed_same : (offset : ℕ) (write : Option ℕ) (b : Bank) → SameBank b (bank_accessed offset write b)
 accessed_same offset write b = bank_way b _ _ _ (effect_same offset write b) (same_bank b)
@@ -210,9 +216,9 @@ accessed_same offset write b = bank_way b _ _ _ (effect_same offset write b) (sa
 pub record SameCopies (o p : OuterState) : Type 0 where
   pub bank : p.pads.bank_held ≡ o.pads.bank_held
   pub pads : p.pads.pads_held ≡ o.pads.pads_held
-  pub timer : p.timer_held ≡ o.timer_held
-  pub uart0 : p.uart0_held ≡ o.uart0_held
-  pub uart1 : p.uart1_held ≡ o.uart1_held
+  pub timer : p.timer.held ≡ o.timer.held
+  pub uart0 : p.uart0.held ≡ o.uart0.held
+  pub uart1 : p.uart1.held ≡ o.uart1.held
   pub sio : p.sio ≡ o.sio
 
 outer_way : (o : OuterState) (c : Bool) (x y : OuterState) → SameCopies o x → SameCopies o y → SameCopies o (if c then x else y)
@@ -232,7 +238,7 @@ outer_next w o seen = record { bank = refl; pads = refl; timer = refl; uart0 = r
 pub outer_effect : (b : Block) (offset : ℕ) (write : Option ℕ) (o : OuterState) → SameCopies o (outer_accessed b offset write o)
 unfolding outer_accessed
 outer_effect block.IoBank0 offset write o = with_bank o (bank_accessed offset write o.pads) (accessed_same offset write o.pads)
-outer_effect block.PadsBank0 offset write o = with_bank o (bank.effect_of (0x1000 + offset) write o.pads) (effect_same (0x1000 + offset) write o.pads)
+outer_effect block.PadsBank0 offset write o = with_bank o (bank.effect_of (PADS_BANK0 + offset) write o.pads) (effect_same (PADS_BANK0 + offset) write o.pads)
 outer_effect block.Uart0 offset write o = record { bank = refl; pads = refl; timer = refl; uart0 = refl; uart1 = refl; sio = refl }
 outer_effect block.Uart1 offset write o = record { bank = refl; pads = refl; timer = refl; uart0 = refl; uart1 = refl; sio = refl }
 outer_effect block.Timer offset write o = record { bank = refl; pads = refl; timer = refl; uart0 = refl; uart1 = refl; sio = refl }

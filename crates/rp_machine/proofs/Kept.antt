@@ -14,6 +14,7 @@ use Rattle.sio_block.specs.Launcher.{launch_of, after_turn}
 use Rattle.outer_lane.specs.Setting.{Setting}
 use Rattle.rp_machine.specs.declared.deed.Deed.{Deed}
 use Rattle.rp_machine.specs.declared.deed.Deed.TheVariants as deed
+use Rattle.rp_machine.specs.declared.registers.TheConstants.{RESET, WDSEL}
 use Rattle.rp_machine.specs.State.{State}
 use Rattle.rp_machine.specs.Registers.{with_reset, resets_written, block_accessed}
 use Rattle.bus_fabric.specs.Masters.{masters}
@@ -40,8 +41,8 @@ reset_keeps w s = record { sram = refl; core0 = refl }
 
 resets_keep : (offset w : ℕ) (s : State) → Keeps s (resets_written offset w s)
 resets_keep offset w s =
-    either_keeps (offset == 0x0) _ _ _ (reset_keeps _ s)
-    (either_keeps (offset == 0x4) _ _ _ (record { sram = refl; core0 = refl }) (same s))
+    either_keeps (offset == RESET) _ _ _ (reset_keeps _ s)
+    (either_keeps (offset == WDSEL) _ _ _ (record { sram = refl; core0 = refl }) (same s))
 
 block_keeps : (b : Block) (offset : ℕ) (write : Option ℕ) (s : State) → Keeps s (block_accessed b offset write s)
 unfolding block_accessed

@@ -6,6 +6,7 @@ use Rattle.lane_look.specs.Device.{DeviceMeaning}
 use Rattle.uf2_image.specs.declared.parts.Image.{Image}
 use Rattle.pio_words.specs.declared.side.SideConfig.{SideConfig}
 use Rattle.pio_asm.specs.declared.program.Program.{Program}
+use Rattle.pio_block.specs.declared.registers.TheConstants.{INSTR_MEM0, SM0_CLKDIV, SM_BYTES, SM_EXECCTRL, SM_PINCTRL}
 use Rattle.pio_block.specs.State.{Block as Pio}
 use Rattle.pio_block.specs.Words.{effect_of, counter_set}
 use Rattle.rp_machine.specs.declared.load.PioLoad.{PioLoad}
@@ -25,11 +26,11 @@ with_word offset w p = effect_of offset (Some w) p
 abbrev pub words_loaded : ℕ → ℕ → List ℕ → Pio → Pio
 words_loaded offset at [] p = p
 words_loaded offset at (word ∷ words) p =
-    words_loaded offset (at + 1) words (with_word (0x048 + 4 * at) (relocated offset word) p)
+    words_loaded offset (at + 1) words (with_word (INSTR_MEM0 + 4 * at) (relocated offset word) p)
 
 -- ---- the registers of a machine, which have their reset values but for what the program says
 
--- SIDE_EN, SIDE_PINDIR, and the places of the wrap raised by the offset
+-- SIDE_EN, SIDE_PINDIR, and both ends of the wrap raised by the offset
 abbrev pub execctrl_of : ℕ → Program → ℕ
 execctrl_of offset program =
     bit_number program.side.opt * 2 ^ 30 + bit_number program.side.pindirs * 2 ^ 29 + (program.wrap + offset) * 2 ^ 12
@@ -41,10 +42,10 @@ pinctrl_of side = (side.count + bit_number side.opt) * 2 ^ 29 + 5 * 2 ^ 26
 
 -- EXECCTRL and PINCTRL of a machine
 abbrev pub execctrl_offset : ℕ → ℕ
-execctrl_offset machine = 0x0CC + 0x018 * machine
+execctrl_offset machine = SM0_CLKDIV + SM_BYTES * machine + SM_EXECCTRL
 
 abbrev pub pinctrl_offset : ℕ → ℕ
-pinctrl_offset machine = 0x0DC + 0x018 * machine
+pinctrl_offset machine = SM0_CLKDIV + SM_BYTES * machine + SM_PINCTRL
 
 -- ---- loads
 

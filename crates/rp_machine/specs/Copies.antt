@@ -2,6 +2,7 @@
 -- the levels and enables that SIO puts out (2.3.1.2), and whether the launcher has a word for core 1 (2.8.2).
 use Rattle.std.specs.Prelude.{◌≡◌, ◌<◌, ◌^◌, ℕ, Bool, List, [], ◌∷◌, slice_index}
 use Rattle.word_bits.specs.Word.{has_bit}
+use Rattle.register_block.specs.declared.resets.TheConstants.{DMA, IO_BANK0, PADS_BANK0, PIO0, PIO1, TIMER, UART0, UART1}
 use Rattle.m0_core.specs.State.{State as Core}
 use Rattle.dma_engine.specs.State.{Engine}
 use Rattle.pio_block.specs.State.{Block as Pio}
@@ -10,17 +11,17 @@ use Rattle.sio_block.specs.State.{SioState}
 use Rattle.sio_block.specs.Launcher.{offers_of}
 use Rattle.rp_machine.specs.State.{State}
 
--- the bits of RESET: DMA 2, IO_BANK0 5, PADS_BANK0 8, PIO0 10, PIO1 11, TIMER 21, UART0 22 and UART1 23
+-- the bits of RESET that hold a block
 abbrev pub held_by : ℕ → List Bool
 held_by reset =
-    has_bit reset 2 ∷ has_bit reset 5 ∷ has_bit reset 8 ∷ has_bit reset 10 ∷ has_bit reset 11 ∷ has_bit reset 21
-    ∷ has_bit reset 22 ∷ has_bit reset 23 ∷ []
+    has_bit reset DMA ∷ has_bit reset IO_BANK0 ∷ has_bit reset PADS_BANK0 ∷ has_bit reset PIO0 ∷ has_bit reset PIO1
+    ∷ has_bit reset TIMER ∷ has_bit reset UART0 ∷ has_bit reset UART1 ∷ []
 
 -- the same bits as the lanes keep them
 abbrev pub held_of : Engine → Pio → Pio → OuterState → List Bool
 held_of dma pio0 pio1 outer =
-    dma.held ∷ outer.pads.bank_held ∷ outer.pads.pads_held ∷ pio0.held ∷ pio1.held ∷ outer.timer_held ∷ outer.uart0_held
-    ∷ outer.uart1_held ∷ []
+    dma.held ∷ outer.pads.bank_held ∷ outer.pads.pads_held ∷ pio0.held ∷ pio1.held ∷ outer.timer.held ∷ outer.uart0.held
+    ∷ outer.uart1.held ∷ []
 
 -- each copy is what RESET, which has 25 bits, and SIO hold
 pub record Agree (reset : ℕ) (core1 : Core) (dma : Engine) (pio0 pio1 : Pio) (outer : OuterState) (sio : SioState) : Type 0 where

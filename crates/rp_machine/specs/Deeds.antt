@@ -19,6 +19,7 @@ use Rattle.outer_lane.specs.declared.world.Seen.{Seen}
 use Rattle.outer_lane.specs.Setting.{Setting}
 use Rattle.outer_lane.specs.Device.{owned_word}
 use Rattle.io_bank.specs.Levels.{inputs_of}
+use Rattle.sio_block.specs.declared.registers.TheConstants.{SPINLOCK0}
 use Rattle.sio_block.specs.Words as sio
 use Rattle.rp_machine.specs.declared.deed.Deed.{Deed}
 use Rattle.rp_machine.specs.declared.deed.Deed.TheVariants as deed
@@ -38,7 +39,7 @@ sio_word master.Core0 offset s = sio.word_of 0 offset (input_of s) s.sio
 sio_word master.Core1 offset s = sio.word_of 1 offset (input_of s) s.sio
 sio_word _ offset s = None
 
--- the word at a place that is not in SRAM, as it reads for a master at the start of the cycle; None where there is none. An
+-- the word at a spot that is not in SRAM, as it reads for a master at the start of the cycle; None where there is none. An
 -- address that is outside of the chip may be the device's
 unfoldable pub word_for : Setting → Seen → Master → ℕ → Spot → State → Option ℕ
 word_for w seen m address (spot.Reg block offset alias) s = block_word w seen block offset s
@@ -48,15 +49,15 @@ word_for w seen m address _ s = None
 
 -- ---- causes to stop
 
--- an access to the word of a place, which reads so, is allowed
+-- an access to the word of a spot, which reads so, is allowed
 abbrev pub is_allowed_at : Request → Spot → ℕ → Bool
 is_allowed_at request (spot.Reg block offset alias) word =
     block_allows block offset (plain_write request request.write alias word)
 is_allowed_at request _ word = true
 
 abbrev pub is_open : Request → Spot → Option ℕ → Bool
-is_open request place None = false
-is_open request place (Some word) = is_allowed_at request place word
+is_open request at None = false
+is_open request at (Some word) = is_allowed_at request at word
 
 abbrev pub outside_unless : Bool → Master → ℕ → Option Why
 outside_unless open_to m address = if open_to then None else Some (why.Outside m address)
@@ -77,10 +78,10 @@ cause_of w seen s x = cause_by w seen x.master x.want s
 
 -- ---- ports
 
--- the port that a place is reached through; the device is reached through APB
+-- the port that a spot is reached through; the device is reached through APB
 abbrev pub port_at : Spot → Option ℕ
 port_at spot.Outside = Some 6
-port_at place = port_of place
+port_at at = port_of at
 
 abbrev pub asked_at : Request → Option ℕ → Option (ℕ × Bool)
 asked_at request None = None
@@ -101,7 +102,7 @@ is_done_at _ granted = granted
 
 -- of two cores that read one spinlock in one cycle core 1 is told 0
 abbrev pub is_lock : Spot → Bool
-is_lock (spot.Sio offset) = nat_le 0x100 offset
+is_lock (spot.Sio offset) = nat_le SPINLOCK0 offset
 is_lock _ = false
 
 abbrev pub is_same_word : Spot → Spot → Bool
@@ -109,8 +110,8 @@ is_same_word (spot.Sio offset) (spot.Sio other) = offset == other
 is_same_word _ _ = false
 
 abbrev pub reads_at : Want → Spot → Bool
-reads_at (want.Outward request) place = is_none request.write && is_same_word (place_of request.address) place
-reads_at _ place = false
+reads_at (want.Outward request) at = is_none request.write && is_same_word (place_of request.address) at
+reads_at _ at = false
 
 abbrev pub is_core1 : Master → Bool
 is_core1 master.Core1 = true
@@ -118,12 +119,12 @@ is_core1 _ = false
 
 -- core 1 comes too late for a lock that core 0, which wants this, reads in the same cycle
 abbrev pub is_late : Want → Master → Spot → Bool
-is_late rival m place = is_core1 m && (is_lock place && reads_at rival place)
+is_late rival m at = is_core1 m && (is_lock at && reads_at rival at)
 
 -- the word that an access has, where core 0 wants this
 abbrev pub told_at : Setting → Seen → Want → Master → ℕ → Spot → State → ℕ
-told_at w seen rival m address place s =
-    if is_late rival m place then 0 else unwrap_or (word_for w seen m address place s) 0
+told_at w seen rival m address at s =
+    if is_late rival m at then 0 else unwrap_or (word_for w seen m address at s) 0
 
 -- ---- turns
 

@@ -1,13 +1,13 @@
 -- The words of the register blocks: what they read as, whether an access to one is allowed, and what it does (RP2040 Datasheet,
--- 2.1.2 "Atomic Register Access", 2.1.4 "Narrow IO Register Writes", 2.1.5 "List of Registers" of BUSCTRL, 2.14.3 "List of
--- Registers" of RESETS).
+-- 2.1.2 "Atomic Register Access", 2.1.4 "Narrow IO Register Writes", 2.14.3 "List of Registers" of RESETS).
 use Rattle.std.specs.Prelude.{ℕ, ◌-◌, ◌%◌, ◌^◌, Bool, true, ◌==◌, if◌then◌else◌, List, Option, Some, None, bit_and, bit_or, bit_xor, slice_index, slice_set}
 use Rattle.rp_base.specs.declared.Request.{Request}
 use Rattle.rp_base.specs.declared.map.Block.{Block}
 use Rattle.rp_base.specs.declared.map.Block.TheVariants as block
 use Rattle.rp_base.specs.Access.{replicated}
 use Rattle.word_bits.specs.Word.{has_bit}
-use Rattle.bus_fabric.specs.State.{Crossbar, with_priority}
+use Rattle.register_block.specs.declared.resets.TheConstants.{DMA, PIO0, PIO1}
+use Rattle.bus_fabric.specs.Words as busctrl
 use Rattle.dma_engine.specs.State.{with_hold}
 use Rattle.dma_engine.specs.Words as dma
 use Rattle.pio_block.specs.State.{with_held}
@@ -16,48 +16,43 @@ use Rattle.outer_lane.specs.declared.world.Seen.{Seen}
 use Rattle.outer_lane.specs.Setting.{Setting}
 use Rattle.outer_lane.specs.State.{outer_reset}
 use Rattle.outer_lane.specs.Words.{outer_word, outer_accessed}
+use Rattle.rp_machine.specs.declared.registers.TheConstants.{RESET, WDSEL, RESET_DONE}
 use Rattle.rp_machine.specs.State.{State}
 
 -- ---- RESETS: RESET has a bit for each of 25 blocks, WDSEL is kept, and RESET_DONE is the complement of RESET
 
 abbrev pub resets_word : List ℕ → ℕ → Option ℕ
 resets_word resets offset =
-    if offset == 0x0 then Some (slice_index resets 0) else
-    if offset == 0x4 then Some (slice_index resets 1) else
-    if offset == 0x8 then Some (2 ^ 25 - 1 - slice_index resets 0) else None
+    if offset == RESET then Some (slice_index resets 0) else
+    if offset == WDSEL then Some (slice_index resets 1) else
+    if offset == RESET_DONE then Some (2 ^ 25 - 1 - slice_index resets 0) else None
 
--- a block whose bit is set gets its reset state, and is held in it until the bit is clear: DMA 2, PIO0 10, PIO1 11, and those
--- of the peripherals
+-- a block whose bit is set gets its reset state, and is held in it until the bit is clear
 unfoldable pub with_reset : ℕ → State → State
 with_reset w s = record s {
-  dma = with_hold (has_bit w 2) s.dma;
-  pio0 = with_held (has_bit w 10) s.pio0;
-  pio1 = with_held (has_bit w 11) s.pio1;
+  dma = with_hold (has_bit w DMA) s.dma;
+  pio0 = with_held (has_bit w PIO0) s.pio0;
+  pio1 = with_held (has_bit w PIO1) s.pio1;
   outer = outer_reset w s.outer;
   resets = slice_set s.resets 0 w;
 }
 
 abbrev pub resets_written : ℕ → ℕ → State → State
 resets_written offset w s =
-    if offset == 0x0 then with_reset (w % 2 ^ 25) s else
-    if offset == 0x4 then record s { resets = slice_set s.resets 1 w } else s
+    if offset == RESET then with_reset (w % 2 ^ 25) s else
+    if offset == WDSEL then record s { resets = slice_set s.resets 1 w } else s
 
--- ---- BUSCTRL: BUS_PRIORITY, and BUS_PRIORITY_ACK, which reads 1
-
-abbrev pub busctrl_word : Crossbar → ℕ → Option ℕ
-busctrl_word fabric offset =
-    if offset == 0x0 then Some fabric.priority else
-    if offset == 0x4 then Some 1 else None
-
-abbrev pub busctrl_written : ℕ → ℕ → Crossbar → Crossbar
-busctrl_written offset w fabric = if offset == 0x0 then with_priority w fabric else fabric
+-- a read does nothing
+abbrev pub resets_accessed : ℕ → Option ℕ → State → State
+resets_accessed offset None s = s
+resets_accessed offset (Some w) s = resets_written offset w s
 
 -- ---- all blocks
 
 -- what a word reads as at the start of a cycle, in which the peripherals have seen this; None where the block has no such word
 unfoldable pub block_word : Setting → Seen → Block → ℕ → State → Option ℕ
 block_word w seen block.Resets offset s = resets_word s.resets offset
-block_word w seen block.Busctrl offset s = busctrl_word s.fabric offset
+block_word w seen block.Busctrl offset s = busctrl.word_of s.fabric offset
 block_word w seen block.Dma offset s = dma.word_of s.dma offset
 block_word w seen block.Pio0 offset s = pio.word_of s.pio0 offset
 block_word w seen block.Pio1 offset s = pio.word_of s.pio1 offset
@@ -70,16 +65,10 @@ block_allows block.Pio0 offset write = pio.is_allowed offset write
 block_allows block.Pio1 offset write = pio.is_allowed offset write
 block_allows _ offset write = true
 
--- what a write to RESETS or BUSCTRL does, where reads do nothing
-abbrev pub system_written : Block → ℕ → Option ℕ → State → State
-system_written block offset None s = s
-system_written block.Resets offset (Some w) s = resets_written offset w s
-system_written _ offset (Some w) s = record s { fabric = busctrl_written offset w s.fabric }
-
 -- what a read, or a write of this word, does
 unfoldable pub block_accessed : Block → ℕ → Option ℕ → State → State
-block_accessed block.Resets offset write s = system_written block.Resets offset write s
-block_accessed block.Busctrl offset write s = system_written block.Busctrl offset write s
+block_accessed block.Resets offset write s = resets_accessed offset write s
+block_accessed block.Busctrl offset write s = record s { fabric = busctrl.effect_of offset write s.fabric }
 block_accessed block.Dma offset write s = record s { dma = dma.effect_of offset write s.dma }
 block_accessed block.Pio0 offset write s = record s { pio0 = pio.effect_of offset write s.pio0 }
 block_accessed block.Pio1 offset write s = record s { pio1 = pio.effect_of offset write s.pio1 }

@@ -14,11 +14,12 @@ use outer_lane::{Seen, World};
 use rp_base::access::{lanes_at, replicated, word_written};
 use rp_base::map::{Spot, place, port};
 use rp_base::{Master, Request, Why};
+use sio_block::registers::SPINLOCK0;
 
 /// The port of APB, through which the device is reached.
 const APB: u8 = 6;
 
-/// The port that a request to a place asks for, and whether to write.
+/// The port that a request to a spot asks for, and whether to write.
 fn asked_at(request: &Request, spot: &Spot) -> Option<(u8, bool)>
     requires { IsWithin spot.now }
     ensures port { HasPort result }
@@ -47,7 +48,7 @@ pub fn asked_of(want: &Want) -> Option<(u8, bool)>
     }
 }
 
-/// An access to this place is done, where its port, if it has one, is granted.
+/// An access to this spot is done, where its port, if it has one, is granted.
 #[inline(always)]
 fn is_done_at(spot: &Spot, granted: bool) -> bool
     ensures { result ≡ is_done_at spot.now granted }
@@ -63,7 +64,7 @@ fn is_lock(spot: &Spot) -> bool
     ensures { result ≡ is_lock spot.now }
 {
     match *spot {
-        Spot::Sio { offset } => 0x100 <= offset,
+        Spot::Sio { offset } => SPINLOCK0 <= offset,
         Spot::Ram { .. } | Spot::Reg { .. } | Spot::Ppb { .. } | Spot::Outside => false,
     }
 }
@@ -114,7 +115,7 @@ fn turn_at(done: bool, word: u32) -> Turn
     if done { Turn::Done(word) } else { Turn::Wait }
 }
 
-/// The write to SRAM of a request to a place, if it is one.
+/// The write to SRAM of a request to a spot, if it is one.
 fn stored_at(request: &Request, spot: &Spot) -> Deed
     requires { IsWithin spot.now }
     ensures within { StoresInSram result }
@@ -147,7 +148,7 @@ impl Machine {
         }
     }
 
-    /// The word at a place that is not in SRAM, as it reads for a master. None where there is no such word.
+    /// The word at a spot that is not in SRAM, as it reads for a master. None where there is no such word.
     #[tactic(auto, unfolding(crate::specs::Deeds::word_for))]
     fn word_for<X: Device>(
         &self,
@@ -169,7 +170,7 @@ impl Machine {
         }
     }
 
-    /// An access to the word of a place, which reads so, is allowed.
+    /// An access to the word of a spot, which reads so, is allowed.
     fn is_allowed_at(&self, request: &Request, spot: &Spot, word: u32) -> bool
         ensures { result ≡ is_allowed_at request.now spot.now word }
     {
@@ -274,7 +275,7 @@ impl Machine {
         }
     }
 
-    /// The access to a word of a register block, of SIO or of the device that a request to a place comes to.
+    /// The access to a word of a register block, of SIO or of the device that a request to a spot comes to.
     #[inline(never)]
     fn accessed_at<X: Device>(
         &self,

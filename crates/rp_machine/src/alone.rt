@@ -67,8 +67,8 @@ impl Machine {
     {
         self.core1.is_asleep()
             && self.dma.is_at_rest()
-            && self.pio0.is_idle()
-            && self.pio1.is_idle()
+            && self.pio0.is_at_rest()
+            && self.pio1.is_at_rest()
     }
 
     /// What core 0 begins.

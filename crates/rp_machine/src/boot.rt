@@ -10,18 +10,10 @@ use lane_look::Device;
 use outer_lane::World;
 use pio_asm::Program;
 use pio_block::PioBlock;
+use pio_block::registers::{INSTR_MEM0, SM_BYTES, SM_EXECCTRL, SM_PINCTRL, SM0_CLKDIV};
 use pio_words::SideConfig;
 use std::alloc::{AllocError, Global};
 use uf2_image::Image;
-
-/// The offsets of a PIO block's words (RP2040 Datasheet, 3.7), and the bytes of the registers of one machine.
-const INSTR_MEM0: u16 = 0x048;
-
-const SM0_EXECCTRL: u16 = 0x0cc;
-
-const SM0_PINCTRL: u16 = 0x0dc;
-
-const MACHINE_BYTES: u16 = 0x018;
 
 /// SET_COUNT of PINCTRL at reset, which a program leaves.
 const SET_COUNT_AT_RESET: u32 = 5 << 26;
@@ -78,12 +70,12 @@ fn load_block(pio: &mut PioBlock, load: &PioLoad)
     requires { IsLoad load.now }
     ensures { pio.new ≡ block_loaded load.now pio.old }
 {
-    let registers = MACHINE_BYTES * u16::from(load.machine);
+    let registers = SM0_CLKDIV + SM_BYTES * u16::from(load.machine);
     let execctrl = execctrl_of(load.offset, &load.program);
     let pinctrl = pinctrl_of(&load.program.side);
     load_words(pio, load.offset, load.program.words.as_slice());
-    let _ = pio.effect(SM0_EXECCTRL + registers, Some(execctrl));
-    let _ = pio.effect(SM0_PINCTRL + registers, Some(pinctrl));
+    let _ = pio.effect(registers + SM_EXECCTRL, Some(execctrl));
+    let _ = pio.effect(registers + SM_PINCTRL, Some(pinctrl));
     pio.set_counter(load.machine, load.offset);
 }
 

@@ -17,7 +17,7 @@ pub mod load;
 mod loading;
 mod look;
 pub mod machine;
-mod registers;
+pub mod registers;
 pub mod rest;
 pub mod steps;
 pub mod wanted;

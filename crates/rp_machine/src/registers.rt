@@ -6,22 +6,21 @@ ghost use Rattle.rp_machine.specs.Registers.{aliased, plain_write};
 use crate::machine::Machine;
 use lane_look::Device;
 use outer_lane::{Seen, World};
+use register_block::Registers;
+use register_block::resets::{DMA, PIO0, PIO1};
 use rp_base::Request;
 use rp_base::access::replicated;
 use rp_base::map::Block;
 use word_bits::has_bit;
 
-/// The offsets of RESETS (RP2040 Datasheet, 2.14.3).
-const RESET: u16 = 0x0;
+/// RESET of RESETS (RP2040 Datasheet, 2.14.3): a block whose bit is set is held in its reset state.
+pub const RESET: u16 = 0x0;
 
-const WDSEL: u16 = 0x4;
+/// WDSEL of RESETS: what the watchdog resets.
+pub const WDSEL: u16 = 0x4;
 
-const RESET_DONE: u16 = 0x8;
-
-/// The offsets of BUSCTRL (RP2040 Datasheet, 2.1.5).
-const BUS_PRIORITY: u16 = 0x0;
-
-const BUS_PRIORITY_ACK: u16 = 0x4;
+/// RESET_DONE of RESETS: the blocks that are not held.
+pub const RESET_DONE: u16 = 0x8;
 
 /// The bits of RESET, one for each block.
 const ALL_BLOCKS: u32 = 0x01ff_ffff;
@@ -51,7 +50,7 @@ pub(crate) fn plain_write(request: &Request, alias: u8, word: u32) -> Option<u32
 impl Machine {
     ghost use Rattle.std.specs.Prelude.{◌≡◌, Some, ◌<◌, ◌^◌};
     ghost use Rattle.outer_lane.specs.Setting.{setting_of};
-    ghost use Rattle.rp_machine.specs.Registers.{resets_word, resets_written, with_reset, busctrl_word, busctrl_written, block_word, block_allows, system_written, block_accessed};
+    ghost use Rattle.rp_machine.specs.Registers.{resets_word, resets_written, resets_accessed, with_reset, block_word, block_allows, block_accessed};
 
     /// RESET, WDSEL or RESET_DONE.
     fn resets_word(&self, offset: u16) -> Option<u32>
@@ -61,17 +60,6 @@ impl Machine {
             RESET => Some(self.resets[0]),
             WDSEL => Some(self.resets[1]),
             RESET_DONE => Some(ALL_BLOCKS - self.resets[0]),
-            _ => None,
-        }
-    }
-
-    /// BUS_PRIORITY or BUS_PRIORITY_ACK.
-    fn busctrl_word(&self, offset: u16) -> Option<u32>
-        ensures { result ≡ busctrl_word self.now.fabric offset }
-    {
-        match offset {
-            BUS_PRIORITY => Some(self.fabric.priority()),
-            BUS_PRIORITY_ACK => Some(1),
             _ => None,
         }
     }
@@ -92,7 +80,7 @@ impl Machine {
     {
         match block {
             Block::Resets => self.resets_word(offset),
-            Block::Busctrl => self.busctrl_word(offset),
+            Block::Busctrl => self.fabric.read(&(), offset),
             Block::Dma => self.dma.read(offset),
             Block::Pio0 => self.pio0.read(offset),
             Block::Pio1 => self.pio1.read(offset),
@@ -119,9 +107,9 @@ impl Machine {
         requires { bits < 2 ^ 25 }
         ensures { self.new ≡ with_reset bits self.old }
     {
-        self.dma.set_held(has_bit(bits, 2));
-        self.pio0.set_held(has_bit(bits, 10));
-        self.pio1.set_held(has_bit(bits, 11));
+        self.dma.set_held(has_bit(bits, DMA));
+        self.pio0.set_held(has_bit(bits, PIO0));
+        self.pio1.set_held(has_bit(bits, PIO1));
         self.outer.reset(bits);
         self.resets[0] = bits;
     }
@@ -137,12 +125,12 @@ impl Machine {
         }
     }
 
-    /// Writes BUS_PRIORITY.
-    fn write_busctrl(&mut self, offset: u16, word: u32)
-        ensures { self.new ≡ record self.old { fabric = busctrl_written offset word self.old.fabric } }
+    /// Does what a read, or a plain write of this word, does to RESETS.
+    fn access_resets(&mut self, offset: u16, write: Option<u32>)
+        ensures { self.new ≡ resets_accessed offset write self.old }
     {
-        if offset == BUS_PRIORITY {
-            self.fabric.set_priority(word);
+        if let Some(word) = write {
+            self.write_resets(offset, word);
         }
     }
 
@@ -152,15 +140,9 @@ impl Machine {
         ensures { self.new ≡ block_accessed block offset write self.old }
     {
         match block {
-            Block::Resets => {
-                if let Some(word) = write {
-                    self.write_resets(offset, word);
-                }
-            }
+            Block::Resets => self.access_resets(offset, write),
             Block::Busctrl => {
-                if let Some(word) = write {
-                    self.write_busctrl(offset, word);
-                }
+                let _ = self.fabric.effect(offset, write);
             }
             Block::Dma => {
                 let _ = self.dma.effect(offset, write);

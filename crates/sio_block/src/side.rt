@@ -4,14 +4,14 @@ ghost use Rattle.std.specs.Prelude.{◌≡◌};
 ghost use Rattle.sio_block.specs.Side.{side_at_reset, status_of, side_word, line_of, status_written, side_written, mailbox_written, side_read, side_ended};
 
 use crate::divider::Divider;
-use crate::fifo::Fifo;
+use crate::mailbox::Mailbox;
 use crate::registers::{FIFO_RD, FIFO_ST, FIFO_WR};
 
 /// The mailbox and the divider of a core (RP2040 Datasheet, 2.3.1.4 and 2.3.1.5).
 #[derive(Drop)]
 pub struct Side {
     /// The words for the core.
-    pub mailbox: Fifo,
+    pub mailbox: Mailbox,
     /// FIFO_ST.WOF: the core wrote to the other mailbox while it was full.
     pub write_on_full: bool,
     /// FIFO_ST.ROE: the core read its mailbox while it was empty.
@@ -25,7 +25,7 @@ impl Side {
         ensures { result ≡ side_at_reset }
     {
         Side {
-            mailbox: Fifo::new(),
+            mailbox: Mailbox::new(),
             write_on_full: false,
             read_on_empty: false,
             divider: Divider::new(),
@@ -33,7 +33,7 @@ impl Side {
     }
 
     /// The word at an offset from 050 to 078, where `other` is the other core's mailbox.
-    pub(crate) fn read(&self, offset: u16, other: &Fifo) -> Option<u32>
+    pub(crate) fn read(&self, offset: u16, other: &Mailbox) -> Option<u32>
         ensures { result ≡ side_word offset other.now self.now }
     {
         match offset {
@@ -45,7 +45,7 @@ impl Side {
     }
 
     /// FIFO_ST.
-    fn status(&self, other: &Fifo) -> u32
+    fn status(&self, other: &Mailbox) -> u32
         ensures { result ≡ status_of other.now self.now }
     {
         u32::from(self.mailbox.has_word())
@@ -77,7 +77,7 @@ impl Side {
     }
 
     /// A write of this core, where `other` is the other core's mailbox.
-    pub(crate) fn write(&mut self, offset: u16, word: u32, other: &mut Fifo)
+    pub(crate) fn write(&mut self, offset: u16, word: u32, other: &mut Mailbox)
         ensures own { self.new ≡ side_written offset word other.old self.old }
         ensures other { other.new ≡ mailbox_written offset word other.old }
     {

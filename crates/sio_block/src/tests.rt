@@ -210,7 +210,7 @@ fn mailboxes_are_judged_at_the_start(rt: HostRuntime) {
         sio.effect(0, FIFO_WR, Some(word));
         sio.end_cycle();
     }
-    // nor is the place that a read makes seen by a write
+    // nor is the room that a read makes seen by a write
     assert_eq!(rt; sio.read(0, FIFO_ST, 0), Some(0));
     sio.effect(0, FIFO_WR, Some(18));
     sio.effect(1, FIFO_RD, None);

@@ -11,12 +11,12 @@ const DEPTH: usize = 8;
 
 /// The words for a core, at most 8, and how many they were when the cycle began (RP2040 Datasheet, 2.3.1.4).
 #[derive(Drop)]
-pub struct Fifo {
+pub struct Mailbox {
     words: ArrayVec<u32, 8>,
     before: usize,
 }
 
-impl Model for Fifo {
+impl Model for Mailbox {
     ghost use Rattle.sio_block.specs.Mailbox.{Mailbox};
 
     ghost Value = { Mailbox };
@@ -24,12 +24,12 @@ impl Model for Fifo {
     ghost view = { λ m. record { words = m.words.items; before = m.before } };
 }
 
-impl Fifo {
+impl Mailbox {
     /// A mailbox without words.
-    pub(crate) fn new() -> Fifo
+    pub(crate) fn new() -> Mailbox
         ensures { result ≡ empty }
     {
-        Fifo {
+        Mailbox {
             words: ArrayVec::new(),
             before: 0,
         }
@@ -101,7 +101,7 @@ impl Fifo {
     }
 
     /// Takes the words of another mailbox.
-    pub(crate) fn copy_from(&mut self, other: &Fifo)
+    pub(crate) fn copy_from(&mut self, other: &Mailbox)
         ensures { self.new ≡ other.now }
     {
         self.words.clear();
