@@ -80,7 +80,8 @@ impl IoBank {
         if offset < INTR0 {
             self.pin_word(offset, outs)
         } else if offset < PADS_BANK0 {
-            self.events_at(offset - offset % 16).word(u32::from(offset % 16 / 4))
+            self.events_at(offset - offset % 16)
+                .word(u32::from(offset % 16 / 4))
         } else {
             self.pad_word(offset)
         }

@@ -47,6 +47,20 @@ pub(crate) fn plain_write(request: &Request, alias: u8, word: u32) -> Option<u32
     }
 }
 
+/// A word of a block that sees nothing but itself.
+fn word<B: Registers<()>>(block: &B, offset: u16) -> Option<u32>
+    ensures { result ≡ B.word tt block.now offset }
+{
+    block.read(&(), offset)
+}
+
+/// Does what a read, or a plain write of this word, does to such a block.
+fn access<B: Registers<()>>(block: &mut B, offset: u16, write: Option<u32>)
+    ensures { block.new ≡ B.accessed offset write block.old }
+{
+    let _ = block.effect(offset, write);
+}
+
 impl Machine {
     ghost use Rattle.std.specs.Prelude.{◌≡◌, Some, ◌<◌, ◌^◌};
     ghost use Rattle.outer_lane.specs.Setting.{setting_of};
@@ -80,10 +94,10 @@ impl Machine {
     {
         match block {
             Block::Resets => self.resets_word(offset),
-            Block::Busctrl => self.fabric.read(&(), offset),
-            Block::Dma => self.dma.read(offset),
-            Block::Pio0 => self.pio0.read(offset),
-            Block::Pio1 => self.pio1.read(offset),
+            Block::Busctrl => word(&self.fabric, offset),
+            Block::Dma => word(&self.dma, offset),
+            Block::Pio0 => word(&self.pio0, offset),
+            Block::Pio1 => word(&self.pio1, offset),
             Block::IoBank0 | Block::PadsBank0 | Block::Uart0 | Block::Uart1 | Block::Timer => {
                 self.outer.read(world, seen, block, offset)
             }
@@ -141,18 +155,10 @@ impl Machine {
     {
         match block {
             Block::Resets => self.access_resets(offset, write),
-            Block::Busctrl => {
-                let _ = self.fabric.effect(offset, write);
-            }
-            Block::Dma => {
-                let _ = self.dma.effect(offset, write);
-            }
-            Block::Pio0 => {
-                let _ = self.pio0.effect(offset, write);
-            }
-            Block::Pio1 => {
-                let _ = self.pio1.effect(offset, write);
-            }
+            Block::Busctrl => access(&mut self.fabric, offset, write),
+            Block::Dma => access(&mut self.dma, offset, write),
+            Block::Pio0 => access(&mut self.pio0, offset, write),
+            Block::Pio1 => access(&mut self.pio1, offset, write),
             Block::IoBank0 | Block::PadsBank0 | Block::Uart0 | Block::Uart1 | Block::Timer => {
                 self.outer.effect(block, offset, write);
             }

@@ -4,8 +4,8 @@ ghost use Rattle.std.specs.Prelude.{◌≡◌, ◌≤◌};
 ghost use Rattle.rp_uart.specs.State.{no_errors};
 ghost use Rattle.rp_uart.specs.Interrupts.{depth_of, trigger_of, receive_trigger, transmit_trigger, error_bits, error_interrupts, told, told_if, cleared, cleared_if, settled};
 
-use crate::uart::Uart;
 use crate::receiver::Errors;
+use crate::uart::Uart;
 use word_bits::bit_number;
 
 /// The interrupts by their bits of UARTRIS: bytes wait to be read, bytes may be sent, and bytes have waited for long.

@@ -3,9 +3,9 @@
 ghost use Rattle.std.specs.Prelude.{◌≡◌, ◌<◌, length};
 ghost use Rattle.rp_uart.specs.Receiving.{byte_heard, has_parity_error, errors_of, stored, dropped, after_byte, after_waiting, after_idle, after_lull, sampled, after_stop, after_sample, after_hearing, after_line, is_byte_due, is_stop, is_frame_due, after_receiving};
 
-use crate::uart::Uart;
 use crate::frame::{LineControl, WordLength};
 use crate::interrupts::{RECEIVE, TIMEOUT};
+use crate::uart::Uart;
 
 /// The errors of a byte (DDI 0183, 3.3.1 and 3.3.2).
 #[derive(Clone, Copy, Default)]

@@ -3,8 +3,8 @@
 ghost use Rattle.std.specs.Prelude.{◌≡◌, ◌<◌, Some, None, if◌then◌else◌};
 ghost use Rattle.rp_uart.specs.Sending.{next_frame, is_last_bit, after_bit, after_frame, after_sending, ended_byte, frame_byte};
 
-use crate::uart::Uart;
 use crate::interrupts::TRANSMIT;
+use crate::uart::Uart;
 
 /// A frame that is being sent.
 #[derive(Clone, Copy)]

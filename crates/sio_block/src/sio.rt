@@ -73,9 +73,7 @@ impl Sio {
         self.at_rest = false;
         let word = self.core1.mailbox.front();
         self.core1.mailbox.take();
-        self.core0
-            .mailbox
-            .put(answer_to(&self.launched, word));
+        self.core0.mailbox.put(answer_to(&self.launched, word));
         take(&mut self.launched, word)
     }
 
