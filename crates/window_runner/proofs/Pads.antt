@@ -1,10 +1,11 @@
 -- The levels that a cycle marks are those of the pads after it: what is done in the cycle leaves them.
-use Rattle.std.proofs.Common.{◌≡◌, ◌+◌, ◌==◌, ◌/◌, ◌%◌, ◌^◌, ℕ, Bool, true, false, not, ◌&&◌, nat_lt, if◌then◌else◌, List, [], ◌∷◌, Option, Some, None, refl, ◌∙◌}
+use Rattle.std.proofs.Common.{◌≡◌, ◌+◌, ◌-◌, ◌==◌, ◌/◌, ◌%◌, ◌^◌, ℕ, Bool, true, false, nat_lt, if◌then◌else◌, List, [], ◌∷◌, Option, Some, None, refl, ◌∙◌}
 use Rattle.rp_base.specs.declared.Master.{Master}
 use Rattle.rp_base.specs.declared.Master.TheVariants as master
 use Rattle.rp_base.specs.declared.map.Block.{Block}
 use Rattle.rp_base.specs.declared.map.Block.TheVariants as block
 use Rattle.bus_fabric.specs.Masters.{masters}
+use Rattle.io_bank.specs.declared.registers.TheConstants.{GPIO0_STATUS, INTR0, PROC0_INTE0, PROC0_INTF0, PROC1_INTE0, PROC1_INTF0, PADS_BANK0, VOLTAGE_SELECT}
 use Rattle.io_bank.specs.State.{Bank, with_bank_held, with_pads_held, after_held}
 use Rattle.io_bank.specs.Words as bank
 use Rattle.outer_lane.specs.Setting.{Setting}
@@ -18,6 +19,7 @@ use Rattle.sio_block.specs.declared.Launch.{Launch}
 use Rattle.sio_block.specs.Launcher.{launch_of, after_turn}
 use Rattle.rp_machine.specs.declared.deed.Deed.{Deed}
 use Rattle.rp_machine.specs.declared.deed.Deed.TheVariants as deed
+use Rattle.rp_machine.specs.declared.registers.TheConstants.{RESET, WDSEL}
 use Rattle.rp_machine.specs.State.{State}
 use Rattle.rp_machine.specs.Registers.{with_reset, resets_written, block_accessed}
 use Rattle.rp_machine.specs.Cycle.{begun, wanted, granted, with_sio, sio_accessed, after_deed, started_by, after_launcher, after_master, after_masters, ended, deeds, after_deeds, with_turns, stepped, next_by, next, mark}
@@ -48,26 +50,31 @@ held_same : (first second : Bool) (b : Bank) → current (after_held first secon
 held_same first second b = pads_same second (with_bank_held first b) ∙ bank_same first b
 
 pin_same : (offset w : ℕ) (b : Bank) → current (bank.pin_written offset w b) ≡ current b
-pin_same offset w b = either current (offset % 8 == 0) _ _ b refl refl
+pin_same offset w b = either current (offset % 8 == GPIO0_STATUS) _ _ b refl refl
 
-events_same : (row place w : ℕ) (b : Bank) → current (bank.events_written row place w b) ≡ current b
-events_same row place w b =
-    either current (row == 0xF) _ _ b refl
-    (either current (row == 0x10) _ _ b refl
-    (either current (row == 0x11) _ _ b refl
-    (either current (row == 0x13) _ _ b refl (either current (row == 0x14) _ _ b refl refl))))
+events_same : (first number w : ℕ) (b : Bank) → current (bank.events_written first number w b) ≡ current b
+events_same first number w b =
+    either current (first == INTR0) _ _ b refl
+    (either current (first == PROC0_INTE0) _ _ b refl
+    (either current (first == PROC0_INTF0) _ _ b refl
+    (either current (first == PROC1_INTE0) _ _ b refl (either current (first == PROC1_INTF0) _ _ b refl refl))))
 
 pad_same : (offset w : ℕ) (b : Bank) → current (bank.pad_written offset w b) ≡ current b
-pad_same offset w b = either current (offset == 0x1000) _ _ b refl refl
+pad_same offset w b = either current (offset == VOLTAGE_SELECT) _ _ b refl refl
 
 written_same : (offset w : ℕ) (b : Bank) → current (bank.after_write offset w b) ≡ current b
 written_same offset w b =
-    either current (nat_lt offset 0xF0) _ _ b (pin_same offset w b)
-    (either current (nat_lt offset 0x1000) _ _ b (events_same (offset / 16) (offset % 16 / 4) w b) (pad_same offset w b))
+    either current (nat_lt offset INTR0) _ _ b (pin_same offset w b)
+    (either current (nat_lt offset PADS_BANK0) _ _ b (events_same (offset - offset % 16) (offset % 16 / 4) w b) (pad_same offset w b))
+
+any_same : (offset : ℕ) (write : Option ℕ) (b : Bank) → current (bank.after_any offset write b) ≡ current b
+any_same offset None b = refl
+any_same offset (Some w) b = written_same offset w b
 
 effect_same : (offset : ℕ) (write : Option ℕ) (b : Bank) → current (bank.effect_of offset write b) ≡ current b
-effect_same offset None b = refl
-effect_same offset (Some w) b = either current (bank.is_word offset && not (bank.is_held b offset)) _ _ b (written_same offset w b) refl
+effect_same offset write b =
+    either current (bank.is_word offset) _ _ b
+    (either current (bank.is_held b offset) b _ b refl (any_same offset write b)) refl
 
 -- ---- the peripherals
 
@@ -79,12 +86,12 @@ unfolding outer_reset
 reset_same w o = held_same _ _ o.pads
 
 bank_access_same : (offset : ℕ) (write : Option ℕ) (b : Bank) → current (bank_accessed offset write b) ≡ current b
-bank_access_same offset write b = either current (nat_lt offset 0x1000) _ _ b (effect_same offset write b) refl
+bank_access_same offset write b = either current (nat_lt offset PADS_BANK0) _ _ b (effect_same offset write b) refl
 
 outer_same : (b : Block) (offset : ℕ) (write : Option ℕ) (o : OuterState) → pads_now (outer_accessed b offset write o) ≡ pads_now o
 unfolding outer_accessed
 outer_same block.IoBank0 offset write o = bank_access_same offset write o.pads
-outer_same block.PadsBank0 offset write o = effect_same (0x1000 + offset) write o.pads
+outer_same block.PadsBank0 offset write o = effect_same (PADS_BANK0 + offset) write o.pads
 outer_same block.Uart0 offset write o = refl
 outer_same block.Uart1 offset write o = refl
 outer_same block.Timer offset write o = refl
@@ -104,7 +111,7 @@ device_same w address write o =
 resets_same : (offset w : ℕ) (s : State) → levels (resets_written offset w s) ≡ levels s
 unfolding with_reset
 resets_same offset w s =
-    either levels (offset == 0x0) _ _ s (reset_same (w % 2 ^ 25) s.outer) (either levels (offset == 0x4) _ _ s refl refl)
+    either levels (offset == RESET) _ _ s (reset_same (w % 2 ^ 25) s.outer) (either levels (offset == WDSEL) _ _ s refl refl)
 
 block_same : (b : Block) (offset : ℕ) (write : Option ℕ) (s : State) → levels (block_accessed b offset write s) ≡ levels s
 unfolding block_accessed
