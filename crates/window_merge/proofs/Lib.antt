@@ -4,10 +4,12 @@ pub mod Calm
 pub mod Comparing
 pub mod Copying
 pub mod InSram
+pub mod Reported
 pub mod Keeping
 pub mod Lanes
 pub mod Ports
 pub mod Positions
+pub mod Replaying
 pub mod Resting
 pub mod Told
 pub mod Windows

@@ -1,4 +1,6 @@
 pub mod Around
+pub mod Jobs
+pub mod Kinds
 pub mod Lanes
 pub mod Laws
 pub mod Merging

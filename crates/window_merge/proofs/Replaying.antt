@@ -1,0 +1,51 @@
+-- The same lane in two environments: what is true of its replays and runs in the one is true in the other.
+use Rattle.std.proofs.Common.{◌≡◌, ℕ, zero, suc, ◌+◌, List, ◌++◌, refl, ap, sym, ◌∙◌}
+use Rattle.lane_look.specs.declared.marks.Mark.{Mark}
+use Rattle.lane_look.specs.declared.replay.Report.{Report}
+use Rattle.lane_look.specs.Asking.{Asking}
+use Rattle.lane_look.specs.Replay.{Meaning, Entry, Replay, told, left, talk, after_begun, marks_with, replay_by, replay_cycle, replayed}
+use Rattle.lane_look.specs.Alone.{Alone, alone, alone_length}
+use Rattle.lane_look.specs.Truth.{IsTrue}
+use Rattle.window_merge.specs.declared.copies.Copies.{Copies}
+use Rattle.window_merge.specs.Around.{copied}
+use Rattle.window_merge.specs.Jobs.{RanBy}
+use Rattle.window_merge.proofs.Copying.{Copied, SameLane, alone_same, length_same}
+
+by_same : {E F S B : Type 0} (m : Meaning E S B) (env : E) (n : Meaning F S B) (env' : F) → SameLane m env n env' → (tree : Asking B) (r : Replay S) → replay_by m env tree r ≡ replay_by n env' tree r
+by_same m env n env' same tree r =
+    let state : after_begun m env r.state (told r.rest tree) ≡ after_begun n env' r.state (told r.rest tree) = same.next r.state (told r.rest tree) in
+    let marks : marks_with m env r.state (told r.rest tree) r.marks ≡ marks_with n env' r.state (told r.rest tree) r.marks = same.marked r.state (told r.rest tree) r.marks in
+    rw (state, marks) refl
+
+replayed_same : {E F S B : Type 0} (m : Meaning E S B) (env : E) (n : Meaning F S B) (env' : F) → SameLane m env n env' → (before : S) (start : ℕ) (log : List Entry) (k : ℕ) → replayed m env before start log k ≡ replayed n env' before start log k
+unfolding replayed
+replayed_same m env n env' same before start log zero = refl
+replayed_same {E} {F} {S} {B} m env n env' same before start log (suc k) =
+    let r = replayed n env' before start log k in
+    ap (replay_cycle m env (start + k)) (replayed_same m env n env' same before start log k)
+    ∙ ap (λ (tree : Asking B). replay_by m env tree r) (same.asks r.state (start + k))
+    ∙ by_same m env n env' same (n.asks env' r.state (start + k)) r
+
+pub true_same : {E F S B : Type 0} (m : Meaning E S B) (env : E) (n : Meaning F S B) (env' : F) → SameLane m env n env' → (report : Report S) → IsTrue m env report → IsTrue n env' report
+true_same {E} {F} {S} m env n env' same report h =
+    let e = replayed_same m env n env' same report.before report.start report.log report.length in
+    record {
+      short = h.short;
+      number = h.number;
+      whole = ap (λ (r : Replay S). r.talk) (sym e) ∙ h.whole;
+      lane_after = h.lane_after ∙ ap (λ (r : Replay S). r.state) e;
+      marks_left = h.marks_left ∙ ap (λ (r : Replay S). r.marks) e;
+    }
+
+itself : Copied copied copied (λ (c : Copies). c)
+itself = record { answers = λ w ask. refl; stores = λ w v. refl }
+
+-- a run by copies is that of the lane in the other environment
+pub ran_same : {E F S B : Type 0} (m : Meaning E S B) (env : E) (n : Meaning F S B) (env' : F) (before : S) (start : ℕ) (copies : Copies) (bound : ℕ) (report : Report S) → RanBy m env before start copies bound report → SameLane m env n env' → RanBy n env' before start copies bound report
+ran_same {E} {F} {S} m env n env' before start copies bound report h same = record {
+  same_start = h.same_start;
+  same_lane = h.same_lane;
+  same_length = h.same_length ∙ length_same m env n env' copied copied (λ (c : Copies). c) same itself before start copies bound;
+  same_log = h.same_log ∙ ap (λ (r : Alone S Copies). r.talk) (alone_same m env n env' copied copied (λ (c : Copies). c) same itself before start copies report.length);
+  replays = true_same m env n env' same report h.replays;
+}

@@ -1,0 +1,103 @@
+//! The jobs of the six lanes, made once.
+
+ghost use Rattle.std.specs.Prelude.{◌≡◌, ◌≤◌, true, IfOk};
+ghost use Rattle.window_merge.specs.Kinds.{is_run_of};
+ghost use Rattle.window_merge.specs.Jobs.{HasLanesFrom, IsWhole};
+
+use crate::copies::Copies;
+use crate::lane_job::{Crew, LaneJob};
+use crate::lane_run::{LaneRun, LaneSet};
+use dma_engine::Dma;
+use lane_look::{Log, Marks, NoDevice, Report};
+use m0_core::Core;
+use outer_lane::Outer;
+use pio_block::PioBlock;
+use std::alloc::{AllocError, Global};
+
+/// A report of no cycle, with room for a log.
+fn report_of<S: Drop>(alloc: Global, before: S, after: S) -> Result<Report<S>, AllocError> {
+    Ok(Report {
+        start: 0,
+        length: 0,
+        before,
+        after,
+        log: Log::new(alloc)?,
+        marks: Marks::new(),
+    })
+}
+
+/// Room for a report of a lane.
+fn room_of(alloc: Global, lane: u8) -> Result<LaneRun, AllocError>
+    requires { lane ≤ 5 }
+    ensures { IfOk result (λ run. is_run_of lane run ≡ true) }
+{
+    if lane <= 1 {
+        let report = report_of(alloc, Core::new(lane), Core::new(lane))?;
+        Ok(LaneRun::Core(report))
+    } else if lane == 2 {
+        let report = report_of(alloc, Dma::new(), Dma::new())?;
+        Ok(LaneRun::Dma(report))
+    } else if lane <= 4 {
+        let report = report_of(alloc, PioBlock::new(), PioBlock::new())?;
+        Ok(LaneRun::Pio(report))
+    } else {
+        let report = report_of(alloc, Outer::new(&NoDevice), Outer::new(&NoDevice))?;
+        Ok(LaneRun::Outer(report))
+    }
+}
+
+/// A job for a lane, which holds nothing yet.
+fn job_of(alloc: Global, lane: u8) -> Result<LaneJob, AllocError>
+    requires { lane ≤ 5 }
+    ensures { IfOk result (λ job. job.lane ≡ lane) }
+{
+    let room = room_of(alloc, lane)?;
+    let copies = Copies::new(alloc)?;
+    Ok(LaneJob {
+        lane,
+        start: 0,
+        limit: 0,
+        set: LaneSet {
+            copies,
+            room: Some(room),
+        },
+    })
+}
+
+/// A job for each lane.
+fn six_jobs(alloc: Global) -> Result<[Option<LaneJob>; 6], AllocError>
+    ensures { IfOk result (λ jobs. HasLanesFrom 0 jobs) }
+{
+    let core0 = job_of(alloc, 0)?;
+    let core1 = job_of(alloc, 1)?;
+    let dma = job_of(alloc, 2)?;
+    let pio0 = job_of(alloc, 3)?;
+    let pio1 = job_of(alloc, 4)?;
+    let outer = job_of(alloc, 5)?;
+    Ok([
+        Some(core0),
+        Some(core1),
+        Some(dma),
+        Some(pio0),
+        Some(pio1),
+        Some(outer),
+    ])
+}
+
+impl Crew {
+    ghost use Rattle.std.specs.Prelude.{IfOk};
+    ghost use Rattle.window_merge.specs.Jobs.{IsWhole};
+
+    /// Both jobs of each lane, which hold nothing yet. Nothing that uses them takes memory.
+    ///
+    /// # Errors
+    ///
+    /// Want of memory.
+    pub fn new(alloc: Global) -> Result<Crew, AllocError>
+        ensures { IfOk result IsWhole }
+    {
+        let jobs = six_jobs(alloc)?;
+        let spare = six_jobs(alloc)?;
+        Ok(Crew { jobs, spare })
+    }
+}

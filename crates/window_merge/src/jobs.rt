@@ -1,0 +1,273 @@
+//! A lane's job: what it is given from a machine, its run alone, and the set that comes back.
+
+ghost use Rattle.std.specs.Prelude.{◌≡◌, ℕ, ◌+◌, ◌^◌, ◌<◌, ◌≤◌, ◌==◌, ◌&&◌, ◌∷◌, [], true, length, if◌then◌else◌, Some};
+ghost use Rattle.lane_look.specs.Replay.{meaning};
+ghost use Rattle.outer_lane.specs.Setting.{setting_of};
+ghost use Rattle.rp_machine.specs.State.{State};
+ghost use Rattle.window_merge.specs.Around.{copies_of};
+ghost use Rattle.window_merge.specs.Kinds.{is_run_of, has_room_for};
+ghost use Rattle.window_merge.specs.Lanes.{core_lane, dma_lane, pio_lane, peripheral_lane};
+ghost use Rattle.window_merge.specs.Jobs.{core_of, block_of, core_bound, BeginsIn, HasLane, HasWords, HasWordsIn, IsJobOf, IsJobFor, IsTrueRun, IsTrueIn, IsAlone, RanBy, Ran, longest_by, start_of};
+
+use crate::copies::Copies;
+use crate::lane_job::{LaneJob, LaneReport};
+use crate::lane_run::{LaneRun, LaneSet};
+use dma_engine::Dma;
+use lane_look::{Device, Lane, Report, run_alone};
+use m0_core::Core;
+use outer_lane::{Outer, World};
+use pio_block::PioBlock;
+use rp_machine::Machine;
+
+/// Takes the lane's state into the `before` of a report.
+fn take_lane(machine: &Machine, lane: u8, run: &mut LaneRun)
+    requires { is_run_of lane run.old ≡ true }
+    ensures kind { is_run_of lane run.new ≡ true }
+    ensures state { BeginsIn lane machine.now run.new }
+    ensures words { (count : ℕ) → length machine.now.outer.device ≡ count → HasWords count run.new }
+{
+    match run {
+        LaneRun::Core(report) => {
+            let core = if lane == 0 {
+                &machine.core0
+            } else {
+                &machine.core1
+            };
+            Lane::<()>::copy_from(&mut report.before, core);
+        }
+        LaneRun::Dma(report) => Lane::<()>::copy_from(&mut report.before, &machine.dma),
+        LaneRun::Pio(report) => {
+            let block = if lane == 3 {
+                &machine.pio0
+            } else {
+                &machine.pio1
+            };
+            Lane::<()>::copy_from(&mut report.before, block);
+        }
+        LaneRun::Outer(report) => report.before.copy_from(&machine.outer),
+    }
+}
+
+/// Gives a job's lane its state, its first cycle and all that it can ask, from a machine. The job's lane and limit stay.
+pub fn job(machine: &Machine, job: &mut LaneJob)
+    ensures lane { job.new.lane ≡ job.old.lane }
+    ensures limit { job.new.limit ≡ job.old.limit }
+    ensures state { IsJobOf machine.now job.new }
+    ensures words { (count : ℕ) → length machine.now.outer.device ≡ count
+        → HasWordsIn count job.new.set.room }
+{
+    job.start = machine.number();
+    job.set.copies.take(machine, job.lane);
+    if let Some(run) = &mut job.set.room {
+        take_lane(machine, job.lane, run);
+    }
+}
+
+/// Runs a lane alone by copies, in the room of a report that has its state.
+fn run_lane<E, S: Lane<E>>(
+    room: Report<S>,
+    env: &E,
+    start: u64,
+    copies: Copies,
+    at_most: u16,
+) -> (Report<S>, Copies)
+    requires cycles { at_most ≤ 256 }
+    requires number { start + at_most < 2 ^ 64 }
+    ensures { RanBy (meaning S.asks S.wanted S.next S.marked) env.now room.before start copies
+        at_most result.0 }
+{
+    let mut room = room;
+    room.start = start;
+    run_alone(room, env, copies, at_most)
+}
+
+/// Runs a core alone: for no cycle where it is core 1 and has a word of its launcher to take.
+fn run_core(
+    room: Report<Core>,
+    lane: u8,
+    start: u64,
+    copies: Copies,
+    at_most: u16,
+) -> (Report<Core>, Copies)
+    requires cycles { at_most ≤ 256 }
+    requires number { start + at_most < 2 ^ 64 }
+    ensures { RanBy core_lane tt room.before start copies (core_bound lane room.before at_most)
+        result.0 }
+{
+    if lane == 1 && room.before.is_asleep() && room.before.has_offer() {
+        run_lane(room, &(), start, copies, 0)
+    } else {
+        run_lane(room, &(), start, copies, at_most)
+    }
+}
+
+/// Runs the DMA engine alone.
+fn run_dma(room: Report<Dma>, start: u64, copies: Copies, at_most: u16) -> (Report<Dma>, Copies)
+    requires cycles { at_most ≤ 256 }
+    requires number { start + at_most < 2 ^ 64 }
+    ensures { RanBy dma_lane tt room.before start copies at_most result.0 }
+{
+    run_lane(room, &(), start, copies, at_most)
+}
+
+/// Runs a PIO block alone.
+fn run_pio(
+    room: Report<PioBlock>,
+    start: u64,
+    copies: Copies,
+    at_most: u16,
+) -> (Report<PioBlock>, Copies)
+    requires cycles { at_most ≤ 256 }
+    requires number { start + at_most < 2 ^ 64 }
+    ensures { RanBy pio_lane tt room.before start copies at_most result.0 }
+{
+    run_lane(room, &(), start, copies, at_most)
+}
+
+/// Runs the peripherals alone.
+fn run_outer<X: Device>(
+    room: Report<Outer>,
+    world: &World<'_, X>,
+    start: u64,
+    copies: Copies,
+    at_most: u16,
+) -> (Report<Outer>, Copies)
+    requires cycles { at_most ≤ 256 }
+    requires number { start + at_most < 2 ^ 64 }
+    ensures { RanBy (peripheral_lane
+        (setting_of world.now.script.now (X.meaning world.now.device.now) world.now.limit))
+        tt room.before start copies at_most result.0 }
+{
+    run_lane(room, world, start, copies, at_most)
+}
+
+/// Runs the lane alone whose state is in the room.
+fn run_room<X: Device>(
+    room: LaneRun,
+    lane: u8,
+    world: &World<'_, X>,
+    start: u64,
+    copies: Copies,
+    at_most: u16,
+) -> (LaneRun, Copies)
+    requires kind { is_run_of lane room ≡ true }
+    requires cycles { at_most ≤ 256 }
+    requires number { start + at_most < 2 ^ 64 }
+    ensures kind { is_run_of lane result.0 ≡ true }
+    ensures run { Ran
+        (setting_of world.now.script.now (X.meaning world.now.device.now) world.now.limit)
+        lane start copies at_most room result.0 }
+{
+    match room {
+        LaneRun::Core(room) => {
+            let (report, copies) = run_core(room, lane, start, copies, at_most);
+            (LaneRun::Core(report), copies)
+        }
+        LaneRun::Dma(room) => {
+            let (report, copies) = run_dma(room, start, copies, at_most);
+            (LaneRun::Dma(report), copies)
+        }
+        LaneRun::Pio(room) => {
+            let (report, copies) = run_pio(room, start, copies, at_most);
+            (LaneRun::Pio(report), copies)
+        }
+        LaneRun::Outer(room) => {
+            let (report, copies) = run_outer(room, world, start, copies, at_most);
+            (LaneRun::Outer(report), copies)
+        }
+    }
+}
+
+/// How many cycles a run alone has at most: 256, and none at the limit or above.
+fn longest_by(limit: u64, start: u64) -> u16
+    ensures value { result ≡ longest_by limit start }
+    ensures number { start + result < 2 ^ 64 }
+    ensures few { result ≤ 256 }
+{
+    let cycles = limit.saturating_sub(start);
+    if cycles <= 256 { cycles as u16 } else { 256 }
+}
+
+/// Runs a lane alone, also where the peripherals have another number of words than the device.
+pub(crate) fn run_by<X: Device>(job: LaneJob, world: &World<'_, X>) -> LaneReport
+    requires { job.limit ≡ world.now.limit }
+    ensures lane { result.lane ≡ job.lane }
+    ensures limit { result.limit ≡ job.limit }
+    ensures replays { IsTrueRun
+        (setting_of world.now.script.now (X.meaning world.now.device.now) world.now.limit) result.run }
+    ensures words { (count : ℕ) → HasWordsIn count job.set.room → HasWords count result.run }
+    ensures alone { (s : State) → IsJobOf s job → IsAlone
+        (setting_of world.now.script.now (X.meaning world.now.device.now) world.now.limit) s result }
+{
+    let LaneJob {
+        lane,
+        start,
+        limit,
+        set,
+    } = job;
+    let LaneSet { copies, room } = set;
+    let Some(room) = room else { unreachable!() };
+    let at_most = longest_by(limit, start);
+    let (run, copies) = run_room(room, lane, world, start, copies, at_most);
+    LaneReport {
+        lane,
+        limit,
+        run,
+        set: LaneSet { copies, room: None },
+    }
+}
+
+/// Runs a lane alone: from the state and by the answers that its job holds, up to the limit and for at most 256 cycles.
+pub fn run_job<X: Device>(job: LaneJob, world: &World<'_, X>) -> LaneReport
+    requires { IsJobFor
+        (setting_of world.now.script.now (X.meaning world.now.device.now) world.now.limit) job }
+    ensures lane { result.lane ≡ job.lane }
+    ensures holds { IsTrueIn
+        (setting_of world.now.script.now (X.meaning world.now.device.now) world.now.limit) result }
+    ensures alone { (s : State) → IsJobOf s job → IsAlone
+        (setting_of world.now.script.now (X.meaning world.now.device.now) world.now.limit) s result }
+{
+    run_by(job, world)
+}
+
+/// The number of a report's first cycle.
+fn start_of(run: &LaneRun) -> u64
+    ensures { result ≡ start_of run.now }
+{
+    match run {
+        LaneRun::Core(report) => report.start,
+        LaneRun::Dma(report) => report.start,
+        LaneRun::Pio(report) => report.start,
+        LaneRun::Outer(report) => report.start,
+    }
+}
+
+/// Gives a report's set back for the lane's next job, with the report's lane, start and limit.
+pub fn back(report: LaneReport) -> LaneJob
+    ensures lane { result.lane ≡ report.lane }
+    ensures limit { result.limit ≡ report.limit }
+    ensures start { result.start ≡ start_of report.run }
+    ensures room { result.set.room ≡ Some report.run }
+    ensures copies { result.set.copies ≡ report.set.copies }
+{
+    let LaneReport {
+        lane,
+        limit,
+        run,
+        set,
+    } = report;
+    let LaneSet {
+        copies,
+        room: _room,
+    } = set;
+    let start = start_of(&run);
+    LaneJob {
+        lane,
+        start,
+        limit,
+        set: LaneSet {
+            copies,
+            room: Some(run),
+        },
+    }
+}

@@ -1,0 +1,43 @@
+//! The jobs of the six lanes, and what comes of them.
+
+ghost use Rattle.std.specs.Prelude.{◌≡◌, true};
+ghost use Rattle.window_merge.specs.Kinds.{is_run_of, has_room_for};
+
+use crate::lane_run::{LaneRun, LaneSet};
+
+/// What a lane is to do alone. Its type keeps that the lane is at most 5 and that the set has room for a report of that lane.
+#[derive(Drop)]
+pub struct LaneJob {
+    /// The number of the lane.
+    pub lane: u8,
+    /// The number of its first cycle.
+    pub start: u64,
+    /// The cycle at which the machine stops.
+    pub limit: u64,
+    /// What the lane needs.
+    pub set: LaneSet,
+    pub ghost fits: { has_room_for lane set.room ≡ true },
+}
+
+/// What a lane did alone. Its type keeps that the lane is at most 5 and that the run is of that lane's kind.
+#[derive(Drop)]
+pub struct LaneReport {
+    /// The number of the lane.
+    pub lane: u8,
+    /// The cycle at which the machine stops.
+    pub limit: u64,
+    /// The report.
+    pub run: LaneRun,
+    /// What is left of the set: its room is in `run`.
+    pub set: LaneSet,
+    pub ghost fits: { is_run_of lane run ≡ true },
+}
+
+/// Two jobs for each lane, in the order of the lanes. None stands for a job that is somewhere else.
+#[derive(Drop)]
+pub struct Crew {
+    /// The first ones.
+    pub jobs: [Option<LaneJob>; 6],
+    /// The second ones.
+    pub spare: [Option<LaneJob>; 6],
+}
