@@ -1,39 +1,22 @@
 -- What a session says to a line, as a talk says it.
-use Rattle.std.proofs.Common.{◌≡◌, ℕ, ◌+◌, ◌-◌, ◌≤◌, nat_lt, Bool, true, false, not, cond, if◌then◌else◌, List, Option, refl, sym, ap, subst, arith, ◌∙◌}
+use Rattle.std.proofs.Common.{◌≡◌, ℕ, ◌+◌, ◌-◌, ◌≤◌, nat_lt, Bool, false, not, if◌then◌else◌, List, refl, sym, ap, subst, arith, ◌∙◌}
 use Rattle.std.proofs.lemmas.Bool.Decides.{nat_tests}
 use Rattle.outer_lane.specs.Setting.{Setting}
 use Rattle.rp_machine.specs.State.{State}
 use Rattle.snap_ring.specs.Snapshots.{spacing_of}
-use Rattle.reverse_debug.specs.Commands.{Command, command_of}
+use Rattle.reverse_debug.specs.Commands.{Command, is_quit, command_of}
 use Rattle.reverse_debug.specs.Commands.Command.{Step, Back, Goto, End, Regs, Mem, Pins, Pio, LastWrite, Quit, Bad}
-use Rattle.reverse_debug.specs.Replies.{Said, said, last_cycle, moved_to, moved_back, move_cost, command_cost, answer, heard, cost}
+use Rattle.reverse_debug.specs.Replies.{move_cost, command_cost, answer, heard, cost}
 use Rattle.reverse_debug.specs.Standing.{Standing, first_of, StandsFor}
+use Rattle.reverse_debug.proofs.Moves.{quits_exactly}
 use Rattle.line_talk.specs.Talk.{spent_on}
-use Rattle.line_talk.specs.Debugger.{is_quit, quits, talk_of}
+use Rattle.line_talk.specs.Debugger.{quits, talk_of}
 
 -- ---- the line that ends a session
 
-quits_moved : (b : Bool) (x y : Said) → x.quits ≡ false → y.quits ≡ false → (cond b x y).quits ≡ false
-quits_moved true x y h k = h
-quits_moved false x y h k = k
-
-order_quits : (w : Setting) (f : State) (cycle : ℕ) (q : Command) → (answer w f cycle q).quits ≡ is_quit q
-unfolding moved_to moved_back
-order_quits w f cycle (Step n) = quits_moved (nat_lt (last_cycle w f) (cycle + n)) _ _ refl refl
-order_quits w f cycle (Back n) = quits_moved (nat_lt cycle n) _ _ refl refl
-order_quits w f cycle (Goto target) = quits_moved (nat_lt (last_cycle w f) target) _ _ refl refl
-order_quits w f cycle End = refl
-order_quits w f cycle Regs = refl
-order_quits w f cycle (Mem address count) = refl
-order_quits w f cycle Pins = refl
-order_quits w f cycle (Pio block machine) = refl
-order_quits w f cycle (LastWrite address) = refl
-order_quits w f cycle Quit = refl
-order_quits w f cycle Bad = refl
-
 pub line_quits : (w : Setting) (f : State) (cycle : ℕ) (line : List ℕ) → (heard w f cycle line).quits ≡ quits line
 unfolding heard
-line_quits w f cycle line = order_quits w f cycle (command_of line)
+line_quits w f cycle line = quits_exactly w f cycle (command_of line)
 
 -- it takes no step
 no_move : (d c : ℕ) → move_cost d c c ≡ 0

@@ -1,18 +1,14 @@
 -- The debugger as a talk about lines: it stands at a cycle. The project's own.
-use Rattle.std.specs.Prelude.{ℕ, Bool, true, false, List}
+use Rattle.std.specs.Prelude.{ℕ, Bool, List}
 use Rattle.outer_lane.specs.Setting.{Setting}
 use Rattle.rp_machine.specs.State.{State}
 use Rattle.snap_ring.specs.Snapshots.{spacing_of}
-use Rattle.reverse_debug.specs.Commands.{Command, command_of}
-use Rattle.reverse_debug.specs.Commands.Command.{Quit}
+use Rattle.reverse_debug.specs.Commands.{is_quit, command_of}
 use Rattle.reverse_debug.specs.Replies.{heard, cost}
+use Rattle.reverse_debug.specs.Standing.{Standing, first_of}
 use Rattle.line_talk.specs.Talk.{Talk}
 
 -- the line that ends a session
-abbrev pub is_quit : Command → Bool
-is_quit Quit = true
-is_quit _ = false
-
 abbrev pub quits : List ℕ → Bool
 quits line = is_quit (command_of line)
 
@@ -24,3 +20,7 @@ talk_of w first = record {
   cost = λ cycle line. cost w first (spacing_of w.limit) cycle line;
   last = quits;
 }
+
+-- what is said to a session, over the run of its first state
+abbrev pub talk_with : Setting → Standing → Talk
+talk_with w session = talk_of w (first_of session)

@@ -6,7 +6,7 @@ ghost use Rattle.arrayvec.specs.ArrayVec.{array_vec_len};
 ghost use Rattle.trace_text.specs.Sent.{Sends};
 ghost use Rattle.outer_lane.specs.Setting.{setting_of};
 ghost use Rattle.reverse_debug.specs.Standing.{first_of, StandsFor};
-ghost use Rattle.line_talk.specs.Debugger.{talk_of};
+ghost use Rattle.line_talk.specs.Debugger.{talk_with};
 ghost use Rattle.line_talk.specs.Lines.{all_lines};
 ghost use Rattle.line_talk.specs.Talk.{Talk, said_to, spent_on, Hears};
 ghost use Rattle.line_talk.specs.Going.{Along, Feeds, Finishes, Taking, Turns};
@@ -51,7 +51,6 @@ fn without_return(line: &[u8]) -> &[u8]
 }
 
 /// Keeps a byte of an open line, where there is room for it.
-
 fn keep(byte: u8, open: &mut ArrayVec<u8, LINE>)
     ensures { open.new.items ≡ take LINE (open.old.items ++ byte ∷ []) }
 {
@@ -68,14 +67,30 @@ fn say<X: Device, L: Ledger>(
     reply: &mut ArrayVec<u8, REPLY>,
     steps: &mut Steps<L>,
 ) -> bool
-    requires stood { StandsFor (setting_of world.now.script.now (X.meaning world.now.device.now) world.now.limit) session.old }
-    ensures stands { StandsFor (setting_of world.now.script.now (X.meaning world.now.device.now) world.now.limit) session.new }
+    requires stood { StandsFor
+        (setting_of world.now.script.now (X.meaning world.now.device.now) world.now.limit)
+        session.old }
+    ensures stands { StandsFor
+        (setting_of world.now.script.now (X.meaning world.now.device.now) world.now.limit)
+        session.new }
     ensures first { first_of session.new ≡ first_of session.old }
-    ensures more { result ≡ not ((talk_of (setting_of world.now.script.now (X.meaning world.now.device.now) world.now.limit) (first_of session.old)).last line.now) }
-    ensures reply { result ≡ true → reply.new.items ≡ (talk_of (setting_of world.now.script.now (X.meaning world.now.device.now) world.now.limit) (first_of session.old)).reply session.old.now.cycle line.now }
-    ensures place { result ≡ true → session.new.now.cycle ≡ (talk_of (setting_of world.now.script.now (X.meaning world.now.device.now) world.now.limit) (first_of session.old)).next session.old.now.cycle line.now }
+    ensures more { let t = talk_with
+        (setting_of world.now.script.now (X.meaning world.now.device.now) world.now.limit)
+        session.old in
+        result ≡ not (t.last line.now) }
+    ensures reply { let t = talk_with
+        (setting_of world.now.script.now (X.meaning world.now.device.now) world.now.limit)
+        session.old in
+        result ≡ true → reply.new.items ≡ t.reply session.old.now.cycle line.now }
+    ensures place { let t = talk_with
+        (setting_of world.now.script.now (X.meaning world.now.device.now) world.now.limit)
+        session.old in
+        result ≡ true → session.new.now.cycle ≡ t.next session.old.now.cycle line.now }
     ensures forward { steps.old ≤ steps.new }
-    ensures within { steps.new ≤ steps.old + spent_on (talk_of (setting_of world.now.script.now (X.meaning world.now.device.now) world.now.limit) (first_of session.old)) session.old.now.cycle line.now }
+    ensures within { let t = talk_with
+        (setting_of world.now.script.now (X.meaning world.now.device.now) world.now.limit)
+        session.old in
+        steps.new ≤ steps.old + spent_on t session.old.now.cycle line.now }
 {
     session.command(world, line, reply, steps)
 }
@@ -88,17 +103,38 @@ fn answer<X: Device, O: Sink, L: Ledger>(
     writer: &mut Writer<'_, O>,
     steps: &mut Steps<L>,
 ) -> Result<bool, SinkFault>
-    requires stood { StandsFor (setting_of world.now.script.now (X.meaning world.now.device.now) world.now.limit) session.old }
-    ensures stands { StandsFor (setting_of world.now.script.now (X.meaning world.now.device.now) world.now.limit) session.new }
+    requires stood { StandsFor
+        (setting_of world.now.script.now (X.meaning world.now.device.now) world.now.limit)
+        session.old }
+    ensures stands { StandsFor
+        (setting_of world.now.script.now (X.meaning world.now.device.now) world.now.limit)
+        session.new }
     ensures first { first_of session.new ≡ first_of session.old }
     ensures same_sink { writer.new.out.ghost_name ≡ writer.old.out.ghost_name }
-    ensures more { IfOk result (λ more. more ≡ not ((talk_of (setting_of world.now.script.now (X.meaning world.now.device.now) world.now.limit) (first_of session.old)).last line.now)) }
-    ensures other { OnErr result ((talk_of (setting_of world.now.script.now (X.meaning world.now.device.now) world.now.limit) (first_of session.old)).last line.now ≡ false) }
-    ensures sends { Sends (O.written writer.old.out.now) (O.written writer.new.out.now) (O.faults writer.old.out.now)
-        (O.faults writer.new.out.now) (said_to (talk_of (setting_of world.now.script.now (X.meaning world.now.device.now) world.now.limit) (first_of session.old)) session.old.now.cycle line.now) result }
-    ensures place { IfOk result (λ more. more ≡ true → session.new.now.cycle ≡ (talk_of (setting_of world.now.script.now (X.meaning world.now.device.now) world.now.limit) (first_of session.old)).next session.old.now.cycle line.now) }
+    ensures more { let t = talk_with
+        (setting_of world.now.script.now (X.meaning world.now.device.now) world.now.limit)
+        session.old in
+        IfOk result (λ more. more ≡ not (t.last line.now)) }
+    ensures other { let t = talk_with
+        (setting_of world.now.script.now (X.meaning world.now.device.now) world.now.limit)
+        session.old in
+        OnErr result (t.last line.now ≡ false) }
+    ensures sends { let t = talk_with
+        (setting_of world.now.script.now (X.meaning world.now.device.now) world.now.limit)
+        session.old in
+        Sends (O.written writer.old.out.now) (O.written writer.new.out.now)
+        (O.faults writer.old.out.now) (O.faults writer.new.out.now)
+        (said_to t session.old.now.cycle line.now) result }
+    ensures place { let t = talk_with
+        (setting_of world.now.script.now (X.meaning world.now.device.now) world.now.limit)
+        session.old in
+        IfOk result (λ more. more ≡ true
+        → session.new.now.cycle ≡ t.next session.old.now.cycle line.now) }
     ensures forward { steps.old ≤ steps.new }
-    ensures within { steps.new ≤ steps.old + spent_on (talk_of (setting_of world.now.script.now (X.meaning world.now.device.now) world.now.limit) (first_of session.old)) session.old.now.cycle line.now }
+    ensures within { let t = talk_with
+        (setting_of world.now.script.now (X.meaning world.now.device.now) world.now.limit)
+        session.old in
+        steps.new ≤ steps.old + spent_on t session.old.now.cycle line.now }
 {
     let mut reply = ArrayVec::<u8, REPLY>::new();
     if !say(session, world, line, &mut reply, steps) {
@@ -119,14 +155,21 @@ fn hear_byte<X: Device, O: Sink, L: Ledger>(
     writer: &mut Writer<'_, O>,
     steps: &mut Steps<L>,
 ) -> Result<bool, SinkFault>
-    requires stood { StandsFor (setting_of world.now.script.now (X.meaning world.now.device.now) world.now.limit) session.old }
-    ensures stands { StandsFor (setting_of world.now.script.now (X.meaning world.now.device.now) world.now.limit) session.new }
+    requires stood { StandsFor
+        (setting_of world.now.script.now (X.meaning world.now.device.now) world.now.limit)
+        session.old }
+    ensures stands { StandsFor
+        (setting_of world.now.script.now (X.meaning world.now.device.now) world.now.limit)
+        session.new }
     ensures first { first_of session.new ≡ first_of session.old }
     ensures same_sink { writer.new.out.ghost_name ≡ writer.old.out.ghost_name }
-    ensures feeds { (place : ℕ) (seen : List ℕ) (old : Option (List ℕ)) (before base : ℕ)
-        → Along (talk_of (setting_of world.now.script.now (X.meaning world.now.device.now) world.now.limit) (first_of session.old)) place seen old (O.written writer.old.out.now) before (O.faults writer.old.out.now) base
-        steps.old session.old.now.cycle open.old.items
-        → Feeds (talk_of (setting_of world.now.script.now (X.meaning world.now.device.now) world.now.limit) (first_of session.old)) place (seen ++ byte ∷ []) old (O.written writer.new.out.now) before
+    ensures feeds { let t = talk_with
+        (setting_of world.now.script.now (X.meaning world.now.device.now) world.now.limit)
+        session.old in
+        (place : ℕ) (seen : List ℕ) (old : Option (List ℕ)) (before base : ℕ)
+        → Along t place seen old (O.written writer.old.out.now) before
+        (O.faults writer.old.out.now) base steps.old session.old.now.cycle open.old.items
+        → Feeds t place (seen ++ byte ∷ []) old (O.written writer.new.out.now) before
         (O.faults writer.new.out.now) base steps.new session.new.now.cycle open.new.items result }
 {
     if byte != b'\n' {
@@ -147,14 +190,21 @@ fn hear_bytes<X: Device, O: Sink, L: Ledger>(
     writer: &mut Writer<'_, O>,
     steps: &mut Steps<L>,
 ) -> Result<bool, SinkFault>
-    requires stood { StandsFor (setting_of world.now.script.now (X.meaning world.now.device.now) world.now.limit) session.old }
-    ensures stands { StandsFor (setting_of world.now.script.now (X.meaning world.now.device.now) world.now.limit) session.new }
+    requires stood { StandsFor
+        (setting_of world.now.script.now (X.meaning world.now.device.now) world.now.limit)
+        session.old }
+    ensures stands { StandsFor
+        (setting_of world.now.script.now (X.meaning world.now.device.now) world.now.limit)
+        session.new }
     ensures first { first_of session.new ≡ first_of session.old }
     ensures same_sink { writer.new.out.ghost_name ≡ writer.old.out.ghost_name }
-    ensures feeds { (place : ℕ) (seen : List ℕ) (old : Option (List ℕ)) (before base : ℕ)
-        → Along (talk_of (setting_of world.now.script.now (X.meaning world.now.device.now) world.now.limit) (first_of session.old)) place seen old (O.written writer.old.out.now) before (O.faults writer.old.out.now) base
-        steps.old session.old.now.cycle open.old.items
-        → Feeds (talk_of (setting_of world.now.script.now (X.meaning world.now.device.now) world.now.limit) (first_of session.old)) place (seen ++ bytes.now) old (O.written writer.new.out.now) before
+    ensures feeds { let t = talk_with
+        (setting_of world.now.script.now (X.meaning world.now.device.now) world.now.limit)
+        session.old in
+        (place : ℕ) (seen : List ℕ) (old : Option (List ℕ)) (before base : ℕ)
+        → Along t place seen old (O.written writer.old.out.now) before
+        (O.faults writer.old.out.now) base steps.old session.old.now.cycle open.old.items
+        → Feeds t place (seen ++ bytes.now) old (O.written writer.new.out.now) before
         (O.faults writer.new.out.now) base steps.new session.new.now.cycle open.new.items result }
 {
     for byte in bytes {
@@ -175,14 +225,21 @@ fn hear_end<X: Device, O: Sink, L: Ledger>(
     writer: &mut Writer<'_, O>,
     steps: &mut Steps<L>,
 ) -> Result<(), SinkFault>
-    requires stood { StandsFor (setting_of world.now.script.now (X.meaning world.now.device.now) world.now.limit) session.old }
-    ensures stands { StandsFor (setting_of world.now.script.now (X.meaning world.now.device.now) world.now.limit) session.new }
+    requires stood { StandsFor
+        (setting_of world.now.script.now (X.meaning world.now.device.now) world.now.limit)
+        session.old }
+    ensures stands { StandsFor
+        (setting_of world.now.script.now (X.meaning world.now.device.now) world.now.limit)
+        session.new }
     ensures first { first_of session.new ≡ first_of session.old }
     ensures same_sink { writer.new.out.ghost_name ≡ writer.old.out.ghost_name }
-    ensures ends { (place : ℕ) (seen : List ℕ) (old : Option (List ℕ)) (before base : ℕ)
-        → Along (talk_of (setting_of world.now.script.now (X.meaning world.now.device.now) world.now.limit) (first_of session.old)) place seen old (O.written writer.old.out.now) before (O.faults writer.old.out.now) base
-        steps.old session.old.now.cycle open.now
-        → Finishes (talk_of (setting_of world.now.script.now (X.meaning world.now.device.now) world.now.limit) (first_of session.old)) place (all_lines seen) old (O.written writer.new.out.now) before
+    ensures ends { let t = talk_with
+        (setting_of world.now.script.now (X.meaning world.now.device.now) world.now.limit)
+        session.old in
+        (place : ℕ) (seen : List ℕ) (old : Option (List ℕ)) (before base : ℕ)
+        → Along t place seen old (O.written writer.old.out.now) before
+        (O.faults writer.old.out.now) base steps.old session.old.now.cycle open.now
+        → Finishes t place (all_lines seen) old (O.written writer.new.out.now) before
         (O.faults writer.new.out.now) base steps.new result }
 {
     if open.is_empty() {
@@ -204,19 +261,27 @@ fn take_piece<X: Device, I: Source, O: Sink, L: Ledger>(
     writer: &mut Writer<'_, O>,
     steps: &mut Steps<L>,
 ) -> Result<Turn, SinkFault>
-    requires stood { StandsFor (setting_of world.now.script.now (X.meaning world.now.device.now) world.now.limit) session.old }
+    requires stood { StandsFor
+        (setting_of world.now.script.now (X.meaning world.now.device.now) world.now.limit)
+        session.old }
     requires room { 0 < length piece.old }
-    ensures stands { StandsFor (setting_of world.now.script.now (X.meaning world.now.device.now) world.now.limit) session.new }
+    ensures stands { StandsFor
+        (setting_of world.now.script.now (X.meaning world.now.device.now) world.now.limit)
+        session.new }
     ensures first { first_of session.new ≡ first_of session.old }
     ensures same_sink { writer.new.out.ghost_name ≡ writer.old.out.ghost_name }
-    ensures turns { (place limit count : ℕ) (left : Option (List ℕ)) (lost : ℕ) (old : Option (List ℕ)) (before base : ℕ)
+    ensures turns { let t = talk_with
+        (setting_of world.now.script.now (X.meaning world.now.device.now) world.now.limit)
+        session.old in
+        (place limit count : ℕ) (left : Option (List ℕ)) (lost : ℕ) (old : Option (List ℕ))
+        (before base : ℕ)
         → count + length piece.old ≤ limit
-        → Taking (talk_of (setting_of world.now.script.now (X.meaning world.now.device.now) world.now.limit) (first_of session.old)) place limit left (I.left input.old) lost (I.faults input.old) old
-        (O.written writer.old.out.now) before (O.faults writer.old.out.now) base steps.old session.old.now.cycle
-        open.old.items count
-        → Turns (talk_of (setting_of world.now.script.now (X.meaning world.now.device.now) world.now.limit) (first_of session.old)) place limit left (I.left input.new) lost (I.faults input.new) old
-        (O.written writer.new.out.now) before (O.faults writer.new.out.now) base steps.new session.new.now.cycle
-        open.new.items count result }
+        → Taking t place limit left (I.left input.old) lost (I.faults input.old) old
+        (O.written writer.old.out.now) before (O.faults writer.old.out.now) base
+        steps.old session.old.now.cycle open.old.items count
+        → Turns t place limit left (I.left input.new) lost (I.faults input.new) old
+        (O.written writer.new.out.now) before (O.faults writer.new.out.now) base
+        steps.new session.new.now.cycle open.new.items count result }
 {
     match input.take(piece) {
         Taken::Took(count) => match hear_bytes(
@@ -240,7 +305,8 @@ fn take_piece<X: Device, I: Source, O: Sink, L: Ledger>(
 }
 
 /// Takes lines from a source, at most so many bytes, and puts the reply to each before it takes more; ends at a last line, at
-/// the end of the input, at a take that fails, or at the limit.
+/// the end of the input, at a take that fails, or at the limit. Its clauses say what was taken and what was put in all; that a
+/// reply is put before the next take is shown by tests alone.
 ///
 /// # Errors
 ///
@@ -253,9 +319,15 @@ pub fn hear<X: Device, I: Source, O: Sink, L: Ledger>(
     writer: &mut Writer<'_, O>,
     steps: &mut Steps<L>,
 ) -> Result<Way, SinkFault>
-    requires stood { StandsFor (setting_of world.now.script.now (X.meaning world.now.device.now) world.now.limit) session.old }
-    ensures hears { Hears (talk_of (setting_of world.now.script.now (X.meaning world.now.device.now) world.now.limit) (first_of session.old)) session.old.now.cycle limit (I.left input.old) (I.left input.new)
-        (I.faults input.old) (I.faults input.new) (O.written writer.old.out.now) (O.written writer.new.out.now)
+    requires stood { StandsFor
+        (setting_of world.now.script.now (X.meaning world.now.device.now) world.now.limit)
+        session.old }
+    ensures hears { let t = talk_with
+        (setting_of world.now.script.now (X.meaning world.now.device.now) world.now.limit)
+        session.old in
+        Hears t session.old.now.cycle limit (I.left input.old) (I.left input.new)
+        (I.faults input.old) (I.faults input.new)
+        (O.written writer.old.out.now) (O.written writer.new.out.now)
         (O.faults writer.old.out.now) (O.faults writer.new.out.now) steps.old steps.new result }
     ensures first { first_of session.new ≡ first_of session.old }
     ensures same_sink { writer.new.out.ghost_name ≡ writer.old.out.ghost_name }

@@ -19,9 +19,8 @@ use Rattle.rp_machine.specs.Boot.{start}
 use Rattle.command_words.specs.Entries.{Entry}
 use Rattle.command_words.specs.Words.{Run, Command}
 use Rattle.command_words.specs.Words.Command.{RunImage, DebugImage, Disassemble, Assemble}
-use Rattle.snap_ring.specs.Snapshots.{spacing_of}
-use Rattle.reverse_debug.specs.Replies.{replies, cost_all}
-use Rattle.line_talk.specs.Debugger.{quits}
+use Rattle.line_talk.specs.Talk.{text_from, cost_from}
+use Rattle.line_talk.specs.Debugger.{quits, talk_of}
 use Rattle.pico_top.specs.Loads.{Placed, placed_as, offset_of, loads_of, plans_in}
 use Rattle.pico_top.specs.RunText.{run_text, run_cycles}
 
@@ -110,7 +109,7 @@ input_limit = 1048576
 
 -- what a session that begins in this state answers to lines; the cycles that it steps are counted
 abbrev pub session_told : Setting → State → List (List ℕ) → Told
-session_told w first lines = record { text = replies w first lines; cost = AtMost (cost_all w first (spacing_of w.limit) 0 lines) }
+session_told w first lines = let t = talk_of w first in record { text = text_from t 0 lines; cost = AtMost (cost_from t 0 lines) }
 
 -- the debugger hears lines at the first state of a run
 abbrev pub hear_run : Setting → Image → List Placed → Dialogue

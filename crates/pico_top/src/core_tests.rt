@@ -1,43 +1,15 @@
 //! Programs of two cores, SIO and the registers of the bus: where they stop, and the registers of both cores.
 
 use crate::counted::run_words;
+use crate::sample_files::{image, texts};
 use rp_ports::mem_shelf::{HeldFile, MemShelf};
 use rp_ports::mem_sink::MemSink;
 use std::alloc::Global;
 use std::test::Fail;
 
-/// The file of a program that is loaded at 20000000.
-fn image(alloc: Global, code: &[u16]) -> Result<Vec<u8>, Fail> {
-    let mut bytes = Vec::new(alloc);
-    let size = u32::try_from(code.len()).unwrap_or(0).wrapping_mul(2);
-    for word in [
-        0x0a32_4655,
-        0x9e5d_5157,
-        0x2000,
-        0x2000_0000,
-        size,
-        0,
-        1,
-        0xe48b_ff56,
-    ] {
-        bytes.extend_from_slice(&u32::to_le_bytes(word))?;
-    }
-    for half in code {
-        bytes.extend_from_slice(&half.to_le_bytes())?;
-    }
-    for _ in bytes.len()..508 {
-        bytes.push(0)?;
-    }
-    bytes.extend_from_slice(&u32::to_le_bytes(0x0ab1_6f30))?;
-    Ok(bytes)
-}
-
 /// What a run of at most 100 cycles writes.
 fn run(alloc: Global, code: &[u16]) -> Result<Vec<u8>, Fail> {
-    let mut words = Vec::new(alloc);
-    for word in ["run", "a.uf2", "--cycles", "100"] {
-        words.push(String::from_str(alloc, word)?)?;
-    }
+    let words = texts(alloc, &["run", "a.uf2", "--cycles", "100"])?;
     let name = String::from_str(alloc, "a.uf2")?;
     let held = vec![in alloc;
         HeldFile {

@@ -168,6 +168,10 @@ mod core_tests;
 #[cfg(test)]
 mod counted;
 #[cfg(test)]
+mod debug_tests;
+#[cfg(test)]
 mod machine_tests;
+#[cfg(test)]
+mod sample_files;
 #[cfg(test)]
 mod tests;

@@ -1,43 +1,11 @@
 //! Programs of the whole machine: pads, scripts, UARTs, DMA and PIO, with their whole texts.
 
 use crate::counted::run_words;
-use rp_ports::mem_shelf::{HeldFile, MemShelf};
+use crate::sample_files::{held, image};
+use rp_ports::mem_shelf::MemShelf;
 use rp_ports::mem_sink::MemSink;
 use std::alloc::{AllocError, Global};
 use std::test::Fail;
-
-/// The file of a program that is loaded at 20000000.
-fn image(alloc: Global, code: &[u16]) -> Result<Vec<u8>, AllocError> {
-    let mut bytes = Vec::new(alloc);
-    let size = u32::try_from(code.len()).unwrap_or(0).wrapping_mul(2);
-    for word in [
-        0x0a32_4655,
-        0x9e5d_5157,
-        0x2000,
-        0x2000_0000,
-        size,
-        0,
-        1,
-        0xe48b_ff56,
-    ] {
-        bytes.extend_from_slice(&u32::to_le_bytes(word))?;
-    }
-    for half in code {
-        bytes.extend_from_slice(&half.to_le_bytes())?;
-    }
-    for _ in bytes.len()..508 {
-        bytes.push(0)?;
-    }
-    bytes.extend_from_slice(&u32::to_le_bytes(0x0ab1_6f30))?;
-    Ok(bytes)
-}
-
-fn held(alloc: Global, name: &str, bytes: &[u8]) -> Result<HeldFile, AllocError> {
-    Ok(HeldFile {
-        name: String::from_str(alloc, name)?,
-        bytes: Vec::from_slice(alloc, bytes)?,
-    })
-}
 
 /// Whether a run of this code with these words behind `run a.uf2` and these files gives this status and this text.
 fn gives(

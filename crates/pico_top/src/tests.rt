@@ -3,45 +3,12 @@
 ghost use Rattle.std.specs.Prelude.{Some};
 
 use crate::counted::run_words;
+use crate::sample_files::{image, texts};
 use rp_ports::mem_shelf::{HeldFile, MemShelf};
 use rp_ports::mem_sink::MemSink;
 use rp_ports::sink::{Put, Sink};
 use std::alloc::{AllocError, Global};
 use std::test::Fail;
-
-/// A UF2 block, number 0 of 1, whose payload is this code, loaded at 20000000.
-fn block(alloc: Global, code: &[u16]) -> Result<Vec<u8>, AllocError> {
-    let mut bytes = Vec::new(alloc);
-    let size = u32::try_from(code.len()).unwrap_or(0).wrapping_mul(2);
-    for word in [
-        0x0a32_4655,
-        0x9e5d_5157,
-        0x2000,
-        0x2000_0000,
-        size,
-        0,
-        1,
-        0xe48b_ff56,
-    ] {
-        bytes.extend_from_slice(&u32::to_le_bytes(word))?;
-    }
-    for half in code {
-        bytes.extend_from_slice(&half.to_le_bytes())?;
-    }
-    for _ in bytes.len()..508 {
-        bytes.push(0)?;
-    }
-    bytes.extend_from_slice(&u32::to_le_bytes(0x0ab1_6f30))?;
-    Ok(bytes)
-}
-
-fn texts(alloc: Global, words: &[&str]) -> Result<Vec<String>, AllocError> {
-    let mut owned = Vec::new(alloc);
-    for word in words {
-        owned.push(String::from_str(alloc, word)?)?;
-    }
-    Ok(owned)
-}
 
 /// A shelf that holds one file, `a.uf2`.
 fn shelf(alloc: Global, bytes: Vec<u8>, failing: Vec<u64>) -> Result<MemShelf, AllocError> {
@@ -86,15 +53,15 @@ fn joined(alloc: Global, lines: &[&[u8]]) -> Result<Vec<u8>, AllocError> {
 fn a_run_prints_its_end(rt: HostRuntime) -> Result<(), Fail> {
     let alloc = rt.alloc();
     let text = joined(alloc, &[FIRST, CORE0, b"core1 asleep\n"])?;
-    assert!(rt; gives(alloc, &TEN, block(alloc, &FIVE)?, 0, &text)?);
+    assert!(rt; gives(alloc, &TEN, image(alloc, &FIVE)?, 0, &text)?);
     let one = ["run", "a.uf2", "--cycles", "1"];
     let text =
         b"stop limit 1\ncore0 00000005 00000000 00000000 00000000 00000000 00000000 00000000 00000000 00000000 00000000 00000000 00000000 00000000 20042000 ffffffff 20000002 01000000\ncore1 asleep\n";
-    assert!(rt; gives(alloc, &one, block(alloc, &FIVE)?, 0, text)?);
+    assert!(rt; gives(alloc, &one, image(alloc, &FIVE)?, 0, text)?);
     let text =
         b"stop outside core0 0000002c 10\ncore0 00000000 00000000 00000000 00000000 00000000 00000000 00000000 00000000 00000000 00000000 00000000 00000000 00000000 20042000 ffffffff 20000002 01000000\ncore1 asleep\n";
     let more = ["run", "a.uf2", "--cycles", "11"];
-    assert!(rt; gives(alloc, &more, block(alloc, &[0xdf00])?, 0, text)?);
+    assert!(rt; gives(alloc, &more, image(alloc, &[0xdf00])?, 0, text)?);
     Ok(())
 }
 
@@ -122,7 +89,7 @@ fn ends(
 ) -> Result<bool, AllocError> {
     let words = ["run", "a.uf2", "--cycles", "100"];
     let text = joined(alloc, &[stop, core_line(alloc, low, high)?.as_slice()])?;
-    gives(alloc, &words, block(alloc, code)?, 0, &text)
+    gives(alloc, &words, image(alloc, code)?, 0, &text)
 }
 
 #[test]
@@ -303,14 +270,14 @@ fn words_are_disassembled(rt: HostRuntime) -> Result<(), Fail> {
 fn a_refusal_is_one_line(rt: HostRuntime) -> Result<(), Fail> {
     let alloc = rt.alloc();
     let none = ["run", "a.uf2", "--cycles", "0"];
-    assert!(rt; gives(alloc, &none, block(alloc, &FIVE)?, 2, b"error words\n")?);
-    assert!(rt; gives(alloc, &[], block(alloc, &FIVE)?, 2, b"error words\n")?);
+    assert!(rt; gives(alloc, &none, image(alloc, &FIVE)?, 2, b"error words\n")?);
+    assert!(rt; gives(alloc, &[], image(alloc, &FIVE)?, 2, b"error words\n")?);
     let other = ["run", "b.uf2", "--cycles", "10"];
     assert!(rt;
         gives(
             alloc,
             &other,
-            block(alloc, &FIVE)?,
+            image(alloc, &FIVE)?,
             3,
             b"error file b.uf2\n"
         )?
@@ -352,11 +319,11 @@ fn a_refusal_is_one_line(rt: HostRuntime) -> Result<(), Fail> {
 fn a_failing_call_ends_the_text(rt: HostRuntime) -> Result<(), Fail> {
     let alloc = rt.alloc();
     let words = texts(alloc, &TEN)?;
-    let mut files = shelf(alloc, block(alloc, &FIVE)?, Vec::new(alloc))?;
+    let mut files = shelf(alloc, image(alloc, &FIVE)?, Vec::new(alloc))?;
     let mut out = MemSink::new(alloc, vec![in alloc; 2]?);
     assert_eq!(rt; run_words(alloc, &words, &mut files, &mut out), 7);
     assert!(rt; out.bytes.as_slice() == joined(alloc, &[FIRST, CORE0])?.as_slice());
-    let mut files = shelf(alloc, block(alloc, &FIVE)?, vec![in alloc; 0]?)?;
+    let mut files = shelf(alloc, image(alloc, &FIVE)?, vec![in alloc; 0]?)?;
     let mut out = MemSink::new(alloc, Vec::new(alloc));
     assert_eq!(rt; run_words(alloc, &words, &mut files, &mut out), 3);
     assert!(rt; out.bytes.as_slice() == b"error file a.uf2\n".as_slice());
@@ -397,7 +364,7 @@ impl Sink for ByteSink {
 fn a_text_comes_whole_byte_by_byte(rt: HostRuntime) -> Result<(), Fail> {
     let alloc = rt.alloc();
     let words = texts(alloc, &TEN)?;
-    let mut files = shelf(alloc, block(alloc, &FIVE)?, Vec::new(alloc))?;
+    let mut files = shelf(alloc, image(alloc, &FIVE)?, Vec::new(alloc))?;
     let mut out = ByteSink {
         bytes: Vec::new(alloc),
         faults: 0,

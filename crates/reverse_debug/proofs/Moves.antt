@@ -10,15 +10,15 @@ use Rattle.rp_machine.specs.State.{State}
 use Rattle.rp_machine.specs.Cycle.{stop}
 use Rattle.rp_machine.specs.Run.{last_state}
 use Rattle.reverse_debug.specs.Replies.{Said, said, last_cycle, at_last, at_reply, moved_to, moved_back, move_cost, answer, heard, command_cost}
-use Rattle.reverse_debug.specs.Commands.{Command, command_of}
+use Rattle.reverse_debug.specs.Commands.{Command, is_quit, command_of}
 use Rattle.reverse_debug.specs.Commands.Command.{Step, Back, Goto, End, Regs, Mem, Pins, Pio, LastWrite, Quit, Bad}
 use Rattle.reverse_debug.specs.declared.command.Command.{Command as Asked}
 use Rattle.reverse_debug.specs.declared.command.Command.TheVariants as code
-use Rattle.reverse_debug.specs.Reading.{meant, is_quit, Fits}
+use Rattle.reverse_debug.specs.Reading.{meant, Fits}
 use Rattle.reverse_debug.specs.Advance.{CountsMove}
 use Rattle.reverse_debug.specs.Standing.{Standing, first_of, StandsFor, StaysFor, GoesOn, Lands, Does}
 use Rattle.reverse_debug.proofs.Paths.{path_last, last_within}
-use Rattle.reverse_debug.proofs.Sessions.{now_in_last, now_low, path_of, stays_on}
+use Rattle.reverse_debug.proofs.Sessions.{now_in_last, now_low, path_of, stays_here, stays_on}
 
 -- ---- what a move is
 
@@ -54,7 +54,7 @@ pub moved_there : (w : Setting) (old mid new : Standing) (target : ℕ) (reply :
     new.now.cycle ≡ target → CountsMove mid.now new.now before after → reply ≡ at_reply target →
     Does w old (moved_to w (first_of old) target) (move_cost old.ring.spacing old.now.cycle (moved_to w (first_of old) target).cycle) new reply before after
 moved_there w old mid new target reply before after k land go there count is =
-    let stays : StaysFor w old new = stays_on w old mid new land.stays go.stays in
+    let stays : StaysFor w old new = stays_on w old mid new go.forward land.stays go.stays in
     let last : new.now.cycle ≤ last_cycle w (first_of new) = now_in_last w (first_of new) new stays.stands in
     let same : last_cycle w (first_of new) ≡ last_cycle w (first_of old) = ap (last_cycle w) stays.first in
     let what = moved_within w (first_of old) target (omega arith) in
@@ -71,7 +71,7 @@ pub moved_stopped : (w : Setting) (old mid new : Standing) (target : ℕ) (why :
     CountsMove mid.now new.now before after → reply ≡ stop_text why new.now.cycle →
     Does w old (moved_to w (first_of old) target) (move_cost old.ring.spacing old.now.cycle (moved_to w (first_of old) target).cycle) new reply before after
 moved_stopped w old mid new target why reply before after k land go count is =
-    let stays : StaysFor w old new = stays_on w old mid new land.stays go.stays in
+    let stays : StaysFor w old new = stays_on w old mid new go.forward land.stays go.stays in
     let stops = go.stopped.0 in
     let lt : new.now.cycle < target = go.stopped.1 in
     let last_new : last_state w (first_of new) ≡ new.now =
@@ -133,7 +133,7 @@ moved_to_end w f target lt = let yes : nat_lt (last_cycle w f) target ≡ true =
 
 pub shown : (w : Setting) (old : Standing) (text reply : List ℕ) (steps most : ℕ) → StandsFor w old → reply ≡ text → Does w old (said old.now.cycle text) most old reply steps steps
 shown w old text reply steps most k is = record {
-  stays = record { stands = k; first = refl; spacing = refl };
+  stays = stays_here w old k;
   cycle = refl;
   said = is;
   forward = omega arith;

@@ -116,6 +116,7 @@ stays_after w old s k p low near =
       stands = subst (λ (f : State). IsAlong w f (after s old)) (sym same) (along_after w (first_of old) old s k p low near);
       first = same;
       spacing = spacing_stays s old.ring;
+      reached = refl;
     }
 
 below_to : (w : Setting) (s : State) (to until : ℕ) (why : Option Why) → IfSome why (λ y. (stop w s ≡ Some y) × (s.cycle < until)) → until ≤ to → IfSome why (λ y. (stop w s ≡ Some y) × (s.cycle < to))
@@ -145,10 +146,13 @@ stretched w old s ring reached to until why k a le near e f =
 -- ---- stretch by stretch
 
 pub stays_here : (w : Setting) (s : Standing) → StandsFor w s → StaysFor w s s
-stays_here w s k = record { stands = k; first = refl; spacing = refl }
+stays_here w s k = let here : s.now.cycle ≤ s.reached = k.here in record { stands = k; first = refl; spacing = refl; reached = omega arith }
 
-pub stays_on : (w : Setting) (a b c : Standing) → StaysFor w a b → StaysFor w b c → StaysFor w a c
-stays_on w a b c h k = record { stands = k.stands; first = k.first ∙ h.first; spacing = k.spacing ∙ h.spacing }
+pub stays_on : (w : Setting) (a b c : Standing) → b.now.cycle ≤ c.now.cycle → StaysFor w a b → StaysFor w b c → StaysFor w a c
+stays_on w a b c le h k =
+    let one : b.reached ≡ max a.reached b.now.cycle = h.reached in
+    let two : c.reached ≡ max b.reached c.now.cycle = k.reached in
+    record { stands = k.stands; first = k.first ∙ h.first; spacing = k.spacing ∙ h.spacing; reached = omega arith }
 
 pub going_here : (w : Setting) (s : Standing) (to : ℕ) → StandsFor w s → s.now.cycle ≤ to → GoesOn w s to s None
 going_here w s to k le = record { stays = stays_here w s k; forward = omega arith; within = le; stopped = tt }
@@ -157,7 +161,7 @@ pub going_on : (w : Setting) (a b c : Standing) (to : ℕ) (why : Option Why) �
 going_on w a b c to why h k =
     let one : a.now.cycle ≤ b.now.cycle = h.forward in
     let two : b.now.cycle ≤ c.now.cycle = k.forward in
-    record { stays = stays_on w a b c h.stays k.stays; forward = omega arith; within = k.within; stopped = k.stopped }
+    record { stays = stays_on w a b c two h.stays k.stays; forward = omega arith; within = k.within; stopped = k.stopped }
 
 pub counted_on : (a b c before now after : ℕ) → now + a ≡ before + b → after + b ≡ now + c → after + a ≡ before + c
 counted_on a b c before now after h k = omega arith
@@ -186,7 +190,7 @@ stays_restored w old c s k kept e =
       below = k.below;
       multiples = k.multiples;
     } in
-    record { stands = subst (λ (x : State). IsAlong w x (set_to s old)) (sym same) along; first = same; spacing = refl }
+    record { stands = subst (λ (x : State). IsAlong w x (set_to s old)) (sym same) along; first = same; spacing = refl; reached = omega arith }
 
 pub restored_at : (w : Setting) (old : Standing) (c : ℕ) (s : State) → is_kept c old.ring.kept ≡ true → s ≡ restored (state_at c old.ring.kept) old.now → s.cycle ≡ c
 restored_at w old c s kept e = ap (λ (x : State). x.cycle) e ∙ restored_cycle c old.ring.kept old.now kept
@@ -289,11 +293,11 @@ part_landed w v old target found now s e k en g r far =
     subst (λ (x : Standing). Lands w x target (record { now = s; ring = v.ring; limit = v.limit; reached = v.reached })) e
     (landed w v target found s (subst (λ (x : Standing). StandsFor w x) (sym e) k) g r ways)
 
-pub part_stayed : (w : Setting) (v old : Standing) (target found now : ℕ) → v ≡ old → StandsFor w old → now ≡ v.now.cycle → (nat_lt target now || nat_lt now found) ≡ false → Lands w old target v
+pub part_stayed : (w : Setting) (v old : Standing) (target found now : ℕ) → v ≡ old → StandsFor w old → now ≡ v.now.cycle → (nat_lt target now || nat_lt now found) ≡ false → Lands w old target old
 part_stayed w v old target found now e k en far =
     let first : nat_lt target now ≡ false = neither (nat_lt target now) (nat_lt now found) far in
     let le : v.now.cycle ≤ target = grind (arith, nat_tests) in
-    subst (λ (x : Standing). Lands w x target v) e (stayed w v target (subst (λ (x : Standing). StandsFor w x) (sym e) k) le)
+    subst (λ (x : Standing). Lands w x target x) e (stayed w v target (subst (λ (x : Standing). StandsFor w x) (sym e) k) le)
 
 pub part_near : (w : Setting) (v old : Standing) (target : ℕ) → v ≡ old → StandsFor w old → IsNearest target v.ring.kept None → ⊥
 part_near w v old target e k none = some_near w v target (subst (λ (x : Standing). StandsFor w x) (sym e) k) none
@@ -351,6 +355,7 @@ opens machine limit begins small = record {
   first = opened_first machine machine limit begins;
   now = refl;
   spacing = spacing_stays machine (empty_ring limit);
+  reached = refl;
   stands = λ w same.
       subst (λ (f : State). IsAlong w f (record { now = machine; ring = kept_with machine (empty_ring limit); limit = limit; reached = 0 }))
       (sym (opened_first machine machine limit begins)) (opened_along w machine limit begins small same);

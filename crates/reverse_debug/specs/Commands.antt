@@ -26,6 +26,11 @@ pub data Command : Type 0 where
   -- no command
   Bad : Command
 
+-- the command that ends a session
+abbrev pub is_quit : Command → Bool
+is_quit Quit = true
+is_quit _ = false
+
 -- ---- numbers: a digit counts by the power of the base at its place
 
 unfoldable pub value_in : ℕ → (ℕ → ℕ) → List ℕ → ℕ

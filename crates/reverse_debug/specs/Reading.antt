@@ -1,5 +1,5 @@
 -- What the commands of the code stand for.
-use Rattle.std.specs.Prelude.{◌≡◌, Bool, true, false, ◌^◌, ◌<◌, ◌≤◌}
+use Rattle.std.specs.Prelude.{◌≡◌, true, ◌^◌, ◌<◌, ◌≤◌}
 use Rattle.reverse_debug.specs.declared.command.Command.{Command as Asked}
 use Rattle.reverse_debug.specs.declared.command.Command.TheVariants as code
 use Rattle.reverse_debug.specs.Commands.{Command, are_words}
@@ -17,10 +17,6 @@ meant (code.Pio block machine) = Pio block machine
 meant (code.LastWrite address) = LastWrite address
 meant code.Quit = Quit
 meant code.Bad = Bad
-
-abbrev pub is_quit : Command → Bool
-is_quit Quit = true
-is_quit _ = false
 
 -- numbers have at most 10 digits, and what is to be shown is there
 abbrev pub Fits : Asked → Type 0

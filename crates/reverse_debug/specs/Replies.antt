@@ -128,25 +128,3 @@ command_cost spacing cycle target _ = move_cost spacing cycle target
 
 unfoldable pub cost : Setting → State → ℕ → ℕ → List ℕ → ℕ
 cost w s spacing cycle line = command_cost spacing cycle (heard w s cycle line).cycle (command_of line)
-
--- ---- a whole session: lines one after another, up to the first that ends it
-
-abbrev pub after_reply : List ℕ → Said → Said
-after_reply reply rest = record rest { reply = reply ++ rest.reply }
-
-unfoldable pub heard_all : Setting → State → ℕ → List (List ℕ) → Said
-heard_all w s cycle [] = said cycle []
-heard_all w s cycle (line ∷ lines) =
-    let one = heard w s cycle line in
-    if one.quits then one else after_reply one.reply (heard_all w s one.cycle lines)
-
--- the text of the session that begins in this state
-abbrev pub replies : Setting → State → List (List ℕ) → List ℕ
-replies w s lines = (heard_all w s 0 lines).reply
-
--- the cycles that are stepped for all lines, at most
-unfoldable pub cost_all : Setting → State → ℕ → ℕ → List (List ℕ) → ℕ
-cost_all w s spacing cycle [] = 0
-cost_all w s spacing cycle (line ∷ lines) =
-    let one = heard w s cycle line in
-    if one.quits then 0 else cost w s spacing cycle line + cost_all w s spacing one.cycle lines

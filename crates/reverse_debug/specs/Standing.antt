@@ -1,5 +1,5 @@
 -- A session that stands at a cycle of a run, with states of the run that are kept (the project's own).
-use Rattle.std.specs.Prelude.{◌≡◌, ◌≤◌, ◌<◌, ℕ, ◌+◌, ◌*◌, ◌%◌, true, List, Option, IfSome, Some}
+use Rattle.std.specs.Prelude.{◌≡◌, ◌≤◌, ◌<◌, ℕ, ◌+◌, ◌*◌, ◌%◌, max, true, List, Option, IfSome, Some}
 use Rattle.rp_base.specs.declared.Why.{Why}
 use Rattle.outer_lane.specs.Setting.{Setting}
 use Rattle.rp_machine.specs.State.{State}
@@ -40,20 +40,22 @@ pub record IsAlong (w : Setting) (first : State) (session : Standing) : Type 0 w
 abbrev pub StandsFor : Setting → Standing → Type 0
 StandsFor w session = IsAlong w (first_of session) session
 
--- a session that was opened at a state stands for each run from there up to the limit
+-- a session that was opened at a state stands for each run from there up to the limit, and has reached no other cycle
 pub record OpensAt (machine : State) (limit : ℕ) (session : Standing) : Type 0 where
   pub first : first_of session ≡ machine
   pub now : session.now ≡ machine
   pub spacing : session.ring.spacing ≡ spacing_of limit
+  pub reached : session.reached ≡ 0
   pub stands : (w : Setting) → w.limit ≡ limit → StandsFor w session
 
 -- ---- on the way
 
--- the session has another present state, and stands for the same runs as before
+-- The session has another present state, and stands for the same runs as before. It forgets no cycle that it has reached.
 pub record StaysFor (w : Setting) (old new : Standing) : Type 0 where
   pub stands : StandsFor w new
   pub first : first_of new ≡ first_of old
   pub spacing : new.ring.spacing ≡ old.ring.spacing
+  pub reached : new.reached ≡ max old.reached new.now.cycle
 
 -- The session has gone forward, at most to a cycle; with a cause only where that is the stop below it.
 pub record GoesOn (w : Setting) (old : Standing) (to : ℕ) (new : Standing) (result : Option Why) : Type 0 where

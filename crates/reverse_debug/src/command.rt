@@ -1,8 +1,8 @@
 //! The commands, and how a line asks for them.
 
 ghost use Rattle.std.specs.Prelude.{◌≡◌, not};
-ghost use Rattle.reverse_debug.specs.Commands.{command_of, alone, with_one, with_two, mem_of, last_write_of, pio_of};
-ghost use Rattle.reverse_debug.specs.Reading.{meant, is_quit, Fits};
+ghost use Rattle.reverse_debug.specs.Commands.{is_quit, command_of, alone, with_one, with_two, mem_of, last_write_of, pio_of};
+ghost use Rattle.reverse_debug.specs.Reading.{meant, Fits};
 
 use crate::words::{address_of, are_words, first_word, is, number_of};
 

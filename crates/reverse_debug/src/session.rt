@@ -73,7 +73,7 @@ impl Model for Session {
 
 impl Session {
     ghost use Rattle.std.specs.Prelude.{◌≡◌, ◌≤◌, ◌<◌, ◌+◌, IfOk, IfNone, not, []};
-    ghost use Rattle.outer_lane.specs.Setting.{setting_of};
+    ghost use Rattle.outer_lane.specs.Setting.{Setting, setting_of};
     ghost use Rattle.reverse_debug.specs.Commands.{are_words};
     ghost use Rattle.reverse_debug.specs.Reading.{meant, Fits};
     ghost use Rattle.reverse_debug.specs.Replies.{heard, answer, cost, command_cost, moved_to, moved_back, move_cost, last_write};
@@ -109,15 +109,9 @@ impl Session {
     }
 
     /// Restores the nearest kept state, where the machine is beyond the target, or before that state.
-    fn jump<X: Device>(&mut self, world: &World<'_, X>, target: u64)
-        requires { StandsFor
-            (setting_of world.now.script.now (X.meaning world.now.device.now) world.now.limit)
-            self.old }
-        ensures { Lands
-            (setting_of world.now.script.now (X.meaning world.now.device.now) world.now.limit)
-            self.old target self.new }
+    fn jump(&mut self, target: u64)
+        ensures { (w : Setting) → StandsFor w self.old → Lands w self.old target self.new }
     {
-        let _world = world;
         let now = self.machine.number();
         match self.ring.nearest(target) {
             None => return,
@@ -200,7 +194,7 @@ impl Session {
             self.new reply.new.items
             steps.old steps.new }
     {
-        self.jump(world, target);
+        self.jump(target);
         match self.forward(world, target, steps) {
             None => put_cycle(target, reply),
             Some(why) => stop_line(&why, self.cycle(), reply),
@@ -227,7 +221,7 @@ impl Session {
     {
         let now = self.cycle();
         if now < cycles {
-            self.jump(world, 0);
+            self.jump(0);
             push_text(b"at start\n", reply);
         } else {
             self.move_to(world, now - cycles, reply, steps);
