@@ -23,12 +23,13 @@ use rp_base::op::Op;
 use rp_base::{Request, Why};
 use thumb_rows::{decode, is_long};
 
-/// An address of SRAM.
-#[tactic(auto, unfolding(crate::specs::Fetch::is_ram))]
+/// An address of SRAM. Most are in its striped view, which costs one test.
+#[inline(always)]
+#[tactic(auto, unfolding(crate::specs::Fetch::is_ram, rp_base::specs::AddressMap::place_of))]
 fn is_ram(address: u32) -> bool
     ensures { result ≡ is_ram address }
 {
-    matches!(place(address), Spot::Ram { .. })
+    0x2000_0000 <= address && address <= 0x2003_ffff || matches!(place(address), Spot::Ram { .. })
 }
 
 /// The halfword of an answer.
@@ -141,6 +142,7 @@ impl Core {
     }
 
     /// The instruction of these beats faults.
+    #[inline(always)]
     #[tactic(auto, using(crate::proofs::Shapes::unaligned))]
     fn is_faulty(&self, op: &Op, shape: &Shape) -> bool
         requires { beats_of_shape shape.now self.now.regs ≡ beats_of op.now self.now.regs }
@@ -245,6 +247,7 @@ impl Core {
     }
 
     /// The exception that is taken.
+    #[inline(always)]
     #[tactic(auto, unfolding(crate::specs::Fetch::taken_of))]
     fn taken(&self) -> Option<u8>
         ensures { result ≡ taken_of self.now }

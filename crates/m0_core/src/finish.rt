@@ -198,6 +198,7 @@ impl Core {
     }
 
     /// The second beat of WFE or WFI lasts on.
+    #[inline(always)]
     fn is_held_op(&self, op: &Op) -> bool
         ensures { result ≡ is_held_op op.now self.now }
     {
@@ -207,6 +208,7 @@ impl Core {
     }
 
     /// The beat lasts on.
+    #[inline(always)]
     fn is_held(&self, work: &Work) -> bool
         ensures { result ≡ is_held work.now self.now }
     {
@@ -217,6 +219,7 @@ impl Core {
     }
 
     /// The end of a cycle inside the core.
+    #[inline(always)]
     #[tactic(auto, unfolding(crate::specs::Cycle::after_inner))]
     fn after_inner(&mut self, work: &Work)
         ensures { self.new ≡ after_inner work.now self.old }

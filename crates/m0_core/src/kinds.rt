@@ -6,6 +6,7 @@ ghost use Rattle.m0_core.specs.Kinds.{is_breakpoint, is_signal, awaits_event, aw
 use rp_base::op::Op;
 
 /// BKPT.
+#[inline(always)]
 pub(crate) fn is_breakpoint(op: &Op) -> bool
     ensures { result ≡ is_breakpoint op.now }
 {
@@ -13,6 +14,7 @@ pub(crate) fn is_breakpoint(op: &Op) -> bool
 }
 
 /// SEV.
+#[inline(always)]
 pub(crate) fn is_signal(op: &Op) -> bool
     ensures { result ≡ is_signal op.now }
 {
@@ -20,6 +22,7 @@ pub(crate) fn is_signal(op: &Op) -> bool
 }
 
 /// WFE.
+#[inline(always)]
 pub(crate) fn awaits_event(op: &Op) -> bool
     ensures { result ≡ awaits_event op.now }
 {
@@ -27,6 +30,7 @@ pub(crate) fn awaits_event(op: &Op) -> bool
 }
 
 /// WFI.
+#[inline(always)]
 pub(crate) fn awaits_interrupt(op: &Op) -> bool
     ensures { result ≡ awaits_interrupt op.now }
 {
@@ -34,6 +38,7 @@ pub(crate) fn awaits_interrupt(op: &Op) -> bool
 }
 
 /// SVC.
+#[inline(always)]
 pub(crate) fn is_call(op: &Op) -> bool
     ensures { result ≡ is_call op.now }
 {
@@ -41,6 +46,7 @@ pub(crate) fn is_call(op: &Op) -> bool
 }
 
 /// UDF, or no instruction.
+#[inline(always)]
 pub(crate) fn is_undefined(op: &Op) -> bool
     ensures { result ≡ is_undefined op.now }
 {
