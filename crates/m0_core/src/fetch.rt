@@ -47,15 +47,15 @@ pub(crate) fn word_of(answer: u128) -> u32
 }
 
 /// An access to SRAM; a read asks for its word.
-fn begin_ram<K: Look>(work: Work, request: Request, look: &mut K) -> Act
-    ensures { Runs K.answers look.old (in_ram work request request.write) result look.new }
+fn begin_ram<K: Look>(work: Work, request: Request, look: &mut K, act: &mut Act)
+    ensures { Runs K.answers look.old (in_ram work request request.write) act.new look.new }
 {
     match request.write {
         None => {
             let answer = look.ask(Ask::Word(request.address));
-            Act::Read(work, request, word_of(answer))
+            *act = Act::Read(work, request, word_of(answer));
         }
-        Some(_) => Act::Write(work, request),
+        Some(_) => *act = Act::Write(work, request),
     }
 }
 
@@ -80,37 +80,39 @@ impl Core {
     }
 
     /// An access to the private bus, or the stop at it.
-    fn begin_private(&self, work: Work, request: Request, offset: u16) -> Act
-        ensures { Ready result ≡ in_private work request offset self.now }
+    fn begin_private(&self, work: Work, request: Request, offset: u16, act: &mut Act)
+        ensures { Ready act.new ≡ in_private work request offset self.now }
     {
         if self.nvic.allows(offset, word_written(&request)) {
-            Act::Private(work, request, offset)
+            *act = Act::Private(work, request, offset);
         } else {
-            self.outside(request.address)
+            *act = self.outside(request.address);
         }
     }
 
     /// An access, by the place that it goes to.
     #[inline(always)]
-    fn begin_access<K: Look>(&self, work: Work, request: Request, look: &mut K) -> Act
-        ensures { Runs K.answers look.old (at_spot work request self.now (place_of request.address)) result look.new }
+    fn begin_access<K: Look>(&self, work: Work, request: Request, look: &mut K, act: &mut Act)
+        ensures { Runs K.answers look.old (at_spot work request self.now (place_of request.address)) act.new look.new }
     {
         match place(request.address) {
-            Spot::Ram { .. } => begin_ram(work, request, look),
-            Spot::Ppb { offset } => self.begin_private(work, request, offset),
-            Spot::Reg { .. } | Spot::Sio { .. } | Spot::Outside => Act::Outward(work, request),
+            Spot::Ram { .. } => begin_ram(work, request, look, act),
+            Spot::Ppb { offset } => self.begin_private(work, request, offset, act),
+            Spot::Reg { .. } | Spot::Sio { .. } | Spot::Outside => {
+                *act = Act::Outward(work, request);
+            }
         }
     }
 
     /// A beat.
     #[inline(always)]
     #[tactic(auto, unfolding(crate::specs::Fetch::asks_beat))]
-    fn begin_beat<K: Look>(&self, work: Work, look: &mut K) -> Act
-        ensures { Runs K.answers look.old (asks_beat work self.now) result look.new }
+    fn begin_beat<K: Look>(&self, work: Work, look: &mut K, act: &mut Act)
+        ensures { Runs K.answers look.old (asks_beat work self.now) act.new look.new }
     {
         match self.beat_of_work(&work) {
-            Beat::Inner => Act::Inner(work),
-            Beat::Access(request) => self.begin_access(work, request, look),
+            Beat::Inner => *act = Act::Inner(work),
+            Beat::Access(request) => self.begin_access(work, request, look, act),
         }
     }
 
@@ -165,46 +167,47 @@ impl Core {
 
     /// The next beat of a return.
     #[tactic(auto, unfolding(crate::specs::Fetch::asks_return))]
-    fn begin_return<K: Look>(&self, value: u32, look: &mut K) -> Act
-        ensures { Runs K.answers look.old (asks_return value self.now) result look.new }
+    fn begin_return<K: Look>(&self, value: u32, look: &mut K, act: &mut Act)
+        ensures { Runs K.answers look.old (asks_return value self.now) act.new look.new }
     {
         if self.place == 0 && self.is_bad(value) {
-            self.begin_fault()
+            *act = self.begin_fault();
         } else if self.locks_last(value) {
-            Act::Stopped(Why::Lockup(self.number()))
+            *act = Act::Stopped(Why::Lockup(self.number()));
         } else {
-            self.begin_beat(Work::Return(value), look)
+            self.begin_beat(Work::Return(value), look, act);
         }
     }
 
     /// The next beat of an instruction of these beats.
     #[inline(always)]
     #[tactic(auto, unfolding(crate::specs::Fetch::asks_beat, crate::specs::Fetch::beat_of))]
-    fn begin_shape<K: Look>(&self, op: Op, shape: &Shape, look: &mut K) -> Act
+    fn begin_shape<K: Look>(&self, op: Op, shape: &Shape, look: &mut K, act: &mut Act)
         requires { beats_of_shape shape.now self.now.regs ≡ beats_of op self.now.regs }
-        ensures { Runs K.answers look.old (asks_beat (Work.Instruction op) self.now) result look.new }
+        ensures { Runs K.answers look.old (asks_beat (Work.Instruction op) self.now) act.new look.new }
     {
         let work = Work::Instruction(op);
         match shape_beat(shape, &self.regs, self.place).unwrap_or(Beat::Inner) {
-            Beat::Inner => Act::Inner(work),
-            Beat::Access(request) => self.begin_access(work, request, look),
+            Beat::Inner => *act = Act::Inner(work),
+            Beat::Access(request) => self.begin_access(work, request, look, act),
         }
     }
 
     /// The first beat of an instruction, or the stop at it.
     #[inline(always)]
     #[tactic(auto, unfolding(crate::specs::Fetch::asks_decoded))]
-    fn begin_decoded<K: Look>(&self, op: Op, look: &mut K) -> Act
-        ensures { Runs K.answers look.old (asks_decoded op self.now) result look.new }
+    fn begin_decoded<K: Look>(&self, op: Op, look: &mut K, act: &mut Act)
+        ensures { Runs K.answers look.old (asks_decoded op self.now) act.new look.new }
     {
         if is_breakpoint(&op) {
-            return Act::Stopped(Why::Bkpt(self.number()));
+            *act = Act::Stopped(Why::Bkpt(self.number()));
+            return;
         }
         let shape = shape_of(&op, &self.regs);
         if self.is_faulty(&op, &shape) {
-            self.begin_fault()
+            *act = self.begin_fault();
         } else {
-            self.begin_shape(op, &shape, look)
+            self.begin_shape(op, &shape, look, act);
         }
     }
 
@@ -218,32 +221,35 @@ impl Core {
     /// An instruction whose first halfword is this.
     #[inline(always)]
     #[tactic(auto, unfolding(crate::specs::Fetch::asks_second))]
-    fn begin_second<K: Look>(&self, first: u16, look: &mut K) -> Act
-        ensures { Runs K.answers look.old (asks_second first self.now) result look.new }
+    fn begin_second<K: Look>(&self, first: u16, look: &mut K, act: &mut Act)
+        ensures { Runs K.answers look.old (asks_second first self.now) act.new look.new }
     {
         if !is_long(first) {
-            return self.begin_decoded(decode(first, 0), look);
+            self.begin_decoded(decode(first, 0), look, act);
+            return;
         }
         let address = self.regs.pc.wrapping_add(2);
         if !is_ram(address) {
-            return self.outside(address);
+            *act = self.outside(address);
+            return;
         }
         let answer = look.ask(Ask::Half(address));
-        self.begin_decoded(decode(first, half_of(answer)), look)
+        self.begin_decoded(decode(first, half_of(answer)), look, act);
     }
 
     /// The next instruction.
     #[inline(always)]
     #[tactic(auto, unfolding(crate::specs::Fetch::asks_first))]
-    fn begin_first<K: Look>(&self, look: &mut K) -> Act
-        ensures { Runs K.answers look.old (asks_first self.now) result look.new }
+    fn begin_first<K: Look>(&self, look: &mut K, act: &mut Act)
+        ensures { Runs K.answers look.old (asks_first self.now) act.new look.new }
     {
         let address = self.regs.pc;
         if !is_ram(address) {
-            return self.outside(address);
+            *act = self.outside(address);
+            return;
         }
         let answer = look.ask(Ask::Half(address));
-        self.begin_second(half_of(answer), look)
+        self.begin_second(half_of(answer), look, act);
     }
 
     /// The exception that is taken.
@@ -263,35 +269,35 @@ impl Core {
     /// The entry to an exception, or the next instruction.
     #[inline(always)]
     #[tactic(auto, unfolding(crate::specs::Fetch::asks_boundary))]
-    fn begin_boundary<K: Look>(&self, look: &mut K) -> Act
-        ensures { Runs K.answers look.old (asks_boundary self.now) result look.new }
+    fn begin_boundary<K: Look>(&self, look: &mut K, act: &mut Act)
+        ensures { Runs K.answers look.old (asks_boundary self.now) act.new look.new }
     {
         match self.taken() {
-            None => self.begin_first(look),
-            Some(number) => self.begin_beat(Work::Entry(number), look),
+            None => self.begin_first(look, act),
+            Some(number) => self.begin_beat(Work::Entry(number), look, act),
         }
     }
 
     /// The next beat of what is in progress.
     #[inline(always)]
-    fn begin_work<K: Look>(&self, work: Work, look: &mut K) -> Act
-        ensures { Runs K.answers look.old (asks_work work self.now) result look.new }
+    fn begin_work<K: Look>(&self, work: Work, look: &mut K, act: &mut Act)
+        ensures { Runs K.answers look.old (asks_work work self.now) act.new look.new }
     {
         match work {
-            Work::Instruction(_) | Work::Entry(_) => self.begin_beat(work, look),
-            Work::Return(value) => self.begin_return(value, look),
+            Work::Instruction(_) | Work::Entry(_) => self.begin_beat(work, look, act),
+            Work::Return(value) => self.begin_return(value, look, act),
         }
     }
 
     /// The next beat of what is in progress, or what a boundary begins.
     #[inline(always)]
     #[tactic(auto, unfolding(crate::specs::Fetch::asks_awake))]
-    pub(crate) fn begin_awake<K: Look>(&self, look: &mut K) -> Act
-        ensures { Runs K.answers look.old (asks_awake self.now) result look.new }
+    pub(crate) fn begin_awake<K: Look>(&self, look: &mut K, act: &mut Act)
+        ensures { Runs K.answers look.old (asks_awake self.now) act.new look.new }
     {
         match self.work {
-            None => self.begin_boundary(look),
-            Some(work) => self.begin_work(work, look),
+            None => self.begin_boundary(look, act),
+            Some(work) => self.begin_work(work, look, act),
         }
     }
 }

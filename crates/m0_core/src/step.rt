@@ -28,16 +28,16 @@ impl Lane<()> for Core {
     #[inline(always)]
     #[tactic(auto, unfolding(crate::specs::Fetch::asks), using(crate::proofs::Carrying::carrying))]
     fn begin<K: Look>(&self, _env: &(), cycle: u64, look: &mut K) -> Doing {
-        if self.is_asleep() {
-            return Doing {
-                act: Act::Asleep,
-                lines: 0,
-                cycle,
-            };
+        let mut begun = Doing {
+            act: Act::Asleep,
+            lines: 0,
+            cycle,
+        };
+        if !self.is_asleep() {
+            begun.lines = word_of(look.ask(Ask::Lines));
+            self.begin_awake(look, &mut begun.act);
         }
-        let lines = word_of(look.ask(Ask::Lines));
-        let act = self.begin_awake(look);
-        Doing { act, lines, cycle }
+        begun
     }
 
     #[inline(always)]
