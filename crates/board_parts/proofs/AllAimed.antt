@@ -1,5 +1,5 @@
 -- Probes that are aimed, up to the last.
-use Rattle.std.proofs.Common.{◌≡◌, ℕ, List, [], ◌∷◌, ◌++◌, length, map, refl, sym, ap, subst, ◌∙◌, arith, append-nil}
+use Rattle.std.proofs.Common.{◌≡◌, ℕ, List, [], ◌∷◌, ◌++◌, length, map, sym, ap, ◌∙◌, arith, append-nil}
 use Rattle.board_parts.specs.Aiming.{aims_from, aims_of}
 use Rattle.board_parts.specs.Hearing.{Aim}
 use Rattle.board_parts.specs.Probe.{ProbeMeaning}

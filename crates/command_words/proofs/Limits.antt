@@ -12,7 +12,7 @@ use Rattle.command_words.specs.Numbers.{within, number_within, number_of}
 use Rattle.command_words.specs.Options.{is_normal, value_for}
 use Rattle.command_words.specs.Entries.{Entry}
 use Rattle.command_words.specs.Words.{Run, Command, IsLimited, cycles_in, run_with, run_reading, disassemble, dis_reading, generate, gen_reading, written, reading}
-use Rattle.command_words.specs.Words.Command.{RunImage, DebugImage, Disassemble, Assemble, Generate}
+use Rattle.command_words.specs.Words.Command.{RunImage, DebugImage}
 
 abbrev IsRunLimited : Option Run → Type 0
 IsRunLimited None = Unit {0}

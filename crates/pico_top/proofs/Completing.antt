@@ -1,5 +1,5 @@
 -- The status of a call over files and bytes that are told.
-use Rattle.std.proofs.Common.{◌≡◌, ◌⊎◌, ℕ, ◌+◌, ◌-◌, ◌<◌, ◌≤◌, nat_le, Bool, true, false, not, ◌&&◌, if◌then◌else◌, List, [], ◌∷◌, ◌++◌, length, take, Option, Some, None, IfSome, refl, sym, ap, inl, inr, ◌∙◌, subst, arith, length-append}
+use Rattle.std.proofs.Common.{◌≡◌, ℕ, ◌+◌, ◌-◌, ◌<◌, ◌≤◌, nat_le, Bool, true, false, not, ◌&&◌, if◌then◌else◌, List, [], ◌∷◌, ◌++◌, length, take, Option, Some, None, IfSome, refl, sym, ap, inl, inr, ◌∙◌, subst, arith, length-append}
 use Rattle.std.proofs.Math.Seq.{take-append-add}
 use Rattle.std.proofs.lemmas.List.{append-nil, take_at}
 use Rattle.rp_ports.specs.Shelf.{Files}
@@ -7,7 +7,6 @@ use Rattle.rp_ports.specs.Fault.{Rose}
 use Rattle.lane_look.specs.Device.{DeviceMeaning}
 use Rattle.board_parts.specs.Probe.{ProbeMeaning}
 use Rattle.command_words.specs.Words.{Command}
-use Rattle.refusal_lines.specs.Refusals.Refusal.{Lost}
 use Rattle.pico_top.specs.Call.{Asked, read_from, Outside}
 use Rattle.line_talk.specs.Lines.{closes}
 use Rattle.line_talk.specs.declared.way.Way.{Way}
@@ -15,7 +14,6 @@ use Rattle.line_talk.specs.Hearing.{MayEnd, way_status, IsTaken}
 use Rattle.line_talk.specs.declared.way.Way.TheVariants.{Closed, Ended, Broken, Full}
 use Rattle.pico_top.specs.Walk.{Ending, WalksFrom, failed_names, Verdict, verdict_from, status_over}
 use Rattle.pico_top.specs.Walk.Verdict.{Refuses, Says, Hears}
-use Rattle.pico_top.specs.Walk.Ending.{Refused, NoMemory}
 use Rattle.pico_top.specs.Answer.{Takes, Converses}
 use Rattle.pico_top.specs.Causes.{IsStatus, Fulfils, IsComplete}
 use Rattle.line_talk.proofs.LineLists.{closes_more}

@@ -1,7 +1,6 @@
 -- Probes that hear the events of a run.
 use Rattle.std.proofs.Common.{add-one, drop-cons, ◌≡◌, ℕ, zero, suc, ◌+◌, ◌-◌, ◌<◌, ◌≤◌, List, [], ◌∷◌, ◌++◌, length, drop, get_or, map, Bool, true, false, Option, Some, None, bit_xor, refl, sym, ap, ap₂, subst, ◌∙◌, arith, append_assoc}
 use Rattle.std.specs.Prelude.{flat_map}
-use Rattle.std.specs.List.{filter, range_with_len}
 use Rattle.rp_base.specs.declared.Why.{Why}
 use Rattle.word_bits.specs.Word.{has_bit}
 use Rattle.lane_look.specs.declared.marks.Mark.{Mark}
@@ -12,7 +11,7 @@ use Rattle.board_parts.proofs.Hearing.{hears_in_turn}
 use Rattle.rp_machine.specs.State.{State}
 use Rattle.rp_machine.specs.Cycle.{stop, next, mark}
 use Rattle.rp_machine.specs.Events.{Event, bytes_of, changes_of, events_of, events}
-use Rattle.rp_machine.specs.Events.Event.{Byte, Pin}
+use Rattle.rp_machine.specs.Events.Event.{Pin}
 use Rattle.rp_machine.specs.Run.{all_events}
 use Rattle.rp_machine.proofs.Runs.{below_limit, events_here, events_on}
 use Rattle.pico_top.specs.RunText.{change_of, change_in, after_events, probe_lines}

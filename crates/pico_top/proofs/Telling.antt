@@ -1,6 +1,5 @@
 -- What was opened and told, and the whole call.
-use Rattle.std.proofs.Common.{◌≡◌, ℕ, ◌+◌, ◌≤◌, List, length, Option, Some, None, Result, Ok, Err, refl, sym, ap, inl, inr, ◌∙◌, subst}
-use Rattle.rp_ports.specs.Shelf.{Files}
+use Rattle.std.proofs.Common.{◌≡◌, ℕ, ◌+◌, ◌≤◌, List, length, Option, Some, None, Ok, refl, sym, ap, inl, inr, ◌∙◌, subst}
 use Rattle.lane_look.specs.Device.{DeviceMeaning}
 use Rattle.board_parts.specs.Probe.{ProbeMeaning}
 use Rattle.board_parts.specs.Hearing.{Aim}
@@ -11,9 +10,9 @@ use Rattle.pico_top.specs.declared.open.Opened.{Opened}
 use Rattle.pico_top.specs.declared.open.Stop.{Stop}
 use Rattle.pico_top.specs.declared.open.Stop.TheVariants.{Refusing, Memory}
 use Rattle.pico_top.specs.Call.{Asked, Outside}
-use Rattle.pico_top.specs.Dialogue.{Cost, Dialogue, aims_in}
+use Rattle.pico_top.specs.Dialogue.{Cost, aims_in}
 use Rattle.pico_top.specs.Dialogue.Dialogue.{Say}
-use Rattle.pico_top.specs.Walk.{Ending, Walks, WalksFrom, failed_names}
+use Rattle.pico_top.specs.Walk.{Ending, WalksFrom, failed_names}
 use Rattle.pico_top.specs.Walk.Ending.{Said, Heard, Refused, NoMemory}
 use Rattle.pico_top.specs.Answer.{Puts, RunsOut, Takes, Ends, Counts, Ticks, most, ConversesFor, Converses}
 use Rattle.pico_top.specs.Opening.{opened_dialogue, IsShort, StopsAs, OpensFor, Refuses, IsTold, Tells}

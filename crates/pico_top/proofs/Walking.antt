@@ -6,7 +6,6 @@ use Rattle.rp_ports.specs.declared.shelf.Loaded.{Loaded}
 use Rattle.rp_ports.specs.declared.shelf.Loaded.TheVariants.{Done, Large, Failed, Memory}
 use Rattle.board_parts.specs.Probe.{ProbeMeaning}
 use Rattle.command_words.specs.Words.{Command}
-use Rattle.refusal_lines.specs.Refusals.{Refusal}
 use Rattle.refusal_lines.specs.Refusals.Refusal.{BadWords, Lost, TooLarge}
 use Rattle.pico_top.specs.declared.open.Stop.TheVariants.{Memory as OutOfMemory}
 use Rattle.line_talk.specs.Lines.{closes}

@@ -3,7 +3,6 @@ use Rattle.std.specs.Prelude.{◌≡◌, ◌⊎◌, ◌==◌, ℕ, ◌≤◌, if
 use Rattle.std.specs.Global.{Global}
 use Rattle.rp_ports.specs.Shelf.{Files, Answers}
 use Rattle.rp_ports.specs.declared.shelf.Loaded.TheVariants.{Done}
-use Rattle.uf2_image.specs.declared.parts.Image.{Image}
 use Rattle.command_words.specs.Words.{Command}
 use Rattle.refusal_lines.specs.declared.Refusal.TheVariants.{Words, File, Large, Image as BadImage, Script, Source}
 use Rattle.refusal_lines.specs.Meant.{meant}
@@ -16,7 +15,7 @@ use Rattle.rp_machine.specs.declared.load.PioLoad.{PioLoad}
 use Rattle.pio_listing.specs.Placing.{with_places}
 use Rattle.pin_script.specs.Script.{script_of}
 use Rattle.pin_script.specs.declared.entry.Entry.{Entry as ScriptEntry}
-use Rattle.rp_machine.specs.Boot.{AreLoads, start}
+use Rattle.rp_machine.specs.Boot.{AreLoads}
 use Rattle.command_words.specs.Entries.{Entry}
 use Rattle.reverse_debug.specs.Standing.{first_of, OpensAt}
 use Rattle.rp_machine.specs.State.{State}

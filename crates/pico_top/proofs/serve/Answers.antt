@@ -1,4 +1,4 @@
-use Rattle.std.proofs.Common.{List, map, refl, ap, subst, ◌∙◌}
+use Rattle.std.proofs.Common.{map, refl, ap, ◌∙◌}
 use Rattle.board_parts.specs.Aiming.{aims_of}
 use Rattle.pico_top.proofs.Telling.{no_memory_from, stopped_converses}
 use Rattle.pico_top.proofs.serve.Goals as goal

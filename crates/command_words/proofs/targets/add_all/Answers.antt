@@ -1,4 +1,4 @@
-use Rattle.std.proofs.Common.{rules, None}
+use Rattle.std.proofs.Common.{rules}
 use Rattle.command_words.proofs.ListPieces.{comma_none, comma_some, last_target, next_target, no_target, was_added, was_not_added}
 use Rattle.command_words.proofs.targets.add_all.Goals as goal
 
