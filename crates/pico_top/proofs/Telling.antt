@@ -110,3 +110,14 @@ no_memory_from device probes asked before after same =
 pub read_converses : (asked : Asked) (count : ℕ) (command : Option Command) (before after : Outside) (status : ℕ) → count ≡ length asked.probes → reading count asked.words ≡ command → ConversesFor asked.device asked.probes command before after status → Converses asked before after status
 read_converses asked count command before after status long is h =
     subst (λ (a : Option Command). ConversesFor asked.device asked.probes a before after status) (sym is ∙ ap (λ n. reading n asked.words) long) h
+
+-- the call where memory ran out before a file was loaded
+pub out_converses : (device : DeviceMeaning) (probes : List ProbeMeaning) (asked : Option Command) (before after : Outside) (status : ℕ) → after.failed ≡ before.failed → after.files ≡ before.files → after.left ≡ before.left → after.source_faults ≡ before.source_faults → Refuses before.written after.written before.sink_faults after.sink_faults status Memory → after.steps ≡ before.steps → ConversesFor device probes asked before after status
+out_converses device probes asked before after status failed kept left lost refuses same =
+    stopped_converses device probes asked before after Memory status (no_memory_from device probes asked before after failed) kept left lost refuses same
+
+-- the call where the words are refused
+pub refused_converses : (asked : Asked) (count : ℕ) (before after : Outside) (status : ℕ) → count ≡ length asked.probes → reading count asked.words ≡ None → after.failed ≡ before.failed → after.files ≡ before.files → after.left ≡ before.left → after.source_faults ≡ before.source_faults → Refuses before.written after.written before.sink_faults after.sink_faults status (Refusing Words) → after.steps ≡ before.steps → Converses asked before after status
+refused_converses asked count before after status long none failed kept left lost refuses same =
+    read_converses asked count None before after status long none
+    (stopped_converses asked.device asked.probes None before after (Refusing Words) status (refused_words asked.device asked.probes None before after refl failed) kept left lost refuses same)
