@@ -1,3 +1,4 @@
+pub mod AllAimed
 pub mod Bits
 pub mod Hearing
 pub mod Seen

@@ -1,3 +1,4 @@
+pub mod Aiming
 pub mod Bits
 pub mod EdgeCounter
 pub mod Hearing

@@ -2,10 +2,12 @@
 #![tactic(auto)]
 
 pub mod aimed;
+pub mod aiming;
 pub mod change;
 pub mod edge_counter;
 pub mod laws;
 pub mod probe;
+pub mod target;
 #[cfg(test)]
 mod tests;
 pub mod ws2812;

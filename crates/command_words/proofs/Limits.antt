@@ -6,12 +6,13 @@ use Rattle.std.specs.Str.{bytes_eq}
 use Rattle.std.proofs.lemmas.Option.{none-some, cond_some}
 use Rattle.std.proofs.lemmas.Bool.{leb-true}
 use Rattle.pio_words.specs.declared.side.SideConfig.{SideConfig}
+use Rattle.board_parts.specs.declared.target.Target.{Target}
 use Rattle.line_words.specs.Line.{line_in}
 use Rattle.command_words.specs.Numbers.{within, number_within, number_of}
 use Rattle.command_words.specs.Options.{is_normal, value_for}
 use Rattle.command_words.specs.Entries.{Entry}
-use Rattle.command_words.specs.Words.{Run, Command, IsLimited, cycles_in, run_with, run_reading, disassemble, dis_reading, written, reading}
-use Rattle.command_words.specs.Words.Command.{RunImage, DebugImage, Disassemble, Assemble}
+use Rattle.command_words.specs.Words.{Run, Command, IsLimited, cycles_in, run_with, run_reading, disassemble, dis_reading, generate, gen_reading, written, reading}
+use Rattle.command_words.specs.Words.Command.{RunImage, DebugImage}
 
 abbrev IsRunLimited : Option Run → Type 0
 IsRunLimited None = Unit {0}
@@ -36,14 +37,15 @@ cycles_high : (value : Option (List ℕ)) (k : ℕ) → option_and_then (number_
 cycles_high None k e = absurd (none-some k e)
 cycles_high (Some word) k e = within_high 1 1000000000 (number_of word) k e
 
-with_limited : (image : List ℕ) (cycles : Option ℕ) (script : Option (List ℕ)) (pio : Option (List Entry)) → ((k : ℕ) → cycles ≡ Some k → k ≤ 1000000000) → IsRunLimited (run_with image cycles script pio)
-with_limited image None script pio h = tt
-with_limited image (Some n) script None h = tt
-with_limited image (Some n) script (Some entries) h = h n refl
+with_limited : (image : List ℕ) (cycles : Option ℕ) (script : Option (List ℕ)) (pio : Option (List Entry)) (probes : Option (List Target)) → ((k : ℕ) → cycles ≡ Some k → k ≤ 1000000000) → IsRunLimited (run_with image cycles script pio probes)
+with_limited image None script pio probes h = tt
+with_limited image (Some n) script None probes h = tt
+with_limited image (Some n) script (Some entries) None h = tt
+with_limited image (Some n) script (Some entries) (Some targets) h = h n refl
 
-run_limited : (image : List ℕ) (options : List (List ℕ)) → IsRunLimited (run_reading image options)
+run_limited : (probes : ℕ) (image : List ℕ) (options : List (List ℕ)) → IsRunLimited (run_reading probes image options)
 unfolding run_reading
-run_limited image options = with_limited image (cycles_in options) _ _ (λ k e. cycles_high (value_for (codes "--cycles") options) k e)
+run_limited probes image options = with_limited image (cycles_in options) _ _ _ (λ k e. cycles_high (value_for (codes "--cycles") options) k e)
 
 as_run : (run : Option Run) → IsRunLimited run → AreLimited (option_map RunImage run)
 as_run None h = tt
@@ -62,27 +64,37 @@ dis_limited : (hex : List ℕ) (options : List (List ℕ)) → AreLimited (dis_r
 unfolding dis_reading
 dis_limited hex options = disassembled _ _
 
+generated : (number cycles : Option ℕ) → ((k : ℕ) → cycles ≡ Some k → k ≤ 1000000000) → AreLimited (generate number cycles)
+generated None cycles h = tt
+generated (Some number) None h = tt
+generated (Some number) (Some n) h = h n refl
+
+gen_limited : (number : List ℕ) (options : List (List ℕ)) → AreLimited (gen_reading number options)
+unfolding gen_reading
+gen_limited number options = generated _ (cycles_in options) (λ k e. cycles_high (value_for (codes "--cycles") options) k e)
+
 either : (b : Bool) (x y : Option Command) → AreLimited x → AreLimited y → AreLimited (if b then x else y)
 either true x y h k = h
 either false x y h k = k
 
-written_limited : (words : List (List ℕ)) → AreLimited (written words)
+written_limited : (probes : ℕ) (words : List (List ℕ)) → AreLimited (written probes words)
 unfolding written
-written_limited [] = tt
-written_limited (command ∷ []) = tt
-written_limited (command ∷ argument ∷ options) =
-    either (bytes_eq command (codes "run")) _ _ (as_run (run_reading argument options) (run_limited argument options))
-    (either (bytes_eq command (codes "debug")) _ _ (as_debug (run_reading argument options) (run_limited argument options))
-    (either (bytes_eq command (codes "dis")) _ _ (dis_limited argument options) (either (bytes_eq command (codes "asm")) _ _ tt tt)))
+written_limited probes [] = tt
+written_limited probes (command ∷ []) = tt
+written_limited probes (command ∷ argument ∷ options) =
+    either (bytes_eq command (codes "run")) _ _ (as_run (run_reading probes argument options) (run_limited probes argument options))
+    (either (bytes_eq command (codes "debug")) _ _ (as_debug (run_reading probes argument options) (run_limited probes argument options))
+    (either (bytes_eq command (codes "dis")) _ _ (dis_limited argument options)
+    (either (bytes_eq command (codes "asm")) _ _ tt (either (bytes_eq command (codes "gen")) _ _ (gen_limited argument options) tt))))
 
-line_limited : (line : Option (List (List ℕ))) → AreLimited (option_and_then written line)
-line_limited None = tt
-line_limited (Some line) = written_limited line
+line_limited : (probes : ℕ) (line : Option (List (List ℕ))) → AreLimited (option_and_then (written probes) line)
+line_limited probes None = tt
+line_limited probes (Some line) = written_limited probes line
 
-read_limited : (words : List (List ℕ)) → AreLimited (reading words)
+read_limited : (probes : ℕ) (words : List (List ℕ)) → AreLimited (reading probes words)
 unfolding reading
-read_limited words = either (is_normal words) _ _ (written_limited words) (line_limited (line_in words))
+read_limited probes words = either (is_normal words) _ _ (written_limited probes words) (line_limited probes (line_in words))
 
 -- the command that is read has a limit
-pub command_limited : (words : List (List ℕ)) (command : Command) → reading words ≡ Some command → IsLimited command
-command_limited words command e = subst (λ (c : Option Command). AreLimited c) e (read_limited words)
+pub command_limited : (probes : ℕ) (words : List (List ℕ)) (command : Command) → reading probes words ≡ Some command → IsLimited command
+command_limited probes words command e = subst (λ (c : Option Command). AreLimited c) e (read_limited probes words)

@@ -5,6 +5,8 @@ use Rattle.std.specs.Option.{option_and_then}
 use Rattle.std.specs.List.{slice_split, onto_first, position_or_len, before_first, after_first}
 use Rattle.std.proofs.lemmas.List.Splits.{slice_split_first}
 use Rattle.std.proofs.lemmas.Str.Pattern.{IsSplitOnceResult, split_once_first}
+use Rattle.board_parts.specs.declared.target.Target.{Target}
+use Rattle.command_words.specs.Targets.{target_of, aimed_too, targets_from}
 use Rattle.command_words.specs.Entries.{Entry, entry_of, added, entries_from, pieces}
 
 -- a list without a comma is one part
@@ -41,13 +43,32 @@ pub no_entry : (es : List Entry) (list text rest : List ℕ) → pieces list ≡
 no_entry es list text rest first a = rw first (ap (option_and_then (λ next. entries_from next (pieces rest))) a)
 
 -- what an addition says where it was made, and where not
-pub was_added : (es more : List Entry) (text : List ℕ) (done : Bool) → added es (entry_of text) ≡ (if done then Some more else None) → done ≡ true → added es (entry_of text) ≡ Some more
-was_added es more text true h e = h
-was_added es more text false h e = absurd (cc e)
+pub was_added : {X : Type 0} (asked : Option X) (more : X) (done : Bool) → asked ≡ (if done then Some more else None) → done ≡ true → asked ≡ Some more
+was_added asked more true h e = h
+was_added asked more false h e = absurd (cc e)
 
-pub was_not_added : (es more : List Entry) (text : List ℕ) (done : Bool) → added es (entry_of text) ≡ (if done then Some more else None) → done ≡ false → added es (entry_of text) ≡ None
-was_not_added es more text true h e = absurd (cc e)
-was_not_added es more text false h e = h
+pub was_not_added : {X : Type 0} (asked : Option X) (more : X) (done : Bool) → asked ≡ (if done then Some more else None) → done ≡ false → asked ≡ None
+was_not_added asked more true h e = absurd (cc e)
+was_not_added asked more false h e = h
+
+-- ---- targets, piece by piece
+
+pub next_target : (probes : ℕ) (now more : List Target) (left text rest : List ℕ) (whole : Option (List Target)) → pieces left ≡ text ∷ pieces rest → aimed_too now (target_of probes text) ≡ Some more → targets_from probes now (pieces left) ≡ whole → targets_from probes more (pieces rest) ≡ whole
+next_target probes now more left text rest whole first a h =
+    sym (ap (targets_from probes now) first ∙ ap (option_and_then (λ next. targets_from probes next (pieces rest))) a) ∙ h
+
+pub no_target : (probes : ℕ) (now : List Target) (left text rest : List ℕ) (whole : Option (List Target)) → pieces left ≡ text ∷ pieces rest → aimed_too now (target_of probes text) ≡ None → targets_from probes now (pieces left) ≡ whole → whole ≡ None
+no_target probes now left text rest whole first a h =
+    sym h ∙ (ap (targets_from probes now) first ∙ ap (option_and_then (λ next. targets_from probes next (pieces rest))) a)
+
+same_target : (found : Option (List Target)) → option_and_then (λ next. Some next) found ≡ found
+same_target None = refl
+same_target (Some targets) = refl
+
+pub last_target : {E : Type 0} (probes : ℕ) (now more : List Target) (left : List ℕ) (whole : Option (List Target)) (r : Result Bool E) → pieces left ≡ left ∷ [] → targets_from probes now (pieces left) ≡ whole → IfOk r (λ done. aimed_too now (target_of probes left) ≡ (if done then Some more else None)) → IfOk r (λ done. whole ≡ (if done then Some more else None))
+last_target probes now more left whole (Ok done) one h a =
+    sym h ∙ (ap (targets_from probes now) one ∙ (same_target (aimed_too now (target_of probes left)) ∙ a))
+last_target probes now more left whole (Err fault) one h a = tt
 
 -- ---- a cut at the first comma
 

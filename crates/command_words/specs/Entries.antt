@@ -10,13 +10,16 @@ pub record Entry : Type 0 where
   pub machine : ℕ
   pub file : List ℕ
 
+-- what stands before and after the first such byte
+abbrev pub cut_by : (ℕ → Bool) → List ℕ → Option (List ℕ × List ℕ)
+cut_by is text = if nat_lt (position_or_len is text) (length text) then Some (before_first is text, after_first is text) else None
+
 -- what stands before and after the first colon
 abbrev pub is_colon : ℕ → Bool
 is_colon byte = byte == 58
 
 abbrev pub cut : List ℕ → Option (List ℕ × List ℕ)
-cut text =
-    if nat_lt (position_or_len is_colon text) (length text) then Some (before_first is_colon text, after_first is_colon text) else None
+cut text = cut_by is_colon text
 
 abbrev pub entry_with : List ℕ → Option ℕ → Option ℕ → Option Entry
 entry_with file (Some block) (Some machine) = Some (record { block = block; machine = machine; file = file })

@@ -3,4 +3,5 @@ pub mod Entries
 pub mod Numbers
 pub mod Options
 pub mod Read
+pub mod Targets
 pub mod Words

@@ -1,5 +1,5 @@
 -- Numbers among the words of a command line: the project's own.
-use Rattle.std.specs.Prelude.{ℕ, ◌+◌, ◌-◌, ◌*◌, nat_le, ◌==◌, Bool, false, not, ◌&&◌, ◌||◌, if◌then◌else◌, List, [], ◌∷◌, length, Option, Some, None}
+use Rattle.std.specs.Prelude.{ℕ, ◌+◌, ◌-◌, ◌*◌, nat_le, nat_lt, ◌==◌, Bool, false, not, ◌&&◌, ◌||◌, if◌then◌else◌, List, [], ◌∷◌, length, Option, Some, None}
 use Rattle.std.specs.Option.{option_and_then}
 use Rattle.std.specs.Char.{is_ascii_digit}
 
@@ -13,10 +13,10 @@ abbrev pub begins_with : ℕ → List ℕ → Bool
 begins_with byte [] = false
 begins_with byte (x ∷ xs) = x == byte
 
--- a number of 1 to 10 decimal digits, and no 0 before other digits
+-- a number of 1 to 20 decimal digits, and no 0 before other digits
 abbrev pub number_of : List ℕ → Option ℕ
 number_of word =
-    if nat_le 1 (length word) && nat_le (length word) 10 && (not (begins_with 48 word) || length word == 1)
+    if nat_le 1 (length word) && nat_le (length word) 20 && (not (begins_with 48 word) || length word == 1)
     then digits_from 0 word else None
 
 -- what is kept where it lies in a range
@@ -26,3 +26,10 @@ within low high n = if nat_le low n && nat_le n high then Some n else None
 -- a number from low to high
 abbrev pub number_within : ℕ → ℕ → List ℕ → Option ℕ
 number_within low high word = option_and_then (within low high) (number_of word)
+
+-- a number below a count
+abbrev pub below : ℕ → ℕ → Option ℕ
+below count n = if nat_lt n count then Some n else None
+
+abbrev pub number_below : ℕ → List ℕ → Option ℕ
+number_below count word = option_and_then (below count) (number_of word)

@@ -7,17 +7,19 @@ use Rattle.command_words.specs.Numbers.{begins_with, number_within}
 abbrev pub is_command : List ℕ → Bool
 is_command command =
     bytes_eq command (codes "run") || bytes_eq command (codes "debug") || bytes_eq command (codes "dis") || bytes_eq command (codes "asm")
+    || bytes_eq command (codes "gen")
 
--- the commands that run an image
-abbrev pub is_run : List ℕ → Bool
-is_run command = bytes_eq command (codes "run") || bytes_eq command (codes "debug")
+-- the names of the options that a run and the debugger on it have
+abbrev pub is_run_option : List ℕ → Bool
+is_run_option name = bytes_eq name (codes "--cycles") || bytes_eq name (codes "--script") || bytes_eq name (codes "--pio")
 
 -- the names of the options that a command has
 abbrev pub is_option : List ℕ → List ℕ → Bool
 is_option command name =
-    if is_run command
-    then bytes_eq name (codes "--cycles") || bytes_eq name (codes "--script") || bytes_eq name (codes "--pio")
-    else if bytes_eq command (codes "dis") then bytes_eq name (codes "--side") || bytes_eq name (codes "--opt") else false
+    if bytes_eq command (codes "run") then is_run_option name || bytes_eq name (codes "--probe")
+    else if bytes_eq command (codes "debug") then is_run_option name
+    else if bytes_eq command (codes "dis") then bytes_eq name (codes "--side") || bytes_eq name (codes "--opt")
+    else if bytes_eq command (codes "gen") then bytes_eq name (codes "--cycles") else false
 
 -- the value of the option of this name
 abbrev pub value_for : List ℕ → List (List ℕ) → Option (List ℕ)

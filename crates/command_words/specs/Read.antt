@@ -3,6 +3,7 @@ use Rattle.std.specs.Prelude.{◌≡◌, List, map, Option, Some, None, Result, 
 use Rattle.std.specs.Global.{Global}
 use Rattle.std.specs.Option.{option_map}
 use Rattle.std.specs.String.{string_bytes}
+use Rattle.board_parts.specs.declared.target.Target.{Target}
 use Rattle.command_words.specs.declared.entry.PioEntry.{PioEntry}
 use Rattle.command_words.specs.declared.words.RunWords.{RunWords}
 use Rattle.command_words.specs.declared.words.Reading.{Reading}
@@ -11,7 +12,7 @@ use Rattle.command_words.specs.declared.words.WordsFault.{WordsFault}
 use Rattle.command_words.specs.declared.words.WordsFault.TheVariants.{Words, Memory}
 use Rattle.command_words.specs.Entries.{Entry}
 use Rattle.command_words.specs.Words.{Run, Command}
-use Rattle.command_words.specs.Words.Command.{RunImage, DebugImage, Disassemble, Assemble}
+use Rattle.command_words.specs.Words.Command.{RunImage, DebugImage, Disassemble, Assemble, Generate}
 
 -- the entry that the words of one stand for
 abbrev pub entry_in : PioEntry → Entry
@@ -24,6 +25,7 @@ run_in r = record {
   cycles = r.cycles;
   script = option_map string_bytes r.script;
   pio = map entry_in r.pio.items;
+  probes = r.probes.items;
 }
 
 -- the command that a reading stands for
@@ -32,6 +34,7 @@ command_in (readings.Run r) = RunImage (run_in r)
 command_in (readings.Debug r) = DebugImage (run_in r)
 command_in (readings.Dis d) = Disassemble d.words.items d.side
 command_in (readings.Asm name) = Assemble (string_bytes name)
+command_in (readings.Gen g) = Generate g.number g.cycles
 
 -- the answer is what was asked for, or Words where that is none; Memory says nothing
 abbrev pub ReadsAs : Option Command → Result Reading WordsFault → Type 0
@@ -50,3 +53,9 @@ abbrev pub ReadsEntries : Option (List Entry) → Result (Vec PioEntry Global) W
 ReadsEntries entries (Ok found) = entries ≡ Some (map entry_in found.items)
 ReadsEntries entries (Err Words) = entries ≡ None
 ReadsEntries entries (Err Memory) = Unit {0}
+
+-- the targets of a list are these, or Words where it is none; Memory says nothing
+abbrev pub ReadsTargets : Option (List Target) → Result (Vec Target Global) WordsFault → Type 0
+ReadsTargets targets (Ok found) = targets ≡ Some found.items
+ReadsTargets targets (Err Words) = targets ≡ None
+ReadsTargets targets (Err Memory) = Unit {0}

@@ -6,8 +6,9 @@ mod entries;
 mod entry;
 mod number;
 mod options;
+mod targets;
 mod words;
 
 pub use dis::DisWords;
 pub use entry::PioEntry;
-pub use words::{Reading, RunWords, WordsFault, read_words};
+pub use words::{GenWords, Reading, RunWords, WordsFault, read_words};

@@ -3,7 +3,7 @@
 ghost use Rattle.std.specs.Prelude.{◌≡◌, None, Some, map, MatchOption};
 ghost use Rattle.std.specs.String.{string_bytes};
 ghost use Rattle.command_words.specs.Numbers.{begins_with};
-ghost use Rattle.command_words.specs.Options.{is_command, is_option, value_for, may_lead, are_options, is_normal, number_for};
+ghost use Rattle.command_words.specs.Options.{is_command, is_run_option, is_option, value_for, may_lead, are_options, is_normal, number_for};
 
 use crate::number::number_within;
 
@@ -11,7 +11,14 @@ use crate::number::number_within;
 fn is_command(word: &str) -> bool
     ensures { result ≡ is_command word.now }
 {
-    word == "run" || word == "debug" || word == "dis" || word == "asm"
+    word == "run" || word == "debug" || word == "dis" || word == "asm" || word == "gen"
+}
+
+/// Whether a run and the debugger on it have an option of this name.
+fn is_run_option(name: &str) -> bool
+    ensures { result ≡ is_run_option name.now }
+{
+    name == "--cycles" || name == "--script" || name == "--pio"
 }
 
 /// Whether a command has an option of this name.
@@ -19,8 +26,10 @@ fn is_option(command: &str, name: &str) -> bool
     ensures { result ≡ is_option command.now name.now }
 {
     match command {
-        "run" | "debug" => name == "--cycles" || name == "--script" || name == "--pio",
+        "run" => is_run_option(name) || name == "--probe",
+        "debug" => is_run_option(name),
         "dis" => name == "--side" || name == "--opt",
+        "gen" => name == "--cycles",
         _ => false,
     }
 }

@@ -3,15 +3,17 @@
 ghost use Rattle.std.specs.Prelude.{◌≡◌, map, Some, IfOk};
 ghost use Rattle.std.specs.Option.{option_map};
 ghost use Rattle.std.specs.String.{string_bytes};
-ghost use Rattle.command_words.specs.Words.{run_with, cycles_in, script_in, pio_in, run_reading, dis_reading, written, reading};
+ghost use Rattle.command_words.specs.Words.{run_with, cycles_in, script_in, pio_in, probes_in, run_reading, dis_reading, gen_reading, written, reading};
 ghost use Rattle.command_words.specs.Words.Command.{RunImage, DebugImage, Assemble};
-ghost use Rattle.command_words.specs.Read.{ReadsAs, ReadsRun, ReadsEntries, entry_in};
+ghost use Rattle.command_words.specs.Read.{ReadsAs, ReadsRun, ReadsEntries, ReadsTargets, entry_in};
 
 use crate::dis::{DisWords, instruction_words, side_config};
 use crate::entries::entries_in;
 use crate::entry::PioEntry;
 use crate::number::number_within;
 use crate::options::{is_normal, value_for};
+use crate::targets::targets_in;
+use board_parts::target::Target;
 use line_words::line_in;
 use std::alloc::{AllocError, Global};
 
@@ -26,6 +28,17 @@ pub struct RunWords {
     pub script: Option<String>,
     /// The programs for machines, in the order of the list; no machine stands twice.
     pub pio: Vec<PioEntry>,
+    /// The probes that are aimed, in the order of the list; no probe stands twice.
+    pub probes: Vec<Target>,
+}
+
+/// The words of a run of a generated image.
+#[derive(Clone, Copy, Debug, PartialEq, Eq)]
+pub struct GenWords {
+    /// The number that the image is generated from.
+    pub number: u64,
+    /// The limit of cycles, 1 to 1,000,000,000.
+    pub cycles: u64,
 }
 
 /// What the words ask for.
@@ -39,6 +52,8 @@ pub enum Reading {
     Dis(DisWords),
     /// The listing of the source file of this name.
     Asm(String),
+    /// A run of a generated image.
+    Gen(GenWords),
 }
 
 /// Why there is no reading.
@@ -74,6 +89,20 @@ fn pio_in(alloc: Global, options: &[String]) -> Result<Vec<PioEntry>, WordsFault
     }
 }
 
+/// The targets of `--probe` among the options of a run.
+fn probes_in(alloc: Global, probes: usize, options: &[String]) -> Result<Vec<Target>, WordsFault>
+    ensures { ReadsTargets (probes_in probes (map string_bytes options.now)) result }
+{
+    match value_for("--probe", options) {
+        None => Ok(Vec::new(alloc)),
+        Some(list) => match targets_in(alloc, probes, list) {
+            Ok(Some(targets)) => Ok(targets),
+            Ok(None) => Err(WordsFault::Words),
+            Err(_) => Err(WordsFault::Memory),
+        },
+    }
+}
+
 /// A copy of the script's name among the options of a run.
 fn script_in(alloc: Global, options: &[String]) -> Result<Option<String>, AllocError>
     ensures { IfOk result (λ name. option_map string_bytes name ≡ script_in (map string_bytes options.now)) }
@@ -91,9 +120,10 @@ fn owned(
     cycles: u64,
     options: &[String],
     pio: Vec<PioEntry>,
+    probes: Vec<Target>,
 ) -> Result<RunWords, WordsFault>
     ensures { ReadsRun (run_with image.now (Some cycles) (script_in (map string_bytes options.now))
-        (Some (map entry_in pio.items))) result }
+        (Some (map entry_in pio.items)) (Some probes.items)) result }
 {
     let Ok(image) = String::from_str(alloc, image) else {
         return Err(WordsFault::Memory);
@@ -104,42 +134,73 @@ fn owned(
             cycles,
             script,
             pio,
+            probes,
         }),
         Err(_) => Err(WordsFault::Memory),
     }
 }
 
-/// Reads `<image> --cycles N [--script FILE] [--pio LIST]`.
+/// Reads `<image> --cycles N [--script FILE] [--pio LIST] [--probe LIST]`.
 #[tactic(auto, unfolding(crate::specs::Words::run_reading))]
-fn run_words(alloc: Global, image: &str, options: &[String]) -> Result<RunWords, WordsFault>
-    ensures { ReadsRun (run_reading image.now (map string_bytes options.now)) result }
+fn run_words(
+    alloc: Global,
+    probes: usize,
+    image: &str,
+    options: &[String],
+) -> Result<RunWords, WordsFault>
+    ensures { ReadsRun (run_reading probes image.now (map string_bytes options.now)) result }
 {
     let Some(cycles) = cycles_in(options) else {
         return Err(WordsFault::Words);
     };
-    match pio_in(alloc, options) {
-        Ok(pio) => owned(alloc, image, cycles, options, pio),
+    let pio = match pio_in(alloc, options) {
+        Ok(pio) => pio,
+        Err(fault) => return Err(fault),
+    };
+    match probes_in(alloc, probes, options) {
+        Ok(targets) => owned(alloc, image, cycles, options, pio, targets),
         Err(fault) => Err(fault),
     }
 }
 
 /// Reads `run` with the words of a run.
-fn read_run(alloc: Global, image: &str, options: &[String]) -> Result<Reading, WordsFault>
-    ensures { ReadsAs (option_map RunImage (run_reading image.now (map string_bytes options.now))) result }
+fn read_run(
+    alloc: Global,
+    probes: usize,
+    image: &str,
+    options: &[String],
+) -> Result<Reading, WordsFault>
+    ensures { ReadsAs (option_map RunImage (run_reading probes image.now (map string_bytes options.now))) result }
 {
-    match run_words(alloc, image, options) {
+    match run_words(alloc, probes, image, options) {
         Ok(run) => Ok(Reading::Run(run)),
         Err(fault) => Err(fault),
     }
 }
 
 /// Reads `debug` with the words of a run.
-fn read_debug(alloc: Global, image: &str, options: &[String]) -> Result<Reading, WordsFault>
-    ensures { ReadsAs (option_map DebugImage (run_reading image.now (map string_bytes options.now))) result }
+fn read_debug(
+    alloc: Global,
+    probes: usize,
+    image: &str,
+    options: &[String],
+) -> Result<Reading, WordsFault>
+    ensures { ReadsAs (option_map DebugImage (run_reading probes image.now (map string_bytes options.now))) result }
 {
-    match run_words(alloc, image, options) {
+    match run_words(alloc, probes, image, options) {
         Ok(run) => Ok(Reading::Debug(run)),
         Err(fault) => Err(fault),
+    }
+}
+
+/// Reads `gen <number> --cycles N`.
+#[tactic(auto, unfolding(crate::specs::Words::gen_reading))]
+fn read_gen(number: &str, options: &[String]) -> Result<Reading, WordsFault>
+    ensures { ReadsAs (gen_reading number.now (map string_bytes options.now)) result }
+{
+    match (number_within(0, u64::MAX, number), cycles_in(options)) {
+        (Some(number), Some(cycles)) => Ok(Reading::Gen(GenWords { number, cycles })),
+        _ => Err(WordsFault::Words),
     }
 }
 
@@ -170,36 +231,38 @@ fn read_asm(alloc: Global, name: &str) -> Result<Reading, WordsFault>
 
 /// Reads a command, its argument and its options.
 #[tactic(auto, unfolding(crate::specs::Words::written))]
-fn read_written(alloc: Global, words: &[String]) -> Result<Reading, WordsFault>
-    ensures { ReadsAs (written (map string_bytes words.now)) result }
+fn read_written(alloc: Global, probes: usize, words: &[String]) -> Result<Reading, WordsFault>
+    ensures { ReadsAs (written probes (map string_bytes words.now)) result }
 {
     let [command, argument, options @ ..] = words else {
         return Err(WordsFault::Words);
     };
     match command.as_str() {
-        "run" => read_run(alloc, argument.as_str(), options),
-        "debug" => read_debug(alloc, argument.as_str(), options),
+        "run" => read_run(alloc, probes, argument.as_str(), options),
+        "debug" => read_debug(alloc, probes, argument.as_str(), options),
         "dis" => read_dis(alloc, argument.as_str(), options),
         "asm" => read_asm(alloc, argument.as_str()),
+        "gen" => read_gen(argument.as_str(), options),
         _ => Err(WordsFault::Words),
     }
 }
 
-/// Reads `run <image> --cycles N [--script FILE] [--pio LIST]`, `debug` with the same words, `dis <hex> [--side S] [--opt T]` or
-/// `asm <file>`. Words in this form, the options in any order and each at most once, are read as they are written, all others as `clap` reads them.
+/// Reads `run <image> --cycles N [--script FILE] [--pio LIST] [--probe LIST]`, `debug` with the same words but `--probe`,
+/// `dis <hex> [--side S] [--opt T]`, `asm <file>` or `gen <number> --cycles N`, where so many `probes` are handed in. Words in this
+/// form, the options in any order and each at most once, are read as they are written, all others as `clap` reads them.
 ///
 /// # Errors
 ///
 /// `Words` where the words are none of these, `Memory` where memory ran out.
 #[tactic(auto, unfolding(crate::specs::Words::reading))]
-pub fn read_words(alloc: Global, words: &[String]) -> Result<Reading, WordsFault>
-    ensures { ReadsAs (reading (map string_bytes words.now)) result }
+pub fn read_words(alloc: Global, words: &[String], probes: usize) -> Result<Reading, WordsFault>
+    ensures { ReadsAs (reading probes (map string_bytes words.now)) result }
 {
     if is_normal(words) {
-        return read_written(alloc, words);
+        return read_written(alloc, probes, words);
     }
     match line_in(alloc, words) {
-        Ok(Some(line)) => read_written(alloc, &line),
+        Ok(Some(line)) => read_written(alloc, probes, &line),
         Ok(None) => Err(WordsFault::Words),
         Err(_) => Err(WordsFault::Memory),
     }

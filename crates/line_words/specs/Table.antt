@@ -20,13 +20,17 @@ needed name = record (option name) { required = true }
 abbrev pub command : Text → App
 command name = with_rule (new_app name) argument
 
--- `run <image> --cycles N [--script FILE] [--pio LIST]`
+-- the options of a command that runs an image: `--cycles N [--script FILE] [--pio LIST]`
+abbrev pub with_run : App → App
+with_run app = with_rule (with_rule (with_rule app (needed (codes "cycles"))) (option (codes "script"))) (option (codes "pio"))
+
+-- `run <image> --cycles N [--script FILE] [--pio LIST] [--probe LIST]`
 abbrev pub run : App
-run = with_rule (with_rule (with_rule (command (codes "run")) (needed (codes "cycles"))) (option (codes "script"))) (option (codes "pio"))
+run = with_rule (with_run (command (codes "run"))) (option (codes "probe"))
 
 -- `debug <image> --cycles N [--script FILE] [--pio LIST]`
 abbrev pub debug : App
-debug = with_rule (with_rule (with_rule (command (codes "debug")) (needed (codes "cycles"))) (option (codes "script"))) (option (codes "pio"))
+debug = with_run (command (codes "debug"))
 
 -- `asm <file>`
 abbrev pub asm : App
@@ -36,9 +40,15 @@ asm = command (codes "asm")
 abbrev pub dis : App
 dis = with_rule (with_rule (command (codes "dis")) (option (codes "side"))) (option (codes "opt"))
 
+-- `gen <number> --cycles N`
+abbrev pub generate : App
+generate = with_rule (command (codes "gen")) (needed (codes "cycles"))
+
 -- the first word is no program's name
 abbrev pub top : App
 top = on_top (λ s. record s { no_binary_name = true }) (new_app (codes "pico"))
 
 unfoldable pub table : App
-table = with_subcommand (with_subcommand (with_subcommand (with_subcommand top run.top) debug.top) asm.top) dis.top
+table =
+    with_subcommand (with_subcommand (with_subcommand (with_subcommand (with_subcommand top run.top) debug.top) asm.top) dis.top)
+    generate.top

@@ -40,7 +40,8 @@ pub fn table<'a>(alloc: Global) -> Result<Command<'a>, AllocError>
         .arg(argument(alloc))?
         .arg(needed(alloc, "cycles"))?
         .arg(option(alloc, "script"))?
-        .arg(option(alloc, "pio"))?;
+        .arg(option(alloc, "pio"))?
+        .arg(option(alloc, "probe"))?;
     let debug = Command::new(alloc, "debug")
         .arg(argument(alloc))?
         .arg(needed(alloc, "cycles"))?
@@ -51,10 +52,14 @@ pub fn table<'a>(alloc: Global) -> Result<Command<'a>, AllocError>
         .arg(argument(alloc))?
         .arg(option(alloc, "side"))?
         .arg(option(alloc, "opt"))?;
+    let generate = Command::new(alloc, "gen")
+        .arg(argument(alloc))?
+        .arg(needed(alloc, "cycles"))?;
     Command::new(alloc, "pico")
         .no_binary_name(true)
         .subcommand(run)?
         .subcommand(debug)?
         .subcommand(asm)?
-        .subcommand(dis)
+        .subcommand(dis)?
+        .subcommand(generate)
 }

@@ -50,6 +50,20 @@ fn lines_in_other_forms(rt: HostRuntime) -> Result<(), Fail> {
             Some(&["debug", "a.uf2", "--cycles", "10"])
         )?
     );
+    assert!(rt;
+        reads(
+            alloc,
+            &["run", "--probe=0=3", "--cycles=10", "a.uf2"],
+            Some(&["run", "a.uf2", "--cycles", "10", "--probe", "0=3"])
+        )?
+    );
+    assert!(rt;
+        reads(
+            alloc,
+            &["gen", "--cycles=10", "1"],
+            Some(&["gen", "1", "--cycles", "10"])
+        )?
+    );
     Ok(())
 }
 
@@ -67,6 +81,14 @@ fn lines_that_are_refused(rt: HostRuntime) -> Result<(), Fail> {
     );
     assert!(rt; reads(alloc, &["run", "a.uf2", "--cycles"], None)?);
     assert!(rt; reads(alloc, &["run", "a.uf2", "--cycles=10", "--side=1"], None)?);
+    assert!(rt; reads(alloc, &["gen", "1"], None)?);
+    assert!(rt;
+        reads(
+            alloc,
+            &["debug", "a.uf2", "--cycles=10", "--probe=0=3"],
+            None
+        )?
+    );
     assert!(rt; reads(alloc, &["--help"], None)?);
     assert!(rt; reads(alloc, &["help"], None)?);
     assert!(rt; reads(alloc, &["run", "-h"], None)?);

@@ -1,5 +1,5 @@
-//! The program: hands the command line, the real files, standard input and standard output to the top call, and ends with
-//! its status.
+//! The program: hands the command line, the real files, standard input, standard output and two probes to the top call, and
+//! ends with its status.
 #![tactic(auto)]
 
 mod file_shelf;
@@ -10,6 +10,9 @@ mod tests;
 
 ghost use Rattle.std.specs.Prelude.{◌≡◌, ◌<◌};
 
+use board_parts::edge_counter::EdgeCounter;
+use board_parts::probe::Probe;
+use board_parts::ws2812::Ws2812;
 use file_shelf::FileShelf;
 use lane_look::NoDevice;
 use pico_top::pico;
@@ -36,35 +39,46 @@ fn words<R: Env + AllocGlobal>(rt: &R) -> Result<Vec<String>, AllocError> {
     }
 }
 
-/// Does what the words say over the real files, standard input and standard output, with no device, and answers the status. The
-/// cycles are counted by a ledger that nobody reads.
+/// Does what the words say over the real files, standard input and standard output, with a counter of edges and a decoder of lights
+/// as probes 0 and 1 and with no device, and answers the status. The cycles are counted by a ledger that nobody reads.
+///
+/// # Errors
+///
+/// There was no memory for the probes; nothing was written then.
 fn serve<L: Ledger, R: Files + Input + Print>(
     blank: Blank,
     rt: &R,
     alloc: Global,
     words: &[String],
-) -> u8
+) -> Result<u8, AllocError>
     requires name { blank.name ≡ L.name }
     requires parts { blank.parts ≡ L.parts }
     requires some { 0 < blank.parts }
 {
     let (book, share) = blank.open::<L>();
     let mut steps = Steps::new(book, share);
+    let mut probes: Vec<Box<dyn Probe>> = Vec::new(alloc);
+    probes.push(Box::new(alloc, EdgeCounter::new())?)?;
+    probes.push(Box::new(alloc, Ws2812::new())?)?;
     let mut files = FileShelf::new(rt, alloc);
     let mut input = StdinSource::new(rt);
     let mut out = StdoutSink::new(rt);
-    pico(
-        alloc, words, &mut files, &mut input, &mut out, NoDevice, &mut steps,
-    )
+    Ok(pico(
+        alloc, words, &mut files, &mut input, &mut out, probes, NoDevice, &mut steps,
+    ))
 }
 
-/// Does what the arguments say, and ends with the status of it; with 9 and no word where the arguments find no memory.
+/// Does what the arguments say, and ends with the status of it; with 9 and no word where the arguments or the probes find no
+/// memory.
 fn program<R: Env + Files + Input + Print + AllocGlobal>(rt: &R) -> ExitCode {
     let alloc = rt.alloc();
     let Ok(words) = words(rt) else {
         return ExitCode::from(9);
     };
-    ExitCode::from(serve::<Brand, R>(Blank::new(1), rt, alloc, &words))
+    match serve::<Brand, R>(Blank::new(1), rt, alloc, &words) {
+        Ok(status) => ExitCode::from(status),
+        Err(_) => ExitCode::from(9),
+    }
 }
 
 fn main(rt: HostRuntime) -> ExitCode {

@@ -8,10 +8,11 @@ use Rattle.uf2_image.specs.declared.fault.ImageFault.{ImageFault}
 use Rattle.pio_parse.specs.declared.fault.PioFault.{PioFault}
 use Rattle.trace_text.specs.Sent.{Sends}
 use Rattle.trace_text.specs.declared.writer.SinkFault.{SinkFault}
-use Rattle.command_words.specs.Words.{Command, reading}
+use Rattle.board_parts.specs.Probe.{ProbeMeaning}
+use Rattle.command_words.specs.Words.{Command}
 use Rattle.refusal_lines.specs.Refusals.{Refusal, line_of, status_of}
 use Rattle.refusal_lines.specs.Refusals.Refusal.{BadWords, Lost, TooLarge, BadImage, BadScript, BadSource}
-use Rattle.pico_top.specs.Call.{Asked, Outside}
+use Rattle.pico_top.specs.Call.{Asked, read_from, Outside}
 use Rattle.line_talk.specs.declared.way.Way.{Way}
 use Rattle.line_talk.specs.Hearing.{way_status}
 use Rattle.line_talk.specs.declared.way.Way.TheVariants.{Closed, Ended, Broken, Full}
@@ -96,12 +97,12 @@ own_is status wanted own h e seven nine = elim h [
 
 -- a walk of the call's dialogue ended so
 abbrev pub EndedIn : Asked → Outside → Outside → Ending → Type 0
-EndedIn asked before after e = WalksFrom before.files asked.device (reading asked.words) e × (after.failed ≡ failed_names before.failed e)
+EndedIn asked before after e = WalksFrom before.files asked.device asked.probes (read_from asked) e × (after.failed ≡ failed_names before.failed e)
 
-words_cause : (asked : Asked) (before after : Outside) (e : Ending) → ending_status e ≡ 2 → EndedIn asked before after e → reading asked.words ≡ None
+words_cause : (asked : Asked) (before after : Outside) (e : Ending) → ending_status e ≡ 2 → EndedIn asked before after e → read_from asked ≡ None
 words_cause asked before after (Said text cost) e h = absurd (omega (arith, e))
 words_cause asked before after (Heard bytes way text cost) e h = no_way way 2 e (omega arith) (omega arith)
-words_cause asked before after (Refused BadWords) e h = words_refused before.files asked.device (reading asked.words) h.0
+words_cause asked before after (Refused BadWords) e h = words_refused before.files asked.device asked.probes (read_from asked) h.0
 words_cause asked before after (Refused (Lost name)) e h = absurd (omega (arith, e))
 words_cause asked before after (Refused (TooLarge name long)) e h = absurd (omega (arith, e))
 words_cause asked before after (Refused (BadImage fault)) e h = absurd (omega (arith, e))
@@ -156,7 +157,7 @@ script_cause asked before after NoMemory e h = absurd (omega (arith, e))
 -- what was heard, and what was taken for it
 abbrev pub HeardIn : Asked → Outside → Outside → ℕ → Ending → Type 0
 HeardIn asked before after status e =
-    WalksFrom before.files asked.device (reading asked.words) e × Takes before.left after.left before.source_faults after.source_faults status e
+    WalksFrom before.files asked.device asked.probes (read_from asked) e × Takes before.left after.left before.source_faults after.source_faults status e
 
 broken_cause : (asked : Asked) (before after : Outside) (status : ℕ) (e : Ending) → ending_status e ≡ 8 → HeardIn asked before after status e → (bytes : List ℕ) × HasHeard asked before after status bytes Broken
 broken_cause asked before after status (Said text cost) e h = absurd (omega (arith, e))
@@ -184,16 +185,16 @@ status_from asked before after status h = ends_is before.written after.written b
 own_from : (asked : Asked) (before after : Outside) (status own : ℕ) (h : Converses asked before after status) → status ≡ own → (own ≡ 7 → ⊥) → (own ≡ 9 → ⊥) → ending_status h.ending ≡ own
 own_from asked before after status own h e seven nine = own_is status (ending_status h.ending) own (status_from asked before after status h) e seven nine
 
-pub words_from : (asked : Asked) (before after : Outside) (status : ℕ) → Converses asked before after status → status ≡ 2 → reading asked.words ≡ None
+pub words_from : (asked : Asked) (before after : Outside) (status : ℕ) → Converses asked before after status → status ≡ 2 → read_from asked ≡ None
 words_from asked before after status h e =
     words_cause asked before after h.ending (own_from asked before after status 2 h e (λ x. omega (arith, x)) (λ x. omega (arith, x))) (h.walked, h.failed)
 
-refused_is : (files : Option Files) (device : DeviceMeaning) (asked : Option Command) (e : Ending) (status : ℕ) → asked ≡ None → WalksFrom files device asked e → IsStatus status (ending_status e) → IsStatus status 2
-refused_is files device None e status none walk is = subst (λ (x : Ending). IsStatus status (ending_status x)) walk is
-refused_is files device (Some command) e status none walk is = absurd (cc none)
+refused_is : (files : Option Files) (device : DeviceMeaning) (probes : List ProbeMeaning) (asked : Option Command) (e : Ending) (status : ℕ) → asked ≡ None → WalksFrom files device probes asked e → IsStatus status (ending_status e) → IsStatus status 2
+refused_is files device probes None e status none walk is = subst (λ (x : Ending). IsStatus status (ending_status x)) walk is
+refused_is files device probes (Some command) e status none walk is = absurd (cc none)
 
-pub refused_from : (asked : Asked) (before after : Outside) (status : ℕ) → Converses asked before after status → reading asked.words ≡ None → IsStatus status 2
-refused_from asked before after status h none = refused_is before.files asked.device (reading asked.words) h.ending status none h.walked (status_from asked before after status h)
+pub refused_from : (asked : Asked) (before after : Outside) (status : ℕ) → Converses asked before after status → read_from asked ≡ None → IsStatus status 2
+refused_from asked before after status h none = refused_is before.files asked.device asked.probes (read_from asked) h.ending status none h.walked (status_from asked before after status h)
 
 pub causes_from : (asked : Asked) (before after : Outside) (status : ℕ) → Converses asked before after status → HasCause asked before after status
 causes_from asked before after status h = record {

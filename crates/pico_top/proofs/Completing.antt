@@ -1,20 +1,19 @@
 -- The status of a call over files and bytes that are told.
-use Rattle.std.proofs.Common.{◌≡◌, ◌⊎◌, ℕ, ◌+◌, ◌-◌, ◌<◌, ◌≤◌, nat_le, Bool, true, false, not, ◌&&◌, if◌then◌else◌, List, [], ◌∷◌, ◌++◌, length, take, Option, Some, None, IfSome, refl, sym, ap, inl, inr, ◌∙◌, subst, arith, length-append}
+use Rattle.std.proofs.Common.{◌≡◌, ℕ, ◌+◌, ◌-◌, ◌<◌, ◌≤◌, nat_le, Bool, true, false, not, ◌&&◌, if◌then◌else◌, List, [], ◌∷◌, ◌++◌, length, take, Option, Some, None, IfSome, refl, sym, ap, inl, inr, ◌∙◌, subst, arith, length-append}
 use Rattle.std.proofs.Math.Seq.{take-append-add}
 use Rattle.std.proofs.lemmas.List.{append-nil, take_at}
 use Rattle.rp_ports.specs.Shelf.{Files}
 use Rattle.rp_ports.specs.Fault.{Rose}
 use Rattle.lane_look.specs.Device.{DeviceMeaning}
-use Rattle.command_words.specs.Words.{Command, reading}
-use Rattle.refusal_lines.specs.Refusals.Refusal.{Lost}
-use Rattle.pico_top.specs.Call.{Asked, Outside}
+use Rattle.board_parts.specs.Probe.{ProbeMeaning}
+use Rattle.command_words.specs.Words.{Command}
+use Rattle.pico_top.specs.Call.{Asked, read_from, Outside}
 use Rattle.line_talk.specs.Lines.{closes}
 use Rattle.line_talk.specs.declared.way.Way.{Way}
 use Rattle.line_talk.specs.Hearing.{MayEnd, way_status, IsTaken}
 use Rattle.line_talk.specs.declared.way.Way.TheVariants.{Closed, Ended, Broken, Full}
 use Rattle.pico_top.specs.Walk.{Ending, WalksFrom, failed_names, Verdict, verdict_from, status_over}
 use Rattle.pico_top.specs.Walk.Verdict.{Refuses, Says, Hears}
-use Rattle.pico_top.specs.Walk.Ending.{Refused, NoMemory}
 use Rattle.pico_top.specs.Answer.{Takes, Converses}
 use Rattle.pico_top.specs.Causes.{IsStatus, Fulfils, IsComplete}
 use Rattle.line_talk.proofs.LineLists.{closes_more}
@@ -90,16 +89,16 @@ of_fulfils before after (Hears limit last) e status is takes h =
 not_longer : {Q : Type 0} (failed failed' : List (List ℕ)) (name : List ℕ) → failed' ≡ failed ++ name ∷ [] → failed' ≡ failed → Q
 not_longer failed failed' name lost same = absurd (let e : length failed' ≡ length failed + 1 = ap length lost ∙ length-append failed (name ∷ []) in omega (arith, e, ap length same))
 
-complete : (files : Option Files) (before after : Outside) (device : DeviceMeaning) (asked : Option Command) (e : Ending) (status : ℕ) → WalksFrom files device asked e → after.failed ≡ failed_names before.failed e → Takes before.left after.left before.source_faults after.source_faults status e → IsStatus status (ending_status e) → IfSome files (λ f. after.failed ≡ before.failed → Fulfils before after status (verdict_from f device asked))
-complete None before after device asked e status walk names takes is = tt
-complete (Some f) before after device asked e status walk names takes is = λ same. elim (walk_from_follows f device asked e walk) [
-  | inl none ↦ none_fulfils before after (verdict_from f device asked) status (subst (λ (x : Ending). IsStatus status (ending_status x)) none is)
+complete : (files : Option Files) (before after : Outside) (device : DeviceMeaning) (probes : List ProbeMeaning) (asked : Option Command) (e : Ending) (status : ℕ) → WalksFrom files device probes asked e → after.failed ≡ failed_names before.failed e → Takes before.left after.left before.source_faults after.source_faults status e → IsStatus status (ending_status e) → IfSome files (λ f. after.failed ≡ before.failed → Fulfils before after status (verdict_from f device probes asked))
+complete None before after device probes asked e status walk names takes is = tt
+complete (Some f) before after device probes asked e status walk names takes is = λ same. elim (walk_from_follows f device probes asked e walk) [
+  | inl none ↦ none_fulfils before after (verdict_from f device probes asked) status (subst (λ (x : Ending). IsStatus status (ending_status x)) none is)
   | inr w ↦ elim w [
     | inl lost ↦ not_longer before.failed after.failed lost.0 (names ∙ ap (failed_names before.failed) lost.1) same
-    | inr of ↦ of_fulfils before after (verdict_from f device asked) e status of takes is
+    | inr of ↦ of_fulfils before after (verdict_from f device probes asked) e status of takes is
   ]
 ]
 
 pub complete_from : (asked : Asked) (before after : Outside) (status : ℕ) → Converses asked before after status → IsComplete asked before after status
 complete_from asked before after status h =
-    complete before.files before after asked.device (reading asked.words) h.ending status h.walked h.failed h.takes (status_from asked before after status h)
+    complete before.files before after asked.device asked.probes (read_from asked) h.ending status h.walked h.failed h.takes (status_from asked before after status h)

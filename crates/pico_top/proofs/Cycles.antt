@@ -1,5 +1,5 @@
 -- The text and the cycles of a run.
-use Rattle.std.proofs.Common.{◌≡◌, ℕ, zero, suc, ◌+◌, ◌-◌, ◌≤◌, ◌++◌, Option, Some, None, Result, Ok, Err, OnOk, refl, ap, subst, arith, ◌∙◌}
+use Rattle.std.proofs.Common.{◌≡◌, ℕ, zero, suc, ◌+◌, ◌-◌, ◌≤◌, ◌++◌, List, Option, Some, None, Result, Ok, Err, OnOk, refl, ap, ap₂, subst, arith, ◌∙◌}
 use Rattle.rp_base.specs.declared.Why.{Why}
 use Rattle.lane_look.specs.declared.marks.Mark.{Mark}
 use Rattle.outer_lane.specs.Setting.{Setting}
@@ -9,18 +9,19 @@ use Rattle.rp_machine.specs.Cycle.{stop, next, mark}
 use Rattle.rp_machine.specs.Events.{events_of, events}
 use Rattle.rp_machine.specs.Run.{states, last_state, all_events, unless_stopped}
 use Rattle.rp_machine.proofs.Runs.{next_cycle}
-use Rattle.pico_top.specs.RunText.{event_lines, run_text, run_cycles, end_text, core_lines}
+use Rattle.pico_top.specs.RunText.{event_lines, after_events, probe_lines, run_text, run_cycles, end_text, core_lines}
+use Rattle.board_parts.specs.Hearing.{Aim}
 
 -- a run begins with its events
-pub run_begins : (w : Setting) (s : State) → event_lines (all_events w s) ++ end_text w (last_state w s) ≡ run_text w s
+pub run_begins : (w : Setting) (aims : List Aim) (s : State) → event_lines (all_events w s) ++ (end_text w (last_state w s) ++ probe_lines (after_events (all_events w s) aims)) ≡ run_text w aims s
 unfolding run_text
-run_begins w s = refl
+run_begins w aims s = refl
 
--- and ends with the lines of the last state
-pub text_of_run : (w : Setting) (s t : State) (why : Why) → t ≡ last_state w s → stop w t ≡ Some why → event_lines (all_events w s) ++ (stop_text why t.cycle ++ core_lines t) ≡ run_text w s
-text_of_run w s t why e stops =
+-- and ends with the lines of the last state and those of the probes
+pub text_of_run : (w : Setting) (aims heard : List Aim) (s t : State) (why : Why) → t ≡ last_state w s → stop w t ≡ Some why → heard ≡ after_events (all_events w s) aims → event_lines (all_events w s) ++ ((stop_text why t.cycle ++ core_lines t) ++ probe_lines heard) ≡ run_text w aims s
+text_of_run w aims heard s t why e stops is =
     let here : stop_text why t.cycle ++ core_lines t ≡ end_text w (last_state w s) = subst (λ (x : State). stop_text why t.cycle ++ core_lines t ≡ end_text w x) e (rw stops refl) in
-    ap (λ r. event_lines (all_events w s) ++ r) here ∙ run_begins w s
+    ap₂ (λ (r : List ℕ) (a : List Aim). event_lines (all_events w s) ++ (r ++ probe_lines a)) here is ∙ run_begins w aims s
 
 -- what was counted up to the last state is the cycles of the run
 pub counted_run : (w : Setting) (s t : State) (before now : ℕ) → t ≡ last_state w s → now + s.cycle ≡ before + t.cycle → s.cycle ≤ t.cycle → now ≡ before + run_cycles w s

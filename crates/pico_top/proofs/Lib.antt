@@ -2,6 +2,7 @@ pub mod Causing
 pub mod Completing
 pub mod Cycles
 pub mod EventLines
+pub mod Listening
 pub mod Opens
 pub mod Pieces
 pub mod ProgramWalks

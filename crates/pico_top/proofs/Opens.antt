@@ -35,7 +35,10 @@ use Rattle.pico_top.specs.Dialogue.Dialogue.{Load, JudgeScript, SayWords, Say, H
 use Rattle.pico_top.specs.Walk.{Ending, IsHeard, Walks, failed_names}
 use Rattle.pico_top.specs.Walk.Ending.{Said, Refused}
 use Rattle.pico_top.specs.Answer.{Puts}
-use Rattle.pico_top.specs.Opening.{StopsAs, Opens, LoadsAs, Passes, Refuses, ReadsScript, Boots, use_for, setting_in, setting_by, IsPlaced, ArePlaced, LoadsAll}
+use Rattle.board_parts.specs.Hearing.{Aim}
+use Rattle.gen_image.specs.Code.{image_of_number}
+use Rattle.command_words.specs.Words.Command.{Generate}
+use Rattle.pico_top.specs.Opening.{StopsAs, Opens, OpensFor, LoadsAs, Passes, Refuses, ReadsScript, Boots, use_for, setting_in, setting_by, IsPlaced, ArePlaced, LoadsAll}
 use Rattle.pico_top.proofs.Walking.{runs_out}
 
 -- a load failed
@@ -71,12 +74,12 @@ script_read files failed failed' name bytes result answers same is =
 -- ---- parts of a walk, one behind another
 
 -- what was opened behind a part
-pub opens_behind : {X : Type 0} (files files' : Option Files) (a b c : List (List ℕ)) (device : DeviceMeaning) (part : (X → Dialogue) → Dialogue) (x : X) (next : X → Dialogue) (result : Result Opened Stop) → Passes files a b part (Ok x) → files' ≡ files → Opens files' b c device (next x) result → Opens files a c device (part next) result
-opens_behind files files' a b c device part x next (Ok opened) h same opens =
-    let o = subst (λ (f : Option Files). Opens f b c device (next x) (Ok opened)) same opens in
+pub opens_behind : {X : Type 0} (files files' : Option Files) (a b c : List (List ℕ)) (device : DeviceMeaning) (aims : List Aim) (part : (X → Dialogue) → Dialogue) (x : X) (next : X → Dialogue) (result : Result Opened Stop) → Passes files a b part (Ok x) → files' ≡ files → Opens files' b c device aims (next x) result → Opens files a c device aims (part next) result
+opens_behind files files' a b c device aims part x next (Ok opened) h same opens =
+    let o = subst (λ (f : Option Files). Opens f b c device aims (next x) (Ok opened)) same opens in
     (o.0 ∙ h.0, o.1, λ e w. h.1 next e (o.2 e w))
-opens_behind files files' a b c device part x next (Err stop) h same opens =
-    let s = subst (λ (f : Option Files). Opens f b c device (next x) (Err stop)) same opens in
+opens_behind files files' a b c device aims part x next (Err stop) h same opens =
+    let s = subst (λ (f : Option Files). Opens f b c device aims (next x) (Err stop)) same opens in
     (s.0, h.1 next s.0 s.1, s.2 ∙ ap (λ f. failed_names f s.0) h.0, s.3)
 
 -- ---- a run
@@ -131,8 +134,8 @@ heard_words files ps programs limit last told t e have is w = elim w [
 ]
 
 -- the machine booted, or memory ran out
-boots_opens : (purpose : Purpose) (files : Option Files) (failed : List (List ℕ)) (device : DeviceMeaning) (script : List ScriptEntry) (limit : ℕ) (image : Loaded) (ps : List Placed) (loads : List PioLoad) (result : Result Opened Stop) → ArePlaced ps loads → Boots purpose (start device image loads) script limit result → Opens files failed failed device (use_for purpose (setting_of script device limit) image ps) result
-boots_opens ForDebug files failed device script limit image ps loads (Ok (Session debugging)) placed h =
+boots_opens : (aims : List Aim) (purpose : Purpose) (files : Option Files) (failed : List (List ℕ)) (device : DeviceMeaning) (script : List ScriptEntry) (limit : ℕ) (image : Loaded) (ps : List Placed) (loads : List PioLoad) (result : Result Opened Stop) → ArePlaced ps loads → Boots purpose (start device image loads) script limit result → Opens files failed failed device aims (use_for aims purpose (setting_of script device limit) image ps) result
+boots_opens aims ForDebug files failed device script limit image ps loads (Ok (Session debugging)) placed h =
     let w : Setting = setting_of script device limit in
     let first : State = start device image (loads_of ps (programs_of loads)) in
     let own : State = first_of debugging.session in
@@ -144,34 +147,41 @@ boots_opens ForDebug files failed device script limit image ps loads (Ok (Sessio
       subst (λ n. OpensAt own n debugging.session) (sym h.2) opens,
       λ e walk. heard_words files ps (programs_of loads) input_limit quits (λ programs. session_told w (start device image (loads_of ps programs))) (session_told v own) e (have_words ps loads placed) here walk,
     )
-boots_opens ForDebug files failed device script limit image ps loads (Ok (Machine started)) placed h = absurd h
-boots_opens ForRun files failed device script limit image ps loads (Ok (Session debugging)) placed h = absurd h
-boots_opens ForRun files failed device script limit image ps loads (Ok (Machine started)) placed h =
+boots_opens aims ForDebug files failed device script limit image ps loads (Ok (Machine started)) placed h = absurd h
+boots_opens aims ForRun files failed device script limit image ps loads (Ok (Session debugging)) placed h = absurd h
+boots_opens aims ForRun files failed device script limit image ps loads (Ok (Machine started)) placed h =
     let w : Setting = setting_of script device limit in
     let first : State = start device image (loads_of ps (programs_of loads)) in
     let same : started.machine ≡ first = h.0 ∙ ap (start device image) (sym (same_loads ps loads placed)) in
     let at : started.machine.cycle ≡ 0 = ap (λ (m : State). m.cycle) h.0 ∙ start_cycle device image loads in
     let v : Setting = setting_in device started in
-    let here : Said (run_text w first) (Exactly (run_cycles w first)) ≡ Said (run_text v started.machine) (Exactly (run_cycles v started.machine)) = rw (same, h.1, h.2) refl in (
+    let here : Said (run_text w aims first) (Exactly (run_cycles w first)) ≡ Said (run_text v aims started.machine) (Exactly (run_cycles v started.machine)) = rw (same, h.1, h.2) refl in (
       refl,
       omega (arith, at),
-      λ e walk. said_words files ps (programs_of loads) (λ programs. run_text w (start device image (loads_of ps programs))) (λ programs. Exactly (run_cycles w (start device image (loads_of ps programs)))) (run_text v started.machine) (Exactly (run_cycles v started.machine)) e (have_words ps loads placed) here walk,
+      λ e walk. said_words files ps (programs_of loads) (λ programs. run_text w aims (start device image (loads_of ps programs))) (λ programs. Exactly (run_cycles w (start device image (loads_of ps programs)))) (run_text v aims started.machine) (Exactly (run_cycles v started.machine)) e (have_words ps loads placed) here walk,
     )
-boots_opens ForRun files failed device script limit image ps loads (Ok (Text text)) placed h = absurd h
-boots_opens ForRun files failed device script limit image ps loads (Err (Refusing refusal)) placed h = absurd h
-boots_opens ForRun files failed device script limit image ps loads (Err Memory) placed h = runs_out files failed (use_for ForRun (setting_of script device limit) image ps)
-boots_opens ForDebug files failed device script limit image ps loads (Ok (Text text)) placed h = absurd h
-boots_opens ForDebug files failed device script limit image ps loads (Err (Refusing refusal)) placed h = absurd h
-boots_opens ForDebug files failed device script limit image ps loads (Err Memory) placed h = runs_out files failed (use_for ForDebug (setting_of script device limit) image ps)
+boots_opens aims ForRun files failed device script limit image ps loads (Ok (Text text)) placed h = absurd h
+boots_opens aims ForRun files failed device script limit image ps loads (Err (Refusing refusal)) placed h = absurd h
+boots_opens aims ForRun files failed device script limit image ps loads (Err Memory) placed h = runs_out files failed (use_for aims ForRun (setting_of script device limit) image ps)
+boots_opens aims ForDebug files failed device script limit image ps loads (Ok (Text text)) placed h = absurd h
+boots_opens aims ForDebug files failed device script limit image ps loads (Err (Refusing refusal)) placed h = absurd h
+boots_opens aims ForDebug files failed device script limit image ps loads (Err Memory) placed h = runs_out files failed (use_for aims ForDebug (setting_of script device limit) image ps)
 
 -- the programs of a run have their places, and the machine booted
-pub programs_open : (purpose : Purpose) (files : Option Files) (a b : List (List ℕ)) (device : DeviceMeaning) (run : Run) (image : Loaded) (script : List ScriptEntry) (loads : Vec PioLoad Global) (result : Result Opened Stop) → LoadsAll files a b run.pio (Ok loads) → Boots purpose (start device image loads.items) script run.cycles result → Opens files a b device (behind_script (use_for purpose) device run image script) result
-programs_open purpose files a b device run image script loads (Ok opened) programs boots =
-    let last = boots_opens purpose files a device script run.cycles image programs.2.0 loads.items (Ok opened) programs.2.1 boots in
-    (programs.0, last.1, λ e w. programs.2.2 (use_for purpose (setting_of script device run.cycles) image) e (last.2 e w))
-programs_open purpose files a b device run image script loads (Err stop) programs boots =
-    let last = boots_opens purpose files a device script run.cycles image programs.2.0 loads.items (Err stop) programs.2.1 boots in
-    (last.0, programs.2.2 (use_for purpose (setting_of script device run.cycles) image) last.0 last.1, programs.0 ∙ last.2, last.3)
+pub programs_open : (aims : List Aim) (purpose : Purpose) (files : Option Files) (a b : List (List ℕ)) (device : DeviceMeaning) (run : Run) (image : Loaded) (script : List ScriptEntry) (loads : Vec PioLoad Global) (result : Result Opened Stop) → LoadsAll files a b run.pio (Ok loads) → Boots purpose (start device image loads.items) script run.cycles result → Opens files a b device aims (behind_script (use_for aims purpose) device run image script) result
+programs_open aims purpose files a b device run image script loads (Ok opened) programs boots =
+    let last = boots_opens aims purpose files a device script run.cycles image programs.2.0 loads.items (Ok opened) programs.2.1 boots in
+    (programs.0, last.1, λ e w. programs.2.2 (use_for aims purpose (setting_of script device run.cycles) image) e (last.2 e w))
+programs_open aims purpose files a b device run image script loads (Err stop) programs boots =
+    let last = boots_opens aims purpose files a device script run.cycles image programs.2.0 loads.items (Err stop) programs.2.1 boots in
+    (last.0, programs.2.2 (use_for aims purpose (setting_of script device run.cycles) image) last.0 last.1, programs.0 ∙ last.2, last.3)
+
+-- a generated image needs no file
+pub generated_opens : (files : Option Files) (failed : List (List ℕ)) (device : DeviceMeaning) (number cycles : ℕ) (image : Loaded) (script : List ScriptEntry) (result : Result Opened Stop) → image ≡ image_of_number number → script ≡ [] → Boots ForRun (start device image []) script cycles result → OpensFor files failed failed device (Generate number cycles) result
+generated_opens files failed device number cycles image script result is empty boots aims =
+    let own = subst (λ (i : Loaded). Boots ForRun (start device i []) script cycles result) is boots in
+    let plain = subst (λ (s : List ScriptEntry). Boots ForRun (start device (image_of_number number) []) s cycles result) empty own in
+    boots_opens aims ForRun files failed device [] cycles (image_of_number number) [] [] result tt plain
 
 -- the line of a refusal was put with its status
 pub refuses_by : (old new : Option (List ℕ)) (before now status : ℕ) (refusal : Written) (stop : Stop) (wanted : ℕ) (text : List ℕ) → stop ≡ Refusing refusal → wanted ≡ status_of (meant refusal) → text ≡ line_of (meant refusal) → Puts old new before now status wanted text → Refuses old new before now status stop

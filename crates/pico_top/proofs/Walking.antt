@@ -4,14 +4,14 @@ use Rattle.lane_look.specs.Device.{DeviceMeaning}
 use Rattle.rp_ports.specs.Shelf.{Files, Answers}
 use Rattle.rp_ports.specs.declared.shelf.Loaded.{Loaded}
 use Rattle.rp_ports.specs.declared.shelf.Loaded.TheVariants.{Done, Large, Failed, Memory}
+use Rattle.board_parts.specs.Probe.{ProbeMeaning}
 use Rattle.command_words.specs.Words.{Command}
-use Rattle.refusal_lines.specs.Refusals.{Refusal}
 use Rattle.refusal_lines.specs.Refusals.Refusal.{BadWords, Lost, TooLarge}
 use Rattle.pico_top.specs.declared.open.Stop.TheVariants.{Memory as OutOfMemory}
 use Rattle.line_talk.specs.Lines.{closes}
 use Rattle.line_talk.specs.declared.way.Way.{Way}
 use Rattle.line_talk.specs.Hearing.{MayEnd, lines_heard, way_line}
-use Rattle.pico_top.specs.Dialogue.{Cost, Told, Dialogue, dialogue_of}
+use Rattle.pico_top.specs.Dialogue.{Cost, Told, Dialogue, aims_in, dialogue_of}
 use Rattle.pico_top.specs.Dialogue.Dialogue.{Load, JudgeImage, JudgeScript, JudgeSource, JudgePlace, SayWords, Say, Hear, HearWords}
 use Rattle.pico_top.specs.Walk.{Ending, IsHeard, AfterLoad, Walks, WalksFrom, failed_names, Verdict, on_held, verdict, verdict_from}
 use Rattle.pico_top.specs.Walk.Verdict.{Refuses, Says, Hears}
@@ -38,9 +38,9 @@ pub runs_out : (files : Option Files) (failed : List (List ℕ)) (d : Dialogue) 
 runs_out files failed d = (NoMemory, no_memory files d, refl, tt)
 
 -- the words are refused, or memory runs out
-pub runs_out_from : (files : Option Files) (failed : List (List ℕ)) (device : DeviceMeaning) (asked : Option Command) → (e : Ending) × WalksFrom files device asked e × (failed ≡ failed_names failed e) × IsShort e
-runs_out_from files failed device None = (Refused BadWords, refl, refl, tt)
-runs_out_from files failed device (Some command) = runs_out files failed (dialogue_of device command)
+pub runs_out_from : (files : Option Files) (failed : List (List ℕ)) (device : DeviceMeaning) (probes : List ProbeMeaning) (asked : Option Command) → (e : Ending) × WalksFrom files device probes asked e × (failed ≡ failed_names failed e) × IsShort e
+runs_out_from files failed device probes None = (Refused BadWords, refl, refl, tt)
+runs_out_from files failed device probes (Some command) = runs_out files failed (dialogue_of device (aims_in probes command) command)
 
 -- no walk of a dialogue refuses the words
 after_load_reads : (answer : Loaded) (name : List ℕ) (on : Type 0) → AfterLoad answer name (Refused BadWords) on → on
@@ -64,9 +64,9 @@ walk_reads files (Say text cost) h = elim h [ inl e ↦ absurd (cc e) | inr e �
 walk_reads files (Hear limit last told) h = elim h [ inl w ↦ absurd (let e = w.4 in cc e) | inr e ↦ absurd (cc e) ]
 walk_reads files (HearWords plans limit last told) h = elim h [ inl w ↦ absurd (let e = w.2.4 in cc e) | inr e ↦ absurd (cc e) ]
 
-pub words_refused : (files : Option Files) (device : DeviceMeaning) (asked : Option Command) → WalksFrom files device asked (Refused BadWords) → asked ≡ None
-words_refused files device None h = refl
-words_refused files device (Some command) h = absurd (walk_reads files (dialogue_of device command) h)
+pub words_refused : (files : Option Files) (device : DeviceMeaning) (probes : List ProbeMeaning) (asked : Option Command) → WalksFrom files device probes asked (Refused BadWords) → asked ≡ None
+words_refused files device probes None h = refl
+words_refused files device probes (Some command) h = absurd (walk_reads files (dialogue_of device (aims_in probes command) command) h)
 
 -- ---- over files that are told
 
@@ -124,6 +124,6 @@ walk_follows f (HearWords plans limit last told) e h = elim h [
   | inr none ↦ inl none
 ]
 
-pub walk_from_follows : (f : Files) (device : DeviceMeaning) (asked : Option Command) (e : Ending) → WalksFrom (Some f) device asked e → Follows (verdict_from f device asked) e
-walk_from_follows f device None e h = inr (inr h)
-walk_from_follows f device (Some command) e h = walk_follows f (dialogue_of device command) e h
+pub walk_from_follows : (f : Files) (device : DeviceMeaning) (probes : List ProbeMeaning) (asked : Option Command) (e : Ending) → WalksFrom (Some f) device probes asked e → Follows (verdict_from f device probes asked) e
+walk_from_follows f device probes None e h = inr (inr h)
+walk_from_follows f device probes (Some command) e h = walk_follows f (dialogue_of device (aims_in probes command) command) e h

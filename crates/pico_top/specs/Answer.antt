@@ -2,9 +2,11 @@
 use Rattle.std.specs.Prelude.{◌≡◌, ◌⊎◌, ℕ, ◌+◌, ◌≤◌, List, Option, Result, Ok, Err, codes}
 use Rattle.trace_text.specs.Sent.{Sends}
 use Rattle.trace_text.specs.declared.writer.SinkFault.{SinkFault}
-use Rattle.command_words.specs.Words.{reading}
+use Rattle.lane_look.specs.Device.{DeviceMeaning}
+use Rattle.board_parts.specs.Probe.{ProbeMeaning}
+use Rattle.command_words.specs.Words.{Command}
 use Rattle.refusal_lines.specs.Refusals.{line_of, status_of}
-use Rattle.pico_top.specs.Call.{Asked, Outside}
+use Rattle.pico_top.specs.Call.{Asked, read_from, Outside}
 use Rattle.line_talk.specs.Hearing.{way_status, IsTaken}
 use Rattle.pico_top.specs.Dialogue.{Cost}
 use Rattle.pico_top.specs.Dialogue.Cost.{Exactly, AtMost}
@@ -73,13 +75,18 @@ Takes old new before now status NoMemory = (new ≡ old) × (now ≡ before)
 
 -- ---- the call
 
--- A call with this status: a walk of its dialogue ended so, and what it took, wrote and counted goes with that ending. The files
--- are as before.
-pub record Converses (asked : Asked) (before after : Outside) (status : ℕ) : Type 0 where
+-- A call with this status: a walk of the dialogue of what is asked for ended so, and what it took, wrote and counted goes with that
+-- ending. The files are as before.
+pub record ConversesFor (device : DeviceMeaning) (probes : List ProbeMeaning) (asked : Option Command) (before after : Outside) (status : ℕ)
+    : Type 0 where
   pub ending : Ending
-  pub walked : WalksFrom before.files asked.device (reading asked.words) ending
+  pub walked : WalksFrom before.files device probes asked ending
   pub failed : after.failed ≡ failed_names before.failed ending
   pub kept : after.files ≡ before.files
   pub takes : Takes before.left after.left before.source_faults after.source_faults status ending
   pub ends : Ends before.written after.written before.sink_faults after.sink_faults status ending
   pub counted : Counts ending status before.steps after.steps
+
+-- a call for words
+abbrev pub Converses : Asked → Outside → Outside → ℕ → Type 0
+Converses asked before after status = ConversesFor asked.device asked.probes (read_from asked) before after status

@@ -4,10 +4,9 @@ use Rattle.rp_ports.specs.Fault.{Rose}
 use Rattle.uf2_image.specs.declared.fault.ImageFault.{ImageFault}
 use Rattle.pin_script.specs.declared.fault.ScriptFault.{ScriptFault}
 use Rattle.pio_parse.specs.declared.fault.PioFault.{PioFault}
-use Rattle.command_words.specs.Words.{reading}
 use Rattle.refusal_lines.specs.Refusals.{Refusal, status_of}
 use Rattle.refusal_lines.specs.Refusals.Refusal.{Lost, TooLarge, BadImage, BadScript, BadSource}
-use Rattle.pico_top.specs.Call.{Asked, Outside}
+use Rattle.pico_top.specs.Call.{Asked, read_from, Outside}
 use Rattle.line_talk.specs.declared.way.Way.{Way}
 use Rattle.line_talk.specs.Hearing.{IsTaken}
 use Rattle.line_talk.specs.declared.way.Way.TheVariants.{Broken, Full}
@@ -20,12 +19,12 @@ use Rattle.pico_top.specs.Walk.Ending.{Heard, Refused}
 -- the failed ones, and no other name did
 abbrev pub IsRefused : Asked → Outside → Outside → Refusal → Type 0
 IsRefused asked before after refusal =
-    WalksFrom before.files asked.device (reading asked.words) (Refused refusal) × (after.failed ≡ failed_names before.failed (Refused refusal))
+    WalksFrom before.files asked.device asked.probes (read_from asked) (Refused refusal) × (after.failed ≡ failed_names before.failed (Refused refusal))
 
 -- the walk of the call's dialogue ended after these bytes were heard, which were taken from the source
 abbrev pub HasHeard : Asked → Outside → Outside → ℕ → List ℕ → Way → Type 0
 HasHeard asked before after status bytes way =
-    ((text : List ℕ) × (cost : Cost) × WalksFrom before.files asked.device (reading asked.words) (Heard bytes way text cost))
+    ((text : List ℕ) × (cost : Cost) × WalksFrom before.files asked.device asked.probes (read_from asked) (Heard bytes way text cost))
     × IsTaken before.left after.left before.source_faults after.source_faults status bytes way
 
 -- 3 comes only where a load failed or a file was too large, 4 only where an image had a fault for its first one, 5 only where a
@@ -56,4 +55,4 @@ Fulfils before after status (Hears limit last) =
 -- where the shelf tells its files and no load failed, the status is that of the dialogue over these files
 abbrev pub IsComplete : Asked → Outside → Outside → ℕ → Type 0
 IsComplete asked before after status =
-    IfSome before.files (λ files. after.failed ≡ before.failed → Fulfils before after status (verdict_from files asked.device (reading asked.words)))
+    IfSome before.files (λ files. after.failed ≡ before.failed → Fulfils before after status (verdict_from files asked.device asked.probes (read_from asked)))

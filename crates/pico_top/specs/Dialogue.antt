@@ -2,6 +2,11 @@
 -- them. The project's own.
 use Rattle.std.specs.Prelude.{ℕ, Bool, List, [], ◌∷◌, ◌++◌, Option, None, Some, Result}
 use Rattle.lane_look.specs.Device.{DeviceMeaning}
+use Rattle.board_parts.specs.Probe.{ProbeMeaning}
+use Rattle.board_parts.specs.Hearing.{Aim}
+use Rattle.board_parts.specs.Aiming.{aims_of}
+use Rattle.board_parts.specs.declared.target.Target.{Target}
+use Rattle.gen_image.specs.Code.{image_of_number}
 use Rattle.uf2_image.specs.Uf2.{image_of}
 use Rattle.uf2_image.specs.declared.parts.Image.{Image}
 use Rattle.uf2_image.specs.declared.fault.ImageFault.{ImageFault}
@@ -18,7 +23,7 @@ use Rattle.rp_machine.specs.State.{State}
 use Rattle.rp_machine.specs.Boot.{start}
 use Rattle.command_words.specs.Entries.{Entry}
 use Rattle.command_words.specs.Words.{Run, Command}
-use Rattle.command_words.specs.Words.Command.{RunImage, DebugImage, Disassemble, Assemble}
+use Rattle.command_words.specs.Words.Command.{RunImage, DebugImage, Disassemble, Assemble, Generate}
 use Rattle.line_talk.specs.Talk.{text_from, cost_from}
 use Rattle.line_talk.specs.Debugger.{quits, talk_of}
 use Rattle.pico_top.specs.Loads.{Placed, placed_as, offset_of, loads_of, plans_in}
@@ -97,10 +102,10 @@ with_programs (entry ∷ entries) placed next = with_program entry placed (λ mo
 
 -- ---- the dialogue of each command
 
--- the text of a run, whose cycles are counted
-abbrev pub say_run : Setting → Image → List Placed → Dialogue
-say_run w image placed = SayWords (plans_in placed)
-    (λ programs. run_text w (start w.device image (loads_of placed programs)))
+-- the text of a run that these probes hear, whose cycles are counted
+abbrev pub say_run : List Aim → Setting → Image → List Placed → Dialogue
+say_run aims w image placed = SayWords (plans_in placed)
+    (λ programs. run_text w aims (start w.device image (loads_of placed programs)))
     (λ programs. Exactly (run_cycles w (start w.device image (loads_of placed programs))))
 
 -- an input has at most 1 MiB up to its last line
@@ -128,10 +133,23 @@ behind_script use_run device run image script = with_programs run.pio [] (use_ru
 abbrev pub behind_image : Use → DeviceMeaning → Run → Image → Dialogue
 behind_image use_run device run image = with_script run.script (behind_script use_run device run image)
 
--- a run and the debugger on it load its image, its script and its programs, and a listing its source; the source text of
--- instruction words needs no file
-abbrev pub dialogue_of : DeviceMeaning → Command → Dialogue
-dialogue_of device (RunImage run) = with_image run.image (behind_image say_run device run)
-dialogue_of device (DebugImage run) = with_image run.image (behind_image hear_run device run)
-dialogue_of device (Disassemble words side) = Say (source_text side words) (Exactly 0)
-dialogue_of device (Assemble name) = with_source name (λ plans. SayWords plans listing (λ programs. Exactly 0))
+-- which probes a command aims at which pins: a run those that its words name, and no other command any
+abbrev pub targets_in : Command → List Target
+targets_in (RunImage run) = run.probes
+targets_in (DebugImage run) = []
+targets_in (Disassemble words side) = []
+targets_in (Assemble name) = []
+targets_in (Generate number cycles) = []
+
+-- the probes that are aimed, of those that are handed in
+abbrev pub aims_in : List ProbeMeaning → Command → List Aim
+aims_in probes command = aims_of probes (targets_in command)
+
+-- A run and the debugger on it load its image, its script and its programs, and a listing its source; the source text of
+-- instruction words needs no file. The run of a generated image has no script and no programs.
+abbrev pub dialogue_of : DeviceMeaning → List Aim → Command → Dialogue
+dialogue_of device aims (RunImage run) = with_image run.image (behind_image (say_run aims) device run)
+dialogue_of device aims (DebugImage run) = with_image run.image (behind_image hear_run device run)
+dialogue_of device aims (Disassemble words side) = Say (source_text side words) (Exactly 0)
+dialogue_of device aims (Assemble name) = with_source name (λ plans. SayWords plans listing (λ programs. Exactly 0))
+dialogue_of device aims (Generate number cycles) = say_run aims (setting_of [] device cycles) (image_of_number number) []

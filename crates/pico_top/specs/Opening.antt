@@ -3,19 +3,19 @@ use Rattle.std.specs.Prelude.{◌≡◌, ◌⊎◌, ◌==◌, ℕ, ◌≤◌, if
 use Rattle.std.specs.Global.{Global}
 use Rattle.rp_ports.specs.Shelf.{Files, Answers}
 use Rattle.rp_ports.specs.declared.shelf.Loaded.TheVariants.{Done}
-use Rattle.uf2_image.specs.declared.parts.Image.{Image}
 use Rattle.command_words.specs.Words.{Command}
 use Rattle.refusal_lines.specs.declared.Refusal.TheVariants.{Words, File, Large, Image as BadImage, Script, Source}
 use Rattle.refusal_lines.specs.Meant.{meant}
 use Rattle.refusal_lines.specs.Refusals.{line_of, status_of}
 use Rattle.pico_top.specs.Answer.{Puts, RunsOut, Takes, Ends, Counts}
 use Rattle.lane_look.specs.Device.{DeviceMeaning}
+use Rattle.board_parts.specs.Hearing.{Aim}
 use Rattle.outer_lane.specs.Setting.{Setting, setting_of}
 use Rattle.rp_machine.specs.declared.load.PioLoad.{PioLoad}
 use Rattle.pio_listing.specs.Placing.{with_places}
 use Rattle.pin_script.specs.Script.{script_of}
 use Rattle.pin_script.specs.declared.entry.Entry.{Entry as ScriptEntry}
-use Rattle.rp_machine.specs.Boot.{AreLoads, start}
+use Rattle.rp_machine.specs.Boot.{AreLoads}
 use Rattle.command_words.specs.Entries.{Entry}
 use Rattle.reverse_debug.specs.Standing.{first_of, OpensAt}
 use Rattle.rp_machine.specs.State.{State}
@@ -32,10 +32,10 @@ use Rattle.pio_asm.specs.Assembly.{Plan, IsProgram}
 use Rattle.pio_listing.specs.Listing.{plans_of}
 use Rattle.line_talk.specs.Debugger.{quits}
 use Rattle.pico_top.specs.Loads.{Placed, placed_as, offset_of}
-use Rattle.pico_top.specs.Dialogue.{Use, Dialogue, say_run, hear_run, input_limit, session_told, with_first, with_program, with_programs}
+use Rattle.pico_top.specs.Dialogue.{Use, Dialogue, dialogue_of, say_run, hear_run, input_limit, session_told, with_first, with_program, with_programs}
 use Rattle.pico_top.specs.Dialogue.Dialogue.{Load, JudgeSource, JudgePlace, Say, Hear}
 use Rattle.pico_top.specs.Dialogue.Cost.{Exactly}
-use Rattle.pico_top.specs.Walk.{Ending, Walks, WalksFrom, failed_names}
+use Rattle.pico_top.specs.Walk.{Ending, Walks, failed_names}
 use Rattle.pico_top.specs.Walk.Ending.{Said, Heard, Refused, NoMemory}
 
 -- what the run of a machine is given
@@ -46,12 +46,12 @@ abbrev pub setting_by : DeviceMeaning → Debugging → Setting
 setting_by device debugging = setting_of debugging.script device debugging.limit
 
 -- what is left of the dialogue when this is opened
-abbrev pub opened_dialogue : DeviceMeaning → Opened → Dialogue
-opened_dialogue device (Machine started) =
-    Say (run_text (setting_in device started) started.machine) (Exactly (run_cycles (setting_in device started) started.machine))
-opened_dialogue device (Session debugging) =
+abbrev pub opened_dialogue : DeviceMeaning → List Aim → Opened → Dialogue
+opened_dialogue device aims (Machine started) =
+    Say (run_text (setting_in device started) aims started.machine) (Exactly (run_cycles (setting_in device started) started.machine))
+opened_dialogue device aims (Session debugging) =
     Hear input_limit quits (session_told (setting_by device debugging) (first_of debugging.session))
-opened_dialogue device (Text text) = Say text.items (Exactly 0)
+opened_dialogue device aims (Text text) = Say text.items (Exactly 0)
 
 -- a machine has not passed its limit, and a session was opened at its first state
 abbrev pub IsReady : Opened → Type 0
@@ -75,18 +75,16 @@ StopsAs Memory e = IsShort e
 abbrev pub Stops : Option Files → List (List ℕ) → List (List ℕ) → Dialogue → Stop → Type 0
 Stops files failed failed' d stop = (e : Ending) × Walks files d e × (failed' ≡ failed_names failed e) × StopsAs stop e
 
--- something was opened from which every walk is one of the dialogue; or a walk ended in a stop
-abbrev pub Opens : Option Files → List (List ℕ) → List (List ℕ) → DeviceMeaning → Dialogue → Result Opened Stop → Type 0
-Opens files failed failed' device d (Ok opened) =
-    (failed' ≡ failed) × IsReady opened × ((e : Ending) → Walks files (opened_dialogue device opened) e → Walks files d e)
-Opens files failed failed' device d (Err stop) = Stops files failed failed' d stop
+-- something was opened, which these probes hear, from which every walk is one of the dialogue; or a walk ended in a stop
+abbrev pub Opens : Option Files → List (List ℕ) → List (List ℕ) → DeviceMeaning → List Aim → Dialogue → Result Opened Stop → Type 0
+Opens files failed failed' device aims d (Ok opened) =
+    (failed' ≡ failed) × IsReady opened × ((e : Ending) → Walks files (opened_dialogue device aims opened) e → Walks files d e)
+Opens files failed failed' device aims d (Err stop) = Stops files failed failed' d stop
 
--- the same of the dialogue of what the words ask for
-abbrev pub OpensFrom : Option Files → List (List ℕ) → List (List ℕ) → DeviceMeaning → Option Command → Result Opened Stop → Type 0
-OpensFrom files failed failed' device asked (Ok opened) =
-    (failed' ≡ failed) × IsReady opened × ((e : Ending) → Walks files (opened_dialogue device opened) e → WalksFrom files device asked e)
-OpensFrom files failed failed' device asked (Err stop) =
-    (e : Ending) × WalksFrom files device asked e × (failed' ≡ failed_names failed e) × StopsAs stop e
+-- the same of the dialogue of a command, whatever probes hear it
+abbrev pub OpensFor : Option Files → List (List ℕ) → List (List ℕ) → DeviceMeaning → Command → Result Opened Stop → Type 0
+OpensFor files failed failed' device command result =
+    (aims : List Aim) → Opens files failed failed' device aims (dialogue_of device aims command) result
 
 -- a load gave these bytes, or the walk ended at it, whatever comes behind
 abbrev pub LoadsAs : Option Files → List (List ℕ) → List (List ℕ) → List ℕ → ℕ → Result (Vec ℕ Global) Stop → Type 0
@@ -123,9 +121,9 @@ Boots purpose first script limit (Err (Refusing refusal)) = ⊥
 Boots purpose first script limit (Err Memory) = Unit {0}
 
 -- what is done with a run for a purpose
-abbrev pub use_for : Purpose → Use
-use_for ForRun = say_run
-use_for ForDebug = hear_run
+abbrev pub use_for : List Aim → Purpose → Use
+use_for aims ForRun = say_run aims
+use_for aims ForDebug = hear_run
 
 -- ---- programs that have their places
 

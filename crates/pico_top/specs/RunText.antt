@@ -1,5 +1,5 @@
 -- The text of a run: the project's own.
-use Rattle.std.specs.Prelude.{ℕ, ◌-◌, if◌then◌else◌, List, [], ◌∷◌, ◌++◌, flat_map, Option, Some, None}
+use Rattle.std.specs.Prelude.{ℕ, ◌-◌, if◌then◌else◌, List, [], ◌∷◌, ◌++◌, flat_map, map, Option, Some, None}
 use Rattle.rp_base.specs.declared.Why.{Why}
 use Rattle.word_bits.specs.Word.{has_bit}
 use Rattle.trace_text.specs.declared.event.Event.TheVariants as lines
@@ -11,6 +11,8 @@ use Rattle.rp_machine.specs.Events.{Event, changes_of}
 use Rattle.rp_machine.specs.Events.Event.{Byte, Pin}
 use Rattle.rp_machine.specs.Readers.{registers_of}
 use Rattle.rp_machine.specs.Run.{last_state, all_events}
+use Rattle.board_parts.specs.Hearing.{Aim, after_hearing, aim_text}
+use Rattle.board_parts.specs.declared.change.PinChange.{PinChange}
 
 -- the line of an event
 abbrev pub event_line : Event → List ℕ
@@ -47,9 +49,28 @@ core_lines s = register_text 0 (registers_of 0 s) ++ register_text 1 (registers_
 abbrev pub end_text : Setting → State → List ℕ
 end_text w s = stop_lines (stop w s) s.cycle ++ core_lines s
 
--- the text of the run from a state: the lines of the events of all cycles, and those of the first state with a stop
-unfoldable pub run_text : Setting → State → List ℕ
-run_text w s = event_lines (all_events w s) ++ end_text w (last_state w s)
+-- ---- the probes
+
+-- the change that an event is, if it is one of a pin
+abbrev pub change_in : Event → List PinChange
+change_in (Byte cycle uart byte) = []
+change_in (Pin cycle pin high) = record { cycle = cycle; pin = pin; level = high } ∷ []
+
+-- probes that heard the changes of pins among events, in their order
+unfoldable pub after_events : List Event → List Aim → List Aim
+after_events events aims = map (after_hearing (flat_map change_in events)) aims
+
+-- the lines of probes, one after another
+unfoldable pub probe_lines : List Aim → List ℕ
+probe_lines aims = flat_map aim_text aims
+
+-- ---- the run
+
+-- the text of the run from a state: the lines of the events of all cycles, those of the first state with a stop, and those of the
+-- probes that are aimed, which have heard these events
+unfoldable pub run_text : Setting → List Aim → State → List ℕ
+run_text w aims s =
+    event_lines (all_events w s) ++ (end_text w (last_state w s) ++ probe_lines (after_events (all_events w s) aims))
 
 -- how many cycles the run has: the number of the cycle that its last state would do next, from the one that its first would do
 unfoldable pub run_cycles : Setting → State → ℕ

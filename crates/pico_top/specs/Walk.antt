@@ -1,6 +1,7 @@
 -- The walks of a dialogue over a shelf of files, and where they end. The project's own.
 use Rattle.std.specs.Prelude.{◌≡◌, ◌⊎◌, ℕ, ◌≤◌, nat_le, Bool, not, ◌&&◌, if◌then◌else◌, List, ◌++◌, length, take, Option, Some, None, Ok, Err}
 use Rattle.lane_look.specs.Device.{DeviceMeaning}
+use Rattle.board_parts.specs.Probe.{ProbeMeaning}
 use Rattle.rp_ports.specs.Shelf.{Files, Answers, failed_after}
 use Rattle.rp_ports.specs.declared.shelf.Loaded.{Loaded}
 use Rattle.rp_ports.specs.declared.shelf.Loaded.TheVariants.{Done, Large, Failed, Memory}
@@ -12,7 +13,7 @@ use Rattle.refusal_lines.specs.Refusals.Refusal.{BadWords, Lost, TooLarge, BadIm
 use Rattle.line_talk.specs.Lines.{closes}
 use Rattle.line_talk.specs.declared.way.Way.{Way}
 use Rattle.line_talk.specs.Hearing.{MayEnd, lines_heard, way_line}
-use Rattle.pico_top.specs.Dialogue.{Cost, Told, Dialogue, dialogue_of}
+use Rattle.pico_top.specs.Dialogue.{Cost, Told, Dialogue, aims_in, dialogue_of}
 use Rattle.pico_top.specs.Dialogue.Dialogue.{Load, JudgeImage, JudgeScript, JudgeSource, JudgePlace, SayWords, Say, Hear, HearWords}
 
 -- how a walk ends: its text was said, these bytes were heard up to an end and this was told, an input was refused with every
@@ -62,9 +63,9 @@ Walks files (HearWords plans limit last told) e =
     ((programs : List Program) × ArePrograms plans programs × IsHeard limit last (told programs) e) ⊎ (e ≡ NoMemory)
 
 -- a walk from the reading of the words, which are refused where they have none
-abbrev pub WalksFrom : Option Files → DeviceMeaning → Option Command → Ending → Type 0
-WalksFrom files device None e = e ≡ Refused BadWords
-WalksFrom files device (Some command) e = Walks files (dialogue_of device command) e
+abbrev pub WalksFrom : Option Files → DeviceMeaning → List ProbeMeaning → Option Command → Ending → Type 0
+WalksFrom files device probes None e = e ≡ Refused BadWords
+WalksFrom files device probes (Some command) e = Walks files (dialogue_of device (aims_in probes command) command) e
 
 -- the failed names of the shelf after a walk: one more where a load failed
 abbrev pub failed_names : List (List ℕ) → Ending → List (List ℕ)
@@ -107,9 +108,9 @@ verdict files (Say text cost) = Says
 verdict files (Hear limit last told) = Hears limit last
 verdict files (HearWords plans limit last told) = Hears limit last
 
-abbrev pub verdict_from : Files → DeviceMeaning → Option Command → Verdict
-verdict_from files device None = Refuses BadWords
-verdict_from files device (Some command) = verdict files (dialogue_of device command)
+abbrev pub verdict_from : Files → DeviceMeaning → List ProbeMeaning → Option Command → Verdict
+verdict_from files device probes None = Refuses BadWords
+verdict_from files device probes (Some command) = verdict files (dialogue_of device (aims_in probes command) command)
 
 -- the status of hearing these bytes: 10 where the limit is reached before a last line is complete
 abbrev pub status_over : ℕ → (List ℕ → Bool) → List ℕ → ℕ

@@ -3,6 +3,7 @@
 ghost use Rattle.std.specs.Prelude.{◌≡◌, ◌<◌};
 
 use crate::pico;
+use board_parts::probe::Probe;
 use lane_look::NoDevice;
 use rp_machine::Steps;
 use rp_ports::mem_source::MemSource;
@@ -20,6 +21,7 @@ fn counted<F: Shelf, I: Source, O: Sink, L: Ledger>(
     files: &mut F,
     input: &mut I,
     out: &mut O,
+    probes: Vec<Box<dyn Probe>>,
 ) -> u8
     requires name { blank.name ≡ L.name }
     requires parts { blank.parts ≡ L.parts }
@@ -27,7 +29,21 @@ fn counted<F: Shelf, I: Source, O: Sink, L: Ledger>(
 {
     let (book, share) = blank.open::<L>();
     let mut steps = Steps::new(book, share);
-    pico(alloc, words, files, input, out, NoDevice, &mut steps)
+    pico(
+        alloc, words, files, input, out, probes, NoDevice, &mut steps,
+    )
+}
+
+/// What `pico` answers where its lines come from a source, and these probes are handed in.
+pub fn probe_words<F: Shelf, I: Source, O: Sink>(
+    alloc: Global,
+    words: &[String],
+    files: &mut F,
+    input: &mut I,
+    out: &mut O,
+    probes: Vec<Box<dyn Probe>>,
+) -> u8 {
+    counted::<F, I, O, Brand>(Blank::new(1), alloc, words, files, input, out, probes)
 }
 
 /// What `pico` answers where its lines come from a source.
@@ -38,7 +54,7 @@ pub fn hear_words<F: Shelf, I: Source, O: Sink>(
     input: &mut I,
     out: &mut O,
 ) -> u8 {
-    counted::<F, I, O, Brand>(Blank::new(1), alloc, words, files, input, out)
+    probe_words(alloc, words, files, input, out, Vec::new(alloc))
 }
 
 /// What `pico` answers where there is no input.

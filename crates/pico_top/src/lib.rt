@@ -4,20 +4,31 @@
 
 mod events;
 mod open;
+mod probes;
 mod programs;
 mod runner;
 mod send;
 mod tell;
 
-ghost use Rattle.std.specs.Prelude.{◌≡◌, None, map};
+ghost use Rattle.std.specs.Prelude.{◌≡◌, List, None, Some, length, map};
 ghost use Rattle.std.specs.String.{string_bytes};
 ghost use Rattle.rp_ports.specs.Fault.{Rose};
-ghost use Rattle.command_words.specs.Words.{reading};
-ghost use Rattle.pico_top.specs.Answer.{Converses};
+ghost use Rattle.board_parts.specs.Probe.{ProbeMeaning};
+ghost use Rattle.board_parts.specs.Hearing.{aim_of, seen};
+ghost use Rattle.command_words.specs.Words.{reading, IsLimited};
+ghost use Rattle.command_words.specs.Read.{command_in};
+ghost use Rattle.pico_top.specs.Answer.{Converses, ConversesFor};
 ghost use Rattle.pico_top.specs.Causes.{HasCause, IsComplete, IsStatus};
+ghost use Rattle.pico_top.specs.Dialogue.{aims_in, targets_in};
 
+use board_parts::aimed::Aimed;
+use board_parts::aiming::aim_all;
+use board_parts::probe::Probe;
+use board_parts::target::Target;
+use command_words::{Reading, WordsFault, read_words};
 use lane_look::Device;
-use open::open;
+use open::{Stop, open_reading};
+use refusal_lines::Refusal;
 use rp_machine::Steps;
 use rp_ports::shelf::Shelf;
 use rp_ports::sink::Sink;
@@ -26,17 +37,33 @@ use std::alloc::Global;
 use std::sync::ledger::Ledger;
 use tell::{refuse, tell_into};
 
-/// Loads the files that the words name, and writes the text.
-fn converse<F: Shelf, I: Source, O: Sink, X: Device, L: Ledger>(
+/// The probes that a reading aims.
+fn targets(reading: &Reading) -> &[Target]
+    ensures { result.now ≡ targets_in (command_in reading.now) }
+{
+    match reading {
+        Reading::Run(run) => &run.probes,
+        Reading::Debug(_) | Reading::Dis(_) | Reading::Asm(_) | Reading::Gen(_) => &[],
+    }
+}
+
+/// Loads the files of a reading, and writes the text, where these probes hear a run.
+fn serve_aimed<F: Shelf, I: Source, O: Sink, X: Device, L: Ledger>(
     alloc: Global,
-    words: &[String],
+    reading: &Reading,
     files: &mut F,
     input: &mut I,
     out: &mut O,
+    aimed: &mut [Aimed],
     device: &X,
     steps: &mut Steps<L>,
 ) -> u8
-    ensures { Converses record { words = map string_bytes words.now; device = X.meaning device.now }
+    requires { IsLimited (command_in reading.now) }
+    ensures { (probes : List ProbeMeaning)
+        → seen aimed.old (λ a. aim_of a.index a.pin
+        (⟦<dyn Probe as Probe>⟧ a.probe.vtable) a.probe.value)
+        ≡ aims_in probes (command_in reading.now)
+        → ConversesFor (X.meaning device.now) probes (Some (command_in reading.now))
         record {
           files = F.files files.old;
           failed = F.failed files.old;
@@ -57,9 +84,93 @@ fn converse<F: Shelf, I: Source, O: Sink, X: Device, L: Ledger>(
         }
         result }
 {
-    match open(alloc, words, files, device) {
-        Ok(opened) => tell_into(opened, device, input, out, steps),
+    match open_reading(alloc, reading, files, device) {
+        Ok(opened) => tell_into(opened, aimed, device, input, out, steps),
         Err(stop) => refuse(alloc, &stop, out),
+    }
+}
+
+/// Aims the probes that a reading names, loads its files, and writes the text.
+fn serve<F: Shelf, I: Source, O: Sink, X: Device, L: Ledger>(
+    alloc: Global,
+    reading: &Reading,
+    files: &mut F,
+    input: &mut I,
+    out: &mut O,
+    probes: Vec<Box<dyn Probe>>,
+    device: &X,
+    steps: &mut Steps<L>,
+) -> u8
+    requires { IsLimited (command_in reading.now) }
+    ensures { ConversesFor (X.meaning device.now)
+        (map (λ p. (⟦<dyn Probe as Probe>⟧ p.vtable).meaning p.value) probes.items)
+        (Some (command_in reading.now))
+        record {
+          files = F.files files.old;
+          failed = F.failed files.old;
+          left = I.left input.old;
+          source_faults = I.faults input.old;
+          written = O.written out.old;
+          sink_faults = O.faults out.old;
+          steps = steps.old;
+        }
+        record {
+          files = F.files files.new;
+          failed = F.failed files.new;
+          left = I.left input.new;
+          source_faults = I.faults input.new;
+          written = O.written out.new;
+          sink_faults = O.faults out.new;
+          steps = steps.new;
+        }
+        result }
+{
+    match aim_all(alloc, probes, targets(reading)) {
+        Ok(mut aimed) => serve_aimed(alloc, reading, files, input, out, &mut aimed, device, steps),
+        Err(_) => refuse(alloc, &Stop::Memory, out),
+    }
+}
+
+/// Reads the words, and does what they say.
+fn converse<F: Shelf, I: Source, O: Sink, X: Device, L: Ledger>(
+    alloc: Global,
+    words: &[String],
+    files: &mut F,
+    input: &mut I,
+    out: &mut O,
+    probes: Vec<Box<dyn Probe>>,
+    device: &X,
+    steps: &mut Steps<L>,
+) -> u8
+    ensures { Converses record {
+      words = map string_bytes words.now;
+      probes = map (λ p. (⟦<dyn Probe as Probe>⟧ p.vtable).meaning p.value) probes.items;
+      device = X.meaning device.now;
+    }
+        record {
+          files = F.files files.old;
+          failed = F.failed files.old;
+          left = I.left input.old;
+          source_faults = I.faults input.old;
+          written = O.written out.old;
+          sink_faults = O.faults out.old;
+          steps = steps.old;
+        }
+        record {
+          files = F.files files.new;
+          failed = F.failed files.new;
+          left = I.left input.new;
+          source_faults = I.faults input.new;
+          written = O.written out.new;
+          sink_faults = O.faults out.new;
+          steps = steps.new;
+        }
+        result }
+{
+    match read_words(alloc, words, probes.len()) {
+        Ok(reading) => serve(alloc, &reading, files, input, out, probes, device, steps),
+        Err(WordsFault::Words) => refuse(alloc, &Stop::Refusing(Refusal::Words), out),
+        Err(WordsFault::Memory) => refuse(alloc, &Stop::Memory, out),
     }
 }
 
@@ -70,21 +181,27 @@ fn converse<F: Shelf, I: Source, O: Sink, X: Device, L: Ledger>(
 /// loaded or is too large, 4 where the image has a fault, 5 where a PIO source has one or its program finds no room, 6 where
 /// the script has one, 7 where the sink failed, 8 where the source failed, 9 where memory ran out, 10 where the input is
 /// longer than its limit. A refusal has its one line, `error ..`, for its text; at 8 and 10 such a line comes behind the
-/// answers. The `device` stands at the pads of a run and at the addresses that no block covers. Each cycle of a run, and each that
-/// the debugger steps, counts as one of the `steps`.
+/// answers. Those of the `probes` that the words name are aimed at their pins, hear the run, and have their lines at its end; the
+/// others are dropped before it. The `device` stands at the pads of a run and at the addresses that no block covers. Each cycle of
+/// a run, and each that the debugger steps, counts as one of the `steps`.
 pub fn pico<F: Shelf, I: Source, O: Sink, X: Device, L: Ledger>(
     alloc: Global,
     words: &[String],
     files: &mut F,
     input: &mut I,
     out: &mut O,
+    probes: Vec<Box<dyn Probe>>,
     device: X,
     steps: &mut Steps<L>,
 ) -> u8
     // A walk of the words' dialogue over the shelf ended, and its text was written whole with its status; or a part of it,
     // and the sink failed; or memory ran out, and the line that says so was written alone. The bytes that were heard were
     // taken from the source. So many steps were counted as that text costs.
-    ensures text { Converses record { words = map string_bytes words.now; device = X.meaning device }
+    ensures text { Converses record {
+      words = map string_bytes words.now;
+      probes = map (λ p. (⟦<dyn Probe as Probe>⟧ p.vtable).meaning p.value) probes.items;
+      device = X.meaning device;
+    }
         record {
           files = F.files files.old;
           failed = F.failed files.old;
@@ -106,12 +223,16 @@ pub fn pico<F: Shelf, I: Source, O: Sink, X: Device, L: Ledger>(
         result }
 
     // Status 2 comes exactly where the words are refused.
-    ensures words { result ≡ 2 → reading (map string_bytes words.now) ≡ None }
-    ensures refused { reading (map string_bytes words.now) ≡ None → IsStatus result 2 }
+    ensures words { result ≡ 2 → reading (length probes.items) (map string_bytes words.now) ≡ None }
+    ensures refused { reading (length probes.items) (map string_bytes words.now) ≡ None → IsStatus result 2 }
 
     // Statuses 3 to 6 come only of the input at which the walk ended, 8 only where the source's count of faults rose, 10
     // only where the limit of its bytes was reached.
-    ensures cause { HasCause record { words = map string_bytes words.now; device = X.meaning device }
+    ensures cause { HasCause record {
+      words = map string_bytes words.now;
+      probes = map (λ p. (⟦<dyn Probe as Probe>⟧ p.vtable).meaning p.value) probes.items;
+      device = X.meaning device;
+    }
         record {
           files = F.files files.old;
           failed = F.failed files.old;
@@ -137,7 +258,11 @@ pub fn pico<F: Shelf, I: Source, O: Sink, X: Device, L: Ledger>(
 
     // Where the shelf tells its files and no load failed, the status is that of the dialogue over these files, and where it
     // hears an input, over the bytes of the source, unless the sink failed or memory ran out.
-    ensures held { IsComplete record { words = map string_bytes words.now; device = X.meaning device }
+    ensures held { IsComplete record {
+      words = map string_bytes words.now;
+      probes = map (λ p. (⟦<dyn Probe as Probe>⟧ p.vtable).meaning p.value) probes.items;
+      device = X.meaning device;
+    }
         record {
           files = F.files files.old;
           failed = F.failed files.old;
@@ -158,7 +283,7 @@ pub fn pico<F: Shelf, I: Source, O: Sink, X: Device, L: Ledger>(
         }
         result }
 {
-    converse(alloc, words, files, input, out, &device, steps)
+    converse(alloc, words, files, input, out, probes, &device, steps)
 }
 
 #[cfg(test)]
@@ -169,6 +294,8 @@ mod core_tests;
 mod counted;
 #[cfg(test)]
 mod debug_tests;
+#[cfg(test)]
+mod gen_tests;
 #[cfg(test)]
 mod machine_tests;
 #[cfg(test)]

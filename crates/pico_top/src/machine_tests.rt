@@ -1,11 +1,29 @@
-//! Programs of the whole machine: pads, scripts, UARTs, DMA and PIO, with their whole texts.
+//! Programs of the whole machine: pads, scripts, UARTs, DMA, PIO and probes, with their whole texts.
 
-use crate::counted::run_words;
+use crate::counted::probe_words;
 use crate::sample_files::{held, image};
+use board_parts::edge_counter::EdgeCounter;
+use board_parts::probe::Probe;
+use board_parts::ws2812::Ws2812;
 use rp_ports::mem_shelf::MemShelf;
 use rp_ports::mem_sink::MemSink;
+use rp_ports::mem_source::MemSource;
 use std::alloc::{AllocError, Global};
 use std::test::Fail;
+
+/// The status of words where a counter of edges and a decoder of lights are handed in, and there is no input.
+fn probed(
+    alloc: Global,
+    words: &[String],
+    files: &mut MemShelf,
+    out: &mut MemSink,
+) -> Result<u8, AllocError> {
+    let mut input = MemSource::new(Vec::new(alloc), Vec::new(alloc));
+    let mut probes: Vec<Box<dyn Probe>> = Vec::new(alloc);
+    probes.push(Box::new(alloc, EdgeCounter::new())?)?;
+    probes.push(Box::new(alloc, Ws2812::new())?)?;
+    Ok(probe_words(alloc, words, files, &mut input, out, probes))
+}
 
 /// Whether a run of this code with these words behind `run a.uf2` and these files gives this status and this text.
 fn gives(
@@ -29,7 +47,7 @@ fn gives(
     }
     let mut files = MemShelf::new(alloc, shelf, Vec::new(alloc));
     let mut out = MemSink::new(alloc, Vec::new(alloc));
-    let answer = run_words(alloc, &words, &mut files, &mut out);
+    let answer = probed(alloc, &words, &mut files, &mut out)?;
     Ok(answer == status && out.bytes.as_slice() == text)
 }
 
@@ -117,10 +135,11 @@ fn programs_of_pio(rt: HostRuntime) -> Result<(), Fail> {
         "b.pio",
         b".program blink\nset pindirs, 1\n.wrap_target\nset pins, 1 [1]\nset pins, 0 [2]\n.wrap\n",
     )];
-    let words = ["--cycles", "24", "--pio", "0:0:b.pio"];
+    let words = ["--cycles", "24", "--pio", "0:0:b.pio", "--probe", "0=0"];
     let lines = b"15 pin 0 1\n17 pin 0 0\n20 pin 0 1\n22 pin 0 0\nstop limit 24\n";
     let low = " 50200000 00000006 00000000 00000001";
-    let text = with_cores(alloc, lines, low, " 2000000c 01000000")?;
+    let mut text = with_cores(alloc, lines, low, " 2000000c 01000000")?;
+    text.extend_from_slice(b"probe 0 pin 0 edges 4 rises 2\n")?;
     assert!(rt; gives(alloc, &code, &words, &blink, 0, &text)?);
     // Core 0 writes the words.
     let code = [
@@ -161,8 +180,17 @@ fn a_led_gets_its_colour(rt: HostRuntime) -> Result<(), Fail> {
     }
     lines.extend_from_slice(b"stop limit 4200\n")?;
     let low = " 50000010 20000044 50200000 00000001 00000019 00000001 00000006";
-    let text = with_cores(alloc, &lines, low, " 2000001c 21000000")?;
-    let words = ["--pio", "0:0:ws2812.pio", "--cycles", "4200"];
+    let mut text = with_cores(alloc, &lines, low, " 2000001c 21000000")?;
+    text.extend_from_slice(b"probe 0 pin 1 edges 0 rises 0\n")?;
+    text.extend_from_slice(b"probe 1 pin 0 colours 1 last ff8001\n")?;
+    let words = [
+        "--pio",
+        "0:0:ws2812.pio",
+        "--cycles",
+        "4200",
+        "--probe",
+        "1=0,0=1",
+    ];
     assert!(rt; gives(alloc, &code, &words, &[("ws2812.pio", WS2812)], 0, &text)?);
     Ok(())
 }

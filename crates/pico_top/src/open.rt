@@ -7,14 +7,16 @@ ghost use Rattle.lane_look.specs.Device.{DeviceMeaning};
 ghost use Rattle.rp_ports.specs.Shelf.{Files};
 ghost use Rattle.uf2_image.specs.Uf2.{FitsSram};
 ghost use Rattle.rp_machine.specs.Boot.{AreLoads, start};
-ghost use Rattle.command_words.specs.Words.{reading, IsLimited};
-ghost use Rattle.command_words.specs.Words.Command.{RunImage, DebugImage, Assemble, Disassemble};
+ghost use Rattle.board_parts.specs.Hearing.{Aim};
+ghost use Rattle.command_words.specs.Words.{IsLimited};
+ghost use Rattle.command_words.specs.Words.Command.{Assemble, Disassemble, Generate};
 ghost use Rattle.command_words.specs.Read.{run_in, command_in};
-ghost use Rattle.pico_top.specs.Dialogue.{dialogue_of, behind_image, behind_script, with_image, with_script};
-ghost use Rattle.pico_top.specs.Opening.{Opens, OpensFrom, LoadsAs, Passes, ReadsScript, Boots, use_for};
+ghost use Rattle.pico_top.specs.Dialogue.{behind_image, behind_script, with_image, with_script};
+ghost use Rattle.pico_top.specs.Opening.{Opens, OpensFor, LoadsAs, Passes, ReadsScript, Boots, use_for};
 
 use crate::programs::open_programs;
-use command_words::{DisWords, Reading, RunWords, WordsFault, read_words};
+use command_words::{DisWords, GenWords, Reading, RunWords};
+use gen_image::generated;
 use lane_look::Device;
 use pin_script::{Script, ScriptFault, read_script};
 use pio_disasm::write_source;
@@ -223,8 +225,9 @@ fn open_behind_script<F: Shelf, X: Device>(
     requires image { FitsSram image.now }
     requires limit { run.now.cycles ≤ 1000000000 }
     ensures kept { F.files files.new ≡ F.files files.old }
-    ensures answer { Opens (F.files files.old) (F.failed files.old) (F.failed files.new) (X.meaning device.now)
-        (behind_script (use_for purpose) (X.meaning device.now) (run_in run.now) image.now script) result }
+    ensures answer { (aims : List Aim)
+        → Opens (F.files files.old) (F.failed files.old) (F.failed files.new) (X.meaning device.now) aims
+        (behind_script (use_for aims purpose) (X.meaning device.now) (run_in run.now) image.now script) result }
 {
     match open_programs(alloc, &run.pio, files) {
         Ok(loads) => boot(alloc, purpose, image, script, &loads, run.cycles, device),
@@ -244,8 +247,9 @@ fn open_behind_image<F: Shelf, X: Device>(
     requires image { FitsSram image.now }
     requires limit { run.now.cycles ≤ 1000000000 }
     ensures kept { F.files files.new ≡ F.files files.old }
-    ensures answer { Opens (F.files files.old) (F.failed files.old) (F.failed files.new) (X.meaning device.now)
-        (behind_image (use_for purpose) (X.meaning device.now) (run_in run.now) image.now) result }
+    ensures answer { (aims : List Aim)
+        → Opens (F.files files.old) (F.failed files.old) (F.failed files.new) (X.meaning device.now) aims
+        (behind_image (use_for aims purpose) (X.meaning device.now) (run_in run.now) image.now) result }
 {
     match open_script(alloc, run, files) {
         Ok(script) => open_behind_script(alloc, purpose, run, image, script, files, device),
@@ -263,9 +267,10 @@ fn open_run<F: Shelf, X: Device>(
 ) -> Result<Opened, Stop>
     requires limit { run.now.cycles ≤ 1000000000 }
     ensures kept { F.files files.new ≡ F.files files.old }
-    ensures answer { Opens (F.files files.old) (F.failed files.old) (F.failed files.new) (X.meaning device.now)
+    ensures answer { (aims : List Aim)
+        → Opens (F.files files.old) (F.failed files.old) (F.failed files.new) (X.meaning device.now) aims
         (with_image (run_in run.now).image
-        (behind_image (use_for purpose) (X.meaning device.now) (run_in run.now))) result }
+        (behind_image (use_for aims purpose) (X.meaning device.now) (run_in run.now))) result }
 {
     match open_image(alloc, run.image.as_str(), files) {
         Ok(image) => open_behind_image(alloc, purpose, run, &image, files, device),
@@ -281,8 +286,8 @@ fn open_source<F: Shelf, X: Device>(
     device: &X,
 ) -> Result<Opened, Stop>
     ensures kept { F.files files.new ≡ F.files files.old }
-    ensures answer { Opens (F.files files.old) (F.failed files.old) (F.failed files.new) (X.meaning device.now)
-        (dialogue_of (X.meaning device.now) (Assemble name.now)) result }
+    ensures answer { OpensFor (F.files files.old) (F.failed files.old) (F.failed files.new) (X.meaning device.now)
+        (Assemble name.now) result }
 {
     match load(alloc, name, SOURCE_LIMIT, files) {
         Ok(bytes) => match programs_in(alloc, &bytes) {
@@ -300,7 +305,7 @@ fn open_source<F: Shelf, X: Device>(
 /// The source text of instruction words.
 fn open_text(alloc: Global, asked: &DisWords) -> Result<Opened, Stop>
     ensures { (files : Option Files) (failed : List (List ℕ)) (device : DeviceMeaning)
-        → Opens files failed failed device (dialogue_of device (Disassemble asked.now.words.items asked.now.side)) result }
+        → OpensFor files failed failed device (Disassemble asked.now.words.items asked.now.side) result }
 {
     match write_source(alloc, &asked.words, &asked.side) {
         Ok(text) => Ok(Opened::Text(text)),
@@ -308,8 +313,31 @@ fn open_text(alloc: Global, asked: &DisWords) -> Result<Opened, Stop>
     }
 }
 
+/// Generates the image of a number, and boots the machine of its run.
+fn open_generated<X: Device>(alloc: Global, asked: &GenWords, device: &X) -> Result<Opened, Stop>
+    requires limit { asked.now.cycles ≤ 1000000000 }
+    ensures { (files : Option Files) (failed : List (List ℕ))
+        → OpensFor files failed failed (X.meaning device.now) (Generate asked.now.number asked.now.cycles) result }
+{
+    match generated(alloc, asked.number) {
+        Ok(image) => {
+            let script = Script::new(alloc);
+            boot(
+                alloc,
+                Purpose::Run,
+                &image,
+                script,
+                &[],
+                asked.cycles,
+                device,
+            )
+        }
+        Err(_) => Err(Stop::Memory),
+    }
+}
+
 /// Loads the files that a reading names, and boots the machine or makes the text.
-fn open_reading<F: Shelf, X: Device>(
+pub fn open_reading<F: Shelf, X: Device>(
     alloc: Global,
     reading: &Reading,
     files: &mut F,
@@ -317,31 +345,14 @@ fn open_reading<F: Shelf, X: Device>(
 ) -> Result<Opened, Stop>
     requires { IsLimited (command_in reading.now) }
     ensures kept { F.files files.new ≡ F.files files.old }
-    ensures answer { Opens (F.files files.old) (F.failed files.old) (F.failed files.new) (X.meaning device.now)
-        (dialogue_of (X.meaning device.now) (command_in reading.now)) result }
+    ensures answer { OpensFor (F.files files.old) (F.failed files.old) (F.failed files.new) (X.meaning device.now)
+        (command_in reading.now) result }
 {
     match reading {
         Reading::Run(run) => open_run(alloc, Purpose::Run, run, files, device),
         Reading::Debug(run) => open_run(alloc, Purpose::Debug, run, files, device),
         Reading::Dis(asked) => open_text(alloc, asked),
         Reading::Asm(name) => open_source(alloc, name.as_str(), files, device),
-    }
-}
-
-/// Reads the words, loads the files that they name, and boots the machine or makes the text.
-pub fn open<F: Shelf, X: Device>(
-    alloc: Global,
-    words: &[String],
-    files: &mut F,
-    device: &X,
-) -> Result<Opened, Stop>
-    ensures kept { F.files files.new ≡ F.files files.old }
-    ensures answer { OpensFrom (F.files files.old) (F.failed files.old) (F.failed files.new) (X.meaning device.now)
-        (reading (map string_bytes words.now)) result }
-{
-    match read_words(alloc, words) {
-        Ok(reading) => open_reading(alloc, &reading, files, device),
-        Err(WordsFault::Words) => Err(Stop::Refusing(Refusal::Words)),
-        Err(WordsFault::Memory) => Err(Stop::Memory),
+        Reading::Gen(asked) => open_generated(alloc, asked, device),
     }
 }

@@ -6,10 +6,14 @@ ghost use Rattle.trace_text.specs.Sent.{Sends};
 ghost use Rattle.rp_machine.specs.Cycle.{stop, next};
 ghost use Rattle.rp_machine.specs.Events.{events};
 ghost use Rattle.rp_machine.specs.Run.{last_state, all_events, unless_stopped};
-ghost use Rattle.pico_top.specs.RunText.{event_lines};
+ghost use Rattle.board_parts.specs.Hearing.{aim_of, seen};
+ghost use Rattle.pico_top.specs.RunText.{event_lines, after_events};
 ghost use Rattle.pico_top.specs.Came.{cause_in, sent_in};
 
 use crate::events::send_events;
+use crate::probes::hear_events;
+use board_parts::aimed::Aimed;
+use board_parts::probe::Probe;
 use lane_look::{Device, Marks};
 use rp_base::Why;
 use rp_machine::{Machine, Steps, World};
@@ -28,11 +32,12 @@ pub enum Came {
     Failed(SinkFault),
 }
 
-/// Does one cycle and puts the lines of its events; or does nothing, where there is a stop.
+/// Does one cycle, lets the probes hear its events, and puts their lines; or does nothing, where there is a stop.
 fn step<X: Device, O: Sink, L: Ledger>(
     machine: &mut Machine,
     world: &World<'_, X>,
     marks: &mut Marks,
+    probes: &mut [Aimed],
     writer: &mut Writer<'_, O>,
     steps: &mut Steps<L>,
 ) -> Came
@@ -41,6 +46,12 @@ fn step<X: Device, O: Sink, L: Ledger>(
         ≡ cause_in result }
     ensures state { machine.new ≡ unless_stopped (cause_in result) machine.old
         (next (setting_of world.now.script.now (X.meaning world.now.device.now) world.now.limit) machine.old) }
+    ensures heard { seen probes.new (λ a. aim_of a.index a.pin
+        (⟦<dyn Probe as Probe>⟧ a.probe.vtable) a.probe.value)
+        ≡ after_events (unless_stopped (cause_in result) []
+        (events (setting_of world.now.script.now (X.meaning world.now.device.now) world.now.limit) machine.old))
+        (seen probes.old (λ a. aim_of a.index a.pin
+        (⟦<dyn Probe as Probe>⟧ a.probe.vtable) a.probe.value)) }
     ensures steps { steps.new ≡ unless_stopped (cause_in result) steps.old (steps.old + 1) }
     ensures sends { Sends (O.written writer.old.out.now) (O.written writer.new.out.now)
         (O.faults writer.old.out.now) (O.faults writer.new.out.now)
@@ -53,18 +64,23 @@ fn step<X: Device, O: Sink, L: Ledger>(
     let before = machine.pads();
     match machine.cycle(world, marks, steps) {
         Some(why) => Came::Stopped(why),
-        None => match send_events(cycle, before, &marks.entry(0), writer) {
-            Ok(()) => Came::Done,
-            Err(fault) => Came::Failed(fault),
-        },
+        None => {
+            let mark = marks.entry(0);
+            hear_events(cycle, before, &mark, probes);
+            match send_events(cycle, before, &mark, writer) {
+                Ok(()) => Came::Done,
+                Err(fault) => Came::Failed(fault),
+            }
+        }
     }
 }
 
-/// Steps a machine up to its first stop, puts the lines of the events, and answers the stop's cause. Each cycle counts as a
-/// step.
+/// Steps a machine up to its first stop, lets the probes hear the events, puts their lines, and answers the stop's cause. Each
+/// cycle counts as a step.
 pub fn run_to_stop<X: Device, O: Sink, L: Ledger>(
     machine: &mut Machine,
     world: &World<'_, X>,
+    probes: &mut [Aimed],
     writer: &mut Writer<'_, O>,
     steps: &mut Steps<L>,
 ) -> Result<Why, SinkFault>
@@ -76,6 +92,12 @@ pub fn run_to_stop<X: Device, O: Sink, L: Ledger>(
     ensures same_sink { writer.new.out.ghost_name ≡ writer.old.out.ghost_name }
     ensures state { IfOk result (λ why. machine.new
         ≡ last_state (setting_of world.now.script.now (X.meaning world.now.device.now) world.now.limit) machine.old) }
+    ensures heard { IfOk result (λ why. seen probes.new (λ a. aim_of a.index a.pin
+        (⟦<dyn Probe as Probe>⟧ a.probe.vtable) a.probe.value)
+        ≡ after_events
+        (all_events (setting_of world.now.script.now (X.meaning world.now.device.now) world.now.limit) machine.old)
+        (seen probes.old (λ a. aim_of a.index a.pin
+        (⟦<dyn Probe as Probe>⟧ a.probe.vtable) a.probe.value))) }
     ensures cause { IfOk result (λ why.
         stop (setting_of world.now.script.now (X.meaning world.now.device.now) world.now.limit) machine.new ≡ Some why) }
     ensures forward { machine.old.cycle ≤ machine.new.cycle }
@@ -85,7 +107,7 @@ pub fn run_to_stop<X: Device, O: Sink, L: Ledger>(
 {
     let mut marks = Marks::new();
     'cycles: loop {
-        match step(machine, world, &mut marks, writer, steps) {
+        match step(machine, world, &mut marks, probes, writer, steps) {
             Came::Done => continue 'cycles,
             Came::Stopped(why) => return Ok(why),
             Came::Failed(fault) => return Err(fault),

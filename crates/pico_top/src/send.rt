@@ -3,9 +3,13 @@
 ghost use Rattle.std.specs.Prelude.{◌≡◌, ◌<◌, ◌≤◌, length, ◌++◌};
 ghost use Rattle.trace_text.specs.Line.{stop_text, register_text};
 ghost use Rattle.trace_text.specs.Sent.{Sends};
-ghost use Rattle.pico_top.specs.RunText.{core_lines};
+ghost use Rattle.board_parts.specs.Hearing.{aim_of, seen};
+ghost use Rattle.pico_top.specs.RunText.{core_lines, probe_lines};
 
+use crate::probes::send_probes;
 use arrayvec::ArrayVec;
+use board_parts::aimed::Aimed;
+use board_parts::probe::Probe;
 use rp_base::Why;
 use rp_machine::Machine;
 use rp_ports::sink::Sink;
@@ -46,7 +50,7 @@ fn send_cores<O: Sink>(machine: &Machine, writer: &mut Writer<'_, O>) -> Result<
 }
 
 /// Puts the lines of a machine at which a run ended.
-pub fn send_end<O: Sink>(
+fn send_end<O: Sink>(
     why: &Why,
     machine: &Machine,
     writer: &mut Writer<'_, O>,
@@ -56,6 +60,24 @@ pub fn send_end<O: Sink>(
 {
     send_stop(why, machine.number(), writer)?;
     send_cores(machine, writer)
+}
+
+/// Puts the lines of a machine at which a run ended, and those of the probes that heard it.
+pub fn send_last<O: Sink>(
+    why: &Why,
+    machine: &Machine,
+    probes: &[Aimed],
+    writer: &mut Writer<'_, O>,
+) -> Result<(), SinkFault>
+    ensures sends { Sends (O.written writer.old.out.now) (O.written writer.new.out.now)
+        (O.faults writer.old.out.now) (O.faults writer.new.out.now)
+        ((stop_text why.now machine.now.cycle ++ core_lines machine.now)
+        ++ probe_lines (seen probes.now (λ a. aim_of a.index a.pin
+        (⟦<dyn Probe as Probe>⟧ a.probe.vtable) a.probe.value))) result }
+    ensures same_sink { writer.new.out.ghost_name ≡ writer.old.out.ghost_name }
+{
+    send_end(why, machine, writer)?;
+    send_probes(probes, writer)
 }
 
 /// The place behind the first line that begins at a place.

@@ -4,6 +4,7 @@ ghost use Rattle.std.specs.Prelude.{◌≡◌, ◌+◌, ◌≤◌, OnOk};
 ghost use Rattle.trace_text.specs.Sent.{Sends};
 ghost use Rattle.refusal_lines.specs.Refusals.{line_of, status_of};
 ghost use Rattle.refusal_lines.specs.Meant.{meant};
+ghost use Rattle.board_parts.specs.Hearing.{aim_of, seen};
 ghost use Rattle.pico_top.specs.RunText.{run_text, run_cycles};
 ghost use Rattle.pico_top.specs.Answer.{Puts, RunsOut};
 ghost use Rattle.line_talk.specs.Debugger.{quits};
@@ -15,7 +16,9 @@ ghost use Rattle.pico_top.specs.Opening.{setting_in, setting_by, opened_dialogue
 
 use crate::open::{Debugging, Opened, Started, Stop};
 use crate::runner::run_to_stop;
-use crate::send::{send_end, send_text};
+use crate::send::{send_last, send_text};
+use board_parts::aimed::Aimed;
+use board_parts::probe::Probe;
 use lane_look::Device;
 use line_talk::hear::hear;
 use line_talk::way::Way;
@@ -30,9 +33,10 @@ use trace_text::writer::{SinkFault, Writer};
 /// An input has at most 1 MiB up to its last line.
 const INPUT_LIMIT: usize = 1_048_576;
 
-/// Runs a machine, puts the lines of its events, and then those of its end.
+/// Runs a machine that probes hear, puts the lines of its events, and then those of its end and of the probes.
 fn run<X: Device, O: Sink, L: Ledger>(
     started: Started,
+    probes: &mut [Aimed],
     device: &X,
     writer: &mut Writer<'_, O>,
     steps: &mut Steps<L>,
@@ -40,7 +44,10 @@ fn run<X: Device, O: Sink, L: Ledger>(
     requires { started.machine.cycle ≤ started.limit }
     ensures sends { Sends (O.written writer.old.out.now) (O.written writer.new.out.now)
         (O.faults writer.old.out.now) (O.faults writer.new.out.now)
-        (run_text (setting_in (X.meaning device.now) started) started.machine) result }
+        (run_text (setting_in (X.meaning device.now) started)
+        (seen probes.old (λ a. aim_of a.index a.pin
+        (⟦<dyn Probe as Probe>⟧ a.probe.vtable) a.probe.value))
+        started.machine) result }
     ensures same_sink { writer.new.out.ghost_name ≡ writer.old.out.ghost_name }
     ensures whole { OnOk result (steps.new ≡ steps.old + run_cycles (setting_in (X.meaning device.now) started) started.machine) }
     ensures forward { steps.old ≤ steps.new }
@@ -56,28 +63,32 @@ fn run<X: Device, O: Sink, L: Ledger>(
         device,
         limit,
     };
-    match run_to_stop(&mut machine, &world, writer, steps) {
-        Ok(why) => send_end(&why, &machine, writer),
+    match run_to_stop(&mut machine, &world, probes, writer, steps) {
+        Ok(why) => send_last(&why, &machine, probes, writer),
         Err(fault) => Err(fault),
     }
 }
 
-/// Runs a machine into a sink, and answers 0, or 7 where the sink fails.
+/// Runs a machine that probes hear into a sink, and answers 0, or 7 where the sink fails.
 fn run_into<X: Device, O: Sink, L: Ledger>(
     started: Started,
+    probes: &mut [Aimed],
     device: &X,
     out: &mut O,
     steps: &mut Steps<L>,
 ) -> u8
     requires { started.machine.cycle ≤ started.limit }
     ensures puts { Puts (O.written out.old) (O.written out.new) (O.faults out.old) (O.faults out.new)
-        result 0 (run_text (setting_in (X.meaning device.now) started) started.machine) }
+        result 0 (run_text (setting_in (X.meaning device.now) started)
+        (seen probes.old (λ a. aim_of a.index a.pin
+        (⟦<dyn Probe as Probe>⟧ a.probe.vtable) a.probe.value))
+        started.machine) }
     ensures whole { result ≡ 0 → steps.new ≡ steps.old + run_cycles (setting_in (X.meaning device.now) started) started.machine }
     ensures forward { steps.old ≤ steps.new }
     ensures within { steps.new ≤ steps.old + run_cycles (setting_in (X.meaning device.now) started) started.machine }
 {
     let mut writer = Writer { out };
-    match run(started, device, &mut writer, steps) {
+    match run(started, probes, device, &mut writer, steps) {
         Ok(()) => 0,
         Err(_) => 7,
     }
@@ -171,22 +182,25 @@ fn talk_into<I: Source, X: Device, O: Sink, L: Ledger>(
     talk(debugging, device, input, &mut writer, steps)
 }
 
-/// Puts the text of what was opened into a sink, or what is told of the lines of the source, and answers the status, 7 where
-/// the sink fails.
+/// Puts the text of what was opened into a sink, where a run is heard by the probes, or what is told of the lines of the source;
+/// answers the status, 7 where the sink fails.
 pub fn tell_into<I: Source, X: Device, O: Sink, L: Ledger>(
     opened: Opened,
+    probes: &mut [Aimed],
     device: &X,
     input: &mut I,
     out: &mut O,
     steps: &mut Steps<L>,
 ) -> u8
     requires { IsReady opened }
-    ensures { Tells (opened_dialogue (X.meaning device.now) opened)
+    ensures { Tells (opened_dialogue (X.meaning device.now)
+        (seen probes.old (λ a. aim_of a.index a.pin
+        (⟦<dyn Probe as Probe>⟧ a.probe.vtable) a.probe.value)) opened)
         (I.left input.old) (I.left input.new) (I.faults input.old) (I.faults input.new)
         (O.written out.old) (O.written out.new) (O.faults out.old) (O.faults out.new) steps.old steps.new result }
 {
     match opened {
-        Opened::Machine(started) => run_into(started, device, out, steps),
+        Opened::Machine(started) => run_into(started, probes, device, out, steps),
         Opened::Session(debugging) => talk_into(debugging, device, input, out, steps),
         Opened::Text(text) => text_into(&text, out),
     }

@@ -1,9 +1,21 @@
-use Rattle.std.proofs.Common.{refl}
-use Rattle.pico_top.proofs.Telling.{opened_converses, stopped_converses}
+use Rattle.std.proofs.Common.{rules, ◌≡◌, map, None, refl, sym, ◌∙◌}
+use Rattle.std.specs.String.{string_bytes}
+use Rattle.command_words.specs.Words.{reading}
+use Rattle.std.proofs.lemmas.List.{length-map}
+use Rattle.command_words.proofs.Limits.{command_limited}
+use Rattle.pico_top.proofs.Telling.{out_converses, read_converses, refused_converses}
 use Rattle.pico_top.proofs.converse.Goals as goal
 
-pub returns-in-Ok : goal.returns-in-Ok
-returns-in-Ok g c = opened_converses _ _ _ _ _ c.in-Ok.ensures.answer c.in-Ok.ensures.kept c.tell_into.ensures
+pub serve-requires-after_bounds : goal.serve-requires-after_bounds
+serve-requires-after_bounds g c κs within = command_limited _ _ _ c.in-Ok.ensures
 
-pub returns-in-Err : goal.returns-in-Err
-returns-in-Err g c = stopped_converses _ _ _ _ _ c.in-Err.ensures.answer c.in-Err.ensures.kept refl refl c.refuse.ensures refl
+pub returns-in-Ok : goal.returns-in-Ok
+returns-in-Ok g c = read_converses _ _ _ _ _ _ (c.len.ensures ∙ (c.args.probes.ok.0 ∙ sym (length-map c.args.probes.items _))) c.in-Ok.ensures c.serve.ensures
+
+pub returns-in-Err-Words : goal.returns-in-Err-Words
+returns-in-Err-Words g c =
+    let none : reading c.len.result (map string_bytes c.args.words.now) ≡ None = search rules in
+    refused_converses _ _ _ _ _ (c.len.ensures ∙ (c.args.probes.ok.0 ∙ sym (length-map c.args.probes.items _))) none refl refl refl refl c.refuse.ensures refl
+
+pub returns : goal.returns
+returns g c = out_converses _ _ _ _ _ _ refl refl refl refl c.refuse-in-Err-Memory.ensures refl

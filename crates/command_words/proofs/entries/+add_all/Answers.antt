@@ -6,8 +6,8 @@ returns-in-None t c = last_entry _ _ c.args.list.now _ (comma_none c.args.list.n
 
 pub returns-then-branch : goal.returns-then-branch
 returns-then-branch t c =
-    next_entry _ _ _ c.args.list.now _ _ _ (comma_some c.args.list.now c.split_once.result c.in-Some.text c.in-Some.rest c.split_once.ensures.cases c.in-Some.is) (was_added _ _ _ c.in_ok-add-in-Some.field-0 c.in_ok-add-in-Some.ensures c.if-branch.true) c.add_all.ensures
+    next_entry _ _ _ c.args.list.now _ _ _ (comma_some c.args.list.now c.split_once.result c.in-Some.text c.in-Some.rest c.split_once.ensures.cases c.in-Some.is) (was_added _ _ c.in_ok-add-in-Some.field-0 c.in_ok-add-in-Some.ensures c.if-branch.true) c.add_all.ensures
 
 pub returns-else-branch : goal.returns-else-branch
 returns-else-branch t c =
-    no_entry _ c.args.list.now _ _ (comma_some c.args.list.now c.split_once.result c.in-Some.text c.in-Some.rest c.split_once.ensures.cases c.in-Some.is) (was_not_added _ _ _ c.in_ok-add-in-Some.field-0 c.in_ok-add-in-Some.ensures c.if-branch.false)
+    no_entry _ c.args.list.now _ _ (comma_some c.args.list.now c.split_once.result c.in-Some.text c.in-Some.rest c.split_once.ensures.cases c.in-Some.is) (was_not_added _ _ c.in_ok-add-in-Some.field-0 c.in_ok-add-in-Some.ensures c.if-branch.false)

@@ -5,10 +5,10 @@ use Rattle.pico_top.proofs.tell.run.Goals as goal
 pub returns-in-Ok-clause-sends : goal.returns-in-Ok-clause-sends
 returns-in-Ok-clause-sends g c =
     let h = c.in-Ok.ensures in
-    sends_second _ _ _ _ _ _ _ _ _ c.in-Ok.why _ (text_of_run _ _ _ _ h.state h.cause) h.sends c.send_end.ensures.sends
+    sends_second _ _ _ _ _ _ _ _ _ c.in-Ok.why _ (text_of_run _ _ _ _ _ _ h.state h.cause h.heard) h.sends c.send_last.ensures.sends
 
 pub returns-clause-sends : goal.returns-clause-sends
-returns-clause-sends g c = sends_first _ _ _ _ _ _ _ _ (run_begins _ _) c.in-Err.ensures.sends
+returns-clause-sends g c = sends_first _ _ _ _ _ _ _ _ (run_begins _ _ _) c.in-Err.ensures.sends
 
 pub returns-in-Ok-clause-whole : goal.returns-in-Ok-clause-whole
 returns-in-Ok-clause-whole g c = let h = c.in-Ok.ensures in on_ok _ _ (counted_run _ _ _ _ _ h.state h.steps h.forward)
