@@ -33,7 +33,7 @@ fn a_generated_program_runs(rt: HostRuntime) -> Result<(), Fail> {
 /// Whether the words are refused.
 fn is_refused(alloc: Global, words: &[&str]) -> Result<bool, AllocError> {
     let (status, text) = answer(alloc, words)?;
-    Ok(status == 2 && text.as_slice() == b"error words\n")
+    Ok(status == 2 && text.as_slice() == b"error words\n".as_slice())
 }
 
 #[test]
