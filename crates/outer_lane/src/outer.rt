@@ -107,6 +107,7 @@ impl Outer {
     }
 
     /// The interrupt lines of core 0 or 1 that come from here, line 0 in bit 0.
+    #[inline(always)]
     #[tactic(auto, unfolding(crate::specs::Lines::outer_lines))]
     pub fn lines(&self, core: u8) -> u32
         ensures { result ≡ outer_lines core self.now }
@@ -206,6 +207,7 @@ fn started<X: Device>(device: &X) -> ArrayVec<u32, 128>
 }
 
 /// The line of IO_BANK0 and those of the UARTs.
+#[inline(always)]
 #[tactic(auto, unfolding(crate::specs::Lines::block_lines))]
 fn block_lines(bank: bool, first: bool, second: bool) -> u32
     ensures { result ≡ block_lines bank first second }

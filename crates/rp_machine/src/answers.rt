@@ -66,6 +66,7 @@ impl Machine {
     ghost use Rattle.rp_machine.specs.Answers.{block_lines, lines_of, pacing_of, inputs_of, outs_of};
 
     /// The interrupt lines of a core that come from PIO, the DMA engine and SIO.
+    #[inline(always)]
     #[tactic(auto, unfolding(crate::specs::Answers::block_lines))]
     fn block_lines(&self, core: u8) -> u32
         ensures { result ≡ block_lines core self.now }
@@ -77,6 +78,7 @@ impl Machine {
     }
 
     /// The interrupt lines of a core.
+    #[inline(always)]
     #[tactic(auto, unfolding(crate::specs::Answers::lines_of))]
     pub(crate) fn lines(&self, core: u8) -> u32
         ensures { result ≡ lines_of core self.now }
