@@ -38,7 +38,8 @@ impl Aimed {
     #[tactic(auto, unfolding(crate::specs::Hearing::after_hearing))]
     pub fn hear(&mut self, change: &PinChange)
         ensures { aim_of self.new.index self.new.pin
-            (⟦<dyn Probe as Probe>⟧ self.new.probe.vtable) self.new.probe.value ≡ after_hearing (change.now ∷ []) (aim_of self.old.index self.old.pin
+            (⟦<dyn Probe as Probe>⟧ self.new.probe.vtable) self.new.probe.value
+            ≡ after_hearing (change.now ∷ []) (aim_of self.old.index self.old.pin
             (⟦<dyn Probe as Probe>⟧ self.old.probe.vtable) self.old.probe.value) }
     {
         if change.pin == self.pin {
@@ -68,7 +69,8 @@ impl Aimed {
 /// All probes hear a change of some pin, in their order.
 pub fn hear_all(probes: &mut [Aimed], change: &PinChange)
     ensures { seen probes.new (λ a. aim_of a.index a.pin
-        (⟦<dyn Probe as Probe>⟧ a.probe.vtable) a.probe.value) ≡ map (after_hearing (change.now ∷ [])) (seen probes.old (λ a. aim_of a.index a.pin
+        (⟦<dyn Probe as Probe>⟧ a.probe.vtable) a.probe.value)
+        ≡ map (after_hearing (change.now ∷ [])) (seen probes.old (λ a. aim_of a.index a.pin
         (⟦<dyn Probe as Probe>⟧ a.probe.vtable) a.probe.value)) }
 {
     for probe in probes.iter_mut() {

@@ -52,7 +52,8 @@ pub fn aim_all(
 ) -> Result<Vec<Aimed>, AllocError>
     ensures { IfOk result (λ aimed. seen aimed.items (λ a. aim_of a.index a.pin
         (⟦<dyn Probe as Probe>⟧ a.probe.vtable) a.probe.value)
-        ≡ aims_of (map (λ p. (⟦<dyn Probe as Probe>⟧ p.vtable).meaning p.value) probes.items) targets.now) }
+        ≡ aims_of (map (λ p. (⟦<dyn Probe as Probe>⟧ p.vtable).meaning p.value) probes.items)
+        targets.now) }
 {
     let mut aimed = Vec::new(alloc);
     let mut index = 0;

@@ -53,8 +53,10 @@ impl Ws2812 {
 
     /// The level rises: a low level ends.
     fn rise(&mut self, cycle: u64)
-        ensures { self.new.since ∷ self.new.colours ∷ self.new.last ∷ bits_in self.new.count self.new.bits
-            ≡ decoded cycle true (self.old.since ∷ self.old.colours ∷ self.old.last ∷ bits_in self.old.count self.old.bits) }
+        ensures { self.new.since ∷ self.new.colours ∷ self.new.last
+            ∷ bits_in self.new.count self.new.bits
+            ≡ decoded cycle true (self.old.since ∷ self.old.colours ∷ self.old.last
+            ∷ bits_in self.old.count self.old.bits) }
     {
         let long = cycle.saturating_sub(self.since);
         let (count, bits) = if long >= RESET {
@@ -74,8 +76,10 @@ impl Ws2812 {
     /// The level falls: a bit ends.
     #[tactic(auto, using(crate::proofs::Bits::bits_full, crate::proofs::Bits::bits_few))]
     fn fall(&mut self, cycle: u64)
-        ensures { self.new.since ∷ self.new.colours ∷ self.new.last ∷ bits_in self.new.count self.new.bits
-            ≡ decoded cycle false (self.old.since ∷ self.old.colours ∷ self.old.last ∷ bits_in self.old.count self.old.bits) }
+        ensures { self.new.since ∷ self.new.colours ∷ self.new.last
+            ∷ bits_in self.new.count self.new.bits
+            ≡ decoded cycle false (self.old.since ∷ self.old.colours ∷ self.old.last
+            ∷ bits_in self.old.count self.old.bits) }
     {
         let bits = 2 * self.bits + bit_of(cycle.saturating_sub(self.since));
         if self.count == 23 {

@@ -225,7 +225,8 @@ impl Engine {
     /// The channels that were found take their credits.
     #[tactic(auto, using(crate::proofs::InTurn::in_turn_laws))]
     fn take_credits(&mut self, credited: &[bool; 12])
-        ensures { self.new ≡ in_turn (λ k. slice_index_or credited.now k false) with_credit 12 self.old }
+        ensures { self.new ≡ in_turn (λ k. slice_index_or credited.now k false) with_credit 12
+            self.old }
     {
         for number in 0..CHANNELS {
             if credited[number as usize] {

@@ -55,7 +55,8 @@ fn instruction_of(word: u32) -> u16
 /// Appends the instructions of the next words of a generator on stream 1.
 fn push_code(count: u32, random: &mut Lcg64Xsh32, bytes: &mut Vec<u8>) -> Result<(), AllocError>
     requires { random.old.increment ≡ 3 }
-    ensures { IfOk result (λ done. bytes.new.items ≡ bytes.old.items ++ code_from count random.old.state) }
+    ensures { IfOk result (λ done. bytes.new.items ≡ bytes.old.items
+        ++ code_from count random.old.state) }
 {
     let mut left = count;
     while left > 0 {

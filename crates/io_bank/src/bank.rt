@@ -188,7 +188,8 @@ impl IoBank {
 
     /// The input words, of the level now and of the second one: each level under IE and INOVER.
     pub fn inputs(&self) -> [u32; 2]
-        ensures { result ≡ inputs_of self.now self.now.current ∷ inputs_of self.now self.now.second ∷ [] }
+        ensures { result ≡ inputs_of self.now self.now.current ∷ inputs_of self.now self.now.second
+            ∷ [] }
     {
         [self.sensed(self.current), self.sensed(self.second)]
     }

@@ -99,7 +99,8 @@ pub trait Lane<E> {
     fn finish(&mut self, env: &E, begun: &Self::Begun, turns: [Turn; 2], marks: &mut Marks)
         requires { IsSome (marked env.now self.old begun.now turns) → length marks.old < 256 }
         ensures state { self.new ≡ next env.now self.old begun.now turns }
-        ensures marks { marks.new ≡ marks.old ++ option_to_list (marked env.now self.old begun.now turns) };
+        ensures marks { marks.new ≡ marks.old
+            ++ option_to_list (marked env.now self.old begun.now turns) };
 
     /// Takes the state of another lane.
     fn copy_from(&mut self, other: &Self)
@@ -109,8 +110,10 @@ pub trait Lane<E> {
     ghost few: { most ≤ 8 };
 
     /// Whatever the answers are, it asks no more.
-    ghost asks_at_most: { (env : E) (state : Self) (cycle : ℕ) → AsksAtMost most (asks env state cycle) };
+    ghost asks_at_most: { (env : E) (state : Self) (cycle : ℕ)
+        → AsksAtMost most (asks env state cycle) };
 
     /// The step reads no word of the turn of an access to SRAM.
-    ghost reads_no_word: { (env : E) (state : Self) (begun : Self.Begun) (turns : List Turn) → next env state begun (without_words (wanted begun) turns) ≡ next env state begun turns };
+    ghost reads_no_word: { (env : E) (state : Self) (begun : Self.Begun) (turns : List Turn)
+        → next env state begun (without_words (wanted begun) turns) ≡ next env state begun turns };
 }

@@ -26,7 +26,8 @@ impl Lane<()> for Copier {
 
     ghost most = { 1 };
 
-    ghost wanted = { λ word. Want.Ram (record { address = 0; size = Size.Word; write = Some word }) ∷ Want.Nothing ∷ [] };
+    ghost wanted = { λ word. Want.Ram (record { address = 0; size = Size.Word; write = Some word })
+        ∷ Want.Nothing ∷ [] };
 
     ghost next = { λ _ s word turns. record { address = word } };
 
@@ -77,7 +78,8 @@ impl Look for Count {
 /// One cycle of any lane that leaves no mark, each want done with 0.
 fn step<E, S: Lane<E>, K: Look>(lane: &mut S, env: &E, cycle: u64, look: &mut K, marks: &mut Marks)
     requires { (b : S.Begun) → S.marked env.now lane.old b (Turn.Done 0 ∷ Turn.Done 0 ∷ []) ≡ None }
-    ensures { (b : S.Begun) × Runs K.answers look.old (S.asks env.now lane.old cycle) b look.new × (lane.new ≡ S.next env.now lane.old b (Turn.Done 0 ∷ Turn.Done 0 ∷ [])) }
+    ensures { (b : S.Begun) × Runs K.answers look.old (S.asks env.now lane.old cycle) b look.new
+        × (lane.new ≡ S.next env.now lane.old b (Turn.Done 0 ∷ Turn.Done 0 ∷ [])) }
 {
     let begun = lane.begin(env, cycle, look);
     lane.finish(env, &begun, [Turn::Done(0), Turn::Done(0)], marks);
@@ -128,8 +130,10 @@ impl Device for Counter {
       covers = λ address. address == d.address;
       value = λ state address. slice_index state 0;
       after_read = λ state address. slice_set state 0 0;
-      after_write = λ state address value. slice_set state 0 ((slice_index state 0 + value) % 2 ^ 32);
-      wires = λ state cycle pads. record { mask = d.pads; level = slice_index state 0; pwm = pads; irq = cycle % 2 };
+      after_write = λ state address value. slice_set state 0
+        ((slice_index state 0 + value) % 2 ^ 32);
+      wires = λ state cycle pads. record { mask = d.pads; level = slice_index state 0; pwm = pads;
+        irq = cycle % 2 };
       after_step = λ state cycle pads. slice_set state 0 ((slice_index state 0 + 1) % 2 ^ 32);
     } };
 

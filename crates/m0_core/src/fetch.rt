@@ -93,7 +93,8 @@ impl Core {
     /// An access, by the place that it goes to.
     #[inline(always)]
     fn begin_access<K: Look>(&self, work: Work, request: Request, look: &mut K, act: &mut Act)
-        ensures { Runs K.answers look.old (at_spot work request self.now (place_of request.address)) act.new look.new }
+        ensures { Runs K.answers look.old (at_spot work request self.now (place_of request.address))
+            act.new look.new }
     {
         match place(request.address) {
             Spot::Ram { .. } => begin_ram(work, request, look, act),
@@ -184,7 +185,8 @@ impl Core {
     #[tactic(auto, unfolding(crate::specs::Fetch::asks_beat, crate::specs::Fetch::beat_of))]
     fn begin_shape<K: Look>(&self, op: Op, shape: &Shape, look: &mut K, act: &mut Act)
         requires { beats_of_shape shape.now self.now.regs ≡ beats_of op self.now.regs }
-        ensures { Runs K.answers look.old (asks_beat (Work.Instruction op) self.now) act.new look.new }
+        ensures { Runs K.answers look.old (asks_beat (Work.Instruction op) self.now) act.new
+            look.new }
     {
         let work = Work::Instruction(op);
         match shape_beat(shape, &self.regs, self.place).unwrap_or(Beat::Inner) {

@@ -56,9 +56,11 @@ impl<X: Device> Lane<World<'_, X>> for Outer {
 
     ghost wanted = { wanted };
 
-    ghost next = { λ w s seen turns. next (setting_of w.script.now (X.meaning w.device.now) w.limit) s seen };
+    ghost next = { λ w s seen turns. next (setting_of w.script.now (X.meaning w.device.now) w.limit)
+        s seen };
 
-    ghost marked = { λ w s seen turns. Some (marked (setting_of w.script.now (X.meaning w.device.now) w.limit) s seen) };
+    ghost marked = { λ w s seen turns. Some
+        (marked (setting_of w.script.now (X.meaning w.device.now) w.limit) s seen) };
 
     #[tactic(auto, unfolding(crate::specs::Step::asks))]
     fn begin<K: Look>(&self, _env: &World<'_, X>, cycle: u64, look: &mut K) -> Seen {

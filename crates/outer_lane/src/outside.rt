@@ -9,7 +9,8 @@ use pin_script::{Cursor, Drives, Script};
 
 /// What the script and the device drive in a cycle.
 pub(crate) fn outside(script: &Script, cursor: &mut Cursor, wires: &Wires, cycle: u64) -> Drives
-    ensures { (pin : ℕ) → pin < 30 → by_sets result.driven result.high pin ≡ outside_of script.now wires.now cycle pin }
+    ensures { (pin : ℕ) → pin < 30 → by_sets result.driven result.high pin
+        ≡ outside_of script.now wires.now cycle pin }
 {
     let found = cursor.drives(script, cycle);
     joined(found.driven, found.high, wires)

@@ -67,7 +67,8 @@ impl Outer {
     /// What the script and the device drive in a cycle.
     fn drives(&mut self, script: &Script, wires: &Wires, cycle: u64) -> Drives
         ensures kept { self.new ≡ self.old }
-        ensures drives { (pin : ℕ) → pin < 30 → by_sets result.driven result.high pin ≡ outside_of script.now wires.now cycle pin }
+        ensures drives { (pin : ℕ) → pin < 30 → by_sets result.driven result.high pin
+            ≡ outside_of script.now wires.now cycle pin }
     {
         outside(script, &mut self.cursor, wires, cycle)
     }
@@ -95,7 +96,8 @@ impl Outer {
     /// The pads step by these, unless they are at rest and the last step was by the same.
     fn step_driven(&mut self, drivers: Drivers) -> u32
         ensures levels { result ≡ (pads_after self.old.sio drivers self.old.pads).current }
-        ensures after { self.new ≡ record self.old { pads = pads_after self.old.sio drivers self.old.pads } }
+        ensures after { self.new ≡ record self.old { pads = pads_after self.old.sio drivers
+            self.old.pads } }
     {
         if self.still && self.drivers.is_same(&drivers) {
             return self.pads.pads();
@@ -110,7 +112,8 @@ impl Outer {
     /// The pads step, by the outputs at the start and by what the script and the device drive in this cycle.
     fn step_pads(&mut self, script: &Script, wires: &Wires, seen: &Seen) -> u32
         ensures levels { result ≡ levels_by script.now wires.now seen.now self.old }
-        ensures after { self.new ≡ record self.old { pads = pads_by script.now wires.now seen.now self.old } }
+        ensures after { self.new ≡ record self.old { pads = pads_by script.now wires.now seen.now
+            self.old } }
     {
         let drives = self.drives(script, wires, seen.cycle);
         let drivers = self.drivers(wires, seen, drives);

@@ -37,7 +37,9 @@ impl Outer {
         block: Block,
         offset: u16,
     ) -> Option<u32>
-        ensures { result ≡ outer_word (setting_of world.now.script.now (X.meaning world.now.device.now) world.now.limit) seen.now block offset self.now }
+        ensures { result ≡ outer_word
+            (setting_of world.now.script.now (X.meaning world.now.device.now) world.now.limit)
+            seen.now block offset self.now }
     {
         match block {
             Block::IoBank0 => self.read_bank(world, seen, offset),
@@ -51,7 +53,9 @@ impl Outer {
 
     /// A word of IO_BANK0, whose offsets end below those of PADS_BANK0.
     fn read_bank<X: Device>(&self, world: &World<'_, X>, seen: &Seen, offset: u16) -> Option<u32>
-        ensures { result ≡ bank_word (setting_of world.now.script.now (X.meaning world.now.device.now) world.now.limit) seen.now offset self.now }
+        ensures { result ≡ bank_word
+            (setting_of world.now.script.now (X.meaning world.now.device.now) world.now.limit)
+            seen.now offset self.now }
     {
         if offset >= PADS_BANK0 {
             return None;
@@ -67,7 +71,9 @@ impl Outer {
         seen: &Seen,
         offset: u16,
     ) -> Option<u32>
-        ensures { result ≡ pads_word (setting_of world.now.script.now (X.meaning world.now.device.now) world.now.limit) seen.now offset self.now }
+        ensures { result ≡ pads_word
+            (setting_of world.now.script.now (X.meaning world.now.device.now) world.now.limit)
+            seen.now offset self.now }
     {
         let outs = self.outs_now(world, seen);
         self.pads.read(offset, &outs)
@@ -76,7 +82,9 @@ impl Outer {
     /// A word of PADS_BANK0, of which there are 31.
     #[tactic(auto, unfolding(crate::specs::Words::pads_word), using(crate::proofs::PadWords::no_pad_word))]
     fn read_pads<X: Device>(&self, world: &World<'_, X>, seen: &Seen, offset: u16) -> Option<u32>
-        ensures { result ≡ pads_word (setting_of world.now.script.now (X.meaning world.now.device.now) world.now.limit) seen.now (PADS_BANK0 + offset) self.now }
+        ensures { result ≡ pads_word
+            (setting_of world.now.script.now (X.meaning world.now.device.now) world.now.limit)
+            seen.now (PADS_BANK0 + offset) self.now }
     {
         if offset > LAST_PAD {
             return None;
@@ -86,7 +94,9 @@ impl Outer {
 
     /// The outputs of all parts in this cycle. The device says what it drives, on a copy of its words.
     fn outs_now<X: Device>(&self, world: &World<'_, X>, seen: &Seen) -> Outs
-        ensures { result ≡ outs_now (setting_of world.now.script.now (X.meaning world.now.device.now) world.now.limit) seen.now self.now }
+        ensures { result ≡ outs_now
+            (setting_of world.now.script.now (X.meaning world.now.device.now) world.now.limit)
+            seen.now self.now }
     {
         let mut words = self.words();
         let wires = step_device(world.device, &mut words, seen.cycle, self.pads.pads());

@@ -42,7 +42,8 @@ impl Cursor {
     /// What the script drives in a cycle. The cursor moves there: forward, where the cycles that are asked for do not fall.
     /// Any cursor will do, also one of another script.
     pub fn drives(&mut self, script: &Script, cycle: u64) -> Drives
-        ensures drives { (pin : ℕ) → pin < 30 → driven_level result.driven result.high pin ≡ drive_at script.now cycle pin }
+        ensures drives { (pin : ℕ) → pin < 30 → driven_level result.driven result.high pin
+            ≡ drive_at script.now cycle pin }
         ensures cursor { self.new ≡ due_count script.now cycle }
     {
         let due = count_due(script.as_slice(), cycle, self.due);

@@ -64,7 +64,8 @@ fn three_fields(line: &[u8]) -> Option<(&[u8], &[u8], &[u8])>
 
 /// The three words of a line, the third of which names a level.
 fn level_words(line: &[u8]) -> Option<LevelWords<'_>>
-    ensures { option_map (λ words. level_words_of words.cycle.now words.pin.now words.level) result ≡ level_words (fields line.now) }
+    ensures { option_map (λ words. level_words_of words.cycle.now words.pin.now words.level) result
+        ≡ level_words (fields line.now) }
 {
     let (cycle, pin, level) = three_fields(line)?;
     if cycle.is_empty() || pin.is_empty() {
@@ -125,7 +126,8 @@ impl Earlier {
         pin: u64,
         level: Level,
     ) -> Result<(), ScriptFault>
-        ensures ok { OnOk result (level_numbers number self.old level (Some cycle) (Some pin) ≡ Ok self.new) }
+        ensures ok { OnOk result (level_numbers number self.old level (Some cycle) (Some pin)
+            ≡ Ok self.new) }
         ensures fault { IfErr result (λ fault. fault ≢ ScriptFault.Memory
             → level_numbers number self.old level (Some cycle) (Some pin) ≡ Err fault) }
     {
@@ -145,7 +147,8 @@ impl Earlier {
 
     /// Reads a level line.
     pub(crate) fn read_level(&mut self, number: u32, line: &[u8]) -> Result<(), ScriptFault>
-        ensures ok { OnOk result (after_level number self.old (level_words (fields line.now)) ≡ Ok self.new) }
+        ensures ok { OnOk result (after_level number self.old (level_words (fields line.now))
+            ≡ Ok self.new) }
         ensures fault { IfErr result (λ fault. fault ≢ ScriptFault.Memory
             → after_level number self.old (level_words (fields line.now)) ≡ Err fault) }
     {

@@ -10,7 +10,8 @@ use std::alloc::{AllocError, Global};
 /// The script of the entries of a file.
 pub(crate) fn in_order(alloc: Global, mut entries: Vec<LineEntry>) -> Result<Vec<Entry>, AllocError>
     requires { HasPins entries.items }
-    ensures value { IfOk result (λ script. script.items ≡ map without_line (in_order entries.items)) }
+    ensures value { IfOk result (λ script. script.items
+        ≡ map without_line (in_order entries.items)) }
     ensures script { IfOk result (λ script. IsScript script.items) }
 {
     sort(&mut entries)?;

@@ -27,7 +27,8 @@ struct Heading<'a> {
 
 /// The two fields of a line.
 fn two_fields(line: &[u8]) -> Option<(&[u8], &[u8])>
-    ensures { MatchOption result ((is_version_2 (fields line.now) ≡ false) × (is_other_version (fields line.now) ≡ false))
+    ensures { MatchOption result ((is_version_2 (fields line.now) ≡ false)
+        × (is_other_version (fields line.now) ≡ false))
         (λ parts. fields line.now ≡ parts.0.now ∷ parts.1.now ∷ []) }
 {
     let (first, second) = first_field(line)?;
@@ -71,8 +72,10 @@ fn headed<'a>(
     requires number { number < 4194304 }
     ensures ok { IfOk result (λ heading. headed (number + 1) line.now (lines after.now)
         ≡ after_lines heading.sends (heading.number + 1) nothing (lines heading.rest.now)) }
-    ensures short { IfOk result (λ heading. heading.number + length heading.rest.now ≤ number + length rest.now) }
-    ensures fault { IfErr result (λ fault. headed (number + 1) line.now (lines after.now) ≡ Err fault) }
+    ensures short { IfOk result (λ heading. heading.number + length heading.rest.now
+        ≤ number + length rest.now) }
+    ensures fault { IfErr result (λ fault. headed (number + 1) line.now (lines after.now)
+        ≡ Err fault) }
 {
     if is_version_2(line) {
         return Ok(Heading {
@@ -96,7 +99,8 @@ fn find_heading(bytes: &[u8]) -> Result<Heading<'_>, ScriptFault>
     requires { length bytes.now ≤ 4194304 }
     ensures ok { IfOk result (λ heading. entries_of bytes.now
         ≡ after_lines heading.sends (heading.number + 1) nothing (lines heading.rest.now)) }
-    ensures short { IfOk result (λ heading. heading.number + length heading.rest.now ≤ length bytes.now) }
+    ensures short { IfOk result (λ heading. heading.number + length heading.rest.now
+        ≤ length bytes.now) }
     ensures fault { IfErr result (λ fault. entries_of bytes.now ≡ Err fault) }
 {
     let mut rest = bytes;
@@ -144,7 +148,8 @@ pub(crate) fn read_entries(alloc: Global, bytes: &[u8]) -> Result<Vec<LineEntry>
     requires { length bytes.now ≤ 4194304 }
     ensures ok { IfOk result (λ entries. entries_of bytes.now ≡ Ok entries.items) }
     ensures pins { IfOk result (λ entries. HasPins entries.items) }
-    ensures fault { IfErr result (λ fault. fault ≢ ScriptFault.Memory → entries_of bytes.now ≡ Err fault) }
+    ensures fault { IfErr result (λ fault. fault ≢ ScriptFault.Memory → entries_of bytes.now
+        ≡ Err fault) }
 {
     let heading = find_heading(bytes)?;
     let mut earlier = Earlier::new(alloc);

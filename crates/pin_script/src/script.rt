@@ -95,7 +95,8 @@ impl Drives {
     fn after(self, entry: &Entry) -> Drives
         requires { entry.now.pin < 30 }
         ensures { (pin : ℕ) → pin < 30 → driven_level result.driven result.high pin
-            ≡ (if entry.now.pin == pin then drive_of entry.now.level else driven_level self.driven self.high pin) }
+            ≡ (if entry.now.pin == pin then drive_of entry.now.level
+            else driven_level self.driven self.high pin) }
     {
         let pin = u32::from(entry.pin);
         let drive = entry.level.drive();

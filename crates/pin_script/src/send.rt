@@ -42,7 +42,8 @@ struct Sending {
 /// The five fields of a line.
 fn five_fields(line: &[u8]) -> Option<(&[u8], &[u8], &[u8], &[u8], &[u8])>
     ensures { MatchOption result (send_words (fields line.now) ≡ None)
-        (λ parts. fields line.now ≡ parts.0.now ∷ parts.1.now ∷ parts.2.now ∷ parts.3.now ∷ parts.4.now ∷ []) }
+        (λ parts. fields line.now ≡ parts.0.now ∷ parts.1.now ∷ parts.2.now ∷ parts.3.now
+        ∷ parts.4.now ∷ []) }
 {
     let (first, after_first) = first_field(line)?;
     let (second, after_second) = first_field(after_first)?;
@@ -56,7 +57,8 @@ fn five_fields(line: &[u8]) -> Option<(&[u8], &[u8], &[u8], &[u8], &[u8])>
 
 /// The words of a line that begins with `send`.
 pub(crate) fn send_words(line: &[u8]) -> Option<SendWords<'_>>
-    ensures { option_map (λ words. send_words_of words.cycle.now words.pin.now words.divisor.now words.bytes.now) result
+    ensures { option_map (λ words. send_words_of words.cycle.now words.pin.now words.divisor.now
+        words.bytes.now) result
         ≡ send_words (fields line.now) }
 {
     let (first, cycle, pin, divisor, bytes) = five_fields(line)?;
@@ -95,7 +97,8 @@ fn sent_entry(sending: Sending, bytes: &[u8], k: usize) -> LineEntry
     requires cycle { sending.cycle < 10_000_000_000 }
     requires divisor { sending.divisor < 10_000_000 }
     requires pin { sending.pin < 30 }
-    ensures { result ≡ sent_entry sending.number sending.cycle sending.pin sending.divisor bytes.now k }
+    ensures { result ≡ sent_entry sending.number sending.cycle sending.pin sending.divisor bytes.now
+        k }
 {
     let bit = (k % 10) as u32;
     LineEntry {
@@ -117,7 +120,8 @@ fn push_bits(
     requires divisor { sending.divisor < 10_000_000 }
     requires pin { sending.pin < 30 }
     ensures ok { OnOk result (entries.new.items ≡ entries.old.items
-        ++ sent_entries sending.number sending.cycle sending.pin sending.divisor bytes.now (sent_count bytes.now)) }
+        ++ sent_entries sending.number sending.cycle sending.pin sending.divisor bytes.now
+        (sent_count bytes.now)) }
     ensures pins { HasPins entries.old.items → HasPins entries.new.items }
     ensures fault { IfErr result (λ fault. fault ≡ ScriptFault.Memory) }
 {
@@ -135,9 +139,11 @@ impl Earlier {
     /// Adds the entries of a line that sends bytes.
     fn add_send(&mut self, sending: Sending, bytes: &[u8]) -> Result<(), ScriptFault>
         requires cycle { sending.cycle < 10_000_000_000 }
-        ensures ok { OnOk result (sent sending.number self.old sending.cycle sending.pin sending.divisor bytes.now ≡ Ok self.new) }
+        ensures ok { OnOk result (sent sending.number self.old sending.cycle sending.pin
+            sending.divisor bytes.now ≡ Ok self.new) }
         ensures fault { IfErr result (λ fault. fault ≢ ScriptFault.Memory
-            → sent sending.number self.old sending.cycle sending.pin sending.divisor bytes.now ≡ Err fault) }
+            → sent sending.number self.old sending.cycle sending.pin sending.divisor bytes.now
+            ≡ Err fault) }
     {
         if sending.pin > LAST_PIN {
             return Err(ScriptFault::Pin(sending.number));
@@ -159,9 +165,12 @@ impl Earlier {
         requires divisor { sending.divisor < 10_000_000 }
         requires pin { sending.pin < 30 }
         ensures ok { OnOk result (added sending.number self.old sending.cycle
-            (sent_entries sending.number sending.cycle sending.pin sending.divisor bytes.now (sent_count bytes.now)) ≡ Ok self.new) }
-        ensures fault { IfErr result (λ fault. fault ≢ ScriptFault.Memory → added sending.number self.old sending.cycle
-            (sent_entries sending.number sending.cycle sending.pin sending.divisor bytes.now (sent_count bytes.now)) ≡ Err fault) }
+            (sent_entries sending.number sending.cycle sending.pin sending.divisor bytes.now
+            (sent_count bytes.now)) ≡ Ok self.new) }
+        ensures fault { IfErr result (λ fault. fault ≢ ScriptFault.Memory
+            → added sending.number self.old sending.cycle
+            (sent_entries sending.number sending.cycle sending.pin sending.divisor bytes.now
+            (sent_count bytes.now)) ≡ Err fault) }
     {
         self.fits(sending.number, sending.cycle, 10 * (bytes.len() / 2))?;
         push_bits(&mut self.entries, sending, bytes)?;
@@ -176,9 +185,12 @@ impl Earlier {
         words: &SendWords<'_>,
     ) -> Result<(), ScriptFault>
         ensures ok { OnOk result (after_send number self.old
-            (send_words_of words.now.cycle.now words.now.pin.now words.now.divisor.now words.now.bytes.now) ≡ Ok self.new) }
-        ensures fault { IfErr result (λ fault. fault ≢ ScriptFault.Memory → after_send number self.old
-            (send_words_of words.now.cycle.now words.now.pin.now words.now.divisor.now words.now.bytes.now) ≡ Err fault) }
+            (send_words_of words.now.cycle.now words.now.pin.now words.now.divisor.now
+            words.now.bytes.now) ≡ Ok self.new) }
+        ensures fault { IfErr result (λ fault. fault ≢ ScriptFault.Memory
+            → after_send number self.old
+            (send_words_of words.now.cycle.now words.now.pin.now words.now.divisor.now
+            words.now.bytes.now) ≡ Err fault) }
     {
         match (
             number_of(CYCLE_DIGITS, words.cycle),

@@ -40,7 +40,8 @@ pub(crate) fn first_line(bytes: &[u8]) -> (&[u8], &[u8])
 
 /// The first field of a line and what follows its space; none where the line has no space.
 pub(crate) fn first_field(line: &[u8]) -> Option<(&[u8], &[u8])>
-    ensures { MatchOption result (fields line.now ≡ line.now ∷ []) (λ parts. fields line.now ≡ parts.0.now ∷ fields parts.1.now) }
+    ensures { MatchOption result (fields line.now ≡ line.now ∷ []) (λ parts. fields line.now
+        ≡ parts.0.now ∷ fields parts.1.now) }
 {
     let end = find(line, b' ')?;
     Some((&line[..end], &line[end + 1..]))

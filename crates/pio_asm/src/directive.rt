@@ -42,7 +42,8 @@ pub(crate) fn take_define<'a>(
     value: &Expression,
     building: &mut Building<'a>,
 ) -> Result<(), PioFault>
-    ensures step { Makes result building.new (define_step context.now.globals.now number twice name.now value.now building.old) }
+    ensures step { Makes result building.new
+        (define_step context.now.globals.now number twice name.now value.now building.old) }
     ensures side { building.new.side ≡ building.old.side }
 {
     let defined = or_memory(evaluate_in(context.alloc, &building.seen, context.globals, value))?;
@@ -96,7 +97,9 @@ pub(crate) fn take_origin<'a>(
     value: &Expression,
     building: &mut Building<'a>,
 ) -> Result<(), PioFault>
-    ensures step { Makes result building.new (origin_step context.now.globals.now context.now.total number twice value.now building.old) }
+    ensures step { Makes result building.new
+        (origin_step context.now.globals.now context.now.total number twice value.now
+        building.old) }
     ensures side { building.new.side ≡ building.old.side }
 {
     let found = or_memory(evaluate_in(context.alloc, &building.seen, context.globals, value))?;
@@ -131,7 +134,8 @@ pub(crate) fn take_side_set<'a>(
     pindirs: bool,
     building: &mut Building<'a>,
 ) -> Result<(), PioFault>
-    ensures step { Makes result building.new (side_set_step context.now.globals.now number twice count.now opt pindirs building.old) }
+    ensures step { Makes result building.new
+        (side_set_step context.now.globals.now number twice count.now opt pindirs building.old) }
     ensures side { OnOk result (IsOptionalConfig building.new.side) }
 {
     let found = or_memory(evaluate_in(context.alloc, &building.seen, context.globals, count))?;
@@ -165,7 +169,8 @@ pub(crate) fn take_target(
     twice: bool,
     building: &mut Building,
 ) -> Result<(), PioFault>
-    ensures step { Makes result building.new (target_step context.now.total number twice building.old) }
+    ensures step { Makes result building.new
+        (target_step context.now.total number twice building.old) }
     ensures side { building.new.side ≡ building.old.side }
 {
     let count = building.code.len();
@@ -231,7 +236,8 @@ pub(crate) fn take_word<'a>(
     value: &Expression,
     building: &mut Building<'a>,
 ) -> Result<(), PioFault>
-    ensures step { Makes result building.new (word_step context.now.globals.now number twice value.now building.old) }
+    ensures step { Makes result building.new
+        (word_step context.now.globals.now number twice value.now building.old) }
     ensures side { building.new.side ≡ building.old.side }
 {
     let found = or_memory(evaluate_in(context.alloc, &building.seen, context.globals, value))?;

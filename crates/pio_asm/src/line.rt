@@ -36,7 +36,9 @@ fn take_instruction(
     building: &mut Building,
 ) -> Result<(), PioFault>
     requires { IsOptionalConfig building.old.side }
-    ensures step { Makes result building.new (instruction_step context.now.whole.now context.now.globals.now number twice instruction.now building.old) }
+    ensures step { Makes result building.new
+        (instruction_step context.now.whole.now context.now.globals.now number twice instruction.now
+        building.old) }
     ensures side { building.new.side ≡ building.old.side }
 {
     let scope = Scope {
@@ -70,7 +72,9 @@ fn take_statement<'a>(
     building: &mut Building<'a>,
 ) -> Result<(), PioFault>
     requires { IsOptionalConfig building.old.side }
-    ensures step { Makes result building.new (statement_step context.now.whole.now context.now.globals.now context.now.total number twice statement.now building.old) }
+    ensures step { Makes result building.new
+        (statement_step context.now.whole.now context.now.globals.now context.now.total number twice
+        statement.now building.old) }
     ensures side { OnOk result (IsOptionalConfig building.new.side) }
 {
     match statement {
@@ -108,7 +112,9 @@ pub(crate) fn take_line<'a>(
     building: &mut Building<'a>,
 ) -> Result<(), PioFault>
     requires { IsOptionalConfig building.old.side }
-    ensures step { Makes result building.new (line_step context.now.whole.now context.now.globals.now context.now.total line.now building.old) }
+    ensures step { Makes result building.new
+        (line_step context.now.whole.now context.now.globals.now context.now.total line.now
+        building.old) }
     ensures side { OnOk result (IsOptionalConfig building.new.side) }
 {
     let twice = is_twice(context.globals, &line.label, &building.seen);

@@ -65,9 +65,11 @@ pub(crate) fn side_part(
     side: &Option<Expression>,
 ) -> Result<Part, AllocError>
     requires { IsOptionalConfig config }
-    ensures value { IfOk result (λ p. p ≡ side_part_in scope.now.locals.now scope.now.globals.now config side.now) }
+    ensures value { IfOk result (λ p. p
+        ≡ side_part_in scope.now.locals.now scope.now.globals.now config side.now) }
     ensures inside { IfOk result (λ p. p.value ≤ greatest (config_of config).count) }
-    ensures fault { IfOk result (λ p. p.fault ≡ false → (is_some side.now || (config_of config).opt || (config_of config).count == 0) ≡ true) }
+    ensures fault { IfOk result (λ p. p.fault ≡ false
+        → (is_some side.now || (config_of config).opt || (config_of config).count == 0) ≡ true) }
 {
     match config {
         None => match side {
@@ -94,7 +96,8 @@ pub(crate) fn delay_part(
     delay: &Option<Expression>,
 ) -> Result<Part, AllocError>
     requires { IsConfig config.now }
-    ensures value { IfOk result (λ p. p ≡ delay_part_in scope.now.locals.now scope.now.globals.now config.now delay.now) }
+    ensures value { IfOk result (λ p. p
+        ≡ delay_part_in scope.now.locals.now scope.now.globals.now config.now delay.now) }
     ensures inside { IfOk result (λ p. p.value ≤ greatest (delay_bits config.now)) }
 {
     match delay {

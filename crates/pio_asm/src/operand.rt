@@ -20,7 +20,8 @@ pub(crate) struct Scope<'s, 'a> {
 impl Scope<'_, '_> {
     /// What an expression comes to.
     pub(crate) fn evaluate(&self, expression: &Expression) -> Result<Evaluated, AllocError>
-        ensures { IfOk result (λ e. e ≡ evaluated self.now.locals.now self.now.globals.now expression.now) }
+        ensures { IfOk result (λ e. e
+            ≡ evaluated self.now.locals.now self.now.globals.now expression.now) }
     {
         evaluate(self.alloc, self.locals, self.globals, expression.as_slice())
     }
@@ -112,7 +113,8 @@ pub(crate) fn read_field(
     low: u8,
     high: u8,
 ) -> Result<Field, AllocError>
-    ensures value { IfOk result (λ f. f ≡ field_in scope.now.locals.now scope.now.globals.now low high expression.now) }
+    ensures value { IfOk result (λ f. f
+        ≡ field_in scope.now.locals.now scope.now.globals.now low high expression.now) }
     ensures inside { IfOk result (λ f. IfSome f.value (λ n. (low ≤ n) × (n ≤ high))) }
 {
     Ok(field_for(scope.evaluate(expression)?, low, high))
@@ -123,7 +125,8 @@ pub(crate) fn read_polarity(
     scope: &Scope,
     expression: &Option<Expression>,
 ) -> Result<Field, AllocError>
-    ensures { IfOk result (λ f. f ≡ polarity_in scope.now.locals.now scope.now.globals.now expression.now) }
+    ensures { IfOk result (λ f. f ≡ polarity_in scope.now.locals.now scope.now.globals.now
+        expression.now) }
 {
     match expression {
         None => Ok(Field {
@@ -177,7 +180,8 @@ pub(crate) fn read_part(
     expression: &Expression,
     greatest: u8,
 ) -> Result<Part, AllocError>
-    ensures value { IfOk result (λ p. p ≡ part_in scope.now.locals.now scope.now.globals.now greatest expression.now) }
+    ensures value { IfOk result (λ p. p
+        ≡ part_in scope.now.locals.now scope.now.globals.now greatest expression.now) }
     ensures inside { IfOk result (λ p. p.value ≤ greatest) }
 {
     Ok(part_for(scope.evaluate(expression)?, greatest))

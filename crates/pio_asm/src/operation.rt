@@ -59,7 +59,8 @@ fn plan_wait(polarity: Field, source: Option<WaitSource>, number: Field) -> Plan
 
 fn wait_for_irq(number: Option<u8>, relative: bool) -> Option<WaitSource>
     requires { IfSome number (λ n. n ≤ 7) }
-    ensures value { result ≡ option_map (λ n. WaitSource.Irq (record { number = n; relative = relative })) number }
+    ensures value { result ≡ option_map
+        (λ n. WaitSource.Irq (record { number = n; relative = relative })) number }
     ensures fits { IfSome result IsWaitInRange }
 {
     match number {
@@ -70,7 +71,8 @@ fn wait_for_irq(number: Option<u8>, relative: bool) -> Option<WaitSource>
 
 fn wait_for_pin(number: Option<u8>, is_gpio: bool) -> Option<WaitSource>
     requires { IfSome number (λ n. n ≤ 31) }
-    ensures value { result ≡ option_map (λ n. if is_gpio then WaitSource.Gpio n else WaitSource.Pin n) number }
+    ensures value { result ≡ option_map (λ n. if is_gpio then WaitSource.Gpio n
+        else WaitSource.Pin n) number }
     ensures fits { IfSome result IsWaitInRange }
 {
     match number {
@@ -88,7 +90,8 @@ fn plan_jmp(
     condition: JmpCondition,
     target: &Expression,
 ) -> Result<Planned, AllocError>
-    ensures value { IfOk result (λ p. p ≡ planned_by (λ n. PioOp.Jmp condition n) (field_in scope.now.locals.now scope.now.globals.now 0 31 target.now)) }
+    ensures value { IfOk result (λ p. p ≡ planned_by (λ n. PioOp.Jmp condition n)
+        (field_in scope.now.locals.now scope.now.globals.now 0 31 target.now)) }
     ensures fits { IfOk result (λ p. IfSome p.op IsInRange) }
 {
     let field = read_field(scope, target, 0, 31)?;
@@ -104,7 +107,9 @@ fn plan_wait_pin(
     number: &Expression,
     is_gpio: bool,
 ) -> Result<Planned, AllocError>
-    ensures value { IfOk result (λ p. p ≡ waited_for (λ n. if is_gpio then WaitSource.Gpio n else WaitSource.Pin n) (polarity_in scope.now.locals.now scope.now.globals.now polarity.now) (field_in scope.now.locals.now scope.now.globals.now 0 31 number.now)) }
+    ensures value { IfOk result (λ p. p ≡ waited_for (λ n. if is_gpio then WaitSource.Gpio n
+        else WaitSource.Pin n) (polarity_in scope.now.locals.now scope.now.globals.now polarity.now)
+        (field_in scope.now.locals.now scope.now.globals.now 0 31 number.now)) }
     ensures fits { IfOk result (λ p. IfSome p.op IsInRange) }
 {
     let polarity = read_polarity(scope, polarity)?;
@@ -118,7 +123,10 @@ fn plan_wait_irq(
     number: &Expression,
     relative: bool,
 ) -> Result<Planned, AllocError>
-    ensures value { IfOk result (λ p. p ≡ waited_for (λ n. WaitSource.Irq (record { number = n; relative = relative })) (polarity_in scope.now.locals.now scope.now.globals.now polarity.now) (field_in scope.now.locals.now scope.now.globals.now 0 7 number.now)) }
+    ensures value { IfOk result (λ p. p
+        ≡ waited_for (λ n. WaitSource.Irq (record { number = n; relative = relative }))
+        (polarity_in scope.now.locals.now scope.now.globals.now polarity.now)
+        (field_in scope.now.locals.now scope.now.globals.now 0 7 number.now)) }
     ensures fits { IfOk result (λ p. IfSome p.op IsInRange) }
 {
     let polarity = read_polarity(scope, polarity)?;
@@ -127,7 +135,8 @@ fn plan_wait_irq(
 }
 
 fn plan_in(scope: &Scope, source: InSource, count: &Expression) -> Result<Planned, AllocError>
-    ensures value { IfOk result (λ p. p ≡ planned_by (λ n. PioOp.In source n) (field_in scope.now.locals.now scope.now.globals.now 1 32 count.now)) }
+    ensures value { IfOk result (λ p. p ≡ planned_by (λ n. PioOp.In source n)
+        (field_in scope.now.locals.now scope.now.globals.now 1 32 count.now)) }
     ensures fits { IfOk result (λ p. IfSome p.op IsInRange) }
 {
     let field = read_field(scope, count, 1, 32)?;
@@ -139,7 +148,8 @@ fn plan_out(
     destination: OutDestination,
     count: &Expression,
 ) -> Result<Planned, AllocError>
-    ensures value { IfOk result (λ p. p ≡ planned_by (λ n. PioOp.Out destination n) (field_in scope.now.locals.now scope.now.globals.now 1 32 count.now)) }
+    ensures value { IfOk result (λ p. p ≡ planned_by (λ n. PioOp.Out destination n)
+        (field_in scope.now.locals.now scope.now.globals.now 1 32 count.now)) }
     ensures fits { IfOk result (λ p. IfSome p.op IsInRange) }
 {
     let field = read_field(scope, count, 1, 32)?;
@@ -156,7 +166,9 @@ fn plan_irq(
     number: &Expression,
     relative: bool,
 ) -> Result<Planned, AllocError>
-    ensures value { IfOk result (λ p. p ≡ planned_by (λ n. PioOp.Irq clear wait (record { number = n; relative = relative })) (field_in scope.now.locals.now scope.now.globals.now 0 7 number.now)) }
+    ensures value { IfOk result (λ p. p
+        ≡ planned_by (λ n. PioOp.Irq clear wait (record { number = n; relative = relative }))
+        (field_in scope.now.locals.now scope.now.globals.now 0 7 number.now)) }
     ensures fits { IfOk result (λ p. IfSome p.op IsInRange) }
 {
     let field = read_field(scope, number, 0, 7)?;
@@ -176,7 +188,8 @@ fn plan_set(
     destination: SetDestination,
     value: &Expression,
 ) -> Result<Planned, AllocError>
-    ensures value { IfOk result (λ p. p ≡ planned_by (λ n. PioOp.Set destination n) (field_in scope.now.locals.now scope.now.globals.now 0 31 value.now)) }
+    ensures value { IfOk result (λ p. p ≡ planned_by (λ n. PioOp.Set destination n)
+        (field_in scope.now.locals.now scope.now.globals.now 0 31 value.now)) }
     ensures fits { IfOk result (λ p. IfSome p.op IsInRange) }
 {
     let field = read_field(scope, value, 0, 31)?;
@@ -188,7 +201,8 @@ fn plan_set(
 
 /// The operation of an instruction, with its operands where this scope's names are seen.
 pub(crate) fn plan_operation(scope: &Scope, operation: &Operation) -> Result<Planned, AllocError>
-    ensures value { IfOk result (λ p. p ≡ operation_in scope.now.locals.now scope.now.globals.now operation.now) }
+    ensures value { IfOk result (λ p. p
+        ≡ operation_in scope.now.locals.now scope.now.globals.now operation.now) }
     ensures fits { IfOk result (λ p. IfSome p.op IsInRange) }
 {
     match operation {

@@ -30,7 +30,8 @@ fn are_free(used: u32, offset: usize, count: usize) -> bool
 /// The least place from which so many are free.
 fn first_place(used: u32, count: usize) -> Option<u8>
     requires { count ≤ 32 }
-    ensures some { IfSome result (λ offset. AreFree used offset count × ((lower : ℕ) → lower < offset → ¬ AreFree used lower count)) }
+    ensures some { IfSome result (λ offset. AreFree used offset count
+        × ((lower : ℕ) → lower < offset → ¬ AreFree used lower count)) }
     ensures none { result ≡ None → (offset : ℕ) → offset < 32 → ¬ AreFree used offset count }
 {
     for offset in 0..32u8 {
@@ -46,7 +47,8 @@ fn first_place(used: u32, count: usize) -> Option<u8>
 /// length, where they are not free; a place above 31 is never free.
 pub fn place_program(used: u32, program: &Program) -> Result<u8, PioFault>
     ensures ok { IfOk result (IsPlaceFor used program.now.origin (length program.now.words.items)) }
-    ensures err { IfErr result (λ fault. (fault ≡ PioFault.NoRoom (length program.now.words.items)) × HasNoPlace used program.now.origin (length program.now.words.items)) }
+    ensures err { IfErr result (λ fault. (fault ≡ PioFault.NoRoom (length program.now.words.items))
+        × HasNoPlace used program.now.origin (length program.now.words.items)) }
 {
     let count = program.words.len();
     let place = match program.origin {

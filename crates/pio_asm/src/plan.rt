@@ -88,7 +88,8 @@ pub(crate) fn judge_instruction(
     instruction: &Instruction,
 ) -> Result<Judged, AllocError>
     requires { IsOptionalConfig config }
-    ensures value { IfOk result (λ j. j ≡ instruction_in scope.now.locals.now scope.now.globals.now config instruction.now) }
+    ensures value { IfOk result (λ j. j
+        ≡ instruction_in scope.now.locals.now scope.now.globals.now config instruction.now) }
     ensures sound { IfOk result (λ j. j.side ≡ false → IsSound j.member) }
 {
     let planned = plan_operation(scope, &instruction.operation)?;

@@ -54,10 +54,13 @@ fn read_names<'a>(
 }
 
 fn take_lines<'a>(context: &Context<'_, 'a>, lines: &'a [Line]) -> Result<Building<'a>, PioFault>
-    ensures ok { IfOk result (λ building. lines_of context.now.globals.now lines.now (context.now.whole.now, context.now.total) ≡ Ok building) }
+    ensures ok { IfOk result (λ building. lines_of context.now.globals.now lines.now
+        (context.now.whole.now, context.now.total) ≡ Ok building) }
     ensures side { IfOk result (λ building. IsOptionalConfig building.side) }
-    ensures valued { AllValued context.now.globals.now → IfOk result (λ building. AllValued building.seen) }
-    ensures err { IfErr result (IsFaultOf (lines_of context.now.globals.now lines.now (context.now.whole.now, context.now.total))) }
+    ensures valued { AllValued context.now.globals.now
+        → IfOk result (λ building. AllValued building.seen) }
+    ensures err { IfErr result (IsFaultOf (lines_of context.now.globals.now lines.now
+        (context.now.whole.now, context.now.total))) }
 {
     let mut building = Building {
         seen: Symbols::new(context.alloc),
@@ -101,10 +104,13 @@ fn finish(name: Name, building: Building) -> Program
 /// A program whose names and number of instructions are known.
 #[tactic(auto, using(crate::proofs::Keeping::program_kept))]
 fn take_body<'a>(context: &Context<'_, 'a>, program: &'a SourceProgram) -> Result<Program, PioFault>
-    requires names { (context.now.whole.now, context.now.total) ≡ names_of context.now.globals.now [] 0 program.now.lines }
+    requires names { (context.now.whole.now, context.now.total)
+        ≡ names_of context.now.globals.now [] 0 program.now.lines }
     requires valued { AllValued context.now.globals.now }
-    ensures ok { IfOk result (λ made. IsOkAnd (program_lines context.now.globals.now program.now (context.now.whole.now, context.now.total)) (λ plan. IsProgram plan made)) }
-    ensures err { IfErr result (IsFaultOf (program_lines context.now.globals.now program.now (context.now.whole.now, context.now.total))) }
+    ensures ok { IfOk result (λ made. IsOkAnd (program_lines context.now.globals.now program.now
+        (context.now.whole.now, context.now.total)) (λ plan. IsProgram plan made)) }
+    ensures err { IfErr result (IsFaultOf (program_lines context.now.globals.now program.now
+        (context.now.whole.now, context.now.total))) }
 {
     if context.total == 0 {
         return Err(PioFault::Wrap(program.number));
@@ -122,7 +128,8 @@ fn take_program<'a>(
     program: &'a SourceProgram,
 ) -> Result<Program, PioFault>
     requires { AllValued globals.now }
-    ensures ok { IfOk result (λ made. IsOkAnd (program_plan globals.now taken.now program.now) (λ plan. IsProgram plan made)) }
+    ensures ok { IfOk result (λ made. IsOkAnd (program_plan globals.now taken.now program.now)
+        (λ plan. IsProgram plan made)) }
     ensures new { IfOk result (λ made. found program.now.name taken.now ≡ None) }
     ensures err { IfErr result (IsFaultOf (program_plan globals.now taken.now program.now)) }
 {
@@ -161,7 +168,8 @@ fn take_programs<'a>(
     programs: &'a [SourceProgram],
 ) -> Result<Vec<Program>, PioFault>
     requires { AllValued globals.now }
-    ensures ok { IfOk result (λ made. Assembles made.items (programs_from globals.now [] [] programs.now)) }
+    ensures ok { IfOk result (λ made. Assembles made.items
+        (programs_from globals.now [] [] programs.now)) }
     ensures err { IfErr result (IsFaultOf (programs_from globals.now [] [] programs.now)) }
 {
     let mut made = Vec::new(alloc);

@@ -222,7 +222,8 @@ fn take_term(
     term: &Term,
     evaluation: &mut Evaluation,
 ) -> Result<(), AllocError>
-    ensures { OnOk result (evaluation.new ≡ term_step locals.now globals.now term.now evaluation.old) }
+    ensures { OnOk result (evaluation.new
+        ≡ term_step locals.now globals.now term.now evaluation.old) }
 {
     match term {
         Term::Number(number) => take_number(evaluation, *number),

@@ -40,7 +40,8 @@ fn free_places(machine: &Machine1) -> u8
 
 /// A bit of each machine, machine 0 in bit 0.
 fn four(first: bool, second: bool, third: bool, fourth: bool) -> u32
-    ensures value { result ≡ bit_number first + bit_number second * 2 + bit_number third * 4 + bit_number fourth * 8 }
+    ensures value { result ≡ bit_number first + bit_number second * 2 + bit_number third * 4
+        + bit_number fourth * 8 }
     ensures small { result ≤ 15 }
 {
     bit_number(first) + bit_number(second) * 2 + bit_number(third) * 4 + bit_number(fourth) * 8

@@ -48,7 +48,8 @@ impl Model for State {
 
 /// Nothing is in the instruction memory, no flag is set, and all pins are low.
 fn nothing_seen() -> Seen
-    ensures { result ≡ record { memory = replicate 32 0; inputs = 0 ∷ 0 ∷ []; bypass = 0; flags = 0 } }
+    ensures { result ≡ record { memory = replicate 32 0; inputs = 0 ∷ 0 ∷ []; bypass = 0;
+        flags = 0 } }
 {
     Seen {
         memory: [0; 32],
@@ -119,8 +120,10 @@ impl State {
     /// The machines step, and what they write is told.
     #[tactic(auto, unfolding(crate::specs::Cycle::all_written))]
     fn step_machines(&mut self, inputs: Inputs) -> Done
-        ensures state { self.new ≡ with_stepped (seen_by inputs.now inputs.second self.old) self.old }
-        ensures done { result ≡ all_written (seen_by inputs.now inputs.second self.old) self.old.machines }
+        ensures state { self.new ≡ with_stepped (seen_by inputs.now inputs.second self.old)
+            self.old }
+        ensures done { result ≡ all_written (seen_by inputs.now inputs.second self.old)
+            self.old.machines }
     {
         self.seen.inputs = [inputs.now, inputs.second];
         let mut done = Done::new();

@@ -207,7 +207,8 @@ fn has_instruction(op: &PioOp) -> bool
 }
 
 fn put_side(out: &mut Vec<u8>, side: SideDelay) -> Result<(), AllocError>
-    ensures { OnOk result (out.new.items ≡ out.old.items ++ (side_text side.value ++ delay_text side.delay)) }
+    ensures { OnOk result (out.new.items ≡ out.old.items
+        ++ (side_text side.value ++ delay_text side.delay)) }
 {
     if let Some(value) = side.value {
         put(out, b" side ")?;

@@ -13,9 +13,11 @@ use pio_parse::PioFault;
 /// `NoRoom`, with the program's length, where its origin's places are not free, or without an origin no run of places.
 pub fn offset_for(used: u32, program: &Program) -> Result<u8, PioFault>
     requires { 0 < length program.now.words.items }
-    ensures ok { IfOk result (λ offset. placed used program.now.origin (length program.now.words.items) ≡ Ok offset) }
+    ensures ok { IfOk result (λ offset. placed used program.now.origin
+        (length program.now.words.items) ≡ Ok offset) }
     ensures room { IfOk result (λ offset. offset + length program.now.words.items ≤ 32) }
-    ensures err { IfErr result (λ fault. placed used program.now.origin (length program.now.words.items) ≡ Err fault) }
+    ensures err { IfErr result (λ fault. placed used program.now.origin
+        (length program.now.words.items) ≡ Err fault) }
 {
     place_program(used, program)
 }

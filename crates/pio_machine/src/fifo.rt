@@ -58,7 +58,8 @@ impl Fifo {
 
     /// Takes the first word, where there is one.
     pub fn pull(&mut self) -> Option<u32>
-        ensures { MatchOption result ((self.old ≡ []) × (self.new ≡ [])) (λ word. self.old ≡ word ∷ self.new) }
+        ensures { MatchOption result ((self.old ≡ []) × (self.new ≡ [])) (λ word. self.old
+            ≡ word ∷ self.new) }
     {
         if self.words.is_empty() {
             None

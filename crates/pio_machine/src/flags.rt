@@ -78,8 +78,10 @@ impl Machine1 {
         done: &mut Done,
     ) -> Outcome
         requires { number < 4 }
-        ensures ending { stands_for result ≡ ending_of_wait polarity source number seen.now self.now }
-        ensures done { done.new ≡ written_by_wait polarity source number seen.now self.now done.old }
+        ensures ending { stands_for result
+            ≡ ending_of_wait polarity source number seen.now self.now }
+        ensures done { done.new ≡ written_by_wait polarity source number seen.now self.now
+            done.old }
     {
         let high = self.is_high(source, number, seen);
         if polarity {

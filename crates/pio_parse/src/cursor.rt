@@ -90,7 +90,8 @@ impl Cursor<'_> {
 
     /// Reads one token if it fits.
     pub(crate) fn skip_if(&mut self, fits: bool)
-        ensures { self.new.rest.now ≡ (if fits then after_head self.old.rest.now else self.old.rest.now) }
+        ensures { self.new.rest.now ≡ (if fits then after_head self.old.rest.now
+            else self.old.rest.now) }
     {
         if fits {
             self.skip();

@@ -176,7 +176,8 @@ fn level(operator: Operator) -> u8
 /// The operators that wait since the last open parenthesis, and bind at least so tightly, have their
 /// last operand.
 fn reduce(least: u8, stack: &mut Stack, output: &mut Terms) -> Result<(), AllocError>
-    ensures { OnOk result ((stack_of stack.new, output.new) ≡ reduced least (stack_of stack.old) output.old) }
+    ensures { OnOk result ((stack_of stack.new, output.new)
+        ≡ reduced least (stack_of stack.old) output.old) }
 {
     while let Some(Pending::Operator(operator)) = stack.top() {
         if level(operator) < least {
@@ -223,7 +224,8 @@ impl File<'_> {
 /// A token where an operand comes next.
 fn take_operand(file: &File, token: Token, reading: &mut Reading) -> Result<(), Stop>
     requires { reading.old.depth < 2 ^ 63 }
-    ensures { ReadsOperand result (reading_of reading.new) (operand_step file.now.text.now token.kind token.place (reading_of reading.old)) }
+    ensures { ReadsOperand result (reading_of reading.new)
+        (operand_step file.now.text.now token.kind token.place (reading_of reading.old)) }
 {
     match token.kind {
         TokenKind::Number(number) => {
@@ -267,7 +269,8 @@ fn take_close(reading: &mut Reading) -> Result<(), AllocError>
 
 /// A token after an operand: whether the expression goes on.
 fn take_operator(token: Token, reading: &mut Reading) -> Result<bool, Stop>
-    ensures { ReadsOperator result (reading_of reading.old) (reading_of reading.new) (operator_step token.kind token.place (reading_of reading.old)) }
+    ensures { ReadsOperator result (reading_of reading.old) (reading_of reading.new)
+        (operator_step token.kind token.place (reading_of reading.old)) }
 {
     match token.kind {
         TokenKind::Star => take_binary(Operator::Multiply, reading)?,
@@ -292,7 +295,8 @@ fn take_operator(token: Token, reading: &mut Reading) -> Result<bool, Stop>
 /// A token of an expression: whether it goes on.
 fn take(file: &File, token: Token, reading: &mut Reading) -> Result<bool, Stop>
     requires { reading.old.depth < 2 ^ 63 }
-    ensures { ReadsOperator result (reading_of reading.old) (reading_of reading.new) (token_step file.now.text.now token.kind token.place (reading_of reading.old)) }
+    ensures { ReadsOperator result (reading_of reading.old) (reading_of reading.new)
+        (token_step file.now.text.now token.kind token.place (reading_of reading.old)) }
 {
     if reading.awaited {
         take_operand(file, token, reading)?;
@@ -303,7 +307,8 @@ fn take(file: &File, token: Token, reading: &mut Reading) -> Result<bool, Stop>
 }
 
 fn finish(alloc: Global, mut reading: Reading) -> Result<Expression, AllocError>
-    ensures { IfOk result (λ expression. expression ≡ (reduced 0 (reading_of reading).stack (reading_of reading).output).1) }
+    ensures { IfOk result (λ expression. expression
+        ≡ (reduced 0 (reading_of reading).stack (reading_of reading).output).1) }
 {
     reduce(0, &mut reading.stack, &mut reading.output)?;
     let Reading {
@@ -317,7 +322,8 @@ fn finish(alloc: Global, mut reading: Reading) -> Result<Expression, AllocError>
 
 /// The longest expression that the next tokens begin with.
 pub(crate) fn read_expression(file: &File, cursor: &mut Cursor) -> Result<Expression, Stop>
-    ensures { Reads result cursor.new.rest.now (expression_at file.now.text.now cursor.old.rest.now) }
+    ensures { Reads result cursor.new.rest.now
+        (expression_at file.now.text.now cursor.old.rest.now) }
 {
     let mut reading = Reading {
         stack: Stack::new(file.alloc),

@@ -15,7 +15,8 @@ use pio_words::{MovDestination, MovOperation, MovSource};
 
 /// What follows the first word of an instruction.
 fn read_operands(file: &File, keyword: Keyword, cursor: &mut Cursor) -> Result<Operation, Stop>
-    ensures { Reads result cursor.new.rest.now (operands_at file.now.text.now keyword cursor.old.rest.now) }
+    ensures { Reads result cursor.new.rest.now
+        (operands_at file.now.text.now keyword cursor.old.rest.now) }
 {
     match keyword {
         Keyword::Jmp => read_jmp(file, cursor),
@@ -84,7 +85,8 @@ fn read_modifiers(
     file: &File,
     cursor: &mut Cursor,
 ) -> Result<(Option<Expression>, Option<Expression>), Stop>
-    ensures { Reads result cursor.new.rest.now (modifiers_at file.now.text.now cursor.old.rest.now) }
+    ensures { Reads result cursor.new.rest.now
+        (modifiers_at file.now.text.now cursor.old.rest.now) }
 {
     match cursor.peek() {
         TokenKind::OpenBracket => {
@@ -106,7 +108,8 @@ pub(crate) fn read_instruction(
     keyword: Keyword,
     cursor: &mut Cursor,
 ) -> Result<Instruction, Stop>
-    ensures { Reads result cursor.new.rest.now (instruction_at file.now.text.now keyword cursor.old.rest.now) }
+    ensures { Reads result cursor.new.rest.now
+        (instruction_at file.now.text.now keyword cursor.old.rest.now) }
 {
     cursor.expect(begins_instruction(keyword))?;
     let operation = read_operands(file, keyword, cursor)?;

@@ -18,7 +18,8 @@ pub(crate) fn skip_comma(cursor: &mut Cursor)
 
 /// An operand after a comma that may be missing.
 pub(crate) fn read_last_operand(file: &File, cursor: &mut Cursor) -> Result<Expression, Stop>
-    ensures { Reads result cursor.new.rest.now (last_operand_at file.now.text.now cursor.old.rest.now) }
+    ensures { Reads result cursor.new.rest.now
+        (last_operand_at file.now.text.now cursor.old.rest.now) }
 {
     skip_comma(cursor);
     read_operand(file, cursor)
@@ -26,7 +27,8 @@ pub(crate) fn read_last_operand(file: &File, cursor: &mut Cursor) -> Result<Expr
 
 /// `rel`, which may be written.
 pub(crate) fn read_rel(cursor: &mut Cursor) -> bool
-    ensures { flag_at (is_rel (head_kind cursor.old.rest.now)) cursor.old.rest.now ≡ Ok (result, cursor.new.rest.now) }
+    ensures { flag_at (is_rel (head_kind cursor.old.rest.now)) cursor.old.rest.now
+        ≡ Ok (result, cursor.new.rest.now) }
 {
     let relative = matches!(cursor.peek(), TokenKind::Keyword(Keyword::Rel));
     cursor.skip_if(relative);

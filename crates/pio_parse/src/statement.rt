@@ -12,7 +12,8 @@ use crate::syntax::{BoxedInstruction, Line, Statement};
 use crate::token::{Directive, Keyword, TokenKind};
 
 fn read_name(file: &File, cursor: &mut Cursor) -> Result<Name, Stop>
-    ensures { Reads result cursor.new.rest.now (name_token_at file.now.text.now cursor.old.rest.now) }
+    ensures { Reads result cursor.new.rest.now
+        (name_token_at file.now.text.now cursor.old.rest.now) }
 {
     match cursor.peek() {
         TokenKind::Name(span) => {
@@ -61,7 +62,8 @@ fn read_directive(
     directive: Directive,
     cursor: &mut Cursor,
 ) -> Result<Option<Statement>, Stop>
-    ensures { Reads result cursor.new.rest.now (directive_at file.now.text.now directive cursor.old.rest.now) }
+    ensures { Reads result cursor.new.rest.now
+        (directive_at file.now.text.now directive cursor.old.rest.now) }
 {
     match directive {
         Directive::Program => Ok(Some(Statement::Program(read_name(file, cursor)?))),
@@ -78,7 +80,8 @@ fn read_directive(
 
 /// A directive or an instruction, if the line has one.
 fn read_statement(file: &File, cursor: &mut Cursor) -> Result<Option<Statement>, Stop>
-    ensures { Reads result cursor.new.rest.now (statement_at file.now.text.now cursor.old.rest.now) }
+    ensures { Reads result cursor.new.rest.now
+        (statement_at file.now.text.now cursor.old.rest.now) }
 {
     match cursor.peek() {
         TokenKind::LineEnd | TokenKind::FileEnd => Ok(None),
@@ -147,7 +150,8 @@ fn read_end(
     statement: &Option<Statement>,
     cursor: &mut Cursor,
 ) -> Result<(), Stop>
-    ensures { Reads result cursor.new.rest.now (end_at is_started statement.now cursor.old.rest.now) }
+    ensures { Reads result cursor.new.rest.now
+        (end_at is_started statement.now cursor.old.rest.now) }
 {
     let has_program = is_started || begins_program(statement);
     cursor.expect(may_end(has_program, cursor.peek()))
@@ -155,7 +159,8 @@ fn read_end(
 
 /// A line up to its end. Before the first `.program` few lines may stand.
 pub(crate) fn read_line(file: &File, is_started: bool, cursor: &mut Cursor) -> Result<Line, Stop>
-    ensures { Reads result cursor.new.rest.now (line_at file.now.text.now is_started cursor.old.rest.now) }
+    ensures { Reads result cursor.new.rest.now
+        (line_at file.now.text.now is_started cursor.old.rest.now) }
 {
     if !is_started && !may_be_first(cursor.peek()) {
         return Err(cursor.fault());

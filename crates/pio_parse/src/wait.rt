@@ -26,7 +26,8 @@ fn read_source(
     polarity: Option<Expression>,
     cursor: &mut Cursor,
 ) -> Result<Operation, Stop>
-    ensures { Reads result cursor.new.rest.now (wait_for file.now.text.now polarity (head_kind cursor.old.rest.now) cursor.old.rest.now) }
+    ensures { Reads result cursor.new.rest.now (wait_for file.now.text.now polarity
+        (head_kind cursor.old.rest.now) cursor.old.rest.now) }
 {
     let source = cursor.peek();
     cursor.expect(matches!(

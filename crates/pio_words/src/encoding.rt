@@ -141,7 +141,8 @@ struct Fields {
 }
 
 fn five_bits(major: u8, middle: u8, low: u8) -> Option<Fields>
-    ensures some { IfSome result (λ f. (f.major ≡ major) × (f.middle ≡ middle) × (f.low ≡ low) × (low < 32)) }
+    ensures some { IfSome result (λ f. (f.major ≡ major) × (f.middle ≡ middle) × (f.low ≡ low)
+        × (low < 32)) }
     ensures none { result ≡ None → 32 ≤ low }
 {
     if low < 32 {
@@ -152,7 +153,8 @@ fn five_bits(major: u8, middle: u8, low: u8) -> Option<Fields>
 }
 
 fn count_fields(major: u8, middle: u8, count: u8) -> Option<Fields>
-    ensures some { IfSome result (λ f. (f.major ≡ major) × (f.middle ≡ middle) × IsCount count f.low × (f.low < 32)) }
+    ensures some { IfSome result (λ f. (f.major ≡ major) × (f.middle ≡ middle) × IsCount count f.low
+        × (f.low < 32)) }
     ensures none { result ≡ None → (low : ℕ) → IsCount count low → ⊥ }
 {
     if 0 < count && count <= 32 {
@@ -167,8 +169,10 @@ fn count_fields(major: u8, middle: u8, count: u8) -> Option<Fields>
 }
 
 fn wait_fields(polarity: bool, source: WaitSource) -> Option<Fields>
-    ensures some { IfSome result (λ f. HasFields (PioOp.Wait polarity source) f.major f.middle f.low × (f.major < 8) × (f.middle < 8) × (f.low < 32)) }
-    ensures none { result ≡ None → (major middle low : ℕ) → HasFields (PioOp.Wait polarity source) major middle low → ⊥ }
+    ensures some { IfSome result (λ f. HasFields (PioOp.Wait polarity source) f.major f.middle f.low
+        × (f.major < 8) × (f.middle < 8) × (f.low < 32)) }
+    ensures none { result ≡ None → (major middle low : ℕ)
+        → HasFields (PioOp.Wait polarity source) major middle low → ⊥ }
 {
     let top = if polarity { 4 } else { 0 };
     match source {
@@ -229,7 +233,8 @@ fn joined(fields: Fields, side: u8) -> u16
 }
 
 fn fields_of(op: &PioOp) -> Option<Fields>
-    ensures some { IfSome result (λ f. HasFields op.now f.major f.middle f.low × (f.major < 8) × (f.middle < 8) × (f.low < 32)) }
+    ensures some { IfSome result (λ f. HasFields op.now f.major f.middle f.low × (f.major < 8)
+        × (f.middle < 8) × (f.low < 32)) }
     ensures none { result ≡ None → (major middle low : ℕ) → HasFields op.now major middle low → ⊥ }
 {
     match *op {

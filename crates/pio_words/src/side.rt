@@ -121,7 +121,8 @@ fn optional_side(count: u8, field: u8) -> Option<SideDelay>
     requires { field < 32 }
     ensures value { result ≡ optional_side_at count field }
     ensures some { IfSome result (λ s. IsOptionalSide count s.value s.delay field) }
-    ensures none { result ≡ None → (value : Option ℕ) (delay : ℕ) → IsOptionalSide count value delay field → ⊥ }
+    ensures none { result ≡ None → (value : Option ℕ) (delay : ℕ)
+        → IsOptionalSide count value delay field → ⊥ }
 {
     if count > 4 {
         return None;
@@ -143,7 +144,8 @@ fn plain_side(count: u8, field: u8) -> Option<SideDelay>
     requires { field < 32 }
     ensures value { result ≡ plain_side_at count field }
     ensures some { IfSome result (λ s. IsPlainSide count s.value s.delay field) }
-    ensures none { result ≡ None → (value : Option ℕ) (delay : ℕ) → IsPlainSide count value delay field → ⊥ }
+    ensures none { result ≡ None → (value : Option ℕ) (delay : ℕ)
+        → IsPlainSide count value delay field → ⊥ }
 {
     if count > 5 {
         None
@@ -164,7 +166,8 @@ fn plain_side(count: u8, field: u8) -> Option<SideDelay>
 pub fn decode_side(word: u16, side: &SideConfig) -> Option<SideDelay>
     ensures value { result ≡ side_at side.now (word / 256 % 32) }
     ensures some { IfSome result (λ s. IsSideField side.now s.value s.delay (word / 256 % 32)) }
-    ensures none { result ≡ None → (value : Option ℕ) (delay : ℕ) → IsSideField side.now value delay (word / 256 % 32) → ⊥ }
+    ensures none { result ≡ None → (value : Option ℕ) (delay : ℕ)
+        → IsSideField side.now value delay (word / 256 % 32) → ⊥ }
 {
     let field = (word / 256 % 32) as u8;
     if side.opt {

@@ -69,7 +69,8 @@ fn push_one(text: &[u8], number: u64, out: &mut ArrayVec<u8, FAULT>)
 fn push_two(text: &[u8], first: u64, second: u64, out: &mut ArrayVec<u8, FAULT>)
     requires room { array_vec_len out.old + 64 ≤ FAULT }
     requires small { length text.now ≤ 22 }
-    ensures text { out.new.items ≡ out.old.items ++ text.now ++ then_number first ++ then_number second }
+    ensures text { out.new.items ≡ out.old.items ++ text.now ++ then_number first
+        ++ then_number second }
     ensures short { array_vec_len out.new ≤ array_vec_len out.old + 64 }
 {
     push_one(text, first, out);

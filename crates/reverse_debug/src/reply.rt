@@ -91,7 +91,8 @@ fn level_digit(high: bool) -> u8
 fn push_levels(pads: u32, reply: &mut Reply)
     requires { array_vec_len reply.old ≤ 100 }
     ensures text { reply.new.items
-        ≡ reply.old.items ++ flat_map (λ pin. level_digit (has_bit pads pin)) (range_with_len 0 30) }
+        ≡ reply.old.items ++ flat_map (λ pin. level_digit (has_bit pads pin))
+        (range_with_len 0 30) }
     ensures short { array_vec_len reply.new ≤ 130 }
 {
     for pin in 0..30 {

@@ -265,7 +265,8 @@ impl Session {
         ensures { let w = setting_of world.now.script.now (X.meaning world.now.device.now) world.now.limit in
             let what = answer w (first_of self.old) self.old.now.cycle (meant command) in
             Does w self.old what
-            (command_cost self.old.ring.spacing self.old.now.cycle what.cycle (meant command)) self.new
+            (command_cost self.old.ring.spacing self.old.now.cycle what.cycle (meant command))
+            self.new
             reply.new.items steps.old steps.new }
     {
         let now = self.cycle();

@@ -35,7 +35,8 @@ pub(crate) fn begin_lane<E, S: Lane<E>>(
     lane: &S,
     env: &E,
 ) -> S::Begun
-    ensures { result ≡ answered (answer_of number machine.now) (S.asks env.now lane.now machine.now.cycle) }
+    ensures { result ≡ answered (answer_of number machine.now)
+        (S.asks env.now lane.now machine.now.cycle) }
 {
     let mut look = MachineLook {
         lane: number,

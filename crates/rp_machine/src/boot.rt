@@ -121,7 +121,8 @@ impl Machine {
     ) -> Result<Machine, AllocError>
         requires image { FitsSram image.now }
         requires loads { AreLoads loads.now }
-        ensures { IfOk result (λ machine. machine ≡ start (X.meaning world.now.device.now) image.now loads.now) }
+        ensures { IfOk result (λ machine. machine
+            ≡ start (X.meaning world.now.device.now) image.now loads.now) }
     {
         let mut machine = Machine::first(alloc, image, world)?;
         machine.load_all(loads);

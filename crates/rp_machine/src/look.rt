@@ -77,7 +77,8 @@ impl Machine {
 }
 
 impl Look for MachineLook<'_> {
-    ghost answers = { λ old ask answer new. (answer ≡ answer_of old.lane old.machine.now ask) × (new ≡ old) };
+    ghost answers = { λ old ask answer new. (answer ≡ answer_of old.lane old.machine.now ask)
+        × (new ≡ old) };
 
     #[inline(always)]
     fn ask(&mut self, ask: Ask) -> u128 {

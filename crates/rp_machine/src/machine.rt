@@ -79,7 +79,8 @@ impl Model for Machine {
     } };
 
     // the copies that lanes keep of RESETS, of SIO and of its launcher agree with them
-    ghost invariant = { λ m. Agree (slice_index m.resets 0) m.core1 m.dma m.pio0 m.pio1 m.outer m.sio };
+    ghost invariant = { λ m. Agree (slice_index m.resets 0) m.core1 m.dma m.pio0 m.pio1 m.outer
+        m.sio };
 }
 
 impl Machine {
@@ -99,7 +100,8 @@ impl Machine {
         world: &World<'_, X>,
     ) -> Result<Machine, AllocError>
         requires { FitsSram image.now }
-        ensures { IfOk result (λ machine. machine ≡ first_state (X.meaning world.now.device.now) image.now) }
+        ensures { IfOk result (λ machine. machine
+            ≡ first_state (X.meaning world.now.device.now) image.now) }
     {
         let words = words_of(alloc, image.parts.as_slice())?;
         Ok(Machine {

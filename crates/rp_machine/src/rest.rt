@@ -47,7 +47,8 @@ impl Model for Rest {
     } };
 
     // as in the machine
-    ghost invariant = { λ r. Agree (slice_index r.resets 0) r.core1 r.dma r.pio0 r.pio1 r.outer r.sio };
+    ghost invariant = { λ r. Agree (slice_index r.resets 0) r.core1 r.dma r.pio0 r.pio1 r.outer
+        r.sio };
 }
 
 impl Rest {

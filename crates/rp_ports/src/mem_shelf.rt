@@ -51,7 +51,8 @@ impl MemShelf {
 
 /// The bytes of the first file of that name.
 fn find<'a>(held: &'a [HeldFile], name: &str) -> Option<&'a Vec<u8>>
-    ensures { MatchOption result (file_in held.now name.now ≡ None) (λ bytes. file_in held.now name.now ≡ Some bytes.now.items) }
+    ensures { MatchOption result (file_in held.now name.now ≡ None)
+        (λ bytes. file_in held.now name.now ≡ Some bytes.now.items) }
 {
     for file in held {
         if file.name.as_str() == name {
@@ -88,10 +89,12 @@ impl Shelf for MemShelf {
     /// Fails exactly at the listed calls and for a name that is not held. Each call is counted, and the list stays.
     fn load(&mut self, name: &str, limit: usize, into: &mut Vec<u8>) -> Loaded
         ensures kept { self.new.held ≡ self.old.held }
-        ensures content { Answers (Some (file_in self.old.held.items)) name.now limit result into.new.items }
+        ensures content { Answers (Some (file_in self.old.held.items)) name.now limit result
+            into.new.items }
         ensures failures { map string_bytes self.new.failed.items
             ≡ failed_after (map string_bytes self.old.failed.items) name.now result }
-        ensures exact { FailsWhereListed self.old.failing.items self.old.calls (file_in self.old.held.items name.now) result }
+        ensures exact { FailsWhereListed self.old.failing.items self.old.calls
+            (file_in self.old.held.items name.now) result }
         ensures counted { self.new.calls ≡ one_more self.old.calls }
         ensures listed { self.new.failing ≡ self.old.failing }
     {

@@ -57,7 +57,8 @@ impl Sink for MemSink {
     /// Takes the whole piece; fails exactly at the listed calls, and where the bytes find no memory. Each call is
     /// counted, and the list stays.
     fn put(&mut self, bytes: &[u8]) -> Put
-        ensures content { Writes (Some self.old.bytes.items) (Some self.new.bytes.items) bytes.now result }
+        ensures content { Writes (Some self.old.bytes.items)
+            (Some self.new.bytes.items) bytes.now result }
         ensures count { Counts self.old.faults self.new.faults result }
         ensures faults { self.new.faults ≡ faults_after self.old.faults result }
         ensures exact { FailsWhereListed self.old.failing.items self.old.calls

@@ -158,8 +158,10 @@ impl Divider {
 /// The quotient and the remainder of two signed words, truncated towards zero.
 fn signed_results(dividend: u32, divisor: u32) -> (u32, u32)
     requires { 0 < divisor }
-    ensures quotient { result.0 ≡ word_of (int_div (number_of true dividend) (number_of true divisor)) }
-    ensures remainder { result.1 ≡ word_of (int_rem (number_of true dividend) (number_of true divisor)) }
+    ensures quotient { result.0 ≡ word_of
+        (int_div (number_of true dividend) (number_of true divisor)) }
+    ensures remainder { result.1 ≡ word_of
+        (int_rem (number_of true dividend) (number_of true divisor)) }
 {
     let (size, by) = (magnitude(dividend), magnitude(divisor));
     let (quotient, remainder) = (size / by, size % by);

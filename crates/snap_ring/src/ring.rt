@@ -41,7 +41,8 @@ impl Model for Ring {
       kept = states_in r.pages.items (drop r.free r.places.items);
     } };
 
-    ghost invariant = { λ r. AreSound r.spacing r.free r.places.items r.pages.items × (16896 ≤ vec_capacity r.pages) };
+    ghost invariant = { λ r. AreSound r.spacing r.free r.places.items r.pages.items
+        × (16896 ≤ vec_capacity r.pages) };
 }
 
 impl Ring {

@@ -33,5 +33,6 @@ pub trait Tape {
     ghost takes_none: { (tape : Self) → took tape [] tape };
 
     /// Events that are taken after others are taken with them.
-    ghost takes_in_turn: { (a b c : Self) (first second : List Event) → took a first b → took b second c → took a (first ++ second) c };
+    ghost takes_in_turn: { (a b c : Self) (first second : List Event) → took a first b
+        → took b second c → took a (first ++ second) c };
 }

@@ -19,7 +19,8 @@ pub struct Writer<'a, O: Sink> {
 impl<'a, O: Sink> Writer<'a, O> {
     /// Puts one piece, and what is left of it again where fewer bytes were taken.
     pub fn line(&mut self, bytes: &[u8]) -> Result<(), SinkFault>
-        ensures sends { Sends (O.written self.old.out.now) (O.written self.new.out.now) (O.faults self.old.out.now) (O.faults self.new.out.now) bytes.now result }
+        ensures sends { Sends (O.written self.old.out.now) (O.written self.new.out.now)
+            (O.faults self.old.out.now) (O.faults self.new.out.now) bytes.now result }
         ensures same_sink { self.new.out.ghost_name ≡ self.old.out.ghost_name }
     {
         let mut done = 0;

@@ -62,7 +62,8 @@ impl<J: Kept<W> + Drop, R: Kept<W> + Drop, W> Board<J, R, W> {
         W: Drop,
         requires { (0 < seats) × (seats ≤ 9) }
         ensures master { IfOk result (λ made. made.1 ≡ new_master made.0 made_for) }
-        ensures seats { IfOk result (λ made. made.2.items ≡ replicate seats (new_seat made.0 made_for)) }
+        ensures seats { IfOk result (λ made. made.2.items
+            ≡ replicate seats (new_seat made.0 made_for)) }
     {
         let slots = empty_slots(alloc)?;
         let (table, mut place) = match Table::new(alloc, &[0, 0, 0], slots, &made_for) {
@@ -161,7 +162,8 @@ impl<J: Kept<W> + Drop, R: Kept<W> + Drop, W> Board<J, R, W> {
         requires own { IsUnfinished seat.old.state ticket }
         requires holding { seat.old.state.holding ≡ true }
         requires there { IsSome seat.old.found }
-        ensures seat { seat.new ≡ record seat.old { state = did ticket seat.old.state; job = None; found = None } }
+        ensures seat { seat.new ≡ record seat.old { state = did ticket seat.old.state; job = None;
+            found = None } }
         ensures free { IsFree seat.new.state }
         ensures event { IsFinish seat.old.state ticket seat.new.state }
     {
@@ -177,7 +179,9 @@ impl<J: Kept<W> + Drop, R: Kept<W> + Drop, W> Board<J, R, W> {
         requires unclosed { master.old.state.closed ≡ false }
         requires room { master.old.state.opened + 6 ≤ 2 ^ 62 }
         requires made_for { EachLane (J.made_for master.old.made_for) jobs }
-        ensures master { master.new ≡ record master.old { state = record master.old.state { opened = master.old.state.opened + 6 } } }
+        ensures master { master.new
+            ≡ record master.old { state = record master.old.state { opened = master.old.state.opened
+            + 6 } } }
         ensures event { IsOpen master.old.state master.new.state }
     {
         refill_all(&self.table.shared, &mut master.place, jobs_in(jobs));
@@ -190,7 +194,8 @@ impl<J: Kept<W> + Drop, R: Kept<W> + Drop, W> Board<J, R, W> {
     pub fn gathered(&self, master: &mut Master<J, R, W>) -> Gather<R>
         requires board { master.old.board ≡ self.now }
         requires offered { master.old.state.known < master.old.state.opened }
-        ensures same { (master.new.board ≡ master.old.board) × (master.new.made_for ≡ master.old.made_for) }
+        ensures same { (master.new.board ≡ master.old.board)
+            × (master.new.made_for ≡ master.old.made_for) }
         ensures event { Polls master.old.state master.new.state }
         ensures answer { Gathered R.made_for master.old master.new result }
     {
@@ -207,7 +212,8 @@ impl<J: Kept<W> + Drop, R: Kept<W> + Drop, W> Board<J, R, W> {
     pub fn close(&self, master: &mut Master<J, R, W>)
         requires board { master.old.board ≡ self.now }
         requires gathered { master.old.state.known ≡ master.old.state.opened }
-        ensures master { master.new ≡ record master.old { state = record master.old.state { closed = true } } }
+        ensures master { master.new
+            ≡ record master.old { state = record master.old.state { closed = true } } }
         ensures event { IsClose master.old.state master.new.state }
     {
         steps::close(&self.table.shared, &mut master.place);
@@ -238,7 +244,8 @@ impl<J: Kept<W> + Drop, R: Kept<W> + Drop, W> Board<J, R, W> {
     pub fn await_all<H: Wait>(&self, rt: &H, master: &mut Master<J, R, W>) -> Gather<R>
         requires board { master.old.board ≡ self.now }
         requires offered { master.old.state.known < master.old.state.opened }
-        ensures same { (master.new.board ≡ master.old.board) × (master.new.made_for ≡ master.old.made_for) }
+        ensures same { (master.new.board ≡ master.old.board)
+            × (master.new.made_for ≡ master.old.made_for) }
         ensures event { PollsAgain master.old.state master.new.state }
         ensures answer { Gathered R.made_for master.old master.new result }
         ensures whole { IsWhole result }

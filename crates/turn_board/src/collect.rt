@@ -23,9 +23,11 @@ fn refill<J: Kept<W> + Drop, R: Kept<W> + Drop, W>(
     requires table { place.old.table_id ≡ words.now.table_id }
     requires lane { lane < 6 }
     requires job { ((x : _) × (place.old.me.1 ≡ (2 * lane, x) ∷ rest place.old.me.1)) }
-    requires found { ((y : _) × (turned ((2 * lane, first) ∷ rest place.old.me.1) ≡ (2 * lane + 1, y) ∷ rest (turned ((2 * lane, first) ∷ rest place.old.me.1)))) }
+    requires found { ((y : _) × (turned ((2 * lane, first) ∷ rest place.old.me.1)
+        ≡ (2 * lane + 1, y) ∷ rest (turned ((2 * lane, first) ∷ rest place.old.me.1)))) }
     ensures table { place.new.table_id ≡ place.old.table_id }
-    ensures value { turned ((2 * lane, first) ∷ rest place.old.me.1) ≡ (2 * lane + 1, result) ∷ rest (turned ((2 * lane, first) ∷ rest place.old.me.1)) }
+    ensures value { turned ((2 * lane, first) ∷ rest place.old.me.1) ≡ (2 * lane + 1, result)
+        ∷ rest (turned ((2 * lane, first) ∷ rest place.old.me.1)) }
     ensures held { place.new.me ≡ (place.old.me.0, refilled lane first place.old.me.1) }
 {
     drop(words.exchange(place, 2 * lane, first));
@@ -37,7 +39,8 @@ fn refill<J: Kept<W> + Drop, R: Kept<W> + Drop, W>(
 
 // Nothing for each lane.
 pub fn nothing<J, R>() -> Six<Slot<J, R>>
-    ensures { result ≡ record { l0 = Empty; l1 = Empty; l2 = Empty; l3 = Empty; l4 = Empty; l5 = Empty } }
+    ensures { result ≡ record { l0 = Empty; l1 = Empty; l2 = Empty; l3 = Empty; l4 = Empty;
+        l5 = Empty } }
 {
     Six {
         l0: Slot::Empty,
@@ -51,7 +54,8 @@ pub fn nothing<J, R>() -> Six<Slot<J, R>>
 
 // What the first slots get for these jobs.
 pub fn jobs_in<J, R>(jobs: Six<J>) -> Six<Slot<J, R>>
-    ensures { result ≡ record { l0 = Job jobs.l0; l1 = Job jobs.l1; l2 = Job jobs.l2; l3 = Job jobs.l3; l4 = Job jobs.l4; l5 = Job jobs.l5 } }
+    ensures { result ≡ record { l0 = Job jobs.l0; l1 = Job jobs.l1; l2 = Job jobs.l2;
+        l3 = Job jobs.l3; l4 = Job jobs.l4; l5 = Job jobs.l5 } }
 {
     let Six {
         l0,
@@ -122,7 +126,8 @@ pub fn refill_all<J: Kept<W> + Drop, R: Kept<W> + Drop, W>(
 // The results in slots that have one each.
 pub fn results_in<J: Drop, R>(slots: Six<Slot<J, R>>) -> Six<R>
     requires { EachLane (λ _ slot. IsFound slot) slots }
-    ensures { slots ≡ record { l0 = Found result.l0; l1 = Found result.l1; l2 = Found result.l2; l3 = Found result.l3; l4 = Found result.l4; l5 = Found result.l5 } }
+    ensures { slots ≡ record { l0 = Found result.l0; l1 = Found result.l1; l2 = Found result.l2;
+        l3 = Found result.l3; l4 = Found result.l4; l5 = Found result.l5 } }
 {
     let Six {
         l0,

@@ -34,10 +34,13 @@ pub fn seat_workers<J: Kept<W> + Drop, R: Kept<W> + Drop, W>(
 ) -> Result<Vec<Seat<J, R, W>>, AllocError>
     requires table { (master.old.table_id ≡ words.now.table_id) × IsSized words.now.table_id }
     requires few { count ≤ 9 }
-    requires new { (master.old.me.0 ≡ master_view master.old.me.0.made_for idle 0) × (master.old.me.1 ≡ []) }
+    requires new { (master.old.me.0 ≡ master_view master.old.me.0.made_for idle 0)
+        × (master.old.me.1 ≡ []) }
     ensures table { master.new.table_id ≡ master.old.table_id }
-    ensures master { IfOk result (λ _. master.new.me ≡ (master_view master.old.me.0.made_for idle count, [])) }
-    ensures seats { IfOk result (λ v. v.items ≡ replicate count (new_seat words.now.table_id master.old.me.0.made_for)) }
+    ensures master { IfOk result (λ _. master.new.me
+        ≡ (master_view master.old.me.0.made_for idle count, [])) }
+    ensures seats { IfOk result (λ v. v.items
+        ≡ replicate count (new_seat words.now.table_id master.old.me.0.made_for)) }
 {
     let mut seats = Vec::with_capacity(alloc, count)?;
     for _ in 0..count {

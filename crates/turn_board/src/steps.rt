@@ -54,7 +54,8 @@ pub fn draw<J: Kept<W>, R: Kept<W>, W>(words: &Words<J, R, W>, seat: &mut Place<
     requires follows { seat.old.me.0.leads ≡ false }
     requires free { IsFree seat.old.me.0.worker }
     ensures table { seat.new.table_id ≡ seat.old.table_id }
-    ensures drawn { drawn (step words.now.table_id.slots 0 1 0 none) seat.old.me result seat.new.me }
+    ensures drawn { drawn (step words.now.table_id.slots 0 1 0 none) seat.old.me result
+        seat.new.me }
 {
     words.fetch_add::<Draw>(seat, TICKET, 1)
 }
@@ -65,7 +66,8 @@ pub fn see_open<J: Kept<W>, R: Kept<W>, W>(words: &Words<J, R, W>, seat: &mut Pl
     requires sized { IsSized words.now.table_id }
     requires follows { seat.old.me.0.leads ≡ false }
     ensures table { seat.new.table_id ≡ seat.old.table_id }
-    ensures looked { looked J.made_for (step words.now.table_id.slots 1 0 0 none) seat.old.me result seat.new.me }
+    ensures looked { looked J.made_for (step words.now.table_id.slots 1 0 0 none) seat.old.me result
+        seat.new.me }
 {
     words.load::<SeeOpen>(seat, OPEN)
 }
@@ -78,7 +80,8 @@ pub fn finish<J: Kept<W>, R: Kept<W>, W>(words: &Words<J, R, W>, seat: &mut Plac
     requires follows { seat.old.me.0.leads ≡ false }
     requires result { Brings J.made_for R.made_for seat.old.me }
     ensures table { seat.new.table_id ≡ seat.old.table_id }
-    ensures finished { ((found : ℕ) × finished (step words.now.table_id.slots 2 1 0 none) seat.old.me found seat.new.me) }
+    ensures finished { ((found : ℕ)
+        × finished (step words.now.table_id.slots 2 1 0 none) seat.old.me found seat.new.me) }
 {
     words.fetch_add::<Finish>(seat, DONE, 1);
 }
@@ -94,7 +97,8 @@ pub fn open<J: Kept<W>, R: Kept<W>, W>(words: &Words<J, R, W>, master: &mut Plac
     requires room { master.old.me.0.master.opened + 6 ≤ 2 ^ 62 }
     requires jobs { BringsJobs J.made_for master.old.me }
     ensures table { master.new.table_id ≡ master.old.table_id }
-    ensures opened { ((found : ℕ) × opened (step words.now.table_id.slots 1 6 0 none) master.old.me found master.new.me) }
+    ensures opened { ((found : ℕ) × opened (step words.now.table_id.slots 1 6 0 none) master.old.me
+        found master.new.me) }
 {
     words.fetch_add::<Open>(master, OPEN, 6);
 }
@@ -105,7 +109,8 @@ pub fn close<J: Kept<W>, R: Kept<W>, W>(words: &Words<J, R, W>, master: &mut Pla
     requires sized { IsSized words.now.table_id }
     requires leads { master.old.me.0.leads ≡ true }
     ensures table { master.new.table_id ≡ master.old.table_id }
-    ensures closed { ((found : ℕ) × closed (step words.now.table_id.slots 1 (2 ^ 63) 0 none) master.old.me found master.new.me) }
+    ensures closed { ((found : ℕ) × closed (step words.now.table_id.slots 1 (2 ^ 63) 0 none)
+        master.old.me found master.new.me) }
 {
     words.fetch_or::<Close>(master, OPEN, CLOSED);
 }
@@ -122,7 +127,8 @@ pub fn see_done<J: Kept<W>, R: Kept<W>, W>(
     requires offered { ¬ MasterHolds master.old.me.0.master }
     requires bare { master.old.me.1 ≡ [] }
     ensures table { master.new.table_id ≡ master.old.table_id }
-    ensures polled { polled J.made_for R.made_for (step words.now.table_id.slots 2 0 0 none) master.old.me result master.new.me }
+    ensures polled { polled J.made_for R.made_for (step words.now.table_id.slots 2 0 0 none)
+        master.old.me result master.new.me }
 {
     words.load::<SeeDone>(master, DONE)
 }

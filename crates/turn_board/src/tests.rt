@@ -95,7 +95,8 @@ fn serve<H: Wait>(rt: &H, board: &Numbers, mut seat: Worker) -> u64
 // Passes all windows, closes the board, and says in how many windows each lane had its result.
 fn lead<H: Wait>(rt: &H, board: &Numbers, mut master: Leader) -> u64
     requires board { (master.board ≡ board.now) × (master.made_for ≡ LIMIT) }
-    requires new { (master.state.opened ≡ 0) × (master.state.known ≡ 0) × (master.state.closed ≡ false) }
+    requires new { (master.state.opened ≡ 0) × (master.state.known ≡ 0)
+        × (master.state.closed ≡ false) }
 {
     let mut right: u64 = 0;
     for window in 0..WINDOWS {
@@ -141,7 +142,8 @@ fn serve_one(board: &Numbers, seat: &mut Worker) -> Option<u64>
 
 // Passes all windows in one thread, and says in how many windows each lane had its number and its result.
 fn alone(board: &Numbers, mut master: Leader, mut seat: Worker) -> u64
-    requires master { (master.board ≡ board.now) × (master.made_for ≡ LIMIT) × (master.state.opened ≡ 0) × (master.state.known ≡ 0) × (master.state.closed ≡ false) }
+    requires master { (master.board ≡ board.now) × (master.made_for ≡ LIMIT)
+        × (master.state.opened ≡ 0) × (master.state.known ≡ 0) × (master.state.closed ≡ false) }
     requires seat { IsReady board.now LIMIT seat }
 {
     let mut right: u64 = 0;
@@ -211,7 +213,8 @@ fn three_threads_pass_many_windows(rt: HostRuntime) -> Result<(), Fail> {
     let ((a, b), right) = thread::join(
         rt,
         move || -> (u64, u64)
-            requires { IsReady board.now LIMIT first × IsReady board.now LIMIT second × IsReady board.now LIMIT third }
+            requires { IsReady board.now LIMIT first × IsReady board.now LIMIT second
+                × IsReady board.now LIMIT third }
         {
             thread::join(
                 rt,
@@ -308,7 +311,8 @@ impl<'b, 'a> Bench<'b, 'a> {
     // Passes a window, closes the board, and says whether each lane had its job back.
     fn lead<H: Wait>(self, rt: &H) -> bool
         requires board { self.master.board ≡ self.board.now }
-        requires new { (self.master.state.opened ≡ 0) × (self.master.state.known ≡ 0) × (self.master.state.closed ≡ false) }
+        requires new { (self.master.state.opened ≡ 0) × (self.master.state.known ≡ 0)
+            × (self.master.state.closed ≡ false) }
         requires top { self.master.made_for.now.top ≡ 7 }
     {
         let Bench { board, master } = self;
@@ -340,15 +344,20 @@ fn both<'b, 'a, H: Threads + Wait + Sync>(
     bench: Bench<'b, 'a>,
 ) -> (u64, bool)
     requires shift { (shift.seat.board ≡ shift.board.now) × IsFree shift.seat.state }
-    requires bench { (bench.master.board ≡ bench.board.now) × (bench.master.state.opened ≡ 0) × (bench.master.state.known ≡ 0) × (bench.master.state.closed ≡ false) × (bench.master.made_for.now.top ≡ 7) }
+    requires bench { (bench.master.board ≡ bench.board.now) × (bench.master.state.opened ≡ 0)
+        × (bench.master.state.known ≡ 0) × (bench.master.state.closed ≡ false)
+        × (bench.master.made_for.now.top ≡ 7) }
 {
     thread::join(
         rt,
         move || -> u64
-            requires { IsSync H.row × (shift.seat.board ≡ shift.board.now) × IsFree shift.seat.state }
+            requires { IsSync H.row × (shift.seat.board ≡ shift.board.now)
+                × IsFree shift.seat.state }
         { shift.work(rt) },
         move || -> bool
-            requires { (bench.master.board ≡ bench.board.now) × (bench.master.state.opened ≡ 0) × (bench.master.state.known ≡ 0) × (bench.master.state.closed ≡ false) × (bench.master.made_for.now.top ≡ 7) }
+            requires { (bench.master.board ≡ bench.board.now) × (bench.master.state.opened ≡ 0)
+                × (bench.master.state.known ≡ 0) × (bench.master.state.closed ≡ false)
+                × (bench.master.made_for.now.top ≡ 7) }
         { bench.lead(rt) },
     )
 }

@@ -73,7 +73,8 @@ impl<'a> Kept<'a> {
 
     /// Whether a block's number of blocks is that of the first kept one.
     fn agrees_in_count(&self, block: &Block) -> bool
-        ensures { result ≡ (count_of block.now == count_of (first_kept self.now.blocks.items block.now)) }
+        ensures { result ≡ (count_of block.now
+            == count_of (first_kept self.now.blocks.items block.now)) }
     {
         match self.blocks.first() {
             Some(first) => block.count() == first.count(),
@@ -132,7 +133,8 @@ impl<'a> Kept<'a> {
         requires index { IsIndexed self.old }
         requires payload { HasPayload block }
         requires place { LiesInSram block }
-        ensures blocks { OnOk result (self.new.blocks.items ≡ self.old.blocks.items ++ block.entry ∷ []) }
+        ensures blocks { OnOk result (self.new.blocks.items ≡ self.old.blocks.items ++ block.entry
+            ∷ []) }
         ensures index { OnOk result (IsIndexed self.new) }
         ensures memory { IfErr result (λ fault. fault ≡ ImageFault.Memory) }
     {
@@ -149,7 +151,8 @@ impl<'a> Kept<'a> {
     pub fn read(&mut self, index: u32, block: Block<'a>) -> Result<(), ImageFault>
         requires { IsIndexed self.old }
         ensures none { OnOk result (block_fault self.old.blocks.items index block.entry ≡ None) }
-        ensures blocks { OnOk result (self.new.blocks.items ≡ self.old.blocks.items ++ filter is_kept (block.entry ∷ [])) }
+        ensures blocks { OnOk result (self.new.blocks.items ≡ self.old.blocks.items
+            ++ filter is_kept (block.entry ∷ [])) }
         ensures index { OnOk result (IsIndexed self.new) }
         ensures fault { IfErr result (λ fault. fault ≢ ImageFault.Memory
             → block_fault self.old.blocks.items index block.entry ≡ Some fault) }
@@ -171,7 +174,8 @@ impl<'a> Kept<'a> {
 pub fn read_blocks<'a>(alloc: Global, bytes: &'a [u8]) -> Result<Kept<'a>, ImageFault>
     requires { length bytes.now ≤ 16777216 }
     ensures none { OnOk result (first_fault bytes.now (length bytes.now / 512) ≡ None) }
-    ensures blocks { IfOk result (λ read. read.blocks.items ≡ kept bytes.now (length bytes.now / 512)) }
+    ensures blocks { IfOk result (λ read. read.blocks.items
+        ≡ kept bytes.now (length bytes.now / 512)) }
     ensures index { IfOk result IsIndexed }
     ensures fault { IfErr result (λ fault. fault ≢ ImageFault.Memory
         → first_fault bytes.now (length bytes.now / 512) ≡ Some fault) }
