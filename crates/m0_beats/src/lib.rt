@@ -11,8 +11,6 @@ pub mod registers;
 pub mod rows;
 pub mod special;
 pub mod table;
-#[cfg(test)]
-mod tests;
 pub mod timing;
 
 pub use cycles::beat_count;

@@ -10,16 +10,12 @@ mod entry;
 pub mod exceptions;
 mod fetch;
 mod finish;
-#[cfg(test)]
-mod frame_tests;
 mod kinds;
 pub mod laws;
 mod private;
 pub mod processor;
 mod returns;
 mod step;
-#[cfg(test)]
-mod tests;
 
 pub use doing::{Act, Doing, Work};
 pub use processor::Core;

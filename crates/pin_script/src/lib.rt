@@ -17,8 +17,6 @@ mod order;
 mod reading;
 pub mod script;
 mod send;
-#[cfg(test)]
-mod tests;
 mod words;
 
 pub use cursor::Cursor;

@@ -4,8 +4,6 @@
 pub mod access;
 pub mod map;
 pub mod op;
-#[cfg(test)]
-mod tests;
 
 /// The size of a bus access.
 #[derive(Clone, Copy, Debug, PartialEq, Eq)]

@@ -42,6 +42,3 @@ pub fn read_image(alloc: Global, bytes: &[u8]) -> Result<Image, ImageFault>
     let kept = read_blocks(alloc, bytes)?;
     image_of_blocks(alloc, &kept)
 }
-
-#[cfg(test)]
-mod tests;

@@ -4,6 +4,7 @@
 mod compare;
 pub mod copies;
 pub mod crew;
+pub mod here;
 pub mod jobs;
 pub mod lane_job;
 pub mod lane_run;
@@ -12,15 +13,14 @@ pub mod merge;
 pub mod position;
 pub mod reports;
 pub mod runs;
-pub mod sets;
 #[cfg(test)]
 mod tests;
 
 pub use copies::Copies;
+pub use here::window;
 pub use jobs::{back, job, run_job};
 pub use lane_job::{Crew, LaneJob, LaneReport};
 pub use lane_run::{LaneRun, LaneSet};
 pub use merge::merge_runs;
 pub use position::{Moved, advance};
 pub use runs::{Places, Runs};
-pub use sets::{Set, Sets, window};

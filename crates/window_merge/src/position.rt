@@ -6,8 +6,10 @@ ghost use Rattle.bus_fabric.specs.State.{has_hold};
 ghost use Rattle.rp_machine.specs.Cycle.{stop};
 ghost use Rattle.window_merge.specs.Window.{is_tried, window_length};
 ghost use Rattle.window_merge.specs.Merging.{IsRested, IsStep};
+ghost use Rattle.window_merge.specs.Jobs.{IsWhole};
 
-use crate::sets::{Sets, window};
+use crate::here::window;
+use crate::lane_job::Crew;
 use lane_look::{Device, Marks};
 use outer_lane::World;
 use rp_base::Why;
@@ -30,28 +32,28 @@ pub enum Moved {
 pub fn advance<X: Device, L: Ledger>(
     machine: &mut Machine,
     world: &World<'_, X>,
-    sets: Sets,
+    crew: &mut Crew,
     after_empty: bool,
     marks: &mut Marks,
     steps: &mut Steps<L>,
-) -> (Sets, Moved)
+) -> Moved
     requires number { machine.old.cycle ≤ world.now.limit }
     requires rested { IsRested machine.old.sio }
+    requires crew { IsWhole crew.old }
     ensures moved { IsStep
         (setting_of world.now.script.now (X.meaning world.now.device.now) world.now.limit)
-        after_empty result.1 machine.old machine.new marks.old marks.new steps.old steps.new }
+        after_empty result machine.old machine.new marks.old marks.new steps.old steps.new }
     ensures rested { IsRested machine.new.sio }
+    ensures crew { IsWhole crew.new }
 {
     if after_empty || machine.fabric.holds() {
-        let moved = match machine.cycle(world, marks, steps) {
+        return match machine.cycle(world, marks, steps) {
             Some(why) => Moved::Stopped(why),
             None => Moved::Cycle,
         };
-        return (sets, moved);
     }
     if let Some(why) = machine.stop(world) {
-        return (sets, Moved::Stopped(why));
+        return Moved::Stopped(why);
     }
-    let (sets, length) = window(machine, world, sets, marks, steps);
-    (sets, Moved::Window(length))
+    Moved::Window(window(machine, world, crew, marks, steps))
 }

@@ -2,7 +2,7 @@
 
 ghost use Rattle.std.specs.Prelude.{◌≡◌, ◌<◌};
 
-use crate::{Moved, Sets, advance};
+use crate::{Crew, Moved, advance};
 use arrayvec::ArrayVec;
 use lane_look::{Marks, NoDevice};
 use pin_script::read_script;
@@ -70,7 +70,7 @@ fn windows_of<L: Ledger>(
         limit,
     };
     let mut machine = Machine::boot(alloc, &image, &[], &world)?;
-    let mut sets = Sets::new(alloc, &NoDevice)?;
+    let mut crew = Crew::new(alloc)?;
     let mut marks = Marks::new();
     let mut lengths = ArrayVec::new();
     let mut after_empty = false;
@@ -78,15 +78,14 @@ fn windows_of<L: Ledger>(
         if machine.number() > limit {
             break;
         }
-        let (again, moved) = advance(
+        let moved = advance(
             &mut machine,
             &world,
-            sets,
+            &mut crew,
             after_empty,
             &mut marks,
             &mut steps,
         );
-        sets = again;
         match moved {
             Moved::Stopped(why) => {
                 return match why {

@@ -5,8 +5,8 @@ use Rattle.window_merge.specs.Merging.{IsRested}
 use Rattle.window_merge.proofs.Resting.{rested_cycle, rested_states}
 use Rattle.window_merge.proofs.position.advance.Goals as goal
 
-pub returns-then-after_empty-clause-rested : goal.returns-then-after_empty-clause-rested
-returns-then-after_empty-clause-rested g c =
+pub returns-in-None-clause-rested : goal.returns-in-None-clause-rested
+returns-in-None-clause-rested g c =
     let w = setting_of c.args.world.now.script.now (g.X.Device.meaning c.args.world.now.device.now) c.args.world.now.limit in
     rested_cycle w c.args.machine.now c.cycle.new.self _ c.requires.rested c.cycle.ensures.state
 
@@ -14,4 +14,4 @@ pub returns-clause-rested : goal.returns-clause-rested
 returns-clause-rested g c =
     let w = setting_of c.args.world.now.script.now (g.X.Device.meaning c.args.world.now.device.now) c.args.world.now.limit in
     let family : State → Type 0 = λ s. IsRested s.sio in
-    subst family (sym c.window-sets.ensures.state) (rested_states w c.args.machine.now c.window-sets.result.1 c.requires.rested)
+    subst family (sym c.window.ensures.state) (rested_states w c.args.machine.now c.window.result c.requires.rested)

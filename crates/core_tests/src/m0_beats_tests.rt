@@ -1,6 +1,6 @@
 //! Outside vectors: programs worked by hand, and the manual's timing and results.
 
-use crate::{Beat, Regs, beat_at, beat_count, beats, effect, exception_return, is_unaligned};
+use m0_beats::{Beat, Regs, beat_at, beat_count, beats, effect, exception_return, is_unaligned};
 use rp_base::op::Op;
 use rp_base::{Request, Size};
 

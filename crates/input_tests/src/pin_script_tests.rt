@@ -1,7 +1,7 @@
 //! Worked values.
 
-use crate::laws::the_greatest_pair_acts;
-use crate::{Cursor, Drives, Level, Script, ScriptFault, read_script};
+use pin_script::laws::the_greatest_pair_acts;
+use pin_script::{Cursor, Drives, Level, Script, ScriptFault, read_script};
 use std::alloc::Global;
 use std::test::Fail;
 

@@ -1,11 +1,11 @@
 //! Whole files, and what each gives.
 
-use crate::fault::ImageFault;
-use crate::parts::Image;
-use crate::read_image;
 use std::alloc::{AllocError, Global};
 use std::process::Abort;
 use std::test::Fail;
+use uf2_image::fault::ImageFault;
+use uf2_image::parts::Image;
+use uf2_image::read_image;
 
 /// The fields of a block. Each byte of its payload is the low byte of its number, and each other byte is 238.
 #[derive(Clone, Copy)]

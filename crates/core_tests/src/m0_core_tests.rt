@@ -1,7 +1,7 @@
 //! Programs worked by hand, over a small memory: their results by the manual, their cycles by its timing table.
 
-use crate::Core;
 use lane_look::{Ask, Lane, Look, Marks, Turn, Want};
+use m0_core::Core;
 use m0_nvic::numbers::{HARDFAULT, INTERRUPT_0, PENDSV, SVCALL, SYSTICK};
 use rp_base::map::{Spot, place};
 use rp_base::{Master, Request, Size, Why};

@@ -1,6 +1,6 @@
 //! Frames on the process stack, frames that a handler changed, and an exception that ends WFE.
 
-use crate::tests::{Memory, behind, has, pass, run};
+use crate::m0_core_tests::{Memory, behind, has, pass, run};
 use m0_nvic::numbers::{HARDFAULT, INTERRUPT_0, SVCALL};
 use rp_base::Why;
 

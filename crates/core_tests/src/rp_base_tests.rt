@@ -1,6 +1,6 @@
 //! Places of known addresses, and their ports.
 
-use crate::map::{Block, Spot, place, port};
+use rp_base::map::{Block, Spot, place, port};
 
 // The base addresses are those of `addressmap.h` of Raspberry Pi's SDK.
 #[test]
