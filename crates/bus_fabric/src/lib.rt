@@ -45,8 +45,11 @@ impl Model for Fabric {
 
     ghost Value = { Crossbar };
 
-    ghost view = { λ fabric. record { hold = fabric.hold; priority = fabric.priority;
-        last = fabric.last } };
+    ghost view = { λ fabric. record {
+      hold = fabric.hold;
+      priority = fabric.priority;
+      last = fabric.last;
+    } };
 
     ghost inverse = { λ s. record { hold = s.hold; priority = s.priority; last = s.last } };
 

@@ -131,9 +131,13 @@ impl Device for Counter {
       value = λ state address. slice_index state 0;
       after_read = λ state address. slice_set state 0 0;
       after_write = λ state address value. slice_set state 0
-        ((slice_index state 0 + value) % 2 ^ 32);
-      wires = λ state cycle pads. record { mask = d.pads; level = slice_index state 0; pwm = pads;
-        irq = cycle % 2 };
+          ((slice_index state 0 + value) % 2 ^ 32);
+      wires = λ state cycle pads. record {
+        mask = d.pads;
+        level = slice_index state 0;
+        pwm = pads;
+        irq = cycle % 2;
+      };
       after_step = λ state cycle pads. slice_set state 0 ((slice_index state 0 + 1) % 2 ^ 32);
     } };
 
