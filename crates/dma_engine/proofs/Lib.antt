@@ -1,4 +1,5 @@
 pub mod AtRest
+pub mod Comparisons
 pub mod Counting
 pub mod Finishing
 pub mod First

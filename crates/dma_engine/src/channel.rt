@@ -7,7 +7,7 @@ ghost use Rattle.dma_engine.specs.Channels.{triggered, aborted, idle};
 use rp_base::Size;
 
 /// One channel (RP2040 Datasheet, 2.5.7, CH0_READ_ADDR to CH0_CTRL_TRIG).
-#[derive(Clone, Copy)]
+#[derive(Clone, Copy, PartialEq, Eq)]
 pub struct Channel {
     /// READ_ADDR: the address of the next read, with its low bits.
     pub read: u32,

@@ -28,7 +28,7 @@ impl Model for Dma {
 }
 
 impl Dma {
-    ghost use Rattle.std.specs.Prelude.{false, true};
+    ghost use Rattle.std.specs.Prelude.{Decides, false, true};
     ghost use Rattle.dma_engine.specs.Rest.{StaysAtRest};
     ghost use Rattle.dma_engine.specs.State.{reset_state, with_hold};
     ghost use Rattle.dma_engine.specs.Words.{word_of, is_allowed, effect_of, lines_of};
@@ -82,6 +82,13 @@ impl Dma {
         ensures { result ≡ true → StaysAtRest self.now }
     {
         self.at_rest
+    }
+
+    /// Both are in the same state.
+    pub fn is_same(&self, other: &Dma) -> bool
+        ensures { Decides result (self.now ≡ other.now) }
+    {
+        self.engine.is_same(&other.engine)
     }
 
     /// The two interrupt lines, DMA_IRQ_0 and DMA_IRQ_1: some bit of INTS0, and some bit of INTS1.

@@ -1,6 +1,6 @@
 //! The engine: its state, a reset, and its interrupt lines.
 
-ghost use Rattle.std.specs.Prelude.{◌≡◌};
+ghost use Rattle.std.specs.Prelude.{◌≡◌, Decides};
 
 use crate::channel::Channel;
 use crate::line::InterruptLine;
@@ -76,6 +76,27 @@ impl Engine {
             self.line_0.is_raised(self.raised),
             self.line_1.is_raised(self.raised),
         ]
+    }
+
+    /// Both are in the same state.
+    pub(crate) fn is_same(&self, other: &Engine) -> bool
+        ensures { Decides result (self.now ≡ other.now) }
+    {
+        let channels = self.channels == other.channels;
+        let chosen = self.chosen == other.chosen;
+        let waiting = self.waiting.as_slice() == other.waiting.as_slice();
+        let line_0 = self.line_0 == other.line_0;
+        let line_1 = self.line_1 == other.line_1;
+        let timers = self.timers == other.timers;
+        channels
+            & chosen
+            & (self.last_chosen == other.last_chosen)
+            & waiting
+            & (self.raised == other.raised)
+            & line_0
+            & line_1
+            & timers
+            & (self.held == other.held)
     }
 
     /// Takes the state of another engine.

@@ -19,8 +19,6 @@ pub mod laws;
 pub mod line;
 pub mod pace;
 pub mod registers;
-#[cfg(test)]
-mod tests;
 pub mod timer;
 mod transfer;
 pub mod waiting;

@@ -4,7 +4,7 @@ ghost use Rattle.std.specs.Prelude.{◌≡◌};
 ghost use Rattle.dma_engine.specs.Words.{status_of, is_raised};
 
 /// What an interrupt line is made of (RP2040 Datasheet, 2.5.7, INTE0 and INTF0), by the bits of channels.
-#[derive(Clone, Copy)]
+#[derive(Clone, Copy, PartialEq, Eq)]
 pub struct InterruptLine {
     /// INTE: the interrupts that the line passes on.
     pub enable: u16,

@@ -3,7 +3,7 @@
 use rp_base::Size;
 
 /// The write of a transfer whose read is done.
-#[derive(Clone, Copy)]
+#[derive(Clone, Copy, PartialEq, Eq)]
 pub struct WaitingWrite {
     /// The channel of the transfer.
     pub channel: u8,

@@ -1,3 +1,4 @@
 pub mod Bits
+pub mod Comparisons
 pub mod Routed
 pub mod Still

@@ -1,6 +1,6 @@
 //! The pads: their state, their cycle and their readers.
 
-ghost use Rattle.std.specs.Prelude.{◌≡◌, ◌<◌, ◌∷◌, [], IfSome, slice_index};
+ghost use Rattle.std.specs.Prelude.{◌≡◌, ◌<◌, ◌∷◌, [], Decides, IfSome, slice_index};
 ghost use Rattle.io_bank.specs.State.{at_reset, after_held, with_bank_held, with_pads_held};
 ghost use Rattle.io_bank.specs.Levels.{levels_of, by_list, by_sets, inputs_of, pins_of, is_used, first_in, receive_pin, receive_level};
 ghost use Rattle.io_bank.specs.Edges.{edges_of};
@@ -107,6 +107,30 @@ impl IoBank {
             second: 0,
             routes: Routes::of(&CONTROLS, &PADS),
         }
+    }
+
+    /// Both are in the same state.
+    pub fn is_same(&self, other: &IoBank) -> bool
+        ensures { Decides result (self.now ≡ other.now) }
+    {
+        let controls = self.controls == other.controls;
+        let pads = self.pads == other.pads;
+        let latched = self.latched == other.latched;
+        let fresh = self.fresh == other.fresh;
+        let core0 = self.core0 == other.core0;
+        let core1 = self.core1 == other.core1;
+        (self.bank_held == other.bank_held)
+            & (self.pads_held == other.pads_held)
+            & controls
+            & pads
+            & (self.voltage == other.voltage)
+            & latched
+            & fresh
+            & core0
+            & core1
+            & (self.current == other.current)
+            & (self.first == other.first)
+            & (self.second == other.second)
     }
 
     /// One cycle, by the outputs at its start and the level that drives each pin from outside (that of the script, or else

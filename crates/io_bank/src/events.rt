@@ -9,14 +9,14 @@ use crate::sets::with_bit;
 use word_bits::has_bit;
 
 /// The pins with an edge to low and with an edge to high.
-#[derive(Clone, Copy)]
+#[derive(Clone, Copy, PartialEq, Eq)]
 pub struct Edges {
     pub low: u32,
     pub high: u32,
 }
 
 /// The pins with each kind of event.
-#[derive(Clone, Copy)]
+#[derive(Clone, Copy, PartialEq, Eq)]
 pub struct Events {
     pub level_low: u32,
     pub level_high: u32,
@@ -25,7 +25,7 @@ pub struct Events {
 }
 
 /// What interrupts a core: the events that are enabled (INTE), and those that are forced (INTF).
-#[derive(Clone, Copy)]
+#[derive(Clone, Copy, PartialEq, Eq)]
 pub struct Interrupts {
     pub enable: Events,
     pub force: Events,

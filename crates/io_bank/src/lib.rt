@@ -9,8 +9,6 @@ pub mod outputs;
 pub mod registers;
 pub mod routes;
 mod sets;
-#[cfg(test)]
-mod tests;
 mod words;
 
 pub use bank::IoBank;

@@ -1,9 +1,10 @@
-pub mod Carrying
 mod GivenBack
 mod Handlers
 mod ReadCount
-pub mod Shapes
 mod Taken
 mod TakesBeats
 mod Waits
 mod Walk
+pub mod Carrying
+pub mod Comparisons
+pub mod Shapes

@@ -4,7 +4,7 @@ use rp_base::op::Op;
 use rp_base::{Request, Why};
 
 /// What has beats.
-#[derive(Clone, Copy)]
+#[derive(Clone, Copy, PartialEq, Eq)]
 pub enum Work {
     /// An instruction.
     Instruction(Op),

@@ -64,7 +64,7 @@ fn with_vectors(vtor: u32) -> Nvic
 }
 
 impl Core {
-    ghost use Rattle.std.specs.Prelude.{◌≡◌, true};
+    ghost use Rattle.std.specs.Prelude.{◌≡◌, Decides, true};
     ghost use Rattle.m0_beats.specs.Registers.{register_words};
     ghost use Rattle.m0_core.specs.Start.{sleeping, started};
 
@@ -139,6 +139,25 @@ impl Core {
         ensures { result ≡ self.now.number }
     {
         self.number
+    }
+
+    /// Both are in the same state.
+    pub fn is_same(&self, other: &Core) -> bool
+        ensures { Decides result (self.now ≡ other.now) }
+    {
+        let regs = self.regs == other.regs;
+        let nvic = self.nvic.is_same(&other.nvic);
+        let work = self.work == other.work;
+        let read = self.read.as_slice() == other.read.as_slice();
+        (self.number == other.number)
+            & (self.asleep == other.asleep)
+            & regs
+            & nvic
+            & (self.event == other.event)
+            & (self.offer == other.offer)
+            & work
+            & (self.place == other.place)
+            & read
     }
 
     /// Takes the state of another core.

@@ -1,3 +1,4 @@
+pub mod Comparisons
 pub mod Held
 pub mod InForce
 pub mod Least

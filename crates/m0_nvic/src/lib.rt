@@ -2,7 +2,7 @@
 //! the private bus that show them. Everything is defined in `specs/` on sets of exception numbers.
 #![tactic(auto)]
 
-ghost use Rattle.std.specs.Prelude.{bit_and, ◌≡◌, ◌^◌, ◌<◌, false};
+ghost use Rattle.std.specs.Prelude.{bit_and, Decides, ◌≡◌, ◌^◌, ◌<◌, false};
 ghost use Rattle.m0_nvic.specs.State.{at_reset};
 ghost use Rattle.m0_nvic.specs.Numbers.{is_member, interrupts, of_interrupts};
 ghost use Rattle.m0_nvic.specs.Priority.{rank_of, precedes, nearer, least_of, IsLeast, best_of, priority_of, wakes_of, active_priority};
@@ -89,6 +89,23 @@ impl Nvic {
             vtor: 0,
             scr: 0,
         }
+    }
+
+    /// Both are in the same state.
+    pub fn is_same(&self, other: &Nvic) -> bool
+        ensures { Decides result (self.now ≡ other.now) }
+    {
+        let priorities = self.priorities == other.priorities;
+        let systick = self.systick == other.systick;
+        (self.pending == other.pending)
+            & (self.active == other.active)
+            & (self.enabled == other.enabled)
+            & priorities
+            & (self.lines == other.lines)
+            & (self.arrived == other.arrived)
+            & systick
+            & (self.vtor == other.vtor)
+            & (self.scr == other.scr)
     }
 
     /// The best exception: of those that are pending and enabled, the one of the least priority, and of equal ones that

@@ -4,7 +4,7 @@ ghost use Rattle.std.specs.Prelude.{◌≡◌};
 ghost use Rattle.m0_nvic.specs.Cycle.{counts_in, timer_after, timer_pends};
 
 /// The system timer (ARMv6-M Architecture Reference Manual, B3.3).
-#[derive(Clone, Copy)]
+#[derive(Clone, Copy, PartialEq, Eq)]
 pub struct SysTick {
     /// CSR.ENABLE: it counts.
     pub enable: bool,

@@ -10,8 +10,6 @@ mod lane;
 pub mod outer;
 mod outside;
 mod step;
-#[cfg(test)]
-mod tests;
 mod words;
 pub mod world;
 

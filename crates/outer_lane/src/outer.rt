@@ -59,7 +59,7 @@ impl Model for Outer {
 }
 
 impl Outer {
-    ghost use Rattle.std.specs.Prelude.{◌≡◌};
+    ghost use Rattle.std.specs.Prelude.{◌≡◌, Decides};
     ghost use Rattle.io_bank.specs.Levels.{inputs_of};
     ghost use Rattle.outer_lane.specs.State.{outer_at_start, first_words, outer_reset};
     ghost use Rattle.outer_lane.specs.Lines.{outer_lines, outer_inputs, outer_pacing};
@@ -150,6 +150,28 @@ impl Outer {
     {
         let [_, second] = self.pads.inputs();
         second
+    }
+
+    /// Both are in the same state.
+    pub fn is_same(&self, other: &Outer) -> bool
+        ensures { Decides result (self.now ≡ other.now) }
+    {
+        let timer = self.timer.block.is_same(&other.timer.block);
+        let uart0 = self.uart0.block.is_same(&other.uart0.block);
+        let uart1 = self.uart1.block.is_same(&other.uart1.block);
+        let pads = self.pads.is_same(&other.pads);
+        let device = self.device.as_slice() == other.device.as_slice();
+        let sio = self.sio == other.sio;
+        timer
+            & (self.timer.held == other.timer.held)
+            & uart0
+            & (self.uart0.held == other.uart0.held)
+            & uart1
+            & (self.uart1.held == other.uart1.held)
+            & pads
+            & (self.irq == other.irq)
+            & device
+            & sio
     }
 
     /// Takes the state of another one.

@@ -285,20 +285,3 @@ pub fn pico<F: Shelf, I: Source, O: Sink, X: Device, L: Ledger>(
 {
     converse(alloc, words, files, input, out, probes, &device, steps)
 }
-
-#[cfg(test)]
-mod asm_tests;
-#[cfg(test)]
-mod core_tests;
-#[cfg(test)]
-mod counted;
-#[cfg(test)]
-mod debug_tests;
-#[cfg(test)]
-mod gen_tests;
-#[cfg(test)]
-mod machine_tests;
-#[cfg(test)]
-mod sample_files;
-#[cfg(test)]
-mod tests;

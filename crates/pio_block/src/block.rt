@@ -29,7 +29,7 @@ impl Model for PioBlock {
 }
 
 impl PioBlock {
-    ghost use Rattle.std.specs.Prelude.{◌≡◌, ◌<◌, not, IsTrue};
+    ghost use Rattle.std.specs.Prelude.{◌≡◌, ◌<◌, not, Decides, IsTrue};
     ghost use Rattle.pio_block.specs.State.{at_reset, with_held, machine_of, is_busy};
     ghost use Rattle.pio_block.specs.Cycle.{after_cycle, Rests};
     ghost use Rattle.pio_block.specs.Words.{word_of, effect_of, is_allowed, pacing_of, register_list, counter_set, outs_of, lines_of};
@@ -133,6 +133,13 @@ impl PioBlock {
         ensures rests { IsTrue result → Rests self.now }
     {
         self.at_rest
+    }
+
+    /// Both are in the same state.
+    pub fn is_same(&self, other: &PioBlock) -> bool
+        ensures { Decides result (self.now ≡ other.now) }
+    {
+        self.state.is_same(&other.state)
     }
 
     /// Takes the state of another block.

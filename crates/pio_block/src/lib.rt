@@ -7,14 +7,10 @@ pub mod inputs;
 mod lane;
 pub mod laws;
 mod machine;
-#[cfg(test)]
-mod machine_tests;
 mod machines;
 mod queues;
 pub mod registers;
 mod state;
-#[cfg(test)]
-mod tests;
 mod words;
 
 pub use block::PioBlock;

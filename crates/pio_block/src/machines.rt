@@ -23,7 +23,7 @@ impl Model for Machines {
 }
 
 impl Machines {
-    ghost use Rattle.std.specs.Prelude.{◌≡◌, ◌<◌, replicate};
+    ghost use Rattle.std.specs.Prelude.{◌≡◌, ◌<◌, Decides, replicate};
     ghost use Rattle.std.specs.List.{list_any};
     ghost use Rattle.pio_machine.specs.Start.{at_reset};
     ghost use Rattle.pio_block.specs.State.{machine_of, changed, each, is_running};
@@ -150,6 +150,17 @@ impl Machines {
             2 => self.third.set_pc(place),
             _ => self.fourth.set_pc(place),
         }
+    }
+
+    /// All four are in the same states.
+    pub(crate) fn is_same(&self, other: &Machines) -> bool
+        ensures { Decides result (self.now ≡ other.now) }
+    {
+        let first = self.first.is_same(&other.first);
+        let second = self.second.is_same(&other.second);
+        let third = self.third.is_same(&other.third);
+        let fourth = self.fourth.is_same(&other.fourth);
+        first & second & third & fourth
     }
 
     /// Takes the state of other machines.

@@ -67,7 +67,7 @@ fn overlaid(mask: u32, bits: u32, word: u32) -> u32
 }
 
 impl State {
-    ghost use Rattle.std.specs.Prelude.{◌≡◌, ◌<◌};
+    ghost use Rattle.std.specs.Prelude.{◌≡◌, ◌<◌, Decides};
     ghost use Rattle.pio_block.specs.State.{at_reset, with_held, is_busy, machine_of};
     ghost use Rattle.pio_block.specs.Words.{counter_set, pacing_of, register_list, outs_of};
     ghost use Rattle.pio_block.specs.Cycle.{seen_by, all_written, with_stepped, joined, after_cycle};
@@ -177,6 +177,27 @@ impl State {
         ensures { result ≡ outs_of self.now }
     {
         [self.levels, self.enables]
+    }
+
+    /// Both are in the same state. The inputs of the last cycle are no part of it.
+    pub(crate) fn is_same(&self, other: &State) -> bool
+        ensures { Decides result (self.now ≡ other.now) }
+    {
+        let machines = self.machines.is_same(&other.machines);
+        let memory = self.seen.memory == other.seen.memory;
+        machines
+            & memory
+            & (self.seen.flags == other.seen.flags)
+            & (self.seen.bypass == other.seen.bypass)
+            & (self.levels == other.levels)
+            & (self.enables == other.enables)
+            & (self.tx_over == other.tx_over)
+            & (self.rx_under == other.rx_under)
+            & (self.inte0 == other.inte0)
+            & (self.intf0 == other.intf0)
+            & (self.inte1 == other.inte1)
+            & (self.intf1 == other.intf1)
+            & (self.held == other.held)
     }
 
     /// Takes the state of another block.

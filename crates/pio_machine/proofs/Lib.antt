@@ -1,6 +1,7 @@
-pub mod Refills
-pub mod Once
-pub mod Goes
 pub mod Clock
+pub mod Comparisons
 pub mod Drives
+pub mod Goes
+pub mod Once
+pub mod Refills
 pub mod Stream

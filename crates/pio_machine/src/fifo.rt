@@ -18,7 +18,7 @@ impl Model for Fifo {
 }
 
 impl Fifo {
-    ghost use Rattle.std.specs.Prelude.{◌≡◌, ◌<◌, ◌≤◌, ◌++◌, ◌∷◌, [], length, slice_index, MatchOption};
+    ghost use Rattle.std.specs.Prelude.{◌≡◌, ◌<◌, ◌≤◌, ◌++◌, ◌∷◌, [], length, slice_index, Decides, MatchOption};
 
     /// No words.
     pub fn new() -> Fifo
@@ -73,6 +73,13 @@ impl Fifo {
         ensures { self.new ≡ [] }
     {
         self.words.clear();
+    }
+
+    /// Both have the same words.
+    pub fn is_same(&self, other: &Fifo) -> bool
+        ensures { Decides result (self.now ≡ other.now) }
+    {
+        self.words.as_slice() == other.words.as_slice()
     }
 
     /// Takes the words of another FIFO in place of its own.

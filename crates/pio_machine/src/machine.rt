@@ -1,6 +1,6 @@
 //! A machine's state, what it sees in a cycle, and what it does.
 
-ghost use Rattle.std.specs.Prelude.{◌≡◌};
+ghost use Rattle.std.specs.Prelude.{◌≡◌, Decides};
 ghost use Rattle.pio_machine.specs.Start.{at_reset, restarted, nothing_done};
 ghost use Rattle.pio_machine.specs.Operation.{with_pc};
 ghost use Rattle.pio_machine.specs.Progress.{untried, forced, executed, progress_of, with_progress, with_raised, with_shifted};
@@ -8,7 +8,7 @@ ghost use Rattle.pio_machine.specs.Progress.{untried, forced, executed, progress
 use crate::fifo::Fifo;
 
 /// What a word has done that stalls, and does not do again while it is tried.
-#[derive(Clone, Copy)]
+#[derive(Clone, Copy, PartialEq, Eq)]
 pub struct Progress {
     /// IRQ with Wait has raised its flag.
     pub raised: bool,
@@ -17,7 +17,7 @@ pub struct Progress {
 }
 
 /// An instruction word that is tried in place of the one at PC.
-#[derive(Clone, Copy)]
+#[derive(Clone, Copy, PartialEq, Eq)]
 pub struct Waiting {
     /// The word.
     pub word: u16,
@@ -244,6 +244,36 @@ impl Machine1 {
             shifted: true,
             ..self.current_progress()
         });
+    }
+
+    /// Both are in the same state.
+    pub fn is_same(&self, other: &Machine1) -> bool
+        ensures { Decides result (self.now ≡ other.now) }
+    {
+        let waiting = self.waiting == other.waiting;
+        let progress = self.progress == other.progress;
+        let tx = self.tx.is_same(&other.tx);
+        let rx = self.rx.is_same(&other.rx);
+        (self.enabled == other.enabled)
+            & (self.clkdiv == other.clkdiv)
+            & (self.execctrl == other.execctrl)
+            & (self.shiftctrl == other.shiftctrl)
+            & (self.pinctrl == other.pinctrl)
+            & (self.acc == other.acc)
+            & (self.x == other.x)
+            & (self.y == other.y)
+            & (self.isr == other.isr)
+            & (self.isr_count == other.isr_count)
+            & (self.osr == other.osr)
+            & (self.osr_count == other.osr_count)
+            & (self.pc == other.pc)
+            & (self.delay == other.delay)
+            & waiting
+            & progress
+            & tx
+            & rx
+            & (self.tx_stall == other.tx_stall)
+            & (self.rx_stall == other.rx_stall)
     }
 
     /// Takes the state of another machine.

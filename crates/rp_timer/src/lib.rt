@@ -4,8 +4,6 @@
 
 pub mod laws;
 pub mod registers;
-#[cfg(test)]
-mod tests;
 pub mod timer;
 mod words;
 

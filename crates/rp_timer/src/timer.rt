@@ -1,6 +1,6 @@
 //! The timer: its state, and its cycle.
 
-ghost use Rattle.std.specs.Prelude.{◌≡◌, ◌<◌, if◌then◌else◌};
+ghost use Rattle.std.specs.Prelude.{◌≡◌, ◌<◌, if◌then◌else◌, Decides};
 ghost use Rattle.rp_timer.specs.State.{at_reset, low_of, high_of, lines_of};
 ghost use Rattle.rp_timer.specs.Step.{is_due, due_of, risen, after_step};
 
@@ -71,6 +71,23 @@ impl Timer {
             enabled: 0,
             forced: 0,
         }
+    }
+
+    /// Both are in the same state.
+    pub fn is_same(&self, other: &Timer) -> bool
+        ensures { Decides result (self.now ≡ other.now) }
+    {
+        let alarms = self.alarms == other.alarms;
+        (self.time == other.time)
+            & (self.low == other.low)
+            & (self.high == other.high)
+            & alarms
+            & (self.armed == other.armed)
+            & (self.paused == other.paused)
+            & (self.debug_pause == other.debug_pause)
+            & (self.raised == other.raised)
+            & (self.enabled == other.enabled)
+            & (self.forced == other.forced)
     }
 
     /// One cycle, of this number: where it is the last of a microsecond and the timer is not paused, the time rises by one

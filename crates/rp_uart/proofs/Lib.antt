@@ -1,6 +1,7 @@
 pub mod AtRest
+pub mod Comparisons
 pub mod Frames
 pub mod Heard
 pub mod Kept
-pub mod Timing
 pub mod Loopback
+pub mod Timing

@@ -4,7 +4,7 @@ ghost use Rattle.std.specs.Prelude.{◌≡◌, ◌<◌, ◌^◌};
 ghost use Rattle.rp_uart.specs.Sending.{bit_time, is_over, elapsed_after};
 
 /// UARTIBRD and UARTFBRD: a bit lasts 64 times the divisor, in quarters of a cycle (DDI 0183, 3.3.5 and 3.3.6).
-#[derive(Clone, Copy)]
+#[derive(Clone, Copy, PartialEq, Eq)]
 pub struct Divisor {
     /// The integer part; with 0 nothing runs.
     pub integer: u16,
@@ -13,7 +13,7 @@ pub struct Divisor {
 }
 
 /// UARTCR (DDI 0183, 3.3.8).
-#[derive(Clone, Copy)]
+#[derive(Clone, Copy, PartialEq, Eq)]
 pub struct Control {
     /// UARTEN: frames begin.
     pub enabled: bool,
@@ -26,7 +26,7 @@ pub struct Control {
 }
 
 /// UARTDMACR: which FIFO's pace the DMA engine is told (DDI 0183, 3.3.14).
-#[derive(Clone, Copy)]
+#[derive(Clone, Copy, PartialEq, Eq)]
 pub struct DmaControl {
     /// RXDMAE.
     pub receive: bool,

@@ -6,7 +6,7 @@ ghost use Rattle.rp_uart.specs.Frame.{width_of, parity_bit, level_at, frame_leng
 use word_bits::has_bit;
 
 /// How many data bits a frame has (WLEN).
-#[derive(Clone, Copy)]
+#[derive(Clone, Copy, PartialEq, Eq)]
 pub enum WordLength {
     /// 5 bits.
     Five,
@@ -19,7 +19,7 @@ pub enum WordLength {
 }
 
 /// UARTLCR_H (DDI 0183, 3.3.7).
-#[derive(Clone, Copy)]
+#[derive(Clone, Copy, PartialEq, Eq)]
 pub struct LineControl {
     /// PEN: a frame has a parity bit.
     pub parity: bool,

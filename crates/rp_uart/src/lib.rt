@@ -9,8 +9,6 @@ pub mod laws;
 pub mod receiver;
 pub mod registers;
 pub mod sender;
-#[cfg(test)]
-mod tests;
 pub mod uart;
 mod words;
 

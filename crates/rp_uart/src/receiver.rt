@@ -8,7 +8,7 @@ use crate::interrupts::{RECEIVE, TIMEOUT};
 use crate::uart::Uart;
 
 /// The errors of a byte (DDI 0183, 3.3.1 and 3.3.2).
-#[derive(Clone, Copy, Default)]
+#[derive(Clone, Copy, Default, PartialEq, Eq)]
 pub struct Errors {
     /// FE: the stop bit was low.
     pub framing: bool,
@@ -21,7 +21,7 @@ pub struct Errors {
 }
 
 /// A byte that was received.
-#[derive(Clone, Copy, Default)]
+#[derive(Clone, Copy, Default, PartialEq, Eq)]
 pub struct Received {
     /// The byte, of 5 to 8 bits.
     pub byte: u8,
@@ -30,7 +30,7 @@ pub struct Received {
 }
 
 /// A frame that is being received.
-#[derive(Clone, Copy)]
+#[derive(Clone, Copy, PartialEq, Eq)]
 pub struct Hearing {
     /// The levels so far: bit k is the one that was sampled in bit k of the frame.
     pub samples: u16,
@@ -41,7 +41,7 @@ pub struct Hearing {
 }
 
 /// What the receiver does.
-#[derive(Clone, Copy)]
+#[derive(Clone, Copy, PartialEq, Eq)]
 pub enum Receiver {
     /// It waits for a low line.
     Idle,

@@ -7,7 +7,7 @@ use crate::interrupts::TRANSMIT;
 use crate::uart::Uart;
 
 /// A frame that is being sent.
-#[derive(Clone, Copy)]
+#[derive(Clone, Copy, PartialEq, Eq)]
 pub struct Sending {
     /// The byte, as it was written.
     pub byte: u8,
@@ -18,7 +18,7 @@ pub struct Sending {
 }
 
 /// What the sender does.
-#[derive(Clone, Copy)]
+#[derive(Clone, Copy, PartialEq, Eq)]
 pub enum Sender {
     /// Nothing: the line is high.
     Idle,

@@ -1,6 +1,6 @@
 //! A UART: its state, its cycle and its readers.
 
-ghost use Rattle.std.specs.Prelude.{◌≡◌, true, None};
+ghost use Rattle.std.specs.Prelude.{◌≡◌, true, None, Decides};
 ghost use Rattle.rp_uart.specs.State.{at_reset};
 ghost use Rattle.rp_uart.specs.Interrupts.{is_line_high};
 ghost use Rattle.rp_uart.specs.Step.{output_of, heard_of, after_step, sent_byte, pacing_of};
@@ -121,6 +121,37 @@ impl Uart {
         self.levels = other.levels;
         self.mask = other.mask;
         self.raw = other.raw;
+    }
+
+    /// Both are in the same state.
+    pub fn is_same(&self, other: &Uart) -> bool
+        ensures { Decides result (self.now ≡ other.now) }
+    {
+        let to_send = self.to_send.as_slice() == other.to_send.as_slice();
+        let received = self.received.as_slice() == other.received.as_slice();
+        let sender = self.sender == other.sender;
+        let receiver = self.receiver == other.receiver;
+        let waited = self.waited == other.waited;
+        let last = self.last == other.last;
+        let divisor = self.divisor == other.divisor;
+        let line = self.line == other.line;
+        let control = self.control == other.control;
+        let dma = self.dma == other.dma;
+        to_send
+            & received
+            & sender
+            & receiver
+            & waited
+            & (self.lost == other.lost)
+            & last
+            & (self.overrun == other.overrun)
+            & divisor
+            & line
+            & control
+            & dma
+            & (self.levels == other.levels)
+            & (self.mask == other.mask)
+            & (self.raw == other.raw)
     }
 
     /// One cycle, in which `line` is the level of RX; with LBE the UART hears its own TX in place of that. The byte whose frame

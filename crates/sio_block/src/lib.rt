@@ -12,8 +12,6 @@ pub mod pins;
 pub mod registers;
 pub mod side;
 pub mod sio;
-#[cfg(test)]
-mod tests;
 mod words;
 
 pub use sio::Sio;

@@ -8,6 +8,8 @@ pub mod Merges
 pub mod Ordering
 pub mod Pads
 pub mod Passing
+pub mod Reaching
 pub mod Standing
+pub mod Stepping
 pub mod Taking
 pub mod Telling

@@ -41,7 +41,7 @@ knows_on w p h = knows_by w p (is_tried p.after_empty p.state) h
 
 -- ---- one position after another
 
-one_on : (w : Setting) (p : Position) → Position
+pub one_on : (w : Setting) (p : Position) → Position
 one_on w p = unless_stopped (stop w p.state) p (next_position w p)
 
 on_by : (w : Setting) (p : Position) (k : ℕ) (cause : Option Why) → stop w p.state ≡ cause
@@ -52,12 +52,12 @@ on_by w p k None e rest = rest
 on_by w p k (Some why) e rest = rw e refl
 
 -- the last step of some
-step_on : (w : Setting) (p : Position) (k : ℕ) → positions w p (suc k) ≡ one_on w (positions w p k)
+pub step_on : (w : Setting) (p : Position) (k : ℕ) → positions w p (suc k) ≡ one_on w (positions w p k)
 unfolding positions one_on
 step_on w p zero = refl
 step_on w p (suc k) = on_by w p k (stop w p.state) refl (step_on w (next_position w p) k)
 
-runs_on : (w : Setting) (p : Position) → stop w p.state ≡ None → one_on w p ≡ next_position w p
+pub runs_on : (w : Setting) (p : Position) → stop w p.state ≡ None → one_on w p ≡ next_position w p
 unfolding one_on
 runs_on w p e = rw e refl
 
@@ -70,7 +70,7 @@ abbrev pub at_step : Setting → State → ℕ → Position
 at_step w s k = positions w (first_position s) k
 
 -- a position with a stop is the last one
-stays : (w : Setting) (s : State) (k d : ℕ) (why : Why) → stop w (at_step w s k).state ≡ Some why → at_step w s (k + d) ≡ at_step w s k
+pub stays : (w : Setting) (s : State) (k d : ℕ) (why : Why) → stop w (at_step w s k).state ≡ Some why → at_step w s (k + d) ≡ at_step w s k
 stays w s k zero why e = ap (at_step w s) (omega arith)
 stays w s k (suc d) why e =
     let before = stays w s k d why e in
@@ -137,11 +137,11 @@ one_more P k below here j lt = elim (eqb_tells j k) [
   | inr e ↦ let ne : j ≢ k = e.1 in below j (omega arith)
 ]
 
-step_here : (w : Setting) (s : State) (k : ℕ) (p : Position) → p ≡ at_step w s k → stop w p.state ≡ None → next_position w p ≡ at_step w s (k + 1)
+pub step_here : (w : Setting) (s : State) (k : ℕ) (p : Position) → p ≡ at_step w s k → stop w p.state ≡ None → next_position w p ≡ at_step w s (k + 1)
 step_here w s k p here e =
     sym (runs_on w p e) ∙ ap (one_on w) here ∙ sym (ap (at_step w s) (add-one k) ∙ step_on w (first_position s) k)
 
-cycle_on : (w : Setting) (p : Position) → is_tried p.after_empty p.state ≡ false → next_position w p ≡ by_cycle w p
+pub cycle_on : (w : Setting) (p : Position) → is_tried p.after_empty p.state ≡ false → next_position w p ≡ by_cycle w p
 unfolding next_position
 cycle_on w p e = rw e refl
 

@@ -2,5 +2,8 @@
 //! a tape.
 #![tactic(auto)]
 
+pub mod alone;
 pub mod events;
 pub mod laws;
+
+pub use alone::{Ran, run_alone};

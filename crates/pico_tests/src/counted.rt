@@ -2,7 +2,7 @@
 
 ghost use Rattle.std.specs.Prelude.{◌≡◌, ◌<◌};
 
-use crate::pico;
+use pico_top::pico;
 use board_parts::probe::Probe;
 use lane_look::NoDevice;
 use rp_machine::Steps;

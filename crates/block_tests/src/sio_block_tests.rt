@@ -1,11 +1,11 @@
 //! Words as the datasheet gives them, the handshake that starts core 1, and what two cores do in one cycle.
 
-use crate::registers::{
+use sio_block::registers::{
     CPUID, DIV_CSR, DIV_QUOTIENT, DIV_REMAINDER, DIV_SDIVIDEND, DIV_SDIVISOR, DIV_UDIVIDEND,
     DIV_UDIVISOR, FIFO_RD, FIFO_ST, FIFO_WR, GPIO_IN, GPIO_OE, GPIO_OE_CLR, GPIO_OE_SET,
     GPIO_OE_XOR, GPIO_OUT, GPIO_OUT_CLR, GPIO_OUT_SET, GPIO_OUT_XOR, SPINLOCK_ST, SPINLOCK0,
 };
-use crate::{Launch, Sio};
+use sio_block::{Launch, Sio};
 
 /// The offset of SPINLOCK5.
 const LOCK_5: u16 = SPINLOCK0 + 0x14;

@@ -2,14 +2,14 @@
 
 ghost use Rattle.std.specs.Prelude.{◌≡◌, ◌+◌, ◌*◌, ◌^◌};
 
-use crate::PioBlock;
-use crate::registers::{
+use lane_look::{Ask, Lane, Look, Marks, Turn};
+use pio_block::PioBlock;
+use pio_block::registers::{
     CTRL, DBG_CFGINFO, DBG_PADOE, DBG_PADOUT, FDEBUG, FLEVEL, FSTAT, INPUT_SYNC_BYPASS, INSTR_MEM0,
     INTR, IRQ, IRQ_FORCE, IRQ0_INTE, IRQ0_INTF, IRQ0_INTS, IRQ1_INTE, IRQ1_INTF, IRQ1_INTS, RXF0,
     SM_ADDR, SM_BYTES, SM_CLKDIV, SM_EXECCTRL, SM_INSTR, SM_PINCTRL, SM_SHIFTCTRL, SM0_CLKDIV,
     TXF0,
 };
-use lane_look::{Ask, Lane, Look, Marks, Turn};
 
 /// Input words, and how often they were asked for.
 #[derive(Drop)]

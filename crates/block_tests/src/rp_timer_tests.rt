@@ -1,7 +1,7 @@
 //! Words as the datasheet gives them, and the latch, two alarms and the pause over a few microseconds.
 
-use crate::Timer;
-use crate::registers::{
+use rp_timer::Timer;
+use rp_timer::registers::{
     ALARM0, ALARM2, ALARM3, ARMED, DBGPAUSE, INTE, INTF, INTR, INTS, PAUSE, TIMEHR, TIMEHW, TIMELR,
     TIMELW, TIMERAWH, TIMERAWL,
 };

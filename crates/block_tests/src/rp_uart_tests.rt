@@ -1,7 +1,7 @@
 //! Registers as the manuals give them, bytes sent at 115200 baud, frames that are received, and interrupts.
 
-use crate::registers::{CR, DMACR, DR, FBRD, FR, IBRD, ICR, IFLS, IMSC, LCR_H, MIS, RIS, RSR};
-use crate::uart::Uart;
+use rp_uart::registers::{CR, DMACR, DR, FBRD, FR, IBRD, ICR, IFLS, IMSC, LCR_H, MIS, RIS, RSR};
+use rp_uart::uart::Uart;
 
 /// Offsets, and what is read there after reset.
 const RESET: [(u16, u32); 4] = [(FR, 0x90), (CR, 0x300), (IFLS, 0x12), (RIS, 0x00)];

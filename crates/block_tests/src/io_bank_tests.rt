@@ -1,6 +1,6 @@
 //! Words as the datasheet gives them, and runs of the pads.
 
-use crate::{IoBank, Outs, uart_outputs};
+use io_bank::{IoBank, Outs, uart_outputs};
 
 /// What is done to the pads, or seen of them.
 #[derive(Clone, Copy)]

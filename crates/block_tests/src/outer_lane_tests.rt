@@ -2,8 +2,8 @@
 
 ghost use Rattle.std.specs.Prelude.{ℕ, ◌+◌, ◌%◌, ◌^◌, ◌==◌, slice_index, slice_set};
 
-use crate::{Outer, Seen, World};
 use lane_look::{Ask, Device, Lane, Look, Mark, Marks, NoDevice, Turn, Wires};
+use outer_lane::{Outer, Seen, World};
 use pin_script::read_script;
 use rp_base::map::Block;
 use std::test::Fail;

@@ -1,7 +1,7 @@
 //! Copies worked by hand over a small memory: cycle by cycle, what the engine reads and what it writes.
 
-use crate::Dma;
-use crate::registers::{
+use dma_engine::Dma;
+use dma_engine::registers::{
     CH0_AL1_CTRL, CH0_CTRL_TRIG, CH0_READ_ADDR, CH0_TRANS_COUNT, CH0_WRITE_ADDR, CHAN_ABORT, INTE0,
     INTF0, INTF1, INTR, INTS0, INTS1, MULTI_CHAN_TRIGGER, N_CHANNELS, TIMER0,
 };

@@ -1,0 +1,19 @@
+//! Tests of the blocks of registers, of DMA and PIO among them, and of the lanes that they are: words and runs as the manuals give them.
+#![tactic(auto)]
+
+#[cfg(test)]
+mod dma_engine_tests;
+#[cfg(test)]
+mod io_bank_tests;
+#[cfg(test)]
+mod outer_lane_tests;
+#[cfg(test)]
+mod pio_block_tests;
+#[cfg(test)]
+mod pio_machine_tests;
+#[cfg(test)]
+mod rp_timer_tests;
+#[cfg(test)]
+mod rp_uart_tests;
+#[cfg(test)]
+mod sio_block_tests;

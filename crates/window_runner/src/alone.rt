@@ -1,0 +1,183 @@
+//! A run by windows on one thread.
+
+ghost use Rattle.std.specs.Prelude.{◌≡◌, ◌+◌, ◌<◌, ◌≤◌, ◌^◌, ◌==◌, [], None, length, if◌then◌else◌, false, IfOk};
+ghost use Rattle.outer_lane.specs.Setting.{setting_of};
+ghost use Rattle.trace_text.specs.Tape.{Tells};
+ghost use Rattle.rp_machine.specs.Cycle.{stop};
+ghost use Rattle.rp_machine.specs.Run.{last_state, unless_stopped};
+ghost use Rattle.window_merge.specs.Window.{next_position};
+ghost use Rattle.window_merge.specs.Merging.{IsRested};
+ghost use Rattle.window_merge.specs.Jobs.{IsWhole};
+ghost use Rattle.window_runner.specs.Told.{all_shown, events_by, step_events, run_shown};
+ghost use Rattle.window_runner.specs.Alone.{IsRan, IsOnRun, position_at, stop_in};
+
+use crate::events::tell_marks;
+use lane_look::{Device, Marks};
+use outer_lane::World;
+use rp_base::Why;
+use rp_machine::{Machine, Steps};
+use std::sync::ledger::Ledger;
+use trace_text::tape::Tape;
+use trace_text::writer::SinkFault;
+use window_merge::{Crew, Moved, advance};
+
+/// What a run came to.
+#[derive(Clone, Copy, PartialEq, Eq)]
+pub struct Ran {
+    /// Why it stopped.
+    pub why: Why,
+    /// How many windows it tried.
+    pub windows: u64,
+    /// How many cycles these windows had.
+    pub cycles: u64,
+}
+
+/// What a run keeps of the windows that it tried.
+#[derive(Clone, Copy)]
+struct Counts {
+    /// How many.
+    windows: u64,
+    /// How many cycles they had.
+    cycles: u64,
+    /// The last step was a window without a cycle.
+    after_empty: bool,
+}
+
+/// Counts a window of so many cycles.
+fn count_window(counts: &mut Counts, length: u16)
+    requires windows { counts.old.windows + 1 < 2 ^ 64 }
+    requires cycles { counts.old.cycles + length < 2 ^ 64 }
+    ensures windows { counts.new.windows ≡ counts.old.windows + 1 }
+    ensures cycles { counts.new.cycles ≡ counts.old.cycles + length }
+    ensures after_empty { counts.new.after_empty ≡ (length == 0) }
+{
+    counts.windows += 1;
+    counts.cycles += u64::from(length);
+    counts.after_empty = length == 0;
+}
+
+/// Tells the events of a step that found no stop.
+fn tell_step<T: Tape>(
+    cycle: u64,
+    before: u32,
+    marks: &Marks,
+    tape: &mut T,
+) -> Result<Option<Why>, SinkFault>
+    requires { cycle + length marks.now < 2 ^ 64 }
+    ensures told { Tells T.took T.missed tape.old tape.new (T.faults tape.old) (T.faults tape.new)
+        (all_shown (events_by cycle before marks.now)) result }
+    ensures none { stop_in result ≡ None }
+{
+    match tell_marks(cycle, before, marks, tape) {
+        Ok(()) => Ok(None),
+        Err(fault) => Err(fault),
+    }
+}
+
+/// The limit is a number of 64 bits: its type keeps it.
+fn is_bounded<X: Device>(world: &World<'_, X>)
+    ensures { world.now.limit < 2 ^ 64 }
+{
+    let _limit = world.limit;
+}
+
+/// Goes to the next position of a run and tells the events on the way, or finds a stop and changes nothing.
+fn step<X: Device, T: Tape, L: Ledger>(
+    machine: &mut Machine,
+    world: &World<'_, X>,
+    crew: &mut Crew,
+    counts: &mut Counts,
+    marks: &mut Marks,
+    tape: &mut T,
+    steps: &mut Steps<L>,
+) -> Result<Option<Why>, SinkFault>
+    requires number { machine.old.cycle ≤ world.now.limit }
+    requires rested { IsRested machine.old.sio }
+    requires crew { IsWhole crew.old }
+    requires windows { counts.old.windows
+        ≤ machine.old.cycle + (if counts.old.after_empty then 1 else 0) }
+    requires cycles { counts.old.cycles ≤ machine.old.cycle }
+    ensures cause { stop
+        (setting_of world.now.script.now (X.meaning world.now.device.now) world.now.limit) machine.old
+        ≡ stop_in result }
+    ensures position { position_at machine.new counts.new ≡ unless_stopped (stop_in result)
+        (position_at machine.old counts.old) (next_position
+        (setting_of world.now.script.now (X.meaning world.now.device.now) world.now.limit)
+        (position_at machine.old counts.old)) }
+    ensures told { Tells T.took T.missed tape.old tape.new (T.faults tape.old) (T.faults tape.new)
+        (all_shown (unless_stopped (stop_in result) [] (step_events
+        (setting_of world.now.script.now (X.meaning world.now.device.now) world.now.limit)
+        (position_at machine.old counts.old)))) result }
+    ensures counted { counts.new.cycles + machine.old.cycle ≤ counts.old.cycles + machine.new.cycle }
+    ensures steps { steps.new + machine.old.cycle ≡ steps.old + machine.new.cycle }
+    ensures rested { IsRested machine.new.sio }
+    ensures crew { IsWhole crew.new }
+{
+    is_bounded(world);
+    let cycle = machine.number();
+    let before = machine.pads();
+    match advance(machine, world, crew, counts.after_empty, marks, steps) {
+        Moved::Stopped(why) => Ok(Some(why)),
+        Moved::Window(length) => {
+            count_window(counts, length);
+            tell_step(cycle, before, marks, tape)
+        }
+        Moved::Cycle => {
+            counts.after_empty = false;
+            tell_step(cycle, before, marks, tape)
+        }
+    }
+}
+
+/// Runs a machine by windows and single cycles up to its first stop, and tells the events of all its cycles to a tape, on one
+/// thread. Each cycle counts as a step. It takes no memory.
+///
+/// # Errors
+///
+/// The tape failed at an event, and its count of faults rose. It has the events before that one.
+pub fn run_alone<X: Device, T: Tape, L: Ledger>(
+    machine: &mut Machine,
+    world: &World<'_, X>,
+    crew: &mut Crew,
+    tape: &mut T,
+    steps: &mut Steps<L>,
+) -> Result<Ran, SinkFault>
+    requires number { machine.old.cycle ≤ world.now.limit }
+    requires rested { IsRested machine.old.sio }
+    requires crew { IsWhole crew.old }
+    ensures told { Tells T.took T.missed tape.old tape.new (T.faults tape.old) (T.faults tape.new)
+        (run_shown (setting_of world.now.script.now (X.meaning world.now.device.now) world.now.limit)
+        machine.old) result }
+    ensures ran { IfOk result (IsRan
+        (setting_of world.now.script.now (X.meaning world.now.device.now) world.now.limit)
+        machine.old) }
+    ensures state { IfOk result (λ ran. machine.new ≡ last_state
+        (setting_of world.now.script.now (X.meaning world.now.device.now) world.now.limit)
+        machine.old) }
+    ensures on_run { IsOnRun
+        (setting_of world.now.script.now (X.meaning world.now.device.now) world.now.limit)
+        machine.old machine.new }
+    ensures steps { steps.new + machine.old.cycle ≡ steps.old + machine.new.cycle }
+    ensures rested { IsRested machine.new.sio }
+    ensures crew { IsWhole crew.new }
+{
+    let mut counts = Counts {
+        windows: 0,
+        cycles: 0,
+        after_empty: false,
+    };
+    let mut marks = Marks::new();
+    'steps: loop {
+        match step(machine, world, crew, &mut counts, &mut marks, tape, steps) {
+            Ok(None) => continue 'steps,
+            Ok(Some(why)) => {
+                return Ok(Ran {
+                    why,
+                    windows: counts.windows,
+                    cycles: counts.cycles,
+                });
+            }
+            Err(fault) => return Err(fault),
+        }
+    }
+}
