@@ -92,8 +92,12 @@ impl Device for Counter {
       value = λ state address. slice_index state 0;
       after_read = λ state address. state;
       after_write = λ state address value. slice_set state 0 value;
-      wires = λ state cycle pads. record { mask = 0x18; level = slice_index state 0; pwm = 4;
-        irq = pads };
+      wires = λ state cycle pads. record {
+        mask = 0x18;
+        level = slice_index state 0;
+        pwm = 4;
+        irq = pads;
+      };
       after_step = λ state cycle pads. slice_set state 0 ((slice_index state 0 + 8) % 2 ^ 32);
     } };
 

@@ -31,9 +31,17 @@ impl Model for Engine {
 
     ghost Value = { State };
 
-    ghost view = { λ e. record { channels = e.channels; chosen = e.chosen;
-        last_chosen = e.last_chosen; waiting = e.waiting.items; raised = e.raised;
-        line_0 = e.line_0; line_1 = e.line_1; timers = e.timers; held = e.held } };
+    ghost view = { λ e. record {
+      channels = e.channels;
+      chosen = e.chosen;
+      last_chosen = e.last_chosen;
+      waiting = e.waiting.items;
+      raised = e.raised;
+      line_0 = e.line_0;
+      line_1 = e.line_1;
+      timers = e.timers;
+      held = e.held;
+    } };
 }
 
 impl Engine {

@@ -29,8 +29,17 @@ impl Model for Core {
 
     ghost Value = { State };
 
-    ghost view = { λ c. record { number = c.number; asleep = c.asleep; regs = c.regs; nvic = c.nvic;
-        event = c.event; offer = c.offer; work = c.work; place = c.place; read = c.read.items } };
+    ghost view = { λ c. record {
+      number = c.number;
+      asleep = c.asleep;
+      regs = c.regs;
+      nvic = c.nvic;
+      event = c.event;
+      offer = c.offer;
+      work = c.work;
+      place = c.place;
+      read = c.read.items;
+    } };
 }
 
 /// Registers and flags that are 0, but for MSP, LR, PC and T.

@@ -96,8 +96,10 @@ impl Outer {
     /// The pads step by these, unless they are at rest and the last step was by the same.
     fn step_driven(&mut self, drivers: Drivers) -> u32
         ensures levels { result ≡ (pads_after self.old.sio drivers self.old.pads).current }
-        ensures after { self.new ≡ record self.old { pads = pads_after self.old.sio drivers
-            self.old.pads } }
+        ensures after { self.new ≡ record self.old {
+          pads = pads_after self.old.sio drivers
+              self.old.pads;
+        } }
     {
         if self.still && self.drivers.is_same(&drivers) {
             return self.pads.pads();
@@ -112,8 +114,10 @@ impl Outer {
     /// The pads step, by the outputs at the start and by what the script and the device drive in this cycle.
     fn step_pads(&mut self, script: &Script, wires: &Wires, seen: &Seen) -> u32
         ensures levels { result ≡ levels_by script.now wires.now seen.now self.old }
-        ensures after { self.new ≡ record self.old { pads = pads_by script.now wires.now seen.now
-            self.old } }
+        ensures after { self.new ≡ record self.old {
+          pads = pads_by script.now wires.now seen.now
+              self.old;
+        } }
     {
         let drives = self.drives(script, wires, seen.cycle);
         let drivers = self.drivers(wires, seen, drives);

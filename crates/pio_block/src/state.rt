@@ -48,8 +48,12 @@ impl Model for State {
 
 /// Nothing is in the instruction memory, no flag is set, and all pins are low.
 fn nothing_seen() -> Seen
-    ensures { result ≡ record { memory = replicate 32 0; inputs = 0 ∷ 0 ∷ []; bypass = 0;
-        flags = 0 } }
+    ensures { result ≡ record {
+      memory = replicate 32 0;
+      inputs = 0 ∷ 0 ∷ [];
+      bypass = 0;
+      flags = 0;
+    } }
 {
     Seen {
         memory: [0; 32],

@@ -33,8 +33,13 @@ impl Model for Sio {
 
     ghost Value = { SioState };
 
-    ghost view = { λ s. record { pins = s.pins; locks = s.locks; core0 = s.core0; core1 = s.core1;
-        launched = s.launched.items } };
+    ghost view = { λ s. record {
+      pins = s.pins;
+      locks = s.locks;
+      core0 = s.core0;
+      core1 = s.core1;
+      launched = s.launched.items;
+    } };
 
     // a block at rest stays as it is at the end of a cycle
     ghost invariant = { λ s.

@@ -162,8 +162,11 @@ impl<J: Kept<W> + Drop, R: Kept<W> + Drop, W> Board<J, R, W> {
         requires own { IsUnfinished seat.old.state ticket }
         requires holding { seat.old.state.holding ≡ true }
         requires there { IsSome seat.old.found }
-        ensures seat { seat.new ≡ record seat.old { state = did ticket seat.old.state; job = None;
-            found = None } }
+        ensures seat { seat.new ≡ record seat.old {
+          state = did ticket seat.old.state;
+          job = None;
+          found = None;
+        } }
         ensures free { IsFree seat.new.state }
         ensures event { IsFinish seat.old.state ticket seat.new.state }
     {
@@ -180,8 +183,12 @@ impl<J: Kept<W> + Drop, R: Kept<W> + Drop, W> Board<J, R, W> {
         requires room { master.old.state.opened + 6 ≤ 2 ^ 62 }
         requires made_for { EachLane (J.made_for master.old.made_for) jobs }
         ensures master { master.new
-            ≡ record master.old { state = record master.old.state { opened = master.old.state.opened
-            + 6 } } }
+            ≡ record master.old {
+              state = record master.old.state {
+                opened = master.old.state.opened
+                    + 6;
+              };
+            } }
         ensures event { IsOpen master.old.state master.new.state }
     {
         refill_all(&self.table.shared, &mut master.place, jobs_in(jobs));

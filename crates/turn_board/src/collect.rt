@@ -39,8 +39,14 @@ fn refill<J: Kept<W> + Drop, R: Kept<W> + Drop, W>(
 
 // Nothing for each lane.
 pub fn nothing<J, R>() -> Six<Slot<J, R>>
-    ensures { result ≡ record { l0 = Empty; l1 = Empty; l2 = Empty; l3 = Empty; l4 = Empty;
-        l5 = Empty } }
+    ensures { result ≡ record {
+      l0 = Empty;
+      l1 = Empty;
+      l2 = Empty;
+      l3 = Empty;
+      l4 = Empty;
+      l5 = Empty;
+    } }
 {
     Six {
         l0: Slot::Empty,
@@ -54,8 +60,14 @@ pub fn nothing<J, R>() -> Six<Slot<J, R>>
 
 // What the first slots get for these jobs.
 pub fn jobs_in<J, R>(jobs: Six<J>) -> Six<Slot<J, R>>
-    ensures { result ≡ record { l0 = Job jobs.l0; l1 = Job jobs.l1; l2 = Job jobs.l2;
-        l3 = Job jobs.l3; l4 = Job jobs.l4; l5 = Job jobs.l5 } }
+    ensures { result ≡ record {
+      l0 = Job jobs.l0;
+      l1 = Job jobs.l1;
+      l2 = Job jobs.l2;
+      l3 = Job jobs.l3;
+      l4 = Job jobs.l4;
+      l5 = Job jobs.l5;
+    } }
 {
     let Six {
         l0,
@@ -126,8 +138,14 @@ pub fn refill_all<J: Kept<W> + Drop, R: Kept<W> + Drop, W>(
 // The results in slots that have one each.
 pub fn results_in<J: Drop, R>(slots: Six<Slot<J, R>>) -> Six<R>
     requires { EachLane (λ _ slot. IsFound slot) slots }
-    ensures { slots ≡ record { l0 = Found result.l0; l1 = Found result.l1; l2 = Found result.l2;
-        l3 = Found result.l3; l4 = Found result.l4; l5 = Found result.l5 } }
+    ensures { slots ≡ record {
+      l0 = Found result.l0;
+      l1 = Found result.l1;
+      l2 = Found result.l2;
+      l3 = Found result.l3;
+      l4 = Found result.l4;
+      l5 = Found result.l5;
+    } }
 {
     let Six {
         l0,
