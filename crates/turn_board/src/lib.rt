@@ -15,8 +15,6 @@ mod opening;
 mod rule;
 mod slot;
 mod steps;
-#[cfg(test)]
-mod tests;
 mod view;
 
 pub use answers::{Gather, See, Six};

@@ -14,7 +14,7 @@ use Rattle.window_merge.proofs.Positions.{left_of, nearer}
 use Rattle.window_runner.specs.declared.alone.Ran.{Ran}
 use Rattle.window_runner.specs.Told.{all_shown, step_events, run_shown}
 use Rattle.window_runner.specs.Alone.{IsRan, IsOnRun}
-use Rattle.window_runner.proofs.Along.{IsCounted, counted_first, counted_next, step_then, one_if}
+use Rattle.window_runner.proofs.Along.{IsCounted, counted_first, counted_next, step_then}
 use Rattle.window_runner.proofs.CycleEvents.{shown_both}
 use Rattle.window_runner.proofs.Standing.{at_step, step_here, stays}
 use Rattle.window_runner.proofs.Telling.{TakesInTurn, TakenBefore, taken_same, taken_more, taken_last, taken_part}
@@ -163,14 +163,6 @@ running_on w first p q before now after r runs same cycles steps =
       cycles = omega (arith, cycles, so_far);
       steps = omega (arith, steps, counted);
     }
-
--- what the next step may count on
-pub counts_few : (w : Setting) (first : State) (p : Position) (before now : ℕ) → Running w first p before now
-    → (p.windows ≤ p.state.cycle + one_if p.after_empty) × (p.cycles ≤ p.state.cycle)
-counts_few w first p before now r =
-    let few = r.reached.counted.windows in
-    let cycles = r.cycles in
-    (omega (arith, few), omega (arith, cycles))
 
 -- ---- the stop
 

@@ -41,7 +41,7 @@ knows_on w p h = knows_by w p (is_tried p.after_empty p.state) h
 
 -- ---- one position after another
 
-pub one_on : (w : Setting) (p : Position) → Position
+one_on : (w : Setting) (p : Position) → Position
 one_on w p = unless_stopped (stop w p.state) p (next_position w p)
 
 on_by : (w : Setting) (p : Position) (k : ℕ) (cause : Option Why) → stop w p.state ≡ cause
@@ -52,12 +52,12 @@ on_by w p k None e rest = rest
 on_by w p k (Some why) e rest = rw e refl
 
 -- the last step of some
-pub step_on : (w : Setting) (p : Position) (k : ℕ) → positions w p (suc k) ≡ one_on w (positions w p k)
+step_on : (w : Setting) (p : Position) (k : ℕ) → positions w p (suc k) ≡ one_on w (positions w p k)
 unfolding positions one_on
 step_on w p zero = refl
 step_on w p (suc k) = on_by w p k (stop w p.state) refl (step_on w (next_position w p) k)
 
-pub runs_on : (w : Setting) (p : Position) → stop w p.state ≡ None → one_on w p ≡ next_position w p
+runs_on : (w : Setting) (p : Position) → stop w p.state ≡ None → one_on w p ≡ next_position w p
 unfolding one_on
 runs_on w p e = rw e refl
 

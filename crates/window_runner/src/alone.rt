@@ -130,11 +130,12 @@ fn step<X: Device, T: Tape, L: Ledger>(
 }
 
 /// Runs a machine by windows and single cycles up to its first stop, and tells the events of all its cycles to a tape, on one
-/// thread. Each cycle counts as a step. It takes no memory.
+/// thread. Each cycle counts as a step. The crew has both jobs of each lane, before and after. It takes no memory.
 ///
 /// # Errors
 ///
-/// The tape failed at an event, and its count of faults rose. It has the events before that one.
+/// The tape failed at an event, and its count of faults rose. It has the events before that one, and the machine stands behind a
+/// cycle of the run.
 pub fn run_alone<X: Device, T: Tape, L: Ledger>(
     machine: &mut Machine,
     world: &World<'_, X>,

@@ -5,11 +5,11 @@ ghost use Rattle.turn_board.specs.Tickets.{IsFree};
 ghost use Rattle.turn_board.specs.Answers.{IsReady};
 ghost use Rattle.turn_board.specs.Answers.{EachLane};
 
-use crate::{Board, Gather, Kept, Master, Seat, See, Six};
 use std::sync::Wait;
 use std::test::Fail;
 use std::thread;
 use std::thread::Threads;
+use turn_board::{Board, Gather, Kept, Master, Seat, See, Six};
 
 const LIMIT: u64 = 1 << 20;
 

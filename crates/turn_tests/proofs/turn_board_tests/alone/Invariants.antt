@@ -1,7 +1,7 @@
 use Rattle.std.proofs.Common.{◌≡◌, ◌*◌, ℕ, false}
 use Rattle.turn_board.specs.Tickets.{IsUnfinished}
-use Rattle.turn_board.specs.declared.tests.TheConstants.{LIMIT}
-use Rattle.turn_board.proofs.tests.alone.Given as goal
+use Rattle.turn_tests.specs.declared.turn_board_tests.TheConstants.{LIMIT}
+use Rattle.turn_tests.proofs.turn_board_tests.alone.Given as goal
 
 abbrev pub invariant-loop-window : goal.invariant-loop-window
 invariant-loop-window l = (l.master.board ≡ l.board) × (l.master.made_for ≡ LIMIT) × (l.master.state.opened ≡ 6 * l.window) × (l.master.state.known ≡ 6 * l.window) × (l.master.state.closed ≡ false)
