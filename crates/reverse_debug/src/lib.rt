@@ -6,8 +6,6 @@ mod command;
 mod last_change;
 mod reply;
 pub mod session;
-#[cfg(test)]
-mod tests;
 mod words;
 
 pub use session::Session;

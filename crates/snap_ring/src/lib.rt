@@ -5,7 +5,5 @@ pub mod laws;
 mod pages;
 mod place;
 mod ring;
-#[cfg(test)]
-mod tests;
 
 pub use ring::Ring;

@@ -98,8 +98,8 @@ fn step<X: Device, T: Tape, L: Ledger>(
         ≤ machine.old.cycle + (if counts.old.after_empty then 1 else 0) }
     requires cycles { counts.old.cycles ≤ machine.old.cycle }
     ensures cause { stop
-        (setting_of world.now.script.now (X.meaning world.now.device.now) world.now.limit) machine.old
-        ≡ stop_in result }
+        (setting_of world.now.script.now (X.meaning world.now.device.now) world.now.limit)
+        machine.old ≡ stop_in result }
     ensures position { position_at machine.new counts.new ≡ unless_stopped (stop_in result)
         (position_at machine.old counts.old) (next_position
         (setting_of world.now.script.now (X.meaning world.now.device.now) world.now.limit)
@@ -108,7 +108,8 @@ fn step<X: Device, T: Tape, L: Ledger>(
         (all_shown (unless_stopped (stop_in result) [] (step_events
         (setting_of world.now.script.now (X.meaning world.now.device.now) world.now.limit)
         (position_at machine.old counts.old)))) result }
-    ensures counted { counts.new.cycles + machine.old.cycle ≤ counts.old.cycles + machine.new.cycle }
+    ensures counted { counts.new.cycles + machine.old.cycle
+        ≤ counts.old.cycles + machine.new.cycle }
     ensures steps { steps.new + machine.old.cycle ≡ steps.old + machine.new.cycle }
     ensures rested { IsRested machine.new.sio }
     ensures crew { IsWhole crew.new }
@@ -147,7 +148,8 @@ pub fn run_alone<X: Device, T: Tape, L: Ledger>(
     requires rested { IsRested machine.old.sio }
     requires crew { IsWhole crew.old }
     ensures told { Tells T.took T.missed tape.old tape.new (T.faults tape.old) (T.faults tape.new)
-        (run_shown (setting_of world.now.script.now (X.meaning world.now.device.now) world.now.limit)
+        (run_shown
+        (setting_of world.now.script.now (X.meaning world.now.device.now) world.now.limit)
         machine.old) result }
     ensures ran { IfOk result (IsRan
         (setting_of world.now.script.now (X.meaning world.now.device.now) world.now.limit)

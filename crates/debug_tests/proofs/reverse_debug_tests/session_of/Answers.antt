@@ -1,7 +1,7 @@
 use Rattle.std.proofs.Common.{ap}
 use Rattle.rp_machine.specs.State.{State, first_state}
 use Rattle.rp_machine.specs.Boot.{start}
-use Rattle.reverse_debug.proofs.tests.session_of.Goals as goal
+use Rattle.debug_tests.proofs.reverse_debug_tests.session_of.Goals as goal
 
 pub open-requires-clause-start : goal.open-requires-clause-start
 unfolding start first_state

@@ -2,10 +2,10 @@
 
 ghost use Rattle.std.specs.Prelude.{◌≡◌, ◌<◌};
 
-use crate::Ring;
 use lane_look::{Marks, NoDevice};
 use pin_script::read_script;
 use rp_machine::{Machine, Steps, World};
+use snap_ring::Ring;
 use std::alloc::Global;
 use std::marker::Brand;
 use std::sync::ledger::{Blank, Ledger};

@@ -4,10 +4,10 @@ ghost use Rattle.std.specs.Prelude.{◌≡◌, ◌≤◌, ◌<◌};
 ghost use Rattle.outer_lane.specs.Setting.{setting_of};
 ghost use Rattle.reverse_debug.specs.Standing.{StandsFor};
 
-use crate::Session;
 use arrayvec::ArrayVec;
 use lane_look::{Device, NoDevice};
 use pin_script::read_script;
+use reverse_debug::Session;
 use rp_machine::{Machine, Steps, World};
 use std::alloc::Global;
 use std::marker::Brand;
