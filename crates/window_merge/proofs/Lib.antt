@@ -3,10 +3,12 @@ pub mod Banks
 pub mod Calm
 pub mod Comparing
 pub mod Copying
+pub mod Cutting
 pub mod InSram
 pub mod Reported
 pub mod Keeping
 pub mod Lanes
+pub mod Overlaying
 pub mod Ports
 pub mod Positions
 pub mod Replaying

@@ -28,9 +28,9 @@ use Rattle.rp_machine.specs.Cycle.{begun, wanted, first_cause, cause_in, stop, n
 use Rattle.rp_machine.specs.Run.{states, unless_stopped}
 use Rattle.rp_machine.proofs.Joining.{runs_follow}
 use Rattle.window_merge.specs.Lanes.{Run, core_lane, dma_lane, pio_lane, peripheral_lane, around, is_launching, core1_bound, runs_of}
-use Rattle.window_merge.specs.Window.{longest, ends_in, differs_in, clash, clash_in, is_port_of, share_port, closes, window_length}
+use Rattle.window_merge.specs.Window.{longest, ends_in, differs_in, clash, clash_in, is_port_of, share_port, closes, window_length, window_within}
 use Rattle.window_merge.specs.declared.runs.Runs.{Runs}
-use Rattle.window_merge.specs.Merging.{Rests, begun_by, left_by, differs_by, wants_of, fits, marks_in, Knows, AreRunsAlone, IsWithin, rests_at, end_at}
+use Rattle.window_merge.specs.Merging.{Rests, begun_by, left_by, differs_by, wants_of, fits, marks_in, Knows, AreCut, IsWithin, rests_at, end_at}
 use Rattle.window_merge.proofs.Agree.{both_false}
 use Rattle.window_merge.proofs.Calm.{IsCalm, IsStepped, calm_next}
 use Rattle.window_merge.proofs.InSram.{core_placed, dma_placed}
@@ -54,6 +54,28 @@ pub record AreLengths (w : Setting) (s : State) (n : Lengths) : Type 0 where
   pub pio0 : n.pio0 ≡ alone_length pio_lane (around 3) tt s.pio0 s.cycle s (longest w s)
   pub pio1 : n.pio1 ≡ alone_length pio_lane (around 4) tt s.pio1 s.cycle s (longest w s)
   pub outer : n.outer ≡ alone_length (peripheral_lane w) (around 5) tt s.outer s.cycle s (longest w s)
+
+-- none is longer than the lane's run alone
+pub record AreWithin (w : Setting) (s : State) (n : Lengths) : Type 0 where
+  pub core0 : n.core0 ≤ alone_length core_lane (around 0) tt s.core0 s.cycle s (longest w s)
+  pub core1 : n.core1 ≤ alone_length core_lane (around 1) tt s.core1 s.cycle s (core1_bound s (longest w s))
+  pub dma : n.dma ≤ alone_length dma_lane (around 2) tt s.dma s.cycle s (longest w s)
+  pub pio0 : n.pio0 ≤ alone_length pio_lane (around 3) tt s.pio0 s.cycle s (longest w s)
+  pub pio1 : n.pio1 ≤ alone_length pio_lane (around 4) tt s.pio1 s.cycle s (longest w s)
+  pub outer : n.outer ≤ alone_length (peripheral_lane w) (around 5) tt s.outer s.cycle s (longest w s)
+
+same_within : (n m : ℕ) → n ≡ m → n ≤ m
+same_within n m e = omega (arith, e)
+
+are_within : (w : Setting) (s : State) (n : Lengths) → AreLengths w s n → AreWithin w s n
+are_within w s n h = record {
+  core0 = same_within _ _ h.core0;
+  core1 = same_within _ _ h.core1;
+  dma = same_within _ _ h.dma;
+  pio0 = same_within _ _ h.pio0;
+  pio1 = same_within _ _ h.pio1;
+  outer = same_within _ _ h.outer;
+}
 
 -- no run ends at k
 pub record AreOn (n : Lengths) (k : ℕ) : Type 0 where
@@ -92,13 +114,13 @@ record AreTold (w : Setting) (s : State) (n : Lengths) (k : ℕ) (now : State) (
   outer : LaneTold (peripheral_lane w) 5 s.outer s n.outer k now.outer now.cycle rests.outer
 
 -- the loop tries the cycle k, in which no run ends
-pub record Tries (w : Setting) (s : State) (n : Lengths) (k : ℕ) (now : State) (rests : Rests) (marks : List Mark) : Type 0 where
+pub record Goes (w : Setting) (s : State) (n : Lengths) (k : ℕ) (now : State) (rests : Rests) (marks : List Mark) : Type 0 where
   pub stands : Stands w s n k now rests marks
-  pub lengths : AreLengths w s n
+  pub lengths : AreWithin w s n
   pub on : AreOn n k
   pub below : k < longest w s
 
-all_told : (w : Setting) (s : State) (n : Lengths) (k : ℕ) (now : State) (rests : Rests) (marks : List Mark) → Tries w s n k now rests marks → AreTold w s n k now rests
+all_told : (w : Setting) (s : State) (n : Lengths) (k : ℕ) (now : State) (rests : Rests) (marks : List Mark) → Goes w s n k now rests marks → AreTold w s n k now rests
 all_told w s n k now rests marks t = record {
   core0 = lane_told core_lane 0 s.core0 s n.core0 k now.core0 now.cycle rests.core0 t.stands.core0 t.on.core0 t.stands.at;
   core1 = lane_told core_lane 1 s.core1 s n.core1 k now.core1 now.cycle rests.core1 t.stands.core1 t.on.core1 t.stands.at;
@@ -143,32 +165,30 @@ fits_here w s n k now rests e t =
     ap (λ d. not (d || clash (wants_of (begun_by rests now)))) (differs_here w s n k now rests t ∙ ap (λ x. differs_in (runs_of w s (longest w s)) x k) e)
     ∙ ap (λ c. not (differs_in (runs_of w s (longest w s)) (states w s k) k || c)) (clash_here w s n k now rests t)
 
-none_ends : (w : Setting) (s : State) (n : Lengths) (k : ℕ) → AreLengths w s n → AreOn n k → ends_in (runs_of w s (longest w s)) k ≡ false
-none_ends w s n k e on =
+-- a run that is no shorter than what is left of it ends later
+later : (k n m : ℕ) → k ≤ n → k ≢ n → n ≤ m → nat_eq k m ≡ false
+later k n m low on high = not_equal k m (λ e. on (omega (arith, low, high, e)))
+
+none_ends : (w : Setting) (s : State) (n : Lengths) (k : ℕ) (now : State) (rests : Rests) (marks : List Mark) → Goes w s n k now rests marks → ends_in (runs_of w s (longest w s)) k ≡ false
+none_ends w s n k now rests marks t =
     rw (
-      ← e.core0,
-      ← e.core1,
-      ← e.dma,
-      ← e.pio0,
-      ← e.pio1,
-      ← e.outer,
-      not_equal k n.core0 on.core0,
-      not_equal k n.core1 on.core1,
-      not_equal k n.dma on.dma,
-      not_equal k n.pio0 on.pio0,
-      not_equal k n.pio1 on.pio1,
-      not_equal k n.outer on.outer,
+      later k n.core0 _ t.stands.core0.within t.on.core0 t.lengths.core0,
+      later k n.core1 _ t.stands.core1.within t.on.core1 t.lengths.core1,
+      later k n.dma _ t.stands.dma.within t.on.dma t.lengths.dma,
+      later k n.pio0 _ t.stands.pio0.within t.on.pio0 t.lengths.pio0,
+      later k n.pio1 _ t.stands.pio1.within t.on.pio1 t.lengths.pio1,
+      later k n.outer _ t.stands.outer.within t.on.outer t.lengths.outer,
     ) refl
 
 twice_not : (a b : Bool) → a ≡ not b → b ≡ not a
 twice_not a true e = ap not (sym e)
 twice_not a false e = ap not (sym e)
 
-closes_tried : (w : Setting) (s : State) (n : Lengths) (k : ℕ) (now : State) (rests : Rests) (marks : List Mark) → Tries w s n k now rests marks → closes w s k ≡ not (fits rests now)
+closes_tried : (w : Setting) (s : State) (n : Lengths) (k : ℕ) (now : State) (rests : Rests) (marks : List Mark) → Goes w s n k now rests marks → closes w s k ≡ not (fits rests now)
 unfolding closes
 closes_tried w s n k now rests marks t =
     let runs = runs_of w s (longest w s) in
-    rw (none_ends w s n k t.lengths t.on)
+    rw (none_ends w s n k now rests marks t)
     (twice_not (fits rests now) (differs_in runs (states w s k) k || clash_in runs k) (fits_here w s n k now rests t.stands.is_states (all_told w s n k now rests marks t)))
 
 -- ---- a cycle that fits
@@ -244,7 +264,7 @@ record AreCalm (b : Begun) : Type 0 where
   calm_read : ends_want (dma.want_of b.dma.read) ≡ false
   calm_write : ends_want (dma.want_of b.dma.write) ≡ false
 
-all_calm : (w : Setting) (s : State) (n : Lengths) (k : ℕ) (now : State) (rests : Rests) (marks : List Mark) → Tries w s n k now rests marks → AreCalm (begun_by rests now)
+all_calm : (w : Setting) (s : State) (n : Lengths) (k : ℕ) (now : State) (rests : Rests) (marks : List Mark) → Goes w s n k now rests marks → AreCalm (begun_by rests now)
 all_calm w s n k now rests marks t =
     let told_here = all_told w s n k now rests marks t in
     let c0 = lane_goes_on core_lane 0 s.core0 s (longest w s) n.core0 k now.core0 now.cycle rests.core0 t.stands.core0 t.on.core0 t.lengths.core0 told_here.core0 in
@@ -258,19 +278,19 @@ all_calm w s n k now rests marks t =
     }
 
 -- core 1 has no word of its launcher to take
-launching_by : (c : Bool) (s : State) (bound n k : ℕ) → n ≡ alone_length core_lane (around 1) tt s.core1 s.cycle s (if c then 0 else bound) → k ≤ n → k ≢ n → c ≡ false
-launching_by true s bound n k e le on =
-    let none : n ≡ 0 = e ∙ no_cycles core_lane 1 s.core1 s in
-    absurd (omega arith)
-launching_by false s bound n k e le on = refl
+launching_by : (c : Bool) (s : State) (bound n k : ℕ) → n ≤ alone_length core_lane (around 1) tt s.core1 s.cycle s (if c then 0 else bound) → k ≤ n → k ≢ n → c ≡ false
+launching_by true s bound n k short le on =
+    let none : n ≤ 0 = subst (λ m. n ≤ m) (no_cycles core_lane 1 s.core1 s) short in
+    absurd (on (omega (arith, none, le)))
+launching_by false s bound n k short le on = refl
 
-not_launching : (w : Setting) (s : State) (n : Lengths) (k : ℕ) (now : State) (rests : Rests) (marks : List Mark) → Tries w s n k now rests marks → (now.core1.asleep && now.core1.offer) ≡ false
+not_launching : (w : Setting) (s : State) (n : Lengths) (k : ℕ) (now : State) (rests : Rests) (marks : List Mark) → Goes w s n k now rests marks → (now.core1.asleep && now.core1.offer) ≡ false
 not_launching w s n k now rests marks t =
     rw (t.stands.asleep, t.stands.offer)
     (launching_by (is_launching s.core1) s (longest w s) n.core1 k t.lengths.core1 t.stands.core1.within t.on.core1)
 
 -- such a cycle is calm
-calm_here : (w : Setting) (s : State) (n : Lengths) (k : ℕ) (now : State) (rests : Rests) (marks : List Mark) → Tries w s n k now rests marks → begun_by rests now ≡ begun now → clash (wants_of (begun_by rests now)) ≡ false → IsCalm (begun now) now
+calm_here : (w : Setting) (s : State) (n : Lengths) (k : ℕ) (now : State) (rests : Rests) (marks : List Mark) → Goes w s n k now rests marks → begun_by rests now ≡ begun now → clash (wants_of (begun_by rests now)) ≡ false → IsCalm (begun now) now
 unfolding begun
 calm_here w s n k now rests marks t same none =
     let calm = subst AreCalm same (all_calm w s n k now rests marks t) in
@@ -380,7 +400,7 @@ record Fitted (w : Setting) (s : State) (n : Lengths) (k : ℕ) (now : State) (r
   calm : IsCalm (begun now) now
   runs : stop w now ≡ None
 
-fitted : (w : Setting) (s : State) (n : Lengths) (k : ℕ) (now : State) (rests : Rests) (marks : List Mark) → Tries w s n k now rests marks → fits rests now ≡ true → Fitted w s n k now rests
+fitted : (w : Setting) (s : State) (n : Lengths) (k : ℕ) (now : State) (rests : Rests) (marks : List Mark) → Goes w s n k now rests marks → fits rests now ≡ true → Fitted w s n k now rests
 fitted w s n k now rests marks t e =
     let parts = both_false (differs_by rests now) (clash (wants_of (begun_by rests now))) (is_not _ e) in
     let same = begins_same w s n k now rests (all_told w s n k now rests marks t) (all_same rests now parts.0) in
@@ -391,14 +411,14 @@ fitted w s n k now rests marks t e =
     let ne : now.cycle ≢ w.limit = λ here. omega (arith, here) in
     record { same = same; calm = calm; runs = runs_on w now ne calm }
 
-pub stands_next : (w : Setting) (s : State) (n : Lengths) (k : ℕ) (now : State) (rests : Rests) (marks : List Mark) (fitting : Bool) (now' : State) (rests' : Rests) (marks' : List Mark)
-    → Tries w s n k now rests marks → fitting ≡ fits rests now → fitting ≡ true
+pub goes_next : (w : Setting) (s : State) (n : Lengths) (k : ℕ) (now : State) (rests : Rests) (marks : List Mark) (fitting : Bool) (now' : State) (rests' : Rests) (marks' : List Mark)
+    → Goes w s n k now rests marks → fitting ≡ fits rests now → fitting ≡ true
     → now' ≡ (if fitting then next_by w (begun_by rests now) (wanted (begun_by rests now)) now else now)
     → rests' ≡ left_by rests now
     → marks' ≡ marks ++ (if fitting then outer.marked w now.outer (begun_by rests now).outer ∷ [] else [])
     → Stands w s n (k + 1) now' rests' marks'
 unfolding next mark
-stands_next w s n k now rests marks fitting now' rests' marks' t is_fitting is_true e_if e_rests e_marks_if =
+goes_next w s n k now rests marks fitting now' rests' marks' t is_fitting is_true e_if e_rests e_marks_if =
     let f = fitted w s n k now rests marks t (sym is_fitting ∙ is_true) in
     let told_here = all_told w s n k now rests marks t in
     let e_now : now' ≡ next_by w (begun_by rests now) (wanted (begun_by rests now)) now = rw is_true at e_if in
@@ -430,22 +450,51 @@ stands_next w s n k now rests marks fitting now' rests' marks' t is_fitting is_t
 
 -- ---- the ways out of the loop
 
+pub goes_tried : (w : Setting) (s : State) (n : Lengths) (k : ℕ) (now : State) (rests : Rests) (marks : List Mark) (fitting : Bool) (bound : ℕ) → Goes w s n k now rests marks → fitting ≡ fits rests now → fitting ≡ false → k < bound → k ≡ window_within w s bound
+goes_tried w s n k now rests marks fitting bound t is_fitting is_false lt =
+    let ends : closes w s k ≡ true = closes_tried w s n k now rests marks t ∙ ap not (sym is_fitting ∙ is_false) in
+    sym (is_least (closes w s) bound k (omega (arith, lt)) t.stands.goes (λ lt. ends))
+
+run_within : (w : Setting) (s : State) (n : Lengths) (k : ℕ) (now : State) (rests : Rests) (marks : List Mark) (bound : ℕ) → Stands w s n k now rests marks → k < bound → ends_in (runs_of w s (longest w s)) k ≡ true → k ≡ window_within w s bound
+unfolding closes
+run_within w s n k now rests marks bound t lt here =
+    sym (is_least (closes w s) bound k (omega (arith, lt)) t.goes (λ lt. rw here refl))
+
+pub full_within : (w : Setting) (s : State) (n : Lengths) (k : ℕ) (now : State) (rests : Rests) (marks : List Mark) (bound : ℕ) → Stands w s n k now rests marks → k ≡ bound → k ≡ window_within w s bound
+full_within w s n k now rests marks bound t e =
+    sym (is_least (closes w s) bound k (omega (arith, e)) t.goes (λ lt. absurd (omega (arith, e, lt))))
+
+-- ---- where the reports are the whole runs alone
+
+-- the loop tries the cycle k, in which no run ends
+pub record Tries (w : Setting) (s : State) (n : Lengths) (k : ℕ) (now : State) (rests : Rests) (marks : List Mark) : Type 0 where
+  pub stands : Stands w s n k now rests marks
+  pub lengths : AreLengths w s n
+  pub on : AreOn n k
+  pub below : k < longest w s
+
+goes_of : (w : Setting) (s : State) (n : Lengths) (k : ℕ) (now : State) (rests : Rests) (marks : List Mark) → Tries w s n k now rests marks → Goes w s n k now rests marks
+goes_of w s n k now rests marks t = record { stands = t.stands; lengths = are_within w s n t.lengths; on = t.on; below = t.below }
+
+pub stands_next : (w : Setting) (s : State) (n : Lengths) (k : ℕ) (now : State) (rests : Rests) (marks : List Mark) (fitting : Bool) (now' : State) (rests' : Rests) (marks' : List Mark)
+    → Tries w s n k now rests marks → fitting ≡ fits rests now → fitting ≡ true
+    → now' ≡ (if fitting then next_by w (begun_by rests now) (wanted (begun_by rests now)) now else now)
+    → rests' ≡ left_by rests now
+    → marks' ≡ marks ++ (if fitting then outer.marked w now.outer (begun_by rests now).outer ∷ [] else [])
+    → Stands w s n (k + 1) now' rests' marks'
+stands_next w s n k now rests marks fitting now' rests' marks' t = goes_next w s n k now rests marks fitting now' rests' marks' (goes_of w s n k now rests marks t)
+
 pub ends_tried : (w : Setting) (s : State) (n : Lengths) (k : ℕ) (now : State) (rests : Rests) (marks : List Mark) (fitting : Bool) → Tries w s n k now rests marks → fitting ≡ fits rests now → fitting ≡ false → k ≡ window_length w s
 unfolding window_length
-ends_tried w s n k now rests marks fitting t is_fitting is_false =
-    let below = t.below in
-    let ends : closes w s k ≡ true = closes_tried w s n k now rests marks t ∙ ap not (sym is_fitting ∙ is_false) in
-    sym (is_least (closes w s) (longest w s) k (omega arith) t.stands.goes (λ lt. ends))
+ends_tried w s n k now rests marks fitting t is_fitting is_false = goes_tried w s n k now rests marks fitting (longest w s) (goes_of w s n k now rests marks t) is_fitting is_false t.below
 
 pub ends_run : (w : Setting) (s : State) (n : Lengths) (k : ℕ) (now : State) (rests : Rests) (marks : List Mark) → Stands w s n k now rests marks → k < longest w s → ends_in (runs_of w s (longest w s)) k ≡ true → k ≡ window_length w s
-unfolding window_length closes
-ends_run w s n k now rests marks t below here =
-    sym (is_least (closes w s) (longest w s) k (omega arith) t.goes (λ lt. rw here refl))
+unfolding window_length
+ends_run w s n k now rests marks t below here = run_within w s n k now rests marks (longest w s) t below here
 
 pub ends_full : (w : Setting) (s : State) (n : Lengths) (k : ℕ) (now : State) (rests : Rests) (marks : List Mark) → Stands w s n k now rests marks → k ≡ longest w s → k ≡ window_length w s
 unfolding window_length
-ends_full w s n k now rests marks t e =
-    sym (is_least (closes w s) (longest w s) k (omega arith) t.goes (λ lt. absurd (omega arith)))
+ends_full w s n k now rests marks t e = full_within w s n k now rests marks (longest w s) t e
 
 -- ---- six reports
 
@@ -459,20 +508,20 @@ lengths_of runs = record {
   outer = runs.outer.now.length;
 }
 
-pub are_lengths : (w : Setting) (s : State) (runs : Runs) → AreRunsAlone w s runs → AreLengths w s (lengths_of runs)
-are_lengths w s runs h = record {
-  core0 = h.core0.same_length;
-  core1 = h.core1.same_length;
-  dma = h.dma.same_length;
-  pio0 = h.pio0.same_length;
-  pio1 = h.pio1.same_length;
-  outer = h.outer.same_length;
+are_short : (w : Setting) (s : State) (at_most : ℕ) (runs : Runs) → AreCut w s at_most runs → AreWithin w s (lengths_of runs)
+are_short w s at_most runs h = record {
+  core0 = h.core0.within;
+  core1 = h.core1.within;
+  dma = h.dma.within;
+  pio0 = h.pio0.within;
+  pio1 = h.pio1.within;
+  outer = h.outer.within;
 }
 
 -- the loop begins with nothing used
-pub stands_at_first : (w : Setting) (s : State) (runs : Runs) (marks : List Mark) → has_hold s.fabric ≡ false → Knows s → AreRunsAlone w s runs → marks ≡ []
+pub stands_at_first : (w : Setting) (s : State) (at_most : ℕ) (runs : Runs) (marks : List Mark) → has_hold s.fabric ≡ false → Knows s → AreCut w s at_most runs → marks ≡ []
     → Stands w s (lengths_of runs) 0 s (rests_at runs (record { core0 = 0; core1 = 0; dma = 0; pio0 = 0; pio1 = 0; outer = 0 })) marks
-stands_at_first w s runs marks free knows h e = stands_first w s (lengths_of runs) (rests_at runs (record { core0 = 0; core1 = 0; dma = 0; pio0 = 0; pio1 = 0; outer = 0 })) marks free knows
+stands_at_first w s at_most runs marks free knows h e = stands_first w s (lengths_of runs) (rests_at runs (record { core0 = 0; core1 = 0; dma = 0; pio0 = 0; pio1 = 0; outer = 0 })) marks free knows
     (lane_first core_lane 0 s.core0 s runs.core0.now.length runs.core0.now.log h.core0.same_log)
     (lane_first core_lane 1 s.core1 s runs.core1.now.length runs.core1.now.log h.core1.same_log)
     (lane_first dma_lane 2 s.dma s runs.dma.now.length runs.dma.now.log h.dma.same_log)
@@ -483,14 +532,31 @@ stands_at_first w s runs marks free knows h e = stands_first w s (lengths_of run
 pub within_first : (runs : Runs) → IsWithin runs (record { core0 = 0; core1 = 0; dma = 0; pio0 = 0; pio1 = 0; outer = 0 })
 within_first runs = record { core0 = omega arith; core1 = omega arith; dma = omega arith; pio0 = omega arith; pio1 = omega arith; outer = omega arith }
 
--- whether a run ends at k
-ends_as : (w : Setting) (s : State) (runs : Runs) (k : ℕ) → AreRunsAlone w s runs → ends_in (runs_of w s (longest w s)) k ≡ end_at runs k
-ends_as w s runs k h =
-    rw (← h.core0.same_length, ← h.core1.same_length, ← h.dma.same_length, ← h.pio0.same_length, ← h.pio1.same_length, ← h.outer.same_length) refl
+-- where a report ends, some run alone ends
+some_end : (test : ℕ → Bool) (k at_most n : ℕ) → k < at_most → (n < at_most → test n ≡ true) → {b : Bool} → (b ≡ true → test k ≡ true) → (nat_eq k n || b) ≡ true → test k ≡ true
+some_end test k at_most n lt h rest e = elim (eqb_tells k n) [
+  | inl is ↦ let same : k ≡ n = is.1 in ap test same ∙ h (omega (arith, same, lt))
+  | inr is ↦ rest (rw is.0 at e)
+]
 
-pub ends_at_run : (w : Setting) (s : State) (runs : Runs) (k : ℕ) (now : State) (rests : Rests) (marks : List Mark) (ended : Bool) → AreRunsAlone w s runs → Stands w s (lengths_of runs) k now rests marks → k < longest w s → ended ≡ end_at runs k → ended ≡ true → k ≡ window_length w s
-ends_at_run w s runs k now rests marks ended h t below e is_true =
-    ends_run w s (lengths_of runs) k now rests marks t below (ends_as w s runs k h ∙ sym e ∙ is_true)
+ends_some : (w : Setting) (s : State) (k at_most n0 n1 n2 n3 n4 n5 : ℕ)
+    → (n0 < at_most → ends_in (runs_of w s (longest w s)) n0 ≡ true) → (n1 < at_most → ends_in (runs_of w s (longest w s)) n1 ≡ true)
+    → (n2 < at_most → ends_in (runs_of w s (longest w s)) n2 ≡ true) → (n3 < at_most → ends_in (runs_of w s (longest w s)) n3 ≡ true)
+    → (n4 < at_most → ends_in (runs_of w s (longest w s)) n4 ≡ true) → (n5 < at_most → ends_in (runs_of w s (longest w s)) n5 ≡ true)
+    → k < at_most → (nat_eq k n0 || (nat_eq k n1 || (nat_eq k n2 || (nat_eq k n3 || (nat_eq k n4 || (nat_eq k n5 || false)))))) ≡ true → ends_in (runs_of w s (longest w s)) k ≡ true
+ends_some w s k at_most n0 n1 n2 n3 n4 n5 h0 h1 h2 h3 h4 h5 lt e =
+    some_end (λ n. ends_in (runs_of w s (longest w s)) n) k at_most n0 lt h0
+    (some_end (λ n. ends_in (runs_of w s (longest w s)) n) k at_most n1 lt h1
+    (some_end (λ n. ends_in (runs_of w s (longest w s)) n) k at_most n2 lt h2
+    (some_end (λ n. ends_in (runs_of w s (longest w s)) n) k at_most n3 lt h3
+    (some_end (λ n. ends_in (runs_of w s (longest w s)) n) k at_most n4 lt h4
+    (some_end (λ n. ends_in (runs_of w s (longest w s)) n) k at_most n5 lt h5
+    (λ f. absurd (cc f))))))) e
+
+pub ends_at_run : (w : Setting) (s : State) (at_most : ℕ) (runs : Runs) (k : ℕ) (now : State) (rests : Rests) (marks : List Mark) (ended : Bool) → AreCut w s at_most runs → Stands w s (lengths_of runs) k now rests marks → k < at_most → ended ≡ end_at runs k → ended ≡ true → k ≡ window_within w s at_most
+ends_at_run w s at_most runs k now rests marks ended h t below e is_true =
+    run_within w s (lengths_of runs) k now rests marks at_most t below
+    (ends_some w s k at_most _ _ _ _ _ _ h.core0.ends h.core1.ends h.dma.ends h.pio0.ends h.pio1.ends h.outer.ends below (sym e ∙ is_true))
 
 differ_of : (x y : ℕ) → nat_eq x y ≡ false → x ≢ y
 differ_of x y e = elim (eqb_tells x y) [
@@ -515,10 +581,45 @@ on_of runs k e =
       outer = differ_of k runs.outer.now.length g.0;
     }
 
-pub tries_at : (w : Setting) (s : State) (runs : Runs) (k : ℕ) (now : State) (rests : Rests) (marks : List Mark) (ended : Bool) → AreRunsAlone w s runs → Stands w s (lengths_of runs) k now rests marks → k < longest w s → ended ≡ end_at runs k → ended ≡ false → Tries w s (lengths_of runs) k now rests marks
-tries_at w s runs k now rests marks ended h t below e is_false = record {
+pub goes_at : (w : Setting) (s : State) (at_most : ℕ) (runs : Runs) (k : ℕ) (now : State) (rests : Rests) (marks : List Mark) (ended : Bool) → AreCut w s at_most runs → Stands w s (lengths_of runs) k now rests marks → k < at_most → at_most ≤ longest w s → ended ≡ end_at runs k → ended ≡ false → Goes w s (lengths_of runs) k now rests marks
+goes_at w s at_most runs k now rests marks ended h t below short e is_false = record {
   stands = t;
-  lengths = are_lengths w s runs h;
+  lengths = are_short w s at_most runs h;
   on = on_of runs k (sym e ∙ is_false);
-  below = below;
+  below = omega (arith, below, short);
 }
+
+-- ---- at the length of each run alone a run ends
+
+itself : (n : ℕ) → nat_eq n n ≡ true
+itself n = elim (eqb_tells n n) [
+  | inl h ↦ h.0
+  | inr h ↦ absurd (h.1 refl)
+]
+
+or_true : (b : Bool) → (b || true) ≡ true
+or_true true = refl
+or_true false = refl
+
+-- the lengths of the six runs alone
+pub record TheyEnd (w : Setting) (s : State) : Type 0 where
+  pub core0 : ends_in (runs_of w s (longest w s)) (alone_length core_lane (around 0) tt s.core0 s.cycle s (longest w s)) ≡ true
+  pub core1 : ends_in (runs_of w s (longest w s)) (alone_length core_lane (around 1) tt s.core1 s.cycle s (core1_bound s (longest w s))) ≡ true
+  pub dma : ends_in (runs_of w s (longest w s)) (alone_length dma_lane (around 2) tt s.dma s.cycle s (longest w s)) ≡ true
+  pub pio0 : ends_in (runs_of w s (longest w s)) (alone_length pio_lane (around 3) tt s.pio0 s.cycle s (longest w s)) ≡ true
+  pub pio1 : ends_in (runs_of w s (longest w s)) (alone_length pio_lane (around 4) tt s.pio1 s.cycle s (longest w s)) ≡ true
+  pub outer : ends_in (runs_of w s (longest w s)) (alone_length (peripheral_lane w) (around 5) tt s.outer s.cycle s (longest w s)) ≡ true
+
+pub they_end : (w : Setting) (s : State) → TheyEnd w s
+they_end w s = record {
+  core0 = rw itself refl;
+  core1 = rw (itself, or_true) refl;
+  dma = rw (itself, or_true, or_true) refl;
+  pio0 = rw (itself, or_true, or_true, or_true) refl;
+  pio1 = rw (itself, or_true, or_true, or_true, or_true) refl;
+  outer = rw (itself, or_true, or_true, or_true, or_true, or_true) refl;
+}
+
+pub is_whole : (w : Setting) (s : State) (n bound : ℕ) → n ≡ window_within w s bound → bound ≡ longest w s → n ≡ window_length w s
+unfolding window_length
+is_whole w s n bound e same = e ∙ ap (window_within w s) same

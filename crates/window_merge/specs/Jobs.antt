@@ -1,8 +1,8 @@
 -- What a job holds, and when a report is true in a world and is the run alone of its lane. The project's own.
-use Rattle.std.specs.Prelude.{◌≡◌, ℕ, suc, ◌-◌, ◌==◌, ◌&&◌, Bool, nat_le, if◌then◌else◌, List, [], ◌∷◌, length, Option, Some, None}
+use Rattle.std.specs.Prelude.{◌≡◌, ℕ, suc, ◌-◌, ◌==◌, ◌&&◌, Bool, nat_le, if◌then◌else◌, List, [], ◌∷◌, length, slice_index, slice_index_or, Option, Some, None}
 use Rattle.lane_look.specs.declared.replay.Report.{Report}
 use Rattle.lane_look.specs.Replay.{Meaning}
-use Rattle.lane_look.specs.Alone.{alone, alone_length}
+use Rattle.lane_look.specs.Alone.{Surroundings, alone, alone_length}
 use Rattle.lane_look.specs.Truth.{IsTrue}
 use Rattle.m0_core.specs.State.{State as Core}
 use Rattle.pio_block.specs.State.{Block as Pio}
@@ -14,8 +14,8 @@ use Rattle.window_merge.specs.declared.lane_run.LaneRun.TheVariants as run
 use Rattle.window_merge.specs.declared.lane_job.LaneJob.{LaneJob}
 use Rattle.window_merge.specs.declared.lane_job.LaneReport.{LaneReport}
 use Rattle.window_merge.specs.declared.lane_job.Crew.{Crew}
-use Rattle.window_merge.specs.Around.{copies_of, copied}
-use Rattle.window_merge.specs.Lanes.{core_lane, dma_lane, pio_lane, peripheral_lane, is_launching}
+use Rattle.window_merge.specs.Around.{copies_of}
+use Rattle.window_merge.specs.Lanes.{around, core_lane, dma_lane, pio_lane, peripheral_lane, is_launching}
 use Rattle.window_merge.specs.Window.{longest}
 use Rattle.window_merge.specs.Merging.{IsRunAlone}
 
@@ -98,12 +98,12 @@ AreAlone w s reports = AreAloneFrom 0 w s reports
 
 -- ---- the run alone by what a job holds
 
--- a report is the run alone of a lane by copies, of at most so many cycles
-pub record RanBy {E S B : Type 0} (m : Meaning E S B) (env : E) (before : S) (start : ℕ) (copies : Copies) (bound : ℕ) (report : Report S) : Type 0 where
+-- a report is the run alone of a lane by what is around it, of at most so many cycles
+pub record RanIn {E S B W : Type 0} (a : Surroundings W) (m : Meaning E S B) (env : E) (before : S) (start : ℕ) (around : W) (bound : ℕ) (report : Report S) : Type 0 where
   pub same_start : report.start ≡ start
   pub same_lane : report.before ≡ before
-  pub same_length : report.length ≡ alone_length m copied env before start copies bound
-  pub same_log : report.log ≡ (alone m copied env before start copies report.length).talk
+  pub same_length : report.length ≡ alone_length m a env before start around bound
+  pub same_log : report.log ≡ (alone m a env before start around report.length).talk
   pub replays : IsTrue m env report
 
 -- a run ends after at most 256 cycles, and at the limit
@@ -111,12 +111,12 @@ abbrev pub longest_by : ℕ → ℕ → ℕ
 longest_by limit start = if nat_le (limit - start) 256 then limit - start else 256
 
 -- of the lane whose state is in the room
-abbrev pub Ran : Setting → ℕ → ℕ → Copies → ℕ → LaneRun → LaneRun → Type 0
-Ran w lane start copies bound (run.Core room) (run.Core report) = RanBy core_lane tt room.before start copies (core_bound lane room.before bound) report
-Ran w lane start copies bound (run.Dma room) (run.Dma report) = RanBy dma_lane tt room.before start copies bound report
-Ran w lane start copies bound (run.Pio room) (run.Pio report) = RanBy pio_lane tt room.before start copies bound report
-Ran w lane start copies bound (run.Outer room) (run.Outer report) = RanBy (peripheral_lane w) tt room.before start copies bound report
-Ran w lane start copies bound room report = ⊥
+abbrev pub Ran : {W : Type 0} → Surroundings W → Setting → ℕ → ℕ → W → ℕ → LaneRun → LaneRun → Type 0
+Ran a w lane start around bound (run.Core room) (run.Core report) = RanIn a core_lane tt room.before start around (core_bound lane room.before bound) report
+Ran a w lane start around bound (run.Dma room) (run.Dma report) = RanIn a dma_lane tt room.before start around bound report
+Ran a w lane start around bound (run.Pio room) (run.Pio report) = RanIn a pio_lane tt room.before start around bound report
+Ran a w lane start around bound (run.Outer room) (run.Outer report) = RanIn a (peripheral_lane w) tt room.before start around bound report
+Ran a w lane start around bound room report = ⊥
 
 -- ---- a report's start
 
@@ -125,6 +125,62 @@ start_of (run.Core report) = report.start
 start_of (run.Dma report) = report.start
 start_of (run.Pio report) = report.start
 start_of (run.Outer report) = report.start
+
+-- ---- the first cycles of a run alone, in the room of a job
+
+abbrev pub length_of : LaneRun → ℕ
+length_of (run.Core report) = report.length
+length_of (run.Dma report) = report.length
+length_of (run.Pio report) = report.length
+length_of (run.Outer report) = report.length
+
+-- a report has the length and the log of the run alone of a lane, of at most so many cycles
+pub record IsStart {S B : Type 0} (m : Meaning (Unit {0}) S B) (lane : ℕ) (before : S) (s : State) (bound : ℕ) (report : Report S) : Type 0 where
+  pub same_length : report.length ≡ alone_length m (around lane) tt before s.cycle s bound
+  pub same_log : report.log ≡ (alone m (around lane) tt before s.cycle s report.length).talk
+
+abbrev pub IsStartBy : Setting → State → ℕ → ℕ → LaneRun → Type 0
+IsStartBy w s bound lane (run.Core report) = IsStart core_lane lane (core_of lane s) s (core_bound lane (core_of lane s) bound) report
+IsStartBy w s bound lane (run.Dma report) = IsStart dma_lane lane s.dma s bound report
+IsStartBy w s bound lane (run.Pio report) = IsStart pio_lane lane (block_of lane s) s bound report
+IsStartBy w s bound lane (run.Outer report) = IsStart (peripheral_lane w) lane s.outer s bound report
+
+-- a report of no cycle
+abbrev pub IsEmpty : LaneRun → Type 0
+IsEmpty (run.Core report) = (report.length ≡ 0) × (report.log ≡ [])
+IsEmpty (run.Dma report) = (report.length ≡ 0) × (report.log ≡ [])
+IsEmpty (run.Pio report) = (report.length ≡ 0) × (report.log ≡ [])
+IsEmpty (run.Outer report) = (report.length ≡ 0) × (report.log ≡ [])
+
+-- it is in the room, and has n cycles
+abbrev pub HasRunIn : Setting → State → ℕ → ℕ → ℕ → Option LaneRun → Type 0
+HasRunIn w s bound lane n None = ⊥
+HasRunIn w s bound lane n (Some run) = (n ≡ length_of run) × IsStartBy w s bound lane run
+
+abbrev pub HasRun : Setting → State → ℕ → ℕ → ℕ → Option LaneJob → Type 0
+HasRun w s bound lane n None = ⊥
+HasRun w s bound lane n (Some job) = HasRunIn w s bound lane n job.set.room
+
+abbrev pub HoldsEmptyIn : Option LaneRun → Type 0
+HoldsEmptyIn None = ⊥
+HoldsEmptyIn (Some run) = IsEmpty run
+
+abbrev pub HoldsEmpty : Option LaneJob → Type 0
+HoldsEmpty None = ⊥
+HoldsEmpty (Some job) = HoldsEmptyIn job.set.room
+
+abbrev pub HoldsRun : Option LaneJob → LaneRun → Type 0
+HoldsRun None run = ⊥
+HoldsRun (Some job) run = job.set.room ≡ Some run
+
+-- each lane's job holds the first cycles of its run alone, no more than those of the lane before it
+pub record AreRuns (w : Setting) (s : State) (at_most : ℕ) (lengths : List ℕ) (jobs : List (Option LaneJob)) : Type 0 where
+  pub core0 : HasRun w s at_most 0 (slice_index lengths 0) (slice_index_or jobs 0 None)
+  pub core1 : HasRun w s (slice_index lengths 0) 1 (slice_index lengths 1) (slice_index_or jobs 1 None)
+  pub dma : HasRun w s (slice_index lengths 1) 2 (slice_index lengths 2) (slice_index_or jobs 2 None)
+  pub pio0 : HasRun w s (slice_index lengths 2) 3 (slice_index lengths 3) (slice_index_or jobs 3 None)
+  pub pio1 : HasRun w s (slice_index lengths 3) 4 (slice_index lengths 4) (slice_index_or jobs 4 None)
+  pub outer : HasRun w s (slice_index lengths 4) 5 (slice_index lengths 5) (slice_index_or jobs 5 None)
 
 -- ---- the crew
 

@@ -4,4 +4,5 @@ pub mod Kinds
 pub mod Lanes
 pub mod Laws
 pub mod Merging
+pub mod Overlaid
 pub mod Window

@@ -34,11 +34,11 @@ pub struct Copies {
     pub pio1: u128,
 }
 
-/// The halfword of SRAM at an address, 0 where there is none.
-fn half_in(ram: &Ram, address: u32) -> u32
-    ensures { result ≡ half_of (word_in ram.now address) address }
+/// The halfword of a word at an address.
+#[inline(always)]
+pub(crate) fn half_of(word: u32, address: u32) -> u32
+    ensures { result ≡ half_of word address }
 {
-    let word = word_in(ram, address);
     if address / 2 % 2 == 0 {
         word % 0x1_0000
     } else {
@@ -80,7 +80,7 @@ impl Around for Copies {
     fn answer(&self, ask: Ask) -> u128 {
         match ask {
             Ask::Lines => self.lines,
-            Ask::Half(address) => u128::from(half_in(&self.ram, address)),
+            Ask::Half(address) => u128::from(half_of(word_in(&self.ram, address), address)),
             Ask::Word(address) => u128::from(word_in(&self.ram, address)),
             Ask::Pacing => self.pacing,
             Ask::Inputs => self.inputs,
@@ -117,6 +117,13 @@ impl Copies {
         ensures { self.new ≡ copies_of lane machine.now }
     {
         self.ram.copy_from(&machine.ram);
+        self.take_answers(machine, lane);
+    }
+
+    /// Takes the answers but for those of SRAM.
+    pub(crate) fn take_answers(&mut self, machine: &Machine, lane: u8)
+        ensures { self.new ≡ record (copies_of lane machine.now) { ram = self.old.ram } }
+    {
         self.lines = machine.answer(lane, Ask::Lines);
         self.pacing = machine.answer(lane, Ask::Pacing);
         self.inputs = machine.answer(lane, Ask::Inputs);

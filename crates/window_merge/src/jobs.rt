@@ -2,25 +2,26 @@
 
 ghost use Rattle.std.specs.Prelude.{◌≡◌, ℕ, ◌+◌, ◌^◌, ◌<◌, ◌≤◌, ◌==◌, ◌&&◌, ◌∷◌, [], true, length, if◌then◌else◌, Some};
 ghost use Rattle.lane_look.specs.Replay.{meaning};
+ghost use Rattle.lane_look.specs.Alone.{surroundings};
 ghost use Rattle.outer_lane.specs.Setting.{setting_of};
 ghost use Rattle.rp_machine.specs.State.{State};
 ghost use Rattle.window_merge.specs.Around.{copies_of};
 ghost use Rattle.window_merge.specs.Kinds.{is_run_of, has_room_for};
 ghost use Rattle.window_merge.specs.Lanes.{core_lane, dma_lane, pio_lane, peripheral_lane};
-ghost use Rattle.window_merge.specs.Jobs.{core_of, block_of, core_bound, BeginsIn, HasLane, HasWords, HasWordsIn, IsJobOf, IsJobFor, IsTrueRun, IsTrueIn, IsAlone, RanBy, Ran, longest_by, start_of};
+ghost use Rattle.window_merge.specs.Jobs.{core_of, block_of, core_bound, BeginsIn, HasLane, HasWords, HasWordsIn, IsJobOf, IsJobFor, IsTrueRun, IsTrueIn, IsAlone, RanIn, Ran, longest_by, start_of};
 
 use crate::copies::Copies;
 use crate::lane_job::{LaneJob, LaneReport};
 use crate::lane_run::{LaneRun, LaneSet};
 use dma_engine::Dma;
-use lane_look::{Device, Lane, Report, run_alone};
+use lane_look::{Around, Device, Lane, Report, run_alone};
 use m0_core::Core;
 use outer_lane::{Outer, World};
 use pio_block::PioBlock;
 use rp_machine::Machine;
 
 /// Takes the lane's state into the `before` of a report.
-fn take_lane(machine: &Machine, lane: u8, run: &mut LaneRun)
+pub(crate) fn take_lane(machine: &Machine, lane: u8, run: &mut LaneRun)
     requires { is_run_of lane run.old ≡ true }
     ensures kind { is_run_of lane run.new ≡ true }
     ensures state { BeginsIn lane machine.now run.new }
@@ -63,117 +64,119 @@ pub fn job(machine: &Machine, job: &mut LaneJob)
     }
 }
 
-/// Runs a lane alone by copies, in the room of a report that has its state.
-fn run_lane<E, S: Lane<E>>(
+/// Runs a lane alone, in the room of a report that has its state.
+fn run_lane<E, S: Lane<E>, W: Around>(
     room: Report<S>,
     env: &E,
     start: u64,
-    copies: Copies,
+    around: W,
     at_most: u16,
-) -> (Report<S>, Copies)
+) -> (Report<S>, W)
     requires cycles { at_most ≤ 256 }
     requires number { start + at_most < 2 ^ 64 }
-    ensures { RanBy (meaning S.asks S.wanted S.next S.marked) env.now room.before start copies
-        at_most result.0 }
+    ensures { RanIn (surroundings W.answer W.stored) (meaning S.asks S.wanted S.next S.marked)
+        env.now room.before start around at_most result.0 }
 {
     let mut room = room;
     room.start = start;
-    run_alone(room, env, copies, at_most)
+    run_alone(room, env, around, at_most)
 }
 
 /// Runs a core alone: for no cycle where it is core 1 and has a word of its launcher to take.
-fn run_core(
+fn run_core<W: Around>(
     room: Report<Core>,
     lane: u8,
     start: u64,
-    copies: Copies,
+    around: W,
     at_most: u16,
-) -> (Report<Core>, Copies)
+) -> (Report<Core>, W)
     requires cycles { at_most ≤ 256 }
     requires number { start + at_most < 2 ^ 64 }
-    ensures { RanBy core_lane tt room.before start copies (core_bound lane room.before at_most)
-        result.0 }
+    ensures { RanIn (surroundings W.answer W.stored) core_lane tt room.before start around
+        (core_bound lane room.before at_most) result.0 }
 {
     if lane == 1 && room.before.is_asleep() && room.before.has_offer() {
-        run_lane(room, &(), start, copies, 0)
+        run_lane(room, &(), start, around, 0)
     } else {
-        run_lane(room, &(), start, copies, at_most)
+        run_lane(room, &(), start, around, at_most)
     }
 }
 
 /// Runs the DMA engine alone.
-fn run_dma(room: Report<Dma>, start: u64, copies: Copies, at_most: u16) -> (Report<Dma>, Copies)
+fn run_dma<W: Around>(room: Report<Dma>, start: u64, around: W, at_most: u16) -> (Report<Dma>, W)
     requires cycles { at_most ≤ 256 }
     requires number { start + at_most < 2 ^ 64 }
-    ensures { RanBy dma_lane tt room.before start copies at_most result.0 }
+    ensures { RanIn (surroundings W.answer W.stored) dma_lane tt room.before start around at_most
+        result.0 }
 {
-    run_lane(room, &(), start, copies, at_most)
+    run_lane(room, &(), start, around, at_most)
 }
 
 /// Runs a PIO block alone.
-fn run_pio(
+fn run_pio<W: Around>(
     room: Report<PioBlock>,
     start: u64,
-    copies: Copies,
+    around: W,
     at_most: u16,
-) -> (Report<PioBlock>, Copies)
+) -> (Report<PioBlock>, W)
     requires cycles { at_most ≤ 256 }
     requires number { start + at_most < 2 ^ 64 }
-    ensures { RanBy pio_lane tt room.before start copies at_most result.0 }
+    ensures { RanIn (surroundings W.answer W.stored) pio_lane tt room.before start around at_most
+        result.0 }
 {
-    run_lane(room, &(), start, copies, at_most)
+    run_lane(room, &(), start, around, at_most)
 }
 
 /// Runs the peripherals alone.
-fn run_outer<X: Device>(
+fn run_outer<X: Device, W: Around>(
     room: Report<Outer>,
     world: &World<'_, X>,
     start: u64,
-    copies: Copies,
+    around: W,
     at_most: u16,
-) -> (Report<Outer>, Copies)
+) -> (Report<Outer>, W)
     requires cycles { at_most ≤ 256 }
     requires number { start + at_most < 2 ^ 64 }
-    ensures { RanBy (peripheral_lane
+    ensures { RanIn (surroundings W.answer W.stored) (peripheral_lane
         (setting_of world.now.script.now (X.meaning world.now.device.now) world.now.limit))
-        tt room.before start copies at_most result.0 }
+        tt room.before start around at_most result.0 }
 {
-    run_lane(room, world, start, copies, at_most)
+    run_lane(room, world, start, around, at_most)
 }
 
 /// Runs the lane alone whose state is in the room.
-fn run_room<X: Device>(
+pub(crate) fn run_room<X: Device, W: Around>(
     room: LaneRun,
     lane: u8,
     world: &World<'_, X>,
     start: u64,
-    copies: Copies,
+    around: W,
     at_most: u16,
-) -> (LaneRun, Copies)
+) -> (LaneRun, W)
     requires kind { is_run_of lane room ≡ true }
     requires cycles { at_most ≤ 256 }
     requires number { start + at_most < 2 ^ 64 }
     ensures kind { is_run_of lane result.0 ≡ true }
-    ensures run { Ran
+    ensures run { Ran (surroundings W.answer W.stored)
         (setting_of world.now.script.now (X.meaning world.now.device.now) world.now.limit)
-        lane start copies at_most room result.0 }
+        lane start around at_most room result.0 }
 {
     match room {
         LaneRun::Core(room) => {
-            let (report, copies) = run_core(room, lane, start, copies, at_most);
-            (LaneRun::Core(report), copies)
+            let (report, around) = run_core(room, lane, start, around, at_most);
+            (LaneRun::Core(report), around)
         }
         LaneRun::Dma(room) => {
-            let (report, copies) = run_dma(room, start, copies, at_most);
-            (LaneRun::Dma(report), copies)
+            let (report, around) = run_dma(room, start, around, at_most);
+            (LaneRun::Dma(report), around)
         }
         LaneRun::Pio(room) => {
-            let (report, copies) = run_pio(room, start, copies, at_most);
-            (LaneRun::Pio(report), copies)
+            let (report, around) = run_pio(room, start, around, at_most);
+            (LaneRun::Pio(report), around)
         }
         LaneRun::Outer(room) => {
-            let (report, copies) = run_outer(room, world, start, copies, at_most);
-            (LaneRun::Outer(report), copies)
+            let (report, around) = run_outer(room, world, start, around, at_most);
+            (LaneRun::Outer(report), around)
         }
     }
 }

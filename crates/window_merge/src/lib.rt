@@ -10,6 +10,7 @@ pub mod lane_job;
 pub mod lane_run;
 pub mod laws;
 pub mod merge;
+pub mod overlay;
 pub mod position;
 pub mod reports;
 pub mod runs;

@@ -7,4 +7,4 @@ use Rattle.window_merge.proofs.tests.windows_of.Goals as goal
 pub loop-init : goal.loop-init
 loop-init g c =
     let family : State → Type 0 = λ s. IsRested s.sio in
-    record { rested = subst family (sym c.in_ok-machine.ensures) (start_rested _ _ _) }
+    record { rested = subst family (sym c.in_ok-machine.ensures) (start_rested _ _ _); crew = c.in_ok-crew.ensures }
