@@ -14,7 +14,7 @@ use Rattle.window_merge.specs.declared.lane_run.LaneRun.{LaneRun}
 use Rattle.window_merge.specs.declared.lane_run.LaneRun.TheVariants as run
 use Rattle.window_merge.specs.declared.lane_job.LaneJob.{LaneJob}
 use Rattle.window_merge.specs.Lanes.{around, core_lane, dma_lane, pio_lane, peripheral_lane, is_launching, core1_bound, runs_of}
-use Rattle.window_merge.specs.Window.{longest, ends_in}
+use Rattle.window_merge.specs.Window.{longest, ends_in, closes, window_within}
 use Rattle.window_merge.specs.Merging.{IsRunAlone, IsCut, AreCut}
 use Rattle.window_merge.specs.declared.runs.Runs.{Runs}
 use Rattle.window_merge.specs.Jobs.{core_of, block_of, core_bound, length_of, IsStart, IsAloneBy, IsStartBy, IsEmpty, HasRunIn, HasRun, HoldsEmptyIn, HoldsEmpty, HoldsRun, AreRuns}
@@ -252,3 +252,10 @@ few_by w s bound lane (run.Core report) h =
 few_by w s bound lane (run.Dma report) h = few_of dma_lane lane s.dma s bound report.length h.same_length
 few_by w s bound lane (run.Pio report) h = few_of pio_lane lane (block_of lane s) s bound report.length h.same_length
 few_by w s bound lane (run.Outer report) h = few_of (peripheral_lane w) lane s.outer s bound report.length h.same_length
+
+-- a window of at most so many cycles has no more
+pub short_window : (w : Setting) (s : State) (bound n : ℕ) → n ≡ window_within w s bound → n ≤ bound
+short_window w s bound n e =
+    let le = (least_meets (closes w s) bound).within in
+    let same : n ≡ least (closes w s) bound = e in
+    omega (arith, same, le)

@@ -4,6 +4,7 @@ pub mod Calm
 pub mod Comparing
 pub mod Copying
 pub mod Cutting
+pub mod Going
 pub mod InSram
 pub mod Reported
 pub mod Keeping

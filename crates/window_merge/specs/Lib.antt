@@ -1,4 +1,5 @@
 pub mod Around
+pub mod Going
 pub mod Jobs
 pub mod Kinds
 pub mod Lanes

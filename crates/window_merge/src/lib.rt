@@ -1,6 +1,7 @@
 //! Windows: the six lanes run ahead of each other, and are kept as far as they all would go the same together.
 #![tactic(auto)]
 
+pub mod alone;
 mod compare;
 pub mod copies;
 pub mod crew;
@@ -17,6 +18,7 @@ pub mod runs;
 #[cfg(test)]
 mod tests;
 
+pub use alone::advance_alone;
 pub use copies::Copies;
 pub use here::window;
 pub use jobs::{back, job, run_job};

@@ -1,0 +1,88 @@
+-- The way to a cycle by windows goes along the states of the run.
+use Rattle.std.proofs.Common.{◌≡◌, ℕ, zero, suc, ◌+◌, ◌-◌, ◌*◌, ◌<◌, ◌≤◌, ◌==◌, Bool, true, false, if◌then◌else◌, Option, Some, None, refl, ap, sym, ◌∙◌, subst, arith}
+use Rattle.std.proofs.lemmas.Bool.Decides.{eqb_tells}
+use Rattle.std.proofs.Common.{inl, inr}
+use Rattle.rp_base.specs.declared.Why.{Why}
+use Rattle.outer_lane.specs.Setting.{Setting}
+use Rattle.rp_machine.specs.State.{State}
+use Rattle.rp_machine.specs.Cycle.{stop, next}
+use Rattle.rp_machine.specs.Run.{states}
+use Rattle.rp_machine.proofs.Joining.{runs_follow}
+use Rattle.rp_machine.proofs.Runs.{states_here, next_cycle, below_limit}
+use Rattle.window_merge.proofs.Positions.{along_states}
+
+-- where the way stands
+pub record OnWay (w : Setting) (s : State) (to : ℕ) (now : State) (before steps : ℕ) : Type 0 where
+  pub is_states : now ≡ states w s (now.cycle - s.cycle)
+  pub later : s.cycle ≤ now.cycle
+  pub within : now.cycle ≤ to
+  pub limit : now.cycle ≤ w.limit
+  pub counted : steps + s.cycle ≡ before + now.cycle
+
+none_yet : (w : Setting) (s : State) (k : ℕ) → k ≡ 0 → s ≡ states w s k
+unfolding states
+none_yet w s k e = rw e refl
+
+pub way_first : (w : Setting) (s : State) (to steps : ℕ) → s.cycle ≤ to → s.cycle ≤ w.limit → OnWay w s to s steps steps
+way_first w s to steps le limit = record { is_states = none_yet w s (s.cycle - s.cycle) (omega arith); later = omega arith; within = le; limit = limit; counted = refl }
+
+pub way_window : (w : Setting) (s : State) (to : ℕ) (now : State) (before steps n : ℕ) (now' : State) (steps' : ℕ) → OnWay w s to now before steps
+    → now' ≡ states w now n → now'.cycle ≡ now.cycle + n → now'.cycle ≤ to → steps' ≡ steps + n → OnWay w s to now' before steps'
+way_window w s to now before steps n now' steps' h e at le counted =
+    let later = h.later in
+    let so_far = h.counted in
+    record {
+      is_states =
+          e ∙ ap (λ t. states w t n) h.is_states ∙ sym (runs_follow w s (now.cycle - s.cycle) n).state
+          ∙ ap (states w s) (omega (arith, later, at));
+      later = omega (arith, later, at);
+      within = le;
+      limit = subst (λ (t : State). t.cycle ≤ w.limit) (sym e) (along_states w now n h.limit).within;
+      counted = omega (arith, so_far, at, counted);
+    }
+
+one : (w : Setting) (s : State) → stop w s ≡ None → states w s 1 ≡ next w s
+unfolding states
+one w s e = rw e refl
+
+pub way_cycle : (w : Setting) (s : State) (to : ℕ) (now : State) (before steps : ℕ) (now' : State) (steps' : ℕ) → OnWay w s to now before steps → now.cycle < to
+    → stop w now ≡ None → now' ≡ next w now → steps' ≡ steps + 1 → OnWay w s to now' before steps'
+way_cycle w s to now before steps now' steps' h lt runs e counted =
+    let at : now'.cycle ≡ now.cycle + 1 = ap (λ (t : State). t.cycle) e ∙ next_cycle w now in
+    way_window w s to now before steps 1 now' steps' h (e ∙ sym (one w now runs)) at (omega (arith, lt, at)) counted
+
+pub way_reached : (w : Setting) (s : State) (to : ℕ) (now : State) (before steps : ℕ) → OnWay w s to now before steps → to ≤ now.cycle → now ≡ states w s (to - s.cycle)
+way_reached w s to now before steps h le =
+    let within = h.within in
+    h.is_states ∙ ap (λ k. states w s (k - s.cycle)) (omega (arith, within, le))
+
+pub way_stopped : (w : Setting) (s : State) (to : ℕ) (now : State) (before steps : ℕ) (why : Why) → OnWay w s to now before steps → stop w now ≡ Some why → now ≡ states w s (to - s.cycle)
+way_stopped w s to now before steps why h e =
+    let later = h.later in
+    let within = h.within in
+    sym (states_here w now why (to - now.cycle) e)
+    ∙ ap (λ t. states w t (to - now.cycle)) h.is_states
+    ∙ sym (runs_follow w s (now.cycle - s.cycle) (to - now.cycle)).state
+    ∙ ap (states w s) (omega (arith, later, within))
+
+-- how many steps are left at most
+abbrev pub steps_left : ℕ → State → Bool → ℕ
+steps_left to now after_empty = 2 * (to - now.cycle) + (if after_empty then 0 else 1)
+
+fewer_by : (empty : Bool) (to at at' n : ℕ) → (n == 0) ≡ empty → at' ≡ at + n → at' ≤ to → 2 * (to - at') + (if empty then 0 else 1) < 2 * (to - at) + 1
+fewer_by true to at at' n e is le = omega (arith, is, le)
+fewer_by false to at at' zero e is le = absurd (cc e)
+fewer_by false to at at' (suc n) e is le = omega (arith, is, le)
+
+pub fewer_window : (to : ℕ) (now now' : State) (before after : Bool) (n : ℕ) → before ≡ false → after ≡ (n == 0) → now'.cycle ≡ now.cycle + n → now'.cycle ≤ to → steps_left to now' after < steps_left to now before
+fewer_window to now now' before after n e_before e_after at le =
+    rw e_before (fewer_by after to now.cycle now'.cycle n (sym e_after) at le)
+
+fewer_one : (b : Bool) (x y : ℕ) → y + 1 ≡ x → 2 * y + 1 < 2 * x + (if b then 0 else 1)
+fewer_one true x y e = omega (arith, e)
+fewer_one false x y e = omega (arith, e)
+
+pub fewer_cycle : (w : Setting) (to : ℕ) (now now' : State) (before : Bool) → now.cycle < to → now' ≡ next w now → steps_left to now' false < steps_left to now before
+fewer_cycle w to now now' before lt e =
+    let at : now'.cycle ≡ now.cycle + 1 = ap (λ (t : State). t.cycle) e ∙ next_cycle w now in
+    fewer_one before (to - now.cycle) (to - now'.cycle) (omega (arith, at, lt))

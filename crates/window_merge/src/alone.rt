@@ -1,0 +1,115 @@
+//! A machine that goes by windows up to a cycle, on one thread.
+
+ghost use Rattle.std.specs.Prelude.{◌≡◌, ◌+◌, ◌-◌, ◌<◌, ◌≤◌};
+ghost use Rattle.outer_lane.specs.Setting.{setting_of};
+ghost use Rattle.rp_machine.specs.Run.{states};
+ghost use Rattle.window_merge.specs.Window.{longest};
+ghost use Rattle.window_merge.specs.Merging.{IsRested};
+ghost use Rattle.window_merge.specs.Jobs.{IsWhole};
+ghost use Rattle.window_merge.specs.Going.{IsGone, IsReached};
+
+use crate::here::window_within;
+use crate::lane_job::Crew;
+use crate::merge::longest;
+use crate::position::Moved;
+use lane_look::{Device, Marks};
+use outer_lane::World;
+use rp_base::Why;
+use rp_machine::{Machine, Steps};
+use std::sync::ledger::Ledger;
+
+/// How many cycles a window may have that ends at a cycle or below it.
+fn longest_to<X: Device>(machine: &Machine, world: &World<'_, X>, to: u64) -> u16
+    requires number { machine.now.cycle ≤ world.now.limit }
+    requires to { machine.now.cycle ≤ to }
+    ensures few { result ≤ longest
+        (setting_of world.now.script.now (X.meaning world.now.device.now) world.now.limit) machine.now }
+    ensures within { machine.now.cycle + result ≤ to }
+{
+    let cycles = to - machine.at;
+    let longest = longest(machine, world);
+    if cycles < u64::from(longest) {
+        cycles as u16
+    } else {
+        longest
+    }
+}
+
+/// Goes on by a window that ends at a cycle or below it, or by one cycle where an access lasts or the last step was a window
+/// without a cycle; or finds a stop and changes nothing.
+fn go_on<X: Device, L: Ledger>(
+    machine: &mut Machine,
+    world: &World<'_, X>,
+    crew: &mut Crew,
+    after_empty: bool,
+    to: u64,
+    marks: &mut Marks,
+    steps: &mut Steps<L>,
+) -> Moved
+    requires number { machine.old.cycle ≤ world.now.limit }
+    requires to { machine.old.cycle < to }
+    requires rested { IsRested machine.old.sio }
+    requires crew { IsWhole crew.old }
+    ensures gone { IsGone
+        (setting_of world.now.script.now (X.meaning world.now.device.now) world.now.limit)
+        after_empty to result machine.old machine.new steps.old steps.new }
+    ensures rested { IsRested machine.new.sio }
+    ensures crew { IsWhole crew.new }
+{
+    if after_empty || machine.fabric.holds() {
+        return match machine.cycle(world, marks, steps) {
+            Some(why) => Moved::Stopped(why),
+            None => Moved::Cycle,
+        };
+    }
+    if let Some(why) = machine.stop(world) {
+        return Moved::Stopped(why);
+    }
+    let at_most = longest_to(machine, world, to);
+    Moved::Window(window_within(machine, world, crew, at_most, marks, steps))
+}
+
+/// Moves the machine to a cycle, by windows where it can, on one thread; or to the cycle below it at which it stops. None where
+/// it then stands at that cycle, also where it would stop there, and else the stop. Each cycle counts as a step. It takes no
+/// memory.
+pub fn advance_alone<X: Device, L: Ledger>(
+    machine: &mut Machine,
+    world: &World<'_, X>,
+    crew: &mut Crew,
+    to: u64,
+    steps: &mut Steps<L>,
+) -> Option<Why>
+    requires number { machine.old.cycle ≤ world.now.limit }
+    requires to { machine.old.cycle ≤ to }
+    requires rested { IsRested machine.old.sio }
+    requires crew { IsWhole crew.old }
+    ensures state { machine.new ≡ states
+        (setting_of world.now.script.now (X.meaning world.now.device.now) world.now.limit)
+        machine.old (to - machine.old.cycle) }
+    ensures why { IsReached
+        (setting_of world.now.script.now (X.meaning world.now.device.now) world.now.limit)
+        to result machine.new }
+    ensures number { machine.new.cycle ≤ world.now.limit }
+    ensures steps { steps.new + machine.old.cycle ≡ steps.old + machine.new.cycle }
+    ensures rested { IsRested machine.new.sio }
+    ensures crew { IsWhole crew.new }
+{
+    let mut marks = Marks::new();
+    let mut after_empty = false;
+    'moves: loop {
+        if machine.number() >= to {
+            return None;
+        }
+        match go_on(machine, world, crew, after_empty, to, &mut marks, steps) {
+            Moved::Stopped(why) => return Some(why),
+            Moved::Window(length) => {
+                after_empty = length == 0;
+                continue 'moves;
+            }
+            Moved::Cycle => {
+                after_empty = false;
+                continue 'moves;
+            }
+        }
+    }
+}
