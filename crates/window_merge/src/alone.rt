@@ -23,7 +23,8 @@ fn longest_to<X: Device>(machine: &Machine, world: &World<'_, X>, to: u64) -> u1
     requires number { machine.now.cycle ≤ world.now.limit }
     requires to { machine.now.cycle ≤ to }
     ensures few { result ≤ longest
-        (setting_of world.now.script.now (X.meaning world.now.device.now) world.now.limit) machine.now }
+        (setting_of world.now.script.now (X.meaning world.now.device.now) world.now.limit)
+        machine.now }
     ensures within { machine.now.cycle + result ≤ to }
 {
     let cycles = to - machine.at;

@@ -229,17 +229,21 @@ pub(crate) fn window_within<X: Device, L: Ledger>(
 ) -> u16
     requires number { machine.old.cycle ≤ world.now.limit }
     requires cycles { at_most ≤ longest
-        (setting_of world.now.script.now (X.meaning world.now.device.now) world.now.limit) machine.old }
+        (setting_of world.now.script.now (X.meaning world.now.device.now) world.now.limit)
+        machine.old }
     requires free { has_hold machine.old.fabric ≡ false }
     requires rested { IsRested machine.old.sio }
     requires crew { IsWhole crew.old }
     ensures length { result ≡ window_within
-        (setting_of world.now.script.now (X.meaning world.now.device.now) world.now.limit) machine.old at_most }
+        (setting_of world.now.script.now (X.meaning world.now.device.now) world.now.limit)
+        machine.old at_most }
     ensures state { machine.new ≡ states
-        (setting_of world.now.script.now (X.meaning world.now.device.now) world.now.limit) machine.old result }
+        (setting_of world.now.script.now (X.meaning world.now.device.now) world.now.limit)
+        machine.old result }
     ensures number { machine.new.cycle ≡ machine.old.cycle + result }
     ensures marks { marks.new ≡ marks_in
-        (setting_of world.now.script.now (X.meaning world.now.device.now) world.now.limit) machine.old result }
+        (setting_of world.now.script.now (X.meaning world.now.device.now) world.now.limit)
+        machine.old result }
     ensures steps { steps.new ≡ steps.old + result }
     ensures crew { IsWhole crew.new }
 {
@@ -263,12 +267,15 @@ pub fn window<X: Device, L: Ledger>(
     requires rested { IsRested machine.old.sio }
     requires crew { IsWhole crew.old }
     ensures length { result ≡ window_length
-        (setting_of world.now.script.now (X.meaning world.now.device.now) world.now.limit) machine.old }
+        (setting_of world.now.script.now (X.meaning world.now.device.now) world.now.limit)
+        machine.old }
     ensures state { machine.new ≡ states
-        (setting_of world.now.script.now (X.meaning world.now.device.now) world.now.limit) machine.old result }
+        (setting_of world.now.script.now (X.meaning world.now.device.now) world.now.limit)
+        machine.old result }
     ensures number { machine.new.cycle ≡ machine.old.cycle + result }
     ensures marks { marks.new ≡ marks_in
-        (setting_of world.now.script.now (X.meaning world.now.device.now) world.now.limit) machine.old result }
+        (setting_of world.now.script.now (X.meaning world.now.device.now) world.now.limit)
+        machine.old result }
     ensures steps { steps.new ≡ steps.old + result }
     ensures crew { IsWhole crew.new }
 {

@@ -197,10 +197,12 @@ pub(crate) fn run_by<X: Device>(job: LaneJob, world: &World<'_, X>) -> LaneRepor
     ensures lane { result.lane ≡ job.lane }
     ensures limit { result.limit ≡ job.limit }
     ensures replays { IsTrueRun
-        (setting_of world.now.script.now (X.meaning world.now.device.now) world.now.limit) result.run }
+        (setting_of world.now.script.now (X.meaning world.now.device.now) world.now.limit)
+        result.run }
     ensures words { (count : ℕ) → HasWordsIn count job.set.room → HasWords count result.run }
     ensures alone { (s : State) → IsJobOf s job → IsAlone
-        (setting_of world.now.script.now (X.meaning world.now.device.now) world.now.limit) s result }
+        (setting_of world.now.script.now (X.meaning world.now.device.now) world.now.limit) s
+        result }
 {
     let LaneJob {
         lane,
@@ -228,7 +230,8 @@ pub fn run_job<X: Device>(job: LaneJob, world: &World<'_, X>) -> LaneReport
     ensures holds { IsTrueIn
         (setting_of world.now.script.now (X.meaning world.now.device.now) world.now.limit) result }
     ensures alone { (s : State) → IsJobOf s job → IsAlone
-        (setting_of world.now.script.now (X.meaning world.now.device.now) world.now.limit) s result }
+        (setting_of world.now.script.now (X.meaning world.now.device.now) world.now.limit) s
+        result }
 {
     run_by(job, world)
 }

@@ -70,10 +70,12 @@ fn try_cycle<X: Device>(
     ensures state { machine.new ≡ (if result then next_by
         (setting_of world.now.script.now (X.meaning world.now.device.now) world.now.limit)
         (begun_by (rests_at runs.now places.old) machine.old)
-        (wanted (begun_by (rests_at runs.now places.old) machine.old)) machine.old else machine.old) }
+        (wanted (begun_by (rests_at runs.now places.old) machine.old)) machine.old
+        else machine.old) }
     ensures marks { marks.new ≡ marks.old ++ (if result then marked
         (setting_of world.now.script.now (X.meaning world.now.device.now) world.now.limit)
-        machine.old.outer (begun_by (rests_at runs.now places.old) machine.old).outer ∷ [] else []) }
+        machine.old.outer (begun_by (rests_at runs.now places.old) machine.old).outer ∷ []
+        else []) }
 {
     let Comparison {
         begun,
@@ -93,7 +95,8 @@ fn try_cycle<X: Device>(
 pub(crate) fn longest<X: Device>(machine: &Machine, world: &World<'_, X>) -> u16
     requires { machine.now.cycle ≤ world.now.limit }
     ensures value { result ≡ longest
-        (setting_of world.now.script.now (X.meaning world.now.device.now) world.now.limit) machine.now }
+        (setting_of world.now.script.now (X.meaning world.now.device.now) world.now.limit)
+        machine.now }
     ensures number { machine.now.cycle + result < 2 ^ 64 }
     ensures few { result ≤ 256 }
 {
@@ -113,7 +116,8 @@ fn is_known(machine: &Machine)
 pub(crate) fn is_numbered<X: Device>(machine: &Machine, world: &World<'_, X>, at_most: u16)
     requires limit { machine.now.cycle ≤ world.now.limit }
     requires cycles { at_most ≤ longest
-        (setting_of world.now.script.now (X.meaning world.now.device.now) world.now.limit) machine.now }
+        (setting_of world.now.script.now (X.meaning world.now.device.now) world.now.limit)
+        machine.now }
     ensures { machine.now.cycle + at_most < 2 ^ 64 }
 {
     let _longest = longest(machine, world);
@@ -134,17 +138,22 @@ pub fn merge_runs<X: Device, L: Ledger>(
     requires free { has_hold machine.old.fabric ≡ false }
     requires rested { IsRested machine.old.sio }
     requires cycles { at_most ≤ longest
-        (setting_of world.now.script.now (X.meaning world.now.device.now) world.now.limit) machine.old }
+        (setting_of world.now.script.now (X.meaning world.now.device.now) world.now.limit)
+        machine.old }
     requires runs { AreCut
-        (setting_of world.now.script.now (X.meaning world.now.device.now) world.now.limit) machine.old at_most
+        (setting_of world.now.script.now (X.meaning world.now.device.now) world.now.limit)
+        machine.old at_most
         runs.now }
     ensures length { result ≡ window_within
-        (setting_of world.now.script.now (X.meaning world.now.device.now) world.now.limit) machine.old at_most }
+        (setting_of world.now.script.now (X.meaning world.now.device.now) world.now.limit)
+        machine.old at_most }
     ensures state { machine.new ≡ states
-        (setting_of world.now.script.now (X.meaning world.now.device.now) world.now.limit) machine.old result }
+        (setting_of world.now.script.now (X.meaning world.now.device.now) world.now.limit)
+        machine.old result }
     ensures number { machine.new.cycle ≡ machine.old.cycle + result }
     ensures marks { marks.new ≡ marks_in
-        (setting_of world.now.script.now (X.meaning world.now.device.now) world.now.limit) machine.old result }
+        (setting_of world.now.script.now (X.meaning world.now.device.now) world.now.limit)
+        machine.old result }
     ensures steps { steps.new ≡ steps.old + result }
 {
     is_known(machine);
