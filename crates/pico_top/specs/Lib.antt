@@ -1,9 +1,10 @@
+pub mod Alone
 pub mod Answer
 pub mod Call
-pub mod Came
 pub mod Causes
 pub mod Dialogue
 pub mod Loads
 pub mod Opening
 pub mod RunText
+pub mod Teller
 pub mod Walk

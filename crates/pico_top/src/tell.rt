@@ -5,7 +5,9 @@ ghost use Rattle.trace_text.specs.Sent.{Sends};
 ghost use Rattle.refusal_lines.specs.Refusals.{line_of, status_of};
 ghost use Rattle.refusal_lines.specs.Meant.{meant};
 ghost use Rattle.board_parts.specs.Hearing.{aim_of, seen};
-ghost use Rattle.pico_top.specs.RunText.{run_text, run_cycles};
+ghost use Rattle.window_merge.specs.Merging.{IsRested};
+ghost use Rattle.window_merge.specs.Jobs.{IsWhole};
+ghost use Rattle.pico_top.specs.RunText.{run_cycles, run_text};
 ghost use Rattle.pico_top.specs.Answer.{Puts, RunsOut};
 ghost use Rattle.line_talk.specs.Debugger.{quits};
 ghost use Rattle.line_talk.specs.Hearing.{way_line, way_status};
@@ -15,8 +17,9 @@ ghost use Rattle.pico_top.specs.Dialogue.Dialogue.{Hear};
 ghost use Rattle.pico_top.specs.Opening.{setting_in, setting_by, opened_dialogue, IsReady, Refuses, Tells};
 
 use crate::open::{Debugging, Opened, Started, Stop};
-use crate::runner::run_to_stop;
+use crate::alone::run_alone;
 use crate::send::{send_last, send_text};
+use crate::teller::Teller;
 use board_parts::aimed::Aimed;
 use board_parts::probe::Probe;
 use lane_look::Device;
@@ -33,38 +36,41 @@ use trace_text::writer::{SinkFault, Writer};
 /// An input has at most 1 MiB up to its last line.
 const INPUT_LIMIT: usize = 1_048_576;
 
-/// Runs a machine that probes hear, puts the lines of its events, and then those of its end and of the probes.
+/// Runs a machine up to its first stop and tells its events, and then puts the lines of its end, of the probes and of the counts.
 fn run<X: Device, O: Sink, L: Ledger>(
     started: Started,
-    probes: &mut [Aimed],
     device: &X,
-    writer: &mut Writer<'_, O>,
+    teller: &mut Teller<'_, O>,
     steps: &mut Steps<L>,
 ) -> Result<(), SinkFault>
-    requires { started.machine.cycle ≤ started.limit }
-    ensures sends { Sends (O.written writer.old.out.now) (O.written writer.new.out.now)
-        (O.faults writer.old.out.now) (O.faults writer.new.out.now)
-        (run_text (setting_in (X.meaning device.now) started)
-        (seen probes.old (λ a. aim_of a.index a.pin
+    requires number { started.machine.cycle ≤ started.limit }
+    requires rested { IsRested started.machine.sio }
+    requires whole { IsWhole started.crew }
+    ensures sends { Sends (O.written teller.old.writer.out.now) (O.written teller.new.writer.out.now)
+        (O.faults teller.old.writer.out.now) (O.faults teller.new.writer.out.now)
+        (run_text started.stats (setting_in (X.meaning device.now) started)
+        (seen teller.old.probes.now (λ a. aim_of a.index a.pin
         (⟦<dyn Probe as Probe>⟧ a.probe.vtable) a.probe.value))
         started.machine) result }
-    ensures same_sink { writer.new.out.ghost_name ≡ writer.old.out.ghost_name }
+    ensures same_sink { teller.new.writer.out.ghost_name ≡ teller.old.writer.out.ghost_name }
     ensures whole { OnOk result (steps.new ≡ steps.old + run_cycles (setting_in (X.meaning device.now) started) started.machine) }
     ensures forward { steps.old ≤ steps.new }
     ensures within { steps.new ≤ steps.old + run_cycles (setting_in (X.meaning device.now) started) started.machine }
 {
     let Started {
         mut machine,
+        mut crew,
         script,
         limit,
+        stats,
     } = started;
     let world = World {
         script: &script,
         device,
         limit,
     };
-    match run_to_stop(&mut machine, &world, probes, writer, steps) {
-        Ok(why) => send_last(&why, &machine, probes, writer),
+    match run_alone(&mut machine, &world, &mut crew, teller, steps) {
+        Ok(ran) => send_last(stats, &ran, &machine, teller.probes, &mut teller.writer),
         Err(fault) => Err(fault),
     }
 }
@@ -77,9 +83,11 @@ fn run_into<X: Device, O: Sink, L: Ledger>(
     out: &mut O,
     steps: &mut Steps<L>,
 ) -> u8
-    requires { started.machine.cycle ≤ started.limit }
+    requires number { started.machine.cycle ≤ started.limit }
+    requires rested { IsRested started.machine.sio }
+    requires whole { IsWhole started.crew }
     ensures puts { Puts (O.written out.old) (O.written out.new) (O.faults out.old) (O.faults out.new)
-        result 0 (run_text (setting_in (X.meaning device.now) started)
+        result 0 (run_text started.stats (setting_in (X.meaning device.now) started)
         (seen probes.old (λ a. aim_of a.index a.pin
         (⟦<dyn Probe as Probe>⟧ a.probe.vtable) a.probe.value))
         started.machine) }
@@ -87,8 +95,11 @@ fn run_into<X: Device, O: Sink, L: Ledger>(
     ensures forward { steps.old ≤ steps.new }
     ensures within { steps.new ≤ steps.old + run_cycles (setting_in (X.meaning device.now) started) started.machine }
 {
-    let mut writer = Writer { out };
-    match run(started, probes, device, &mut writer, steps) {
+    let mut teller = Teller {
+        writer: Writer { out },
+        probes,
+    };
+    match run(started, device, &mut teller, steps) {
         Ok(()) => 0,
         Err(_) => 7,
     }
