@@ -10,8 +10,8 @@ use Rattle.rp_machine.specs.Cycle.{stop}
 use Rattle.rp_machine.specs.Run.{last_state}
 use Rattle.window_runner.specs.Told.{run_shown}
 use Rattle.board_parts.specs.Hearing.{Aim}
-use Rattle.pico_top.specs.declared.alone.Ran.{Ran}
-use Rattle.pico_top.specs.Alone.{IsRan}
+use Rattle.window_runner.specs.declared.alone.Ran.{Ran}
+use Rattle.window_runner.specs.Alone.{IsRan}
 use Rattle.pico_top.specs.RunText.{event_lines, after_events, probe_lines, counts_text, stats_text, run_text, run_cycles, end_text, core_lines}
 use Rattle.pico_top.specs.Teller.{HasTold, lines_both, one_line}
 

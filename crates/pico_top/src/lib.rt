@@ -2,10 +2,10 @@
 //! written.
 #![tactic(auto)]
 
-mod alone;
 mod open;
 mod probes;
 mod programs;
+mod runner;
 mod send;
 mod tell;
 mod teller;

@@ -7,7 +7,6 @@ ghost use Rattle.trace_text.specs.Sent.{Sends};
 ghost use Rattle.board_parts.specs.Hearing.{aim_of, seen};
 ghost use Rattle.pico_top.specs.RunText.{core_lines, counts_text, probe_lines};
 
-use crate::alone::Ran;
 use crate::probes::send_probes;
 use arrayvec::ArrayVec;
 use board_parts::aimed::Aimed;
@@ -17,6 +16,7 @@ use rp_machine::Machine;
 use rp_ports::sink::Sink;
 use trace_text::line::{push_number, push_text, register_line, stop_line};
 use trace_text::writer::{SinkFault, Writer};
+use window_runner::alone::Ran;
 
 /// Puts the line of a stop.
 fn send_stop<O: Sink>(why: &Why, cycle: u64, writer: &mut Writer<'_, O>) -> Result<(), SinkFault>

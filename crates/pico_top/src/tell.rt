@@ -1,13 +1,13 @@
 //! What was opened, or why nothing was, into the sink.
 
-ghost use Rattle.std.specs.Prelude.{◌≡◌, ◌+◌, ◌≤◌, OnOk};
-ghost use Rattle.trace_text.specs.Sent.{Sends};
+ghost use Rattle.std.specs.Prelude.{◌≡◌, ◌+◌, ◌≤◌, ◌++◌};
+ghost use Rattle.trace_text.specs.Line.{stop_text};
 ghost use Rattle.refusal_lines.specs.Refusals.{line_of, status_of};
 ghost use Rattle.refusal_lines.specs.Meant.{meant};
 ghost use Rattle.board_parts.specs.Hearing.{aim_of, seen};
 ghost use Rattle.window_merge.specs.Merging.{IsRested};
 ghost use Rattle.window_merge.specs.Jobs.{IsWhole};
-ghost use Rattle.pico_top.specs.RunText.{run_cycles, run_text};
+ghost use Rattle.pico_top.specs.RunText.{core_lines, counts_text, probe_lines, run_cycles, run_text};
 ghost use Rattle.pico_top.specs.Answer.{Puts, RunsOut};
 ghost use Rattle.line_talk.specs.Debugger.{quits};
 ghost use Rattle.line_talk.specs.Hearing.{way_line, way_status};
@@ -17,61 +17,43 @@ ghost use Rattle.pico_top.specs.Dialogue.Dialogue.{Hear};
 ghost use Rattle.pico_top.specs.Opening.{setting_in, setting_by, opened_dialogue, IsReady, Refuses, Tells};
 
 use crate::open::{Debugging, Opened, Started, Stop};
-use crate::alone::run_alone;
+use crate::runner::run_to_stop;
 use crate::send::{send_last, send_text};
-use crate::teller::Teller;
 use board_parts::aimed::Aimed;
 use board_parts::probe::Probe;
 use lane_look::Device;
 use line_talk::hear::hear;
 use line_talk::way::Way;
 use refusal_lines::{refusal_line, status};
-use rp_machine::{Steps, World};
+use rp_machine::{Machine, Steps, World};
 use rp_ports::sink::Sink;
 use rp_ports::source::Source;
 use std::alloc::Global;
 use std::sync::ledger::Ledger;
-use trace_text::writer::{SinkFault, Writer};
+use trace_text::writer::Writer;
+use window_runner::alone::Ran;
 
 /// An input has at most 1 MiB up to its last line.
 const INPUT_LIMIT: usize = 1_048_576;
 
-/// Runs a machine up to its first stop and tells its events, and then puts the lines of its end, of the probes and of the counts.
-fn run<X: Device, O: Sink, L: Ledger>(
-    started: Started,
-    device: &X,
-    teller: &mut Teller<'_, O>,
-    steps: &mut Steps<L>,
-) -> Result<(), SinkFault>
-    requires number { started.machine.cycle ≤ started.limit }
-    requires rested { IsRested started.machine.sio }
-    requires whole { IsWhole started.crew }
-    ensures sends { Sends (O.written teller.old.writer.out.now) (O.written teller.new.writer.out.now)
-        (O.faults teller.old.writer.out.now) (O.faults teller.new.writer.out.now)
-        (run_text started.stats (setting_in (X.meaning device.now) started)
-        (seen teller.old.probes.now (λ a. aim_of a.index a.pin
+/// Puts the last lines of a run into a sink, and answers 0, or 7 where the sink fails.
+fn end_into<O: Sink>(
+    stats: bool,
+    ran: &Ran,
+    machine: &Machine,
+    probes: &[Aimed],
+    out: &mut O,
+) -> u8
+    ensures { Puts (O.written out.old) (O.written out.new) (O.faults out.old) (O.faults out.new)
+        result 0 ((stop_text ran.now.why machine.now.cycle ++ core_lines machine.now)
+        ++ (probe_lines (seen probes.now (λ a. aim_of a.index a.pin
         (⟦<dyn Probe as Probe>⟧ a.probe.vtable) a.probe.value))
-        started.machine) result }
-    ensures same_sink { teller.new.writer.out.ghost_name ≡ teller.old.writer.out.ghost_name }
-    ensures whole { OnOk result (steps.new ≡ steps.old + run_cycles (setting_in (X.meaning device.now) started) started.machine) }
-    ensures forward { steps.old ≤ steps.new }
-    ensures within { steps.new ≤ steps.old + run_cycles (setting_in (X.meaning device.now) started) started.machine }
+        ++ counts_text stats ran.now.windows ran.now.cycles)) }
 {
-    let Started {
-        mut machine,
-        mut crew,
-        script,
-        limit,
-        stats,
-    } = started;
-    let world = World {
-        script: &script,
-        device,
-        limit,
-    };
-    match run_alone(&mut machine, &world, &mut crew, teller, steps) {
-        Ok(ran) => send_last(stats, &ran, &machine, teller.probes, &mut teller.writer),
-        Err(fault) => Err(fault),
+    let mut writer = Writer { out };
+    match send_last(stats, ran, machine, probes, &mut writer) {
+        Ok(()) => 0,
+        Err(_) => 7,
     }
 }
 
@@ -95,12 +77,20 @@ fn run_into<X: Device, O: Sink, L: Ledger>(
     ensures forward { steps.old ≤ steps.new }
     ensures within { steps.new ≤ steps.old + run_cycles (setting_in (X.meaning device.now) started) started.machine }
 {
-    let mut teller = Teller {
-        writer: Writer { out },
-        probes,
+    let Started {
+        mut machine,
+        mut crew,
+        script,
+        limit,
+        stats,
+    } = started;
+    let world = World {
+        script: &script,
+        device,
+        limit,
     };
-    match run(started, device, &mut teller, steps) {
-        Ok(()) => 0,
+    match run_to_stop(&mut machine, &world, &mut crew, probes, out, steps) {
+        Ok(ran) => end_into(stats, &ran, &machine, probes, out),
         Err(_) => 7,
     }
 }

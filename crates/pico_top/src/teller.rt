@@ -11,6 +11,7 @@ use board_parts::aimed::{Aimed, hear_all};
 use board_parts::change::PinChange;
 use board_parts::probe::Probe;
 use rp_ports::sink::Sink;
+use std::marker::PhantomData;
 use trace_text::event::Event;
 use trace_text::line::event_line;
 use trace_text::tape::Tape;
@@ -46,6 +47,8 @@ pub struct Teller<'a, O: Sink> {
     pub writer: Writer<'a, O>,
     /// Hear the changes of pins.
     pub probes: &'a mut [Aimed],
+    /// A probe is known by what is behind its box.
+    pub boxed: PhantomData<Box<dyn Probe>>,
 }
 
 impl<'a, O: Sink> Tape for Teller<'a, O> {
@@ -62,7 +65,8 @@ impl<'a, O: Sink> Tape for Teller<'a, O> {
         HasTold (O.written old.writer.out.now) (O.written new.writer.out.now)
         (seen old.probes.now (λ a. aim_of a.index a.pin (Probe-box a.probe) a.probe.value))
         (seen new.probes.now (λ a. aim_of a.index a.pin (Probe-box a.probe) a.probe.value)) events
-        × (new.writer.out.ghost_name ≡ old.writer.out.ghost_name) };
+        × (new.writer.out.ghost_name ≡ old.writer.out.ghost_name)
+        × (new.probes.ghost_name ≡ old.probes.ghost_name) };
 
     ghost missed = { λ old event new.
         AppendsPart (O.written old.writer.out.now) (O.written new.writer.out.now) (event_text event)
@@ -78,8 +82,8 @@ impl<'a, O: Sink> Tape for Teller<'a, O> {
         }
     }
 
-    ghost takes_none = { λ teller. (told_none _ _, refl) };
+    ghost takes_none = { λ teller. (told_none _ _, refl, refl) };
 
     ghost takes_in_turn = { λ a b c first second h k.
-        (told_both _ _ _ _ _ _ first second h.0 k.0, k.1 ∙ h.1) };
+        (told_both _ _ _ _ _ _ first second h.0 k.0, k.1 ∙ h.1, k.2 ∙ h.2) };
 }
