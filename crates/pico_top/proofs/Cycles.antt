@@ -1,8 +1,10 @@
 -- The text and the cycles of a run.
-use Rattle.std.proofs.Common.{◌≡◌, ℕ, Bool, ◌+◌, ◌-◌, ◌≤◌, [], ◌∷◌, ◌++◌, List, Option, Some, Result, Ok, Err, OnOk, refl, ap, ap₂, subst, sym, arith, ◌∙◌, append_assoc}
+use Rattle.std.proofs.Common.{◌≡◌, ℕ, Bool, ◌+◌, ◌-◌, ◌≤◌, [], ◌∷◌, ◌++◌, List, Option, Some, Result, Ok, Err, IfOk, refl, ap, ap₂, subst, sym, arith, ◌∙◌, append_assoc}
 use Rattle.outer_lane.specs.Setting.{Setting}
 use Rattle.trace_text.specs.Line.{stop_text, event_text}
-use Rattle.trace_text.specs.Sent.{AppendsPart}
+use Rattle.rp_ports.specs.Sink.{Appends}
+use Rattle.trace_text.specs.Sent.{AppendsPart, Sends}
+use Rattle.trace_text.specs.Tape.{FailsAmong, Tells}
 use Rattle.trace_text.specs.declared.event.Event.{Event}
 use Rattle.trace_text.proofs.Sending.{part_of_longer, part_behind}
 use Rattle.rp_machine.specs.State.{State}
@@ -40,6 +42,26 @@ part_told a b c x y events first others event e told part =
     rw (ap event_lines e ∙ sym (lines_cut first others event))
     (part_of_longer a c (event_lines first ++ event_text event) (event_lines others) (part_behind a b c (event_lines first) (event_text event) told.written part))
 
+-- ---- what a tape that is such a sink was told
+
+pub sends_told : {T A E : Type 0} (took : T → List Event → T → Type 0) (missed : T → Event → T → Type 0) (x y : T) (a b : Option (List ℕ)) (f g : ℕ) (events : List Event) (r : Result A E)
+    → (took x events y → Appends a b (event_lines events)) → (FailsAmong took missed x y events → AppendsPart a b (event_lines events))
+    → Tells took missed x y f g events r → Sends a b f g (event_lines events) r
+sends_told took missed x y a b f g events (Ok v) h k t = record { ok = h t.ok; err = tt; cause = tt; count = t.count }
+sends_told took missed x y a b f g events (Err e) h k t = record { ok = tt; err = k t.err; cause = t.cause; count = t.count }
+
+pub heard_told : {T A E : Type 0} (took : T → List Event → T → Type 0) (missed : T → Event → T → Type 0) (x y : T) (f g : ℕ) (events : List Event) (P : Type 0) (r : Result A E)
+    → (took x events y → P) → Tells took missed x y f g events r → IfOk r (λ v. P)
+heard_told took missed x y f g events P (Ok v) h t = h t.ok
+heard_told took missed x y f g events P (Err e) h t = tt
+
+pub same_told : {T A E : Type 0} (took : T → List Event → T → Type 0) (missed : T → Event → T → Type 0) (x y : T) (f g : ℕ) (events : List Event) (P : Type 0) (r : Result A E)
+    → (took x events y → P) → (FailsAmong took missed x y events → P) → Tells took missed x y f g events r → P
+same_told took missed x y f g events P (Ok v) h k t = h t.ok
+same_told took missed x y f g events P (Err e) h k t = k t.err
+
+-- ---- the cycles
+
 -- what was counted up to the last state is the cycles of the run
 pub counted_run : (w : Setting) (s t : State) (before now : ℕ) → t ≡ last_state w s → now + s.cycle ≡ before + t.cycle → s.cycle ≤ t.cycle → now ≡ before + run_cycles w s
 unfolding run_cycles
@@ -51,8 +73,3 @@ counted_run w s t before now e count forward =
 pub counted_within : (w : Setting) (s t : State) (before now : ℕ) → t.cycle ≤ (last_state w s).cycle → now + s.cycle ≡ before + t.cycle → now ≤ before + run_cycles w s
 unfolding run_cycles
 counted_within w s t before now le count = omega (arith, le, count)
-
--- a fact holds of whatever came of it
-pub on_ok : {T E : Type 0} (P : Type 0) (r : Result T E) → P → OnOk r P
-on_ok P (Ok x) p = p
-on_ok P (Err e) p = tt

@@ -23,6 +23,42 @@ use trace_text::writer::{SinkFault, Writer};
 use window_merge::Crew;
 use window_runner::alone::{Ran, run_alone};
 
+/// Runs a machine up to its first stop and tells its events. Each cycle counts as a step.
+fn run_told<X: Device, O: Sink, L: Ledger>(
+    machine: &mut Machine,
+    world: &World<'_, X>,
+    crew: &mut Crew,
+    teller: &mut Teller<'_, O>,
+    steps: &mut Steps<L>,
+) -> Result<Ran, SinkFault>
+    requires number { machine.old.cycle ≤ world.now.limit }
+    requires rested { IsRested machine.old.sio }
+    requires whole { IsWhole crew.old }
+    ensures sends { Sends (O.written teller.old.writer.out.now) (O.written teller.new.writer.out.now)
+        (O.faults teller.old.writer.out.now) (O.faults teller.new.writer.out.now)
+        (event_lines (run_shown
+        (setting_of world.now.script.now (X.meaning world.now.device.now) world.now.limit) machine.old))
+        result }
+    ensures heard { IfOk result (λ ran. seen teller.new.probes.now (λ a. aim_of a.index a.pin
+        (⟦<dyn Probe as Probe>⟧ a.probe.vtable) a.probe.value)
+        ≡ after_events (run_shown
+        (setting_of world.now.script.now (X.meaning world.now.device.now) world.now.limit) machine.old)
+        (seen teller.old.probes.now (λ a. aim_of a.index a.pin
+        (⟦<dyn Probe as Probe>⟧ a.probe.vtable) a.probe.value))) }
+    ensures same_sink { teller.new.writer.out.ghost_name ≡ teller.old.writer.out.ghost_name }
+    ensures same_probes { teller.new.probes.ghost_name ≡ teller.old.probes.ghost_name }
+    ensures ran { IfOk result (IsRan
+        (setting_of world.now.script.now (X.meaning world.now.device.now) world.now.limit) machine.old) }
+    ensures state { IfOk result (λ ran. machine.new ≡ last_state
+        (setting_of world.now.script.now (X.meaning world.now.device.now) world.now.limit) machine.old) }
+    ensures on_run { IsOnRun
+        (setting_of world.now.script.now (X.meaning world.now.device.now) world.now.limit)
+        machine.old machine.new }
+    ensures steps { steps.new + machine.old.cycle ≡ steps.old + machine.new.cycle }
+{
+    run_alone(machine, world, crew, teller, steps)
+}
+
 /// Runs a machine up to its first stop, lets the probes hear the events, and puts their lines. Each cycle counts as a step.
 pub fn run_to_stop<X: Device, O: Sink, L: Ledger>(
     machine: &mut Machine,
@@ -59,8 +95,5 @@ pub fn run_to_stop<X: Device, O: Sink, L: Ledger>(
         probes,
         boxed: PhantomData,
     };
-    match run_alone(machine, world, crew, &mut teller, steps) {
-        Ok(ran) => Ok(ran),
-        Err(fault) => Err(fault),
-    }
+    run_told(machine, world, crew, &mut teller, steps)
 }

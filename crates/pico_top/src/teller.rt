@@ -1,6 +1,7 @@
 //! Where the events of a run go: each leaves its line in the sink, and each change of a pin is heard by the probes.
 
-ghost use Rattle.std.specs.Prelude.{◌≡◌, ◌∷◌, []};
+ghost use Rattle.std.specs.Prelude.{◌≡◌, ◌∷◌, ◌<◌, []};
+ghost use Rattle.trace_text.specs.declared.event.Event.TheVariants.{Pin};
 ghost use Rattle.trace_text.specs.Line.{event_text};
 ghost use Rattle.trace_text.specs.Sent.{Sends};
 ghost use Rattle.board_parts.specs.Hearing.{aim_of, seen};
@@ -28,15 +29,24 @@ fn send_event<O: Sink>(event: &Event, writer: &mut Writer<'_, O>) -> Result<(), 
     writer.line(&line)
 }
 
+/// All probes hear of a change of a pin.
+fn hear_change(cycle: u64, pin: u8, level: bool, probes: &mut [Aimed])
+    requires { pin < 256 }
+    ensures { seen probes.new (λ a. aim_of a.index a.pin (⟦<dyn Probe as Probe>⟧ a.probe.vtable) a.probe.value)
+        ≡ after_events (Pin cycle pin level ∷ [])
+        (seen probes.old (λ a. aim_of a.index a.pin (⟦<dyn Probe as Probe>⟧ a.probe.vtable) a.probe.value)) }
+{
+    hear_all(probes, &PinChange { cycle, pin, level });
+}
+
 /// All probes hear of a pin, if the event is its change.
 fn hear_event(event: &Event, probes: &mut [Aimed])
     ensures { seen probes.new (λ a. aim_of a.index a.pin (⟦<dyn Probe as Probe>⟧ a.probe.vtable) a.probe.value)
         ≡ after_events (event.now ∷ [])
         (seen probes.old (λ a. aim_of a.index a.pin (⟦<dyn Probe as Probe>⟧ a.probe.vtable) a.probe.value)) }
 {
-    match *event {
-        Event::Uart { .. } => {}
-        Event::Pin { cycle, pin, level } => hear_all(probes, &PinChange { cycle, pin, level }),
+    if let Event::Pin { cycle, pin, level } = *event {
+        hear_change(cycle, pin, level, probes);
     }
 }
 
@@ -70,7 +80,8 @@ impl<'a, O: Sink> Tape for Teller<'a, O> {
 
     ghost missed = { λ old event new.
         AppendsPart (O.written old.writer.out.now) (O.written new.writer.out.now) (event_text event)
-        × (new.writer.out.ghost_name ≡ old.writer.out.ghost_name) };
+        × (new.writer.out.ghost_name ≡ old.writer.out.ghost_name)
+        × (new.probes.ghost_name ≡ old.probes.ghost_name) };
 
     fn event(&mut self, event: &Event) -> Result<(), SinkFault> {
         match send_event(event, &mut self.writer) {
