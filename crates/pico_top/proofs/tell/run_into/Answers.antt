@@ -19,10 +19,10 @@ pub returns-in-Ok-clause-within : goal.returns-in-Ok-clause-within
 returns-in-Ok-clause-within g c =
     let h = c.in-Ok.ensures in counted_within _ c.args.started.machine c.run_to_stop.new.machine _ _ h.on_run.within h.steps
 
-pub returns-in-Err-clause-puts : goal.returns-in-Err-clause-puts
-returns-in-Err-clause-puts g c =
-    (Err c.in-Err.payload, sends_first _ _ _ _ _ _ _ _ (run_begins c.args.started.stats _ _ _) c.in-Err.ensures.sends, refl)
+pub returns-clause-puts : goal.returns-clause-puts
+returns-clause-puts g c =
+    (Err _, sends_first _ _ _ _ _ _ _ _ (run_begins c.args.started.stats _ _ _) c.in-Err.ensures.sends, refl)
 
-pub returns-in-Err-clause-within : goal.returns-in-Err-clause-within
-returns-in-Err-clause-within g c =
+pub returns-clause-within : goal.returns-clause-within
+returns-clause-within g c =
     let h = c.in-Err.ensures in counted_within _ c.args.started.machine c.run_to_stop.new.machine _ _ h.on_run.within h.steps
