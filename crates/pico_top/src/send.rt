@@ -79,11 +79,7 @@ fn counts_line(windows: u64, cycles: u64, out: &mut ArrayVec<u8, 192>)
 
 /// Puts the line of the counts, where it is asked for.
 #[tactic(auto, unfolding(crate::specs::RunText::counts_text))]
-fn send_counts<O: Sink>(
-    stats: bool,
-    ran: &Ran,
-    writer: &mut Writer<'_, O>,
-) -> Result<(), SinkFault>
+fn send_counts<O: Sink>(stats: bool, ran: &Ran, writer: &mut Writer<'_, O>) -> Result<(), SinkFault>
     ensures sends { Sends (O.written writer.old.out.now) (O.written writer.new.out.now) (O.faults writer.old.out.now) (O.faults writer.new.out.now) (counts_text stats ran.now.windows ran.now.cycles) result }
     ensures same_sink { writer.new.out.ghost_name ≡ writer.old.out.ghost_name }
 {

@@ -37,13 +37,7 @@ use window_runner::alone::Ran;
 const INPUT_LIMIT: usize = 1_048_576;
 
 /// Puts the last lines of a run into a sink, and answers 0, or 7 where the sink fails.
-fn end_into<O: Sink>(
-    stats: bool,
-    ran: &Ran,
-    machine: &Machine,
-    probes: &[Aimed],
-    out: &mut O,
-) -> u8
+fn end_into<O: Sink>(stats: bool, ran: &Ran, machine: &Machine, probes: &[Aimed], out: &mut O) -> u8
     ensures { Puts (O.written out.old) (O.written out.new) (O.faults out.old) (O.faults out.new)
         result 0 ((stop_text ran.now.why machine.now.cycle ++ core_lines machine.now)
         ++ (probe_lines (seen probes.now (λ a. aim_of a.index a.pin
