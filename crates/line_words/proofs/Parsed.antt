@@ -63,6 +63,7 @@ same_line found command =
       first_value-rows found (codes "probe"),
       first_value-rows found (codes "side"),
       first_value-rows found (codes "opt"),
+      first_value-rows found (codes "stats"),
     ) refl
 
 -- a plain command has no global argument

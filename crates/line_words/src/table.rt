@@ -3,9 +3,9 @@
 ghost use Rattle.std.specs.Prelude.{◌≡◌, false, IfOk};
 ghost use Rattle.clap.specs.Words.{app_of};
 ghost use Rattle.clap.specs.Walk.{rule_of};
-ghost use Rattle.line_words.specs.Table.{argument, needed, option, table};
+ghost use Rattle.line_words.specs.Table.{argument, needed, option, flag, table};
 
-use clap::{Arg, Command};
+use clap::{Arg, ArgAction, Command};
 use std::alloc::{AllocError, Global};
 
 /// The argument of a command.
@@ -32,6 +32,14 @@ fn needed<'a>(alloc: Global, name: &'a str) -> Arg<'a>
     Arg::new(alloc, name).long(name).required(true)
 }
 
+/// An option without a value.
+fn flag<'a>(alloc: Global, name: &'a str) -> Arg<'a>
+    ensures rule { rule_of result ≡ flag name.now }
+    ensures local { result.global ≡ false }
+{
+    Arg::new(alloc, name).long(name).action(ArgAction::SetTrue)
+}
+
 /// The commands, each as a subcommand of one.
 pub fn table<'a>(alloc: Global) -> Result<Command<'a>, AllocError>
     ensures { IfOk result (λ command. app_of command ≡ table) }
@@ -41,7 +49,8 @@ pub fn table<'a>(alloc: Global) -> Result<Command<'a>, AllocError>
         .arg(needed(alloc, "cycles"))?
         .arg(option(alloc, "script"))?
         .arg(option(alloc, "pio"))?
-        .arg(option(alloc, "probe"))?;
+        .arg(option(alloc, "probe"))?
+        .arg(flag(alloc, "stats"))?;
     let debug = Command::new(alloc, "debug")
         .arg(argument(alloc))?
         .arg(needed(alloc, "cycles"))?
@@ -54,7 +63,8 @@ pub fn table<'a>(alloc: Global) -> Result<Command<'a>, AllocError>
         .arg(option(alloc, "opt"))?;
     let generate = Command::new(alloc, "gen")
         .arg(argument(alloc))?
-        .arg(needed(alloc, "cycles"))?;
+        .arg(needed(alloc, "cycles"))?
+        .arg(flag(alloc, "stats"))?;
     Command::new(alloc, "pico")
         .no_binary_name(true)
         .subcommand(run)?

@@ -139,7 +139,7 @@ targets_in (RunImage run) = run.probes
 targets_in (DebugImage run) = []
 targets_in (Disassemble words side) = []
 targets_in (Assemble name) = []
-targets_in (Generate number cycles) = []
+targets_in (Generate number cycles stats) = []
 
 -- the probes that are aimed, of those that are handed in
 abbrev pub aims_in : List ProbeMeaning → Command → List Aim
@@ -152,4 +152,4 @@ dialogue_of device aims (RunImage run) = with_image run.image (behind_image (say
 dialogue_of device aims (DebugImage run) = with_image run.image (behind_image hear_run device run)
 dialogue_of device aims (Disassemble words side) = Say (source_text side words) (Exactly 0)
 dialogue_of device aims (Assemble name) = with_source name (λ plans. SayWords plans listing (λ programs. Exactly 0))
-dialogue_of device aims (Generate number cycles) = say_run aims (setting_of [] device cycles) (image_of_number number) []
+dialogue_of device aims (Generate number cycles stats) = say_run aims (setting_of [] device cycles) (image_of_number number) []

@@ -317,7 +317,7 @@ fn open_text(alloc: Global, asked: &DisWords) -> Result<Opened, Stop>
 fn open_generated<X: Device>(alloc: Global, asked: &GenWords, device: &X) -> Result<Opened, Stop>
     requires limit { asked.now.cycles ≤ 1000000000 }
     ensures { (files : Option Files) (failed : List (List ℕ))
-        → OpensFor files failed failed (X.meaning device.now) (Generate asked.now.number asked.now.cycles) result }
+        → OpensFor files failed failed (X.meaning device.now) (Generate asked.now.number asked.now.cycles asked.now.stats) result }
 {
     match generated(alloc, asked.number) {
         Ok(image) => {
