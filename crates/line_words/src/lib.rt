@@ -35,6 +35,3 @@ pub fn line_in(alloc: Global, words: &[String]) -> Result<Option<Vec<String>>, A
         },
     }
 }
-
-#[cfg(test)]
-mod tests;
