@@ -3,7 +3,7 @@
 ghost use Rattle.std.specs.Prelude.{◌≡◌, false, IfOk};
 ghost use Rattle.clap.specs.Words.{app_of};
 ghost use Rattle.clap.specs.Walk.{rule_of};
-ghost use Rattle.line_words.specs.Table.{argument, needed, option, flag, table};
+ghost use Rattle.line_words.specs.Table.{argument, needed, option, flag, run, debug, asm, dis, generate, table};
 
 use clap::{Arg, ArgAction, Command};
 use std::alloc::{AllocError, Global};
@@ -40,36 +40,66 @@ fn flag<'a>(alloc: Global, name: &'a str) -> Arg<'a>
     Arg::new(alloc, name).long(name).action(ArgAction::SetTrue)
 }
 
-/// The commands, each as a subcommand of one.
-pub fn table<'a>(alloc: Global) -> Result<Command<'a>, AllocError>
-    ensures { IfOk result (λ command. app_of command ≡ table) }
+/// `run <image> --cycles N [--script FILE] [--pio LIST] [--probe LIST] [--stats]`.
+fn run<'a>(alloc: Global) -> Result<Command<'a>, AllocError>
+    ensures { IfOk result (λ command. app_of command ≡ run) }
 {
-    let run = Command::new(alloc, "run")
+    Command::new(alloc, "run")
         .arg(argument(alloc))?
         .arg(needed(alloc, "cycles"))?
         .arg(option(alloc, "script"))?
         .arg(option(alloc, "pio"))?
         .arg(option(alloc, "probe"))?
-        .arg(flag(alloc, "stats"))?;
-    let debug = Command::new(alloc, "debug")
+        .arg(flag(alloc, "stats"))
+}
+
+/// `debug <image> --cycles N [--script FILE] [--pio LIST]`.
+fn debug<'a>(alloc: Global) -> Result<Command<'a>, AllocError>
+    ensures { IfOk result (λ command. app_of command ≡ debug) }
+{
+    Command::new(alloc, "debug")
         .arg(argument(alloc))?
         .arg(needed(alloc, "cycles"))?
         .arg(option(alloc, "script"))?
-        .arg(option(alloc, "pio"))?;
-    let asm = Command::new(alloc, "asm").arg(argument(alloc))?;
-    let dis = Command::new(alloc, "dis")
+        .arg(option(alloc, "pio"))
+}
+
+/// `asm <file>`.
+fn asm<'a>(alloc: Global) -> Result<Command<'a>, AllocError>
+    ensures { IfOk result (λ command. app_of command ≡ asm) }
+{
+    Command::new(alloc, "asm").arg(argument(alloc))
+}
+
+/// `dis <hex> [--side S] [--opt T]`.
+fn dis<'a>(alloc: Global) -> Result<Command<'a>, AllocError>
+    ensures { IfOk result (λ command. app_of command ≡ dis) }
+{
+    Command::new(alloc, "dis")
         .arg(argument(alloc))?
         .arg(option(alloc, "side"))?
-        .arg(option(alloc, "opt"))?;
-    let generate = Command::new(alloc, "gen")
+        .arg(option(alloc, "opt"))
+}
+
+/// `gen <number> --cycles N [--stats]`.
+fn generate<'a>(alloc: Global) -> Result<Command<'a>, AllocError>
+    ensures { IfOk result (λ command. app_of command ≡ generate) }
+{
+    Command::new(alloc, "gen")
         .arg(argument(alloc))?
         .arg(needed(alloc, "cycles"))?
-        .arg(flag(alloc, "stats"))?;
+        .arg(flag(alloc, "stats"))
+}
+
+/// The commands, each as a subcommand of one.
+pub fn table<'a>(alloc: Global) -> Result<Command<'a>, AllocError>
+    ensures { IfOk result (λ command. app_of command ≡ table) }
+{
     Command::new(alloc, "pico")
         .no_binary_name(true)
-        .subcommand(run)?
-        .subcommand(debug)?
-        .subcommand(asm)?
-        .subcommand(dis)?
-        .subcommand(generate)
+        .subcommand(run(alloc)?)?
+        .subcommand(debug(alloc)?)?
+        .subcommand(asm(alloc)?)?
+        .subcommand(dis(alloc)?)?
+        .subcommand(generate(alloc)?)
 }
