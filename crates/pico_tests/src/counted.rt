@@ -2,9 +2,9 @@
 
 ghost use Rattle.std.specs.Prelude.{◌≡◌, ◌<◌};
 
-use pico_top::pico;
 use board_parts::probe::Probe;
 use lane_look::NoDevice;
+use pico_top::pico;
 use rp_machine::Steps;
 use rp_ports::mem_source::MemSource;
 use rp_ports::shelf::Shelf;

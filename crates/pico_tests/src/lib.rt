@@ -14,6 +14,6 @@ mod gen_tests;
 #[cfg(test)]
 mod machine_tests;
 #[cfg(test)]
-mod sample_files;
-#[cfg(test)]
 mod run_tests;
+#[cfg(test)]
+mod sample_files;

@@ -179,11 +179,11 @@ programs_open aims purpose files a b device run image script loads (Err stop) pr
     (last.0, programs.2.2 (use_for aims purpose (setting_of script device run.cycles) image) last.0 last.1, programs.0 ∙ last.2, last.3)
 
 -- a generated image needs no file
-pub generated_opens : (files : Option Files) (failed : List (List ℕ)) (device : DeviceMeaning) (number cycles : ℕ) (image : Loaded) (script : List ScriptEntry) (result : Result Opened Stop) → image ≡ image_of_number number → script ≡ [] → Boots (ForRun false) (start device image []) script cycles result → OpensFor files failed failed device (Generate number cycles) result
-generated_opens files failed device number cycles image script result is empty boots aims =
-    let own = subst (λ (i : Loaded). Boots (ForRun false) (start device i []) script cycles result) is boots in
-    let plain = subst (λ (s : List ScriptEntry). Boots (ForRun false) (start device (image_of_number number) []) s cycles result) empty own in
-    boots_opens aims (ForRun false) files failed device [] cycles (image_of_number number) [] [] result tt plain
+pub generated_opens : (files : Option Files) (failed : List (List ℕ)) (device : DeviceMeaning) (number cycles : ℕ) (stats : Bool) (image : Loaded) (script : List ScriptEntry) (result : Result Opened Stop) → image ≡ image_of_number number → script ≡ [] → Boots (ForRun stats) (start device image []) script cycles result → OpensFor files failed failed device (Generate number cycles stats) result
+generated_opens files failed device number cycles stats image script result is empty boots aims =
+    let own = subst (λ (i : Loaded). Boots (ForRun stats) (start device i []) script cycles result) is boots in
+    let plain = subst (λ (s : List ScriptEntry). Boots (ForRun stats) (start device (image_of_number number) []) s cycles result) empty own in
+    boots_opens aims (ForRun stats) files failed device [] cycles (image_of_number number) [] [] result tt plain
 
 -- the line of a refusal was put with its status
 pub refuses_by : (old new : Option (List ℕ)) (before now status : ℕ) (refusal : Written) (stop : Stop) (wanted : ℕ) (text : List ℕ) → stop ≡ Refusing refusal → wanted ≡ status_of (meant refusal) → text ≡ line_of (meant refusal) → Puts old new before now status wanted text → Refuses old new before now status stop

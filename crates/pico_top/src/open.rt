@@ -332,14 +332,14 @@ fn open_text(alloc: Global, asked: &DisWords) -> Result<Opened, Stop>
 fn open_generated<X: Device>(alloc: Global, asked: &GenWords, device: &X) -> Result<Opened, Stop>
     requires limit { asked.now.cycles ≤ 1000000000 }
     ensures { (files : Option Files) (failed : List (List ℕ))
-        → OpensFor files failed failed (X.meaning device.now) (Generate asked.now.number asked.now.cycles) result }
+        → OpensFor files failed failed (X.meaning device.now) (Generate asked.now.number asked.now.cycles asked.now.stats) result }
 {
     match generated(alloc, asked.number) {
         Ok(image) => {
             let script = Script::new(alloc);
             boot(
                 alloc,
-                Purpose::Run { stats: false },
+                Purpose::Run { stats: asked.stats },
                 &image,
                 script,
                 &[],
@@ -364,7 +364,10 @@ pub fn open_reading<F: Shelf, X: Device>(
         (command_in reading.now) result }
 {
     match reading {
-        Reading::Run(run) => open_run(alloc, Purpose::Run { stats: false }, run, files, device),
+        Reading::Run(run) => {
+            let purpose = Purpose::Run { stats: run.stats };
+            open_run(alloc, purpose, run, files, device)
+        }
         Reading::Debug(run) => open_run(alloc, Purpose::Debug, run, files, device),
         Reading::Dis(asked) => open_text(alloc, asked),
         Reading::Asm(name) => open_source(alloc, name.as_str(), files, device),
