@@ -9,7 +9,7 @@ use Rattle.pio_words.specs.declared.side.SideConfig.{SideConfig}
 use Rattle.board_parts.specs.declared.target.Target.{Target}
 use Rattle.line_words.specs.Line.{line_in}
 use Rattle.command_words.specs.Numbers.{within, number_within, number_of}
-use Rattle.command_words.specs.Options.{is_normal, value_for}
+use Rattle.command_words.specs.Options.{Setting, settings_of, is_normal, value_for}
 use Rattle.command_words.specs.Entries.{Entry}
 use Rattle.command_words.specs.Words.{Run, Command, IsLimited, cycles_in, run_with, run_reading, disassemble, dis_reading, generate, gen_reading, written, reading}
 use Rattle.command_words.specs.Words.Command.{RunImage, DebugImage}
@@ -37,15 +37,15 @@ cycles_high : (value : Option (List ℕ)) (k : ℕ) → option_and_then (number_
 cycles_high None k e = absurd (none-some k e)
 cycles_high (Some word) k e = within_high 1 1000000000 (number_of word) k e
 
-with_limited : (image : List ℕ) (cycles : Option ℕ) (script : Option (List ℕ)) (pio : Option (List Entry)) (probes : Option (List Target)) → ((k : ℕ) → cycles ≡ Some k → k ≤ 1000000000) → IsRunLimited (run_with image cycles script pio probes)
-with_limited image None script pio probes h = tt
-with_limited image (Some n) script None probes h = tt
-with_limited image (Some n) script (Some entries) None h = tt
-with_limited image (Some n) script (Some entries) (Some targets) h = h n refl
+with_limited : (image : List ℕ) (cycles : Option ℕ) (script : Option (List ℕ)) (pio : Option (List Entry)) (probes : Option (List Target)) (stats : Bool) → ((k : ℕ) → cycles ≡ Some k → k ≤ 1000000000) → IsRunLimited (run_with image cycles script pio probes stats)
+with_limited image None script pio probes stats h = tt
+with_limited image (Some n) script None probes stats h = tt
+with_limited image (Some n) script (Some entries) None stats h = tt
+with_limited image (Some n) script (Some entries) (Some targets) stats h = h n refl
 
-run_limited : (probes : ℕ) (image : List ℕ) (options : List (List ℕ)) → IsRunLimited (run_reading probes image options)
+run_limited : (probes : ℕ) (image : List ℕ) (settings : List Setting) → IsRunLimited (run_reading probes image settings)
 unfolding run_reading
-run_limited probes image options = with_limited image (cycles_in options) _ _ _ (λ k e. cycles_high (value_for (codes "--cycles") options) k e)
+run_limited probes image settings = with_limited image (cycles_in settings) _ _ _ _ (λ k e. cycles_high (value_for (codes "--cycles") settings) k e)
 
 as_run : (run : Option Run) → IsRunLimited run → AreLimited (option_map RunImage run)
 as_run None h = tt
@@ -60,18 +60,18 @@ disassembled None side = tt
 disassembled (Some words) None = tt
 disassembled (Some words) (Some side) = tt
 
-dis_limited : (hex : List ℕ) (options : List (List ℕ)) → AreLimited (dis_reading hex options)
+dis_limited : (hex : List ℕ) (settings : List Setting) → AreLimited (dis_reading hex settings)
 unfolding dis_reading
-dis_limited hex options = disassembled _ _
+dis_limited hex settings = disassembled _ _
 
-generated : (number cycles : Option ℕ) → ((k : ℕ) → cycles ≡ Some k → k ≤ 1000000000) → AreLimited (generate number cycles)
-generated None cycles h = tt
-generated (Some number) None h = tt
-generated (Some number) (Some n) h = h n refl
+generated : (number cycles : Option ℕ) (stats : Bool) → ((k : ℕ) → cycles ≡ Some k → k ≤ 1000000000) → AreLimited (generate number cycles stats)
+generated None cycles stats h = tt
+generated (Some number) None stats h = tt
+generated (Some number) (Some n) stats h = h n refl
 
-gen_limited : (number : List ℕ) (options : List (List ℕ)) → AreLimited (gen_reading number options)
+gen_limited : (number : List ℕ) (settings : List Setting) → AreLimited (gen_reading number settings)
 unfolding gen_reading
-gen_limited number options = generated _ (cycles_in options) (λ k e. cycles_high (value_for (codes "--cycles") options) k e)
+gen_limited number settings = generated _ (cycles_in settings) _ (λ k e. cycles_high (value_for (codes "--cycles") settings) k e)
 
 either : (b : Bool) (x y : Option Command) → AreLimited x → AreLimited y → AreLimited (if b then x else y)
 either true x y h k = h
@@ -82,10 +82,10 @@ unfolding written
 written_limited probes [] = tt
 written_limited probes (command ∷ []) = tt
 written_limited probes (command ∷ argument ∷ options) =
-    either (bytes_eq command (codes "run")) _ _ (as_run (run_reading probes argument options) (run_limited probes argument options))
-    (either (bytes_eq command (codes "debug")) _ _ (as_debug (run_reading probes argument options) (run_limited probes argument options))
-    (either (bytes_eq command (codes "dis")) _ _ (dis_limited argument options)
-    (either (bytes_eq command (codes "asm")) _ _ tt (either (bytes_eq command (codes "gen")) _ _ (gen_limited argument options) tt))))
+    either (bytes_eq command (codes "run")) _ _ (as_run (run_reading probes argument (settings_of options)) (run_limited probes argument (settings_of options)))
+    (either (bytes_eq command (codes "debug")) _ _ (as_debug (run_reading probes argument (settings_of options)) (run_limited probes argument (settings_of options)))
+    (either (bytes_eq command (codes "dis")) _ _ (dis_limited argument (settings_of options))
+    (either (bytes_eq command (codes "asm")) _ _ tt (either (bytes_eq command (codes "gen")) _ _ (gen_limited argument (settings_of options)) tt))))
 
 line_limited : (probes : ℕ) (line : Option (List (List ℕ))) → AreLimited (option_and_then (written probes) line)
 line_limited probes None = tt

@@ -3,7 +3,7 @@ use Rattle.std.specs.Prelude.{ℕ, ◌+◌, ◌*◌, ◌%◌, nat_le, ◌==◌, 
 use Rattle.hex.specs.Hex.{decode_of}
 use Rattle.hex.specs.declared.error.FromHexError.{FromHexError}
 use Rattle.pio_words.specs.declared.side.SideConfig.{SideConfig}
-use Rattle.command_words.specs.Options.{number_for}
+use Rattle.command_words.specs.Options.{Setting, number_for}
 
 -- two bytes are a word, the high one first
 abbrev pub halves : List ℕ → List ℕ
@@ -28,5 +28,5 @@ config_of (Some count) None = None
 config_of None opt = None
 
 -- `--side S` and `--opt T`, both 0 where they are not given
-unfoldable pub side_of : List (List ℕ) → Option SideConfig
-side_of options = config_of (number_for (codes "--side") 5 options) (number_for (codes "--opt") 1 options)
+unfoldable pub side_of : List Setting → Option SideConfig
+side_of settings = config_of (number_for (codes "--side") 5 settings) (number_for (codes "--opt") 1 settings)

@@ -1,5 +1,5 @@
 -- What a reader of the words answers: the project's own.
-use Rattle.std.specs.Prelude.{◌≡◌, List, map, Option, Some, None, Result, Ok, Err, Vec}
+use Rattle.std.specs.Prelude.{◌≡◌, ◌<◌, ℕ, List, ◌∷◌, length, map, Option, Some, None, Result, Ok, Err, String, Vec}
 use Rattle.std.specs.Global.{Global}
 use Rattle.std.specs.Option.{option_map}
 use Rattle.std.specs.String.{string_bytes}
@@ -10,6 +10,7 @@ use Rattle.command_words.specs.declared.words.Reading.{Reading}
 use Rattle.command_words.specs.declared.words.Reading.TheVariants as readings
 use Rattle.command_words.specs.declared.words.WordsFault.{WordsFault}
 use Rattle.command_words.specs.declared.words.WordsFault.TheVariants.{Words, Memory}
+use Rattle.command_words.specs.Options.{settings_of}
 use Rattle.command_words.specs.Entries.{Entry}
 use Rattle.command_words.specs.Words.{Run, Command}
 use Rattle.command_words.specs.Words.Command.{RunImage, DebugImage, Disassemble, Assemble, Generate}
@@ -26,6 +27,7 @@ run_in r = record {
   script = option_map string_bytes r.script;
   pio = map entry_in r.pio.items;
   probes = r.probes.items;
+  stats = r.stats;
 }
 
 -- the command that a reading stands for
@@ -34,7 +36,7 @@ command_in (readings.Run r) = RunImage (run_in r)
 command_in (readings.Debug r) = DebugImage (run_in r)
 command_in (readings.Dis d) = Disassemble d.words.items d.side
 command_in (readings.Asm name) = Assemble (string_bytes name)
-command_in (readings.Gen g) = Generate g.number g.cycles
+command_in (readings.Gen g) = Generate g.number g.cycles g.stats
 
 -- the answer is what was asked for, or Words where that is none; Memory says nothing
 abbrev pub ReadsAs : Option Command → Result Reading WordsFault → Type 0
@@ -59,3 +61,8 @@ abbrev pub ReadsTargets : Option (List Target) → Result (Vec Target Global) Wo
 ReadsTargets targets (Ok found) = targets ≡ Some found.items
 ReadsTargets targets (Err Words) = targets ≡ None
 ReadsTargets targets (Err Memory) = Unit {0}
+
+-- an option, its value and what is behind are the first of some words
+pub record IsFirst (words : List (String Global)) (name : List ℕ) (value : Option (List ℕ)) (rest : List (String Global)) : Type 0 where
+  pub settings : settings_of (map string_bytes words) ≡ (name, value) ∷ settings_of (map string_bytes rest)
+  pub fewer : length rest < length words

@@ -1,68 +1,75 @@
--- The words of a command line, and what they ask for: `run <image> --cycles N [--script FILE] [--pio LIST] [--probe LIST]`, `debug`
--- with the same words but `--probe`, `dis <hex> [--side S] [--opt T]`, `asm <file>` or `gen <number> --cycles N`. Where probes are
--- spoken of as a number, it is how many are handed in. The project's own.
-use Rattle.std.specs.Prelude.{ℕ, ◌≤◌, ◌-◌, ◌^◌, if◌then◌else◌, List, [], ◌∷◌, Option, Some, None, codes}
+-- The words of a command line, and what they ask for: `run <image> --cycles N [--script FILE] [--pio LIST] [--probe LIST]
+-- [--stats]`, `debug` with the same words but `--probe` and `--stats`, `dis <hex> [--side S] [--opt T]`, `asm <file>` or
+-- `gen <number> --cycles N [--stats]`. Where probes are spoken of as a number, it is how many are handed in. The project's own.
+use Rattle.std.specs.Prelude.{ℕ, Bool, ◌≤◌, ◌-◌, ◌^◌, if◌then◌else◌, List, [], ◌∷◌, Option, Some, None, codes}
 use Rattle.std.specs.Option.{option_and_then, option_map}
 use Rattle.std.specs.Str.{bytes_eq}
 use Rattle.pio_words.specs.declared.side.SideConfig.{SideConfig}
 use Rattle.board_parts.specs.declared.target.Target.{Target}
 use Rattle.line_words.specs.Line.{line_in}
 use Rattle.command_words.specs.Numbers.{number_within}
-use Rattle.command_words.specs.Options.{value_for, is_normal}
+use Rattle.command_words.specs.Options.{Setting, settings_of, is_given, value_for, is_normal}
 use Rattle.command_words.specs.Entries.{Entry, entries_of}
 use Rattle.command_words.specs.Targets.{targets_of}
 use Rattle.command_words.specs.Dis.{words_of, side_of}
 
--- a run: the image's name, how many cycles it may have, the script's name, the programs for machines, and the probes that are aimed
+-- a run: the image's name, how many cycles it may have, the script's name, the programs for machines, the probes that are aimed, and
+-- whether it ends with the line of its windows
 pub record Run : Type 0 where
   pub image : List ℕ
   pub cycles : ℕ
   pub script : Option (List ℕ)
   pub pio : List Entry
   pub probes : List Target
+  pub stats : Bool
 
 -- what the words may ask for: a run, the debugger on a run, the source text of instruction words, the listing of a source, or the run
--- of the image that is generated from a number
+-- of the image that is generated from a number, with or without the line of its windows
 pub data Command : Type 0 where
   RunImage : (run : Run) → Command
   DebugImage : (run : Run) → Command
   Disassemble : (words : List ℕ) → (side : SideConfig) → Command
   Assemble : (source : List ℕ) → Command
-  Generate : (number cycles : ℕ) → Command
+  Generate : (number cycles : ℕ) → (stats : Bool) → Command
 
 -- the limit of cycles, 1 to 1,000,000,000, which must be given
-abbrev pub cycles_in : List (List ℕ) → Option ℕ
-cycles_in options = option_and_then (number_within 1 1000000000) (value_for (codes "--cycles") options)
+abbrev pub cycles_in : List Setting → Option ℕ
+cycles_in settings = option_and_then (number_within 1 1000000000) (value_for (codes "--cycles") settings)
+
+-- the line of a run's windows is asked for
+abbrev pub stats_in : List Setting → Bool
+stats_in settings = is_given (codes "--stats") settings
 
 -- the entries of `--pio`, none where it is not given
 abbrev pub entries_or_none : Option (List ℕ) → Option (List Entry)
 entries_or_none None = Some []
 entries_or_none (Some list) = entries_of list
 
-abbrev pub pio_in : List (List ℕ) → Option (List Entry)
-pio_in options = entries_or_none (value_for (codes "--pio") options)
+abbrev pub pio_in : List Setting → Option (List Entry)
+pio_in settings = entries_or_none (value_for (codes "--pio") settings)
 
-abbrev pub script_in : List (List ℕ) → Option (List ℕ)
-script_in options = value_for (codes "--script") options
+abbrev pub script_in : List Setting → Option (List ℕ)
+script_in settings = value_for (codes "--script") settings
 
 -- the targets of `--probe`, none where it is not given
 abbrev pub targets_or_none : ℕ → Option (List ℕ) → Option (List Target)
 targets_or_none probes None = Some []
 targets_or_none probes (Some list) = targets_of probes list
 
-abbrev pub probes_in : ℕ → List (List ℕ) → Option (List Target)
-probes_in probes options = targets_or_none probes (value_for (codes "--probe") options)
+abbrev pub probes_in : ℕ → List Setting → Option (List Target)
+probes_in probes settings = targets_or_none probes (value_for (codes "--probe") settings)
 
-abbrev pub run_with : List ℕ → Option ℕ → Option (List ℕ) → Option (List Entry) → Option (List Target) → Option Run
-run_with image None script pio probes = None
-run_with image (Some n) script None probes = None
-run_with image (Some n) script (Some entries) None = None
-run_with image (Some n) script (Some entries) (Some targets) =
-    Some (record { image = image; cycles = n; script = script; pio = entries; probes = targets })
+abbrev pub run_with : List ℕ → Option ℕ → Option (List ℕ) → Option (List Entry) → Option (List Target) → Bool → Option Run
+run_with image None script pio probes stats = None
+run_with image (Some n) script None probes stats = None
+run_with image (Some n) script (Some entries) None stats = None
+run_with image (Some n) script (Some entries) (Some targets) stats =
+    Some (record { image = image; cycles = n; script = script; pio = entries; probes = targets; stats = stats })
 
--- `<image> --cycles N [--script FILE] [--pio LIST] [--probe LIST]`
-unfoldable pub run_reading : ℕ → List ℕ → List (List ℕ) → Option Run
-run_reading probes image options = run_with image (cycles_in options) (script_in options) (pio_in options) (probes_in probes options)
+-- `<image> --cycles N [--script FILE] [--pio LIST] [--probe LIST] [--stats]`
+unfoldable pub run_reading : ℕ → List ℕ → List Setting → Option Run
+run_reading probes image settings =
+    run_with image (cycles_in settings) (script_in settings) (pio_in settings) (probes_in probes settings) (stats_in settings)
 
 abbrev pub disassemble : Option (List ℕ) → Option SideConfig → Option Command
 disassemble (Some words) (Some side) = Some (Disassemble words side)
@@ -70,28 +77,30 @@ disassemble (Some words) None = None
 disassemble None side = None
 
 -- `dis <hex> [--side S] [--opt T]`
-unfoldable pub dis_reading : List ℕ → List (List ℕ) → Option Command
-dis_reading hex options = disassemble (words_of hex) (side_of options)
+unfoldable pub dis_reading : List ℕ → List Setting → Option Command
+dis_reading hex settings = disassemble (words_of hex) (side_of settings)
 
-abbrev pub generate : Option ℕ → Option ℕ → Option Command
-generate (Some number) (Some cycles) = Some (Generate number cycles)
-generate (Some number) None = None
-generate None cycles = None
+abbrev pub generate : Option ℕ → Option ℕ → Bool → Option Command
+generate (Some number) (Some cycles) stats = Some (Generate number cycles stats)
+generate (Some number) None stats = None
+generate None cycles stats = None
 
--- `gen <number> --cycles N`, the number below 2 ^ 64
-unfoldable pub gen_reading : List ℕ → List (List ℕ) → Option Command
-gen_reading number options = generate (number_within 0 (2 ^ 64 - 1) number) (cycles_in options)
+-- `gen <number> --cycles N [--stats]`, the number below 2 ^ 64
+unfoldable pub gen_reading : List ℕ → List Setting → Option Command
+gen_reading number settings =
+    generate (number_within 0 (2 ^ 64 - 1) number) (cycles_in settings) (stats_in settings)
 
 -- what a command, its argument and its options ask for
 unfoldable pub written : ℕ → List (List ℕ) → Option Command
 written probes [] = None
 written probes (command ∷ []) = None
 written probes (command ∷ argument ∷ options) =
-    if bytes_eq command (codes "run") then option_map RunImage (run_reading probes argument options)
-    else if bytes_eq command (codes "debug") then option_map DebugImage (run_reading probes argument options)
-    else if bytes_eq command (codes "dis") then dis_reading argument options
+    let settings = settings_of options in
+    if bytes_eq command (codes "run") then option_map RunImage (run_reading probes argument settings)
+    else if bytes_eq command (codes "debug") then option_map DebugImage (run_reading probes argument settings)
+    else if bytes_eq command (codes "dis") then dis_reading argument settings
     else if bytes_eq command (codes "asm") then Some (Assemble argument)
-    else if bytes_eq command (codes "gen") then gen_reading argument options else None
+    else if bytes_eq command (codes "gen") then gen_reading argument settings else None
 
 -- The reading of the words, or none where they are refused. Words in normal form are read as they are written. All others are read as
 -- `clap` reads them.
@@ -104,4 +113,4 @@ IsLimited (RunImage run) = run.cycles ≤ 1000000000
 IsLimited (DebugImage run) = run.cycles ≤ 1000000000
 IsLimited (Disassemble words side) = Unit {0}
 IsLimited (Assemble source) = Unit {0}
-IsLimited (Generate number cycles) = cycles ≤ 1000000000
+IsLimited (Generate number cycles stats) = cycles ≤ 1000000000

@@ -3,6 +3,7 @@
 ghost use Rattle.std.specs.Prelude.{◌≡◌, Some, map, IfOk};
 ghost use Rattle.std.specs.Option.{option_map};
 ghost use Rattle.std.specs.String.{string_bytes};
+ghost use Rattle.command_words.specs.Options.{settings_of};
 ghost use Rattle.command_words.specs.Dis.{halves, words_of, config_of, side_of};
 
 use crate::options::number_for;
@@ -66,7 +67,7 @@ fn config(count: u64, opt: u64) -> Option<SideConfig>
 /// The side-set configuration that the options give.
 #[tactic(auto, unfolding(crate::specs::Dis::side_of))]
 pub fn side_config(options: &[String]) -> Option<SideConfig>
-    ensures { result ≡ side_of (map string_bytes options.now) }
+    ensures { result ≡ side_of (settings_of (map string_bytes options.now)) }
 {
     let count = number_for("--side", 5, options)?;
     let opt = number_for("--opt", 1, options)?;

@@ -1,9 +1,12 @@
-//! The normal form of a command line: a command, its argument, and its options as pairs of a name and a value, in any order.
+//! The normal form of a command line: a command, its argument, and its options in any order, each a name with its value or a name
+//! alone.
 
-ghost use Rattle.std.specs.Prelude.{◌≡◌, None, Some, map, MatchOption};
+ghost use Rattle.std.specs.Prelude.{◌≡◌, [], map, MatchOption};
+ghost use Rattle.std.specs.Option.{option_map};
 ghost use Rattle.std.specs.String.{string_bytes};
 ghost use Rattle.command_words.specs.Numbers.{begins_with};
-ghost use Rattle.command_words.specs.Options.{is_command, is_run_option, is_option, value_for, may_lead, are_options, is_normal, number_for};
+ghost use Rattle.command_words.specs.Options.{is_command, is_run_option, is_option, is_alone, is_flag, settings_of, is_given, value_for, is_of, may_lead, are_options, is_normal, number_for};
+ghost use Rattle.command_words.specs.Read.{IsFirst};
 
 use crate::number::number_within;
 
@@ -21,7 +24,7 @@ fn is_run_option(name: &str) -> bool
     name == "--cycles" || name == "--script" || name == "--pio"
 }
 
-/// Whether a command has an option of this name.
+/// Whether a command has an option of this name with a value.
 fn is_option(command: &str, name: &str) -> bool
     ensures { result ≡ is_option command.now name.now }
 {
@@ -34,6 +37,20 @@ fn is_option(command: &str, name: &str) -> bool
     }
 }
 
+/// Whether an option of this name stands alone: the word behind it is not its value.
+fn is_alone(name: &str) -> bool
+    ensures { result ≡ is_alone name.now }
+{
+    name == "--stats"
+}
+
+/// Whether a command has this name as one that stands alone.
+fn is_flag(command: &str, name: &str) -> bool
+    ensures { result ≡ is_flag command.now name.now }
+{
+    (command == "run" || command == "gen") && is_alone(name)
+}
+
 /// Whether a word begins with a dash.
 fn is_dashed(word: &str) -> bool
     ensures { result ≡ begins_with 45 word.now }
@@ -41,42 +58,82 @@ fn is_dashed(word: &str) -> bool
     word.as_bytes().first() == Some(&b'-')
 }
 
+/// The first option that the words write: its name, its value where it has one, and the words behind them.
+fn first_setting<'a>(words: &'a [String]) -> Option<(&'a str, Option<&'a str>, &'a [String])>
+    ensures { MatchOption result (words.now ≡ []) (λ first. IsFirst words.now first.0.now
+        (option_map (λ value. value.now) first.1) first.2.now) }
+{
+    let [name, behind @ ..] = words else {
+        return None;
+    };
+    if is_alone(name.as_str()) {
+        return Some((name.as_str(), None, behind));
+    }
+    match behind {
+        [value, rest @ ..] => Some((name.as_str(), Some(value.as_str()), rest)),
+        _ => Some((name.as_str(), None, behind)),
+    }
+}
+
 /// The value of the option of this name.
 pub fn value_for<'a>(name: &str, options: &'a [String]) -> Option<&'a str>
-    ensures { MatchOption result (value_for name.now (map string_bytes options.now) ≡ None)
-        (λ value. value_for name.now (map string_bytes options.now) ≡ Some value.now) }
+    ensures { option_map (λ value. value.now) result ≡ value_for name.now (settings_of (map string_bytes options.now)) }
 {
     let mut left = options;
-    while let [other, value, rest @ ..] = left {
-        if other.as_str() == name {
-            return Some(value.as_str());
+    while let Some((other, value, rest)) = first_setting(left) {
+        if other == name {
+            return value;
         }
         left = rest;
     }
     None
 }
 
-/// Whether a pair may stand before these options: the command has the name, which does not come again, and the value
-/// does not begin with a dash.
-#[tactic(auto, unfolding(crate::specs::Options::may_lead))]
-fn may_lead(command: &str, name: &str, value: &str, options: &[String]) -> bool
-    ensures { result ≡ may_lead command.now name.now value.now (map string_bytes options.now) }
+/// Whether the option of this name is among these.
+pub fn is_given(name: &str, options: &[String]) -> bool
+    ensures { result ≡ is_given name.now (settings_of (map string_bytes options.now)) }
 {
-    is_option(command, name) && !is_dashed(value) && value_for(name, options).is_none()
+    let mut left = options;
+    while let Some((other, _, rest)) = first_setting(left) {
+        if other == name {
+            return true;
+        }
+        left = rest;
+    }
+    false
+}
+
+/// Whether a command has an option with this name and value, and the value does not begin with a dash.
+fn is_of(command: &str, name: &str, value: Option<&str>) -> bool
+    ensures { result ≡ is_of command.now name.now (option_map (λ text. text.now) value.entry) }
+{
+    match value {
+        None => is_flag(command, name),
+        Some(value) => is_option(command, name) && !is_dashed(value),
+    }
+}
+
+/// Whether an option may stand before these: it is one of the command, and its name does not come again.
+#[tactic(auto, unfolding(crate::specs::Options::may_lead))]
+fn may_lead(command: &str, name: &str, value: Option<&str>, options: &[String]) -> bool
+    ensures { result ≡ may_lead command.now (name.now, option_map (λ text. text.now) value.entry)
+        (settings_of (map string_bytes options.now)) }
+{
+    is_of(command, name, value) && !is_given(name, options)
 }
 
 /// Whether the words are options of a command, each at most once.
 fn are_options(command: &str, options: &[String]) -> bool
-    ensures { result ≡ are_options command.now (map string_bytes options.now) }
+    ensures { result ≡ are_options command.now (settings_of (map string_bytes options.now)) }
 {
     let mut left = options;
-    while let [name, value, rest @ ..] = left {
-        if !may_lead(command, name.as_str(), value.as_str(), rest) {
+    while let Some((name, value, rest)) = first_setting(left) {
+        if !may_lead(command, name, value, rest) {
             return false;
         }
         left = rest;
     }
-    left.is_empty()
+    true
 }
 
 /// Whether the words are a command, its argument, and its options, in normal form.
@@ -94,7 +151,7 @@ pub fn is_normal(words: &[String]) -> bool
 
 /// The number of an option, from 0 to `high`; 0 where it is not given.
 pub fn number_for(name: &str, high: u64, options: &[String]) -> Option<u64>
-    ensures { result ≡ number_for name.now high (map string_bytes options.now) }
+    ensures { result ≡ number_for name.now high (settings_of (map string_bytes options.now)) }
 {
     match value_for(name, options) {
         None => Some(0),

@@ -3,7 +3,8 @@
 ghost use Rattle.std.specs.Prelude.{◌≡◌, map, Some, IfOk};
 ghost use Rattle.std.specs.Option.{option_map};
 ghost use Rattle.std.specs.String.{string_bytes};
-ghost use Rattle.command_words.specs.Words.{run_with, cycles_in, script_in, pio_in, probes_in, run_reading, dis_reading, gen_reading, written, reading};
+ghost use Rattle.command_words.specs.Options.{settings_of};
+ghost use Rattle.command_words.specs.Words.{run_with, cycles_in, stats_in, script_in, pio_in, probes_in, run_reading, dis_reading, gen_reading, written, reading};
 ghost use Rattle.command_words.specs.Words.Command.{RunImage, DebugImage, Assemble};
 ghost use Rattle.command_words.specs.Read.{ReadsAs, ReadsRun, ReadsEntries, ReadsTargets, entry_in};
 
@@ -11,7 +12,7 @@ use crate::dis::{DisWords, instruction_words, side_config};
 use crate::entries::entries_in;
 use crate::entry::PioEntry;
 use crate::number::number_within;
-use crate::options::{is_normal, value_for};
+use crate::options::{is_given, is_normal, value_for};
 use crate::targets::targets_in;
 use board_parts::target::Target;
 use line_words::line_in;
@@ -30,6 +31,8 @@ pub struct RunWords {
     pub pio: Vec<PioEntry>,
     /// The probes that are aimed, in the order of the list; no probe stands twice.
     pub probes: Vec<Target>,
+    /// Whether the text ends with the line of the run's windows.
+    pub stats: bool,
 }
 
 /// The words of a run of a generated image.
@@ -39,6 +42,8 @@ pub struct GenWords {
     pub number: u64,
     /// The limit of cycles, 1 to 1,000,000,000.
     pub cycles: u64,
+    /// Whether the text ends with the line of the run's windows.
+    pub stats: bool,
 }
 
 /// What the words ask for.
@@ -67,7 +72,7 @@ pub enum WordsFault {
 
 /// The limit of cycles among the options of a run.
 fn cycles_in(options: &[String]) -> Option<u64>
-    ensures { result ≡ cycles_in (map string_bytes options.now) }
+    ensures { result ≡ cycles_in (settings_of (map string_bytes options.now)) }
 {
     match value_for("--cycles", options) {
         None => None,
@@ -75,9 +80,16 @@ fn cycles_in(options: &[String]) -> Option<u64>
     }
 }
 
+/// Whether the line of a run's windows is asked for.
+fn stats_in(options: &[String]) -> bool
+    ensures { result ≡ stats_in (settings_of (map string_bytes options.now)) }
+{
+    is_given("--stats", options)
+}
+
 /// The entries of `--pio` among the options of a run.
 fn pio_in(alloc: Global, options: &[String]) -> Result<Vec<PioEntry>, WordsFault>
-    ensures { ReadsEntries (pio_in (map string_bytes options.now)) result }
+    ensures { ReadsEntries (pio_in (settings_of (map string_bytes options.now))) result }
 {
     match value_for("--pio", options) {
         None => Ok(Vec::new(alloc)),
@@ -91,7 +103,7 @@ fn pio_in(alloc: Global, options: &[String]) -> Result<Vec<PioEntry>, WordsFault
 
 /// The targets of `--probe` among the options of a run.
 fn probes_in(alloc: Global, probes: usize, options: &[String]) -> Result<Vec<Target>, WordsFault>
-    ensures { ReadsTargets (probes_in probes (map string_bytes options.now)) result }
+    ensures { ReadsTargets (probes_in probes (settings_of (map string_bytes options.now))) result }
 {
     match value_for("--probe", options) {
         None => Ok(Vec::new(alloc)),
@@ -105,7 +117,7 @@ fn probes_in(alloc: Global, probes: usize, options: &[String]) -> Result<Vec<Tar
 
 /// A copy of the script's name among the options of a run.
 fn script_in(alloc: Global, options: &[String]) -> Result<Option<String>, AllocError>
-    ensures { IfOk result (λ name. option_map string_bytes name ≡ script_in (map string_bytes options.now)) }
+    ensures { IfOk result (λ name. option_map string_bytes name ≡ script_in (settings_of (map string_bytes options.now))) }
 {
     match value_for("--script", options) {
         None => Ok(None),
@@ -122,8 +134,8 @@ fn owned(
     pio: Vec<PioEntry>,
     probes: Vec<Target>,
 ) -> Result<RunWords, WordsFault>
-    ensures { ReadsRun (run_with image.now (Some cycles) (script_in (map string_bytes options.now))
-        (Some (map entry_in pio.items)) (Some probes.items)) result }
+    ensures { ReadsRun (run_with image.now (Some cycles) (script_in (settings_of (map string_bytes options.now)))
+        (Some (map entry_in pio.items)) (Some probes.items) (stats_in (settings_of (map string_bytes options.now)))) result }
 {
     let Ok(image) = String::from_str(alloc, image) else {
         return Err(WordsFault::Memory);
@@ -135,12 +147,13 @@ fn owned(
             script,
             pio,
             probes,
+            stats: stats_in(options),
         }),
         Err(_) => Err(WordsFault::Memory),
     }
 }
 
-/// Reads `<image> --cycles N [--script FILE] [--pio LIST] [--probe LIST]`.
+/// Reads `<image> --cycles N [--script FILE] [--pio LIST] [--probe LIST] [--stats]`.
 #[tactic(auto, unfolding(crate::specs::Words::run_reading))]
 fn run_words(
     alloc: Global,
@@ -148,7 +161,7 @@ fn run_words(
     image: &str,
     options: &[String],
 ) -> Result<RunWords, WordsFault>
-    ensures { ReadsRun (run_reading probes image.now (map string_bytes options.now)) result }
+    ensures { ReadsRun (run_reading probes image.now (settings_of (map string_bytes options.now))) result }
 {
     let Some(cycles) = cycles_in(options) else {
         return Err(WordsFault::Words);
@@ -170,7 +183,7 @@ fn read_run(
     image: &str,
     options: &[String],
 ) -> Result<Reading, WordsFault>
-    ensures { ReadsAs (option_map RunImage (run_reading probes image.now (map string_bytes options.now))) result }
+    ensures { ReadsAs (option_map RunImage (run_reading probes image.now (settings_of (map string_bytes options.now)))) result }
 {
     match run_words(alloc, probes, image, options) {
         Ok(run) => Ok(Reading::Run(run)),
@@ -185,7 +198,7 @@ fn read_debug(
     image: &str,
     options: &[String],
 ) -> Result<Reading, WordsFault>
-    ensures { ReadsAs (option_map DebugImage (run_reading probes image.now (map string_bytes options.now))) result }
+    ensures { ReadsAs (option_map DebugImage (run_reading probes image.now (settings_of (map string_bytes options.now)))) result }
 {
     match run_words(alloc, probes, image, options) {
         Ok(run) => Ok(Reading::Debug(run)),
@@ -193,13 +206,17 @@ fn read_debug(
     }
 }
 
-/// Reads `gen <number> --cycles N`.
+/// Reads `gen <number> --cycles N [--stats]`.
 #[tactic(auto, unfolding(crate::specs::Words::gen_reading))]
 fn read_gen(number: &str, options: &[String]) -> Result<Reading, WordsFault>
-    ensures { ReadsAs (gen_reading number.now (map string_bytes options.now)) result }
+    ensures { ReadsAs (gen_reading number.now (settings_of (map string_bytes options.now))) result }
 {
     match (number_within(0, u64::MAX, number), cycles_in(options)) {
-        (Some(number), Some(cycles)) => Ok(Reading::Gen(GenWords { number, cycles })),
+        (Some(number), Some(cycles)) => Ok(Reading::Gen(GenWords {
+            number,
+            cycles,
+            stats: stats_in(options),
+        })),
         _ => Err(WordsFault::Words),
     }
 }
@@ -207,7 +224,7 @@ fn read_gen(number: &str, options: &[String]) -> Result<Reading, WordsFault>
 /// Reads `dis <hex> [--side S] [--opt T]`.
 #[tactic(auto, unfolding(crate::specs::Words::dis_reading))]
 fn read_dis(alloc: Global, hex: &str, options: &[String]) -> Result<Reading, WordsFault>
-    ensures { ReadsAs (dis_reading hex.now (map string_bytes options.now)) result }
+    ensures { ReadsAs (dis_reading hex.now (settings_of (map string_bytes options.now))) result }
 {
     let Some(side) = side_config(options) else {
         return Err(WordsFault::Words);
@@ -247,9 +264,9 @@ fn read_written(alloc: Global, probes: usize, words: &[String]) -> Result<Readin
     }
 }
 
-/// Reads `run <image> --cycles N [--script FILE] [--pio LIST] [--probe LIST]`, `debug` with the same words but `--probe`,
-/// `dis <hex> [--side S] [--opt T]`, `asm <file>` or `gen <number> --cycles N`, where so many `probes` are handed in. Words in this
-/// form, the options in any order and each at most once, are read as they are written, all others as `clap` reads them.
+/// Reads `run <image> --cycles N [--script FILE] [--pio LIST] [--probe LIST] [--stats]`, `debug` with the same words but `--probe`
+/// and `--stats`, `dis <hex> [--side S] [--opt T]`, `asm <file>` or `gen <number> --cycles N [--stats]`, where so many `probes` are
+/// handed in. Words in this form, the options in any order and each at most once, are read as they are written, all others as `clap` reads them.
 ///
 /// # Errors
 ///

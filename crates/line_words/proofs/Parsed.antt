@@ -1,16 +1,19 @@
 -- What a parse by the table gives.
-use Rattle.std.proofs.Common.{◌≡◌, Bool, true, false, not, ◌&&◌, List, [], ◌∷◌, Option, Some, None, option_map, refl, ap, ap₂, sym}
+use Rattle.std.proofs.Common.{◌≡◌, Bool, true, false, not, ◌&&◌, List, [], ◌∷◌, Option, Some, None, option_map, refl, ap, ap₂, sym, ◌∙◌}
 use Rattle.std.proofs.lemmas.Option.{none-some}
 use Rattle.std.specs.Prelude.{Box, codes, unwrap_or}
 use Rattle.std.specs.Box.{box_value}
 use Rattle.std.specs.Option.{option_and_then}
 use Rattle.clap.specs.Matches.{first_value}
-use Rattle.clap.specs.Walk.{Row, Text, rows_of}
+use Rattle.clap.specs.Walk.{Row, Rule, Text, rows_of, rule_of}
 use Rattle.clap.specs.declared.parser.matches.Found.{Found}
 use Rattle.clap.proofs.WalkLemmas.{first_value-rows}
-use Rattle.clap.specs.Simple.{is_simple, subcommand_of, subcommand_rows}
+use Rattle.clap.specs.Built.{AddsArg, AddsSubcommand}
+use Rattle.clap.specs.Simple.{App, app_of, is_simple, subcommand_of, subcommand_rows, with_rule, with_subcommand}
 use Rattle.clap.specs.Kinds.{IsAmong, Kinds}
 use Rattle.clap.specs.Faults.{fault_of, is_simple_and_free}
+use Rattle.clap.specs.declared.builder.arg.Arg.{Arg}
+use Rattle.clap.specs.declared.builder.command.Command.{Command}
 use Rattle.clap.specs.declared.error.kind.ErrorKind.{ErrorKind}
 use Rattle.clap.specs.declared.parser.matches.SubCommand.{SubCommand}
 use Rattle.clap.specs.declared.parser.matches.ArgMatches.TheViews.{out-SubCommand}
@@ -63,6 +66,7 @@ same_line found command =
       first_value-rows found (codes "probe"),
       first_value-rows found (codes "side"),
       first_value-rows found (codes "opt"),
+      first_value-rows found (codes "stats"),
     ) refl
 
 -- a plain command has no global argument
@@ -71,3 +75,14 @@ local_of a b false r e = refl
 local_of true true true r e = sym e
 local_of true false true r e = sym e
 local_of false b true r e = sym e
+
+-- a command with one more argument
+pub adds : (old : Command) (arg : Arg) (new : Command) (app : App) (rule : Rule) → app_of old ≡ app → rule_of arg ≡ rule → arg.global ≡ false
+    → AddsArg old arg new → app_of new ≡ with_rule app rule
+adds old arg new app rule is rules local h = h.shape local ∙ ap₂ with_rule is rules
+
+-- a command with one more subcommand
+pub adds_sub : (old sub new : Command) (app below : App) → app_of old ≡ app → app_of sub ≡ below → below.top.is_plain ≡ true
+    → AddsSubcommand old sub new → app_of new ≡ with_subcommand app below.top
+adds_sub old sub new app below is under plain h =
+    h.shape (local_of _ _ _ _ (ap (λ (a : App). a.top.is_plain) under ∙ plain)) ∙ ap₂ with_subcommand is (ap (λ (a : App). a.top) under)

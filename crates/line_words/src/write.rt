@@ -4,7 +4,7 @@ ghost use Rattle.std.specs.Prelude.{◌≡◌, ◌++◌, map, IfOk};
 ghost use Rattle.std.specs.Option.{option_map};
 ghost use Rattle.std.specs.String.{string_bytes};
 ghost use Rattle.clap.specs.Matches.{found_of, first_value};
-ghost use Rattle.line_words.specs.Line.{line_of, pair};
+ghost use Rattle.line_words.specs.Line.{line_of, pair, alone};
 
 use clap::ArgMatches;
 use std::alloc::{AllocError, Global};
@@ -22,6 +22,24 @@ fn push_pair(
     if let Some(value) = value {
         line.push(String::from_str(alloc, dashed)?)?;
         line.push(String::from_str(alloc, value)?)?;
+    }
+    Ok(())
+}
+
+/// Appends an option without a value by its name with the dashes, where `clap` has `true` for it.
+fn push_alone(
+    alloc: Global,
+    dashed: &str,
+    value: Option<&str>,
+    line: &mut Vec<String>,
+) -> Result<(), AllocError>
+    ensures { IfOk result (λ done. map string_bytes line.new.items
+        ≡ map string_bytes line.old.items ++ alone dashed.now (option_map (λ text. text.now) value.entry)) }
+{
+    if let Some(value) = value {
+        if value == "true" {
+            line.push(String::from_str(alloc, dashed)?)?;
+        }
     }
     Ok(())
 }
@@ -46,5 +64,6 @@ pub fn written(
     push_pair(alloc, "--probe", found.get_str("probe"), &mut line)?;
     push_pair(alloc, "--side", found.get_str("side"), &mut line)?;
     push_pair(alloc, "--opt", found.get_str("opt"), &mut line)?;
+    push_alone(alloc, "--stats", found.get_str("stats"), &mut line)?;
     Ok(Some(line))
 }

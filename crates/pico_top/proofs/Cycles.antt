@@ -1,27 +1,66 @@
 -- The text and the cycles of a run.
-use Rattle.std.proofs.Common.{◌≡◌, ℕ, zero, suc, ◌+◌, ◌-◌, ◌≤◌, ◌++◌, List, Option, Some, None, Result, Ok, Err, OnOk, refl, ap, ap₂, subst, arith, ◌∙◌}
-use Rattle.rp_base.specs.declared.Why.{Why}
-use Rattle.lane_look.specs.declared.marks.Mark.{Mark}
+use Rattle.std.proofs.Common.{◌≡◌, ℕ, Bool, ◌+◌, ◌-◌, ◌≤◌, [], ◌∷◌, ◌++◌, List, Option, Some, Result, Ok, Err, IfOk, refl, ap, ap₂, subst, sym, arith, ◌∙◌, append_assoc}
 use Rattle.outer_lane.specs.Setting.{Setting}
-use Rattle.trace_text.specs.Line.{stop_text}
+use Rattle.trace_text.specs.Line.{stop_text, event_text}
+use Rattle.rp_ports.specs.Sink.{Appends}
+use Rattle.trace_text.specs.Sent.{AppendsPart, Sends}
+use Rattle.trace_text.specs.Tape.{FailsAmong, Tells}
+use Rattle.trace_text.specs.declared.event.Event.{Event}
+use Rattle.trace_text.proofs.Sending.{part_of_longer, part_behind}
 use Rattle.rp_machine.specs.State.{State}
-use Rattle.rp_machine.specs.Cycle.{stop, next, mark}
-use Rattle.rp_machine.specs.Events.{events_of, events}
-use Rattle.rp_machine.specs.Run.{states, last_state, all_events, unless_stopped}
-use Rattle.rp_machine.proofs.Runs.{next_cycle}
-use Rattle.pico_top.specs.RunText.{event_lines, after_events, probe_lines, run_text, run_cycles, end_text, core_lines}
+use Rattle.rp_machine.specs.Cycle.{stop}
+use Rattle.rp_machine.specs.Run.{last_state}
+use Rattle.window_runner.specs.Told.{run_shown}
 use Rattle.board_parts.specs.Hearing.{Aim}
+use Rattle.window_runner.specs.declared.alone.Ran.{Ran}
+use Rattle.window_runner.specs.Alone.{IsRan}
+use Rattle.pico_top.specs.RunText.{event_lines, after_events, probe_lines, counts_text, stats_text, run_text, run_cycles, end_text, core_lines}
+use Rattle.pico_top.specs.Teller.{HasTold, lines_both, one_line}
 
 -- a run begins with its events
-pub run_begins : (w : Setting) (aims : List Aim) (s : State) → event_lines (all_events w s) ++ (end_text w (last_state w s) ++ probe_lines (after_events (all_events w s) aims)) ≡ run_text w aims s
+pub run_begins : (stats : Bool) (w : Setting) (aims : List Aim) (s : State) → event_lines (run_shown w s) ++ (end_text w (last_state w s) ++ (probe_lines (after_events (run_shown w s) aims) ++ stats_text stats w s)) ≡ run_text stats w aims s
 unfolding run_text
-run_begins w aims s = refl
+run_begins stats w aims s = refl
 
--- and ends with the lines of the last state and those of the probes
-pub text_of_run : (w : Setting) (aims heard : List Aim) (s t : State) (why : Why) → t ≡ last_state w s → stop w t ≡ Some why → heard ≡ after_events (all_events w s) aims → event_lines (all_events w s) ++ ((stop_text why t.cycle ++ core_lines t) ++ probe_lines heard) ≡ run_text w aims s
-text_of_run w aims heard s t why e stops is =
-    let here : stop_text why t.cycle ++ core_lines t ≡ end_text w (last_state w s) = subst (λ (x : State). stop_text why t.cycle ++ core_lines t ≡ end_text w x) e (rw stops refl) in
-    ap₂ (λ (r : List ℕ) (a : List Aim). event_lines (all_events w s) ++ (r ++ probe_lines a)) here is ∙ run_begins w aims s
+-- and ends with the lines of the last state, those of the probes and that of the counts
+pub text_of_run : (stats : Bool) (w : Setting) (aims heard : List Aim) (s t : State) (ran : Ran) → t ≡ last_state w s → IsRan w s ran → heard ≡ after_events (run_shown w s) aims → event_lines (run_shown w s) ++ ((stop_text ran.why t.cycle ++ core_lines t) ++ (probe_lines heard ++ counts_text stats ran.windows ran.cycles)) ≡ run_text stats w aims s
+text_of_run stats w aims heard s t ran e is h =
+    let stops : stop w t ≡ Some ran.why = ap (stop w) e ∙ is.why in
+    let here : stop_text ran.why t.cycle ++ core_lines t ≡ end_text w (last_state w s) = subst (λ (x : State). stop_text ran.why t.cycle ++ core_lines t ≡ end_text w x) e (rw stops refl) in
+    let counts : counts_text stats ran.windows ran.cycles ≡ stats_text stats w s = ap₂ (counts_text stats) is.windows is.cycles in
+    ap₂ (λ (r a : List ℕ). event_lines (run_shown w s) ++ (r ++ a)) here (ap₂ (λ (a : List Aim) (n : List ℕ). probe_lines a ++ n) h counts) ∙ run_begins stats w aims s
+
+-- the lines up to an event at which the sink failed are a part of all lines
+lines_cut : (first others : List Event) (event : Event) → (event_lines first ++ event_text event) ++ event_lines others ≡ event_lines (first ++ event ∷ others)
+lines_cut first others event =
+    append_assoc (event_lines first) (event_text event) (event_lines others)
+    ∙ ap (λ r. event_lines first ++ r) (ap (λ l. l ++ event_lines others) (one_line event) ∙ sym (lines_both (event ∷ []) others))
+    ∙ sym (lines_both first (event ∷ others))
+
+pub part_told : (a b c : Option (List ℕ)) (x y : List Aim) (events first others : List Event) (event : Event) → events ≡ first ++ event ∷ others → HasTold a b x y first → AppendsPart b c (event_text event) → AppendsPart a c (event_lines events)
+part_told a b c x y events first others event e told part =
+    rw (ap event_lines e ∙ sym (lines_cut first others event))
+    (part_of_longer a c (event_lines first ++ event_text event) (event_lines others) (part_behind a b c (event_lines first) (event_text event) told.written part))
+
+-- ---- what a tape that is such a sink was told
+
+pub sends_told : {T A E : Type 0} (took : T → List Event → T → Type 0) (missed : T → Event → T → Type 0) (x y : T) (a b : Option (List ℕ)) (f g : ℕ) (events : List Event) (r : Result A E)
+    → (took x events y → Appends a b (event_lines events)) → (FailsAmong took missed x y events → AppendsPart a b (event_lines events))
+    → Tells took missed x y f g events r → Sends a b f g (event_lines events) r
+sends_told took missed x y a b f g events (Ok v) h k t = record { ok = h t.ok; err = tt; cause = tt; count = t.count }
+sends_told took missed x y a b f g events (Err e) h k t = record { ok = tt; err = k t.err; cause = t.cause; count = t.count }
+
+pub heard_told : {T A E : Type 0} (took : T → List Event → T → Type 0) (missed : T → Event → T → Type 0) (x y : T) (f g : ℕ) (events : List Event) (P : Type 0) (r : Result A E)
+    → (took x events y → P) → Tells took missed x y f g events r → IfOk r (λ v. P)
+heard_told took missed x y f g events P (Ok v) h t = h t.ok
+heard_told took missed x y f g events P (Err e) h t = tt
+
+pub same_told : {T A E : Type 0} (took : T → List Event → T → Type 0) (missed : T → Event → T → Type 0) (x y : T) (f g : ℕ) (events : List Event) (P : Type 0) (r : Result A E)
+    → (took x events y → P) → (FailsAmong took missed x y events → P) → Tells took missed x y f g events r → P
+same_told took missed x y f g events P (Ok v) h k t = h t.ok
+same_told took missed x y f g events P (Err e) h k t = k t.err
+
+-- ---- the cycles
 
 -- what was counted up to the last state is the cycles of the run
 pub counted_run : (w : Setting) (s t : State) (before now : ℕ) → t ≡ last_state w s → now + s.cycle ≡ before + t.cycle → s.cycle ≤ t.cycle → now ≡ before + run_cycles w s
@@ -34,27 +73,3 @@ counted_run w s t before now e count forward =
 pub counted_within : (w : Setting) (s t : State) (before now : ℕ) → t.cycle ≤ (last_state w s).cycle → now + s.cycle ≡ before + t.cycle → now ≤ before + run_cycles w s
 unfolding run_cycles
 counted_within w s t before now le count = omega (arith, le, count)
-
--- no run goes back
-unless_forward : (cause : Option Why) (s t : State) → s.cycle ≤ t.cycle → s.cycle ≤ (unless_stopped cause s t).cycle
-unless_forward (Some why) s t le = omega arith
-unless_forward None s t le = le
-
-states_forward : (w : Setting) (s : State) (n : ℕ) → s.cycle ≤ (states w s n).cycle
-unfolding states
-states_forward w s zero = omega arith
-states_forward w s (suc n) = unless_forward (stop w s) s (states w (next w s) n) (let on = states_forward w (next w s) n in omega (arith, on, next_cycle w s))
-
-pub last_forward : (w : Setting) (s : State) → s.cycle ≤ (last_state w s).cycle
-unfolding last_state
-last_forward w s = states_forward w s (w.limit - s.cycle)
-
--- the events of a cycle, from what was seen of it
-pub events_seen : (w : Setting) (s : State) (cycle before : ℕ) (m : Mark) → cycle ≡ s.cycle → before ≡ s.outer.pads.current → m ≡ mark w s → event_lines (events_of cycle before m) ≡ event_lines (events w s)
-unfolding events
-events_seen w s cycle before m c b e = rw (c, b, e) refl
-
--- a fact holds of whatever came of it
-pub on_ok : {T E : Type 0} (P : Type 0) (r : Result T E) → P → OnOk r P
-on_ok P (Ok x) p = p
-on_ok P (Err e) p = tt

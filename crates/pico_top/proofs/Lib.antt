@@ -1,12 +1,10 @@
 pub mod Causing
 pub mod Completing
 pub mod Cycles
-pub mod EventLines
-pub mod Listening
 pub mod Opens
 pub mod Pieces
+pub mod ProbeLines
 pub mod ProgramWalks
-pub mod Running
 pub mod Talking
 pub mod Telling
 pub mod Walking

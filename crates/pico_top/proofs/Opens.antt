@@ -11,6 +11,8 @@ use Rattle.pin_script.specs.declared.fault.ScriptFault.{ScriptFault}
 use Rattle.pio_asm.specs.Assembly.{ArePrograms}
 use Rattle.pio_asm.specs.declared.program.Program.{Program}
 use Rattle.rp_machine.specs.State.{State, first_state}
+use Rattle.window_merge.specs.Merging.{IsRested}
+use Rattle.window_merge.proofs.Resting.{start_rested}
 use Rattle.rp_machine.specs.Boot.{start, with_loads, with_load, block_loaded}
 use Rattle.rp_machine.specs.declared.load.PioLoad.{PioLoad}
 use Rattle.command_words.specs.Words.{Run}
@@ -148,21 +150,21 @@ boots_opens aims ForDebug files failed device script limit image ps loads (Ok (S
       λ e walk. heard_words files ps (programs_of loads) input_limit quits (λ programs. session_told w (start device image (loads_of ps programs))) (session_told v own) e (have_words ps loads placed) here walk,
     )
 boots_opens aims ForDebug files failed device script limit image ps loads (Ok (Machine started)) placed h = absurd h
-boots_opens aims ForRun files failed device script limit image ps loads (Ok (Session debugging)) placed h = absurd h
-boots_opens aims ForRun files failed device script limit image ps loads (Ok (Machine started)) placed h =
+boots_opens aims (ForRun stats) files failed device script limit image ps loads (Ok (Session debugging)) placed h = absurd h
+boots_opens aims (ForRun stats) files failed device script limit image ps loads (Ok (Machine started)) placed h =
     let w : Setting = setting_of script device limit in
     let first : State = start device image (loads_of ps (programs_of loads)) in
     let same : started.machine ≡ first = h.0 ∙ ap (start device image) (sym (same_loads ps loads placed)) in
     let at : started.machine.cycle ≡ 0 = ap (λ (m : State). m.cycle) h.0 ∙ start_cycle device image loads in
     let v : Setting = setting_in device started in
-    let here : Said (run_text w aims first) (Exactly (run_cycles w first)) ≡ Said (run_text v aims started.machine) (Exactly (run_cycles v started.machine)) = rw (same, h.1, h.2) refl in (
+    let here : Said (run_text stats w aims first) (Exactly (run_cycles w first)) ≡ Said (run_text started.stats v aims started.machine) (Exactly (run_cycles v started.machine)) = rw (same, h.1, h.2, h.3) refl in (
       refl,
-      omega (arith, at),
-      λ e walk. said_words files ps (programs_of loads) (λ programs. run_text w aims (start device image (loads_of ps programs))) (λ programs. Exactly (run_cycles w (start device image (loads_of ps programs)))) (run_text v aims started.machine) (Exactly (run_cycles v started.machine)) e (have_words ps loads placed) here walk,
+      (omega (arith, at), subst (λ (m : State). IsRested m.sio) (sym h.0) (start_rested device image loads), h.4),
+      λ e walk. said_words files ps (programs_of loads) (λ programs. run_text stats w aims (start device image (loads_of ps programs))) (λ programs. Exactly (run_cycles w (start device image (loads_of ps programs)))) (run_text started.stats v aims started.machine) (Exactly (run_cycles v started.machine)) e (have_words ps loads placed) here walk,
     )
-boots_opens aims ForRun files failed device script limit image ps loads (Ok (Text text)) placed h = absurd h
-boots_opens aims ForRun files failed device script limit image ps loads (Err (Refusing refusal)) placed h = absurd h
-boots_opens aims ForRun files failed device script limit image ps loads (Err Memory) placed h = runs_out files failed (use_for aims ForRun (setting_of script device limit) image ps)
+boots_opens aims (ForRun stats) files failed device script limit image ps loads (Ok (Text text)) placed h = absurd h
+boots_opens aims (ForRun stats) files failed device script limit image ps loads (Err (Refusing refusal)) placed h = absurd h
+boots_opens aims (ForRun stats) files failed device script limit image ps loads (Err Memory) placed h = runs_out files failed (use_for aims (ForRun stats) (setting_of script device limit) image ps)
 boots_opens aims ForDebug files failed device script limit image ps loads (Ok (Text text)) placed h = absurd h
 boots_opens aims ForDebug files failed device script limit image ps loads (Err (Refusing refusal)) placed h = absurd h
 boots_opens aims ForDebug files failed device script limit image ps loads (Err Memory) placed h = runs_out files failed (use_for aims ForDebug (setting_of script device limit) image ps)
@@ -177,11 +179,11 @@ programs_open aims purpose files a b device run image script loads (Err stop) pr
     (last.0, programs.2.2 (use_for aims purpose (setting_of script device run.cycles) image) last.0 last.1, programs.0 ∙ last.2, last.3)
 
 -- a generated image needs no file
-pub generated_opens : (files : Option Files) (failed : List (List ℕ)) (device : DeviceMeaning) (number cycles : ℕ) (image : Loaded) (script : List ScriptEntry) (result : Result Opened Stop) → image ≡ image_of_number number → script ≡ [] → Boots ForRun (start device image []) script cycles result → OpensFor files failed failed device (Generate number cycles) result
-generated_opens files failed device number cycles image script result is empty boots aims =
-    let own = subst (λ (i : Loaded). Boots ForRun (start device i []) script cycles result) is boots in
-    let plain = subst (λ (s : List ScriptEntry). Boots ForRun (start device (image_of_number number) []) s cycles result) empty own in
-    boots_opens aims ForRun files failed device [] cycles (image_of_number number) [] [] result tt plain
+pub generated_opens : (files : Option Files) (failed : List (List ℕ)) (device : DeviceMeaning) (number cycles : ℕ) (stats : Bool) (image : Loaded) (script : List ScriptEntry) (result : Result Opened Stop) → image ≡ image_of_number number → script ≡ [] → Boots (ForRun stats) (start device image []) script cycles result → OpensFor files failed failed device (Generate number cycles stats) result
+generated_opens files failed device number cycles stats image script result is empty boots aims =
+    let own = subst (λ (i : Loaded). Boots (ForRun stats) (start device i []) script cycles result) is boots in
+    let plain = subst (λ (s : List ScriptEntry). Boots (ForRun stats) (start device (image_of_number number) []) s cycles result) empty own in
+    boots_opens aims (ForRun stats) files failed device [] cycles (image_of_number number) [] [] result tt plain
 
 -- the line of a refusal was put with its status
 pub refuses_by : (old new : Option (List ℕ)) (before now status : ℕ) (refusal : Written) (stop : Stop) (wanted : ℕ) (text : List ℕ) → stop ≡ Refusing refusal → wanted ≡ status_of (meant refusal) → text ≡ line_of (meant refusal) → Puts old new before now status wanted text → Refuses old new before now status stop

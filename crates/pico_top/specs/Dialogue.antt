@@ -1,6 +1,6 @@
 -- What a call does for its words: it loads files and judges each, one after another, and says a text, or hears lines and answers
 -- them. The project's own.
-use Rattle.std.specs.Prelude.{ℕ, Bool, List, [], ◌∷◌, ◌++◌, Option, None, Some, Result}
+use Rattle.std.specs.Prelude.{ℕ, Bool, false, List, [], ◌∷◌, ◌++◌, Option, None, Some, Result}
 use Rattle.lane_look.specs.Device.{DeviceMeaning}
 use Rattle.board_parts.specs.Probe.{ProbeMeaning}
 use Rattle.board_parts.specs.Hearing.{Aim}
@@ -102,10 +102,10 @@ with_programs (entry ∷ entries) placed next = with_program entry placed (λ mo
 
 -- ---- the dialogue of each command
 
--- the text of a run that these probes hear, whose cycles are counted
-abbrev pub say_run : List Aim → Setting → Image → List Placed → Dialogue
-say_run aims w image placed = SayWords (plans_in placed)
-    (λ programs. run_text w aims (start w.device image (loads_of placed programs)))
+-- the text of a run that these probes hear, whose cycles are counted; the counts of its windows stand in it where they are asked for
+abbrev pub say_run : Bool → List Aim → Setting → Image → List Placed → Dialogue
+say_run stats aims w image placed = SayWords (plans_in placed)
+    (λ programs. run_text stats w aims (start w.device image (loads_of placed programs)))
     (λ programs. Exactly (run_cycles w (start w.device image (loads_of placed programs))))
 
 -- an input has at most 1 MiB up to its last line
@@ -139,7 +139,7 @@ targets_in (RunImage run) = run.probes
 targets_in (DebugImage run) = []
 targets_in (Disassemble words side) = []
 targets_in (Assemble name) = []
-targets_in (Generate number cycles) = []
+targets_in (Generate number cycles stats) = []
 
 -- the probes that are aimed, of those that are handed in
 abbrev pub aims_in : List ProbeMeaning → Command → List Aim
@@ -148,8 +148,8 @@ aims_in probes command = aims_of probes (targets_in command)
 -- A run and the debugger on it load its image, its script and its programs, and a listing its source; the source text of
 -- instruction words needs no file. The run of a generated image has no script and no programs.
 abbrev pub dialogue_of : DeviceMeaning → List Aim → Command → Dialogue
-dialogue_of device aims (RunImage run) = with_image run.image (behind_image (say_run aims) device run)
+dialogue_of device aims (RunImage run) = with_image run.image (behind_image (say_run run.stats aims) device run)
 dialogue_of device aims (DebugImage run) = with_image run.image (behind_image hear_run device run)
 dialogue_of device aims (Disassemble words side) = Say (source_text side words) (Exactly 0)
 dialogue_of device aims (Assemble name) = with_source name (λ plans. SayWords plans listing (λ programs. Exactly 0))
-dialogue_of device aims (Generate number cycles) = say_run aims (setting_of [] device cycles) (image_of_number number) []
+dialogue_of device aims (Generate number cycles stats) = say_run stats aims (setting_of [] device cycles) (image_of_number number) []

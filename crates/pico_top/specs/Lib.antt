@@ -1,9 +1,9 @@
 pub mod Answer
 pub mod Call
-pub mod Came
 pub mod Causes
 pub mod Dialogue
 pub mod Loads
 pub mod Opening
 pub mod RunText
+pub mod Teller
 pub mod Walk

@@ -19,6 +19,8 @@ use Rattle.rp_machine.specs.Boot.{AreLoads}
 use Rattle.command_words.specs.Entries.{Entry}
 use Rattle.reverse_debug.specs.Standing.{first_of, OpensAt}
 use Rattle.rp_machine.specs.State.{State}
+use Rattle.window_merge.specs.Merging.{IsRested}
+use Rattle.window_merge.specs.Jobs.{IsWhole}
 use Rattle.pico_top.specs.declared.open.Started.{Started}
 use Rattle.pico_top.specs.declared.open.Debugging.{Debugging}
 use Rattle.pico_top.specs.declared.open.Purpose.{Purpose}
@@ -48,14 +50,15 @@ setting_by device debugging = setting_of debugging.script device debugging.limit
 -- what is left of the dialogue when this is opened
 abbrev pub opened_dialogue : DeviceMeaning → List Aim → Opened → Dialogue
 opened_dialogue device aims (Machine started) =
-    Say (run_text (setting_in device started) aims started.machine) (Exactly (run_cycles (setting_in device started) started.machine))
+    Say (run_text started.stats (setting_in device started) aims started.machine) (Exactly (run_cycles (setting_in device started) started.machine))
 opened_dialogue device aims (Session debugging) =
     Hear input_limit quits (session_told (setting_by device debugging) (first_of debugging.session))
 opened_dialogue device aims (Text text) = Say text.items (Exactly 0)
 
--- a machine has not passed its limit, and a session was opened at its first state
+-- a machine has not passed its limit, its mailboxes are as a cycle's end leaves them and each of its lanes has its jobs; and a
+-- session was opened at its first state
 abbrev pub IsReady : Opened → Type 0
-IsReady (Machine started) = started.machine.cycle ≤ started.limit
+IsReady (Machine started) = (started.machine.cycle ≤ started.limit) × IsRested started.machine.sio × IsWhole started.crew
 IsReady (Session debugging) = OpensAt (first_of debugging.session) debugging.limit debugging.session
 IsReady (Text text) = Unit {0}
 
@@ -108,11 +111,11 @@ ReadsScript bytes (Err (Refusing (BadImage fault))) = ⊥
 ReadsScript bytes (Err (Refusing (Source fault))) = ⊥
 ReadsScript bytes (Err Memory) = Unit {0}
 
--- a machine in its first state for a run, or a session there for the debugger, or memory ran out
+-- a machine in its first state for a run, with its jobs, or a session there for the debugger, or memory ran out
 abbrev pub Boots : Purpose → State → List ScriptEntry → ℕ → Result Opened Stop → Type 0
-Boots ForRun first script limit (Ok (Machine started)) =
-    (started.machine ≡ first) × (started.script ≡ script) × (started.limit ≡ limit)
-Boots ForRun first script limit (Ok (Session debugging)) = ⊥
+Boots (ForRun stats) first script limit (Ok (Machine started)) =
+    (started.machine ≡ first) × (started.script ≡ script) × (started.limit ≡ limit) × (started.stats ≡ stats) × IsWhole started.crew
+Boots (ForRun stats) first script limit (Ok (Session debugging)) = ⊥
 Boots ForDebug first script limit (Ok (Session debugging)) =
     OpensAt first limit debugging.session × (debugging.script ≡ script) × (debugging.limit ≡ limit)
 Boots ForDebug first script limit (Ok (Machine started)) = ⊥
@@ -122,7 +125,7 @@ Boots purpose first script limit (Err Memory) = Unit {0}
 
 -- what is done with a run for a purpose
 abbrev pub use_for : List Aim → Purpose → Use
-use_for aims ForRun = say_run aims
+use_for aims (ForRun stats) = say_run stats aims
 use_for aims ForDebug = hear_run
 
 -- ---- programs that have their places

@@ -2,13 +2,13 @@
 //! written.
 #![tactic(auto)]
 
-mod events;
 mod open;
 mod probes;
 mod programs;
 mod runner;
 mod send;
 mod tell;
+mod teller;
 
 ghost use Rattle.std.specs.Prelude.{◌≡◌, List, None, Some, length, map};
 ghost use Rattle.std.specs.String.{string_bytes};

@@ -7,6 +7,7 @@ ghost use Rattle.lane_look.specs.Device.{DeviceMeaning};
 ghost use Rattle.rp_ports.specs.Shelf.{Files};
 ghost use Rattle.uf2_image.specs.Uf2.{FitsSram};
 ghost use Rattle.rp_machine.specs.Boot.{AreLoads, start};
+ghost use Rattle.window_merge.specs.Merging.{IsRested};
 ghost use Rattle.board_parts.specs.Hearing.{Aim};
 ghost use Rattle.command_words.specs.Words.{IsLimited};
 ghost use Rattle.command_words.specs.Words.Command.{Assemble, Disassemble, Generate};
@@ -28,6 +29,7 @@ use rp_machine::{Machine, PioLoad, World};
 use rp_ports::shelf::{Loaded, Shelf};
 use std::alloc::Global;
 use uf2_image::{Image, ImageFault, read_image};
+use window_merge::Crew;
 
 /// An image file has at most 16 MiB.
 const IMAGE_LIMIT: usize = 16_777_216;
@@ -47,15 +49,19 @@ pub enum Stop {
     Memory,
 }
 
-/// A machine that can run, with its script and its limit of cycles.
+/// A machine that can run, with the jobs of its windows, its script and its limit of cycles.
 #[derive(Drop)]
 pub struct Started {
     /// The machine before its first cycle.
     pub machine: Machine,
+    /// The jobs of its lanes in a window.
+    pub crew: Crew,
     /// The levels that drive its pins.
     pub script: Script,
     /// The limit, 1 to 1,000,000,000.
     pub limit: u64,
+    /// Whether the counts of its windows are asked for.
+    pub stats: bool,
 }
 
 /// A session of the debugger, with the script of its run and the limit of cycles.
@@ -73,7 +79,10 @@ pub struct Debugging {
 #[derive(Clone, Copy, Debug, PartialEq, Eq)]
 pub enum Purpose {
     /// It runs up to its first stop.
-    Run,
+    Run {
+        /// Whether the counts of its windows are asked for.
+        stats: bool,
+    },
     /// The debugger goes to and fro in its run.
     Debug,
 }
@@ -166,15 +175,21 @@ fn begin(
     limit: u64,
 ) -> Result<Opened, Stop>
     requires start { machine.cycle ≡ 0 }
+    requires rested { IsRested machine.sio }
     requires limit { limit ≤ 1000000000 }
     ensures { Boots purpose machine script limit result }
 {
     match purpose {
-        Purpose::Run => Ok(Opened::Machine(Started {
-            machine,
-            script,
-            limit,
-        })),
+        Purpose::Run { stats } => match Crew::new(alloc) {
+            Ok(crew) => Ok(Opened::Machine(Started {
+                machine,
+                crew,
+                script,
+                limit,
+                stats,
+            })),
+            Err(_) => Err(Stop::Memory),
+        },
         Purpose::Debug => match Session::open(alloc, &machine, limit) {
             Ok(session) => Ok(Opened::Session(Debugging {
                 session,
@@ -317,14 +332,14 @@ fn open_text(alloc: Global, asked: &DisWords) -> Result<Opened, Stop>
 fn open_generated<X: Device>(alloc: Global, asked: &GenWords, device: &X) -> Result<Opened, Stop>
     requires limit { asked.now.cycles ≤ 1000000000 }
     ensures { (files : Option Files) (failed : List (List ℕ))
-        → OpensFor files failed failed (X.meaning device.now) (Generate asked.now.number asked.now.cycles) result }
+        → OpensFor files failed failed (X.meaning device.now) (Generate asked.now.number asked.now.cycles asked.now.stats) result }
 {
     match generated(alloc, asked.number) {
         Ok(image) => {
             let script = Script::new(alloc);
             boot(
                 alloc,
-                Purpose::Run,
+                Purpose::Run { stats: asked.stats },
                 &image,
                 script,
                 &[],
@@ -349,7 +364,10 @@ pub fn open_reading<F: Shelf, X: Device>(
         (command_in reading.now) result }
 {
     match reading {
-        Reading::Run(run) => open_run(alloc, Purpose::Run, run, files, device),
+        Reading::Run(run) => {
+            let purpose = Purpose::Run { stats: run.stats };
+            open_run(alloc, purpose, run, files, device)
+        }
         Reading::Debug(run) => open_run(alloc, Purpose::Debug, run, files, device),
         Reading::Dis(asked) => open_text(alloc, asked),
         Reading::Asm(name) => open_source(alloc, name.as_str(), files, device),

@@ -1,10 +1,11 @@
 //! The text of a run and of a refusal, line by line into the sink.
 
-ghost use Rattle.std.specs.Prelude.{◌≡◌, ◌<◌, ◌≤◌, length, ◌++◌};
+ghost use Rattle.std.specs.Prelude.{◌≡◌, ◌<◌, ◌≤◌, length, ◌++◌, true};
+ghost use Rattle.arrayvec.specs.ArrayVec.{array_vec_len};
 ghost use Rattle.trace_text.specs.Line.{stop_text, register_text};
 ghost use Rattle.trace_text.specs.Sent.{Sends};
 ghost use Rattle.board_parts.specs.Hearing.{aim_of, seen};
-ghost use Rattle.pico_top.specs.RunText.{core_lines, probe_lines};
+ghost use Rattle.pico_top.specs.RunText.{core_lines, counts_text, probe_lines};
 
 use crate::probes::send_probes;
 use arrayvec::ArrayVec;
@@ -13,8 +14,9 @@ use board_parts::probe::Probe;
 use rp_base::Why;
 use rp_machine::Machine;
 use rp_ports::sink::Sink;
-use trace_text::line::{register_line, stop_line};
+use trace_text::line::{push_number, push_text, register_line, stop_line};
 use trace_text::writer::{SinkFault, Writer};
+use window_runner::alone::Ran;
 
 /// Puts the line of a stop.
 fn send_stop<O: Sink>(why: &Why, cycle: u64, writer: &mut Writer<'_, O>) -> Result<(), SinkFault>
@@ -62,22 +64,69 @@ fn send_end<O: Sink>(
     send_cores(machine, writer)
 }
 
-/// Puts the lines of a machine at which a run ended, and those of the probes that heard it.
+/// Leaves the line of the counts in `out`.
+#[tactic(auto, unfolding(crate::specs::RunText::counts_text))]
+fn counts_line(windows: u64, cycles: u64, out: &mut ArrayVec<u8, 192>)
+    requires { array_vec_len out.old ≡ 0 }
+    ensures { out.new.items ≡ out.old.items ++ counts_text true windows cycles }
+{
+    push_text(b"windows ", out);
+    push_number(windows, out);
+    push_text(b" cycles ", out);
+    push_number(cycles, out);
+    push_text(b"\n", out);
+}
+
+/// Puts the line of the counts, where it is asked for.
+#[tactic(auto, unfolding(crate::specs::RunText::counts_text))]
+fn send_counts<O: Sink>(stats: bool, ran: &Ran, writer: &mut Writer<'_, O>) -> Result<(), SinkFault>
+    ensures sends { Sends (O.written writer.old.out.now) (O.written writer.new.out.now) (O.faults writer.old.out.now) (O.faults writer.new.out.now) (counts_text stats ran.now.windows ran.now.cycles) result }
+    ensures same_sink { writer.new.out.ghost_name ≡ writer.old.out.ghost_name }
+{
+    let mut line = ArrayVec::<u8, 192>::new();
+    if stats {
+        counts_line(ran.windows, ran.cycles, &mut line);
+    }
+    writer.line(&line)
+}
+
+/// Puts the lines of probes that heard a run, and that of its counts, where it is asked for.
+fn send_heard<O: Sink>(
+    stats: bool,
+    ran: &Ran,
+    probes: &[Aimed],
+    writer: &mut Writer<'_, O>,
+) -> Result<(), SinkFault>
+    ensures sends { Sends (O.written writer.old.out.now) (O.written writer.new.out.now)
+        (O.faults writer.old.out.now) (O.faults writer.new.out.now)
+        (probe_lines (seen probes.now (λ a. aim_of a.index a.pin
+        (⟦<dyn Probe as Probe>⟧ a.probe.vtable) a.probe.value))
+        ++ counts_text stats ran.now.windows ran.now.cycles) result }
+    ensures same_sink { writer.new.out.ghost_name ≡ writer.old.out.ghost_name }
+{
+    send_probes(probes, writer)?;
+    send_counts(stats, ran, writer)
+}
+
+/// Puts the lines of a machine at which a run ended, those of the probes that heard it, and that of its counts, where it is asked
+/// for.
 pub fn send_last<O: Sink>(
-    why: &Why,
+    stats: bool,
+    ran: &Ran,
     machine: &Machine,
     probes: &[Aimed],
     writer: &mut Writer<'_, O>,
 ) -> Result<(), SinkFault>
     ensures sends { Sends (O.written writer.old.out.now) (O.written writer.new.out.now)
         (O.faults writer.old.out.now) (O.faults writer.new.out.now)
-        ((stop_text why.now machine.now.cycle ++ core_lines machine.now)
-        ++ probe_lines (seen probes.now (λ a. aim_of a.index a.pin
-        (⟦<dyn Probe as Probe>⟧ a.probe.vtable) a.probe.value))) result }
+        ((stop_text ran.now.why machine.now.cycle ++ core_lines machine.now)
+        ++ (probe_lines (seen probes.now (λ a. aim_of a.index a.pin
+        (⟦<dyn Probe as Probe>⟧ a.probe.vtable) a.probe.value))
+        ++ counts_text stats ran.now.windows ran.now.cycles)) result }
     ensures same_sink { writer.new.out.ghost_name ≡ writer.old.out.ghost_name }
 {
-    send_end(why, machine, writer)?;
-    send_probes(probes, writer)
+    send_end(&ran.why, machine, writer)?;
+    send_heard(stats, ran, probes, writer)
 }
 
 /// The place behind the first line that begins at a place.

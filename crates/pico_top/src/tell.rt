@@ -1,11 +1,13 @@
 //! What was opened, or why nothing was, into the sink.
 
-ghost use Rattle.std.specs.Prelude.{◌≡◌, ◌+◌, ◌≤◌, OnOk};
-ghost use Rattle.trace_text.specs.Sent.{Sends};
+ghost use Rattle.std.specs.Prelude.{◌≡◌, ◌+◌, ◌≤◌, ◌++◌};
+ghost use Rattle.trace_text.specs.Line.{stop_text};
 ghost use Rattle.refusal_lines.specs.Refusals.{line_of, status_of};
 ghost use Rattle.refusal_lines.specs.Meant.{meant};
 ghost use Rattle.board_parts.specs.Hearing.{aim_of, seen};
-ghost use Rattle.pico_top.specs.RunText.{run_text, run_cycles};
+ghost use Rattle.window_merge.specs.Merging.{IsRested};
+ghost use Rattle.window_merge.specs.Jobs.{IsWhole};
+ghost use Rattle.pico_top.specs.RunText.{core_lines, counts_text, probe_lines, run_cycles, run_text};
 ghost use Rattle.pico_top.specs.Answer.{Puts, RunsOut};
 ghost use Rattle.line_talk.specs.Debugger.{quits};
 ghost use Rattle.line_talk.specs.Hearing.{way_line, way_status};
@@ -23,49 +25,29 @@ use lane_look::Device;
 use line_talk::hear::hear;
 use line_talk::way::Way;
 use refusal_lines::{refusal_line, status};
-use rp_machine::{Steps, World};
+use rp_machine::{Machine, Steps, World};
 use rp_ports::sink::Sink;
 use rp_ports::source::Source;
 use std::alloc::Global;
 use std::sync::ledger::Ledger;
-use trace_text::writer::{SinkFault, Writer};
+use trace_text::writer::Writer;
+use window_runner::alone::Ran;
 
 /// An input has at most 1 MiB up to its last line.
 const INPUT_LIMIT: usize = 1_048_576;
 
-/// Runs a machine that probes hear, puts the lines of its events, and then those of its end and of the probes.
-fn run<X: Device, O: Sink, L: Ledger>(
-    started: Started,
-    probes: &mut [Aimed],
-    device: &X,
-    writer: &mut Writer<'_, O>,
-    steps: &mut Steps<L>,
-) -> Result<(), SinkFault>
-    requires { started.machine.cycle ≤ started.limit }
-    ensures sends { Sends (O.written writer.old.out.now) (O.written writer.new.out.now)
-        (O.faults writer.old.out.now) (O.faults writer.new.out.now)
-        (run_text (setting_in (X.meaning device.now) started)
-        (seen probes.old (λ a. aim_of a.index a.pin
+/// Puts the last lines of a run into a sink, and answers 0, or 7 where the sink fails.
+fn end_into<O: Sink>(stats: bool, ran: &Ran, machine: &Machine, probes: &[Aimed], out: &mut O) -> u8
+    ensures { Puts (O.written out.old) (O.written out.new) (O.faults out.old) (O.faults out.new)
+        result 0 ((stop_text ran.now.why machine.now.cycle ++ core_lines machine.now)
+        ++ (probe_lines (seen probes.now (λ a. aim_of a.index a.pin
         (⟦<dyn Probe as Probe>⟧ a.probe.vtable) a.probe.value))
-        started.machine) result }
-    ensures same_sink { writer.new.out.ghost_name ≡ writer.old.out.ghost_name }
-    ensures whole { OnOk result (steps.new ≡ steps.old + run_cycles (setting_in (X.meaning device.now) started) started.machine) }
-    ensures forward { steps.old ≤ steps.new }
-    ensures within { steps.new ≤ steps.old + run_cycles (setting_in (X.meaning device.now) started) started.machine }
+        ++ counts_text stats ran.now.windows ran.now.cycles)) }
 {
-    let Started {
-        mut machine,
-        script,
-        limit,
-    } = started;
-    let world = World {
-        script: &script,
-        device,
-        limit,
-    };
-    match run_to_stop(&mut machine, &world, probes, writer, steps) {
-        Ok(why) => send_last(&why, &machine, probes, writer),
-        Err(fault) => Err(fault),
+    let mut writer = Writer { out };
+    match send_last(stats, ran, machine, probes, &mut writer) {
+        Ok(()) => 0,
+        Err(_) => 7,
     }
 }
 
@@ -77,9 +59,11 @@ fn run_into<X: Device, O: Sink, L: Ledger>(
     out: &mut O,
     steps: &mut Steps<L>,
 ) -> u8
-    requires { started.machine.cycle ≤ started.limit }
+    requires number { started.machine.cycle ≤ started.limit }
+    requires rested { IsRested started.machine.sio }
+    requires whole { IsWhole started.crew }
     ensures puts { Puts (O.written out.old) (O.written out.new) (O.faults out.old) (O.faults out.new)
-        result 0 (run_text (setting_in (X.meaning device.now) started)
+        result 0 (run_text started.stats (setting_in (X.meaning device.now) started)
         (seen probes.old (λ a. aim_of a.index a.pin
         (⟦<dyn Probe as Probe>⟧ a.probe.vtable) a.probe.value))
         started.machine) }
@@ -87,9 +71,20 @@ fn run_into<X: Device, O: Sink, L: Ledger>(
     ensures forward { steps.old ≤ steps.new }
     ensures within { steps.new ≤ steps.old + run_cycles (setting_in (X.meaning device.now) started) started.machine }
 {
-    let mut writer = Writer { out };
-    match run(started, probes, device, &mut writer, steps) {
-        Ok(()) => 0,
+    let Started {
+        mut machine,
+        mut crew,
+        script,
+        limit,
+        stats,
+    } = started;
+    let world = World {
+        script: &script,
+        device,
+        limit,
+    };
+    match run_to_stop(&mut machine, &world, &mut crew, probes, out, steps) {
+        Ok(ran) => end_into(stats, &ran, &machine, probes, out),
         Err(_) => 7,
     }
 }

@@ -1,5 +1,5 @@
 use Rattle.std.proofs.Common.{◌∙◌}
-use Rattle.pico_top.proofs.Listening.{lines_next, lines_done}
+use Rattle.pico_top.proofs.ProbeLines.{lines_next, lines_done}
 use Rattle.pico_top.proofs.Pieces.{sent_same, sent_piece, sent_part, sent_all}
 use Rattle.pico_top.proofs.probes.send_probes.Goals as goal
 

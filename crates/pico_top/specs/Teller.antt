@@ -1,0 +1,91 @@
+-- What the events of a run leave in a sink, and with the probes that hear its pins. The project's own.
+use Rattle.std.specs.Prelude.{◌≡◌, ℕ, Bool, List, [], ◌∷◌, ◌++◌, Option, None, Some, flat_map, map}
+use Rattle.std.proofs.Common.{refl, sym, ap, ap₂, ◌∙◌, append_assoc}
+use Rattle.std.proofs.lemmas.List.{append-nil}
+use Rattle.rp_ports.specs.Sink.{Appends}
+use Rattle.rp_ports.proofs.Pieces.{appends_both}
+use Rattle.trace_text.specs.declared.event.Event.{Event}
+use Rattle.trace_text.specs.declared.event.Event.TheVariants.{Uart, Pin}
+use Rattle.trace_text.specs.Line.{event_text}
+use Rattle.board_parts.specs.Hearing.{Aim, after_hearing}
+use Rattle.board_parts.specs.declared.change.PinChange.{PinChange}
+use Rattle.board_parts.proofs.Hearing.{hears_in_turn}
+use Rattle.pico_top.specs.RunText.{event_lines, change_in, after_events}
+
+-- Their lines stand behind what was written before, and the probes heard the changes of pins among them.
+pub record HasTold (old new : Option (List ℕ)) (before after : List Aim) (events : List Event) : Type 0 where
+  pub written : Appends old new (event_lines events)
+  pub heard : after ≡ after_events events before
+
+-- ---- no events, and some behind others
+
+pub no_lines : event_lines [] ≡ []
+unfolding event_lines
+no_lines = refl
+
+pub lines_both : (xs ys : List Event) → event_lines (xs ++ ys) ≡ event_lines xs ++ event_lines ys
+unfolding event_lines
+lines_both [] ys = refl
+lines_both (x ∷ xs) ys = ap (λ r. event_text x ++ r) (lines_both xs ys) ∙ sym (append_assoc (event_text x) (event_lines xs) (event_lines ys))
+
+-- the line of one event
+pub one_line : (e : Event) → event_text e ≡ event_lines (e ∷ [])
+unfolding event_lines
+one_line e = sym (append-nil (event_text e))
+
+changes_both : (xs ys : List Event) → flat_map change_in (xs ++ ys) ≡ flat_map change_in xs ++ flat_map change_in ys
+changes_both [] ys = refl
+changes_both (x ∷ xs) ys = ap (λ r. change_in x ++ r) (changes_both xs ys) ∙ sym (append_assoc (change_in x) (flat_map change_in xs) (flat_map change_in ys))
+
+heard_both : (first second : List PinChange) (aims : List Aim) → map (after_hearing (first ++ second)) aims ≡ map (after_hearing second) (map (after_hearing first) aims)
+heard_both first second [] = refl
+heard_both first second (a ∷ aims) = ap₂ (λ (x : Aim) (xs : List Aim). x ∷ xs) (sym (hears_in_turn a first second)) (heard_both first second aims)
+
+pub after_both : (xs ys : List Event) (aims : List Aim) → after_events (xs ++ ys) aims ≡ after_events ys (after_events xs aims)
+unfolding after_events
+after_both xs ys aims = ap (λ c. map (after_hearing c) aims) (changes_both xs ys) ∙ heard_both (flat_map change_in xs) (flat_map change_in ys) aims
+
+nothing_heard : (a : Aim) → after_hearing [] a ≡ a
+unfolding after_hearing
+nothing_heard a = refl
+
+none_heard : (aims : List Aim) → map (after_hearing []) aims ≡ aims
+none_heard [] = refl
+none_heard (a ∷ aims) = ap₂ (λ (x : Aim) (xs : List Aim). x ∷ xs) (nothing_heard a) (none_heard aims)
+
+pub after_none : (aims : List Aim) → after_events [] aims ≡ aims
+unfolding after_events
+after_none aims = none_heard aims
+
+-- one byte, and one change
+pub after_byte : (cycle number byte : ℕ) (aims : List Aim) → after_events (Uart cycle number byte ∷ []) aims ≡ aims
+unfolding after_events
+after_byte cycle number byte aims = none_heard aims
+
+pub after_change : (cycle pin : ℕ) (level : Bool) (aims : List Aim) → after_events (Pin cycle pin level ∷ []) aims ≡ map (after_hearing (record { cycle = cycle; pin = pin; level = level } ∷ [])) aims
+unfolding after_events
+after_change cycle pin level aims = refl
+
+appends_none : (a : Option (List ℕ)) → Appends a a []
+appends_none None = refl
+appends_none (Some w) = ap Some (sym (append-nil w))
+
+pub told_none : (a : Option (List ℕ)) (x : List Aim) → HasTold a a x x []
+told_none a x = record { written = rw no_lines (appends_none a); heard = sym (after_none x) }
+
+pub told_both : (a b c : Option (List ℕ)) (x y z : List Aim) (first second : List Event) → HasTold a b x y first → HasTold b c y z second → HasTold a c x z (first ++ second)
+told_both a b c x y z first second h k = record {
+  written = rw (lines_both first second) (appends_both a b c (event_lines first) (event_lines second) h.written k.written);
+  heard = k.heard ∙ ap (after_events second) h.heard ∙ sym (after_both first second x);
+}
+
+pub told_one : (a b : Option (List ℕ)) (x y : List Aim) (event : Event) → Appends a b (event_text event) → y ≡ after_events (event ∷ []) x → HasTold a b x y (event ∷ [])
+told_one a b x y event h k = record { written = rw (sym (one_line event)) h; heard = k }
+
+-- ---- an event that was heard
+
+pub byte_heard : (event : Event) (cycle number byte : ℕ) (aims : List Aim) → event ≡ Uart cycle number byte → aims ≡ after_events (event ∷ []) aims
+byte_heard event cycle number byte aims is = rw is (sym (after_byte cycle number byte aims))
+
+pub change_heard : (event : Event) (cycle pin : ℕ) (level : Bool) (aims heard : List Aim) → event ≡ Pin cycle pin level → heard ≡ map (after_hearing (record { cycle = cycle; pin = pin; level = level } ∷ [])) aims → heard ≡ after_events (event ∷ []) aims
+change_heard event cycle pin level aims heard is h = rw is (h ∙ sym (after_change cycle pin level aims))
