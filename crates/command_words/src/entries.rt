@@ -11,7 +11,8 @@ use std::alloc::{AllocError, Global};
 
 /// What stands before and after the first colon.
 fn cut(text: &str) -> Option<(&str, &str)>
-    ensures { MatchOption result (cut text.now ≡ None) (λ parts. cut text.now ≡ Some (parts.0.now, parts.1.now)) }
+    ensures { MatchOption result (cut text.now ≡ None) (λ parts. cut text.now
+        ≡ Some (parts.0.now, parts.1.now)) }
 {
     text.split_once(':')
 }
@@ -88,7 +89,8 @@ fn add_all(alloc: Global, list: &str, entries: &mut Vec<PioEntry>) -> Result<boo
 /// The entries of a list; none where the list is of another form.
 #[tactic(auto, unfolding(crate::specs::Entries::entries_of))]
 pub fn entries_in(alloc: Global, list: &str) -> Result<Option<Vec<PioEntry>>, AllocError>
-    ensures { IfOk result (λ found. option_map (λ entries. map entry_in entries.items) found ≡ entries_of list.now) }
+    ensures { IfOk result (λ found. option_map (λ entries. map entry_in entries.items) found
+        ≡ entries_of list.now) }
 {
     let mut entries = Vec::new(alloc);
     if add_all(alloc, list, &mut entries)? {

@@ -77,7 +77,8 @@ fn first_setting<'a>(words: &'a [String]) -> Option<(&'a str, Option<&'a str>, &
 
 /// The value of the option of this name.
 pub fn value_for<'a>(name: &str, options: &'a [String]) -> Option<&'a str>
-    ensures { option_map (λ value. value.now) result ≡ value_for name.now (settings_of (map string_bytes options.now)) }
+    ensures { option_map (λ value. value.now) result
+        ≡ value_for name.now (settings_of (map string_bytes options.now)) }
 {
     let mut left = options;
     while let Some((other, value, rest)) = first_setting(left) {

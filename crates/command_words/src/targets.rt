@@ -85,7 +85,8 @@ pub fn targets_in(
     probes: usize,
     list: &str,
 ) -> Result<Option<Vec<Target>>, AllocError>
-    ensures { IfOk result (λ found. option_map (λ targets. targets.items) found ≡ targets_of probes list.now) }
+    ensures { IfOk result (λ found. option_map (λ targets. targets.items) found
+        ≡ targets_of probes list.now) }
 {
     let mut targets = Vec::new(alloc);
     if add_all(probes, list, &mut targets)? {

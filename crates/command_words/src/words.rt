@@ -117,7 +117,8 @@ fn probes_in(alloc: Global, probes: usize, options: &[String]) -> Result<Vec<Tar
 
 /// A copy of the script's name among the options of a run.
 fn script_in(alloc: Global, options: &[String]) -> Result<Option<String>, AllocError>
-    ensures { IfOk result (λ name. option_map string_bytes name ≡ script_in (settings_of (map string_bytes options.now))) }
+    ensures { IfOk result (λ name. option_map string_bytes name
+        ≡ script_in (settings_of (map string_bytes options.now))) }
 {
     match value_for("--script", options) {
         None => Ok(None),
@@ -134,8 +135,10 @@ fn owned(
     pio: Vec<PioEntry>,
     probes: Vec<Target>,
 ) -> Result<RunWords, WordsFault>
-    ensures { ReadsRun (run_with image.now (Some cycles) (script_in (settings_of (map string_bytes options.now)))
-        (Some (map entry_in pio.items)) (Some probes.items) (stats_in (settings_of (map string_bytes options.now)))) result }
+    ensures { ReadsRun (run_with image.now (Some cycles)
+        (script_in (settings_of (map string_bytes options.now)))
+        (Some (map entry_in pio.items)) (Some probes.items)
+        (stats_in (settings_of (map string_bytes options.now)))) result }
 {
     let Ok(image) = String::from_str(alloc, image) else {
         return Err(WordsFault::Memory);
@@ -161,7 +164,8 @@ fn run_words(
     image: &str,
     options: &[String],
 ) -> Result<RunWords, WordsFault>
-    ensures { ReadsRun (run_reading probes image.now (settings_of (map string_bytes options.now))) result }
+    ensures { ReadsRun (run_reading probes image.now (settings_of (map string_bytes options.now)))
+        result }
 {
     let Some(cycles) = cycles_in(options) else {
         return Err(WordsFault::Words);
@@ -183,7 +187,8 @@ fn read_run(
     image: &str,
     options: &[String],
 ) -> Result<Reading, WordsFault>
-    ensures { ReadsAs (option_map RunImage (run_reading probes image.now (settings_of (map string_bytes options.now)))) result }
+    ensures { ReadsAs (option_map RunImage
+        (run_reading probes image.now (settings_of (map string_bytes options.now)))) result }
 {
     match run_words(alloc, probes, image, options) {
         Ok(run) => Ok(Reading::Run(run)),
@@ -198,7 +203,8 @@ fn read_debug(
     image: &str,
     options: &[String],
 ) -> Result<Reading, WordsFault>
-    ensures { ReadsAs (option_map DebugImage (run_reading probes image.now (settings_of (map string_bytes options.now)))) result }
+    ensures { ReadsAs (option_map DebugImage
+        (run_reading probes image.now (settings_of (map string_bytes options.now)))) result }
 {
     match run_words(alloc, probes, image, options) {
         Ok(run) => Ok(Reading::Debug(run)),

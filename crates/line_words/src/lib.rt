@@ -21,7 +21,8 @@ use write::written;
 ///
 /// `AllocError` where memory runs out.
 pub fn line_in(alloc: Global, words: &[String]) -> Result<Option<Vec<String>>, AllocError>
-    ensures { IfOk result (λ found. option_map (λ line. map string_bytes line.items) found ≡ line_in (map string_bytes words.now)) }
+    ensures { IfOk result (λ found. option_map (λ line. map string_bytes line.items) found
+        ≡ line_in (map string_bytes words.now)) }
 {
     let command = table(alloc)?;
     match command.try_get_matches_from(words) {

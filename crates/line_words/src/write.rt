@@ -17,7 +17,8 @@ fn push_pair(
     line: &mut Vec<String>,
 ) -> Result<(), AllocError>
     ensures { IfOk result (λ done. map string_bytes line.new.items
-        ≡ map string_bytes line.old.items ++ pair dashed.now (option_map (λ text. text.now) value.entry)) }
+        ≡ map string_bytes line.old.items ++ pair dashed.now
+        (option_map (λ text. text.now) value.entry)) }
 {
     if let Some(value) = value {
         line.push(String::from_str(alloc, dashed)?)?;
@@ -34,7 +35,8 @@ fn push_alone(
     line: &mut Vec<String>,
 ) -> Result<(), AllocError>
     ensures { IfOk result (λ done. map string_bytes line.new.items
-        ≡ map string_bytes line.old.items ++ alone dashed.now (option_map (λ text. text.now) value.entry)) }
+        ≡ map string_bytes line.old.items ++ alone dashed.now
+        (option_map (λ text. text.now) value.entry)) }
 {
     if let Some(value) = value {
         if value == "true" {
@@ -50,7 +52,8 @@ pub fn written(
     name: &str,
     found: &ArgMatches<'_>,
 ) -> Result<Option<Vec<String>>, AllocError>
-    ensures { IfOk result (λ line. option_map (λ words. map string_bytes words.items) line ≡ line_of name.now (first_value (found_of found.now))) }
+    ensures { IfOk result (λ line. option_map (λ words. map string_bytes words.items) line
+        ≡ line_of name.now (first_value (found_of found.now))) }
 {
     let Some(argument) = found.get_str("argument") else {
         return Ok(None);

@@ -42,7 +42,7 @@ const STORED: [Row; 10] = [
 ];
 
 /// A copy of two words by the DMA engine, whose second read and first write meet on a bank.
-const COPIES_TWO: [u16; 18] = [
+pub const COPIES_TWO: [u16; 18] = [
     0xa502, 0x2050, 0x0600, 0xcd1e, 0xc01e, 0xe7fe, 0x001c, 0x2000, 0x0100, 0x2000, 0x0002, 0x0000,
     0x8039, 0x001f, 0x3344, 0x1122, 0x7788, 0x5566,
 ];
@@ -56,7 +56,7 @@ const COPIED_TWO: [Row; 4] = [
 ];
 
 /// A copy of three words by the DMA engine, in which all reads and writes are on one bank.
-const COPIES_THREE: [u16; 18] = [
+pub const COPIES_THREE: [u16; 18] = [
     0xa502, 0x2050, 0x0600, 0xcd1e, 0xc01e, 0xe7fe, 0x0000, 0x2100, 0x0040, 0x2100, 0x0003, 0x0000,
     0x8039, 0x001f, 0x3344, 0x1122, 0x7788, 0x5566,
 ];

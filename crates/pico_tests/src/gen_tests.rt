@@ -18,13 +18,13 @@ fn answer(alloc: Global, words: &[&str]) -> Result<(u8, Vec<u8>), AllocError> {
 
 /// The text of the program of 1 after a million cycles, by another emulator of its eight instructions.
 const MILLION: &[u8] =
-    b"stop limit 1000000\ncore0 00000000 9711a483 00000000 9781a45d 000000c7 006fff94 00000031 5fffffeb 00000000 00000000 00000000 00000000 00000000 20042000 20008001 20000406 81000000\ncore1 asleep\n";
+    b"stop limit 1000000\ncore0 00000000 9711a483 00000000 9781a45d 000000c7 006fff94 00000031 5fffffeb 00000000 00000000 00000000 00000000 00000000 20042000 20008001 20000406 81000000\ncore1 asleep\nwindows 3907 cycles 1000000\n";
 
 /// A million cycles: the code has run to its end at least once, since LR was set by the BL there.
 #[test]
 fn a_generated_program_runs(rt: HostRuntime) -> Result<(), Fail> {
     let alloc = rt.alloc();
-    let (status, text) = answer(alloc, &["gen", "1", "--cycles", "1000000"])?;
+    let (status, text) = answer(alloc, &["gen", "1", "--cycles", "1000000", "--stats"])?;
     assert_eq!(rt; status, 0);
     assert!(rt; text.as_slice() == MILLION);
     Ok(())

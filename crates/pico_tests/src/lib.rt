@@ -17,3 +17,5 @@ mod machine_tests;
 mod run_tests;
 #[cfg(test)]
 mod sample_files;
+#[cfg(test)]
+mod window_tests;

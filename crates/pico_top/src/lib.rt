@@ -224,7 +224,8 @@ pub fn pico<F: Shelf, I: Source, O: Sink, X: Device, L: Ledger>(
 
     // Status 2 comes exactly where the words are refused.
     ensures words { result ≡ 2 → reading (length probes.items) (map string_bytes words.now) ≡ None }
-    ensures refused { reading (length probes.items) (map string_bytes words.now) ≡ None → IsStatus result 2 }
+    ensures refused { reading (length probes.items) (map string_bytes words.now) ≡ None
+        → IsStatus result 2 }
 
     // Statuses 3 to 6 come only of the input at which the walk ended, 8 only where the source's count of faults rose, 10
     // only where the limit of its bytes was reached.

@@ -106,7 +106,8 @@ pub fn load<F: Shelf>(
     files: &mut F,
 ) -> Result<Vec<u8>, Stop>
     ensures kept { F.files files.new ≡ F.files files.old }
-    ensures answer { LoadsAs (F.files files.old) (F.failed files.old) (F.failed files.new) name.now limit result }
+    ensures answer { LoadsAs (F.files files.old) (F.failed files.old)
+        (F.failed files.new) name.now limit result }
 {
     let mut bytes = Vec::new(alloc);
     match files.load(name, limit, &mut bytes) {
@@ -126,7 +127,8 @@ pub fn load<F: Shelf>(
 /// Loads an image file and reads it.
 fn open_image<F: Shelf>(alloc: Global, name: &str, files: &mut F) -> Result<Image, Stop>
     ensures kept { F.files files.new ≡ F.files files.old }
-    ensures answer { Passes (F.files files.old) (F.failed files.old) (F.failed files.new) (with_image name.now) result }
+    ensures answer { Passes (F.files files.old) (F.failed files.old) (F.failed files.new)
+        (with_image name.now) result }
     ensures fits { IfOk result FitsSram }
 {
     match load(alloc, name, IMAGE_LIMIT, files) {
@@ -241,8 +243,10 @@ fn open_behind_script<F: Shelf, X: Device>(
     requires limit { run.now.cycles ≤ 1000000000 }
     ensures kept { F.files files.new ≡ F.files files.old }
     ensures answer { (aims : List Aim)
-        → Opens (F.files files.old) (F.failed files.old) (F.failed files.new) (X.meaning device.now) aims
-        (behind_script (use_for aims purpose) (X.meaning device.now) (run_in run.now) image.now script) result }
+        → Opens (F.files files.old) (F.failed files.old) (F.failed files.new)
+        (X.meaning device.now) aims
+        (behind_script (use_for aims purpose) (X.meaning device.now)
+        (run_in run.now) image.now script) result }
 {
     match open_programs(alloc, &run.pio, files) {
         Ok(loads) => boot(alloc, purpose, image, script, &loads, run.cycles, device),
@@ -263,8 +267,10 @@ fn open_behind_image<F: Shelf, X: Device>(
     requires limit { run.now.cycles ≤ 1000000000 }
     ensures kept { F.files files.new ≡ F.files files.old }
     ensures answer { (aims : List Aim)
-        → Opens (F.files files.old) (F.failed files.old) (F.failed files.new) (X.meaning device.now) aims
-        (behind_image (use_for aims purpose) (X.meaning device.now) (run_in run.now) image.now) result }
+        → Opens (F.files files.old) (F.failed files.old) (F.failed files.new)
+        (X.meaning device.now) aims
+        (behind_image (use_for aims purpose) (X.meaning device.now) (run_in run.now) image.now)
+        result }
 {
     match open_script(alloc, run, files) {
         Ok(script) => open_behind_script(alloc, purpose, run, image, script, files, device),
@@ -283,7 +289,8 @@ fn open_run<F: Shelf, X: Device>(
     requires limit { run.now.cycles ≤ 1000000000 }
     ensures kept { F.files files.new ≡ F.files files.old }
     ensures answer { (aims : List Aim)
-        → Opens (F.files files.old) (F.failed files.old) (F.failed files.new) (X.meaning device.now) aims
+        → Opens (F.files files.old) (F.failed files.old) (F.failed files.new)
+        (X.meaning device.now) aims
         (with_image (run_in run.now).image
         (behind_image (use_for aims purpose) (X.meaning device.now) (run_in run.now))) result }
 {
@@ -301,7 +308,8 @@ fn open_source<F: Shelf, X: Device>(
     device: &X,
 ) -> Result<Opened, Stop>
     ensures kept { F.files files.new ≡ F.files files.old }
-    ensures answer { OpensFor (F.files files.old) (F.failed files.old) (F.failed files.new) (X.meaning device.now)
+    ensures answer { OpensFor (F.files files.old) (F.failed files.old) (F.failed files.new)
+        (X.meaning device.now)
         (Assemble name.now) result }
 {
     match load(alloc, name, SOURCE_LIMIT, files) {
@@ -320,7 +328,8 @@ fn open_source<F: Shelf, X: Device>(
 /// The source text of instruction words.
 fn open_text(alloc: Global, asked: &DisWords) -> Result<Opened, Stop>
     ensures { (files : Option Files) (failed : List (List ℕ)) (device : DeviceMeaning)
-        → OpensFor files failed failed device (Disassemble asked.now.words.items asked.now.side) result }
+        → OpensFor files failed failed device (Disassemble asked.now.words.items asked.now.side)
+        result }
 {
     match write_source(alloc, &asked.words, &asked.side) {
         Ok(text) => Ok(Opened::Text(text)),
@@ -332,7 +341,8 @@ fn open_text(alloc: Global, asked: &DisWords) -> Result<Opened, Stop>
 fn open_generated<X: Device>(alloc: Global, asked: &GenWords, device: &X) -> Result<Opened, Stop>
     requires limit { asked.now.cycles ≤ 1000000000 }
     ensures { (files : Option Files) (failed : List (List ℕ))
-        → OpensFor files failed failed (X.meaning device.now) (Generate asked.now.number asked.now.cycles asked.now.stats) result }
+        → OpensFor files failed failed (X.meaning device.now)
+        (Generate asked.now.number asked.now.cycles asked.now.stats) result }
 {
     match generated(alloc, asked.number) {
         Ok(image) => {
@@ -360,7 +370,8 @@ pub fn open_reading<F: Shelf, X: Device>(
 ) -> Result<Opened, Stop>
     requires { IsLimited (command_in reading.now) }
     ensures kept { F.files files.new ≡ F.files files.old }
-    ensures answer { OpensFor (F.files files.old) (F.failed files.old) (F.failed files.new) (X.meaning device.now)
+    ensures answer { OpensFor (F.files files.old) (F.failed files.old) (F.failed files.new)
+        (X.meaning device.now)
         (command_in reading.now) result }
 {
     match reading {

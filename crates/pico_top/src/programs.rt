@@ -40,10 +40,16 @@ fn load_of(entry: &PioEntry, program: Program, others: &[PioLoad]) -> Result<Pio
     requires runs { IsRunnable program }
     ensures load { IfOk result IsLoad }
     ensures parts { IfOk result (λ load.
-        load ≡ record { block = entry.now.block; machine = entry.now.machine; offset = load.offset; program = program }) }
+        load ≡ record {
+          block = entry.now.block;
+          machine = entry.now.machine;
+          offset = load.offset;
+          program = program;
+        }) }
     ensures ok { IfOk result (λ load. placed (taken_by 0 entry.now.block others.now) program.origin
         (length program.words.items) ≡ Ok load.offset) }
-    ensures err { IfErr result (λ fault. placed (taken_by 0 entry.now.block others.now) program.origin
+    ensures err { IfErr result (λ fault. placed
+        (taken_by 0 entry.now.block others.now) program.origin
         (length program.words.items) ≡ Err fault) }
 {
     match offset_for(taken(entry.block, others), &program) {
@@ -72,7 +78,8 @@ fn add(load: PioLoad, loads: &mut Vec<PioLoad>) -> Result<(), Stop>
 fn add_load(entry: &PioEntry, program: Program, loads: &mut Vec<PioLoad>) -> Result<(), Stop>
     requires loads { AreLoads loads.old.items }
     requires runs { IsRunnable program }
-    ensures { (before : List Placed) (plan : Plan) → ArePlaced before loads.old.items → IsProgram plan program
+    ensures { (before : List Placed) (plan : Plan) → ArePlaced before loads.old.items
+        → IsProgram plan program
         → PlacesAs (entry_in entry.now) before plan loads.new.items result }
 {
     match load_of(entry, program, loads) {
@@ -112,7 +119,8 @@ fn open_program<F: Shelf>(
     requires { AreLoads loads.old.items }
     ensures kept { F.files files.new ≡ F.files files.old }
     ensures answer { (before : List Placed) → ArePlaced before loads.old.items
-        → AddsAs (F.files files.old) (F.failed files.old) (F.failed files.new) (entry_in entry.now) before
+        → AddsAs (F.files files.old) (F.failed files.old) (F.failed files.new)
+        (entry_in entry.now) before
         loads.new.items result }
 {
     match load(alloc, entry.file.as_str(), SOURCE_LIMIT, files) {
@@ -128,7 +136,8 @@ pub fn open_programs<F: Shelf>(
     files: &mut F,
 ) -> Result<Vec<PioLoad>, Stop>
     ensures kept { F.files files.new ≡ F.files files.old }
-    ensures answer { LoadsAll (F.files files.old) (F.failed files.old) (F.failed files.new) (map entry_in entries.now) result }
+    ensures answer { LoadsAll (F.files files.old) (F.failed files.old) (F.failed files.new)
+        (map entry_in entries.now) result }
 {
     let mut loads = Vec::new(alloc);
     for entry in entries {

@@ -34,23 +34,28 @@ fn run_told<X: Device, O: Sink, L: Ledger>(
     requires number { machine.old.cycle ≤ world.now.limit }
     requires rested { IsRested machine.old.sio }
     requires whole { IsWhole crew.old }
-    ensures sends { Sends (O.written teller.old.writer.out.now) (O.written teller.new.writer.out.now)
+    ensures sends { Sends (O.written teller.old.writer.out.now)
+        (O.written teller.new.writer.out.now)
         (O.faults teller.old.writer.out.now) (O.faults teller.new.writer.out.now)
         (event_lines (run_shown
-        (setting_of world.now.script.now (X.meaning world.now.device.now) world.now.limit) machine.old))
+        (setting_of world.now.script.now (X.meaning world.now.device.now) world.now.limit)
+        machine.old))
         result }
     ensures heard { IfOk result (λ ran. seen teller.new.probes.now (λ a. aim_of a.index a.pin
         (⟦<dyn Probe as Probe>⟧ a.probe.vtable) a.probe.value)
         ≡ after_events (run_shown
-        (setting_of world.now.script.now (X.meaning world.now.device.now) world.now.limit) machine.old)
+        (setting_of world.now.script.now (X.meaning world.now.device.now) world.now.limit)
+        machine.old)
         (seen teller.old.probes.now (λ a. aim_of a.index a.pin
         (⟦<dyn Probe as Probe>⟧ a.probe.vtable) a.probe.value))) }
     ensures same_sink { teller.new.writer.out.ghost_name ≡ teller.old.writer.out.ghost_name }
     ensures same_probes { teller.new.probes.ghost_name ≡ teller.old.probes.ghost_name }
     ensures ran { IfOk result (IsRan
-        (setting_of world.now.script.now (X.meaning world.now.device.now) world.now.limit) machine.old) }
+        (setting_of world.now.script.now (X.meaning world.now.device.now) world.now.limit)
+        machine.old) }
     ensures state { IfOk result (λ ran. machine.new ≡ last_state
-        (setting_of world.now.script.now (X.meaning world.now.device.now) world.now.limit) machine.old) }
+        (setting_of world.now.script.now (X.meaning world.now.device.now) world.now.limit)
+        machine.old) }
     ensures on_run { IsOnRun
         (setting_of world.now.script.now (X.meaning world.now.device.now) world.now.limit)
         machine.old machine.new }
@@ -71,20 +76,25 @@ pub fn run_to_stop<X: Device, O: Sink, L: Ledger>(
     requires number { machine.old.cycle ≤ world.now.limit }
     requires rested { IsRested machine.old.sio }
     requires whole { IsWhole crew.old }
-    ensures sends { Sends (O.written out.old) (O.written out.new) (O.faults out.old) (O.faults out.new)
+    ensures sends { Sends (O.written out.old) (O.written out.new) (O.faults out.old)
+        (O.faults out.new)
         (event_lines (run_shown
-        (setting_of world.now.script.now (X.meaning world.now.device.now) world.now.limit) machine.old))
+        (setting_of world.now.script.now (X.meaning world.now.device.now) world.now.limit)
+        machine.old))
         result }
     ensures heard { IfOk result (λ ran. seen probes.new (λ a. aim_of a.index a.pin
         (⟦<dyn Probe as Probe>⟧ a.probe.vtable) a.probe.value)
         ≡ after_events (run_shown
-        (setting_of world.now.script.now (X.meaning world.now.device.now) world.now.limit) machine.old)
+        (setting_of world.now.script.now (X.meaning world.now.device.now) world.now.limit)
+        machine.old)
         (seen probes.old (λ a. aim_of a.index a.pin
         (⟦<dyn Probe as Probe>⟧ a.probe.vtable) a.probe.value))) }
     ensures ran { IfOk result (IsRan
-        (setting_of world.now.script.now (X.meaning world.now.device.now) world.now.limit) machine.old) }
+        (setting_of world.now.script.now (X.meaning world.now.device.now) world.now.limit)
+        machine.old) }
     ensures state { IfOk result (λ ran. machine.new ≡ last_state
-        (setting_of world.now.script.now (X.meaning world.now.device.now) world.now.limit) machine.old) }
+        (setting_of world.now.script.now (X.meaning world.now.device.now) world.now.limit)
+        machine.old) }
     ensures on_run { IsOnRun
         (setting_of world.now.script.now (X.meaning world.now.device.now) world.now.limit)
         machine.old machine.new }

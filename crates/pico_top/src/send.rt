@@ -20,7 +20,9 @@ use window_runner::alone::Ran;
 
 /// Puts the line of a stop.
 fn send_stop<O: Sink>(why: &Why, cycle: u64, writer: &mut Writer<'_, O>) -> Result<(), SinkFault>
-    ensures sends { Sends (O.written writer.old.out.now) (O.written writer.new.out.now) (O.faults writer.old.out.now) (O.faults writer.new.out.now) (stop_text why.now cycle) result }
+    ensures sends { Sends (O.written writer.old.out.now) (O.written writer.new.out.now)
+        (O.faults writer.old.out.now) (O.faults writer.new.out.now)
+        (stop_text why.now cycle) result }
     ensures same_sink { writer.new.out.ghost_name ≡ writer.old.out.ghost_name }
 {
     let mut line = ArrayVec::<u8, 192>::new();
@@ -34,7 +36,9 @@ fn send_registers<O: Sink>(
     words: Option<[u32; 17]>,
     writer: &mut Writer<'_, O>,
 ) -> Result<(), SinkFault>
-    ensures sends { Sends (O.written writer.old.out.now) (O.written writer.new.out.now) (O.faults writer.old.out.now) (O.faults writer.new.out.now) (register_text core words) result }
+    ensures sends { Sends (O.written writer.old.out.now) (O.written writer.new.out.now)
+        (O.faults writer.old.out.now) (O.faults writer.new.out.now)
+        (register_text core words) result }
     ensures same_sink { writer.new.out.ghost_name ≡ writer.old.out.ghost_name }
 {
     let mut line = ArrayVec::<u8, 192>::new();
@@ -44,7 +48,9 @@ fn send_registers<O: Sink>(
 
 /// Puts the lines of both cores.
 fn send_cores<O: Sink>(machine: &Machine, writer: &mut Writer<'_, O>) -> Result<(), SinkFault>
-    ensures sends { Sends (O.written writer.old.out.now) (O.written writer.new.out.now) (O.faults writer.old.out.now) (O.faults writer.new.out.now) (core_lines machine.now) result }
+    ensures sends { Sends (O.written writer.old.out.now) (O.written writer.new.out.now)
+        (O.faults writer.old.out.now) (O.faults writer.new.out.now)
+        (core_lines machine.now) result }
     ensures same_sink { writer.new.out.ghost_name ≡ writer.old.out.ghost_name }
 {
     send_registers(0, machine.registers(0), writer)?;
@@ -57,7 +63,9 @@ fn send_end<O: Sink>(
     machine: &Machine,
     writer: &mut Writer<'_, O>,
 ) -> Result<(), SinkFault>
-    ensures sends { Sends (O.written writer.old.out.now) (O.written writer.new.out.now) (O.faults writer.old.out.now) (O.faults writer.new.out.now) (stop_text why.now machine.now.cycle ++ core_lines machine.now) result }
+    ensures sends { Sends (O.written writer.old.out.now) (O.written writer.new.out.now)
+        (O.faults writer.old.out.now) (O.faults writer.new.out.now)
+        (stop_text why.now machine.now.cycle ++ core_lines machine.now) result }
     ensures same_sink { writer.new.out.ghost_name ≡ writer.old.out.ghost_name }
 {
     send_stop(why, machine.number(), writer)?;
@@ -80,7 +88,9 @@ fn counts_line(windows: u64, cycles: u64, out: &mut ArrayVec<u8, 192>)
 /// Puts the line of the counts, where it is asked for.
 #[tactic(auto, unfolding(crate::specs::RunText::counts_text))]
 fn send_counts<O: Sink>(stats: bool, ran: &Ran, writer: &mut Writer<'_, O>) -> Result<(), SinkFault>
-    ensures sends { Sends (O.written writer.old.out.now) (O.written writer.new.out.now) (O.faults writer.old.out.now) (O.faults writer.new.out.now) (counts_text stats ran.now.windows ran.now.cycles) result }
+    ensures sends { Sends (O.written writer.old.out.now) (O.written writer.new.out.now)
+        (O.faults writer.old.out.now) (O.faults writer.new.out.now)
+        (counts_text stats ran.now.windows ran.now.cycles) result }
     ensures same_sink { writer.new.out.ghost_name ≡ writer.old.out.ghost_name }
 {
     let mut line = ArrayVec::<u8, 192>::new();
@@ -144,7 +154,8 @@ fn line_end(text: &[u8], from: usize) -> usize
 
 /// Puts a text line by line.
 pub fn send_text<O: Sink>(text: &[u8], writer: &mut Writer<'_, O>) -> Result<(), SinkFault>
-    ensures sends { Sends (O.written writer.old.out.now) (O.written writer.new.out.now) (O.faults writer.old.out.now) (O.faults writer.new.out.now) text.now result }
+    ensures sends { Sends (O.written writer.old.out.now) (O.written writer.new.out.now)
+        (O.faults writer.old.out.now) (O.faults writer.new.out.now) text.now result }
     ensures same_sink { writer.new.out.ghost_name ≡ writer.old.out.ghost_name }
 {
     let mut done = 0;

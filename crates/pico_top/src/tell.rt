@@ -62,14 +62,17 @@ fn run_into<X: Device, O: Sink, L: Ledger>(
     requires number { started.machine.cycle ≤ started.limit }
     requires rested { IsRested started.machine.sio }
     requires whole { IsWhole started.crew }
-    ensures puts { Puts (O.written out.old) (O.written out.new) (O.faults out.old) (O.faults out.new)
+    ensures puts { Puts (O.written out.old) (O.written out.new) (O.faults out.old)
+        (O.faults out.new)
         result 0 (run_text started.stats (setting_in (X.meaning device.now) started)
         (seen probes.old (λ a. aim_of a.index a.pin
         (⟦<dyn Probe as Probe>⟧ a.probe.vtable) a.probe.value))
         started.machine) }
-    ensures whole { result ≡ 0 → steps.new ≡ steps.old + run_cycles (setting_in (X.meaning device.now) started) started.machine }
+    ensures whole { result ≡ 0 → steps.new
+        ≡ steps.old + run_cycles (setting_in (X.meaning device.now) started) started.machine }
     ensures forward { steps.old ≤ steps.new }
-    ensures within { steps.new ≤ steps.old + run_cycles (setting_in (X.meaning device.now) started) started.machine }
+    ensures within { steps.new ≤ steps.old + run_cycles (setting_in (X.meaning device.now) started)
+        started.machine }
 {
     let Started {
         mut machine,
@@ -91,7 +94,8 @@ fn run_into<X: Device, O: Sink, L: Ledger>(
 
 /// Puts a text into a sink, and answers 0, or 7 where the sink fails.
 fn text_into<O: Sink>(text: &[u8], out: &mut O) -> u8
-    ensures { Puts (O.written out.old) (O.written out.new) (O.faults out.old) (O.faults out.new) result 0 text.now }
+    ensures { Puts (O.written out.old) (O.written out.new) (O.faults out.old)
+        (O.faults out.new) result 0 text.now }
 {
     let mut writer = Writer { out };
     match send_text(text, &mut writer) {
@@ -102,7 +106,8 @@ fn text_into<O: Sink>(text: &[u8], out: &mut O) -> u8
 
 /// Puts one line, and answers the status that it goes with, or 7 where the sink fails.
 fn put<O: Sink>(status: u8, line: &[u8], writer: &mut Writer<'_, O>) -> u8
-    ensures puts { Puts (O.written writer.old.out.now) (O.written writer.new.out.now) (O.faults writer.old.out.now)
+    ensures puts { Puts (O.written writer.old.out.now) (O.written writer.new.out.now)
+        (O.faults writer.old.out.now)
         (O.faults writer.new.out.now) result status line.now }
     ensures same_sink { writer.new.out.ghost_name ≡ writer.old.out.ghost_name }
 {
@@ -114,7 +119,8 @@ fn put<O: Sink>(status: u8, line: &[u8], writer: &mut Writer<'_, O>) -> u8
 
 /// Puts the line of the way in which a hearing ended, and answers its status, or 7 where the sink fails.
 fn close<O: Sink>(way: Way, writer: &mut Writer<'_, O>) -> u8
-    ensures puts { Puts (O.written writer.old.out.now) (O.written writer.new.out.now) (O.faults writer.old.out.now)
+    ensures puts { Puts (O.written writer.old.out.now) (O.written writer.new.out.now)
+        (O.faults writer.old.out.now)
         (O.faults writer.new.out.now) result (way_status way) (way_line way) }
     ensures same_sink { writer.new.out.ghost_name ≡ writer.old.out.ghost_name }
 {
@@ -171,7 +177,8 @@ fn talk_into<I: Source, X: Device, O: Sink, L: Ledger>(
     ensures { Tells (Hear input_limit quits
         (session_told (setting_by (X.meaning device.now) debugging) (first_of debugging.session)))
         (I.left input.old) (I.left input.new) (I.faults input.old) (I.faults input.new)
-        (O.written out.old) (O.written out.new) (O.faults out.old) (O.faults out.new) steps.old steps.new result }
+        (O.written out.old) (O.written out.new) (O.faults out.old)
+        (O.faults out.new) steps.old steps.new result }
 {
     let mut writer = Writer { out };
     talk(debugging, device, input, &mut writer, steps)
@@ -192,7 +199,8 @@ pub fn tell_into<I: Source, X: Device, O: Sink, L: Ledger>(
         (seen probes.old (λ a. aim_of a.index a.pin
         (⟦<dyn Probe as Probe>⟧ a.probe.vtable) a.probe.value)) opened)
         (I.left input.old) (I.left input.new) (I.faults input.old) (I.faults input.new)
-        (O.written out.old) (O.written out.new) (O.faults out.old) (O.faults out.new) steps.old steps.new result }
+        (O.written out.old) (O.written out.new) (O.faults out.old)
+        (O.faults out.new) steps.old steps.new result }
 {
     match opened {
         Opened::Machine(started) => run_into(started, probes, device, out, steps),
@@ -203,7 +211,8 @@ pub fn tell_into<I: Source, X: Device, O: Sink, L: Ledger>(
 
 /// Puts one line into a sink, and answers the status that it goes with, or 7 where the sink fails.
 fn say<O: Sink>(status: u8, line: &[u8], out: &mut O) -> u8
-    ensures { Puts (O.written out.old) (O.written out.new) (O.faults out.old) (O.faults out.new) result status line.now }
+    ensures { Puts (O.written out.old) (O.written out.new) (O.faults out.old)
+        (O.faults out.new) result status line.now }
 {
     let mut writer = Writer { out };
     put(status, line, &mut writer)
@@ -211,14 +220,16 @@ fn say<O: Sink>(status: u8, line: &[u8], out: &mut O) -> u8
 
 /// Puts the line that says that memory ran out.
 fn run_out<O: Sink>(out: &mut O) -> u8
-    ensures { RunsOut (O.written out.old) (O.written out.new) (O.faults out.old) (O.faults out.new) result }
+    ensures { RunsOut (O.written out.old) (O.written out.new) (O.faults out.old)
+        (O.faults out.new) result }
 {
     say(9, b"error memory\n", out)
 }
 
 /// Puts the line of a stop.
 pub fn refuse<O: Sink>(alloc: Global, stop: &Stop, out: &mut O) -> u8
-    ensures { Refuses (O.written out.old) (O.written out.new) (O.faults out.old) (O.faults out.new) result stop.now }
+    ensures { Refuses (O.written out.old) (O.written out.new) (O.faults out.old)
+        (O.faults out.new) result stop.now }
 {
     match stop {
         Stop::Refusing(refusal) => match refusal_line(alloc, refusal) {

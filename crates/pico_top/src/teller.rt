@@ -32,18 +32,22 @@ fn send_event<O: Sink>(event: &Event, writer: &mut Writer<'_, O>) -> Result<(), 
 /// All probes hear of a change of a pin.
 fn hear_change(cycle: u64, pin: u8, level: bool, probes: &mut [Aimed])
     requires { pin < 256 }
-    ensures { seen probes.new (λ a. aim_of a.index a.pin (⟦<dyn Probe as Probe>⟧ a.probe.vtable) a.probe.value)
+    ensures { seen probes.new (λ a. aim_of a.index a.pin
+        (⟦<dyn Probe as Probe>⟧ a.probe.vtable) a.probe.value)
         ≡ after_events (Pin cycle pin level ∷ [])
-        (seen probes.old (λ a. aim_of a.index a.pin (⟦<dyn Probe as Probe>⟧ a.probe.vtable) a.probe.value)) }
+        (seen probes.old (λ a. aim_of a.index a.pin
+        (⟦<dyn Probe as Probe>⟧ a.probe.vtable) a.probe.value)) }
 {
     hear_all(probes, &PinChange { cycle, pin, level });
 }
 
 /// All probes hear of a pin, if the event is its change.
 fn hear_event(event: &Event, probes: &mut [Aimed])
-    ensures { seen probes.new (λ a. aim_of a.index a.pin (⟦<dyn Probe as Probe>⟧ a.probe.vtable) a.probe.value)
+    ensures { seen probes.new (λ a. aim_of a.index a.pin
+        (⟦<dyn Probe as Probe>⟧ a.probe.vtable) a.probe.value)
         ≡ after_events (event.now ∷ [])
-        (seen probes.old (λ a. aim_of a.index a.pin (⟦<dyn Probe as Probe>⟧ a.probe.vtable) a.probe.value)) }
+        (seen probes.old (λ a. aim_of a.index a.pin
+        (⟦<dyn Probe as Probe>⟧ a.probe.vtable) a.probe.value)) }
 {
     if let Event::Pin { cycle, pin, level } = *event {
         hear_change(cycle, pin, level, probes);
