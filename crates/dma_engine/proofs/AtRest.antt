@@ -8,8 +8,8 @@ use Rattle.rp_base.specs.declared.Request.{Request}
 use Rattle.lane_look.specs.declared.lane.Turn.{Turn}
 use Rattle.lane_look.specs.Asking.Asking.{Ready}
 use Rattle.dma_engine.specs.declared.channel.Channel.{Channel}
-use Rattle.dma_engine.specs.declared.doing.Doing.{Doing}
-use Rattle.dma_engine.specs.declared.doing.Access.TheVariants as access
+use Rattle.dma_engine.specs.declared.begun.BegunTransfer.{BegunTransfer}
+use Rattle.dma_engine.specs.declared.begun.Access.TheVariants as access
 use Rattle.dma_engine.specs.declared.waiting.WaitingWrite.{WaitingWrite}
 use Rattle.dma_engine.specs.State.{Engine, idle_channel}
 use Rattle.dma_engine.specs.Asks.{waits_for_counts, write_begun, next_request, asks_read, asks, idle_begun}
@@ -17,8 +17,8 @@ use Rattle.dma_engine.specs.Choice.{is_candidate, first_in_turn, choice_of}
 use Rattle.dma_engine.specs.Timers.{gets_credit, after_timers}
 use Rattle.dma_engine.specs.Cycle.{is_over, after_ends, with_read_by, with_read, after_read, after_write, choice_where_none, after_choice, after_transfers, next, after_read_of, after_write_of}
 use Rattle.dma_engine.proofs.InTurn.{after_ends-none}
-use Rattle.dma_engine.proofs.Still.{both_left, both_right, not_is, after_timers-still}
-use Rattle.dma_engine.specs.Rest.{is_idle_channel, stands_still, is_at_rest, StaysAtRest}
+use Rattle.dma_engine.proofs.TimersAtRest.{both_left, both_right, not_is, after_timers-at_rest}
+use Rattle.dma_engine.specs.Rest.{is_idle_channel, is_idle_timer, is_at_rest, StaysAtRest}
 
 -- ---- what an engine at rest is
 
@@ -26,7 +26,7 @@ record Rests (s : Engine) : Type 0 where
   chosen : s.chosen ≡ None
   waiting : s.waiting ≡ []
   channels : list_all is_idle_channel s.channels ≡ true
-  timers : list_all stands_still s.timers ≡ true
+  timers : list_all is_idle_timer s.timers ≡ true
 
 none_is : (o : Option ℕ) → is_none o ≡ true → o ≡ None
 none_is None h = refl
@@ -40,10 +40,10 @@ rests : (s : Engine) → is_at_rest s ≡ true → Rests s
 unfolding is_at_rest
 rests s h =
     let chosen : is_none s.chosen ≡ true = both_left (is_none s.chosen) _ h in
-    let others : (nat_eq (length s.waiting) 0 && (list_all is_idle_channel s.channels && list_all stands_still s.timers)) ≡ true =
+    let others : (nat_eq (length s.waiting) 0 && (list_all is_idle_channel s.channels && list_all is_idle_timer s.timers)) ≡ true =
     both_right (is_none s.chosen) _ h in
     let empty : nat_eq (length s.waiting) 0 ≡ true = both_left (nat_eq (length s.waiting) 0) _ others in
-    let last : (list_all is_idle_channel s.channels && list_all stands_still s.timers) ≡ true =
+    let last : (list_all is_idle_channel s.channels && list_all is_idle_timer s.timers) ≡ true =
     both_right (nat_eq (length s.waiting) 0) _ others in
     record {
       chosen = none_is s.chosen chosen;
@@ -118,7 +118,7 @@ no_choice_by s (Some n) h = absurd (cc)
 no_choice : (s : Engine) → Rests s → after_choice None s ≡ s
 no_choice s r = no_choice_by s s.chosen r.chosen
 
-transfers_at_rest : (s : Engine) (begun : Doing) (turns : List Turn) → Rests s → after_transfers s begun turns ≡ s
+transfers_at_rest : (s : Engine) (begun : BegunTransfer) (turns : List Turn) → Rests s → after_transfers s begun turns ≡ s
 unfolding after_transfers
 transfers_at_rest s begun turns r =
     let read : after_read_of begun turns (after_ends s) ≡ s =
@@ -128,10 +128,10 @@ transfers_at_rest s begun turns r =
     ap (λ e. after_choice (choice_of begun.counts s) e) write
     ∙ ap (λ o. after_choice o s) (choice_at_rest s begun.counts r) ∙ no_choice s r
 
-parts_at_rest : (s : Engine) (begun : Doing) (turns : List Turn) → Rests s →
+parts_at_rest : (s : Engine) (begun : BegunTransfer) (turns : List Turn) → Rests s →
     after_timers (gets_credit s) (after_transfers s begun turns) ≡ s
 parts_at_rest s begun turns r =
-    ap (λ e. after_timers (gets_credit s) e) (transfers_at_rest s begun turns r) ∙ after_timers-still s s r.timers r.timers
+    ap (λ e. after_timers (gets_credit s) e) (transfers_at_rest s begun turns r) ∙ after_timers-at_rest s s r.timers r.timers
 
 -- ---- the cycle
 
@@ -139,7 +139,7 @@ either_same : {A : Type 0} (b : Bool) (x y : A) → y ≡ x → cond b x y ≡ x
 either_same true x y h = refl
 either_same false x y h = h
 
-pub next-at_rest : (s : Engine) (begun : Doing) (turns : List Turn) → is_at_rest s ≡ true → next s begun turns ≡ s
+pub next-at_rest : (s : Engine) (begun : BegunTransfer) (turns : List Turn) → is_at_rest s ≡ true → next s begun turns ≡ s
 unfolding next
 next-at_rest s begun turns h = either_same s.held s _ (parts_at_rest s begun turns (rests s h))
 

@@ -1,7 +1,7 @@
 -- A cycle is its transfers, and then the timers with the credits that were found at the start.
 use Rattle.std.proofs.Common.{◌≡◌, ℕ, ◌<◌, Bool, true, false, cond, List, refl, ap, sym, ◌∙◌, get_or}
 use Rattle.lane_look.specs.declared.lane.Turn.{Turn}
-use Rattle.dma_engine.specs.declared.doing.Doing.{Doing}
+use Rattle.dma_engine.specs.declared.begun.BegunTransfer.{BegunTransfer}
 use Rattle.dma_engine.specs.State.{Engine}
 use Rattle.dma_engine.specs.Timers.{gets_credit, after_timers}
 use Rattle.dma_engine.specs.Cycle.{after_transfers, next}
@@ -11,7 +11,7 @@ other_of : {A : Type 0} (b : Bool) (x y : A) → b ≡ false → cond b x y ≡ 
 other_of true x y h = absurd (cc)
 other_of false x y h = refl
 
-pub finished : (s moved new : Engine) (begun : Doing) (turns : List Turn) (credits : List Bool) → s.held ≡ false →
+pub finished : (s moved new : Engine) (begun : BegunTransfer) (turns : List Turn) (credits : List Bool) → s.held ≡ false →
     ((k : ℕ) → k < 12 → get_or credits k false ≡ gets_credit s k) → moved ≡ after_transfers s begun turns →
     new ≡ after_timers (λ k. get_or credits k false) moved → new ≡ next s begun turns
 unfolding next

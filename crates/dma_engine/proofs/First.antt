@@ -2,7 +2,7 @@
 use Rattle.std.proofs.Common.{◌≡◌, ℕ, zero, suc, ◌+◌, ◌-◌, ◌%◌, ◌<◌, ◌≤◌, ◌⊎◌, inl, inr, Bool, true, false, cond, refl, ap, sym, subst, ◌∙◌, arith, Option, Some, None}
 use Rattle.dma_engine.specs.State.{Engine}
 use Rattle.dma_engine.specs.Choice.{is_candidate, first_in_turn, next_candidate, or_else, choice_of}
-use Rattle.dma_engine.specs.Law.{turns_before, IsFirst, IsChoice, TheChoiceComesFirst}
+use Rattle.dma_engine.specs.Laws.{turns_before, IsFirst, IsChoice, TheChoiceComesFirst}
 
 -- the steps from a on, of so many, at which a test passes for the first time
 record PassesAt (test : ℕ → Bool) (a left n : ℕ) : Type 0 where

@@ -8,4 +8,4 @@ pub mod InTurn
 pub mod Packing
 pub mod Ring
 pub mod Search
-pub mod Still
+pub mod TimersAtRest

@@ -14,9 +14,9 @@ use Rattle.lane_look.specs.Asking.{Asking}
 use Rattle.lane_look.specs.Asking.Asking.{Ready, Question}
 use Rattle.dma_engine.specs.declared.channel.Channel.{Channel}
 use Rattle.dma_engine.specs.declared.waiting.WaitingWrite.{WaitingWrite}
-use Rattle.dma_engine.specs.declared.doing.Access.{Access}
-use Rattle.dma_engine.specs.declared.doing.Access.TheVariants as access
-use Rattle.dma_engine.specs.declared.doing.Doing.{Doing}
+use Rattle.dma_engine.specs.declared.begun.Access.{Access}
+use Rattle.dma_engine.specs.declared.begun.Access.TheVariants as access
+use Rattle.dma_engine.specs.declared.begun.BegunTransfer.{BegunTransfer}
 use Rattle.dma_engine.specs.Control.{treq_of}
 use Rattle.dma_engine.specs.Transfer.{read_of, request_of}
 use Rattle.dma_engine.specs.State.{Engine, channel_at}
@@ -64,20 +64,20 @@ read_for (Some n) s = if nat_lt n 12 then Some (read_of (channel_at n s)) else N
 unfoldable pub next_request : Engine → Option Request
 next_request s = if nat_lt (length s.waiting) 2 then read_for s.chosen s else None
 
-abbrev pub begun_with : ℕ → Access → Access → Doing
+abbrev pub begun_with : ℕ → Access → Access → BegunTransfer
 begun_with counts read write = record { read = read; write = write; counts = counts }
 
 -- a read of SRAM asks for the word as it is at the start of the cycle
-abbrev pub asks_at : ℕ → Access → Request → Spot → Asking Doing
+abbrev pub asks_at : ℕ → Access → Request → Spot → Asking BegunTransfer
 asks_at counts write request (spot.Ram index bank) =
     Question (Word request.address) (λ word. Ready (begun_with counts (access.Read request (word % 2 ^ 32)) write))
 asks_at counts write request other = Ready (begun_with counts (elsewhere DmaRead request other) write)
 
-abbrev pub asks_for : ℕ → Access → Option Request → Asking Doing
+abbrev pub asks_for : ℕ → Access → Option Request → Asking BegunTransfer
 asks_for counts write None = Ready (begun_with counts access.Nothing write)
 asks_for counts write (Some request) = asks_at counts write request (place_of request.address)
 
-unfoldable pub asks_read : ℕ → Engine → Asking Doing
+unfoldable pub asks_read : ℕ → Engine → Asking BegunTransfer
 asks_read counts s = asks_for counts (write_begun s) (next_request s)
 
 -- ---- the cycle
@@ -86,10 +86,10 @@ asks_read counts s = asks_for counts (write_begun s) (next_request s)
 abbrev pub waits_for_counts : Channel → Bool
 waits_for_counts c = c.busy && nat_lt (treq_of c) 0x3B
 
-abbrev pub idle_begun : Doing
+abbrev pub idle_begun : BegunTransfer
 idle_begun = begun_with 0 access.Nothing access.Nothing
 
-unfoldable pub asks : Engine → Asking Doing
+unfoldable pub asks : Engine → Asking BegunTransfer
 asks s =
     if s.held then Ready idle_begun else
     if list_any waits_for_counts s.channels

@@ -12,9 +12,9 @@ use Rattle.lane_look.specs.declared.lane.Turn.TheVariants as turn
 use Rattle.lane_look.specs.Asking.{AsksAtMost}
 use Rattle.lane_look.specs.Bounds.{Few, few_ready, few_ask, few_if}
 use Rattle.lane_look.specs.Steps.{without_words}
-use Rattle.dma_engine.specs.declared.doing.Access.{Access}
-use Rattle.dma_engine.specs.declared.doing.Access.TheVariants as access
-use Rattle.dma_engine.specs.declared.doing.Doing.{Doing}
+use Rattle.dma_engine.specs.declared.begun.Access.{Access}
+use Rattle.dma_engine.specs.declared.begun.Access.TheVariants as access
+use Rattle.dma_engine.specs.declared.begun.BegunTransfer.{BegunTransfer}
 use Rattle.dma_engine.specs.State.{Engine}
 use Rattle.dma_engine.specs.Asks.{asks_at, asks_for, asks_read, write_begun, next_request, asks}
 use Rattle.dma_engine.specs.Cycle.{want_of, wanted, word_of, word_read, is_written, after_transfers, next}
@@ -74,7 +74,7 @@ write_alike (access.Outward request) want (t ∷ u ∷ us) = refl
 write_alike (access.Stopped cause) want (t ∷ u ∷ us) = refl
 
 -- an access to SRAM has told its word already
-pub reads_none : (s : Engine) (begun : Doing) (turns : List Turn) → next s begun (without_words (wanted begun) turns) ≡ next s begun turns
+pub reads_none : (s : Engine) (begun : BegunTransfer) (turns : List Turn) → next s begun (without_words (wanted begun) turns) ≡ next s begun turns
 unfolding next after_transfers
 reads_none s begun turns =
     rw (read_alike begun.read (want_of begun.write ∷ []) turns, write_alike begun.write (want_of begun.read) turns) refl

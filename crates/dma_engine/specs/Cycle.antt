@@ -8,9 +8,9 @@ use Rattle.lane_look.specs.declared.lane.Turn.{Turn}
 use Rattle.lane_look.specs.declared.lane.Turn.TheVariants.{Done}
 use Rattle.dma_engine.specs.declared.channel.Channel.{Channel}
 use Rattle.dma_engine.specs.declared.waiting.WaitingWrite.{WaitingWrite}
-use Rattle.dma_engine.specs.declared.doing.Access.{Access}
-use Rattle.dma_engine.specs.declared.doing.Access.TheVariants as access
-use Rattle.dma_engine.specs.declared.doing.Doing.{Doing}
+use Rattle.dma_engine.specs.declared.begun.Access.{Access}
+use Rattle.dma_engine.specs.declared.begun.Access.TheVariants as access
+use Rattle.dma_engine.specs.declared.begun.BegunTransfer.{BegunTransfer}
 use Rattle.dma_engine.specs.declared.pace.Pace.{Pace}
 use Rattle.dma_engine.specs.declared.pace.Pace.TheVariants as pace
 use Rattle.dma_engine.specs.Control.{treq_of}
@@ -30,7 +30,7 @@ want_of (access.Outward request) = want.Outward request
 want_of (access.Stopped cause) = want.Stopped cause
 
 -- the read, then the write
-abbrev pub wanted : Doing → List Want
+abbrev pub wanted : BegunTransfer → List Want
 wanted begun = want_of begun.read ∷ want_of begun.write ∷ []
 
 -- ---- the end of sequences
@@ -130,18 +130,18 @@ after_choice choice e = choice_where_none e.chosen choice e
 
 -- ---- the cycle
 
-abbrev pub after_read_of : Doing → List Turn → Engine → Engine
+abbrev pub after_read_of : BegunTransfer → List Turn → Engine → Engine
 after_read_of begun turns e = after_read (word_read begun.read (word_of (slice_get turns 0))) e
 
-abbrev pub after_write_of : Doing → List Turn → Engine → Engine
+abbrev pub after_write_of : BegunTransfer → List Turn → Engine → Engine
 after_write_of begun turns e = after_write (is_written begun.write (word_of (slice_get turns 1))) e
 
 -- the transfers of a cycle: sequences end, the read and the write are done or wait, and the next channel is chosen
-unfoldable pub after_transfers : Engine → Doing → List Turn → Engine
+unfoldable pub after_transfers : Engine → BegunTransfer → List Turn → Engine
 after_transfers s begun turns =
     after_choice (choice_of begun.counts s) (after_write_of begun turns (after_read_of begun turns (after_ends s)))
 
 -- an engine that is held does not step; which channels are over, which one is ready, and which ones get a credit, is found at
 -- the start
-unfoldable pub next : Engine → Doing → List Turn → Engine
+unfoldable pub next : Engine → BegunTransfer → List Turn → Engine
 next s begun turns = if s.held then s else after_timers (gets_credit s) (after_transfers s begun turns)

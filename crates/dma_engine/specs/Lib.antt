@@ -4,7 +4,7 @@ pub mod Channels
 pub mod Choice
 pub mod Control
 pub mod Cycle
-pub mod Law
+pub mod Laws
 pub mod Pacing
 pub mod Rest
 pub mod State

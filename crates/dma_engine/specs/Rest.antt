@@ -6,7 +6,7 @@ use Rattle.dma_engine.specs.declared.timer.PacingTimer.{PacingTimer}
 use Rattle.lane_look.specs.Asking.Asking.{Ready}
 use Rattle.lane_look.specs.declared.lane.Turn.{Turn}
 use Rattle.lane_look.specs.declared.lane.Want.TheVariants as want
-use Rattle.dma_engine.specs.declared.doing.Doing.{Doing}
+use Rattle.dma_engine.specs.declared.begun.BegunTransfer.{BegunTransfer}
 use Rattle.dma_engine.specs.Timers.{runs}
 use Rattle.dma_engine.specs.Asks.{asks, idle_begun}
 use Rattle.dma_engine.specs.Cycle.{wanted, next}
@@ -15,17 +15,17 @@ use Rattle.dma_engine.specs.State.{Engine}
 abbrev pub is_idle_channel : Channel → Bool
 is_idle_channel c = not c.busy
 
-abbrev pub stands_still : PacingTimer → Bool
-stands_still t = not (runs t)
+abbrev pub is_idle_timer : PacingTimer → Bool
+is_idle_timer t = not (runs t)
 
 -- no channel is busy or chosen, no write waits, and no timer runs
 unfoldable pub is_at_rest : Engine → Bool
 is_at_rest s =
     is_none s.chosen
-    && (length s.waiting == 0 && (list_all is_idle_channel s.channels && list_all stands_still s.timers))
+    && (length s.waiting == 0 && (list_all is_idle_channel s.channels && list_all is_idle_timer s.timers))
 
 -- what that comes to: the engine asks nothing, wants nothing, and stays as it is, whatever it began and the bus gave
 pub record StaysAtRest (s : Engine) : Type 0 where
   pub asks_nothing : asks s ≡ Ready idle_begun
   pub wants_nothing : wanted idle_begun ≡ want.Nothing ∷ want.Nothing ∷ []
-  pub stays : (begun : Doing) (turns : List Turn) → next s begun turns ≡ s
+  pub stays : (begun : BegunTransfer) (turns : List Turn) → next s begun turns ≡ s

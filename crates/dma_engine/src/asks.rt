@@ -6,8 +6,8 @@ ghost use Rattle.rp_base.specs.AddressMap.{place_of};
 ghost use Rattle.lane_look.specs.Asking.{Runs};
 ghost use Rattle.dma_engine.specs.Asks.{may_be_device, elsewhere, write_for, write_begun, next_request, asks_for, asks_read, waits_for_counts, asks};
 
+use crate::begun::{Access, BegunTransfer};
 use crate::channel::Channel;
-use crate::doing::{Access, Doing};
 use crate::engine::Engine;
 use lane_look::{Ask, Look};
 use rp_base::map::{Spot, place};
@@ -43,7 +43,7 @@ fn write_for(request: Request) -> Access
 }
 
 /// A read, by the part of the machine that it goes to; one of SRAM asks for its word.
-fn begin_read<K: Look>(counts: u128, write: Access, request: Request, look: &mut K) -> Doing
+fn begin_read<K: Look>(counts: u128, write: Access, request: Request, look: &mut K) -> BegunTransfer
     ensures { Runs K.answers look.old (asks_for counts write (Some request)) result look.new }
 {
     let spot = place(request.address);
@@ -54,7 +54,7 @@ fn begin_read<K: Look>(counts: u128, write: Access, request: Request, look: &mut
         }
         _ => elsewhere(Master::DmaRead, request, spot),
     };
-    Doing {
+    BegunTransfer {
         read,
         write,
         counts,
@@ -106,13 +106,13 @@ impl Engine {
 
     /// The read and the write, where these are the counts.
     #[tactic(auto, unfolding(crate::specs::Asks::asks_read))]
-    pub(crate) fn begin<K: Look>(&self, counts: u128, look: &mut K) -> Doing
+    pub(crate) fn begin<K: Look>(&self, counts: u128, look: &mut K) -> BegunTransfer
         ensures { Runs K.answers look.old (asks_read counts self.now) result look.new }
     {
         let write = self.begin_write();
         match self.next_request() {
             Some(request) => begin_read(counts, write, request, look),
-            None => Doing {
+            None => BegunTransfer {
                 read: Access::Nothing,
                 write,
                 counts,
@@ -124,11 +124,11 @@ impl Engine {
 impl Engine {
     /// What the engine asks in a cycle, and what it has begun then.
     #[tactic(auto, unfolding(crate::specs::Asks::asks))]
-    pub(crate) fn ask<K: Look>(&self, look: &mut K) -> Doing
+    pub(crate) fn ask<K: Look>(&self, look: &mut K) -> BegunTransfer
         ensures { Runs K.answers look.old (asks self.now) result look.new }
     {
         if self.held {
-            return Doing {
+            return BegunTransfer {
                 read: Access::Nothing,
                 write: Access::Nothing,
                 counts: 0,

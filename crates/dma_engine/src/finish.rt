@@ -8,12 +8,12 @@ ghost use Rattle.dma_engine.specs.Control.{treq_of};
 ghost use Rattle.dma_engine.specs.Choice.{pace_of};
 ghost use Rattle.dma_engine.specs.State.{channel_at};
 ghost use Rattle.dma_engine.specs.Timers.{gives, stepped, given_by, is_given, gets_credit, more_credits, credited, with_credit, after_timers};
-ghost use Rattle.dma_engine.specs.Rest.{is_idle_channel, stands_still, is_at_rest};
+ghost use Rattle.dma_engine.specs.Rest.{is_idle_channel, is_idle_timer, is_at_rest};
 ghost use Rattle.dma_engine.specs.Cycle.{want_of, word_of, word_read, with_data, with_read, is_written, after_write, credits_left, counted, after_choice, after_transfers, next};
 ghost use Rattle.dma_engine.specs.Channels.{in_turn};
 
+use crate::begun::{Access, BegunTransfer};
 use crate::channel::Channel;
-use crate::doing::{Access, Doing};
 use crate::engine::{CHANNELS, Engine};
 use crate::pace::{Pace, pace_of, uses_credits};
 use crate::timer::PacingTimer;
@@ -60,8 +60,8 @@ fn are_idle(channels: &[Channel; 12]) -> bool
 }
 
 /// No timer runs.
-fn stand_still(timers: &[PacingTimer; 4]) -> bool
-    ensures { result ≡ list_all stands_still timers.now }
+fn are_idle_timers(timers: &[PacingTimer; 4]) -> bool
+    ensures { result ≡ list_all is_idle_timer timers.now }
 {
     timers.iter().all(|timer| !timer.runs())
 }
@@ -203,7 +203,7 @@ impl Engine {
         ensures { (k : ℕ) → k < 12 → slice_index_or result k false ≡ gets_credit self.now k }
     {
         let mut credited = [false; 12];
-        if stand_still(&self.timers) {
+        if are_idle_timers(&self.timers) {
             return credited;
         }
         let given = given_by(&self.timers);
@@ -246,7 +246,7 @@ impl Engine {
 
     /// The transfers have their cycle.
     #[tactic(auto, unfolding(crate::specs::Cycle::after_transfers))]
-    fn move_on(&mut self, begun: &Doing, turns: &[Turn; 2])
+    fn move_on(&mut self, begun: &BegunTransfer, turns: &[Turn; 2])
         ensures { self.new ≡ after_transfers self.old begun.now turns.now }
     {
         let choice = self.choice(begun.counts);
@@ -260,7 +260,7 @@ impl Engine {
 
     /// The cycle, where this was begun and these turns were given.
     #[tactic(auto, unfolding(crate::specs::Cycle::next))]
-    pub(crate) fn finish(&mut self, begun: &Doing, turns: &[Turn; 2])
+    pub(crate) fn finish(&mut self, begun: &BegunTransfer, turns: &[Turn; 2])
         ensures { self.new ≡ next self.old begun.now turns.now }
     {
         if self.held {
@@ -279,6 +279,6 @@ impl Engine {
         if self.chosen.is_some() || !self.waiting.is_empty() {
             return false;
         }
-        are_idle(&self.channels) && stand_still(&self.timers)
+        are_idle(&self.channels) && are_idle_timers(&self.timers)
     }
 }

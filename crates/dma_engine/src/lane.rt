@@ -2,8 +2,8 @@
 
 ghost use Rattle.std.specs.Prelude.{None};
 
+use crate::begun::{Access, BegunTransfer};
 use crate::dma::Dma;
-use crate::doing::{Access, Doing};
 use crate::finish::want;
 use lane_look::{Lane, Look, Marks, Turn, Want};
 
@@ -13,7 +13,7 @@ impl Lane<()> for Dma {
     ghost use Rattle.dma_engine.specs.Bounds.{two_at_most, reads_none};
     ghost use Rattle.dma_engine.specs.Cycle.{wanted, next};
 
-    type Begun = Doing;
+    type Begun = BegunTransfer;
 
     ghost asks = { λ _ s cycle. asks s };
 
@@ -26,9 +26,9 @@ impl Lane<()> for Dma {
     ghost marked = { λ _ s begun turns. None };
 
     #[tactic(auto, using(crate::proofs::AtRest::at_rest))]
-    fn begin<K: Look>(&self, _env: &(), _cycle: u64, look: &mut K) -> Doing {
+    fn begin<K: Look>(&self, _env: &(), _cycle: u64, look: &mut K) -> BegunTransfer {
         if self.at_rest {
-            return Doing {
+            return BegunTransfer {
                 read: Access::Nothing,
                 write: Access::Nothing,
                 counts: 0,
@@ -37,12 +37,12 @@ impl Lane<()> for Dma {
         self.engine.ask(look)
     }
 
-    fn wants(begun: &Doing) -> [Want; 2] {
+    fn wants(begun: &BegunTransfer) -> [Want; 2] {
         [want(&begun.read), want(&begun.write)]
     }
 
     #[tactic(auto, using(crate::proofs::AtRest::at_rest))]
-    fn finish(&mut self, _env: &(), begun: &Doing, turns: [Turn; 2], _marks: &mut Marks) {
+    fn finish(&mut self, _env: &(), begun: &BegunTransfer, turns: [Turn; 2], _marks: &mut Marks) {
         if !self.at_rest {
             self.engine.finish(begun, &turns);
             self.at_rest = self.engine.is_at_rest();

@@ -1,6 +1,6 @@
 //! The laws of the engine, each the contract of a function without arguments.
 
-ghost use Rattle.dma_engine.specs.Law.{TheChoiceComesFirst};
+ghost use Rattle.dma_engine.specs.Laws.{TheChoiceComesFirst};
 ghost use Rattle.dma_engine.specs.Pacing.{CountsAreTakenAsPacked};
 
 /// Counts of at most 63 that are packed into one answer are taken from it as they were.

@@ -7,10 +7,10 @@
 #![tactic(auto)]
 
 mod asks;
+pub mod begun;
 pub mod channel;
 mod choice;
 pub mod dma;
-pub mod doing;
 mod ends;
 mod engine;
 mod finish;
@@ -24,5 +24,5 @@ mod transfer;
 pub mod waiting;
 mod words;
 
+pub use begun::{Access, BegunTransfer};
 pub use dma::Dma;
-pub use doing::{Access, Doing};

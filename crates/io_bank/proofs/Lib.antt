@@ -1,4 +1,4 @@
 pub mod Bits
 pub mod Comparisons
 pub mod Routed
-pub mod Still
+pub mod AtRest

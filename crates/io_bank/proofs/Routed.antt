@@ -364,22 +364,22 @@ cond-same : (b : Bool) (e : Edges) → e ≡ no_edges → cond b no_edges e ≡ 
 cond-same true e h = refl
 cond-same false e h = h
 
-still-low : (s : Bank) → s.first ≡ s.second → falling s ≡ 0
-still-low s e =
+at_rest-low : (s : Bank) → s.first ≡ s.second → falling s ≡ 0
+at_rest-low s e =
     bits_below-same (λ pin. input_of s s.second pin && not (input_of s s.first pin)) (λ pin. false) 30
     (λ i h. ap (λ n. input_of s s.second i && not (input_of s n i)) e ∙ nor-self (input_of s s.second i))
     ∙ no-pins 30
 
-still-high : (s : Bank) → s.first ≡ s.second → rising s ≡ 0
-still-high s e =
+at_rest-high : (s : Bank) → s.first ≡ s.second → rising s ≡ 0
+at_rest-high s e =
     bits_below-same (λ pin. not (input_of s s.second pin) && input_of s s.first pin) (λ pin. false) 30
     (λ i h. ap (λ n. not (input_of s s.second i) && input_of s n i) e ∙ not-and_self (input_of s s.second i))
     ∙ no-pins 30
 
 -- no edge without a change
-pub edges_of-still : (s : Bank) → s.first ≡ s.second → edges_of s ≡ no_edges
-edges_of-still s e =
-    cond-same s.bank_held (record { low = falling s; high = rising s }) (rw (still-low s e, still-high s e) refl)
+pub edges_of-at_rest : (s : Bank) → s.first ≡ s.second → edges_of s ≡ no_edges
+edges_of-at_rest s e =
+    cond-same s.bank_held (record { low = falling s; high = rising s }) (rw (at_rest-low s e, at_rest-high s e) refl)
 
 pub edges_of-held : (s : Bank) → s.bank_held ≡ true → edges_of s ≡ no_edges
 edges_of-held s h = ap (λ b. cond b no_edges (record { low = falling s; high = rising s })) h

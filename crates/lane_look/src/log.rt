@@ -44,12 +44,12 @@ impl Log {
         self.list.len() as u16
     }
 
-    /// The entry at a place.
-    pub fn entry(&self, place: u16) -> (Ask, u128)
-        requires { place < length self.now }
-        ensures { slice_get self.now place ≡ Some result }
+    /// The entry at an index.
+    pub fn entry(&self, index: u16) -> (Ask, u128)
+        requires { index < length self.now }
+        ensures { slice_get self.now index ≡ Some result }
     {
-        self.list[place as usize]
+        self.list[index as usize]
     }
 
     /// Adds an entry at the end.
@@ -79,7 +79,7 @@ impl Log {
 #[derive(Drop)]
 pub struct LogLook<'a> {
     log: &'a Log,
-    place: u16,
+    index: u16,
 }
 
 impl<'a> Model for LogLook<'a> {
@@ -88,9 +88,9 @@ impl<'a> Model for LogLook<'a> {
 
     ghost Value = { List Entry };
 
-    ghost view = { λ look. drop look.place look.log.now };
+    ghost view = { λ look. drop look.index look.log.now };
 
-    ghost invariant = { λ look. look.place ≤ length look.log.now };
+    ghost invariant = { λ look. look.index ≤ length look.log.now };
 }
 
 impl<'a> LogLook<'a> {
@@ -100,14 +100,14 @@ impl<'a> LogLook<'a> {
     pub fn new(log: &'a Log) -> LogLook<'a>
         ensures { result ≡ log.now }
     {
-        LogLook { log, place: 0 }
+        LogLook { log, index: 0 }
     }
 
     /// How many entries are left.
     pub fn count(&self) -> u16
         ensures { result ≡ length self.now }
     {
-        self.log.count() - self.place
+        self.log.count() - self.index
     }
 }
 
@@ -118,9 +118,9 @@ impl Look for LogLook<'_> {
     ghost answers = { λ old ask answer new. (answer ≡ first_answer old) × (new ≡ others old) };
 
     fn ask(&mut self, _ask: Ask) -> u128 {
-        if self.place < self.log.count() {
-            let (_, answer) = self.log.entry(self.place);
-            self.place += 1;
+        if self.index < self.log.count() {
+            let (_, answer) = self.log.entry(self.index);
+            self.index += 1;
             answer
         } else {
             0

@@ -47,12 +47,12 @@ impl Marks {
         self.list.len() as u16
     }
 
-    /// The mark at a place.
-    pub fn entry(&self, place: u16) -> Mark
-        requires { place < length self.now }
-        ensures { slice_get self.now place ≡ Some result }
+    /// The mark at an index.
+    pub fn entry(&self, index: u16) -> Mark
+        requires { index < length self.now }
+        ensures { slice_get self.now index ≡ Some result }
     {
-        self.list[place as usize]
+        self.list[index as usize]
     }
 
     /// Adds the mark of a cycle at the end.

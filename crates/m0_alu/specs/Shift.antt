@@ -21,7 +21,7 @@ shifted_right_signed x amount =
 
 -- the low bits of a word go to its top, and the others move down
 abbrev pub rotated : ℕ → ℕ → ℕ
-rotated x places = (x / 2 ^ places + x * 2 ^ (32 - places)) % 2 ^ 32
+rotated x count = (x / 2 ^ count + x * 2 ^ (32 - count)) % 2 ^ 32
 
 -- ROR_C: a rotation by the amount modulo 32, whose bit 31 is the carry
 abbrev pub rotated_right : ℕ → ℕ → ℕ × Bool

@@ -143,14 +143,14 @@ fn rotate_right(x: u32, amount: u8) -> (u32, bool)
 }
 
 /// A rotation by fewer than 32 places.
-fn rotate(x: u32, places: u8) -> u32
-    requires { places < 32 }
-    ensures { result ≡ rotated x places }
+fn rotate(x: u32, count: u8) -> u32
+    requires { count < 32 }
+    ensures { result ≡ rotated x count }
 {
-    if places == 0 {
+    if count == 0 {
         x
     } else {
-        (x << (32 - places)) | (x >> places)
+        (x << (32 - count)) | (x >> count)
     }
 }
 

@@ -1,3 +1,3 @@
 pub mod Lists
 pub mod Unaligned
-pub mod Places
+pub mod OneBeat

@@ -83,13 +83,13 @@ registers_count list h = listed_count 16 0 list h ∙ ap ones (omega arith)
 
 -- ---- a load of the registers of a list
 
-pub load_listed : (s next : Regs) (list k value place : ℕ) (read : List ℕ) → k < 16 → has_bit list k ≡ true → value ≡ slice_index read place → next ≡ with_loaded s k value → with_all_loaded s (rest_of list k) read place ≡ with_all_loaded next (rest_of list (k + 1)) read (place + 1)
-load_listed s next list k value place read h is v e =
-    ap (λ ks. with_all_loaded s ks read place) (rest_listed list k h is)
-    ∙ sym (ap (λ n. with_all_loaded n (rest_of list (k + 1)) read (place + 1)) (e ∙ ap (with_loaded s k) v))
+pub load_listed : (s next : Regs) (list k value index : ℕ) (read : List ℕ) → k < 16 → has_bit list k ≡ true → value ≡ slice_index read index → next ≡ with_loaded s k value → with_all_loaded s (rest_of list k) read index ≡ with_all_loaded next (rest_of list (k + 1)) read (index + 1)
+load_listed s next list k value index read h is v e =
+    ap (λ ks. with_all_loaded s ks read index) (rest_listed list k h is)
+    ∙ sym (ap (λ n. with_all_loaded n (rest_of list (k + 1)) read (index + 1)) (e ∙ ap (with_loaded s k) v))
 
-pub load_other : (s : Regs) (list k place : ℕ) (read : List ℕ) → k < 16 → has_bit list k ≡ false → with_all_loaded s (rest_of list k) read place ≡ with_all_loaded s (rest_of list (k + 1)) read place
-load_other s list k place read h is = ap (λ ks. with_all_loaded s ks read place) (rest_other list k h is)
+pub load_other : (s : Regs) (list k index : ℕ) (read : List ℕ) → k < 16 → has_bit list k ≡ false → with_all_loaded s (rest_of list k) read index ≡ with_all_loaded s (rest_of list (k + 1)) read index
+load_other s list k index read h is = ap (λ ks. with_all_loaded s ks read index) (rest_other list k h is)
 
 -- ---- the accesses of the registers of a list
 
@@ -104,7 +104,7 @@ access_listed f items new beat list k address next h is pushed made on =
 pub access_other : (f : ℕ → Option ℕ) (items : List Beat) (list k address : ℕ) → k < 16 → has_bit list k ≡ false → items ++ accesses address (map f (rest_of list k)) ≡ items ++ accesses address (map f (rest_of list (k + 1)))
 access_other f items list k address h is = ap (λ ks. items ++ accesses address (map f ks)) (rest_other list k h is)
 
--- what an access at a register's place writes: nothing where it reads
+-- what an access at a register's index writes: nothing where it reads
 abbrev pub no_write : ℕ → Option ℕ
 no_write k = None
 

@@ -83,7 +83,7 @@ branched_if condition offset s = if condition_holds condition s then branched of
 abbrev pub branched_link : ℕ → Regs → Regs
 branched_link offset s = branched offset (record s { lr = link_value 4 s })
 
--- a branch to a value whose bit 0 is the new T (BXWritePC). In Handler mode an exception return begins in its place, and
+-- a branch to a value whose bit 0 is the new T (BXWritePC). In Handler mode an exception return begins in its stead, and
 -- the branch itself changes nothing
 abbrev pub exchanged : Regs → ℕ → Regs
 exchanged s value =
@@ -105,10 +105,10 @@ loaded sizes.Word sign value = value
 abbrev pub with_loaded : Regs → ℕ → ℕ → Regs
 with_loaded s k value = if k == 15 then exchanged s value else with_register s k value
 
--- the registers take the values from the given place on
+-- the registers take the values from the given index on
 abbrev pub with_all_loaded : Regs → List ℕ → List ℕ → ℕ → Regs
-with_all_loaded s [] read place = s
-with_all_loaded s (k ∷ ks) read place = with_all_loaded (with_loaded s k (slice_index read place)) ks read (place + 1)
+with_all_loaded s [] read index = s
+with_all_loaded s (k ∷ ks) read index = with_all_loaded (with_loaded s k (slice_index read index)) ks read (index + 1)
 
 -- the base register of LDM and STM goes on past the list
 abbrev pub base_after : ℕ → ℕ → ℕ

@@ -219,11 +219,11 @@ impl Regs {
     fn load_all(&mut self, list: u16, read: &[u32])
         ensures { self.new ≡ with_all_loaded self.old (registers_of list) read.now 0 }
     {
-        let mut place = 0;
+        let mut index = 0;
         for k in 0..16 {
             if is_listed(list, k) {
-                self.load(k, value_at(read, place));
-                place += 1;
+                self.load(k, value_at(read, index));
+                index += 1;
             }
         }
     }
@@ -311,11 +311,11 @@ fn loaded(size: Size, signed: bool, value: u32) -> u32
     }
 }
 
-/// The value at a place, 0 past the end.
-pub(crate) fn value_at(read: &[u32], place: usize) -> u32
-    ensures { result ≡ slice_index read.now place }
+/// The value at an index, 0 past the end.
+pub(crate) fn value_at(read: &[u32], index: usize) -> u32
+    ensures { result ≡ slice_index read.now index }
 {
-    if place < read.len() { read[place] } else { 0 }
+    if index < read.len() { read[index] } else { 0 }
 }
 
 /// A register is in a list.

@@ -20,7 +20,7 @@ use Rattle.m0_nvic.specs.Numbers.{numbers_from, is_number, is_member, minus}
 use Rattle.m0_nvic.specs.Changes.{entered, left}
 use Rattle.m0_nvic.specs.Cycle as nvic
 use Rattle.m0_nvic.specs.Priority.{rank_of, priority_of}
-use Rattle.m0_nvic.specs.Law.{after_cycles}
+use Rattle.m0_nvic.specs.Laws.{after_cycles}
 use Rattle.m0_nvic.proofs.Held.{minus_at, pends_behind}
 use Rattle.m0_nvic.proofs.InForce.{the_priority_is_the_least}
 use Rattle.lane_look.specs.declared.lane.Want.{Want}
@@ -32,7 +32,7 @@ use Rattle.m0_core.specs.Return.{is_to_process, is_alone, return_frame, is_bad, 
 use Rattle.m0_core.specs.State.{State}
 use Rattle.m0_core.specs.Waiting.{Served, after_all_served}
 use Rattle.m0_core.specs.ExceptionLaws.{candidates}
-use Rattle.m0_core.specs.Law.{lines_in}
+use Rattle.m0_core.specs.Laws.{lines_in}
 use Rattle.m0_core.specs.Handlers.{last_lines, ends_in, left_of, want_in, wants_through, lines_of, Stays, entry_beats, Takes, HandlerBegins, BeginsReturn, HasFrame, after_leaving, IsBack, IsSound, IsThere, written, AreThere, IsGivenBack, KeepsTheRest, AReturnGivesBackWhatAnEntryFound}
 use Rattle.m0_core.proofs.Taken.{what_is_taken_is_the_least}
 use Rattle.m0_core.proofs.Handlers.{active_cycle, an_entry_takes_its_beats, a_return_takes_its_beats}
@@ -314,7 +314,7 @@ past : {A : Type 0} → ◌≡◌ {A = Option (List Beat)} None (Some []) → A
 unfolding is_empty
 past e = absurd (true≢false (sym (ap is_empty e)))
 
--- what is claimed of a place
+-- what is claimed of an index
 abbrev There : (ℕ → Beat) → List Served → ℕ → Type 0
 There f ys j = IsThere (want_in (f j)) (written (want_in (f j))) ys
 
@@ -340,7 +340,7 @@ there_of f ys (x ∷ xs) k (suc c) e h j low high = elim (equal_or_not j k) [
       e h.1 j (omega (arith, low, other)) high
 ]
 
-entry_at_written : (n : ℕ) (s : State) (k : ℕ) → k < 8 → entry_beat n (record s { place = k + 1 }) ≡ stacking k s.regs
+entry_at_written : (n : ℕ) (s : State) (k : ℕ) → k < 8 → entry_beat n (record s { beats_done = k + 1 }) ≡ stacking k s.regs
 unfolding entry_beat
 entry_at_written n s k h =
     let e : k + 1 - 1 ≡ k = omega arith in
@@ -351,7 +351,7 @@ stacked_there : (n : ℕ) (s : State) (xs ys : List Served) → left_of (entry_b
     → (k : ℕ) → k < 8 → Stays ((entry_frame s.regs + 4 * k) % 2 ^ 32) (slice_index (stacked s.regs) k) ys
 stacked_there n s xs ys e h k within =
     subst (λ (b : Beat). IsThere (want_in b) (written (want_in b)) ys) (entry_at_written n s k within)
-    (there_of (λ i. entry_beat n (record s { place = i })) ys xs 0 15 e h (k + 1) (omega arith) (omega (arith, within)))
+    (there_of (λ i. entry_beat n (record s { beats_done = i })) ys xs 0 15 e h (k + 1) (omega arith) (omega (arith, within)))
 
 -- ---- the registers behind the return
 

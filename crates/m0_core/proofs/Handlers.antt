@@ -12,7 +12,7 @@ use Rattle.m0_nvic.specs.State.{Exceptions}
 use Rattle.m0_nvic.specs.Numbers.{numbers_from, is_number, minus}
 use Rattle.m0_nvic.specs.Changes.{entered, left, pended, with_pending}
 use Rattle.m0_nvic.specs.Cycle as nvic
-use Rattle.m0_nvic.specs.Law.{after_cycles}
+use Rattle.m0_nvic.specs.Laws.{after_cycles}
 use Rattle.lane_look.specs.declared.lane.Ask.TheVariants.{Word}
 use Rattle.lane_look.specs.declared.lane.Want.{Want}
 use Rattle.lane_look.specs.Asking.{answered}
@@ -23,7 +23,7 @@ use Rattle.m0_core.specs.Return.{return_frame, unstacking, return_beat, is_bad, 
 use Rattle.m0_core.specs.Fetch.{is_locked, stopped, asks_awake, asks_next, asks_boundary, asks_taken, asks_return, asks_fault, asks_beat, in_beat}
 use Rattle.m0_core.specs.Cycle.{with_value, waiting, followed, with_read, passed, passed_entry, passed_return, closed}
 use Rattle.m0_core.specs.State.{State}
-use Rattle.m0_core.specs.Law.{Given, lines_in}
+use Rattle.m0_core.specs.Laws.{Given, lines_in}
 use Rattle.m0_core.specs.Waiting.{Served, after_served, after_all_served}
 use Rattle.m0_core.specs.Handlers.{left_of, lines_of, Stays, Takes, HasRoom, IsBetween, AnEntryTakesItsBeats, BeginsReturn, HasFrame, after_leaving, AReturnTakesItsBeats}
 use Rattle.rp_base.specs.declared.Why.TheVariants as why
@@ -87,14 +87,14 @@ abbrev entry_by : ℕ → ℕ → Regs → ℕ → Beat
 entry_by n k r vtor =
     cond (k == 0) Inner (cond (nat_lt k 9) (stacking (k - 1) r) (cond (k == 9) (access ((vtor + 4 * n) % 2 ^ 32) sizes.Word None) Inner))
 
-entry_is : (n : ℕ) (u : State) → entry_beat n u ≡ entry_by n u.place u.regs u.nvic.vtor
+entry_is : (n : ℕ) (u : State) → entry_beat n u ≡ entry_by n u.beats_done u.regs u.nvic.vtor
 unfolding entry_beat
 entry_is n u = refl
 
 abbrev entry_at : ℕ → State → ℕ → Beat
-entry_at n s k = entry_beat n (record s { place = k })
+entry_at n s k = entry_beat n (record s { beats_done = k })
 
--- what was read before the beat of a place
+-- what was read before the beat at an index
 abbrev vector_read : ℕ → ℕ → List ℕ
 vector_read vector k = cond (nat_lt 9 k) (vector ∷ []) []
 
@@ -102,7 +102,7 @@ pub record EntryAt (n vector : ℕ) (s : State) (k : ℕ) (u : State) : Type 0 w
   pub awake : u.asleep ≡ false
   pub kept : u.regs ≡ s.regs
   pub doing : u.work ≡ Some (works.Entry n)
-  pub so_far : u.place ≡ k
+  pub so_far : u.beats_done ≡ k
   pub values : u.read ≡ cond (nat_lt 9 k) (vector ∷ []) []
   pub table : u.nvic.vtor ≡ s.nvic.vtor
   pub started : 0 < k
@@ -112,7 +112,7 @@ entry_same n vector s k u p =
     entry_is n u
     ∙ ap (λ (i : ℕ). entry_by n i u.regs u.nvic.vtor) p.so_far
     ∙ ap₂ (λ (r : Regs) (v : ℕ). entry_by n k r v) p.kept p.table
-    ∙ sym (entry_is n (record s { place = k }))
+    ∙ sym (entry_is n (record s { beats_done = k }))
 
 entry_begins : (n vector : ℕ) (s : State) (g : Given) (k : ℕ) (u : State) → EntryAt n vector s k u → BeginsBeat (works.Entry n) (entry_at n s k) g u
 unfolding asks_awake asks_beat
@@ -147,16 +147,16 @@ entry_value : (n vector : ℕ) (s : State) (g : Given) → HasVector n vector s 
 unfolding entry_beat
 entry_value n vector s g h k = entry_value_by n vector s g h (k == 0) (nat_lt k 9) (k == 9) (k - 1)
 
-abbrev value_at_place : ℕ → ℕ → Option ℕ
-value_at_place vector k = cond (k == 0) None (cond (nat_lt k 9) None (cond (k == 9) (Some vector) None))
+abbrev value_at_beat : ℕ → ℕ → Option ℕ
+value_at_beat vector k = cond (k == 0) None (cond (nat_lt k 9) None (cond (k == 9) (Some vector) None))
 
-read_on : (vector k : ℕ) → 0 < k → with_value (vector_read vector k) (value_at_place vector k) ≡ vector_read vector (k + 1)
+read_on : (vector k : ℕ) → 0 < k → with_value (vector_read vector k) (value_at_beat vector k) ≡ vector_read vector (k + 1)
 read_on vector k some = elim (below_or_not k 9) [
   | inl low ↦ ap₂ (λ a b. with_value (cond a (vector ∷ []) []) (cond b None (cond (nat_lt k 9) None (cond (k == 9) (Some vector) None)))) (le-ltb 9 k (omega (arith, low))) (after_zero k some)
       ∙ ap (λ b. with_value [] (cond b None (cond (k == 9) (Some vector) None))) (lt-ltb k 9 low)
       ∙ sym (ap (λ a. cond a (vector ∷ []) []) (le-ltb 9 (k + 1) (omega (arith, low))))
   | inr high ↦ elim (equal_or_not k 9) [
-    | inl nine ↦ ap (λ (i : ℕ). with_value (vector_read vector i) (value_at_place vector i)) nine ∙ sym (ap (λ (i : ℕ). vector_read vector (i + 1)) nine)
+    | inl nine ↦ ap (λ (i : ℕ). with_value (vector_read vector i) (value_at_beat vector i)) nine ∙ sym (ap (λ (i : ℕ). vector_read vector (i + 1)) nine)
     | inr other ↦ ap₂ (λ a b. with_value (cond a (vector ∷ []) []) (cond (k == 0) None (cond b None (cond (k == 9) (Some vector) None)))) (lt-ltb 9 k (omega (arith, high, other))) (le-ltb k 9 high)
         ∙ ap₂ (λ a b. with_value (vector ∷ []) (cond a None (cond b (Some vector) None))) (after_zero k some) (ne_eqb k 9 other)
         ∙ sym (ap (λ a. cond a (vector ∷ []) []) (lt-ltb 9 (k + 1) (omega (arith, high))))
@@ -165,29 +165,29 @@ read_on vector k some = elim (below_or_not k 9) [
 
 -- ---- entry: what a beat leaves
 
-taken_skips : (n : ℕ) (t : State) → (t.place == 0) ≡ false → taken_first n t ≡ t
+taken_skips : (n : ℕ) (t : State) → (t.beats_done == 0) ≡ false → taken_first n t ≡ t
 unfolding taken_first
 taken_skips n t e = ap (λ b. cond b (record t { nvic = entered n t.nvic }) t) e
 
-entry_passes : (n : ℕ) (v : Option ℕ) (u : State) → (u.place == 0) ≡ false
-    → passed (works.Entry n) v u ≡ cond (nat_lt (u.place + 1) 15) (followed (works.Entry n) (with_read v u)) (entry_ended n (with_read v u))
+entry_passes : (n : ℕ) (v : Option ℕ) (u : State) → (u.beats_done == 0) ≡ false
+    → passed (works.Entry n) v u ≡ cond (nat_lt (u.beats_done + 1) 15) (followed (works.Entry n) (with_read v u)) (entry_ended n (with_read v u))
 unfolding passed passed_entry
 entry_passes n v u e =
-    ap (λ (t : State). cond (nat_lt (t.place + 1) 15) (followed (works.Entry n) t) (entry_ended n t)) (taken_skips n (with_read v u) e)
+    ap (λ (t : State). cond (nat_lt (t.beats_done + 1) 15) (followed (works.Entry n) t) (entry_ended n t)) (taken_skips n (with_read v u) e)
 
 entry_goes_on : (n vector : ℕ) (s : State) (g : Given) (k : ℕ) (u : State) → EntryAt n vector s k u → k + 1 < 15
     → passed (works.Entry n) (value_in (entry_at n s k) g) u ≡ followed (works.Entry n) (with_read (value_in (entry_at n s k) g) u)
 entry_goes_on n vector s g k u p more =
     let v = value_in (entry_at n s k) g in
     entry_passes n v u (ap (λ (i : ℕ). i == 0) p.so_far ∙ after_zero k p.started)
-    ∙ ap (λ b. cond b (followed (works.Entry n) (with_read v u)) (entry_ended n (with_read v u))) (lt-ltb (u.place + 1) 15 (omega (arith, p.so_far, more)))
+    ∙ ap (λ b. cond b (followed (works.Entry n) (with_read v u)) (entry_ended n (with_read v u))) (lt-ltb (u.beats_done + 1) 15 (omega (arith, p.so_far, more)))
 
 entry_ends : (n vector : ℕ) (s : State) (g : Given) (k : ℕ) (u : State) → EntryAt n vector s k u → k + 1 ≡ 15
     → passed (works.Entry n) (value_in (entry_at n s k) g) u ≡ entry_ended n (with_read (value_in (entry_at n s k) g) u)
 entry_ends n vector s g k u p none =
     let v = value_in (entry_at n s k) g in
     entry_passes n v u (ap (λ (i : ℕ). i == 0) p.so_far ∙ after_zero k p.started)
-    ∙ ap (λ b. cond b (followed (works.Entry n) (with_read v u)) (entry_ended n (with_read v u))) (le-ltb (u.place + 1) 15 (omega (arith, p.so_far, none)))
+    ∙ ap (λ b. cond b (followed (works.Entry n) (with_read v u)) (entry_ended n (with_read v u))) (le-ltb (u.beats_done + 1) 15 (omega (arith, p.so_far, none)))
 
 entry_values : (n vector : ℕ) (s : State) (g : Given) (k : ℕ) (u : State) → HasVector n vector s g → EntryAt n vector s k u
     → with_value u.read (value_in (entry_at n s k) g) ≡ vector_read vector (k + 1)
@@ -244,7 +244,7 @@ entry_plan : (n vector : ℕ) (xs : List Served) (s : State) → HasRoom n vecto
     → Plan (works.Entry n) (entry_at n s) 15 (λ e. e) (HasVector n vector s) (EntryAt n vector s) (EntryOver n vector s)
 entry_plan n vector xs s room = record {
   in_ram = entry_in_ram n vector xs s room;
-  still = λ u. refl;
+  unpaused = λ u. refl;
   silent = refl;
   awake = λ k u p. p.awake;
   begins = λ g k u p. entry_begins n vector s g k u p;
@@ -264,10 +264,10 @@ entry_first n g s at =
     ∙ ap (λ t. answered g.answers (asks_taken t s)) at.taken
     ∙ ap (λ b. answered g.answers (in_beat (works.Entry n) s b)) (entry_is n s ∙ ap (λ (i : ℕ). entry_by n i s.regs s.nvic.vtor) at.first)
 
-entry_passes_first : (n : ℕ) (s : State) → s.place ≡ 0 → passed (works.Entry n) None s ≡ followed (works.Entry n) (record s { nvic = entered n s.nvic })
+entry_passes_first : (n : ℕ) (s : State) → s.beats_done ≡ 0 → passed (works.Entry n) None s ≡ followed (works.Entry n) (record s { nvic = entered n s.nvic })
 unfolding passed passed_entry taken_first
 entry_passes_first n s e =
-    ap (λ (i : ℕ). let t = cond (i == 0) (record s { nvic = entered n s.nvic }) s in cond (nat_lt (t.place + 1) 15) (followed (works.Entry n) t) (entry_ended n t)) e
+    ap (λ (i : ℕ). let t = cond (i == 0) (record s { nvic = entered n s.nvic }) s in cond (nat_lt (t.beats_done + 1) 15) (followed (works.Entry n) t) (entry_ended n t)) e
     ∙ ap (λ (i : ℕ). cond (nat_lt (i + 1) 15) (followed (works.Entry n) (record s { nvic = entered n s.nvic })) (entry_ended n (record s { nvic = entered n s.nvic }))) e
 
 entry_second : (n vector : ℕ) (cycle : ℕ) (x : Served) (s : State) → Takes n s → after_served cycle x s ≡ closed (lines_in x.given) cycle (followed (works.Entry n) (record s { nvic = entered n s.nvic }))
@@ -322,19 +322,19 @@ an_entry_takes_its_beats n vector s cycle x xs at room =
 abbrev return_by : ℕ → ℕ → Regs → Beat
 return_by value k r = cond (k == 0) Inner (cond (nat_lt k 9) (unstacking value (k - 1) r) Inner)
 
-return_is : (value : ℕ) (u : State) → return_beat value u ≡ return_by value u.place u.regs
+return_is : (value : ℕ) (u : State) → return_beat value u ≡ return_by value u.beats_done u.regs
 unfolding return_beat
 return_is value u = refl
 
 abbrev return_at : ℕ → State → ℕ → Beat
-return_at value s k = return_beat value (record s { place = k })
+return_at value s k = return_beat value (record s { beats_done = k })
 
--- before the beat of a place
+-- before the beat at an index
 pub record ReturnAt (value : ℕ) (words : List ℕ) (s : State) (k : ℕ) (u : State) : Type 0 where
   pub awake : u.asleep ≡ false
   pub kept : u.regs ≡ s.regs
   pub doing : u.work ≡ Some (works.Return value)
-  pub so_far : u.place ≡ k
+  pub so_far : u.beats_done ≡ k
   pub values : u.read ≡ take (k - 1) words
   pub started : 0 < k
 
@@ -342,7 +342,7 @@ return_same : (value : ℕ) (words : List ℕ) (s : State) (k : ℕ) (u : State)
 return_same value words s k u p =
     return_is value u
     ∙ ap₂ (λ (i : ℕ) (r : Regs). return_by value i r) p.so_far p.kept
-    ∙ sym (return_is value (record s { place = k }))
+    ∙ sym (return_is value (record s { beats_done = k }))
 
 -- the exception number fits the mode, so that the last beat does not lock the core up
 unlocked_last : (value : ℕ) (words : List ℕ) (k : ℕ) (locked : Bool) → length words ≡ 8 → is_misfit value (slice_index words 7) ≡ false
@@ -358,11 +358,11 @@ return_begins : (value : ℕ) (words : List ℕ) (s : State) → length words �
     → (g : Given) (k : ℕ) (u : State) → ReturnAt value words s k u → BeginsBeat (works.Return value) (return_at value s k) g u
 unfolding asks_awake asks_return asks_beat
 return_begins value words s eight fits g k u p =
-    let later : (u.place == 0) ≡ false = ap (λ (i : ℕ). i == 0) p.so_far ∙ after_zero k p.started in
-    let free : ((u.place == 12) && (is_misfit value (slice_index u.read 7) && is_locked u)) ≡ false =
+    let later : (u.beats_done == 0) ≡ false = ap (λ (i : ℕ). i == 0) p.so_far ∙ after_zero k p.started in
+    let free : ((u.beats_done == 12) && (is_misfit value (slice_index u.read 7) && is_locked u)) ≡ false =
     ap₂ (λ (i : ℕ) (xs : List ℕ). (i == 12) && (is_misfit value (slice_index xs 7) && is_locked u)) p.so_far p.values ∙ unlocked_last value words k (is_locked u) eight fits in
     ap (λ w. answered g.answers (asks_next w u)) p.doing
-    ∙ ap (λ b. answered g.answers (cond (b && is_bad value u) (asks_fault u) (cond ((u.place == 12) && (is_misfit value (slice_index u.read 7) && is_locked u)) (stopped (why.Lockup u.number)) (asks_beat (works.Return value) u)))) later
+    ∙ ap (λ b. answered g.answers (cond (b && is_bad value u) (asks_fault u) (cond ((u.beats_done == 12) && (is_misfit value (slice_index u.read 7) && is_locked u)) (stopped (why.Lockup u.number)) (asks_beat (works.Return value) u)))) later
     ∙ ap (λ b. answered g.answers (cond b (stopped (why.Lockup u.number)) (asks_beat (works.Return value) u))) free
     ∙ ap (λ b. answered g.answers (in_beat (works.Return value) u b)) (return_same value words s k u p)
 
@@ -412,7 +412,7 @@ words_on words k eight some = elim (below_or_not k 9) [
 -- ---- return: what a beat leaves
 
 return_passes : (value : ℕ) (v : Option ℕ) (u : State)
-    → passed (works.Return value) v u ≡ cond (nat_lt (u.place + 1) 13) (followed (works.Return value) (with_read v u)) (return_ended value (with_read v u))
+    → passed (works.Return value) v u ≡ cond (nat_lt (u.beats_done + 1) 13) (followed (works.Return value) (with_read v u)) (return_ended value (with_read v u))
 unfolding passed passed_return
 return_passes value v u = refl
 
@@ -421,14 +421,14 @@ return_goes_on : (value : ℕ) (words : List ℕ) (s : State) (g : Given) (k : �
 return_goes_on value words s g k u p more =
     let v = value_in (return_at value s k) g in
     return_passes value v u
-    ∙ ap (λ b. cond b (followed (works.Return value) (with_read v u)) (return_ended value (with_read v u))) (lt-ltb (u.place + 1) 13 (omega (arith, p.so_far, more)))
+    ∙ ap (λ b. cond b (followed (works.Return value) (with_read v u)) (return_ended value (with_read v u))) (lt-ltb (u.beats_done + 1) 13 (omega (arith, p.so_far, more)))
 
 return_ends : (value : ℕ) (words : List ℕ) (s : State) (g : Given) (k : ℕ) (u : State) → ReturnAt value words s k u → k + 1 ≡ 13
     → passed (works.Return value) (value_in (return_at value s k) g) u ≡ return_ended value (with_read (value_in (return_at value s k) g) u)
 return_ends value words s g k u p none =
     let v = value_in (return_at value s k) g in
     return_passes value v u
-    ∙ ap (λ b. cond b (followed (works.Return value) (with_read v u)) (return_ended value (with_read v u))) (le-ltb (u.place + 1) 13 (omega (arith, p.so_far, none)))
+    ∙ ap (λ b. cond b (followed (works.Return value) (with_read v u)) (return_ended value (with_read v u))) (le-ltb (u.beats_done + 1) 13 (omega (arith, p.so_far, none)))
 
 return_values : (value : ℕ) (words : List ℕ) (s : State) (g : Given) (k : ℕ) (u : State) → length words ≡ 8 → HasWords value words s g → ReturnAt value words s k u
     → with_value u.read (value_in (return_at value s k) g) ≡ take (k + 1 - 1) words
@@ -491,7 +491,7 @@ return_plan : (value : ℕ) (words : List ℕ) (xs : List Served) (s : State) �
     → Plan (works.Return value) (return_at value s) 13 (left s.regs.ipsr) (HasWords value words s) (ReturnAt value words s) (ReturnOver value words s)
 return_plan value words xs s room = record {
   in_ram = return_in_ram value words xs s room;
-  still = λ u. refl;
+  unpaused = λ u. refl;
   silent = refl;
   awake = λ k u p. p.awake;
   begins = λ g k u p. return_begins value words s room.eight room.fits g k u p;
@@ -507,9 +507,9 @@ return_plan value words xs s room = record {
 return_first : (value : ℕ) (g : Given) (s : State) → BeginsReturn value s → BeginsBeat (works.Return value) Inner g s
 unfolding asks_awake asks_return asks_beat
 return_first value g s at =
-    let good : ((s.place == 0) && is_bad value s) ≡ false = ap (λ b. (s.place == 0) && b) at.good ∙ and_false (s.place == 0) in
+    let good : ((s.beats_done == 0) && is_bad value s) ≡ false = ap (λ b. (s.beats_done == 0) && b) at.good ∙ and_false (s.beats_done == 0) in
     ap (λ w. answered g.answers (asks_next w s)) at.returns
-    ∙ ap (λ b. answered g.answers (cond b (asks_fault s) (cond ((s.place == 12) && (is_misfit value (slice_index s.read 7) && is_locked s)) (stopped (why.Lockup s.number)) (asks_beat (works.Return value) s)))) good
+    ∙ ap (λ b. answered g.answers (cond b (asks_fault s) (cond ((s.beats_done == 12) && (is_misfit value (slice_index s.read 7) && is_locked s)) (stopped (why.Lockup s.number)) (asks_beat (works.Return value) s)))) good
     ∙ ap (λ (i : ℕ). answered g.answers (cond ((i == 12) && (is_misfit value (slice_index s.read 7) && is_locked s)) (stopped (why.Lockup s.number)) (asks_beat (works.Return value) s))) at.first
     ∙ ap (λ b. answered g.answers (in_beat (works.Return value) s b)) (return_is value s ∙ ap (λ (i : ℕ). return_by value i s.regs) at.first)
 

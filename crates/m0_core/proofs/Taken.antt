@@ -28,7 +28,7 @@ use Rattle.m0_core.specs.declared.doing.Work.TheVariants as works
 use Rattle.m0_core.specs.Fetch.{stopped, asks_awake, asks_next, asks_boundary, asks_taken, asks_decoded, asks_fault, asks_beat, ends_with, is_faulty, is_locked, taken_of}
 use Rattle.m0_core.specs.Cycle.{waiting, followed, ended, passed, passed_instruction, after_inner, faulted, closed, returning}
 use Rattle.m0_core.specs.State.{State}
-use Rattle.m0_core.specs.Law.{Given, lines_in, after_cycle, IsAtBoundary, IsFetched}
+use Rattle.m0_core.specs.Laws.{Given, lines_in, after_cycle, IsAtBoundary, IsFetched}
 use Rattle.m0_core.specs.ExceptionLaws.{candidates, comes_in, WhatIsTakenIsTheLeast, Faults, OnlyPendsHardFault, AFaultPendsHardFaultAlone, IsInWfi, StaysInWfi, LeavesWfi, AWfiMovesOnWhereAnExceptionWakes}
 use Rattle.m0_core.proofs.TakesBeats.{begins_on, begins_first, begun_awake, begun_beat, after_begun}
 
@@ -276,12 +276,12 @@ no_return r read = refl
 
 cycle_in_wfi : (g : Given) (cycle : ℕ) (s : State) → IsInWfi s → after_cycle cycle g s ≡ closed (lines_in g) cycle (after_inner wfi s)
 cycle_in_wfi g cycle s in_wfi =
-    let at : slice_get (beats_of op.Wfi s.regs) s.place ≡ Some Inner = ap (slice_get (beats_of op.Wfi s.regs)) in_wfi.second ∙ second_beat s.regs in
+    let at : slice_get (beats_of op.Wfi s.regs) s.beats_done ≡ Some Inner = ap (slice_get (beats_of op.Wfi s.regs)) in_wfi.second ∙ second_beat s.regs in
     after_begun g cycle s (act.Inner wfi) (begun_beat op.Wfi g cycle s Inner in_wfi.awake (begins_on op.Wfi g s in_wfi.waits) at)
 
-held_by : (s : State) (woken : Bool) → IsInWfi s → wakes_of s.nvic ≡ woken → after_inner wfi s ≡ cond (not woken) (waiting wfi s) (passed wfi None s)
+paused_by : (s : State) (woken : Bool) → IsInWfi s → wakes_of s.nvic ≡ woken → after_inner wfi s ≡ cond (not woken) (waiting wfi s) (passed wfi None s)
 unfolding after_inner
-held_by s woken in_wfi e =
+paused_by s woken in_wfi e =
     ap₂ (λ (k : ℕ) w. cond ((k == 1) && not w) (waiting wfi s) (passed wfi None s)) in_wfi.second e
 
 passed_wfi : (s : State) → IsInWfi s → passed wfi None s ≡ ended op.Wfi s
@@ -312,7 +312,7 @@ pub a_wfi_moves_on_where_an_exception_wakes : AWfiMovesOnWhereAnExceptionWakes
 a_wfi_moves_on_where_an_exception_wakes s cycle g in_wfi =
     let path = cycle_in_wfi g cycle s in_wfi in (
       λ woken. subst (λ t. LeavesWfi cycle g s t)
-          (sym (path ∙ ap (closed (lines_in g) cycle) (held_by s true in_wfi woken ∙ passed_wfi s in_wfi))) (leaves g cycle s in_wfi),
+          (sym (path ∙ ap (closed (lines_in g) cycle) (paused_by s true in_wfi woken ∙ passed_wfi s in_wfi))) (leaves g cycle s in_wfi),
       λ asleep. subst (λ t. StaysInWfi cycle g s t)
-          (sym (path ∙ ap (closed (lines_in g) cycle) (held_by s false in_wfi asleep))) (stays g cycle s in_wfi),
+          (sym (path ∙ ap (closed (lines_in g) cycle) (paused_by s false in_wfi asleep))) (stays g cycle s in_wfi),
     )

@@ -31,18 +31,18 @@ use Rattle.m0_core.specs.Kinds.{awaits_event, awaits_interrupt}
 use Rattle.rp_base.specs.Access.{master_of, word_written}
 use Rattle.m0_core.specs.Private.{private_value, accessed}
 use Rattle.m0_core.specs.Fetch.{stopped, asks, asks_awake, asks_next, asks_boundary, asks_taken, asks_first, asks_half, asks_second, asks_decoded, asks_fault, asks_beat, beat_of, in_beat, in_ram, at_spot, carried, ends_with, is_faulty}
-use Rattle.m0_core.specs.Cycle.{signals, want_of, want_of_act, with_value, waiting, followed, with_read, returning, called, ended, passed_instruction, passed, is_held_op, after_inner, done_word, value_of, after_private, after, closed, is_idle, next}
+use Rattle.m0_core.specs.Cycle.{signals, want_of, want_of_act, with_value, waiting, followed, with_read, returning, called, ended, passed_instruction, passed, is_paused_op, after_inner, done_word, value_of, after_private, after, closed, is_idle, next}
 use Rattle.m0_core.specs.State.{State}
-use Rattle.m0_core.specs.Law.{Given, turn_of, lines_in, touched_at, touched_by, changed_by, exceptions_in, event_in, begun_in, wanted_in, after_cycle, after_cycles, is_stop, GoesOn, want_at, want_of_beat, wants_in, read_at, read_in, reads_in, IsAtBoundary, half_at, IsEncoded, IsFetched, IsPlain, AnInstructionTakesItsBeats, LastsOn, accessing, is_access, AnAccessLastsUntilItIsDone}
+use Rattle.m0_core.specs.Laws.{Given, turn_of, lines_in, touched_at, touched_by, changed_by, exceptions_in, event_in, begun_in, wanted_in, after_cycle, after_cycles, is_stop, GoesOn, want_at, want_of_beat, wants_in, read_at, read_in, reads_in, IsAtBoundary, half_at, IsEncoded, IsFetched, IsPlain, AnInstructionTakesItsBeats, LastsOn, accessing, is_access, AnAccessLastsUntilItIsDone}
 use Rattle.m0_core.proofs.ReadCount.{reads_one, is_read, reading, reading-le}
 
 -- ---- states in the middle of an instruction
 
 -- so many beats are over, and these values were read
-pub record Stands (regs : Regs) (place : ℕ) (read : List ℕ) (s : State) : Type 0 where
+pub record Stands (regs : Regs) (index : ℕ) (read : List ℕ) (s : State) : Type 0 where
   pub awake : s.asleep ≡ false
   pub kept : s.regs ≡ regs
-  pub so_far : s.place ≡ place
+  pub so_far : s.beats_done ≡ index
   pub values : s.read ≡ read
 
 -- the instruction is over
@@ -50,15 +50,15 @@ pub record Ends (op : Op) (regs : Regs) (read : List ℕ) (s : State) : Type 0 w
   pub awake : s.asleep ≡ false
   pub effect : s.regs ≡ effect_of op regs read
   pub then_returns : s.work ≡ returning (return_of op regs read)
-  pub first : s.place ≡ 0
+  pub first : s.beats_done ≡ 0
   pub fresh : s.read ≡ []
 
--- after the beat of that place
-pub record Lands (op : Op) (regs : Regs) (place : ℕ) (read : List ℕ) (s : State) : Type 0 where
-  pub goes_on : place + 1 < length (beats_of op regs) → Stands regs (place + 1) read s × (s.work ≡ Some (works.Instruction op))
-  pub ends : length (beats_of op regs) ≤ place + 1 → Ends op regs read s
+-- after the beat of that index
+pub record Lands (op : Op) (regs : Regs) (index : ℕ) (read : List ℕ) (s : State) : Type 0 where
+  pub goes_on : index + 1 < length (beats_of op regs) → Stands regs (index + 1) read s × (s.work ≡ Some (works.Instruction op))
+  pub ends : length (beats_of op regs) ≤ index + 1 → Ends op regs read s
 
-stands_followed : (op : Op) (value : Option ℕ) (t : State) → t.asleep ≡ false → Stands t.regs (t.place + 1) (with_value t.read value) (followed (works.Instruction op) (with_read value t))
+stands_followed : (op : Op) (value : Option ℕ) (t : State) → t.asleep ≡ false → Stands t.regs (t.beats_done + 1) (with_value t.read value) (followed (works.Instruction op) (with_read value t))
 stands_followed op value t awake = record { awake = awake; kept = refl; so_far = refl; values = refl }
 
 ends_ended : (op : Op) (value : Option ℕ) (t : State) → t.asleep ≡ false → Ends op t.regs (with_value t.read value) (ended op (with_read value t))
@@ -66,22 +66,22 @@ unfolding ended
 ends_ended op value t awake = record { awake = awake; effect = refl; then_returns = refl; first = refl; fresh = refl }
 
 -- a beat is over
-lands_passed : (op : Op) (value : Option ℕ) (t : State) → t.asleep ≡ false → Lands op t.regs t.place (with_value t.read value) (passed (works.Instruction op) value t)
+lands_passed : (op : Op) (value : Option ℕ) (t : State) → t.asleep ≡ false → Lands op t.regs t.beats_done (with_value t.read value) (passed (works.Instruction op) value t)
 unfolding passed passed_instruction
 lands_passed op value t awake =
     let u = with_read value t in
     let n = length (beats_of op t.regs) in
     record {
-      goes_on = λ h. subst (λ b. Stands t.regs (t.place + 1) (with_value t.read value) (cond b (followed (works.Instruction op) u) (ended op u)) × ((cond b (followed (works.Instruction op) u) (ended op u)).work ≡ Some (works.Instruction op)))
-          (sym (lt-ltb (t.place + 1) n h)) (stands_followed op value t awake, refl);
+      goes_on = λ h. subst (λ b. Stands t.regs (t.beats_done + 1) (with_value t.read value) (cond b (followed (works.Instruction op) u) (ended op u)) × ((cond b (followed (works.Instruction op) u) (ended op u)).work ≡ Some (works.Instruction op)))
+          (sym (lt-ltb (t.beats_done + 1) n h)) (stands_followed op value t awake, refl);
       ends = λ h. subst (λ b. Ends op t.regs (with_value t.read value) (cond b (followed (works.Instruction op) u) (ended op u)))
-          (sym (le-ltb (t.place + 1) n h)) (ends_ended op value t awake);
+          (sym (le-ltb (t.beats_done + 1) n h)) (ends_ended op value t awake);
     }
 
 -- the end of the cycle changes only the exceptions and the event register
-lands_closed : (op : Op) (regs : Regs) (place : ℕ) (read : List ℕ) (s : State) (lines cycle : ℕ) → Lands op regs place read s → Lands op regs place read (closed lines cycle s)
+lands_closed : (op : Op) (regs : Regs) (index : ℕ) (read : List ℕ) (s : State) (lines cycle : ℕ) → Lands op regs index read s → Lands op regs index read (closed lines cycle s)
 unfolding closed
-lands_closed op regs place read s lines cycle h = record {
+lands_closed op regs index read s lines cycle h = record {
   goes_on = λ lt. let x = h.goes_on lt in (record { awake = x.0.awake; kept = x.0.kept; so_far = x.0.so_far; values = x.0.values }, x.1);
   ends = λ le. let x = h.ends le in record { awake = x.awake; effect = x.effect; then_returns = x.then_returns; first = x.first; fresh = x.fresh };
 }
@@ -100,44 +100,44 @@ and_false : (b : Bool) → (b && false) ≡ false
 and_false true = refl
 and_false false = refl
 
-is_not_held : (op : Op) (s : State) → awaits_event op ≡ false → awaits_interrupt op ≡ false → is_held_op op s ≡ false
+is_not_held : (op : Op) (s : State) → awaits_event op ≡ false → awaits_interrupt op ≡ false → is_paused_op op s ≡ false
 is_not_held op s e i =
-    ap₂ (λ x y. (s.place == 1) && ((x || y && not s.event) && not (wakes_of s.nvic))) i e ∙ and_false (s.place == 1)
+    ap₂ (λ x y. (s.beats_done == 1) && ((x || y && not s.event) && not (wakes_of s.nvic))) i e ∙ and_false (s.beats_done == 1)
 
-lands_inner : (op : Op) (s : State) → s.asleep ≡ false → awaits_event op ≡ false → awaits_interrupt op ≡ false → Lands op s.regs s.place s.read (after_inner (works.Instruction op) s)
+lands_inner : (op : Op) (s : State) → s.asleep ≡ false → awaits_event op ≡ false → awaits_interrupt op ≡ false → Lands op s.regs s.beats_done s.read (after_inner (works.Instruction op) s)
 unfolding after_inner
 lands_inner op s awake e i =
-    subst (λ b. Lands op s.regs s.place s.read (cond b (waiting (works.Instruction op) s) (passed (works.Instruction op) None s)))
+    subst (λ b. Lands op s.regs s.beats_done s.read (cond b (waiting (works.Instruction op) s) (passed (works.Instruction op) None s)))
     (sym (is_not_held op s e i)) (lands_passed op None s awake)
 
 -- ---- accesses
 
 lands_outward : (op : Op) (s : State) (lines cycle word : ℕ) (request : Request) (v : Option ℕ) → s.asleep ≡ false → value_of request request.write word ≡ v
-    → Lands op s.regs s.place (with_value s.read v) (step_by lines cycle word s (act.Outward (works.Instruction op) request))
+    → Lands op s.regs s.beats_done (with_value s.read v) (step_by lines cycle word s (act.Outward (works.Instruction op) request))
 lands_outward op s lines cycle word request v awake e =
-    subst (λ x. Lands op s.regs s.place (with_value s.read x) (step_by lines cycle word s (act.Outward (works.Instruction op) request))) e
-    (lands_closed op s.regs s.place (with_value s.read (value_of request request.write word)) _ lines cycle (lands_passed op (value_of request request.write word) s awake))
+    subst (λ x. Lands op s.regs s.beats_done (with_value s.read x) (step_by lines cycle word s (act.Outward (works.Instruction op) request))) e
+    (lands_closed op s.regs s.beats_done (with_value s.read (value_of request request.write word)) _ lines cycle (lands_passed op (value_of request request.write word) s awake))
 
 lands_ram : (op : Op) (g : Given) (s : State) (lines cycle index bank : ℕ) (request : Request) (w : Option ℕ) → s.asleep ≡ false
-    → Lands op s.regs s.place (with_value s.read (read_at (spot.Ram index bank) request w g s)) (step_by lines cycle g.word s (answered g.answers (in_ram (works.Instruction op) request w)))
-lands_ram op g s lines cycle index bank request None awake = lands_closed op s.regs s.place _ _ lines cycle (lands_passed op _ s awake)
-lands_ram op g s lines cycle index bank request (Some write) awake = lands_closed op s.regs s.place _ _ lines cycle (lands_passed op None s awake)
+    → Lands op s.regs s.beats_done (with_value s.read (read_at (spot.Ram index bank) request w g s)) (step_by lines cycle g.word s (answered g.answers (in_ram (works.Instruction op) request w)))
+lands_ram op g s lines cycle index bank request None awake = lands_closed op s.regs s.beats_done _ _ lines cycle (lands_passed op _ s awake)
+lands_ram op g s lines cycle index bank request (Some write) awake = lands_closed op s.regs s.beats_done _ _ lines cycle (lands_passed op None s awake)
 
 private_read : (request : Request) (w : Option ℕ) (offset : ℕ) (g : Given) (s : State) → private_value request w offset s ≡ read_at (spot.Ppb offset) request w g s
 private_read request None offset g s = refl
 private_read request (Some write) offset g s = refl
 
 lands_private : (op : Op) (g : Given) (s : State) (lines cycle offset : ℕ) (request : Request) → s.asleep ≡ false
-    → Lands op s.regs s.place (with_value s.read (read_at (spot.Ppb offset) request request.write g s)) (step_by lines cycle g.word s (act.Private (works.Instruction op) request offset))
+    → Lands op s.regs s.beats_done (with_value s.read (read_at (spot.Ppb offset) request request.write g s)) (step_by lines cycle g.word s (act.Private (works.Instruction op) request offset))
 unfolding after_private
 lands_private op g s lines cycle offset request awake =
-    subst (λ x. Lands op s.regs s.place (with_value s.read x) (step_by lines cycle g.word s (act.Private (works.Instruction op) request offset)))
+    subst (λ x. Lands op s.regs s.beats_done (with_value s.read x) (step_by lines cycle g.word s (act.Private (works.Instruction op) request offset)))
     (private_read request request.write offset g s)
-    (lands_closed op s.regs s.place _ _ lines cycle (lands_passed op (private_value request request.write offset s) (accessed request offset s) awake))
+    (lands_closed op s.regs s.beats_done _ _ lines cycle (lands_passed op (private_value request request.write offset s) (accessed request offset s) awake))
 
 private_allowed : (op : Op) (g : Given) (s : State) (lines cycle offset : ℕ) (request : Request) (b : Bool) → s.asleep ≡ false
     → is_stop (want_of_act (answered g.answers (cond b (Ready (act.Private (works.Instruction op) request offset)) (stopped (why.Outside (master_of s.number) request.address))))) ≡ false
-    → Lands op s.regs s.place (with_value s.read (read_at (spot.Ppb offset) request request.write g s)) (step_by lines cycle g.word s (answered g.answers (cond b (Ready (act.Private (works.Instruction op) request offset)) (stopped (why.Outside (master_of s.number) request.address)))))
+    → Lands op s.regs s.beats_done (with_value s.read (read_at (spot.Ppb offset) request request.write g s)) (step_by lines cycle g.word s (answered g.answers (cond b (Ready (act.Private (works.Instruction op) request offset)) (stopped (why.Outside (master_of s.number) request.address)))))
 private_allowed op g s lines cycle offset request true awake goes = lands_private op g s lines cycle offset request awake
 private_allowed op g s lines cycle offset request false awake goes = absurd (true≢false goes)
 
@@ -151,7 +151,7 @@ sio_read offset request (Some write) g s = refl
 
 lands_at : (op : Op) (g : Given) (s : State) (lines cycle : ℕ) (request : Request) (place : Spot) → s.asleep ≡ false
     → is_stop (want_of_act (answered g.answers (at_spot (works.Instruction op) request s place))) ≡ false
-    → Lands op s.regs s.place (with_value s.read (read_at place request request.write g s)) (step_by lines cycle g.word s (answered g.answers (at_spot (works.Instruction op) request s place)))
+    → Lands op s.regs s.beats_done (with_value s.read (read_at place request request.write g s)) (step_by lines cycle g.word s (answered g.answers (at_spot (works.Instruction op) request s place)))
 lands_at op g s lines cycle request (spot.Ram index bank) awake goes = lands_ram op g s lines cycle index bank request request.write awake
 lands_at op g s lines cycle request (spot.Ppb offset) awake goes = private_allowed op g s lines cycle offset request (is_allowed s.nvic offset (word_written request.size request.write)) awake goes
 lands_at op g s lines cycle request (spot.Sio offset) awake goes = lands_outward op s lines cycle g.word request _ awake (sio_read offset request request.write g s)
@@ -164,8 +164,8 @@ lands_at op g s lines cycle request spot.Outside awake goes = lands_outward op s
 
 lands_beat : (op : Op) (g : Given) (s : State) (lines cycle : ℕ) (b : Beat) → s.asleep ≡ false → awaits_event op ≡ false → awaits_interrupt op ≡ false
     → is_stop (want_of_act (answered g.answers (in_beat (works.Instruction op) s b))) ≡ false
-    → Lands op s.regs s.place (with_value s.read (read_in b g s)) (step_by lines cycle g.word s (answered g.answers (in_beat (works.Instruction op) s b)))
-lands_beat op g s lines cycle Inner awake e i goes = lands_closed op s.regs s.place s.read _ lines cycle (lands_inner op s awake e i)
+    → Lands op s.regs s.beats_done (with_value s.read (read_in b g s)) (step_by lines cycle g.word s (answered g.answers (in_beat (works.Instruction op) s b)))
+lands_beat op g s lines cycle Inner awake e i goes = lands_closed op s.regs s.beats_done s.read _ lines cycle (lands_inner op s awake e i)
 lands_beat op g s lines cycle (Access request) awake e i goes = lands_at op g s lines cycle request (place_of request.address) awake goes
 
 -- ---- what a cycle begins
@@ -233,33 +233,33 @@ asks_beat_in : (op : Op) (s : State) (b : Beat) → beat_of op s ≡ b → asks_
 unfolding asks_beat
 asks_beat_in op s b e = ap (in_beat (works.Instruction op) s) e
 
-beat_at : (op : Op) (s : State) (b : Beat) → slice_get (beats_of op s.regs) s.place ≡ Some b → beat_of op s ≡ b
+beat_at : (op : Op) (s : State) (b : Beat) → slice_get (beats_of op s.regs) s.beats_done ≡ Some b → beat_of op s ≡ b
 unfolding beat_of
 beat_at op s b e = ap (λ o. unwrap_or o Inner) e
 
-pub begun_beat : (op : Op) (g : Given) (cycle : ℕ) (s : State) (b : Beat) → s.asleep ≡ false → Begins op g s → slice_get (beats_of op s.regs) s.place ≡ Some b
+pub begun_beat : (op : Op) (g : Given) (cycle : ℕ) (s : State) (b : Beat) → s.asleep ≡ false → Begins op g s → slice_get (beats_of op s.regs) s.beats_done ≡ Some b
     → begun_in cycle g s ≡ ends_with (g.answers Lines % 2 ^ 32) cycle (answered g.answers (in_beat (works.Instruction op) s b))
 begun_beat op g cycle s b awake begins at =
     begun_awake g cycle s awake
     ∙ ap (ends_with (g.answers Lines % 2 ^ 32) cycle) (begins ∙ ap (answered g.answers) (asks_beat_in op s b (beat_at op s b at)))
 
 lands_cycle : (op : Op) (g : Given) (cycle : ℕ) (s : State) (b : Beat) → s.asleep ≡ false → awaits_event op ≡ false → awaits_interrupt op ≡ false → Begins op g s
-    → slice_get (beats_of op s.regs) s.place ≡ Some b → is_stop (wanted_in cycle g s) ≡ false → Lands op s.regs s.place (with_value s.read (read_in b g s)) (after_cycle cycle g s)
+    → slice_get (beats_of op s.regs) s.beats_done ≡ Some b → is_stop (wanted_in cycle g s) ≡ false → Lands op s.regs s.beats_done (with_value s.read (read_in b g s)) (after_cycle cycle g s)
 lands_cycle op g cycle s b awake e i begins at goes =
     let a = answered g.answers (in_beat (works.Instruction op) s b) in
     let begun = begun_beat op g cycle s b awake begins at in
-    subst (λ u. Lands op s.regs s.place (with_value s.read (read_in b g s)) u) (sym (after_begun g cycle s a begun))
+    subst (λ u. Lands op s.regs s.beats_done (with_value s.read (read_in b g s)) u) (sym (after_begun g cycle s a begun))
     (lands_beat op g s (g.answers Lines % 2 ^ 32) cycle b awake e i (sym (ap (λ d. is_stop (want_of d)) begun) ∙ goes))
 
--- at the place where the instruction stands
-pub lands_standing : (op : Op) (regs : Regs) (place : ℕ) (read next_read : List ℕ) (g : Given) (cycle : ℕ) (s : State) (b : Beat) → Stands regs place read s → awaits_event op ≡ false → awaits_interrupt op ≡ false → Begins op g s
-    → slice_get (beats_of op regs) place ≡ Some b → is_stop (wanted_in cycle g s) ≡ false → with_value read (read_in b g s) ≡ next_read → Lands op regs place next_read (after_cycle cycle g s)
-lands_standing op regs place read next_read g cycle s b stands e i begins at goes reads =
-    let here : slice_get (beats_of op s.regs) s.place ≡ Some b = ap₂ (λ (r : Regs) (k : ℕ). slice_get (beats_of op r) k) stands.kept stands.so_far ∙ at in
+-- at the index where the instruction stands
+pub lands_standing : (op : Op) (regs : Regs) (index : ℕ) (read next_read : List ℕ) (g : Given) (cycle : ℕ) (s : State) (b : Beat) → Stands regs index read s → awaits_event op ≡ false → awaits_interrupt op ≡ false → Begins op g s
+    → slice_get (beats_of op regs) index ≡ Some b → is_stop (wanted_in cycle g s) ≡ false → with_value read (read_in b g s) ≡ next_read → Lands op regs index next_read (after_cycle cycle g s)
+lands_standing op regs index read next_read g cycle s b stands e i begins at goes reads =
+    let here : slice_get (beats_of op s.regs) s.beats_done ≡ Some b = ap₂ (λ (r : Regs) (k : ℕ). slice_get (beats_of op r) k) stands.kept stands.so_far ∙ at in
     let values : with_value s.read (read_in b g s) ≡ next_read = ap (λ xs. with_value xs (read_in b g s)) stands.values ∙ reads in
-    subst (λ xs. Lands op regs place xs (after_cycle cycle g s)) values
+    subst (λ xs. Lands op regs index xs (after_cycle cycle g s)) values
     (subst (λ k. Lands op regs k (with_value s.read (read_in b g s)) (after_cycle cycle g s)) stands.so_far
-    (subst (λ r. Lands op r s.place (with_value s.read (read_in b g s)) (after_cycle cycle g s)) stands.kept
+    (subst (λ r. Lands op r s.beats_done (with_value s.read (read_in b g s)) (after_cycle cycle g s)) stands.kept
     (lands_cycle op g cycle s b stands.awake e i begins here goes)))
 
 -- ---- the values that are read
@@ -276,11 +276,11 @@ pub reads_beat : (b : Beat) (g : Given) (s : State) → length (option_to_list (
 reads_beat Inner g s = refl
 reads_beat (Access request) g s = reads_access (place_of request.address) request request.write g s
 
--- ---- places in a list
+-- ---- indices in a list
 
-pub at_place : (xs : List Beat) (b : Beat) (ys : List Beat) → slice_get (xs ++ b ∷ ys) (length xs) ≡ Some b
-at_place [] b ys = refl
-at_place (x ∷ xs) b ys = at_place xs b ys
+pub at_index : (xs : List Beat) (b : Beat) (ys : List Beat) → slice_get (xs ++ b ∷ ys) (length xs) ≡ Some b
+at_index [] b ys = refl
+at_index (x ∷ xs) b ys = at_index xs b ys
 
 pub long_as : (beats done rest : List Beat) → beats ≡ done ++ rest → length beats ≡ length done + length rest
 long_as beats done rest e = ap length e ∙ length-append done rest
@@ -313,21 +313,21 @@ wants_beat op g s Inner goes = refl
 wants_beat op g s (Access request) goes = wants_place op g s request (place_of request.address) goes
 
 wants_cycle : (op : Op) (g : Given) (cycle : ℕ) (s : State) (b : Beat) → s.asleep ≡ false → Begins op g s
-    → slice_get (beats_of op s.regs) s.place ≡ Some b → is_stop (wanted_in cycle g s) ≡ false → wanted_in cycle g s ≡ want_of_beat op b
+    → slice_get (beats_of op s.regs) s.beats_done ≡ Some b → is_stop (wanted_in cycle g s) ≡ false → wanted_in cycle g s ≡ want_of_beat op b
 wants_cycle op g cycle s b awake begins at goes =
     let e = ap want_of (begun_beat op g cycle s b awake begins at) in
     e ∙ wants_beat op g s b (sym (ap is_stop e) ∙ goes)
 
-pub wants_standing : (op : Op) (regs : Regs) (place : ℕ) (read : List ℕ) (g : Given) (cycle : ℕ) (s : State) (b : Beat) → Stands regs place read s → Begins op g s
-    → slice_get (beats_of op regs) place ≡ Some b → is_stop (wanted_in cycle g s) ≡ false → wanted_in cycle g s ≡ want_of_beat op b
-wants_standing op regs place read g cycle s b stands begins at goes =
+pub wants_standing : (op : Op) (regs : Regs) (index : ℕ) (read : List ℕ) (g : Given) (cycle : ℕ) (s : State) (b : Beat) → Stands regs index read s → Begins op g s
+    → slice_get (beats_of op regs) index ≡ Some b → is_stop (wanted_in cycle g s) ≡ false → wanted_in cycle g s ≡ want_of_beat op b
+wants_standing op regs index read g cycle s b stands begins at goes =
     wants_cycle op g cycle s b stands.awake begins (ap₂ (λ (r : Regs) (k : ℕ). slice_get (beats_of op r) k) stands.kept stands.so_far ∙ at) goes
 
 -- ---- exceptions and the event register
 
--- after a beat of that place: it was the last one, or another one follows
+-- after a beat of that index: it was the last one, or another one follows
 abbrev last_at : Op → Regs → ℕ → Exceptions → Exceptions
-last_at op regs place e = cond (nat_lt (place + 1) (length (beats_of op regs))) e (called op e)
+last_at op regs index e = cond (nat_lt (index + 1) (length (beats_of op regs))) e (called op e)
 
 -- the cycle makes this of the exceptions, and then the timer and the lines have their turn
 pub record Changes (lines cycle : ℕ) (e : Exceptions) (event : Bool) (t : State) : Type 0 where
@@ -338,9 +338,9 @@ and_true : (b : Bool) → (b && true) ≡ b
 and_true true = refl
 and_true false = refl
 
-passed_exceptions : (op : Op) (value : Option ℕ) (t : State) → (passed (works.Instruction op) value t).nvic ≡ last_at op t.regs t.place t.nvic
+passed_exceptions : (op : Op) (value : Option ℕ) (t : State) → (passed (works.Instruction op) value t).nvic ≡ last_at op t.regs t.beats_done t.nvic
 unfolding passed passed_instruction ended
-passed_exceptions op value t = go (nat_lt (t.place + 1) (length (beats_of op t.regs)))
+passed_exceptions op value t = go (nat_lt (t.beats_done + 1) (length (beats_of op t.regs)))
   where
     go : (b : Bool) → (cond b (followed (works.Instruction op) (with_read value t)) (ended op (with_read value t))).nvic ≡ cond b t.nvic (called op t.nvic)
     go true = refl
@@ -348,14 +348,14 @@ passed_exceptions op value t = go (nat_lt (t.place + 1) (length (beats_of op t.r
 
 passed_event : (op : Op) (value : Option ℕ) (t : State) → awaits_event op ≡ false → (passed (works.Instruction op) value t).event ≡ t.event
 unfolding passed passed_instruction ended
-passed_event op value t e = go (nat_lt (t.place + 1) (length (beats_of op t.regs)))
+passed_event op value t e = go (nat_lt (t.beats_done + 1) (length (beats_of op t.regs)))
   where
     go : (b : Bool) → (cond b (followed (works.Instruction op) (with_read value t)) (ended op (with_read value t))).event ≡ t.event
     go true = refl
     go false = ap (λ x. t.event && not x) e ∙ and_true t.event
 
 changes_closed : (op : Op) (value : Option ℕ) (t : State) (lines cycle : ℕ) → awaits_event op ≡ false
-    → Changes lines cycle (last_at op t.regs t.place t.nvic) t.event (closed lines cycle (passed (works.Instruction op) value t))
+    → Changes lines cycle (last_at op t.regs t.beats_done t.nvic) t.event (closed lines cycle (passed (works.Instruction op) value t))
 unfolding closed
 changes_closed op value t lines cycle e = record {
   exceptions = ap (nvic.after_cycle lines cycle) (passed_exceptions op value t);
@@ -364,10 +364,10 @@ changes_closed op value t lines cycle e = record {
 
 -- by what the beat does
 abbrev ChangesBy : Op → (Exceptions → Exceptions) → ℕ → ℕ → State → State → Type 0
-ChangesBy op f lines cycle s t = Changes lines cycle (last_at op s.regs s.place (f s.nvic)) s.event t
+ChangesBy op f lines cycle s t = Changes lines cycle (last_at op s.regs s.beats_done (f s.nvic)) s.event t
 
 changes_ram : (op : Op) (g : Given) (s : State) (lines cycle : ℕ) (request : Request) (w : Option ℕ) → awaits_event op ≡ false
-    → Changes lines cycle (last_at op s.regs s.place s.nvic) s.event (step_by lines cycle g.word s (answered g.answers (in_ram (works.Instruction op) request w)))
+    → Changes lines cycle (last_at op s.regs s.beats_done s.nvic) s.event (step_by lines cycle g.word s (answered g.answers (in_ram (works.Instruction op) request w)))
 changes_ram op g s lines cycle request None e = changes_closed op _ s lines cycle e
 changes_ram op g s lines cycle request (Some write) e = changes_closed op None s lines cycle e
 
@@ -390,10 +390,10 @@ changes_at op g s lines cycle request (spot.Reg block offset alias) e goes = cha
 changes_at op g s lines cycle request spot.Outside e goes = changes_closed op _ s lines cycle e
 
 changes_inner : (op : Op) (s : State) (lines cycle : ℕ) → awaits_event op ≡ false → awaits_interrupt op ≡ false
-    → Changes lines cycle (last_at op s.regs s.place s.nvic) s.event (closed lines cycle (after_inner (works.Instruction op) s))
+    → Changes lines cycle (last_at op s.regs s.beats_done s.nvic) s.event (closed lines cycle (after_inner (works.Instruction op) s))
 unfolding after_inner
 changes_inner op s lines cycle e i =
-    subst (λ b. Changes lines cycle (last_at op s.regs s.place s.nvic) s.event (closed lines cycle (cond b (waiting (works.Instruction op) s) (passed (works.Instruction op) None s))))
+    subst (λ b. Changes lines cycle (last_at op s.regs s.beats_done s.nvic) s.event (closed lines cycle (cond b (waiting (works.Instruction op) s) (passed (works.Instruction op) None s))))
     (sym (is_not_held op s e i)) (changes_closed op None s lines cycle e)
 
 changes_beat : (op : Op) (g : Given) (s : State) (lines cycle : ℕ) (b : Beat) → awaits_event op ≡ false → awaits_interrupt op ≡ false
@@ -403,7 +403,7 @@ changes_beat op g s lines cycle Inner e i goes = changes_inner op s lines cycle 
 changes_beat op g s lines cycle (Access request) e i goes = changes_at op g s lines cycle request (place_of request.address) e goes
 
 changes_cycle : (op : Op) (g : Given) (cycle : ℕ) (s : State) (b : Beat) → s.asleep ≡ false → awaits_event op ≡ false → awaits_interrupt op ≡ false → Begins op g s
-    → slice_get (beats_of op s.regs) s.place ≡ Some b → is_stop (wanted_in cycle g s) ≡ false → ChangesBy op (touched_by b) (lines_in g) cycle s (after_cycle cycle g s)
+    → slice_get (beats_of op s.regs) s.beats_done ≡ Some b → is_stop (wanted_in cycle g s) ≡ false → ChangesBy op (touched_by b) (lines_in g) cycle s (after_cycle cycle g s)
 changes_cycle op g cycle s b awake e i begins at goes =
     let a = answered g.answers (in_beat (works.Instruction op) s b) in
     let begun = begun_beat op g cycle s b awake begins at in
@@ -424,9 +424,9 @@ pub changes_standing : (op : Op) (regs : Regs) (done rest : List Beat) (read : L
     → awaits_event op ≡ false → awaits_interrupt op ≡ false → Begins op g s
     → beats_of op regs ≡ done ++ b ∷ rest → is_stop (wanted_in cycle g s) ≡ false → Changes (lines_in g) cycle (changed_by op b rest s.nvic) s.event (after_cycle cycle g s)
 changes_standing op regs done rest read g cycle s b stands e i begins split goes =
-    let at : slice_get (beats_of op regs) (length done) ≡ Some b = ap (λ bs. slice_get bs (length done)) split ∙ at_place done b rest in
-    let here : slice_get (beats_of op s.regs) s.place ≡ Some b = ap₂ (λ (r : Regs) (k : ℕ). slice_get (beats_of op r) k) stands.kept stands.so_far ∙ at in
-    let same : last_at op s.regs s.place (touched_by b s.nvic) ≡ changed_by op b rest s.nvic =
+    let at : slice_get (beats_of op regs) (length done) ≡ Some b = ap (λ bs. slice_get bs (length done)) split ∙ at_index done b rest in
+    let here : slice_get (beats_of op s.regs) s.beats_done ≡ Some b = ap₂ (λ (r : Regs) (k : ℕ). slice_get (beats_of op r) k) stands.kept stands.so_far ∙ at in
+    let same : last_at op s.regs s.beats_done (touched_by b s.nvic) ≡ changed_by op b rest s.nvic =
     ap₂ (λ (r : Regs) (k : ℕ). last_at op r k (touched_by b s.nvic)) stands.kept stands.so_far ∙ last_is op regs done b rest s.nvic split in
     subst (λ x. Changes (lines_in g) cycle x s.event (after_cycle cycle g s)) same (changes_cycle op g cycle s b stands.awake e i begins here goes)
 
@@ -453,7 +453,7 @@ comes op regs e i [] g gs done read cycle s split stands count begins goes = rec
 comes op regs e i (b ∷ []) g [] done read cycle s split stands count begins goes =
     let v = read_in b g s in
     let reads : with_value read v ≡ read ++ option_to_list v = value_kept read v (omega (arith, reads_beat b g s)) in
-    let at : slice_get (beats_of op regs) (length done) ≡ Some b = ap (λ bs. slice_get bs (length done)) split ∙ at_place done b [] in
+    let at : slice_get (beats_of op regs) (length done) ≡ Some b = ap (λ bs. slice_get bs (length done)) split ∙ at_index done b [] in
     let lands = lands_standing op regs (length done) read (read ++ option_to_list v) g cycle s b stands e i begins at goes.0 reads in
     let changes = changes_standing op regs done [] read g cycle s b stands e i begins split goes.0 in
     record {
@@ -474,7 +474,7 @@ comes op regs e i (b ∷ []) g (g' ∷ gs) done read cycle s split stands count 
 comes op regs e i (b ∷ c ∷ rest) g [] done read cycle s split stands count begins goes =
     let v = read_in b g s in
     let reads : with_value read v ≡ read ++ option_to_list v = value_kept read v (omega (arith, reads_beat b g s)) in
-    let at : slice_get (beats_of op regs) (length done) ≡ Some b = ap (λ bs. slice_get bs (length done)) split ∙ at_place done b (c ∷ rest) in
+    let at : slice_get (beats_of op regs) (length done) ≡ Some b = ap (λ bs. slice_get bs (length done)) split ∙ at_index done b (c ∷ rest) in
     let lands = lands_standing op regs (length done) read (read ++ option_to_list v) g cycle s b stands e i begins at goes.0 reads in
     let changes = changes_standing op regs done (c ∷ rest) read g cycle s b stands e i begins split goes.0 in
     let more = lands.goes_on (omega (arith, long_as (beats_of op regs) done (b ∷ c ∷ rest) split)) in
@@ -489,7 +489,7 @@ comes op regs e i (b ∷ c ∷ rest) g (g' ∷ gs) done read cycle s split stand
     let v = read_in b g s in
     let u = after_cycle cycle g s in
     let reads : with_value read v ≡ read ++ option_to_list v = value_kept read v (omega (arith, reads_beat b g s)) in
-    let at : slice_get (beats_of op regs) (length done) ≡ Some b = ap (λ bs. slice_get bs (length done)) split ∙ at_place done b (c ∷ rest) in
+    let at : slice_get (beats_of op regs) (length done) ≡ Some b = ap (λ bs. slice_get bs (length done)) split ∙ at_index done b (c ∷ rest) in
     let lands = lands_standing op regs (length done) read (read ++ option_to_list v) g cycle s b stands e i begins at goes.0 reads in
     let changes = changes_standing op regs done (c ∷ rest) read g cycle s b stands e i begins split goes.0 in
     let more = lands.goes_on (omega (arith, long_as (beats_of op regs) done (b ∷ c ∷ rest) split)) in

@@ -21,17 +21,17 @@ use Rattle.m0_core.specs.Kinds.{is_signal, awaits_event, awaits_interrupt}
 use Rattle.m0_core.specs.Fetch.{in_beat, in_ram, at_spot, ends_with}
 use Rattle.m0_core.specs.Cycle.{closed, next}
 use Rattle.m0_core.specs.State.{State}
-use Rattle.m0_core.specs.Law.{Given, turn_of, lines_in, changed_by, begun_in, wanted_in, after_cycle, is_stop, is_access, read_in, want_at, want_of_beat}
+use Rattle.m0_core.specs.Laws.{Given, turn_of, lines_in, changed_by, begun_in, wanted_in, after_cycle, is_stop, is_access, read_in, want_at, want_of_beat}
 use Rattle.m0_core.specs.Waiting.{Served, wait_of, turn_served, after_served, after_all_served, GoesOnServed, wants_served, wants_of_beats, exceptions_served, event_served, is_over, left_after, reads_served, AnInstructionTakesItsBeatsAndWaits}
 use Rattle.m0_core.proofs.ReadCount.{reading, reading-le}
-use Rattle.m0_core.proofs.TakesBeats.{Stands, Ends, Lands, Begins, Changes, changes_standing, lands_standing, wants_standing, begun_beat, begins_on, begins_boundary, value_kept, reads_beat, at_place, long_as, lasts_inner}
+use Rattle.m0_core.proofs.TakesBeats.{Stands, Ends, Lands, Begins, Changes, changes_standing, lands_standing, wants_standing, begun_beat, begins_on, begins_boundary, value_kept, reads_beat, at_index, long_as, lasts_inner}
 
 -- ---- a cycle in which an access waits
 
 record Waits (op : Op) (lines cycle : ℕ) (s t : State) : Type 0 where
   awake : t.asleep ≡ s.asleep
   kept : t.regs ≡ s.regs
-  so_far : t.place ≡ s.place
+  so_far : t.beats_done ≡ s.beats_done
   values : t.read ≡ s.read
   still : t.work ≡ Some (works.Instruction op)
   exceptions : t.nvic ≡ nvic.after_cycle lines cycle s.nvic
@@ -69,14 +69,14 @@ after_wait cycle x s w wanted access undone =
     ∙ ap wait_of wanted
     ∙ ap (λ b. cond b turn.Wait turn.Nothing) access)
 
-waited : (op : Op) (regs : Regs) (place : ℕ) (read : List ℕ) (cycle : ℕ) (x : Served) (s : State) (b : Beat) → Stands regs place read s → Begins op x.given s
-    → slice_get (beats_of op regs) place ≡ Some b → is_stop (wanted_in cycle x.given s) ≡ false → is_over op b x ≡ false
-    → Stands regs place read (after_served cycle x s) × ((after_served cycle x s).work ≡ Some (works.Instruction op)) × Changes (lines_in x.given) cycle s.nvic s.event (after_served cycle x s)
-waited op regs place read cycle x s b stands begins at goes over =
+waited : (op : Op) (regs : Regs) (index : ℕ) (read : List ℕ) (cycle : ℕ) (x : Served) (s : State) (b : Beat) → Stands regs index read s → Begins op x.given s
+    → slice_get (beats_of op regs) index ≡ Some b → is_stop (wanted_in cycle x.given s) ≡ false → is_over op b x ≡ false
+    → Stands regs index read (after_served cycle x s) × ((after_served cycle x s).work ≡ Some (works.Instruction op)) × Changes (lines_in x.given) cycle s.nvic s.event (after_served cycle x s)
+waited op regs index read cycle x s b stands begins at goes over =
     let both = unmet (is_access (want_of_beat op b)) x.done over in
-    let here : slice_get (beats_of op s.regs) s.place ≡ Some b = ap₂ (λ (r : Regs) (k : ℕ). slice_get (beats_of op r) k) stands.kept stands.so_far ∙ at in
+    let here : slice_get (beats_of op s.regs) s.beats_done ≡ Some b = ap₂ (λ (r : Regs) (k : ℕ). slice_get (beats_of op r) k) stands.kept stands.so_far ∙ at in
     let begun = begun_beat op x.given cycle s b stands.awake begins here in
-    let path = after_wait cycle x s (want_of_beat op b) (wants_standing op regs place read x.given cycle s b stands begins at goes) both.0 both.1
+    let path = after_wait cycle x s (want_of_beat op b) (wants_standing op regs index read x.given cycle s b stands begins at goes) both.0 both.1
     ∙ ap (λ d. next s d (turn.Wait ∷ turn.Nothing ∷ [])) begun in
     let w : Waits op (lines_in x.given) cycle s (after_served cycle x s) = subst (λ u. Waits op (lines_in x.given) cycle s u) (sym path) (waits_beat op x.given s (x.given.answers Lines % 2 ^ 32) cycle b both.0) in
     (record { awake = w.awake ∙ stands.awake; kept = w.kept ∙ stands.kept; so_far = w.so_far ∙ stands.so_far; values = w.values ∙ stands.values }, w.still, record { exceptions = w.exceptions; event_after = w.event })
@@ -95,10 +95,10 @@ over_turn want.Signal x e = same x.done
 over_turn (want.Stopped cause) x e = same x.done
 
 -- the turn is the one of an access that is done at once
-done_at_once : (op : Op) (regs : Regs) (place : ℕ) (read : List ℕ) (cycle : ℕ) (x : Served) (s : State) (b : Beat) → Stands regs place read s → Begins op x.given s
-    → slice_get (beats_of op regs) place ≡ Some b → is_stop (wanted_in cycle x.given s) ≡ false → is_over op b x ≡ true → after_served cycle x s ≡ after_cycle cycle x.given s
-done_at_once op regs place read cycle x s b stands begins at goes over =
-    let wanted = wants_standing op regs place read x.given cycle s b stands begins at goes in
+done_at_once : (op : Op) (regs : Regs) (index : ℕ) (read : List ℕ) (cycle : ℕ) (x : Served) (s : State) (b : Beat) → Stands regs index read s → Begins op x.given s
+    → slice_get (beats_of op regs) index ≡ Some b → is_stop (wanted_in cycle x.given s) ≡ false → is_over op b x ≡ true → after_served cycle x s ≡ after_cycle cycle x.given s
+done_at_once op regs index read cycle x s b stands begins at goes over =
+    let wanted = wants_standing op regs index read x.given cycle s b stands begins at goes in
     ap (λ t. next s (begun_in cycle x.given s) (t ∷ turn.Nothing ∷ []))
     (over_turn (wanted_in cycle x.given s) x (ap (λ w. cond (is_access w) x.done true) wanted ∙ over))
 
@@ -107,7 +107,7 @@ changed : (op : Op) (regs : Regs) (done rest : List Beat) (read : List ℕ) (cyc
     → Stands regs (length done) read s → Begins op x.given s → is_stop (wanted_in cycle x.given s) ≡ false → is_over op b x ≡ true
     → Changes (lines_in x.given) cycle (changed_by op b rest s.nvic) s.event (after_served cycle x s)
 changed op regs done rest read cycle x s b e i split stands begins goes over =
-    let at : slice_get (beats_of op regs) (length done) ≡ Some b = ap (λ bs. slice_get bs (length done)) split ∙ at_place done b rest in
+    let at : slice_get (beats_of op regs) (length done) ≡ Some b = ap (λ bs. slice_get bs (length done)) split ∙ at_index done b rest in
     subst (λ u. Changes (lines_in x.given) cycle (changed_by op b rest s.nvic) s.event u)
     (sym (done_at_once op regs (length done) read cycle x s b stands begins at goes over))
     (changes_standing op regs done rest read x.given cycle s b stands e i begins split goes)
@@ -118,7 +118,7 @@ landed : (op : Op) (regs : Regs) (done : List Beat) (rest : List Beat) (read : L
     → Lands op regs (length done) (read ++ option_to_list (read_in b x.given s)) (after_served cycle x s)
 landed op regs done rest read cycle x s b e i split stands count begins goes over =
     let v = read_in b x.given s in
-    let at : slice_get (beats_of op regs) (length done) ≡ Some b = ap (λ bs. slice_get bs (length done)) split ∙ at_place done b rest in
+    let at : slice_get (beats_of op regs) (length done) ≡ Some b = ap (λ bs. slice_get bs (length done)) split ∙ at_index done b rest in
     let path = done_at_once op regs (length done) read cycle x s b stands begins at goes over in
     subst (λ u. Lands op regs (length done) (read ++ option_to_list v) u) (sym path)
     (lands_standing op regs (length done) read (read ++ option_to_list v) x.given cycle s b stands e i begins at goes (value_kept read v (omega (arith, reads_beat b x.given s, count))))
@@ -203,7 +203,7 @@ comes : (op : Op) (regs : Regs) → awaits_event op ≡ false → awaits_interru
     → beats_of op regs ≡ done ++ b ∷ rest → Stands regs (length done) read s → length read + reading (b ∷ rest) ≤ 16 → Begins op x.given s → GoesOnServed cycle (x ∷ xs) s
     → ComesServed op regs (b ∷ rest) (x ∷ xs) read cycle s
 comes op regs e i b [] x [] done read cycle s split stands count begins goes =
-    let at : slice_get (beats_of op regs) (length done) ≡ Some b = ap (λ bs. slice_get bs (length done)) split ∙ at_place done b [] in
+    let at : slice_get (beats_of op regs) (length done) ≡ Some b = ap (λ bs. slice_get bs (length done)) split ∙ at_index done b [] in
     let u = after_served cycle x s in
     join op regs b [] x [] read cycle s (is_over op b x)
     (wants_standing op regs (length done) read x.given cycle s b stands begins at goes.0)
@@ -218,7 +218,7 @@ comes op regs e i b [] x [] done read cycle s split stands count begins goes =
     (λ over. let w = waited op regs (length done) read cycle x s b stands begins at goes.0 over in
     (λ c cs q. (w.0.kept, w.1), λ q. some_left b [] q, λ bs q. refl, λ bs q. (refl, refl)))
 comes op regs e i b (c ∷ rest) x [] done read cycle s split stands count begins goes =
-    let at : slice_get (beats_of op regs) (length done) ≡ Some b = ap (λ bs. slice_get bs (length done)) split ∙ at_place done b (c ∷ rest) in
+    let at : slice_get (beats_of op regs) (length done) ≡ Some b = ap (λ bs. slice_get bs (length done)) split ∙ at_index done b (c ∷ rest) in
     join op regs b (c ∷ rest) x [] read cycle s (is_over op b x)
     (wants_standing op regs (length done) read x.given cycle s b stands begins at goes.0)
     (changed op regs done (c ∷ rest) read cycle x s b e i split stands begins goes.0)
@@ -229,7 +229,7 @@ comes op regs e i b (c ∷ rest) x [] done read cycle s split stands count begin
     (λ over. let w = waited op regs (length done) read cycle x s b stands begins at goes.0 over in
     (λ d ds q. (w.0.kept, w.1), λ q. some_left b (c ∷ rest) q, λ bs q. refl, λ bs q. (refl, refl)))
 comes op regs e i b [] x (x' ∷ xs) done read cycle s split stands count begins goes =
-    let at : slice_get (beats_of op regs) (length done) ≡ Some b = ap (λ bs. slice_get bs (length done)) split ∙ at_place done b [] in
+    let at : slice_get (beats_of op regs) (length done) ≡ Some b = ap (λ bs. slice_get bs (length done)) split ∙ at_index done b [] in
     let u = after_served cycle x s in
     join op regs b [] x (x' ∷ xs) read cycle s (is_over op b x)
     (wants_standing op regs (length done) read x.given cycle s b stands begins at goes.0)
@@ -240,7 +240,7 @@ comes op regs e i b [] x (x' ∷ xs) done read cycle s split stands count begins
     comes op regs e i b [] x' xs done read (cycle + 1) u split w.0 count (begins_on op x'.given u w.1) goes.1)
 comes op regs e i b (c ∷ rest) x (x' ∷ xs) done read cycle s split stands count begins goes =
     let v = read_in b x.given s in
-    let at : slice_get (beats_of op regs) (length done) ≡ Some b = ap (λ bs. slice_get bs (length done)) split ∙ at_place done b (c ∷ rest) in
+    let at : slice_get (beats_of op regs) (length done) ≡ Some b = ap (λ bs. slice_get bs (length done)) split ∙ at_index done b (c ∷ rest) in
     let u = after_served cycle x s in
     join op regs b (c ∷ rest) x (x' ∷ xs) read cycle s (is_over op b x)
     (wants_standing op regs (length done) read x.given cycle s b stands begins at goes.0)

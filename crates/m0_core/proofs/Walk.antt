@@ -11,7 +11,7 @@ use Rattle.m0_beats.specs.declared.timing.Beat.TheVariants.{Inner, Access}
 use Rattle.m0_nvic.specs.State.{Exceptions}
 use Rattle.m0_nvic.specs.Numbers.{numbers_from}
 use Rattle.m0_nvic.specs.Cycle as nvic
-use Rattle.m0_nvic.specs.Law.{after_cycles}
+use Rattle.m0_nvic.specs.Laws.{after_cycles}
 use Rattle.lane_look.specs.declared.lane.Ask.TheVariants.{Word}
 use Rattle.lane_look.specs.declared.lane.Want.{Want}
 use Rattle.lane_look.specs.declared.lane.Want.TheVariants as want
@@ -21,9 +21,9 @@ use Rattle.m0_core.specs.declared.doing.Act.{Act}
 use Rattle.m0_core.specs.declared.doing.Act.TheVariants as act
 use Rattle.m0_core.specs.declared.doing.Work.{Work}
 use Rattle.m0_core.specs.Fetch.{is_ram, is_ram_spot, asks_awake, in_beat, in_ram, at_spot, ends_with}
-use Rattle.m0_core.specs.Cycle.{signals, want_of, want_of_act, waiting, passed, is_held, after_inner, after_access, done_word, closed, next}
+use Rattle.m0_core.specs.Cycle.{signals, want_of, want_of_act, waiting, passed, is_paused, after_inner, after_access, done_word, closed, next}
 use Rattle.m0_core.specs.State.{State}
-use Rattle.m0_core.specs.Law.{Given, lines_in, begun_in, wanted_in}
+use Rattle.m0_core.specs.Laws.{Given, lines_in, begun_in, wanted_in}
 use Rattle.m0_core.specs.Waiting.{Served, turn_served, after_served, after_all_served, wants_served}
 use Rattle.m0_core.specs.Handlers.{ends_in, left_of, want_in, wants_through, AllDone, lines_of}
 use Rattle.m0_core.proofs.TakesBeats.{begun_awake}
@@ -92,12 +92,12 @@ over_ram work request None cycle x s e =
 over_ram work request (Some write) cycle x s e =
     ap (λ d. closed (lines_in x.given) cycle (after_access (done_word (slice_get (cond d (turn.Done x.given.word) turn.Wait ∷ turn.Nothing ∷ []) 0)) work None s)) e
 
-over_beat : (work : Work) (b : Beat) (cycle : ℕ) (x : Served) (s : State) → is_held work s ≡ false → ends_in b x ≡ true
+over_beat : (work : Work) (b : Beat) (cycle : ℕ) (x : Served) (s : State) → is_paused work s ≡ false → ends_in b x ≡ true
     → end_by cycle x s (beat_act work b x.given) ≡ closed (lines_in x.given) cycle (passed work (value_in b x.given) s)
 unfolding next after_inner
-over_beat work Inner cycle x s still e =
-    ap (λ h. closed (lines_in x.given) cycle (cond h (waiting work s) (passed work None s))) still
-over_beat work (Access request) cycle x s still e = over_ram work request request.write cycle x s e
+over_beat work Inner cycle x s unpaused e =
+    ap (λ h. closed (lines_in x.given) cycle (cond h (waiting work s) (passed work None s))) unpaused
+over_beat work (Access request) cycle x s unpaused e = over_ram work request request.write cycle x s e
 
 wait_ram : (work : Work) (request : Request) (w : Option ℕ) (cycle : ℕ) (x : Served) (s : State) → x.done ≡ false
     → end_by cycle x s (ram_act work request w x.given) ≡ closed (lines_in x.given) cycle (waiting work s)
@@ -127,9 +127,9 @@ after_is work b cycle x s awake ram begins =
     ap (λ d. next s d (turn_served (want_of d) x ∷ turn.Nothing ∷ [])) (begun_is work b cycle x.given s awake ram begins)
 
 pub cycle_over : (work : Work) (b : Beat) (cycle : ℕ) (x : Served) (s : State) → s.asleep ≡ false → IsInRam b → BeginsBeat work b x.given s
-    → is_held work s ≡ false → ends_in b x ≡ true
+    → is_paused work s ≡ false → ends_in b x ≡ true
     → after_served cycle x s ≡ closed (lines_in x.given) cycle (passed work (value_in b x.given) s)
-cycle_over work b cycle x s awake ram begins still e = after_is work b cycle x s awake ram begins ∙ over_beat work b cycle x s still e
+cycle_over work b cycle x s awake ram begins unpaused e = after_is work b cycle x s awake ram begins ∙ over_beat work b cycle x s unpaused e
 
 cycle_waits : (work : Work) (b : Beat) (cycle : ℕ) (x : Served) (s : State) → s.asleep ≡ false → IsInRam b → BeginsBeat work b x.given s
     → ends_in b x ≡ false → after_served cycle x s ≡ closed (lines_in x.given) cycle (waiting work s)
@@ -154,10 +154,10 @@ after_last last cycle (lines ∷ another ∷ more) e = after_last last (cycle + 
 
 -- ---- all cycles
 
--- what the beats of some work do: P holds before the beat of a place, Q behind the last one
+-- what the beats of some work do: P holds before the beat at an index, Q behind the last one
 pub record Plan (work : Work) (f : ℕ → Beat) (total : ℕ) (last : Exceptions → Exceptions) (G : Given → Type 0) (P : ℕ → State → Type 0) (Q : State → Type 0) : Type 0 where
   pub in_ram : (k : ℕ) → k < total → IsInRam (f k)
-  pub still : (s : State) → is_held work s ≡ false
+  pub unpaused : (s : State) → is_paused work s ≡ false
   pub silent : signals work ≡ false
   pub awake : (k : ℕ) (s : State) → P k s → s.asleep ≡ false
   pub begins : (g : Given) (k : ℕ) (s : State) → P k s → BeginsBeat work (f k) g s
@@ -210,7 +210,7 @@ module _ (work : Work) (f : ℕ → Beat) (total : ℕ) (last : Exceptions → E
   followed_by : (cycle : ℕ) (x : Served) (k : ℕ) (s : State) → P k s → G x.given → k + 1 < total → ends_in (f k) x ≡ true
       → P (k + 1) (after_served cycle x s) × ((after_served cycle x s).nvic ≡ nvic.after_cycle (lines_in x.given) cycle s.nvic)
   followed_by cycle x k s p g more e =
-      let path = cycle_over work (f k) cycle x s (plan.awake k s p) (plan.in_ram k (omega (arith, more))) (plan.begins x.given k s p) (plan.still s) e in (
+      let path = cycle_over work (f k) cycle x s (plan.awake k s p) (plan.in_ram k (omega (arith, more))) (plan.begins x.given k s p) (plan.unpaused s) e in (
         subst (λ u. P (k + 1) u) (sym path) (plan.goes x.given (lines_in x.given) cycle k s g p more),
         ap (λ u. u.nvic) path ∙ closed_nvic (lines_in x.given) cycle (passed work (value_in (f k) x.given) s) ∙ ap (nvic.after_cycle (lines_in x.given) cycle) (plan.keeps x.given k s p more),
       )
@@ -219,7 +219,7 @@ module _ (work : Work) (f : ℕ → Beat) (total : ℕ) (last : Exceptions → E
   ended_by : (cycle : ℕ) (x : Served) (k : ℕ) (s : State) → P k s → G x.given → k + 1 ≡ total → ends_in (f k) x ≡ true
       → Q (after_served cycle x s) × ((after_served cycle x s).nvic ≡ nvic.after_cycle (lines_in x.given) cycle (last s.nvic))
   ended_by cycle x k s p g none e =
-      let path = cycle_over work (f k) cycle x s (plan.awake k s p) (plan.in_ram k (omega (arith, none))) (plan.begins x.given k s p) (plan.still s) e in (
+      let path = cycle_over work (f k) cycle x s (plan.awake k s p) (plan.in_ram k (omega (arith, none))) (plan.begins x.given k s p) (plan.unpaused s) e in (
         subst (λ u. Q u) (sym path) (plan.ends x.given (lines_in x.given) cycle k s g p none),
         ap (λ u. u.nvic) path ∙ closed_nvic (lines_in x.given) cycle (passed work (value_in (f k) x.given) s) ∙ ap (nvic.after_cycle (lines_in x.given) cycle) (plan.leaves x.given k s p none),
       )

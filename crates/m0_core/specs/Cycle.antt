@@ -64,7 +64,7 @@ waiting work s = record s { work = Some work }
 
 -- a beat is over, and another one follows
 abbrev pub followed : Work → State → State
-followed work s = record s { work = Some work; place = s.place + 1 }
+followed work s = record s { work = Some work; beats_done = s.beats_done + 1 }
 
 abbrev pub with_read : Option ℕ → State → State
 with_read value s = record s { read = with_value s.read value }
@@ -85,13 +85,13 @@ ended op s = record s {
   nvic = called op s.nvic;
   event = s.event && not (awaits_event op);
   work = returning (return_of op s.regs s.read);
-  place = 0;
+  beats_done = 0;
   read = [];
 }
 
 -- so many beats in all
 abbrev pub passed_of : Work → ℕ → State → State → State
-passed_of work count last s = if nat_lt (s.place + 1) count then followed work s else last
+passed_of work count last s = if nat_lt (s.beats_done + 1) count then followed work s else last
 
 unfoldable pub passed_instruction : Op → State → State
 passed_instruction op s = passed_of (works.Instruction op) (length (beats_of op s.regs)) (ended op s) s
@@ -113,20 +113,20 @@ passed work value s = passed_work work (with_read value s)
 
 -- the second beat of WFE lasts until the event register is set, that of WFI lasts on, and both end where an exception
 -- wakes
-abbrev pub is_held_op : Op → State → Bool
-is_held_op op s =
-    (s.place == 1) && ((awaits_interrupt op || awaits_event op && not s.event) && not (wakes_of s.nvic))
+abbrev pub is_paused_op : Op → State → Bool
+is_paused_op op s =
+    (s.beats_done == 1) && ((awaits_interrupt op || awaits_event op && not s.event) && not (wakes_of s.nvic))
 
-abbrev pub is_held : Work → State → Bool
-is_held (works.Instruction op) s = is_held_op op s
-is_held _ s = false
+abbrev pub is_paused : Work → State → Bool
+is_paused (works.Instruction op) s = is_paused_op op s
+is_paused _ s = false
 
 unfoldable pub after_inner : Work → State → State
-after_inner work s = if is_held work s then waiting work s else passed work None s
+after_inner work s = if is_paused work s then waiting work s else passed work None s
 
 -- a fault changes nothing but HardFault's pending bit, and what was in progress is over
 unfoldable pub faulted : State → State
-faulted s = record s { nvic = pended HARDFAULT s.nvic; work = None; place = 0; read = [] }
+faulted s = record s { nvic = pended HARDFAULT s.nvic; work = None; beats_done = 0; read = [] }
 
 -- ---- the end of an access
 

@@ -30,16 +30,16 @@ stacked r =
 abbrev pub vector_address : ℕ → Exceptions → ℕ
 vector_address n e = (e.vtor + 4 * n) % 2 ^ 32
 
--- the write of the word of that place
+-- the write of the word of that index
 abbrev pub stacking : ℕ → Regs → Beat
-stacking place r = access ((entry_frame r + 4 * place) % 2 ^ 32) sizes.Word (Some (slice_index (stacked r) place))
+stacking index r = access ((entry_frame r + 4 * index) % 2 ^ 32) sizes.Word (Some (slice_index (stacked r) index))
 
 -- the beat with so many before it
 unfoldable pub entry_beat : ℕ → State → Beat
 entry_beat n s =
-    if s.place == 0 then Inner else
-    if nat_lt s.place 9 then stacking (s.place - 1) s.regs else
-    if s.place == 9 then access (vector_address n s.nvic) sizes.Word None else Inner
+    if s.beats_done == 0 then Inner else
+    if nat_lt s.beats_done 9 then stacking (s.beats_done - 1) s.regs else
+    if s.beats_done == 9 then access (vector_address n s.nvic) sizes.Word None else Inner
 
 -- what LR tells the return: the mode and the stack that were left
 abbrev pub link_of : Regs → ℕ
@@ -61,10 +61,10 @@ entry_ended n s = record s {
   regs = with_entry n (slice_index s.read 0) s.regs;
   event = true;
   work = None;
-  place = 0;
+  beats_done = 0;
   read = [];
 }
 
 -- the first beat takes the exception
 unfoldable pub taken_first : ℕ → State → State
-taken_first n s = if s.place == 0 then record s { nvic = entered n s.nvic } else s
+taken_first n s = if s.beats_done == 0 then record s { nvic = entered n s.nvic } else s

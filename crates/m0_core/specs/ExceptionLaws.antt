@@ -13,7 +13,7 @@ use Rattle.m0_core.specs.declared.doing.Work.TheVariants as works
 use Rattle.m0_core.specs.Kinds.{is_breakpoint}
 use Rattle.m0_core.specs.Fetch.{is_faulty, is_locked, taken_of}
 use Rattle.m0_core.specs.State.{State}
-use Rattle.m0_core.specs.Law.{Given, lines_in, after_cycle, IsAtBoundary, IsFetched}
+use Rattle.m0_core.specs.Laws.{Given, lines_in, after_cycle, IsAtBoundary, IsFetched}
 
 -- ---- what is taken
 
@@ -48,7 +48,7 @@ pub record OnlyPendsHardFault (cycle : ℕ) (g : Given) (s t : State) : Type 0 w
   pub awake : t.asleep ≡ false
   pub kept : t.regs ≡ s.regs
   pub between : t.work ≡ None
-  pub first : t.place ≡ 0
+  pub first : t.beats_done ≡ 0
   pub fresh : t.read ≡ []
   pub exceptions : t.nvic ≡ nvic.after_cycle (lines_in g) cycle (pended HARDFAULT s.nvic)
   pub event : t.event ≡ (s.event || nvic.is_event (lines_in g) cycle (pended HARDFAULT s.nvic))
@@ -68,7 +68,7 @@ AFaultPendsHardFaultAlone =
 pub record IsInWfi (s : State) : Type 0 where
   pub awake : s.asleep ≡ false
   pub waits : s.work ≡ Some (works.Instruction op.Wfi)
-  pub second : s.place ≡ 1
+  pub second : s.beats_done ≡ 1
 
 -- it stays there, and the timer and the interrupt lines have their turn
 pub record StaysInWfi (cycle : ℕ) (g : Given) (s t : State) : Type 0 where
@@ -81,7 +81,7 @@ pub record LeavesWfi (cycle : ℕ) (g : Given) (s t : State) : Type 0 where
   pub awake : t.asleep ≡ false
   pub moved : t.regs ≡ effect_of op.Wfi s.regs s.read
   pub between : t.work ≡ None
-  pub first : t.place ≡ 0
+  pub first : t.beats_done ≡ 0
   pub fresh : t.read ≡ []
   pub exceptions : t.nvic ≡ nvic.after_cycle (lines_in g) cycle s.nvic
 

@@ -66,7 +66,7 @@ is_faulty op s =
 
 -- the beat of an instruction that is next
 unfoldable pub beat_of : Op → State → Beat
-beat_of op s = unwrap_or (slice_get (beats_of op s.regs) s.place) Inner
+beat_of op s = unwrap_or (slice_get (beats_of op s.regs) s.beats_done) Inner
 
 abbrev pub beat_of_work : Work → State → Beat
 beat_of_work (works.Instruction op) s = beat_of op s
@@ -101,11 +101,11 @@ asks_beat work s = in_beat work s (beat_of_work work s)
 -- a return with a bad value faults in its first beat, and one whose stacked exception number does not fit the mode at its
 -- end
 abbrev pub locks_last : ℕ → State → Bool
-locks_last value s = (s.place == RETURN_BEATS - 1) && (is_misfit value (slice_index s.read 7) && is_locked s)
+locks_last value s = (s.beats_done == RETURN_BEATS - 1) && (is_misfit value (slice_index s.read 7) && is_locked s)
 
 unfoldable pub asks_return : ℕ → State → Asking Act
 asks_return value s =
-    if s.place == 0 && is_bad value s then asks_fault s else
+    if s.beats_done == 0 && is_bad value s then asks_fault s else
     if locks_last value s then stopped (why.Lockup s.number) else asks_beat (works.Return value) s
 
 -- ---- fetches

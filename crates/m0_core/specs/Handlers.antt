@@ -12,7 +12,7 @@ use Rattle.m0_nvic.specs.State.{Exceptions}
 use Rattle.m0_nvic.specs.Numbers.{numbers_from, is_member}
 use Rattle.m0_nvic.specs.Changes.{entered, left}
 use Rattle.m0_nvic.specs.Cycle as nvic
-use Rattle.m0_nvic.specs.Law.{after_cycles}
+use Rattle.m0_nvic.specs.Laws.{after_cycles}
 use Rattle.lane_look.specs.declared.lane.Ask.TheVariants.{Word}
 use Rattle.lane_look.specs.declared.lane.Want.{Want}
 use Rattle.lane_look.specs.declared.lane.Want.TheVariants as want
@@ -23,7 +23,7 @@ use Rattle.m0_core.specs.Entry.{entry_frame, vector_address, entry_beat, with_en
 use Rattle.m0_core.specs.Return.{return_frame, return_beat, is_bad, is_misfit, with_return}
 use Rattle.m0_core.specs.Fetch.{is_ram, taken_of}
 use Rattle.m0_core.specs.State.{State}
-use Rattle.m0_core.specs.Law.{lines_in}
+use Rattle.m0_core.specs.Laws.{lines_in}
 use Rattle.m0_core.specs.Waiting.{Served, after_all_served, wants_served}
 
 -- ---- beats over cycles
@@ -71,13 +71,13 @@ Stays address word (x ∷ xs) = (x.given.answers (Word address) % 2 ^ 32 ≡ wor
 
 -- the beats of an entry, the state being that at its start
 abbrev pub entry_beats : ℕ → State → List Beat
-entry_beats n s = map (λ k. entry_beat n (record s { place = k })) (numbers_from 0 ENTRY_BEATS)
+entry_beats n s = map (λ k. entry_beat n (record s { beats_done = k })) (numbers_from 0 ENTRY_BEATS)
 
 -- an awake core is at a boundary, and takes exception n there
 pub record Takes (n : ℕ) (s : State) : Type 0 where
   pub awake : s.asleep ≡ false
   pub between : s.work ≡ None
-  pub first : s.place ≡ 0
+  pub first : s.beats_done ≡ 0
   pub fresh : s.read ≡ []
   pub taken : taken_of s ≡ Some n
 
@@ -98,7 +98,7 @@ pub record IsOnItsWay (work : Work) (cycle : ℕ) (xs : List Served) (e : Except
 pub record IsBetween (t : State) : Type 0 where
   pub awake : t.asleep ≡ false
   pub between : t.work ≡ None
-  pub first : t.place ≡ 0
+  pub first : t.beats_done ≡ 0
   pub fresh : t.read ≡ []
   pub event : t.event ≡ true
 
@@ -127,13 +127,13 @@ AnEntryTakesItsBeats =
 -- ---- return
 
 abbrev pub return_beats : ℕ → State → List Beat
-return_beats value s = map (λ k. return_beat value (record s { place = k })) (numbers_from 0 RETURN_BEATS)
+return_beats value s = map (λ k. return_beat value (record s { beats_done = k })) (numbers_from 0 RETURN_BEATS)
 
 -- an awake core begins a return with that value, which fits the exceptions that are active
 pub record BeginsReturn (value : ℕ) (s : State) : Type 0 where
   pub awake : s.asleep ≡ false
   pub returns : s.work ≡ Some (works.Return value)
-  pub first : s.place ≡ 0
+  pub first : s.beats_done ≡ 0
   pub fresh : s.read ≡ []
   pub good : is_bad value s ≡ false
 
@@ -211,7 +211,7 @@ AreThere (wanted ∷ more) xs = IsThere wanted (written wanted) xs × AreThere m
 pub record HandlerEnds (u t : State) : Type 0 where
   pub awake : t.asleep ≡ false
   pub returns : t.work ≡ Some (works.Return u.regs.lr)
-  pub first : t.place ≡ 0
+  pub first : t.beats_done ≡ 0
   pub fresh : t.read ≡ []
   pub number : t.regs.ipsr ≡ u.regs.ipsr
   pub active : t.nvic.active ≡ u.nvic.active

@@ -5,7 +5,7 @@ pub mod ExceptionLaws
 pub mod Fetch
 pub mod Handlers
 pub mod Kinds
-pub mod Law
+pub mod Laws
 pub mod Private
 pub mod Return
 pub mod Start

@@ -40,14 +40,14 @@ is_bad value s =
 abbrev pub return_frame : ℕ → Regs → ℕ
 return_frame value r = if is_to_process value then r.psp else r.msp
 
--- the read of the word of that place
+-- the read of the word of that index
 abbrev pub unstacking : ℕ → ℕ → Regs → Beat
-unstacking value place r = access ((return_frame value r + 4 * place) % 2 ^ 32) sizes.Word None
+unstacking value index r = access ((return_frame value r + 4 * index) % 2 ^ 32) sizes.Word None
 
 -- the beat with so many before it
 unfoldable pub return_beat : ℕ → State → Beat
 return_beat value s =
-    if s.place == 0 then Inner else if nat_lt s.place 9 then unstacking value (s.place - 1) s.regs else Inner
+    if s.beats_done == 0 then Inner else if nat_lt s.beats_done 9 then unstacking value (s.beats_done - 1) s.regs else Inner
 
 -- ---- the end
 
@@ -97,6 +97,6 @@ return_ended value s = record s {
   nvic = after_return value (slice_index s.read 7) s.regs.ipsr s.nvic;
   event = true;
   work = None;
-  place = 0;
+  beats_done = 0;
   read = [];
 }

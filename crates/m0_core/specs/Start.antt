@@ -34,7 +34,7 @@ sleeping number = record {
   event = false;
   offer = false;
   work = None;
-  place = 0;
+  beats_done = 0;
   read = [];
 }
 
@@ -50,6 +50,6 @@ started vtor sp entry s = record s {
   nvic = with_vectors vtor;
   event = false;
   work = None;
-  place = 0;
+  beats_done = 0;
   read = [];
 }

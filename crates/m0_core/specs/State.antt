@@ -18,6 +18,6 @@ pub record State : Type 0 where
   -- the instruction, entry or return in progress; none at a boundary between two instructions
   pub work : Option Work
   -- how many of its beats are over
-  pub place : ℕ
+  pub beats_done : ℕ
   -- the values that these read, a narrow one zero-extended
   pub read : List ℕ

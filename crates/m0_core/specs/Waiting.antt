@@ -11,7 +11,7 @@ use Rattle.lane_look.specs.declared.lane.Turn.{Turn}
 use Rattle.lane_look.specs.declared.lane.Turn.TheVariants as turn
 use Rattle.m0_core.specs.Cycle.{next}
 use Rattle.m0_core.specs.State.{State}
-use Rattle.m0_core.specs.Law.{Given, turn_of, lines_in, changed_by, begun_in, wanted_in, is_access, is_stop, read_in, want_of_beat, IsAtBoundary, IsFetched, IsPlain, IsInProgress, IsOver}
+use Rattle.m0_core.specs.Laws.{Given, turn_of, lines_in, changed_by, begun_in, wanted_in, is_access, is_stop, read_in, want_of_beat, IsAtBoundary, IsFetched, IsPlain, IsInProgress, IsOver}
 
 -- a cycle, and whether the access that the core asks for there is done in it
 pub record Served : Type 0 where

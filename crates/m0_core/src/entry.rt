@@ -28,11 +28,11 @@ fn stacked_xpsr(regs: &Regs) -> u32
 }
 
 /// A word of the frame.
-fn stacked(regs: &Regs, place: usize) -> u32
-    requires { place < 8 }
-    ensures { result ≡ slice_index (stacked regs.now) place }
+fn stacked(regs: &Regs, index: usize) -> u32
+    requires { index < 8 }
+    ensures { result ≡ slice_index (stacked regs.now) index }
 {
-    match place {
+    match index {
         0 => regs.r[0],
         1 => regs.r[1],
         2 => regs.r[2],
@@ -45,14 +45,14 @@ fn stacked(regs: &Regs, place: usize) -> u32
 }
 
 /// The write of a word of the frame.
-fn stacking(regs: &Regs, place: usize) -> Beat
-    requires { place < 8 }
-    ensures { result ≡ stacking place regs.now }
+fn stacking(regs: &Regs, index: usize) -> Beat
+    requires { index < 8 }
+    ensures { result ≡ stacking index regs.now }
 {
     Beat::Access(Request {
-        address: entry_frame(regs).wrapping_add(4 * place as u32),
+        address: entry_frame(regs).wrapping_add(4 * index as u32),
         size: Size::Word,
-        write: Some(stacked(regs, place)),
+        write: Some(stacked(regs, index)),
     })
 }
 
@@ -96,8 +96,8 @@ impl Core {
     pub(crate) fn entry_beat(&self, number: u8) -> Beat
         ensures { result ≡ entry_beat number self.now }
     {
-        match self.place {
-            1..=8 => stacking(&self.regs, self.place - 1),
+        match self.beats_done {
+            1..=8 => stacking(&self.regs, self.beats_done - 1),
             9 => Beat::Access(Request {
                 address: self.vector_address(number),
                 size: Size::Word,
@@ -112,7 +112,7 @@ impl Core {
     pub(crate) fn take_first(&mut self, number: u8)
         ensures { self.new ≡ taken_first number self.old }
     {
-        if self.place == 0 {
+        if self.beats_done == 0 {
             self.nvic.enter(number);
         }
     }
@@ -126,7 +126,7 @@ impl Core {
         enter(&mut self.regs, number, vector);
         self.event = true;
         self.work = None;
-        self.place = 0;
+        self.beats_done = 0;
         self.read.clear();
     }
 }

@@ -65,7 +65,7 @@ impl Core {
     fn beat(&self, op: &Op) -> Beat
         ensures { result ≡ beat_of op.now self.now }
     {
-        beat_at(op, &self.regs, self.place).unwrap_or(Beat::Inner)
+        beat_at(op, &self.regs, self.beats_done).unwrap_or(Beat::Inner)
     }
 
     /// The next beat of what is in progress.
@@ -161,7 +161,7 @@ impl Core {
     fn locks_last(&self, value: u32) -> bool
         ensures { result ≡ locks_last value self.now }
     {
-        self.place == RETURN_BEATS - 1
+        self.beats_done == RETURN_BEATS - 1
             && is_misfit(value, value_at(self.read.as_slice(), 7))
             && self.is_locked()
     }
@@ -171,7 +171,7 @@ impl Core {
     fn begin_return<K: Look>(&self, value: u32, look: &mut K, act: &mut Act)
         ensures { Runs K.answers look.old (asks_return value self.now) act.new look.new }
     {
-        if self.place == 0 && self.is_bad(value) {
+        if self.beats_done == 0 && self.is_bad(value) {
             *act = self.begin_fault();
         } else if self.locks_last(value) {
             *act = Act::Stopped(Why::Lockup(self.number()));
@@ -189,7 +189,7 @@ impl Core {
             look.new }
     {
         let work = Work::Instruction(op);
-        match shape_beat(shape, &self.regs, self.place).unwrap_or(Beat::Inner) {
+        match shape_beat(shape, &self.regs, self.beats_done).unwrap_or(Beat::Inner) {
             Beat::Inner => *act = Act::Inner(work),
             Beat::Access(request) => self.begin_access(work, request, look, act),
         }
@@ -223,7 +223,7 @@ impl Core {
     /// An instruction whose first halfword is this.
     #[inline(always)]
     #[tactic(auto, unfolding(crate::specs::Fetch::asks_second))]
-    fn begin_second<K: Look>(&self, first: u16, look: &mut K, act: &mut Act)
+    fn begin_second_half<K: Look>(&self, first: u16, look: &mut K, act: &mut Act)
         ensures { Runs K.answers look.old (asks_second first self.now) act.new look.new }
     {
         if !is_long(first) {
@@ -242,7 +242,7 @@ impl Core {
     /// The next instruction.
     #[inline(always)]
     #[tactic(auto, unfolding(crate::specs::Fetch::asks_first))]
-    fn begin_first<K: Look>(&self, look: &mut K, act: &mut Act)
+    fn begin_first_half<K: Look>(&self, look: &mut K, act: &mut Act)
         ensures { Runs K.answers look.old (asks_first self.now) act.new look.new }
     {
         let address = self.regs.pc;
@@ -251,7 +251,7 @@ impl Core {
             return;
         }
         let answer = look.ask(Ask::Half(address));
-        self.begin_second(half_of(answer), look, act);
+        self.begin_second_half(half_of(answer), look, act);
     }
 
     /// The exception that is taken.
@@ -275,7 +275,7 @@ impl Core {
         ensures { Runs K.answers look.old (asks_boundary self.now) act.new look.new }
     {
         match self.taken() {
-            None => self.begin_first(look, act),
+            None => self.begin_first_half(look, act),
             Some(number) => self.begin_beat(Work::Entry(number), look, act),
         }
     }

@@ -2,7 +2,7 @@
 
 ghost use Rattle.std.specs.Prelude.{◌≡◌, ◌<◌, ℕ, length, Some, slice_get};
 ghost use Rattle.m0_beats.specs.Beats.{beats_of};
-ghost use Rattle.m0_core.specs.Cycle.{signals, want_of, with_value, waiting, followed, with_read, returning, called, ended, passed_instruction, passed_entry, passed_return, passed_work, passed, is_held_op, is_held, after_inner, faulted, word_of, done_word, after_access, value_of, after_outward, after_private, after, closed, is_idle};
+ghost use Rattle.m0_core.specs.Cycle.{signals, want_of, with_value, waiting, followed, with_read, returning, called, ended, passed_instruction, passed_entry, passed_return, passed_work, passed, is_paused_op, is_paused, after_inner, faulted, word_of, done_word, after_access, value_of, after_outward, after_private, after, closed, is_idle};
 
 use crate::doing::{Act, Doing, Work};
 use crate::exceptions::{ENTRY_BEATS, RETURN_BEATS};
@@ -91,11 +91,11 @@ impl Core {
 
     /// Another beat follows.
     fn follow(&mut self, work: Work)
-        requires { self.old.place < 32 }
+        requires { self.old.beats_done < 32 }
         ensures { self.new ≡ followed work self.old }
     {
         self.work = Some(work);
-        self.place += 1;
+        self.beats_done += 1;
     }
 
     /// Keeps a value that was read.
@@ -129,7 +129,7 @@ impl Core {
         self.call(op);
         self.event = self.event && !awaits_event(op);
         self.work = returning(value);
-        self.place = 0;
+        self.beats_done = 0;
         self.read.clear();
     }
 
@@ -140,9 +140,9 @@ impl Core {
         ensures { self.new ≡ passed_instruction op.now self.old }
     {
         let count = beat_count(op, &self.regs);
-        if count > 1 && self.place < count - 1 {
+        if count > 1 && self.beats_done < count - 1 {
             self.work = Some(Work::Instruction(*op));
-            self.place += 1;
+            self.beats_done += 1;
         } else {
             self.end(op);
         }
@@ -153,7 +153,7 @@ impl Core {
     fn pass_entry(&mut self, number: u8)
         ensures { self.new ≡ passed_entry number self.old }
     {
-        if self.place < ENTRY_BEATS - 1 {
+        if self.beats_done < ENTRY_BEATS - 1 {
             self.follow(Work::Entry(number));
         } else {
             self.end_entry(number);
@@ -165,7 +165,7 @@ impl Core {
     fn pass_return(&mut self, value: u32)
         ensures { self.new ≡ passed_return value self.old }
     {
-        if self.place < RETURN_BEATS - 1 {
+        if self.beats_done < RETURN_BEATS - 1 {
             self.follow(Work::Return(value));
         } else {
             self.end_return(value);
@@ -199,21 +199,21 @@ impl Core {
 
     /// The second beat of WFE or WFI lasts on.
     #[inline(always)]
-    fn is_held_op(&self, op: &Op) -> bool
-        ensures { result ≡ is_held_op op.now self.now }
+    fn is_paused_op(&self, op: &Op) -> bool
+        ensures { result ≡ is_paused_op op.now self.now }
     {
-        self.place == 1
+        self.beats_done == 1
             && (awaits_interrupt(op) || awaits_event(op) && !self.event)
             && !self.nvic.wakes()
     }
 
     /// The beat lasts on.
     #[inline(always)]
-    fn is_held(&self, work: &Work) -> bool
-        ensures { result ≡ is_held work.now self.now }
+    fn is_paused(&self, work: &Work) -> bool
+        ensures { result ≡ is_paused work.now self.now }
     {
         match work {
-            Work::Instruction(op) => self.is_held_op(op),
+            Work::Instruction(op) => self.is_paused_op(op),
             Work::Entry(_) | Work::Return(_) => false,
         }
     }
@@ -224,7 +224,7 @@ impl Core {
     fn after_inner(&mut self, work: &Work)
         ensures { self.new ≡ after_inner work.now self.old }
     {
-        if self.is_held(work) {
+        if self.is_paused(work) {
             self.wait(work);
         } else {
             self.pass(work, None);
@@ -238,7 +238,7 @@ impl Core {
     {
         self.nvic.pend(HARDFAULT);
         self.work = None;
-        self.place = 0;
+        self.beats_done = 0;
         self.read.clear();
     }
 

@@ -1,6 +1,6 @@
 //! The laws of the core, each the contract of a function without arguments.
 
-ghost use Rattle.m0_core.specs.Law.{AnInstructionTakesItsBeats, AnAccessLastsUntilItIsDone};
+ghost use Rattle.m0_core.specs.Laws.{AnInstructionTakesItsBeats, AnAccessLastsUntilItIsDone};
 ghost use Rattle.m0_core.specs.ExceptionLaws.{WhatIsTakenIsTheLeast, AFaultPendsHardFaultAlone, AWfiMovesOnWhereAnExceptionWakes};
 ghost use Rattle.m0_core.specs.Handlers.{AnEntryTakesItsBeats, AReturnTakesItsBeats, AReturnGivesBackWhatAnEntryFound};
 ghost use Rattle.m0_core.specs.Waiting.{AnInstructionTakesItsBeatsAndWaits};

@@ -20,7 +20,7 @@ pub struct Core {
     pub(crate) event: bool,
     offer: bool,
     pub(crate) work: Option<Work>,
-    pub(crate) place: usize,
+    pub(crate) beats_done: usize,
     pub(crate) read: ArrayVec<u32, 16>,
 }
 
@@ -37,7 +37,7 @@ impl Model for Core {
       event = c.event;
       offer = c.offer;
       work = c.work;
-      place = c.place;
+      beats_done = c.beats_done;
       read = c.read.items;
     } };
 }
@@ -89,7 +89,7 @@ impl Core {
             event: false,
             offer: false,
             work: None,
-            place: 0,
+            beats_done: 0,
             read: ArrayVec::new(),
         }
     }
@@ -104,7 +104,7 @@ impl Core {
         self.nvic = with_vectors(vtor);
         self.event = false;
         self.work = None;
-        self.place = 0;
+        self.beats_done = 0;
         self.read.clear();
     }
 
@@ -165,7 +165,7 @@ impl Core {
             & (self.event == other.event)
             & (self.offer == other.offer)
             & work
-            & (self.place == other.place)
+            & (self.beats_done == other.beats_done)
             & read
     }
 
@@ -180,7 +180,7 @@ impl Core {
         self.event = other.event;
         self.offer = other.offer;
         self.work = other.work;
-        self.place = other.place;
+        self.beats_done = other.beats_done;
         self.read.clear();
         let _ = self.read.try_extend_from_slice(other.read.as_slice());
     }

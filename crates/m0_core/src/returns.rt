@@ -10,11 +10,11 @@ use m0_nvic::Nvic;
 use m0_nvic::numbers::HARDFAULT;
 use rp_base::{Request, Size};
 
-/// The word at a place, 0 past the end.
-pub(crate) fn value_at(words: &[u32], place: usize) -> u32
-    ensures { result ≡ slice_index words.now place }
+/// The word at an index, 0 past the end.
+pub(crate) fn value_at(words: &[u32], index: usize) -> u32
+    ensures { result ≡ slice_index words.now index }
 {
-    if place < words.len() { words[place] } else { 0 }
+    if index < words.len() { words[index] } else { 0 }
 }
 
 /// The frame of a return.
@@ -29,12 +29,12 @@ fn return_frame(value: u32, regs: &Regs) -> u32
 }
 
 /// The read of a word of the frame.
-fn unstacking(value: u32, place: usize, regs: &Regs) -> Beat
-    requires { place < 8 }
-    ensures { result ≡ unstacking value place regs.now }
+fn unstacking(value: u32, index: usize, regs: &Regs) -> Beat
+    requires { index < 8 }
+    ensures { result ≡ unstacking value index regs.now }
 {
     Beat::Access(Request {
-        address: return_frame(value, regs).wrapping_add(4 * place as u32),
+        address: return_frame(value, regs).wrapping_add(4 * index as u32),
         size: Size::Word,
         write: None,
     })
@@ -147,8 +147,8 @@ impl Core {
     pub(crate) fn return_beat(&self, value: u32) -> Beat
         ensures { result ≡ return_beat value self.now }
     {
-        match self.place {
-            1..=8 => unstacking(value, self.place - 1, &self.regs),
+        match self.beats_done {
+            1..=8 => unstacking(value, self.beats_done - 1, &self.regs),
             _ => Beat::Inner,
         }
     }
@@ -163,7 +163,7 @@ impl Core {
         restore(value, self.read.as_slice(), &mut self.regs);
         self.event = true;
         self.work = None;
-        self.place = 0;
+        self.beats_done = 0;
         self.read.clear();
     }
 }

@@ -11,7 +11,7 @@ use Rattle.m0_nvic.specs.State.{Exceptions}
 use Rattle.m0_nvic.specs.Numbers.{is_number, is_member, minus, of_interrupts}
 use Rattle.m0_nvic.specs.Changes.{with_pending, entered, left}
 use Rattle.m0_nvic.specs.Cycle.{timer_pends, timer_after, with_timer, after_timer, risen, after_cycle}
-use Rattle.m0_nvic.specs.Law.{after_cycles, IsHeld, AHeldLinePendsAgain}
+use Rattle.m0_nvic.specs.Laws.{after_cycles, IsHeld, AHeldLinePendsAgain}
 
 -- ---- bits
 

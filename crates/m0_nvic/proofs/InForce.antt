@@ -8,7 +8,7 @@ use Rattle.std.proofs.lemmas.Bool.Decides.{nat_tests}
 use Rattle.m0_nvic.specs.State.{Exceptions}
 use Rattle.m0_nvic.specs.Numbers.{is_member}
 use Rattle.m0_nvic.specs.Priority.{rank_of, least_of, IsLeast, rank_or_none}
-use Rattle.m0_nvic.specs.Law.{IsLeastInForce, ThePriorityIsTheLeast}
+use Rattle.m0_nvic.specs.Laws.{IsLeastInForce, ThePriorityIsTheLeast}
 use Rattle.m0_nvic.proofs.Least.{least_of-is}
 
 neither : (a b : Bool) → (a || b) ≡ false → a ≡ false

@@ -1,6 +1,6 @@
 pub mod Changes
 pub mod Cycle
-pub mod Law
+pub mod Laws
 pub mod Numbers
 pub mod Priority
 pub mod State

@@ -6,13 +6,13 @@ use Rattle.io_bank.specs.declared.outputs.Outs.{Outs}
 use Rattle.io_bank.specs.State.{Bank}
 use Rattle.io_bank.specs.Edges.{edges_of}
 use Rattle.io_bank.specs.Levels.{levels_of, by_sets}
-use Rattle.io_bank.specs.Step.{after_step, is_still, with_edges, with_levels}
-use Rattle.io_bank.proofs.Still.{still_step}
+use Rattle.io_bank.specs.Step.{after_step, is_at_rest, with_edges, with_levels}
+use Rattle.io_bank.proofs.AtRest.{rest_step}
 use Rattle.outer_lane.specs.declared.drivers.Drivers.{Drivers}
-use Rattle.outer_lane.specs.Rest.{IsStill, is_same, outs_by, pads_after}
+use Rattle.outer_lane.specs.Rest.{IsAtRest, is_same, outs_by, pads_after}
 use Rattle.lane_look.specs.declared.device.Wires.{Wires}
 use Rattle.pin_script.specs.declared.entry.Entry.{Entry}
-use Rattle.outer_lane.specs.declared.world.Seen.{Seen}
+use Rattle.outer_lane.specs.declared.world.SeenOutputs.{SeenOutputs}
 use Rattle.outer_lane.specs.State.{OuterState}
 use Rattle.outer_lane.specs.Step.{levels_by, outs_of, outside_of, pads_by}
 use Rattle.outer_lane.proofs.Sets.{levels_same}
@@ -43,8 +43,8 @@ same_drivers a b e =
 
 -- ---- left out
 
-pub left_pads : (sio : List ℕ) (kept now : Drivers) (b : Bank) → IsStill sio kept b → is_same kept now ≡ true → b ≡ pads_after sio now b
-left_pads sio kept now b still e = sym (ap (λ d. pads_after sio d b) (sym (same_drivers kept now e)) ∙ still)
+pub left_pads : (sio : List ℕ) (kept now : Drivers) (b : Bank) → IsAtRest sio kept b → is_same kept now ≡ true → b ≡ pads_after sio now b
+left_pads sio kept now b at_rest e = sym (ap (λ d. pads_after sio d b) (sym (same_drivers kept now e)) ∙ at_rest)
 
 -- ---- done
 
@@ -57,17 +57,17 @@ pub levels_left : (sio : List ℕ) (d : Drivers) (b : Bank) → (pads_after sio 
 unfolding pads_after
 levels_left sio d b = refl
 
-still-again : (sio : List ℕ) (d : Drivers) (b : Bank) → is_still (pads_after sio d b) ≡ true → IsStill sio d (pads_after sio d b)
+at_rest-again : (sio : List ℕ) (d : Drivers) (b : Bank) → is_at_rest (pads_after sio d b) ≡ true → IsAtRest sio d (pads_after sio d b)
 unfolding pads_after
-still-again sio d b h = still_step (outs_by sio d) (by_sets d.driven d.high) (after_step (outs_by sio d) (by_sets d.driven d.high) b) h refl
+at_rest-again sio d b h = rest_step (outs_by sio d) (by_sets d.driven d.high) (after_step (outs_by sio d) (by_sets d.driven d.high) b) h refl
 
-pub still_again : (sio : List ℕ) (d : Drivers) (b after : Bank) → after ≡ pads_after sio d b → is_still after ≡ true → IsStill sio d after
-still_again sio d b after e h = rw e (still-again sio d b (rw e at h))
+pub rest_again : (sio : List ℕ) (d : Drivers) (b after : Bank) → after ≡ pads_after sio d b → is_at_rest after ≡ true → IsAtRest sio d after
+rest_again sio d b after e h = rw e (at_rest-again sio d b (rw e at h))
 
 -- ---- by the definition of a cycle
 
 -- the same drivers in the words of the definition of a cycle
-pub levels_by_drivers : (script : List Entry) (wires : Wires) (seen : Seen) (s : OuterState) (d : Drivers) → outs_by s.sio d ≡ outs_of wires seen s →
+pub levels_by_drivers : (script : List Entry) (wires : Wires) (seen : SeenOutputs) (s : OuterState) (d : Drivers) → outs_by s.sio d ≡ outs_of wires seen s →
     ((pin : ℕ) → pin < 30 → by_sets d.driven d.high pin ≡ outside_of script wires seen.cycle pin) →
     (pads_after s.sio d s.pads).current ≡ levels_by script wires seen s
 unfolding levels_by
@@ -76,7 +76,7 @@ levels_by_drivers script wires seen s d outs outside =
     ∙ ap (λ o. levels_of o (by_sets d.driven d.high) s.pads) outs
     ∙ levels_same (outs_of wires seen s) (by_sets d.driven d.high) (outside_of script wires seen.cycle) s.pads outside
 
-pub pads_by_drivers : (script : List Entry) (wires : Wires) (seen : Seen) (s : OuterState) (d : Drivers) → outs_by s.sio d ≡ outs_of wires seen s →
+pub pads_by_drivers : (script : List Entry) (wires : Wires) (seen : SeenOutputs) (s : OuterState) (d : Drivers) → outs_by s.sio d ≡ outs_of wires seen s →
     ((pin : ℕ) → pin < 30 → by_sets d.driven d.high pin ≡ outside_of script wires seen.cycle pin) →
     pads_after s.sio d s.pads ≡ pads_by script wires seen s
 unfolding pads_after pads_by

@@ -26,5 +26,5 @@ unfoldable pub pads_after : List ℕ → Drivers → Bank → Bank
 pads_after sio d b = pads.after_step (outs_by sio d) (by_sets d.driven d.high) b
 
 -- a step by these changes nothing
-abbrev pub IsStill : List ℕ → Drivers → Bank → Type 0
-IsStill sio d b = pads_after sio d b ≡ b
+abbrev pub IsAtRest : List ℕ → Drivers → Bank → Type 0
+IsAtRest sio d b = pads_after sio d b ≡ b

@@ -22,7 +22,7 @@ use Rattle.rp_uart.specs.State.{SerialPort}
 use Rattle.rp_uart.specs.Step as uart
 use Rattle.rp_timer.specs.State.{TimerState}
 use Rattle.rp_timer.specs.Step as timer
-use Rattle.outer_lane.specs.declared.world.Seen.{Seen}
+use Rattle.outer_lane.specs.declared.world.SeenOutputs.{SeenOutputs}
 use Rattle.outer_lane.specs.Setting.{Setting}
 use Rattle.outer_lane.specs.State.{OuterState}
 
@@ -35,23 +35,23 @@ pins_in answer = (answer % 2 ^ 32) ∷ (answer / 2 ^ 32 % 2 ^ 32) ∷ []
 abbrev pub no_pins : List ℕ
 no_pins = 0 ∷ 0 ∷ []
 
-abbrev pub seen_of : ℕ → List ℕ → List ℕ → Seen
+abbrev pub seen_of : ℕ → List ℕ → List ℕ → SeenOutputs
 seen_of cycle first second = record { cycle = cycle; pio0 = first; pio1 = second }
 
 -- PIO block 1 is function 7
-unfoldable pub asks_second : OuterState → ℕ → List ℕ → Asking Seen
+unfoldable pub asks_second : OuterState → ℕ → List ℕ → Asking SeenOutputs
 asks_second s cycle first =
     if is_used 7 s.pads then Question (ask.Outs 1) (λ answer. Ready (seen_of cycle first (pins_in answer)))
     else Ready (seen_of cycle first no_pins)
 
 -- PIO block 0 is function 6
-unfoldable pub asks : OuterState → ℕ → Asking Seen
+unfoldable pub asks : OuterState → ℕ → Asking SeenOutputs
 asks s cycle =
     if is_used 6 s.pads then Question (ask.Outs 0) (λ answer. asks_second s cycle (pins_in answer))
     else asks_second s cycle no_pins
 
 -- the peripherals want nothing of the bus
-abbrev pub wanted : Seen → List Want
+abbrev pub wanted : SeenOutputs → List Want
 wanted seen = want.Nothing ∷ want.Nothing ∷ []
 
 -- ---- the device: it steps with the levels of the pads at the start. One that has another number of words does nothing
@@ -74,7 +74,7 @@ device_after d cycle s = words_by d s.device cycle s.pads.current
 -- ---- the pads
 
 -- the outputs of all parts at the start; those of function 4 are the device's, with the enable on at every pin
-abbrev pub outs_of : Wires → Seen → OuterState → Outs
+abbrev pub outs_of : Wires → SeenOutputs → OuterState → Outs
 outs_of wires seen s = record {
   sio = s.sio;
   pio0 = seen.pio0;
@@ -92,10 +92,10 @@ unfoldable pub outside_of : List Entry → Wires → ℕ → ℕ → Option Bool
 outside_of script wires cycle pin = either (drive_at script cycle pin) (by_sets wires.mask wires.level pin)
 
 -- the levels of the pads in the cycle, and the pads after it, by what the device drives
-unfoldable pub levels_by : List Entry → Wires → Seen → OuterState → ℕ
+unfoldable pub levels_by : List Entry → Wires → SeenOutputs → OuterState → ℕ
 levels_by script wires seen s = levels_of (outs_of wires seen s) (outside_of script wires seen.cycle) s.pads
 
-unfoldable pub pads_by : List Entry → Wires → Seen → OuterState → Bank
+unfoldable pub pads_by : List Entry → Wires → SeenOutputs → OuterState → Bank
 pads_by script wires seen s = pads.after_step (outs_of wires seen s) (outside_of script wires seen.cycle) s.pads
 
 -- ---- the UARTs and the timer; one that is held does not step
@@ -112,7 +112,7 @@ timer_after cycle t = unless_held_becomes t (timer.after_step cycle t.block)
 -- ---- the cycle
 
 -- all but the device's words, by what the device drives. A UART hears the second level of its lowest RX pin
-unfoldable pub next_by : List Entry → Wires → Seen → OuterState → OuterState
+unfoldable pub next_by : List Entry → Wires → SeenOutputs → OuterState → OuterState
 next_by script wires seen s = record s {
   timer = timer_after seen.cycle s.timer;
   uart0 = uart_after (receive_level 0 s.pads) s.uart0;
@@ -121,16 +121,16 @@ next_by script wires seen s = record s {
   irq = wires.irq;
 }
 
-unfoldable pub next : Setting → OuterState → Seen → OuterState
+unfoldable pub next : Setting → OuterState → SeenOutputs → OuterState
 next w s seen =
     record (next_by w.script (wires_of w.device seen.cycle s) seen s) { device = device_after w.device seen.cycle s }
 
 -- the bytes whose frames ended, and the levels of the pads
-unfoldable pub marked_by : List Entry → Wires → Seen → OuterState → Mark
+unfoldable pub marked_by : List Entry → Wires → SeenOutputs → OuterState → Mark
 marked_by script wires seen s = record {
   uart = byte_of s.uart0 ∷ byte_of s.uart1 ∷ [];
   pads = levels_by script wires seen s;
 }
 
-unfoldable pub marked : Setting → OuterState → Seen → Mark
+unfoldable pub marked : Setting → OuterState → SeenOutputs → Mark
 marked w s seen = marked_by w.script (wires_of w.device seen.cycle s) seen s

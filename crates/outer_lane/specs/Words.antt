@@ -15,25 +15,25 @@ use Rattle.rp_uart.specs.Words as uart
 use Rattle.rp_timer.specs.State.{TimerState}
 use Rattle.rp_timer.specs.Words as timer
 use Rattle.rp_timer.specs.Changes as timer_changes
-use Rattle.outer_lane.specs.declared.world.Seen.{Seen}
+use Rattle.outer_lane.specs.declared.world.SeenOutputs.{SeenOutputs}
 use Rattle.outer_lane.specs.Setting.{Setting}
 use Rattle.outer_lane.specs.State.{OuterState}
 use Rattle.outer_lane.specs.Step.{outs_of, wires_of}
 
 -- the outputs of all parts as they are in a cycle
-abbrev pub outs_now : Setting → Seen → OuterState → Outs
+abbrev pub outs_now : Setting → SeenOutputs → OuterState → Outs
 outs_now w seen s = outs_of (wires_of w.device seen.cycle s) seen s
 
 -- what the words of IO_BANK0, and from there on of PADS_BANK0, read as
-unfoldable pub pads_word : Setting → Seen → ℕ → OuterState → Option ℕ
+unfoldable pub pads_word : Setting → SeenOutputs → ℕ → OuterState → Option ℕ
 pads_word w seen offset s = bank.word_of s.pads (outs_now w seen s) offset
 
 -- the offsets of IO_BANK0 end below those of PADS_BANK0
-abbrev pub bank_word : Setting → Seen → ℕ → OuterState → Option ℕ
+abbrev pub bank_word : Setting → SeenOutputs → ℕ → OuterState → Option ℕ
 bank_word w seen offset s = if nat_lt offset PADS_BANK0 then pads_word w seen offset s else None
 
 -- what a word reads as; None where the block has no such word, or is no peripheral
-unfoldable pub outer_word : Setting → Seen → Block → ℕ → OuterState → Option ℕ
+unfoldable pub outer_word : Setting → SeenOutputs → Block → ℕ → OuterState → Option ℕ
 outer_word w seen block.IoBank0 offset s = bank_word w seen offset s
 outer_word w seen block.PadsBank0 offset s = pads_word w seen (PADS_BANK0 + offset) s
 outer_word w seen block.Uart0 offset s = unless_held s.uart0.held (uart.word_of s.uart0.block offset)

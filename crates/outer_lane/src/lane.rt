@@ -8,7 +8,7 @@ ghost use Rattle.outer_lane.specs.Setting.{setting_of};
 ghost use Rattle.outer_lane.specs.Step.{pins_in, asks_second, asks, wanted, next, marked};
 
 use crate::outer::Outer;
-use crate::world::{Seen, World};
+use crate::world::{SeenOutputs, World};
 use lane_look::{Ask, Device, Lane, Look, Marks, Turn, Want, Wires};
 
 /// The outputs of a PIO block in an answer: the levels in its low 32 bits, and the enables in the next 32.
@@ -28,17 +28,17 @@ impl Outer {
 
     /// Asks for the outputs of PIO block 1, where some pin has its function.
     #[tactic(auto, unfolding(crate::specs::Step::asks_second))]
-    fn begin_second<K: Look>(&self, cycle: u64, first: [u32; 2], look: &mut K) -> Seen
+    fn begin_second<K: Look>(&self, cycle: u64, first: [u32; 2], look: &mut K) -> SeenOutputs
         ensures { Runs K.answers look.old (asks_second self.now cycle first) result look.new }
     {
         if self.pads.uses(7) {
-            Seen {
+            SeenOutputs {
                 cycle,
                 pio0: first,
                 pio1: pins_in(look.ask(Ask::Outs(1))),
             }
         } else {
-            Seen {
+            SeenOutputs {
                 cycle,
                 pio0: first,
                 pio1: [0, 0],
@@ -48,7 +48,7 @@ impl Outer {
 }
 
 impl<X: Device> Lane<World<'_, X>> for Outer {
-    type Begun = Seen;
+    type Begun = SeenOutputs;
 
     ghost asks = { λ _ s cycle. asks s cycle };
 
@@ -63,7 +63,7 @@ impl<X: Device> Lane<World<'_, X>> for Outer {
         (marked (setting_of w.script.now (X.meaning w.device.now) w.limit) s seen) };
 
     #[tactic(auto, unfolding(crate::specs::Step::asks))]
-    fn begin<K: Look>(&self, _env: &World<'_, X>, cycle: u64, look: &mut K) -> Seen {
+    fn begin<K: Look>(&self, _env: &World<'_, X>, cycle: u64, look: &mut K) -> SeenOutputs {
         if self.pads.uses(6) {
             let first = pins_in(look.ask(Ask::Outs(0)));
             self.begin_second(cycle, first, look)
@@ -72,11 +72,17 @@ impl<X: Device> Lane<World<'_, X>> for Outer {
         }
     }
 
-    fn wants(_begun: &Seen) -> [Want; 2] {
+    fn wants(_begun: &SeenOutputs) -> [Want; 2] {
         [Want::Nothing, Want::Nothing]
     }
 
-    fn finish(&mut self, env: &World<'_, X>, begun: &Seen, _turns: [Turn; 2], marks: &mut Marks) {
+    fn finish(
+        &mut self,
+        env: &World<'_, X>,
+        begun: &SeenOutputs,
+        _turns: [Turn; 2],
+        marks: &mut Marks,
+    ) {
         let levels = self.pads.pads();
         if self.device.len() == env.device.words() {
             let wires = env

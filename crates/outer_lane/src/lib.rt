@@ -14,4 +14,4 @@ mod words;
 pub mod world;
 
 pub use outer::Outer;
-pub use world::{Seen, World};
+pub use world::{SeenOutputs, World};

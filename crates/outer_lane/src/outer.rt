@@ -33,14 +33,14 @@ pub struct Outer {
     // where what the script drives is looked for first
     pub(crate) cursor: Cursor,
     // the pads are at rest while they are stepped by these
-    pub(crate) still: bool,
+    pub(crate) at_rest: bool,
     pub(crate) drivers: Drivers,
 }
 
 impl Model for Outer {
     ghost use Rattle.std.specs.Prelude.{◌≡◌, true};
     ghost use Rattle.outer_lane.specs.State.{OuterState};
-    ghost use Rattle.outer_lane.specs.Rest.{IsStill};
+    ghost use Rattle.outer_lane.specs.Rest.{IsAtRest};
 
     ghost Value = { OuterState };
 
@@ -55,7 +55,7 @@ impl Model for Outer {
     } };
 
     // a step of pads at rest changes nothing
-    ghost invariant = { λ o. o.still ≡ true → IsStill o.sio o.drivers o.pads };
+    ghost invariant = { λ o. o.at_rest ≡ true → IsAtRest o.sio o.drivers o.pads };
 }
 
 impl Outer {
@@ -77,7 +77,7 @@ impl Outer {
             device: started(device),
             sio: [0, 0],
             cursor: Cursor::new(),
-            still: false,
+            at_rest: false,
             drivers: Drivers::NONE,
         }
     }
@@ -87,7 +87,7 @@ impl Outer {
     pub fn reset(&mut self, bits: u32)
         ensures { self.new ≡ outer_reset bits self.old }
     {
-        self.still = false;
+        self.at_rest = false;
         self.timer.set_held(has_bit(bits, TIMER));
         self.uart0.set_held(has_bit(bits, UART0));
         self.uart1.set_held(has_bit(bits, UART1));
@@ -101,7 +101,7 @@ impl Outer {
         ensures { self.new ≡ record self.old { sio = outs } }
     {
         if self.sio != outs {
-            self.still = false;
+            self.at_rest = false;
             self.sio = outs;
         }
     }
@@ -197,7 +197,7 @@ impl Outer {
         let _ = self.device.try_extend_from_slice(other.device.as_slice());
         self.sio = other.sio;
         self.cursor = other.cursor;
-        self.still = other.still;
+        self.at_rest = other.at_rest;
         self.drivers = other.drivers;
     }
 }

@@ -6,7 +6,7 @@ ghost use Rattle.outer_lane.specs.Step.{wires_by, words_by, uart_after, byte_of,
 use crate::drivers::Drivers;
 use crate::outer::Outer;
 use crate::outside::outside;
-use crate::world::Seen;
+use crate::world::SeenOutputs;
 use arrayvec::ArrayVec;
 use io_bank::{Outs, uart_outputs};
 use lane_look::{Device, Mark, Wires};
@@ -74,7 +74,7 @@ impl Outer {
     }
 
     /// What the pads are stepped by.
-    fn drivers(&self, wires: &Wires, seen: &Seen, drives: Drives) -> Drivers
+    fn drivers(&self, wires: &Wires, seen: &SeenOutputs, drives: Drives) -> Drivers
         ensures outs { outs_by self.now.sio result ≡ outs_of wires.now seen.now self.now }
         ensures driven { result.driven ≡ drives.driven }
         ensures high { result.high ≡ drives.high }
@@ -101,18 +101,18 @@ impl Outer {
               self.old.pads;
         } }
     {
-        if self.still && self.drivers.is_same(&drivers) {
+        if self.at_rest && self.drivers.is_same(&drivers) {
             return self.pads.pads();
         }
         let outs = drivers.outs(self.sio);
         let levels = self.pads.step_by_sets(&outs, drivers.driven, drivers.high);
-        self.still = self.pads.is_still();
+        self.at_rest = self.pads.is_at_rest();
         self.drivers = drivers;
         levels
     }
 
     /// The pads step, by the outputs at the start and by what the script and the device drive in this cycle.
-    fn step_pads(&mut self, script: &Script, wires: &Wires, seen: &Seen) -> u32
+    fn step_pads(&mut self, script: &Script, wires: &Wires, seen: &SeenOutputs) -> u32
         ensures levels { result ≡ levels_by script.now wires.now seen.now self.old }
         ensures after { self.new ≡ record self.old {
           pads = pads_by script.now wires.now seen.now
@@ -126,7 +126,7 @@ impl Outer {
 
     /// All but the device steps, by what the device drives; the mark that the cycle leaves.
     #[tactic(auto, unfolding(crate::specs::Step::next_by, crate::specs::Step::marked_by))]
-    pub(crate) fn step_by(&mut self, script: &Script, wires: &Wires, seen: &Seen) -> Mark
+    pub(crate) fn step_by(&mut self, script: &Script, wires: &Wires, seen: &SeenOutputs) -> Mark
         ensures state { self.new ≡ next_by script.now wires.now seen.now self.old }
         ensures mark { result ≡ marked_by script.now wires.now seen.now self.old }
     {
@@ -145,7 +145,7 @@ impl Outer {
     }
 
     /// The outputs of all parts, where the device drives these.
-    pub(crate) fn outs(&self, wires: &Wires, seen: &Seen) -> Outs
+    pub(crate) fn outs(&self, wires: &Wires, seen: &SeenOutputs) -> Outs
         ensures { result ≡ outs_of wires.now seen.now self.now }
     {
         Outs {

@@ -9,7 +9,7 @@ ghost use Rattle.outer_lane.specs.Words.{bank_accessed};
 
 use crate::outer::Outer;
 use crate::step::step_device;
-use crate::world::{Seen, World};
+use crate::world::{SeenOutputs, World};
 use arrayvec::ArrayVec;
 use io_bank::registers::{PAD_GPIO29, PADS_BANK0};
 use io_bank::{IoBank, Outs};
@@ -33,7 +33,7 @@ impl Outer {
     pub fn read<X: Device>(
         &self,
         world: &World<'_, X>,
-        seen: &Seen,
+        seen: &SeenOutputs,
         block: Block,
         offset: u16,
     ) -> Option<u32>
@@ -52,7 +52,12 @@ impl Outer {
     }
 
     /// A word of IO_BANK0, whose offsets end below those of PADS_BANK0.
-    fn read_bank<X: Device>(&self, world: &World<'_, X>, seen: &Seen, offset: u16) -> Option<u32>
+    fn read_bank<X: Device>(
+        &self,
+        world: &World<'_, X>,
+        seen: &SeenOutputs,
+        offset: u16,
+    ) -> Option<u32>
         ensures { result ≡ bank_word
             (setting_of world.now.script.now (X.meaning world.now.device.now) world.now.limit)
             seen.now offset self.now }
@@ -68,7 +73,7 @@ impl Outer {
     fn read_pin_word<X: Device>(
         &self,
         world: &World<'_, X>,
-        seen: &Seen,
+        seen: &SeenOutputs,
         offset: u16,
     ) -> Option<u32>
         ensures { result ≡ pads_word
@@ -81,7 +86,12 @@ impl Outer {
 
     /// A word of PADS_BANK0, of which there are 31.
     #[tactic(auto, unfolding(crate::specs::Words::pads_word), using(crate::proofs::PadWords::no_pad_word))]
-    fn read_pads<X: Device>(&self, world: &World<'_, X>, seen: &Seen, offset: u16) -> Option<u32>
+    fn read_pads<X: Device>(
+        &self,
+        world: &World<'_, X>,
+        seen: &SeenOutputs,
+        offset: u16,
+    ) -> Option<u32>
         ensures { result ≡ pads_word
             (setting_of world.now.script.now (X.meaning world.now.device.now) world.now.limit)
             seen.now (PADS_BANK0 + offset) self.now }
@@ -93,7 +103,7 @@ impl Outer {
     }
 
     /// The outputs of all parts in this cycle. The device says what it drives, on a copy of its words.
-    fn outs_now<X: Device>(&self, world: &World<'_, X>, seen: &Seen) -> Outs
+    fn outs_now<X: Device>(&self, world: &World<'_, X>, seen: &SeenOutputs) -> Outs
         ensures { result ≡ outs_now
             (setting_of world.now.script.now (X.meaning world.now.device.now) world.now.limit)
             seen.now self.now }
@@ -134,7 +144,7 @@ impl Outer {
     pub fn effect(&mut self, block: Block, offset: u16, write: Option<u32>)
         ensures { self.new ≡ outer_accessed block offset write self.old }
     {
-        self.still = false;
+        self.at_rest = false;
         match block {
             Block::IoBank0 => access_bank(&mut self.pads, offset, write),
             Block::PadsBank0 => access_pads(&mut self.pads, offset, write),

@@ -17,7 +17,7 @@ pub struct World<'a, X: Device> {
 /// What the peripherals have begun in a cycle: they have seen these outputs. A pair has the levels by pin, and then the
 /// enables.
 #[derive(Clone, Copy)]
-pub struct Seen {
+pub struct SeenOutputs {
     /// The number of the cycle.
     pub cycle: u64,
     /// The outputs of PIO block 0, or zeros where no pin has function 6.

@@ -8,7 +8,7 @@ use Rattle.pio_asm.specs.declared.program.Program.{Program}
 use Rattle.pio_asm.proofs.Wholeness.{words_length}
 use Rattle.pio_listing.specs.Listing.{plans_of}
 use Rattle.pio_listing.specs.Fitting.{IsFirst}
-use Rattle.pio_listing.specs.Placing.{placed, with_places}
+use Rattle.pio_listing.specs.Placing.{placed, with_addresses}
 use Rattle.rp_machine.specs.declared.load.PioLoad.{PioLoad}
 use Rattle.rp_machine.specs.Boot.{IsLoad, AreLoads}
 use Rattle.command_words.specs.Entries.{Entry}
@@ -56,9 +56,9 @@ taken_same used block [] (l ∷ loads) h = absurd h
 taken_same used block (p ∷ ps) [] h = absurd h
 taken_same used block (p ∷ ps) (l ∷ loads) h =
     let long : length p.plan.members ≡ length l.program.words.items = sym (words_length p.plan.members l.program.words.items h.0.program.words) in
-    let one : (if p.block == block then with_places used p.offset (length p.plan.members) else used) ≡ (if l.block == block then with_places used l.offset (length l.program.words.items) else used) =
+    let one : (if p.block == block then with_addresses used p.offset (length p.plan.members) else used) ≡ (if l.block == block then with_addresses used l.offset (length l.program.words.items) else used) =
     rw (sym h.0.block, sym h.0.offset, long) refl in
-    ap (λ u. taken_from u block ps) one ∙ taken_same (if l.block == block then with_places used l.offset (length l.program.words.items) else used) block ps loads h.1
+    ap (λ u. taken_from u block ps) one ∙ taken_same (if l.block == block then with_addresses used l.offset (length l.program.words.items) else used) block ps loads h.1
 
 -- the offset that a program gets
 offset_same : (entry : Entry) (ps : List Placed) (loads : List PioLoad) (plan : Plan) (program : Program) → ArePlaced ps loads → IsProgram plan program → offset_of entry ps plan ≡ placed (taken_by 0 entry.block loads) program.origin (length program.words.items)

@@ -3,7 +3,7 @@ use Rattle.std.specs.Prelude.{ℕ, ◌==◌, if◌then◌else◌, List, [], ◌�
 use Rattle.pio_parse.specs.declared.fault.PioFault.{PioFault}
 use Rattle.pio_asm.specs.Assembly.{Plan}
 use Rattle.pio_asm.specs.declared.program.Program.{Program}
-use Rattle.pio_listing.specs.Placing.{placed, with_places}
+use Rattle.pio_listing.specs.Placing.{placed, with_addresses}
 use Rattle.rp_machine.specs.declared.load.PioLoad.{PioLoad}
 use Rattle.command_words.specs.Entries.{Entry}
 
@@ -21,7 +21,7 @@ placed_as entry plan offset = record { block = entry.block; machine = entry.mach
 abbrev pub taken_from : ℕ → ℕ → List Placed → ℕ
 taken_from used block [] = used
 taken_from used block (p ∷ ps) =
-    taken_from (if p.block == block then with_places used p.offset (length p.plan.members) else used) block ps
+    taken_from (if p.block == block then with_addresses used p.offset (length p.plan.members) else used) block ps
 
 -- the offset of a program behind others
 abbrev pub offset_of : Entry → List Placed → Plan → Result ℕ PioFault

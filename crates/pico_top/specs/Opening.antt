@@ -12,7 +12,7 @@ use Rattle.lane_look.specs.Device.{DeviceMeaning}
 use Rattle.board_parts.specs.Hearing.{Aim}
 use Rattle.outer_lane.specs.Setting.{Setting, setting_of}
 use Rattle.rp_machine.specs.declared.load.PioLoad.{PioLoad}
-use Rattle.pio_listing.specs.Placing.{with_places}
+use Rattle.pio_listing.specs.Placing.{with_addresses}
 use Rattle.pin_script.specs.Script.{script_of}
 use Rattle.pin_script.specs.declared.entry.Entry.{Entry as ScriptEntry}
 use Rattle.rp_machine.specs.Boot.{AreLoads}
@@ -134,7 +134,7 @@ use_for aims ForDebug = hear_run
 abbrev pub taken_by : ℕ → ℕ → List PioLoad → ℕ
 taken_by used block [] = used
 taken_by used block (load ∷ loads) =
-    taken_by (if load.block == block then with_places used load.offset (length load.program.words.items) else used) block loads
+    taken_by (if load.block == block then with_addresses used load.offset (length load.program.words.items) else used) block loads
 
 pub record IsPlaced (p : Placed) (load : PioLoad) : Type 0 where
   pub block : load.block ≡ p.block

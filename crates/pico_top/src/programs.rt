@@ -13,7 +13,7 @@ ghost use Rattle.pico_top.specs.Opening.{taken_by, ArePlaced, PlacesAs, AddsBehi
 use crate::open::{SOURCE_LIMIT, Stop, load};
 use command_words::PioEntry;
 use pio_asm::Program;
-use pio_listing::{first_program, offset_for, with_places};
+use pio_listing::{first_program, offset_for, with_addresses};
 use pio_parse::PioFault;
 use refusal_lines::Refusal;
 use rp_machine::PioLoad;
@@ -28,7 +28,7 @@ fn taken(block: u8, loads: &[PioLoad]) -> u32
     let mut used = 0;
     for load in loads {
         if load.block == block {
-            used = with_places(used, load.offset, load.program.words.len());
+            used = with_addresses(used, load.offset, load.program.words.len());
         }
     }
     used

@@ -22,7 +22,7 @@ use Rattle.pio_words.specs.declared.op.SetDestination.{SetDestination}
 use Rattle.pio_words.specs.declared.op.SetDestination.TheVariants.{Pins as SetDestinationPins, X as SetDestinationX, Y as SetDestinationY, Pindirs as SetDestinationPindirs}
 use Rattle.pio_words.specs.SetDestination.{set_destinations}
 
--- a name stands in a table of fewer than so many places
+-- a name stands in a table of fewer than so many entries
 pub record HasCode {X : Type 0} (table : List (Option X)) (bound : ℕ) (x : X) : Type 0 where
   pub code : ℕ
   pub stands : entry table code ≡ Some x

@@ -215,7 +215,7 @@ delay_terms d = delay_terms_if (d == 0) d
 abbrev instruction_with : Operation → Option ℕ → Bool → ℕ → Instruction
 instruction_with operation v b d = record { operation = operation; side = side_terms v; delay = delay_terms_if b d }
 
-tail_parses : (text : List ℕ) (number column : ℕ) (operation : Operation) (v : Option ℕ) (b : Bool) (d : ℕ) → (place : ℕ) × (modified_at text operation (tokens_of number column ((side_pieces v ++ delay_if b d) ++ End ∷ [])) ≡ Ok (instruction_with operation v b d, token_at LineEnd number place ∷ []))
+tail_parses : (text : List ℕ) (number column : ℕ) (operation : Operation) (v : Option ℕ) (b : Bool) (d : ℕ) → (position : ℕ) × (modified_at text operation (tokens_of number column ((side_pieces v ++ delay_if b d) ++ End ∷ [])) ≡ Ok (instruction_with operation v b d, token_at LineEnd number position ∷ []))
 tail_parses text number column operation None true d = (_, refl)
 tail_parses text number column operation None false d = (_, refl)
 tail_parses text number column operation (Some v) true d = (_, refl)

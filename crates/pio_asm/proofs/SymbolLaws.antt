@@ -20,7 +20,7 @@ lookup-found name (e ∷ es) =
     ap (λ here. cond here (Some e.1) (lookup (λ key. is_eq (slice_cmp nat_cmp name key.now)) es)) (is_eq-slice_cmp name e.0.now)
     ∙ ap (λ rest. cond (bytes_eq name e.0.now) (Some e.1) rest) (lookup-found name es)
 
--- a table's entries and the names that they stand for take the same place
+-- a table's entries and the names that they stand for stand at the same index
 placed : (order : Ordering) (name : Bor (List ℕ)) (value : Option ℤ) (e : Bor (List ℕ) × Option ℤ) (es more : List (Bor (List ℕ) × Option ℤ)) (names : Names) → named more ≡ names
     → named (match_ordering order ((name, value) ∷ e ∷ es) ((e.0, value) ∷ es) (e ∷ more))
     ≡ match_ordering order ((name.now, value) ∷ (e.0.now, e.1) ∷ named es) ((e.0.now, value) ∷ named es) ((e.0.now, e.1) ∷ names)

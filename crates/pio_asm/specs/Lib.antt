@@ -9,6 +9,6 @@ pub mod Kept
 pub mod Verdict
 pub mod Step
 pub mod Assembly
-pub mod Place
+pub mod Addresses
 pub mod Returns
 pub mod Whole

@@ -89,16 +89,16 @@ define_step globals number twice name value b =
     checked number (record no_fault { unknown = e.unknown; twice = twice || is_seen b.seen globals name; range = e.outside })
     (record b { seen = with_name globals b.seen name (definition_value e) })
 
--- a program from this place on ends within the 32 places
+-- a program from this address on ends within the 32 addresses
 abbrev pub ends_outside : ℕ → Option ℕ → Bool
 ends_outside total None = false
 ends_outside total (Some origin) = nat_lt (32 - origin) total
 
--- an origin is repeated, comes after an instruction, is no place, or is one from which the program ends outside
+-- an origin is repeated, comes after an instruction, is no address, or is one from which the program ends outside
 abbrev pub is_origin_fault : ℕ → Option ℤ → Building → Bool
 is_origin_fault total value b = is_some b.origin || nat_lt 0 (length b.code) || misfits 0 31 value || ends_outside total (fitting 0 31 value)
 
--- .origin place
+-- .origin address
 abbrev pub origin_step : Names → ℕ → ℕ → Bool → List Term → Building → Result Building PioFault
 origin_step globals total number twice value b =
     let e = evaluated b.seen globals value in

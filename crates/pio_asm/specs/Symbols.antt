@@ -14,6 +14,6 @@ abbrev pub found : List ℕ → Names → Option (Option ℤ)
 found name [] = None
 found name (symbol ∷ symbols) = if bytes_eq name symbol.0 then Some symbol.1 else found name symbols
 
--- one more name with its value: it takes its place in the order
+-- one more name with its value: it takes its turn in the order
 abbrev pub put : List ℕ → Option ℤ → Names → Names
 put name value names = insert_entry (slice_cmp nat_cmp) names name value

@@ -78,8 +78,8 @@ fn is_past_end(total: usize, origin: Option<u8>) -> bool
     }
 }
 
-/// Whether an origin is repeated, comes after an instruction, is no place, or is one from which the
-/// program ends outside the 32 places.
+/// Whether an origin is repeated, comes after an instruction, is no address, or is one from which the
+/// program ends outside the 32 addresses.
 fn has_origin_fault(total: usize, value: Value, building: &Building) -> bool
     ensures { result ≡ is_origin_fault total value building.now }
 {
@@ -89,7 +89,7 @@ fn has_origin_fault(total: usize, value: Value, building: &Building) -> bool
         || is_past_end(total, fitting_number(0, 31, value))
 }
 
-/// `.origin place`.
+/// `.origin address`.
 pub(crate) fn take_origin<'a>(
     context: &Context<'_, 'a>,
     number: u64,

@@ -2,6 +2,7 @@
 //! source, with their words, or the source's first fault.
 #![tactic(auto)]
 
+mod addresses;
 mod building;
 mod directive;
 pub mod laws;
@@ -10,12 +11,11 @@ mod modifiers;
 mod names;
 mod operand;
 mod operation;
-mod place;
 mod plan;
 mod program;
 mod symbols;
 mod value;
 mod word;
 
-pub use place::place_program;
+pub use addresses::place_program;
 pub use program::{Program, assemble};

@@ -1,4 +1,4 @@
--- No FIFO of a block holds more words than it has places.
+-- No FIFO of a block holds more words than it has room for.
 use Rattle.std.proofs.Common.{◌≡◌, ◌∙◌, ap, sym, subst, ℕ, zero, suc, ◌+◌, ◌*◌, ◌/◌, ◌%◌, ◌^◌, ◌≤◌, Bool, true, false, ◌==◌, nat_lt, nat_le, if◌then◌else◌, List, [], ◌∷◌, ◌++◌, length, length-append, Option, Some, None, refl, arith, bit_and}
 use Rattle.std.proofs.lemmas.Bool.Decides.{nat_tests}
 use Rattle.word_bits.specs.Word.{has_bit}
@@ -18,8 +18,8 @@ use Rattle.pio_block.specs.Registers.{execctrl_bits, joined, with_shiftctrl, reg
 use Rattle.pio_block.specs.Cycle.{seen_by, all_stepped, next, after_cycle}
 use Rattle.pio_block.specs.Cycle as block
 use Rattle.pio_block.specs.Words.{fifo_number, is_rxf, register_number, register_offset, after_control, after_fifo, after_pin, after_memory, after_machine, after_interrupt, is_allowed, after_write, after_read, after_any, effect_of}
-use Rattle.pio_block.specs.Law.{AreWithin, Happening, after, after_all, NoFifoHoldsTooMuch}
-use Rattle.pio_block.specs.Law.Happening.{Cycle, Access, Hold, Counter}
+use Rattle.pio_block.specs.Laws.{AreWithin, Happening, after, after_all, NoFifoHoldsTooMuch}
+use Rattle.pio_block.specs.Laws.Happening.{Cycle, Access, Hold, Counter}
 
 -- ---- one machine
 
@@ -31,7 +31,7 @@ alike m next t r s w =
       rx = rw (r, s) w.rx;
     }
 
--- a change that keeps each FIFO within its places
+-- a change that keeps each FIFO within its room
 abbrev Keeps : (Machine1 → Machine1) → Type 0
 Keeps f = (m : Machine1) → IsWithin m → IsWithin (f m)
 
@@ -210,8 +210,8 @@ after-within (Cycle None) s w = w
 after-within (Cycle (Some inputs)) s w = cycle-within inputs.now inputs.second s w
 after-within (Access offset write) s w = effect-within offset write s w
 after-within (Hold held) s w = hold-within held s w
-after-within (Counter machine place) s w =
-    changes machine (with_pc place) s.machines (λ m v. alike m _ refl refl refl v) w
+after-within (Counter machine address) s w =
+    changes machine (with_pc address) s.machines (λ m v. alike m _ refl refl refl v) w
 
 all-within : (hs : List Happening) (s : Block) → Within s → Within (after_all hs s)
 all-within [] s w = w

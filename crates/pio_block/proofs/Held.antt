@@ -4,7 +4,7 @@ use Rattle.register_block.specs.Held.{unless_held}
 use Rattle.pio_block.specs.State.{Block, at_reset, with_held}
 use Rattle.pio_block.specs.Cycle.{asks, next, Rests}
 use Rattle.pio_block.specs.Words.{is_word, is_allowed, value_of, listed_word, word_of, effect_of}
-use Rattle.pio_block.specs.Law.{AHeldBlockStays}
+use Rattle.pio_block.specs.Laws.{AHeldBlockStays}
 
 abbrev held_block : Block
 held_block = record at_reset { held = true }

@@ -9,7 +9,7 @@ use Rattle.pio_machine.specs.Cycle.{written_in_cycle}
 use Rattle.pio_machine.specs.Drives.{decided}
 use Rattle.pio_machine.proofs.Drives.{bit_overlaid, the_later_machine_decides, mask_fits, enable_mask_fits}
 use Rattle.pio_block.specs.Cycle.{seen_by, written_from, all_written, joined, after_cycle}
-use Rattle.pio_block.specs.Law.{own, IsOfTheHighest, TheHighestMachineDecides}
+use Rattle.pio_block.specs.Laws.{own, IsOfTheHighest, TheHighestMachineDecides}
 
 -- ---- one pin, by the four masks and bits
 

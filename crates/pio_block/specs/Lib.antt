@@ -5,4 +5,4 @@ pub mod Registers
 pub mod Words
 pub mod Cycle
 pub mod Bounds
-pub mod Law
+pub mod Laws

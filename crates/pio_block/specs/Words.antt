@@ -163,17 +163,17 @@ effect_of offset write s = after_access (is_allowed offset write) s.held s (afte
 
 -- ---- what the rest of the machine is told
 
--- the free places of the TX FIFOs, then the words of the RX FIFOs
-abbrev pub free_places : Machine1 → ℕ
-free_places m = tx_depth m - length m.tx
+-- the room left in the TX FIFOs, then the words of the RX FIFOs
+abbrev pub room_left : Machine1 → ℕ
+room_left m = tx_depth m - length m.tx
 
 abbrev pub words_held : Machine1 → ℕ
 words_held m = length m.rx
 
 unfoldable pub pacing_of : List Machine1 → List ℕ
 pacing_of ms =
-    free_places (machine_of 0 ms) ∷ free_places (machine_of 1 ms) ∷ free_places (machine_of 2 ms)
-    ∷ free_places (machine_of 3 ms) ∷ words_held (machine_of 0 ms) ∷ words_held (machine_of 1 ms)
+    room_left (machine_of 0 ms) ∷ room_left (machine_of 1 ms) ∷ room_left (machine_of 2 ms)
+    ∷ room_left (machine_of 3 ms) ∷ words_held (machine_of 0 ms) ∷ words_held (machine_of 1 ms)
     ∷ words_held (machine_of 2 ms) ∷ words_held (machine_of 3 ms) ∷ []
 
 -- PC, X, Y, ISR and OSR of a machine
@@ -188,4 +188,4 @@ lines_of s = not (ints0_of s == 0) ∷ not (ints1_of s == 0) ∷ []
 
 -- the word at the new PC was not tried yet
 abbrev pub counter_set : ℕ → ℕ → Block → Block
-counter_set n place s = with_machines (changed n (with_pc place) s.machines) s
+counter_set n address s = with_machines (changed n (with_pc address) s.machines) s

@@ -69,7 +69,7 @@ impl PioBlock {
         allowed
     }
 
-    /// The free places of the four TX FIFOs, then the words of the four RX FIFOs.
+    /// The room left in the four TX FIFOs, then the words of the four RX FIFOs.
     pub fn pacing(&self) -> [u8; 8]
         ensures { result ≡ pacing_of self.now.machines }
     {
@@ -84,13 +84,13 @@ impl PioBlock {
         self.state.registers(machine)
     }
 
-    /// Sets the program counter of a machine, 0 to 3, to a place, 0 to 31.
-    pub fn set_counter(&mut self, machine: u8, place: u8)
+    /// Sets the program counter of a machine, 0 to 3, to an address, 0 to 31.
+    pub fn set_counter(&mut self, machine: u8, address: u8)
         requires machine { machine < 4 }
-        requires place { place < 32 }
-        ensures { self.new ≡ counter_set machine place self.old }
+        requires address { address < 32 }
+        ensures { self.new ≡ counter_set machine address self.old }
     {
-        self.state.set_counter(machine, place);
+        self.state.set_counter(machine, address);
         self.at_rest = !self.state.is_busy();
     }
 

@@ -140,15 +140,15 @@ impl Machines {
     }
 
     /// Sets a program counter.
-    pub(crate) fn set_counter(&mut self, number: u8, place: u8)
+    pub(crate) fn set_counter(&mut self, number: u8, address: u8)
         requires { number < 4 }
-        ensures { self.new ≡ changed number (with_pc place) self.old }
+        ensures { self.new ≡ changed number (with_pc address) self.old }
     {
         match number {
-            0 => self.first.set_pc(place),
-            1 => self.second.set_pc(place),
-            2 => self.third.set_pc(place),
-            _ => self.fourth.set_pc(place),
+            0 => self.first.set_pc(address),
+            1 => self.second.set_pc(address),
+            2 => self.third.set_pc(address),
+            _ => self.fourth.set_pc(address),
         }
     }
 

@@ -4,7 +4,7 @@ ghost use Rattle.std.specs.Prelude.{◌≡◌, ◌≤◌, ◌+◌, ◌*◌};
 ghost use Rattle.word_bits.specs.Word.{bit_number};
 ghost use Rattle.pio_block.specs.Control.{ctrl_of};
 ghost use Rattle.pio_block.specs.Queues.{bits_of, is_tx_empty, is_rx_empty, fstat_of, flevel_of, levels_of};
-ghost use Rattle.pio_block.specs.Words.{has_room, has_words, free_places, words_held, pacing_of};
+ghost use Rattle.pio_block.specs.Words.{has_room, has_words, room_left, words_held, pacing_of};
 ghost use Rattle.pio_machine.specs.Fields.{is_tx_full, is_rx_full};
 
 use crate::machines::Machines;
@@ -31,9 +31,9 @@ fn levels(machine: &Machine1) -> u32
     u32::from(machine.tx.level()) + u32::from(machine.rx.level()) * 16
 }
 
-/// The free places of the TX FIFO.
-fn free_places(machine: &Machine1) -> u8
-    ensures { result ≡ free_places machine.now }
+/// The room left in the TX FIFO.
+fn room_left(machine: &Machine1) -> u8
+    ensures { result ≡ room_left machine.now }
 {
     machine.tx_depth().saturating_sub(machine.tx.level())
 }
@@ -135,7 +135,7 @@ impl Machines {
         )
     }
 
-    /// The machines whose TX FIFO has a free place.
+    /// The machines whose TX FIFO has a free word.
     pub(crate) fn with_room(&self) -> u32
         ensures value { result ≡ bits_of has_room self.now }
         ensures small { result ≤ 15 }
@@ -183,16 +183,16 @@ impl Machines {
             + levels(self.at(3)) * 0x100_0000
     }
 
-    /// The free places of the TX FIFOs, then the words of the RX FIFOs.
+    /// The room left in the TX FIFOs, then the words of the RX FIFOs.
     #[tactic(auto, unfolding(crate::specs::Words::pacing_of))]
     pub(crate) fn pacing(&self) -> [u8; 8]
         ensures { result ≡ pacing_of self.now }
     {
         [
-            free_places(self.at(0)),
-            free_places(self.at(1)),
-            free_places(self.at(2)),
-            free_places(self.at(3)),
+            room_left(self.at(0)),
+            room_left(self.at(1)),
+            room_left(self.at(2)),
+            room_left(self.at(3)),
             self.at(0).rx.level(),
             self.at(1).rx.level(),
             self.at(2).rx.level(),

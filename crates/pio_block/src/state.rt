@@ -114,11 +114,11 @@ impl State {
     }
 
     /// Sets a program counter.
-    pub(crate) fn set_counter(&mut self, machine: u8, place: u8)
+    pub(crate) fn set_counter(&mut self, machine: u8, address: u8)
         requires { machine < 4 }
-        ensures { self.new ≡ counter_set machine place self.old }
+        ensures { self.new ≡ counter_set machine address self.old }
     {
-        self.machines.set_counter(machine, place);
+        self.machines.set_counter(machine, address);
     }
 
     /// The machines step, and what they write is told.
@@ -154,7 +154,7 @@ impl State {
         self.join(&done);
     }
 
-    /// The free places of the TX FIFOs, then the words of the RX FIFOs.
+    /// The room left in the TX FIFOs, then the words of the RX FIFOs.
     pub(crate) fn pacing(&self) -> [u8; 8]
         ensures { result ≡ pacing_of self.now.machines }
     {

@@ -1,7 +1,7 @@
 -- How an expression and an operand are read where a line goes on after them.
 use Rattle.std.proofs.Common.{◌≡◌, ◌≢◌, not, true, ℕ, List, [], ◌∷◌, ◌++◌, Ok, Err, inl, inr, refl, sym, ap, ◌∙◌, subst}
 use mathlib.Core.Bool.{false≢true}
-use Rattle.pio_parse.specs.declared.token.Place.{Place}
+use Rattle.pio_parse.specs.declared.token.SourcePosition.{SourcePosition}
 use Rattle.pio_parse.specs.declared.token.Token.{Token}
 use Rattle.pio_parse.specs.declared.token.TokenKind.{TokenKind}
 use Rattle.pio_parse.specs.declared.token.TokenKind.TheVariants.{Name, Number, OpenParenthesis, CloseParenthesis, Plus, Minus, Star}
@@ -58,9 +58,9 @@ line_before (token ∷ next ∷ ends) first further none line =
     rw (not_true (is_end token.kind) parts.0) (line_before (next ∷ ends) first further parts.1 line)
 
 -- what is refused after some tokens is refused
-refused_after : (g : Rest) (place : Place) (consumed rest : List Token) → Refused (λ xs. g (consumed ++ xs)) place rest → Refused g place (consumed ++ rest)
-refused_after g place [] rest r = r
-refused_after g place (token ∷ consumed) rest r = inr (refused_after (λ xs. g (token ∷ xs)) place consumed rest r)
+refused_after : (g : Rest) (position : SourcePosition) (consumed rest : List Token) → Refused (λ xs. g (consumed ++ xs)) position rest → Refused g position (consumed ++ rest)
+refused_after g position [] rest r = r
+refused_after g position (token ∷ consumed) rest r = inr (refused_after (λ xs. g (token ∷ xs)) position consumed rest r)
 
 module _ (text : List ℕ) (k : List Term → Rest) (S : List Term → List Token → Answer → List Token → Type 0) (goods : (x : List Term) → Good true (k x) (S x)) where
   abbrev all : Rest
@@ -84,39 +84,39 @@ module _ (text : List ℕ) (k : List Term → Rest) (S : List Term → List Toke
       }
 
   -- a fault after the expression
-  after_refused : (consumed rest : List Token) (terms : List Term) (place : Place) → EndsSum rest
+  after_refused : (consumed rest : List Token) (terms : List Term) (position : SourcePosition) → EndsSum rest
       → ((first : Token) (further : List Token) → ends_sum first.kind ≡ true → expression_at text (consumed ++ first ∷ further) ≡ Ok (terms, first ∷ further))
-      → Refused (k terms) place rest → Refused (λ xs. all (consumed ++ xs)) place rest
-  after_refused consumed [] terms place over again r = r
-  after_refused consumed (token ∷ tokens) terms place over again (inl (at, can, stays)) =
+      → Refused (k terms) position rest → Refused (λ xs. all (consumed ++ xs)) position rest
+  after_refused consumed [] terms position over again r = r
+  after_refused consumed (token ∷ tokens) terms position over again (inl (at, can, stays)) =
       inl (
         at,
         can_on (λ xs. all (consumed ++ xs)) [] terms refl (λ first further h. ap (bind k) (again first further h)),
         λ further. ap (bind k) (again token further (same_end token.kind over)) ∙ stays further,
       )
-  after_refused consumed (token ∷ tokens) terms place over again (inr r) =
-      inr (refused_same (λ xs. k terms (token ∷ xs)) (λ xs. all (consumed ++ token ∷ xs)) (λ xs. sym (ap (bind k) (again token xs (same_end token.kind over)))) place tokens r)
+  after_refused consumed (token ∷ tokens) terms position over again (inr r) =
+      inr (refused_same (λ xs. k terms (token ∷ xs)) (λ xs. all (consumed ++ token ∷ xs)) (λ xs. sym (ap (bind k) (again token xs (same_end token.kind over)))) position tokens r)
 
   -- a fault within it
-  inside_refused : (tokens : List Token) (place : Place) → Refusal (expression_at text) tokens place → Refused all place tokens
-  inside_refused tokens place r = subst (λ tokens. Refused all place tokens) (sym r.whole) (refused_after all place r.before (r.token ∷ r.after)
+  inside_refused : (tokens : List Token) (position : SourcePosition) → Refusal (expression_at text) tokens position → Refused all position tokens
+  inside_refused tokens position r = subst (λ tokens. Refused all position tokens) (sym r.whole) (refused_after all position r.before (r.token ∷ r.after)
       (inl (r.at, can_on (λ xs. all (r.before ++ xs)) r.ends r.terms r.inside (λ first further h. ap (bind k) (r.goes first further h)), λ further. ap (bind k) (r.stays further))))
 
-  place_of : {p place : Place} → Path (Outcome Answer) (Err p) (Err place) → p ≡ place
-  place_of {place = place} q = ap part q
+  position_of : {p position : SourcePosition} → Path (Outcome Answer) (Err p) (Err position) → p ≡ position
+  position_of {position = position} q = ap part q
     where
-      part : Outcome Answer → Place
-      part (Ok x) = place
+      part : Outcome Answer → SourcePosition
+      part (Ok x) = position
       part (Err p) = p
 
-  refuses_by : (tokens : List Token) (place : Place) → is_line tokens ≡ true → (outcome : Outcome (List Term)) → expression_at text tokens ≡ outcome → bind k outcome ≡ Err place → Refused all place tokens
-  refuses_by tokens place line (Err p) is q = inside_refused tokens place (refusal text tokens place (ends_of_line tokens line) (is ∙ ap Err (place_of q)))
-  refuses_by tokens place line (Ok (found, rest)) is q =
+  refuses_by : (tokens : List Token) (position : SourcePosition) → is_line tokens ≡ true → (outcome : Outcome (List Term)) → expression_at text tokens ≡ outcome → bind k outcome ≡ Err position → Refused all position tokens
+  refuses_by tokens position line (Err p) is q = inside_refused tokens position (refusal text tokens position (ends_of_line tokens line) (is ∙ ap Err (position_of q)))
+  refuses_by tokens position line (Ok (found, rest)) is q =
       let e = extent text tokens found rest is in
       let over = (finds_tree text tokens found rest is).1.1 in
       let left = left_line e.consumed rest e.inside (subst (λ tokens. is_line tokens ≡ true) e.whole line) in
-      subst (λ tokens. Refused all place tokens) (sym e.whole) (refused_after all place e.consumed rest
-      (after_refused e.consumed rest found place over e.again ((goods found).refuses rest place left q)))
+      subst (λ tokens. Refused all position tokens) (sym e.whole) (refused_after all position e.consumed rest
+      (after_refused e.consumed rest found position over e.again ((goods found).refuses rest position left q)))
 
   reads_by : (tokens rest : List Token) (answer : Answer) → is_line tokens ≡ true → (outcome : Outcome (List Term)) → expression_at text tokens ≡ outcome → bind k outcome ≡ Ok (answer, rest)
       → Then (IsTerms text) S tokens answer rest × (is_line rest ≡ true)
@@ -134,7 +134,7 @@ module _ (text : List ℕ) (k : List Term → Rest) (S : List Term → List Toke
   abbrev good_expression : Good true (λ tokens. bind k (expression_at text tokens)) (Then (IsTerms text) S)
   good_expression = record {
     reads = λ tokens rest answer line q. reads_by tokens rest answer line (expression_at text tokens) refl q;
-    refuses = λ tokens place line q. refuses_by tokens place line (expression_at text tokens) refl q;
+    refuses = λ tokens position line q. refuses_by tokens position line (expression_at text tokens) refl q;
     can = can_after all (λ tokens. all (token_of (Number 0) ∷ tokens)) (token_of (Number 0)) (λ tokens. refl) refl (can_on (λ tokens. all (token_of (Number 0) ∷ tokens)) [] (NumberTerm 0 ∷ []) refl number_ends);
     ends = λ yes. refl;
   }
@@ -165,18 +165,18 @@ module _ (text : List ℕ) where
       (λ x. reads_map (λ u. x) (one_reads is_close_parenthesis refl refl true CloseParenthesis refl (λ yes. refl)))) inner_is
 
   module _ (k : List Term → Rest) (S : List Term → List Token → Answer → List Token → Type 0) (goods : (x : List Term) → Good true (k x) (S x)) where
-    value_move : (kind : TokenKind) (place : Place) → Move kind place (λ tokens. bind k (operand_of_kind text kind tokens)) (Then (IsValue text) S)
-    value_move (Number n) place = shifts (k (NumberTerm n ∷ [])) (good_to _ (goods _) (λ tokens answer rest s token is at. (_, tokens, number is, s))) refl (λ tokens. refl)
-    value_move (Name span) place = shifts (k (NameTerm (name_at text span) ∷ [])) (good_to _ (goods _) (λ tokens answer rest s token is at. (_, tokens, name is, s))) refl (λ tokens. refl)
-    value_move OpenParenthesis place = shifts (λ tokens. bind k (inner tokens)) (good_to _ (inner_reads.good k S goods) turn) refl (λ tokens. refl)
+    value_move : (kind : TokenKind) (position : SourcePosition) → Move kind position (λ tokens. bind k (operand_of_kind text kind tokens)) (Then (IsValue text) S)
+    value_move (Number n) position = shifts (k (NumberTerm n ∷ [])) (good_to _ (goods _) (λ tokens answer rest s token is at. (_, tokens, number is, s))) refl (λ tokens. refl)
+    value_move (Name span) position = shifts (k (NameTerm (name_at text span) ∷ [])) (good_to _ (goods _) (λ tokens answer rest s token is at. (_, tokens, name is, s))) refl (λ tokens. refl)
+    value_move OpenParenthesis position = shifts (λ tokens. bind k (inner tokens)) (good_to _ (inner_reads.good k S goods) turn) refl (λ tokens. refl)
       where
-        turn : (tokens : List Token) (answer : Answer) (rest : List Token) → Then IsInner S tokens answer rest → (token : Token) → token.kind ≡ OpenParenthesis → token.place ≡ place → Then (IsValue text) S (token ∷ tokens) answer rest
+        turn : (tokens : List Token) (answer : Answer) (rest : List Token) → Then IsInner S tokens answer rest → (token : Token) → token.kind ≡ OpenParenthesis → token.position ≡ position → Then (IsValue text) S (token ∷ tokens) answer rest
         turn tokens answer rest (x, middle, is_inner, s) token is at = (x, middle, is_inner token is, s)
-    value_move kind place = misfits (λ tokens. refl)
+    value_move kind position = misfits (λ tokens. refl)
 
   -- value
   pub value_reads : Reads true (operand_at text) (IsValue text)
   value_reads = record {
-    good = λ k S goods. good true (λ kind place tokens. bind k (operand_of_kind text kind tokens)) (Then (IsValue text) S)
+    good = λ k S goods. good true (λ kind position tokens. bind k (operand_of_kind text kind tokens)) (Then (IsValue text) S)
         (value_move k S goods) (can_after _ (k (NumberTerm 0 ∷ [])) (token_of (Number 0)) (λ tokens. refl) refl (goods (NumberTerm 0 ∷ [])).can) (λ yes. refl);
   }

@@ -1,10 +1,10 @@
 -- A file is parsed as the grammar of its lines has it, and its Syntax fault is at the first token that fits nothing.
 use Rattle.std.proofs.Common.{◌≡◌, ◌&&◌, ◌||◌, Bool, true, false, if◌then◌else◌, ℕ, List, [], ◌∷◌, ◌++◌, Result, Ok, Err, refl, sym, ap, ◌∙◌, subst}
 use mathlib.Core.Bool.{false≢true}
-use Rattle.pio_parse.specs.declared.token.Place.{Place}
+use Rattle.pio_parse.specs.declared.token.SourcePosition.{SourcePosition}
 use Rattle.pio_parse.specs.declared.token.Token.{Token}
 use Rattle.pio_parse.specs.declared.syntax.Line.{Line}
-use Rattle.pio_parse.specs.declared.syntax.Source.{Source}
+use Rattle.pio_parse.specs.declared.syntax.ParsedSource.{ParsedSource}
 use Rattle.pio_parse.specs.Outcome.{and_then, map_ok}
 use Rattle.pio_parse.specs.Cursor.{Outcome}
 use Rattle.pio_parse.specs.Scan.{scanned}
@@ -41,7 +41,7 @@ token_lines_are [] = refl
 token_lines_are (token ∷ tokens) = lines_by token (token_lines tokens) (is_end token.kind) refl (token_lines_are tokens)
 
 module _ (text : List ℕ) where
-  abbrev onwards : Bool → Line → List (List Token) → Result (List Line) Place
+  abbrev onwards : Bool → Line → List (List Token) → Result (List Line) SourcePosition
   onwards started line others = map_ok (λ lines. line ∷ lines) (lines_at text (started || is_program line.statement) others)
 
   abbrev LinesRead : List (List Token) → Type 0
@@ -49,11 +49,11 @@ module _ (text : List ℕ) where
 
   rest_read : (started : Bool) (tokens : List Token) (line : Line) (others : List (List Token)) (lines : List Line) → IsLine text started tokens line
       → ((read : List Line) → lines_at text (started || is_program line.statement) others ≡ Ok read → AreLines text (started || is_program line.statement) others read)
-      → (outcome : Result (List Line) Place) → lines_at text (started || is_program line.statement) others ≡ outcome → map_ok (λ lines. line ∷ lines) outcome ≡ Ok lines → AreLines text started (tokens ∷ others) lines
+      → (outcome : Result (List Line) SourcePosition) → lines_at text (started || is_program line.statement) others ≡ outcome → map_ok (λ lines. line ∷ lines) outcome ≡ Ok lines → AreLines text started (tokens ∷ others) lines
   rest_read started tokens line others lines is later (Err p) e q = absurd (refused q)
   rest_read started tokens line others lines is later (Ok read) e q = subst (AreLines text started (tokens ∷ others)) (ap part q) (one_line is (later read e))
     where
-      part : Result (List Line) Place → List Line
+      part : Result (List Line) SourcePosition → List Line
       part (Ok x) = x
       part (Err p) = lines
 
@@ -67,7 +67,7 @@ module _ (text : List ℕ) where
   are_read : (tokens : List (List Token)) → LinesRead tokens
   are_read [] started lines are q = subst (AreLines text started []) (ap part q) no_line
     where
-      part : Result (List Line) Place → List Line
+      part : Result (List Line) SourcePosition → List Line
       part (Ok x) = x
       part (Err p) = lines
   are_read (tokens ∷ others) started lines are q =
@@ -80,91 +80,91 @@ module _ (text : List ℕ) where
 
   -- faults
   abbrev LinesFault : List (List Token) → Type 0
-  LinesFault tokens = (started : Bool) (place : Place) → are_lines tokens ≡ true → lines_at text started tokens ≡ Err place → FaultsAt text started tokens place
+  LinesFault tokens = (started : Bool) (position : SourcePosition) → are_lines tokens ≡ true → lines_at text started tokens ≡ Err position → FaultsAt text started tokens position
 
-  rest_fault : (line : Line) (place : Place) (outcome : Result (List Line) Place) → map_ok (λ lines. line ∷ lines) outcome ≡ Err place → outcome ≡ Err place
-  rest_fault line place (Ok x) q = absurd (refused (sym q))
-  rest_fault line place (Err p) q = q
+  rest_fault : (line : Line) (position : SourcePosition) (outcome : Result (List Line) SourcePosition) → map_ok (λ lines. line ∷ lines) outcome ≡ Err position → outcome ≡ Err position
+  rest_fault line position (Ok x) q = absurd (refused (sym q))
+  rest_fault line position (Err p) q = q
 
-  line_fault : (tokens : List Token) (others : List (List Token)) → LinesFault others → (started : Bool) (place : Place) → is_line tokens ≡ true → are_lines others ≡ true
-      → (outcome : Outcome Line) → line_at text started tokens ≡ outcome → and_then (λ line. onwards started line.0 others) outcome ≡ Err place → FaultsAt text started (tokens ∷ others) place
-  line_fault tokens others later started place is are (Err p) e q =
-      let same : p ≡ place = ap part q in
-      let first = first_fault text started tokens place is (e ∙ ap Err same) in
-      subst (λ (xs : List Token). FaultsAt text started (xs ∷ others) place) (sym first.3)
-      (subst (λ (place : Place). FaultsAt text started ((first.0 ++ first.1 ∷ first.2) ∷ others) place) first.4 (fits_nothing first.0 first.1 first.2 first.5 first.6))
+  line_fault : (tokens : List Token) (others : List (List Token)) → LinesFault others → (started : Bool) (position : SourcePosition) → is_line tokens ≡ true → are_lines others ≡ true
+      → (outcome : Outcome Line) → line_at text started tokens ≡ outcome → and_then (λ line. onwards started line.0 others) outcome ≡ Err position → FaultsAt text started (tokens ∷ others) position
+  line_fault tokens others later started position is are (Err p) e q =
+      let same : p ≡ position = ap part q in
+      let first = first_fault text started tokens position is (e ∙ ap Err same) in
+      subst (λ (xs : List Token). FaultsAt text started (xs ∷ others) position) (sym first.3)
+      (subst (λ (position : SourcePosition). FaultsAt text started ((first.0 ++ first.1 ∷ first.2) ∷ others) position) first.4 (fits_nothing first.0 first.1 first.2 first.5 first.6))
     where
-      part : Result (List Line) Place → Place
-      part (Ok x) = place
+      part : Result (List Line) SourcePosition → SourcePosition
+      part (Ok x) = position
       part (Err p) = p
-  line_fault tokens others later started place is are (Ok (line, rest)) e q =
+  line_fault tokens others later started position is are (Ok (line, rest)) e q =
       after_line (sound text started tokens rest line is e).0
-      (later (started || is_program line.statement) place are (rest_fault line place (lines_at text (started || is_program line.statement) others) q))
+      (later (started || is_program line.statement) position are (rest_fault line position (lines_at text (started || is_program line.statement) others) q))
 
   are_faults : (tokens : List (List Token)) → LinesFault tokens
-  are_faults [] started place are q = absurd (refused (sym q))
-  are_faults (tokens ∷ others) started place are q =
+  are_faults [] started position are q = absurd (refused (sym q))
+  are_faults (tokens ∷ others) started position are q =
       let parts = both (is_line tokens) (are_lines others) are in
-      line_fault tokens others (are_faults others) started place parts.0 parts.1 (line_at text started tokens) refl q
+      line_fault tokens others (are_faults others) started position parts.0 parts.1 (line_at text started tokens) refl q
 
-  faults_complete : {started : Bool} {tokens : List (List Token)} {place : Place} → are_lines tokens ≡ true → FaultsAt text started tokens place → lines_at text started tokens ≡ Err place
+  faults_complete : {started : Bool} {tokens : List (List Token)} {position : SourcePosition} → are_lines tokens ≡ true → FaultsAt text started tokens position → lines_at text started tokens ≡ Err position
   faults_complete {started = started} are (fits_nothing {others = others} before token after begins none) =
       let parts = both (is_line (before ++ token ∷ after)) (are_lines others) are in
-      rw (faults_there text started (before ++ token ∷ after) token.place parts.0 (before, token, after, refl, refl, begins, none)) refl
+      rw (faults_there text started (before ++ token ∷ after) token.position parts.0 (before, token, after, refl, refl, begins, none)) refl
   faults_complete are (after_line {tokens = tokens} {others = others} is later) =
       let parts = both (is_line tokens) (are_lines others) are in rw (complete is, faults_complete parts.1 later) refl
 
   -- files
-  gathered_is : (tokens : List Token) (source : Source) (outcome : Result (List Line) Place) → with_syntax (map_ok gathered outcome) ≡ Ok source → (lines : List Line) × (outcome ≡ Ok lines) × (gathered lines ≡ source)
+  gathered_is : (tokens : List Token) (source : ParsedSource) (outcome : Result (List Line) SourcePosition) → with_syntax (map_ok gathered outcome) ≡ Ok source → (lines : List Line) × (outcome ≡ Ok lines) × (gathered lines ≡ source)
   gathered_is tokens source (Err p) q = absurd (refused q)
   gathered_is tokens source (Ok lines) q = (lines, refl, ap part q)
     where
-      part : Result Source EarlyFault → Source
+      part : Result ParsedSource EarlyFault → ParsedSource
       part (Ok x) = x
       part (Err p) = source
 
-  source_read : (source : Source) (outcome : Result (List Token) Place) → scanned text ≡ outcome → parsed_tokens text outcome ≡ Ok source → IsSource text source
+  source_read : (source : ParsedSource) (outcome : Result (List Token) SourcePosition) → scanned text ≡ outcome → parsed_tokens text outcome ≡ Ok source → IsSource text source
   source_read source (Err p) e q = absurd (refused q)
   source_read source (Ok tokens) e q =
       let is = gathered_is tokens source (lines_at text false (token_lines tokens)) q in
       (tokens, is.0, (lexes_exactly text tokens).0 e, are_read (token_lines tokens) false is.0 (token_lines_are tokens) is.1, is.2)
 
-  source_parsed : (source : Source) → IsSource text source → parsed text ≡ Ok source
+  source_parsed : (source : ParsedSource) → IsSource text source → parsed text ≡ Ok source
   source_parsed source (tokens, lines, lexed, are, same) = rw ((lexes_exactly text tokens).1 lexed, lines_complete are) (ap Ok same)
 
-  abbrev place_in : Place → Result Source EarlyFault → Place
-  place_in place (Ok x) = place
-  place_in place (Err (SyntaxAt p)) = p
-  place_in place (Err (CharAt p)) = place
+  abbrev position_in : SourcePosition → Result ParsedSource EarlyFault → SourcePosition
+  position_in position (Ok x) = position
+  position_in position (Err (SyntaxAt p)) = p
+  position_in position (Err (CharAt p)) = position
 
-  abbrev is_syntax : Result Source EarlyFault → Bool
+  abbrev is_syntax : Result ParsedSource EarlyFault → Bool
   is_syntax (Ok x) = false
   is_syntax (Err (SyntaxAt p)) = true
   is_syntax (Err (CharAt p)) = false
 
-  fault_is : (place : Place) (outcome : Result (List Line) Place) → with_syntax (map_ok gathered outcome) ≡ Err (SyntaxAt place) → outcome ≡ Err place
-  fault_is place (Ok lines) q = absurd (refused (sym q))
-  fault_is place (Err p) q = ap Err (ap (place_in place) q)
+  fault_is : (position : SourcePosition) (outcome : Result (List Line) SourcePosition) → with_syntax (map_ok gathered outcome) ≡ Err (SyntaxAt position) → outcome ≡ Err position
+  fault_is position (Ok lines) q = absurd (refused (sym q))
+  fault_is position (Err p) q = ap Err (ap (position_in position) q)
 
-  fault_read : (place : Place) (outcome : Result (List Token) Place) → scanned text ≡ outcome → parsed_tokens text outcome ≡ Err (SyntaxAt place) → IsSyntaxFaultAt text place
-  fault_read place (Err p) e q = absurd (false≢true (ap is_syntax q))
-  fault_read place (Ok tokens) e q =
-      (tokens, (lexes_exactly text tokens).0 e, are_faults (token_lines tokens) false place (token_lines_are tokens) (fault_is place (lines_at text false (token_lines tokens)) q))
+  fault_read : (position : SourcePosition) (outcome : Result (List Token) SourcePosition) → scanned text ≡ outcome → parsed_tokens text outcome ≡ Err (SyntaxAt position) → IsSyntaxFaultAt text position
+  fault_read position (Err p) e q = absurd (false≢true (ap is_syntax q))
+  fault_read position (Ok tokens) e q =
+      (tokens, (lexes_exactly text tokens).0 e, are_faults (token_lines tokens) false position (token_lines_are tokens) (fault_is position (lines_at text false (token_lines tokens)) q))
 
-  fault_parsed : (place : Place) → IsSyntaxFaultAt text place → parsed text ≡ Err (SyntaxAt place)
-  fault_parsed place (tokens, lexed, faults) = rw ((lexes_exactly text tokens).1 lexed, faults_complete (token_lines_are tokens) faults) refl
+  fault_parsed : (position : SourcePosition) → IsSyntaxFaultAt text position → parsed text ≡ Err (SyntaxAt position)
+  fault_parsed position (tokens, lexed, faults) = rw ((lexes_exactly text tokens).1 lexed, faults_complete (token_lines_are tokens) faults) refl
 
 pub parses_grammar : ParsesGrammar
 parses_grammar text source = (source_read text source (scanned text) refl, source_parsed text source)
 
 pub syntax_faults_at_first : SyntaxFaultsAtFirst
-syntax_faults_at_first text place = (fault_read text place (scanned text) refl, fault_parsed text place)
+syntax_faults_at_first text position = (fault_read text position (scanned text) refl, fault_parsed text position)
 
 line_in : Line → Outcome Line → Line
 line_in line (Ok x) = x.0
 line_in line (Err p) = line
 
-source_in : Source → Result Source EarlyFault → Source
+source_in : ParsedSource → Result ParsedSource EarlyFault → ParsedSource
 source_in source (Ok x) = x
 source_in source (Err p) = source
 
@@ -172,7 +172,7 @@ same_line : (line other : Line) → Path (Outcome Line) (Ok (line, [])) (Ok (oth
 unfolding line_in
 same_line line other q = ap (line_in line) q
 
-same_source : (source other : Source) → Path (Result Source EarlyFault) (Ok source) (Ok other) → source ≡ other
+same_source : (source other : ParsedSource) → Path (Result ParsedSource EarlyFault) (Ok source) (Ok other) → source ≡ other
 unfolding source_in
 same_source source other q = ap (source_in source) q
 

@@ -1,7 +1,7 @@
 -- A line is read as the grammar has it, and is refused at the first token with which no line of the grammar begins so.
 use Rattle.std.proofs.Common.{◌≡◌, ◌||◌, not, Bool, true, false, if◌then◌else◌, ℕ, List, [], ◌∷◌, Option, None, Ok, Err, ◌⊎◌, inl, inr, refl, sym, ap, ◌∙◌, subst}
 use mathlib.Core.Bool.{false≢true}
-use Rattle.pio_parse.specs.declared.token.Place.{Place}
+use Rattle.pio_parse.specs.declared.token.SourcePosition.{SourcePosition}
 use Rattle.pio_parse.specs.declared.token.Token.{Token}
 use Rattle.pio_parse.specs.declared.token.Directive.TheVariants.{Program, Define, LangOpt, PioVersion}
 use Rattle.pio_parse.specs.declared.token.TokenKind.{TokenKind}
@@ -9,7 +9,7 @@ use Rattle.pio_parse.specs.declared.token.TokenKind.TheVariants.{Directive as Di
 use Rattle.pio_parse.specs.declared.syntax.Statement.{Statement}
 use Rattle.pio_parse.specs.declared.syntax.Line.{Line}
 use Rattle.pio_parse.specs.Outcome.{and_then, map_ok}
-use Rattle.pio_parse.specs.Cursor.{Outcome, after_head, head_kind, head_place, misfit}
+use Rattle.pio_parse.specs.Cursor.{Outcome, after_head, head_kind, head_position, misfit}
 use Rattle.pio_parse.specs.Statement.{begins_label, end_at, is_end, is_end_after, is_first, is_program, label_at, line_at, statement_at, statement_of_kind}
 use Rattle.pio_parse.proofs.Runs.{both}
 use Rattle.pio_parse.proofs.Finds.{refused}
@@ -47,43 +47,43 @@ module _ (text : List ℕ) where
   abbrev pub first_rest : Rest
   first_rest tokens = if is_first (head_kind tokens) then bind (ended false None) (statement_at text tokens) else misfit tokens
 
-  first_move : (kind : TokenKind) (place : Place) → Move kind place (first_of kind) (Then (IsFirst text) (IsEnded false None))
-  first_move LineEnd place = keeps (ended false None None) (good_to _ (ended_good false None None) (λ tokens answer rest s is. (None, tokens, first_blank is, s))) (λ tokens. refl)
-  first_move (DirectiveToken Program) place =
-      shift (IsFirst text) (ended false None) (IsEnded false None) (ended_good false None) (DirectiveToken Program) place _ (reads_to _ (program_reads text place) (λ tokens x rest is token k at. first_is_program (is token k at))) refl (λ tokens. refl)
-  first_move (DirectiveToken Define) place =
-      shift (IsFirst text) (ended false None) (IsEnded false None) (ended_good false None) (DirectiveToken Define) place _ (reads_to _ (define_reads text place) (λ tokens x rest is token k at. first_setting (is token k at))) refl (λ tokens. refl)
-  first_move (DirectiveToken LangOpt) place =
-      take (IsFirst text) (ended false None) (IsEnded false None) (ended_good false None) (DirectiveToken LangOpt) place None _ (λ token rest is. first_setting (lang_opt is)) refl (λ tokens. refl)
-  first_move (DirectiveToken PioVersion) place =
-      shift (IsFirst text) (ended false None) (IsEnded false None) (ended_good false None) (DirectiveToken PioVersion) place _ (reads_to _ (version_reads text place) (λ tokens x rest is token k at. first_setting (is token k at))) refl (λ tokens. refl)
-  first_move kind place = misfits (λ tokens. refl)
+  first_move : (kind : TokenKind) (position : SourcePosition) → Move kind position (first_of kind) (Then (IsFirst text) (IsEnded false None))
+  first_move LineEnd position = keeps (ended false None None) (good_to _ (ended_good false None None) (λ tokens answer rest s is. (None, tokens, first_blank is, s))) (λ tokens. refl)
+  first_move (DirectiveToken Program) position =
+      shift (IsFirst text) (ended false None) (IsEnded false None) (ended_good false None) (DirectiveToken Program) position _ (reads_to _ (program_reads text position) (λ tokens x rest is token k at. first_is_program (is token k at))) refl (λ tokens. refl)
+  first_move (DirectiveToken Define) position =
+      shift (IsFirst text) (ended false None) (IsEnded false None) (ended_good false None) (DirectiveToken Define) position _ (reads_to _ (define_reads text position) (λ tokens x rest is token k at. first_setting (is token k at))) refl (λ tokens. refl)
+  first_move (DirectiveToken LangOpt) position =
+      take (IsFirst text) (ended false None) (IsEnded false None) (ended_good false None) (DirectiveToken LangOpt) position None _ (λ token rest is. first_setting (lang_opt is)) refl (λ tokens. refl)
+  first_move (DirectiveToken PioVersion) position =
+      shift (IsFirst text) (ended false None) (IsEnded false None) (ended_good false None) (DirectiveToken PioVersion) position _ (reads_to _ (version_reads text position) (λ tokens x rest is token k at. first_setting (is token k at))) refl (λ tokens. refl)
+  first_move kind position = misfits (λ tokens. refl)
 
   pub first_good : Good true first_rest (Then (IsFirst text) (IsEnded false None))
-  first_good = good true (λ kind place tokens. first_of kind tokens) (Then (IsFirst text) (IsEnded false None)) first_move
+  first_good = good true (λ kind position tokens. first_of kind tokens) (Then (IsFirst text) (IsEnded false None)) first_move
       (can_after first_rest (ended false None None) (token_of (DirectiveToken LangOpt)) (λ tokens. refl) refl (ended_good false None None).can) (λ yes. refl)
 
   -- a line is what is read up to its end, and the end
   abbrev pub finished : List Token → Answer × List Token → Line × List Token
-  finished tokens x = (record { number = (head_place tokens).line; label = x.0.0; statement = x.0.1 }, after_head x.1)
+  finished tokens x = (record { number = (head_position tokens).line; label = x.0.0; statement = x.0.1 }, after_head x.1)
 
   by_end : (tokens middle : List Token) (mark : Option (List ℕ)) (statement : Option Statement) (b : Bool)
-      → map_ok {Y = Line × List Token} (λ (end : Unit {0} × List Token). (record { number = (head_place tokens).line; label = mark; statement = statement }, end.1)) (if b then Ok (tt, after_head middle) else misfit middle)
+      → map_ok {Y = Line × List Token} (λ (end : Unit {0} × List Token). (record { number = (head_position tokens).line; label = mark; statement = statement }, end.1)) (if b then Ok (tt, after_head middle) else misfit middle)
       ≡ map_ok (finished tokens) (if b then Ok ((mark, statement), middle) else misfit middle)
   by_end tokens middle mark statement true = refl
   by_end tokens middle mark statement false = refl
 
   by_statement : (started : Bool) (tokens : List Token) (mark : Option (List ℕ)) (outcome : Outcome (Option Statement))
-      → and_then (λ statement. map_ok {Y = Line × List Token} (λ end. (record { number = (head_place tokens).line; label = mark; statement = statement.0 }, end.1)) (end_at started statement.0 statement.1)) outcome
+      → and_then (λ statement. map_ok {Y = Line × List Token} (λ end. (record { number = (head_position tokens).line; label = mark; statement = statement.0 }, end.1)) (end_at started statement.0 statement.1)) outcome
       ≡ map_ok (finished tokens) (bind (ended started mark) outcome)
   by_statement started tokens mark (Ok x) = by_end tokens x.1 mark x.0 (is_end_after (started || is_program x.0) (head_kind x.1))
-  by_statement started tokens mark (Err place) = refl
+  by_statement started tokens mark (Err position) = refl
 
   by_label : (tokens : List Token) (outcome : Outcome (Option (List ℕ)))
-      → and_then (λ label. and_then (λ statement. map_ok {Y = Line × List Token} (λ end. (record { number = (head_place tokens).line; label = label.0; statement = statement.0 }, end.1)) (end_at true statement.0 statement.1)) (statement_at text label.1)) outcome
+      → and_then (λ label. and_then (λ statement. map_ok {Y = Line × List Token} (λ end. (record { number = (head_position tokens).line; label = label.0; statement = statement.0 }, end.1)) (end_at true statement.0 statement.1)) (statement_at text label.1)) outcome
       ≡ map_ok (finished tokens) (bind (λ mark tokens. bind (ended true mark) (statement_at text tokens)) outcome)
   by_label tokens (Ok x) = by_statement true tokens x.0 (statement_at text x.1)
-  by_label tokens (Err place) = refl
+  by_label tokens (Err position) = refl
 
   no_first_label : (kind : TokenKind) → is_first kind ≡ true → begins_label kind ≡ false
   no_first_label LineEnd h = refl
@@ -185,7 +185,7 @@ module _ {text : List ℕ} where
 module _ (text : List ℕ) where
   sound_by : (started : Bool) (tokens rest : List Token) (line : Line) → is_line tokens ≡ true → (outcome : Outcome Answer) → line_rest text started tokens ≡ outcome
       → map_ok (finished text tokens) outcome ≡ Ok (line, rest) → IsLine text started tokens line × (rest ≡ [])
-  sound_by started tokens rest line is (Err place) e q = absurd (refused q)
+  sound_by started tokens rest line is (Err position) e q = absurd (refused q)
   sound_by true tokens rest line is (Ok (answer, left)) e q =
       let read = (later_good text).reads tokens left answer is e in
       let found = later_line read.0 read.1 in

@@ -11,7 +11,7 @@ use Rattle.pio_words.specs.declared.op.MovDestination.TheVariants.{Pins as ToPin
 use Rattle.pio_words.specs.declared.op.MovOperation.{MovOperation}
 use Rattle.pio_words.specs.declared.op.MovOperation.TheVariants.{Plain, Invert, Reverse}
 use Rattle.pio_words.specs.declared.op.MovSource.TheVariants.{Pins as FromPins, Y as MovFromY}
-use Rattle.pio_parse.specs.declared.token.Place.{Place}
+use Rattle.pio_parse.specs.declared.token.SourcePosition.{SourcePosition}
 use Rattle.pio_parse.specs.declared.token.Token.{Token}
 use Rattle.pio_parse.specs.declared.token.Keyword.{Keyword}
 use Rattle.pio_parse.specs.declared.token.Keyword.TheVariants.{Jmp, Wait, In, Out, Push, Pull, Mov, Irq, Set, Nop, Side, Gpio, Pin, Rel, Pins, X, Y, Osre, IfFull, IfEmpty, Block, NoBlock, NoWait, Clear}
@@ -22,7 +22,7 @@ use Rattle.pio_parse.specs.declared.expression.Term.TheVariants.{Number as Numbe
 use Rattle.pio_parse.specs.declared.syntax.Operation.{Operation}
 use Rattle.pio_parse.specs.declared.syntax.Operation.TheVariants.{Jmp as JmpOperation, WaitGpio, WaitPin, WaitIrq, In as InOperation, Out as OutOperation, Push as PushOperation, Pull as PullOperation, Mov as MovOperation', Irq as IrqOperation, Set as SetOperation}
 use Rattle.pio_parse.specs.Outcome.{and_then, map_ok}
-use Rattle.pio_parse.specs.Cursor.{Outcome, after_head, expected, head_kind, head_place}
+use Rattle.pio_parse.specs.Cursor.{Outcome, after_head, expected, head_kind, head_position}
 use Rattle.pio_parse.specs.Expression.{expression_at, operand_at}
 use Rattle.pio_parse.specs.Registers.{in_source_of, mov_destination_of, mov_source_of, out_destination_of, set_destination_of}
 use Rattle.pio_parse.specs.Instruction.{are_together, block_at, block_of, conditional_at, decrement_at, delay_at, flag_at, in_at, irq_at, irq_mode_at, irq_mode_of, is_close_bracket, is_comma, is_if_empty, is_if_full, is_minus, is_not_equal, is_open_bracket, is_rel, is_side, is_y, jmp_at, jmp_condition_at, jmp_condition_of, last_operand_at, modifiers_at, mov_at, mov_operation_at, mov_operation_of, named_at, not_condition_at, not_condition_of, out_at, past_comma, polarity_at, polarity_of, pull_at, push_at, set_at, side_at, wait_at, wait_for, x_condition_at}
@@ -98,52 +98,52 @@ given : {tokens middle rest : List Token} {c c' : JmpCondition} → IsCondition 
 given {tokens = tokens} {rest = rest} is (comma, may, same) = subst (λ c. IsJmpCondition tokens c rest) same (condition is may)
 
 -- the second of two signs beside each other
-abbrev second_at : JmpCondition → Place → List Token → Outcome JmpCondition
-second_at c place tokens = and_then (λ second. conditional_at c second.1) (expected (are_together place (head_place tokens) && is_minus (head_kind tokens)) tokens)
+abbrev second_at : JmpCondition → SourcePosition → List Token → Outcome JmpCondition
+second_at c position tokens = and_then (λ second. conditional_at c second.1) (expected (are_together position (head_position tokens) && is_minus (head_kind tokens)) tokens)
 
-pub data IsSecond (c : JmpCondition) (place : Place) : List Token → JmpCondition → List Token → Type 0 where
-  second_sign : {middle rest : List Token} {second : Token} {c' : JmpCondition} → second.kind ≡ Minus → are_together place second.place ≡ true → IsConditional c middle c' rest → IsSecond c place (second ∷ middle) c' rest
+pub data IsSecond (c : JmpCondition) (position : SourcePosition) : List Token → JmpCondition → List Token → Type 0 where
+  second_sign : {middle rest : List Token} {second : Token} {c' : JmpCondition} → second.kind ≡ Minus → are_together position second.position ≡ true → IsConditional c middle c' rest → IsSecond c position (second ∷ middle) c' rest
 
-abbrev beside : Place → Place
-beside place = record { line = place.line; column = suc place.column }
+abbrev beside : SourcePosition → SourcePosition
+beside position = record { line = position.line; column = suc position.column }
 
 beside_is : (line column : ℕ) → ((line == line) && (suc column - 1 == column)) ≡ true
 beside_is line column = grind arith
 
 module _ (c : JmpCondition) where
-  second_move : (before : Place) (k : JmpCondition → Rest) (S : JmpCondition → List Token → Answer → List Token → Type 0) (goods : (x : JmpCondition) → Good true (k x) (S x))
-      (kind : TokenKind) (place : Place) (b : Bool) → (are_together before place && is_minus kind) ≡ b
-      → Move kind place (λ tokens. bind k (and_then (λ second. conditional_at c second.1) (expected b tokens))) (Then (IsSecond c before) S)
-  second_move before k S goods kind place true fits =
-      let parts = both (are_together before place) (is_minus kind) fits in
-      shift (IsSecond c before) k S goods kind place _ (reads_to _ (conditional_reads c) (λ tokens c' rest is token k at. second_sign (k ∙ minus_of kind parts.1) (ap (are_together before) at ∙ parts.0) is))
+  second_move : (before : SourcePosition) (k : JmpCondition → Rest) (S : JmpCondition → List Token → Answer → List Token → Type 0) (goods : (x : JmpCondition) → Good true (k x) (S x))
+      (kind : TokenKind) (position : SourcePosition) (b : Bool) → (are_together before position && is_minus kind) ≡ b
+      → Move kind position (λ tokens. bind k (and_then (λ second. conditional_at c second.1) (expected b tokens))) (Then (IsSecond c before) S)
+  second_move before k S goods kind position true fits =
+      let parts = both (are_together before position) (is_minus kind) fits in
+      shift (IsSecond c before) k S goods kind position _ (reads_to _ (conditional_reads c) (λ tokens c' rest is token k at. second_sign (k ∙ minus_of kind parts.1) (ap (are_together before) at ∙ parts.0) is))
       (not_end is_minus refl refl kind parts.1) (λ tokens. refl)
-  second_move before k S goods kind place false fits = misfits (λ tokens. refl)
+  second_move before k S goods kind position false fits = misfits (λ tokens. refl)
 
-  second_reads : (before : Place) → Reads false (second_at c before) (IsSecond c before)
+  second_reads : (before : SourcePosition) → Reads false (second_at c before) (IsSecond c before)
   second_reads before = record {
-    good = λ k S goods. good false (λ kind place tokens. bind k (and_then (λ second. conditional_at c second.1) (expected (are_together before place && is_minus kind) tokens))) (Then (IsSecond c before) S)
-        (λ kind place. second_move before k S goods kind place (are_together before place && is_minus kind) refl)
-        (can_shift _ k S goods (record { kind = Minus; place = beside before }) (conditional_reads c) (λ tokens. rw (beside_is before.line before.column) refl) refl) (λ no. absurd (false≢true no));
+    good = λ k S goods. good false (λ kind position tokens. bind k (and_then (λ second. conditional_at c second.1) (expected (are_together before position && is_minus kind) tokens))) (Then (IsSecond c before) S)
+        (λ kind position. second_move before k S goods kind position (are_together before position && is_minus kind) refl)
+        (can_shift _ k S goods (record { kind = Minus; position = beside before }) (conditional_reads c) (λ tokens. rw (beside_is before.line before.column) refl) refl) (λ no. absurd (false≢true no));
   }
 
   -- `--`
   pub data IsSigns : List Token → JmpCondition → List Token → Type 0 where
     signs : {middle rest : List Token} {first second : Token} {c' : JmpCondition} → IsDecrement first second → IsConditional c middle c' rest → IsSigns (first ∷ second ∷ middle) c' rest
 
-  signs_of : {tokens rest : List Token} {c' : JmpCondition} {place : Place} → IsSecond c place tokens c' rest → (first : Token) → first.kind ≡ Minus → first.place ≡ place → IsSigns (first ∷ tokens) c' rest
-  signs_of (second_sign {second = second} is together rest) first k at = signs (k, is, ap (λ place. are_together place second.place) at ∙ together) rest
+  signs_of : {tokens rest : List Token} {c' : JmpCondition} {position : SourcePosition} → IsSecond c position tokens c' rest → (first : Token) → first.kind ≡ Minus → first.position ≡ position → IsSigns (first ∷ tokens) c' rest
+  signs_of (second_sign {second = second} is together rest) first k at = signs (k, is, ap (λ position. are_together position second.position) at ∙ together) rest
 
-  decrement_move : (k : JmpCondition → Rest) (S : JmpCondition → List Token → Answer → List Token → Type 0) (goods : (x : JmpCondition) → Good true (k x) (S x)) (kind : TokenKind) (place : Place)
-      → Move kind place (λ tokens. bind k (and_then (λ first. and_then (λ second. conditional_at c second.1) (expected (are_together place (head_place first.1) && is_minus (head_kind first.1)) first.1)) (expected (is_minus kind) tokens))) (Then IsSigns S)
-  decrement_move k S goods Minus place = shift IsSigns k S goods Minus place _ (reads_to _ (second_reads place) (λ tokens c' rest is token k at. signs_of is token k at)) refl (λ tokens. refl)
-  decrement_move k S goods kind place = misfits (λ tokens. refl)
+  decrement_move : (k : JmpCondition → Rest) (S : JmpCondition → List Token → Answer → List Token → Type 0) (goods : (x : JmpCondition) → Good true (k x) (S x)) (kind : TokenKind) (position : SourcePosition)
+      → Move kind position (λ tokens. bind k (and_then (λ first. and_then (λ second. conditional_at c second.1) (expected (are_together position (head_position first.1) && is_minus (head_kind first.1)) first.1)) (expected (is_minus kind) tokens))) (Then IsSigns S)
+  decrement_move k S goods Minus position = shift IsSigns k S goods Minus position _ (reads_to _ (second_reads position) (λ tokens c' rest is token k at. signs_of is token k at)) refl (λ tokens. refl)
+  decrement_move k S goods kind position = misfits (λ tokens. refl)
 
   decrement_reads : Reads false (decrement_at c) IsSigns
   decrement_reads = record {
     good = λ k S goods. good false
-        (λ kind place tokens. bind k (and_then (λ first. and_then (λ second. conditional_at c second.1) (expected (are_together place (head_place first.1) && is_minus (head_kind first.1)) first.1)) (expected (is_minus kind) tokens)))
-        (Then IsSigns S) (decrement_move k S goods) (can_shift _ k S goods (token_of Minus) (second_reads (token_of Minus).place) (λ tokens. refl) refl) (λ no. absurd (false≢true no));
+        (λ kind position tokens. bind k (and_then (λ first. and_then (λ second. conditional_at c second.1) (expected (are_together position (head_position first.1) && is_minus (head_kind first.1)) first.1)) (expected (is_minus kind) tokens)))
+        (Then IsSigns S) (decrement_move k S goods) (can_shift _ k S goods (token_of Minus) (second_reads (token_of Minus).position) (λ tokens. refl) refl) (λ no. absurd (false≢true no));
   }
 
 abbrev AfterX : List Token → JmpCondition → List Token → Type 0
@@ -171,75 +171,75 @@ abbrev x_of : TokenKind → List Token → Outcome JmpCondition
 x_of kind tokens = if is_not_equal kind then and_then (λ y. conditional_at XNotY y.1) (expected (is_y (head_kind (after_head tokens))) (after_head tokens)) else decrement_at XDecrement tokens
 
 module _ (k : JmpCondition → Rest) (S : JmpCondition → List Token → Answer → List Token → Type 0) (goods : (x : JmpCondition) → Good true (k x) (S x)) where
-  x_move : (kind : TokenKind) (place : Place) → Move kind place (λ tokens. bind k (x_of kind tokens)) (Then AfterX S)
-  x_move NotEqual place = shift AfterX k S goods NotEqual place _ (reads_to _ y_reads (λ tokens c rest is token k at. is token k)) refl (λ tokens. refl)
-  x_move kind place = pass AfterX k S goods kind place _ (reads_to _ (decrement_reads XDecrement) (λ tokens c rest is. x_signs is)) (λ tokens. refl)
+  x_move : (kind : TokenKind) (position : SourcePosition) → Move kind position (λ tokens. bind k (x_of kind tokens)) (Then AfterX S)
+  x_move NotEqual position = shift AfterX k S goods NotEqual position _ (reads_to _ y_reads (λ tokens c rest is token k at. is token k)) refl (λ tokens. refl)
+  x_move kind position = pass AfterX k S goods kind position _ (reads_to _ (decrement_reads XDecrement) (λ tokens c rest is. x_signs is)) (λ tokens. refl)
 
 -- `--` or `!=` `y`
 x_reads : Reads true x_condition_at AfterX
 x_reads = record {
-  good = λ k S goods. good true (λ kind place tokens. bind k (x_of kind tokens)) (Then AfterX S) (x_move k S goods) (can_shift _ k S goods (token_of NotEqual) y_reads (λ tokens. refl) refl) (λ yes. refl);
+  good = λ k S goods. good true (λ kind position tokens. bind k (x_of kind tokens)) (Then AfterX S) (x_move k S goods) (can_shift _ k S goods (token_of NotEqual) y_reads (λ tokens. refl) refl) (λ yes. refl);
 }
 
 abbrev AfterBang : List Token → JmpCondition → List Token → Type 0
 AfterBang tokens c rest = (bang : Token) → bang.kind ≡ Bang → IsJmpCondition (bang ∷ tokens) c rest
 
 module _ (k : JmpCondition → Rest) (S : JmpCondition → List Token → Answer → List Token → Type 0) (goods : (x : JmpCondition) → Good true (k x) (S x)) where
-  bang_move : (kind : TokenKind) (place : Place) → Move kind place (λ tokens. bind k (not_condition_of kind tokens)) (Then AfterBang S)
-  bang_move (KeywordToken X) place =
-      shift AfterBang k S goods (KeywordToken X) place _ (reads_to _ (conditional_reads XZero) (λ tokens c rest is token k at bang b. given (x_zero b k) is)) refl (λ tokens. refl)
-  bang_move (KeywordToken Y) place =
-      shift AfterBang k S goods (KeywordToken Y) place _ (reads_to _ (conditional_reads YZero) (λ tokens c rest is token k at bang b. given (y_zero b k) is)) refl (λ tokens. refl)
-  bang_move (KeywordToken Osre) place =
-      shift AfterBang k S goods (KeywordToken Osre) place _ (reads_to _ (conditional_reads OsrNotEmpty) (λ tokens c rest is token k at bang b. given (osr_not_empty b k) is)) refl (λ tokens. refl)
-  bang_move kind place = misfits (λ tokens. refl)
+  bang_move : (kind : TokenKind) (position : SourcePosition) → Move kind position (λ tokens. bind k (not_condition_of kind tokens)) (Then AfterBang S)
+  bang_move (KeywordToken X) position =
+      shift AfterBang k S goods (KeywordToken X) position _ (reads_to _ (conditional_reads XZero) (λ tokens c rest is token k at bang b. given (x_zero b k) is)) refl (λ tokens. refl)
+  bang_move (KeywordToken Y) position =
+      shift AfterBang k S goods (KeywordToken Y) position _ (reads_to _ (conditional_reads YZero) (λ tokens c rest is token k at bang b. given (y_zero b k) is)) refl (λ tokens. refl)
+  bang_move (KeywordToken Osre) position =
+      shift AfterBang k S goods (KeywordToken Osre) position _ (reads_to _ (conditional_reads OsrNotEmpty) (λ tokens c rest is token k at bang b. given (osr_not_empty b k) is)) refl (λ tokens. refl)
+  bang_move kind position = misfits (λ tokens. refl)
 
 -- `x`, `y` or `osre` after `!`
 bang_reads : Reads true not_condition_at AfterBang
 bang_reads = record {
-  good = λ k S goods. good true (λ kind place tokens. bind k (not_condition_of kind tokens)) (Then AfterBang S) (bang_move k S goods)
+  good = λ k S goods. good true (λ kind position tokens. bind k (not_condition_of kind tokens)) (Then AfterBang S) (bang_move k S goods)
       (can_shift _ k S goods (token_of (KeywordToken X)) (conditional_reads XZero) (λ tokens. refl) refl) (λ yes. refl);
 }
 
 module _ (k : JmpCondition → Rest) (S : JmpCondition → List Token → Answer → List Token → Type 0) (goods : (x : JmpCondition) → Good true (k x) (S x)) where
-  condition_move : (kind : TokenKind) (place : Place) → Move kind place (λ tokens. bind k (jmp_condition_of kind tokens)) (Then IsJmpCondition S)
-  condition_move Bang place = shift IsJmpCondition k S goods Bang place _ (reads_to _ bang_reads (λ tokens c rest is token k at. is token k)) refl (λ tokens. refl)
-  condition_move (KeywordToken X) place = shift IsJmpCondition k S goods (KeywordToken X) place _ (reads_to _ x_reads (λ tokens c rest is token k at. is token k)) refl (λ tokens. refl)
-  condition_move (KeywordToken Y) place =
-      shift IsJmpCondition k S goods (KeywordToken Y) place _ (reads_to _ (decrement_reads YDecrement) (λ tokens c rest is token k at. y_signs is token k)) refl (λ tokens. refl)
-  condition_move (KeywordToken Pin) place =
-      shift IsJmpCondition k S goods (KeywordToken Pin) place _ (reads_to _ (conditional_reads PinHigh) (λ tokens c rest is token k at. given (pin k) is)) refl (λ tokens. refl)
-  condition_move kind place = keep IsJmpCondition k S goods kind place Always _ (λ rest. always) (λ tokens. refl)
+  condition_move : (kind : TokenKind) (position : SourcePosition) → Move kind position (λ tokens. bind k (jmp_condition_of kind tokens)) (Then IsJmpCondition S)
+  condition_move Bang position = shift IsJmpCondition k S goods Bang position _ (reads_to _ bang_reads (λ tokens c rest is token k at. is token k)) refl (λ tokens. refl)
+  condition_move (KeywordToken X) position = shift IsJmpCondition k S goods (KeywordToken X) position _ (reads_to _ x_reads (λ tokens c rest is token k at. is token k)) refl (λ tokens. refl)
+  condition_move (KeywordToken Y) position =
+      shift IsJmpCondition k S goods (KeywordToken Y) position _ (reads_to _ (decrement_reads YDecrement) (λ tokens c rest is token k at. y_signs is token k)) refl (λ tokens. refl)
+  condition_move (KeywordToken Pin) position =
+      shift IsJmpCondition k S goods (KeywordToken Pin) position _ (reads_to _ (conditional_reads PinHigh) (λ tokens c rest is token k at. given (pin k) is)) refl (λ tokens. refl)
+  condition_move kind position = keep IsJmpCondition k S goods kind position Always _ (λ rest. always) (λ tokens. refl)
 
 -- [condition [`,`]]
 condition_reads : Reads true jmp_condition_at IsJmpCondition
 condition_reads = record {
-  good = λ k S goods. good true (λ kind place tokens. bind k (jmp_condition_of kind tokens)) (Then IsJmpCondition S) (condition_move k S goods)
+  good = λ k S goods. good true (λ kind position tokens. bind k (jmp_condition_of kind tokens)) (Then IsJmpCondition S) (condition_move k S goods)
       (can_shift _ k S goods (token_of (KeywordToken Pin)) (conditional_reads PinHigh) (λ tokens. refl) refl) (λ yes. refl);
 }
 
 module _ (k : Bool → Rest) (S : Bool → List Token → Answer → List Token → Type 0) (goods : (x : Bool) → Good true (k x) (S x)) where
-  block_move : (kind : TokenKind) (place : Place) → Move kind place (λ tokens. bind k (block_of kind tokens)) (Then IsBlock S)
-  block_move (KeywordToken Block) place = take IsBlock k S goods (KeywordToken Block) place true _ (λ token rest is. block is) refl (λ tokens. refl)
-  block_move (KeywordToken NoBlock) place = take IsBlock k S goods (KeywordToken NoBlock) place false _ (λ token rest is. noblock is) refl (λ tokens. refl)
-  block_move kind place = keep IsBlock k S goods kind place true _ (λ rest. no_word) (λ tokens. refl)
+  block_move : (kind : TokenKind) (position : SourcePosition) → Move kind position (λ tokens. bind k (block_of kind tokens)) (Then IsBlock S)
+  block_move (KeywordToken Block) position = take IsBlock k S goods (KeywordToken Block) position true _ (λ token rest is. block is) refl (λ tokens. refl)
+  block_move (KeywordToken NoBlock) position = take IsBlock k S goods (KeywordToken NoBlock) position false _ (λ token rest is. noblock is) refl (λ tokens. refl)
+  block_move kind position = keep IsBlock k S goods kind position true _ (λ rest. no_word) (λ tokens. refl)
 
 block_reads : Reads true block_at IsBlock
 block_reads = record {
-  good = λ k S goods. good true (λ kind place tokens. bind k (block_of kind tokens)) (Then IsBlock S) (block_move k S goods)
+  good = λ k S goods. good true (λ kind position tokens. bind k (block_of kind tokens)) (Then IsBlock S) (block_move k S goods)
       (can_after _ (k true) (token_of (KeywordToken Block)) (λ tokens. refl) refl (goods true).can) (λ yes. refl);
 }
 
 module _ (k : MovOperation → Rest) (S : MovOperation → List Token → Answer → List Token → Type 0) (goods : (x : MovOperation) → Good true (k x) (S x)) where
-  mov_move : (kind : TokenKind) (place : Place) → Move kind place (λ tokens. bind k (mov_operation_of kind tokens)) (Then IsMovOperation S)
-  mov_move Bang place = take IsMovOperation k S goods Bang place Invert _ (λ token rest is. invert is) refl (λ tokens. refl)
-  mov_move Tilde place = take IsMovOperation k S goods Tilde place Invert _ (λ token rest is. tilde is) refl (λ tokens. refl)
-  mov_move DoubleColon place = take IsMovOperation k S goods DoubleColon place Reverse _ (λ token rest is. reverse is) refl (λ tokens. refl)
-  mov_move kind place = keep IsMovOperation k S goods kind place Plain _ (λ rest. plain) (λ tokens. refl)
+  mov_move : (kind : TokenKind) (position : SourcePosition) → Move kind position (λ tokens. bind k (mov_operation_of kind tokens)) (Then IsMovOperation S)
+  mov_move Bang position = take IsMovOperation k S goods Bang position Invert _ (λ token rest is. invert is) refl (λ tokens. refl)
+  mov_move Tilde position = take IsMovOperation k S goods Tilde position Invert _ (λ token rest is. tilde is) refl (λ tokens. refl)
+  mov_move DoubleColon position = take IsMovOperation k S goods DoubleColon position Reverse _ (λ token rest is. reverse is) refl (λ tokens. refl)
+  mov_move kind position = keep IsMovOperation k S goods kind position Plain _ (λ rest. plain) (λ tokens. refl)
 
 mov_operation_reads : Reads true mov_operation_at IsMovOperation
 mov_operation_reads = record {
-  good = λ k S goods. good true (λ kind place tokens. bind k (mov_operation_of kind tokens)) (Then IsMovOperation S) (mov_move k S goods)
+  good = λ k S goods. good true (λ kind position tokens. bind k (mov_operation_of kind tokens)) (Then IsMovOperation S) (mov_move k S goods)
       (can_after _ (k Invert) (token_of Bang) (λ tokens. refl) refl (goods Invert).can) (λ yes. refl);
 }
 
@@ -250,16 +250,16 @@ abbrev IsMode : List Token → Mode → List Token → Type 0
 IsMode tokens mode rest = IsIrqMode tokens mode.0 mode.1 rest
 
 module _ (k : Mode → Rest) (S : Mode → List Token → Answer → List Token → Type 0) (goods : (x : Mode) → Good true (k x) (S x)) where
-  mode_move : (kind : TokenKind) (place : Place) → Move kind place (λ tokens. bind k (irq_mode_of kind tokens)) (Then IsMode S)
-  mode_move (KeywordToken Set) place = take IsMode k S goods (KeywordToken Set) place (false, false) _ (λ token rest is. set_mode is) refl (λ tokens. refl)
-  mode_move (KeywordToken NoWait) place = take IsMode k S goods (KeywordToken NoWait) place (false, false) _ (λ token rest is. nowait is) refl (λ tokens. refl)
-  mode_move (KeywordToken Wait) place = take IsMode k S goods (KeywordToken Wait) place (false, true) _ (λ token rest is. wait_mode is) refl (λ tokens. refl)
-  mode_move (KeywordToken Clear) place = take IsMode k S goods (KeywordToken Clear) place (true, false) _ (λ token rest is. clear_mode is) refl (λ tokens. refl)
-  mode_move kind place = keep IsMode k S goods kind place (false, false) _ (λ rest. no_mode) (λ tokens. refl)
+  mode_move : (kind : TokenKind) (position : SourcePosition) → Move kind position (λ tokens. bind k (irq_mode_of kind tokens)) (Then IsMode S)
+  mode_move (KeywordToken Set) position = take IsMode k S goods (KeywordToken Set) position (false, false) _ (λ token rest is. set_mode is) refl (λ tokens. refl)
+  mode_move (KeywordToken NoWait) position = take IsMode k S goods (KeywordToken NoWait) position (false, false) _ (λ token rest is. nowait is) refl (λ tokens. refl)
+  mode_move (KeywordToken Wait) position = take IsMode k S goods (KeywordToken Wait) position (false, true) _ (λ token rest is. wait_mode is) refl (λ tokens. refl)
+  mode_move (KeywordToken Clear) position = take IsMode k S goods (KeywordToken Clear) position (true, false) _ (λ token rest is. clear_mode is) refl (λ tokens. refl)
+  mode_move kind position = keep IsMode k S goods kind position (false, false) _ (λ rest. no_mode) (λ tokens. refl)
 
 irq_mode_reads : Reads true irq_mode_at IsMode
 irq_mode_reads = record {
-  good = λ k S goods. good true (λ kind place tokens. bind k (irq_mode_of kind tokens)) (Then IsMode S) (mode_move k S goods)
+  good = λ k S goods. good true (λ kind position tokens. bind k (irq_mode_of kind tokens)) (Then IsMode S) (mode_move k S goods)
       (can_after _ (k (false, true)) (token_of (KeywordToken Wait)) (λ tokens. refl) refl (goods (false, true)).can) (λ yes. refl);
 }
 
@@ -285,14 +285,14 @@ module _ (text : List ℕ) where
         turn : (tokens : List Token) (x : Option (List Term)) (rest : List Token) → (value : List Term) × IsValue text tokens value rest × (Some value ≡ x) → IsPolarity text tokens x rest
         turn tokens x rest (value, is, same) = subst (λ x. IsPolarity text tokens x rest) same (polarity is)
 
-    polarity_move : (kind : TokenKind) (place : Place) → Move kind place (λ tokens. bind k (polarity_of text kind tokens)) (Then (IsPolarity text) S)
-    polarity_move (KeywordToken word) place = keep (IsPolarity text) k S goods (KeywordToken word) place None _ (λ rest. no_polarity) (λ tokens. refl)
-    polarity_move kind place = pass (IsPolarity text) k S goods kind place _ some_polarity (λ tokens. refl)
+    polarity_move : (kind : TokenKind) (position : SourcePosition) → Move kind position (λ tokens. bind k (polarity_of text kind tokens)) (Then (IsPolarity text) S)
+    polarity_move (KeywordToken word) position = keep (IsPolarity text) k S goods (KeywordToken word) position None _ (λ rest. no_polarity) (λ tokens. refl)
+    polarity_move kind position = pass (IsPolarity text) k S goods kind position _ some_polarity (λ tokens. refl)
 
   -- [value]
   polarity_reads : Reads true (polarity_at text) (IsPolarity text)
   polarity_reads = record {
-    good = λ k S goods. good true (λ kind place tokens. bind k (polarity_of text kind tokens)) (Then (IsPolarity text) S) (polarity_move k S goods)
+    good = λ k S goods. good true (λ kind position tokens. bind k (polarity_of text kind tokens)) (Then (IsPolarity text) S) (polarity_move k S goods)
         (can_after _ (k (Some (NumberTerm 0 ∷ []))) (token_of (Number 0)) (λ tokens. refl) refl (goods (Some (NumberTerm 0 ∷ []))).can) (λ yes. refl);
   }
 
@@ -304,38 +304,38 @@ module _ (text : List ℕ) where
   waits_same {rest = rest} same is word before w of_p = subst (λ operation. IsOperation text (word ∷ before) operation rest) same (is word before w of_p)
 
   module _ (p : Option (List Term)) where
-    gpio_reads : (place : Place) → Reads true (λ tokens. map_ok (λ number. (WaitGpio p number.0, number.1)) (last_operand_at text tokens)) (After (KeywordToken Gpio) place (Waits p))
-    gpio_reads place = reads_to _ (reads_map (WaitGpio p) (last_value_reads text)) turn
+    gpio_reads : (position : SourcePosition) → Reads true (λ tokens. map_ok (λ number. (WaitGpio p number.0, number.1)) (last_operand_at text tokens)) (After (KeywordToken Gpio) position (Waits p))
+    gpio_reads position = reads_to _ (reads_map (WaitGpio p) (last_value_reads text)) turn
       where
-        turn : (tokens : List Token) (operation : Operation) (rest : List Token) → (x : List Term) × IsLastValue text tokens x rest × (WaitGpio p x ≡ operation) → After (KeywordToken Gpio) place (Waits p) tokens operation rest
+        turn : (tokens : List Token) (operation : Operation) (rest : List Token) → (x : List Term) × IsLastValue text tokens x rest × (WaitGpio p x ≡ operation) → After (KeywordToken Gpio) position (Waits p) tokens operation rest
         turn tokens operation rest (x, is, same) token k at = waits_same same (λ word before w of_p. wait_gpio w of_p k is)
 
-    pin_reads : (place : Place) → Reads true (λ tokens. map_ok (λ number. (WaitPin p number.0, number.1)) (last_operand_at text tokens)) (After (KeywordToken Pin) place (Waits p))
-    pin_reads place = reads_to _ (reads_map (WaitPin p) (last_value_reads text)) turn
+    pin_reads : (position : SourcePosition) → Reads true (λ tokens. map_ok (λ number. (WaitPin p number.0, number.1)) (last_operand_at text tokens)) (After (KeywordToken Pin) position (Waits p))
+    pin_reads position = reads_to _ (reads_map (WaitPin p) (last_value_reads text)) turn
       where
-        turn : (tokens : List Token) (operation : Operation) (rest : List Token) → (x : List Term) × IsLastValue text tokens x rest × (WaitPin p x ≡ operation) → After (KeywordToken Pin) place (Waits p) tokens operation rest
+        turn : (tokens : List Token) (operation : Operation) (rest : List Token) → (x : List Term) × IsLastValue text tokens x rest × (WaitPin p x ≡ operation) → After (KeywordToken Pin) position (Waits p) tokens operation rest
         turn tokens operation rest (x, is, same) token k at = waits_same same (λ word before w of_p. wait_pin w of_p k is)
 
-    flag_reads_irq : (place : Place)
-        → Reads true (λ tokens. and_then (λ number. map_ok (λ relative. (WaitIrq p number.0 relative.0, relative.1)) (flag_at (is_rel (head_kind number.1)) number.1)) (last_operand_at text tokens)) (After (KeywordToken Irq) place (Waits p))
-    flag_reads_irq place = reads_to _ (reads_then (λ number tokens. map_ok (λ relative. (WaitIrq p number relative.0, relative.1)) (flag_at (is_rel (head_kind tokens)) tokens)) (last_value_reads text) (λ number. reads_map (WaitIrq p number) rel_reads)) turn
+    flag_reads_irq : (position : SourcePosition)
+        → Reads true (λ tokens. and_then (λ number. map_ok (λ relative. (WaitIrq p number.0 relative.0, relative.1)) (flag_at (is_rel (head_kind number.1)) number.1)) (last_operand_at text tokens)) (After (KeywordToken Irq) position (Waits p))
+    flag_reads_irq position = reads_to _ (reads_then (λ number tokens. map_ok (λ relative. (WaitIrq p number relative.0, relative.1)) (flag_at (is_rel (head_kind tokens)) tokens)) (last_value_reads text) (λ number. reads_map (WaitIrq p number) rel_reads)) turn
       where
         turn : (tokens : List Token) (operation : Operation) (rest : List Token)
             → (x : List Term) × (middle : List Token) × IsLastValue text tokens x middle × ((relative : Bool) × MayStand (KeywordToken Rel) middle relative rest × (WaitIrq p x relative ≡ operation))
-            → After (KeywordToken Irq) place (Waits p) tokens operation rest
+            → After (KeywordToken Irq) position (Waits p) tokens operation rest
         turn tokens operation rest (x, middle, is, (relative, may, same)) token k at = waits_same same (λ word before w of_p. wait_irq w of_p k is may)
 
     module _ (k : Operation → Rest) (S : Operation → List Token → Answer → List Token → Type 0) (goods : (x : Operation) → Good true (k x) (S x)) where
-      wait_move : (kind : TokenKind) (place : Place) → Move kind place (λ tokens. bind k (wait_for text p kind tokens)) (Then (Waits p) S)
-      wait_move (KeywordToken Gpio) place = shift (Waits p) k S goods (KeywordToken Gpio) place _ (gpio_reads place) refl (λ tokens. refl)
-      wait_move (KeywordToken Pin) place = shift (Waits p) k S goods (KeywordToken Pin) place _ (pin_reads place) refl (λ tokens. refl)
-      wait_move (KeywordToken Irq) place = shift (Waits p) k S goods (KeywordToken Irq) place _ (flag_reads_irq place) refl (λ tokens. refl)
-      wait_move kind place = misfits (λ tokens. refl)
+      wait_move : (kind : TokenKind) (position : SourcePosition) → Move kind position (λ tokens. bind k (wait_for text p kind tokens)) (Then (Waits p) S)
+      wait_move (KeywordToken Gpio) position = shift (Waits p) k S goods (KeywordToken Gpio) position _ (gpio_reads position) refl (λ tokens. refl)
+      wait_move (KeywordToken Pin) position = shift (Waits p) k S goods (KeywordToken Pin) position _ (pin_reads position) refl (λ tokens. refl)
+      wait_move (KeywordToken Irq) position = shift (Waits p) k S goods (KeywordToken Irq) position _ (flag_reads_irq position) refl (λ tokens. refl)
+      wait_move kind position = misfits (λ tokens. refl)
 
     wait_for_reads : Reads true (λ tokens. wait_for text p (head_kind tokens) tokens) (Waits p)
     wait_for_reads = record {
-      good = λ k S goods. good true (λ kind place tokens. bind k (wait_for text p kind tokens)) (Then (Waits p) S) (wait_move k S goods)
-          (can_shift _ k S goods (token_of (KeywordToken Gpio)) (gpio_reads (token_of (KeywordToken Gpio)).place) (λ tokens. refl) refl) (λ yes. refl);
+      good = λ k S goods. good true (λ kind position tokens. bind k (wait_for text p kind tokens)) (Then (Waits p) S) (wait_move k S goods)
+          (can_shift _ k S goods (token_of (KeywordToken Gpio)) (gpio_reads (token_of (KeywordToken Gpio)).position) (λ tokens. refl) refl) (λ yes. refl);
     }
 
   pub wait_reads : Reads true (wait_at text) (AfterWord text Wait)
@@ -409,10 +409,10 @@ module _ (text : List ℕ) where
   nop_reads = record { good = λ k S goods. good_to _ (goods (MovOperation' MovToY Plain MovFromY)) (λ tokens answer rest s. (MovOperation' MovToY Plain MovFromY, tokens, (λ word w. nop w), s)) }
 
   -- modifiers
-  some_side : (place : Place) → Reads true (λ tokens. map_ok (λ value. (Some value.0, value.1)) (operand_at text tokens)) (After (KeywordToken Side) place (IsSide text))
-  some_side place = reads_to _ (reads_map Some (value_reads text)) turn
+  some_side : (position : SourcePosition) → Reads true (λ tokens. map_ok (λ value. (Some value.0, value.1)) (operand_at text tokens)) (After (KeywordToken Side) position (IsSide text))
+  some_side position = reads_to _ (reads_map Some (value_reads text)) turn
     where
-      turn : (tokens : List Token) (x : Option (List Term)) (rest : List Token) → (value : List Term) × IsValue text tokens value rest × (Some value ≡ x) → After (KeywordToken Side) place (IsSide text) tokens x rest
+      turn : (tokens : List Token) (x : Option (List Term)) (rest : List Token) → (value : List Term) × IsValue text tokens value rest × (Some value ≡ x) → After (KeywordToken Side) position (IsSide text) tokens x rest
       turn tokens x rest (value, is, same) token k at = subst (λ x. IsSide text (token ∷ tokens) x rest) same (side k is)
 
   abbrev side_of : TokenKind → List Token → Outcome (Option (List Term))
@@ -421,36 +421,36 @@ module _ (text : List ℕ) where
   abbrev delay_inner : List Token → Outcome (Option (List Term))
   delay_inner tokens = and_then (λ delay. map_ok (λ close. (Some delay.0, close.1)) (expected (is_close_bracket (head_kind delay.1)) delay.1)) (expression_at text tokens)
 
-  delay_inner_reads : (place : Place) → Reads true delay_inner (After OpenBracket place (IsDelay text))
-  delay_inner_reads place = reads_to _ (reads_then (λ x tokens. map_ok (λ close. (Some x, close.1)) (expected (is_close_bracket (head_kind tokens)) tokens)) (expression_reads text)
+  delay_inner_reads : (position : SourcePosition) → Reads true delay_inner (After OpenBracket position (IsDelay text))
+  delay_inner_reads position = reads_to _ (reads_then (λ x tokens. map_ok (λ close. (Some x, close.1)) (expected (is_close_bracket (head_kind tokens)) tokens)) (expression_reads text)
       (λ x. reads_map (λ u. Some x) (one_reads is_close_bracket refl refl true CloseBracket refl (λ yes. refl)))) turn
     where
       turn : (tokens : List Token) (y : Option (List Term)) (rest : List Token)
-          → (x : List Term) × (middle : List Token) × IsTerms text tokens x middle × ((u : Unit {0}) × IsOne is_close_bracket middle u rest × (Some x ≡ y)) → After OpenBracket place (IsDelay text) tokens y rest
+          → (x : List Term) × (middle : List Token) × IsTerms text tokens x middle × ((u : Unit {0}) × IsOne is_close_bracket middle u rest × (Some x ≡ y)) → After OpenBracket position (IsDelay text) tokens y rest
       turn tokens y rest (x, middle, sum_terms sum, (u, one {token = close} is, same)) token k at = subst (λ y. IsDelay text (token ∷ tokens) y rest) same (delay k sum (bracket_of close.kind is))
 
   abbrev delay_of : TokenKind → List Token → Outcome (Option (List Term))
   delay_of kind tokens = if is_open_bracket kind then delay_inner (after_head tokens) else Ok (None, tokens)
 
   module _ (k : Option (List Term) → Rest) (S : Option (List Term) → List Token → Answer → List Token → Type 0) (goods : (x : Option (List Term)) → Good true (k x) (S x)) where
-    side_move : (kind : TokenKind) (place : Place) → Move kind place (λ tokens. bind k (side_of kind tokens)) (Then (IsSide text) S)
-    side_move (KeywordToken Side) place = shift (IsSide text) k S goods (KeywordToken Side) place _ (some_side place) refl (λ tokens. refl)
-    side_move kind place = keep (IsSide text) k S goods kind place None _ (λ rest. no_side) (λ tokens. refl)
+    side_move : (kind : TokenKind) (position : SourcePosition) → Move kind position (λ tokens. bind k (side_of kind tokens)) (Then (IsSide text) S)
+    side_move (KeywordToken Side) position = shift (IsSide text) k S goods (KeywordToken Side) position _ (some_side position) refl (λ tokens. refl)
+    side_move kind position = keep (IsSide text) k S goods kind position None _ (λ rest. no_side) (λ tokens. refl)
 
-    delay_move : (kind : TokenKind) (place : Place) → Move kind place (λ tokens. bind k (delay_of kind tokens)) (Then (IsDelay text) S)
-    delay_move OpenBracket place = shift (IsDelay text) k S goods OpenBracket place _ (delay_inner_reads place) refl (λ tokens. refl)
-    delay_move kind place = keep (IsDelay text) k S goods kind place None _ (λ rest. no_delay) (λ tokens. refl)
+    delay_move : (kind : TokenKind) (position : SourcePosition) → Move kind position (λ tokens. bind k (delay_of kind tokens)) (Then (IsDelay text) S)
+    delay_move OpenBracket position = shift (IsDelay text) k S goods OpenBracket position _ (delay_inner_reads position) refl (λ tokens. refl)
+    delay_move kind position = keep (IsDelay text) k S goods kind position None _ (λ rest. no_delay) (λ tokens. refl)
 
   side_reads : Reads true (side_at text) (IsSide text)
   side_reads = record {
-    good = λ k S goods. good true (λ kind place tokens. bind k (side_of kind tokens)) (Then (IsSide text) S) (side_move k S goods)
-        (can_shift _ k S goods (token_of (KeywordToken Side)) (some_side (token_of (KeywordToken Side)).place) (λ tokens. refl) refl) (λ yes. refl);
+    good = λ k S goods. good true (λ kind position tokens. bind k (side_of kind tokens)) (Then (IsSide text) S) (side_move k S goods)
+        (can_shift _ k S goods (token_of (KeywordToken Side)) (some_side (token_of (KeywordToken Side)).position) (λ tokens. refl) refl) (λ yes. refl);
   }
 
   delay_reads : Reads true (delay_at text) (IsDelay text)
   delay_reads = record {
-    good = λ k S goods. good true (λ kind place tokens. bind k (delay_of kind tokens)) (Then (IsDelay text) S) (delay_move k S goods)
-        (can_shift _ k S goods (token_of OpenBracket) (delay_inner_reads (token_of OpenBracket).place) (λ tokens. refl) refl) (λ yes. refl);
+    good = λ k S goods. good true (λ kind position tokens. bind k (delay_of kind tokens)) (Then (IsDelay text) S) (delay_move k S goods)
+        (can_shift _ k S goods (token_of OpenBracket) (delay_inner_reads (token_of OpenBracket).position) (λ tokens. refl) refl) (λ yes. refl);
   }
 
   abbrev Both : Type 0
@@ -459,11 +459,11 @@ module _ (text : List ℕ) where
   abbrev AreModifiers : List Token → Both → List Token → Type 0
   AreModifiers tokens both rest = IsModifiers text tokens both.0 both.1 rest
 
-  bracket_first : (place : Place) → Reads true (λ tokens. and_then (λ delay. map_ok (λ side. ((side.0, delay.0), side.1)) (side_at text delay.1)) (delay_inner tokens)) (After OpenBracket place AreModifiers)
-  bracket_first place = reads_to _ (reads_then (λ d tokens. map_ok (λ side. ((side.0, d), side.1)) (side_at text tokens)) (delay_inner_reads place) (λ d. reads_map (λ s. (s, d)) side_reads)) turn
+  bracket_first : (position : SourcePosition) → Reads true (λ tokens. and_then (λ delay. map_ok (λ side. ((side.0, delay.0), side.1)) (side_at text delay.1)) (delay_inner tokens)) (After OpenBracket position AreModifiers)
+  bracket_first position = reads_to _ (reads_then (λ d tokens. map_ok (λ side. ((side.0, d), side.1)) (side_at text tokens)) (delay_inner_reads position) (λ d. reads_map (λ s. (s, d)) side_reads)) turn
     where
       turn : (tokens : List Token) (both : Both) (rest : List Token)
-          → (d : Option (List Term)) × (middle : List Token) × After OpenBracket place (IsDelay text) tokens d middle × ((s : Option (List Term)) × IsSide text middle s rest × Path Both (s, d) both) → After OpenBracket place AreModifiers tokens both rest
+          → (d : Option (List Term)) × (middle : List Token) × After OpenBracket position (IsDelay text) tokens d middle × ((s : Option (List Term)) × IsSide text middle s rest × Path Both (s, d) both) → After OpenBracket position AreModifiers tokens both rest
       turn tokens both rest (d, middle, is, (s, is_side, same)) token k at = subst (λ (both : Both). AreModifiers (token ∷ tokens) both rest) same (delay_first (is token k at) is_side)
 
   side_then_delay : Reads true (λ tokens. and_then (λ side. map_ok (λ delay. ((side.0, delay.0), delay.1)) (delay_at text side.1)) (side_at text tokens)) AreModifiers
@@ -480,12 +480,12 @@ module _ (text : List ℕ) where
       else and_then (λ side. map_ok (λ delay. ((side.0, delay.0), delay.1)) (delay_at text side.1)) (side_at text tokens)
 
   module _ (k : Both → Rest) (S : Both → List Token → Answer → List Token → Type 0) (goods : (x : Both) → Good true (k x) (S x)) where
-    modifiers_move : (kind : TokenKind) (place : Place) → Move kind place (λ tokens. bind k (modifiers_of kind tokens)) (Then AreModifiers S)
-    modifiers_move OpenBracket place = shift AreModifiers k S goods OpenBracket place _ (bracket_first place) refl (λ tokens. refl)
-    modifiers_move kind place = pass AreModifiers k S goods kind place _ side_then_delay (λ tokens. refl)
+    modifiers_move : (kind : TokenKind) (position : SourcePosition) → Move kind position (λ tokens. bind k (modifiers_of kind tokens)) (Then AreModifiers S)
+    modifiers_move OpenBracket position = shift AreModifiers k S goods OpenBracket position _ (bracket_first position) refl (λ tokens. refl)
+    modifiers_move kind position = pass AreModifiers k S goods kind position _ side_then_delay (λ tokens. refl)
 
   pub modifiers_reads : Reads true (modifiers_at text) AreModifiers
   modifiers_reads = record {
-    good = λ k S goods. good true (λ kind place tokens. bind k (modifiers_of kind tokens)) (Then AreModifiers S) (modifiers_move k S goods)
-        (can_shift _ k S goods (token_of OpenBracket) (bracket_first (token_of OpenBracket).place) (λ tokens. refl) refl) (λ yes. refl);
+    good = λ k S goods. good true (λ kind position tokens. bind k (modifiers_of kind tokens)) (Then AreModifiers S) (modifiers_move k S goods)
+        (can_shift _ k S goods (token_of OpenBracket) (bracket_first (token_of OpenBracket).position) (λ tokens. refl) refl) (λ yes. refl);
   }

@@ -1,13 +1,13 @@
 -- How the rest of a line is read, part by part: what stands there where it is read, and where it is refused.
 use Rattle.std.proofs.Common.{◌≡◌, not, Bool, true, false, ℕ, List, [], ◌∷◌, Option, Some, None, Ok, Err, ◌⊎◌, inl, inr, refl, sym, ap, ◌∙◌}
 use mathlib.Core.Bool.{false≢true}
-use Rattle.pio_parse.specs.declared.token.Place.{Place}
+use Rattle.pio_parse.specs.declared.token.SourcePosition.{SourcePosition}
 use Rattle.pio_parse.specs.declared.token.Token.{Token}
 use Rattle.pio_parse.specs.declared.token.TokenKind.{TokenKind}
 use Rattle.pio_parse.specs.declared.token.TokenKind.TheVariants.{LineEnd, FileEnd}
 use Rattle.pio_parse.specs.declared.syntax.Statement.{Statement}
 use Rattle.pio_parse.specs.Outcome.{and_then, map_ok}
-use Rattle.pio_parse.specs.Cursor.{Outcome, after_head, expected, head_kind, head_place, misfit}
+use Rattle.pio_parse.specs.Cursor.{Outcome, after_head, expected, head_kind, head_position, misfit}
 use Rattle.pio_parse.specs.Instruction.{flag_at, named_at}
 use Rattle.pio_parse.specs.Statement.{is_end}
 use Rattle.pio_parse.proofs.Runs.{both}
@@ -26,7 +26,7 @@ abbrev pub Rest : Type 0
 Rest = List Token → Outcome Answer
 
 abbrev pub token_of : TokenKind → Token
-token_of kind = record { kind = kind; place = record { line = 0; column = 0 } }
+token_of kind = record { kind = kind; position = record { line = 0; column = 0 } }
 
 -- tokens that are read up to their end
 pub record Can (g : Rest) : Type 0 where
@@ -37,33 +37,33 @@ pub record Can (g : Rest) : Type 0 where
   pub line : is_line (first ∷ further) ≡ true
   pub goes : g (first ∷ further) ≡ Ok (answer, end ∷ [])
 
--- the tokens are refused at one at this place: before it something can be read, and with it nothing
-abbrev pub Refused : Rest → Place → List Token → Type 0
-Refused g place [] = ⊥
-Refused g place (token ∷ tokens) =
-    ((token.place ≡ place) × Can g × ((further : List Token) → g (token ∷ further) ≡ Err place)) ⊎ Refused (λ xs. g (token ∷ xs)) place tokens
+-- the tokens are refused at one at this position: before it something can be read, and with it nothing
+abbrev pub Refused : Rest → SourcePosition → List Token → Type 0
+Refused g position [] = ⊥
+Refused g position (token ∷ tokens) =
+    ((token.position ≡ position) × Can g × ((further : List Token) → g (token ∷ further) ≡ Err position)) ⊎ Refused (λ xs. g (token ∷ xs)) position tokens
 
 -- what is read stands so, and its end is left; what is refused is so at the first token that fits nothing
 pub record Good (starts : Bool) (g : Rest) (S : List Token → Answer → List Token → Type 0) : Type 0 where
   pub reads : (tokens rest : List Token) (answer : Answer) → is_line tokens ≡ true → g tokens ≡ Ok (answer, rest) → S tokens answer rest × (is_line rest ≡ true)
-  pub refuses : (tokens : List Token) (place : Place) → is_line tokens ≡ true → g tokens ≡ Err place → Refused g place tokens
+  pub refuses : (tokens : List Token) (position : SourcePosition) → is_line tokens ≡ true → g tokens ≡ Err position → Refused g position tokens
   pub can : Can g
   pub ends : starts ≡ true → ends_sum can.first.kind ≡ true
 
 abbrev can_same : (g g' : Rest) → ((tokens : List Token) → g tokens ≡ g' tokens) → Can g → Can g'
 can_same g g' e can = record { first = can.first; further = can.further; answer = can.answer; end = can.end; line = can.line; goes = sym (e (can.first ∷ can.further)) ∙ can.goes }
 
-pub refused_same : (g g' : Rest) → ((tokens : List Token) → g tokens ≡ g' tokens) → (place : Place) (tokens : List Token) → Refused g place tokens → Refused g' place tokens
-refused_same g g' e place [] r = r
-refused_same g g' e place (token ∷ tokens) (inl (at, can, stays)) = inl (at, can_same g g' e can, λ further. sym (e (token ∷ further)) ∙ stays further)
-refused_same g g' e place (token ∷ tokens) (inr r) = inr (refused_same (λ xs. g (token ∷ xs)) (λ xs. g' (token ∷ xs)) (λ xs. e (token ∷ xs)) place tokens r)
+pub refused_same : (g g' : Rest) → ((tokens : List Token) → g tokens ≡ g' tokens) → (position : SourcePosition) (tokens : List Token) → Refused g position tokens → Refused g' position tokens
+refused_same g g' e position [] r = r
+refused_same g g' e position (token ∷ tokens) (inl (at, can, stays)) = inl (at, can_same g g' e can, λ further. sym (e (token ∷ further)) ∙ stays further)
+refused_same g g' e position (token ∷ tokens) (inr r) = inr (refused_same (λ xs. g (token ∷ xs)) (λ xs. g' (token ∷ xs)) (λ xs. e (token ∷ xs)) position tokens r)
 
 pub good_same : {starts : Bool} {g : Rest} {S : List Token → Answer → List Token → Type 0} (g' : Rest) (S' : List Token → Answer → List Token → Type 0)
     → Good starts g S → ((tokens : List Token) → g tokens ≡ g' tokens) → ((tokens : List Token) (answer : Answer) (rest : List Token) → S tokens answer rest → S' tokens answer rest)
     → Good starts g' S'
 good_same {g = g} g' S' good e to = record {
   reads = λ tokens rest answer line q. let read = good.reads tokens rest answer line (e tokens ∙ q) in (to tokens answer rest read.0, read.1);
-  refuses = λ tokens place line q. refused_same g g' e place tokens (good.refuses tokens place line (e tokens ∙ q));
+  refuses = λ tokens position line q. refused_same g g' e position tokens (good.refuses tokens position line (e tokens ∙ q));
   can = can_same g g' e good.can;
   ends = good.ends;
 }
@@ -73,14 +73,14 @@ pub good_to : {starts : Bool} {g : Rest} {S : List Token → Answer → List Tok
 good_to {g = g} S' good to = good_same g S' good (λ tokens. refl) to
 
 -- what the rest of a line does with its next token: it is refused, it is read, or it is left for what comes next
-pub data Move (kind : TokenKind) (place : Place) (h : Rest) (S : List Token → Answer → List Token → Type 0) : Type 0 where
-  misfits : ((tokens : List Token) → h tokens ≡ misfit tokens) → Move kind place h S
+pub data Move (kind : TokenKind) (position : SourcePosition) (h : Rest) (S : List Token → Answer → List Token → Type 0) : Type 0 where
+  misfits : ((tokens : List Token) → h tokens ≡ misfit tokens) → Move kind position h S
   shifts : {starts : Bool} (g : Rest)
-      → Good starts g (λ tokens answer rest. (token : Token) → token.kind ≡ kind → token.place ≡ place → S (token ∷ tokens) answer rest)
-      → is_end kind ≡ false → ((tokens : List Token) → h tokens ≡ g (after_head tokens)) → Move kind place h S
+      → Good starts g (λ tokens answer rest. (token : Token) → token.kind ≡ kind → token.position ≡ position → S (token ∷ tokens) answer rest)
+      → is_end kind ≡ false → ((tokens : List Token) → h tokens ≡ g (after_head tokens)) → Move kind position h S
   keeps : {starts : Bool} (g : Rest)
       → Good starts g (λ tokens answer rest. head_kind tokens ≡ kind → S tokens answer rest)
-      → ((tokens : List Token) → h tokens ≡ g tokens) → Move kind place h S
+      → ((tokens : List Token) → h tokens ≡ g tokens) → Move kind position h S
 
 pub not_true : (b : Bool) → not b ≡ true → b ≡ false
 not_true true h = sym h
@@ -92,7 +92,7 @@ line_inside token (next ∷ tokens) line no_end = (both (not (is_end token.kind)
 
 module _ (S : List Token → Answer → List Token → Type 0) (h : Rest) (token : Token) where
   reads_by : (tokens rest : List Token) (answer : Answer) → is_line (token ∷ tokens) ≡ true → h (token ∷ tokens) ≡ Ok (answer, rest)
-      → Move token.kind token.place h S → S (token ∷ tokens) answer rest × (is_line rest ≡ true)
+      → Move token.kind token.position h S → S (token ∷ tokens) answer rest × (is_line rest ≡ true)
   reads_by tokens rest answer line q (misfits e) = absurd (refused (sym (e (token ∷ tokens)) ∙ q))
   reads_by tokens rest answer line q (shifts g good no_end e) =
       let read = good.reads tokens rest answer (line_inside token tokens line no_end) (sym (e (token ∷ tokens)) ∙ q) in (read.0 token refl refl, read.1)
@@ -101,41 +101,41 @@ module _ (S : List Token → Answer → List Token → Type 0) (h : Rest) (token
 
   -- a rest that does with this token what `h` does
   module _ (f : Rest) (same : (tokens : List Token) → h (token ∷ tokens) ≡ f (token ∷ tokens)) (can : Can f) where
-    kept : (place : Place) (tokens : List Token) (g : Rest) → ((tokens : List Token) → h tokens ≡ g tokens) → Refused g place (token ∷ tokens) → Refused f place (token ∷ tokens)
-    kept place tokens g e (inl (at, can_g, stays)) = inl (at, can, λ further. sym (same further) ∙ e (token ∷ further) ∙ stays further)
-    kept place tokens g e (inr r) = inr (refused_same (λ xs. g (token ∷ xs)) (λ xs. f (token ∷ xs)) (λ xs. sym (e (token ∷ xs)) ∙ same xs) place tokens r)
+    kept : (position : SourcePosition) (tokens : List Token) (g : Rest) → ((tokens : List Token) → h tokens ≡ g tokens) → Refused g position (token ∷ tokens) → Refused f position (token ∷ tokens)
+    kept position tokens g e (inl (at, can_g, stays)) = inl (at, can, λ further. sym (same further) ∙ e (token ∷ further) ∙ stays further)
+    kept position tokens g e (inr r) = inr (refused_same (λ xs. g (token ∷ xs)) (λ xs. f (token ∷ xs)) (λ xs. sym (e (token ∷ xs)) ∙ same xs) position tokens r)
 
-    refused_by : (place : Place) (tokens : List Token) → is_line (token ∷ tokens) ≡ true → h (token ∷ tokens) ≡ Err place → Move token.kind token.place h S → Refused f place (token ∷ tokens)
-    refused_by place tokens line q (misfits e) =
-        let at : token.place ≡ place = err_place (sym (e (token ∷ tokens)) ∙ q) in
+    refused_by : (position : SourcePosition) (tokens : List Token) → is_line (token ∷ tokens) ≡ true → h (token ∷ tokens) ≡ Err position → Move token.kind token.position h S → Refused f position (token ∷ tokens)
+    refused_by position tokens line q (misfits e) =
+        let at : token.position ≡ position = err_position (sym (e (token ∷ tokens)) ∙ q) in
         inl (at, can, λ further. sym (same further) ∙ e (token ∷ further) ∙ ap Err at)
       where
-        place_in : Outcome Answer → Place
-        place_in (Ok x) = place
-        place_in (Err p) = p
+        position_in : Outcome Answer → SourcePosition
+        position_in (Ok x) = position
+        position_in (Err p) = p
 
-        err_place : {p : Place} → Path (Outcome Answer) (Err p) (Err place) → p ≡ place
-        err_place e = ap place_in e
-    refused_by place tokens line q (shifts g good no_end e) =
-        inr (refused_same g (λ xs. f (token ∷ xs)) (λ xs. sym (e (token ∷ xs)) ∙ same xs) place tokens
-        (good.refuses tokens place (line_inside token tokens line no_end) (sym (e (token ∷ tokens)) ∙ q)))
-    refused_by place tokens line q (keeps g good e) = kept place tokens g e (good.refuses (token ∷ tokens) place line (sym (e (token ∷ tokens)) ∙ q))
+        err_position : {p : SourcePosition} → Path (Outcome Answer) (Err p) (Err position) → p ≡ position
+        err_position e = ap position_in e
+    refused_by position tokens line q (shifts g good no_end e) =
+        inr (refused_same g (λ xs. f (token ∷ xs)) (λ xs. sym (e (token ∷ xs)) ∙ same xs) position tokens
+        (good.refuses tokens position (line_inside token tokens line no_end) (sym (e (token ∷ tokens)) ∙ q)))
+    refused_by position tokens line q (keeps g good e) = kept position tokens g e (good.refuses (token ∷ tokens) position line (sym (e (token ∷ tokens)) ∙ q))
 
 -- where it goes by the next token
-pub good : (starts : Bool) (h : TokenKind → Place → Rest) (S : List Token → Answer → List Token → Type 0)
-    → ((kind : TokenKind) (place : Place) → Move kind place (h kind place) S)
-    → (can : Can (λ tokens. h (head_kind tokens) (head_place tokens) tokens)) → (starts ≡ true → ends_sum can.first.kind ≡ true)
-    → Good starts (λ tokens. h (head_kind tokens) (head_place tokens) tokens) S
+pub good : (starts : Bool) (h : TokenKind → SourcePosition → Rest) (S : List Token → Answer → List Token → Type 0)
+    → ((kind : TokenKind) (position : SourcePosition) → Move kind position (h kind position) S)
+    → (can : Can (λ tokens. h (head_kind tokens) (head_position tokens) tokens)) → (starts ≡ true → ends_sum can.first.kind ≡ true)
+    → Good starts (λ tokens. h (head_kind tokens) (head_position tokens) tokens) S
 good starts h S moves can ends = record { reads = reads; refuses = refuses; can = can; ends = ends }
   where
-    reads : (tokens rest : List Token) (answer : Answer) → is_line tokens ≡ true → h (head_kind tokens) (head_place tokens) tokens ≡ Ok (answer, rest) → S tokens answer rest × (is_line rest ≡ true)
+    reads : (tokens rest : List Token) (answer : Answer) → is_line tokens ≡ true → h (head_kind tokens) (head_position tokens) tokens ≡ Ok (answer, rest) → S tokens answer rest × (is_line rest ≡ true)
     reads [] rest answer line q = absurd (false≢true line)
-    reads (token ∷ tokens) rest answer line q = reads_by S (h token.kind token.place) token tokens rest answer line q (moves token.kind token.place)
+    reads (token ∷ tokens) rest answer line q = reads_by S (h token.kind token.position) token tokens rest answer line q (moves token.kind token.position)
 
-    refuses : (tokens : List Token) (place : Place) → is_line tokens ≡ true → h (head_kind tokens) (head_place tokens) tokens ≡ Err place → Refused (λ tokens. h (head_kind tokens) (head_place tokens) tokens) place tokens
-    refuses [] place line q = absurd (false≢true line)
-    refuses (token ∷ tokens) place line q =
-        refused_by S (h token.kind token.place) token (λ tokens. h (head_kind tokens) (head_place tokens) tokens) (λ tokens. refl) can place tokens line q (moves token.kind token.place)
+    refuses : (tokens : List Token) (position : SourcePosition) → is_line tokens ≡ true → h (head_kind tokens) (head_position tokens) tokens ≡ Err position → Refused (λ tokens. h (head_kind tokens) (head_position tokens) tokens) position tokens
+    refuses [] position line q = absurd (false≢true line)
+    refuses (token ∷ tokens) position line q =
+        refused_by S (h token.kind token.position) token (λ tokens. h (head_kind tokens) (head_position tokens) tokens) (λ tokens. refl) can position tokens line q (moves token.kind token.position)
 
 -- what is read goes on so
 abbrev pub bind : {X : Type 0} → (X → Rest) → Outcome X → Outcome Answer
@@ -163,7 +163,7 @@ module _ {X : Type 0} {starts : Bool} {p : List Token → Outcome X} {R : List T
     where
       assoc : (k : Y → Rest) (outcome : Outcome X) → and_then (λ x. bind k (q x.0 x.1)) outcome ≡ bind k (and_then (λ x. q x.0 x.1) outcome)
       assoc k (Ok x) = refl
-      assoc k (Err place) = refl
+      assoc k (Err position) = refl
 
       turn : (S : Y → List Token → Answer → List Token → Type 0) (tokens : List Token) (answer : Answer) (rest : List Token)
           → Then R (λ x. Then (T x) S) tokens answer rest → Then (λ tokens y rest. (x : X) × (middle : List Token) × R tokens x middle × T x middle y rest) S tokens answer rest
@@ -177,7 +177,7 @@ module _ {X : Type 0} {starts : Bool} {p : List Token → Outcome X} {R : List T
     where
       assoc : (k : Y → Rest) (outcome : Outcome X) → and_then (λ x. k (f x.0) x.1) outcome ≡ bind k (map_ok {Y = Y × List Token} (λ x. (f x.0, x.1)) outcome)
       assoc k (Ok x) = refl
-      assoc k (Err place) = refl
+      assoc k (Err position) = refl
 
       turn : (S : Y → List Token → Answer → List Token → Type 0) (tokens : List Token) (answer : Answer) (rest : List Token)
           → Then R (λ x. S (f x)) tokens answer rest → Then (λ tokens y rest. (x : X) × R tokens x rest × (f x ≡ y)) S tokens answer rest
@@ -190,18 +190,18 @@ can_after g k token e no_end can = record { first = token; further = can.first �
 -- a token that may stand or be missing
 module _ (test : TokenKind → Bool) (kind : TokenKind) (fits : test kind ≡ true) (no_end : is_end kind ≡ false) (is_kind : (other : TokenKind) → test other ≡ true → other ≡ kind) where
   module _ (k : Bool → Rest) (S : Bool → List Token → Answer → List Token → Type 0) (goods : (x : Bool) → Good true (k x) (S x)) where
-    flag_move : (other : TokenKind) (place : Place) (b : Bool) → (b ≡ true → other ≡ kind) → Move other place (λ tokens. bind k (flag_at b tokens)) (Then (MayStand kind) S)
-    flag_move other place true same =
+    flag_move : (other : TokenKind) (position : SourcePosition) (b : Bool) → (b ≡ true → other ≡ kind) → Move other position (λ tokens. bind k (flag_at b tokens)) (Then (MayStand kind) S)
+    flag_move other position true same =
         shifts (k true) (good_to _ (goods true) (λ tokens answer rest s token is at. (true, tokens, stands (is ∙ same refl), s))) (ap is_end (same refl) ∙ no_end) (λ tokens. refl)
-    flag_move other place false same = keeps (k false) (good_to _ (goods false) (λ tokens answer rest s is. (false, tokens, missing, s))) (λ tokens. refl)
+    flag_move other position false same = keeps (k false) (good_to _ (goods false) (λ tokens answer rest s is. (false, tokens, missing, s))) (λ tokens. refl)
 
     abbrev flag_can : Can (λ tokens. bind k (flag_at (test (head_kind tokens)) tokens))
     flag_can = can_after _ (k true) (token_of kind) (λ tokens. rw fits refl) no_end (goods true).can
 
   pub flag_reads : ends_sum kind ≡ true → Reads true (λ tokens. flag_at (test (head_kind tokens)) tokens) (MayStand kind)
   flag_reads ends = record {
-    good = λ k S goods. good true (λ other place tokens. bind k (flag_at (test other) tokens)) (Then (MayStand kind) S)
-        (λ other place. flag_move k S goods other place (test other) (is_kind other)) (flag_can k S goods) (λ yes. ends);
+    good = λ k S goods. good true (λ other position tokens. bind k (flag_at (test other) tokens)) (Then (MayStand kind) S)
+        (λ other position. flag_move k S goods other position (test other) (is_kind other)) (flag_can k S goods) (λ yes. ends);
   }
 
 -- one token that has to stand
@@ -215,15 +215,15 @@ not_end test line file kind h = refl
 
 module _ (test : TokenKind → Bool) (line : test LineEnd ≡ false) (file : test FileEnd ≡ false) where
   module _ (k : Unit {0} → Rest) (S : Unit {0} → List Token → Answer → List Token → Type 0) (goods : (x : Unit {0}) → Good true (k x) (S x)) where
-    one_move : (kind : TokenKind) (place : Place) (b : Bool) → test kind ≡ b → Move kind place (λ tokens. bind k (expected b tokens)) (Then (IsOne test) S)
-    one_move kind place true fits =
+    one_move : (kind : TokenKind) (position : SourcePosition) (b : Bool) → test kind ≡ b → Move kind position (λ tokens. bind k (expected b tokens)) (Then (IsOne test) S)
+    one_move kind position true fits =
         shifts (k tt) (good_to _ (goods tt) (λ tokens answer rest s token is at. (tt, tokens, one (ap test is ∙ fits), s))) (not_end test line file kind fits) (λ tokens. refl)
-    one_move kind place false fits = misfits (λ tokens. refl)
+    one_move kind position false fits = misfits (λ tokens. refl)
 
   pub one_reads : (starts : Bool) (kind : TokenKind) → test kind ≡ true → (starts ≡ true → ends_sum kind ≡ true) → Reads starts (λ tokens. expected (test (head_kind tokens)) tokens) (IsOne test)
   one_reads starts kind fits ends = record {
-    good = λ k S goods. good starts (λ kind place tokens. bind k (expected (test kind) tokens)) (Then (IsOne test) S)
-        (λ kind place. one_move k S goods kind place (test kind) refl) (can_after _ (k tt) (token_of kind) (λ tokens. rw fits refl) (not_end test line file kind fits) (goods tt).can) ends;
+    good = λ k S goods. good starts (λ kind position tokens. bind k (expected (test kind) tokens)) (Then (IsOne test) S)
+        (λ kind position. one_move k S goods kind position (test kind) refl) (can_after _ (k tt) (token_of kind) (λ tokens. rw fits refl) (not_end test line file kind fits) (goods tt).can) ends;
   }
 
 -- a token that names something by a table
@@ -244,42 +244,42 @@ named_not_end table line file kind x h = refl
 
 module _ {X : Type 0} (table : TokenKind → Option X) (line : table LineEnd ≡ None) (file : table FileEnd ≡ None) where
   module _ (k : X → Rest) (S : X → List Token → Answer → List Token → Type 0) (goods : (x : X) → Good true (k x) (S x)) where
-    named_move : (kind : TokenKind) (place : Place) (o : Option X) → table kind ≡ o → Move kind place (λ tokens. bind k (named_at o tokens)) (Then (IsNamed table) S)
-    named_move kind place (Some x) fits =
+    named_move : (kind : TokenKind) (position : SourcePosition) (o : Option X) → table kind ≡ o → Move kind position (λ tokens. bind k (named_at o tokens)) (Then (IsNamed table) S)
+    named_move kind position (Some x) fits =
         shifts (k x) (good_to _ (goods x) (λ tokens answer rest s token is at. (x, tokens, named (ap table is ∙ fits), s))) (named_not_end table line file kind x fits) (λ tokens. refl)
-    named_move kind place None fits = misfits (λ tokens. refl)
+    named_move kind position None fits = misfits (λ tokens. refl)
 
   pub named_reads : (kind : TokenKind) (x : X) → table kind ≡ Some x → ends_sum kind ≡ true → Reads true (λ tokens. named_at (table (head_kind tokens)) tokens) (IsNamed table)
   named_reads kind x fits ends = record {
-    good = λ k S goods. good true (λ kind place tokens. bind k (named_at (table kind) tokens)) (Then (IsNamed table) S)
-        (λ kind place. named_move k S goods kind place (table kind) refl) (can_after _ (k x) (token_of kind) (λ tokens. rw fits refl) (named_not_end table line file kind x fits) (goods x).can) (λ yes. ends);
+    good = λ k S goods. good true (λ kind position tokens. bind k (named_at (table kind) tokens)) (Then (IsNamed table) S)
+        (λ kind position. named_move k S goods kind position (table kind) refl) (can_after _ (k x) (token_of kind) (λ tokens. rw fits refl) (named_not_end table line file kind x fits) (goods x).can) (λ yes. ends);
   }
 
 -- a relation after one token
-abbrev pub After : {X : Type 0} → TokenKind → Place → (List Token → X → List Token → Type 0) → List Token → X → List Token → Type 0
-After kind place R tokens x rest = (token : Token) → token.kind ≡ kind → token.place ≡ place → R (token ∷ tokens) x rest
+abbrev pub After : {X : Type 0} → TokenKind → SourcePosition → (List Token → X → List Token → Type 0) → List Token → X → List Token → Type 0
+After kind position R tokens x rest = (token : Token) → token.kind ≡ kind → token.position ≡ position → R (token ∷ tokens) x rest
 
 -- the ways in which a part goes by its next token
-module _ {X : Type 0} (R : List Token → X → List Token → Type 0) (k : X → Rest) (S : X → List Token → Answer → List Token → Type 0) (goods : (x : X) → Good true (k x) (S x)) (kind : TokenKind) (place : Place) where
+module _ {X : Type 0} (R : List Token → X → List Token → Type 0) (k : X → Rest) (S : X → List Token → Answer → List Token → Type 0) (goods : (x : X) → Good true (k x) (S x)) (kind : TokenKind) (position : SourcePosition) where
   -- the token is read, and a part after it
-  pub shift : {starts : Bool} {p : List Token → Outcome X} (h : Rest) → Reads starts p (After kind place R) → is_end kind ≡ false → ((tokens : List Token) → h tokens ≡ bind k (p (after_head tokens)))
-      → Move kind place h (Then R S)
+  pub shift : {starts : Bool} {p : List Token → Outcome X} (h : Rest) → Reads starts p (After kind position R) → is_end kind ≡ false → ((tokens : List Token) → h tokens ≡ bind k (p (after_head tokens)))
+      → Move kind position h (Then R S)
   shift {p = p} h read no_end e = shifts (λ tokens. bind k (p tokens)) (good_to _ (read.good k S goods) turn) no_end e
     where
-      turn : (tokens : List Token) (answer : Answer) (rest : List Token) → Then (After kind place R) S tokens answer rest → (token : Token) → token.kind ≡ kind → token.place ≡ place → Then R S (token ∷ tokens) answer rest
+      turn : (tokens : List Token) (answer : Answer) (rest : List Token) → Then (After kind position R) S tokens answer rest → (token : Token) → token.kind ≡ kind → token.position ≡ position → Then R S (token ∷ tokens) answer rest
       turn tokens answer rest (x, middle, r, s) token is at = (x, middle, r token is at, s)
 
   -- the token is read, and this is it
   pub take : (x : X) (h : Rest) → ((token : Token) (rest : List Token) → token.kind ≡ kind → R (token ∷ rest) x rest) → is_end kind ≡ false → ((tokens : List Token) → h tokens ≡ k x (after_head tokens))
-      → Move kind place h (Then R S)
+      → Move kind position h (Then R S)
   take x h r no_end e = shifts (k x) (good_to _ (goods x) (λ tokens answer rest s token is at. (x, tokens, r token tokens is, s))) no_end e
 
   -- nothing is read
-  pub keep : (x : X) (h : Rest) → ((rest : List Token) → R rest x rest) → ((tokens : List Token) → h tokens ≡ k x tokens) → Move kind place h (Then R S)
+  pub keep : (x : X) (h : Rest) → ((rest : List Token) → R rest x rest) → ((tokens : List Token) → h tokens ≡ k x tokens) → Move kind position h (Then R S)
   keep x h r e = keeps (k x) (good_to _ (goods x) (λ tokens answer rest s is. (x, tokens, r tokens, s))) e
 
   -- a part is read, as if no token had been seen
-  pub pass : {starts : Bool} {p : List Token → Outcome X} (h : Rest) → Reads starts p R → ((tokens : List Token) → h tokens ≡ bind k (p tokens)) → Move kind place h (Then R S)
+  pub pass : {starts : Bool} {p : List Token → Outcome X} (h : Rest) → Reads starts p R → ((tokens : List Token) → h tokens ≡ bind k (p tokens)) → Move kind position h (Then R S)
   pass {p = p} h read e = keeps (λ tokens. bind k (p tokens)) (good_to _ (read.good k S goods) (λ tokens answer rest s is. s)) e
 
 -- a part that begins by this token can come to an end

@@ -2,7 +2,7 @@
 use Rattle.std.proofs.Common.{◌≡◌, ◌==◌, ◌||◌, Bool, true, false, if◌then◌else◌, ℕ, List, [], ◌∷◌, Option, Some, None, Ok, Err, inl, inr, refl, sym, ap, ◌∙◌, subst}
 use Rattle.std.proofs.lemmas.Bool.Decides.{eqb_tells}
 use mathlib.Core.Bool.{false≢true}
-use Rattle.pio_parse.specs.declared.token.Place.{Place}
+use Rattle.pio_parse.specs.declared.token.SourcePosition.{SourcePosition}
 use Rattle.pio_parse.specs.declared.token.Span.{Span}
 use Rattle.pio_parse.specs.declared.token.Token.{Token}
 use Rattle.pio_parse.specs.declared.token.Keyword.{Keyword}
@@ -73,61 +73,61 @@ no_span = record { start = 0; end = 0 }
 
 module _ (text : List ℕ) where
   module _ (k : List ℕ → Rest) (S : List ℕ → List Token → Answer → List Token → Type 0) (goods : (x : List ℕ) → Good true (k x) (S x)) where
-    name_move : (kind : TokenKind) (place : Place) → Move kind place (λ tokens. bind k (name_of_kind text kind tokens)) (Then (IsName text) S)
-    name_move (Name span) place = take (IsName text) k S goods (Name span) place (name_at text span) _ (λ token rest is. named is) refl (λ tokens. refl)
-    name_move kind place = misfits (λ tokens. refl)
+    name_move : (kind : TokenKind) (position : SourcePosition) → Move kind position (λ tokens. bind k (name_of_kind text kind tokens)) (Then (IsName text) S)
+    name_move (Name span) position = take (IsName text) k S goods (Name span) position (name_at text span) _ (λ token rest is. named is) refl (λ tokens. refl)
+    name_move kind position = misfits (λ tokens. refl)
 
   name_reads : Reads true (name_token_at text) (IsName text)
   name_reads = record {
-    good = λ k S goods. good true (λ kind place tokens. bind k (name_of_kind text kind tokens)) (Then (IsName text) S) (name_move k S goods)
+    good = λ k S goods. good true (λ kind position tokens. bind k (name_of_kind text kind tokens)) (Then (IsName text) S) (name_move k S goods)
         (can_after _ (k (name_at text no_span)) (token_of (Name no_span)) (λ tokens. refl) refl (goods (name_at text no_span)).can) (λ yes. refl);
   }
 
   -- directives
-  pub define_reads : (place : Place) → Reads true (λ tokens. map_ok (λ define. (Some define.0, define.1)) (define_at text tokens)) (After (DirectiveToken Define) place (IsSetting text))
-  define_reads place = reads_to _ (reads_map Some
+  pub define_reads : (position : SourcePosition) → Reads true (λ tokens. map_ok (λ define. (Some define.0, define.1)) (define_at text tokens)) (After (DirectiveToken Define) position (IsSetting text))
+  define_reads position = reads_to _ (reads_map Some
       (reads_then (λ may tokens. and_then (λ name. map_ok (λ value. (DefineStatement name.0 value.0, value.1)) (expression_at text name.1)) (name_token_at text tokens)) public_reads
       (λ may. reads_then (λ name tokens. map_ok (λ value. (DefineStatement name value.0, value.1)) (expression_at text tokens)) name_reads (λ name. reads_map (DefineStatement name) (expression_reads text))))) turn
     where
       turn : (tokens : List Token) (x : Option Statement) (rest : List Token)
           → (y : Statement) × ((may : Bool) × (middle : List Token) × MayStand (KeywordToken Public) tokens may middle × ((name : List ℕ) × (after : List Token) × IsName text middle name after
-          × ((value : List Term) × IsTerms text after value rest × (DefineStatement name value ≡ y)))) × (Some y ≡ x) → After (DirectiveToken Define) place (IsSetting text) tokens x rest
+          × ((value : List Term) × IsTerms text after value rest × (DefineStatement name value ≡ y)))) × (Some y ≡ x) → After (DirectiveToken Define) position (IsSetting text) tokens x rest
       turn tokens x rest (y, (may, middle, is_there, (name, after, named n, (value, sum_terms sum, inner))), same) token k at =
           subst (λ x. IsSetting text (token ∷ tokens) x rest) (ap Some inner ∙ same) (define k is_there n sum)
 
-  pub version_reads : (place : Place) → Reads true version_at (After (DirectiveToken PioVersion) place (IsSetting text))
-  version_reads place = reads_to _ (reads_map (λ u. None) (one_reads is_zero refl refl true (Number 0) refl (λ yes. refl))) turn
+  pub version_reads : (position : SourcePosition) → Reads true version_at (After (DirectiveToken PioVersion) position (IsSetting text))
+  version_reads position = reads_to _ (reads_map (λ u. None) (one_reads is_zero refl refl true (Number 0) refl (λ yes. refl))) turn
     where
-      turn : (tokens : List Token) (x : Option Statement) (rest : List Token) → (u : Unit {0}) × IsOne is_zero tokens u rest × (None ≡ x) → After (DirectiveToken PioVersion) place (IsSetting text) tokens x rest
+      turn : (tokens : List Token) (x : Option Statement) (rest : List Token) → (u : Unit {0}) × IsOne is_zero tokens u rest × (None ≡ x) → After (DirectiveToken PioVersion) position (IsSetting text) tokens x rest
       turn tokens x rest (u, one {token = zero} is, same) token k at = subst (λ x. IsSetting text (token ∷ tokens) x rest) same (pio_version k (zero_of zero.kind is))
 
-  pub program_reads : (place : Place) → Reads true (λ tokens. map_ok (λ name. (Some (ProgramStatement name.0), name.1)) (name_token_at text tokens)) (After (DirectiveToken Program) place (IsProgram text))
-  program_reads place = reads_to _ (reads_map (λ name. Some (ProgramStatement name)) name_reads) turn
+  pub program_reads : (position : SourcePosition) → Reads true (λ tokens. map_ok (λ name. (Some (ProgramStatement name.0), name.1)) (name_token_at text tokens)) (After (DirectiveToken Program) position (IsProgram text))
+  program_reads position = reads_to _ (reads_map (λ name. Some (ProgramStatement name)) name_reads) turn
     where
-      turn : (tokens : List Token) (x : Option Statement) (rest : List Token) → (name : List ℕ) × IsName text tokens name rest × (Some (ProgramStatement name) ≡ x) → After (DirectiveToken Program) place (IsProgram text) tokens x rest
+      turn : (tokens : List Token) (x : Option Statement) (rest : List Token) → (name : List ℕ) × IsName text tokens name rest × (Some (ProgramStatement name) ≡ x) → After (DirectiveToken Program) position (IsProgram text) tokens x rest
       turn tokens x rest (name, named n, same) token k at = subst (λ x. IsProgram text (token ∷ tokens) x rest) same (program_line k n)
 
-  origin_reads : (place : Place) → Reads true (λ tokens. map_ok (λ value. (Some (OriginStatement value.0), value.1)) (expression_at text tokens)) (After (DirectiveToken Origin) place (IsStatement text))
-  origin_reads place = reads_to _ (reads_map (λ value. Some (OriginStatement value)) (expression_reads text)) turn
+  origin_reads : (position : SourcePosition) → Reads true (λ tokens. map_ok (λ value. (Some (OriginStatement value.0), value.1)) (expression_at text tokens)) (After (DirectiveToken Origin) position (IsStatement text))
+  origin_reads position = reads_to _ (reads_map (λ value. Some (OriginStatement value)) (expression_reads text)) turn
     where
-      turn : (tokens : List Token) (x : Option Statement) (rest : List Token) → (value : List Term) × IsTerms text tokens value rest × (Some (OriginStatement value) ≡ x) → After (DirectiveToken Origin) place (IsStatement text) tokens x rest
+      turn : (tokens : List Token) (x : Option Statement) (rest : List Token) → (value : List Term) × IsTerms text tokens value rest × (Some (OriginStatement value) ≡ x) → After (DirectiveToken Origin) position (IsStatement text) tokens x rest
       turn tokens x rest (value, sum_terms sum, same) token k at = subst (λ x. IsStatement text (token ∷ tokens) x rest) same (origin k sum)
 
-  word_reads : (place : Place) → Reads true (λ tokens. map_ok (λ value. (Some (WordStatement value.0), value.1)) (expression_at text tokens)) (After (DirectiveToken Word) place (IsStatement text))
-  word_reads place = reads_to _ (reads_map (λ value. Some (WordStatement value)) (expression_reads text)) turn
+  word_reads : (position : SourcePosition) → Reads true (λ tokens. map_ok (λ value. (Some (WordStatement value.0), value.1)) (expression_at text tokens)) (After (DirectiveToken Word) position (IsStatement text))
+  word_reads position = reads_to _ (reads_map (λ value. Some (WordStatement value)) (expression_reads text)) turn
     where
-      turn : (tokens : List Token) (x : Option Statement) (rest : List Token) → (value : List Term) × IsTerms text tokens value rest × (Some (WordStatement value) ≡ x) → After (DirectiveToken Word) place (IsStatement text) tokens x rest
+      turn : (tokens : List Token) (x : Option Statement) (rest : List Token) → (value : List Term) × IsTerms text tokens value rest × (Some (WordStatement value) ≡ x) → After (DirectiveToken Word) position (IsStatement text) tokens x rest
       turn tokens x rest (value, sum_terms sum, same) token k at = subst (λ x. IsStatement text (token ∷ tokens) x rest) same (word k sum)
 
-  side_set_reads : (place : Place) → Reads true (λ tokens. map_ok (λ side. (Some side.0, side.1)) (side_set_at text tokens)) (After (DirectiveToken SideSet) place (IsStatement text))
-  side_set_reads place = reads_to _ (reads_map Some
+  side_set_reads : (position : SourcePosition) → Reads true (λ tokens. map_ok (λ side. (Some side.0, side.1)) (side_set_at text tokens)) (After (DirectiveToken SideSet) position (IsStatement text))
+  side_set_reads position = reads_to _ (reads_map Some
       (reads_then (λ count tokens. and_then (λ opt. map_ok (λ pindirs. (SideSetStatement count opt.0 pindirs.0, pindirs.1)) (flag_at (is_pindirs (head_kind opt.1)) opt.1)) (flag_at (is_opt (head_kind tokens)) tokens)) (expression_reads text)
       (λ count. reads_then (λ opt tokens. map_ok (λ pindirs. (SideSetStatement count opt pindirs.0, pindirs.1)) (flag_at (is_pindirs (head_kind tokens)) tokens)) (flag_reads is_opt (KeywordToken Opt) refl refl opt_of refl)
       (λ opt. reads_map (SideSetStatement count opt) (flag_reads is_pindirs (KeywordToken Pindirs) refl refl pindirs_of refl))))) turn
     where
       turn : (tokens : List Token) (x : Option Statement) (rest : List Token)
           → (y : Statement) × ((count : List Term) × (middle : List Token) × IsTerms text tokens count middle × ((opt : Bool) × (after : List Token) × MayStand (KeywordToken Opt) middle opt after
-          × ((pindirs : Bool) × MayStand (KeywordToken Pindirs) after pindirs rest × (SideSetStatement count opt pindirs ≡ y)))) × (Some y ≡ x) → After (DirectiveToken SideSet) place (IsStatement text) tokens x rest
+          × ((pindirs : Bool) × MayStand (KeywordToken Pindirs) after pindirs rest × (SideSetStatement count opt pindirs ≡ y)))) × (Some y ≡ x) → After (DirectiveToken SideSet) position (IsStatement text) tokens x rest
       turn tokens x rest (y, (count, middle, sum_terms sum, (opt, after, may_opt, (pindirs, may_pindirs, inner))), same) token k at =
           subst (λ x. IsStatement text (token ∷ tokens) x rest) (ap Some inner ∙ same) (side_set k sum may_opt may_pindirs)
 
@@ -138,49 +138,49 @@ module _ (text : List ℕ) where
   abbrev made : Operation → Option (List Term) × Option (List Term) → Instruction
   made operation both = record { operation = operation; side = both.0; delay = both.1 }
 
-  instruction_reads : {p : List Token → Outcome Operation} (keyword : Keyword) (place : Place) → Reads true p (AfterWord text keyword) → Reads true (instruction_after p) (After (KeywordToken keyword) place (IsStatement text))
-  instruction_reads {p = p} keyword place read = reads_to _ (reads_map (λ i. Some (InstructionStatement i)) (reads_then (λ operation tokens. modified_at text operation tokens) read (λ operation. reads_map (made operation) (modifiers_reads text)))) turn
+  instruction_reads : {p : List Token → Outcome Operation} (keyword : Keyword) (position : SourcePosition) → Reads true p (AfterWord text keyword) → Reads true (instruction_after p) (After (KeywordToken keyword) position (IsStatement text))
+  instruction_reads {p = p} keyword position read = reads_to _ (reads_map (λ i. Some (InstructionStatement i)) (reads_then (λ operation tokens. modified_at text operation tokens) read (λ operation. reads_map (made operation) (modifiers_reads text)))) turn
     where
       turn : (tokens : List Token) (x : Option Statement) (rest : List Token)
           → (i : Instruction) × ((operation : Operation) × (middle : List Token) × AfterWord text keyword tokens operation middle
-          × ((both : Option (List Term) × Option (List Term)) × IsModifiers text middle both.0 both.1 rest × (made operation both ≡ i))) × (Some (InstructionStatement i) ≡ x) → After (KeywordToken keyword) place (IsStatement text) tokens x rest
+          × ((both : Option (List Term) × Option (List Term)) × IsModifiers text middle both.0 both.1 rest × (made operation both ≡ i))) × (Some (InstructionStatement i) ≡ x) → After (KeywordToken keyword) position (IsStatement text) tokens x rest
       turn tokens x rest (i, (operation, middle, is, (both, modifiers, inner)), same) token k at =
           subst (λ x. IsStatement text (token ∷ tokens) x rest) (ap (λ i. Some (InstructionStatement i)) inner ∙ same) (instruction (is token k) modifiers)
 
   module _ (k : Option Statement → Rest) (S : Option Statement → List Token → Answer → List Token → Type 0) (goods : (x : Option Statement) → Good true (k x) (S x)) where
     -- settings and `.program`, as statements
-    as_setting : {p : List Token → Outcome (Option Statement)} (directive : Directive) (place : Place) (h : Rest) → Reads true p (After (DirectiveToken directive) place (IsSetting text))
-        → ((tokens : List Token) → h tokens ≡ bind k (p (after_head tokens))) → Move (DirectiveToken directive) place h (Then (IsStatement text) S)
-    as_setting directive place h read e = shift (IsStatement text) k S goods (DirectiveToken directive) place h (reads_to _ read (λ tokens x rest is token k at. setting (is token k at))) refl e
+    as_setting : {p : List Token → Outcome (Option Statement)} (directive : Directive) (position : SourcePosition) (h : Rest) → Reads true p (After (DirectiveToken directive) position (IsSetting text))
+        → ((tokens : List Token) → h tokens ≡ bind k (p (after_head tokens))) → Move (DirectiveToken directive) position h (Then (IsStatement text) S)
+    as_setting directive position h read e = shift (IsStatement text) k S goods (DirectiveToken directive) position h (reads_to _ read (λ tokens x rest is token k at. setting (is token k at))) refl e
 
-    statement_move : (kind : TokenKind) (place : Place) → Move kind place (λ tokens. bind k (statement_of_kind text kind tokens)) (Then (IsStatement text) S)
-    statement_move LineEnd place = keep (IsStatement text) k S goods LineEnd place None _ (λ rest. nothing) (λ tokens. refl)
-    statement_move FileEnd place = keep (IsStatement text) k S goods FileEnd place None _ (λ rest. nothing) (λ tokens. refl)
-    statement_move (DirectiveToken Program) place =
-        shift (IsStatement text) k S goods (DirectiveToken Program) place _ (reads_to _ (program_reads place) (λ tokens x rest is token k at. program (is token k at))) refl (λ tokens. refl)
-    statement_move (DirectiveToken Define) place = as_setting Define place _ (define_reads place) (λ tokens. refl)
-    statement_move (DirectiveToken Origin) place = shift (IsStatement text) k S goods (DirectiveToken Origin) place _ (origin_reads place) refl (λ tokens. refl)
-    statement_move (DirectiveToken SideSet) place = shift (IsStatement text) k S goods (DirectiveToken SideSet) place _ (side_set_reads place) refl (λ tokens. refl)
-    statement_move (DirectiveToken WrapTarget) place = take (IsStatement text) k S goods (DirectiveToken WrapTarget) place (Some WrapTargetStatement) _ (λ token rest is. wrap_target is) refl (λ tokens. refl)
-    statement_move (DirectiveToken Wrap) place = take (IsStatement text) k S goods (DirectiveToken Wrap) place (Some WrapStatement) _ (λ token rest is. wrap is) refl (λ tokens. refl)
-    statement_move (DirectiveToken Word) place = shift (IsStatement text) k S goods (DirectiveToken Word) place _ (word_reads place) refl (λ tokens. refl)
-    statement_move (DirectiveToken LangOpt) place = take (IsStatement text) k S goods (DirectiveToken LangOpt) place None _ (λ token rest is. setting (lang_opt is)) refl (λ tokens. refl)
-    statement_move (DirectiveToken PioVersion) place = as_setting PioVersion place _ (version_reads place) (λ tokens. refl)
-    statement_move (KeywordToken Jmp) place = shift (IsStatement text) k S goods (KeywordToken Jmp) place _ (instruction_reads Jmp place (jmp_reads text)) refl (λ tokens. refl)
-    statement_move (KeywordToken Wait) place = shift (IsStatement text) k S goods (KeywordToken Wait) place _ (instruction_reads Wait place (wait_reads text)) refl (λ tokens. refl)
-    statement_move (KeywordToken In) place = shift (IsStatement text) k S goods (KeywordToken In) place _ (instruction_reads In place (in_reads text)) refl (λ tokens. refl)
-    statement_move (KeywordToken Out) place = shift (IsStatement text) k S goods (KeywordToken Out) place _ (instruction_reads Out place (out_reads text)) refl (λ tokens. refl)
-    statement_move (KeywordToken Push) place = shift (IsStatement text) k S goods (KeywordToken Push) place _ (instruction_reads Push place (push_reads text)) refl (λ tokens. refl)
-    statement_move (KeywordToken Pull) place = shift (IsStatement text) k S goods (KeywordToken Pull) place _ (instruction_reads Pull place (pull_reads text)) refl (λ tokens. refl)
-    statement_move (KeywordToken Mov) place = shift (IsStatement text) k S goods (KeywordToken Mov) place _ (instruction_reads Mov place (mov_reads text)) refl (λ tokens. refl)
-    statement_move (KeywordToken Irq) place = shift (IsStatement text) k S goods (KeywordToken Irq) place _ (instruction_reads Irq place (irq_reads text)) refl (λ tokens. refl)
-    statement_move (KeywordToken Set) place = shift (IsStatement text) k S goods (KeywordToken Set) place _ (instruction_reads Set place (set_reads text)) refl (λ tokens. refl)
-    statement_move (KeywordToken Nop) place = shift (IsStatement text) k S goods (KeywordToken Nop) place _ (instruction_reads Nop place (nop_reads text)) refl (λ tokens. refl)
-    statement_move kind place = misfits (λ tokens. refl)
+    statement_move : (kind : TokenKind) (position : SourcePosition) → Move kind position (λ tokens. bind k (statement_of_kind text kind tokens)) (Then (IsStatement text) S)
+    statement_move LineEnd position = keep (IsStatement text) k S goods LineEnd position None _ (λ rest. nothing) (λ tokens. refl)
+    statement_move FileEnd position = keep (IsStatement text) k S goods FileEnd position None _ (λ rest. nothing) (λ tokens. refl)
+    statement_move (DirectiveToken Program) position =
+        shift (IsStatement text) k S goods (DirectiveToken Program) position _ (reads_to _ (program_reads position) (λ tokens x rest is token k at. program (is token k at))) refl (λ tokens. refl)
+    statement_move (DirectiveToken Define) position = as_setting Define position _ (define_reads position) (λ tokens. refl)
+    statement_move (DirectiveToken Origin) position = shift (IsStatement text) k S goods (DirectiveToken Origin) position _ (origin_reads position) refl (λ tokens. refl)
+    statement_move (DirectiveToken SideSet) position = shift (IsStatement text) k S goods (DirectiveToken SideSet) position _ (side_set_reads position) refl (λ tokens. refl)
+    statement_move (DirectiveToken WrapTarget) position = take (IsStatement text) k S goods (DirectiveToken WrapTarget) position (Some WrapTargetStatement) _ (λ token rest is. wrap_target is) refl (λ tokens. refl)
+    statement_move (DirectiveToken Wrap) position = take (IsStatement text) k S goods (DirectiveToken Wrap) position (Some WrapStatement) _ (λ token rest is. wrap is) refl (λ tokens. refl)
+    statement_move (DirectiveToken Word) position = shift (IsStatement text) k S goods (DirectiveToken Word) position _ (word_reads position) refl (λ tokens. refl)
+    statement_move (DirectiveToken LangOpt) position = take (IsStatement text) k S goods (DirectiveToken LangOpt) position None _ (λ token rest is. setting (lang_opt is)) refl (λ tokens. refl)
+    statement_move (DirectiveToken PioVersion) position = as_setting PioVersion position _ (version_reads position) (λ tokens. refl)
+    statement_move (KeywordToken Jmp) position = shift (IsStatement text) k S goods (KeywordToken Jmp) position _ (instruction_reads Jmp position (jmp_reads text)) refl (λ tokens. refl)
+    statement_move (KeywordToken Wait) position = shift (IsStatement text) k S goods (KeywordToken Wait) position _ (instruction_reads Wait position (wait_reads text)) refl (λ tokens. refl)
+    statement_move (KeywordToken In) position = shift (IsStatement text) k S goods (KeywordToken In) position _ (instruction_reads In position (in_reads text)) refl (λ tokens. refl)
+    statement_move (KeywordToken Out) position = shift (IsStatement text) k S goods (KeywordToken Out) position _ (instruction_reads Out position (out_reads text)) refl (λ tokens. refl)
+    statement_move (KeywordToken Push) position = shift (IsStatement text) k S goods (KeywordToken Push) position _ (instruction_reads Push position (push_reads text)) refl (λ tokens. refl)
+    statement_move (KeywordToken Pull) position = shift (IsStatement text) k S goods (KeywordToken Pull) position _ (instruction_reads Pull position (pull_reads text)) refl (λ tokens. refl)
+    statement_move (KeywordToken Mov) position = shift (IsStatement text) k S goods (KeywordToken Mov) position _ (instruction_reads Mov position (mov_reads text)) refl (λ tokens. refl)
+    statement_move (KeywordToken Irq) position = shift (IsStatement text) k S goods (KeywordToken Irq) position _ (instruction_reads Irq position (irq_reads text)) refl (λ tokens. refl)
+    statement_move (KeywordToken Set) position = shift (IsStatement text) k S goods (KeywordToken Set) position _ (instruction_reads Set position (set_reads text)) refl (λ tokens. refl)
+    statement_move (KeywordToken Nop) position = shift (IsStatement text) k S goods (KeywordToken Nop) position _ (instruction_reads Nop position (nop_reads text)) refl (λ tokens. refl)
+    statement_move kind position = misfits (λ tokens. refl)
 
   pub statement_reads : Reads true (statement_at text) (IsStatement text)
   statement_reads = record {
-    good = λ k S goods. good true (λ kind place tokens. bind k (statement_of_kind text kind tokens)) (Then (IsStatement text) S) (statement_move k S goods)
+    good = λ k S goods. good true (λ kind position tokens. bind k (statement_of_kind text kind tokens)) (Then (IsStatement text) S) (statement_move k S goods)
         (can_after _ (k (Some WrapStatement)) (token_of (DirectiveToken Wrap)) (λ tokens. refl) refl (goods (Some WrapStatement)).can) (λ yes. refl);
   }
 
@@ -204,14 +204,14 @@ module _ (text : List ℕ) where
   label_of kind tokens = if begins_label kind then labelled tokens else Ok (None, tokens)
 
   module _ (k : Option (List ℕ) → Rest) (S : Option (List ℕ) → List Token → Answer → List Token → Type 0) (goods : (x : Option (List ℕ)) → Good true (k x) (S x)) where
-    label_move : (kind : TokenKind) (place : Place) → Move kind place (λ tokens. bind k (label_of kind tokens)) (Then (IsLabel text) S)
-    label_move (Name span) place = pass (IsLabel text) k S goods (Name span) place _ labelled_reads (λ tokens. refl)
-    label_move (KeywordToken Public) place = pass (IsLabel text) k S goods (KeywordToken Public) place _ labelled_reads (λ tokens. refl)
-    label_move kind place = keep (IsLabel text) k S goods kind place None _ (λ rest. no_label) (λ tokens. refl)
+    label_move : (kind : TokenKind) (position : SourcePosition) → Move kind position (λ tokens. bind k (label_of kind tokens)) (Then (IsLabel text) S)
+    label_move (Name span) position = pass (IsLabel text) k S goods (Name span) position _ labelled_reads (λ tokens. refl)
+    label_move (KeywordToken Public) position = pass (IsLabel text) k S goods (KeywordToken Public) position _ labelled_reads (λ tokens. refl)
+    label_move kind position = keep (IsLabel text) k S goods kind position None _ (λ rest. no_label) (λ tokens. refl)
 
   pub label_reads : Reads true (label_at text) (IsLabel text)
   label_reads = record {
-    good = λ k S goods. good true (λ kind place tokens. bind k (label_of kind tokens)) (Then (IsLabel text) S) (label_move k S goods)
+    good = λ k S goods. good true (λ kind position tokens. bind k (label_of kind tokens)) (Then (IsLabel text) S) (label_move k S goods)
         (can_shift _ k S goods (token_of (Name no_span)) (colon_reads (name_at text no_span)) (λ tokens. refl) refl) (λ yes. refl);
   }
 
@@ -233,16 +233,16 @@ module _ (started : Bool) (mark : Option (List ℕ)) (statement : Option Stateme
       part (Ok x) = x
       part (Err p) = (answer, rest)
 
-  ended_refused : (b : Bool) (token : Token) (tokens : List Token) (place : Place) → is_end_after (started || is_program statement) token.kind ≡ b
-      → Path (Outcome Answer) (if b then Ok ((mark, statement), token ∷ tokens) else misfit (token ∷ tokens)) (Err place) → Refused (ended started mark statement) place (token ∷ tokens)
-  ended_refused true token tokens place h q = absurd (refused (sym q))
-  ended_refused false token tokens place h q = inl (at, end_can, λ further. rw h (ap Err at))
+  ended_refused : (b : Bool) (token : Token) (tokens : List Token) (position : SourcePosition) → is_end_after (started || is_program statement) token.kind ≡ b
+      → Path (Outcome Answer) (if b then Ok ((mark, statement), token ∷ tokens) else misfit (token ∷ tokens)) (Err position) → Refused (ended started mark statement) position (token ∷ tokens)
+  ended_refused true token tokens position h q = absurd (refused (sym q))
+  ended_refused false token tokens position h q = inl (at, end_can, λ further. rw h (ap Err at))
     where
-      part : Outcome Answer → Place
-      part (Ok x) = place
+      part : Outcome Answer → SourcePosition
+      part (Ok x) = position
       part (Err p) = p
 
-      at : token.place ≡ place
+      at : token.position ≡ position
       at = ap part q
 
       end_can : Can (ended started mark statement)
@@ -256,6 +256,6 @@ module _ (started : Bool) (mark : Option (List ℕ)) (statement : Option Stateme
     ends = λ yes. refl;
   }
     where
-      refuses : (tokens : List Token) (place : Place) → is_line tokens ≡ true → ended started mark statement tokens ≡ Err place → Refused (ended started mark statement) place tokens
-      refuses [] place line q = absurd (false≢true line)
-      refuses (token ∷ tokens) place line q = ended_refused (is_end_after (started || is_program statement) token.kind) token tokens place refl q
+      refuses : (tokens : List Token) (position : SourcePosition) → is_line tokens ≡ true → ended started mark statement tokens ≡ Err position → Refused (ended started mark statement) position tokens
+      refuses [] position line q = absurd (false≢true line)
+      refuses (token ∷ tokens) position line q = ended_refused (is_end_after (started || is_program statement) token.kind) token tokens position refl q

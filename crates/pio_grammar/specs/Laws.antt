@@ -1,13 +1,13 @@
 -- What holds of the sources that are read (RP2040 Datasheet, 3.3): they are those of the grammar.
 use Rattle.std.specs.Prelude.{◌≡◌, ◌↔◌, ◌&&◌, not, ℕ, Bool, true, false, List, [], ◌∷◌, ◌++◌, Some, Ok, Err, codes}
 use Rattle.pio_words.specs.declared.op.JmpCondition.TheVariants.{XDecrement}
-use Rattle.pio_parse.specs.declared.token.Place.{Place}
+use Rattle.pio_parse.specs.declared.token.SourcePosition.{SourcePosition}
 use Rattle.pio_parse.specs.declared.token.Token.{Token}
 use Rattle.pio_parse.specs.declared.expression.Term.TheVariants.{Number, Name}
 use Rattle.pio_parse.specs.declared.syntax.Operation.TheVariants.{Jmp}
 use Rattle.pio_parse.specs.declared.syntax.Statement.TheVariants.{Instruction}
 use Rattle.pio_parse.specs.declared.syntax.Line.{Line}
-use Rattle.pio_parse.specs.declared.syntax.Source.{Source}
+use Rattle.pio_parse.specs.declared.syntax.ParsedSource.{ParsedSource}
 use Rattle.pio_parse.specs.Source.{parsed}
 use Rattle.pio_parse.specs.Source.EarlyFault.{SyntaxAt}
 use Rattle.pio_parse.specs.Statement.{is_end, line_at}
@@ -27,25 +27,25 @@ ReadsLines = (text : List ℕ) (started : Bool) (tokens : List Token) (line : Li
 
 -- a line is refused at the first token with which no line of the grammar begins as the tokens up to it do
 abbrev pub LineFaultsAtFirst : Type 0
-LineFaultsAtFirst = (text : List ℕ) (started : Bool) (tokens : List Token) (place : Place) → is_line tokens ≡ true
-    → (line_at text started tokens ≡ Err place)
+LineFaultsAtFirst = (text : List ℕ) (started : Bool) (tokens : List Token) (position : SourcePosition) → is_line tokens ≡ true
+    → (line_at text started tokens ≡ Err position)
     ↔ ((before : List Token) × (token : Token) × (after : List Token)
-    × (tokens ≡ before ++ token ∷ after) × (token.place ≡ place)
+    × (tokens ≡ before ++ token ∷ after) × (token.position ≡ position)
     × BeginsLine text started before × ¬ BeginsLine text started (before ++ token ∷ []))
 
 -- what is parsed is what the lines of the grammar say, and each file of lines of the grammar is parsed
 abbrev pub ParsesGrammar : Type 0
-ParsesGrammar = (text : List ℕ) (source : Source) → (parsed text ≡ Ok source) ↔ IsSource text source
+ParsesGrammar = (text : List ℕ) (source : ParsedSource) → (parsed text ≡ Ok source) ↔ IsSource text source
 
 -- a Syntax fault is at a file's first token with which no line of the grammar begins as its line does up to it
 abbrev pub SyntaxFaultsAtFirst : Type 0
-SyntaxFaultsAtFirst = (text : List ℕ) (place : Place) → (parsed text ≡ Err (SyntaxAt place)) ↔ IsSyntaxFaultAt text place
+SyntaxFaultsAtFirst = (text : List ℕ) (position : SourcePosition) → (parsed text ≡ Err (SyntaxAt position)) ↔ IsSyntaxFaultAt text position
 
 -- the grammar gives a line one meaning at most, and a file
 abbrev pub OneMeaning : Type 0
 OneMeaning =
     ((text : List ℕ) (started : Bool) (tokens : List Token) (line other : Line) → IsLine text started tokens line → IsLine text started tokens other → line ≡ other)
-    × ((text : List ℕ) (source other : Source) → IsSource text source → IsSource text other → source ≡ other)
+    × ((text : List ℕ) (source other : ParsedSource) → IsSource text source → IsSource text other → source ≡ other)
 
 -- a file has its first token that fits nothing at this line and column
 abbrev pub FaultsIn : List ℕ → ℕ → ℕ → Type 0

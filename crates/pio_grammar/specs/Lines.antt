@@ -43,7 +43,7 @@ use Rattle.pio_parse.specs.declared.syntax.Operation.TheVariants.{Jmp as JmpOper
 use Rattle.pio_parse.specs.declared.syntax.Statement.{Statement}
 use Rattle.pio_parse.specs.declared.syntax.Statement.TheVariants.{Program as ProgramStatement, Define as DefineStatement, Origin as OriginStatement, SideSet as SideSetStatement, WrapTarget as WrapTargetStatement, Wrap as WrapStatement, Word as WordStatement, Instruction as InstructionStatement}
 use Rattle.pio_parse.specs.declared.syntax.Line.{Line}
-use Rattle.pio_parse.specs.Cursor.{head_place}
+use Rattle.pio_parse.specs.Cursor.{head_position}
 use Rattle.pio_parse.specs.Expression.{name_at}
 use Rattle.pio_parse.specs.Grammar.{Expr, IsSum, postfix}
 use Rattle.pio_parse.specs.Instruction.{are_together}
@@ -73,7 +73,7 @@ pub data IsLastValue (text : List ℕ) : List Token → List Term → List Token
 
 -- `--`: two signs beside each other
 abbrev pub IsDecrement : Token → Token → Type 0
-IsDecrement first second = (first.kind ≡ Minus) × (second.kind ≡ Minus) × (are_together first.place second.place ≡ true)
+IsDecrement first second = (first.kind ≡ Minus) × (second.kind ≡ Minus) × (are_together first.position second.position ≡ true)
 
 -- condition
 pub data IsCondition : List Token → JmpCondition → List Token → Type 0 where
@@ -220,14 +220,14 @@ pub data IsLabel (text : List ℕ) : List Token → Option (List ℕ) → List T
 pub data IsLine (text : List ℕ) : Bool → List Token → Line → Type 0 where
   line : {tokens middle : List Token} {end : Token} {label : Option (List ℕ)} {statement : Option Statement}
       → IsLabel text tokens label middle → IsStatement text middle statement (end ∷ []) → is_end end.kind ≡ true
-      → IsLine text true tokens (record { number = (head_place tokens).line; label = label; statement = statement })
-  blank_before : {end : Token} → end.kind ≡ LineEnd → IsLine text false (end ∷ []) (record { number = end.place.line; label = None; statement = None })
+      → IsLine text true tokens (record { number = (head_position tokens).line; label = label; statement = statement })
+  blank_before : {end : Token} → end.kind ≡ LineEnd → IsLine text false (end ∷ []) (record { number = end.position.line; label = None; statement = None })
   setting_before : {tokens : List Token} {end : Token} {statement : Option Statement}
       → IsSetting text tokens statement (end ∷ []) → end.kind ≡ LineEnd
-      → IsLine text false tokens (record { number = (head_place tokens).line; label = None; statement = statement })
+      → IsLine text false tokens (record { number = (head_position tokens).line; label = None; statement = statement })
   first_program : {tokens : List Token} {end : Token} {statement : Option Statement}
       → IsProgram text tokens statement (end ∷ []) → is_end end.kind ≡ true
-      → IsLine text false tokens (record { number = (head_place tokens).line; label = None; statement = statement })
+      → IsLine text false tokens (record { number = (head_position tokens).line; label = None; statement = statement })
 
 -- with some further tokens, or none, these are a line of the grammar
 abbrev pub BeginsLine : List ℕ → Bool → List Token → Type 0

@@ -1,4 +1,4 @@
 pub mod First
 pub mod Fitting
-pub mod Places
+pub mod Addresses
 pub mod Sources

@@ -1,7 +1,7 @@
 -- The programs of a PIO source file, and their listing (RP2040 Datasheet, 3.3; the listing is the project's own).
 use Rattle.std.specs.Prelude.{ℕ, Bool, true, false, List, ◌++◌, length, Option, Some, None, Result, Ok, Err, codes, decimal, flat_map}
 use Rattle.pio_words.specs.declared.side.SideConfig.{SideConfig}
-use Rattle.pio_parse.specs.declared.syntax.Source.{Source}
+use Rattle.pio_parse.specs.declared.syntax.ParsedSource.{ParsedSource}
 use Rattle.pio_parse.specs.declared.fault.PioFault.{PioFault}
 use Rattle.pio_parse.specs.declared.fault.PioFault.TheVariants.{Char, Syntax}
 use Rattle.pio_parse.specs.Source.{EarlyFault, parsed}
@@ -14,10 +14,10 @@ use Rattle.pio_disasm.specs.Text.{hex_half}
 
 -- a fault of characters or tokens, among all faults
 abbrev pub early_fault : EarlyFault → PioFault
-early_fault (CharAt place) = Char place.line place.column
-early_fault (SyntaxAt place) = Syntax place.line place.column
+early_fault (CharAt position) = Char position.line position.column
+early_fault (SyntaxAt position) = Syntax position.line position.column
 
-abbrev pub plans_in : Result Source EarlyFault → Result (List Plan) PioFault
+abbrev pub plans_in : Result ParsedSource EarlyFault → Result (List Plan) PioFault
 plans_in (Ok source) = assembled source
 plans_in (Err fault) = Err (early_fault fault)
 
@@ -27,10 +27,10 @@ plans_of bytes = plans_in (parsed bytes)
 
 -- ---- the listing
 
--- the place of a program that has one
+-- the address of a program that has one
 abbrev pub origin_text : Option ℕ → List ℕ
 origin_text None = codes "-"
-origin_text (Some place) = decimal place
+origin_text (Some address) = decimal address
 
 abbrev pub flag_text : Bool → List ℕ
 flag_text true = codes "1"
@@ -42,7 +42,7 @@ wrap_text target wrap = codes " wrap " ++ decimal target ++ codes " " ++ decimal
 abbrev pub side_text : SideConfig → List ℕ
 side_text side = codes " side " ++ decimal side.count ++ codes " opt " ++ flag_text side.opt ++ codes " pindirs " ++ flag_text side.pindirs
 
--- the line of a program: its name, its length, its origin, the places of its wrap, and its side-set
+-- the line of a program: its name, its length, its origin, the addresses of its wrap, and its side-set
 unfoldable pub program_line : Program → List ℕ
 program_line program =
     codes "program " ++ program.name ++ codes " " ++ decimal (length program.words.items) ++ codes " origin " ++ origin_text program.origin

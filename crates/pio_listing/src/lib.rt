@@ -19,7 +19,7 @@ use pio_asm::{Program, assemble};
 use pio_disasm::hex_digits;
 use pio_parse::{PioFault, parse};
 use pio_words::SideConfig;
-pub use placing::{offset_for, with_places};
+pub use placing::{offset_for, with_addresses};
 use std::alloc::{AllocError, Global};
 
 /// The programs of a file, or its first fault.
@@ -62,7 +62,7 @@ fn put_origin(origin: Option<u8>, out: &mut Vec<u8>) -> Result<(), AllocError>
     ensures { OnOk result (out.new.items ≡ out.old.items ++ origin_text origin) }
 {
     match origin {
-        Some(place) => put_number(u64::from(place), out),
+        Some(address) => put_number(u64::from(address), out),
         None => put(b"-", out),
     }
 }

@@ -1,16 +1,16 @@
 //! Where a program goes in the instruction memory of a block.
 
 ghost use Rattle.std.specs.Prelude.{◌≡◌, ◌+◌, ◌<◌, ◌≤◌, Ok, Err, length, IfOk, IfErr};
-ghost use Rattle.pio_listing.specs.Placing.{placed, with_places};
+ghost use Rattle.pio_listing.specs.Placing.{placed, with_addresses};
 
 use pio_asm::{Program, place_program};
 use pio_parse::PioFault;
 
-/// The offset of a program in an instruction memory whose places `used` are taken, one bit each.
+/// The offset of a program in an instruction memory whose addresses `used` are taken, one bit each.
 ///
 /// # Errors
 ///
-/// `NoRoom`, with the program's length, where its origin's places are not free, or without an origin no run of places.
+/// `NoRoom`, with the program's length, where its origin's addresses are not free, or without an origin no run of addresses.
 pub fn offset_for(used: u32, program: &Program) -> Result<u8, PioFault>
     requires { 0 < length program.now.words.items }
     ensures ok { IfOk result (λ offset. placed used program.now.origin
@@ -22,10 +22,10 @@ pub fn offset_for(used: u32, program: &Program) -> Result<u8, PioFault>
     place_program(used, program)
 }
 
-/// The places that are taken once so many from an offset on are taken too.
-pub fn with_places(used: u32, offset: u8, count: usize) -> u32
+/// The addresses that are taken once so many from an offset on are taken too.
+pub fn with_addresses(used: u32, offset: u8, count: usize) -> u32
     requires { offset + count ≤ 32 }
-    ensures { result ≡ with_places used offset count }
+    ensures { result ≡ with_addresses used offset count }
 {
     let mut taken = used;
     for index in 0..count {

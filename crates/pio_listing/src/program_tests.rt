@@ -16,7 +16,7 @@ fn fault_of(alloc: Global, text: &str) -> Option<PioFault> {
     fault_in(alloc, text.as_bytes())
 }
 
-// Whether a source has one program, with these words and these places of its wrap.
+// Whether a source has one program, with these words and these addresses of its wrap.
 pub(crate) fn has_words(alloc: Global, text: &[u8], words: &[u16], target: u8, wrap: u8) -> bool {
     match programs_in(alloc, text) {
         Ok(programs) => match programs.as_slice() {
@@ -31,7 +31,7 @@ pub(crate) fn has_words(alloc: Global, text: &[u8], words: &[u16], target: u8, w
     }
 }
 
-// Programs with the words that the table of instructions gives, and the places of their wrap.
+// Programs with the words that the table of instructions gives, and the addresses of their wrap.
 #[test]
 fn words_of_programs(rt: HostRuntime) {
     let table: [(&str, &[u16], u8, u8); 6] = [
@@ -131,7 +131,7 @@ fn faults_of_programs(rt: HostRuntime) {
     }
 }
 
-fn place_of(alloc: Global, text: &str, used: u32) -> Option<Result<u8, PioFault>> {
+fn address_of(alloc: Global, text: &str, used: u32) -> Option<Result<u8, PioFault>> {
     match programs_in(alloc, text.as_bytes()) {
         Ok(programs) => match programs.as_slice() {
             [program] => Some(place_program(used, program)),
@@ -142,7 +142,7 @@ fn place_of(alloc: Global, text: &str, used: u32) -> Option<Result<u8, PioFault>
 }
 
 #[test]
-fn places_of_programs(rt: HostRuntime) {
+fn addresses_of_programs(rt: HostRuntime) {
     let table = [
         (".program p\nnop\n", 0xffffffff, Err(PioFault::NoRoom(1))),
         (".program p\nnop\nnop\n", 0b1011, Ok(4)),
@@ -154,6 +154,6 @@ fn places_of_programs(rt: HostRuntime) {
         ),
     ];
     for (text, used, want) in table {
-        assert!(rt; place_of(rt.alloc(), text, used) == Some(want), "{text}");
+        assert!(rt; address_of(rt.alloc(), text, used) == Some(want), "{text}");
     }
 }

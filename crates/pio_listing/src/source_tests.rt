@@ -82,8 +82,8 @@ fn many_programs(rt: HostRuntime) -> Result<(), AllocError> {
     let mut text = Vec::new(rt.alloc());
     for index in 0..100000u32 {
         text.extend_from_slice(b".program p")?;
-        for place in [10000u32, 1000, 100, 10, 1] {
-            text.push(b'a' + (index / place % 10) as u8)?;
+        for unit in [10000u32, 1000, 100, 10, 1] {
+            text.push(b'a' + (index / unit % 10) as u8)?;
         }
         text.extend_from_slice(b"\nnop\n")?;
     }

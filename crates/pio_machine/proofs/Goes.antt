@@ -240,7 +240,7 @@ goes-end : (delay : ℕ) (e : Ending) (m : Machine1) → Goes m (ended delay e m
 unfolding ended
 goes-end delay Stalled m = stays m
 goes-end delay Completed m = next_goes (goes-past m.waiting m) (goes (stepped m) _ refl refl refl refl refl refl)
-goes-end delay (Jumped place) m = goes m _ refl refl refl refl refl refl
+goes-end delay (Jumped address) m = goes m _ refl refl refl refl refl refl
 goes-end delay (Executes word) m = next_goes (goes-past m.waiting m) (goes (stepped m) _ refl refl refl refl refl refl)
 
 goes-worked : (op : PioOp) (number : ℕ) (seen : Seen) (m : Machine1) → Goes m (worked op number seen m)

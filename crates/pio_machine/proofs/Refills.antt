@@ -8,7 +8,7 @@ use Rattle.pio_machine.specs.Ending.Ending.{Stalled, Completed}
 use Rattle.pio_machine.specs.Fields.{autopull}
 use Rattle.pio_machine.specs.Queue.{loaded_from, loaded, is_spent, refilled}
 use Rattle.pio_machine.specs.Progress.{untried}
-use Rattle.pio_machine.specs.Operation.{next_place, stepped_past, stepped, with_delay, ended}
+use Rattle.pio_machine.specs.Operation.{next_address, stepped_past, stepped, with_delay, ended}
 
 -- it changes the OSR, its count and the TX FIFO alone
 abbrev pub LooksElsewhere : {A : Type 0} → (Machine1 → A) → Type 0
@@ -30,12 +30,12 @@ refilled-keeps f h m = refilled-cases f h (autopull m) (is_spent m) m
 -- what neither autopull nor the end of a word changes
 pub record Ignores {A : Type 0} (f : Machine1 → A) : Type 0 where
   pub load : LooksElsewhere f
-  pub pc : (m : Machine1) (place : ℕ) (p : Progress) → f (record m { pc = place; progress = p }) ≡ f m
+  pub pc : (m : Machine1) (address : ℕ) (p : Progress) → f (record m { pc = address; progress = p }) ≡ f m
   pub waiting : (m : Machine1) (w : Option Waiting) → f (record m { waiting = w }) ≡ f m
   pub delay : (m : Machine1) (d : ℕ) → f (record m { delay = d }) ≡ f m
 
 stepped-keeps : {A : Type 0} (f : Machine1 → A) → Ignores f → (w : Option Waiting) (m : Machine1) → f (stepped_past w m) ≡ f m
-stepped-keeps f h None m = h.pc m (next_place m) untried
+stepped-keeps f h None m = h.pc m (next_address m) untried
 stepped-keeps f h (Some w) m = h.waiting m None
 
 completed-keeps : {A : Type 0} (f : Machine1 → A) → Ignores f → (d : ℕ) (m : Machine1) → f (with_delay d (stepped m)) ≡ f m

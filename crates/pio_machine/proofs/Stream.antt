@@ -37,7 +37,7 @@ use Rattle.pio_machine.specs.Output.{out_value, shifted_out, with_out, out_stall
 use Rattle.pio_machine.specs.Move.{mov_value, with_moved}
 use Rattle.pio_machine.specs.Operation.{tried, is_osr, loads_osr, stepped_past, stepped, ended}
 use Rattle.pio_machine.specs.Cycle.{worked, after_op, after_try, ticks, divided, advanced, word_tried, passed, after_word, after_cycle}
-use Rattle.pio_machine.specs.Stream.{listed, place, leading, bits_of_word, bits_waiting, bits_of_out, given_by, given_by_word, given_in_cycle, replaces_osr, word_replaces_osr, Feeds, end_of, given_over, sent_over, TheBitsOutAreThoseSent}
+use Rattle.pio_machine.specs.Stream.{listed, bit_index, leading, bits_of_word, bits_waiting, bits_of_out, given_by, given_by_word, given_in_cycle, replaces_osr, word_replaces_osr, Feeds, end_of, given_over, sent_over, TheBitsOutAreThoseSent}
 use Rattle.pio_machine.proofs.Clock.{shiftctrl-kept, goes-cycle}
 
 -- ---- lists of bits
@@ -75,12 +75,12 @@ bit-div w c i = ap (λ n. n % 2) (div-div-eq-div-mul w (2 ^ c) (2 ^ i) ∙ ap (�
 bit-mul : (w c i : ℕ) → bit_at (w * 2 ^ c) (c + i) ≡ bit_at w i
 bit-mul w c i = sym (bit-div (w * 2 ^ c) c i) ∙ ap (λ n. bit_at n i) (mul-div_cancel w (pow_pos c))
 
-first_bits : (right : Bool) (c w i : ℕ) → i < c → c ≤ 32 → bit_at (taken right c w) (place right c i) ≡ bit_at w (place right 32 i)
+first_bits : (right : Bool) (c w i : ℕ) → i < c → c ≤ 32 → bit_at (taken right c w) (bit_index right c i) ≡ bit_at w (bit_index right 32 i)
 first_bits true c w i h k = bit-mod w c i h
 first_bits false c w i h k =
     bit-div w (32 - c) (c - 1 - i) ∙ ap (λ n. bit_at w n) (omega (arith, h, k))
 
-next_bits : (right : Bool) (c w i : ℕ) → c + i < 32 → bit_at (remaining right c w) (place right 32 i) ≡ bit_at w (place right 32 (c + i))
+next_bits : (right : Bool) (c w i : ℕ) → c + i < 32 → bit_at (remaining right c w) (bit_index right 32 i) ≡ bit_at w (bit_index right 32 (c + i))
 next_bits true c w i h = bit-div w c i
 next_bits false c w i h =
     let turned : 32 - 1 - i ≡ c + (32 - 1 - (c + i)) = omega (arith, h) in
@@ -92,11 +92,11 @@ parted : (right : Bool) (c left w : ℕ) → c ≤ 32 → left ≤ 32
 parted right c left w h k =
     let whole : left ≡ min c left + (left - c) = omega arith in
     ap (λ bs. bs ++ leading right 32 (left - c) (remaining right c w))
-    (listed-same (min c left) _ (λ i. bit_at w (place right 32 i)) (λ i low. first_bits right c w i (omega (arith, low)) h))
+    (listed-same (min c left) _ (λ i. bit_at w (bit_index right 32 i)) (λ i low. first_bits right c w i (omega (arith, low)) h))
     ∙ ap (λ bs. leading right 32 (min c left) w ++ bs)
-    (listed-same (left - c) _ (λ i. bit_at w (place right 32 (min c left + i)))
-    (λ i low. next_bits right c w i (omega (arith, low, k)) ∙ ap (λ n. bit_at w (place right 32 n)) (omega (arith, low))))
-    ∙ sym (ap (λ n. leading right 32 n w) whole ∙ listed-append (min c left) (left - c) (λ i. bit_at w (place right 32 i)))
+    (listed-same (left - c) _ (λ i. bit_at w (bit_index right 32 (min c left + i)))
+    (λ i low. next_bits right c w i (omega (arith, low, k)) ∙ ap (λ n. bit_at w (bit_index right 32 n)) (omega (arith, low))))
+    ∙ sym (ap (λ n. leading right 32 n w) whole ∙ listed-append (min c left) (left - c) (λ i. bit_at w (bit_index right 32 i)))
 
 -- ---- what waits, in machines that agree
 
@@ -311,7 +311,7 @@ agrees-end : (delay : ℕ) (e : Ending) (m : Machine1) → Agrees m (ended delay
 unfolding ended
 agrees-end delay Stalled m = itself m
 agrees-end delay Completed m = and_then (agrees-past m.waiting m) (agrees (stepped m) _ refl refl refl refl)
-agrees-end delay (Jumped place) m = agrees m _ refl refl refl refl
+agrees-end delay (Jumped address) m = agrees m _ refl refl refl refl
 agrees-end delay (Executes word) m = and_then (agrees-past m.waiting m) (agrees (stepped m) _ refl refl refl refl)
 
 try-bits-of : (word : ℕ) (op : PioOp) (number : ℕ) (seen : Seen) (m : Machine1) → replaces_osr op m ≡ false

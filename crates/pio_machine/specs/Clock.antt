@@ -23,7 +23,7 @@ AMachineTicksByItsDivider =
 
 -- ---- the FIFOs
 
--- neither holds more words than it has places
+-- neither holds more words than it has room for
 pub record IsWithin (m : Machine1) : Type 0 where
   pub tx : length m.tx ≤ tx_depth m
   pub rx : length m.rx ≤ rx_depth m

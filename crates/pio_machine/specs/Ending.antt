@@ -7,6 +7,6 @@ pub data Ending : Type 0 where
   -- it completed
   Completed : Ending
   -- it completed and sets PC
-  Jumped : (place : ℕ) → Ending
+  Jumped : (address : ℕ) → Ending
   -- it completed and gives a word to be executed
   Executes : (word : ℕ) → Ending

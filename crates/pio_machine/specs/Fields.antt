@@ -93,7 +93,7 @@ out_base m = m.pinctrl % 2 ^ 5
 
 -- ---- the FIFOs (3.5.3)
 
--- how many words a FIFO holds: four, or eight where it has taken the other's places, which then has none. With both joins
+-- how many words a FIFO holds: four, or eight where it has taken the other's room, which then has none. With both joins
 -- neither holds a word (the project's own)
 abbrev pub depth : Bool → Bool → ℕ
 depth joined lent = if lent then 0 else if joined then 8 else 4

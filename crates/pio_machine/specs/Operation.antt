@@ -98,24 +98,24 @@ with_side word m d =
 
 -- ---- the end
 
--- the word at PC is followed by the one at the next place, that at WRAP_TOP by that at WRAP_BOTTOM (3.5.2), which was not
+-- the word at PC is followed by the one at the next address, that at WRAP_TOP by that at WRAP_BOTTOM (3.5.2), which was not
 -- tried yet; a waiting word is gone
-abbrev pub next_place : Machine1 → ℕ
-next_place m = if m.pc == wrap_top m then wrap_bottom m else (m.pc % 32 + 1) % 32
+abbrev pub next_address : Machine1 → ℕ
+next_address m = if m.pc == wrap_top m then wrap_bottom m else (m.pc % 32 + 1) % 32
 
 -- whoever sets PC, the word there was not tried yet
 abbrev pub with_pc : ℕ → Machine1 → Machine1
-with_pc place m = record m { pc = place; progress = untried }
+with_pc address m = record m { pc = address; progress = untried }
 
 abbrev pub stepped_past : Option Waiting → Machine1 → Machine1
-stepped_past None m = with_pc (next_place m) m
+stepped_past None m = with_pc (next_address m) m
 stepped_past (Some w) m = record m { waiting = None }
 
 abbrev pub stepped : Machine1 → Machine1
 stepped m = stepped_past m.waiting m
 
 abbrev pub jumped : ℕ → Machine1 → Machine1
-jumped place m = record (with_pc place m) { waiting = None }
+jumped address m = record (with_pc address m) { waiting = None }
 
 abbrev pub with_delay : ℕ → Machine1 → Machine1
 with_delay delay m = record m { delay = delay }
@@ -127,5 +127,5 @@ with_waiting w m = record m { waiting = Some w }
 unfoldable pub ended : ℕ → Ending → Machine1 → Machine1
 ended delay Stalled m = m
 ended delay Completed m = with_delay delay (stepped m)
-ended delay (Jumped place) m = with_delay delay (jumped place m)
+ended delay (Jumped address) m = with_delay delay (jumped address m)
 ended delay (Executes word) m = with_waiting (executed word) (stepped m)

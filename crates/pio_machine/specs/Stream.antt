@@ -22,12 +22,12 @@ listed zero f = []
 listed (suc n) f = f 0 ∷ listed n (λ i. f (suc i))
 
 -- a shift to the right gives the lowest bit first, and one to the left the highest
-abbrev pub place : Bool → ℕ → ℕ → ℕ
-place right width turn = if right then turn else width - 1 - turn
+abbrev pub bit_index : Bool → ℕ → ℕ → ℕ
+bit_index right width turn = if right then turn else width - 1 - turn
 
 -- the first bits of a number that has so many
 abbrev pub leading : Bool → ℕ → ℕ → ℕ → List ℕ
-leading right width count number = listed count (λ turn. bit_at number (place right width turn))
+leading right width count number = listed count (λ turn. bit_at number (bit_index right width turn))
 
 -- ---- what waits
 
@@ -69,7 +69,7 @@ abbrev pub word_replaces_osr : Option ℕ → Machine1 → Bool
 word_replaces_osr None m = false
 word_replaces_osr (Some word) m = replaces_osr (operation_of word) m
 
--- a cycle: the words that were sent since the one before and found a place, and the machine at its start with what it sees
+-- a cycle: the words that were sent since the one before and found room, and the machine at its start with what it sees
 pub record Fed : Type 0 where
   pub words : List ℕ
   pub machine : Machine1

@@ -7,5 +7,5 @@ use Rattle.pio_machine.specs.Ending.Ending.{Stalled, Completed, Jumped, Executes
 abbrev pub stands_for : Outcome → Ending
 stands_for code.Stalled = Stalled
 stands_for code.Completed = Completed
-stands_for (code.Jumped place) = Jumped place
+stands_for (code.Jumped address) = Jumped address
 stands_for (code.Executes word) = Executes word

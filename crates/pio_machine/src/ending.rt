@@ -1,15 +1,15 @@
 //! How a try of a word ends.
 
 ghost use Rattle.std.specs.Prelude.{◌≡◌};
-ghost use Rattle.pio_machine.specs.Operation.{next_place, stepped, jumped, ended};
+ghost use Rattle.pio_machine.specs.Operation.{next_address, stepped, jumped, ended};
 ghost use Rattle.pio_machine.specs.Tie.{stands_for};
 
 use crate::machine::{Machine1, Outcome, Waiting};
 
 impl Machine1 {
-    /// The place after PC.
-    fn next_place(&self) -> u8
-        ensures { result ≡ next_place self.now }
+    /// The address after PC.
+    fn next_address(&self) -> u8
+        ensures { result ≡ next_address self.now }
     {
         if self.pc == self.wrap_top() {
             self.wrap_bottom()
@@ -25,15 +25,15 @@ impl Machine1 {
         if self.waiting.is_some() {
             self.waiting = None;
         } else {
-            self.set_pc(self.next_place());
+            self.set_pc(self.next_address());
         }
     }
 
     /// Jumps.
-    fn jump(&mut self, place: u8)
-        ensures { self.new ≡ jumped place self.old }
+    fn jump(&mut self, address: u8)
+        ensures { self.new ≡ jumped address self.old }
     {
-        self.set_pc(place);
+        self.set_pc(address);
         self.waiting = None;
     }
 
@@ -48,8 +48,8 @@ impl Machine1 {
                 self.step();
                 self.delay = delay;
             }
-            Outcome::Jumped(place) => {
-                self.jump(place);
+            Outcome::Jumped(address) => {
+                self.jump(address);
                 self.delay = delay;
             }
             Outcome::Executes(word) => {

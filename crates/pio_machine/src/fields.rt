@@ -13,7 +13,7 @@ fn threshold(field: u8) -> u8
     if field == 0 { 32 } else { field }
 }
 
-/// How many words a FIFO holds that has taken the other's places, or has lent its own.
+/// How many words a FIFO holds that has taken the other's room, or has lent its own.
 fn depth(joined: bool, lent: bool) -> u8
     ensures value { result ≡ depth joined lent }
     ensures room { result ≤ 8 }
@@ -178,7 +178,7 @@ impl Machine1 {
         self.pinctrl & 0x1f
     }
 
-    /// How many words the TX FIFO holds: 4, 8 where it took the places of the RX FIFO, or 0.
+    /// How many words the TX FIFO holds: 4, 8 where it took the room of the RX FIFO, or 0.
     pub fn tx_depth(&self) -> u8
         ensures value { result ≡ tx_depth self.now }
         ensures room { result ≤ 8 }
@@ -186,7 +186,7 @@ impl Machine1 {
         depth(self.join_tx(), self.join_rx())
     }
 
-    /// How many words the RX FIFO holds: 4, 8 where it took the places of the TX FIFO, or 0.
+    /// How many words the RX FIFO holds: 4, 8 where it took the room of the TX FIFO, or 0.
     pub fn rx_depth(&self) -> u8
         ensures value { result ≡ rx_depth self.now }
         ensures room { result ≤ 8 }
@@ -194,14 +194,14 @@ impl Machine1 {
         depth(self.join_rx(), self.join_tx())
     }
 
-    /// The TX FIFO has no free place.
+    /// The TX FIFO has no free word.
     pub fn is_tx_full(&self) -> bool
         ensures { result ≡ is_tx_full self.now }
     {
         self.tx_depth() <= self.tx.level()
     }
 
-    /// The RX FIFO has no free place.
+    /// The RX FIFO has no free word.
     pub fn is_rx_full(&self) -> bool
         ensures { result ≡ is_rx_full self.now }
     {

@@ -20,7 +20,7 @@ pub fn a_machine_ticks_by_its_divider()
     ensures { AMachineTicksByItsDivider }
 {}
 
-/// No cycle leaves more words in a FIFO than it has places.
+/// No cycle leaves more words in a FIFO than it has room for.
 pub fn a_cycle_keeps_the_fifos_within()
     ensures { ACycleKeepsTheFifosWithin }
 {}

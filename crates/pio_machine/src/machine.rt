@@ -55,7 +55,7 @@ pub struct Machine1 {
     pub osr: u32,
     /// How many bits were shifted out of the OSR, 0 to 32.
     pub osr_count: u8,
-    /// The place of the next instruction, 0 to 31.
+    /// The address of the next instruction, 0 to 31.
     pub pc: u8,
     /// How many ticks are left of the delay after an instruction, 0 to 31.
     pub delay: u8,
@@ -194,10 +194,10 @@ impl Machine1 {
     }
 
     /// Sets PC, 0 to 31. The word there was not tried yet.
-    pub fn set_pc(&mut self, place: u8)
-        ensures { self.new ≡ with_pc place self.old }
+    pub fn set_pc(&mut self, address: u8)
+        ensures { self.new ≡ with_pc address self.old }
     {
-        self.pc = place;
+        self.pc = address;
         self.progress = Progress::new();
     }
 

@@ -2,7 +2,7 @@
 use Rattle.std.proofs.Common.{◌≡◌, ◌==◌, ◌&&◌, ◌||◌, ℕ, zero, suc, ◌+◌, ◌<◌, ◌≤◌, Bool, true, false, List, [], ◌∷◌, ◌++◌, length, Option, None, Some, Result, Ok, Err, append_assoc, length-append, ◌⊎◌, inl, inr, arith, refl, sym, ap, ◌∙◌, subst}
 use Rattle.std.proofs.lemmas.Bool.{cases_Bool}
 use Rattle.std.proofs.lemmas.Bool.Decides.{eqb_tells}
-use Rattle.pio_parse.specs.declared.token.Place.{Place}
+use Rattle.pio_parse.specs.declared.token.SourcePosition.{SourcePosition}
 use Rattle.pio_parse.specs.declared.token.Token.{Token}
 use Rattle.pio_parse.specs.declared.token.TokenKind.{TokenKind}
 use Rattle.pio_parse.specs.declared.token.TokenKind.TheVariants.{Comma, Colon, DoubleColon, OpenBracket, CloseBracket, OpenParenthesis, CloseParenthesis, Plus, Minus, Star, Bang, NotEqual, Tilde, LineEnd, FileEnd}
@@ -287,52 +287,52 @@ front index c cs =
           ]
     ]
 
--- characters are lexemes to their end, or up to a place where none stands
-abbrev Whole : ℕ → Place → List ℕ → Type 0
-Whole index place chars = ((tokens : List Token) × AreLexemes index place chars tokens) ⊎ ((fault : Place) × StopsAt index place chars fault)
+-- characters are lexemes to their end, or up to a position where none stands
+abbrev Whole : ℕ → SourcePosition → List ℕ → Type 0
+Whole index position chars = ((tokens : List Token) × AreLexemes index position chars tokens) ⊎ ((fault : SourcePosition) × StopsAt index position chars fault)
 
-goes_on : (index : ℕ) (place : Place) (all : List ℕ) (s : Split index all) → Whole (index + length s.chars) (moved s.chars place) s.rest → Whole index place all
-goes_on index place all s (inl w) = inl (tokens_at s.token place ++ w.0, subst (λ (cs : List ℕ). AreLexemes index place cs (tokens_at s.token place ++ w.0)) s.whole (lexeme s.is w.1))
-goes_on index place all s (inr w) = inr (w.0, subst (λ (cs : List ℕ). StopsAt index place cs w.0) s.whole (after_lexeme s.is w.1))
+goes_on : (index : ℕ) (position : SourcePosition) (all : List ℕ) (s : Split index all) → Whole (index + length s.chars) (moved s.chars position) s.rest → Whole index position all
+goes_on index position all s (inl w) = inl (tokens_at s.token position ++ w.0, subst (λ (cs : List ℕ). AreLexemes index position cs (tokens_at s.token position ++ w.0)) s.whole (lexeme s.is w.1))
+goes_on index position all s (inr w) = inr (w.0, subst (λ (cs : List ℕ). StopsAt index position cs w.0) s.whole (after_lexeme s.is w.1))
 
-whole_by : (n index : ℕ) (place : Place) (all : List ℕ) → length all ≤ suc n → ((index : ℕ) (place : Place) (chars : List ℕ) → length chars ≤ n → Whole index place chars) → Front index all → Whole index place all
-whole_by n index place all le shorter (inl s) =
+whole_by : (n index : ℕ) (position : SourcePosition) (all : List ℕ) → length all ≤ suc n → ((index : ℕ) (position : SourcePosition) (chars : List ℕ) → length chars ≤ n → Whole index position chars) → Front index all → Whole index position all
+whole_by n index position all le shorter (inl s) =
     let less = s.less in
     let few : length s.rest ≤ n = omega arith in
-    goes_on index place all s (shorter (index + length s.chars) (moved s.chars place) s.rest few)
-whole_by n index place all le shorter (inr m) = inr (place, none_here m)
+    goes_on index position all s (shorter (index + length s.chars) (moved s.chars position) s.rest few)
+whole_by n index position all le shorter (inr m) = inr (position, none_here m)
 
-whole : (n index : ℕ) (place : Place) (chars : List ℕ) → length chars ≤ n → Whole index place chars
-whole n index place [] le = inl ([], nothing)
-whole zero index place (c ∷ cs) le = absurd (omega arith)
-whole (suc n) index place (c ∷ cs) le = whole_by n index place (c ∷ cs) le (λ index place chars le. whole n index place chars le) (front index c cs)
+whole : (n index : ℕ) (position : SourcePosition) (chars : List ℕ) → length chars ≤ n → Whole index position chars
+whole n index position [] le = inl ([], nothing)
+whole zero index position (c ∷ cs) le = absurd (omega arith)
+whole (suc n) index position (c ∷ cs) le = whole_by n index position (c ∷ cs) le (λ index position chars le. whole n index position chars le) (front index c cs)
 
 abbrev all_of : List ℕ → List Token → List Token
-all_of text tokens = tokens ++ record { kind = FileEnd; place = past (record { line = 1; column = 1 }) (record { line = 1; column = 1 }) text } ∷ []
+all_of text tokens = tokens ++ record { kind = FileEnd; position = past (record { line = 1; column = 1 }) (record { line = 1; column = 1 }) text } ∷ []
 
-same_tokens : (outcome : Result (List Token) Place) (xs ys : List Token) → outcome ≡ Ok xs → outcome ≡ Ok ys → xs ≡ ys
+same_tokens : (outcome : Result (List Token) SourcePosition) (xs ys : List Token) → outcome ≡ Ok xs → outcome ≡ Ok ys → xs ≡ ys
 same_tokens (Ok zs) xs ys h k = cc
-same_tokens (Err place) xs ys h k = cc
+same_tokens (Err position) xs ys h k = cc
 
-same_place : (outcome : Result (List Token) Place) (p q : Place) → outcome ≡ Err p → outcome ≡ Err q → p ≡ q
-same_place (Ok zs) p q h k = cc
-same_place (Err place) p q h k = cc
+same_position : (outcome : Result (List Token) SourcePosition) (p q : SourcePosition) → outcome ≡ Err p → outcome ≡ Err q → p ≡ q
+same_position (Ok zs) p q h k = cc
+same_position (Err position) p q h k = cc
 
-not_both : (outcome : Result (List Token) Place) (xs : List Token) (p : Place) → outcome ≡ Ok xs → outcome ≡ Err p → ⊥
+not_both : (outcome : Result (List Token) SourcePosition) (xs : List Token) (p : SourcePosition) → outcome ≡ Ok xs → outcome ≡ Err p → ⊥
 not_both (Ok zs) xs p h k = cc
-not_both (Err place) xs p h k = cc
+not_both (Err position) xs p h k = cc
 
 lexed_of : (text : List ℕ) (tokens : List Token) → scanned text ≡ Ok tokens → Whole 0 (record { line = 1; column = 1 }) text → IsLexed text tokens
 lexed_of text tokens h (inl w) = (w.0, w.1, same_tokens (scanned text) tokens (all_of text w.0) h (reads_lexemes text (all_of text w.0) (w.0, w.1, refl)))
 lexed_of text tokens h (inr w) = absurd (not_both (scanned text) tokens w.0 h (reads_stop text w.0 w.1))
 
-fault_of : (text : List ℕ) (place : Place) → scanned text ≡ Err place → Whole 0 (record { line = 1; column = 1 }) text → IsCharFaultAt text place
-fault_of text place h (inl w) = absurd (not_both (scanned text) (all_of text w.0) place (reads_lexemes text (all_of text w.0) (w.0, w.1, refl)) h)
-fault_of text place h (inr w) =
-    subst (λ (p : Place). IsCharFaultAt text p) (same_place (scanned text) w.0 place (reads_stop text w.0 w.1) h) w.1
+fault_of : (text : List ℕ) (position : SourcePosition) → scanned text ≡ Err position → Whole 0 (record { line = 1; column = 1 }) text → IsCharFaultAt text position
+fault_of text position h (inl w) = absurd (not_both (scanned text) (all_of text w.0) position (reads_lexemes text (all_of text w.0) (w.0, w.1, refl)) h)
+fault_of text position h (inr w) =
+    subst (λ (p : SourcePosition). IsCharFaultAt text p) (same_position (scanned text) w.0 position (reads_stop text w.0 w.1) h) w.1
 
 pub lexes_exactly : LexesExactly
 lexes_exactly text tokens = (λ h. lexed_of text tokens h (whole (length text) 0 (record { line = 1; column = 1 }) text (omega arith)), λ is. reads_lexemes text tokens is)
 
 pub char_faults_at_first : CharFaultsAtFirst
-char_faults_at_first text place = (λ h. fault_of text place h (whole (length text) 0 (record { line = 1; column = 1 }) text (omega arith)), λ is. reads_stop text place is)
+char_faults_at_first text position = (λ h. fault_of text position h (whole (length text) 0 (record { line = 1; column = 1 }) text (omega arith)), λ is. reads_stop text position is)

@@ -1,7 +1,7 @@
 -- How far an expression goes: before whatever ends it, it is the same, and where it is refused it could have come to an end.
 use Rattle.std.proofs.Common.{◌≡◌, ◌==◌, ◌&&◌, not, Bool, true, false, if◌then◌else◌, ℕ, zero, suc, List, [], ◌∷◌, ◌++◌, Option, Some, None, Result, Ok, Err, refl, sym, ap, ◌∙◌, subst}
 use mathlib.Core.Bool.{false≢true}
-use Rattle.pio_parse.specs.declared.token.Place.{Place}
+use Rattle.pio_parse.specs.declared.token.SourcePosition.{SourcePosition}
 use Rattle.pio_parse.specs.declared.token.Token.{Token}
 use Rattle.pio_parse.specs.declared.token.TokenKind.{TokenKind}
 use Rattle.pio_parse.specs.declared.token.TokenKind.TheVariants.{Number, CloseParenthesis, Plus, Minus, Star}
@@ -16,7 +16,7 @@ use Rattle.pio_parse.specs.Laws.{ends_line}
 use Rattle.pio_parse.specs.Expression.{after_newest, expression_at, expression_from, nothing_read, operand_step, operator_step, reduced, token_step}
 use Rattle.pio_parse.proofs.Follows.{after_operand}
 use Rattle.pio_parse.proofs.Finds.{refused}
-use Rattle.pio_parse.proofs.Faults.{FaultIs, StopsHere, end_stops, place_in, suc-back, suc-tested, goes_on, token_fault, token_of}
+use Rattle.pio_parse.proofs.Faults.{FaultIs, StopsHere, end_stops, position_in, suc-back, suc-tested, goes_on, token_fault, token_of}
 
 -- no expression goes on with this
 abbrev pub ends_sum : TokenKind → Bool
@@ -31,49 +31,49 @@ none_ends [] = true
 none_ends (token ∷ tokens) = not (is_end token.kind) && none_ends tokens
 
 -- an operator waits for nothing before what ends a sum
-over_at : (kind : TokenKind) (place : Place) (stack : List Pending) (output : List Term) → ends_sum kind ≡ true
-    → operator_step kind place (record { stack = stack; output = output; awaited = false; depth = 0 }) ≡ Ok None
-over_at Star place stack output h = absurd (false≢true h)
-over_at Plus place stack output h = absurd (false≢true h)
-over_at Minus place stack output h = absurd (false≢true h)
-over_at kind place stack output h = refl
+over_at : (kind : TokenKind) (position : SourcePosition) (stack : List Pending) (output : List Term) → ends_sum kind ≡ true
+    → operator_step kind position (record { stack = stack; output = output; awaited = false; depth = 0 }) ≡ Ok None
+over_at Star position stack output h = absurd (false≢true h)
+over_at Plus position stack output h = absurd (false≢true h)
+over_at Minus position stack output h = absurd (false≢true h)
+over_at kind position stack output h = refl
 
 -- where an expression is over, it is over before whatever ends a sum
-over_tested : (test : Bool) (place : Place) → Path (Result (Option Reading) Place) (if test then Ok None else Err place) (Ok None) → test ≡ true
-over_tested true place q = refl
-over_tested false place q = absurd (refused q)
+over_tested : (test : Bool) (position : SourcePosition) → Path (Result (Option Reading) SourcePosition) (if test then Ok None else Err position) (Ok None) → test ≡ true
+over_tested true position q = refl
+over_tested false position q = absurd (refused q)
 
-abbrev is_over : Result (Option Reading) Place → Bool
+abbrev is_over : Result (Option Reading) SourcePosition → Bool
 is_over (Ok None) = true
 is_over (Ok (Some next)) = false
-is_over (Err place) = false
+is_over (Err position) = false
 
-closed_tested : (test : Bool) (next : Reading) → Path (Result (Option Reading) Place) (if test then Ok None else Ok (Some next)) (Ok None) → test ≡ true
+closed_tested : (test : Bool) (next : Reading) → Path (Result (Option Reading) SourcePosition) (if test then Ok None else Ok (Some next)) (Ok None) → test ≡ true
 closed_tested true next q = refl
 closed_tested false next q = absurd (false≢true (ap is_over q))
 
-over_depth : (kind : TokenKind) (place : Place) (reading : Reading) → operator_step kind place reading ≡ Ok None → (reading.depth == 0) ≡ true
-over_depth Star place reading q = absurd (false≢true (ap is_over q))
-over_depth Plus place reading q = absurd (false≢true (ap is_over q))
-over_depth Minus place reading q = absurd (false≢true (ap is_over q))
-over_depth CloseParenthesis place reading q = closed_tested (reading.depth == 0) _ q
-over_depth kind place reading q = over_tested (reading.depth == 0) place q
+over_depth : (kind : TokenKind) (position : SourcePosition) (reading : Reading) → operator_step kind position reading ≡ Ok None → (reading.depth == 0) ≡ true
+over_depth Star position reading q = absurd (false≢true (ap is_over q))
+over_depth Plus position reading q = absurd (false≢true (ap is_over q))
+over_depth Minus position reading q = absurd (false≢true (ap is_over q))
+over_depth CloseParenthesis position reading q = closed_tested (reading.depth == 0) _ q
+over_depth kind position reading q = over_tested (reading.depth == 0) position q
 
-over_by : (kind : TokenKind) (place : Place) (reading : Reading) → ends_sum kind ≡ true → (reading.depth == 0) ≡ true → operator_step kind place reading ≡ Ok None
-over_by Star place reading h e = absurd (false≢true h)
-over_by Plus place reading h e = absurd (false≢true h)
-over_by Minus place reading h e = absurd (false≢true h)
-over_by kind place reading h e = rw e refl
+over_by : (kind : TokenKind) (position : SourcePosition) (reading : Reading) → ends_sum kind ≡ true → (reading.depth == 0) ≡ true → operator_step kind position reading ≡ Ok None
+over_by Star position reading h e = absurd (false≢true h)
+over_by Plus position reading h e = absurd (false≢true h)
+over_by Minus position reading h e = absurd (false≢true h)
+over_by kind position reading h e = rw e refl
 
-mapped_over : (step : Result Reading Place) → Path (Result (Option Reading) Place) (map_ok (λ next. Some next) step) (Ok None) → ⊥
+mapped_over : (step : Result Reading SourcePosition) → Path (Result (Option Reading) SourcePosition) (map_ok (λ next. Some next) step) (Ok None) → ⊥
 mapped_over (Ok x) q = false≢true (ap is_over q)
 mapped_over (Err p) q = refused q
 
-over_any : (text : List ℕ) (kind other : TokenKind) (place elsewhere : Place) (stack : List Pending) (output : List Term) (awaited : Bool) (depth : ℕ) → ends_sum other ≡ true
-    → token_step text kind place (record { stack = stack; output = output; awaited = awaited; depth = depth }) ≡ Ok None
+over_any : (text : List ℕ) (kind other : TokenKind) (position elsewhere : SourcePosition) (stack : List Pending) (output : List Term) (awaited : Bool) (depth : ℕ) → ends_sum other ≡ true
+    → token_step text kind position (record { stack = stack; output = output; awaited = awaited; depth = depth }) ≡ Ok None
     → token_step text other elsewhere (record { stack = stack; output = output; awaited = awaited; depth = depth }) ≡ Ok None
-over_any text kind other place elsewhere stack output true depth h q = absurd (mapped_over (operand_step text kind place _) q)
-over_any text kind other place elsewhere stack output false depth h q = over_by other elsewhere _ h (over_depth kind place _ q)
+over_any text kind other position elsewhere stack output true depth h q = absurd (mapped_over (operand_step text kind position _) q)
+over_any text kind other position elsewhere stack output false depth h q = over_by other elsewhere _ h (over_depth kind position _ q)
 
 -- the parentheses that are open are closed
 abbrev closing : ℕ → List Token
@@ -86,7 +86,7 @@ closed_terms (suc depth) stack output = closed_terms depth (after_newest (reduce
 
 closed : (text : List ℕ) (depth : ℕ) (stack : List Pending) (output : List Term) (first : Token) (further : List Token) → ends_sum first.kind ≡ true
     → after_operand text stack output depth (closing depth ++ first ∷ further) ≡ Ok (closed_terms depth stack output, first ∷ further)
-closed text zero stack output first further h = rw (over_at first.kind first.place stack output h) refl
+closed text zero stack output first further h = rw (over_at first.kind first.position stack output h) refl
 closed text (suc depth) stack output first further h =
     rw (suc-tested depth, suc-back depth) (closed text depth (after_newest (reduced 0 stack output).0) (reduced 0 stack output).1 first further h)
 
@@ -98,17 +98,17 @@ pub record Extent (f : List Token → Outcome (List Term)) (tokens : List Token)
   pub again : (first : Token) (further : List Token) → ends_sum first.kind ≡ true → f (consumed ++ first ∷ further) ≡ Ok (terms, first ∷ further)
 
 -- tokens are refused at one, before which they could have come to an end
-pub record Refusal (f : List Token → Outcome (List Term)) (tokens : List Token) (place : Place) : Type 0 where
+pub record Refusal (f : List Token → Outcome (List Term)) (tokens : List Token) (position : SourcePosition) : Type 0 where
   pub before : List Token
   pub token : Token
   pub after : List Token
   pub whole : tokens ≡ before ++ token ∷ after
-  pub at : token.place ≡ place
+  pub at : token.position ≡ position
   pub ends : List Token
   pub inside : none_ends ends ≡ true
   pub terms : List Term
   pub goes : (first : Token) (further : List Token) → ends_sum first.kind ≡ true → f (before ++ (ends ++ first ∷ further)) ≡ Ok (terms, first ∷ further)
-  pub stays : (further : List Token) → f (before ++ token ∷ further) ≡ Err place
+  pub stays : (further : List Token) → f (before ++ token ∷ further) ≡ Err position
 
 terms_of : {terms other : List Term} {rest rest' : List Token} → Path (Outcome (List Term)) (Ok (terms, rest)) (Ok (other, rest')) → terms ≡ other
 terms_of {terms = terms} q = ap part q
@@ -126,15 +126,15 @@ rest_of {rest = rest} q = ap part q
 
 module _ (text : List ℕ) where
   -- a token after which an expression goes on ends no line
-  no_end : (token : Token) (reading next : Reading) → token_step text token.kind token.place reading ≡ Ok (Some next) → (b : Bool) → is_end token.kind ≡ b → b ≡ false
-  no_end token reading next is true h = absurd (subst StopsHere is (end_stops text token.kind token.place reading.stack reading.output reading.awaited reading.depth h))
+  no_end : (token : Token) (reading next : Reading) → token_step text token.kind token.position reading ≡ Ok (Some next) → (b : Bool) → is_end token.kind ≡ b → b ≡ false
+  no_end token reading next is true h = absurd (subst StopsHere is (end_stops text token.kind token.position reading.stack reading.output reading.awaited reading.depth h))
   no_end token reading next is false h = refl
 
   abbrev ExtentOf : List Token → Type 0
   ExtentOf tokens = (reading : Reading) (terms : List Term) (rest : List Token) → expression_from text reading tokens ≡ Ok (terms, rest) → Extent (expression_from text reading) tokens terms rest
 
   extent_by : (token : Token) (tokens : List Token) → ExtentOf tokens → (reading : Reading) (terms : List Term) (rest : List Token) → expression_from text reading (token ∷ tokens) ≡ Ok (terms, rest)
-      → (step : Result (Option Reading) Place) → token_step text token.kind token.place reading ≡ step → Extent (expression_from text reading) (token ∷ tokens) terms rest
+      → (step : Result (Option Reading) SourcePosition) → token_step text token.kind token.position reading ≡ step → Extent (expression_from text reading) (token ∷ tokens) terms rest
   extent_by token tokens later reading terms rest q (Err p) is = absurd (refused (rw is at q))
   extent_by token tokens later reading terms rest q (Ok None) is =
       let read = rw is at q in
@@ -142,7 +142,7 @@ module _ (text : List ℕ) where
         consumed = [];
         whole = rest_of read;
         inside = refl;
-        again = λ first further h. rw (over_any text token.kind first.kind token.place first.place reading.stack reading.output reading.awaited reading.depth h is) (ap (λ terms. Ok (terms, first ∷ further)) (terms_of read));
+        again = λ first further h. rw (over_any text token.kind first.kind token.position first.position reading.stack reading.output reading.awaited reading.depth h is) (ap (λ terms. Ok (terms, first ∷ further)) (terms_of read));
       }
   extent_by token tokens later reading terms rest q (Ok (Some next)) is =
       let inner = later next terms rest (rw is at q) in
@@ -155,7 +155,7 @@ module _ (text : List ℕ) where
 
   extent_of : (tokens : List Token) → ExtentOf tokens
   extent_of [] reading terms rest q = absurd (refused q)
-  extent_of (token ∷ tokens) reading terms rest q = extent_by token tokens (extent_of tokens) reading terms rest q (token_step text token.kind token.place reading) refl
+  extent_of (token ∷ tokens) reading terms rest q = extent_by token tokens (extent_of tokens) reading terms rest q (token_step text token.kind token.position reading) refl
 
   -- how what was read may come to an end
   abbrev ending : (stack : List Pending) (output : List Term) (awaited : Bool) (depth : ℕ) → List Token
@@ -180,13 +180,13 @@ module _ (text : List ℕ) where
   ends_so stack output false depth first further h = closed text depth stack output first further h
 
   abbrev RefusalOf : List Token → Type 0
-  RefusalOf tokens = (reading : Reading) (place : Place) → ends_line tokens ≡ true → expression_from text reading tokens ≡ Err place → Refusal (expression_from text reading) tokens place
+  RefusalOf tokens = (reading : Reading) (position : SourcePosition) → ends_line tokens ≡ true → expression_from text reading tokens ≡ Err position → Refusal (expression_from text reading) tokens position
 
-  refusal_by : (token : Token) (tokens : List Token) → RefusalOf tokens → (reading : Reading) (place : Place) → ends_line (token ∷ tokens) ≡ true → expression_from text reading (token ∷ tokens) ≡ Err place
-      → (step : Result (Option Reading) Place) → token_step text token.kind token.place reading ≡ step → Refusal (expression_from text reading) (token ∷ tokens) place
-  refusal_by token tokens later reading place line q (Err p) is =
-      let same : p ≡ place = ap (place_in place) (rw is at q) in
-      let fault : p ≡ token.place = subst (FaultIs token.place) is (token_fault text token.kind token.place reading.stack reading.output reading.awaited reading.depth) in
+  refusal_by : (token : Token) (tokens : List Token) → RefusalOf tokens → (reading : Reading) (position : SourcePosition) → ends_line (token ∷ tokens) ≡ true → expression_from text reading (token ∷ tokens) ≡ Err position
+      → (step : Result (Option Reading) SourcePosition) → token_step text token.kind token.position reading ≡ step → Refusal (expression_from text reading) (token ∷ tokens) position
+  refusal_by token tokens later reading position line q (Err p) is =
+      let same : p ≡ position = ap (position_in position) (rw is at q) in
+      let fault : p ≡ token.position = subst (FaultIs token.position) is (token_fault text token.kind token.position reading.stack reading.output reading.awaited reading.depth) in
       record {
         before = [];
         token = token;
@@ -199,9 +199,9 @@ module _ (text : List ℕ) where
         goes = ends_so reading.stack reading.output reading.awaited reading.depth;
         stays = λ further. rw is (ap Err same);
       }
-  refusal_by token tokens later reading place line q (Ok None) is = absurd (refused (sym (rw is at q)))
-  refusal_by token tokens later reading place line q (Ok (Some next)) is =
-      let inner = later next place (goes_on token tokens text reading next is line) (rw is at q) in
+  refusal_by token tokens later reading position line q (Ok None) is = absurd (refused (sym (rw is at q)))
+  refusal_by token tokens later reading position line q (Ok (Some next)) is =
+      let inner = later next position (goes_on token tokens text reading next is line) (rw is at q) in
       record {
         before = token ∷ inner.before;
         token = inner.token;
@@ -216,14 +216,14 @@ module _ (text : List ℕ) where
       }
 
   refusal_of : (tokens : List Token) → RefusalOf tokens
-  refusal_of [] reading place line q = absurd (false≢true line)
-  refusal_of (token ∷ tokens) reading place line q = refusal_by token tokens (refusal_of tokens) reading place line q (token_step text token.kind token.place reading) refl
+  refusal_of [] reading position line q = absurd (false≢true line)
+  refusal_of (token ∷ tokens) reading position line q = refusal_by token tokens (refusal_of tokens) reading position line q (token_step text token.kind token.position reading) refl
 
   pub extent : (tokens : List Token) (terms : List Term) (rest : List Token) → expression_at text tokens ≡ Ok (terms, rest) → Extent (expression_at text) tokens terms rest
   extent tokens terms rest q =
       let e = extent_of tokens nothing_read terms rest q in record { consumed = e.consumed; whole = e.whole; inside = e.inside; again = e.again }
 
-  pub refusal : (tokens : List Token) (place : Place) → ends_line tokens ≡ true → expression_at text tokens ≡ Err place → Refusal (expression_at text) tokens place
-  refusal tokens place line q =
-      let s = refusal_of tokens nothing_read place line q in
+  pub refusal : (tokens : List Token) (position : SourcePosition) → ends_line tokens ≡ true → expression_at text tokens ≡ Err position → Refusal (expression_at text) tokens position
+  refusal tokens position line q =
+      let s = refusal_of tokens nothing_read position line q in
       record { before = s.before; token = s.token; after = s.after; whole = s.whole; at = s.at; ends = s.ends; inside = s.inside; terms = s.terms; goes = s.goes; stays = s.stays }

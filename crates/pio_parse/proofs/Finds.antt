@@ -1,7 +1,7 @@
 -- Where the stack of waiting operators accepts tokens, the grammar has a tree for them.
 use Rattle.std.proofs.Common.{◌≡◌, ◌≢◌, ◌==◌, ◌⊎◌, inl, inr, ℕ, zero, suc, ◌+◌, ◌<◌, ◌≤◌, Bool, true, false, List, [], ◌∷◌, ◌++◌, length, None, Result, Ok, Err, arith, refl, sym, ap, ◌∙◌, subst}
 use mathlib.Core.Bool.{false≢true}
-use Rattle.pio_parse.specs.declared.token.Place.{Place}
+use Rattle.pio_parse.specs.declared.token.SourcePosition.{SourcePosition}
 use Rattle.pio_parse.specs.declared.token.Span.{Span}
 use Rattle.pio_parse.specs.declared.token.Token.{Token}
 use Rattle.pio_parse.specs.declared.token.TokenKind.{TokenKind}
@@ -60,7 +60,7 @@ pub data First (kind : TokenKind) : Type 0 where
   first_open : kind ≡ OpenParenthesis → First kind
   first_minus : kind ≡ Minus → First kind
   first_colons : kind ≡ DoubleColon → First kind
-  first_other : ((text : List ℕ) (place : Place) (reading : Reading) → operand_step text kind place reading ≡ Err place) → First kind
+  first_other : ((text : List ℕ) (position : SourcePosition) (reading : Reading) → operand_step text kind position reading ≡ Err position) → First kind
 
 pub first_of_kind : (kind : TokenKind) → First kind
 first_of_kind (NumberToken n) = first_number n refl
@@ -68,23 +68,23 @@ first_of_kind (NameToken span) = first_name span refl
 first_of_kind OpenParenthesis = first_open refl
 first_of_kind Minus = first_minus refl
 first_of_kind DoubleColon = first_colons refl
-first_of_kind kind = first_other (λ text place reading. refl)
+first_of_kind kind = first_other (λ text position reading. refl)
 
 -- what a token after a whole expression comes to
-over_or : (kind : TokenKind) → kind ≢ Star → kind ≢ Plus → kind ≢ Minus → (place : Place) (reading : Reading) → (reading.depth == 0) ≡ true → operator_step kind place reading ≡ Ok None
-over_or Star h i j place reading e = absurd (h refl)
-over_or Plus h i j place reading e = absurd (i refl)
-over_or Minus h i j place reading e = absurd (j refl)
-over_or kind h i j place reading e = rw e refl
+over_or : (kind : TokenKind) → kind ≢ Star → kind ≢ Plus → kind ≢ Minus → (position : SourcePosition) (reading : Reading) → (reading.depth == 0) ≡ true → operator_step kind position reading ≡ Ok None
+over_or Star h i j position reading e = absurd (h refl)
+over_or Plus h i j position reading e = absurd (i refl)
+over_or Minus h i j position reading e = absurd (j refl)
+over_or kind h i j position reading e = rw e refl
 
 -- within parentheses an expression goes on or is closed
 close_or : (kind : TokenKind) → kind ≢ Star → kind ≢ Plus → kind ≢ Minus
-    → (kind ≡ CloseParenthesis) ⊎ ((place : Place) (reading : Reading) → (reading.depth == 0) ≡ false → operator_step kind place reading ≡ Err place)
+    → (kind ≡ CloseParenthesis) ⊎ ((position : SourcePosition) (reading : Reading) → (reading.depth == 0) ≡ false → operator_step kind position reading ≡ Err position)
 close_or Star h i j = absurd (h refl)
 close_or Plus h i j = absurd (i refl)
 close_or Minus h i j = absurd (j refl)
 close_or CloseParenthesis h i j = inl refl
-close_or kind h i j = inr (λ place reading e. rw e refl)
+close_or kind h i j = inr (λ position reading e. rw e refl)
 
 module _ (text : List ℕ) (answer : List Term × List Token) where
   abbrev OperandFound : List Token → Type 0
@@ -122,9 +122,9 @@ module _ (text : List ℕ) (answer : List Term × List Token) where
   found_close stack output depth [] over e = absurd (refused e)
   found_close stack output depth (token ∷ rest) over e = (token, rest, refl, close (close_or token.kind over.0 over.1 over.2))
     where
-      close : (token.kind ≡ CloseParenthesis) ⊎ ((place : Place) (reading : Reading) → (reading.depth == 0) ≡ false → operator_step token.kind place reading ≡ Err place) → token.kind ≡ CloseParenthesis
+      close : (token.kind ≡ CloseParenthesis) ⊎ ((position : SourcePosition) (reading : Reading) → (reading.depth == 0) ≡ false → operator_step token.kind position reading ≡ Err position) → token.kind ≡ CloseParenthesis
       close (inl is) = is
-      close (inr other) = absurd (refused (rw (other token.place (record { stack = stack; output = output; awaited = false; depth = depth + 1 }) (suc-not_zero depth)) at e))
+      close (inr other) = absurd (refused (rw (other token.position (record { stack = stack; output = output; awaited = false; depth = depth + 1 }) (suc-not_zero depth)) at e))
 
   -- a sum in parentheses, and what is left after it
   closed_sum : (token : Token) (tokens middle : List Token) (tree : Expr) → token.kind ≡ OpenParenthesis → IsSum text tokens tree middle → length middle < length tokens
@@ -155,7 +155,7 @@ module _ (text : List ℕ) (answer : List Term × List Token) where
       let found = sums tokens (OperatorPending ReverseOperator ∷ stack) output depth le refl (sym (goes_in_reverse text stack output depth token tokens is) ∙ e) in
       (Reverse found.0, found.1, reverse is found.2 found.3, omega (arith, found.4))
   operand_by bound products sums token tokens stack output depth le e (first_other is) =
-      absurd (refused (rw (is text token.place (record { stack = stack; output = output; awaited = true; depth = depth })) at e))
+      absurd (refused (rw (is text token.position (record { stack = stack; output = output; awaited = true; depth = depth })) at e))
 
   operand_more : (bound : ℕ) → FindsProduct bound → FindsSum bound → FindsOperand (suc bound)
   operand_more bound products sums [] stack output depth le e = absurd (refused e)
@@ -321,7 +321,7 @@ module _ (text : List ℕ) (answer : List Term × List Token) where
 -- an expression is over at a token with which it does not go on
 over : (text : List ℕ) (output : List Term) (token : Token) (rest : List Token) → EndsSum (token ∷ rest) → after_operand text [] output 0 (token ∷ rest) ≡ Ok (output, token ∷ rest)
 over text output token rest ends =
-    rw (over_or token.kind ends.0 ends.1 ends.2 token.place (record { stack = []; output = output; awaited = false; depth = 0 }) refl) refl
+    rw (over_or token.kind ends.0 ends.1 ends.2 token.position (record { stack = []; output = output; awaited = false; depth = 0 }) refl) refl
 
 -- each expression of the grammar is read
 pub reads : (text : List ℕ) (tokens : List Token) (tree : Expr) (rest : List Token) → IsExpression text tokens tree rest → expression_at text tokens ≡ Ok (postfix tree, rest)
@@ -330,11 +330,11 @@ reads text tokens tree (token ∷ rest) is = follows_sum is.0 [] [] 0 refl is.1.
 
 terms_of : Outcome (List Term) → List Term
 terms_of (Ok answer) = answer.0
-terms_of (Err place) = []
+terms_of (Err position) = []
 
 rest_of : Outcome (List Term) → List Token
 rest_of (Ok answer) = answer.1
-rest_of (Err place) = []
+rest_of (Err position) = []
 
 pub same_terms : {terms other : List Term} {rest rest' : List Token} → Path (Outcome (List Term)) (Ok (terms, rest)) (Ok (other, rest')) → terms ≡ other
 unfolding terms_of

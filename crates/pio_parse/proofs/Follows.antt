@@ -2,7 +2,7 @@
 use Rattle.std.proofs.Common.{◌≡◌, ◌≢◌, ◌==◌, ℕ, ◌+◌, ◌-◌, nat_le, Bool, true, false, not, if◌then◌else◌, List, [], ◌∷◌, ◌++◌, Option, Some, None, Result, Ok, Err, arith, refl, sym, ap, ◌∙◌, append_assoc}
 use mathlib.Core.Bool.{false≢true}
 use Rattle.std.specs.Option.{option_map_or}
-use Rattle.pio_parse.specs.declared.token.Place.{Place}
+use Rattle.pio_parse.specs.declared.token.SourcePosition.{SourcePosition}
 use Rattle.pio_parse.specs.declared.token.Token.{Token}
 use Rattle.pio_parse.specs.declared.token.TokenKind.{TokenKind}
 use Rattle.pio_parse.specs.declared.token.TokenKind.TheVariants.{DoubleColon, OpenParenthesis, CloseParenthesis, Plus, Minus, Star}
@@ -40,7 +40,7 @@ reduced_more : (least : ℕ) (operator : Operator) (stack : List Pending) (outpu
 reduced_more least operator stack output h = rw h refl
 
 -- what goes on after a token
-abbrev onwards : List ℕ → List Token → Token → Reading → Result (Option Reading) Place → Outcome (List Term)
+abbrev onwards : List ℕ → List Token → Token → Reading → Result (Option Reading) SourcePosition → Outcome (List Term)
 onwards text tokens token reading step = and_then
     (λ next. option_map_or (λ reading. expression_from text reading tokens) next (Ok ((reduced 0 reading.stack reading.output).1, token ∷ tokens))) step
 
@@ -53,8 +53,8 @@ ended_all ReverseOperator = refl
 
 -- a test in a step that ends or refuses: with either answer what goes on is the same
 ended : (text : List ℕ) (operator : Operator) (stack : List Pending) (output : List Term) (depth : ℕ) (token : Token) (rest : List Token) (test : Bool)
-    → onwards text rest token (record { stack = OperatorPending operator ∷ stack; output = output; awaited = false; depth = depth }) (if test then Ok None else Err token.place)
-    ≡ onwards text rest token (record { stack = stack; output = output ++ OperatorTerm operator ∷ []; awaited = false; depth = depth }) (if test then Ok None else Err token.place)
+    → onwards text rest token (record { stack = OperatorPending operator ∷ stack; output = output; awaited = false; depth = depth }) (if test then Ok None else Err token.position)
+    ≡ onwards text rest token (record { stack = stack; output = output ++ OperatorTerm operator ∷ []; awaited = false; depth = depth }) (if test then Ok None else Err token.position)
 ended text operator stack output depth token rest true = rw (reduced_more 0 operator stack output (ended_all operator)) refl
 ended text operator stack output depth token rest false = refl
 
@@ -70,9 +70,9 @@ closed text operator stack output depth token rest false = rw (reduced_more 0 op
 settled_by : (text : List ℕ) (operator : Operator) (stack : List Pending) (output : List Term) (depth : ℕ) (kind : TokenKind) (token : Token) (rest : List Token)
     → nat_le (ended_level kind) (level_of operator) ≡ true
     → onwards text rest token (record { stack = OperatorPending operator ∷ stack; output = output; awaited = false; depth = depth })
-    (operator_step kind token.place (record { stack = OperatorPending operator ∷ stack; output = output; awaited = false; depth = depth }))
+    (operator_step kind token.position (record { stack = OperatorPending operator ∷ stack; output = output; awaited = false; depth = depth }))
     ≡ onwards text rest token (record { stack = stack; output = output ++ OperatorTerm operator ∷ []; awaited = false; depth = depth })
-    (operator_step kind token.place (record { stack = stack; output = output ++ OperatorTerm operator ∷ []; awaited = false; depth = depth }))
+    (operator_step kind token.position (record { stack = stack; output = output ++ OperatorTerm operator ∷ []; awaited = false; depth = depth }))
 settled_by text operator stack output depth Star token rest h = rw (reduced_more 2 operator stack output h) refl
 settled_by text operator stack output depth Plus token rest h = rw (reduced_more 1 operator stack output h) refl
 settled_by text operator stack output depth Minus token rest h = rw (reduced_more 1 operator stack output h) refl

@@ -1,7 +1,7 @@
 -- What is read outside brackets and directives is an operand of the grammar without an operator before it.
 use Rattle.std.proofs.Common.{◌≡◌, ◌≢◌, ℕ, Bool, true, false, List, [], ◌∷◌, Ok, Err, refl, sym, ap, ◌∙◌, subst}
 use mathlib.Core.Bool.{false≢true}
-use Rattle.pio_parse.specs.declared.token.Place.{Place}
+use Rattle.pio_parse.specs.declared.token.SourcePosition.{SourcePosition}
 use Rattle.pio_parse.specs.declared.token.Token.{Token}
 use Rattle.pio_parse.specs.declared.token.TokenKind.{TokenKind}
 use Rattle.pio_parse.specs.declared.token.TokenKind.TheVariants.{Name as NameToken, Number as NumberToken, DoubleColon, OpenParenthesis, CloseParenthesis, Plus, Minus, Star}
@@ -33,7 +33,7 @@ close_of kind h = absurd (false≢true h)
 closing : (kind : TokenKind) → kind ≡ CloseParenthesis → (kind ≢ Star) × (kind ≢ Plus) × (kind ≢ Minus)
 closing kind is = (λ q. false≢true (ap is_star (sym is ∙ q)), λ q. false≢true (ap is_plus (sym is ∙ q)), λ q. false≢true (ap is_minus (sym is ∙ q)))
 
-others : (kind : TokenKind) (text : List ℕ) (tokens : List Token) → ((text : List ℕ) (place : Place) (reading : Reading) → operand_step text kind place reading ≡ Err place)
+others : (kind : TokenKind) (text : List ℕ) (tokens : List Token) → ((text : List ℕ) (position : SourcePosition) (reading : Reading) → operand_step text kind position reading ≡ Err position)
     → operand_of_kind text kind tokens ≡ misfit tokens
 others (NumberToken n) text tokens h = absurd (refused (sym (h text (record { line = 0; column = 0 }) nothing_read)))
 others (NameToken span) text tokens h = absurd (refused (sym (h text (record { line = 0; column = 0 }) nothing_read)))
@@ -64,7 +64,7 @@ module _ (text : List ℕ) (terms : List Term) (rest : List Token) where
 
   opened : (token : Token) (tokens : List Token) → token.kind ≡ OpenParenthesis → (inner : Outcome (List Term)) → expression_at text tokens ≡ inner
       → in_parentheses inner ≡ Ok (terms, rest) → Found (token ∷ tokens)
-  opened token tokens is (Err place) e q = absurd (refused q)
+  opened token tokens is (Err position) e q = absurd (refused q)
   opened token tokens is (Ok (inside, after)) e q = closed token tokens after inside is e (is_close_parenthesis (head_kind after)) refl q
 
   found_by : (token : Token) (tokens : List Token) → operand_of_kind text token.kind (token ∷ tokens) ≡ Ok (terms, rest) → First token.kind → Found (token ∷ tokens)

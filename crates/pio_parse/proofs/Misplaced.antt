@@ -1,25 +1,25 @@
 -- Characters that are no lexemes up to their end are refused where the first of them stands that begins none; so each file has its tokens or its fault.
 use Rattle.std.proofs.Common.{◌≡◌, ◌==◌, ◌&&◌, ◌||◌, not, ℕ, ◌+◌, Bool, true, false, cond, List, [], ◌∷◌, ◌++◌, length, Result, Ok, Err, append_assoc, length-append, inl, inr, arith, refl, sym, ap, ◌∙◌, subst}
 use Rattle.std.proofs.lemmas.Bool.Decides.{eqb_tells}
-use Rattle.pio_parse.specs.declared.token.Place.{Place}
+use Rattle.pio_parse.specs.declared.token.SourcePosition.{SourcePosition}
 use Rattle.pio_parse.specs.declared.token.Token.{Token}
 use Rattle.pio_parse.specs.Scan.{Mode}
 use Rattle.pio_parse.specs.Scan.Mode.{Between, Slash, BlockComment, Header, Code}
 use Rattle.pio_parse.specs.Scan.{Step}
 use Rattle.pio_parse.specs.Words.{is_word_char}
-use Rattle.pio_parse.specs.Scan.{begins, next_place, quietly, scanned, scanned_from, steps}
+use Rattle.pio_parse.specs.Scan.{begins, next_position, without_token, scanned, scanned_from, steps}
 use Rattle.pio_parse.specs.Lexical.{IsCharFaultAt, IsMisplaced, StopsAt, begins_by, ends_badly, first_chars, has_name, is_among, lacks, lacks_pair, moved, past, tokens_at}
 use Rattle.pio_parse.specs.Lexical.IsMisplaced.{other, slash, open_comment, percent, open_block}
 use Rattle.pio_parse.specs.Lexical.StopsAt.{none_here, after_lexeme}
 use Rattle.pio_parse.proofs.Runs.{both}
-use Rattle.pio_parse.proofs.Lexemes.{after_step, behind, lexeme_reads, next_index, not_true, quiet_step}
+use Rattle.pio_parse.proofs.Lexemes.{after_step, behind, lexeme_reads, next_index, not_true, tokenless_step}
 
 pub neither : (a b : Bool) → (a || b) ≡ false → (a ≡ false) × (b ≡ false)
 neither true b h = cc
 neither false b h = (refl, h)
 
-other_begins : (c index : ℕ) (place : Place) → is_word_char c ≡ false → is_among c first_chars ≡ false → begins index c place ≡ Err place
-other_begins c index place w h =
+other_begins : (c index : ℕ) (position : SourcePosition) → is_word_char c ≡ false → is_among c first_chars ≡ false → begins index c position ≡ Err position
+other_begins c index position w h =
     let p32 = neither (c == 32) (is_among c (9 ∷ 13 ∷ 10 ∷ 58 ∷ 33 ∷ 47 ∷ 59 ∷ 37 ∷ 46 ∷ 44 ∷ 91 ∷ 93 ∷ 40 ∷ 41 ∷ 43 ∷ 45 ∷ 42 ∷ 126 ∷ [])) h in
     let p9 = neither (c == 9) (is_among c (13 ∷ 10 ∷ 58 ∷ 33 ∷ 47 ∷ 59 ∷ 37 ∷ 46 ∷ 44 ∷ 91 ∷ 93 ∷ 40 ∷ 41 ∷ 43 ∷ 45 ∷ 42 ∷ 126 ∷ [])) p32.1 in
     let p13 = neither (c == 13) (is_among c (10 ∷ 58 ∷ 33 ∷ 47 ∷ 59 ∷ 37 ∷ 46 ∷ 44 ∷ 91 ∷ 93 ∷ 40 ∷ 41 ∷ 43 ∷ 45 ∷ 42 ∷ 126 ∷ [])) p9.1 in
@@ -41,27 +41,27 @@ other_begins c index place w h =
     let p126 = neither (c == 126) (is_among c ([])) p42.1 in
     rw (p32.0, p9.0, p13.0, p10.0, p58.0, p33.0, p47.0, p59.0, p37.0, p46.0, p44.0, p91.0, p93.0, p40.0, p41.0, p43.0, p45.0, p42.0, p126.0, w) refl
 
-err_step : (text rest : List ℕ) (index c : ℕ) (mode : Mode) (here fault after : Place) (toks : List Token) → steps text index mode c here ≡ Err fault
+err_step : (text rest : List ℕ) (index c : ℕ) (mode : Mode) (here fault after : SourcePosition) (toks : List Token) → steps text index mode c here ≡ Err fault
     → scanned_from text (c ∷ rest) index mode here after toks ≡ Err fault
-err_step text rest index c mode here fault after toks h = ap (λ (r : Result Step Place). after_step text rest index c here toks r) h
+err_step text rest index c mode here fault after toks h = ap (λ (r : Result Step SourcePosition). after_step text rest index c here toks r) h
 
-comment_stays : (cs text : List ℕ) (index : ℕ) (begun : Place) (starred : Bool) (here after : Place) (toks : List Token) → (starred && begins_by 47 cs) ≡ false → lacks_pair 42 47 cs ≡ true
+comment_stays : (cs text : List ℕ) (index : ℕ) (begun : SourcePosition) (starred : Bool) (here after : SourcePosition) (toks : List Token) → (starred && begins_by 47 cs) ≡ false → lacks_pair 42 47 cs ≡ true
     → scanned_from text cs index (BlockComment begun starred) here after toks ≡ Err begun
 comment_stays [] text index begun starred here after toks h lack = refl
 comment_stays (c ∷ cs) text index begun starred here after toks h lack =
     let parts = both (not ((c == 42) && begins_by 47 cs)) (lacks_pair 42 47 cs) lack in
-    let here_step : steps text index (BlockComment begun starred) c here ≡ Ok (quietly (BlockComment begun (c == 42))) = rw h refl in
-    quiet_step text cs index c (BlockComment begun starred) (BlockComment begun (c == 42)) here after toks here_step
-    ∙ comment_stays cs text (index + 1) begun (c == 42) (next_place c here) (behind here) toks (not_true ((c == 42) && begins_by 47 cs) parts.0) parts.1
+    let here_step : steps text index (BlockComment begun starred) c here ≡ Ok (without_token (BlockComment begun (c == 42))) = rw h refl in
+    tokenless_step text cs index c (BlockComment begun starred) (BlockComment begun (c == 42)) here after toks here_step
+    ∙ comment_stays cs text (index + 1) begun (c == 42) (next_position c here) (behind here) toks (not_true ((c == 42) && begins_by 47 cs) parts.0) parts.1
 
-code_stays : (cs text : List ℕ) (index : ℕ) (begun : Place) (ready : Bool) (here after : Place) (toks : List Token) → (ready && begins_by 125 cs) ≡ false → lacks_pair 37 125 cs ≡ true
+code_stays : (cs text : List ℕ) (index : ℕ) (begun : SourcePosition) (ready : Bool) (here after : SourcePosition) (toks : List Token) → (ready && begins_by 125 cs) ≡ false → lacks_pair 37 125 cs ≡ true
     → scanned_from text cs index (Code begun ready) here after toks ≡ Err begun
 code_stays [] text index begun ready here after toks h lack = refl
 code_stays (c ∷ cs) text index begun ready here after toks h lack =
     let parts = both (not ((c == 37) && begins_by 125 cs)) (lacks_pair 37 125 cs) lack in
-    let here_step : steps text index (Code begun ready) c here ≡ Ok (quietly (Code begun (c == 37))) = rw h refl in
-    quiet_step text cs index c (Code begun ready) (Code begun (c == 37)) here after toks here_step
-    ∙ code_stays cs text (index + 1) begun (c == 37) (next_place c here) (behind here) toks (not_true ((c == 37) && begins_by 125 cs) parts.0) parts.1
+    let here_step : steps text index (Code begun ready) c here ≡ Ok (without_token (Code begun (c == 37))) = rw h refl in
+    tokenless_step text cs index c (Code begun ready) (Code begun (c == 37)) here after toks here_step
+    ∙ code_stays cs text (index + 1) begun (c == 37) (next_position c here) (behind here) toks (not_true ((c == 37) && begins_by 125 cs) parts.0) parts.1
 
 or_false : (b : Bool) → (b || false) ≡ b
 or_false true = refl
@@ -72,7 +72,7 @@ or_assoc true b c = refl
 or_assoc false b c = refl
 
 -- the name of a code block
-header_goes : (name rest text : List ℕ) (index : ℕ) (begun : Place) (named : Bool) (here after : Place) (toks : List Token) → lacks 37 name ≡ true → lacks 10 name ≡ true → lacks 123 name ≡ true
+header_goes : (name rest text : List ℕ) (index : ℕ) (begun : SourcePosition) (named : Bool) (here after : SourcePosition) (toks : List Token) → lacks 37 name ≡ true → lacks 10 name ≡ true → lacks 123 name ≡ true
     → scanned_from text (name ++ rest) index (Header begun named) here after toks
     ≡ scanned_from text rest (index + length name) (Header begun (named || has_name name)) (moved name here) (past after here name) toks
 header_goes [] rest text index begun named here after toks a b d = let e : index + 0 ≡ index = omega arith in rw (e, or_false named) refl
@@ -80,68 +80,68 @@ header_goes (c ∷ cs) rest text index begun named here after toks a b d =
     let no_percent = both (not (c == 37)) (lacks 37 cs) a in
     let no_line = both (not (c == 10)) (lacks 10 cs) b in
     let no_brace = both (not (c == 123)) (lacks 123 cs) d in
-    let here_step : steps text index (Header begun named) c here ≡ Ok (quietly (Header begun (named || not (c == 32))))
+    let here_step : steps text index (Header begun named) c here ≡ Ok (without_token (Header begun (named || not (c == 32))))
     = rw (not_true (c == 123) no_brace.0, not_true (c == 37) no_percent.0, not_true (c == 10) no_line.0) refl in
-    quiet_step text (cs ++ rest) index c (Header begun named) (Header begun (named || not (c == 32))) here after toks here_step
-    ∙ header_goes cs rest text (index + 1) begun (named || not (c == 32)) (next_place c here) (behind here) toks no_percent.1 no_line.1 no_brace.1
+    tokenless_step text (cs ++ rest) index c (Header begun named) (Header begun (named || not (c == 32))) here after toks here_step
+    ∙ header_goes cs rest text (index + 1) begun (named || not (c == 32)) (next_position c here) (behind here) toks no_percent.1 no_line.1 no_brace.1
     ∙ rw (next_index index (length cs), or_assoc named (not (c == 32)) (has_name cs)) refl
 
-bad_named : (named : Bool) (begun : Place) (step : Result Step Place) → not named ≡ true → cond named step (Err begun) ≡ Err begun
+bad_named : (named : Bool) (begun : SourcePosition) (step : Result Step SourcePosition) → not named ≡ true → cond named step (Err begun) ≡ Err begun
 bad_named true begun step h = cc
 bad_named false begun step h = refl
 
-bad_other : (b : Bool) (begun : Place) (step : Result Step Place) → (b || false) ≡ true → cond b (Err begun) step ≡ Err begun
+bad_other : (b : Bool) (begun : SourcePosition) (step : Result Step SourcePosition) → (b || false) ≡ true → cond b (Err begun) step ≡ Err begun
 bad_other true begun step h = refl
 bad_other false begun step h = cc
 
-bad_step : (text : List ℕ) (index c : ℕ) (begun here : Place) (named : Bool) (cs : List ℕ) → ends_badly named (c ∷ cs) ≡ true → steps text index (Header begun named) c here ≡ Err begun
+bad_step : (text : List ℕ) (index c : ℕ) (begun here : SourcePosition) (named : Bool) (cs : List ℕ) → ends_badly named (c ∷ cs) ≡ true → steps text index (Header begun named) c here ≡ Err begun
 bad_step text index c begun here named cs h = elim (eqb_tells c 123) [
   | inl e ↦
       let same = e.1 in
       let n : not named ≡ true = subst (λ (c : ℕ). ends_badly named (c ∷ cs) ≡ true) same h in
-      rw same (bad_named named begun (Ok (quietly (Code begun false))) n)
+      rw same (bad_named named begun (Ok (without_token (Code begun false))) n)
   | inr e ↦
       let n : ((c == 37 || c == 10) || false) ≡ true = ap (λ b. (c == 37 || c == 10) || (b && not named)) (sym e.0) ∙ h in
-      rw e.0 (bad_other (c == 37 || c == 10) begun (Ok (quietly (Header begun (named || not (c == 32))))) n)
+      rw e.0 (bad_other (c == 37 || c == 10) begun (Ok (without_token (Header begun (named || not (c == 32))))) n)
 ]
 
-header_fails : (rest text : List ℕ) (index : ℕ) (begun : Place) (named : Bool) (here after : Place) (toks : List Token) → ends_badly named rest ≡ true
+header_fails : (rest text : List ℕ) (index : ℕ) (begun : SourcePosition) (named : Bool) (here after : SourcePosition) (toks : List Token) → ends_badly named rest ≡ true
     → scanned_from text rest index (Header begun named) here after toks ≡ Err begun
 header_fails [] text index begun named here after toks h = refl
 header_fails (c ∷ cs) text index begun named here after toks h = err_step text cs index c (Header begun named) here begun after toks (bad_step text index c begun here named cs h)
 
-slash_fails : (rest text : List ℕ) (index : ℕ) (begun here after : Place) (toks : List Token) → begins_by 47 rest ≡ false → begins_by 42 rest ≡ false
+slash_fails : (rest text : List ℕ) (index : ℕ) (begun here after : SourcePosition) (toks : List Token) → begins_by 47 rest ≡ false → begins_by 42 rest ≡ false
     → scanned_from text rest index (Slash begun) here after toks ≡ Err begun
 slash_fails [] text index begun here after toks a b = refl
 slash_fails (c ∷ cs) text index begun here after toks a b = err_step text cs index c (Slash begun) here begun after toks (rw (a, b) refl)
 
--- characters that begin nothing are refused at their place
-misplaced_fails : {chars : List ℕ} → IsMisplaced chars → (text : List ℕ) (index : ℕ) (place after : Place) (toks : List Token) → scanned_from text chars index Between place after toks ≡ Err place
-misplaced_fails (other {c = c} {rest = rest} w h) text index place after toks = err_step text rest index c Between place place after toks (other_begins c index place w h)
-misplaced_fails (slash {rest = rest} a b) text index place after toks =
-    quiet_step text rest index 47 Between (Slash place) place after toks refl ∙ slash_fails rest text (index + 1) place (next_place 47 place) (behind place) toks a b
-misplaced_fails (open_comment {rest = rest} lack) text index place after toks =
-    quiet_step text (42 ∷ rest) index 47 Between (Slash place) place after toks refl
-    ∙ quiet_step text rest (index + 1) 42 (Slash place) (BlockComment place false) (next_place 47 place) (behind place) toks refl
-    ∙ comment_stays rest text (index + 1 + 1) place false (next_place 42 (next_place 47 place)) (behind (next_place 47 place)) toks refl lack
-misplaced_fails (percent name rest a b d h) text index place after toks =
-    quiet_step text (name ++ rest) index 37 Between (Header place false) place after toks refl
-    ∙ header_goes name rest text (index + 1) place false (next_place 37 place) (behind place) toks a b d
-    ∙ header_fails rest text (index + 1 + length name) place (has_name name) (moved name (next_place 37 place)) (past (behind place) (next_place 37 place) name) toks h
-misplaced_fails (open_block name rest a b d h lack) text index place after toks =
-    quiet_step text (name ++ 123 ∷ rest) index 37 Between (Header place false) place after toks refl
-    ∙ header_goes name (123 ∷ rest) text (index + 1) place false (next_place 37 place) (behind place) toks a b d
-    ∙ ap (λ b. scanned_from text (123 ∷ rest) (index + 1 + length name) (Header place b) (moved name (next_place 37 place)) (past (behind place) (next_place 37 place) name) toks) h
-    ∙ quiet_step text rest (index + 1 + length name) 123 (Header place true) (Code place false) (moved name (next_place 37 place)) (past (behind place) (next_place 37 place) name) toks refl
-    ∙ code_stays rest text (index + 1 + length name + 1) place false (next_place 123 (moved name (next_place 37 place))) (behind (moved name (next_place 37 place))) toks refl lack
+-- characters that begin nothing are refused at their position
+misplaced_fails : {chars : List ℕ} → IsMisplaced chars → (text : List ℕ) (index : ℕ) (position after : SourcePosition) (toks : List Token) → scanned_from text chars index Between position after toks ≡ Err position
+misplaced_fails (other {c = c} {rest = rest} w h) text index position after toks = err_step text rest index c Between position position after toks (other_begins c index position w h)
+misplaced_fails (slash {rest = rest} a b) text index position after toks =
+    tokenless_step text rest index 47 Between (Slash position) position after toks refl ∙ slash_fails rest text (index + 1) position (next_position 47 position) (behind position) toks a b
+misplaced_fails (open_comment {rest = rest} lack) text index position after toks =
+    tokenless_step text (42 ∷ rest) index 47 Between (Slash position) position after toks refl
+    ∙ tokenless_step text rest (index + 1) 42 (Slash position) (BlockComment position false) (next_position 47 position) (behind position) toks refl
+    ∙ comment_stays rest text (index + 1 + 1) position false (next_position 42 (next_position 47 position)) (behind (next_position 47 position)) toks refl lack
+misplaced_fails (percent name rest a b d h) text index position after toks =
+    tokenless_step text (name ++ rest) index 37 Between (Header position false) position after toks refl
+    ∙ header_goes name rest text (index + 1) position false (next_position 37 position) (behind position) toks a b d
+    ∙ header_fails rest text (index + 1 + length name) position (has_name name) (moved name (next_position 37 position)) (past (behind position) (next_position 37 position) name) toks h
+misplaced_fails (open_block name rest a b d h lack) text index position after toks =
+    tokenless_step text (name ++ 123 ∷ rest) index 37 Between (Header position false) position after toks refl
+    ∙ header_goes name (123 ∷ rest) text (index + 1) position false (next_position 37 position) (behind position) toks a b d
+    ∙ ap (λ b. scanned_from text (123 ∷ rest) (index + 1 + length name) (Header position b) (moved name (next_position 37 position)) (past (behind position) (next_position 37 position) name) toks) h
+    ∙ tokenless_step text rest (index + 1 + length name) 123 (Header position true) (Code position false) (moved name (next_position 37 position)) (past (behind position) (next_position 37 position) name) toks refl
+    ∙ code_stays rest text (index + 1 + length name + 1) position false (next_position 123 (moved name (next_position 37 position))) (behind (moved name (next_position 37 position))) toks refl lack
 
-stops_read : {index : ℕ} {place fault : Place} {chars : List ℕ} → StopsAt index place chars fault → (text pre : List ℕ) (after : Place) (toks : List Token) → text ≡ pre ++ chars → index ≡ length pre
-    → scanned_from text chars index Between place after toks ≡ Err fault
-stops_read {index = index} {place = place} (none_here is) text pre after toks whole at = misplaced_fails is text index place after toks
-stops_read {index = index} {place = place} (after_lexeme {chars = chars} {rest = rest} {token = token} is more) text pre after toks whole at =
+stops_read : {index : ℕ} {position fault : SourcePosition} {chars : List ℕ} → StopsAt index position chars fault → (text pre : List ℕ) (after : SourcePosition) (toks : List Token) → text ≡ pre ++ chars → index ≡ length pre
+    → scanned_from text chars index Between position after toks ≡ Err fault
+stops_read {index = index} {position = position} (none_here is) text pre after toks whole at = misplaced_fails is text index position after toks
+stops_read {index = index} {position = position} (after_lexeme {chars = chars} {rest = rest} {token = token} is more) text pre after toks whole at =
     let far : index + length chars ≡ length (pre ++ chars) = omega (arith, length-append pre chars) in
-    lexeme_reads is text pre place after toks whole at
-    ∙ stops_read more text (pre ++ chars) (past after place chars) (toks ++ tokens_at token place) (whole ∙ sym (append_assoc pre chars rest)) far
+    lexeme_reads is text pre position after toks whole at
+    ∙ stops_read more text (pre ++ chars) (past after position chars) (toks ++ tokens_at token position) (whole ∙ sym (append_assoc pre chars rest)) far
 
-pub reads_stop : (text : List ℕ) (place : Place) → IsCharFaultAt text place → scanned text ≡ Err place
-reads_stop text place is = stops_read is text [] (record { line = 1; column = 1 }) [] refl refl
+pub reads_stop : (text : List ℕ) (position : SourcePosition) → IsCharFaultAt text position → scanned text ≡ Err position
+reads_stop text position is = stops_read is text [] (record { line = 1; column = 1 }) [] refl refl

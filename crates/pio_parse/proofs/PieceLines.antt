@@ -2,7 +2,7 @@
 use Rattle.std.proofs.Common.{◌≡◌, not, nat_le, ℕ, ◌+◌, Bool, true, false, List, [], ◌∷◌, ◌++◌, length, Option, None, Some, Ok, append-nil, append_assoc, codes, arith, refl, ap, ◌∙◌}
 use Rattle.std.specs.Prelude.{⊤}
 use Rattle.std.proofs.lemmas.Bool.{le-leb}
-use Rattle.pio_parse.specs.declared.token.Place.{Place}
+use Rattle.pio_parse.specs.declared.token.SourcePosition.{SourcePosition}
 use Rattle.pio_parse.specs.declared.token.Token.{Token}
 use Rattle.pio_parse.specs.declared.token.Directive.TheVariants.{Program as ProgramDirective}
 use Rattle.pio_parse.specs.declared.token.TokenKind.TheVariants.{Directive as DirectiveToken, Name, FileEnd, LineEnd}
@@ -11,7 +11,7 @@ use Rattle.pio_parse.specs.declared.syntax.Statement.{Statement}
 use Rattle.pio_parse.specs.declared.syntax.Statement.TheVariants.{Program}
 use Rattle.pio_parse.specs.declared.syntax.Line.{Line}
 use Rattle.pio_parse.specs.declared.syntax.SourceProgram.{SourceProgram}
-use Rattle.pio_parse.specs.declared.syntax.Source.{Source}
+use Rattle.pio_parse.specs.declared.syntax.ParsedSource.{ParsedSource}
 use Rattle.pio_parse.specs.declared.parser.Groups.{Groups}
 use Rattle.pio_parse.specs.Outcome.{and_then}
 use Rattle.pio_parse.specs.Scan.{scanned, scanned_from}
@@ -22,7 +22,7 @@ use Rattle.pio_parse.specs.Gathering.{grouped_by, line_step, no_groups, source_f
 use Rattle.pio_parse.proofs.Gathered.{source_gathered}
 use Rattle.pio_parse.proofs.Pieces.{AreApart, Piece, chars_of, is_open, joined, kind_of, token_at, tokens_of}
 use Rattle.pio_parse.proofs.Pieces.Piece.{Blank, End, Run}
-use Rattle.pio_parse.proofs.Runs.{both, place_at}
+use Rattle.pio_parse.proofs.Runs.{both, position_at}
 use Rattle.pio_parse.proofs.PieceScan.{scan_pieces}
 
 -- lines as one list of pieces
@@ -68,7 +68,7 @@ AreLines text number (ps ∷ pss) [] = ⊥
 AreLines text number (ps ∷ pss) (line ∷ lines) =
     (is_open ps ≡ true) × (stays line.statement ≡ true) × (line_at text true (tokens_of number 1 (ps ++ End ∷ [])) ≡ Ok (line, [])) × AreLines text (number + 1) pss lines
 
-lines_read : (pss : List (List Piece)) (lines : List Line) (text : List ℕ) (number : ℕ) (program : SourceProgram) (last : Place) → AreLines text number pss lines → source_from text (in_program program) [] (tokens_of number 1 (all_lines pss) ++ record { kind = FileEnd; place = last } ∷ []) ≡ Ok (record { globals = []; programs = record program { lines = program.lines ++ lines } ∷ [] })
+lines_read : (pss : List (List Piece)) (lines : List Line) (text : List ℕ) (number : ℕ) (program : SourceProgram) (last : SourcePosition) → AreLines text number pss lines → source_from text (in_program program) [] (tokens_of number 1 (all_lines pss) ++ record { kind = FileEnd; position = last } ∷ []) ≡ Ok (record { globals = []; programs = record program { lines = program.lines ++ lines } ∷ [] })
 lines_read [] [] text number program last a = rw (append-nil program.lines) refl
 lines_read [] (line ∷ lines) text number program last a = absurd a
 lines_read (ps ∷ pss) [] text number program last a = absurd a
@@ -77,7 +77,7 @@ lines_read (ps ∷ pss) (line ∷ lines) text number program last a =
     let reads = a.2 in
     let step : line_step text (in_program program) (tokens_of number 1 (ps ++ End ∷ [])) ≡ Ok (in_program (record program { lines = program.lines ++ line ∷ [] }))
     = rw reads (ap (λ (g : Groups). Ok g) (grouped_stays line.number line.label line.statement program a.1)) in
-    splits ps (all_lines pss) text (in_program program) [] (record { kind = FileEnd; place = last } ∷ []) number 1 a.0
+    splits ps (all_lines pss) text (in_program program) [] (record { kind = FileEnd; position = last } ∷ []) number 1 a.0
     ∙ rw step (lines_read pss lines text (number + 1) (record program { lines = program.lines ++ line ∷ [] }) last a.3
     ∙ rw (append_assoc program.lines (line ∷ []) lines) refl)
 
@@ -85,13 +85,13 @@ lines_read (ps ∷ pss) (line ∷ lines) text number program last a =
 abbrev pub header : List ℕ
 header = codes ".program code\n"
 
-abbrev pub source_of_lines : List Line → Source
+abbrev pub source_of_lines : List Line → ParsedSource
 source_of_lines lines = record { globals = []; programs = record { name = codes "code"; number = 1; lines = lines } ∷ [] }
 
 header_tokens : List Token
-header_tokens = record { kind = DirectiveToken ProgramDirective; place = place_at 1 1 } ∷ record { kind = Name (record { start = 9; end = 13 }); place = place_at 1 10 } ∷ record { kind = LineEnd; place = place_at 1 14 } ∷ []
+header_tokens = record { kind = DirectiveToken ProgramDirective; position = position_at 1 1 } ∷ record { kind = Name (record { start = 9; end = 13 }); position = position_at 1 10 } ∷ record { kind = LineEnd; position = position_at 1 14 } ∷ []
 
-header_scans : (rest : List ℕ) → scanned (header ++ rest) ≡ scanned_from (header ++ rest) rest 14 Between (place_at 2 1) (place_at 1 15) header_tokens
+header_scans : (rest : List ℕ) → scanned (header ++ rest) ≡ scanned_from (header ++ rest) rest 14 Between (position_at 2 1) (position_at 1 15) header_tokens
 unfolding header_tokens
 header_scans rest = refl
 
@@ -108,10 +108,10 @@ pub program_parses : (pss : List (List Piece)) (lines : List Line) → AreApart 
 program_parses pss lines apart are =
     let ps = all_lines pss in
     let text = header ++ joined (all_lines pss) in
-    let scan = scan_pieces (all_lines pss) (header ++ joined (all_lines pss)) header 14 2 1 (place_at 1 15) header_tokens apart refl refl in
-    let read = tokens_of 2 1 (all_lines pss) ++ record { kind = FileEnd; place = scan.last } ∷ [] in
+    let scan = scan_pieces (all_lines pss) (header ++ joined (all_lines pss)) header 14 2 1 (position_at 1 15) header_tokens apart refl refl in
+    let read = tokens_of 2 1 (all_lines pss) ++ record { kind = FileEnd; position = scan.last } ∷ [] in
     let tokens : scanned (header ++ joined (all_lines pss)) ≡ Ok (header_tokens ++ read) =
-    header_scans (joined (all_lines pss)) ∙ scan.scans ∙ ap (λ (ts : List Token). Ok ts) (append_assoc header_tokens (tokens_of 2 1 (all_lines pss)) (record { kind = FileEnd; place = scan.last } ∷ [])) in
+    header_scans (joined (all_lines pss)) ∙ scan.scans ∙ ap (λ (ts : List Token). Ok ts) (append_assoc header_tokens (tokens_of 2 1 (all_lines pss)) (record { kind = FileEnd; position = scan.last } ∷ [])) in
     ap (λ outcome. parsed_tokens text outcome) tokens
     ∙ ap with_syntax (source_gathered text (header_tokens ++ read)
     ∙ header_reads (joined (all_lines pss)) read

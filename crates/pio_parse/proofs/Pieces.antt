@@ -53,9 +53,9 @@ joined [] = []
 joined (p ∷ ps) = chars_of p ++ joined ps
 
 abbrev pub token_at : TokenKind → ℕ → ℕ → Token
-token_at kind line column = record { kind = kind; place = record { line = line; column = column } }
+token_at kind line column = record { kind = kind; position = record { line = line; column = column } }
 
--- the tokens of pieces from a place on
+-- the tokens of pieces from a position on
 abbrev pub tokens_of : ℕ → ℕ → List Piece → List Token
 tokens_of line column [] = []
 tokens_of line column (Blank ∷ ps) = tokens_of line (column + 1) ps

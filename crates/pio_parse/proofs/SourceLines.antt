@@ -5,9 +5,9 @@ use Rattle.std.proofs.lemmas.List.{get_or-drop}
 use Rattle.pio_parse.specs.declared.cursor.Stop.{Stop}
 use Rattle.pio_parse.specs.declared.cursor.Stop.TheVariants.{Syntax, Memory}
 use Rattle.std.specs.Prelude.{Result, Ok}
-use Rattle.pio_parse.specs.declared.token.Place.{Place}
+use Rattle.pio_parse.specs.declared.token.SourcePosition.{SourcePosition}
 use Rattle.pio_parse.specs.declared.token.Token.{Token}
-use Rattle.pio_parse.specs.declared.syntax.Source.{Source}
+use Rattle.pio_parse.specs.declared.syntax.ParsedSource.{ParsedSource}
 use Rattle.pio_parse.specs.declared.parser.Groups.{Groups}
 use Rattle.pio_parse.specs.Outcome.{and_then}
 use Rattle.pio_parse.specs.Statement.{is_end}
@@ -32,7 +32,7 @@ slice_none xs i = let e : i - i ≡ 0 = omega arith in rw e refl
 drop_next : {X : Type 0} (xs : List X) (j : ℕ) (d : X) → j < length xs → drop j xs ≡ get_or xs j d ∷ drop (j + 1) xs
 drop_next xs j d lt = rw add-one (drop-cons xs j d lt)
 
-abbrev lines-then : List ℕ → Groups → List Token → ℕ → ℕ → Result Source Place
+abbrev lines-then : List ℕ → Groups → List Token → ℕ → ℕ → Result ParsedSource SourcePosition
 lines-then text groups tokens start index = source_from text groups (slice_range tokens start index) (drop index tokens)
 
 -- a line ends at this token
@@ -49,7 +49,7 @@ line-next text groups next tokens start index d le lt h e = line-ends text group
 
 -- a line that is refused ends the file
 pub line-stopped : (text : List ℕ) (groups : Groups) (tokens : List Token) (start index : ℕ) (d : Token) (stop : Stop) → start ≤ index → index < length tokens → is_end (get_or tokens index d).kind ≡ true → source_of text tokens ≡ source_from text groups (slice_range tokens start index) (drop index tokens) → IsStopOf (line_step text groups (slice_range tokens start (index + 1))) stop → IsStopOf (source_of text tokens) stop
-line-stopped text groups tokens start index d (Syntax place) le lt h whole e = whole ∙ line-ends text groups tokens start index d le lt h ∙ rw e refl
+line-stopped text groups tokens start index d (Syntax position) le lt h whole e = whole ∙ line-ends text groups tokens start index d le lt h ∙ rw e refl
 line-stopped text groups tokens start index d Memory le lt h whole e = tt
 
 pub ruleset line_laws = (source_gathered, line-goes, line-next, line-stopped)

@@ -1,6 +1,6 @@
 -- How the calls of the program stand to the definitions of what they read. It is the body's, and stands in no definition.
 use Rattle.std.specs.Prelude.{◌≡◌, Bool, true, false, List, [], ◌∷◌, Option, None, Some, Result, Ok, Err, ⊤}
-use Rattle.pio_parse.specs.declared.token.Place.{Place}
+use Rattle.pio_parse.specs.declared.token.SourcePosition.{SourcePosition}
 use Rattle.pio_parse.specs.declared.token.Token.{Token}
 use Rattle.pio_parse.specs.declared.cursor.Stop.{Stop}
 use Rattle.pio_parse.specs.declared.cursor.Stop.TheVariants.{Syntax, Memory}
@@ -14,12 +14,12 @@ use Rattle.pio_parse.specs.Expression.Pending.{Parenthesis, OperatorPending}
 -- a call read this; memory may run out at any time
 abbrev pub Reads : {X : Type 0} → Result X Stop → List Token → Outcome X → Type 0
 Reads (Ok x) rest outcome = outcome ≡ Ok (x, rest)
-Reads (Err (Syntax place)) rest outcome = outcome ≡ Err place
+Reads (Err (Syntax position)) rest outcome = outcome ≡ Err position
 Reads (Err Memory) rest outcome = ⊤
 
 -- how a call that reads this stops; memory may run out at any time
-abbrev pub IsStopOf : {X : Type 0} → Result X Place → Stop → Type 0
-IsStopOf outcome (Syntax place) = outcome ≡ Err place
+abbrev pub IsStopOf : {X : Type 0} → Result X SourcePosition → Stop → Type 0
+IsStopOf outcome (Syntax position) = outcome ≡ Err position
 IsStopOf outcome Memory = ⊤
 
 -- the newest of what waits was taken off, if anything waited
@@ -43,13 +43,13 @@ abbrev pub reading_of : CodeReading → Reading
 reading_of reading = record { stack = stack_of reading.stack; output = reading.output; awaited = reading.awaited; depth = reading.depth }
 
 -- what a call made of one token
-abbrev pub ReadsOperand : Result (Unit {0}) Stop → Reading → Result Reading Place → Type 0
+abbrev pub ReadsOperand : Result (Unit {0}) Stop → Reading → Result Reading SourcePosition → Type 0
 ReadsOperand (Ok x) new expected = expected ≡ Ok new
-ReadsOperand (Err (Syntax place)) new expected = expected ≡ Err place
+ReadsOperand (Err (Syntax position)) new expected = expected ≡ Err position
 ReadsOperand (Err Memory) new expected = ⊤
 
-abbrev pub ReadsOperator : Result Bool Stop → Reading → Reading → Result (Option Reading) Place → Type 0
+abbrev pub ReadsOperator : Result Bool Stop → Reading → Reading → Result (Option Reading) SourcePosition → Type 0
 ReadsOperator (Ok true) old new expected = expected ≡ Ok (Some new)
 ReadsOperator (Ok false) old new expected = (expected ≡ Ok None) × (new ≡ old)
-ReadsOperator (Err (Syntax place)) old new expected = expected ≡ Err place
+ReadsOperator (Err (Syntax position)) old new expected = expected ≡ Err position
 ReadsOperator (Err Memory) old new expected = ⊤

@@ -1,22 +1,22 @@
 -- How a line is read: from the front of its tokens, up to the first token that fits nothing. The grammar is that of the RP2040
--- Datasheet, 3.3; the place of a fault is the project's own.
+-- Datasheet, 3.3; the position of a fault is the project's own.
 use Rattle.std.specs.Prelude.{Bool, if◌then◌else◌, List, [], ◌∷◌, Result, Ok, Err}
-use Rattle.pio_parse.specs.declared.token.Place.{Place}
+use Rattle.pio_parse.specs.declared.token.SourcePosition.{SourcePosition}
 use Rattle.pio_parse.specs.declared.token.Token.{Token}
 use Rattle.pio_parse.specs.declared.token.TokenKind.{TokenKind}
 use Rattle.pio_parse.specs.declared.token.TokenKind.TheVariants.{FileEnd}
 
--- what is read from the front of a line's tokens and the tokens after it, or the place of the first token that fits nothing
+-- what is read from the front of a line's tokens and the tokens after it, or the position of the first token that fits nothing
 abbrev pub Outcome : Type 0 → Type 0
-Outcome X = Result (X × List Token) Place
+Outcome X = Result (X × List Token) SourcePosition
 
 abbrev pub head_kind : List Token → TokenKind
 head_kind [] = FileEnd
 head_kind (token ∷ tokens) = token.kind
 
-abbrev pub head_place : List Token → Place
-head_place [] = record { line = 0; column = 0 }
-head_place (token ∷ tokens) = token.place
+abbrev pub head_position : List Token → SourcePosition
+head_position [] = record { line = 0; column = 0 }
+head_position (token ∷ tokens) = token.position
 
 abbrev pub after_head : List Token → List Token
 after_head [] = []
@@ -24,7 +24,7 @@ after_head (token ∷ tokens) = tokens
 
 -- the next token fits nothing
 abbrev pub misfit : {X : Type 0} → List Token → Outcome X
-misfit tokens = Err (head_place tokens)
+misfit tokens = Err (head_position tokens)
 
 -- one token that has to fit
 abbrev pub expected : Bool → List Token → Outcome (Unit {0})

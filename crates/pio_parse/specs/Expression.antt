@@ -10,7 +10,7 @@ use Rattle.pio_parse.specs.declared.expression.Operator.{Operator}
 use Rattle.pio_parse.specs.declared.expression.Operator.TheVariants.{Add, Subtract, Multiply, Negate, Reverse}
 use Rattle.pio_parse.specs.declared.expression.Term.{Term}
 use Rattle.pio_parse.specs.declared.expression.Term.TheVariants.{Number as NumberTerm, Name as NameTerm, Operator as OperatorTerm}
-use Rattle.pio_parse.specs.declared.token.Place.{Place}
+use Rattle.pio_parse.specs.declared.token.SourcePosition.{SourcePosition}
 use Rattle.pio_parse.specs.Outcome.{and_then, map_ok}
 use Rattle.pio_parse.specs.Cursor.{Outcome, after_head, expected, head_kind, misfit}
 
@@ -46,13 +46,13 @@ abbrev pub name_at : List ℕ → Span → List ℕ
 name_at text span = if nat_le span.start span.end && nat_le span.end (length text) then slice_range text span.start span.end else []
 
 -- a token where an operand comes next
-abbrev pub operand_step : List ℕ → TokenKind → Place → Reading → Result Reading Place
-operand_step text (Number number) place reading = Ok (record reading { output = reading.output ++ NumberTerm number ∷ []; awaited = false })
-operand_step text (Name span) place reading = Ok (record reading { output = reading.output ++ NameTerm (name_at text span) ∷ []; awaited = false })
-operand_step text Minus place reading = Ok (record reading { stack = OperatorPending Negate ∷ reading.stack })
-operand_step text DoubleColon place reading = Ok (record reading { stack = OperatorPending Reverse ∷ reading.stack })
-operand_step text OpenParenthesis place reading = Ok (record reading { stack = Parenthesis ∷ reading.stack; depth = reading.depth + 1 })
-operand_step text kind place reading = Err place
+abbrev pub operand_step : List ℕ → TokenKind → SourcePosition → Reading → Result Reading SourcePosition
+operand_step text (Number number) position reading = Ok (record reading { output = reading.output ++ NumberTerm number ∷ []; awaited = false })
+operand_step text (Name span) position reading = Ok (record reading { output = reading.output ++ NameTerm (name_at text span) ∷ []; awaited = false })
+operand_step text Minus position reading = Ok (record reading { stack = OperatorPending Negate ∷ reading.stack })
+operand_step text DoubleColon position reading = Ok (record reading { stack = OperatorPending Reverse ∷ reading.stack })
+operand_step text OpenParenthesis position reading = Ok (record reading { stack = Parenthesis ∷ reading.stack; depth = reading.depth + 1 })
+operand_step text kind position reading = Err position
 
 -- an operator between two operands
 abbrev pub with_binary : Operator → Reading → Reading
@@ -69,23 +69,23 @@ abbrev pub with_closed : Reading → Reading
 with_closed reading = let parts = reduced 0 reading.stack reading.output in record reading { stack = after_newest parts.0; output = parts.1; depth = reading.depth - 1 }
 
 -- a token after an operand: the expression goes on, or it is over before the token. It is not over within parentheses
-abbrev pub operator_step : TokenKind → Place → Reading → Result (Option Reading) Place
-operator_step Star place reading = Ok (Some (with_binary Multiply reading))
-operator_step Plus place reading = Ok (Some (with_binary Add reading))
-operator_step Minus place reading = Ok (Some (with_binary Subtract reading))
-operator_step CloseParenthesis place reading = if reading.depth == 0 then Ok None else Ok (Some (with_closed reading))
-operator_step kind place reading = if reading.depth == 0 then Ok None else Err place
+abbrev pub operator_step : TokenKind → SourcePosition → Reading → Result (Option Reading) SourcePosition
+operator_step Star position reading = Ok (Some (with_binary Multiply reading))
+operator_step Plus position reading = Ok (Some (with_binary Add reading))
+operator_step Minus position reading = Ok (Some (with_binary Subtract reading))
+operator_step CloseParenthesis position reading = if reading.depth == 0 then Ok None else Ok (Some (with_closed reading))
+operator_step kind position reading = if reading.depth == 0 then Ok None else Err position
 
 -- a token of an expression
-abbrev pub token_step : List ℕ → TokenKind → Place → Reading → Result (Option Reading) Place
-token_step text kind place reading = if reading.awaited then map_ok (λ next. Some next) (operand_step text kind place reading) else operator_step kind place reading
+abbrev pub token_step : List ℕ → TokenKind → SourcePosition → Reading → Result (Option Reading) SourcePosition
+token_step text kind position reading = if reading.awaited then map_ok (λ next. Some next) (operand_step text kind position reading) else operator_step kind position reading
 
 -- the expression that goes on with these tokens, in postfix order
 abbrev pub expression_from : List ℕ → Reading → List Token → Outcome (List Term)
 expression_from text reading [] = misfit []
 expression_from text reading (token ∷ tokens) = and_then
     (λ next. option_map_or (λ reading. expression_from text reading tokens) next (Ok ((reduced 0 reading.stack reading.output).1, token ∷ tokens)))
-    (token_step text token.kind token.place reading)
+    (token_step text token.kind token.position reading)
 
 abbrev pub nothing_read : Reading
 nothing_read = record { stack = []; output = []; awaited = true; depth = 0 }

@@ -9,7 +9,7 @@ use Rattle.pio_words.specs.declared.op.MovOperation.{MovOperation}
 use Rattle.pio_words.specs.declared.op.MovOperation.TheVariants.{Plain, Invert, Reverse}
 use Rattle.pio_words.specs.declared.op.MovSource.TheVariants.{Y as MovFromY}
 use Rattle.pio_parse.specs.declared.token.Token.{Token}
-use Rattle.pio_parse.specs.declared.token.Place.{Place}
+use Rattle.pio_parse.specs.declared.token.SourcePosition.{SourcePosition}
 use Rattle.pio_parse.specs.declared.token.Keyword.{Keyword}
 use Rattle.pio_parse.specs.declared.token.Keyword.TheVariants.{Jmp, Wait, In, Out, Push, Pull, Mov, Irq, Set, Nop, Side, Gpio, Pin, Rel, X, Y, Osre, IfFull, IfEmpty, Block, NoBlock, NoWait, Clear}
 use Rattle.pio_parse.specs.declared.token.TokenKind.{TokenKind}
@@ -19,7 +19,7 @@ use Rattle.pio_parse.specs.declared.syntax.Operation.{Operation}
 use Rattle.pio_parse.specs.declared.syntax.Operation.TheVariants.{Jmp as JmpOperation, WaitGpio, WaitPin, WaitIrq, In as InOperation, Out as OutOperation, Push as PushOperation, Pull as PullOperation, Mov as MovOperation', Irq as IrqOperation, Set as SetOperation}
 use Rattle.pio_parse.specs.declared.syntax.Instruction.{Instruction}
 use Rattle.pio_parse.specs.Outcome.{and_then, map_ok}
-use Rattle.pio_parse.specs.Cursor.{Outcome, after_head, expected, head_kind, head_place, misfit}
+use Rattle.pio_parse.specs.Cursor.{Outcome, after_head, expected, head_kind, head_position, misfit}
 use Rattle.pio_parse.specs.Expression.{expression_at, operand_at}
 use Rattle.pio_parse.specs.Registers.{in_source_of, out_destination_of, mov_destination_of, mov_source_of, set_destination_of}
 
@@ -79,15 +79,15 @@ is_if_empty kind = false
 abbrev pub conditional_at : JmpCondition → List Token → Outcome JmpCondition
 conditional_at condition tokens = Ok (condition, past_comma tokens)
 
--- two places beside each other on a line
-abbrev pub are_together : Place → Place → Bool
+-- two positions beside each other on a line
+abbrev pub are_together : SourcePosition → SourcePosition → Bool
 are_together first second = (first.line == second.line) && (second.column - 1 == first.column)
 
 -- `--`, whose signs stand together
 abbrev pub decrement_at : JmpCondition → List Token → Outcome JmpCondition
 decrement_at condition tokens = and_then
     (λ first. and_then (λ second. conditional_at condition second.1)
-    (expected (are_together (head_place tokens) (head_place first.1) && is_minus (head_kind first.1)) first.1))
+    (expected (are_together (head_position tokens) (head_position first.1) && is_minus (head_kind first.1)) first.1))
     (expected (is_minus (head_kind tokens)) tokens)
 
 -- `--` or `!=y` after `x`

@@ -1,6 +1,6 @@
 -- What holds of the expressions that are read (RP2040 Datasheet, 3.3, Expressions): they are those of the grammar.
 use Rattle.std.specs.Prelude.{◌≡◌, ◌≢◌, ◌↔◌, ◌≤◌, ℕ, Bool, true, false, List, [], ◌∷◌, ◌++◌, length, Ok, Err}
-use Rattle.pio_parse.specs.declared.token.Place.{Place}
+use Rattle.pio_parse.specs.declared.token.SourcePosition.{SourcePosition}
 use Rattle.pio_parse.specs.declared.token.Token.{Token}
 use Rattle.pio_parse.specs.declared.token.TokenKind.{TokenKind}
 use Rattle.pio_parse.specs.declared.token.TokenKind.TheVariants.{CloseParenthesis, DoubleColon, LineEnd, Minus, Number as NumberToken, OpenParenthesis, Plus, Star}
@@ -19,7 +19,7 @@ LexesExactly = (text : List ℕ) (tokens : List Token) → (scanned text ≡ Ok 
 
 -- a file is refused for a character where its characters are lexemes up to this one, and none stands here
 abbrev pub CharFaultsAtFirst : Type 0
-CharFaultsAtFirst = (text : List ℕ) (place : Place) → (scanned text ≡ Err place) ↔ IsCharFaultAt text place
+CharFaultsAtFirst = (text : List ℕ) (position : SourcePosition) → (scanned text ≡ Err position) ↔ IsCharFaultAt text position
 
 -- what is read at the front of the tokens is an expression of the grammar in postfix order, and each expression of the grammar is read
 abbrev pub ReadsGrammar : Type 0
@@ -50,16 +50,16 @@ ends_line (token ∷ next ∷ tokens) = ends_line (next ∷ tokens)
 
 -- where an expression has to stand, a line is refused at the first token with which none begins as the tokens up to it do
 abbrev pub FaultsAtFirst : Type 0
-FaultsAtFirst = (text : List ℕ) (tokens : List Token) (place : Place) → ends_line tokens ≡ true
-    → (expression_at text tokens ≡ Err place)
+FaultsAtFirst = (text : List ℕ) (tokens : List Token) (position : SourcePosition) → ends_line tokens ≡ true
+    → (expression_at text tokens ≡ Err position)
     ↔ ((before : List Token) × (token : Token) × (after : List Token)
-    × (tokens ≡ before ++ token ∷ after) × (token.place ≡ place)
+    × (tokens ≡ before ++ token ∷ after) × (token.position ≡ position)
     × BeginsExpression text before × ¬ BeginsExpression text (before ++ token ∷ []))
 
 -- tokens of these kinds
 abbrev pub tokens_of : List TokenKind → List Token
 tokens_of [] = []
-tokens_of (kind ∷ kinds) = record { kind = kind; place = record { line = 1; column = 1 } } ∷ tokens_of kinds
+tokens_of (kind ∷ kinds) = record { kind = kind; position = record { line = 1; column = 1 } } ∷ tokens_of kinds
 
 -- tokens of these kinds, and nothing more of their line, are an expression with this tree
 abbrev pub IsTreeOf : Expr → List TokenKind → Type 0

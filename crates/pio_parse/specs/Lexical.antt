@@ -2,7 +2,7 @@
 -- Pico C/C++ SDK, pioasm, Output pass through). A source is lexemes one after the other, each the longest: blanks, signs, words, comments,
 -- code blocks and ends of line. Signs, words and ends of line are tokens.
 use Rattle.std.specs.Prelude.{◌≡◌, ◌==◌, ◌&&◌, ◌||◌, not, ℕ, ◌+◌, Bool, true, false, if◌then◌else◌, List, [], ◌∷◌, ◌++◌, length, Option, None, Some}
-use Rattle.pio_parse.specs.declared.token.Place.{Place}
+use Rattle.pio_parse.specs.declared.token.SourcePosition.{SourcePosition}
 use Rattle.pio_parse.specs.declared.token.Token.{Token}
 use Rattle.pio_parse.specs.declared.token.Directive.TheVariants.{LangOpt}
 use Rattle.pio_parse.specs.declared.token.TokenKind.{TokenKind}
@@ -91,30 +91,30 @@ pub data IsLexeme (index : ℕ) : List ℕ → List ℕ → Option TokenKind →
   code_block : (name body : List ℕ) {rest : List ℕ} → lacks 37 name ≡ true → lacks 10 name ≡ true → lacks 123 name ≡ true → has_name name ≡ true
       → lacks_pair 37 125 (body ++ 37 ∷ []) ≡ true → IsLexeme index (37 ∷ (name ++ 123 ∷ (body ++ 37 ∷ 125 ∷ []))) rest None
 
--- the place of the character after one at a place: lines and columns count from 1
-abbrev pub place_behind : ℕ → Place → Place
-place_behind c place = if c == 10 then record { line = place.line + 1; column = 1 } else record { line = place.line; column = place.column + 1 }
+-- the position of the character after one at a position: lines and columns count from 1
+abbrev pub position_behind : ℕ → SourcePosition → SourcePosition
+position_behind c position = if c == 10 then record { line = position.line + 1; column = 1 } else record { line = position.line; column = position.column + 1 }
 
--- the place behind these characters
-abbrev pub moved : List ℕ → Place → Place
-moved [] place = place
-moved (c ∷ cs) place = moved cs (place_behind c place)
+-- the position behind these characters
+abbrev pub moved : List ℕ → SourcePosition → SourcePosition
+moved [] position = position
+moved (c ∷ cs) position = moved cs (position_behind c position)
 
--- the place one column past the last of these characters, where one is there
-abbrev pub past : Place → Place → List ℕ → Place
-past before place [] = before
-past before place (c ∷ cs) = past (record { line = place.line; column = place.column + 1 }) (place_behind c place) cs
+-- the position one column past the last of these characters, where one is there
+abbrev pub past : SourcePosition → SourcePosition → List ℕ → SourcePosition
+past before position [] = before
+past before position (c ∷ cs) = past (record { line = position.line; column = position.column + 1 }) (position_behind c position) cs
 
-abbrev pub tokens_at : Option TokenKind → Place → List Token
-tokens_at None place = []
-tokens_at (Some kind) place = record { kind = kind; place = place } ∷ []
+abbrev pub tokens_at : Option TokenKind → SourcePosition → List Token
+tokens_at None position = []
+tokens_at (Some kind) position = record { kind = kind; position = position } ∷ []
 
--- characters from a place on are lexemes with these tokens
-pub data AreLexemes : ℕ → Place → List ℕ → List Token → Type 0 where
-  nothing : {index : ℕ} {place : Place} → AreLexemes index place [] []
-  lexeme : {index : ℕ} {place : Place} {chars rest : List ℕ} {token : Option TokenKind} {tokens : List Token}
-      → IsLexeme index chars rest token → AreLexemes (index + length chars) (moved chars place) rest tokens
-      → AreLexemes index place (chars ++ rest) (tokens_at token place ++ tokens)
+-- characters from a position on are lexemes with these tokens
+pub data AreLexemes : ℕ → SourcePosition → List ℕ → List Token → Type 0 where
+  nothing : {index : ℕ} {position : SourcePosition} → AreLexemes index position [] []
+  lexeme : {index : ℕ} {position : SourcePosition} {chars rest : List ℕ} {token : Option TokenKind} {tokens : List Token}
+      → IsLexeme index chars rest token → AreLexemes (index + length chars) (moved chars position) rest tokens
+      → AreLexemes index position (chars ++ rest) (tokens_at token position ++ tokens)
 
 -- the characters that something begins with, beside those of words
 abbrev pub first_chars : List ℕ
@@ -144,17 +144,17 @@ pub data IsMisplaced : List ℕ → Type 0 where
   open_block : (name rest : List ℕ) → lacks 37 name ≡ true → lacks 10 name ≡ true → lacks 123 name ≡ true → has_name name ≡ true
       → lacks_pair 37 125 rest ≡ true → IsMisplaced (37 ∷ (name ++ 123 ∷ rest))
 
--- characters from a place on are lexemes up to this place, where none stands
-pub data StopsAt : ℕ → Place → List ℕ → Place → Type 0 where
-  none_here : {index : ℕ} {place : Place} {chars : List ℕ} → IsMisplaced chars → StopsAt index place chars place
-  after_lexeme : {index : ℕ} {place fault : Place} {chars rest : List ℕ} {token : Option TokenKind}
-      → IsLexeme index chars rest token → StopsAt (index + length chars) (moved chars place) rest fault → StopsAt index place (chars ++ rest) fault
+-- characters from a position on are lexemes up to this position, where none stands
+pub data StopsAt : ℕ → SourcePosition → List ℕ → SourcePosition → Type 0 where
+  none_here : {index : ℕ} {position : SourcePosition} {chars : List ℕ} → IsMisplaced chars → StopsAt index position chars position
+  after_lexeme : {index : ℕ} {position fault : SourcePosition} {chars rest : List ℕ} {token : Option TokenKind}
+      → IsLexeme index chars rest token → StopsAt (index + length chars) (moved chars position) rest fault → StopsAt index position (chars ++ rest) fault
 
 -- a file with these tokens, the last of which is its end
 abbrev pub IsLexed : List ℕ → List Token → Type 0
 IsLexed text tokens = (all : List Token) × AreLexemes 0 (record { line = 1; column = 1 }) text all
-    × (tokens ≡ all ++ record { kind = FileEnd; place = past (record { line = 1; column = 1 }) (record { line = 1; column = 1 }) text } ∷ [])
+    × (tokens ≡ all ++ record { kind = FileEnd; position = past (record { line = 1; column = 1 }) (record { line = 1; column = 1 }) text } ∷ [])
 
--- a file whose characters are lexemes up to this place, where none stands
-abbrev pub IsCharFaultAt : List ℕ → Place → Type 0
-IsCharFaultAt text place = StopsAt 0 (record { line = 1; column = 1 }) text place
+-- a file whose characters are lexemes up to this position, where none stands
+abbrev pub IsCharFaultAt : List ℕ → SourcePosition → Type 0
+IsCharFaultAt text position = StopsAt 0 (record { line = 1; column = 1 }) text position

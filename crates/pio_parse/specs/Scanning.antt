@@ -1,6 +1,6 @@
 -- How the scan of the program stands to the definition of the characters. It is the body's, and stands in no definition.
 use Rattle.std.specs.Prelude.{ℕ, ◌≤◌, ◌<◌, ⊤}
-use Rattle.pio_parse.specs.declared.token.Place.{Place}
+use Rattle.pio_parse.specs.declared.token.SourcePosition.{SourcePosition}
 use Rattle.pio_parse.specs.declared.scan.Mode.{Mode as CodeMode}
 use Rattle.pio_parse.specs.declared.scan.Mode.TheVariants.{Between as CodeBetween, Word as CodeWord, Colon as CodeColon, Bang as CodeBang, Slash as CodeSlash, LineComment as CodeLineComment, BlockComment as CodeBlockComment, Header as CodeHeader, Code as CodeCode}
 use Rattle.pio_parse.specs.declared.scan.Step.{Step as CodeStep}
@@ -26,5 +26,5 @@ abbrev pub IsStarted : Mode → ℕ → Type 0
 IsStarted (Word start begun) index = start ≤ index
 IsStarted mode index = ⊤
 
-abbrev pub IsPlaceBelow : Place → ℕ → Type 0
-IsPlaceBelow place n = (place.line < n) × (place.column < n)
+abbrev pub IsPositionBelow : SourcePosition → ℕ → Type 0
+IsPositionBelow position n = (position.line < n) × (position.column < n)

@@ -11,7 +11,7 @@ use Rattle.pio_parse.specs.declared.syntax.Statement.{Statement}
 use Rattle.pio_parse.specs.declared.syntax.Statement.TheVariants.{Program as ProgramStatement, Define as DefineStatement, Origin as OriginStatement, SideSet as SideSetStatement, WrapTarget as WrapTargetStatement, Wrap as WrapStatement, Word as WordStatement, Instruction as InstructionStatement}
 use Rattle.pio_parse.specs.declared.syntax.Line.{Line}
 use Rattle.pio_parse.specs.Outcome.{and_then, map_ok}
-use Rattle.pio_parse.specs.Cursor.{Outcome, after_head, expected, head_kind, head_place, misfit}
+use Rattle.pio_parse.specs.Cursor.{Outcome, after_head, expected, head_kind, head_position, misfit}
 use Rattle.pio_parse.specs.Expression.{expression_at, name_at}
 use Rattle.pio_parse.specs.Instruction.{flag_at, instruction_at}
 
@@ -74,7 +74,7 @@ version_at tokens = map_ok (λ zero. (None, zero.1)) (expected (is_zero (head_ki
 abbrev pub directive_at : List ℕ → Directive → List Token → Outcome (Option Statement)
 directive_at text Program tokens = map_ok (λ name. (Some (ProgramStatement name.0), name.1)) (name_token_at text tokens)
 directive_at text Define tokens = map_ok (λ define. (Some define.0, define.1)) (define_at text tokens)
-directive_at text Origin tokens = map_ok (λ place. (Some (OriginStatement place.0), place.1)) (expression_at text tokens)
+directive_at text Origin tokens = map_ok (λ position. (Some (OriginStatement position.0), position.1)) (expression_at text tokens)
 directive_at text SideSet tokens = map_ok (λ side. (Some side.0, side.1)) (side_set_at text tokens)
 directive_at text WrapTarget tokens = Ok (Some WrapTargetStatement, tokens)
 directive_at text Wrap tokens = Ok (Some WrapStatement, tokens)
@@ -145,7 +145,7 @@ end_at is_started statement tokens = expected (is_end_after (is_started || is_pr
 abbrev pub whole_line_at : List ℕ → Bool → List Token → Outcome Line
 whole_line_at text is_started tokens = and_then
     (λ label. and_then
-    (λ statement. map_ok (λ end. (record { number = (head_place tokens).line; label = label.0; statement = statement.0 }, end.1))
+    (λ statement. map_ok (λ end. (record { number = (head_position tokens).line; label = label.0; statement = statement.0 }, end.1))
     (end_at is_started statement.0 statement.1))
     (statement_at text label.1))
     (label_at text tokens)

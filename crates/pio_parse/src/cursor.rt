@@ -2,17 +2,17 @@
 
 ghost use Rattle.std.specs.Prelude.{◌≡◌, if◌then◌else◌};
 ghost use Rattle.pio_parse.specs.Calls.{Reads};
-ghost use Rattle.pio_parse.specs.Cursor.{after_head, head_kind, head_place, expected};
+ghost use Rattle.pio_parse.specs.Cursor.{after_head, head_kind, head_position, expected};
 ghost use Rattle.pio_parse.specs.declared.cursor.Stop.TheVariants.{Memory};
 
-use crate::token::{Place, Token, TokenKind};
+use crate::token::{SourcePosition, Token, TokenKind};
 use std::alloc::{AllocError, AllocFailed};
 
 /// Why a line is not read to its end.
 #[derive(Drop)]
 pub(crate) enum Stop {
-    /// The token at this place fits nothing.
-    Syntax(Place),
+    /// The token at this position fits nothing.
+    Syntax(SourcePosition),
     /// Memory ran out.
     Memory,
 }
@@ -51,12 +51,12 @@ impl Cursor<'_> {
     }
 
     /// Where the next token stands.
-    pub(crate) fn place(&self) -> Place
-        ensures { result ≡ head_place self.now.rest.now }
+    pub(crate) fn position(&self) -> SourcePosition
+        ensures { result ≡ head_position self.now.rest.now }
     {
         match self.rest {
-            [] => Place { line: 0, column: 0 },
-            [token, ..] => token.place,
+            [] => SourcePosition { line: 0, column: 0 },
+            [token, ..] => token.position,
         }
     }
 
@@ -71,9 +71,9 @@ impl Cursor<'_> {
 
     /// The next token fits nothing.
     pub(crate) fn fault(&self) -> Stop
-        ensures { result ≡ Stop.Syntax (head_place self.now.rest.now) }
+        ensures { result ≡ Stop.Syntax (head_position self.now.rest.now) }
     {
-        Stop::Syntax(self.place())
+        Stop::Syntax(self.position())
     }
 
     /// Reads one token, which has to fit.

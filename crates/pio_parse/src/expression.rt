@@ -225,7 +225,7 @@ impl File<'_> {
 fn take_operand(file: &File, token: Token, reading: &mut Reading) -> Result<(), Stop>
     requires { reading.old.depth < 2 ^ 63 }
     ensures { ReadsOperand result (reading_of reading.new)
-        (operand_step file.now.text.now token.kind token.place (reading_of reading.old)) }
+        (operand_step file.now.text.now token.kind token.position (reading_of reading.old)) }
 {
     match token.kind {
         TokenKind::Number(number) => {
@@ -243,7 +243,7 @@ fn take_operand(file: &File, token: Token, reading: &mut Reading) -> Result<(), 
             reading.stack.push(Pending::Parenthesis)?;
             reading.depth += 1;
         }
-        _ => return Err(Stop::Syntax(token.place)),
+        _ => return Err(Stop::Syntax(token.position)),
     }
     Ok(())
 }
@@ -270,7 +270,7 @@ fn take_close(reading: &mut Reading) -> Result<(), AllocError>
 /// A token after an operand: whether the expression goes on.
 fn take_operator(token: Token, reading: &mut Reading) -> Result<bool, Stop>
     ensures { ReadsOperator result (reading_of reading.old) (reading_of reading.new)
-        (operator_step token.kind token.place (reading_of reading.old)) }
+        (operator_step token.kind token.position (reading_of reading.old)) }
 {
     match token.kind {
         TokenKind::Star => take_binary(Operator::Multiply, reading)?,
@@ -286,7 +286,7 @@ fn take_operator(token: Token, reading: &mut Reading) -> Result<bool, Stop>
             if reading.depth == 0 {
                 return Ok(false);
             }
-            return Err(Stop::Syntax(token.place));
+            return Err(Stop::Syntax(token.position));
         }
     }
     Ok(true)
@@ -296,7 +296,7 @@ fn take_operator(token: Token, reading: &mut Reading) -> Result<bool, Stop>
 fn take(file: &File, token: Token, reading: &mut Reading) -> Result<bool, Stop>
     requires { reading.old.depth < 2 ^ 63 }
     ensures { ReadsOperator result (reading_of reading.old) (reading_of reading.new)
-        (token_step file.now.text.now token.kind token.place (reading_of reading.old)) }
+        (token_step file.now.text.now token.kind token.position (reading_of reading.old)) }
 {
     if reading.awaited {
         take_operand(file, token, reading)?;

@@ -40,7 +40,7 @@ pub enum PioFault {
     /// 11: an origin on this line does not fit, is not the first, or stands after an instruction.
     #[error("line {0}: the origin does not fit, or is not the first")]
     Origin(u64),
-    /// 12: no run of this many places is free.
-    #[error("no {0} places in a row are free")]
+    /// 12: no run of this many addresses is free.
+    #[error("no {0} positions in a row are free")]
     NoRoom(u64),
 }

@@ -23,9 +23,9 @@ fn conditional(condition: JmpCondition, cursor: &mut Cursor) -> JmpCondition
 fn read_decrement(condition: JmpCondition, cursor: &mut Cursor) -> Result<JmpCondition, Stop>
     ensures { Reads result cursor.new.rest.now (decrement_at condition cursor.old.rest.now) }
 {
-    let first = cursor.place();
+    let first = cursor.position();
     cursor.expect(matches!(cursor.peek(), TokenKind::Minus))?;
-    let second = cursor.place();
+    let second = cursor.position();
     let together = first.line == second.line && second.column.saturating_sub(1) == first.column;
     cursor.expect(together && matches!(cursor.peek(), TokenKind::Minus))?;
     Ok(conditional(condition, cursor))

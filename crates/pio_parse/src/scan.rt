@@ -2,11 +2,11 @@
 
 ghost use Rattle.std.specs.Prelude.{◌≡◌, ◌≤◌, ◌<◌, ◌+◌, ◌-◌, ◌^◌, ◌++◌, length, IfOk, IfErr, OnOk, Ok, option_to_list};
 ghost use Rattle.pio_parse.specs.Outcome.{map_ok};
-ghost use Rattle.pio_parse.specs.Scan.{begins, ends, finishes, IsCharFault, next_place, quietly, scanned, sign_of, single_token, skips, steps, word_ends};
-ghost use Rattle.pio_parse.specs.Scanning.{IsPlaceBelow, IsStarted, mode_of, step_of};
+ghost use Rattle.pio_parse.specs.Scan.{begins, ends, finishes, IsCharFault, next_position, without_token, scanned, sign_of, single_token, skips, steps, word_ends};
+ghost use Rattle.pio_parse.specs.Scanning.{IsPositionBelow, IsStarted, mode_of, step_of};
 
 use crate::fault::PioFault;
-use crate::token::{Directive, Place, Token, TokenKind, span_of};
+use crate::token::{Directive, SourcePosition, Token, TokenKind, span_of};
 use crate::words::{classify, is_word_byte};
 use std::alloc::Global;
 
@@ -15,22 +15,22 @@ use std::alloc::Global;
 pub(crate) enum Mode {
     /// Nothing.
     Between,
-    /// A word that started at this byte and place.
-    Word(usize, Place),
+    /// A word that started at this byte and position.
+    Word(usize, SourcePosition),
     /// A colon, which may be the first of two.
-    Colon(Place),
+    Colon(SourcePosition),
     /// A `!`, which `=` may follow.
-    Bang(Place),
+    Bang(SourcePosition),
     /// A `/`, which must begin a comment.
-    Slash(Place),
+    Slash(SourcePosition),
     /// The rest of a line that is not read.
     LineComment,
     /// A `/*` comment, and whether its last character is a `*`.
-    BlockComment(Place, bool),
+    BlockComment(SourcePosition, bool),
     /// The first line of a code block, and whether it has a word.
-    Header(Place, bool),
+    Header(SourcePosition, bool),
     /// A code block, and whether its last character is a `%`.
-    Code(Place, bool),
+    Code(SourcePosition, bool),
 }
 
 /// What a character does: a mode, after at most two tokens that it ends.
@@ -41,8 +41,8 @@ pub(crate) struct Step {
     pub(crate) second: Option<Token>,
 }
 
-fn quiet(mode: Mode) -> Result<Step, Place>
-    ensures { map_ok step_of result ≡ Ok (quietly (mode_of mode)) }
+fn no_token(mode: Mode) -> Result<Step, SourcePosition>
+    ensures { map_ok step_of result ≡ Ok (without_token (mode_of mode)) }
 {
     Ok(Step {
         mode,
@@ -51,37 +51,37 @@ fn quiet(mode: Mode) -> Result<Step, Place>
     })
 }
 
-fn single(kind: TokenKind, place: Place) -> Result<Step, Place>
-    ensures { map_ok step_of result ≡ Ok (single_token kind place) }
+fn single(kind: TokenKind, position: SourcePosition) -> Result<Step, SourcePosition>
+    ensures { map_ok step_of result ≡ Ok (single_token kind position) }
 {
     Ok(Step {
         mode: Mode::Between,
         first: None,
-        second: Some(Token { kind, place }),
+        second: Some(Token { kind, position }),
     })
 }
 
 /// A character that stands between tokens.
-fn begin(index: usize, byte: u8, place: Place) -> Result<Step, Place>
-    ensures value { map_ok step_of result ≡ begins index byte place }
+fn begin(index: usize, byte: u8, position: SourcePosition) -> Result<Step, SourcePosition>
+    ensures value { map_ok step_of result ≡ begins index byte position }
     ensures started { IfOk result (λ s. IsStarted (mode_of s.mode) (index + 1)) }
 {
     match byte {
-        b' ' | b'\t' | b'\r' => quiet(Mode::Between),
-        b'\n' => single(TokenKind::LineEnd, place),
-        b':' => quiet(Mode::Colon(place)),
-        b'!' => quiet(Mode::Bang(place)),
-        b'/' => quiet(Mode::Slash(place)),
-        b';' => quiet(Mode::LineComment),
-        b'%' => quiet(Mode::Header(place, false)),
-        b'.' => quiet(Mode::Word(index, place)),
+        b' ' | b'\t' | b'\r' => no_token(Mode::Between),
+        b'\n' => single(TokenKind::LineEnd, position),
+        b':' => no_token(Mode::Colon(position)),
+        b'!' => no_token(Mode::Bang(position)),
+        b'/' => no_token(Mode::Slash(position)),
+        b';' => no_token(Mode::LineComment),
+        b'%' => no_token(Mode::Header(position, false)),
+        b'.' => no_token(Mode::Word(index, position)),
         _ => match sign(byte) {
-            Some(kind) => single(kind, place),
+            Some(kind) => single(kind, position),
             None => {
                 if is_word_byte(byte) {
-                    quiet(Mode::Word(index, place))
+                    no_token(Mode::Word(index, position))
                 } else {
-                    Err(place)
+                    Err(position)
                 }
             }
         },
@@ -106,11 +106,16 @@ fn sign(byte: u8) -> Option<TokenKind>
 }
 
 /// A token ends before this character, which then stands between tokens.
-fn end(token: Token, index: usize, byte: u8, place: Place) -> Result<Step, Place>
-    ensures value { map_ok step_of result ≡ ends token index byte place }
+fn end(
+    token: Token,
+    index: usize,
+    byte: u8,
+    position: SourcePosition,
+) -> Result<Step, SourcePosition>
+    ensures value { map_ok step_of result ≡ ends token index byte position }
     ensures started { IfOk result (λ s. IsStarted (mode_of s.mode) (index + 1)) }
 {
-    let step = begin(index, byte, place)?;
+    let step = begin(index, byte, position)?;
     Ok(Step {
         mode: step.mode,
         first: Some(token),
@@ -122,22 +127,25 @@ fn end(token: Token, index: usize, byte: u8, place: Place) -> Result<Step, Place
 fn end_word(
     word: &[u8],
     start: usize,
-    begun: Place,
+    begun: SourcePosition,
     byte: u8,
     index: usize,
-    place: Place,
-) -> Result<Step, Place>
+    position: SourcePosition,
+) -> Result<Step, SourcePosition>
     requires begun { start ≤ index }
     requires short { index < 2 ^ 32 }
-    ensures value { map_ok step_of result ≡ word_ends word.now start begun byte index place }
+    ensures value { map_ok step_of result ≡ word_ends word.now start begun byte index position }
     ensures started { IfOk result (λ s. IsStarted (mode_of s.mode) (index + 1)) }
 {
     let kind = classify(word, span_of(start, index));
-    let token = Token { kind, place: begun };
+    let token = Token {
+        kind,
+        position: begun,
+    };
     match kind {
         TokenKind::Directive(Directive::LangOpt) => {
             if byte == b'\n' {
-                end(token, index, byte, place)
+                end(token, index, byte, position)
             } else {
                 Ok(Step {
                     mode: Mode::LineComment,
@@ -146,25 +154,31 @@ fn end_word(
                 })
             }
         }
-        _ => end(token, index, byte, place),
+        _ => end(token, index, byte, position),
     }
 }
 
 /// What the character at `index` does in this mode.
-fn advance(text: &[u8], index: usize, mode: Mode, byte: u8, place: Place) -> Result<Step, Place>
+fn advance(
+    text: &[u8],
+    index: usize,
+    mode: Mode,
+    byte: u8,
+    position: SourcePosition,
+) -> Result<Step, SourcePosition>
     requires inside { index ≤ length text.now }
     requires short { length text.now < 2 ^ 32 }
     requires started { IsStarted (mode_of mode) index }
-    ensures value { map_ok step_of result ≡ steps text.now index (mode_of mode) byte place }
+    ensures value { map_ok step_of result ≡ steps text.now index (mode_of mode) byte position }
     ensures started { IfOk result (λ s. IsStarted (mode_of s.mode) (index + 1)) }
 {
     match mode {
-        Mode::Between => begin(index, byte, place),
+        Mode::Between => begin(index, byte, position),
         Mode::Word(start, begun) => {
             if is_word_byte(byte) {
-                quiet(mode)
+                no_token(mode)
             } else {
-                end_word(&text[start..index], start, begun, byte, index, place)
+                end_word(&text[start..index], start, begun, byte, index, position)
             }
         }
         Mode::Colon(begun) => {
@@ -174,11 +188,11 @@ fn advance(text: &[u8], index: usize, mode: Mode, byte: u8, place: Place) -> Res
                 end(
                     Token {
                         kind: TokenKind::Colon,
-                        place: begun,
+                        position: begun,
                     },
                     index,
                     byte,
-                    place,
+                    position,
                 )
             }
         }
@@ -189,64 +203,69 @@ fn advance(text: &[u8], index: usize, mode: Mode, byte: u8, place: Place) -> Res
                 end(
                     Token {
                         kind: TokenKind::Bang,
-                        place: begun,
+                        position: begun,
                     },
                     index,
                     byte,
-                    place,
+                    position,
                 )
             }
         }
-        _ => skip(index, mode, byte, place),
+        _ => skip(index, mode, byte, position),
     }
 }
 
 /// What a character does in a comment, in a code block and after a `/`.
-fn skip(index: usize, mode: Mode, byte: u8, place: Place) -> Result<Step, Place>
-    ensures value { map_ok step_of result ≡ skips (mode_of mode) byte place }
+fn skip(
+    index: usize,
+    mode: Mode,
+    byte: u8,
+    position: SourcePosition,
+) -> Result<Step, SourcePosition>
+    ensures value { map_ok step_of result ≡ skips (mode_of mode) byte position }
     ensures started { IfOk result (λ s. IsStarted (mode_of s.mode) (index + 1)) }
 {
     match mode {
         Mode::Slash(begun) => match byte {
-            b'/' => quiet(Mode::LineComment),
-            b'*' => quiet(Mode::BlockComment(begun, false)),
+            b'/' => no_token(Mode::LineComment),
+            b'*' => no_token(Mode::BlockComment(begun, false)),
             _ => Err(begun),
         },
         Mode::BlockComment(begun, star) => {
             if star && byte == b'/' {
-                quiet(Mode::Between)
+                no_token(Mode::Between)
             } else {
-                quiet(Mode::BlockComment(begun, byte == b'*'))
+                no_token(Mode::BlockComment(begun, byte == b'*'))
             }
         }
         Mode::Header(begun, named) => match byte {
             b'{' => if named {
-                quiet(Mode::Code(begun, false))
+                no_token(Mode::Code(begun, false))
             } else {
                 Err(begun)
             },
             b'%' | b'\n' => Err(begun),
-            _ => quiet(Mode::Header(begun, named || byte != b' ')),
+            _ => no_token(Mode::Header(begun, named || byte != b' ')),
         },
         Mode::Code(begun, percent) => {
             if percent && byte == b'}' {
-                quiet(Mode::Between)
+                no_token(Mode::Between)
             } else {
-                quiet(Mode::Code(begun, byte == b'%'))
+                no_token(Mode::Code(begun, byte == b'%'))
             }
         }
         _ => {
             if byte == b'\n' {
-                single(TokenKind::LineEnd, place)
+                single(TokenKind::LineEnd, position)
             } else {
-                quiet(Mode::LineComment)
+                no_token(Mode::LineComment)
             }
         }
     }
 }
 
 /// What the end of the file does: the last token, if one ends there.
-fn finish(text: &[u8], mode: Mode) -> Result<Option<Token>, Place>
+fn finish(text: &[u8], mode: Mode) -> Result<Option<Token>, SourcePosition>
     requires short { length text.now < 2 ^ 32 }
     requires started { IsStarted (mode_of mode) (length text.now) }
     ensures { result ≡ finishes text.now (mode_of mode) }
@@ -255,15 +274,18 @@ fn finish(text: &[u8], mode: Mode) -> Result<Option<Token>, Place>
         Mode::Between | Mode::LineComment => Ok(None),
         Mode::Word(start, begun) => {
             let kind = classify(&text[start..], span_of(start, text.len()));
-            Ok(Some(Token { kind, place: begun }))
+            Ok(Some(Token {
+                kind,
+                position: begun,
+            }))
         }
         Mode::Colon(begun) => Ok(Some(Token {
             kind: TokenKind::Colon,
-            place: begun,
+            position: begun,
         })),
         Mode::Bang(begun) => Ok(Some(Token {
             kind: TokenKind::Bang,
-            place: begun,
+            position: begun,
         })),
         Mode::Slash(begun)
         | Mode::BlockComment(begun, _)
@@ -272,29 +294,29 @@ fn finish(text: &[u8], mode: Mode) -> Result<Option<Token>, Place>
     }
 }
 
-/// The place of the character after this one.
-fn place_after(byte: u8, place: Place) -> Place
-    requires { IsPlaceBelow place (2 ^ 32 - 1) }
-    ensures { result ≡ next_place byte place }
+/// The position of the character after this one.
+fn position_after(byte: u8, position: SourcePosition) -> SourcePosition
+    requires { IsPositionBelow position (2 ^ 32 - 1) }
+    ensures { result ≡ next_position byte position }
 {
     if byte == b'\n' {
-        Place {
-            line: place.line + 1,
+        SourcePosition {
+            line: position.line + 1,
             column: 1,
         }
     } else {
-        Place {
-            line: place.line,
-            column: place.column + 1,
+        SourcePosition {
+            line: position.line,
+            column: position.column + 1,
         }
     }
 }
 
-/// The fault of a character that has no meaning at this place.
-fn char_fault(place: Place) -> PioFault
-    ensures { result ≡ PioFault.Char place.line place.column }
+/// The fault of a character that has no meaning at this position.
+fn char_fault(position: SourcePosition) -> PioFault
+    ensures { result ≡ PioFault.Char position.line position.column }
 {
-    PioFault::Char(u64::from(place.line), u64::from(place.column))
+    PioFault::Char(u64::from(position.line), u64::from(position.column))
 }
 
 fn add(tokens: &mut Vec<Token>, token: Option<Token>) -> Result<(), PioFault>
@@ -310,7 +332,7 @@ fn add(tokens: &mut Vec<Token>, token: Option<Token>) -> Result<(), PioFault>
     Ok(())
 }
 
-/// A place has 32 bits for its line and its column. There is no memory for the tokens of a longer file.
+/// A position has 32 bits for its line and its column. There is no memory for the tokens of a longer file.
 const LONGEST: usize = 0xffff_fff0;
 
 /// The tokens of a file, the last of which is its end.
@@ -323,31 +345,31 @@ pub(crate) fn scan(alloc: Global, text: &[u8]) -> Result<Vec<Token>, PioFault>
     }
     let mut tokens = Vec::new(alloc);
     let mut mode = Mode::Between;
-    let mut here = Place { line: 1, column: 1 };
+    let mut here = SourcePosition { line: 1, column: 1 };
     let mut after = here;
     for (index, byte) in text.iter().enumerate() {
         let done = match advance(text, index, mode, *byte, here) {
             Ok(done) => done,
-            Err(place) => return Err(char_fault(place)),
+            Err(position) => return Err(char_fault(position)),
         };
         add(&mut tokens, done.first)?;
         add(&mut tokens, done.second)?;
         mode = done.mode;
-        after = Place {
+        after = SourcePosition {
             line: here.line,
             column: here.column + 1,
         };
-        here = place_after(*byte, here);
+        here = position_after(*byte, here);
     }
     match finish(text, mode) {
         Ok(last) => add(&mut tokens, last)?,
-        Err(place) => return Err(char_fault(place)),
+        Err(position) => return Err(char_fault(position)),
     }
     add(
         &mut tokens,
         Some(Token {
             kind: TokenKind::FileEnd,
-            place: after,
+            position: after,
         }),
     )?;
     Ok(tokens)

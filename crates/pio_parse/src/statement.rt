@@ -165,7 +165,7 @@ pub(crate) fn read_line(file: &File, is_started: bool, cursor: &mut Cursor) -> R
     if !is_started && !may_be_first(cursor.peek()) {
         return Err(cursor.fault());
     }
-    let number = u64::from(cursor.place().line);
+    let number = u64::from(cursor.position().line);
     let label = read_label(file, cursor)?;
     let statement = read_statement(file, cursor)?;
     read_end(is_started, &statement, cursor)?;

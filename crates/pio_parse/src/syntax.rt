@@ -118,7 +118,7 @@ pub enum Statement {
         name: Name,
         value: Expression,
     },
-    /// `.origin place`.
+    /// `.origin address`.
     Origin(Expression),
     /// `.side_set count [opt] [pindirs]`.
     SideSet {
@@ -234,7 +234,7 @@ impl Programs {
 
 /// A whole file.
 #[derive(Drop)]
-pub struct Source {
+pub struct ParsedSource {
     /// The lines before the first `.program`.
     pub globals: Lines,
     pub programs: Programs,

@@ -1,10 +1,10 @@
-//! Tokens and their places.
+//! Tokens and their positions.
 
 ghost use Rattle.std.specs.Prelude.{◌≡◌, ◌<◌, ◌^◌};
 
-/// A place in a file of less than 4 GiB: lines and columns count from 1, and a column is a byte.
+/// A position in a file of less than 4 GiB: lines and columns count from 1, and a column is a byte.
 #[derive(Clone, Copy)]
-pub struct Place {
+pub struct SourcePosition {
     /// The line.
     pub line: u32,
     /// The byte of the line.
@@ -87,7 +87,7 @@ pub enum Directive {
 /// What a token is.
 #[derive(Clone, Copy)]
 pub enum TokenKind {
-    /// A name, by its place in the file.
+    /// A name, by its position in the file.
     Name(Span),
     Keyword(Keyword),
     Directive(Directive),
@@ -112,9 +112,9 @@ pub enum TokenKind {
     FileEnd,
 }
 
-/// A token and the place of its first character.
+/// A token and the position of its first character.
 #[derive(Clone, Copy)]
 pub struct Token {
     pub kind: TokenKind,
-    pub place: Place,
+    pub position: SourcePosition,
 }

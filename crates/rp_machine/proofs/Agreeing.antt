@@ -11,7 +11,7 @@ use Rattle.m0_core.specs.Start.{sleeping, started}
 use Rattle.m0_core.specs.declared.doing.Doing.{Doing as CoreDoing}
 use Rattle.m0_core.specs.Cycle as core_steps
 use Rattle.dma_engine.specs.State.{Engine, with_hold, reset_state}
-use Rattle.dma_engine.specs.declared.doing.Doing.{Doing as DmaDoing}
+use Rattle.dma_engine.specs.declared.begun.BegunTransfer.{BegunTransfer as DmaDoing}
 use Rattle.dma_engine.specs.Cycle as dma_steps
 use Rattle.dma_engine.specs.Words as dma_words
 use Rattle.pio_block.specs.State.{Block as Pio, with_held}
@@ -20,7 +20,7 @@ use Rattle.pio_block.specs.declared.inputs.Inputs.{Inputs}
 use Rattle.pio_block.specs.Cycle as pio_steps
 use Rattle.pio_block.specs.Words as pio_words
 use Rattle.outer_lane.specs.Setting.{Setting}
-use Rattle.outer_lane.specs.declared.world.Seen.{Seen}
+use Rattle.outer_lane.specs.declared.world.SeenOutputs.{SeenOutputs}
 use Rattle.outer_lane.specs.State.{OuterState, outer_at_start, outer_reset}
 use Rattle.outer_lane.specs.Step as outer_steps
 use Rattle.outer_lane.specs.Words.{outer_accessed}
@@ -114,7 +114,7 @@ reset_agrees w core1 dma pio0 pio1 outer sio bits pins offer =
 -- ---- the steps
 
 pub steps_agree : (w : Setting) (reset : ℕ) (core1 : Core) (dma : Engine) (pio0 pio1 : Pio) (outer : OuterState) (sio : SioState)
-    (b1 : CoreDoing) (b2 : DmaDoing) (b3 b4 : Option Inputs) (seen : Seen) (t1 t2 : List Turn)
+    (b1 : CoreDoing) (b2 : DmaDoing) (b3 b4 : Option Inputs) (seen : SeenOutputs) (t1 t2 : List Turn)
     → Agree reset core1 dma pio0 pio1 outer sio
     → Agree reset (core_steps.next core1 b1 t1) (dma_steps.next dma b2 t2) (pio_steps.next b3 pio0) (pio_steps.next b4 pio1) (outer_steps.next w outer seen) sio
 steps_agree w reset core1 dma pio0 pio1 outer sio b1 b2 b3 b4 seen t1 t2 a =
@@ -148,7 +148,7 @@ pub loaded1_agrees : {reset : ℕ} {core1 : Core} {dma : Engine} {pio0 pio1 afte
 loaded1_agrees {reset} {core1} {dma} {pio0} {pio1} {after} {outer} {sio} load e a =
     rw e (with_pio1 (pio_loaded load pio1.held pio1 (record { is = refl })) a)
 
-pub outer_step_agrees : {reset : ℕ} {core1 : Core} {dma : Engine} {pio0 pio1 : Pio} {outer after : OuterState} {sio : SioState} (w : Setting) (seen : Seen)
+pub outer_step_agrees : {reset : ℕ} {core1 : Core} {dma : Engine} {pio0 pio1 : Pio} {outer after : OuterState} {sio : SioState} (w : Setting) (seen : SeenOutputs)
     → after ≡ outer_steps.next w outer seen
     → Agree reset core1 dma pio0 pio1 outer sio → Agree reset core1 dma pio0 pio1 after sio
 outer_step_agrees {reset} {core1} {dma} {pio0} {pio1} {outer} {after} {sio} w seen e a =

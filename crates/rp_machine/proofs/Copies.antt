@@ -7,7 +7,7 @@ use Rattle.rp_machine.specs.declared.load.PioLoad.{PioLoad}
 use Rattle.rp_machine.specs.State.{State, first_state}
 use Rattle.rp_machine.specs.Boot.{block_loaded, with_load, with_loads, start}
 use Rattle.rp_machine.specs.Cycle.{with_sio, ended, after_deeds, next_by, next}
-use Rattle.rp_machine.specs.Law.{KnowsSio, SioIsKnown}
+use Rattle.rp_machine.specs.Laws.{KnowsSio, SioIsKnown}
 
 either : (c : Bool) (s t : State) → KnowsSio s → KnowsSio t → KnowsSio (if c then s else t)
 either true s t a b = a

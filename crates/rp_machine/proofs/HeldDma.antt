@@ -4,7 +4,7 @@ use Rattle.std.specs.Prelude.{slice_get, slice_set}
 use Rattle.word_bits.specs.Word.{has_bit}
 use Rattle.lane_look.specs.declared.lane.Turn.{Turn}
 use Rattle.dma_engine.specs.declared.channel.Channel.{Channel}
-use Rattle.dma_engine.specs.declared.doing.Doing.{Doing}
+use Rattle.dma_engine.specs.declared.begun.BegunTransfer.{BegunTransfer}
 use Rattle.dma_engine.specs.State.{Engine, channel_at, with_hold}
 use Rattle.dma_engine.specs.declared.registers.TheConstants.{INTR, INTE0, INTF0, INTS0, INTE1, INTF1, INTS1}
 use Rattle.dma_engine.specs.declared.line.InterruptLine.{InterruptLine}
@@ -86,7 +86,7 @@ choice_holds None None bit e h = h
 choice_holds None (Some n) bit e h = record { is = (changed_holds counted n bit e h).is }
 choice_holds (Some m) choice bit e h = h
 
-transfers_hold : (s : Engine) (begun : Doing) (turns : List Turn) (bit : Bool) → Holds bit s → Holds bit (after_transfers s begun turns)
+transfers_hold : (s : Engine) (begun : BegunTransfer) (turns : List Turn) (bit : Bool) → Holds bit s → Holds bit (after_transfers s begun turns)
 unfolding after_transfers
 transfers_hold s begun turns bit h =
     let read : Engine = after_read_of begun turns (after_ends s) in
@@ -99,7 +99,7 @@ timers_hold : (test : ℕ → Bool) (bit : Bool) (e : Engine) → Holds bit e �
 unfolding after_timers
 timers_hold test bit e h = turns_hold test with_credit bit (λ k x g. changed_holds credited k bit x g) 12 _ (record { is = h.is })
 
-pub dma_next : (s : Engine) (begun : Doing) (turns : List Turn) (bit : Bool) → Holds bit s → Holds bit (next s begun turns)
+pub dma_next : (s : Engine) (begun : BegunTransfer) (turns : List Turn) (bit : Bool) → Holds bit s → Holds bit (next s begun turns)
 unfolding next
 dma_next s begun turns bit h =
     way bit s.held _ _ h (timers_hold (gets_credit s) bit _ (transfers_hold s begun turns bit h))

@@ -18,7 +18,7 @@ use Rattle.io_bank.specs.State.{Bank, after_held}
 use Rattle.io_bank.specs.Interrupts.{cleared}
 use Rattle.io_bank.specs.Words as bank
 use Rattle.outer_lane.specs.Setting.{Setting}
-use Rattle.outer_lane.specs.declared.world.Seen.{Seen}
+use Rattle.outer_lane.specs.declared.world.SeenOutputs.{SeenOutputs}
 use Rattle.outer_lane.specs.State.{OuterState}
 use Rattle.outer_lane.specs.Step as outer
 use Rattle.outer_lane.specs.Words.{bank_accessed, outer_accessed}
@@ -231,7 +231,7 @@ same_copies o = record { bank = refl; pads = refl; timer = refl; uart0 = refl; u
 with_bank : (o : OuterState) (b : Bank) → SameBank o.pads b → SameCopies o (record o { pads = b })
 with_bank o b h = record { bank = h.bank; pads = h.pads; timer = refl; uart0 = refl; uart1 = refl; sio = refl }
 
-pub outer_next : (w : Setting) (o : OuterState) (seen : Seen) → SameCopies o (outer.next w o seen)
+pub outer_next : (w : Setting) (o : OuterState) (seen : SeenOutputs) → SameCopies o (outer.next w o seen)
 unfolding outer.next outer.next_by outer.pads_by
 outer_next w o seen = record { bank = refl; pads = refl; timer = refl; uart0 = refl; uart1 = refl; sio = refl }
 
@@ -281,11 +281,11 @@ waiting_offers : (work : Work) (bit : Bool) (c : Core) → Offers bit c → Offe
 waiting_offers work bit c h = record { is = h.is }
 
 of_offers : (work : Work) (count : ℕ) (last : Core) (bit : Bool) (c : Core) → Offers bit last → Offers bit c → Offers bit (core.passed_of work count last c)
-of_offers work count last bit c k h = core_way bit (nat_lt (c.place + 1) count) (core.followed work c) last (record { is = h.is }) k
+of_offers work count last bit c k h = core_way bit (nat_lt (c.beats_done + 1) count) (core.followed work c) last (record { is = h.is }) k
 
 taken_offers : (n : ℕ) (bit : Bool) (c : Core) → Offers bit c → Offers bit (taken_first n c)
 unfolding taken_first
-taken_offers n bit c h = core_way bit (c.place == 0) (record c { nvic = entered n c.nvic }) c (record { is = h.is }) h
+taken_offers n bit c h = core_way bit (c.beats_done == 0) (record c { nvic = entered n c.nvic }) c (record { is = h.is }) h
 
 entry_offers : (n : ℕ) (bit : Bool) (c : Core) → Offers bit c → Offers bit (entry_ended n c)
 unfolding entry_ended

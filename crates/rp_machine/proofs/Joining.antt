@@ -6,7 +6,7 @@ use Rattle.rp_machine.specs.State.{State}
 use Rattle.rp_machine.specs.Cycle.{stop, next}
 use Rattle.rp_machine.specs.Events.{events}
 use Rattle.rp_machine.specs.Run.{states, events_in}
-use Rattle.rp_machine.specs.Law.{AreOneRun, RunsFollowEachOther}
+use Rattle.rp_machine.specs.Laws.{AreOneRun, RunsFollowEachOther}
 use Rattle.rp_machine.proofs.Runs.{states_here, states_on, events_none, events_more}
 
 none_first : (w : Setting) (s : State) → states w s zero ≡ s

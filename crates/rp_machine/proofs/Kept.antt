@@ -19,7 +19,7 @@ use Rattle.rp_machine.specs.State.{State}
 use Rattle.rp_machine.specs.Registers.{with_reset, resets_written, block_accessed}
 use Rattle.bus_fabric.specs.Masters.{masters}
 use Rattle.rp_machine.specs.Cycle.{begun, wanted, with_event, with_sio, sio_accessed, after_deed, started_by, after_launcher, after_master, after_masters, stored, all_stored, ended, after_deeds, with_turns, stepped, next_by, next}
-use Rattle.rp_machine.specs.Law.{deeds_in, word_with, word_after, SramChangesByTheWritesAlone}
+use Rattle.rp_machine.specs.Laws.{deeds_in, word_with, word_after, SramChangesByTheWritesAlone}
 
 pub record Keeps (s t : State) : Type 0 where
   pub sram : t.sram ≡ s.sram

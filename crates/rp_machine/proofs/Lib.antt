@@ -8,5 +8,5 @@ pub mod Joining
 pub mod Kept
 pub mod OneCore
 pub mod Placing
-pub mod Quiet
+pub mod BusRest
 pub mod Runs

@@ -21,15 +21,15 @@ use Rattle.bus_fabric.specs.State.{Crossbar, has_hold, served}
 use Rattle.bus_fabric.specs.Grant.{is_done, after_grant}
 use Rattle.bus_fabric.proofs.Alone.{nobody-after, alone-after}
 use Rattle.outer_lane.specs.Setting.{Setting}
-use Rattle.outer_lane.specs.declared.world.Seen.{Seen}
+use Rattle.outer_lane.specs.declared.world.SeenOutputs.{SeenOutputs}
 use Rattle.outer_lane.specs.Step.{marked}
 use Rattle.rp_machine.specs.declared.begun.Begun.{Begun}
 use Rattle.rp_machine.specs.State.{State}
 use Rattle.rp_machine.specs.Deeds.{asked_of, turn_of, deed_of, cause_of}
 use Rattle.rp_machine.specs.Cycle.{begun, wanted, wanted_by, first_cause, cause_in, stop, asked, granted, turns, turn_for, deeds, with_turns, with_grants, after_deed, after_deeds, stepped, next_by, next, mark}
-use Rattle.rp_machine.specs.Quiet.{is_nothing, quiet_core1}
-use Rattle.rp_machine.proofs.Quiet.{both, nothing, is_false}
-use Rattle.rp_machine.specs.Alone.{IsAlone, asked_alone, beside, stepped_alone, turn_alone, alone_quiet, alone_next}
+use Rattle.rp_machine.specs.BusRest.{is_nothing, core1_at_rest}
+use Rattle.rp_machine.proofs.BusRest.{both, nothing, is_false}
+use Rattle.rp_machine.specs.Alone.{IsAlone, asked_alone, beside, stepped_alone, turn_alone, alone_at_rest, alone_next}
 
 -- ---- what the parts at rest begin
 
@@ -108,7 +108,7 @@ told w b x s = turn_for (turns w b (beside x) s (granted (beside x) s)) master.C
 
 ends_alone : (w : Setting) (b : Begun) (x : Want) (s : State)
     → ending w b x s (stepped_alone w b.core0 b.outer (told w b x s) (with_grants (beside x) s)) ≡ alone_next w b.core0 b.outer x s
-unfolding granted asked asked_of turns turn_of deeds deed_of after_deeds after_deed quiet_core1 alone_next
+unfolding granted asked asked_of turns turn_of deeds deed_of after_deeds after_deed core1_at_rest alone_next
 ends_alone w b x s = refl
 
 next_beside : (w : Setting) (x : Want) (s : State) → IsAlone s → next_by w (begun s) (beside x) s ≡ alone_next w (begun s).core0 (begun s).outer x s
@@ -124,7 +124,7 @@ next_alone w s h =
     ap (λ xs. next_by w (begun s) xs s) (wanted_alone s h) ∙ next_beside w (core.want_of (begun s).core0) s h
 
 -- the same of what the calls of a cycle begin and want
-pub cause_is : (w : Setting) {s : State} {b : Doing} {seen : Seen} {x : Want} {cause : Option Why} → IsAlone s → b ≡ (begun s).core0 → seen ≡ (begun s).outer
+pub cause_is : (w : Setting) {s : State} {b : Doing} {seen : SeenOutputs} {x : Want} {cause : Option Why} → IsAlone s → b ≡ (begun s).core0 → seen ≡ (begun s).outer
     → x ≡ core.want_of b → cause ≡ cause_of w seen s (wanted_by master.Core0 x) → cause ≡ cause_in w (begun s) (wanted (begun s)) s
 cause_is w {s} {b} {seen} {x} {cause} h core0 outer wants e =
     e ∙ ap (λ y. cause_of w seen s (wanted_by master.Core0 y)) wants
@@ -132,7 +132,7 @@ cause_is w {s} {b} {seen} {x} {cause} h core0 outer wants e =
     ∙ ap (λ o. cause_of w o s (wanted_by master.Core0 (core.want_of (begun s).core0))) outer
     ∙ sym (cause_alone w s h)
 
-pub next_is : (w : Setting) {s after : State} {b : Doing} {seen : Seen} {x : Want} → IsAlone s → b ≡ (begun s).core0 → seen ≡ (begun s).outer
+pub next_is : (w : Setting) {s after : State} {b : Doing} {seen : SeenOutputs} {x : Want} → IsAlone s → b ≡ (begun s).core0 → seen ≡ (begun s).outer
     → x ≡ core.want_of b → after ≡ alone_next w b seen x s → after ≡ next w s
 next_is w {s} {after} {b} {seen} {x} h core0 outer wants e =
     e ∙ ap (λ y. alone_next w b seen y s) wants
@@ -140,7 +140,7 @@ next_is w {s} {after} {b} {seen} {x} h core0 outer wants e =
     ∙ ap (λ o. alone_next w (begun s).core0 o (core.want_of (begun s).core0) s) outer
     ∙ sym (next_alone w s h)
 
-pub marks_are : (w : Setting) (s : State) {seen : Seen} {before after : List Mark} → before ≡ [] → seen ≡ (begun s).outer
+pub marks_are : (w : Setting) (s : State) {seen : SeenOutputs} {before after : List Mark} → before ≡ [] → seen ≡ (begun s).outer
     → after ≡ before ++ marked w s.outer seen ∷ [] → after ≡ mark w s ∷ []
 unfolding mark
 marks_are w s {seen} {before} {after} clear outer e =
@@ -158,13 +158,13 @@ one_granted access port writes s is apart e h = rw is (sym (alone-after master.C
 
 -- ---- a cycle in which core 0 wants nothing, and no access lasts
 
-quiet_by : (w : Setting) (b : Doing) (seen : Seen) (x : Want) (s : State) → x ≡ want.Nothing → has_hold s.fabric ≡ false
-    → alone_quiet w b seen s ≡ alone_next w b seen x s
-unfolding alone_next alone_quiet turn_of deed_of asked_of after_deed
-quiet_by w b seen x s e free = rw (e, nobody-after s.fabric free) refl
+rest_by : (w : Setting) (b : Doing) (seen : SeenOutputs) (x : Want) (s : State) → x ≡ want.Nothing → has_hold s.fabric ≡ false
+    → alone_at_rest w b seen s ≡ alone_next w b seen x s
+unfolding alone_next alone_at_rest turn_of deed_of asked_of after_deed
+rest_by w b seen x s e free = rw (e, nobody-after s.fabric free) refl
 
-pub quiet_alone : (w : Setting) (b : Doing) (seen : Seen) (x : Want) (s : State) → (is_nothing x && not (has_hold s.fabric)) ≡ true
-    → alone_quiet w b seen s ≡ alone_next w b seen x s
-quiet_alone w b seen x s h =
+pub rest_alone : (w : Setting) (b : Doing) (seen : SeenOutputs) (x : Want) (s : State) → (is_nothing x && not (has_hold s.fabric)) ≡ true
+    → alone_at_rest w b seen s ≡ alone_next w b seen x s
+rest_alone w b seen x s h =
     let parts = both (is_nothing x) _ h in
-    quiet_by w b seen x s (nothing x parts.0) (is_false (has_hold s.fabric) parts.1)
+    rest_by w b seen x s (nothing x parts.0) (is_false (has_hold s.fabric) parts.1)

@@ -12,14 +12,14 @@ use Rattle.dma_engine.specs.Rest.{StaysAtRest}
 use Rattle.pio_block.specs.Cycle.{Rests}
 use Rattle.bus_fabric.specs.Grant.{is_done, after_grant}
 use Rattle.outer_lane.specs.Setting.{Setting}
-use Rattle.outer_lane.specs.declared.world.Seen.{Seen}
+use Rattle.outer_lane.specs.declared.world.SeenOutputs.{SeenOutputs}
 use Rattle.outer_lane.specs.Step as outer
 use Rattle.rp_machine.specs.declared.deed.Deed.{Deed}
 use Rattle.rp_machine.specs.declared.wanted.Wanted.{Wanted}
 use Rattle.rp_machine.specs.State.{State}
 use Rattle.rp_machine.specs.Deeds.{asked_of, turn_of, deed_of}
 use Rattle.rp_machine.specs.Cycle.{wanted_by, after_deed, stored, ended}
-use Rattle.rp_machine.specs.Quiet.{quiet_core1}
+use Rattle.rp_machine.specs.BusRest.{core1_at_rest}
 
 pub record IsAlone (s : State) : Type 0 where
   pub asleep : s.core1.asleep ≡ true
@@ -41,14 +41,14 @@ abbrev pub granted_alone : Want → State → Bool
 granted_alone x s = is_done (asked_alone (asked_of x)) s.fabric master.Core0
 
 -- what core 0 is told, and what its want comes to
-abbrev pub turn_alone : Setting → Seen → Want → State → Turn
+abbrev pub turn_alone : Setting → SeenOutputs → Want → State → Turn
 turn_alone w seen x s = turn_of w seen x (granted_alone x s) master.Core0 x s
 
-abbrev pub deed_alone : Setting → Seen → Want → State → Deed
+abbrev pub deed_alone : Setting → SeenOutputs → Want → State → Deed
 deed_alone w seen x s = deed_of w seen (granted_alone x s) x s
 
 -- core 0 and the peripherals step
-abbrev pub stepped_alone : Setting → Doing → Seen → Turn → State → State
+abbrev pub stepped_alone : Setting → Doing → SeenOutputs → Turn → State → State
 stepped_alone w b seen told s = record s {
   core0 = core.next s.core0 b (told ∷ turn.Nothing ∷ []);
   outer = outer.next w s.outer seen;
@@ -61,13 +61,13 @@ abbrev pub with_store : Deed → State → State
 with_store d s = record s { sram = stored d s.sram }
 
 -- the state after a cycle in which core 0 has begun this and wants that
-unfoldable pub alone_next : Setting → Doing → Seen → Want → State → State
+unfoldable pub alone_next : Setting → Doing → SeenOutputs → Want → State → State
 alone_next w b seen x s =
     record (ended (with_store (deed_alone w seen x s)
-    (quiet_core1 (after_deed w master.Core0 (deed_alone w seen x s)
+    (core1_at_rest (after_deed w master.Core0 (deed_alone w seen x s)
     (stepped_alone w b seen (turn_alone w seen x s) (with_grant x s)))))) { cycle = s.cycle + 1 }
 
 -- the same where core 0 wants nothing, and no access lasts
-unfoldable pub alone_quiet : Setting → Doing → Seen → State → State
-alone_quiet w b seen s =
-    record (ended (quiet_core1 (stepped_alone w b seen turn.Nothing s))) { cycle = s.cycle + 1 }
+unfoldable pub alone_at_rest : Setting → Doing → SeenOutputs → State → State
+alone_at_rest w b seen s =
+    record (ended (core1_at_rest (stepped_alone w b seen turn.Nothing s))) { cycle = s.cycle + 1 }

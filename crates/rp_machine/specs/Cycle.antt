@@ -20,7 +20,7 @@ use Rattle.dma_engine.specs.Asks as dma_asks
 use Rattle.dma_engine.specs.Cycle as dma
 use Rattle.pio_block.specs.Cycle as pio
 use Rattle.outer_lane.specs.Setting.{Setting}
-use Rattle.outer_lane.specs.declared.world.Seen.{Seen}
+use Rattle.outer_lane.specs.declared.world.SeenOutputs.{SeenOutputs}
 use Rattle.outer_lane.specs.Step as outer
 use Rattle.outer_lane.specs.State.{OuterState}
 use Rattle.outer_lane.specs.Device.{device_accessed}
@@ -99,7 +99,7 @@ first_want [] = want.Nothing
 first_want (x ∷ xs) = x.want
 
 -- what the bus gives each master, by what is granted
-abbrev pub turns_by : Setting → Seen → Want → State → List Wanted → List Bool → List Turn
+abbrev pub turns_by : Setting → SeenOutputs → Want → State → List Wanted → List Bool → List Turn
 turns_by w seen rival s (x ∷ xs) (grant ∷ grants) =
     turn_of w seen rival grant x.master x.want s ∷ turns_by w seen rival s xs grants
 turns_by w seen rival s _ _ = []
@@ -126,7 +126,7 @@ with_turns w b turns s = record s {
 -- ---- deeds
 
 -- the deed of each master, by what is granted
-abbrev pub deeds_by : Setting → Seen → State → List Wanted → List Bool → List Deed
+abbrev pub deeds_by : Setting → SeenOutputs → State → List Wanted → List Bool → List Deed
 deeds_by w seen s (x ∷ xs) (grant ∷ grants) = deed_of w seen grant x.want s ∷ deeds_by w seen s xs grants
 deeds_by w seen s _ _ = []
 

@@ -15,7 +15,7 @@ use Rattle.lane_look.specs.declared.lane.Want.{Want}
 use Rattle.lane_look.specs.declared.lane.Want.TheVariants as want
 use Rattle.lane_look.specs.declared.lane.Turn.{Turn}
 use Rattle.lane_look.specs.declared.lane.Turn.TheVariants as turn
-use Rattle.outer_lane.specs.declared.world.Seen.{Seen}
+use Rattle.outer_lane.specs.declared.world.SeenOutputs.{SeenOutputs}
 use Rattle.outer_lane.specs.Setting.{Setting}
 use Rattle.outer_lane.specs.Device.{owned_word}
 use Rattle.io_bank.specs.Levels.{inputs_of}
@@ -41,7 +41,7 @@ sio_word _ offset s = None
 
 -- the word at a spot that is not in SRAM, as it reads for a master at the start of the cycle; None where there is none. An
 -- address that is outside of the chip may be the device's
-unfoldable pub word_for : Setting → Seen → Master → ℕ → Spot → State → Option ℕ
+unfoldable pub word_for : Setting → SeenOutputs → Master → ℕ → Spot → State → Option ℕ
 word_for w seen m address (spot.Reg block offset alias) s = block_word w seen block offset s
 word_for w seen m address (spot.Sio offset) s = sio_word m offset s
 word_for w seen m address spot.Outside s = owned_word w address s.outer
@@ -64,7 +64,7 @@ outside_unless open_to m address = if open_to then None else Some (why.Outside m
 
 -- the cause for which a cycle does not happen in which a master wants this: an access that is not to SRAM has to find a word,
 -- and has to be allowed
-abbrev pub cause_by : Setting → Seen → Master → Want → State → Option Why
+abbrev pub cause_by : Setting → SeenOutputs → Master → Want → State → Option Why
 cause_by w seen m (want.Outward request) s =
     outside_unless
     (is_open request (place_of request.address) (word_for w seen m request.address (place_of request.address) s))
@@ -73,7 +73,7 @@ cause_by w seen m (want.Outward request) s =
 cause_by w seen m (want.Stopped cause) s = Some cause
 cause_by w seen m _ s = None
 
-unfoldable pub cause_of : Setting → Seen → State → Wanted → Option Why
+unfoldable pub cause_of : Setting → SeenOutputs → State → Wanted → Option Why
 cause_of w seen s x = cause_by w seen x.master x.want s
 
 -- ---- ports
@@ -122,7 +122,7 @@ abbrev pub is_late : Want → Master → Spot → Bool
 is_late rival m at = is_core1 m && (is_lock at && reads_at rival at)
 
 -- the word that an access has, where core 0 wants this
-abbrev pub told_at : Setting → Seen → Want → Master → ℕ → Spot → State → ℕ
+abbrev pub told_at : Setting → SeenOutputs → Want → Master → ℕ → Spot → State → ℕ
 told_at w seen rival m address at s =
     if is_late rival m at then 0 else unwrap_or (word_for w seen m address at s) 0
 
@@ -132,7 +132,7 @@ abbrev pub turn_at : Bool → ℕ → Turn
 turn_at done word = if done then turn.Done word else turn.Wait
 
 -- what the bus gives a master for its want, where core 0 wants `rival`. A read of SRAM was told its word when it was asked for
-unfoldable pub turn_of : Setting → Seen → Want → Bool → Master → Want → State → Turn
+unfoldable pub turn_of : Setting → SeenOutputs → Want → Bool → Master → Want → State → Turn
 turn_of w seen rival granted m (want.Ram request) s = turn_at granted 0
 turn_of w seen rival granted m (want.Outward request) s =
     turn_at
@@ -149,7 +149,7 @@ stored_at request (Some value) (spot.Ram index bank) =
 stored_at request _ _ = deed.Nothing
 
 -- an access to a word of a register block, of SIO or of the device; the device has its address unchanged
-abbrev pub accessed_at : Setting → Seen → Request → Spot → State → Deed
+abbrev pub accessed_at : Setting → SeenOutputs → Request → Spot → State → Deed
 accessed_at w seen request (spot.Reg block offset alias) s =
     deed.Register block offset (plain_write request request.write alias (unwrap_or (block_word w seen block offset s) 0))
 accessed_at w seen request (spot.Sio offset) s = deed.SingleCycle offset (word_written request.size request.write)
@@ -157,7 +157,7 @@ accessed_at w seen request spot.Outside s = deed.Device request.address (word_wr
 accessed_at w seen request _ s = deed.Nothing
 
 -- what a want comes to, by the state at the start of the cycle
-unfoldable pub deed_of : Setting → Seen → Bool → Want → State → Deed
+unfoldable pub deed_of : Setting → SeenOutputs → Bool → Want → State → Deed
 deed_of w seen granted (want.Ram request) s =
     if granted then stored_at request request.write (place_of request.address) else deed.Nothing
 deed_of w seen granted (want.Outward request) s =

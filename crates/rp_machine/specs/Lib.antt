@@ -5,9 +5,9 @@ pub mod Copies
 pub mod Cycle
 pub mod Deeds
 pub mod Events
-pub mod Law
+pub mod Laws
 pub mod Loading
-pub mod Quiet
+pub mod BusRest
 pub mod Readers
 pub mod Registers
 pub mod Rest

@@ -12,7 +12,7 @@ use Rattle.dma_engine.specs.State.{with_hold}
 use Rattle.dma_engine.specs.Words as dma
 use Rattle.pio_block.specs.State.{with_held}
 use Rattle.pio_block.specs.Words as pio
-use Rattle.outer_lane.specs.declared.world.Seen.{Seen}
+use Rattle.outer_lane.specs.declared.world.SeenOutputs.{SeenOutputs}
 use Rattle.outer_lane.specs.Setting.{Setting}
 use Rattle.outer_lane.specs.State.{outer_reset}
 use Rattle.outer_lane.specs.Words.{outer_word, outer_accessed}
@@ -50,7 +50,7 @@ resets_accessed offset (Some w) s = resets_written offset w s
 -- ---- all blocks
 
 -- what a word reads as at the start of a cycle, in which the peripherals have seen this; None where the block has no such word
-unfoldable pub block_word : Setting → Seen → Block → ℕ → State → Option ℕ
+unfoldable pub block_word : Setting → SeenOutputs → Block → ℕ → State → Option ℕ
 block_word w seen block.Resets offset s = resets_word s.resets offset
 block_word w seen block.Busctrl offset s = busctrl.word_of s.fabric offset
 block_word w seen block.Dma offset s = dma.word_of s.dma offset

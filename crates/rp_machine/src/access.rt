@@ -10,7 +10,7 @@ use crate::machine::Machine;
 use crate::registers::plain_write;
 use crate::wanted::Wanted;
 use lane_look::{Device, Turn, Want};
-use outer_lane::{Seen, World};
+use outer_lane::{SeenOutputs, World};
 use rp_base::access::{lanes_at, replicated, word_written};
 use rp_base::map::{Spot, place, port};
 use rp_base::{Master, Request, Why};
@@ -153,7 +153,7 @@ impl Machine {
     fn word_for<X: Device>(
         &self,
         world: &World<'_, X>,
-        seen: &Seen,
+        seen: &SeenOutputs,
         master: Master,
         address: u32,
         spot: &Spot,
@@ -189,7 +189,7 @@ impl Machine {
     fn cause_at<X: Device>(
         &self,
         world: &World<'_, X>,
-        seen: &Seen,
+        seen: &SeenOutputs,
         master: Master,
         request: &Request,
     ) -> Option<Why>
@@ -210,7 +210,7 @@ impl Machine {
     pub(crate) fn cause_of<X: Device>(
         &self,
         world: &World<'_, X>,
-        seen: &Seen,
+        seen: &SeenOutputs,
         wanted: &Wanted,
     ) -> Option<Why>
         ensures { result ≡ cause_of
@@ -229,7 +229,7 @@ impl Machine {
     fn told_at<X: Device>(
         &self,
         world: &World<'_, X>,
-        seen: &Seen,
+        seen: &SeenOutputs,
         rival: &Want,
         master: Master,
         address: u32,
@@ -253,7 +253,7 @@ impl Machine {
     pub(crate) fn turn_of<X: Device>(
         &self,
         world: &World<'_, X>,
-        seen: &Seen,
+        seen: &SeenOutputs,
         rival: &Want,
         granted: bool,
         wanted: &Wanted,
@@ -280,7 +280,7 @@ impl Machine {
     fn accessed_at<X: Device>(
         &self,
         world: &World<'_, X>,
-        seen: &Seen,
+        seen: &SeenOutputs,
         request: &Request,
         spot: &Spot,
     ) -> Deed
@@ -320,7 +320,7 @@ impl Machine {
     pub(crate) fn deed_of<X: Device>(
         &self,
         world: &World<'_, X>,
-        seen: &Seen,
+        seen: &SeenOutputs,
         granted: bool,
         want: &Want,
     ) -> Deed

@@ -15,7 +15,7 @@ use crate::wanted::Wanted;
 use bus_fabric::Fabric;
 use lane_look::{Device, Lane, Marks, Turn, Want};
 use m0_core::{Core, Doing};
-use outer_lane::{Seen, World};
+use outer_lane::{SeenOutputs, World};
 use rp_base::{Master, Why};
 use std::sync::ledger::Ledger;
 
@@ -56,8 +56,8 @@ impl Machine {
     ghost use Rattle.outer_lane.specs.Setting.{setting_of};
     ghost use Rattle.outer_lane.specs.Step.{marked};
     ghost use Rattle.rp_machine.specs.Cycle.{begun, wanted, cause_in, next, mark};
-    ghost use Rattle.rp_machine.specs.Alone.{IsAlone, alone_quiet, alone_next};
-    ghost use Rattle.rp_machine.specs.Quiet.{is_nothing};
+    ghost use Rattle.rp_machine.specs.Alone.{IsAlone, alone_at_rest, alone_next};
+    ghost use Rattle.rp_machine.specs.BusRest.{is_nothing};
     ghost use Rattle.bus_fabric.specs.State.{has_hold};
 
     /// Core 1 sleeps, and the DMA engine and both PIO blocks are at rest.
@@ -83,7 +83,7 @@ impl Machine {
     /// What the peripherals begin.
     #[inline(always)]
     #[tactic(auto, unfolding(crate::specs::Cycle::begun))]
-    fn begin_outer<X: Device>(&self, world: &World<'_, X>) -> Seen
+    fn begin_outer<X: Device>(&self, world: &World<'_, X>) -> SeenOutputs
         ensures { result ≡ (begun self.now).outer }
     {
         begin_lane(self, 5, &self.outer, world)
@@ -91,7 +91,7 @@ impl Machine {
 
     /// The master wants nothing, and no access lasts.
     #[inline(always)]
-    fn is_quiet_alone(&self, wanted: &Wanted) -> bool
+    fn is_bus_at_rest_alone(&self, wanted: &Wanted) -> bool
         ensures { result ≡ (is_nothing wanted.now.want && not (has_hold self.now.fabric)) }
     {
         wants_nothing(wanted) && !self.fabric.holds()
@@ -99,17 +99,17 @@ impl Machine {
 
     /// One cycle in which core 0, which is alone, has begun this and wants nothing, and no access lasts.
     #[inline(always)]
-    #[tactic(auto, unfolding(crate::specs::Alone::alone_quiet))]
-    fn step_alone_quietly<X: Device>(
+    #[tactic(auto, unfolding(crate::specs::Alone::alone_at_rest))]
+    fn step_alone_at_rest<X: Device>(
         &mut self,
         world: &World<'_, X>,
         core0: &Doing,
-        outer: &Seen,
+        outer: &SeenOutputs,
         marks: &mut Marks,
     )
         requires number { self.old.cycle < 2 ^ 64 - 1 }
         requires marks { length marks.old < 256 }
-        ensures state { self.new ≡ alone_quiet
+        ensures state { self.new ≡ alone_at_rest
             (setting_of world.now.script.now (X.meaning world.now.device.now) world.now.limit)
             core0.now outer.now self.old }
         ensures marks { marks.new ≡ marks.old ++ marked
@@ -130,7 +130,7 @@ impl Machine {
         &mut self,
         world: &World<'_, X>,
         core0: &Doing,
-        outer: &Seen,
+        outer: &SeenOutputs,
         wanted: &Wanted,
         marks: &mut Marks,
     )
@@ -144,8 +144,8 @@ impl Machine {
             (setting_of world.now.script.now (X.meaning world.now.device.now) world.now.limit)
             self.old.outer outer.now ∷ [] }
     {
-        if self.is_quiet_alone(wanted) {
-            self.step_alone_quietly(world, core0, outer, marks);
+        if self.is_bus_at_rest_alone(wanted) {
+            self.step_alone_at_rest(world, core0, outer, marks);
             return;
         }
         let at = self.at;

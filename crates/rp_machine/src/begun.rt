@@ -7,7 +7,7 @@ ghost use Rattle.rp_machine.specs.Answers.{answer_of};
 use crate::look::MachineLook;
 use crate::machine::Machine;
 use lane_look::{Device, Lane};
-use outer_lane::{Seen, World};
+use outer_lane::{SeenOutputs, World};
 use pio_block::Inputs;
 
 /// What the six lanes have begun in a cycle, once their questions are answered.
@@ -18,13 +18,13 @@ pub struct Begun {
     /// What core 1 has begun.
     pub core1: m0_core::Doing,
     /// What the DMA engine has begun.
-    pub dma: dma_engine::Doing,
+    pub dma: dma_engine::BegunTransfer,
     /// What PIO block 0 has begun.
     pub pio0: Option<Inputs>,
     /// What PIO block 1 has begun.
     pub pio1: Option<Inputs>,
     /// What the peripherals have begun.
-    pub outer: Seen,
+    pub outer: SeenOutputs,
 }
 
 /// What a lane of the machine, by its number, begins.

@@ -4,7 +4,7 @@ ghost use Rattle.std.specs.Prelude.{◌≡◌};
 ghost use Rattle.bus_fabric.specs.Masters.{HavePorts};
 ghost use Rattle.sio_block.specs.Launcher.{offers_of};
 ghost use Rattle.rp_machine.specs.Cycle.{asked, pins_of, with_pins, with_offer};
-ghost use Rattle.rp_machine.specs.Quiet.{wants_nothing};
+ghost use Rattle.rp_machine.specs.BusRest.{wants_nothing};
 
 use crate::access::asked_of;
 use crate::begun::Begun;
@@ -61,7 +61,7 @@ impl Machine {
     ghost use Rattle.outer_lane.specs.Setting.{setting_of};
     ghost use Rattle.outer_lane.specs.Step.{marked};
     ghost use Rattle.rp_machine.specs.Deeds.{StoresInSram};
-    ghost use Rattle.rp_machine.specs.Quiet.{is_quiet, quiet_core1, quiet_next};
+    ghost use Rattle.rp_machine.specs.BusRest.{is_bus_at_rest, core1_at_rest, rest_next};
     ghost use Rattle.rp_machine.specs.Cycle.{begun, wanted, cause_in, stop, turns, deeds, with_turns, signalled, pins_of, with_sio, sio_accessed, after_deed, after_launcher, after_core1, stored, ended, after_deeds, next_by, next, mark};
 
     /// The first cause of a master to stop before this cycle.
@@ -293,8 +293,8 @@ impl Machine {
 
     /// No master wants anything, and no access lasts.
     #[inline(always)]
-    fn is_quiet(&self, wants: &[Wanted; 4]) -> bool
-        ensures value { result ≡ is_quiet wants.now self.now }
+    fn is_bus_at_rest(&self, wants: &[Wanted; 4]) -> bool
+        ensures value { result ≡ is_bus_at_rest wants.now self.now }
         ensures four { length wants.now ≡ 4 }
     {
         let [core0, core1, read, write] = wants;
@@ -307,9 +307,9 @@ impl Machine {
 
     /// The turn of the launcher while core 1 sleeps.
     #[inline(always)]
-    #[tactic(auto, unfolding(crate::specs::Quiet::quiet_core1))]
+    #[tactic(auto, unfolding(crate::specs::BusRest::core1_at_rest))]
     pub(crate) fn rest_core1(&mut self)
-        ensures { self.new ≡ quiet_core1 self.old }
+        ensures { self.new ≡ core1_at_rest self.old }
     {
         if self.core1.is_asleep() {
             self.launch();
@@ -318,11 +318,11 @@ impl Machine {
 
     /// One cycle in which nobody wants anything, and no access lasts.
     #[inline(always)]
-    #[tactic(auto, unfolding(crate::specs::Quiet::quiet_next))]
-    fn step_quietly<X: Device>(&mut self, world: &World<'_, X>, begun: &Begun, marks: &mut Marks)
+    #[tactic(auto, unfolding(crate::specs::BusRest::rest_next))]
+    fn step_at_rest<X: Device>(&mut self, world: &World<'_, X>, begun: &Begun, marks: &mut Marks)
         requires number { self.old.cycle < 2 ^ 64 - 1 }
         requires marks { length marks.old < 256 }
-        ensures state { self.new ≡ quiet_next
+        ensures state { self.new ≡ rest_next
             (setting_of world.now.script.now (X.meaning world.now.device.now) world.now.limit)
             begun.now self.old }
         ensures marks { marks.new ≡ marks.old ++ marked
@@ -354,8 +354,8 @@ impl Machine {
             (setting_of world.now.script.now (X.meaning world.now.device.now) world.now.limit)
             self.old.outer begun.now.outer ∷ [] }
     {
-        if self.is_quiet(wants) {
-            self.step_quietly(world, begun, marks);
+        if self.is_bus_at_rest(wants) {
+            self.step_at_rest(world, begun, marks);
             return;
         }
         let at = self.at;

@@ -1,7 +1,7 @@
 //! The laws of the machine, each the contract of a function without arguments.
 
-ghost use Rattle.rp_machine.specs.Law.{RunsFollowEachOther, SramChangesByTheWritesAlone, EffectsComeAfterTheSteps, SioIsKnown};
-ghost use Rattle.rp_machine.specs.Quiet.{QuietCyclesChangeTheLanesAlone};
+ghost use Rattle.rp_machine.specs.Laws.{RunsFollowEachOther, SramChangesByTheWritesAlone, EffectsComeAfterTheSteps, SioIsKnown};
+ghost use Rattle.rp_machine.specs.BusRest.{CyclesAtRestChangeTheLanesAlone};
 
 /// A run of some cycles and then of others is one of all of them: it ends in the same state and has the same events.
 pub fn runs_follow_each_other()
@@ -24,8 +24,8 @@ pub fn effects_come_after_the_steps()
 
 /// A cycle in which nobody wants anything and no access lasts changes the lanes, SIO and the number alone: SRAM, the fabric and
 /// RESETS stay, and each lane steps by what it has begun.
-pub fn quiet_cycles_change_the_lanes_alone()
-    ensures { QuietCyclesChangeTheLanesAlone }
+pub fn cycles_at_rest_change_the_lanes_alone()
+    ensures { CyclesAtRestChangeTheLanesAlone }
 {}
 
 /// In the first state and after each cycle the pads know the levels and enables that SIO puts out, and core 1 whether its

@@ -5,7 +5,7 @@ ghost use Rattle.rp_machine.specs.Registers.{aliased, plain_write};
 
 use crate::machine::Machine;
 use lane_look::Device;
-use outer_lane::{Seen, World};
+use outer_lane::{SeenOutputs, World};
 use register_block::Registers;
 use register_block::resets::{DMA, PIO0, PIO1};
 use rp_base::Request;
@@ -84,7 +84,7 @@ impl Machine {
     pub(crate) fn block_word<X: Device>(
         &self,
         world: &World<'_, X>,
-        seen: &Seen,
+        seen: &SeenOutputs,
         block: Block,
         offset: u16,
     ) -> Option<u32>

@@ -9,7 +9,7 @@ use Rattle.word_bits.specs.Word.{has_bit, bit_number}
 use Rattle.rp_timer.specs.State.{TimerState, low_of}
 use Rattle.word_bits.specs.Word.{minus}
 use Rattle.rp_timer.specs.Step.{is_due, due_of, alarmed}
-use Rattle.rp_timer.specs.Law.{after_rises, passes, GoesOff, AnAlarmGoesOffOnce}
+use Rattle.rp_timer.specs.Laws.{after_rises, passes, GoesOff, AnAlarmGoesOffOnce}
 
 -- ---- bits of sets
 

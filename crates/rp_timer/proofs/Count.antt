@@ -4,7 +4,7 @@ use Rattle.std.proofs.lemmas.Grind.{common_steps}
 use Rattle.std.proofs.lemmas.Bool.Decides.{nat_tests}
 use Rattle.rp_timer.specs.State.{TimerState}
 use Rattle.rp_timer.specs.Step.{is_tick, risen, after_step}
-use Rattle.rp_timer.specs.Law.{after_cycles, TimeCountsMicroseconds}
+use Rattle.rp_timer.specs.Laws.{after_cycles, TimeCountsMicroseconds}
 
 paused-step : (c : ℕ) (s : TimerState) (b : Bool) → (cond b (risen s) s).paused ≡ s.paused
 paused-step c s true = refl

@@ -1,5 +1,5 @@
 pub mod Changes
-pub mod Law
+pub mod Laws
 pub mod State
 pub mod Step
 pub mod Words

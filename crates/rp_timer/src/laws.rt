@@ -1,6 +1,6 @@
 //! The laws of the timer, each the contract of a function without arguments.
 
-ghost use Rattle.rp_timer.specs.Law.{TimeCountsMicroseconds, TheTimeReadsAsOne, ACarryTearsTheRead, AnAlarmGoesOffOnce};
+ghost use Rattle.rp_timer.specs.Laws.{TimeCountsMicroseconds, TheTimeReadsAsOne, ACarryTearsTheRead, AnAlarmGoesOffOnce};
 
 /// A timer that is not paused counts the microseconds that end, of 125 cycles each.
 pub fn time_counts_microseconds()

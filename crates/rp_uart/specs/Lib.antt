@@ -1,6 +1,6 @@
 pub mod Frame
 pub mod Interrupts
-pub mod Law
+pub mod Laws
 pub mod Receiving
 pub mod Sending
 pub mod State

@@ -1,6 +1,6 @@
 //! The laws of frames, each the contract of a function without arguments.
 
-ghost use Rattle.rp_uart.specs.Law.{WhatIsSentIsHeard, AFrameTakesItsTime, TheByteComesBack};
+ghost use Rattle.rp_uart.specs.Laws.{WhatIsSentIsHeard, AFrameTakesItsTime, TheByteComesBack};
 
 /// A receiver that samples each bit of a frame, as a sender with the same parity and number of data bits sends it, hears the
 /// data bits of its byte, and no error.

@@ -8,7 +8,7 @@ use Rattle.std.proofs.lemmas.Bool.Decides.{nat_tests}
 use Rattle.std.proofs.Math.Nat.{div-mul-le_self}
 use Rattle.sio_block.specs.declared.divider.Divider.{Divider}
 use Rattle.sio_block.specs.Divider.{number_of, quotient_of, remainder_of, divider_ended}
-use Rattle.sio_block.specs.Law.{IsTruncated, ResultsAreTruncated, after_cycles, Reads, TakesEight, ADivisionTakesEightCycles}
+use Rattle.sio_block.specs.Laws.{IsTruncated, ResultsAreTruncated, after_cycles, Reads, TakesEight, ADivisionTakesEightCycles}
 
 -- ---- results
 

@@ -12,7 +12,7 @@ use Rattle.sio_block.specs.Locks.{is_lock, lock_number, lock_word, lock_read, lo
 use Rattle.sio_block.specs.State.{SioState}
 use Rattle.sio_block.specs.Words.{word_of}
 use Rattle.sio_block.specs.Changes.{effect_of}
-use Rattle.sio_block.specs.Law.{lock_offset, ALockHasOneOwner}
+use Rattle.sio_block.specs.Laws.{lock_offset, ALockHasOneOwner}
 
 number_of_offset : (n : ℕ) → lock_number (lock_offset n) ≡ n
 number_of_offset n = omega arith

@@ -2,7 +2,7 @@ pub mod Changes
 pub mod Cycle
 pub mod Divider
 pub mod Launcher
-pub mod Law
+pub mod Laws
 pub mod Locks
 pub mod Mailbox
 pub mod Pins

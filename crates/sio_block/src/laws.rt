@@ -1,6 +1,6 @@
 //! The laws of the block, each the contract of a function without arguments.
 
-ghost use Rattle.sio_block.specs.Law.{ALockHasOneOwner, ResultsAreTruncated, ADivisionTakesEightCycles, SixWordsStartCore1};
+ghost use Rattle.sio_block.specs.Laws.{ALockHasOneOwner, ResultsAreTruncated, ADivisionTakesEightCycles, SixWordsStartCore1};
 
 /// Of two cores that read a free spinlock in one cycle the first gets it, and the second finds it taken until it is written.
 pub fn a_lock_has_one_owner()

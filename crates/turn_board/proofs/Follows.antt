@@ -84,8 +84,8 @@ unfinished_nowhere b g i s at n due = dite (dec_le (finishes b n) 0) (λ none. o
 
 -- a number that a holding seat has is among the last six
 pub held_last : (b : BoardState) → Good b → (i : ℕ) (s : SeatState) → get_elem? b.seats i ≡ some s → s.holding ≡ true → (n : ℕ) → IsUnfinished s n → (n < b.opened) × (b.opened ≤ n + 6)
-held_last b g i s at holds n due = let k = g.each_seat i s at in let held = k.holding_due holds in let e : held.0 ≡ n = k.one_unfinished held.0 n held.1 due in
-    let low = held.2 in let top = k.seen_opened in
+held_last b g i s at holds n due = let k = g.each_seat i s at in let in_hand = k.holding_due holds in let e : in_hand.0 ≡ n = k.one_unfinished in_hand.0 n in_hand.1 due in
+    let low = in_hand.2 in let top = k.seen_opened in
     (omega arith, dite (dec_le b.opened (n + 6)) (λ h. h) (λ h. absurd (omega (arith, g.earlier_finished n (omega arith), unfinished_nowhere b g i s at n due))))
 
 pub lanes_differ : LanesDiffer
@@ -96,6 +96,6 @@ lanes_differ b g i j s t apart at there holds holds' m n due due' same =
     omega (arith, not_twice b g i j s t (λ h. apart (sym h)) at there m, ap (λ x. times x t.drawn) e)
 
 pub none_holding : NoneHolding
-none_holding b g known i s at holds = let k = g.each_seat i s at in let held = k.holding_due holds in let p = held_last b g i s at holds held.0 held.1 in
+none_holding b g known i s at holds = let k = g.each_seat i s at in let in_hand = k.holding_due holds in let p = held_last b g i s at holds in_hand.0 in_hand.1 in
     let p₀ = p.0 in let full : b.done ≡ b.opened = omega (arith, g.known_done, done_opened b g) in
-    omega (arith, all_finished b g full held.0 p₀, unfinished_nowhere b g i s at held.0 held.1)
+    omega (arith, all_finished b g full in_hand.0 p₀, unfinished_nowhere b g i s at in_hand.0 in_hand.1)

@@ -80,7 +80,7 @@ good_saw opened closed s k = record {
 }
 
 good_did : (opened n : ℕ) (s : SeatState) → GoodSeat opened s → IsUnfinished s n → s.holding ≡ true → GoodSeat opened (did n s)
-good_did opened n s k due holds = let held = k.holding_due holds in let e : held.0 ≡ n = k.one_unfinished held.0 n held.1 due in let low = held.2 in
+good_did opened n s k due holds = let in_hand = k.holding_due holds in let e : in_hand.0 ≡ n = k.one_unfinished in_hand.0 n in_hand.1 due in let low = in_hand.2 in
     let d₀ = due.0 in let d₁ = due.1 in
     let before : (m : ℕ) → IsUnfinished (did n s) m → IsUnfinished s m = λ m x. let x₁ = x.1 in (x.0, omega (arith, times-snoc m s.finished n)) in record {
       finished_drawn = λ m. dite (ℕ_discrete n m) (λ same. omega (arith, times-snoc m s.finished n, at_same n m same, ap (λ y. times y s.finished) same, ap (λ y. times y s.drawn) same))

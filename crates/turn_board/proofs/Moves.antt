@@ -125,8 +125,8 @@ module _ {J R W : Type 0} (job_fits : W → ℕ → J → Type 0) (found_fits : 
 
   -- a step of a seat, from what holds at the table of a board
   seat_goes : (is : Sat J R W → ℕ → Event → Type 0) (i : ℕ) (f : ℕ → ℕ) (play : Sat J R W → ℕ → Sat J R W → Type 0) (P : Sat J R W → Type 0)
-      → ((b : BoardState) → Good b → length b.seats ≤ 9 → (homes : Homes) → length homes ≡ 12 → Lanes b homes → (j : ℕ) (s : SeatState) → get_elem? b.seats j ≡ some s → (held : Rest) → P (seat_view key s, held)
-      → Goes b is i f play (shown b homes) (suc j) (seat_view key s, held))
+      → ((b : BoardState) → Good b → length b.seats ≤ 9 → (homes : Homes) → length homes ≡ 12 → Lanes b homes → (j : ℕ) (s : SeatState) → get_elem? b.seats j ≡ some s → (in_hand : Rest) → P (seat_view key s, in_hand)
+      → Goes b is i f play (shown b homes) (suc j) (seat_view key s, in_hand))
       → (s : Table) (r : Rule s) → length s.homes ≡ 12 → (id : ℕ) (m : Sat J R W) → get_elem? s.views id ≡ some m.0 → m.0.leads ≡ false → P m → Goes r.board is i f play s id m
   seat_goes is i f play P here s r wide id m at follows p =
       let t = seat_at r.board id m.0 (ap (λ (vs : List (View W)). get_elem? vs id) (sym r.views) ∙ at) follows in
@@ -136,7 +136,7 @@ module _ {J R W : Type 0} (job_fits : W → ℕ → J → Type 0) (found_fits : 
       (here r.board r.good r.few s.homes wide r.lanes t.0 t.1 t.3 m.1 (subst (λ (v : View W). P (v, m.1)) t.4 p))))
 
   master_goes : (is : Sat J R W → ℕ → Event → Type 0) (i : ℕ) (f : ℕ → ℕ) (play : Sat J R W → ℕ → Sat J R W → Type 0) (P : Sat J R W → Type 0)
-      → ((b : BoardState) → Good b → length b.seats ≤ 9 → (homes : Homes) → length homes ≡ 12 → Lanes b homes → (held : Rest) → P (lead b, held) → Goes b is i f play (shown b homes) 0 (lead b, held))
+      → ((b : BoardState) → Good b → length b.seats ≤ 9 → (homes : Homes) → length homes ≡ 12 → Lanes b homes → (in_hand : Rest) → P (lead b, in_hand) → Goes b is i f play (shown b homes) 0 (lead b, in_hand))
       → (s : Table) (r : Rule s) → length s.homes ≡ 12 → (id : ℕ) (m : Sat J R W) → get_elem? s.views id ≡ some m.0 → m.0.leads ≡ true → P m → Goes r.board is i f play s id m
   master_goes is i f play P here s r wide id m at leads p =
       let t = master_at r.board id m.0 (ap (λ (vs : List (View W)). get_elem? vs id) (sym r.views) ∙ at) leads in
@@ -172,7 +172,7 @@ module _ {J R W : Type 0} (job_fits : W → ℕ → J → Type 0) (found_fits : 
   pub draw_event : (n id : ℕ) (m : Sat J R W) → n ≡ 12 → m.0.leads ≡ false → IsFree m.0.worker → Steps n id m (λ _. OfSeat Draw) 0 (λ y. (y + 1) % 2 ^ 64) (drawn (step n 0 1 0 none))
   unfolding reseats
   draw_event n id m twelve follows free s r wide at _ = seat_goes (λ _. OfSeat Draw) 0 (λ y. (y + 1) % 2 ^ 64) (drawn (step n 0 1 0 none)) (λ x. (y : ℕ) → ¬ IsUnfinished x.0.worker y)
-      (λ b g few homes _ lanes j u there held none. let more = (tickets_bounded b g).1 in let top = g.opened_fits in let next : (b.ticket + 1) % 2 ^ 64 ≡ b.ticket + 1 = omega arith in (
+      (λ b g few homes _ lanes j u there in_hand none. let more = (tickets_bounded b g).1 in let top = g.opened_fits in let next : (b.ticket + 1) % 2 ^ 64 ≡ b.ticket + 1 = omega arith in (
         Draw j,
         (j, refl, refl),
         (u, there, none),
@@ -189,10 +189,10 @@ module _ {J R W : Type 0} (job_fits : W → ℕ → J → Type 0) (found_fits : 
   draws n id m twelve follows free = allowed n id m (λ _. OfSeat Draw) 0 (λ y. (y + 1) % 2 ^ 64) (drawn (step n 0 1 0 none)) (draw_event n id m twelve follows free)
 
   -- the seat j begins to hold the lane of its number, and takes the slots
-  gains : (n : ℕ) (b : BoardState) → Good b → length b.seats ≤ 9 → (homes : Homes) → Lanes b homes → (j : ℕ) (u : SeatState) → get_elem? b.seats j ≡ some u → (held : Rest)
-      → u.holding ≡ false → is_due u.drawn u.finished b.opened ≡ true → Goes b (λ _. OfSeat SeeOpen) 1 (λ y. y) (looked job_fits (step n 1 0 0 none)) (shown b homes) (suc j) (seat_view key u, held)
+  gains : (n : ℕ) (b : BoardState) → Good b → length b.seats ≤ 9 → (homes : Homes) → Lanes b homes → (j : ℕ) (u : SeatState) → get_elem? b.seats j ≡ some u → (in_hand : Rest)
+      → u.holding ≡ false → is_due u.drawn u.finished b.opened ≡ true → Goes b (λ _. OfSeat SeeOpen) 1 (λ y. y) (looked job_fits (step n 1 0 0 none)) (shown b homes) (suc j) (seat_view key u, in_hand)
   unfolding reseats
-  gains n b g few homes lanes j u there held unheld due =
+  gains n b g few homes lanes j u there in_hand unheld due =
       let d = due_below u.drawn u.finished b.opened due in let x = d.0 in let mine : IsUnfinished u x = (d.1, d.2) in let low = d.3 in
       let t : SeatState = saw b.opened b.closed u in let c = reseat b b.ticket b.done j t in
       let k = lanes (x % 6) (omega arith) (lane_home b g j u there unheld x mine low) in
@@ -223,17 +223,17 @@ module _ {J R W : Type 0} (job_fits : W → ℕ → J → Type 0) (found_fits : 
           g.opened_fits,
           refl,
           (b, j, g, (u, there), there, change_here (saw b.opened b.closed) b.seats j u there, refl),
-          subst (λ z. Gains (job_fits key) u z held ((2 * (x % 6), Job job.0) ∷ (2 * (x % 6) + 1, Empty) ∷ held)) (sym (λ q. not (unheld q) && holds q))
-              (λ y unfinished. let e : x ≡ y = (g.each_seat j u there).one_unfinished x y mine unfinished in (job.0, ap (λ (z : ℕ). (2 * (z % 6), Job job.0) ∷ (2 * (z % 6) + 1, Empty) ∷ held) e, subst (λ (z : ℕ). job_fits key (z % 6) job.0) e fits)),
+          subst (λ z. Gains (job_fits key) u z in_hand ((2 * (x % 6), Job job.0) ∷ (2 * (x % 6) + 1, Empty) ∷ in_hand)) (sym (λ q. not (unheld q) && holds q))
+              (λ y unfinished. let e : x ≡ y = (g.each_seat j u there).one_unfinished x y mine unfinished in (job.0, ap (λ (z : ℕ). (2 * (z % 6), Job job.0) ∷ (2 * (z % 6) + 1, Empty) ∷ in_hand) e, subst (λ (z : ℕ). job_fits key (z % 6) job.0) e fits)),
           (g.each_seat j u there).seen_opened,
         ),
       )
 
   -- the slots stay where they are
-  looks : (n : ℕ) (b : BoardState) → Good b → length b.seats ≤ 9 → (homes : Homes) → Lanes b homes → (j : ℕ) (u : SeatState) → get_elem? b.seats j ≡ some u → (held : Rest)
-      → (not u.holding && (u.holding || is_due u.drawn u.finished b.opened)) ≡ false → Goes b (λ _. OfSeat SeeOpen) 1 (λ y. y) (looked job_fits (step n 1 0 0 none)) (shown b homes) (suc j) (seat_view key u, held)
+  looks : (n : ℕ) (b : BoardState) → Good b → length b.seats ≤ 9 → (homes : Homes) → Lanes b homes → (j : ℕ) (u : SeatState) → get_elem? b.seats j ≡ some u → (in_hand : Rest)
+      → (not u.holding && (u.holding || is_due u.drawn u.finished b.opened)) ≡ false → Goes b (λ _. OfSeat SeeOpen) 1 (λ y. y) (looked job_fits (step n 1 0 0 none)) (shown b homes) (suc j) (seat_view key u, in_hand)
   unfolding reseats
-  looks n b g few homes lanes j u there held stays = let t : SeatState = saw b.opened b.closed u in (
+  looks n b g few homes lanes j u there in_hand stays = let t : SeatState = saw b.opened b.closed u in (
     SeeOpen j,
     (j, refl, refl),
     (u, there),
@@ -250,15 +250,15 @@ module _ {J R W : Type 0} (job_fits : W → ℕ → J → Type 0) (found_fits : 
       g.opened_fits,
       refl,
       (b, j, g, (u, there), there, change_here (saw b.opened b.closed) b.seats j u there, refl),
-      subst (λ z. Gains (job_fits key) u z held held) (sym stays) refl,
+      subst (λ z. Gains (job_fits key) u z in_hand in_hand) (sym stays) refl,
       (g.each_seat j u there).seen_opened,
     ),
   )
 
   pub see_event : (n id : ℕ) (m : Sat J R W) → n ≡ 12 → m.0.leads ≡ false → Steps n id m (λ _. OfSeat SeeOpen) 1 (λ y. y) (looked job_fits (step n 1 0 0 none))
   see_event n id m twelve follows s r wide at _ = seat_goes (λ _. OfSeat SeeOpen) 1 (λ y. y) (looked job_fits (step n 1 0 0 none)) (λ v. Unit {0})
-      (λ b g few homes _ lanes j u there held _. which u.holding (is_due u.drawn u.finished b.opened) (Goes b (λ _. OfSeat SeeOpen) 1 (λ y. y) (looked job_fits (step n 1 0 0 none)) (shown b homes) (suc j) (seat_view key u, held))
-      (gains n b g few homes lanes j u there held) (looks n b g few homes lanes j u there held)) s r (wide ∙ twelve) id m at follows tt
+      (λ b g few homes _ lanes j u there in_hand _. which u.holding (is_due u.drawn u.finished b.opened) (Goes b (λ _. OfSeat SeeOpen) 1 (λ y. y) (looked job_fits (step n 1 0 0 none)) (shown b homes) (suc j) (seat_view key u, in_hand))
+      (gains n b g few homes lanes j u there in_hand) (looks n b g few homes lanes j u there in_hand)) s r (wide ∙ twelve) id m at follows tt
 
   pub sees : (n id : ℕ) (m : Sat J R W) → n ≡ 12 → m.0.leads ≡ false → Allows Rule n id m 1 (λ y. y) (looked job_fits (step n 1 0 0 none) m)
   sees n id m twelve follows = allowed n id m (λ _. OfSeat SeeOpen) 1 (λ y. y) (looked job_fits (step n 1 0 0 none)) (see_event n id m twelve follows)
@@ -269,7 +269,7 @@ module _ {J R W : Type 0} (job_fits : W → ℕ → J → Type 0) (found_fits : 
   pub finish_event : (n id : ℕ) (m : Sat J R W) → n ≡ 12 → m.0.leads ≡ false → Brings job_fits found_fits m → Steps n id m Finishes 2 (λ y. (y + 1) % 2 ^ 64) (finished (step n 2 1 0 none))
   unfolding reseats
   finish_event n id m twelve follows brings s r wide at _ = seat_goes Finishes 2 (λ y. (y + 1) % 2 ^ 64) (finished (step n 2 1 0 none)) (Brings job_fits found_fits)
-      (λ b g few homes deep lanes j u there held p. let k = g.each_seat j u there in let due = k.holding_due p.0 in let x = due.0 in let lane = x % 6 in
+      (λ b g few homes deep lanes j u there in_hand p. let k = g.each_seat j u there in let due = k.holding_due p.0 in let x = due.0 in let lane = x % 6 in
       let first = p.1 in let result = p.2 in let t : SeatState = did x u in let c = reseat b b.ticket (b.done + 1) j t in
       let last = held_last b g j u there p.0 x due.1 in
       let less = done_opened b g in let top = g.opened_fits in let next : (b.done + 1) % 2 ^ 64 ≡ b.done + 1 = omega arith in
@@ -315,7 +315,7 @@ module _ {J R W : Type 0} (job_fits : W → ℕ → J → Type 0) (found_fits : 
       → Steps n id m (λ _. OfMaster Open) 1 (λ y. (y + 6) % 2 ^ 64) (opened (step n 1 6 0 none))
   open_event n id m twelve leads known unclosed fits brings s r wide at _ = master_goes (λ _. OfMaster Open) 1 (λ y. (y + 6) % 2 ^ 64) (opened (step n 1 6 0 none))
       (λ x. (x.0.master.known ≡ x.0.master.opened) × (x.0.master.closed ≡ false) × (x.0.master.opened + 6 ≤ 2 ^ 62) × BringsJobs job_fits x)
-      (λ b g few homes deep lanes held p. let top = p.2 in let q = p.3 in let c : BoardState = record b { opened = b.opened + 6 } in
+      (λ b g few homes deep lanes in_hand p. let top = p.2 in let q = p.3 in let c : BoardState = record b { opened = b.opened + 6 } in
       let slots : List (Slot J R) = laden q.0 q.1 q.2 q.3 q.4 q.5 in
       let home : AllHome (put_all homes 0 slots) 0 slots = put_home homes 0 slots (omega arith) in
       let homes' : Homes = put_all homes 0 slots in
@@ -359,7 +359,7 @@ module _ {J R W : Type 0} (job_fits : W → ℕ → J → Type 0) (found_fits : 
 
   pub close_event : (n id : ℕ) (m : Sat J R W) → n ≡ 12 → m.0.leads ≡ true → Steps n id m (λ _. OfMaster Close) 1 (λ y. bit_or y (2 ^ 63)) (closed (step n 1 (2 ^ 63) 0 none))
   close_event n id m twelve leads s r wide at _ = master_goes (λ _. OfMaster Close) 1 (λ y. bit_or y (2 ^ 63)) (closed (step n 1 (2 ^ 63) 0 none)) (λ v. Unit {0})
-      (λ b g few homes _ lanes held p. let top = g.opened_fits in (
+      (λ b g few homes _ lanes in_hand p. let top = g.opened_fits in (
         Close,
         (refl, refl),
         tt,
@@ -462,7 +462,7 @@ module _ {J R W : Type 0} (job_fits : W → ℕ → J → Type 0) (found_fits : 
 
   pub poll_event : (n id : ℕ) (m : Sat J R W) → n ≡ 12 → m.0.leads ≡ true → ¬ MasterHolds m.0.master → m.1 ≡ [] → Steps n id m (λ _. OfMaster SeeDone) 2 (λ y. y) (polled job_fits found_fits (step n 2 0 0 none))
   poll_event n id m twelve leads free bare s r wide at _ = master_goes (λ _. OfMaster SeeDone) 2 (λ y. y) (polled job_fits found_fits (step n 2 0 0 none)) (λ x. (¬ MasterHolds x.0.master) × (x.1 ≡ []))
-      (λ b g few homes _ lanes held p. subst (λ (h : Rest). Goes b (λ _. OfMaster SeeDone) 2 (λ y. y) (polled job_fits found_fits (step n 2 0 0 none)) (shown b homes) 0 (lead b, h)) (sym p.1)
+      (λ b g few homes _ lanes in_hand p. subst (λ (h : Rest). Goes b (λ _. OfMaster SeeDone) 2 (λ y. y) (polled job_fits found_fits (step n 2 0 0 none)) (shown b homes) 0 (lead b, h)) (sym p.1)
       (dite (ℕ_discrete b.done b.opened) (gathers n b g few homes lanes p.0) (waits n b g few homes lanes)))
       s r (wide ∙ twelve) id m at leads (free, bare)
 

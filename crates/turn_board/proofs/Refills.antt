@@ -14,15 +14,15 @@ Rest J R = List (ℕ × Slot J R)
 
 -- the lane's second slot is the next
 abbrev pub Next : {J R : Type 0} → ℕ → Slot J R → Rest J R → Slot J R → Type 0
-Next lane x held y = turned ((2 * lane, x) ∷ rest held) ≡ (2 * lane + 1, y) ∷ rest (turned ((2 * lane, x) ∷ rest held))
+Next lane x in_hand y = turned ((2 * lane, x) ∷ rest in_hand) ≡ (2 * lane + 1, y) ∷ rest (turned ((2 * lane, x) ∷ rest in_hand))
 
 value_of : {J R : Type 0} → Rest J R → Slot J R
 value_of l = (get_or l 0 (0, Empty)).1
 
 -- what is found in it
-same_value : {J R : Type 0} (lane : ℕ) (x y z : Slot J R) (held : Rest J R) → Next lane x held y → Next lane x held z → y ≡ z
+same_value : {J R : Type 0} (lane : ℕ) (x y z : Slot J R) (in_hand : Rest J R) → Next lane x in_hand y → Next lane x in_hand z → y ≡ z
 unfolding value_of
-same_value lane x y z held a b = ap value_of (sym a ∙ b)
+same_value lane x y z in_hand a b = ap value_of (sym a ∙ b)
 
 module _ {J R : Type 0} (s : Six (Slot J R)) (x : Six (Slot J R)) (f0 f1 f2 f3 f4 f5 : Slot J R) where
   abbrev pub Held0 : Rest J R → Type 0
@@ -106,5 +106,5 @@ pub brings_jobs : {J R W : Type 0} (fits : W → ℕ → J → Type 0) (m n : Sa
 brings_jobs {J} {R} {W} fits m n jobs x e are made = subst (λ (y : Sat J R W). BringsJobs fits y) (sym (e ∙ (λ q. (m.0, filled (are q)))))
     (jobs.l0, jobs.l1, jobs.l2, jobs.l3, jobs.l4, jobs.l5, refl, made.0, made.1, made.2, made.3, made.4, made.5)
 
-pub collected : {J R : Type 0} (job_fits : ℕ → J → Type 0) (found_fits : ℕ → R → Type 0) (done : ℕ) (held : Rest J R) → Collects job_fits found_fits done held → (s : Six (Slot J R)) × HoldsAll held s
-collected job_fits found_fits done held k = (record { l0 = k.second0; l1 = k.second1; l2 = k.second2; l3 = k.second3; l4 = k.second4; l5 = k.second5 }, (k.first0, k.first1, k.first2, k.first3, k.first4, k.first5, k.are))
+pub collected : {J R : Type 0} (job_fits : ℕ → J → Type 0) (found_fits : ℕ → R → Type 0) (done : ℕ) (in_hand : Rest J R) → Collects job_fits found_fits done in_hand → (s : Six (Slot J R)) × HoldsAll in_hand s
+collected job_fits found_fits done in_hand k = (record { l0 = k.second0; l1 = k.second1; l2 = k.second2; l3 = k.second3; l4 = k.second4; l5 = k.second5 }, (k.first0, k.first1, k.first2, k.first3, k.first4, k.first5, k.are))

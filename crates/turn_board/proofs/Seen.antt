@@ -54,13 +54,13 @@ abbrev pub Chosen : ℕ → ℕ → See → Type 0
 Chosen r number result = ((number < r % 2 ^ 63) × (result ≡ Open)) ⊎ ((r % 2 ^ 63 ≤ number) × (2 ^ 63 ≤ r) × (result ≡ Closed)) ⊎ ((r % 2 ^ 63 ≤ number) × (r < 2 ^ 63) × (result ≡ NotYet (r % 2 ^ 63)))
 
 module _ {J R W : Type 0} (job_fits : W → ℕ → J → Type 0) (found_fits : W → ℕ → R → Type 0) where
-  saw_seat : (m : Sat J R W) → IsSeat job_fits found_fits m → (opened : ℕ) (closed : Bool) (held : List (ℕ × Slot J R)) → One m.0.worker
-      → Gains (job_fits m.0.made_for) m.0.worker (not m.0.worker.holding && (m.0.worker.holding || is_due m.0.worker.drawn m.0.worker.finished opened)) m.1 held
-      → IsSeat job_fits found_fits (seat_view m.0.made_for (saw opened closed m.0.worker), held)
-  saw_seat m k opened closed held one gains = let s : SeatState = m.0.worker in let d : Bool = is_due s.drawn s.finished opened in
-      let G : Bool → Type 0 = λ z. Gains (job_fits m.0.made_for) s z m.1 held in
-      three s.holding d (IsSeat job_fits found_fits (seat_view m.0.made_for (saw opened closed s), held))
-      (λ h. let same : held ≡ m.1 = subst G (λ q. not (h q) && (h q || d)) gains in let t = k.carries h in record {
+  saw_seat : (m : Sat J R W) → IsSeat job_fits found_fits m → (opened : ℕ) (closed : Bool) (in_hand : List (ℕ × Slot J R)) → One m.0.worker
+      → Gains (job_fits m.0.made_for) m.0.worker (not m.0.worker.holding && (m.0.worker.holding || is_due m.0.worker.drawn m.0.worker.finished opened)) m.1 in_hand
+      → IsSeat job_fits found_fits (seat_view m.0.made_for (saw opened closed m.0.worker), in_hand)
+  saw_seat m k opened closed in_hand one gains = let s : SeatState = m.0.worker in let d : Bool = is_due s.drawn s.finished opened in
+      let G : Bool → Type 0 = λ z. Gains (job_fits m.0.made_for) s z m.1 in_hand in
+      three s.holding d (IsSeat job_fits found_fits (seat_view m.0.made_for (saw opened closed s), in_hand))
+      (λ h. let same : in_hand ≡ m.1 = subst G (λ q. not (h q) && (h q || d)) gains in let t = k.carries h in record {
         follows = refl;
         due = λ _. k.due h;
         bare = λ no. absurd (false≢true (sym no ∙ (λ q. h q || d)));
@@ -80,7 +80,7 @@ module _ {J R W : Type 0} (job_fits : W → ℕ → J → Type 0) (found_fits : 
           ),
         );
       })
-      (λ h e. let same : held ≡ m.1 = subst G (λ q. not (h q) && (h q || e q)) gains in let idle : (s.holding || d) ≡ false = (λ q. h q || e q) in record {
+      (λ h e. let same : in_hand ≡ m.1 = subst G (λ q. not (h q) && (h q || e q)) gains in let idle : (s.holding || d) ≡ false = (λ q. h q || e q) in record {
         follows = refl;
         due = λ yes. absurd (false≢true (sym idle ∙ yes));
         bare = λ _. same ∙ k.bare h;
@@ -95,35 +95,35 @@ module _ {J R W : Type 0} (job_fits : W → ℕ → J → Type 0) (found_fits : 
 
   -- the answers, for the view w after the look
   abbrev After : Sat J R W → ℕ → Bool → List (ℕ × Slot J R) → Sat J R W
-  After m opened closed held = (seat_view m.0.made_for (saw opened closed m.0.worker), held)
+  After m opened closed in_hand = (seat_view m.0.made_for (saw opened closed m.0.worker), in_hand)
 
-  saw_open : (z : TableId) (m : Sat J R W) → IsSeat job_fits found_fits m → (opened number : ℕ) (closed : Bool) (held : List (ℕ × Slot J R)) → IsUnfinished m.0.worker number → number < opened
-      → Gains (job_fits m.0.made_for) m.0.worker (not m.0.worker.holding && (m.0.worker.holding || is_due m.0.worker.drawn m.0.worker.finished opened)) m.1 held
-      → Answers job_fits number (seat_shown z m) (seat_shown z (After m opened closed held)) Open
-  saw_open z m k opened number closed held mine low gains = let s : SeatState = m.0.worker in let e = due_yes s.drawn s.finished opened number mine.0 mine.1 low in
-      let G : Bool → Type 0 = λ x. Gains (job_fits m.0.made_for) s x m.1 held in
-      two s.holding (Answers job_fits number (seat_shown z m) (seat_shown z (After m opened closed held)) Open)
-      (λ h. let same : held ≡ m.1 = subst G (λ q. not (h q) && (h q || is_due s.drawn s.finished opened)) gains in (
+  saw_open : (z : TableId) (m : Sat J R W) → IsSeat job_fits found_fits m → (opened number : ℕ) (closed : Bool) (in_hand : List (ℕ × Slot J R)) → IsUnfinished m.0.worker number → number < opened
+      → Gains (job_fits m.0.made_for) m.0.worker (not m.0.worker.holding && (m.0.worker.holding || is_due m.0.worker.drawn m.0.worker.finished opened)) m.1 in_hand
+      → Answers job_fits number (seat_shown z m) (seat_shown z (After m opened closed in_hand)) Open
+  saw_open z m k opened number closed in_hand mine low gains = let s : SeatState = m.0.worker in let e = due_yes s.drawn s.finished opened number mine.0 mine.1 low in
+      let G : Bool → Type 0 = λ x. Gains (job_fits m.0.made_for) s x m.1 in_hand in
+      two s.holding (Answers job_fits number (seat_shown z m) (seat_shown z (After m opened closed in_hand)) Open)
+      (λ h. let same : in_hand ≡ m.1 = subst G (λ q. not (h q) && (h q || is_due s.drawn s.finished opened)) gains in (
         low,
         (λ q. h q || is_due s.drawn s.finished opened),
-        subst (λ x. Takes (job_fits m.0.made_for (number % 6)) x (seat_shown z m) (seat_shown z (After m opened closed held))) (sym h) (ap job_in same, ap found_in same),
+        subst (λ x. Takes (job_fits m.0.made_for (number % 6)) x (seat_shown z m) (seat_shown z (After m opened closed in_hand))) (sym h) (ap job_in same, ap found_in same),
       ))
       (λ h. let t = (let took : G true = subst G (λ q. not (h q) && (h q || e q)) gains in took number mine) in (
         low,
         (λ q. h q || e q),
-        subst (λ x. Takes (job_fits m.0.made_for (number % 6)) x (seat_shown z m) (seat_shown z (After m opened closed held))) (sym h) (t.0, ap job_in t.1, ap found_in t.1, t.2),
+        subst (λ x. Takes (job_fits m.0.made_for (number % 6)) x (seat_shown z m) (seat_shown z (After m opened closed in_hand))) (sym h) (t.0, ap job_in t.1, ap found_in t.1, t.2),
       ))
 
   -- nothing changes but what the seat has seen
-  saw_nothing : (z : TableId) (m : Sat J R W) (opened number : ℕ) (closed : Bool) (held : List (ℕ × Slot J R)) → One m.0.worker → IsUnfinished m.0.worker number → opened ≤ number
-      → Gains (job_fits m.0.made_for) m.0.worker (not m.0.worker.holding && (m.0.worker.holding || is_due m.0.worker.drawn m.0.worker.finished opened)) m.1 held
-      → ((m.0.worker.holding || is_due m.0.worker.drawn m.0.worker.finished opened) ≡ m.0.worker.holding) × SlotsStay (seat_shown z m) (seat_shown z (After m opened closed held))
-  saw_nothing z m opened number closed held one mine high gains = let s : SeatState = m.0.worker in let d : Bool = is_due s.drawn s.finished opened in
-      let G : Bool → Type 0 = λ x. Gains (job_fits m.0.made_for) s x m.1 held in
-      three s.holding d (((s.holding || d) ≡ s.holding) × SlotsStay (seat_shown z m) (seat_shown z (After m opened closed held)))
-      (λ h. let same : held ≡ m.1 = subst G (λ q. not (h q) && (h q || d)) gains in ((λ q. h q || d) ∙ sym h, (ap job_in same, ap found_in same)))
+  saw_nothing : (z : TableId) (m : Sat J R W) (opened number : ℕ) (closed : Bool) (in_hand : List (ℕ × Slot J R)) → One m.0.worker → IsUnfinished m.0.worker number → opened ≤ number
+      → Gains (job_fits m.0.made_for) m.0.worker (not m.0.worker.holding && (m.0.worker.holding || is_due m.0.worker.drawn m.0.worker.finished opened)) m.1 in_hand
+      → ((m.0.worker.holding || is_due m.0.worker.drawn m.0.worker.finished opened) ≡ m.0.worker.holding) × SlotsStay (seat_shown z m) (seat_shown z (After m opened closed in_hand))
+  saw_nothing z m opened number closed in_hand one mine high gains = let s : SeatState = m.0.worker in let d : Bool = is_due s.drawn s.finished opened in
+      let G : Bool → Type 0 = λ x. Gains (job_fits m.0.made_for) s x m.1 in_hand in
+      three s.holding d (((s.holding || d) ≡ s.holding) × SlotsStay (seat_shown z m) (seat_shown z (After m opened closed in_hand)))
+      (λ h. let same : in_hand ≡ m.1 = subst G (λ q. not (h q) && (h q || d)) gains in ((λ q. h q || d) ∙ sym h, (ap job_in same, ap found_in same)))
       (λ h e. let x = due_below s.drawn s.finished opened e in let same : x.0 ≡ number = one x.0 number (x.1, x.2) mine in let low = x.3 in absurd (omega arith))
-      (λ h e. let same : held ≡ m.1 = subst G (λ q. not (h q) && (h q || e q)) gains in ((λ q. h q || e q) ∙ sym h, (ap job_in same, ap found_in same)))
+      (λ h e. let same : in_hand ≡ m.1 = subst G (λ q. not (h q) && (h q || e q)) gains in ((λ q. h q || e q) ∙ sym h, (ap job_in same, ap found_in same)))
 
   answers_open : (z : TableId) (m n : Sat J R W) (r number : ℕ) → IsSeat job_fits found_fits m → Looked job_fits m r n → IsUnfinished m.0.worker number → number < r % 2 ^ 63
       → Answers job_fits number (seat_shown z m) (seat_shown z n) Open

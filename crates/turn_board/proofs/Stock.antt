@@ -66,8 +66,8 @@ one_last b m n p q same = let p₀ = p.0 in let p₁ = p.1 in let q₀ = q.0 in 
 
 -- where all open numbers are finished no seat is holding
 pub none_holding_done : (b : BoardState) → Good b → b.done ≡ b.opened → (i : ℕ) (s : SeatState) → get_elem? b.seats i ≡ some s → ¬ (s.holding ≡ true)
-none_holding_done b g full i s at holds = let k = g.each_seat i s at in let held = k.holding_due holds in let p = held_last b g i s at holds held.0 held.1 in
-    let p₀ = p.0 in omega (arith, all_finished b g full held.0 p₀, unfinished_nowhere b g i s at held.0 held.1)
+none_holding_done b g full i s at holds = let k = g.each_seat i s at in let in_hand = k.holding_due holds in let p = held_last b g i s at holds in_hand.0 in_hand.1 in
+    let p₀ = p.0 in omega (arith, all_finished b g full in_hand.0 p₀, unfinished_nowhere b g i s at in_hand.0 in_hand.1)
 
 -- an open number that is not finished is among the last six
 pub unfinished_last : (b : BoardState) → Good b → (n : ℕ) → n < b.opened → finishes b n ≡ 0 → IsLast b n

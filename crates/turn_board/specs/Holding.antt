@@ -8,7 +8,7 @@ use Rattle.turn_board.specs.declared.answers.Six.{Six}
 module _ {J R : Type 0} where
   -- the master holds all slots, and the second ones have these values
   abbrev pub HoldsAll : List (ℕ × Slot J R) → Six (Slot J R) → Type 0
-  HoldsAll held s = (f0 f1 f2 f3 f4 f5 : Slot J R) × (held ≡ numbered 0 (f0 ∷ s.l0 ∷ f1 ∷ s.l1 ∷ f2 ∷ s.l2 ∷ f3 ∷ s.l3 ∷ f4 ∷ s.l4 ∷ f5 ∷ s.l5 ∷ []))
+  HoldsAll in_hand s = (f0 f1 f2 f3 f4 f5 : Slot J R) × (in_hand ≡ numbered 0 (f0 ∷ s.l0 ∷ f1 ∷ s.l1 ∷ f2 ∷ s.l2 ∷ f3 ∷ s.l3 ∷ f4 ∷ s.l4 ∷ f5 ∷ s.l5 ∷ []))
 
   -- the twelve slots with these values in the first ones
   abbrev pub filled : Six (Slot J R) → List (ℕ × Slot J R)

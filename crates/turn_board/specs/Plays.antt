@@ -60,11 +60,11 @@ module _ {J R : Type 0} where
 
   -- a seat that begins to hold its lane finds a job in the first slot and the second empty
   abbrev pub Gains : (ℕ → J → Type 0) → SeatState → Bool → List (ℕ × Slot J R) → List (ℕ × Slot J R) → Type 0
-  Gains fits s false held held' = held' ≡ held
-  Gains fits s true held held' = (number : ℕ) → IsUnfinished s number → (job : J) × (held' ≡ (job_slot number, Job job) ∷ (found_slot number, Empty) ∷ held) × fits (number % 6) job
+  Gains fits s false in_hand in_hand' = in_hand' ≡ in_hand
+  Gains fits s true in_hand in_hand' = (number : ℕ) → IsUnfinished s number → (job : J) × (in_hand' ≡ (job_slot number, Job job) ∷ (found_slot number, Empty) ∷ in_hand) × fits (number % 6) job
 
 -- the master has taken all twelve slots, the two of each lane in turn, and where so many numbers are finished that there is one, it finds a result in each second one
-pub record Collects {J R : Type 0} (job_fits : ℕ → J → Type 0) (found_fits : ℕ → R → Type 0) (done : ℕ) (held : List (ℕ × Slot J R)) : Type 0 where
+pub record Collects {J R : Type 0} (job_fits : ℕ → J → Type 0) (found_fits : ℕ → R → Type 0) (done : ℕ) (in_hand : List (ℕ × Slot J R)) : Type 0 where
   pub first0 : Slot J R
   pub second0 : Slot J R
   pub first1 : Slot J R
@@ -77,7 +77,7 @@ pub record Collects {J R : Type 0} (job_fits : ℕ → J → Type 0) (found_fits
   pub second4 : Slot J R
   pub first5 : Slot J R
   pub second5 : Slot J R
-  pub are : held ≡ numbered 0 (first0 ∷ second0 ∷ first1 ∷ second1 ∷ first2 ∷ second2 ∷ first3 ∷ second3 ∷ first4 ∷ second4 ∷ first5 ∷ second5 ∷ [])
+  pub are : in_hand ≡ numbered 0 (first0 ∷ second0 ∷ first1 ∷ second1 ∷ first2 ∷ second2 ∷ first3 ∷ second3 ∷ first4 ∷ second4 ∷ first5 ∷ second5 ∷ [])
   pub fit :
       FitsSecond (job_fits 0) (found_fits 0) second0 × FitsSecond (job_fits 1) (found_fits 1) second1
       × FitsSecond (job_fits 2) (found_fits 2) second2 × FitsSecond (job_fits 3) (found_fits 3) second3

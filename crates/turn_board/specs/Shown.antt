@@ -52,7 +52,7 @@ module _ {J R : Type 0} where
 
   -- the first two slots of the list, which are a lane's, have other values and go behind the others
   abbrev pub refilled : ℕ → Slot J R → List (ℕ × Slot J R) → List (ℕ × Slot J R)
-  refilled lane x held = turned ((2 * lane + 1, Empty) ∷ rest (turned ((2 * lane, x) ∷ rest held)))
+  refilled lane x in_hand = turned ((2 * lane + 1, Empty) ∷ rest (turned ((2 * lane, x) ∷ rest in_hand)))
 
 module _ {J R W : Type 0} where
   abbrev pub seat_shown : TableId → Sat J R W → SeatView J R W

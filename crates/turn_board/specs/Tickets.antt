@@ -75,7 +75,7 @@ pub record Good (b : BoardState) : Type 0 where
   -- each open number but for the last six is finished
   pub earlier_finished : (n : ℕ) → n + 6 < b.opened → 0 < total (λ s. times n s.finished) b.seats
 
--- a seat is named by its place in the list
+-- a seat is named by its index in the list
 pub data Event : Type 0 where
   Draw : ℕ → Event
   SeeOpen : ℕ → Event
@@ -99,7 +99,7 @@ saw opened closed s = record s { seen = opened; loads = s.loads + 1; holding = s
 abbrev pub did : ℕ → SeatState → SeatState
 did n s = record s { finished = s.finished ++ n ∷ []; holding = false }
 
--- the list, with f of the element at the place
+-- the list, with f of the element at the index
 abbrev pub change : {A : Type 0} → (A → A) → ℕ → List A → List A
 change f i [] = []
 change f zero (x ∷ xs) = f x ∷ xs

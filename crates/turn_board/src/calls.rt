@@ -8,7 +8,7 @@ ghost use Rattle.turn_board.specs.Answers.{Answers, Looks, LooksAgain, EachLane,
 
 use crate::answers::{Gather, See, Six};
 use crate::collect::{jobs_in, nothing, refill_all, results_in};
-use crate::hands::{Master, Seat, Ticket};
+use crate::hands::{Coordinator, Seat, Ticket};
 use crate::kept::Kept;
 use crate::opening::{empty_slots, seat_workers};
 use crate::rule::Rule;
@@ -57,7 +57,7 @@ impl<J: Kept<W> + Drop, R: Kept<W> + Drop, W> Board<J, R, W> {
         alloc: Global,
         made_for: W,
         seats: usize,
-    ) -> Result<(Board<J, R, W>, Master<J, R, W>, Vec<Seat<J, R, W>>), AllocError>
+    ) -> Result<(Board<J, R, W>, Coordinator<J, R, W>, Vec<Seat<J, R, W>>), AllocError>
     where
         W: Drop,
         requires { (0 < seats) × (seats ≤ 9) }
@@ -66,14 +66,14 @@ impl<J: Kept<W> + Drop, R: Kept<W> + Drop, W> Board<J, R, W> {
             ≡ replicate seats (new_seat made.0 made_for)) }
     {
         let slots = empty_slots(alloc)?;
-        let (table, mut place) = match Table::new(alloc, &[0, 0, 0], slots, &made_for) {
+        let (table, mut post) = match Table::new(alloc, &[0, 0, 0], slots, &made_for) {
             Ok(made) => made,
             Err(Refused { slots: _ }) => return Err(AllocError),
         };
-        let workers = seat_workers(&table.shared, &mut place, alloc, seats)?;
-        steps::see_done(&table.shared, &mut place);
-        refill_all(&table.shared, &mut place, nothing());
-        Ok((Board { table }, Master { place, opened: 0 }, workers))
+        let workers = seat_workers(&table.shared, &mut post, alloc, seats)?;
+        steps::see_done(&table.shared, &mut post);
+        refill_all(&table.shared, &mut post, nothing());
+        Ok((Board { table }, Coordinator { post, opened: 0 }, workers))
     }
 
     /// Draws the next number: each number comes once, whichever seat draws. The seat has no ticket that is not done.
@@ -85,7 +85,7 @@ impl<J: Kept<W> + Drop, R: Kept<W> + Drop, W> Board<J, R, W> {
         ensures idle { seat.new.state.holding ≡ false }
         ensures event { IsDraw seat.old.state result seat.new.state }
     {
-        Ticket::of(steps::draw(&self.table.shared, &mut seat.place))
+        Ticket::of(steps::draw(&self.table.shared, &mut seat.post))
     }
 
     /// Looks whether the seat's own ticket is open. A seat that finds it open holds the slots of its lane from then
@@ -98,7 +98,7 @@ impl<J: Kept<W> + Drop, R: Kept<W> + Drop, W> Board<J, R, W> {
         ensures event { Looks seat.old.state seat.new.state }
         ensures answer { Answers J.made_for ticket.now seat.old seat.new result }
     {
-        let word = steps::see_open(&self.table.shared, &mut seat.place);
+        let word = steps::see_open(&self.table.shared, &mut seat.post);
         let opened = word % steps::CLOSED;
         if ticket.number() < opened {
             See::Open
@@ -123,7 +123,7 @@ impl<J: Kept<W> + Drop, R: Kept<W> + Drop, W> Board<J, R, W> {
         let taken = self
             .table
             .shared
-            .exchange(&mut seat.place, slot, Slot::Empty);
+            .exchange(&mut seat.post, slot, Slot::Empty);
         match taken {
             Slot::Job(job) => job,
             Slot::Empty => unreachable!(),
@@ -143,12 +143,12 @@ impl<J: Kept<W> + Drop, R: Kept<W> + Drop, W> Board<J, R, W> {
         ensures seat { seat.new ≡ record seat.old { found = Some found } }
     {
         let slot = job_slot_of(ticket) + 1;
-        seat.place.turn();
+        seat.post.turn();
         let before = self
             .table
             .shared
-            .exchange(&mut seat.place, slot, Slot::Found(found));
-        seat.place.turn();
+            .exchange(&mut seat.post, slot, Slot::Found(found));
+        seat.post.turn();
         match before {
             Slot::Found(before) => Some(before),
             Slot::Empty => None,
@@ -170,13 +170,13 @@ impl<J: Kept<W> + Drop, R: Kept<W> + Drop, W> Board<J, R, W> {
         ensures free { IsFree seat.new.state }
         ensures event { IsFinish seat.old.state ticket seat.new.state }
     {
-        steps::finish(&self.table.shared, &mut seat.place);
+        steps::finish(&self.table.shared, &mut seat.post);
         self.table.shared.wake_all(steps::DONE);
     }
 
     /// Opens six more numbers, one for each lane, with the jobs that were made for the lanes. The master has gathered all earlier ones, and has
     /// not closed the board. At most 2^62 numbers are ever open.
-    pub fn offer(&self, master: &mut Master<J, R, W>, jobs: Six<J>)
+    pub fn offer(&self, master: &mut Coordinator<J, R, W>, jobs: Six<J>)
         requires board { master.old.board ≡ self.now }
         requires gathered { master.old.state.known ≡ master.old.state.opened }
         requires unclosed { master.old.state.closed ≡ false }
@@ -191,14 +191,14 @@ impl<J: Kept<W> + Drop, R: Kept<W> + Drop, W> Board<J, R, W> {
             } }
         ensures event { IsOpen master.old.state master.new.state }
     {
-        refill_all(&self.table.shared, &mut master.place, jobs_in(jobs));
-        steps::open(&self.table.shared, &mut master.place);
+        refill_all(&self.table.shared, &mut master.post, jobs_in(jobs));
+        steps::open(&self.table.shared, &mut master.post);
         master.opened += 6;
         self.table.shared.wake_all(steps::OPEN);
     }
 
     /// Gathers the six results, each made for its lane, if all open numbers are finished. The master has not gathered those that it offered.
-    pub fn gathered(&self, master: &mut Master<J, R, W>) -> Gather<R>
+    pub fn gathered(&self, master: &mut Coordinator<J, R, W>) -> Gather<R>
         requires board { master.old.board ≡ self.now }
         requires offered { master.old.state.known < master.old.state.opened }
         ensures same { (master.new.board ≡ master.old.board)
@@ -206,24 +206,24 @@ impl<J: Kept<W> + Drop, R: Kept<W> + Drop, W> Board<J, R, W> {
         ensures event { Polls master.old.state master.new.state }
         ensures answer { Gathered R.made_for master.old master.new result }
     {
-        let done = steps::see_done(&self.table.shared, &mut master.place);
+        let done = steps::see_done(&self.table.shared, &mut master.post);
         if done < master.opened {
             return Gather::Part(done);
         }
-        let found = refill_all(&self.table.shared, &mut master.place, nothing());
+        let found = refill_all(&self.table.shared, &mut master.post, nothing());
         Gather::All(results_in(found))
     }
 
     /// Closes the board: a worker whose ticket is not open is told so from then on. The master has gathered all that
     /// it offered.
-    pub fn close(&self, master: &mut Master<J, R, W>)
+    pub fn close(&self, master: &mut Coordinator<J, R, W>)
         requires board { master.old.board ≡ self.now }
         requires gathered { master.old.state.known ≡ master.old.state.opened }
         ensures master { master.new
             ≡ record master.old { state = record master.old.state { closed = true } } }
         ensures event { IsClose master.old.state master.new.state }
     {
-        steps::close(&self.table.shared, &mut master.place);
+        steps::close(&self.table.shared, &mut master.post);
         self.table.shared.wake_all(steps::OPEN);
     }
 
@@ -248,7 +248,7 @@ impl<J: Kept<W> + Drop, R: Kept<W> + Drop, W> Board<J, R, W> {
     }
 
     /// Gathers once all open numbers are finished, and sleeps until then: the answer is never `Part`.
-    pub fn await_all<H: Wait>(&self, rt: &H, master: &mut Master<J, R, W>) -> Gather<R>
+    pub fn await_all<H: Wait>(&self, rt: &H, master: &mut Coordinator<J, R, W>) -> Gather<R>
         requires board { master.old.board ≡ self.now }
         requires offered { master.old.state.known < master.old.state.opened }
         ensures same { (master.new.board ≡ master.old.board)

@@ -10,30 +10,30 @@ ghost use Rattle.turn_board.specs.declared.slot.Slot.TheVariants.{Empty, Job, Fo
 use crate::answers::Six;
 use crate::kept::Kept;
 use crate::slot::Slot;
-use crate::steps::{Place, Words};
+use crate::steps::{Post, Words};
 
 // What the lane's second slot has. The lane's slots are the first two of the list. They are left with `first` and
 // nothing, and go behind the others.
 fn refill<J: Kept<W> + Drop, R: Kept<W> + Drop, W>(
     words: &Words<J, R, W>,
-    place: &mut Place<J, R, W>,
+    post: &mut Post<J, R, W>,
     lane: usize,
     first: Slot<J, R>,
 ) -> Slot<J, R>
-    requires table { place.old.table_id ≡ words.now.table_id }
+    requires table { post.old.table_id ≡ words.now.table_id }
     requires lane { lane < 6 }
-    requires job { ((x : _) × (place.old.me.1 ≡ (2 * lane, x) ∷ rest place.old.me.1)) }
-    requires found { ((y : _) × (turned ((2 * lane, first) ∷ rest place.old.me.1)
-        ≡ (2 * lane + 1, y) ∷ rest (turned ((2 * lane, first) ∷ rest place.old.me.1)))) }
-    ensures table { place.new.table_id ≡ place.old.table_id }
-    ensures value { turned ((2 * lane, first) ∷ rest place.old.me.1) ≡ (2 * lane + 1, result)
-        ∷ rest (turned ((2 * lane, first) ∷ rest place.old.me.1)) }
-    ensures held { place.new.me ≡ (place.old.me.0, refilled lane first place.old.me.1) }
+    requires job { ((x : _) × (post.old.me.1 ≡ (2 * lane, x) ∷ rest post.old.me.1)) }
+    requires found { ((y : _) × (turned ((2 * lane, first) ∷ rest post.old.me.1)
+        ≡ (2 * lane + 1, y) ∷ rest (turned ((2 * lane, first) ∷ rest post.old.me.1)))) }
+    ensures table { post.new.table_id ≡ post.old.table_id }
+    ensures value { turned ((2 * lane, first) ∷ rest post.old.me.1) ≡ (2 * lane + 1, result)
+        ∷ rest (turned ((2 * lane, first) ∷ rest post.old.me.1)) }
+    ensures in_hand { post.new.me ≡ (post.old.me.0, refilled lane first post.old.me.1) }
 {
-    drop(words.exchange(place, 2 * lane, first));
-    place.turn();
-    let second = words.exchange(place, 2 * lane + 1, Slot::Empty);
-    place.turn();
+    drop(words.exchange(post, 2 * lane, first));
+    post.turn();
+    let second = words.exchange(post, 2 * lane + 1, Slot::Empty);
+    post.turn();
     second
 }
 
@@ -102,14 +102,14 @@ fn result_in<J: Drop, R>(slot: Slot<J, R>) -> R
 // What the second slots have. The first ones are left with `firsts`, and the second ones with nothing.
 pub fn refill_all<J: Kept<W> + Drop, R: Kept<W> + Drop, W>(
     words: &Words<J, R, W>,
-    place: &mut Place<J, R, W>,
+    post: &mut Post<J, R, W>,
     firsts: Six<Slot<J, R>>,
 ) -> Six<Slot<J, R>>
-    requires table { place.old.table_id ≡ words.now.table_id }
-    requires held { ((seconds : _) × HoldsAll place.old.me.1 seconds) }
-    ensures table { place.new.table_id ≡ place.old.table_id }
-    ensures values { HoldsAll place.old.me.1 result }
-    ensures held { place.new.me ≡ (place.old.me.0, filled firsts) }
+    requires table { post.old.table_id ≡ words.now.table_id }
+    requires in_hand { ((seconds : _) × HoldsAll post.old.me.1 seconds) }
+    ensures table { post.new.table_id ≡ post.old.table_id }
+    ensures values { HoldsAll post.old.me.1 result }
+    ensures in_hand { post.new.me ≡ (post.old.me.0, filled firsts) }
 {
     let Six {
         l0,
@@ -119,12 +119,12 @@ pub fn refill_all<J: Kept<W> + Drop, R: Kept<W> + Drop, W>(
         l4,
         l5,
     } = firsts;
-    let l0 = refill(words, place, 0, l0);
-    let l1 = refill(words, place, 1, l1);
-    let l2 = refill(words, place, 2, l2);
-    let l3 = refill(words, place, 3, l3);
-    let l4 = refill(words, place, 4, l4);
-    let l5 = refill(words, place, 5, l5);
+    let l0 = refill(words, post, 0, l0);
+    let l1 = refill(words, post, 1, l1);
+    let l2 = refill(words, post, 2, l2);
+    let l3 = refill(words, post, 3, l3);
+    let l4 = refill(words, post, 4, l4);
+    let l5 = refill(words, post, 5, l5);
     Six {
         l0,
         l1,

@@ -2,13 +2,13 @@
 ghost use Rattle.std.specs.Prelude.{◌≡◌};
 
 use crate::kept::Kept;
-use crate::steps::Place;
+use crate::steps::Post;
 use std::marker::Model;
 
-/// A worker's place at the board. Clauses see what it has done, and what the slots that it holds have.
+/// A worker's post at the board. Clauses see what it has done, and what the slots that it holds have.
 #[derive(Drop)]
 pub struct Seat<J: Kept<W>, R: Kept<W>, W> {
-    pub(crate) place: Place<J, R, W>,
+    pub(crate) post: Post<J, R, W>,
 }
 
 impl<J: Kept<W>, R: Kept<W>, W> Model for Seat<J, R, W> {
@@ -16,27 +16,27 @@ impl<J: Kept<W>, R: Kept<W>, W> Model for Seat<J, R, W> {
 
     ghost Value = { SeatView J R W };
 
-    ghost view = { λ s. seat_shown s.place.table_id s.place.me };
+    ghost view = { λ s. seat_shown s.post.table_id s.post.me };
 
-    ghost invariant = { λ s. IsSeat J.made_for R.made_for s.place.me };
+    ghost invariant = { λ s. IsSeat J.made_for R.made_for s.post.me };
 }
 
-/// The place of the one who opens numbers and gathers results.
+/// The post of the one who opens numbers and gathers results.
 #[derive(Drop)]
-pub struct Master<J: Kept<W>, R: Kept<W>, W> {
-    pub(crate) place: Place<J, R, W>,
+pub struct Coordinator<J: Kept<W>, R: Kept<W>, W> {
+    pub(crate) post: Post<J, R, W>,
     pub(crate) opened: u64,
 }
 
-impl<J: Kept<W>, R: Kept<W>, W> Model for Master<J, R, W> {
+impl<J: Kept<W>, R: Kept<W>, W> Model for Coordinator<J, R, W> {
     ghost use Rattle.std.specs.Prelude.{◌≡◌};
     ghost use Rattle.turn_board.specs.Shown.{MasterView, master_shown, IsMaster};
 
     ghost Value = { MasterView W };
 
-    ghost view = { λ m. master_shown m.place.table_id m.place.me };
+    ghost view = { λ m. master_shown m.post.table_id m.post.me };
 
-    ghost invariant = { λ m. IsMaster m.place.me × (m.opened ≡ m.place.me.0.master.opened) };
+    ghost invariant = { λ m. IsMaster m.post.me × (m.opened ≡ m.post.me.0.master.opened) };
 }
 
 /// A number that a seat drew. It is neither copied nor cloned. Where it is let go and not done, its number stays

@@ -8,7 +8,7 @@ ghost use Rattle.turn_board.specs.Shown.{new_seat, vacant};
 use crate::hands::Seat;
 use crate::kept::Kept;
 use crate::slot::Slot;
-use crate::steps::{Place, Words, sit};
+use crate::steps::{Post, Words, sit};
 use std::alloc::{AllocError, Global};
 
 // Two for each lane.
@@ -28,7 +28,7 @@ pub fn empty_slots<J: Drop, R: Drop>(alloc: Global) -> Result<Vec<Slot<J, R>>, A
 // The seats of so many workers.
 pub fn seat_workers<J: Kept<W> + Drop, R: Kept<W> + Drop, W>(
     words: &Words<J, R, W>,
-    master: &mut Place<J, R, W>,
+    master: &mut Post<J, R, W>,
     alloc: Global,
     count: usize,
 ) -> Result<Vec<Seat<J, R, W>>, AllocError>
@@ -45,7 +45,7 @@ pub fn seat_workers<J: Kept<W> + Drop, R: Kept<W> + Drop, W>(
     let mut seats = Vec::with_capacity(alloc, count)?;
     for _ in 0..count {
         seats.push_reserved(Seat {
-            place: sit(words, master),
+            post: sit(words, master),
         });
     }
     Ok(seats)

@@ -16,7 +16,7 @@ use atomic_table::{Seat, Shared};
 
 pub type Words<J, R, W> = Shared<Slot<J, R>, View<W>, W, Rule<J, R, W>>;
 
-pub type Place<J, R, W> = Seat<Slot<J, R>, View<W>>;
+pub type Post<J, R, W> = Seat<Slot<J, R>, View<W>>;
 
 /// The word of the next number to draw.
 const TICKET: usize = 0;
@@ -33,8 +33,8 @@ pub const CLOSED: u64 = 1 << 63;
 /// A seat for a worker, which the master makes. It has done nothing.
 pub fn sit<J: Kept<W>, R: Kept<W>, W>(
     words: &Words<J, R, W>,
-    master: &mut Place<J, R, W>,
-) -> Place<J, R, W>
+    master: &mut Post<J, R, W>,
+) -> Post<J, R, W>
     requires table { master.old.table_id ≡ words.now.table_id }
     requires sized { IsSized words.now.table_id }
     requires leads { master.old.me.0.leads ≡ true }
@@ -48,7 +48,7 @@ pub fn sit<J: Kept<W>, R: Kept<W>, W>(
 }
 
 /// Fetch-and-add 1 on TICKET: a worker without an unfinished number draws the next one.
-pub fn draw<J: Kept<W>, R: Kept<W>, W>(words: &Words<J, R, W>, seat: &mut Place<J, R, W>) -> u64
+pub fn draw<J: Kept<W>, R: Kept<W>, W>(words: &Words<J, R, W>, seat: &mut Post<J, R, W>) -> u64
     requires table { seat.old.table_id ≡ words.now.table_id }
     requires sized { IsSized words.now.table_id }
     requires follows { seat.old.me.0.leads ≡ false }
@@ -61,7 +61,7 @@ pub fn draw<J: Kept<W>, R: Kept<W>, W>(words: &Words<J, R, W>, seat: &mut Place<
 }
 
 /// A load of OPEN: a worker sees how many numbers are open, and takes the slots of its lane where it begins to hold it.
-pub fn see_open<J: Kept<W>, R: Kept<W>, W>(words: &Words<J, R, W>, seat: &mut Place<J, R, W>) -> u64
+pub fn see_open<J: Kept<W>, R: Kept<W>, W>(words: &Words<J, R, W>, seat: &mut Post<J, R, W>) -> u64
     requires table { seat.old.table_id ≡ words.now.table_id }
     requires sized { IsSized words.now.table_id }
     requires follows { seat.old.me.0.leads ≡ false }
@@ -74,7 +74,7 @@ pub fn see_open<J: Kept<W>, R: Kept<W>, W>(words: &Words<J, R, W>, seat: &mut Pl
 
 /// Fetch-and-add 1 on DONE: a worker that holds its lane, with a result in the second slot, finishes its number and gives
 /// the slots back.
-pub fn finish<J: Kept<W>, R: Kept<W>, W>(words: &Words<J, R, W>, seat: &mut Place<J, R, W>)
+pub fn finish<J: Kept<W>, R: Kept<W>, W>(words: &Words<J, R, W>, seat: &mut Post<J, R, W>)
     requires table { seat.old.table_id ≡ words.now.table_id }
     requires sized { IsSized words.now.table_id }
     requires follows { seat.old.me.0.leads ≡ false }
@@ -88,7 +88,7 @@ pub fn finish<J: Kept<W>, R: Kept<W>, W>(words: &Words<J, R, W>, seat: &mut Plac
 
 /// Fetch-and-add 6 on OPEN: the master, which knows that all open numbers are finished, opens six more and gives all slots
 /// back, with six jobs.
-pub fn open<J: Kept<W>, R: Kept<W>, W>(words: &Words<J, R, W>, master: &mut Place<J, R, W>)
+pub fn open<J: Kept<W>, R: Kept<W>, W>(words: &Words<J, R, W>, master: &mut Post<J, R, W>)
     requires table { master.old.table_id ≡ words.now.table_id }
     requires sized { IsSized words.now.table_id }
     requires leads { master.old.me.0.leads ≡ true }
@@ -104,7 +104,7 @@ pub fn open<J: Kept<W>, R: Kept<W>, W>(words: &Words<J, R, W>, master: &mut Plac
 }
 
 /// Fetch-and-or of bit 63 on OPEN: the master closes the board.
-pub fn close<J: Kept<W>, R: Kept<W>, W>(words: &Words<J, R, W>, master: &mut Place<J, R, W>)
+pub fn close<J: Kept<W>, R: Kept<W>, W>(words: &Words<J, R, W>, master: &mut Post<J, R, W>)
     requires table { master.old.table_id ≡ words.now.table_id }
     requires sized { IsSized words.now.table_id }
     requires leads { master.old.me.0.leads ≡ true }
@@ -119,7 +119,7 @@ pub fn close<J: Kept<W>, R: Kept<W>, W>(words: &Words<J, R, W>, master: &mut Pla
 /// all open ones are.
 pub fn see_done<J: Kept<W>, R: Kept<W>, W>(
     words: &Words<J, R, W>,
-    master: &mut Place<J, R, W>,
+    master: &mut Post<J, R, W>,
 ) -> u64
     requires table { master.old.table_id ≡ words.now.table_id }
     requires sized { IsSized words.now.table_id }

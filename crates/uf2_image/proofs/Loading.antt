@@ -8,7 +8,7 @@ use Rattle.std.specs.List.{enumerate_from, list_any}
 use Rattle.std.specs.Ordering.{nat_cmp, is_eq}
 use native.Mathlib.Numerals.{unary_clauses}
 use Rattle.std.specs.BTreeSet.{contains}
-use Rattle.uf2_image.specs.declared.reading.Kept.{Kept}
+use Rattle.uf2_image.specs.declared.reading.KeptBlocks.{KeptBlocks}
 use Rattle.uf2_image.specs.Uf2.{any_address, has_number, is_loaded, loaded, number_of, pairs, payload_of, size_of, target_of}
 use Rattle.uf2_image.specs.Reading.{HasPayload, IsIndexed, LiesInSram}
 use Rattle.uf2_image.proofs.Ranges.{length_payload}
@@ -99,7 +99,7 @@ flags_after new old bs b s e k h is was start finish =
     is ∙ ap (λ x. (leb s k && ltb k e) || x) was ∙ sym (is_loaded-push bs b (0x20000000 + k) h ∙ shifted_test (is_loaded bs (0x20000000 + k)) s e k (target_of b) (size_of b) start finish)
 
 -- one block more
-pub IsIndexed-push : (old new : Kept) (b : List ℕ) (flags slice : List Bool) (t n m : ℕ) → IsIndexed old → HasPayload b → LiesInSram b
+pub IsIndexed-push : (old new : KeptBlocks) (b : List ℕ) (flags slice : List Bool) (t n m : ℕ) → IsIndexed old → HasPayload b → LiesInSram b
     → new.blocks.items ≡ old.blocks.items ++ b ∷ []
     → ((q : ℕ) → contains nat_cmp new.numbers q ≡ cond (is_eq (nat_cmp m q)) true (contains nat_cmp old.numbers q))
     → new.loaded.items ≡ flags → length flags ≡ length old.loaded.items → slice ≡ old.loaded.items

@@ -5,11 +5,11 @@ use Rattle.std.specs.Ordering.{nat_cmp}
 use Rattle.std.specs.BTreeSet.{contains}
 use Rattle.std.specs.List.{All, AllByRecursion}
 use Rattle.uf2_image.specs.declared.parts.Part.{Part}
-use Rattle.uf2_image.specs.declared.reading.Kept.{Kept}
-use Rattle.uf2_image.specs.Uf2.{has_number, is_loaded, part_of, place, size_of, target_of}
+use Rattle.uf2_image.specs.declared.reading.KeptBlocks.{KeptBlocks}
+use Rattle.uf2_image.specs.Uf2.{has_number, is_loaded, part_of, insert_part, size_of, target_of}
 
 -- the numbers are those of the blocks, and the flags say which bytes of SRAM the blocks load
-pub record IsIndexed (kept : Kept) : Type 0 where
+pub record IsIndexed (kept : KeptBlocks) : Type 0 where
   pub numbers : (n : ℕ) → contains nat_cmp kept.numbers n ≡ has_number kept.blocks.items n
   pub long : length kept.loaded.items ≡ 0x42000
   pub loaded : (k : ℕ) → k < 0x42000 → slice_index_or kept.loaded.items k false ≡ is_loaded kept.blocks.items (0x20000000 + k)
@@ -40,7 +40,7 @@ AreApart p q =
 -- each of these parts can be placed among those before it, of which `placed` are there already
 abbrev pub CanBePlaced : List Part → List Part → Type 0
 CanBePlaced placed [] = Unit {0}
-CanBePlaced placed (part ∷ parts) = IsSolid part × AllByRecursion (AreApart part) placed × CanBePlaced (place placed part) parts
+CanBePlaced placed (part ∷ parts) = IsSolid part × AllByRecursion (AreApart part) placed × CanBePlaced (insert_part placed part) parts
 
 -- the blocks have payloads whose parts can be placed one after the other
 pub record AreSpread (blocks : List (List ℕ)) : Type 0 where

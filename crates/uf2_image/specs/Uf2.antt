@@ -19,9 +19,9 @@ block_at bytes k = take 512 (drop (k * 512) bytes)
 abbrev pub blocks : List ℕ → ℕ → List (List ℕ)
 blocks bytes n = map (block_at bytes) (range_with_len 0 n)
 
--- the word of a block at this place, little-endian
+-- the word of a block at this index, little-endian
 unfoldable pub word : List ℕ → ℕ → ℕ
-word block place = little_number 4 (drop (4 * place) block)
+word block index = little_number 4 (drop (4 * index) block)
 
 -- the fields of a block
 abbrev pub flags_of : List ℕ → ℕ
@@ -143,15 +143,15 @@ least_missing blocks count = find (λ number. not (has_number blocks number)) (r
 abbrev pub part_of : List ℕ → Part
 part_of block = record { address = target_of block; bytes = payload_of block }
 
--- a part at its place in parts that stand in order of address
-abbrev pub place : List Part → Part → List Part
-place [] part = part ∷ []
-place (first ∷ others) part =
-    (if nat_lt part.address first.address then part ∷ first ∷ others else first ∷ place others part)
+-- a part put into parts that stand in order of address
+abbrev pub insert_part : List Part → Part → List Part
+insert_part [] part = part ∷ []
+insert_part (first ∷ others) part =
+    (if nat_lt part.address first.address then part ∷ first ∷ others else first ∷ insert_part others part)
 
 -- parts in order of address
 abbrev pub in_order : List Part → List Part
-in_order parts = fold place [] parts
+in_order parts = fold insert_part [] parts
 
 -- the least of some numbers
 abbrev pub least : List ℕ → ℕ

@@ -20,7 +20,7 @@ pub const SRAM_START: u32 = 0x2000_0000;
 /// The first address behind SRAM.
 pub const SRAM_END: u32 = 0x2004_2000;
 
-/// The place of the payload in a block.
+/// The offset of the payload in a block.
 const PAYLOAD_START: usize = 32;
 /// The first address of flash.
 const FLASH_START: u32 = 0x1000_0000;
@@ -31,11 +31,11 @@ const RP2040_FAMILY: u32 = 0xE48B_FF56;
 
 /// One block of 512 bytes, which contracts see as a list of bytes.
 #[derive(Drop)]
-pub struct Block<'a> {
+pub struct Uf2Block<'a> {
     bytes: &'a [u8],
 }
 
-impl<'a> Model for Block<'a> {
+impl<'a> Model for Uf2Block<'a> {
     ghost use Rattle.std.specs.Prelude.{ℕ, List, length, ◌≡◌};
 
     ghost Value = { List ℕ };
@@ -45,23 +45,23 @@ impl<'a> Model for Block<'a> {
     ghost invariant = { λ block. length block.bytes.now ≡ 512 };
 }
 
-impl<'a> Block<'a> {
+impl<'a> Uf2Block<'a> {
     /// A block of these bytes.
-    pub fn new(bytes: &'a [u8]) -> Block<'a>
+    pub fn new(bytes: &'a [u8]) -> Uf2Block<'a>
         requires { length bytes.now ≡ 512 }
         ensures { result ≡ bytes.now }
     {
-        Block { bytes }
+        Uf2Block { bytes }
     }
 
-    /// The word at a place, counted in words.
+    /// The word at an index, counted in words.
     #[tactic(auto, unfolding(crate::specs::Uf2::word))]
-    fn word(&self, place: usize) -> u32
-        requires { place < 128 }
-        ensures value { result ≡ word self.now place }
+    fn word(&self, index: usize) -> u32
+        requires { index < 128 }
+        ensures value { result ≡ word self.now index }
         ensures long { length self.now ≡ 512 }
     {
-        LittleEndian::read_u32(&self.bytes[4 * place..])
+        LittleEndian::read_u32(&self.bytes[4 * index..])
     }
 
     /// The address of the payload's first byte.

@@ -6,15 +6,15 @@ ghost use Rattle.std.specs.BTreeMap.{values};
 ghost use Rattle.uf2_image.specs.Uf2.{in_order, least_missing, part_of, target_of, whole, FitsSram};
 ghost use Rattle.uf2_image.specs.Reading.{AreSpread, IsIndexed};
 
-use crate::blocks::Block;
+use crate::blocks::Uf2Block;
 use crate::fault::ImageFault;
 use crate::parts::{Image, Part, PartList};
-use crate::reading::Kept;
+use crate::reading::KeptBlocks;
 use std::alloc::Global;
 use std::collections::BTreeMap;
 
 /// The least number below `count` that no kept block has.
-fn least_missing(kept: &Kept, count: u32) -> Option<u32>
+fn least_missing(kept: &KeptBlocks, count: u32) -> Option<u32>
     requires { IsIndexed kept.now }
     ensures { result ≡ least_missing kept.now.blocks.items count }
 {
@@ -22,7 +22,7 @@ fn least_missing(kept: &Kept, count: u32) -> Option<u32>
 }
 
 /// The least of the blocks' targets and of `first`.
-fn lowest_target(blocks: &[Block], first: u32) -> u32
+fn lowest_target(blocks: &[Uf2Block], first: u32) -> u32
     ensures { result ≡ fold (λ low block. min low (target_of block)) first blocks.now }
 {
     blocks
@@ -39,7 +39,7 @@ fn values_in_order(alloc: Global, ordered: BTreeMap<u32, Part>) -> Result<Vec<Pa
 }
 
 /// The parts of blocks in order of address.
-fn parts_in_order(alloc: Global, blocks: &[Block]) -> Result<PartList, ImageFault>
+fn parts_in_order(alloc: Global, blocks: &[Uf2Block]) -> Result<PartList, ImageFault>
     requires { AreSpread blocks.now }
     ensures parts { IfOk result (λ parts. parts ≡ in_order (map part_of blocks.now)) }
     ensures memory { IfErr result (λ fault. fault ≡ ImageFault.Memory) }
@@ -53,7 +53,7 @@ fn parts_in_order(alloc: Global, blocks: &[Block]) -> Result<PartList, ImageFaul
 }
 
 /// The image of the kept blocks, or what they lack.
-pub fn image_of_blocks(alloc: Global, kept: &Kept) -> Result<Image, ImageFault>
+pub fn image_of_blocks(alloc: Global, kept: &KeptBlocks) -> Result<Image, ImageFault>
     requires index { IsIndexed kept.now }
     requires spread { AreSpread kept.now.blocks.items }
     ensures image { MatchResult result (λ image. whole kept.now.blocks.items ≡ Ok image)

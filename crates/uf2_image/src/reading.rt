@@ -5,16 +5,16 @@ ghost use Rattle.std.specs.List.{filter, list_any};
 ghost use Rattle.uf2_image.specs.Uf2.{any_address, block_fault, count_of, first_fault, first_kept, has_number, is_kept, is_loaded, kept, kept_fault};
 ghost use Rattle.uf2_image.specs.Reading.{HasPayload, IsIndexed, LiesInSram};
 
-use crate::blocks::{BLOCK_SIZE, Block, LARGEST_PAYLOAD, SRAM_END, SRAM_START};
+use crate::blocks::{BLOCK_SIZE, LARGEST_PAYLOAD, SRAM_END, SRAM_START, Uf2Block};
 use crate::fault::ImageFault;
 use std::alloc::Global;
 use std::collections::BTreeSet;
 
 /// The kept blocks so far, with what it takes to judge the next one.
 #[derive(Drop)]
-pub struct Kept<'a> {
+pub struct KeptBlocks<'a> {
     /// The blocks in the order of the file.
-    pub blocks: Vec<Block<'a>>,
+    pub blocks: Vec<Uf2Block<'a>>,
     /// Their numbers.
     pub numbers: BTreeSet<u32>,
     /// Whether the byte at each offset of SRAM is loaded.
@@ -49,14 +49,14 @@ fn any_flag(flags: &[bool], start: usize, end: usize) -> bool
     flags[start..end].iter().any(|flag| *flag)
 }
 
-impl<'a> Kept<'a> {
+impl<'a> KeptBlocks<'a> {
     /// No blocks.
-    pub fn new(alloc: Global) -> Result<Kept<'a>, ImageFault>
+    pub fn new(alloc: Global) -> Result<KeptBlocks<'a>, ImageFault>
         ensures index { IfOk result IsIndexed }
         ensures blocks { IfOk result (λ kept. kept.blocks.items ≡ []) }
         ensures memory { IfErr result (λ fault. fault ≡ ImageFault.Memory) }
     {
-        Ok(Kept {
+        Ok(KeptBlocks {
             blocks: Vec::new(alloc),
             numbers: BTreeSet::new(alloc),
             loaded: clear_flags(alloc, (SRAM_END - SRAM_START) as usize)?,
@@ -72,7 +72,7 @@ impl<'a> Kept<'a> {
     }
 
     /// Whether a block's number of blocks is that of the first kept one.
-    fn agrees_in_count(&self, block: &Block) -> bool
+    fn agrees_in_count(&self, block: &Uf2Block) -> bool
         ensures { result ≡ (count_of block.now
             == count_of (first_kept self.now.blocks.items block.now)) }
     {
@@ -84,10 +84,10 @@ impl<'a> Kept<'a> {
 
     /// Whether a byte of a block is loaded already.
     #[tactic(auto, using(crate::proofs::Loading::overlap_flags))]
-    fn overlaps(&self, block: &Block) -> bool
+    fn overlaps(&self, block: &Uf2Block) -> bool
         requires index { IsIndexed self.now }
         requires payload { HasPayload block.now }
-        requires place { LiesInSram block.now }
+        requires sram { LiesInSram block.now }
         ensures { result ≡ any_address (is_loaded self.now.blocks.items) block.now }
     {
         let start = (block.target() - SRAM_START) as usize;
@@ -97,11 +97,11 @@ impl<'a> Kept<'a> {
 
     /// The fault of a kept block that is number `index` of the file.
     #[tactic(auto, unfolding(crate::specs::Uf2::kept_fault))]
-    fn fault(&self, index: u32, block: &Block) -> Option<ImageFault>
+    fn fault(&self, index: u32, block: &Uf2Block) -> Option<ImageFault>
         requires { IsIndexed self.now }
         ensures fault { result ≡ kept_fault self.now.blocks.items index block.now }
         ensures payload { IfNone result (HasPayload block.now) }
-        ensures place { IfNone result (LiesInSram block.now) }
+        ensures sram { IfNone result (LiesInSram block.now) }
     {
         let size = block.size();
         if size == 0 || size > LARGEST_PAYLOAD {
@@ -129,10 +129,10 @@ impl<'a> Kept<'a> {
     }
 
     /// Keeps a block that has no fault.
-    fn keep(&mut self, block: Block<'a>) -> Result<(), ImageFault>
+    fn keep(&mut self, block: Uf2Block<'a>) -> Result<(), ImageFault>
         requires index { IsIndexed self.old }
         requires payload { HasPayload block }
-        requires place { LiesInSram block }
+        requires sram { LiesInSram block }
         ensures blocks { OnOk result (self.new.blocks.items ≡ self.old.blocks.items ++ block.entry
             ∷ []) }
         ensures index { OnOk result (IsIndexed self.new) }
@@ -148,7 +148,7 @@ impl<'a> Kept<'a> {
 
     /// Reads a block that is number `index` of the file.
     #[tactic(auto, unfolding(crate::specs::Uf2::block_fault))]
-    pub fn read(&mut self, index: u32, block: Block<'a>) -> Result<(), ImageFault>
+    pub fn read(&mut self, index: u32, block: Uf2Block<'a>) -> Result<(), ImageFault>
         requires { IsIndexed self.old }
         ensures none { OnOk result (block_fault self.old.blocks.items index block.entry ≡ None) }
         ensures blocks { OnOk result (self.new.blocks.items ≡ self.old.blocks.items
@@ -171,7 +171,7 @@ impl<'a> Kept<'a> {
 }
 
 /// The kept blocks of a file whose length is a multiple of the block size.
-pub fn read_blocks<'a>(alloc: Global, bytes: &'a [u8]) -> Result<Kept<'a>, ImageFault>
+pub fn read_blocks<'a>(alloc: Global, bytes: &'a [u8]) -> Result<KeptBlocks<'a>, ImageFault>
     requires { length bytes.now ≤ 16777216 }
     ensures none { OnOk result (first_fault bytes.now (length bytes.now / 512) ≡ None) }
     ensures blocks { IfOk result (λ read. read.blocks.items
@@ -180,10 +180,10 @@ pub fn read_blocks<'a>(alloc: Global, bytes: &'a [u8]) -> Result<Kept<'a>, Image
     ensures fault { IfErr result (λ fault. fault ≢ ImageFault.Memory
         → first_fault bytes.now (length bytes.now / 512) ≡ Some fault) }
 {
-    let mut kept = Kept::new(alloc)?;
+    let mut kept = KeptBlocks::new(alloc)?;
     for index in 0..bytes.len() / BLOCK_SIZE {
         let start = index * BLOCK_SIZE;
-        let block = Block::new(&bytes[start..start + BLOCK_SIZE]);
+        let block = Uf2Block::new(&bytes[start..start + BLOCK_SIZE]);
         kept.read(index as u32, block)?;
     }
     Ok(kept)

@@ -20,7 +20,7 @@ use Rattle.m0_core.specs.Cycle as core
 use Rattle.dma_engine.specs.Cycle as dma
 use Rattle.pio_block.specs.Cycle as pio
 use Rattle.outer_lane.specs.Setting.{Setting}
-use Rattle.outer_lane.specs.declared.world.Seen.{Seen}
+use Rattle.outer_lane.specs.declared.world.SeenOutputs.{SeenOutputs}
 use Rattle.outer_lane.specs.State.{OuterState}
 use Rattle.outer_lane.specs.Step as outer
 use Rattle.bus_fabric.specs.State.{has_hold}
@@ -67,7 +67,7 @@ in_bank want.Signal calm placed = tt
 in_bank (want.Stopped cause) calm placed = tt
 
 -- its turn is that of a lane that runs alone, where each access is done
-turn_calm : (w : Setting) (seen : Seen) (rival : Want) (m : Master) (v : Want) (s : State) → ends_want v ≡ false → IsPlaced v → turn_of w seen rival (is_some (asked_of v)) m v s ≡ turn_alone v
+turn_calm : (w : Setting) (seen : SeenOutputs) (rival : Want) (m : Master) (v : Want) (s : State) → ends_want v ≡ false → IsPlaced v → turn_of w seen rival (is_some (asked_of v)) m v s ≡ turn_alone v
 unfolding turn_of asked_of
 turn_calm w seen rival m want.Nothing s calm placed = refl
 turn_calm w seen rival m (want.Ram request) s calm placed = rw (asks_at request (place_of request.address) placed) refl
@@ -93,7 +93,7 @@ either_calm : (c : Bool) (d : Deed) → IsStore d → IsStore (if c then d else 
 either_calm true d h = h
 either_calm false d h = tt
 
-deed_calm : (w : Setting) (seen : Seen) (grant : Bool) (v : Want) (s : State) → ends_want v ≡ false → IsStore (deed_of w seen grant v s)
+deed_calm : (w : Setting) (seen : SeenOutputs) (grant : Bool) (v : Want) (s : State) → ends_want v ≡ false → IsStore (deed_of w seen grant v s)
 unfolding deed_of
 deed_calm w seen grant want.Nothing s calm = tt
 deed_calm w seen grant (want.Ram request) s calm = either_calm grant _ (stored_calm request request.write (place_of request.address))

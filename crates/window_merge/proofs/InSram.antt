@@ -24,9 +24,9 @@ use Rattle.m0_core.specs.declared.doing.Doing.{Doing}
 use Rattle.m0_core.specs.State.{State}
 use Rattle.m0_core.specs.Fetch.{is_ram_spot, in_ram, at_spot, in_beat, beat_of_work, asks_fault, asks_beat, asks_return, asks_decoded, asks_half, asks_second, asks_first, asks_taken, asks_boundary, asks_work, asks_next, asks_awake, carried, asks, taken_of}
 use Rattle.m0_core.specs.Cycle as core
-use Rattle.dma_engine.specs.declared.doing.Access.{Access as DmaAccess}
-use Rattle.dma_engine.specs.declared.doing.Access.TheVariants as access
-use Rattle.dma_engine.specs.declared.doing.Doing.{Doing as DmaDoing}
+use Rattle.dma_engine.specs.declared.begun.Access.{Access as DmaAccess}
+use Rattle.dma_engine.specs.declared.begun.Access.TheVariants as access
+use Rattle.dma_engine.specs.declared.begun.BegunTransfer.{BegunTransfer as DmaDoing}
 use Rattle.rp_base.specs.declared.Master.{Master}
 use Rattle.rp_base.specs.declared.Master.TheVariants.{DmaRead, DmaWrite}
 use Rattle.dma_engine.specs.State.{Engine}

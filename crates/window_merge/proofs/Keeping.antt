@@ -15,7 +15,7 @@ use Rattle.m0_core.specs.Return.{return_ended}
 use Rattle.m0_core.specs.Private.{private_value, accessed}
 use Rattle.m0_core.specs.Cycle as core
 use Rattle.outer_lane.specs.Setting.{Setting}
-use Rattle.outer_lane.specs.declared.world.Seen.{Seen}
+use Rattle.outer_lane.specs.declared.world.SeenOutputs.{SeenOutputs}
 use Rattle.outer_lane.specs.State.{OuterState}
 use Rattle.outer_lane.specs.Step as outer
 
@@ -38,7 +38,7 @@ accessed_keeps : (request : Request) (offset : ℕ) (s : State) → Keeps s (acc
 accessed_keeps request offset s = record { asleep = refl; offer = refl }
 
 passed_keeps : (work : Work) (count : ℕ) (last s : State) → Keeps s last → Keeps s (core.passed_of work count last s)
-passed_keeps work count last s h = either (nat_lt (s.place + 1) count) s (core.followed work s) last (record { asleep = refl; offer = refl }) h
+passed_keeps work count last s h = either (nat_lt (s.beats_done + 1) count) s (core.followed work s) last (record { asleep = refl; offer = refl }) h
 
 entry_keeps : (n : ℕ) (s : State) → Keeps s (core.passed_entry n s)
 unfolding core.passed_entry entry_ended
@@ -46,7 +46,7 @@ entry_keeps n s = passed_keeps (works.Entry n) 15 (entry_ended n s) s (record { 
 
 first_keeps : (n : ℕ) (s : State) → Keeps s (taken_first n s)
 unfolding taken_first
-first_keeps n s = either (s.place == 0) s (record s { nvic = entered n s.nvic }) s (record { asleep = refl; offer = refl }) (same s)
+first_keeps n s = either (s.beats_done == 0) s (record s { nvic = entered n s.nvic }) s (record { asleep = refl; offer = refl }) (same s)
 
 work_keeps : (work : Work) (s : State) → Keeps s (core.passed_work work s)
 unfolding core.passed_instruction core.passed_return core.ended return_ended
@@ -60,7 +60,7 @@ passes work value s = then_keeps s (core.with_read value s) _ (record { asleep =
 
 inner_keeps : (work : Work) (s : State) → Keeps s (core.after_inner work s)
 unfolding core.after_inner
-inner_keeps work s = either (core.is_held work s) s (core.waiting work s) (core.passed work None s) (record { asleep = refl; offer = refl }) (passes work None s)
+inner_keeps work s = either (core.is_paused work s) s (core.waiting work s) (core.passed work None s) (record { asleep = refl; offer = refl }) (passes work None s)
 
 access_keeps : (word : Option ℕ) (work : Work) (value : Option ℕ) (s : State) → Keeps s (core.after_access word work value s)
 access_keeps None work value s = record { asleep = refl; offer = refl }
@@ -94,6 +94,6 @@ unfolding core.next
 core_keeps s begun turns = either (core.is_idle begun.act) s s (core.closed begun.lines begun.cycle (core.after begun.act (core.done_word (slice_get turns 0)) s)) (same s) (closed_keeps begun.lines begun.cycle s _ (act_keeps begun.act (core.done_word (slice_get turns 0)) s))
 
 -- the peripherals know of SIO what they knew
-pub outer_keeps : (w : Setting) (s : OuterState) (seen : Seen) → (outer.next w s seen).sio ≡ s.sio
+pub outer_keeps : (w : Setting) (s : OuterState) (seen : SeenOutputs) → (outer.next w s seen).sio ≡ s.sio
 unfolding outer.next outer.next_by
 outer_keeps w s seen = refl

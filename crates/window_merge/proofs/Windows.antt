@@ -16,7 +16,7 @@ use Rattle.dma_engine.specs.Asks as dma_asks
 use Rattle.dma_engine.specs.Cycle as dma
 use Rattle.pio_block.specs.Cycle as pio
 use Rattle.outer_lane.specs.Setting.{Setting}
-use Rattle.outer_lane.specs.declared.world.Seen.{Seen}
+use Rattle.outer_lane.specs.declared.world.SeenOutputs.{SeenOutputs}
 use Rattle.outer_lane.specs.Step as outer
 use Rattle.bus_fabric.specs.State.{has_hold}
 use Rattle.rp_machine.specs.declared.begun.Begun.{Begun}
@@ -312,7 +312,7 @@ calm_here w s n k now rests marks t same none =
 
 -- ---- such a cycle does not stop
 
-no_cause : (w : Setting) (seen : Seen) (m : Master) (v : Want) (s : State) → ends_want v ≡ false → cause_by w seen m v s ≡ None
+no_cause : (w : Setting) (seen : SeenOutputs) (m : Master) (v : Want) (s : State) → ends_want v ≡ false → cause_by w seen m v s ≡ None
 no_cause w seen m want.Nothing s e = refl
 no_cause w seen m (want.Ram request) s e = refl
 no_cause w seen m (want.Outward request) s e = absurd (cc e)

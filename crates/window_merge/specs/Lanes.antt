@@ -12,14 +12,14 @@ use Rattle.m0_core.specs.declared.doing.Doing.{Doing as CoreDoing}
 use Rattle.m0_core.specs.Fetch as core_asks
 use Rattle.m0_core.specs.Cycle as core
 use Rattle.dma_engine.specs.State.{Engine}
-use Rattle.dma_engine.specs.declared.doing.Doing.{Doing as DmaDoing}
+use Rattle.dma_engine.specs.declared.begun.BegunTransfer.{BegunTransfer as DmaDoing}
 use Rattle.dma_engine.specs.Asks as dma_asks
 use Rattle.dma_engine.specs.Cycle as dma
 use Rattle.pio_block.specs.State.{Block as Pio}
 use Rattle.pio_block.specs.declared.inputs.Inputs.{Inputs}
 use Rattle.pio_block.specs.Cycle as pio
 use Rattle.outer_lane.specs.Setting.{Setting}
-use Rattle.outer_lane.specs.declared.world.Seen.{Seen}
+use Rattle.outer_lane.specs.declared.world.SeenOutputs.{SeenOutputs}
 use Rattle.outer_lane.specs.State.{OuterState}
 use Rattle.outer_lane.specs.Step as outer
 use Rattle.rp_machine.specs.State.{State}
@@ -38,7 +38,7 @@ dma_lane = meaning (λ _ s cycle. dma_asks.asks s) dma.wanted (λ _ s begun turn
 abbrev pub pio_lane : Meaning (Unit {0}) Pio (Option Inputs)
 pio_lane = meaning (λ _ s cycle. pio.asks s) (λ begun. pio.wanted) (λ _ s begun turns. pio.next begun s) (λ _ s begun turns. None)
 
-abbrev pub peripheral_lane : Setting → Meaning (Unit {0}) OuterState Seen
+abbrev pub peripheral_lane : Setting → Meaning (Unit {0}) OuterState SeenOutputs
 peripheral_lane w = meaning (λ _ s cycle. outer.asks s cycle) outer.wanted (λ _ s begun turns. outer.next w s begun) (λ _ s begun turns. Some (outer.marked w s begun))
 
 -- ---- what is around a lane

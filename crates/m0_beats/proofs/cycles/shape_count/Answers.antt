@@ -1,7 +1,7 @@
 use Rattle.std.proofs.Common.{ℕ, ◌+◌, length, ap, sym, ◌∙◌}
 use Rattle.m0_beats.specs.Shapes.{beats_of_shape}
 use Rattle.m0_beats.proofs.Lists.{no_write, register_write}
-use Rattle.m0_beats.proofs.Places.{many_count, pop_count_pc, pop_count_low}
+use Rattle.m0_beats.proofs.OneBeat.{many_count, pop_count_pc, pop_count_low}
 use Rattle.m0_beats.proofs.cycles.shape_count.Goals as goal
 
 pub returns-in-Reads : goal.returns-in-Reads

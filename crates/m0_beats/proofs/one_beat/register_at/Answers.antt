@@ -1,12 +1,12 @@
 use Rattle.std.proofs.Common.{◌≡◌, ℕ, ◌+◌, List, ap, sym, ◌∙◌, arith}
 use Rattle.std.specs.Prelude.{slice_get}
 use Rattle.m0_beats.proofs.Lists.{rest_of, rest_start, rest_end, rest_listed, rest_other}
-use Rattle.m0_beats.proofs.Places.{register_next}
+use Rattle.m0_beats.proofs.OneBeat.{register_next}
 use Rattle.m0_beats.proofs.one_beat.register_at.Goals as goal
 use Rattle.m0_beats.proofs.one_beat.register_at.Goals.{then-is_listed+else-left-eq0, else-is_listed}
 
 pub loop-k-init : goal.loop-k-init
-loop-k-init c = ap (λ (ks : List ℕ). slice_get ks c.args.place) (sym (rest_start c.args.list))
+loop-k-init c = ap (λ (ks : List ℕ). slice_get ks c.args.index) (sym (rest_start c.args.list))
 
 pub returns-then-left-eq0 : goal.returns-then-left-eq0
 returns-then-left-eq0 c =

@@ -5,4 +5,4 @@ use Rattle.m0_beats.proofs.Lists.{rest_of}
 use Rattle.m0_beats.proofs.one_beat.register_at.Given as goal
 
 abbrev pub invariant-loop-k : goal.invariant-loop-k
-invariant-loop-k l = slice_get (registers_of l.list) l.place ≡ slice_get (rest_of l.list l.k) l.left
+invariant-loop-k l = slice_get (registers_of l.list) l.index ≡ slice_get (rest_of l.list l.k) l.left

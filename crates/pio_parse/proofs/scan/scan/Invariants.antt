@@ -1,15 +1,15 @@
 use Rattle.std.proofs.Common.{◌≡◌, ◌+◌, ℕ, List, drop}
-use Rattle.pio_parse.specs.declared.token.Place.{Place}
+use Rattle.pio_parse.specs.declared.token.SourcePosition.{SourcePosition}
 use Rattle.pio_parse.specs.declared.token.Token.{Token}
 use Rattle.pio_parse.specs.Scan.{Mode}
 use Rattle.pio_parse.specs.Scan.{scanned, scanned_from}
-use Rattle.pio_parse.specs.Scanning.{IsPlaceBelow, IsStarted, mode_of}
+use Rattle.pio_parse.specs.Scanning.{IsPositionBelow, IsStarted, mode_of}
 use Rattle.pio_parse.proofs.scan.scan.Given as goal
 
 -- the scan of the whole goes on from here
-pub record IsScanning (text : List ℕ) (index : ℕ) (mode : Mode) (here after : Place) (tokens : List Token) : Type 0 where
+pub record IsScanning (text : List ℕ) (index : ℕ) (mode : Mode) (here after : SourcePosition) (tokens : List Token) : Type 0 where
   pub started : IsStarted mode index
-  pub inside : IsPlaceBelow here (index + 2)
+  pub inside : IsPositionBelow here (index + 2)
   pub scan : scanned text ≡ scanned_from text (drop index text) index mode here after tokens
 
 abbrev pub invariant-loop-index : goal.invariant-loop-index

@@ -23,17 +23,17 @@ loop-k-preserved c = record {
             c.args.list
             c.loop-k.k
             w.value_at.result
-            c.loop-k.place
+            c.loop-k.index
             c.args.read.now
             c.loop-k-test.true
             (sym c.is_listed.ensures ∙ w.if-is_listed.true)
             w.value_at.ensures
             (w.self-is ∙ w.load.ensures)
-            ∙ ap (λ p. with_all_loaded c.if-is_listed.self (rest_of c.args.list (c.loop-k.k + 1)) c.args.read.now p) (sym w.place-is)
+            ∙ ap (λ p. with_all_loaded c.if-is_listed.self (rest_of c.args.list (c.loop-k.k + 1)) c.args.read.now p) (sym w.index-is)
         | else-is_listed w ↦
-            load_other c.loop-k.self c.args.list c.loop-k.k c.loop-k.place c.args.read.now c.loop-k-test.true (sym c.is_listed.ensures ∙ w.if-is_listed.false)
-            ∙ ap (λ p. with_all_loaded c.loop-k.self (rest_of c.args.list (c.loop-k.k + 1)) c.args.read.now p) (sym w.place-is)
-            ∙ ap (λ s. with_all_loaded s (rest_of c.args.list (c.loop-k.k + 1)) c.args.read.now c.if-is_listed.place) (sym w.self-is)
+            load_other c.loop-k.self c.args.list c.loop-k.k c.loop-k.index c.args.read.now c.loop-k-test.true (sym c.is_listed.ensures ∙ w.if-is_listed.false)
+            ∙ ap (λ p. with_all_loaded c.loop-k.self (rest_of c.args.list (c.loop-k.k + 1)) c.args.read.now p) (sym w.index-is)
+            ∙ ap (λ s. with_all_loaded s (rest_of c.args.list (c.loop-k.k + 1)) c.args.read.now c.if-is_listed.index) (sym w.self-is)
       ];
 }
 
@@ -42,5 +42,5 @@ returns c =
     let last : c.loop-k.k ≡ 16 = omega arith in
     sym
     (c.loop-k.invariant.same
-    ∙ ap (λ k. with_all_loaded c.loop-k.self (rest_of c.args.list k) c.args.read.now c.loop-k.place) last
-    ∙ ap (λ ks. with_all_loaded c.loop-k.self ks c.args.read.now c.loop-k.place) (rest_end c.args.list))
+    ∙ ap (λ k. with_all_loaded c.loop-k.self (rest_of c.args.list k) c.args.read.now c.loop-k.index) last
+    ∙ ap (λ ks. with_all_loaded c.loop-k.self ks c.args.read.now c.loop-k.index) (rest_end c.args.list))

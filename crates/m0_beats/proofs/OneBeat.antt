@@ -15,7 +15,7 @@ use Rattle.std.specs.Int.Count.{ones}
 use Rattle.m0_beats.proofs.Lists.{no_write, registers_count}
 use Rattle.m0_beats.specs.declared.timing.Beat.{Beat}
 
--- the access of a word at a place
+-- the access of a word at an index
 abbrev pub word_access : ℕ → ℕ → Option ℕ → Beat
 word_access from i write = access ((from + 4 * i) % 2 ^ 32) sizes.Word write
 
@@ -29,7 +29,7 @@ accesses_at from (write ∷ writes) (suc i) fits =
     accesses_at ((from + 4) % 2 ^ 32) writes i (omega arith)
     ∙ ap (λ (n : ℕ). option_map (access n sizes.Word) (slice_get writes i)) next
 
--- a place past the registers, and a place of a register
+-- an index past the registers, and an index of a register
 pub access_none : (f : ℕ → Option ℕ) (from : ℕ) (ks : List ℕ) (i : ℕ) → from < 2 ^ 32 → None ≡ slice_get ks i → None ≡ slice_get (accesses from (map f ks)) i
 access_none f from ks i fits e =
     ap (λ k. option_map (word_access from i) (option_map f k)) e

@@ -8,8 +8,8 @@ use Rattle.io_bank.specs.declared.outputs.Outs.{Outs}
 use Rattle.io_bank.specs.State.{Bank, no_edges}
 use Rattle.io_bank.specs.Edges.{edges_of, joined}
 use Rattle.io_bank.specs.Levels.{levels_of}
-use Rattle.io_bank.specs.Step.{after_step, is_still}
-use Rattle.io_bank.proofs.Routed.{edges_of-still}
+use Rattle.io_bank.specs.Step.{after_step, is_at_rest}
+use Rattle.io_bank.proofs.Routed.{edges_of-at_rest}
 
 or_none : (n : ℕ) → bit_or n 0 ≡ n
 or_none n = same_from_bits (bit_or n 0) n (λ i. rw (bit_at_or n 0 i, bit_at-zero i) (omega arith))
@@ -28,10 +28,10 @@ same : (s : Bank) (edges : Edges) (levels : ℕ) → edges ≡ no_edges → no_e
 same s edges levels e fresh l first second =
     rw (e, no_more s.latched, fresh, l) (ap (λ n. record s { first = n; second = s.first }) (sym first) ∙ ap (λ n. record s { second = n }) (sym second))
 
-pub still_step : (outs : Outs) (f : ℕ → Option Bool) (s : Bank) → is_still s ≡ true → levels_of outs f s ≡ s.current → after_step outs f s ≡ s
-still_step outs f s still levels =
+pub rest_step : (outs : Outs) (f : ℕ → Option Bool) (s : Bank) → is_at_rest s ≡ true → levels_of outs f s ≡ s.current → after_step outs f s ≡ s
+rest_step outs f s at_rest levels =
     let first : s.first ≡ s.current = grind (arith, nat_tests) in
     let second : s.second ≡ s.first = grind (arith, nat_tests) in
     let low : s.fresh.low ≡ 0 = grind (arith, nat_tests) in
     let high : s.fresh.high ≡ 0 = grind (arith, nat_tests) in
-    same s (edges_of s) (levels_of outs f s) (edges_of-still s (sym second)) (none_by 0 0 s.fresh low high) levels first second
+    same s (edges_of s) (levels_of outs f s) (edges_of-at_rest s (sym second)) (none_by 0 0 s.fresh low high) levels first second

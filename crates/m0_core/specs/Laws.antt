@@ -159,7 +159,7 @@ event_in op cycle (beat ∷ beats) (g ∷ gs) e event =
 pub record IsAtBoundary (s : State) : Type 0 where
   pub awake : s.asleep ≡ false
   pub between : s.work ≡ None
-  pub first : s.place ≡ 0
+  pub first : s.beats_done ≡ 0
   pub fresh : s.read ≡ []
   pub untaken : taken_of s ≡ None
 
@@ -198,7 +198,7 @@ pub record IsOver (op : Op) (reads : List ℕ) (s t : State) : Type 0 where
   pub awake : t.asleep ≡ false
   pub effect : t.regs ≡ effect_of op s.regs reads
   pub then_returns : t.work ≡ returning (return_of op s.regs reads)
-  pub first : t.place ≡ 0
+  pub first : t.beats_done ≡ 0
   pub fresh : t.read ≡ []
 
 -- after these cycles: where they are fewer than the beats, the instruction is in progress; where they are as many, each wanted
@@ -244,7 +244,7 @@ pub record LastsOn (s : State) (begun : Doing) (t : State) : Type 0 where
   pub awake : t.asleep ≡ s.asleep
   pub kept : t.regs ≡ s.regs
   pub in_progress : t.work ≡ accessing begun.act
-  pub so_far : t.place ≡ s.place
+  pub so_far : t.beats_done ≡ s.beats_done
   pub values : t.read ≡ s.read
   pub exceptions : t.nvic ≡ nvic.after_cycle begun.lines begun.cycle s.nvic
   pub event : t.event ≡ (s.event || nvic.is_event begun.lines begun.cycle s.nvic)

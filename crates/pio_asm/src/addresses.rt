@@ -1,19 +1,19 @@
-//! Where a program goes among the places of an instruction memory.
+//! Where a program goes among the addresses of an instruction memory.
 
 ghost use Rattle.std.specs.Prelude.{◌≡◌, ◌<◌, ◌≤◌, ◌↔◌, IsTrue, ℕ, None, length, IfOk, IfErr, IfSome};
-ghost use Rattle.pio_asm.specs.Place.{AreFree, HasNoPlace, IsFree, IsPlaceFor};
+ghost use Rattle.pio_asm.specs.Addresses.{AreFree, HasNoAddress, IsFree, IsAddressFor};
 
 use crate::program::Program;
 use pio_parse::PioFault;
 
-/// Whether an instruction may go to a place: those above 31 are never free.
-fn is_free(used: u32, place: usize) -> bool
-    ensures { IsTrue result ↔ IsFree used place }
+/// Whether an instruction may go to an address: those above 31 are never free.
+fn is_free(used: u32, address: usize) -> bool
+    ensures { IsTrue result ↔ IsFree used address }
 {
-    place < 32 && (used >> place as u32) % 2 == 0
+    address < 32 && (used >> address as u32) % 2 == 0
 }
 
-/// Whether so many places from this one on are free.
+/// Whether so many addresses from this one on are free.
 fn are_free(used: u32, offset: usize, count: usize) -> bool
     requires offset { offset < 256 }
     requires count { count ≤ 32 }
@@ -27,8 +27,8 @@ fn are_free(used: u32, offset: usize, count: usize) -> bool
     true
 }
 
-/// The least place from which so many are free.
-fn first_place(used: u32, count: usize) -> Option<u8>
+/// The least address from which so many are free.
+fn first_address(used: u32, count: usize) -> Option<u8>
     requires { count ≤ 32 }
     ensures some { IfSome result (λ offset. AreFree used offset count
         × ((lower : ℕ) → lower < offset → ¬ AreFree used lower count)) }
@@ -42,22 +42,23 @@ fn first_place(used: u32, count: usize) -> Option<u8>
     None
 }
 
-/// Where a program goes in an instruction memory whose places `used` are taken, one bit each: its
-/// origin, or without one the least place from which enough are free. `NoRoom`, with the program's
-/// length, where they are not free; a place above 31 is never free.
+/// Where a program goes in an instruction memory whose addresses `used` are taken, one bit each: its
+/// origin, or without one the least address from which enough are free. `NoRoom`, with the program's
+/// length, where they are not free; an address above 31 is never free.
 pub fn place_program(used: u32, program: &Program) -> Result<u8, PioFault>
-    ensures ok { IfOk result (IsPlaceFor used program.now.origin (length program.now.words.items)) }
+    ensures ok { IfOk result
+        (IsAddressFor used program.now.origin (length program.now.words.items)) }
     ensures err { IfErr result (λ fault. (fault ≡ PioFault.NoRoom (length program.now.words.items))
-        × HasNoPlace used program.now.origin (length program.now.words.items)) }
+        × HasNoAddress used program.now.origin (length program.now.words.items)) }
 {
     let count = program.words.len();
-    let place = match program.origin {
+    let address = match program.origin {
         Some(origin) if are_free(used, origin as usize, count) => Some(origin),
         Some(_) => None,
-        None => first_place(used, count),
+        None => first_address(used, count),
     };
-    match place {
-        Some(place) => Ok(place),
+    match address {
+        Some(address) => Ok(address),
         None => Err(PioFault::NoRoom(count as u64)),
     }
 }

@@ -1,5 +1,5 @@
 -- Laws of a block: of each pin the highest machine that wrote it decides (RP2040 Datasheet, 3.5.6), a block that RESETS holds
--- stays in its reset state (2.14), and no FIFO holds more words than it has places (3.5.3), whatever happens to the block.
+-- stays in its reset state (2.14), and no FIFO holds more words than it has room for (3.5.3), whatever happens to the block.
 use Rattle.std.specs.Prelude.{◌≡◌, ℕ, ◌<◌, Bool, true, if◌then◌else◌, List, [], ◌∷◌, length, Option, Some, None}
 use Rattle.std.specs.Int.{bit_at}
 use Rattle.pio_machine.specs.declared.machine.Machine1.{Machine1}
@@ -50,7 +50,7 @@ AHeldBlockStays = (s : Block) → StaysHeld (with_held true s)
 
 -- ---- the FIFOs
 
--- of each machine, neither FIFO holds more words than it has places
+-- of each machine, neither FIFO holds more words than it has room for
 abbrev pub AreWithin : List Machine1 → Type 0
 AreWithin [] = Unit {0}
 AreWithin (m ∷ ms) = IsWithin m × AreWithin ms
@@ -61,13 +61,13 @@ pub data Happening : Type 0 where
   Cycle : (begun : Option Inputs) → Happening
   Access : (offset : ℕ) (write : Option ℕ) → Happening
   Hold : (held : Bool) → Happening
-  Counter : (machine place : ℕ) → Happening
+  Counter : (machine address : ℕ) → Happening
 
 abbrev pub after : Happening → Block → Block
 after (Cycle begun) s = next begun s
 after (Access offset write) s = effect_of offset write s
 after (Hold held) s = with_held held s
-after (Counter machine place) s = counter_set machine place s
+after (Counter machine address) s = counter_set machine address s
 
 -- the block after all of these
 abbrev pub after_all : List Happening → Block → Block

@@ -1,6 +1,6 @@
 use Rattle.std.proofs.Common.{refl, ◌∙◌}
 use Rattle.uf2_image.specs.Uf2.{has_number, is_loaded}
-use Rattle.uf2_image.proofs.reading.Kept.new.Goals as goal
+use Rattle.uf2_image.proofs.reading.KeptBlocks.new.Goals as goal
 
 pub returns-clause-index : goal.returns-clause-index
 unfolding has_number is_loaded

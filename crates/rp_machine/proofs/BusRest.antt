@@ -14,7 +14,7 @@ use Rattle.rp_machine.specs.declared.wanted.Wanted.{Wanted}
 use Rattle.rp_machine.specs.State.{State}
 use Rattle.rp_machine.specs.Deeds.{asked_of, turn_of, deed_of}
 use Rattle.rp_machine.specs.Cycle.{begun, wanted, asked, granted, turns, deeds, with_turns, with_sio, started_by, after_deed, after_launcher, ended, after_deeds, stepped, next_by, next}
-use Rattle.rp_machine.specs.Quiet.{is_nothing, wants_nothing, is_quiet, no_turns, quiet_core1, quiet_next, QuietCyclesChangeTheLanesAlone}
+use Rattle.rp_machine.specs.BusRest.{is_nothing, wants_nothing, is_bus_at_rest, no_turns, core1_at_rest, rest_next, CyclesAtRestChangeTheLanesAlone}
 
 pub both : (a b : Bool) → (a && b) ≡ true → (a ≡ true) × (b ≡ true)
 both true b h = (refl, h)
@@ -27,38 +27,38 @@ nothing (want.Outward request) h = absurd (cc h)
 nothing want.Signal h = absurd (cc h)
 nothing (want.Stopped cause) h = absurd (cc h)
 
--- where no want is left, a cycle is a quiet one
-quiet_four : (w : Setting) (b : Begun) (x0 x1 x2 x3 : Wanted) (s : State)
+-- where no want is left, the bus is at rest in the cycle
+rest_four : (w : Setting) (b : Begun) (x0 x1 x2 x3 : Wanted) (s : State)
     → x0.want ≡ want.Nothing → x1.want ≡ want.Nothing → x2.want ≡ want.Nothing → x3.want ≡ want.Nothing
     → has_hold s.fabric ≡ false
-    → next_by w b (x0 ∷ x1 ∷ x2 ∷ x3 ∷ []) s ≡ quiet_next w b s
-unfolding next_by stepped granted asked asked_of turns turn_of deeds deed_of after_deeds after_deed quiet_next quiet_core1
-quiet_four w b x0 x1 x2 x3 s e0 e1 e2 e3 free = rw (e0, e1, e2, e3, nobody-after s.fabric free) refl
+    → next_by w b (x0 ∷ x1 ∷ x2 ∷ x3 ∷ []) s ≡ rest_next w b s
+unfolding next_by stepped granted asked asked_of turns turn_of deeds deed_of after_deeds after_deed rest_next core1_at_rest
+rest_four w b x0 x1 x2 x3 s e0 e1 e2 e3 free = rw (e0, e1, e2, e3, nobody-after s.fabric free) refl
 
-pub quiet_by : (w : Setting) (b : Begun) (xs : List Wanted) (s : State)
+pub rest_by : (w : Setting) (b : Begun) (xs : List Wanted) (s : State)
     → length xs ≡ 4 → list_all wants_nothing xs ≡ true → has_hold s.fabric ≡ false
-    → next_by w b xs s ≡ quiet_next w b s
-quiet_by w b (x0 ∷ x1 ∷ x2 ∷ x3 ∷ []) s l all free =
+    → next_by w b xs s ≡ rest_next w b s
+rest_by w b (x0 ∷ x1 ∷ x2 ∷ x3 ∷ []) s l all free =
     let a = both (is_nothing x0.want) _ all in
     let c = both (is_nothing x1.want) _ a.1 in
     let d = both (is_nothing x2.want) _ c.1 in
     let e = both (is_nothing x3.want) _ d.1 in
-    quiet_four w b x0 x1 x2 x3 s (nothing x0.want a.0) (nothing x1.want c.0) (nothing x2.want d.0) (nothing x3.want e.0) free
-quiet_by w b [] s l all free = absurd (omega (arith, l))
-quiet_by w b (x0 ∷ []) s l all free = absurd (omega (arith, l))
-quiet_by w b (x0 ∷ x1 ∷ []) s l all free = absurd (omega (arith, l))
-quiet_by w b (x0 ∷ x1 ∷ x2 ∷ []) s l all free = absurd (omega (arith, l))
-quiet_by w b (x0 ∷ x1 ∷ x2 ∷ x3 ∷ x4 ∷ xs) s l all free = absurd (omega (arith, l))
+    rest_four w b x0 x1 x2 x3 s (nothing x0.want a.0) (nothing x1.want c.0) (nothing x2.want d.0) (nothing x3.want e.0) free
+rest_by w b [] s l all free = absurd (omega (arith, l))
+rest_by w b (x0 ∷ []) s l all free = absurd (omega (arith, l))
+rest_by w b (x0 ∷ x1 ∷ []) s l all free = absurd (omega (arith, l))
+rest_by w b (x0 ∷ x1 ∷ x2 ∷ []) s l all free = absurd (omega (arith, l))
+rest_by w b (x0 ∷ x1 ∷ x2 ∷ x3 ∷ x4 ∷ xs) s l all free = absurd (omega (arith, l))
 
 pub is_false : (b : Bool) → not b ≡ true → b ≡ false
 is_false true h = absurd (cc h)
 is_false false h = refl
 
-pub quiet_step : (w : Setting) (b : Begun) (xs : List Wanted) (s : State)
-    → is_quiet xs s ≡ true → length xs ≡ 4 → next_by w b xs s ≡ quiet_next w b s
-quiet_step w b xs s quiet l =
-    let a = both (list_all wants_nothing xs) _ quiet in
-    quiet_by w b xs s l a.0 (is_false (has_hold s.fabric) a.1)
+pub rest_step : (w : Setting) (b : Begun) (xs : List Wanted) (s : State)
+    → is_bus_at_rest xs s ≡ true → length xs ≡ 4 → next_by w b xs s ≡ rest_next w b s
+rest_step w b xs s rest l =
+    let a = both (list_all wants_nothing xs) _ rest in
+    rest_by w b xs s l a.0 (is_false (has_hold s.fabric) a.1)
 
 -- ---- what such a cycle leaves
 
@@ -87,19 +87,19 @@ core1_leaves_by : (asleep : Bool) (s : State) → Leaves s (if asleep then after
 core1_leaves_by true s = launcher_leaves s
 core1_leaves_by false s = record { sram = refl; fabric = refl; resets = refl }
 
-quiet_leaves : (w : Setting) (b : Begun) (s : State) → Leaves s (quiet_next w b s)
-unfolding quiet_next quiet_core1 ended with_turns
-quiet_leaves w b s =
+rest_leaves : (w : Setting) (b : Begun) (s : State) → Leaves s (rest_next w b s)
+unfolding rest_next core1_at_rest ended with_turns
+rest_leaves w b s =
     let stepped_lanes = with_turns w b no_turns s in
     let here = core1_leaves_by stepped_lanes.core1.asleep stepped_lanes in
-    let there = sio_leaves _ (quiet_core1 stepped_lanes) in
+    let there = sio_leaves _ (core1_at_rest stepped_lanes) in
     record { sram = there.sram ∙ here.sram; fabric = there.fabric ∙ here.fabric; resets = there.resets ∙ here.resets }
 
-pub quiet_cycles : QuietCyclesChangeTheLanesAlone
+pub cycles_at_rest : CyclesAtRestChangeTheLanesAlone
 unfolding next wanted
-quiet_cycles w s quiet =
-    let e = quiet_step w (begun s) (wanted (begun s)) s quiet refl in
-    let leaves = quiet_leaves w (begun s) s in
+cycles_at_rest w s rest =
+    let e = rest_step w (begun s) (wanted (begun s)) s rest refl in
+    let leaves = rest_leaves w (begun s) s in
     record {
       steps = e;
       sram = ap (λ (t : State). t.sram) e ∙ leaves.sram;

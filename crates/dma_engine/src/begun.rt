@@ -19,7 +19,7 @@ pub enum Access {
 
 /// What the engine has begun in a cycle, once its questions are answered.
 #[derive(Clone, Copy)]
-pub struct Doing {
+pub struct BegunTransfer {
     /// What it does by its read port.
     pub read: Access,
     /// What it does by its write port.
