@@ -10,7 +10,7 @@ use Rattle.pio_parse.specs.declared.fault.PioFault.TheVariants.{Unknown, Twice, 
 use Rattle.pio_parse.specs.declared.syntax.Statement.{Statement}
 use Rattle.pio_parse.specs.declared.syntax.Statement.TheVariants.{Program, Define, Origin, SideSet, WrapTarget, Wrap, Word, Instruction as InstructionStatement}
 use Rattle.pio_parse.specs.declared.syntax.Line.{Line}
-use Rattle.pio_parse.specs.declared.syntax.ParsedSource.{ParsedSource}
+use Rattle.pio_parse.specs.declared.syntax.Source.{Source}
 use Rattle.pio_parse.specs.declared.syntax.SourceProgram.{SourceProgram}
 use Rattle.pio_parse.specs.Outcome.{map_ok}
 use Rattle.pio_asm.specs.declared.value.Evaluated.{Evaluated}
@@ -310,7 +310,7 @@ programs_whole globals taken plans (program ∷ programs) all h e = elim (result
   | inr bad ↦ let g : programs_from globals taken plans (program ∷ programs) ≡ Err bad.0 = rw bad.1 refl in let i : Err bad.0 ≡ Ok all = sym g ∙ e in cc
 ]
 
-pub source_whole : (source : ParsedSource) (all : List Plan) → assembled source ≡ Ok all → AreWhole all
+pub source_whole : (source : Source) (all : List Plan) → assembled source ≡ Ok all → AreWhole all
 source_whole source all e = elim (result_cases (lines_of [] source.globals (names_of [] [] 0 source.globals))) [
   | inl ok ↦
       let g : assembled source ≡ programs_from ok.0.seen [] [] source.programs = rw ok.1 refl in

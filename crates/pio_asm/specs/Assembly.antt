@@ -6,7 +6,7 @@ use Rattle.pio_parse.specs.declared.fault.PioFault.{PioFault}
 use Rattle.pio_parse.specs.declared.fault.PioFault.TheVariants.{Memory, Twice, Wrap}
 use Rattle.pio_parse.specs.declared.syntax.Line.{Line}
 use Rattle.pio_parse.specs.declared.syntax.SourceProgram.{SourceProgram}
-use Rattle.pio_parse.specs.declared.syntax.ParsedSource.{ParsedSource}
+use Rattle.pio_parse.specs.declared.syntax.Source.{Source}
 use Rattle.pio_parse.specs.Outcome.{and_then, map_ok}
 use Rattle.pio_asm.specs.declared.plan.Member.{Member}
 use Rattle.pio_asm.specs.declared.building.Building.{Building}
@@ -63,7 +63,7 @@ programs_from globals taken plans (program ∷ programs) = and_then
     (program_plan globals taken program)
 
 -- the programs of a source, or its first fault: of the first line that has one, the one with the least number
-abbrev pub assembled : ParsedSource → Result (List Plan) PioFault
+abbrev pub assembled : Source → Result (List Plan) PioFault
 assembled source = and_then (λ globals. programs_from globals.seen [] [] source.programs) (lines_of [] source.globals (names_of [] [] 0 source.globals))
 
 -- a program with its words

@@ -2,7 +2,7 @@
 use Rattle.std.specs.Prelude.{◌≡◌, ◌==◌, ◌&&◌, not, ℕ, ◌-◌, ◌<◌, ◌≤◌, false, if◌then◌else◌, List, [], ◌∷◌, length, None, Ok, codes, All}
 use Rattle.pio_words.specs.declared.side.SideConfig.{SideConfig}
 use Rattle.pio_disasm.specs.Text.{source_text}
-use Rattle.pio_parse.specs.declared.syntax.ParsedSource.{ParsedSource}
+use Rattle.pio_parse.specs.declared.syntax.Source.{Source}
 use Rattle.pio_parse.specs.Source.{parsed}
 use Rattle.pio_asm.specs.Plan.{IsConfig}
 use Rattle.pio_asm.specs.Code.{AreWordsOf}
@@ -14,7 +14,7 @@ named_side side = if (side.count == 0) && not side.opt then record { count = 0; 
 
 -- the source of words is one program of these words and no others, named `code`, which wraps from its last instruction to its first
 pub record ReadsBack (side : SideConfig) (words : List ℕ) : Type 0 where
-  pub source : ParsedSource
+  pub source : Source
   pub plan : Plan
   pub parses : parsed (source_text side words) ≡ Ok source
   pub assembles : assembled source ≡ Ok (plan ∷ [])

@@ -13,7 +13,7 @@ use crate::modifiers::config_or_none;
 use crate::names::{add_line_names, makes_member};
 use crate::symbols::Symbols;
 use arrayvec::ArrayVec;
-use pio_parse::{Line, Name, ParsedSource, PioFault, SourceProgram};
+use pio_parse::{Line, Name, PioFault, Source, SourceProgram};
 use pio_words::SideConfig;
 use std::alloc::{AllocError, Global};
 
@@ -188,7 +188,7 @@ fn take_programs<'a>(
 /// first line that has a fault, the one with the least number.
 ///
 /// Memory may run out at any time.
-pub fn assemble(alloc: Global, source: &ParsedSource) -> Result<Vec<Program>, PioFault>
+pub fn assemble(alloc: Global, source: &Source) -> Result<Vec<Program>, PioFault>
     ensures ok { IfOk result (λ programs. Assembles programs.items (assembled source.now)) }
     ensures err { IfErr result (IsFaultOf (assembled source.now)) }
 {

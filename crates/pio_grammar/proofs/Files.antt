@@ -4,7 +4,7 @@ use mathlib.Core.Bool.{false≢true}
 use Rattle.pio_parse.specs.declared.token.SourcePosition.{SourcePosition}
 use Rattle.pio_parse.specs.declared.token.Token.{Token}
 use Rattle.pio_parse.specs.declared.syntax.Line.{Line}
-use Rattle.pio_parse.specs.declared.syntax.ParsedSource.{ParsedSource}
+use Rattle.pio_parse.specs.declared.syntax.Source.{Source}
 use Rattle.pio_parse.specs.Outcome.{and_then, map_ok}
 use Rattle.pio_parse.specs.Cursor.{Outcome}
 use Rattle.pio_parse.specs.Scan.{scanned}
@@ -115,29 +115,29 @@ module _ (text : List ℕ) where
       let parts = both (is_line tokens) (are_lines others) are in rw (complete is, faults_complete parts.1 later) refl
 
   -- files
-  gathered_is : (tokens : List Token) (source : ParsedSource) (outcome : Result (List Line) SourcePosition) → with_syntax (map_ok gathered outcome) ≡ Ok source → (lines : List Line) × (outcome ≡ Ok lines) × (gathered lines ≡ source)
+  gathered_is : (tokens : List Token) (source : Source) (outcome : Result (List Line) SourcePosition) → with_syntax (map_ok gathered outcome) ≡ Ok source → (lines : List Line) × (outcome ≡ Ok lines) × (gathered lines ≡ source)
   gathered_is tokens source (Err p) q = absurd (refused q)
   gathered_is tokens source (Ok lines) q = (lines, refl, ap part q)
     where
-      part : Result ParsedSource EarlyFault → ParsedSource
+      part : Result Source EarlyFault → Source
       part (Ok x) = x
       part (Err p) = source
 
-  source_read : (source : ParsedSource) (outcome : Result (List Token) SourcePosition) → scanned text ≡ outcome → parsed_tokens text outcome ≡ Ok source → IsSource text source
+  source_read : (source : Source) (outcome : Result (List Token) SourcePosition) → scanned text ≡ outcome → parsed_tokens text outcome ≡ Ok source → IsSource text source
   source_read source (Err p) e q = absurd (refused q)
   source_read source (Ok tokens) e q =
       let is = gathered_is tokens source (lines_at text false (token_lines tokens)) q in
       (tokens, is.0, (lexes_exactly text tokens).0 e, are_read (token_lines tokens) false is.0 (token_lines_are tokens) is.1, is.2)
 
-  source_parsed : (source : ParsedSource) → IsSource text source → parsed text ≡ Ok source
+  source_parsed : (source : Source) → IsSource text source → parsed text ≡ Ok source
   source_parsed source (tokens, lines, lexed, are, same) = rw ((lexes_exactly text tokens).1 lexed, lines_complete are) (ap Ok same)
 
-  abbrev position_in : SourcePosition → Result ParsedSource EarlyFault → SourcePosition
+  abbrev position_in : SourcePosition → Result Source EarlyFault → SourcePosition
   position_in position (Ok x) = position
   position_in position (Err (SyntaxAt p)) = p
   position_in position (Err (CharAt p)) = position
 
-  abbrev is_syntax : Result ParsedSource EarlyFault → Bool
+  abbrev is_syntax : Result Source EarlyFault → Bool
   is_syntax (Ok x) = false
   is_syntax (Err (SyntaxAt p)) = true
   is_syntax (Err (CharAt p)) = false
@@ -164,7 +164,7 @@ line_in : Line → Outcome Line → Line
 line_in line (Ok x) = x.0
 line_in line (Err p) = line
 
-source_in : ParsedSource → Result ParsedSource EarlyFault → ParsedSource
+source_in : Source → Result Source EarlyFault → Source
 source_in source (Ok x) = x
 source_in source (Err p) = source
 
@@ -172,7 +172,7 @@ same_line : (line other : Line) → Path (Outcome Line) (Ok (line, [])) (Ok (oth
 unfolding line_in
 same_line line other q = ap (line_in line) q
 
-same_source : (source other : ParsedSource) → Path (Result ParsedSource EarlyFault) (Ok source) (Ok other) → source ≡ other
+same_source : (source other : Source) → Path (Result Source EarlyFault) (Ok source) (Ok other) → source ≡ other
 unfolding source_in
 same_source source other q = ap (source_in source) q
 

@@ -3,7 +3,7 @@ use Rattle.std.specs.Prelude.{◌≡◌, ◌||◌, ℕ, Bool, false, List, [], �
 use Rattle.pio_parse.specs.declared.token.SourcePosition.{SourcePosition}
 use Rattle.pio_parse.specs.declared.token.Token.{Token}
 use Rattle.pio_parse.specs.declared.syntax.Line.{Line}
-use Rattle.pio_parse.specs.declared.syntax.ParsedSource.{ParsedSource}
+use Rattle.pio_parse.specs.declared.syntax.Source.{Source}
 use Rattle.pio_parse.specs.Lexical.{IsLexed}
 use Rattle.pio_parse.specs.Source.{gathered, token_lines}
 use Rattle.pio_parse.specs.Statement.{is_program}
@@ -17,7 +17,7 @@ pub data AreLines (text : List ℕ) : Bool → List (List Token) → List Line �
       → AreLines text started (tokens ∷ others) (line ∷ lines)
 
 -- a file's characters are lexemes, its tokens are lines, each up to its end, and the source is what the lines say
-abbrev pub IsSource : List ℕ → ParsedSource → Type 0
+abbrev pub IsSource : List ℕ → Source → Type 0
 IsSource text source = (tokens : List Token) × (lines : List Line)
     × IsLexed text tokens × AreLines text false (token_lines tokens) lines × (gathered lines ≡ source)
 

@@ -7,7 +7,7 @@ use Rattle.pio_parse.specs.declared.expression.Term.TheVariants.{Number, Name}
 use Rattle.pio_parse.specs.declared.syntax.Operation.TheVariants.{Jmp}
 use Rattle.pio_parse.specs.declared.syntax.Statement.TheVariants.{Instruction}
 use Rattle.pio_parse.specs.declared.syntax.Line.{Line}
-use Rattle.pio_parse.specs.declared.syntax.ParsedSource.{ParsedSource}
+use Rattle.pio_parse.specs.declared.syntax.Source.{Source}
 use Rattle.pio_parse.specs.Source.{parsed}
 use Rattle.pio_parse.specs.Source.EarlyFault.{SyntaxAt}
 use Rattle.pio_parse.specs.Statement.{is_end, line_at}
@@ -35,7 +35,7 @@ LineFaultsAtFirst = (text : List ℕ) (started : Bool) (tokens : List Token) (po
 
 -- what is parsed is what the lines of the grammar say, and each file of lines of the grammar is parsed
 abbrev pub ParsesGrammar : Type 0
-ParsesGrammar = (text : List ℕ) (source : ParsedSource) → (parsed text ≡ Ok source) ↔ IsSource text source
+ParsesGrammar = (text : List ℕ) (source : Source) → (parsed text ≡ Ok source) ↔ IsSource text source
 
 -- a Syntax fault is at a file's first token with which no line of the grammar begins as its line does up to it
 abbrev pub SyntaxFaultsAtFirst : Type 0
@@ -45,7 +45,7 @@ SyntaxFaultsAtFirst = (text : List ℕ) (position : SourcePosition) → (parsed 
 abbrev pub OneMeaning : Type 0
 OneMeaning =
     ((text : List ℕ) (started : Bool) (tokens : List Token) (line other : Line) → IsLine text started tokens line → IsLine text started tokens other → line ≡ other)
-    × ((text : List ℕ) (source other : ParsedSource) → IsSource text source → IsSource text other → source ≡ other)
+    × ((text : List ℕ) (source other : Source) → IsSource text source → IsSource text other → source ≡ other)
 
 -- a file has its first token that fits nothing at this line and column
 abbrev pub FaultsIn : List ℕ → ℕ → ℕ → Type 0

@@ -1,7 +1,7 @@
 -- The programs of a PIO source file, and their listing (RP2040 Datasheet, 3.3; the listing is the project's own).
 use Rattle.std.specs.Prelude.{ℕ, Bool, true, false, List, ◌++◌, length, Option, Some, None, Result, Ok, Err, codes, decimal, flat_map}
 use Rattle.pio_words.specs.declared.side.SideConfig.{SideConfig}
-use Rattle.pio_parse.specs.declared.syntax.ParsedSource.{ParsedSource}
+use Rattle.pio_parse.specs.declared.syntax.Source.{Source}
 use Rattle.pio_parse.specs.declared.fault.PioFault.{PioFault}
 use Rattle.pio_parse.specs.declared.fault.PioFault.TheVariants.{Char, Syntax}
 use Rattle.pio_parse.specs.Source.{EarlyFault, parsed}
@@ -17,7 +17,7 @@ abbrev pub early_fault : EarlyFault → PioFault
 early_fault (CharAt position) = Char position.line position.column
 early_fault (SyntaxAt position) = Syntax position.line position.column
 
-abbrev pub plans_in : Result ParsedSource EarlyFault → Result (List Plan) PioFault
+abbrev pub plans_in : Result Source EarlyFault → Result (List Plan) PioFault
 plans_in (Ok source) = assembled source
 plans_in (Err fault) = Err (early_fault fault)
 

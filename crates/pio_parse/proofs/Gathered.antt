@@ -7,7 +7,7 @@ use Rattle.pio_parse.specs.declared.syntax.Statement.{Statement}
 use Rattle.pio_parse.specs.declared.syntax.Statement.TheVariants.{Program}
 use Rattle.pio_parse.specs.declared.syntax.Line.{Line}
 use Rattle.pio_parse.specs.declared.syntax.SourceProgram.{SourceProgram}
-use Rattle.pio_parse.specs.declared.syntax.ParsedSource.{ParsedSource}
+use Rattle.pio_parse.specs.declared.syntax.Source.{Source}
 use Rattle.pio_parse.specs.declared.parser.Groups.{Groups}
 use Rattle.pio_parse.specs.Outcome.{and_then, map_ok}
 use Rattle.pio_parse.specs.Statement.{is_end, is_program, line_at}
@@ -15,16 +15,16 @@ use Rattle.pio_parse.specs.Source.{before_by, gathered, lines_at, source_of, tok
 use Rattle.pio_parse.specs.Gathering.{grouped, grouped_by, line_step, no_groups, source_from}
 
 -- what is gathered, with the source of the lines that come
-abbrev joined_to : List Line → List SourceProgram → Option SourceProgram → ParsedSource → ParsedSource
+abbrev joined_to : List Line → List SourceProgram → Option SourceProgram → Source → Source
 joined_to globals programs None source = record { globals = globals ++ source.globals; programs = programs ++ source.programs }
 joined_to globals programs (Some program) source =
     record { globals = globals; programs = programs ++ record program { lines = program.lines ++ source.globals } ∷ source.programs }
 
-abbrev joined : Groups → ParsedSource → ParsedSource
+abbrev joined : Groups → Source → Source
 joined groups source = joined_to groups.globals groups.programs groups.current source
 
 -- a line that is gathered, before the others
-grows : (number : ℕ) (label : Option (List ℕ)) (statement : Option Statement) (g : List Line) (ps : List SourceProgram) (current : Option SourceProgram) (source : ParsedSource)
+grows : (number : ℕ) (label : Option (List ℕ)) (statement : Option Statement) (g : List Line) (ps : List SourceProgram) (current : Option SourceProgram) (source : Source)
     → joined (grouped_by number label statement (record { globals = g; programs = ps; current = current })) source ≡ joined_to g ps current (before_by number label statement source)
 grows number None None g ps None source = refl
 grows number None None g ps (Some p) source = refl
@@ -69,7 +69,7 @@ prefixed-first : (current : List Token) (token : Token) (lines : List (List Toke
 prefixed-first current token [] = refl
 prefixed-first current token (line ∷ lines) = rw (append_assoc current (token ∷ []) line) refl
 
-abbrev whole : List ℕ → Groups → List (List Token) → Result ParsedSource SourcePosition
+abbrev whole : List ℕ → Groups → List (List Token) → Result Source SourcePosition
 whole text groups lines = map_ok (λ (ls : List Line). joined groups (gathered ls)) (lines_at text (is_some groups.current) lines)
 
 none_left : (g : List Line) (ps : List SourceProgram) (current : Option SourceProgram) → joined_to g ps current (record { globals = []; programs = [] }) ≡ record { globals = g; programs = ps ++ option_to_list current }
@@ -78,7 +78,7 @@ none_left g ps (Some p) = rw (append-nil p.lines) refl
 
 -- one more line before those that are read
 one_more : (groups : Groups) (line : Line) (lines : Result (List Line) SourcePosition) → map_ok (λ (ls : List Line). joined (grouped groups line) (gathered ls)) lines ≡ map_ok (λ (ls : List Line). joined groups (gathered ls)) (map_ok (λ ls. line ∷ ls) lines)
-one_more groups line (Ok ls) = ap (λ (s : ParsedSource). Ok s) (grows line.number line.label line.statement groups.globals groups.programs groups.current (gathered ls))
+one_more groups line (Ok ls) = ap (λ (s : Source). Ok s) (grows line.number line.label line.statement groups.globals groups.programs groups.current (gathered ls))
 one_more groups line (Err position) = refl
 
 -- what is read after the tokens of the line so far
@@ -102,7 +102,7 @@ step true text groups current token tokens ih = line_read text groups tokens (li
 step false text groups current token tokens ih = ih groups (current ++ token ∷ []) ∙ ap (λ lines. whole text groups lines) (prefixed-first current token (token_lines tokens))
 
 gathers : (text : List ℕ) (tokens : List Token) → Gathers text tokens
-gathers text [] = λ groups current. ap (λ (s : ParsedSource). Ok s) (sym (none_left groups.globals groups.programs groups.current))
+gathers text [] = λ groups current. ap (λ (s : Source). Ok s) (sym (none_left groups.globals groups.programs groups.current))
 gathers text (token ∷ tokens) = λ groups current. step (is_end token.kind) text groups current token tokens (gathers text tokens)
 
 pub source_gathered : (text : List ℕ) (tokens : List Token) → source_of text tokens ≡ source_from text no_groups [] tokens

@@ -11,7 +11,7 @@ use Rattle.pio_parse.specs.declared.syntax.Statement.{Statement}
 use Rattle.pio_parse.specs.declared.syntax.Statement.TheVariants.{Program}
 use Rattle.pio_parse.specs.declared.syntax.Line.{Line}
 use Rattle.pio_parse.specs.declared.syntax.SourceProgram.{SourceProgram}
-use Rattle.pio_parse.specs.declared.syntax.ParsedSource.{ParsedSource}
+use Rattle.pio_parse.specs.declared.syntax.Source.{Source}
 use Rattle.pio_parse.specs.declared.parser.Groups.{Groups}
 use Rattle.pio_parse.specs.Outcome.{and_then}
 use Rattle.pio_parse.specs.Scan.{scanned, scanned_from}
@@ -85,7 +85,7 @@ lines_read (ps ∷ pss) (line ∷ lines) text number program last a =
 abbrev pub header : List ℕ
 header = codes ".program code\n"
 
-abbrev pub source_of_lines : List Line → ParsedSource
+abbrev pub source_of_lines : List Line → Source
 source_of_lines lines = record { globals = []; programs = record { name = codes "code"; number = 1; lines = lines } ∷ [] }
 
 header_tokens : List Token

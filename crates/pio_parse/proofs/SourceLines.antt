@@ -7,7 +7,7 @@ use Rattle.pio_parse.specs.declared.cursor.Stop.TheVariants.{Syntax, Memory}
 use Rattle.std.specs.Prelude.{Result, Ok}
 use Rattle.pio_parse.specs.declared.token.SourcePosition.{SourcePosition}
 use Rattle.pio_parse.specs.declared.token.Token.{Token}
-use Rattle.pio_parse.specs.declared.syntax.ParsedSource.{ParsedSource}
+use Rattle.pio_parse.specs.declared.syntax.Source.{Source}
 use Rattle.pio_parse.specs.declared.parser.Groups.{Groups}
 use Rattle.pio_parse.specs.Outcome.{and_then}
 use Rattle.pio_parse.specs.Statement.{is_end}
@@ -32,7 +32,7 @@ slice_none xs i = let e : i - i ≡ 0 = omega arith in rw e refl
 drop_next : {X : Type 0} (xs : List X) (j : ℕ) (d : X) → j < length xs → drop j xs ≡ get_or xs j d ∷ drop (j + 1) xs
 drop_next xs j d lt = rw add-one (drop-cons xs j d lt)
 
-abbrev lines-then : List ℕ → Groups → List Token → ℕ → ℕ → Result ParsedSource SourcePosition
+abbrev lines-then : List ℕ → Groups → List Token → ℕ → ℕ → Result Source SourcePosition
 lines-then text groups tokens start index = source_from text groups (slice_range tokens start index) (drop index tokens)
 
 -- a line ends at this token

@@ -7,7 +7,7 @@ use Rattle.pio_parse.specs.declared.syntax.Statement.{Statement}
 use Rattle.pio_parse.specs.declared.syntax.Statement.TheVariants.{Program}
 use Rattle.pio_parse.specs.declared.syntax.Line.{Line}
 use Rattle.pio_parse.specs.declared.syntax.SourceProgram.{SourceProgram}
-use Rattle.pio_parse.specs.declared.syntax.ParsedSource.{ParsedSource}
+use Rattle.pio_parse.specs.declared.syntax.Source.{Source}
 use Rattle.pio_parse.specs.declared.parser.Groups.{Groups}
 use Rattle.pio_parse.specs.Outcome.{and_then, map_ok}
 use Rattle.pio_parse.specs.Statement.{is_end, line_at}
@@ -45,11 +45,11 @@ grouped groups line = grouped_by line.number line.label line.statement groups
 abbrev pub line_step : List ℕ → Groups → List Token → Result Groups SourcePosition
 line_step text groups tokens = map_ok (λ line. grouped groups line.0) (line_at text (is_some groups.current) tokens)
 
-abbrev pub source_of_groups : Groups → ParsedSource
+abbrev pub source_of_groups : Groups → Source
 source_of_groups groups = record { globals = groups.globals; programs = groups.programs ++ option_to_list groups.current }
 
 -- the source that goes on with these tokens, where `current` are the tokens of the line so far: a line goes up to its end
-abbrev pub source_from : List ℕ → Groups → List Token → List Token → Result ParsedSource SourcePosition
+abbrev pub source_from : List ℕ → Groups → List Token → List Token → Result Source SourcePosition
 source_from text groups current [] = Ok (source_of_groups groups)
 source_from text groups current (token ∷ tokens) =
     if is_end token.kind

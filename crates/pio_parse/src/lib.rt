@@ -25,6 +25,6 @@ pub use fault::PioFault;
 pub use name::Name;
 pub use parser::parse;
 pub use syntax::{
-    BoxedInstruction, Instruction, Line, Lines, Operation, ParsedSource, Programs, SourceProgram,
+    BoxedInstruction, Instruction, Line, Lines, Operation, Programs, Source, SourceProgram,
     Statement,
 };

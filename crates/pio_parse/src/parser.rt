@@ -12,7 +12,7 @@ use crate::fault::PioFault;
 use crate::name::Name;
 use crate::scan::scan;
 use crate::statement::read_line;
-use crate::syntax::{Line, Lines, ParsedSource, Programs, SourceProgram, Statement};
+use crate::syntax::{Line, Lines, Programs, Source, SourceProgram, Statement};
 use crate::token::{Token, TokenKind};
 use std::alloc::{AllocError, Global};
 
@@ -121,7 +121,7 @@ fn add_line(file: &File, tokens: &[Token], groups: &mut Groups) -> Result<(), St
     Ok(())
 }
 
-fn finish(groups: Groups) -> Result<ParsedSource, AllocError>
+fn finish(groups: Groups) -> Result<Source, AllocError>
     ensures { IfOk result (λ source. source ≡ source_of_groups groups) }
 {
     let Groups {
@@ -132,11 +132,11 @@ fn finish(groups: Groups) -> Result<ParsedSource, AllocError>
     if let Some(program) = current {
         programs.push(program)?;
     }
-    Ok(ParsedSource { globals, programs })
+    Ok(Source { globals, programs })
 }
 
 #[tactic(auto, using(crate::proofs::SourceLines::line_laws))]
-fn read_lines(file: &File, tokens: &[Token]) -> Result<ParsedSource, Stop>
+fn read_lines(file: &File, tokens: &[Token]) -> Result<Source, Stop>
     ensures ok { IfOk result (λ source. source_of file.now.text.now tokens.now ≡ Ok source) }
     ensures err { IfErr result (IsStopOf (source_of file.now.text.now tokens.now)) }
 {
@@ -162,7 +162,7 @@ fn read_lines(file: &File, tokens: &[Token]) -> Result<ParsedSource, Stop>
 /// Datasheet, 3.3).
 ///
 /// Memory may run out at any time.
-pub fn parse(alloc: Global, text: &[u8]) -> Result<ParsedSource, PioFault>
+pub fn parse(alloc: Global, text: &[u8]) -> Result<Source, PioFault>
     ensures ok { IfOk result (λ source. parsed text.now ≡ Ok source) }
     ensures err { IfErr result (IsFault (parsed text.now)) }
 {

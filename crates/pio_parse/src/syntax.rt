@@ -234,7 +234,7 @@ impl Programs {
 
 /// A whole file.
 #[derive(Drop)]
-pub struct ParsedSource {
+pub struct Source {
     /// The lines before the first `.program`.
     pub globals: Lines,
     pub programs: Programs,

@@ -8,7 +8,7 @@ ghost use Rattle.turn_board.specs.Answers.{Answers, Looks, LooksAgain, EachLane,
 
 use crate::answers::{Gather, See, Six};
 use crate::collect::{jobs_in, nothing, refill_all, results_in};
-use crate::hands::{Coordinator, Seat, Ticket};
+use crate::hands::{Master, Seat, Ticket};
 use crate::kept::Kept;
 use crate::opening::{empty_slots, seat_workers};
 use crate::rule::Rule;
@@ -57,7 +57,7 @@ impl<J: Kept<W> + Drop, R: Kept<W> + Drop, W> Board<J, R, W> {
         alloc: Global,
         made_for: W,
         seats: usize,
-    ) -> Result<(Board<J, R, W>, Coordinator<J, R, W>, Vec<Seat<J, R, W>>), AllocError>
+    ) -> Result<(Board<J, R, W>, Master<J, R, W>, Vec<Seat<J, R, W>>), AllocError>
     where
         W: Drop,
         requires { (0 < seats) × (seats ≤ 9) }
@@ -73,7 +73,7 @@ impl<J: Kept<W> + Drop, R: Kept<W> + Drop, W> Board<J, R, W> {
         let workers = seat_workers(&table.shared, &mut post, alloc, seats)?;
         steps::see_done(&table.shared, &mut post);
         refill_all(&table.shared, &mut post, nothing());
-        Ok((Board { table }, Coordinator { post, opened: 0 }, workers))
+        Ok((Board { table }, Master { post, opened: 0 }, workers))
     }
 
     /// Draws the next number: each number comes once, whichever seat draws. The seat has no ticket that is not done.
@@ -176,7 +176,7 @@ impl<J: Kept<W> + Drop, R: Kept<W> + Drop, W> Board<J, R, W> {
 
     /// Opens six more numbers, one for each lane, with the jobs that were made for the lanes. The master has gathered all earlier ones, and has
     /// not closed the board. At most 2^62 numbers are ever open.
-    pub fn offer(&self, master: &mut Coordinator<J, R, W>, jobs: Six<J>)
+    pub fn offer(&self, master: &mut Master<J, R, W>, jobs: Six<J>)
         requires board { master.old.board ≡ self.now }
         requires gathered { master.old.state.known ≡ master.old.state.opened }
         requires unclosed { master.old.state.closed ≡ false }
@@ -198,7 +198,7 @@ impl<J: Kept<W> + Drop, R: Kept<W> + Drop, W> Board<J, R, W> {
     }
 
     /// Gathers the six results, each made for its lane, if all open numbers are finished. The master has not gathered those that it offered.
-    pub fn gathered(&self, master: &mut Coordinator<J, R, W>) -> Gather<R>
+    pub fn gathered(&self, master: &mut Master<J, R, W>) -> Gather<R>
         requires board { master.old.board ≡ self.now }
         requires offered { master.old.state.known < master.old.state.opened }
         ensures same { (master.new.board ≡ master.old.board)
@@ -216,7 +216,7 @@ impl<J: Kept<W> + Drop, R: Kept<W> + Drop, W> Board<J, R, W> {
 
     /// Closes the board: a worker whose ticket is not open is told so from then on. The master has gathered all that
     /// it offered.
-    pub fn close(&self, master: &mut Coordinator<J, R, W>)
+    pub fn close(&self, master: &mut Master<J, R, W>)
         requires board { master.old.board ≡ self.now }
         requires gathered { master.old.state.known ≡ master.old.state.opened }
         ensures master { master.new
@@ -248,7 +248,7 @@ impl<J: Kept<W> + Drop, R: Kept<W> + Drop, W> Board<J, R, W> {
     }
 
     /// Gathers once all open numbers are finished, and sleeps until then: the answer is never `Part`.
-    pub fn await_all<H: Wait>(&self, rt: &H, master: &mut Coordinator<J, R, W>) -> Gather<R>
+    pub fn await_all<H: Wait>(&self, rt: &H, master: &mut Master<J, R, W>) -> Gather<R>
         requires board { master.old.board ≡ self.now }
         requires offered { master.old.state.known < master.old.state.opened }
         ensures same { (master.new.board ≡ master.old.board)

@@ -23,12 +23,12 @@ impl<J: Kept<W>, R: Kept<W>, W> Model for Seat<J, R, W> {
 
 /// The post of the one who opens numbers and gathers results.
 #[derive(Drop)]
-pub struct Coordinator<J: Kept<W>, R: Kept<W>, W> {
+pub struct Master<J: Kept<W>, R: Kept<W>, W> {
     pub(crate) post: Post<J, R, W>,
     pub(crate) opened: u64,
 }
 
-impl<J: Kept<W>, R: Kept<W>, W> Model for Coordinator<J, R, W> {
+impl<J: Kept<W>, R: Kept<W>, W> Model for Master<J, R, W> {
     ghost use Rattle.std.specs.Prelude.{◌≡◌};
     ghost use Rattle.turn_board.specs.Shown.{MasterView, master_shown, IsMaster};
 

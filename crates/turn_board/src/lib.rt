@@ -19,5 +19,5 @@ mod view;
 
 pub use answers::{Gather, See, Six};
 pub use calls::Board;
-pub use hands::{Coordinator, Seat, Ticket};
+pub use hands::{Master, Seat, Ticket};
 pub use kept::Kept;

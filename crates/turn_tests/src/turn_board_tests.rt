@@ -9,7 +9,7 @@ use std::sync::Wait;
 use std::test::Fail;
 use std::thread;
 use std::thread::Threads;
-use turn_board::{Board, Coordinator, Gather, Kept, Seat, See, Six};
+use turn_board::{Board, Gather, Kept, Master, Seat, See, Six};
 
 const LIMIT: u64 = 1 << 20;
 
@@ -39,7 +39,7 @@ type Numbers = Board<Piece, Next, u64>;
 
 type Worker = Seat<Piece, Next, u64>;
 
-type Leader = Coordinator<Piece, Next, u64>;
+type Leader = Master<Piece, Next, u64>;
 
 fn pieces(window: u64) -> Six<Piece>
     requires { window < WINDOWS }
@@ -304,7 +304,7 @@ impl<'b, 'a> Shift<'b, 'a> {
 #[derive(Drop)]
 struct Bench<'b, 'a> {
     board: &'b LentBoard<'a>,
-    master: Coordinator<Lent, Lent, &'a Bound>,
+    master: Master<Lent, Lent, &'a Bound>,
 }
 
 impl<'b, 'a> Bench<'b, 'a> {
