@@ -37,6 +37,7 @@ pub(crate) fn step_device<X: Device>(
 }
 
 /// A UART steps unless it is held; the byte whose frame ended.
+#[inline(always)]
 pub(crate) fn step_uart(uart: &mut Resettable<Uart>, line: bool) -> Option<u8>
     ensures after { uart.new ≡ uart_after line uart.old }
     ensures byte { result ≡ byte_of uart.old }

@@ -3,7 +3,7 @@
 ghost use Rattle.std.specs.Prelude.{◌≡◌, true, None, Decides};
 ghost use Rattle.rp_uart.specs.State.{at_reset};
 ghost use Rattle.rp_uart.specs.Interrupts.{is_line_high};
-ghost use Rattle.rp_uart.specs.Step.{output_of, heard_of, after_step, sent_byte, pacing_of};
+ghost use Rattle.rp_uart.specs.Step.{is_running, output_of, heard_of, after_step, sent_byte, pacing_of};
 
 use crate::control::{Control, Divisor, DmaControl};
 use crate::frame::{LineControl, WordLength};
@@ -156,7 +156,7 @@ impl Uart {
 
     /// One cycle, in which `line` is the level of RX; with LBE the UART hears its own TX in place of that. The byte whose frame
     /// ends in this cycle, None exactly where none does.
-    #[tactic(auto, using(crate::proofs::Kept::kept))]
+    #[inline(always)]
     pub fn step(&mut self, line: bool) -> Option<u8>
         ensures after { self.new ≡ after_step line self.old }
         ensures byte { result ≡ sent_byte self.old }
@@ -164,6 +164,17 @@ impl Uart {
         if self.divisor.integer == 0 {
             return None;
         }
+        self.run(line)
+    }
+
+    /// One cycle of a UART that has a divisor.
+    #[inline(never)]
+    #[tactic(auto, using(crate::proofs::Kept::kept))]
+    fn run(&mut self, line: bool) -> Option<u8>
+        requires { is_running self.old ≡ true }
+        ensures after { self.new ≡ after_step line self.old }
+        ensures byte { result ≡ sent_byte self.old }
+    {
         if self.is_at_rest(line) {
             return None;
         }
