@@ -243,6 +243,7 @@ impl Core {
     }
 
     /// The end of a cycle of an access, which has this value where it is done.
+    #[inline(always)]
     fn after_access(&mut self, word: Option<u32>, work: &Work, value: Option<u32>)
         ensures { self.new ≡ after_access word work.now value self.old }
     {
@@ -254,6 +255,7 @@ impl Core {
     }
 
     /// The end of a cycle of an access that is not to SRAM, which has this word where it is done.
+    #[inline(always)]
     fn after_outward(&mut self, word: Option<u32>, work: &Work, request: &Request)
         ensures { self.new ≡ after_outward word work.now request.now self.old }
     {
