@@ -30,17 +30,18 @@ pub trait Around {
 }
 
 /// Answers by what is around the lane, and writes down what it answered, as long as there is room.
-pub struct Recorder<W> {
+pub struct Recorder<'a, W> {
     pub around: W,
-    pub log: Log,
+    pub log: &'a mut Log,
 }
 
-impl<W: Around> Look for Recorder<W> {
+impl<W: Around> Look for Recorder<'_, W> {
     ghost use Rattle.std.specs.Prelude.{◌≡◌};
     ghost use Rattle.lane_look.specs.Alone.{recorded};
 
-    ghost answers = { λ old ask answer new. (answer ≡ W.answer old.around ask) ×
-        (new ≡ record old { log = recorded old.log (ask, answer) }) };
+    ghost answers = { λ old ask answer new. (answer ≡ W.answer old.around ask)
+        × (new.around ≡ old.around) × (new.log.now ≡ recorded old.log.now (ask, answer))
+        × (new.log.ghost_name ≡ old.log.ghost_name) };
 
     fn ask(&mut self, ask: Ask) -> u128 {
         let answer = self.around.answer(ask);
@@ -83,18 +84,20 @@ fn cycle_alone<E, S: Lane<E>, W: Around>(
     lane: &mut S,
     env: &E,
     cycle: u64,
-    look: &mut Recorder<W>,
+    look: &mut Recorder<'_, W>,
     marks: &mut Marks,
 ) -> bool
     requires marks { length marks.old < 256 }
-    requires room { length look.old.log + 8 ≤ 2048 }
+    requires room { length look.old.log.now + 8 ≤ 2048 }
     ensures goes { result ≡ not (ends_now (meaning S.asks S.wanted S.next S.marked)
         (surroundings W.answer W.stored) env.now cycle lane.old look.old.around) }
-    ensures state { standing lane.new look.new.around look.new.log marks.new ≡
+    ensures state { standing lane.new look.new.around look.new.log.now marks.new ≡
         (if result then alone_cycle (meaning S.asks S.wanted S.next S.marked)
         (surroundings W.answer W.stored) env.now cycle (standing lane.old look.old.around
-        look.old.log marks.old) else standing lane.old look.old.around look.old.log marks.old) }
-    ensures log { length look.new.log ≤ length look.old.log + 8 }
+        look.old.log.now marks.old) else standing lane.old look.old.around look.old.log.now
+        marks.old) }
+    ensures log { length look.new.log.now ≤ length look.old.log.now + 8 }
+    ensures same_log { look.new.log.ghost_name ≡ look.old.log.ghost_name }
     ensures marks { length marks.new ≤ length marks.old + 1 }
 {
     let kept = look.log.count();
@@ -114,20 +117,21 @@ fn cycles_alone<E, S: Lane<E>, W: Around>(
     lane: &mut S,
     env: &E,
     start: u64,
-    look: &mut Recorder<W>,
+    look: &mut Recorder<'_, W>,
     marks: &mut Marks,
     at_most: u16,
 ) -> u16
     requires cycles { at_most ≤ 256 }
     requires number { start + at_most < 2 ^ 64 }
     requires marks { marks.old ≡ [] }
-    requires log { look.old.log ≡ [] }
+    requires log { look.old.log.now ≡ [] }
     ensures length { result ≡ alone_length (meaning S.asks S.wanted S.next S.marked)
         (surroundings W.answer W.stored) env.now lane.old start look.old.around at_most }
     ensures within { result ≤ at_most }
-    ensures state { standing lane.new look.new.around look.new.log marks.new ≡ alone
+    ensures state { standing lane.new look.new.around look.new.log.now marks.new ≡ alone
         (meaning S.asks S.wanted S.next S.marked) (surroundings W.answer W.stored) env.now lane.old
         start look.old.around result }
+    ensures same_log { look.new.log.ghost_name ≡ look.old.log.ghost_name }
 {
     for k in 0..at_most {
         if !cycle_alone(lane, env, start + u64::from(k), look, marks) {
@@ -137,48 +141,57 @@ fn cycles_alone<E, S: Lane<E>, W: Around>(
     at_most
 }
 
-/// The run alone of a lane from the report's `before` and `start`, of at most so many cycles, in the report; and what is left
-/// around the lane.
+/// Runs a lane alone in the report. Gives what is left around the lane.
+fn alone_in<E, S: Lane<E>, W: Around>(report: &mut Report<S>, env: &E, around: W, at_most: u16) -> W
+    requires cycles { at_most ≤ 256 }
+    requires number { report.old.start + at_most < 2 ^ 64 }
+    ensures start { report.new.start ≡ report.old.start }
+    ensures before { report.new.before ≡ report.old.before }
+    ensures length { report.new.length ≡ alone_length (meaning S.asks S.wanted S.next S.marked)
+        (surroundings W.answer W.stored) env.now report.old.before report.old.start around at_most }
+    ensures within { report.new.length ≤ at_most }
+    ensures run { standing report.new.after result report.new.log report.new.marks ≡ alone
+        (meaning S.asks S.wanted S.next S.marked) (surroundings W.answer W.stored) env.now
+        report.old.before report.old.start around report.new.length }
+{
+    report.after.copy_from(&report.before);
+    report.log.clear();
+    report.marks.clear();
+    let mut look = Recorder {
+        around,
+        log: &mut report.log,
+    };
+    let length = cycles_alone(
+        &mut report.after,
+        env,
+        report.start,
+        &mut look,
+        &mut report.marks,
+        at_most,
+    );
+    let Recorder { around, log: _log } = look;
+    report.length = length;
+    around
+}
+
+/// The run alone of a lane from the report's `before` and `start`, of at most so many cycles, in the report: nothing of it is
+/// moved. Gives what is left around the lane.
 pub fn run_alone<E, S: Lane<E>, W: Around>(
-    report: Report<S>,
+    report: &mut Report<S>,
     env: &E,
     around: W,
     at_most: u16,
-) -> (Report<S>, W)
+) -> W
     requires cycles { at_most ≤ 256 }
-    requires number { report.start + at_most < 2 ^ 64 }
-    ensures holds { IsTrue (meaning S.asks S.wanted S.next S.marked) env.now result.0 }
-    ensures start { result.0.start ≡ report.start }
-    ensures before { result.0.before ≡ report.before }
-    ensures length { result.0.length ≡ alone_length (meaning S.asks S.wanted S.next S.marked)
-        (surroundings W.answer W.stored) env.now report.before report.start around at_most }
-    ensures run { standing result.0.after result.1 result.0.log result.0.marks ≡ alone
+    requires number { report.old.start + at_most < 2 ^ 64 }
+    ensures holds { IsTrue (meaning S.asks S.wanted S.next S.marked) env.now report.new }
+    ensures start { report.new.start ≡ report.old.start }
+    ensures before { report.new.before ≡ report.old.before }
+    ensures length { report.new.length ≡ alone_length (meaning S.asks S.wanted S.next S.marked)
+        (surroundings W.answer W.stored) env.now report.old.before report.old.start around at_most }
+    ensures run { standing report.new.after result report.new.log report.new.marks ≡ alone
         (meaning S.asks S.wanted S.next S.marked) (surroundings W.answer W.stored) env.now
-        report.before report.start around result.0.length }
+        report.old.before report.old.start around report.new.length }
 {
-    let Report {
-        start,
-        before,
-        mut after,
-        mut log,
-        mut marks,
-        ..
-    } = report;
-    after.copy_from(&before);
-    log.clear();
-    marks.clear();
-    let mut look = Recorder { around, log };
-    let length = cycles_alone(&mut after, env, start, &mut look, &mut marks, at_most);
-    let Recorder { around, log } = look;
-    (
-        Report {
-            start,
-            length,
-            before,
-            after,
-            log,
-            marks,
-        },
-        around,
-    )
+    alone_in(report, env, around, at_most)
 }
