@@ -6,4 +6,5 @@ pub mod Paths
 pub mod Reading
 pub mod Rings
 pub mod Sessions
+pub mod Windows
 pub mod Writes

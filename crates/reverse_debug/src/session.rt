@@ -2,7 +2,7 @@
 
 ghost use Rattle.std.specs.Prelude.{◌≡◌, ◌≤◌, ◌<◌, ◌+◌, ◌-◌, ◌%◌, ◌^◌, ◌||◌, nat_lt, max};
 
-use crate::advance::advance;
+use crate::advance::advance_far;
 use crate::command::{Command, command_of, goes_on};
 use crate::last_change::last_change;
 use crate::reply::{Reply, put_cycle, put_last_write, put_pins, put_pio, put_registers, put_words};
@@ -15,6 +15,7 @@ use std::alloc::{AllocError, Global};
 use std::marker::Model;
 use std::sync::ledger::Ledger;
 use trace_text::line::{push_text, stop_line};
+use window_merge::Crew;
 
 /// A kept state is nearer to a target than the present one, or the present one is beyond the target.
 fn is_nearer(target: u64, now: u64, kept: u64) -> bool
@@ -50,6 +51,8 @@ fn greater(one: u64, other: u64) -> u64
 pub struct Session {
     /// The machine at the present cycle.
     machine: Machine,
+    /// The jobs of the windows by which it goes forward.
+    crew: Crew,
     /// The states that are kept.
     ring: Ring,
     /// The cycle at which the run ends at the latest.
@@ -60,6 +63,7 @@ pub struct Session {
 
 impl Model for Session {
     ghost use Rattle.reverse_debug.specs.Standing.{Standing};
+    ghost use Rattle.window_merge.specs.Jobs.{IsWhole};
 
     ghost Value = { Standing };
 
@@ -69,6 +73,8 @@ impl Model for Session {
       limit = s.limit;
       reached = s.reached;
     } };
+
+    ghost invariant = { λ s. IsWhole s.crew };
 }
 
 impl Session {
@@ -81,7 +87,7 @@ impl Session {
     ghost use Rattle.reverse_debug.specs.Standing.{first_of, StandsFor, OpensAt, StaysFor, GoesOn, Lands, Does};
 
     /// A session at the state of a machine before its first cycle, for runs up to a limit of at most 1,000,000,000 cycles. It takes
-    /// the memory for 64 states that will be kept.
+    /// the memory for 64 states that will be kept, and for the jobs of windows.
     ///
     /// # Errors
     ///
@@ -95,6 +101,7 @@ impl Session {
         ring.keep(machine);
         Ok(Session {
             machine: machine.twin(alloc)?,
+            crew: Crew::new(alloc)?,
             ring,
             limit,
             reached: 0,
@@ -124,7 +131,7 @@ impl Session {
         }
     }
 
-    /// Goes forward up to the next cycle whose state is to be kept, at most to a cycle, and keeps the state there.
+    /// Goes forward by windows up to the next cycle whose state is to be kept, at most to a cycle, and keeps the state there.
     fn stretch<X: Device, L: Ledger>(
         &mut self,
         world: &World<'_, X>,
@@ -144,7 +151,7 @@ impl Session {
         let at = self.machine.number();
         let spacing = self.ring.spacing();
         let until = next_stop(at, spacing, to);
-        let why = advance(&mut self.machine, world, until, steps);
+        let why = advance_far(&mut self.machine, world, &mut self.crew, until, steps);
         self.reached = greater(self.reached, self.machine.number());
         self.ring.keep(&self.machine);
         why
