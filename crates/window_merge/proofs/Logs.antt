@@ -17,27 +17,6 @@ pub get-seam : {A : Type 0} (xs : List A) (y : A) (ys : List A) → slice_get (x
 get-seam [] y ys = refl
 get-seam (x ∷ xs) y ys = get-seam xs y ys
 
-pub get-some : {A : Type 0} (xs : List A) (k : ℕ) → k < length xs → slice_get xs k ≢ None
-get-some [] k lt e = absurd (omega (arith, lt))
-get-some (x ∷ xs) zero lt e = absurd (cc e)
-get-some (x ∷ xs) (suc k) lt e = get-some xs k (omega (arith, lt)) e
-
-pub take-whole : {A : Type 0} (xs : List A) → take (length xs) xs ≡ xs
-take-whole [] = refl
-take-whole {A} (x ∷ xs) = ap (λ (l : List A). x ∷ l) (take-whole xs)
-
-pub take-short : {A : Type 0} (k : ℕ) (xs ys : List A) → k ≡ length ys → take k xs ≡ ys → k ≤ length xs
-take-short zero xs ys e same = omega arith
-take-short (suc k) xs [] e same = absurd (omega (arith, e))
-take-short (suc k) [] (y ∷ ys) e same = absurd (cc same)
-take-short {A} (suc k) (x ∷ xs) (y ∷ ys) e same =
-    let rest = take-short k xs ys (omega (arith, e)) (ap (λ (l : List A). tail_of l) same) in omega (arith, rest)
-  where
-    tail_of : List A → List A
-    tail_of [] = []
-    tail_of (z ∷ zs) = zs
-
-
 pub get-take : {A : Type 0} (xs : List A) (k n : ℕ) → k < n → slice_get (take n xs) k ≡ slice_get xs k
 get-take xs k zero lt = absurd (omega (arith, lt))
 get-take [] k (suc n) lt = refl

@@ -8,7 +8,7 @@ use Rattle.lane_look.specs.Replay.{Entry, asked, after_begun}
 use Rattle.lane_look.specs.Alone.{Alone, begun_alone, alone, ends_at, least, alone_length}
 use Rattle.io_bank.specs.Levels.{is_used}
 use Rattle.outer_lane.specs.Setting.{Setting}
-use Rattle.outer_lane.specs.declared.world.Seen.{Seen}
+use Rattle.outer_lane.specs.declared.world.SeenOutputs.{SeenOutputs}
 use Rattle.outer_lane.specs.State.{OuterState}
 use Rattle.outer_lane.specs.Step.{next_by, next, pads_by, asks_second, asks, pins_in, no_pins}
 use Rattle.rp_machine.specs.State.{State}
@@ -19,7 +19,7 @@ use Rattle.window_merge.proofs.Copying.{first_same}
 use Rattle.window_merge.specs.Questions.{questions_of, second_question, questions, asking_lane}
 
 -- a cycle changes no function of a pin
-uses_same : (w : Setting) (s : OuterState) (seen : Seen) → questions_of (next w s seen) ≡ questions_of s
+uses_same : (w : Setting) (s : OuterState) (seen : SeenOutputs) → questions_of (next w s seen) ≡ questions_of s
 unfolding next next_by pads_by
 uses_same w s seen = refl
 

@@ -15,6 +15,7 @@ use Rattle.window_merge.specs.declared.lane_run.LaneRun.{LaneRun}
 use Rattle.window_merge.specs.declared.lane_run.LaneRun.TheVariants as run
 use Rattle.window_merge.specs.declared.lane_job.LaneReport.{LaneReport}
 use Rattle.window_merge.specs.declared.accepting.Stranger.{Stranger}
+use Rattle.window_merge.specs.declared.questions.Questions.{Questions}
 use Rattle.window_merge.specs.Lanes.{around, core_lane, dma_lane, pio_lane, peripheral_lane}
 use Rattle.window_merge.specs.Window.{longest}
 use Rattle.window_merge.specs.Merging.{IsRunAlone}
@@ -76,9 +77,9 @@ judged m lane before s bound report same_length other result e_start e_before e_
 -- one that begins elsewhere
 pub elsewhere : {S B : Type 0} (m : Meaning (Unit {0}) S B) (lane : ℕ) (before : S) (s : State) (bound : ℕ) (report : Report S) → ¬ (report.before ≡ before)
     → Judges (IsRunAlone m lane before s bound report) (IsUnlike m lane before s report) (Err None)
-elsewhere m lane before s bound report no = record {
-  is_alone = (λ ok. absurd (cc ok), λ alone. absurd (no alone.same_lane));
-  is_unlike = λ e. absurd (no e);
+elsewhere m lane before s bound report never = record {
+  is_alone = (λ ok. absurd (cc ok), λ alone. absurd (never alone.same_lane));
+  is_unlike = λ e. absurd (never e);
 }
 
 pub moved : {S B : Type 0} (m : Meaning (Unit {0}) S B) (lane : ℕ) (state before : S) (s : State) (bound bound' : ℕ) (report : Report S) (result : Result (Unit {0}) (Option ℕ))
@@ -101,24 +102,35 @@ judged_quiet w lane before s bound report same_length other result e_start e_bef
     (subst (λ n. Decides same_length (report.length ≡ n)) (length_quiet w lane before s.cycle s bound) e_length)
     (subst (λ (l : List Entry). IsFirstOther report.log l other) (talk_quiet w lane before s.cycle s report.length) h) e_ok e_err
 
+pub judged_asking : (w : Setting) (lane : ℕ) (before : OuterState) (q : Questions) (s : State) (bound : ℕ) (report : Report OuterState) (same_length : Bool) (other : Option ℕ) (result : Result (Unit {0}) (Option ℕ))
+    → report.start ≡ s.cycle → report.before ≡ before → q ≡ questions_of before
+    → Decides same_length (report.length ≡ alone_length asking_lane (around lane) tt q s.cycle s bound)
+    → IsFirstOther report.log (talk_alone asking_lane lane q s report.length) other
+    → is_ok result ≡ same_length && is_none other → IfErr result (λ entry. entry ≡ other)
+    → Judges (IsRunAlone (peripheral_lane w) lane before s bound report) (IsUnlike (peripheral_lane w) lane before s report) result
+judged_asking w lane before q s bound report same_length other result e_start e_before e_q e_length h e_ok e_err =
+    judged_quiet w lane before s bound report same_length other result e_start e_before
+    (subst (λ (x : Questions). Decides same_length (report.length ≡ alone_length asking_lane (around lane) tt x s.cycle s bound)) e_q e_length)
+    (subst (λ (x : Questions). IsFirstOther report.log (talk_alone asking_lane lane x s report.length) other) e_q h) e_ok e_err
+
 -- ---- any report
 
 -- one that begins at another cycle, or whose cycles have no numbers, which no true one does
 pub nowhere : (w : Setting) (s : State) (lane bound : ℕ) (r : LaneRun) → IsTrueRun w r
     → (start_of r ≡ s.cycle → length_of r ≤ 256 → start_of r + length_of r < 2 ^ 64 → ⊥) → (¬ IsAloneBy w s bound lane r) × IsStrangeBy w s lane r None
-nowhere w s lane bound (run.Core report) h no = (λ alone. no alone.same_start h.short h.number, λ e _. absurd (no e h.short h.number))
-nowhere w s lane bound (run.Dma report) h no = (λ alone. no alone.same_start h.short h.number, λ e _. absurd (no e h.short h.number))
-nowhere w s lane bound (run.Pio report) h no = (λ alone. no alone.same_start h.short h.number, λ e _. absurd (no e h.short h.number))
-nowhere w s lane bound (run.Outer report) h no = (λ alone. no alone.same_start h.short h.number, λ e _. absurd (no e h.short h.number))
+nowhere w s lane bound (run.Core report) h never = (λ alone. never alone.same_start h.short h.number, λ e _. absurd (never e h.short h.number))
+nowhere w s lane bound (run.Dma report) h never = (λ alone. never alone.same_start h.short h.number, λ e _. absurd (never e h.short h.number))
+nowhere w s lane bound (run.Pio report) h never = (λ alone. never alone.same_start h.short h.number, λ e _. absurd (never e h.short h.number))
+nowhere w s lane bound (run.Outer report) h never = (λ alone. never alone.same_start h.short h.number, λ e _. absurd (never e h.short h.number))
 
 pub not_alone : (w : Setting) (s : State) (report : LaneReport) → IsTrueIn w report
     → (start_of report.run ≡ s.cycle → length_of report.run ≤ 256 → start_of report.run + length_of report.run < 2 ^ 64 → ⊥) → Decides false (IsAlone w s report)
-not_alone w s report h no = (λ e. absurd (cc e), λ alone. absurd ((nowhere w s report.lane (longest w s) report.run h.replays no).0 alone))
+not_alone w s report h never = (λ e. absurd (cc e), λ alone. absurd ((nowhere w s report.lane (longest w s) report.run h.replays never).0 alone))
 
 pub not_here : (w : Setting) (s : State) (report : LaneReport) (stranger : Stranger) → stranger ≡ record { lane = report.lane; entry = None } → IsTrueIn w report
     → (start_of report.run ≡ s.cycle → length_of report.run ≤ 256 → start_of report.run + length_of report.run < 2 ^ 64 → ⊥) → IsStranger w s report stranger
-not_here w s report stranger e h no =
-    subst (λ (x : Stranger). IsStranger w s report x) (sym e) (record { lane = refl; entry = (nowhere w s report.lane (longest w s) report.run h.replays no).1 })
+not_here w s report stranger e h never =
+    subst (λ (x : Stranger). IsStranger w s report x) (sym e) (record { lane = refl; entry = (nowhere w s report.lane (longest w s) report.run h.replays never).1 })
 
 -- what is said under the report's limit
 pub by_limit : (w : Setting) (s : State) (report : LaneReport) (n start : ℕ) (result : Result (Unit {0}) (Option ℕ)) → IsTrueIn w report → start ≡ s.cycle → n ≡ longest_by report.limit start
@@ -143,3 +155,14 @@ pub is_stranger : (w : Setting) (s : State) (report : LaneReport) (entry : Optio
     → IsTrueIn w report → start_of report.run ≡ s.cycle → IsUnlikeBy w s report.lane report.run entry → IsStranger w s report stranger
 is_stranger w s report entry stranger e h e_start u =
     subst (λ (x : Stranger). IsStranger w s report x) (sym e) (record { lane = refl; entry = strange_by w s report.lane report.run entry h.replays e_start u })
+
+-- ---- what comes of it
+
+pub ok_alone : (alone : Type 0) (unlike : Option ℕ → Type 0) (result : Result (Unit {0}) (Option ℕ)) (x : Unit {0}) → result ≡ Ok x → Judges alone unlike result → Decides true alone
+ok_alone alone unlike result x e j = subst (λ (r : Result (Unit {0}) (Option ℕ)). Decides (is_ok r) alone) e j.is_alone
+
+pub err_alone : (alone : Type 0) (unlike : Option ℕ → Type 0) (result : Result (Unit {0}) (Option ℕ)) (entry : Option ℕ) → result ≡ Err entry → Judges alone unlike result → Decides false alone
+err_alone alone unlike result entry e j = subst (λ (r : Result (Unit {0}) (Option ℕ)). Decides (is_ok r) alone) e j.is_alone
+
+pub err_unlike : (alone : Type 0) (unlike : Option ℕ → Type 0) (result : Result (Unit {0}) (Option ℕ)) (entry : Option ℕ) → result ≡ Err entry → Judges alone unlike result → unlike entry
+err_unlike alone unlike result entry e j = subst (λ (r : Result (Unit {0}) (Option ℕ)). IfErr r unlike) e j.is_unlike

@@ -20,11 +20,12 @@ use Rattle.rp_machine.specs.Answers.{block_lines, lines_of, pacing_of, inputs_of
 use Rattle.window_merge.specs.declared.walk.Walker.{Walker}
 use Rattle.window_merge.specs.Lanes.{around, stored_by}
 use Rattle.window_merge.specs.Patch.{patched, sram_after}
+use Rattle.window_merge.specs.Accept.{talk_alone}
 use Rattle.window_merge.specs.Judged.{DifferAt, IsFirstOther}
 use Rattle.window_merge.specs.Walks.{seen_by, IsCompared, GoesOn, Answers, IsStepped, IsMet, IsWalked}
 use Rattle.window_merge.proofs.Cutting.{least_meets}
 use Rattle.window_merge.proofs.Lanes.{below_least}
-use Rattle.window_merge.proofs.Logs.{take_more, get-append, get-seam, get-some, take-whole, take-short}
+use Rattle.window_merge.proofs.Logs.{take_more, get-append, get-seam}
 
 -- ---- two logs
 
@@ -63,19 +64,8 @@ now_other log entry place true other e = λ talk h. (
   },
 )
 
--- the first other entry
-pub none_other : (log talk : List Entry) (place count : ℕ) (same : Bool) → same ≡ true → place ≡ count → count ≡ length log → IsCompared log talk place same → log ≡ talk
-none_other log talk place count false e e_count e_length h = absurd (cc e)
-none_other log talk place count true e e_count e_length h = sym (take-whole log) ∙ ap (λ n. take n log) (sym (e_count ∙ e_length)) ∙ h.1
-
-pub some_other : (log talk : List Entry) (place : ℕ) (same : Bool) → (same ≡ true → place ≢ length log) → IsCompared log talk place same → DifferAt log talk place
-some_other log talk place false unlike h = h.1
-some_other log talk place true unlike h =
-    let lt : place < length log = omega (arith, take-short place log talk h.0 h.1, unlike refl) in
-    record {
-      same_before = h.1 ∙ sym (ap (λ n. take n talk) h.0 ∙ take-whole talk);
-      other_there = λ e. get-some log place lt (e ∙ slice_get_past talk place (omega (arith, h.0)));
-    }
+pub not_next : (log : List Entry) (place : ℕ) (next entry : Entry) → slice_get log place ≡ Some next → (next ≡ entry → ⊥) → slice_get log place ≢ Some entry
+not_next log place next entry e_get other e = other (cc (e_get, e))
 
 -- ---- what the walker answers, and does
 
@@ -246,3 +236,62 @@ ends_there test cycles bound last h lt e = (
   λ is. sym (is_least test bound cycles (omega (arith, lt)) h (λ below. sym e ∙ is)),
   λ same. e ∙ ap test same ∙ (least_meets test bound).met (omega (arith, lt, same)),
 )
+
+pub length_ended : {S B : Type 0} (m : Meaning (Unit {0}) S B) (before : S) (start : ℕ) (first : Walker) (cycles : ℕ) (lane : S) (k : Walker) (ended : Bool) (bound : ℕ)
+    → IsWalked m before start first cycles lane k ended → ended ≡ true → Decides false (cycles ≡ alone_length m (around first.lane) tt before start (seen_by first) bound)
+unfolding alone_length
+length_ended m before start first cycles lane k ended bound h e =
+    let test = ends_at m (around first.lane) tt before start (seen_by first) in
+    ended_early test cycles bound (subst (λ (b : Bool). IsMet test cycles b) e h.is_ended)
+
+pub length_long : {S B : Type 0} (m : Meaning (Unit {0}) S B) (before : S) (start : ℕ) (first : Walker) (cycles bound : ℕ)
+    → bound < cycles → Decides false (cycles ≡ alone_length m (around first.lane) tt before start (seen_by first) bound)
+unfolding alone_length
+length_long m before start first cycles bound lt = too_long (ends_at m (around first.lane) tt before start (seen_by first)) cycles bound lt
+
+pub length_full : {S B : Type 0} (m : Meaning (Unit {0}) S B) (before : S) (start : ℕ) (first : Walker) (cycles : ℕ) (lane : S) (k : Walker) (ended : Bool) (bound : ℕ)
+    → IsWalked m before start first cycles lane k ended → ended ≡ false → cycles ≡ bound → Decides true (cycles ≡ alone_length m (around first.lane) tt before start (seen_by first) bound)
+unfolding alone_length
+length_full m before start first cycles lane k ended bound h e e_bound =
+    let test = ends_at m (around first.lane) tt before start (seen_by first) in
+    full_length test cycles bound (subst (λ (b : Bool). IsMet test cycles b) e h.is_ended) e_bound
+
+pub length_ends : {S B : Type 0} (m : Meaning (Unit {0}) S B) (before : S) (start : ℕ) (first : Walker) (cycles : ℕ) (lane : S) (k : Walker) (ended : Bool) (bound cycle : ℕ) (last : Bool)
+    → IsWalked m before start first cycles lane k ended → ended ≡ false → cycles < bound → cycle ≡ start + cycles → last ≡ ends_now m (around k.lane) tt cycle lane (seen_by k)
+    → Decides last (cycles ≡ alone_length m (around first.lane) tt before start (seen_by first) bound)
+unfolding alone_length ends_at
+length_ends {S} m before start first cycles lane k ended bound cycle last h e lt e_cycle e_last =
+    let test = ends_at m (around first.lane) tt before start (seen_by first) in
+    let a = alone m (around first.lane) tt before start (seen_by first) cycles in
+    let same = turned_same m k.lane first.lane cycle (start + cycles) lane a.state (seen_by k) a.around h.same_lane e_cycle h.is_state h.is_around in
+    ends_there test cycles bound last (subst (λ (b : Bool). IsMet test cycles b) e h.is_ended) lt (e_last ∙ ap (λ (t : Turned S). t.ends) same)
+
+-- ---- from a machine
+
+-- nothing is written yet
+unwritten : (k : Walker) (s : State) → k.words ≡ [] → k.machine.now ≡ s → seen_by k ≡ s
+unfolding patched
+unwritten k s e_words e_machine = ap (λ w. record k.machine.now { sram = patched w k.machine.now.sram }) e_words ∙ e_machine
+
+pub walked_other : {S B : Type 0} (m : Meaning (Unit {0}) S B) (before : S) (start : ℕ) (first : Walker) (cycles : ℕ) (lane : S) (k : Walker) (ended : Bool) (s : State) (number : ℕ) (log : List Entry) (result : Option ℕ)
+    → IsWalked m before start first cycles lane k ended → first.lane ≡ number → first.words ≡ [] → first.machine.now ≡ s → start ≡ s.cycle → first.log.now ≡ log
+    → ((talk : List Entry) → IsCompared log talk k.place k.same → IsFirstOther log talk result) → IsFirstOther log (talk_alone m number before s cycles) result
+walked_other m before start first cycles lane k ended s number log result h e_lane e_words e_machine e_start e_log tells =
+    let e_seen = unwritten first s e_words e_machine in
+    let e : (alone m (around first.lane) tt before start (seen_by first) cycles).talk ≡ talk_alone m number before s cycles =
+    ap (λ n. (alone m (around n) tt before start (seen_by first) cycles).talk) e_lane
+    ∙ ap (λ (x : State). (alone m (around number) tt before start x cycles).talk) e_seen
+    ∙ ap (λ c. (alone m (around number) tt before c s cycles).talk) e_start in
+    tells (talk_alone m number before s cycles)
+    (subst (λ (l : List Entry). IsCompared l (talk_alone m number before s cycles) k.place k.same) e_log
+    (subst (λ (l : List Entry). IsCompared first.log.now l k.place k.same) e h.is_compared))
+
+pub walked_length : {S B : Type 0} (m : Meaning (Unit {0}) S B) (before : S) (start : ℕ) (first : Walker) (cycles : ℕ) (lane : S) (k : Walker) (ended : Bool) (s : State) (number bound : ℕ) (result : Bool)
+    → IsWalked m before start first cycles lane k ended → first.lane ≡ number → first.words ≡ [] → first.machine.now ≡ s → start ≡ s.cycle
+    → ((b : S) (f : Walker) → IsWalked m b start f cycles lane k ended → Decides result (cycles ≡ alone_length m (around f.lane) tt b start (seen_by f) bound))
+    → Decides result (cycles ≡ alone_length m (around number) tt before s.cycle s bound)
+walked_length m before start first cycles lane k ended s number bound result h e_lane e_words e_machine e_start tells =
+    let e_seen = unwritten first s e_words e_machine in
+    subst (λ c. Decides result (cycles ≡ alone_length m (around number) tt before c s bound)) e_start
+    (subst (λ (x : State). Decides result (cycles ≡ alone_length m (around number) tt before start x bound)) e_seen
+    (subst (λ n. Decides result (cycles ≡ alone_length m (around n) tt before start (seen_by first) bound)) e_lane (tells before first h)))

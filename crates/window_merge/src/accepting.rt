@@ -167,12 +167,7 @@ fn judge_outer(
 }
 
 /// Compares a report of any lane.
-fn judge_run(
-    machine: &Machine,
-    number: u8,
-    run: &LaneRun,
-    at_most: u16,
-) -> Result<(), Option<u16>>
+fn judge_run(machine: &Machine, number: u8, run: &LaneRun, at_most: u16) -> Result<(), Option<u16>>
     requires start { start_of run.now ≡ machine.now.cycle }
     requires cycles { length_of run.now ≤ 256 }
     requires number { machine.now.cycle + length_of run.now < 2 ^ 64 }

@@ -18,9 +18,9 @@ pub mod position;
 mod questions;
 pub mod reports;
 pub mod runs;
-mod walk;
 #[cfg(test)]
 mod tests;
+mod walk;
 
 pub use accepting::{Stranger, accept};
 pub use alone::advance_alone;

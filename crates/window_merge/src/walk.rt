@@ -31,6 +31,14 @@ pub(crate) struct Walker<'a, 'b> {
     same: bool,
 }
 
+/// The entry of a log has this question and this answer.
+fn is_entry(entry: (Ask, u128), ask: Ask, answer: u128) -> bool
+    ensures { Decides result (entry ≡ (ask, answer)) }
+{
+    let (question, told) = entry;
+    (question == ask) & (told == answer)
+}
+
 /// Compares one more entry with a log: how many are the same, and whether these are all.
 fn compare(log: &Log, place: u16, same: bool, ask: Ask, answer: u128) -> (u16, bool)
     ensures { GoesOn log.now ((ask, answer) ∷ []) place same result.0 result.1 }
@@ -39,8 +47,7 @@ fn compare(log: &Log, place: u16, same: bool, ask: Ask, answer: u128) -> (u16, b
         return (place, false);
     }
     if place < log.count() {
-        let (question, told) = log.entry(place);
-        if question == ask && told == answer {
+        if is_entry(log.entry(place), ask, answer) {
             return (place + 1, true);
         }
     }
@@ -71,8 +78,9 @@ impl Walker<'_, '_> {
     fn word(&self, address: u32) -> u32
         ensures { result ≡ word_in (seen_by self.now).sram address }
     {
+        let machine: &Machine = self.machine;
         match place(address) {
-            Spot::Ram { index, .. } => self.words.read(&self.machine.ram, index),
+            Spot::Ram { index, .. } => self.words.read(&machine.ram, index),
             Spot::Reg { .. } | Spot::Sio { .. } | Spot::Ppb { .. } | Spot::Outside => 0,
         }
     }
@@ -99,9 +107,10 @@ impl Walker<'_, '_> {
         ensures rest { self.new ≡ record self.old { words = self.new.words } }
         ensures few { length self.new.words ≤ length self.old.words + 2 }
     {
+        let machine: &Machine = self.machine;
         let [first, second] = wants;
-        self.words.store(&self.machine.ram, first);
-        self.words.store(&self.machine.ram, second);
+        self.words.store(&machine.ram, first);
+        self.words.store(&machine.ram, second);
     }
 }
 
@@ -124,7 +133,8 @@ fn ends_wants(wants: &[Want; 2]) -> bool
     ensures { result ≡ ends_wants wants.now }
 {
     let [first, second] = wants;
-    !matches!(first, Want::Nothing | Want::Ram(_)) || !matches!(second, Want::Nothing | Want::Ram(_))
+    !matches!(first, Want::Nothing | Want::Ram(_))
+        || !matches!(second, Want::Nothing | Want::Ram(_))
 }
 
 /// One cycle of a lane, as it is where it runs alone. Gives whether the run ends before this cycle.
@@ -142,12 +152,7 @@ fn step<S: Lane<()>>(lane: &mut S, cycle: u64, walker: &mut Walker<'_, '_>) -> b
 }
 
 /// So many cycles of a lane. Gives whether the run ends before one of these cycles.
-fn walk<S: Lane<()>>(
-    lane: &mut S,
-    start: u64,
-    cycles: u16,
-    walker: &mut Walker<'_, '_>,
-) -> bool
+fn walk<S: Lane<()>>(lane: &mut S, start: u64, cycles: u16, walker: &mut Walker<'_, '_>) -> bool
     requires cycles { cycles ≤ 256 }
     requires number { start + cycles < 2 ^ 64 }
     requires words { walker.old.words ≡ [] }
