@@ -89,7 +89,7 @@ ends_same {E} {F} {S} {B} {V} {W} m env n env' a b h same alike before start w k
     ∙ ap (λ (x : B). ends_wants (m.wanted x)) (begun_same m env n env' a b h same alike (start + k) r.state r.around)
     ∙ ap ends_wants (same.wanted (begun_alone n b env' (start + k) r.state r.around))
 
-first_same : (t u : ℕ → Bool) (from count : ℕ) → ((k : ℕ) → t k ≡ u k) → first_from t from count ≡ first_from u from count
+pub first_same : (t u : ℕ → Bool) (from count : ℕ) → ((k : ℕ) → t k ≡ u k) → first_from t from count ≡ first_from u from count
 first_same t u from zero h = refl
 first_same t u from (suc count) h = rw (h from, first_same t u (suc from) count h) refl
 

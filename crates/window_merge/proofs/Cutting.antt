@@ -23,9 +23,9 @@ use Rattle.window_merge.proofs.Windows.{TheyEnd, they_end}
 
 -- ---- the least number with a smaller bound
 
-record Meets (test : ℕ → Bool) (bound k : ℕ) : Type 0 where
-  within : k ≤ bound
-  met : k < bound → test k ≡ true
+pub record Meets (test : ℕ → Bool) (bound k : ℕ) : Type 0 where
+  pub within : k ≤ bound
+  pub met : k < bound → test k ≡ true
 
 meets_by : (test : ℕ → Bool) (from count rest : ℕ) (b : Bool) → test from ≡ b → Meets test (suc from + count) rest
     → Meets test (from + suc count) (if b then from else rest)
@@ -41,7 +41,7 @@ first_meets test from (suc count) =
 of_bound : (test : ℕ → Bool) (bound k : ℕ) → Meets test (0 + bound) k → Meets test bound k
 of_bound test bound k h = let le = h.within in record { within = omega arith; met = λ lt. h.met (omega arith) }
 
-least_meets : (test : ℕ → Bool) (bound : ℕ) → Meets test bound (least test bound)
+pub least_meets : (test : ℕ → Bool) (bound : ℕ) → Meets test bound (least test bound)
 unfolding least
 least_meets test bound = of_bound test bound (first_from test 0 bound) (first_meets test 0 bound)
 

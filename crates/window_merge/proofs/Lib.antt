@@ -9,10 +9,16 @@ pub mod InSram
 pub mod Reported
 pub mod Keeping
 pub mod Lanes
+pub mod Logs
 pub mod Overlaying
+pub mod Patching
 pub mod Ports
 pub mod Positions
+pub mod Quiet
 pub mod Replaying
 pub mod Resting
+pub mod Telling
 pub mod Told
+pub mod Verdicts
+pub mod Walking
 pub mod Windows

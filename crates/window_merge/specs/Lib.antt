@@ -1,9 +1,14 @@
+pub mod Accept
 pub mod Around
 pub mod Going
 pub mod Jobs
+pub mod Judged
 pub mod Kinds
 pub mod Lanes
 pub mod Laws
 pub mod Merging
 pub mod Overlaid
+pub mod Patch
+pub mod Questions
+pub mod Walks
 pub mod Window

@@ -130,15 +130,6 @@ end_at runs k =
     (k == runs.core0.now.length) || ((k == runs.core1.now.length) || ((k == runs.dma.now.length) || ((k == runs.pio0.now.length)
     || ((k == runs.pio1.now.length) || ((k == runs.outer.now.length) || false)))))
 
--- they are the runs alone of the machine's six lanes
-pub record AreRunsAlone (w : Setting) (s : State) (runs : Runs) : Type 0 where
-  pub core0 : IsRunAlone core_lane 0 s.core0 s (longest w s) runs.core0.now
-  pub core1 : IsRunAlone core_lane 1 s.core1 s (core1_bound s (longest w s)) runs.core1.now
-  pub dma : IsRunAlone dma_lane 2 s.dma s (longest w s) runs.dma.now
-  pub pio0 : IsRunAlone pio_lane 3 s.pio0 s (longest w s) runs.pio0.now
-  pub pio1 : IsRunAlone pio_lane 4 s.pio1 s (longest w s) runs.pio1.now
-  pub outer : IsRunAlone (peripheral_lane w) 5 s.outer s (longest w s) runs.outer.now
-
 -- ---- reports that end early: what a window of at most so many cycles asks of them
 
 -- a report is the first cycles of the run alone of a lane; where it has fewer than so many, some lane's run ends with it

@@ -182,7 +182,7 @@ pub(crate) fn run_room<X: Device, W: Around>(
 }
 
 /// How many cycles a run alone has at most: 256, and none at the limit or above.
-fn longest_by(limit: u64, start: u64) -> u16
+pub(crate) fn longest_by(limit: u64, start: u64) -> u16
     ensures value { result ≡ longest_by limit start }
     ensures number { start + result < 2 ^ 64 }
     ensures few { result ≤ 256 }
@@ -237,7 +237,7 @@ pub fn run_job<X: Device>(job: LaneJob, world: &World<'_, X>) -> LaneReport
 }
 
 /// The number of a report's first cycle.
-fn start_of(run: &LaneRun) -> u64
+pub(crate) fn start_of(run: &LaneRun) -> u64
     ensures { result ≡ start_of run.now }
 {
     match run {

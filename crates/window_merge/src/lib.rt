@@ -1,6 +1,7 @@
 //! Windows: the six lanes run ahead of each other, and are kept as far as they all would go the same together.
 #![tactic(auto)]
 
+pub mod accepting;
 pub mod alone;
 mod compare;
 pub mod copies;
@@ -12,12 +13,16 @@ pub mod lane_run;
 pub mod laws;
 pub mod merge;
 pub mod overlay;
+mod patch;
 pub mod position;
+mod questions;
 pub mod reports;
 pub mod runs;
 #[cfg(test)]
 mod tests;
+mod walk;
 
+pub use accepting::{Stranger, accept};
 pub use alone::advance_alone;
 pub use copies::Copies;
 pub use here::window;

@@ -1,10 +1,11 @@
-//! Windows of a program: a DMA copy whose second read and first write meet on one bank.
+//! Windows of a program: a DMA copy whose second read and first write meet on one bank; and reports that are accepted or not.
 
 ghost use Rattle.std.specs.Prelude.{◌≡◌, ◌<◌};
 
-use crate::{Crew, Moved, advance};
+use crate::jobs::run_by;
+use crate::{Crew, LaneJob, LaneReport, Moved, Stranger, accept, advance, job};
 use arrayvec::ArrayVec;
-use lane_look::{Marks, NoDevice};
+use lane_look::{Device, Marks, NoDevice};
 use pin_script::read_script;
 use rp_base::Why;
 use rp_machine::{Machine, Steps, World};
@@ -121,5 +122,77 @@ fn words_of_one_bank_close_more(rt: HostRuntime) -> Result<(), Fail> {
         [9u16, 0, 0, 0, 0, 2, 0, 1, 0, 82].as_slice()
     );
     assert_eq!(rt; at, 100);
+    Ok(())
+}
+
+/// The report of a lane's run alone.
+fn report_of<X: Device>(machine: &Machine, world: &World<'_, X>, lane_job: LaneJob) -> LaneReport {
+    let mut lane_job = lane_job;
+    lane_job.limit = world.limit;
+    job(machine, &mut lane_job);
+    run_by(lane_job, world)
+}
+
+/// What is said of the reports of core 0 and of the peripherals by the machine that they were run from, by one whose first word
+/// is another, and by the machine a cycle later.
+fn said_of<L: Ledger>(alloc: Global, blank: Blank) -> Result<[Result<(), Stranger>; 5], Fail>
+    requires name { blank.name ≡ L.name }
+    requires parts { blank.parts ≡ L.parts }
+    requires some { 0 < blank.parts }
+{
+    let (book, share) = blank.open::<L>();
+    let mut steps = Steps::new(book, share);
+    let image = read_image(alloc, &block(&COPY))?;
+    let script = read_script(alloc, b"")?;
+    let world = World {
+        script: &script,
+        device: &NoDevice,
+        limit: 100,
+    };
+    let mut machine = Machine::boot(alloc, &image, &[], &world)?;
+    let Crew {
+        jobs,
+        spare: _spare,
+    } = Crew::new(alloc)?;
+    let [Some(core0), _, _, _, _, Some(outer)] = jobs else {
+        return Err("no jobs".into());
+    };
+    let core0 = report_of(&machine, &world, core0);
+    let outer = report_of(&machine, &world, outer);
+    let here = accept(&machine, &core0);
+    let outer_here = accept(&machine, &outer);
+    machine.ram.write(0, 0xf, 0);
+    let changed = accept(&machine, &core0);
+    if machine.number() > 100 {
+        return Err("another cycle".into());
+    }
+    let mut marks = Marks::new();
+    let _ = machine.cycle(&world, &mut marks, &mut steps);
+    let later = accept(&machine, &core0);
+    let outer_later = accept(&machine, &outer);
+    Ok([here, outer_here, changed, later, outer_later])
+}
+
+#[test]
+fn a_report_is_accepted_where_it_began(rt: HostRuntime) -> Result<(), Fail> {
+    let said = said_of::<Brand>(rt.alloc(), Blank::new(1))?;
+    let expected = [
+        Ok(()),
+        Ok(()),
+        // the lines are the first entry of a core's log, and the halfword that it fetches is the second
+        Err(Stranger {
+            lane: 0,
+            entry: Some(1),
+        }),
+        Err(Stranger {
+            lane: 0,
+            entry: None,
+        }),
+        Err(Stranger {
+            lane: 5,
+            entry: None,
+        }),
+    ];
+    assert_eq!(rt; said, expected);
     Ok(())
 }

@@ -1,0 +1,81 @@
+-- The peripherals that run alone ask the same in each cycle, and their run never ends early.
+use Rattle.std.proofs.Common.{◌≡◌, ℕ, zero, suc, ◌+◌, Bool, true, false, if◌then◌else◌, List, [], ◌∷◌, ◌++◌, Option, refl, ap, sym, ◌∙◌}
+use Rattle.lane_look.specs.Asking.{Asking}
+use Rattle.lane_look.specs.Asking.Asking.{Ready, Question}
+use Rattle.lane_look.specs.declared.lane.Ask.{Ask}
+use Rattle.lane_look.specs.declared.lane.Ask.TheVariants as ask
+use Rattle.lane_look.specs.Replay.{Entry, asked, after_begun}
+use Rattle.lane_look.specs.Alone.{Alone, begun_alone, alone, ends_at, least, alone_length}
+use Rattle.io_bank.specs.Levels.{is_used}
+use Rattle.outer_lane.specs.Setting.{Setting}
+use Rattle.outer_lane.specs.declared.world.SeenOutputs.{SeenOutputs}
+use Rattle.outer_lane.specs.State.{OuterState}
+use Rattle.outer_lane.specs.Step.{next_by, next, pads_by, asks_second, asks, pins_in, no_pins}
+use Rattle.rp_machine.specs.State.{State}
+use Rattle.rp_machine.specs.Answers.{answer_of}
+use Rattle.window_merge.specs.declared.questions.Questions.{Questions}
+use Rattle.window_merge.specs.Lanes.{around, peripheral_lane}
+use Rattle.window_merge.proofs.Copying.{first_same}
+use Rattle.window_merge.specs.Questions.{questions_of, second_question, questions, asking_lane}
+
+-- a cycle changes no function of a pin
+uses_same : (w : Setting) (s : OuterState) (seen : SeenOutputs) → questions_of (next w s seen) ≡ questions_of s
+unfolding next next_by pads_by
+uses_same w s seen = refl
+
+second_same : (f : Ask → ℕ) (s : OuterState) (cycle : ℕ) (first : List ℕ) (b : Bool) → is_used 7 s.pads ≡ b
+    → asked f (asks_second s cycle first) ≡ asked f (second_question (record { pio0 = false; pio1 = b }))
+unfolding asks_second
+second_same f s cycle first true e = rw e refl
+second_same f s cycle first false e = rw e refl
+
+both_same : (f : Ask → ℕ) (s : OuterState) (cycle : ℕ) (a b : Bool) → is_used 6 s.pads ≡ a → is_used 7 s.pads ≡ b
+    → asked f (asks s cycle) ≡ asked f (questions (record { pio0 = a; pio1 = b }))
+unfolding asks
+both_same f s cycle true b e_a e_b = rw e_a (ap (λ (l : List Entry). (ask.Outs 0, f (ask.Outs 0)) ∷ l) (second_same f s cycle (pins_in (f (ask.Outs 0))) b e_b))
+both_same f s cycle false b e_a e_b = rw e_a (second_same f s cycle no_pins b e_b)
+
+asked_same : (f : Ask → ℕ) (s : OuterState) (cycle : ℕ) → asked f (asks s cycle) ≡ asked f (questions (questions_of s))
+asked_same f s cycle = both_same f s cycle (is_used 6 s.pads) (is_used 7 s.pads) refl refl
+
+-- after so many cycles
+record IsQuiet (w : Setting) (lane : ℕ) (before : OuterState) (start : ℕ) (s : State) (k : ℕ) : Type 0 where
+  uses : questions_of (alone (peripheral_lane w) (around lane) tt before start s k).state ≡ questions_of before
+  round : (alone (peripheral_lane w) (around lane) tt before start s k).around ≡ s
+  asking : (alone asking_lane (around lane) tt (questions_of before) start s k).state ≡ questions_of before
+  asking_round : (alone asking_lane (around lane) tt (questions_of before) start s k).around ≡ s
+  same_talk : (alone (peripheral_lane w) (around lane) tt before start s k).talk ≡ (alone asking_lane (around lane) tt (questions_of before) start s k).talk
+
+is_quiet : (w : Setting) (lane : ℕ) (before : OuterState) (start : ℕ) (s : State) (k : ℕ) → IsQuiet w lane before start s k
+unfolding alone
+is_quiet w lane before start s zero = record { uses = refl; round = refl; asking = refl; asking_round = refl; same_talk = refl }
+is_quiet w lane before start s (suc k) =
+    let h = is_quiet w lane before start s k in
+    let a = alone (peripheral_lane w) (around lane) tt before start s k in
+    let b = alone asking_lane (around lane) tt (questions_of before) start s k in
+    let more : asked (answer_of lane a.around) (asks a.state (start + k)) ≡ asked (answer_of lane b.around) (questions b.state) =
+    ap (λ (x : State). asked (answer_of lane x) (asks a.state (start + k))) (h.round ∙ sym h.asking_round)
+    ∙ asked_same (answer_of lane b.around) a.state (start + k)
+    ∙ ap (λ (q : Questions). asked (answer_of lane b.around) (questions q)) (h.uses ∙ sym h.asking) in
+    record {
+      uses = uses_same w a.state (begun_alone (peripheral_lane w) (around lane) tt (start + k) a.state a.around) ∙ h.uses;
+      round = h.round;
+      asking = h.asking;
+      asking_round = h.asking_round;
+      same_talk = ap (λ (l : List Entry). l ++ asked (answer_of lane a.around) (asks a.state (start + k))) h.same_talk
+          ∙ ap (λ (l : List Entry). b.talk ++ l) more;
+    }
+
+pub talk_quiet : (w : Setting) (lane : ℕ) (before : OuterState) (start : ℕ) (s : State) (k : ℕ)
+    → (alone asking_lane (around lane) tt (questions_of before) start s k).talk ≡ (alone (peripheral_lane w) (around lane) tt before start s k).talk
+talk_quiet w lane before start s k = sym (is_quiet w lane before start s k).same_talk
+
+ends_quiet : (w : Setting) (lane : ℕ) (before : OuterState) (start : ℕ) (s : State) (k : ℕ)
+    → ends_at asking_lane (around lane) tt (questions_of before) start s k ≡ ends_at (peripheral_lane w) (around lane) tt before start s k
+unfolding ends_at
+ends_quiet w lane before start s k = refl
+
+pub length_quiet : (w : Setting) (lane : ℕ) (before : OuterState) (start : ℕ) (s : State) (bound : ℕ)
+    → alone_length asking_lane (around lane) tt (questions_of before) start s bound ≡ alone_length (peripheral_lane w) (around lane) tt before start s bound
+unfolding alone_length least
+length_quiet w lane before start s bound = first_same _ _ 0 bound (ends_quiet w lane before start s)

@@ -1,0 +1,168 @@
+-- What a comparison of logs and lengths says of a report.
+use Rattle.std.proofs.Common.{◌≡◌, ℕ, ◌+◌, ◌^◌, ◌<◌, ◌≤◌, Bool, true, false, ◌&&◌, List, Option, Some, None, refl, ap, sym, ◌∙◌, subst, arith}
+use Rattle.std.specs.Prelude.{Result, Ok, Err, is_ok, is_none, IfErr}
+use Rattle.std.specs.Bool.{Decides}
+use Rattle.std.specs.List.{slice_get}
+use Rattle.lane_look.specs.declared.replay.Report.{Report}
+use Rattle.lane_look.specs.Replay.{Meaning, Entry}
+use Rattle.lane_look.specs.Alone.{alone_length}
+use Rattle.lane_look.specs.Truth.{IsTrue}
+use Rattle.m0_core.specs.State.{State as Core}
+use Rattle.outer_lane.specs.Setting.{Setting}
+use Rattle.outer_lane.specs.State.{OuterState}
+use Rattle.rp_machine.specs.State.{State}
+use Rattle.window_merge.specs.declared.lane_run.LaneRun.{LaneRun}
+use Rattle.window_merge.specs.declared.lane_run.LaneRun.TheVariants as run
+use Rattle.window_merge.specs.declared.lane_job.LaneReport.{LaneReport}
+use Rattle.window_merge.specs.declared.accepting.Stranger.{Stranger}
+use Rattle.window_merge.specs.declared.questions.Questions.{Questions}
+use Rattle.window_merge.specs.Lanes.{around, core_lane, dma_lane, pio_lane, peripheral_lane}
+use Rattle.window_merge.specs.Window.{longest}
+use Rattle.window_merge.specs.Merging.{IsRunAlone}
+use Rattle.window_merge.specs.Jobs.{core_of, block_of, core_bound, IsTrueRun, IsTrueIn, IsAloneBy, IsAlone, start_of, length_of, longest_by}
+use Rattle.window_merge.specs.Accept.{talk_alone, IsStrange, IsStrangeBy, IsStranger}
+use Rattle.window_merge.specs.Judged.{DifferAt, IsFirstOther, IsUnlike, IsUnlikeBy, Judges}
+use Rattle.window_merge.specs.Questions.{questions_of, asking_lane}
+use Rattle.window_merge.proofs.Quiet.{talk_quiet, length_quiet}
+use Rattle.window_merge.proofs.Reported.{longest_same}
+use Rattle.window_merge.proofs.Telling.{other_answer}
+
+-- ---- a report that begins where the lane stands
+
+both : (a b : Bool) → (a && b) ≡ true → (a ≡ true) × (b ≡ true)
+both true b e = (refl, e)
+both false b e = absurd (cc e)
+
+same_logs : (log talk : List Entry) (other : Option ℕ) → IsFirstOther log talk other → is_none other ≡ true → log ≡ talk
+same_logs log talk None h e = h
+same_logs log talk (Some place) h e = absurd (cc e)
+
+no_other : (log talk : List Entry) (other : Option ℕ) → IsFirstOther log talk other → log ≡ talk → is_none other ≡ true
+no_other log talk None h e = refl
+no_other log talk (Some place) h e = absurd (h.other_there (ap (λ (l : List Entry). slice_get l place) e))
+
+both_true : (a b : Bool) → a ≡ true → b ≡ true → (a && b) ≡ true
+both_true a b e_a e_b = rw (e_a, e_b) refl
+
+unlike : {S B : Type 0} (m : Meaning (Unit {0}) S B) (lane : ℕ) (before : S) (s : State) (report : Report S) (other : Option ℕ)
+    → report.before ≡ before → IsFirstOther report.log (talk_alone m lane before s report.length) other → IsUnlike m lane before s report other
+unlike m lane before s report None e_before h = λ _. h
+unlike m lane before s report (Some place) e_before h = (e_before, h)
+
+if_err : (P : Option ℕ → Type 0) (result : Result (Unit {0}) (Option ℕ)) (other : Option ℕ) → IfErr result (λ entry. entry ≡ other) → P other → IfErr result P
+if_err P (Ok x) other e h = tt
+if_err P (Err entry) other e h = subst P (sym e) h
+
+pub judged : {S B : Type 0} (m : Meaning (Unit {0}) S B) (lane : ℕ) (before : S) (s : State) (bound : ℕ) (report : Report S) (same_length : Bool) (other : Option ℕ) (result : Result (Unit {0}) (Option ℕ))
+    → report.start ≡ s.cycle → report.before ≡ before
+    → Decides same_length (report.length ≡ alone_length m (around lane) tt before s.cycle s bound)
+    → IsFirstOther report.log (talk_alone m lane before s report.length) other
+    → is_ok result ≡ same_length && is_none other → IfErr result (λ entry. entry ≡ other)
+    → Judges (IsRunAlone m lane before s bound report) (IsUnlike m lane before s report) result
+judged m lane before s bound report same_length other result e_start e_before e_length h e_ok e_err = record {
+  is_alone = (
+    λ ok.
+        let parts = both same_length (is_none other) (sym e_ok ∙ ok) in
+        record {
+          same_start = e_start;
+          same_lane = e_before;
+          same_length = e_length.0 parts.0;
+          same_log = same_logs report.log (talk_alone m lane before s report.length) other h parts.1;
+        },
+    λ alone. e_ok ∙ both_true same_length (is_none other) (e_length.1 alone.same_length) (no_other report.log (talk_alone m lane before s report.length) other h alone.same_log),
+  );
+  is_unlike = if_err (IsUnlike m lane before s report) result other e_err (unlike m lane before s report other e_before h);
+}
+
+-- one that begins elsewhere
+pub elsewhere : {S B : Type 0} (m : Meaning (Unit {0}) S B) (lane : ℕ) (before : S) (s : State) (bound : ℕ) (report : Report S) → ¬ (report.before ≡ before)
+    → Judges (IsRunAlone m lane before s bound report) (IsUnlike m lane before s report) (Err None)
+elsewhere m lane before s bound report never = record {
+  is_alone = (λ ok. absurd (cc ok), λ alone. absurd (never alone.same_lane));
+  is_unlike = λ e. absurd (never e);
+}
+
+pub moved : {S B : Type 0} (m : Meaning (Unit {0}) S B) (lane : ℕ) (state before : S) (s : State) (bound bound' : ℕ) (report : Report S) (result : Result (Unit {0}) (Option ℕ))
+    → state ≡ before → bound ≡ bound' → Judges (IsRunAlone m lane state s bound report) (IsUnlike m lane state s report) result
+    → Judges (IsRunAlone m lane before s bound' report) (IsUnlike m lane before s report) result
+moved {S} m lane state before s bound bound' report result e_state e_bound h =
+    subst (λ (x : S). Judges (IsRunAlone m lane x s bound' report) (IsUnlike m lane x s report) result) e_state
+    (subst (λ n. Judges (IsRunAlone m lane state s n report) (IsUnlike m lane state s report) result) e_bound h)
+
+-- ---- the peripherals
+
+pub judged_quiet : (w : Setting) (lane : ℕ) (before : OuterState) (s : State) (bound : ℕ) (report : Report OuterState) (same_length : Bool) (other : Option ℕ) (result : Result (Unit {0}) (Option ℕ))
+    → report.start ≡ s.cycle → report.before ≡ before
+    → Decides same_length (report.length ≡ alone_length asking_lane (around lane) tt (questions_of before) s.cycle s bound)
+    → IsFirstOther report.log (talk_alone asking_lane lane (questions_of before) s report.length) other
+    → is_ok result ≡ same_length && is_none other → IfErr result (λ entry. entry ≡ other)
+    → Judges (IsRunAlone (peripheral_lane w) lane before s bound report) (IsUnlike (peripheral_lane w) lane before s report) result
+judged_quiet w lane before s bound report same_length other result e_start e_before e_length h e_ok e_err =
+    judged (peripheral_lane w) lane before s bound report same_length other result e_start e_before
+    (subst (λ n. Decides same_length (report.length ≡ n)) (length_quiet w lane before s.cycle s bound) e_length)
+    (subst (λ (l : List Entry). IsFirstOther report.log l other) (talk_quiet w lane before s.cycle s report.length) h) e_ok e_err
+
+pub judged_asking : (w : Setting) (lane : ℕ) (before : OuterState) (q : Questions) (s : State) (bound : ℕ) (report : Report OuterState) (same_length : Bool) (other : Option ℕ) (result : Result (Unit {0}) (Option ℕ))
+    → report.start ≡ s.cycle → report.before ≡ before → q ≡ questions_of before
+    → Decides same_length (report.length ≡ alone_length asking_lane (around lane) tt q s.cycle s bound)
+    → IsFirstOther report.log (talk_alone asking_lane lane q s report.length) other
+    → is_ok result ≡ same_length && is_none other → IfErr result (λ entry. entry ≡ other)
+    → Judges (IsRunAlone (peripheral_lane w) lane before s bound report) (IsUnlike (peripheral_lane w) lane before s report) result
+judged_asking w lane before q s bound report same_length other result e_start e_before e_q e_length h e_ok e_err =
+    judged_quiet w lane before s bound report same_length other result e_start e_before
+    (subst (λ (x : Questions). Decides same_length (report.length ≡ alone_length asking_lane (around lane) tt x s.cycle s bound)) e_q e_length)
+    (subst (λ (x : Questions). IsFirstOther report.log (talk_alone asking_lane lane x s report.length) other) e_q h) e_ok e_err
+
+-- ---- any report
+
+-- one that begins at another cycle, or whose cycles have no numbers, which no true one does
+pub nowhere : (w : Setting) (s : State) (lane bound : ℕ) (r : LaneRun) → IsTrueRun w r
+    → (start_of r ≡ s.cycle → length_of r ≤ 256 → start_of r + length_of r < 2 ^ 64 → ⊥) → (¬ IsAloneBy w s bound lane r) × IsStrangeBy w s lane r None
+nowhere w s lane bound (run.Core report) h never = (λ alone. never alone.same_start h.short h.number, λ e _. absurd (never e h.short h.number))
+nowhere w s lane bound (run.Dma report) h never = (λ alone. never alone.same_start h.short h.number, λ e _. absurd (never e h.short h.number))
+nowhere w s lane bound (run.Pio report) h never = (λ alone. never alone.same_start h.short h.number, λ e _. absurd (never e h.short h.number))
+nowhere w s lane bound (run.Outer report) h never = (λ alone. never alone.same_start h.short h.number, λ e _. absurd (never e h.short h.number))
+
+pub not_alone : (w : Setting) (s : State) (report : LaneReport) → IsTrueIn w report
+    → (start_of report.run ≡ s.cycle → length_of report.run ≤ 256 → start_of report.run + length_of report.run < 2 ^ 64 → ⊥) → Decides false (IsAlone w s report)
+not_alone w s report h never = (λ e. absurd (cc e), λ alone. absurd ((nowhere w s report.lane (longest w s) report.run h.replays never).0 alone))
+
+pub not_here : (w : Setting) (s : State) (report : LaneReport) (stranger : Stranger) → stranger ≡ record { lane = report.lane; entry = None } → IsTrueIn w report
+    → (start_of report.run ≡ s.cycle → length_of report.run ≤ 256 → start_of report.run + length_of report.run < 2 ^ 64 → ⊥) → IsStranger w s report stranger
+not_here w s report stranger e h never =
+    subst (λ (x : Stranger). IsStranger w s report x) (sym e) (record { lane = refl; entry = (nowhere w s report.lane (longest w s) report.run h.replays never).1 })
+
+-- what is said under the report's limit
+pub by_limit : (w : Setting) (s : State) (report : LaneReport) (n start : ℕ) (result : Result (Unit {0}) (Option ℕ)) → IsTrueIn w report → start ≡ s.cycle → n ≡ longest_by report.limit start
+    → Judges (IsAloneBy w s n report.lane report.run) (IsUnlikeBy w s report.lane report.run) result → Judges (IsAlone w s report) (IsUnlikeBy w s report.lane report.run) result
+by_limit w s report n start result h e_start e_n j =
+    subst (λ (k : ℕ). Judges (IsAloneBy w s k report.lane report.run) (IsUnlikeBy w s report.lane report.run) result)
+    (e_n ∙ longest_same w s report.limit start h.limit e_start) j
+
+-- the entry that tells of a true report has another answer
+one_strange : {S B : Type 0} (m : Meaning (Unit {0}) S B) (lane : ℕ) (before : S) (s : State) (report : Report S) (entry : Option ℕ) → IsTrue m tt report → report.start ≡ s.cycle
+    → IsUnlike m lane before s report entry → IsStrange m lane before s report entry
+one_strange m lane before s report None h e_start u = λ _ e. u e
+one_strange m lane before s report (Some place) h e_start u = (e_start, u.0, other_answer m lane before s report place h e_start u.0 u.1)
+
+strange_by : (w : Setting) (s : State) (lane : ℕ) (r : LaneRun) (entry : Option ℕ) → IsTrueRun w r → start_of r ≡ s.cycle → IsUnlikeBy w s lane r entry → IsStrangeBy w s lane r entry
+strange_by w s lane (run.Core report) entry h e u = one_strange core_lane lane (core_of lane s) s report entry h e u
+strange_by w s lane (run.Dma report) entry h e u = one_strange dma_lane lane s.dma s report entry h e u
+strange_by w s lane (run.Pio report) entry h e u = one_strange pio_lane lane (block_of lane s) s report entry h e u
+strange_by w s lane (run.Outer report) entry h e u = one_strange (peripheral_lane w) lane s.outer s report entry h e u
+
+pub is_stranger : (w : Setting) (s : State) (report : LaneReport) (entry : Option ℕ) (stranger : Stranger) → stranger ≡ record { lane = report.lane; entry = entry }
+    → IsTrueIn w report → start_of report.run ≡ s.cycle → IsUnlikeBy w s report.lane report.run entry → IsStranger w s report stranger
+is_stranger w s report entry stranger e h e_start u =
+    subst (λ (x : Stranger). IsStranger w s report x) (sym e) (record { lane = refl; entry = strange_by w s report.lane report.run entry h.replays e_start u })
+
+-- ---- what comes of it
+
+pub ok_alone : (alone : Type 0) (unlike : Option ℕ → Type 0) (result : Result (Unit {0}) (Option ℕ)) (x : Unit {0}) → result ≡ Ok x → Judges alone unlike result → Decides true alone
+ok_alone alone unlike result x e j = subst (λ (r : Result (Unit {0}) (Option ℕ)). Decides (is_ok r) alone) e j.is_alone
+
+pub err_alone : (alone : Type 0) (unlike : Option ℕ → Type 0) (result : Result (Unit {0}) (Option ℕ)) (entry : Option ℕ) → result ≡ Err entry → Judges alone unlike result → Decides false alone
+err_alone alone unlike result entry e j = subst (λ (r : Result (Unit {0}) (Option ℕ)). Decides (is_ok r) alone) e j.is_alone
+
+pub err_unlike : (alone : Type 0) (unlike : Option ℕ → Type 0) (result : Result (Unit {0}) (Option ℕ)) (entry : Option ℕ) → result ≡ Err entry → Judges alone unlike result → unlike entry
+err_unlike alone unlike result entry e j = subst (λ (r : Result (Unit {0}) (Option ℕ)). IfErr r unlike) e j.is_unlike

@@ -1,0 +1,297 @@
+-- A lane that runs alone again beside a log.
+use Rattle.std.proofs.Common.{◌≡◌, ◌≢◌, ◌==◌, ◌⊎◌, ℕ, zero, suc, ◌+◌, ◌*◌, ◌<◌, ◌≤◌, Bool, true, false, inl, inr, ◌&&◌, ◌||◌, not, if◌then◌else◌, List, [], ◌∷◌, ◌++◌, length, take, Option, Some, None, refl, ap, sym, ◌∙◌, subst, add-one, append-nil, append_assoc, length-append, arith}
+use Rattle.std.specs.Bool.{Decides}
+use Rattle.std.specs.List.{slice_get}
+use Rattle.std.proofs.Math.Seq.{take-append_seam}
+use Rattle.std.proofs.lemmas.List.{take-append-le}
+use Rattle.std.proofs.lemmas.Option.{slice_get_past, slice_get_within}
+use Rattle.std.proofs.lemmas.Bool.Decides.{eqb_tells}
+use Rattle.lane_look.specs.Asking.{Asking, Runs, answered}
+use Rattle.lane_look.specs.Asking.Asking.{Ready, Question}
+use Rattle.lane_look.specs.declared.lane.Ask.{Ask}
+use Rattle.lane_look.specs.declared.lane.Ask.TheVariants as ask
+use Rattle.lane_look.specs.declared.lane.Want.{Want}
+use Rattle.lane_look.specs.declared.lane.Want.TheVariants as want
+use Rattle.lane_look.specs.Replay.{Meaning, Entry, asked, after_begun}
+use Rattle.lane_look.specs.Alone.{all_stored, begun_alone, alone, ends_wants, ends_now, ends_at, least, alone_length}
+use Rattle.lane_look.proofs.Least.{is_least}
+use Rattle.rp_machine.specs.State.{State}
+use Rattle.rp_machine.specs.Answers.{block_lines, lines_of, pacing_of, inputs_of, outs_of, answer_of}
+use Rattle.window_merge.specs.declared.walk.Walker.{Walker}
+use Rattle.window_merge.specs.Lanes.{around, stored_by}
+use Rattle.window_merge.specs.Patch.{patched, sram_after}
+use Rattle.window_merge.specs.Accept.{talk_alone}
+use Rattle.window_merge.specs.Judged.{DifferAt, IsFirstOther}
+use Rattle.window_merge.specs.Walks.{seen_by, IsCompared, GoesOn, Answers, IsStepped, IsMet, IsWalked}
+use Rattle.window_merge.proofs.Cutting.{least_meets}
+use Rattle.window_merge.proofs.Lanes.{below_least}
+use Rattle.window_merge.proofs.Logs.{take_more, get-append, get-seam}
+
+-- ---- two logs
+
+-- they differ where one more entry follows
+still : (log talk more : List Entry) (place : ℕ) → IsCompared log talk place false → IsCompared log (talk ++ more) place false
+still log talk more place h =
+    let lt : place < length talk = h.0 in (
+      omega (arith, lt, length-append talk more),
+      record {
+        same_before = h.1.same_before ∙ sym (take-append-le place talk more (omega (arith, lt)));
+        other_there = λ e. h.1.other_there (e ∙ get-append talk more place lt);
+      },
+    )
+
+pub still_other : (log : List Entry) (entry : Entry) (place : ℕ) (same : Bool) → same ≡ false → GoesOn log (entry ∷ []) place same place false
+still_other log entry place true e = absurd (cc e)
+still_other log entry place false e = λ talk h. still log talk (entry ∷ []) place h
+
+-- the next entry is the same
+pub one_more : (log : List Entry) (entry next : Entry) (place : ℕ) (same : Bool) → same ≡ true → slice_get log place ≡ Some next → next ≡ entry
+    → GoesOn log (entry ∷ []) place same (place + 1) true
+one_more log entry next place false e e_get e_next = absurd (cc e)
+one_more log entry next place true e e_get e_next = λ talk h. (
+  let one = length-append talk (entry ∷ []) in omega (arith, one, h.0),
+  ap (λ n. take n log) (add-one place) ∙ take_more log place next e_get ∙ ap (λ (l : List Entry). l ++ next ∷ []) h.1 ∙ ap (λ (x : Entry). talk ++ x ∷ []) e_next,
+)
+
+-- the next entry is another one, or there is none
+pub now_other : (log : List Entry) (entry : Entry) (place : ℕ) (same : Bool) → slice_get log place ≢ Some entry → same ≡ true → GoesOn log (entry ∷ []) place same place false
+now_other log entry place false other e = absurd (cc e)
+now_other log entry place true other e = λ talk h. (
+  let one = length-append talk (entry ∷ []) in omega (arith, one, h.0),
+  record {
+    same_before = h.1 ∙ sym (ap (λ n. take n (talk ++ entry ∷ [])) h.0 ∙ take-append_seam talk (entry ∷ []));
+    other_there = λ eq. other (eq ∙ ap (slice_get (talk ++ entry ∷ [])) h.0 ∙ get-seam talk entry []);
+  },
+)
+
+pub not_next : (log : List Entry) (place : ℕ) (next entry : Entry) → slice_get log place ≡ Some next → (next ≡ entry → ⊥) → slice_get log place ≢ Some entry
+not_next log place next entry e_get other e = other (cc (e_get, e))
+
+-- ---- what the walker answers, and does
+
+-- what is not in SRAM is answered by the machine as it is
+pub lines_over : (lane : ℕ) (s : State) (sram : List ℕ) → lines_of lane s ≡ lines_of lane (record s { sram = sram })
+unfolding lines_of block_lines
+lines_over lane s sram = refl
+
+pub pacing_over : (s : State) (sram : List ℕ) → pacing_of s ≡ pacing_of (record s { sram = sram })
+unfolding pacing_of
+pacing_over s sram = refl
+
+pub inputs_over : (s : State) (sram : List ℕ) → inputs_of s ≡ inputs_of (record s { sram = sram })
+unfolding inputs_of
+inputs_over s sram = refl
+
+pub outs_over : (block : ℕ) (s : State) (sram : List ℕ) → outs_of block s ≡ outs_of block (record s { sram = sram })
+unfolding outs_of
+outs_over block s sram = refl
+
+pub stores_over : (words new : List (ℕ × ℕ)) (s : State) (v : Want) → patched new s.sram ≡ sram_after v (patched words s.sram)
+    → record s { sram = patched new s.sram } ≡ stored_by v (record s { sram = patched words s.sram })
+stores_over words new s want.Nothing e = ap (λ (l : List ℕ). record s { sram = l }) e
+stores_over words new s (want.Ram request) e = ap (λ (l : List ℕ). record s { sram = l }) e
+stores_over words new s (want.Outward request) e = ap (λ (l : List ℕ). record s { sram = l }) e
+stores_over words new s want.Signal e = ap (λ (l : List ℕ). record s { sram = l }) e
+stores_over words new s (want.Stopped cause) e = ap (λ (l : List ℕ). record s { sram = l }) e
+
+abbrev with_found : Walker → ℕ → Bool → Walker
+with_found k place same = record k { place = place; same = same }
+
+-- what was begun is what the state answers, and the questions are compared
+pub record Found {B : Type 0} (old : Walker) (tree : Asking B) (result : B) (new : Walker) : Type 0 where
+  pub begun : result ≡ answered (answer_of old.lane (seen_by old)) tree
+  pub kept : new ≡ with_found old new.place new.same
+  pub goes_on : GoesOn old.log.now (asked (answer_of old.lane (seen_by old)) tree) old.place old.same new.place new.same
+
+found : {B : Type 0} (k : Walker) (place : ℕ) (same : Bool) (tree : Asking B) (result : B) (new : Walker) → Runs Answers (with_found k place same) tree result new → Found (with_found k place same) tree result new
+found k place same (Ready begun) result new r = record {
+  begun = r.1;
+  kept = r.0 ∙ ap (λ (x : Walker). with_found k x.place x.same) (sym r.0);
+  goes_on = λ talk h. subst (λ (x : Walker). IsCompared k.log.now (talk ++ []) x.place x.same) (sym r.0)
+      (subst (λ (l : List Entry). IsCompared k.log.now l place same) (sym (append-nil talk)) h);
+}
+found {B} k place same (Question ask next) result new r =
+    let f = answer_of k.lane (seen_by k) in
+    let here : Runs Answers (with_found k r.1.place r.1.same) (next r.0) result new = subst (λ (x : Walker). Runs Answers x (next r.0) result new) r.2.1 r.3 in
+    let there : Runs Answers (with_found k r.1.place r.1.same) (next (f ask)) result new = subst (λ (x : ℕ). Runs Answers (with_found k r.1.place r.1.same) (next x) result new) r.2.0 here in
+    let rest = found k r.1.place r.1.same (next (f ask)) result new there in
+    record {
+      begun = rest.begun;
+      kept = rest.kept;
+      goes_on = λ talk h.
+          subst (λ (l : List Entry). IsCompared k.log.now l new.place new.same) (append_assoc talk ((ask, f ask) ∷ []) (asked f (next (f ask))))
+          (rest.goes_on (talk ++ (ask, f ask) ∷ []) (subst (λ (x : ℕ). IsCompared k.log.now (talk ++ (ask, x) ∷ []) r.1.place r.1.same) r.2.0 (r.2.2 talk h)));
+    }
+
+pub runs_found : {B : Type 0} (k : Walker) (tree : Asking B) (result : B) (new : Walker) → Runs Answers k tree result new → Found k tree result new
+runs_found k tree result new r = found k k.place k.same tree result new r
+
+-- ---- one cycle
+
+pub stepped : {S B : Type 0} (m : Meaning (Unit {0}) S B) (cycle : ℕ) (lane lane' : S) (begun : B) (k mid k' : Walker) (wants : List Want) (ends : Bool)
+    → Found k (m.asks tt lane cycle) begun mid → wants ≡ m.wanted begun → lane' ≡ after_begun m tt lane begun
+    → seen_by k' ≡ all_stored (around mid.lane) (seen_by mid) wants → k' ≡ record mid { words = k'.words } → length k'.words ≤ length mid.words + 2
+    → ends ≡ ends_wants wants → IsStepped m cycle lane lane' k k' ends
+stepped {S} {B} m cycle lane lane' begun k mid k' wants ends h e_wants e_lane e_seen e_rest few e_ends =
+    let e_begun : begun ≡ begun_alone m (around k.lane) tt cycle lane (seen_by k) = h.begun in
+    let e_wanted : wants ≡ m.wanted (begun_alone m (around k.lane) tt cycle lane (seen_by k)) = e_wants ∙ ap m.wanted e_begun in
+    let same_words : length mid.words ≡ length k.words = ap (λ (x : Walker). length x.words) h.kept in
+    record {
+      is_end = e_ends ∙ ap ends_wants e_wanted;
+      is_state = e_lane ∙ ap (λ (b : B). after_begun m tt lane b) e_begun;
+      is_around = e_seen ∙ ap (λ (x : Walker). all_stored (around x.lane) (seen_by x) wants) h.kept ∙ ap (all_stored (around k.lane) (seen_by k)) e_wanted;
+      goes_on = subst (λ (x : Walker). GoesOn k.log.now (asked (answer_of k.lane (seen_by k)) (m.asks tt lane cycle)) k.place k.same x.place x.same) (sym e_rest) h.goes_on;
+      same_lane = ap (λ (x : Walker). x.lane) e_rest ∙ ap (λ (x : Walker). x.lane) h.kept;
+      same_log = ap (λ (x : Walker). x.log) e_rest ∙ ap (λ (x : Walker). x.log) h.kept;
+      few = omega (arith, few, same_words);
+    }
+
+-- ---- all cycles
+
+-- what a cycle leaves of a lane and what is around it, what it asks, and whether the run ends before it
+record Turned (S : Type 0) : Type 0 where
+  state : S
+  round : State
+  talk : List Entry
+  ends : Bool
+
+abbrev turned : {S B : Type 0} → Meaning (Unit {0}) S B → ℕ → ℕ → S → State → Turned S
+turned m number cycle lane round = record {
+  state = after_begun m tt lane (begun_alone m (around number) tt cycle lane round);
+  round = all_stored (around number) round (m.wanted (begun_alone m (around number) tt cycle lane round));
+  talk = asked (answer_of number round) (m.asks tt lane cycle);
+  ends = ends_now m (around number) tt cycle lane round;
+}
+
+turned_same : {S B : Type 0} (m : Meaning (Unit {0}) S B) (number number' cycle cycle' : ℕ) (lane lane' : S) (round round' : State)
+    → number ≡ number' → cycle ≡ cycle' → lane ≡ lane' → round ≡ round' → turned m number cycle lane round ≡ turned m number' cycle' lane' round'
+turned_same {S} m number number' cycle cycle' lane lane' round round' e_number e_cycle e_lane e_round =
+    ap (λ n. turned m n cycle lane round) e_number ∙ ap (λ c. turned m number' c lane round) e_cycle
+    ∙ ap (λ (x : S). turned m number' cycle' x round) e_lane ∙ ap (λ (x : State). turned m number' cycle' lane' x) e_round
+
+met_next : (test : ℕ → Bool) (k : ℕ) (ended ends : Bool) → IsMet test k ended → ends ≡ test k → IsMet test (suc k) (if ends then true else ended)
+met_next test k ended true h e = (k, omega arith, sym e)
+met_next test k true false h e = (h.0, omega (arith, h.1), h.2)
+met_next test k false false h e = λ j lt. elim (eqb_tells j k) [
+  | inl is ↦ ap test is.1 ∙ sym e
+  | inr is ↦ h j (omega (arith, lt, is.1))
+]
+
+pub walk_first : {S B : Type 0} (m : Meaning (Unit {0}) S B) (before : S) (start : ℕ) (first : Walker) → first.words ≡ [] → first.place ≡ 0 → first.same ≡ true
+    → IsWalked m before start first 0 before first false
+unfolding alone
+walk_first m before start first e_words e_place e_same = record {
+  is_state = refl;
+  is_around = refl;
+  is_compared = subst (λ (b : Bool). IsCompared first.log.now [] first.place b) (sym e_same) (e_place, ap (λ n. take n first.log.now) e_place);
+  is_ended = λ j lt. absurd (omega (arith, lt));
+  same_lane = refl;
+  same_log = refl;
+  few = rw e_words (omega arith);
+}
+
+walk_on : {S B : Type 0} (m : Meaning (Unit {0}) S B) (before : S) (start : ℕ) (first : Walker) (n : ℕ) (lane lane' : S) (k k' : Walker) (cycle : ℕ) (ended ends : Bool)
+    → IsWalked m before start first n lane k ended → IsStepped m cycle lane lane' k k' ends → cycle ≡ start + n
+    → IsWalked m before start first (suc n) lane' k' (if ends then true else ended)
+unfolding alone ends_at
+walk_on {S} m before start first n lane lane' k k' cycle ended ends h step e_cycle =
+    let a = alone m (around first.lane) tt before start (seen_by first) n in
+    let e = turned_same m k.lane first.lane cycle (start + n) lane a.state (seen_by k) a.around h.same_lane e_cycle h.is_state h.is_around in
+    let log : k.log.now ≡ first.log.now = ap (λ l. l.now) h.same_log in
+    let before_it : IsCompared k.log.now a.talk k.place k.same = subst (λ (l : List Entry). IsCompared l a.talk k.place k.same) (sym log) h.is_compared in
+    let after_it = step.goes_on a.talk before_it in
+    let few = h.few in
+    let more = step.few in
+    record {
+      is_state = step.is_state ∙ ap (λ (t : Turned S). t.state) e;
+      is_around = step.is_around ∙ ap (λ (t : Turned S). t.round) e;
+      is_compared = subst (λ (t : List Entry). IsCompared first.log.now (a.talk ++ t) k'.place k'.same) (ap (λ (t : Turned S). t.talk) e)
+          (subst (λ (l : List Entry). IsCompared l (a.talk ++ asked (answer_of k.lane (seen_by k)) (m.asks tt lane cycle)) k'.place k'.same) log after_it);
+      is_ended = met_next (ends_at m (around first.lane) tt before start (seen_by first)) n ended ends h.is_ended (step.is_end ∙ ap (λ (t : Turned S). t.ends) e);
+      same_lane = step.same_lane ∙ h.same_lane;
+      same_log = step.same_log ∙ h.same_log;
+      few = omega (arith, few, more);
+    }
+
+pub walk_next : {S B : Type 0} (m : Meaning (Unit {0}) S B) (before : S) (start : ℕ) (first : Walker) (n : ℕ) (lane lane' : S) (k k' : Walker) (cycle : ℕ) (ended ends ended' : Bool)
+    → IsWalked m before start first n lane k ended → IsStepped m cycle lane lane' k k' ends → cycle ≡ start + n → ended' ≡ (if ends then true else ended)
+    → IsWalked m before start first (n + 1) lane' k' ended'
+walk_next m before start first n lane lane' k k' cycle ended ends ended' h step e_cycle e_ended =
+    rw (add-one, e_ended) (walk_on m before start first n lane lane' k k' cycle ended ends h step e_cycle)
+
+-- ---- the length
+
+pub ended_early : (test : ℕ → Bool) (cycles bound : ℕ) → IsMet test cycles true → Decides false (cycles ≡ least test bound)
+ended_early test cycles bound h =
+    (λ e. absurd (cc e), λ e. let no : test h.0 ≡ false = below_least test bound h.0 (omega (arith, e, h.1)) in absurd (cc (no, h.2)))
+
+pub too_long : (test : ℕ → Bool) (cycles bound : ℕ) → bound < cycles → Decides false (cycles ≡ least test bound)
+too_long test cycles bound lt = (λ e. absurd (cc e), λ e. let le = (least_meets test bound).within in absurd (omega (arith, lt, e, le)))
+
+pub full_length : (test : ℕ → Bool) (cycles bound : ℕ) → IsMet test cycles false → cycles ≡ bound → Decides true (cycles ≡ least test bound)
+full_length test cycles bound h e = (λ _. sym (is_least test bound cycles (omega (arith, e)) h (λ lt. absurd (omega (arith, lt, e)))), λ _. refl)
+
+pub ends_there : (test : ℕ → Bool) (cycles bound : ℕ) (last : Bool) → IsMet test cycles false → cycles < bound → last ≡ test cycles → Decides last (cycles ≡ least test bound)
+ends_there test cycles bound last h lt e = (
+  λ is. sym (is_least test bound cycles (omega (arith, lt)) h (λ below. sym e ∙ is)),
+  λ same. e ∙ ap test same ∙ (least_meets test bound).met (omega (arith, lt, same)),
+)
+
+pub length_ended : {S B : Type 0} (m : Meaning (Unit {0}) S B) (before : S) (start : ℕ) (first : Walker) (cycles : ℕ) (lane : S) (k : Walker) (ended : Bool) (bound : ℕ)
+    → IsWalked m before start first cycles lane k ended → ended ≡ true → Decides false (cycles ≡ alone_length m (around first.lane) tt before start (seen_by first) bound)
+unfolding alone_length
+length_ended m before start first cycles lane k ended bound h e =
+    let test = ends_at m (around first.lane) tt before start (seen_by first) in
+    ended_early test cycles bound (subst (λ (b : Bool). IsMet test cycles b) e h.is_ended)
+
+pub length_long : {S B : Type 0} (m : Meaning (Unit {0}) S B) (before : S) (start : ℕ) (first : Walker) (cycles bound : ℕ)
+    → bound < cycles → Decides false (cycles ≡ alone_length m (around first.lane) tt before start (seen_by first) bound)
+unfolding alone_length
+length_long m before start first cycles bound lt = too_long (ends_at m (around first.lane) tt before start (seen_by first)) cycles bound lt
+
+pub length_full : {S B : Type 0} (m : Meaning (Unit {0}) S B) (before : S) (start : ℕ) (first : Walker) (cycles : ℕ) (lane : S) (k : Walker) (ended : Bool) (bound : ℕ)
+    → IsWalked m before start first cycles lane k ended → ended ≡ false → cycles ≡ bound → Decides true (cycles ≡ alone_length m (around first.lane) tt before start (seen_by first) bound)
+unfolding alone_length
+length_full m before start first cycles lane k ended bound h e e_bound =
+    let test = ends_at m (around first.lane) tt before start (seen_by first) in
+    full_length test cycles bound (subst (λ (b : Bool). IsMet test cycles b) e h.is_ended) e_bound
+
+pub length_ends : {S B : Type 0} (m : Meaning (Unit {0}) S B) (before : S) (start : ℕ) (first : Walker) (cycles : ℕ) (lane : S) (k : Walker) (ended : Bool) (bound cycle : ℕ) (last : Bool)
+    → IsWalked m before start first cycles lane k ended → ended ≡ false → cycles < bound → cycle ≡ start + cycles → last ≡ ends_now m (around k.lane) tt cycle lane (seen_by k)
+    → Decides last (cycles ≡ alone_length m (around first.lane) tt before start (seen_by first) bound)
+unfolding alone_length ends_at
+length_ends {S} m before start first cycles lane k ended bound cycle last h e lt e_cycle e_last =
+    let test = ends_at m (around first.lane) tt before start (seen_by first) in
+    let a = alone m (around first.lane) tt before start (seen_by first) cycles in
+    let same = turned_same m k.lane first.lane cycle (start + cycles) lane a.state (seen_by k) a.around h.same_lane e_cycle h.is_state h.is_around in
+    ends_there test cycles bound last (subst (λ (b : Bool). IsMet test cycles b) e h.is_ended) lt (e_last ∙ ap (λ (t : Turned S). t.ends) same)
+
+-- ---- from a machine
+
+-- nothing is written yet
+unwritten : (k : Walker) (s : State) → k.words ≡ [] → k.machine.now ≡ s → seen_by k ≡ s
+unfolding patched
+unwritten k s e_words e_machine = ap (λ w. record k.machine.now { sram = patched w k.machine.now.sram }) e_words ∙ e_machine
+
+pub walked_other : {S B : Type 0} (m : Meaning (Unit {0}) S B) (before : S) (start : ℕ) (first : Walker) (cycles : ℕ) (lane : S) (k : Walker) (ended : Bool) (s : State) (number : ℕ) (log : List Entry) (result : Option ℕ)
+    → IsWalked m before start first cycles lane k ended → first.lane ≡ number → first.words ≡ [] → first.machine.now ≡ s → start ≡ s.cycle → first.log.now ≡ log
+    → ((talk : List Entry) → IsCompared log talk k.place k.same → IsFirstOther log talk result) → IsFirstOther log (talk_alone m number before s cycles) result
+walked_other m before start first cycles lane k ended s number log result h e_lane e_words e_machine e_start e_log tells =
+    let e_seen = unwritten first s e_words e_machine in
+    let e : (alone m (around first.lane) tt before start (seen_by first) cycles).talk ≡ talk_alone m number before s cycles =
+    ap (λ n. (alone m (around n) tt before start (seen_by first) cycles).talk) e_lane
+    ∙ ap (λ (x : State). (alone m (around number) tt before start x cycles).talk) e_seen
+    ∙ ap (λ c. (alone m (around number) tt before c s cycles).talk) e_start in
+    tells (talk_alone m number before s cycles)
+    (subst (λ (l : List Entry). IsCompared l (talk_alone m number before s cycles) k.place k.same) e_log
+    (subst (λ (l : List Entry). IsCompared first.log.now l k.place k.same) e h.is_compared))
+
+pub walked_length : {S B : Type 0} (m : Meaning (Unit {0}) S B) (before : S) (start : ℕ) (first : Walker) (cycles : ℕ) (lane : S) (k : Walker) (ended : Bool) (s : State) (number bound : ℕ) (result : Bool)
+    → IsWalked m before start first cycles lane k ended → first.lane ≡ number → first.words ≡ [] → first.machine.now ≡ s → start ≡ s.cycle
+    → ((b : S) (f : Walker) → IsWalked m b start f cycles lane k ended → Decides result (cycles ≡ alone_length m (around f.lane) tt b start (seen_by f) bound))
+    → Decides result (cycles ≡ alone_length m (around number) tt before s.cycle s bound)
+walked_length m before start first cycles lane k ended s number bound result h e_lane e_words e_machine e_start tells =
+    let e_seen = unwritten first s e_words e_machine in
+    subst (λ c. Decides result (cycles ≡ alone_length m (around number) tt before c s bound)) e_start
+    (subst (λ (x : State). Decides result (cycles ≡ alone_length m (around number) tt before start x bound)) e_seen
+    (subst (λ n. Decides result (cycles ≡ alone_length m (around n) tt before start (seen_by first) bound)) e_lane (tells before first h)))

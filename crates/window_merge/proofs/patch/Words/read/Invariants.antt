@@ -1,0 +1,7 @@
+use Rattle.std.proofs.Common.{◌≡◌, take, length}
+use Rattle.std.specs.Prelude.{slice_index}
+use Rattle.window_merge.specs.Patch.{patched}
+use Rattle.window_merge.proofs.patch.Words.read.Given as goal
+
+abbrev pub invariant-loop-k : goal.invariant-loop-k
+invariant-loop-k l = l.word ≡ slice_index (patched (take l.k l.self) l.ram) l.index

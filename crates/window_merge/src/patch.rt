@@ -1,0 +1,134 @@
+//! The words of SRAM that a lane wrote, where SRAM itself is only read.
+
+ghost use Rattle.std.specs.Prelude.{◌≡◌, ◌<◌, ◌^◌};
+ghost use Rattle.ram_banks.specs.Lanes.{lane_byte, with_lanes};
+
+use arrayvec::ArrayVec;
+use lane_look::Want;
+use ram_banks::Ram;
+use rp_base::access::{lanes_at, replicated};
+use rp_base::map::{Spot, place};
+use std::marker::Model;
+
+/// How many words there are at most: two in each of 256 cycles.
+const ROOM: usize = 512;
+
+/// Words of SRAM by their index, as they were written in turn.
+#[derive(Drop)]
+pub(crate) struct Words {
+    list: ArrayVec<(u32, u32), 512>,
+}
+
+impl Model for Words {
+    ghost use Rattle.std.specs.Prelude.{ℕ, List};
+
+    ghost Value = { List (ℕ × ℕ) };
+
+    ghost view = { λ w. w.list.items };
+}
+
+/// The byte that a write leaves in a lane.
+fn lane_byte(lanes: u8, value: u32, word: u32, lane: u8) -> u32
+    requires { lane < 4 }
+    ensures value { result ≡ lane_byte lanes value word lane }
+    ensures byte { result < 2 ^ 8 }
+{
+    let source = if (lanes >> lane) & 1 == 1 {
+        value
+    } else {
+        word
+    };
+    (source >> (8 * lane)) & 0xff
+}
+
+/// The word that a write of some byte lanes leaves.
+#[tactic(auto, unfolding(ram_banks::specs::Lanes::with_lanes))]
+fn with_lanes(lanes: u8, value: u32, word: u32) -> u32
+    ensures { result ≡ with_lanes lanes value word }
+{
+    lane_byte(lanes, value, word, 3) * 0x100_0000
+        + lane_byte(lanes, value, word, 2) * 0x1_0000
+        + lane_byte(lanes, value, word, 1) * 0x100
+        + lane_byte(lanes, value, word, 0)
+}
+
+impl Words {
+    ghost use Rattle.std.specs.Prelude.{◌≡◌, ◌+◌, ◌<◌, ◌≤◌, ◌++◌, ◌∷◌, [], Some, length, slice_get, slice_index};
+    ghost use Rattle.ram_banks.specs.Sram.{written};
+    ghost use Rattle.window_merge.specs.Patch.{patched, sram_after};
+
+    /// None.
+    pub(crate) fn new() -> Words
+        ensures { result ≡ [] }
+    {
+        Words {
+            list: ArrayVec::new(),
+        }
+    }
+
+    /// How many there are.
+    fn count(&self) -> usize
+        ensures { result ≡ length self.now }
+    {
+        self.list.len()
+    }
+
+    /// The index and the word at a place.
+    fn entry(&self, place: usize) -> (u32, u32)
+        requires { place < length self.now }
+        ensures { slice_get self.now place ≡ Some result }
+    {
+        self.list[place]
+    }
+
+    /// Adds a word at the end.
+    fn push(&mut self, index: u32, word: u32)
+        requires { length self.old < ROOM }
+        ensures { self.new ≡ self.old ++ (index, word) ∷ [] }
+    {
+        self.list.push((index, word));
+    }
+
+    /// The word of an index: the one that was written last, or else that of SRAM.
+    pub(crate) fn read(&self, ram: &Ram, index: u32) -> u32
+        requires { index < 67584 }
+        ensures { result ≡ slice_index (patched self.now ram.now) index }
+    {
+        let mut word = ram.read(index);
+        for k in 0..self.count() {
+            let (at, later) = self.entry(k);
+            if at == index {
+                word = later;
+            }
+        }
+        word
+    }
+
+    /// Writes some byte lanes of a word.
+    fn write(&mut self, ram: &Ram, index: u32, lanes: u8, value: u32)
+        requires index { index < 67584 }
+        requires room { length self.old < ROOM }
+        ensures value { patched self.new ram.now
+            ≡ written (patched self.old ram.now) index lanes value }
+        ensures few { length self.new ≤ length self.old + 1 }
+    {
+        let word = with_lanes(lanes, value, self.read(ram, index));
+        self.push(index, word);
+    }
+
+    /// Does the access of a want, if it is one to SRAM.
+    pub(crate) fn store(&mut self, ram: &Ram, want: &Want)
+        requires { length self.old < ROOM }
+        ensures stored { patched self.new ram.now ≡ sram_after want.now (patched self.old ram.now) }
+        ensures few { length self.new ≤ length self.old + 1 }
+    {
+        if let Want::Ram(request) = want {
+            if let Some(value) = request.write {
+                if let Spot::Ram { index, .. } = place(request.address) {
+                    let lanes = lanes_at(request.size, request.address);
+                    self.write(ram, index, lanes, replicated(request.size, value));
+                }
+            }
+        }
+    }
+}
