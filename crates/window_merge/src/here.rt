@@ -92,25 +92,13 @@ fn run_here<X: Device>(
         empty_place(place, lane);
         return 0;
     }
-    let Some(own) = place.take() else {
-        unreachable!()
-    };
-    let LaneSet { copies, room } = own.set;
-    let Some(mut room) = room else { unreachable!() };
-    take_lane(machine, lane, &mut room);
+    let Some(job) = place else { unreachable!() };
+    let LaneSet { copies, room } = &mut job.set;
+    let Some(run) = room else { unreachable!() };
+    take_lane(machine, lane, run);
     let overlay = Overlay::over(machine, lane, copies);
-    let (run, overlay) = run_room(room, lane, world, machine.number(), overlay, at_most);
-    let length = length_of(&run);
-    *place = Some(LaneJob {
-        lane,
-        start: machine.number(),
-        limit: world.limit,
-        set: LaneSet {
-            copies: overlay.into_copies(),
-            room: Some(run),
-        },
-    });
-    length
+    let _around = run_room(run, lane, world, machine.number(), overlay, at_most);
+    length_of(run)
 }
 
 /// Runs each lane alone from the machine's state, none for more cycles than the one before it. Gives how many there are.

@@ -64,36 +64,29 @@ pub fn job(machine: &Machine, job: &mut LaneJob)
     }
 }
 
-/// Runs a lane alone, in the room of a report that has its state.
+/// Runs a lane alone, in the room of a report that has its state. Gives what is left around the lane.
 fn run_lane<E, S: Lane<E>, W: Around>(
-    room: Report<S>,
+    room: &mut Report<S>,
     env: &E,
     start: u64,
     around: W,
     at_most: u16,
-) -> (Report<S>, W)
+) -> W
     requires cycles { at_most ≤ 256 }
     requires number { start + at_most < 2 ^ 64 }
     ensures { RanIn (surroundings W.answer W.stored) (meaning S.asks S.wanted S.next S.marked)
-        env.now room.before start around at_most result.0 }
+        env.now room.old.before start around at_most room.new }
 {
-    let mut room = room;
     room.start = start;
     run_alone(room, env, around, at_most)
 }
 
 /// Runs a core alone: for no cycle where it is core 1 and has a word of its launcher to take.
-fn run_core<W: Around>(
-    room: Report<Core>,
-    lane: u8,
-    start: u64,
-    around: W,
-    at_most: u16,
-) -> (Report<Core>, W)
+fn run_core<W: Around>(room: &mut Report<Core>, lane: u8, start: u64, around: W, at_most: u16) -> W
     requires cycles { at_most ≤ 256 }
     requires number { start + at_most < 2 ^ 64 }
-    ensures { RanIn (surroundings W.answer W.stored) core_lane tt room.before start around
-        (core_bound lane room.before at_most) result.0 }
+    ensures { RanIn (surroundings W.answer W.stored) core_lane tt room.old.before start around
+        (core_bound lane room.old.before at_most) room.new }
 {
     if lane == 1 && room.before.is_asleep() && room.before.has_offer() {
         run_lane(room, &(), start, around, 0)
@@ -103,81 +96,64 @@ fn run_core<W: Around>(
 }
 
 /// Runs the DMA engine alone.
-fn run_dma<W: Around>(room: Report<Dma>, start: u64, around: W, at_most: u16) -> (Report<Dma>, W)
+fn run_dma<W: Around>(room: &mut Report<Dma>, start: u64, around: W, at_most: u16) -> W
     requires cycles { at_most ≤ 256 }
     requires number { start + at_most < 2 ^ 64 }
-    ensures { RanIn (surroundings W.answer W.stored) dma_lane tt room.before start around at_most
-        result.0 }
+    ensures { RanIn (surroundings W.answer W.stored) dma_lane tt room.old.before start around
+        at_most room.new }
 {
     run_lane(room, &(), start, around, at_most)
 }
 
 /// Runs a PIO block alone.
-fn run_pio<W: Around>(
-    room: Report<PioBlock>,
-    start: u64,
-    around: W,
-    at_most: u16,
-) -> (Report<PioBlock>, W)
+fn run_pio<W: Around>(room: &mut Report<PioBlock>, start: u64, around: W, at_most: u16) -> W
     requires cycles { at_most ≤ 256 }
     requires number { start + at_most < 2 ^ 64 }
-    ensures { RanIn (surroundings W.answer W.stored) pio_lane tt room.before start around at_most
-        result.0 }
+    ensures { RanIn (surroundings W.answer W.stored) pio_lane tt room.old.before start around
+        at_most room.new }
 {
     run_lane(room, &(), start, around, at_most)
 }
 
 /// Runs the peripherals alone.
 fn run_outer<X: Device, W: Around>(
-    room: Report<Outer>,
+    room: &mut Report<Outer>,
     world: &World<'_, X>,
     start: u64,
     around: W,
     at_most: u16,
-) -> (Report<Outer>, W)
+) -> W
     requires cycles { at_most ≤ 256 }
     requires number { start + at_most < 2 ^ 64 }
     ensures { RanIn (surroundings W.answer W.stored) (peripheral_lane
         (setting_of world.now.script.now (X.meaning world.now.device.now) world.now.limit))
-        tt room.before start around at_most result.0 }
+        tt room.old.before start around at_most room.new }
 {
     run_lane(room, world, start, around, at_most)
 }
 
-/// Runs the lane alone whose state is in the room.
+/// Runs the lane alone whose state is in the room. Gives what is left around the lane.
 pub(crate) fn run_room<X: Device, W: Around>(
-    room: LaneRun,
+    room: &mut LaneRun,
     lane: u8,
     world: &World<'_, X>,
     start: u64,
     around: W,
     at_most: u16,
-) -> (LaneRun, W)
-    requires kind { is_run_of lane room ≡ true }
+) -> W
+    requires kind { is_run_of lane room.old ≡ true }
     requires cycles { at_most ≤ 256 }
     requires number { start + at_most < 2 ^ 64 }
-    ensures kind { is_run_of lane result.0 ≡ true }
+    ensures kind { is_run_of lane room.new ≡ true }
     ensures run { Ran (surroundings W.answer W.stored)
         (setting_of world.now.script.now (X.meaning world.now.device.now) world.now.limit)
-        lane start around at_most room result.0 }
+        lane start around at_most room.old room.new }
 {
     match room {
-        LaneRun::Core(room) => {
-            let (report, around) = run_core(room, lane, start, around, at_most);
-            (LaneRun::Core(report), around)
-        }
-        LaneRun::Dma(room) => {
-            let (report, around) = run_dma(room, start, around, at_most);
-            (LaneRun::Dma(report), around)
-        }
-        LaneRun::Pio(room) => {
-            let (report, around) = run_pio(room, start, around, at_most);
-            (LaneRun::Pio(report), around)
-        }
-        LaneRun::Outer(room) => {
-            let (report, around) = run_outer(room, world, start, around, at_most);
-            (LaneRun::Outer(report), around)
-        }
+        LaneRun::Core(room) => run_core(room, lane, start, around, at_most),
+        LaneRun::Dma(room) => run_dma(room, start, around, at_most),
+        LaneRun::Pio(room) => run_pio(room, start, around, at_most),
+        LaneRun::Outer(room) => run_outer(room, world, start, around, at_most),
     }
 }
 
@@ -211,9 +187,9 @@ pub(crate) fn run_by<X: Device>(job: LaneJob, world: &World<'_, X>) -> LaneRepor
         set,
     } = job;
     let LaneSet { copies, room } = set;
-    let Some(room) = room else { unreachable!() };
+    let Some(mut run) = room else { unreachable!() };
     let at_most = longest_by(limit, start);
-    let (run, copies) = run_room(room, lane, world, start, copies, at_most);
+    let copies = run_room(&mut run, lane, world, start, copies, at_most);
     LaneReport {
         lane,
         limit,

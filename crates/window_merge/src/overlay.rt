@@ -22,7 +22,7 @@ pub struct Overlay<'a> {
     /// SRAM at the start.
     base: &'a Ram,
     /// The other answers; of its SRAM only the written pages hold.
-    copies: Copies,
+    copies: &'a mut Copies,
     /// Whether a page was written.
     pages: [bool; 264],
 }
@@ -34,9 +34,12 @@ impl<'a> Model for Overlay<'a> {
 
     ghost Value = { Copies };
 
-    ghost view = { λ o. record o.copies { ram = overlaid o.pages o.base.now o.copies.ram } };
+    ghost view = { λ o. record o.copies.now {
+      ram = overlaid o.pages o.base.now o.copies.now.ram;
+    } };
 
-    ghost invariant = { λ o. (length o.base.now ≡ 67584) × (length o.copies.ram ≡ 67584) };
+    ghost invariant = { λ o. (length o.base.now ≡ 67584)
+        × (length o.copies.now.ram ≡ 67584) };
 }
 
 /// Takes a page of the machine's SRAM.
@@ -88,8 +91,8 @@ fn read(base: &Ram, own: &Ram, pages: &[bool; 264], index: u32) -> u32
 
 /// No page is written.
 #[tactic(auto, using(crate::proofs::Overlaying::none_written))]
-fn over_ram<'a>(base: &'a Ram, copies: Copies) -> Overlay<'a>
-    ensures { result ≡ record copies { ram = base.now } }
+fn over_ram<'a>(base: &'a Ram, copies: &'a mut Copies) -> Overlay<'a>
+    ensures { result ≡ record copies.old { ram = base.now } }
 {
     let _word = base.read(0);
     let _own = copies.ram.read(0);
@@ -157,23 +160,13 @@ impl<'a> Overlay<'a> {
     ghost use Rattle.window_merge.specs.declared.copies.Copies.{Copies};
     ghost use Rattle.window_merge.specs.Around.{copies_of};
 
-    /// What a lane of that number can ask of a machine. The copies are used for what the lane writes.
-    pub fn over(machine: &'a Machine, lane: u8, copies: Copies) -> Overlay<'a>
+    /// What a lane of that number can ask of a machine. The copies are used for what the lane writes, and their SRAM is of no use
+    /// after it.
+    pub fn over(machine: &'a Machine, lane: u8, copies: &'a mut Copies) -> Overlay<'a>
         ensures { result ≡ copies_of lane machine.now }
     {
-        let mut copies = copies;
         copies.take_answers(machine, lane);
         over_ram(&machine.ram, copies)
-    }
-
-    /// The copies, where SRAM is of no more use.
-    pub fn into_copies(self) -> Copies {
-        let Overlay {
-            base: _base,
-            copies,
-            pages: _pages,
-        } = self;
-        copies
     }
 
     /// The word of an index.

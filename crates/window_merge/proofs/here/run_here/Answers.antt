@@ -12,17 +12,17 @@ returns-then-at_most-eq0-clause-run g c =
 pub returns-clause-run : goal.returns-clause-run
 returns-clause-run g c =
     let w = setting_of c.args.world.now.script.now (g.X.Device.meaning c.args.world.now.device.now) c.args.world.now.limit in (
-      c.length_of-length.ensures,
-      start_by_alone w c.args.machine.now c.args.at_most c.args.lane c.run_room-run.result.0
-          (ran_alone w c.args.machine.now c.args.lane c.number.result c.over-overlay.result c.args.at_most c.args.at_most c.take_lane.new.run c.run_room-run.result.0
-          c.number.ensures c.over-overlay.ensures refl c.take_lane.ensures.state c.run_room-run.ensures.run),
+      c.length_of.ensures,
+      start_by_alone w c.args.machine.now c.args.at_most c.args.lane c.run_room-_around.new.room
+          (ran_alone w c.args.machine.now c.args.lane c.number.result c.over-overlay.result c.args.at_most c.args.at_most c.take_lane.new.run c.run_room-_around.new.room
+          c.number.ensures c.over-overlay.ensures refl c.take_lane.ensures.state c.run_room-_around.ensures.run),
     )
 
 pub returns-clause-within : goal.returns-clause-within
 returns-clause-within g c =
     let w = setting_of c.args.world.now.script.now (g.X.Device.meaning c.args.world.now.device.now) c.args.world.now.limit in
-    let few = few_by w c.args.machine.now c.args.at_most c.args.lane c.run_room-run.result.0
-    (ran_alone w c.args.machine.now c.args.lane c.number.result c.over-overlay.result c.args.at_most c.args.at_most c.take_lane.new.run c.run_room-run.result.0
-    c.number.ensures c.over-overlay.ensures refl c.take_lane.ensures.state c.run_room-run.ensures.run) in
-    let same = c.length_of-length.ensures in
+    let few = few_by w c.args.machine.now c.args.at_most c.args.lane c.run_room-_around.new.room
+    (ran_alone w c.args.machine.now c.args.lane c.number.result c.over-overlay.result c.args.at_most c.args.at_most c.take_lane.new.run c.run_room-_around.new.room
+    c.number.ensures c.over-overlay.ensures refl c.take_lane.ensures.state c.run_room-_around.ensures.run) in
+    let same = c.length_of.ensures in
     omega (arith, few, same)
