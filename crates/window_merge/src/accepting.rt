@@ -9,6 +9,7 @@ ghost use Rattle.window_merge.specs.Jobs.{core_of, block_of, core_bound, IsTrueI
 ghost use Rattle.window_merge.specs.Accept.{IsStranger};
 ghost use Rattle.window_merge.specs.Judged.{IsUnlike, IsUnlikeBy, Judges};
 
+use crate::here::length_of;
 use crate::jobs::{longest_by, start_of};
 use crate::lane_job::LaneReport;
 use crate::lane_run::LaneRun;
@@ -179,18 +180,6 @@ fn judge_run(machine: &Machine, number: u8, run: &LaneRun, at_most: u16) -> Resu
         LaneRun::Dma(report) => judge_dma(machine, number, report, at_most),
         LaneRun::Pio(report) => judge_pio(machine, number, report, at_most),
         LaneRun::Outer(report) => judge_outer(machine, number, report, at_most),
-    }
-}
-
-/// How many cycles a report has.
-fn length_of(run: &LaneRun) -> u16
-    ensures { result ≡ length_of run.now }
-{
-    match run {
-        LaneRun::Core(report) => report.length,
-        LaneRun::Dma(report) => report.length,
-        LaneRun::Pio(report) => report.length,
-        LaneRun::Outer(report) => report.length,
     }
 }
 

@@ -5,11 +5,13 @@ ghost use Rattle.outer_lane.specs.Setting.{setting_of};
 ghost use Rattle.bus_fabric.specs.State.{has_hold};
 ghost use Rattle.rp_machine.specs.Run.{states};
 ghost use Rattle.window_merge.specs.declared.lane_run.LaneRun.TheVariants as run;
+ghost use Rattle.window_merge.specs.Around.{copies_of, copied};
 ghost use Rattle.window_merge.specs.Kinds.{is_run_of};
 ghost use Rattle.window_merge.specs.Window.{longest, window_length, window_within};
 ghost use Rattle.window_merge.specs.Merging.{marks_in, IsRested};
-ghost use Rattle.window_merge.specs.Jobs.{length_of, IsEmpty, IsAloneBy, IsStartBy, HasRun, HoldsEmpty, HoldsRun, AreRuns, HasNumber, HasLanesFrom, IsWhole};
+ghost use Rattle.window_merge.specs.Jobs.{length_of, IsEmpty, IsAloneBy, IsStartBy, HasRun, HoldsEmpty, HoldsRun, AreRuns, HasNumber, HasLanesFrom, IsWhole, Ran};
 
+use crate::copies::Copies;
 use crate::jobs::{run_room, take_lane};
 use crate::lane_job::{Crew, LaneJob};
 use crate::lane_run::{LaneRun, LaneSet};
@@ -25,7 +27,7 @@ use rp_machine::{Machine, Steps};
 use std::sync::ledger::Ledger;
 
 /// How many cycles a run has.
-fn length_of(run: &LaneRun) -> u16
+pub(crate) fn length_of(run: &LaneRun) -> u16
     ensures { result ≡ length_of run.now }
 {
     match run {
@@ -71,6 +73,27 @@ fn empty_place(place: &mut Option<LaneJob>, lane: u8)
     empty_run(run);
 }
 
+/// Runs the lane alone whose state is in the room, by what the machine answers.
+fn run_over<'a, X: Device>(
+    machine: &'a Machine,
+    world: &World<'_, X>,
+    run: &mut LaneRun,
+    copies: &'a mut Copies,
+    lane: u8,
+    at_most: u16,
+)
+    requires kind { is_run_of lane run.old ≡ true }
+    requires cycles { at_most ≤ 256 }
+    requires number { machine.now.cycle + at_most < 2 ^ 64 }
+    ensures kind { is_run_of lane run.new ≡ true }
+    ensures run { Ran copied
+        (setting_of world.now.script.now (X.meaning world.now.device.now) world.now.limit)
+        lane machine.now.cycle (copies_of lane machine.now) at_most run.old run.new }
+{
+    let overlay = Overlay::over(machine, lane, copies);
+    let _around = run_room(run, lane, world, machine.number(), overlay, at_most);
+}
+
 /// Runs a lane alone from the machine's state, for at most so many cycles, in the room of its job. Gives how many there are.
 fn run_here<X: Device>(
     machine: &Machine,
@@ -96,8 +119,7 @@ fn run_here<X: Device>(
     let LaneSet { copies, room } = &mut job.set;
     let Some(run) = room else { unreachable!() };
     take_lane(machine, lane, run);
-    let overlay = Overlay::over(machine, lane, copies);
-    let _around = run_room(run, lane, world, machine.number(), overlay, at_most);
+    run_over(machine, world, run, copies, lane, at_most);
     length_of(run)
 }
 

@@ -187,7 +187,8 @@ pub(crate) fn run_by<X: Device>(job: LaneJob, world: &World<'_, X>) -> LaneRepor
         set,
     } = job;
     let LaneSet { copies, room } = set;
-    let Some(mut run) = room else { unreachable!() };
+    let Some(room) = room else { unreachable!() };
+    let mut run = room;
     let at_most = longest_by(limit, start);
     let copies = run_room(&mut run, lane, world, start, copies, at_most);
     LaneReport {

@@ -1,5 +1,6 @@
 use Rattle.std.proofs.Common.{refl, arith}
 use Rattle.outer_lane.specs.Setting.{setting_of}
+use Rattle.window_merge.specs.Around.{copies_of}
 use Rattle.window_merge.proofs.Cutting.{empty_has, start_by_alone, few_by}
 use Rattle.window_merge.proofs.Reported.{ran_alone}
 use Rattle.window_merge.proofs.here.run_here.Goals as goal
@@ -13,16 +14,16 @@ pub returns-clause-run : goal.returns-clause-run
 returns-clause-run g c =
     let w = setting_of c.args.world.now.script.now (g.X.Device.meaning c.args.world.now.device.now) c.args.world.now.limit in (
       c.length_of.ensures,
-      start_by_alone w c.args.machine.now c.args.at_most c.args.lane c.run_room-_around.new.room
-          (ran_alone w c.args.machine.now c.args.lane c.number.result c.over-overlay.result c.args.at_most c.args.at_most c.take_lane.new.run c.run_room-_around.new.room
-          c.number.ensures c.over-overlay.ensures refl c.take_lane.ensures.state c.run_room-_around.ensures.run),
+      start_by_alone w c.args.machine.now c.args.at_most c.args.lane c.run_over.new.run
+          (ran_alone w c.args.machine.now c.args.lane c.args.machine.now.cycle (copies_of c.args.lane c.args.machine.now) c.args.at_most c.args.at_most c.take_lane.new.run c.run_over.new.run
+          refl refl refl c.take_lane.ensures.state c.run_over.ensures.run),
     )
 
 pub returns-clause-within : goal.returns-clause-within
 returns-clause-within g c =
     let w = setting_of c.args.world.now.script.now (g.X.Device.meaning c.args.world.now.device.now) c.args.world.now.limit in
-    let few = few_by w c.args.machine.now c.args.at_most c.args.lane c.run_room-_around.new.room
-    (ran_alone w c.args.machine.now c.args.lane c.number.result c.over-overlay.result c.args.at_most c.args.at_most c.take_lane.new.run c.run_room-_around.new.room
-    c.number.ensures c.over-overlay.ensures refl c.take_lane.ensures.state c.run_room-_around.ensures.run) in
+    let few = few_by w c.args.machine.now c.args.at_most c.args.lane c.run_over.new.run
+    (ran_alone w c.args.machine.now c.args.lane c.args.machine.now.cycle (copies_of c.args.lane c.args.machine.now) c.args.at_most c.args.at_most c.take_lane.new.run c.run_over.new.run
+    refl refl refl c.take_lane.ensures.state c.run_over.ensures.run) in
     let same = c.length_of.ensures in
     omega (arith, few, same)

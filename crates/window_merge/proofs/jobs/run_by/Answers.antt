@@ -6,4 +6,4 @@ use Rattle.window_merge.proofs.jobs.run_by.Goals as goal
 pub returns-clause-alone : goal.returns-clause-alone
 returns-clause-alone g c =
     let w = setting_of c.args.world.now.script.now (g.X.Device.meaning c.args.world.now.device.now) c.args.world.now.limit in
-    λ s h. job_alone w s c.args.job c.in-Some.run c.run_room-copies.new.run c.longest_by-at_most.result h c.requires c.in-Some.is c.longest_by-at_most.ensures.value c.run_room-copies.ensures.run
+    λ s h. job_alone w s c.args.job c.in-Some.room c.run_room-copies.new.room c.longest_by-at_most.result h c.requires c.in-Some.is c.longest_by-at_most.ensures.value c.run_room-copies.ensures.run
