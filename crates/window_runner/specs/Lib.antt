@@ -5,3 +5,4 @@ pub mod Orders
 pub mod Parts
 pub mod Reports
 pub mod Told
+pub mod Windows

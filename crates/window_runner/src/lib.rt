@@ -5,5 +5,7 @@
 pub mod alone;
 pub mod events;
 pub mod laws;
+pub mod windows;
 
 pub use alone::{Ran, run_alone};
+pub use windows::{RunFault, run_windows};
