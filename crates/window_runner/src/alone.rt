@@ -1,4 +1,4 @@
-//! A run by windows on one thread.
+//! A run by windows, whoever runs their lanes, and one on one thread.
 
 ghost use Rattle.std.specs.Prelude.{◌≡◌, ◌+◌, ◌<◌, ◌≤◌, ◌^◌, ◌==◌, [], None, length, if◌then◌else◌, false, IfOk};
 ghost use Rattle.outer_lane.specs.Setting.{setting_of};
@@ -12,6 +12,7 @@ ghost use Rattle.window_runner.specs.Told.{all_shown, events_by, step_events, ru
 ghost use Rattle.window_runner.specs.Alone.{IsRan, IsOnRun, position_at, stop_in};
 
 use crate::events::tell_marks;
+use crate::mover::Mover;
 use lane_look::{Device, Marks};
 use outer_lane::World;
 use rp_base::Why;
@@ -19,7 +20,7 @@ use rp_machine::{Machine, Steps};
 use std::sync::ledger::Ledger;
 use trace_text::tape::Tape;
 use trace_text::writer::SinkFault;
-use window_merge::{Crew, Moved, advance};
+use window_merge::{Crew, Moved};
 
 /// What a run came to.
 #[derive(Clone, Copy, PartialEq, Eq)]
@@ -82,10 +83,10 @@ fn is_bounded<X: Device>(world: &World<'_, X>)
 }
 
 /// Goes to the next position of a run and tells the events on the way, or finds a stop and changes nothing.
-fn step<X: Device, T: Tape, L: Ledger>(
+fn step<X: Device, M: Mover<X>, T: Tape, L: Ledger>(
     machine: &mut Machine,
     world: &World<'_, X>,
-    crew: &mut Crew,
+    mover: &mut M,
     counts: &mut Counts,
     marks: &mut Marks,
     tape: &mut T,
@@ -93,7 +94,9 @@ fn step<X: Device, T: Tape, L: Ledger>(
 ) -> Result<Option<Why>, SinkFault>
     requires number { machine.old.cycle ≤ world.now.limit }
     requires rested { IsRested machine.old.sio }
-    requires crew { IsWhole crew.old }
+    requires ready { M.ready
+        (setting_of world.now.script.now (X.meaning world.now.device.now) world.now.limit)
+        mover.old }
     requires windows { counts.old.windows
         ≤ machine.old.cycle + (if counts.old.after_empty then 1 else 0) }
     requires cycles { counts.old.cycles ≤ machine.old.cycle }
@@ -112,12 +115,14 @@ fn step<X: Device, T: Tape, L: Ledger>(
         ≤ counts.old.cycles + machine.new.cycle }
     ensures steps { steps.new + machine.old.cycle ≡ steps.old + machine.new.cycle }
     ensures rested { IsRested machine.new.sio }
-    ensures crew { IsWhole crew.new }
+    ensures ready { M.ready
+        (setting_of world.now.script.now (X.meaning world.now.device.now) world.now.limit)
+        mover.new }
 {
     is_bounded(world);
     let cycle = machine.number();
     let before = machine.pads();
-    match advance(machine, world, crew, counts.after_empty, marks, steps) {
+    match mover.go(machine, world, counts.after_empty, marks, steps) {
         Moved::Stopped(why) => Ok(Some(why)),
         Moved::Window(length) => {
             count_window(counts, length);
@@ -126,6 +131,65 @@ fn step<X: Device, T: Tape, L: Ledger>(
         Moved::Cycle => {
             counts.after_empty = false;
             tell_step(cycle, before, marks, tape)
+        }
+    }
+}
+
+/// Runs a machine by windows and single cycles up to its first stop, and tells the events of all its cycles to a tape. Each cycle
+/// counts as a step.
+///
+/// # Errors
+///
+/// The tape failed at an event, and its count of faults rose. It has the events before that one, and the machine stands behind a
+/// cycle of the run.
+pub(crate) fn run_by<X: Device, M: Mover<X>, T: Tape, L: Ledger>(
+    machine: &mut Machine,
+    world: &World<'_, X>,
+    mover: &mut M,
+    tape: &mut T,
+    steps: &mut Steps<L>,
+) -> Result<Ran, SinkFault>
+    requires number { machine.old.cycle ≤ world.now.limit }
+    requires rested { IsRested machine.old.sio }
+    requires ready { M.ready
+        (setting_of world.now.script.now (X.meaning world.now.device.now) world.now.limit)
+        mover.old }
+    ensures told { Tells T.took T.missed tape.old tape.new (T.faults tape.old) (T.faults tape.new)
+        (run_shown
+        (setting_of world.now.script.now (X.meaning world.now.device.now) world.now.limit)
+        machine.old) result }
+    ensures ran { IfOk result (IsRan
+        (setting_of world.now.script.now (X.meaning world.now.device.now) world.now.limit)
+        machine.old) }
+    ensures state { IfOk result (λ ran. machine.new ≡ last_state
+        (setting_of world.now.script.now (X.meaning world.now.device.now) world.now.limit)
+        machine.old) }
+    ensures on_run { IsOnRun
+        (setting_of world.now.script.now (X.meaning world.now.device.now) world.now.limit)
+        machine.old machine.new }
+    ensures steps { steps.new + machine.old.cycle ≡ steps.old + machine.new.cycle }
+    ensures rested { IsRested machine.new.sio }
+    ensures ready { M.ready
+        (setting_of world.now.script.now (X.meaning world.now.device.now) world.now.limit)
+        mover.new }
+{
+    let mut counts = Counts {
+        windows: 0,
+        cycles: 0,
+        after_empty: false,
+    };
+    let mut marks = Marks::new();
+    'steps: loop {
+        match step(machine, world, mover, &mut counts, &mut marks, tape, steps) {
+            Ok(None) => continue 'steps,
+            Ok(Some(why)) => {
+                return Ok(Ran {
+                    why,
+                    windows: counts.windows,
+                    cycles: counts.cycles,
+                });
+            }
+            Err(fault) => return Err(fault),
         }
     }
 }
@@ -164,23 +228,5 @@ pub fn run_alone<X: Device, T: Tape, L: Ledger>(
     ensures rested { IsRested machine.new.sio }
     ensures crew { IsWhole crew.new }
 {
-    let mut counts = Counts {
-        windows: 0,
-        cycles: 0,
-        after_empty: false,
-    };
-    let mut marks = Marks::new();
-    'steps: loop {
-        match step(machine, world, crew, &mut counts, &mut marks, tape, steps) {
-            Ok(None) => continue 'steps,
-            Ok(Some(why)) => {
-                return Ok(Ran {
-                    why,
-                    windows: counts.windows,
-                    cycles: counts.cycles,
-                });
-            }
-            Err(fault) => return Err(fault),
-        }
-    }
+    run_by(machine, world, crew, tape, steps)
 }

@@ -3,9 +3,15 @@
 #![tactic(auto)]
 
 pub mod alone;
+mod coordinator;
 pub mod events;
 pub mod laws;
+mod mover;
+pub mod piece;
+mod sets;
 pub mod windows;
+mod worker;
 
 pub use alone::{Ran, run_alone};
+pub use piece::{Found, Piece};
 pub use windows::{RunFault, run_windows};

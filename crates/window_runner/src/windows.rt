@@ -1,15 +1,23 @@
 //! A run by windows whose lanes are run by several threads.
 
-ghost use Rattle.std.specs.Prelude.{◌≡◌, ◌+◌, ◌≤◌, IfOk, IfSome};
+ghost use Rattle.std.specs.Prelude.{◌≡◌, ◌+◌, ◌≤◌, All, IfOk, IfSome, IsSome, is_some, is_none, true};
 ghost use Rattle.outer_lane.specs.Setting.{setting_of};
 ghost use Rattle.trace_text.specs.Tape.{Tells};
 ghost use Rattle.rp_machine.specs.Run.{last_state};
+ghost use Rattle.turn_board.specs.Answers.{EachLane};
+ghost use Rattle.turn_board.specs.Tickets.{IsFree};
 ghost use Rattle.window_merge.specs.Merging.{IsRested};
+ghost use Rattle.window_merge.specs.Jobs.{HasNumber};
 ghost use Rattle.window_runner.specs.Told.{run_shown};
 ghost use Rattle.window_runner.specs.Alone.{IsRan, IsOnRun};
-ghost use Rattle.window_runner.specs.Windows.{answered, OnMemory};
+ghost use Rattle.window_runner.specs.Seated.{IsSeatAt, IsMasterAt};
+ghost use Rattle.window_runner.specs.Windows.{answered, OnMemory, Leaves};
 
-use crate::alone::{Ran, run_alone};
+use crate::alone::{Ran, run_by};
+use crate::coordinator::{Coordinator, Lead};
+use crate::piece::{Found, Piece};
+use crate::sets::sets_of;
+use crate::worker::Hall;
 use lane_look::Device;
 use outer_lane::World;
 use rp_machine::{Machine, Steps};
@@ -17,8 +25,11 @@ use rp_ports::gate::Gate;
 use std::alloc::Global;
 use std::sync::Wait;
 use std::sync::ledger::Ledger;
+use std::thread;
 use std::thread::Threads;
 use trace_text::tape::Tape;
+use trace_text::writer::SinkFault;
+use turn_board::Board;
 use window_merge::Crew;
 
 /// Why a run by workers did not go to its end.
@@ -30,6 +41,167 @@ pub enum RunFault {
     Memory,
 }
 
+/// Runs the machine to its stop, and closes the board.
+fn lead<'b, 'w, X: Device, G: Gate, T: Tape, L: Ledger, H: Wait>(
+    mut coordinator: Coordinator<'b, 'w, X, G, H>,
+    machine: &mut Machine,
+    world: &'w World<'w, X>,
+    tape: &mut T,
+    steps: &mut Steps<L>,
+) -> Result<Ran, SinkFault>
+    requires number { machine.old.cycle ≤ world.now.limit }
+    requires rested { IsRested machine.old.sio }
+    requires master { IsMasterAt coordinator.lead.board.now coordinator.lead.opened coordinator.lead.master }
+    requires seat { IsSeatAt coordinator.lead.board.now coordinator.lead.kept coordinator.lead.seat }
+    requires worlds { (coordinator.lead.master.made_for.now ≡ coordinator.lead.world.now)
+        × (coordinator.lead.seat.made_for.now ≡ coordinator.lead.world.now)
+        × (coordinator.lead.world.now ≡ world.now) }
+    requires spare { EachLane HasNumber coordinator.sets.spare }
+    ensures told { Tells T.took T.missed tape.old tape.new (T.faults tape.old) (T.faults tape.new)
+        (run_shown
+        (setting_of world.now.script.now (X.meaning world.now.device.now) world.now.limit)
+        machine.old) result }
+    ensures left { Leaves
+        (setting_of world.now.script.now (X.meaning world.now.device.now) world.now.limit)
+        machine.old machine.new steps.old steps.new result }
+{
+    let ran = run_by(machine, world, &mut coordinator, tape, steps);
+    let Lead {
+        board,
+        mut master,
+        ..
+    } = coordinator.lead;
+    board.close(&mut master);
+    ran
+}
+
+/// The workers and the coordinator, each in a thread of its own.
+fn both<'b, 'w, X: Device, G: Gate, T: Tape, L: Ledger, R: Threads + Wait + Sync>(
+    rt: &'b R,
+    hall: Hall<'b, 'w, X, G>,
+    coordinator: Coordinator<'b, 'w, X, G, R>,
+    machine: &mut Machine,
+    world: &'w World<'w, X>,
+    tape: &mut T,
+    steps: &mut Steps<L>,
+) -> Result<Ran, SinkFault>
+    requires number { machine.old.cycle ≤ world.now.limit }
+    requires rested { IsRested machine.old.sio }
+    requires hall { All (λ seat. (seat.board ≡ hall.board.now)
+        × (seat.made_for.now ≡ hall.world.now) × IsFree seat.state) hall.seats.items }
+    requires master { IsMasterAt coordinator.lead.board.now coordinator.lead.opened coordinator.lead.master }
+    requires seat { IsSeatAt coordinator.lead.board.now coordinator.lead.kept coordinator.lead.seat }
+    requires worlds { (coordinator.lead.master.made_for.now ≡ coordinator.lead.world.now)
+        × (coordinator.lead.seat.made_for.now ≡ coordinator.lead.world.now)
+        × (coordinator.lead.world.now ≡ world.now) }
+    requires spare { EachLane HasNumber coordinator.sets.spare }
+    ensures told { Tells T.took T.missed tape.old tape.new (T.faults tape.old) (T.faults tape.new)
+        (run_shown
+        (setting_of world.now.script.now (X.meaning world.now.device.now) world.now.limit)
+        machine.old) result }
+    ensures left { Leaves
+        (setting_of world.now.script.now (X.meaning world.now.device.now) world.now.limit)
+        machine.old machine.new steps.old steps.new result }
+{
+    let mut hall = Some(hall);
+    let mut coordinator = Some(coordinator);
+    let ((), ran) = thread::join_mut(
+        rt,
+        &mut || -> ()
+            requires { IfSome hall (λ hall. All (λ seat. (seat.board ≡ hall.board.now)
+                × (seat.made_for.now ≡ hall.world.now) × IsFree seat.state) hall.seats.items) }
+        {
+            if let Some(hall) = hall.take() {
+                hall.work(rt);
+            }
+        },
+        &mut || -> Result<Ran, SinkFault>
+            requires is { IsSome coordinator }
+            requires number { machine.now.cycle ≤ world.now.limit }
+            requires rested { IsRested machine.now.sio }
+            requires master { IfSome coordinator (λ c. IsMasterAt c.lead.board.now c.lead.opened c.lead.master) }
+            requires seat { IfSome coordinator (λ c. IsSeatAt c.lead.board.now c.lead.kept c.lead.seat) }
+            requires worlds { IfSome coordinator (λ c. (c.lead.master.made_for.now ≡ c.lead.world.now)
+                × (c.lead.seat.made_for.now ≡ c.lead.world.now)
+                × (c.lead.world.now ≡ world.now)) }
+            requires spare { IfSome coordinator (λ c. EachLane HasNumber c.sets.spare) }
+            ensures told { Tells T.took T.missed tape.entry.now tape.exit.now
+                (T.faults tape.entry.now) (T.faults tape.exit.now)
+                (run_shown (setting_of world.entry.now.script.now
+                (X.meaning world.entry.now.device.now) world.entry.now.limit)
+                machine.entry.now) result }
+            ensures left { Leaves (setting_of world.entry.now.script.now
+                (X.meaning world.entry.now.device.now) world.entry.now.limit)
+                machine.entry.now machine.exit.now steps.entry.now steps.exit.now result }
+        {
+            match coordinator.take() {
+                Some(coordinator) => lead(coordinator, machine, world, tape, steps),
+                None => unreachable!(),
+            }
+        },
+    );
+    ran
+}
+
+/// Runs the machine with so many workers. None stands for want of memory, before anything has changed.
+fn run_at<'w, X: Device, G: Gate, T: Tape, L: Ledger, R: Threads + Wait + Sync>(
+    rt: &R,
+    alloc: Global,
+    machine: &mut Machine,
+    world: &'w World<'w, X>,
+    workers: usize,
+    gate: &G,
+    tape: &mut T,
+    steps: &mut Steps<L>,
+) -> Option<Result<Ran, SinkFault>>
+    requires number { machine.old.cycle ≤ world.now.limit }
+    requires rested { IsRested machine.old.sio }
+    requires workers { workers ≤ 8 }
+    ensures told { IfSome result (Tells T.took T.missed tape.old tape.new (T.faults tape.old)
+        (T.faults tape.new) (run_shown
+        (setting_of world.now.script.now (X.meaning world.now.device.now) world.now.limit)
+        machine.old)) }
+    ensures left { IfSome result (Leaves
+        (setting_of world.now.script.now (X.meaning world.now.device.now) world.now.limit)
+        machine.old machine.new steps.old steps.new) }
+    ensures memory { is_none result ≡ true → (machine.new ≡ machine.old) × (tape.new ≡ tape.old)
+        × (steps.new ≡ steps.old) }
+{
+    let Ok(crew) = Crew::new(alloc) else {
+        return None;
+    };
+    let Ok((board, master, mut seats)) = Board::<Piece, Found, &'w World<'w, X>>::new(
+        alloc,
+        world,
+        workers + 1,
+    ) else {
+        return None;
+    };
+    let board = &board;
+    let Some(seat) = seats.pop() else {
+        unreachable!()
+    };
+    let hall = Hall {
+        board,
+        seats,
+        world,
+        gate,
+    };
+    let lead = Lead {
+        rt,
+        board,
+        master,
+        opened: 0,
+        seat,
+        kept: None,
+        world,
+        gate,
+    };
+    let sets = sets_of(crew);
+    let coordinator = Coordinator { lead, sets };
+    Some(both(rt, hall, coordinator, machine, world, tape, steps))
+}
+
 /// Runs a machine by windows and single cycles up to its first stop, and tells the events of all its cycles to a tape. The lanes
 /// of each window are run by so many threads, 0 to 8, beside this one. Each cycle counts as a step. Whatever the number of
 /// workers, the gate and the order in which the threads go on, the answer is the same.
@@ -39,18 +211,18 @@ pub enum RunFault {
 /// `Sink`: the tape failed at an event, and its count of faults rose. It has the events before that one, and the machine stands
 /// behind a cycle of the run. `Memory`: there was none, before the first event; nothing has changed.
 pub fn run_windows<X: Device, G: Gate, T: Tape, L: Ledger, R: Threads + Wait + Sync>(
-    _rt: &R,
+    rt: &R,
     alloc: Global,
     machine: &mut Machine,
     world: &World<'_, X>,
-    _workers: usize,
-    _gate: &G,
+    workers: usize,
+    gate: &G,
     tape: &mut T,
     steps: &mut Steps<L>,
 ) -> Result<Ran, RunFault>
     requires number { machine.old.cycle ≤ world.now.limit }
     requires rested { IsRested machine.old.sio }
-    requires workers { _workers ≤ 8 }
+    requires workers { workers ≤ 8 }
     ensures told { IfSome (answered result) (Tells T.took T.missed tape.old tape.new
         (T.faults tape.old) (T.faults tape.new) (run_shown
         (setting_of world.now.script.now (X.meaning world.now.device.now) world.now.limit)
@@ -68,11 +240,9 @@ pub fn run_windows<X: Device, G: Gate, T: Tape, L: Ledger, R: Threads + Wait + S
     ensures rested { IsRested machine.new.sio }
     ensures memory { OnMemory result ((machine.new ≡ machine.old) × (tape.new ≡ tape.old)) }
 {
-    let Ok(mut crew) = Crew::new(alloc) else {
-        return Err(RunFault::Memory);
-    };
-    match run_alone(machine, world, &mut crew, tape, steps) {
-        Ok(ran) => Ok(ran),
-        Err(_) => Err(RunFault::Sink),
+    match run_at(rt, alloc, machine, world, workers, gate, tape, steps) {
+        Some(Ok(ran)) => Ok(ran),
+        Some(Err(_)) => Err(RunFault::Sink),
+        None => Err(RunFault::Memory),
     }
 }
