@@ -1,7 +1,7 @@
 //! Windows: the six lanes run ahead of each other, and are kept as far as they all would go the same together.
 #![tactic(auto)]
 
-pub mod accept;
+pub mod accepting;
 pub mod alone;
 mod compare;
 pub mod copies;
@@ -19,7 +19,7 @@ pub mod runs;
 #[cfg(test)]
 mod tests;
 
-pub use accept::{Stranger, accept};
+pub use accepting::{Stranger, accept};
 pub use alone::advance_alone;
 pub use copies::Copies;
 pub use here::window;
