@@ -3,8 +3,11 @@ use Rattle.std.specs.Prelude.{◌≡◌, ℕ, suc, false, List, [], ◌∷◌, O
 use Rattle.atomic_table.specs.Seated.{TableId}
 use Rattle.turn_board.specs.Tickets.{SeatState, IsFree, IsUnfinished}
 use Rattle.turn_board.specs.Shown.{SeatView, MasterView}
+use Rattle.turn_board.specs.declared.answers.Six.{Six}
+use Rattle.turn_board.specs.Answers.{EachLane}
 use Rattle.window_merge.specs.declared.lane_job.LaneJob.{LaneJob}
 use Rattle.window_merge.specs.declared.lane_job.LaneReport.{LaneReport}
+use Rattle.window_merge.specs.Jobs.{HasNumber}
 
 -- the seat has no number under way but that of the ticket that it keeps, if there is one
 abbrev pub Keeps : Option ℕ → SeatState → Type 0
@@ -30,3 +33,9 @@ MayHaveNumber lane (Some job) = job.lane ≡ lane
 abbrev pub HaveNumbersFrom : ℕ → List LaneReport → Type 0
 HaveNumbersFrom lane [] = Unit {0}
 HaveNumbersFrom lane (report ∷ reports) = (report.lane ≡ lane) × HaveNumbersFrom (suc lane) reports
+
+-- ---- all of it
+
+-- the master and the seat are at the board, for a world that is as it should be, and each lane has its second job
+abbrev pub IsReady : {J R W : Type 0} → TableId → (W → Type 0) → ℕ → Option ℕ → MasterView W → SeatView J R W → Six (Option LaneJob) → Type 0
+IsReady z fits opened kept m s spare = IsMasterAt z opened m × IsSeatAt z kept s × fits m.made_for × fits s.made_for × EachLane HasNumber spare

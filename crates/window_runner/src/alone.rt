@@ -1,4 +1,4 @@
-//! A run by windows, whoever runs their lanes, and one on one thread.
+//! A run by windows on one thread.
 
 ghost use Rattle.std.specs.Prelude.{◌≡◌, ◌+◌, ◌<◌, ◌≤◌, ◌^◌, ◌==◌, [], None, length, if◌then◌else◌, false, IfOk};
 ghost use Rattle.outer_lane.specs.Setting.{setting_of};
@@ -12,7 +12,6 @@ ghost use Rattle.window_runner.specs.Told.{all_shown, events_by, step_events, ru
 ghost use Rattle.window_runner.specs.Alone.{IsRan, IsOnRun, position_at, stop_in};
 
 use crate::events::tell_marks;
-use crate::mover::Mover;
 use lane_look::{Device, Marks};
 use outer_lane::World;
 use rp_base::Why;
@@ -20,7 +19,7 @@ use rp_machine::{Machine, Steps};
 use std::sync::ledger::Ledger;
 use trace_text::tape::Tape;
 use trace_text::writer::SinkFault;
-use window_merge::{Crew, Moved};
+use window_merge::{Crew, Moved, advance};
 
 /// What a run came to.
 #[derive(Clone, Copy, PartialEq, Eq)]
@@ -35,17 +34,17 @@ pub struct Ran {
 
 /// What a run keeps of the windows that it tried.
 #[derive(Clone, Copy)]
-struct Counts {
+pub(crate) struct Counts {
     /// How many.
-    windows: u64,
+    pub(crate) windows: u64,
     /// How many cycles they had.
-    cycles: u64,
+    pub(crate) cycles: u64,
     /// The last step was a window without a cycle.
-    after_empty: bool,
+    pub(crate) after_empty: bool,
 }
 
 /// Counts a window of so many cycles.
-fn count_window(counts: &mut Counts, length: u16)
+pub(crate) fn count_window(counts: &mut Counts, length: u16)
     requires windows { counts.old.windows + 1 < 2 ^ 64 }
     requires cycles { counts.old.cycles + length < 2 ^ 64 }
     ensures windows { counts.new.windows ≡ counts.old.windows + 1 }
@@ -58,7 +57,7 @@ fn count_window(counts: &mut Counts, length: u16)
 }
 
 /// Tells the events of a step that found no stop.
-fn tell_step<T: Tape>(
+pub(crate) fn tell_step<T: Tape>(
     cycle: u64,
     before: u32,
     marks: &Marks,
@@ -76,17 +75,17 @@ fn tell_step<T: Tape>(
 }
 
 /// The limit is a number of 64 bits: its type keeps it.
-fn is_bounded<X: Device>(world: &World<'_, X>)
+pub(crate) fn is_bounded<X: Device>(world: &World<'_, X>)
     ensures { world.now.limit < 2 ^ 64 }
 {
     let _limit = world.limit;
 }
 
 /// Goes to the next position of a run and tells the events on the way, or finds a stop and changes nothing.
-fn step<X: Device, M: Mover<X>, T: Tape, L: Ledger>(
+fn step<X: Device, T: Tape, L: Ledger>(
     machine: &mut Machine,
     world: &World<'_, X>,
-    mover: &mut M,
+    crew: &mut Crew,
     counts: &mut Counts,
     marks: &mut Marks,
     tape: &mut T,
@@ -94,9 +93,7 @@ fn step<X: Device, M: Mover<X>, T: Tape, L: Ledger>(
 ) -> Result<Option<Why>, SinkFault>
     requires number { machine.old.cycle ≤ world.now.limit }
     requires rested { IsRested machine.old.sio }
-    requires ready { M.ready
-        (setting_of world.now.script.now (X.meaning world.now.device.now) world.now.limit)
-        mover.old }
+    requires crew { IsWhole crew.old }
     requires windows { counts.old.windows
         ≤ machine.old.cycle + (if counts.old.after_empty then 1 else 0) }
     requires cycles { counts.old.cycles ≤ machine.old.cycle }
@@ -115,14 +112,12 @@ fn step<X: Device, M: Mover<X>, T: Tape, L: Ledger>(
         ≤ counts.old.cycles + machine.new.cycle }
     ensures steps { steps.new + machine.old.cycle ≡ steps.old + machine.new.cycle }
     ensures rested { IsRested machine.new.sio }
-    ensures ready { M.ready
-        (setting_of world.now.script.now (X.meaning world.now.device.now) world.now.limit)
-        mover.new }
+    ensures crew { IsWhole crew.new }
 {
     is_bounded(world);
     let cycle = machine.number();
     let before = machine.pads();
-    match mover.go(machine, world, counts.after_empty, marks, steps) {
+    match advance(machine, world, crew, counts.after_empty, marks, steps) {
         Moved::Stopped(why) => Ok(Some(why)),
         Moved::Window(length) => {
             count_window(counts, length);
@@ -131,65 +126,6 @@ fn step<X: Device, M: Mover<X>, T: Tape, L: Ledger>(
         Moved::Cycle => {
             counts.after_empty = false;
             tell_step(cycle, before, marks, tape)
-        }
-    }
-}
-
-/// Runs a machine by windows and single cycles up to its first stop, and tells the events of all its cycles to a tape. Each cycle
-/// counts as a step.
-///
-/// # Errors
-///
-/// The tape failed at an event, and its count of faults rose. It has the events before that one, and the machine stands behind a
-/// cycle of the run.
-pub(crate) fn run_by<X: Device, M: Mover<X>, T: Tape, L: Ledger>(
-    machine: &mut Machine,
-    world: &World<'_, X>,
-    mover: &mut M,
-    tape: &mut T,
-    steps: &mut Steps<L>,
-) -> Result<Ran, SinkFault>
-    requires number { machine.old.cycle ≤ world.now.limit }
-    requires rested { IsRested machine.old.sio }
-    requires ready { M.ready
-        (setting_of world.now.script.now (X.meaning world.now.device.now) world.now.limit)
-        mover.old }
-    ensures told { Tells T.took T.missed tape.old tape.new (T.faults tape.old) (T.faults tape.new)
-        (run_shown
-        (setting_of world.now.script.now (X.meaning world.now.device.now) world.now.limit)
-        machine.old) result }
-    ensures ran { IfOk result (IsRan
-        (setting_of world.now.script.now (X.meaning world.now.device.now) world.now.limit)
-        machine.old) }
-    ensures state { IfOk result (λ ran. machine.new ≡ last_state
-        (setting_of world.now.script.now (X.meaning world.now.device.now) world.now.limit)
-        machine.old) }
-    ensures on_run { IsOnRun
-        (setting_of world.now.script.now (X.meaning world.now.device.now) world.now.limit)
-        machine.old machine.new }
-    ensures steps { steps.new + machine.old.cycle ≡ steps.old + machine.new.cycle }
-    ensures rested { IsRested machine.new.sio }
-    ensures ready { M.ready
-        (setting_of world.now.script.now (X.meaning world.now.device.now) world.now.limit)
-        mover.new }
-{
-    let mut counts = Counts {
-        windows: 0,
-        cycles: 0,
-        after_empty: false,
-    };
-    let mut marks = Marks::new();
-    'steps: loop {
-        match step(machine, world, mover, &mut counts, &mut marks, tape, steps) {
-            Ok(None) => continue 'steps,
-            Ok(Some(why)) => {
-                return Ok(Ran {
-                    why,
-                    windows: counts.windows,
-                    cycles: counts.cycles,
-                });
-            }
-            Err(fault) => return Err(fault),
         }
     }
 }
@@ -228,5 +164,23 @@ pub fn run_alone<X: Device, T: Tape, L: Ledger>(
     ensures rested { IsRested machine.new.sio }
     ensures crew { IsWhole crew.new }
 {
-    run_by(machine, world, crew, tape, steps)
+    let mut counts = Counts {
+        windows: 0,
+        cycles: 0,
+        after_empty: false,
+    };
+    let mut marks = Marks::new();
+    'steps: loop {
+        match step(machine, world, crew, &mut counts, &mut marks, tape, steps) {
+            Ok(None) => continue 'steps,
+            Ok(Some(why)) => {
+                return Ok(Ran {
+                    why,
+                    windows: counts.windows,
+                    cycles: counts.cycles,
+                });
+            }
+            Err(fault) => return Err(fault),
+        }
+    }
 }

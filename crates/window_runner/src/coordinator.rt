@@ -1,28 +1,35 @@
 //! What the coordinator does: it opens the windows' numbers, helps with their pieces, and merges what was found.
 
-ghost use Rattle.std.specs.Prelude.{◌≡◌, ◌+◌, ◌≤◌, ◌==◌, false, true, is_some, length, IfSome};
+ghost use Rattle.std.specs.Prelude.{◌≡◌, ◌+◌, ◌≤◌, ◌^◌, false, length, IfSome, None, [], if◌then◌else◌, IfOk};
 ghost use Rattle.outer_lane.specs.Setting.{setting_of};
 ghost use Rattle.bus_fabric.specs.State.{has_hold};
-ghost use Rattle.rp_machine.specs.Run.{states};
+ghost use Rattle.trace_text.specs.Tape.{Tells};
+ghost use Rattle.rp_machine.specs.Cycle.{stop};
+ghost use Rattle.rp_machine.specs.Run.{last_state, states, unless_stopped};
 ghost use Rattle.turn_board.specs.Answers.{EachLane};
-ghost use Rattle.turn_board.specs.Tickets.{IsUnfinished};
-ghost use Rattle.window_merge.specs.Window.{window_length};
+ghost use Rattle.window_merge.specs.Window.{next_position, window_length};
 ghost use Rattle.window_merge.specs.Merging.{marks_in, IsRested, IsStep};
-ghost use Rattle.window_merge.specs.Jobs.{HasNumber, IsJobFor, IsTrueIn};
-ghost use Rattle.window_runner.specs.Seated.{Keeps, IsSeatAt, IsMasterAt};
+ghost use Rattle.window_merge.specs.Jobs.{IsJobFor, IsTrueIn};
+ghost use Rattle.window_runner.specs.Told.{all_shown, step_events, run_shown};
+ghost use Rattle.window_runner.specs.Alone.{IsRan, IsOnRun, position_at, stop_in};
+ghost use Rattle.window_runner.specs.Seated.{Keeps, IsSeatAt, IsReady};
 
-use crate::mover::Mover;
+use crate::alone::{Counts, Ran, count_window, is_bounded, tell_step};
 use crate::piece::{Found, Piece};
 use crate::sets::{Sets, give_back_all, pieces_of, settle_all};
 use crate::worker::pass;
 use lane_look::{Device, Marks};
 use outer_lane::World;
+use rp_base::Why;
 use rp_machine::{Machine, Steps};
 use rp_ports::gate::Gate;
 use std::sync::Wait;
 use std::sync::ledger::Ledger;
+use trace_text::tape::Tape;
+use trace_text::writer::SinkFault;
 use turn_board::{Board, Gather, Master, Seat, See, Six, Ticket};
-use window_merge::{Moved, merge};
+use window_merge::Moved;
+use window_merge::reports::merge;
 
 /// How many numbers may be open before a window, so that six more can be.
 const MOST: u64 = (1 << 62) - 6;
@@ -69,163 +76,255 @@ fn nothing() -> Six<Found>
     }
 }
 
-/// The coordinator's place at the board.
+/// What the coordinator only reads.
 #[derive(Drop)]
-pub(crate) struct Lead<'b, 'w, X: Device, G: Gate, H: Wait> {
+pub(crate) struct Desk<'b, 'w, X: Device, G: Gate, H: Wait> {
     pub(crate) rt: &'b H,
     pub(crate) board: &'b Board<Piece, Found, &'w World<'w, X>>,
+    pub(crate) world: &'w World<'w, X>,
+    pub(crate) gate: &'b G,
+}
+
+/// What the coordinator has at the board, and the jobs of the lanes.
+#[derive(Drop)]
+pub(crate) struct Lead<'w, X: Device> {
     pub(crate) master: Master<Piece, Found, &'w World<'w, X>>,
     /// How many numbers it opened.
     pub(crate) opened: u64,
     pub(crate) seat: Seat<Piece, Found, &'w World<'w, X>>,
     /// The ticket that its seat drew and that was not open yet.
     pub(crate) kept: Option<Ticket>,
-    pub(crate) world: &'w World<'w, X>,
-    pub(crate) gate: &'b G,
+    pub(crate) sets: Box<Sets>,
 }
 
-impl<'b, 'w, X: Device, G: Gate, H: Wait> Lead<'b, 'w, X, G, H> {
-    /// Opens six numbers with these pieces, helps, and gathers what was found once all is done.
-    fn gather(&mut self, pieces: Six<Piece>) -> Six<Found>
-        requires master { IsMasterAt self.old.board.now self.old.opened self.old.master }
-        requires seat { IsSeatAt self.old.board.now self.old.kept self.old.seat }
-        requires worlds { (self.old.master.made_for.now ≡ self.old.world.now)
-            × (self.old.seat.made_for.now ≡ self.old.world.now) }
-        requires pieces { EachLane (λ lane piece. IfSome piece.job (IsJobFor
-            (setting_of self.old.world.now.script.now (X.meaning self.old.world.now.device.now)
-            self.old.world.now.limit))) pieces }
-        requires few { self.old.opened + 6 ≤ 2 ^ 62 }
-        ensures master { IsMasterAt self.new.board.now self.new.opened self.new.master }
-        ensures seat { IsSeatAt self.new.board.now self.new.kept self.new.seat }
-        ensures same { (self.new.board ≡ self.old.board) × (self.new.world ≡ self.old.world) }
-        ensures worlds { (self.new.master.made_for.now ≡ self.new.world.now)
-            × (self.new.seat.made_for.now ≡ self.new.world.now) }
-        ensures found { EachLane (λ lane found. IfSome found.report (IsTrueIn
-            (setting_of self.old.world.now.script.now (X.meaning self.old.world.now.device.now)
-            self.old.world.now.limit))) result }
-    {
-        self.board.offer(&mut self.master, pieces);
-        self.opened += 6;
-        let kept = self.kept.take();
-        self.kept = help(self.board, &mut self.seat, kept, self.world, self.gate);
-        match self.board.await_all(self.rt, &mut self.master) {
-            Gather::All(found) => found,
-            Gather::Part(_) => unreachable!(),
+/// Opens six numbers with these pieces, helps, and gathers what was found once all is done.
+fn gather<'w, X: Device, G: Gate, H: Wait>(
+    desk: &Desk<'_, 'w, X, G, H>,
+    lead: &mut Lead<'w, X>,
+    pieces: Six<Piece>,
+) -> Six<Found>
+    requires ready { IsReady desk.now.board.now (λ w. w.now ≡ desk.now.world.now) lead.old.opened
+        lead.old.kept lead.old.master lead.old.seat lead.old.sets.value.spare }
+    requires pieces { EachLane (λ lane piece. IfSome piece.job (IsJobFor
+        (setting_of desk.now.world.now.script.now (X.meaning desk.now.world.now.device.now)
+        desk.now.world.now.limit))) pieces }
+    requires few { lead.old.opened + 6 ≤ 2 ^ 62 }
+    ensures ready { IsReady desk.now.board.now (λ w. w.now ≡ desk.now.world.now) lead.new.opened
+        lead.new.kept lead.new.master lead.new.seat lead.new.sets.value.spare }
+    ensures found { EachLane (λ lane found. IfSome found.report (IsTrueIn
+        (setting_of desk.now.world.now.script.now (X.meaning desk.now.world.now.device.now)
+        desk.now.world.now.limit))) result }
+{
+    desk.board.offer(&mut lead.master, pieces);
+    lead.opened += 6;
+    let kept = lead.kept.take();
+    lead.kept = help(desk.board, &mut lead.seat, kept, desk.world, desk.gate);
+    match desk.board.await_all(desk.rt, &mut lead.master) {
+        Gather::All(found) => found,
+        Gather::Part(_) => unreachable!(),
+    }
+}
+
+/// The reports of the window from the machine's state that come over the board. None goes over it where the peripherals have another
+/// number of words than the device, or where no more numbers can be opened.
+fn found_in<'w, X: Device, G: Gate, H: Wait>(
+    desk: &Desk<'_, 'w, X, G, H>,
+    lead: &mut Lead<'w, X>,
+    machine: &Machine,
+) -> Six<Found>
+    requires ready { IsReady desk.now.board.now (λ w. w.now ≡ desk.now.world.now) lead.old.opened
+        lead.old.kept lead.old.master lead.old.seat lead.old.sets.value.spare }
+    ensures ready { IsReady desk.now.board.now (λ w. w.now ≡ desk.now.world.now) lead.new.opened
+        lead.new.kept lead.new.master lead.new.seat lead.new.sets.value.spare }
+    ensures found { EachLane (λ lane found. IfSome found.report (IsTrueIn
+        (setting_of desk.now.world.now.script.now (X.meaning desk.now.world.now.device.now)
+        desk.now.world.now.limit))) result }
+{
+    if lead.opened > MOST || !machine.outer.has_device(desk.world.device) {
+        return nothing();
+    }
+    let pieces = pieces_of(machine, desk.world, &mut lead.sets.first);
+    gather(desk, lead, pieces)
+}
+
+/// Moves the machine by a window whose lanes are run by all who draw tickets, and gives its length. Of a lane without a report that
+/// is accepted the run is made here.
+fn window<'w, X: Device, G: Gate, H: Wait, L: Ledger>(
+    desk: &Desk<'_, 'w, X, G, H>,
+    lead: &mut Lead<'w, X>,
+    machine: &mut Machine,
+    marks: &mut Marks,
+    steps: &mut Steps<L>,
+) -> u16
+    requires number { machine.old.cycle ≤ desk.now.world.now.limit }
+    requires free { has_hold machine.old.fabric ≡ false }
+    requires rested { IsRested machine.old.sio }
+    requires ready { IsReady desk.now.board.now (λ w. w.now ≡ desk.now.world.now) lead.old.opened
+        lead.old.kept lead.old.master lead.old.seat lead.old.sets.value.spare }
+    ensures length { result ≡ window_length
+        (setting_of desk.now.world.now.script.now (X.meaning desk.now.world.now.device.now)
+        desk.now.world.now.limit)
+        machine.old }
+    ensures state { machine.new ≡ states
+        (setting_of desk.now.world.now.script.now (X.meaning desk.now.world.now.device.now)
+        desk.now.world.now.limit)
+        machine.old result }
+    ensures number { machine.new.cycle ≡ machine.old.cycle + result }
+    ensures marks { marks.new ≡ marks_in
+        (setting_of desk.now.world.now.script.now (X.meaning desk.now.world.now.device.now)
+        desk.now.world.now.limit)
+        machine.old result }
+    ensures steps { steps.new ≡ steps.old + result }
+    ensures ready { IsReady desk.now.board.now (λ w. w.now ≡ desk.now.world.now) lead.new.opened
+        lead.new.kept lead.new.master lead.new.seat lead.new.sets.value.spare }
+{
+    let found = found_in(desk, lead, machine);
+    let mut reports = settle_all(machine, desk.world, found, &mut *lead.sets);
+    let length = merge(machine, desk.world, &mut reports, marks, steps);
+    give_back_all(reports, &mut *lead.sets);
+    length
+}
+
+/// Moves the machine to the next position of a run: by a window where no access lasts and the last step was not a window without a
+/// cycle, and else by one cycle. The marks of its cycles are left in `marks`, and each counts as one of the steps.
+fn go<'w, X: Device, G: Gate, H: Wait, L: Ledger>(
+    desk: &Desk<'_, 'w, X, G, H>,
+    lead: &mut Lead<'w, X>,
+    machine: &mut Machine,
+    after_empty: bool,
+    marks: &mut Marks,
+    steps: &mut Steps<L>,
+) -> Moved
+    requires number { machine.old.cycle ≤ desk.now.world.now.limit }
+    requires rested { IsRested machine.old.sio }
+    requires ready { IsReady desk.now.board.now (λ w. w.now ≡ desk.now.world.now) lead.old.opened
+        lead.old.kept lead.old.master lead.old.seat lead.old.sets.value.spare }
+    ensures moved { IsStep
+        (setting_of desk.now.world.now.script.now (X.meaning desk.now.world.now.device.now)
+        desk.now.world.now.limit)
+        after_empty result machine.old machine.new marks.old marks.new steps.old steps.new }
+    ensures rested { IsRested machine.new.sio }
+    ensures ready { IsReady desk.now.board.now (λ w. w.now ≡ desk.now.world.now) lead.new.opened
+        lead.new.kept lead.new.master lead.new.seat lead.new.sets.value.spare }
+{
+    if after_empty || machine.fabric.holds() {
+        return match machine.cycle(desk.world, marks, steps) {
+            Some(why) => Moved::Stopped(why),
+            None => Moved::Cycle,
+        };
+    }
+    if let Some(why) = machine.stop(desk.world) {
+        return Moved::Stopped(why);
+    }
+    Moved::Window(window(desk, lead, machine, marks, steps))
+}
+
+/// Goes to the next position of a run and tells the events on the way, or finds a stop and changes nothing.
+fn step<'w, X: Device, G: Gate, H: Wait, T: Tape, L: Ledger>(
+    desk: &Desk<'_, 'w, X, G, H>,
+    lead: &mut Lead<'w, X>,
+    machine: &mut Machine,
+    counts: &mut Counts,
+    marks: &mut Marks,
+    tape: &mut T,
+    steps: &mut Steps<L>,
+) -> Result<Option<Why>, SinkFault>
+    requires number { machine.old.cycle ≤ desk.now.world.now.limit }
+    requires rested { IsRested machine.old.sio }
+    requires ready { IsReady desk.now.board.now (λ w. w.now ≡ desk.now.world.now) lead.old.opened
+        lead.old.kept lead.old.master lead.old.seat lead.old.sets.value.spare }
+    requires windows { counts.old.windows
+        ≤ machine.old.cycle + (if counts.old.after_empty then 1 else 0) }
+    requires cycles { counts.old.cycles ≤ machine.old.cycle }
+    ensures cause { stop
+        (setting_of desk.now.world.now.script.now (X.meaning desk.now.world.now.device.now)
+        desk.now.world.now.limit)
+        machine.old ≡ stop_in result }
+    ensures position { position_at machine.new counts.new ≡ unless_stopped (stop_in result)
+        (position_at machine.old counts.old) (next_position
+        (setting_of desk.now.world.now.script.now (X.meaning desk.now.world.now.device.now)
+        desk.now.world.now.limit)
+        (position_at machine.old counts.old)) }
+    ensures told { Tells T.took T.missed tape.old tape.new (T.faults tape.old) (T.faults tape.new)
+        (all_shown (unless_stopped (stop_in result) [] (step_events
+        (setting_of desk.now.world.now.script.now (X.meaning desk.now.world.now.device.now)
+        desk.now.world.now.limit)
+        (position_at machine.old counts.old)))) result }
+    ensures counted { counts.new.cycles + machine.old.cycle
+        ≤ counts.old.cycles + machine.new.cycle }
+    ensures steps { steps.new + machine.old.cycle ≡ steps.old + machine.new.cycle }
+    ensures rested { IsRested machine.new.sio }
+    ensures ready { IsReady desk.now.board.now (λ w. w.now ≡ desk.now.world.now) lead.new.opened
+        lead.new.kept lead.new.master lead.new.seat lead.new.sets.value.spare }
+{
+    is_bounded(desk.world);
+    let cycle = machine.number();
+    let before = machine.pads();
+    match go(desk, lead, machine, counts.after_empty, marks, steps) {
+        Moved::Stopped(why) => Ok(Some(why)),
+        Moved::Window(length) => {
+            count_window(counts, length);
+            tell_step(cycle, before, marks, tape)
+        }
+        Moved::Cycle => {
+            counts.after_empty = false;
+            tell_step(cycle, before, marks, tape)
         }
     }
 }
 
-/// Whoever moves the machine where several threads run the lanes.
-#[derive(Drop)]
-pub(crate) struct Coordinator<'b, 'w, X: Device, G: Gate, H: Wait> {
-    pub(crate) lead: Lead<'b, 'w, X, G, H>,
-    pub(crate) sets: Sets,
-}
-
-impl<'b, 'w, X: Device, G: Gate, H: Wait> Coordinator<'b, 'w, X, G, H> {
-    /// The reports of the window from the machine's state that come over the board. None goes over it where the peripherals have
-    /// another number of words than the device, or where no more numbers can be opened.
-    fn found(&mut self, machine: &Machine) -> Six<Found>
-        requires master { IsMasterAt self.old.lead.board.now self.old.lead.opened
-            self.old.lead.master }
-        requires seat { IsSeatAt self.old.lead.board.now self.old.lead.kept self.old.lead.seat }
-        requires worlds { (self.old.lead.master.made_for.now ≡ self.old.lead.world.now)
-            × (self.old.lead.seat.made_for.now ≡ self.old.lead.world.now) }
-        ensures master { IsMasterAt self.new.lead.board.now self.new.lead.opened
-            self.new.lead.master }
-        ensures seat { IsSeatAt self.new.lead.board.now self.new.lead.kept self.new.lead.seat }
-        ensures same { (self.new.lead.board ≡ self.old.lead.board)
-            × (self.new.lead.world ≡ self.old.lead.world) }
-        ensures worlds { (self.new.lead.master.made_for.now ≡ self.new.lead.world.now)
-            × (self.new.lead.seat.made_for.now ≡ self.new.lead.world.now) }
-        ensures spare { self.new.sets.spare ≡ self.old.sets.spare }
-        ensures found { EachLane (λ lane found. IfSome found.report (IsTrueIn
-            (setting_of self.old.lead.world.now.script.now
-            (X.meaning self.old.lead.world.now.device.now) self.old.lead.world.now.limit)))
-            result }
-    {
-        if self.lead.opened > MOST || !machine.outer.has_device(self.lead.world.device) {
-            return nothing();
+/// Runs a machine by windows and single cycles up to its first stop, and tells the events of all its cycles to a tape. Each cycle
+/// counts as a step.
+pub(crate) fn run<'w, X: Device, G: Gate, H: Wait, T: Tape, L: Ledger>(
+    desk: &Desk<'_, 'w, X, G, H>,
+    lead: &mut Lead<'w, X>,
+    machine: &mut Machine,
+    tape: &mut T,
+    steps: &mut Steps<L>,
+) -> Result<Ran, SinkFault>
+    requires number { machine.old.cycle ≤ desk.now.world.now.limit }
+    requires rested { IsRested machine.old.sio }
+    requires ready { IsReady desk.now.board.now (λ w. w.now ≡ desk.now.world.now) lead.old.opened
+        lead.old.kept lead.old.master lead.old.seat lead.old.sets.value.spare }
+    ensures told { Tells T.took T.missed tape.old tape.new (T.faults tape.old) (T.faults tape.new)
+        (run_shown
+        (setting_of desk.now.world.now.script.now (X.meaning desk.now.world.now.device.now)
+        desk.now.world.now.limit)
+        machine.old) result }
+    ensures ran { IfOk result (IsRan
+        (setting_of desk.now.world.now.script.now (X.meaning desk.now.world.now.device.now)
+        desk.now.world.now.limit)
+        machine.old) }
+    ensures state { IfOk result (λ ran. machine.new ≡ last_state
+        (setting_of desk.now.world.now.script.now (X.meaning desk.now.world.now.device.now)
+        desk.now.world.now.limit)
+        machine.old) }
+    ensures on_run { IsOnRun
+        (setting_of desk.now.world.now.script.now (X.meaning desk.now.world.now.device.now)
+        desk.now.world.now.limit)
+        machine.old machine.new }
+    ensures steps { steps.new + machine.old.cycle ≡ steps.old + machine.new.cycle }
+    ensures rested { IsRested machine.new.sio }
+    ensures ready { IsReady desk.now.board.now (λ w. w.now ≡ desk.now.world.now) lead.new.opened
+        lead.new.kept lead.new.master lead.new.seat lead.new.sets.value.spare }
+{
+    let mut counts = Counts {
+        windows: 0,
+        cycles: 0,
+        after_empty: false,
+    };
+    let mut marks = Marks::new();
+    'steps: loop {
+        match step(desk, lead, machine, &mut counts, &mut marks, tape, steps) {
+            Ok(None) => continue 'steps,
+            Ok(Some(why)) => {
+                return Ok(Ran {
+                    why,
+                    windows: counts.windows,
+                    cycles: counts.cycles,
+                });
+            }
+            Err(fault) => return Err(fault),
         }
-        let pieces = pieces_of(machine, self.lead.world, &mut self.sets.first);
-        self.lead.gather(pieces)
-    }
-
-    /// Moves the machine by a window whose lanes are run by all who draw tickets, and gives its length. Of a lane without a
-    /// report that is accepted the run is made here.
-    fn window<L: Ledger>(
-        &mut self,
-        machine: &mut Machine,
-        world: &World<'_, X>,
-        marks: &mut Marks,
-        steps: &mut Steps<L>,
-    ) -> u16
-        requires number { machine.old.cycle ≤ world.now.limit }
-        requires free { has_hold machine.old.fabric ≡ false }
-        requires rested { IsRested machine.old.sio }
-        requires master { IsMasterAt self.old.lead.board.now self.old.lead.opened
-            self.old.lead.master }
-        requires seat { IsSeatAt self.old.lead.board.now self.old.lead.kept self.old.lead.seat }
-        requires worlds { (self.old.lead.master.made_for.now ≡ self.old.lead.world.now)
-            × (self.old.lead.seat.made_for.now ≡ self.old.lead.world.now) }
-        requires world { setting_of self.old.lead.world.now.script.now
-            (X.meaning self.old.lead.world.now.device.now) self.old.lead.world.now.limit
-            ≡ setting_of world.now.script.now (X.meaning world.now.device.now) world.now.limit }
-        requires spare { EachLane HasNumber self.old.sets.spare }
-        ensures length { result ≡ window_length
-            (setting_of world.now.script.now (X.meaning world.now.device.now) world.now.limit)
-            machine.old }
-        ensures state { machine.new ≡ states
-            (setting_of world.now.script.now (X.meaning world.now.device.now) world.now.limit)
-            machine.old result }
-        ensures number { machine.new.cycle ≡ machine.old.cycle + result }
-        ensures marks { marks.new ≡ marks_in
-            (setting_of world.now.script.now (X.meaning world.now.device.now) world.now.limit)
-            machine.old result }
-        ensures steps { steps.new ≡ steps.old + result }
-        ensures master { IsMasterAt self.new.lead.board.now self.new.lead.opened
-            self.new.lead.master }
-        ensures seat { IsSeatAt self.new.lead.board.now self.new.lead.kept self.new.lead.seat }
-        ensures same { (self.new.lead.board ≡ self.old.lead.board)
-            × (self.new.lead.world ≡ self.old.lead.world) }
-        ensures worlds { (self.new.lead.master.made_for.now ≡ self.new.lead.world.now)
-            × (self.new.lead.seat.made_for.now ≡ self.new.lead.world.now) }
-        ensures spare { EachLane HasNumber self.new.sets.spare }
-    {
-        let found = self.found(machine);
-        let mut reports = settle_all(machine, world, found, &mut self.sets);
-        let length = merge(machine, world, &mut reports, marks, steps);
-        give_back_all(reports, &mut self.sets);
-        length
-    }
-}
-
-/// By several threads.
-impl<'b, 'w, X: Device, G: Gate, H: Wait> Mover<X> for Coordinator<'b, 'w, X, G, H> {
-    ghost ready = { λ w c. IsMasterAt c.lead.board.now c.lead.opened c.lead.master
-        × IsSeatAt c.lead.board.now c.lead.kept c.lead.seat
-        × (c.lead.master.made_for.now ≡ c.lead.world.now)
-        × (c.lead.seat.made_for.now ≡ c.lead.world.now)
-        × (setting_of c.lead.world.now.script.now (X.meaning c.lead.world.now.device.now)
-        c.lead.world.now.limit ≡ w) × EachLane HasNumber c.sets.spare };
-
-    fn go<L: Ledger>(
-        &mut self,
-        machine: &mut Machine,
-        world: &World<'_, X>,
-        after_empty: bool,
-        marks: &mut Marks,
-        steps: &mut Steps<L>,
-    ) -> Moved {
-        if after_empty || machine.fabric.holds() {
-            return match machine.cycle(world, marks, steps) {
-                Some(why) => Moved::Stopped(why),
-                None => Moved::Cycle,
-            };
-        }
-        if let Some(why) = machine.stop(world) {
-            return Moved::Stopped(why);
-        }
-        Moved::Window(self.window(machine, world, marks, steps))
     }
 }

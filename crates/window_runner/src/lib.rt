@@ -6,7 +6,6 @@ pub mod alone;
 mod coordinator;
 pub mod events;
 pub mod laws;
-mod mover;
 pub mod piece;
 mod sets;
 pub mod windows;

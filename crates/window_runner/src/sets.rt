@@ -1,6 +1,6 @@
 //! The two jobs of each lane, and its report in a window.
 
-ghost use Rattle.std.specs.Prelude.{◌≡◌, length, IfSome};
+ghost use Rattle.std.specs.Prelude.{◌≡◌, length, IfOk, IfSome};
 ghost use Rattle.outer_lane.specs.Setting.{setting_of};
 ghost use Rattle.turn_board.specs.Answers.{EachLane};
 ghost use Rattle.window_merge.specs.Jobs.{AreAlone, HasNumber, IsAlone, IsJobFor, IsTrueIn, IsWhole};
@@ -10,6 +10,7 @@ use crate::piece::{Found, Piece};
 use lane_look::Device;
 use outer_lane::World;
 use rp_machine::Machine;
+use std::alloc::{AllocError, Global};
 use turn_board::Six;
 use window_merge::{Crew, LaneJob, LaneReport, accept, back, job, run_by};
 
@@ -24,9 +25,9 @@ pub(crate) struct Sets {
 }
 
 /// The jobs of a crew.
-pub(crate) fn sets_of(crew: Crew) -> Sets
+pub(crate) fn sets_of(alloc: Global, crew: Crew) -> Result<Box<Sets>, AllocError>
     requires { IsWhole crew }
-    ensures { EachLane HasNumber result.spare }
+    ensures { IfOk result (λ sets. EachLane HasNumber sets.value.spare) }
 {
     let Crew { jobs, spare } = crew;
     let [core0, core1, dma, pio0, pio1, outer] = jobs;
@@ -47,7 +48,7 @@ pub(crate) fn sets_of(crew: Crew) -> Sets
         l4: pio1,
         l5: outer,
     };
-    Sets { first, spare }
+    Ok(Box::new(alloc, Sets { first, spare })?)
 }
 
 /// A lane's piece of the window from the machine's state: its first job, or none where that is lost.

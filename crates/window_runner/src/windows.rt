@@ -4,17 +4,15 @@ ghost use Rattle.std.specs.Prelude.{◌≡◌, ◌+◌, ◌≤◌, All, IfOk, If
 ghost use Rattle.outer_lane.specs.Setting.{setting_of};
 ghost use Rattle.trace_text.specs.Tape.{Tells};
 ghost use Rattle.rp_machine.specs.Run.{last_state};
-ghost use Rattle.turn_board.specs.Answers.{EachLane};
 ghost use Rattle.turn_board.specs.Tickets.{IsFree};
 ghost use Rattle.window_merge.specs.Merging.{IsRested};
-ghost use Rattle.window_merge.specs.Jobs.{HasNumber};
 ghost use Rattle.window_runner.specs.Told.{run_shown};
 ghost use Rattle.window_runner.specs.Alone.{IsRan, IsOnRun};
-ghost use Rattle.window_runner.specs.Seated.{IsSeatAt, IsMasterAt};
+ghost use Rattle.window_runner.specs.Seated.{IsReady};
 ghost use Rattle.window_runner.specs.Windows.{answered, OnMemory, Leaves};
 
-use crate::alone::{Ran, run_by};
-use crate::coordinator::{Coordinator, Lead};
+use crate::alone::Ran;
+use crate::coordinator::{Desk, Lead, run};
 use crate::piece::{Found, Piece};
 use crate::sets::sets_of;
 use crate::worker::Hall;
@@ -41,70 +39,75 @@ pub enum RunFault {
     Memory,
 }
 
-/// Runs the machine to its stop, and closes the board.
-fn lead<'b, 'w, X: Device, G: Gate, T: Tape, L: Ledger, H: Wait>(
-    mut coordinator: Coordinator<'b, 'w, X, G, H>,
-    machine: &mut Machine,
+/// What the coordinator is given.
+#[derive(Drop)]
+struct Bench<'b, 'w, X: Device, G: Gate> {
+    board: &'b Board<Piece, Found, &'w World<'w, X>>,
+    lead: Lead<'w, X>,
     world: &'w World<'w, X>,
-    tape: &mut T,
-    steps: &mut Steps<L>,
-) -> Result<Ran, SinkFault>
-    requires number { machine.old.cycle ≤ world.now.limit }
-    requires rested { IsRested machine.old.sio }
-    requires master { IsMasterAt coordinator.lead.board.now coordinator.lead.opened coordinator.lead.master }
-    requires seat { IsSeatAt coordinator.lead.board.now coordinator.lead.kept coordinator.lead.seat }
-    requires worlds { (coordinator.lead.master.made_for.now ≡ coordinator.lead.world.now)
-        × (coordinator.lead.seat.made_for.now ≡ coordinator.lead.world.now)
-        × (coordinator.lead.world.now ≡ world.now) }
-    requires spare { EachLane HasNumber coordinator.sets.spare }
-    ensures told { Tells T.took T.missed tape.old tape.new (T.faults tape.old) (T.faults tape.new)
-        (run_shown
-        (setting_of world.now.script.now (X.meaning world.now.device.now) world.now.limit)
-        machine.old) result }
-    ensures left { Leaves
-        (setting_of world.now.script.now (X.meaning world.now.device.now) world.now.limit)
-        machine.old machine.new steps.old steps.new result }
-{
-    let ran = run_by(machine, world, &mut coordinator, tape, steps);
-    let Lead {
-        board,
-        mut master,
-        ..
-    } = coordinator.lead;
-    board.close(&mut master);
-    ran
+    gate: &'b G,
+}
+
+impl<'b, 'w, X: Device, G: Gate> Bench<'b, 'w, X, G> {
+    /// Runs the machine to its stop, and closes the board.
+    fn work<T: Tape, L: Ledger, H: Wait>(
+        self,
+        rt: &H,
+        machine: &mut Machine,
+        tape: &mut T,
+        steps: &mut Steps<L>,
+    ) -> Result<Ran, SinkFault>
+        requires number { machine.old.cycle ≤ self.world.now.limit }
+        requires rested { IsRested machine.old.sio }
+        requires ready { IsReady self.board.now (λ w. w.now ≡ self.world.now) self.lead.opened
+            self.lead.kept self.lead.master self.lead.seat self.lead.sets.value.spare }
+        ensures told { Tells T.took T.missed tape.old tape.new (T.faults tape.old)
+            (T.faults tape.new) (run_shown (setting_of self.entry.world.now.script.now (X.meaning self.entry.world.now.device.now) self.entry.world.now.limit)
+            machine.old) result }
+        ensures left { Leaves (setting_of self.entry.world.now.script.now (X.meaning self.entry.world.now.device.now) self.entry.world.now.limit)
+            machine.old machine.new steps.old steps.new result }
+    {
+        let Bench {
+            board,
+            mut lead,
+            world,
+            gate,
+        } = self;
+        let desk = Desk {
+            rt,
+            board,
+            world,
+            gate,
+        };
+        let ran = run(&desk, &mut lead, machine, tape, steps);
+        board.close(&mut lead.master);
+        ran
+    }
 }
 
 /// The workers and the coordinator, each in a thread of its own.
 fn both<'b, 'w, X: Device, G: Gate, T: Tape, L: Ledger, R: Threads + Wait + Sync>(
     rt: &'b R,
     hall: Hall<'b, 'w, X, G>,
-    coordinator: Coordinator<'b, 'w, X, G, R>,
+    bench: Bench<'b, 'w, X, G>,
     machine: &mut Machine,
-    world: &'w World<'w, X>,
     tape: &mut T,
     steps: &mut Steps<L>,
 ) -> Result<Ran, SinkFault>
-    requires number { machine.old.cycle ≤ world.now.limit }
+    requires number { machine.old.cycle ≤ bench.world.now.limit }
     requires rested { IsRested machine.old.sio }
     requires hall { All (λ seat. (seat.board ≡ hall.board.now)
         × (seat.made_for.now ≡ hall.world.now) × IsFree seat.state) hall.seats.items }
-    requires master { IsMasterAt coordinator.lead.board.now coordinator.lead.opened coordinator.lead.master }
-    requires seat { IsSeatAt coordinator.lead.board.now coordinator.lead.kept coordinator.lead.seat }
-    requires worlds { (coordinator.lead.master.made_for.now ≡ coordinator.lead.world.now)
-        × (coordinator.lead.seat.made_for.now ≡ coordinator.lead.world.now)
-        × (coordinator.lead.world.now ≡ world.now) }
-    requires spare { EachLane HasNumber coordinator.sets.spare }
+    requires ready { IsReady bench.board.now (λ w. w.now ≡ bench.world.now) bench.lead.opened
+        bench.lead.kept bench.lead.master bench.lead.seat bench.lead.sets.value.spare }
     ensures told { Tells T.took T.missed tape.old tape.new (T.faults tape.old) (T.faults tape.new)
-        (run_shown
-        (setting_of world.now.script.now (X.meaning world.now.device.now) world.now.limit)
+        (run_shown (setting_of bench.entry.world.now.script.now (X.meaning bench.entry.world.now.device.now) bench.entry.world.now.limit)
         machine.old) result }
-    ensures left { Leaves
-        (setting_of world.now.script.now (X.meaning world.now.device.now) world.now.limit)
+    ensures left { Leaves (setting_of bench.entry.world.now.script.now (X.meaning bench.entry.world.now.device.now) bench.entry.world.now.limit)
         machine.old machine.new steps.old steps.new result }
 {
     let mut hall = Some(hall);
-    let mut coordinator = Some(coordinator);
+    let mut bench = Some(bench);
     let ((), ran) = thread::join_mut(
         rt,
         &mut || -> ()
@@ -116,26 +119,20 @@ fn both<'b, 'w, X: Device, G: Gate, T: Tape, L: Ledger, R: Threads + Wait + Sync
             }
         },
         &mut || -> Result<Ran, SinkFault>
-            requires is { IsSome coordinator }
-            requires number { machine.now.cycle ≤ world.now.limit }
+            requires is { IsSome bench }
+            requires number { IfSome bench (λ b. machine.now.cycle ≤ b.world.now.limit) }
             requires rested { IsRested machine.now.sio }
-            requires master { IfSome coordinator (λ c. IsMasterAt c.lead.board.now c.lead.opened c.lead.master) }
-            requires seat { IfSome coordinator (λ c. IsSeatAt c.lead.board.now c.lead.kept c.lead.seat) }
-            requires worlds { IfSome coordinator (λ c. (c.lead.master.made_for.now ≡ c.lead.world.now)
-                × (c.lead.seat.made_for.now ≡ c.lead.world.now)
-                × (c.lead.world.now ≡ world.now)) }
-            requires spare { IfSome coordinator (λ c. EachLane HasNumber c.sets.spare) }
-            ensures told { Tells T.took T.missed tape.entry.now tape.exit.now
-                (T.faults tape.entry.now) (T.faults tape.exit.now)
-                (run_shown (setting_of world.entry.now.script.now
-                (X.meaning world.entry.now.device.now) world.entry.now.limit)
-                machine.entry.now) result }
-            ensures left { Leaves (setting_of world.entry.now.script.now
-                (X.meaning world.entry.now.device.now) world.entry.now.limit)
-                machine.entry.now machine.exit.now steps.entry.now steps.exit.now result }
+            requires ready { IfSome bench (λ b. IsReady b.board.now (λ w. w.now ≡ b.world.now) b.lead.opened
+                b.lead.kept b.lead.master b.lead.seat b.lead.sets.value.spare) }
+            ensures told { IfSome bench.entry (λ b. Tells T.took T.missed tape.entry.now
+                tape.exit.now (T.faults tape.entry.now) (T.faults tape.exit.now)
+                (run_shown (setting_of b.world.now.script.now (X.meaning b.world.now.device.now) b.world.now.limit)
+                machine.entry.now) result) }
+            ensures left { IfSome bench.entry (λ b. Leaves (setting_of b.world.now.script.now (X.meaning b.world.now.device.now) b.world.now.limit)
+                machine.entry.now machine.exit.now steps.entry.now steps.exit.now result) }
         {
-            match coordinator.take() {
-                Some(coordinator) => lead(coordinator, machine, world, tape, steps),
+            match bench.take() {
+                Some(bench) => bench.work(rt, machine, tape, steps),
                 None => unreachable!(),
             }
         },
@@ -170,6 +167,9 @@ fn run_at<'w, X: Device, G: Gate, T: Tape, L: Ledger, R: Threads + Wait + Sync>(
     let Ok(crew) = Crew::new(alloc) else {
         return None;
     };
+    let Ok(sets) = sets_of(alloc, crew) else {
+        return None;
+    };
     let Ok((board, master, mut seats)) = Board::<Piece, Found, &'w World<'w, X>>::new(
         alloc,
         world,
@@ -188,18 +188,19 @@ fn run_at<'w, X: Device, G: Gate, T: Tape, L: Ledger, R: Threads + Wait + Sync>(
         gate,
     };
     let lead = Lead {
-        rt,
-        board,
         master,
         opened: 0,
         seat,
         kept: None,
+        sets,
+    };
+    let bench = Bench {
+        board,
+        lead,
         world,
         gate,
     };
-    let sets = sets_of(crew);
-    let coordinator = Coordinator { lead, sets };
-    Some(both(rt, hall, coordinator, machine, world, tape, steps))
+    Some(both(rt, hall, bench, machine, tape, steps))
 }
 
 /// Runs a machine by windows and single cycles up to its first stop, and tells the events of all its cycles to a tape. The lanes

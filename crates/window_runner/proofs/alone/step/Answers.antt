@@ -16,13 +16,13 @@ pub count_window-requires-clause-cycles : goal.count_window-requires-clause-cycl
 count_window-requires-clause-cycles g c =
     let h = c.in-Window.ensures.moved in
     cycles_more (setting_of c.args.world.now.script.now (g.X.Device.meaning c.args.world.now.device.now) c.args.world.now.limit)
-    c.args.machine.now c.go.new.machine _ _ _ c.is_bounded.ensures c.requires.number h.3 h.6 c.requires.cycles
+    c.args.machine.now c.advance.new.machine _ _ _ c.is_bounded.ensures c.requires.number h.3 h.6 c.requires.cycles
 
 pub tell_step-requires : goal.tell_step-requires
 tell_step-requires g c =
     let h = c.in-Window.ensures.moved in
     marks_behind (setting_of c.args.world.now.script.now (g.X.Device.meaning c.args.world.now.device.now) c.args.world.now.limit)
-    c.args.machine.now c.go.new.machine _ _ _ _ c.is_bounded.ensures c.requires.number h.3 h.6 c.number-cycle.ensures h.4
+    c.args.machine.now c.advance.new.machine _ _ _ _ c.is_bounded.ensures c.requires.number h.3 h.6 c.number-cycle.ensures h.4
 
 pub tell_step-requires-in-Cycle : goal.tell_step-requires-in-Cycle
 tell_step-requires-in-Cycle g c =
@@ -38,7 +38,7 @@ returns-in-Window-clause-position g c =
     let h = c.in-Window.ensures.moved in
     let n = c.count_window.ensures in
     goes_by_window (setting_of c.args.world.now.script.now (g.X.Device.meaning c.args.world.now.device.now) c.args.world.now.limit)
-    c.args.machine.now c.go.new.machine c.args.counts.now c.count_window.new.counts c.in-Window.length _
+    c.args.machine.now c.advance.new.machine c.args.counts.now c.count_window.new.counts c.in-Window.length _
     c.tell_step.ensures.none h.1 h.2 h.3 n.windows n.cycles n.after_empty
 
 pub returns-in-Window-clause-told : goal.returns-in-Window-clause-told
@@ -46,14 +46,14 @@ returns-in-Window-clause-told g c =
     let h = c.in-Window.ensures.moved in
     tells_same _ _ _ _ _ _ _ _ _ (ap all_shown (tells_window
     (setting_of c.args.world.now.script.now (g.X.Device.meaning c.args.world.now.device.now) c.args.world.now.limit)
-    c.args.machine.now c.go.new.machine c.args.counts.now c.in-Window.length _ _ _ _ c.tell_step.ensures.none h.1 h.2 h.3 h.6
+    c.args.machine.now c.advance.new.machine c.args.counts.now c.in-Window.length _ _ _ _ c.tell_step.ensures.none h.1 h.2 h.3 h.6
     c.number-cycle.ensures c.pads-before.ensures h.4)) c.tell_step.ensures.told
 
 pub returns-in-Cycle-clause-position : goal.returns-in-Cycle-clause-position
 returns-in-Cycle-clause-position g c =
     let h = c.in-Cycle.ensures.moved in
     goes_by_cycle (setting_of c.args.world.now.script.now (g.X.Device.meaning c.args.world.now.device.now) c.args.world.now.limit)
-    c.args.machine.now c.go.new.machine c.args.counts.now _ _ c.tell_step-in-Cycle.ensures.none h.1 h.2 refl refl refl
+    c.args.machine.now c.advance.new.machine c.args.counts.now _ _ c.tell_step-in-Cycle.ensures.none h.1 h.2 refl refl refl
 
 pub returns-in-Cycle-clause-told : goal.returns-in-Cycle-clause-told
 returns-in-Cycle-clause-told g c =
@@ -67,10 +67,10 @@ pub returns-in-Cycle-clause-steps : goal.returns-in-Cycle-clause-steps
 returns-in-Cycle-clause-steps g c =
     let h = c.in-Cycle.ensures.moved in
     cycle_counts (setting_of c.args.world.now.script.now (g.X.Device.meaning c.args.world.now.device.now) c.args.world.now.limit)
-    c.args.machine.now c.go.new.machine _ _ h.2 h.4
+    c.args.machine.now c.advance.new.machine _ _ h.2 h.4
 
 pub returns-in-Cycle-clause-counted : goal.returns-in-Cycle-clause-counted
 returns-in-Cycle-clause-counted g c =
     let h = c.in-Cycle.ensures.moved in
     cycle_later (setting_of c.args.world.now.script.now (g.X.Device.meaning c.args.world.now.device.now) c.args.world.now.limit)
-    c.args.machine.now c.go.new.machine c.args.counts.now.cycles h.2
+    c.args.machine.now c.advance.new.machine c.args.counts.now.cycles h.2

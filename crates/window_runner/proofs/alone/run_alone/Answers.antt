@@ -3,12 +3,12 @@ use Rattle.outer_lane.specs.Setting.{setting_of}
 use Rattle.window_runner.specs.Alone.{position_at}
 use Rattle.window_runner.proofs.Reaching.{running_first, running_on, reached_nearer, reached_on, reached_same, reached_ran, reached_state, is_on_run, taken_step, failed_step, taken_to_stop}
 use Rattle.window_runner.proofs.Telling.{taken_nothing}
-use Rattle.window_runner.proofs.alone.run_by.Goals as goal
+use Rattle.window_runner.proofs.alone.run_alone.Goals as goal
 
 pub steps-init : goal.steps-init
 steps-init g c =
     let w = setting_of c.args.world.now.script.now (g.X.Device.meaning c.args.world.now.device.now) c.args.world.now.limit in
-    (running_first w c.args.machine.now _ c.requires.number, taken_nothing _ _ _ _ g.met.T.Tape.takes_none, c.requires.rested, c.requires.ready)
+    (running_first w c.args.machine.now _ c.requires.number, taken_nothing _ _ _ _ g.met.T.Tape.takes_none, c.requires.rested, c.requires.crew)
 
 pub steps-smaller : goal.steps-smaller
 steps-smaller g c =
@@ -29,7 +29,7 @@ steps-preserved g c =
       taken_step _ _ _ _ _ _ _ _ w c.args.machine.now (position_at c.steps.machine c.steps.counts) (position_at c.step.new.machine c.step.new.counts) _
           g.met.T.Tape.takes_in_turn c.steps.invariant.0.reached c.steps.invariant.1 (h.cause ∙ c.in-Ok-None.field-0-is) position told,
       h.rested,
-      h.ready,
+      h.crew,
     )
 
 pub returns-in-Ok-Some-clause-told : goal.returns-in-Ok-Some-clause-told

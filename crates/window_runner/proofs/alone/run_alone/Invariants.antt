@@ -1,11 +1,12 @@
 use Rattle.outer_lane.specs.Setting.{setting_of}
 use Rattle.window_merge.specs.Merging.{IsRested}
+use Rattle.window_merge.specs.Jobs.{IsWhole}
 use Rattle.window_merge.proofs.Positions.{left_of}
 use Rattle.window_runner.specs.Told.{run_shown}
 use Rattle.window_runner.specs.Alone.{position_at}
 use Rattle.window_runner.proofs.Reaching.{Running}
 use Rattle.window_runner.proofs.Telling.{TakenBefore}
-use Rattle.window_runner.proofs.alone.run_by.Given as goal
+use Rattle.window_runner.proofs.alone.run_alone.Given as goal
 
 abbrev pub invariant-steps : goal.invariant-steps
 invariant-steps g l =
@@ -13,7 +14,7 @@ invariant-steps g l =
     Running w l.initial.machine (position_at l.machine l.counts) l.initial.steps l.steps
     × TakenBefore g.T.Tape.took l.initial.tape l.tape (g.T.Tape.faults l.initial.tape) (g.T.Tape.faults l.tape)
     (run_shown w l.initial.machine) (run_shown w l.machine)
-    × IsRested l.machine.sio × g.M.Mover.ready w l.mover
+    × IsRested l.machine.sio × IsWhole l.crew
 
 abbrev pub decreases-steps : goal.decreases-steps
 decreases-steps g l =
