@@ -37,5 +37,7 @@ HaveNumbersFrom lane (report ∷ reports) = (report.lane ≡ lane) × HaveNumber
 -- ---- all of it
 
 -- the master and the seat are at the board, for a world that is as it should be, and each lane has its second job
-abbrev pub IsReady : {J R W : Type 0} → TableId → (W → Type 0) → ℕ → Option ℕ → MasterView W → SeatView J R W → Six (Option LaneJob) → Type 0
-IsReady z fits opened kept m s spare = IsMasterAt z opened m × IsSeatAt z kept s × fits m.made_for × fits s.made_for × EachLane HasNumber spare
+abbrev pub IsReady : {J R W : Type 0} → TableId → (W → Type 0) → ℕ → Option ℕ → MasterView W → SeatView J R W
+    → Six (Option LaneJob) → Type 0
+IsReady z fits opened kept m s spare =
+    IsMasterAt z opened m × IsSeatAt z kept s × fits m.made_for × fits s.made_for × EachLane HasNumber spare

@@ -125,8 +125,8 @@ fn gather<'w, X: Device, G: Gate, H: Wait>(
     }
 }
 
-/// The reports of the window from the machine's state that come over the board. None goes over it where the peripherals have another
-/// number of words than the device, or where no more numbers can be opened.
+/// The reports of the window from the machine's state that come over the board. None goes over it where the peripherals have
+/// another number of words than the device, or where no more numbers can be opened.
 fn found_in<'w, X: Device, G: Gate, H: Wait>(
     desk: &Desk<'_, 'w, X, G, H>,
     lead: &mut Lead<'w, X>,

@@ -1,5 +1,5 @@
-//! Runs of windows: the six lanes of each window are run by several seats at a board, in any order; and the events of a run, told to
-//! a tape.
+//! Runs of windows: the six lanes of each window are run by several seats at a board, in any order; and the events of a run, told
+//! to a tape.
 #![tactic(auto)]
 
 pub mod alone;

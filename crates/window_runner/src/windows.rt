@@ -62,9 +62,13 @@ impl<'b, 'w, X: Device, G: Gate> Bench<'b, 'w, X, G> {
         requires ready { IsReady self.board.now (λ w. w.now ≡ self.world.now) self.lead.opened
             self.lead.kept self.lead.master self.lead.seat self.lead.sets.value.spare }
         ensures told { Tells T.took T.missed tape.old tape.new (T.faults tape.old)
-            (T.faults tape.new) (run_shown (setting_of self.entry.world.now.script.now (X.meaning self.entry.world.now.device.now) self.entry.world.now.limit)
+            (T.faults tape.new) (run_shown
+            (setting_of self.entry.world.now.script.now
+            (X.meaning self.entry.world.now.device.now) self.entry.world.now.limit)
             machine.old) result }
-        ensures left { Leaves (setting_of self.entry.world.now.script.now (X.meaning self.entry.world.now.device.now) self.entry.world.now.limit)
+        ensures left { Leaves
+            (setting_of self.entry.world.now.script.now
+            (X.meaning self.entry.world.now.device.now) self.entry.world.now.limit)
             machine.old machine.new steps.old steps.new result }
     {
         let Bench {
@@ -101,9 +105,13 @@ fn both<'b, 'w, X: Device, G: Gate, T: Tape, L: Ledger, R: Threads + Wait + Sync
     requires ready { IsReady bench.board.now (λ w. w.now ≡ bench.world.now) bench.lead.opened
         bench.lead.kept bench.lead.master bench.lead.seat bench.lead.sets.value.spare }
     ensures told { Tells T.took T.missed tape.old tape.new (T.faults tape.old) (T.faults tape.new)
-        (run_shown (setting_of bench.entry.world.now.script.now (X.meaning bench.entry.world.now.device.now) bench.entry.world.now.limit)
+        (run_shown
+        (setting_of bench.entry.world.now.script.now
+        (X.meaning bench.entry.world.now.device.now) bench.entry.world.now.limit)
         machine.old) result }
-    ensures left { Leaves (setting_of bench.entry.world.now.script.now (X.meaning bench.entry.world.now.device.now) bench.entry.world.now.limit)
+    ensures left { Leaves
+        (setting_of bench.entry.world.now.script.now
+        (X.meaning bench.entry.world.now.device.now) bench.entry.world.now.limit)
         machine.old machine.new steps.old steps.new result }
 {
     let mut hall = Some(hall);
@@ -122,13 +130,18 @@ fn both<'b, 'w, X: Device, G: Gate, T: Tape, L: Ledger, R: Threads + Wait + Sync
             requires is { IsSome bench }
             requires number { IfSome bench (λ b. machine.now.cycle ≤ b.world.now.limit) }
             requires rested { IsRested machine.now.sio }
-            requires ready { IfSome bench (λ b. IsReady b.board.now (λ w. w.now ≡ b.world.now) b.lead.opened
+            requires ready { IfSome bench (λ b. IsReady b.board.now
+                (λ w. w.now ≡ b.world.now) b.lead.opened
                 b.lead.kept b.lead.master b.lead.seat b.lead.sets.value.spare) }
             ensures told { IfSome bench.entry (λ b. Tells T.took T.missed tape.entry.now
                 tape.exit.now (T.faults tape.entry.now) (T.faults tape.exit.now)
-                (run_shown (setting_of b.world.now.script.now (X.meaning b.world.now.device.now) b.world.now.limit)
+                (run_shown
+                (setting_of b.world.now.script.now
+                (X.meaning b.world.now.device.now) b.world.now.limit)
                 machine.entry.now) result) }
-            ensures left { IfSome bench.entry (λ b. Leaves (setting_of b.world.now.script.now (X.meaning b.world.now.device.now) b.world.now.limit)
+            ensures left { IfSome bench.entry (λ b. Leaves
+                (setting_of b.world.now.script.now
+                (X.meaning b.world.now.device.now) b.world.now.limit)
                 machine.entry.now machine.exit.now steps.entry.now steps.exit.now result) }
         {
             match bench.take() {
