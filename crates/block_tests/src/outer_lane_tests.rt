@@ -3,7 +3,7 @@
 ghost use Rattle.std.specs.Prelude.{ℕ, ◌+◌, ◌%◌, ◌^◌, ◌==◌, slice_index, slice_set};
 
 use lane_look::{Ask, Device, Lane, Look, Mark, Marks, NoDevice, Turn, Wires};
-use outer_lane::{Outer, Seen, World};
+use outer_lane::{Outer, SeenOutputs, World};
 use pin_script::read_script;
 use rp_base::map::Block;
 use std::test::Fail;
@@ -58,7 +58,7 @@ fn holds(rt: HostRuntime) -> Result<(), Fail> {
         device: &NoDevice,
         limit: 9,
     };
-    let seen = Seen {
+    let seen = SeenOutputs {
         cycle: 0,
         pio0: [0, 0],
         pio1: [0, 0],

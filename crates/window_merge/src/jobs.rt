@@ -168,7 +168,7 @@ pub(crate) fn longest_by(limit: u64, start: u64) -> u16
 }
 
 /// Runs a lane alone, also where the peripherals have another number of words than the device.
-pub(crate) fn run_by<X: Device>(job: LaneJob, world: &World<'_, X>) -> LaneReport
+pub fn run_by<X: Device>(job: LaneJob, world: &World<'_, X>) -> LaneReport
     requires { job.limit ≡ world.now.limit }
     ensures lane { result.lane ≡ job.lane }
     ensures limit { result.limit ≡ job.limit }

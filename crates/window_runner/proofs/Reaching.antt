@@ -236,3 +236,7 @@ taken_to_stop {T} {A} {U} {E} took missed a b c f g h w first s why x y turn tak
     let here : Tells {A = U} {E = E} took missed b c g h (all_shown []) (Ok y) = record { ok = told.ok; err = tt; cause = tt; count = told.count } in
     taken_last took missed a b c f g h (run_shown w first) (all_shown []) (Ok y) turn
     (taken_same took a b f g (run_shown w first) (run_shown w s) (all_shown []) taken (shown_here w s why e)) here
+
+-- a run stands at its first state before it begins
+pub on_run_first : (w : Setting) (s : State) → s.cycle ≤ w.limit → IsOnRun w s s
+on_run_first w s le = is_on_run w s (first_position s) (reached_first w s le)

@@ -4,4 +4,6 @@ pub mod Merge
 pub mod Orders
 pub mod Parts
 pub mod Reports
+pub mod Seated
 pub mod Told
+pub mod Windows

@@ -34,17 +34,17 @@ pub struct Ran {
 
 /// What a run keeps of the windows that it tried.
 #[derive(Clone, Copy)]
-struct Counts {
+pub(crate) struct Counts {
     /// How many.
-    windows: u64,
+    pub(crate) windows: u64,
     /// How many cycles they had.
-    cycles: u64,
+    pub(crate) cycles: u64,
     /// The last step was a window without a cycle.
-    after_empty: bool,
+    pub(crate) after_empty: bool,
 }
 
 /// Counts a window of so many cycles.
-fn count_window(counts: &mut Counts, length: u16)
+pub(crate) fn count_window(counts: &mut Counts, length: u16)
     requires windows { counts.old.windows + 1 < 2 ^ 64 }
     requires cycles { counts.old.cycles + length < 2 ^ 64 }
     ensures windows { counts.new.windows ≡ counts.old.windows + 1 }
@@ -57,7 +57,7 @@ fn count_window(counts: &mut Counts, length: u16)
 }
 
 /// Tells the events of a step that found no stop.
-fn tell_step<T: Tape>(
+pub(crate) fn tell_step<T: Tape>(
     cycle: u64,
     before: u32,
     marks: &Marks,
@@ -75,7 +75,7 @@ fn tell_step<T: Tape>(
 }
 
 /// The limit is a number of 64 bits: its type keeps it.
-fn is_bounded<X: Device>(world: &World<'_, X>)
+pub(crate) fn is_bounded<X: Device>(world: &World<'_, X>)
     ensures { world.now.limit < 2 ^ 64 }
 {
     let _limit = world.limit;

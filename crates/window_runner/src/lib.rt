@@ -1,9 +1,16 @@
-//! Runs of windows: the six lanes of each window are run by several seats at a board, in any order; and the events of a run, told to
-//! a tape.
+//! Runs of windows: the six lanes of each window are run by several seats at a board, in any order; and the events of a run, told
+//! to a tape.
 #![tactic(auto)]
 
 pub mod alone;
+mod coordinator;
 pub mod events;
 pub mod laws;
+pub mod piece;
+mod sets;
+pub mod windows;
+mod worker;
 
 pub use alone::{Ran, run_alone};
+pub use piece::{Found, Piece};
+pub use windows::{RunFault, run_windows};

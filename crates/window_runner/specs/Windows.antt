@@ -1,0 +1,30 @@
+-- What a run answers whose memory may run out before it begins. The project's own.
+use Rattle.std.specs.Prelude.{◌≡◌, ℕ, ◌+◌, Option, Some, None, Result, Ok, Err, IfOk}
+use Rattle.outer_lane.specs.Setting.{Setting}
+use Rattle.rp_machine.specs.State.{State}
+use Rattle.rp_machine.specs.Run.{last_state}
+use Rattle.window_merge.specs.Merging.{IsRested}
+use Rattle.window_runner.specs.declared.alone.Ran.{Ran}
+use Rattle.trace_text.specs.declared.writer.SinkFault.{SinkFault}
+use Rattle.window_runner.specs.Alone.{IsRan, IsOnRun}
+use Rattle.window_runner.specs.declared.windows.RunFault.{RunFault}
+use Rattle.window_runner.specs.declared.windows.RunFault.TheVariants as fault
+
+-- the answer of a run that had its memory
+abbrev pub answered : Result Ran RunFault → Option (Result Ran (Unit {0}))
+answered (Ok ran) = Some (Ok ran)
+answered (Err fault.Sink) = Some (Err tt)
+answered (Err fault.Memory) = None
+
+-- there was no memory, and this holds
+abbrev pub OnMemory : Result Ran RunFault → Type 0 → Type 0
+OnMemory (Err fault.Memory) holds = holds
+OnMemory result holds = Unit {0}
+
+-- where a run from a state leaves the machine and the count of steps
+pub record Leaves (w : Setting) (s t : State) (before after : ℕ) (result : Result Ran SinkFault) : Type 0 where
+  pub ran : IfOk result (IsRan w s)
+  pub state : IfOk result (λ ran. t ≡ last_state w s)
+  pub on_run : IsOnRun w s t
+  pub steps : after + s.cycle ≡ before + t.cycle
+  pub rested : IsRested t.sio

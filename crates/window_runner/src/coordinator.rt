@@ -1,0 +1,330 @@
+//! What the coordinator does: it opens the windows' numbers, helps with their pieces, and merges what was found.
+
+ghost use Rattle.std.specs.Prelude.{◌≡◌, ◌+◌, ◌≤◌, ◌^◌, false, length, IfSome, None, [], if◌then◌else◌, IfOk};
+ghost use Rattle.outer_lane.specs.Setting.{setting_of};
+ghost use Rattle.bus_fabric.specs.State.{has_hold};
+ghost use Rattle.trace_text.specs.Tape.{Tells};
+ghost use Rattle.rp_machine.specs.Cycle.{stop};
+ghost use Rattle.rp_machine.specs.Run.{last_state, states, unless_stopped};
+ghost use Rattle.turn_board.specs.Answers.{EachLane};
+ghost use Rattle.window_merge.specs.Window.{next_position, window_length};
+ghost use Rattle.window_merge.specs.Merging.{marks_in, IsRested, IsStep};
+ghost use Rattle.window_merge.specs.Jobs.{IsJobFor, IsTrueIn};
+ghost use Rattle.window_runner.specs.Told.{all_shown, step_events, run_shown};
+ghost use Rattle.window_runner.specs.Alone.{IsRan, IsOnRun, position_at, stop_in};
+ghost use Rattle.window_runner.specs.Seated.{Keeps, IsSeatAt, IsReady};
+
+use crate::alone::{Counts, Ran, count_window, is_bounded, tell_step};
+use crate::piece::{Found, Piece};
+use crate::sets::{Sets, give_back_all, pieces_of, settle_all};
+use crate::worker::pass;
+use lane_look::{Device, Marks};
+use outer_lane::World;
+use rp_base::Why;
+use rp_machine::{Machine, Steps};
+use rp_ports::gate::Gate;
+use std::sync::Wait;
+use std::sync::ledger::Ledger;
+use trace_text::tape::Tape;
+use trace_text::writer::SinkFault;
+use turn_board::{Board, Gather, Master, Seat, See, Six, Ticket};
+use window_merge::Moved;
+use window_merge::reports::merge;
+
+/// How many numbers may be open before a window, so that six more can be.
+const MOST: u64 = (1 << 62) - 6;
+
+/// Draws tickets and passes those that are open, and keeps the first one that is not.
+fn help<'w, X: Device, G: Gate>(
+    board: &Board<Piece, Found, &'w World<'w, X>>,
+    seat: &mut Seat<Piece, Found, &'w World<'w, X>>,
+    kept: Option<Ticket>,
+    world: &'w World<'w, X>,
+    gate: &G,
+) -> Option<Ticket>
+    requires seat { IsSeatAt board.now kept seat.old }
+    requires world { seat.old.made_for.now ≡ world.now }
+    ensures seat { IsSeatAt board.now result seat.new }
+    ensures world { seat.new.made_for ≡ seat.old.made_for }
+{
+    let mut kept = kept;
+    for _ in 0..6 {
+        let ticket = match kept {
+            Some(ticket) => ticket,
+            None => board.draw(seat),
+        };
+        match board.look(seat, &ticket) {
+            See::Open => pass(board, seat, ticket, world, gate),
+            See::NotYet(_) | See::Closed => return Some(ticket),
+        }
+        kept = None;
+    }
+    kept
+}
+
+/// No report for any lane.
+fn nothing() -> Six<Found>
+    ensures { EachLane (λ lane found. found.report ≡ None) result }
+{
+    Six {
+        l0: Found { report: None },
+        l1: Found { report: None },
+        l2: Found { report: None },
+        l3: Found { report: None },
+        l4: Found { report: None },
+        l5: Found { report: None },
+    }
+}
+
+/// What the coordinator only reads.
+#[derive(Drop)]
+pub(crate) struct Desk<'b, 'w, X: Device, G: Gate, H: Wait> {
+    pub(crate) rt: &'b H,
+    pub(crate) board: &'b Board<Piece, Found, &'w World<'w, X>>,
+    pub(crate) world: &'w World<'w, X>,
+    pub(crate) gate: &'b G,
+}
+
+/// What the coordinator has at the board, and the jobs of the lanes.
+#[derive(Drop)]
+pub(crate) struct Lead<'w, X: Device> {
+    pub(crate) master: Master<Piece, Found, &'w World<'w, X>>,
+    /// How many numbers it opened.
+    pub(crate) opened: u64,
+    pub(crate) seat: Seat<Piece, Found, &'w World<'w, X>>,
+    /// The ticket that its seat drew and that was not open yet.
+    pub(crate) kept: Option<Ticket>,
+    pub(crate) sets: Box<Sets>,
+}
+
+/// Opens six numbers with these pieces, helps, and gathers what was found once all is done.
+fn gather<'w, X: Device, G: Gate, H: Wait>(
+    desk: &Desk<'_, 'w, X, G, H>,
+    lead: &mut Lead<'w, X>,
+    pieces: Six<Piece>,
+) -> Six<Found>
+    requires ready { IsReady desk.now.board.now (λ w. w.now ≡ desk.now.world.now) lead.old.opened
+        lead.old.kept lead.old.master lead.old.seat lead.old.sets.value.spare }
+    requires pieces { EachLane (λ lane piece. IfSome piece.job (IsJobFor
+        (setting_of desk.now.world.now.script.now (X.meaning desk.now.world.now.device.now)
+        desk.now.world.now.limit))) pieces }
+    requires few { lead.old.opened + 6 ≤ 2 ^ 62 }
+    ensures ready { IsReady desk.now.board.now (λ w. w.now ≡ desk.now.world.now) lead.new.opened
+        lead.new.kept lead.new.master lead.new.seat lead.new.sets.value.spare }
+    ensures found { EachLane (λ lane found. IfSome found.report (IsTrueIn
+        (setting_of desk.now.world.now.script.now (X.meaning desk.now.world.now.device.now)
+        desk.now.world.now.limit))) result }
+{
+    desk.board.offer(&mut lead.master, pieces);
+    lead.opened += 6;
+    let kept = lead.kept.take();
+    lead.kept = help(desk.board, &mut lead.seat, kept, desk.world, desk.gate);
+    match desk.board.await_all(desk.rt, &mut lead.master) {
+        Gather::All(found) => found,
+        Gather::Part(_) => unreachable!(),
+    }
+}
+
+/// The reports of the window from the machine's state that come over the board. None goes over it where the peripherals have
+/// another number of words than the device, or where no more numbers can be opened.
+fn found_in<'w, X: Device, G: Gate, H: Wait>(
+    desk: &Desk<'_, 'w, X, G, H>,
+    lead: &mut Lead<'w, X>,
+    machine: &Machine,
+) -> Six<Found>
+    requires ready { IsReady desk.now.board.now (λ w. w.now ≡ desk.now.world.now) lead.old.opened
+        lead.old.kept lead.old.master lead.old.seat lead.old.sets.value.spare }
+    ensures ready { IsReady desk.now.board.now (λ w. w.now ≡ desk.now.world.now) lead.new.opened
+        lead.new.kept lead.new.master lead.new.seat lead.new.sets.value.spare }
+    ensures found { EachLane (λ lane found. IfSome found.report (IsTrueIn
+        (setting_of desk.now.world.now.script.now (X.meaning desk.now.world.now.device.now)
+        desk.now.world.now.limit))) result }
+{
+    if lead.opened > MOST || !machine.outer.has_device(desk.world.device) {
+        return nothing();
+    }
+    let pieces = pieces_of(machine, desk.world, &mut lead.sets.first);
+    gather(desk, lead, pieces)
+}
+
+/// Moves the machine by a window whose lanes are run by all who draw tickets, and gives its length. Of a lane without a report that
+/// is accepted the run is made here.
+fn window<'w, X: Device, G: Gate, H: Wait, L: Ledger>(
+    desk: &Desk<'_, 'w, X, G, H>,
+    lead: &mut Lead<'w, X>,
+    machine: &mut Machine,
+    marks: &mut Marks,
+    steps: &mut Steps<L>,
+) -> u16
+    requires number { machine.old.cycle ≤ desk.now.world.now.limit }
+    requires free { has_hold machine.old.fabric ≡ false }
+    requires rested { IsRested machine.old.sio }
+    requires ready { IsReady desk.now.board.now (λ w. w.now ≡ desk.now.world.now) lead.old.opened
+        lead.old.kept lead.old.master lead.old.seat lead.old.sets.value.spare }
+    ensures length { result ≡ window_length
+        (setting_of desk.now.world.now.script.now (X.meaning desk.now.world.now.device.now)
+        desk.now.world.now.limit)
+        machine.old }
+    ensures state { machine.new ≡ states
+        (setting_of desk.now.world.now.script.now (X.meaning desk.now.world.now.device.now)
+        desk.now.world.now.limit)
+        machine.old result }
+    ensures number { machine.new.cycle ≡ machine.old.cycle + result }
+    ensures marks { marks.new ≡ marks_in
+        (setting_of desk.now.world.now.script.now (X.meaning desk.now.world.now.device.now)
+        desk.now.world.now.limit)
+        machine.old result }
+    ensures steps { steps.new ≡ steps.old + result }
+    ensures ready { IsReady desk.now.board.now (λ w. w.now ≡ desk.now.world.now) lead.new.opened
+        lead.new.kept lead.new.master lead.new.seat lead.new.sets.value.spare }
+{
+    let found = found_in(desk, lead, machine);
+    let mut reports = settle_all(machine, desk.world, found, &mut *lead.sets);
+    let length = merge(machine, desk.world, &mut reports, marks, steps);
+    give_back_all(reports, &mut *lead.sets);
+    length
+}
+
+/// Moves the machine to the next position of a run: by a window where no access lasts and the last step was not a window without a
+/// cycle, and else by one cycle. The marks of its cycles are left in `marks`, and each counts as one of the steps.
+fn go<'w, X: Device, G: Gate, H: Wait, L: Ledger>(
+    desk: &Desk<'_, 'w, X, G, H>,
+    lead: &mut Lead<'w, X>,
+    machine: &mut Machine,
+    after_empty: bool,
+    marks: &mut Marks,
+    steps: &mut Steps<L>,
+) -> Moved
+    requires number { machine.old.cycle ≤ desk.now.world.now.limit }
+    requires rested { IsRested machine.old.sio }
+    requires ready { IsReady desk.now.board.now (λ w. w.now ≡ desk.now.world.now) lead.old.opened
+        lead.old.kept lead.old.master lead.old.seat lead.old.sets.value.spare }
+    ensures moved { IsStep
+        (setting_of desk.now.world.now.script.now (X.meaning desk.now.world.now.device.now)
+        desk.now.world.now.limit)
+        after_empty result machine.old machine.new marks.old marks.new steps.old steps.new }
+    ensures rested { IsRested machine.new.sio }
+    ensures ready { IsReady desk.now.board.now (λ w. w.now ≡ desk.now.world.now) lead.new.opened
+        lead.new.kept lead.new.master lead.new.seat lead.new.sets.value.spare }
+{
+    if after_empty || machine.fabric.holds() {
+        return match machine.cycle(desk.world, marks, steps) {
+            Some(why) => Moved::Stopped(why),
+            None => Moved::Cycle,
+        };
+    }
+    if let Some(why) = machine.stop(desk.world) {
+        return Moved::Stopped(why);
+    }
+    Moved::Window(window(desk, lead, machine, marks, steps))
+}
+
+/// Goes to the next position of a run and tells the events on the way, or finds a stop and changes nothing.
+fn step<'w, X: Device, G: Gate, H: Wait, T: Tape, L: Ledger>(
+    desk: &Desk<'_, 'w, X, G, H>,
+    lead: &mut Lead<'w, X>,
+    machine: &mut Machine,
+    counts: &mut Counts,
+    marks: &mut Marks,
+    tape: &mut T,
+    steps: &mut Steps<L>,
+) -> Result<Option<Why>, SinkFault>
+    requires number { machine.old.cycle ≤ desk.now.world.now.limit }
+    requires rested { IsRested machine.old.sio }
+    requires ready { IsReady desk.now.board.now (λ w. w.now ≡ desk.now.world.now) lead.old.opened
+        lead.old.kept lead.old.master lead.old.seat lead.old.sets.value.spare }
+    requires windows { counts.old.windows
+        ≤ machine.old.cycle + (if counts.old.after_empty then 1 else 0) }
+    requires cycles { counts.old.cycles ≤ machine.old.cycle }
+    ensures cause { stop
+        (setting_of desk.now.world.now.script.now (X.meaning desk.now.world.now.device.now)
+        desk.now.world.now.limit)
+        machine.old ≡ stop_in result }
+    ensures position { position_at machine.new counts.new ≡ unless_stopped (stop_in result)
+        (position_at machine.old counts.old) (next_position
+        (setting_of desk.now.world.now.script.now (X.meaning desk.now.world.now.device.now)
+        desk.now.world.now.limit)
+        (position_at machine.old counts.old)) }
+    ensures told { Tells T.took T.missed tape.old tape.new (T.faults tape.old) (T.faults tape.new)
+        (all_shown (unless_stopped (stop_in result) [] (step_events
+        (setting_of desk.now.world.now.script.now (X.meaning desk.now.world.now.device.now)
+        desk.now.world.now.limit)
+        (position_at machine.old counts.old)))) result }
+    ensures counted { counts.new.cycles + machine.old.cycle
+        ≤ counts.old.cycles + machine.new.cycle }
+    ensures steps { steps.new + machine.old.cycle ≡ steps.old + machine.new.cycle }
+    ensures rested { IsRested machine.new.sio }
+    ensures ready { IsReady desk.now.board.now (λ w. w.now ≡ desk.now.world.now) lead.new.opened
+        lead.new.kept lead.new.master lead.new.seat lead.new.sets.value.spare }
+{
+    is_bounded(desk.world);
+    let cycle = machine.number();
+    let before = machine.pads();
+    match go(desk, lead, machine, counts.after_empty, marks, steps) {
+        Moved::Stopped(why) => Ok(Some(why)),
+        Moved::Window(length) => {
+            count_window(counts, length);
+            tell_step(cycle, before, marks, tape)
+        }
+        Moved::Cycle => {
+            counts.after_empty = false;
+            tell_step(cycle, before, marks, tape)
+        }
+    }
+}
+
+/// Runs a machine by windows and single cycles up to its first stop, and tells the events of all its cycles to a tape. Each cycle
+/// counts as a step.
+pub(crate) fn run<'w, X: Device, G: Gate, H: Wait, T: Tape, L: Ledger>(
+    desk: &Desk<'_, 'w, X, G, H>,
+    lead: &mut Lead<'w, X>,
+    machine: &mut Machine,
+    tape: &mut T,
+    steps: &mut Steps<L>,
+) -> Result<Ran, SinkFault>
+    requires number { machine.old.cycle ≤ desk.now.world.now.limit }
+    requires rested { IsRested machine.old.sio }
+    requires ready { IsReady desk.now.board.now (λ w. w.now ≡ desk.now.world.now) lead.old.opened
+        lead.old.kept lead.old.master lead.old.seat lead.old.sets.value.spare }
+    ensures told { Tells T.took T.missed tape.old tape.new (T.faults tape.old) (T.faults tape.new)
+        (run_shown
+        (setting_of desk.now.world.now.script.now (X.meaning desk.now.world.now.device.now)
+        desk.now.world.now.limit)
+        machine.old) result }
+    ensures ran { IfOk result (IsRan
+        (setting_of desk.now.world.now.script.now (X.meaning desk.now.world.now.device.now)
+        desk.now.world.now.limit)
+        machine.old) }
+    ensures state { IfOk result (λ ran. machine.new ≡ last_state
+        (setting_of desk.now.world.now.script.now (X.meaning desk.now.world.now.device.now)
+        desk.now.world.now.limit)
+        machine.old) }
+    ensures on_run { IsOnRun
+        (setting_of desk.now.world.now.script.now (X.meaning desk.now.world.now.device.now)
+        desk.now.world.now.limit)
+        machine.old machine.new }
+    ensures steps { steps.new + machine.old.cycle ≡ steps.old + machine.new.cycle }
+    ensures rested { IsRested machine.new.sio }
+    ensures ready { IsReady desk.now.board.now (λ w. w.now ≡ desk.now.world.now) lead.new.opened
+        lead.new.kept lead.new.master lead.new.seat lead.new.sets.value.spare }
+{
+    let mut counts = Counts {
+        windows: 0,
+        cycles: 0,
+        after_empty: false,
+    };
+    let mut marks = Marks::new();
+    'steps: loop {
+        match step(desk, lead, machine, &mut counts, &mut marks, tape, steps) {
+            Ok(None) => continue 'steps,
+            Ok(Some(why)) => {
+                return Ok(Ran {
+                    why,
+                    windows: counts.windows,
+                    cycles: counts.cycles,
+                });
+            }
+            Err(fault) => return Err(fault),
+        }
+    }
+}

@@ -1,0 +1,262 @@
+//! A run by windows whose lanes are run by several threads.
+
+ghost use Rattle.std.specs.Prelude.{◌≡◌, ◌+◌, ◌≤◌, All, IfOk, IfSome, IsSome, is_some, is_none, true};
+ghost use Rattle.outer_lane.specs.Setting.{setting_of};
+ghost use Rattle.trace_text.specs.Tape.{Tells};
+ghost use Rattle.rp_machine.specs.Run.{last_state};
+ghost use Rattle.turn_board.specs.Tickets.{IsFree};
+ghost use Rattle.window_merge.specs.Merging.{IsRested};
+ghost use Rattle.window_runner.specs.Told.{run_shown};
+ghost use Rattle.window_runner.specs.Alone.{IsRan, IsOnRun};
+ghost use Rattle.window_runner.specs.Seated.{IsReady};
+ghost use Rattle.window_runner.specs.Windows.{answered, OnMemory, Leaves};
+
+use crate::alone::Ran;
+use crate::coordinator::{Desk, Lead, run};
+use crate::piece::{Found, Piece};
+use crate::sets::sets_of;
+use crate::worker::Hall;
+use lane_look::Device;
+use outer_lane::World;
+use rp_machine::{Machine, Steps};
+use rp_ports::gate::Gate;
+use std::alloc::Global;
+use std::sync::Wait;
+use std::sync::ledger::Ledger;
+use std::thread;
+use std::thread::Threads;
+use trace_text::tape::Tape;
+use trace_text::writer::SinkFault;
+use turn_board::Board;
+use window_merge::Crew;
+
+/// Why a run by workers did not go to its end.
+#[derive(Clone, Copy, PartialEq, Eq)]
+pub enum RunFault {
+    /// The tape failed at an event.
+    Sink,
+    /// There was no memory, before the first event.
+    Memory,
+}
+
+/// What the coordinator is given.
+#[derive(Drop)]
+struct Bench<'b, 'w, X: Device, G: Gate> {
+    board: &'b Board<Piece, Found, &'w World<'w, X>>,
+    lead: Lead<'w, X>,
+    world: &'w World<'w, X>,
+    gate: &'b G,
+}
+
+impl<'b, 'w, X: Device, G: Gate> Bench<'b, 'w, X, G> {
+    /// Runs the machine to its stop, and closes the board.
+    fn work<T: Tape, L: Ledger, H: Wait>(
+        self,
+        rt: &H,
+        machine: &mut Machine,
+        tape: &mut T,
+        steps: &mut Steps<L>,
+    ) -> Result<Ran, SinkFault>
+        requires number { machine.old.cycle ≤ self.world.now.limit }
+        requires rested { IsRested machine.old.sio }
+        requires ready { IsReady self.board.now (λ w. w.now ≡ self.world.now) self.lead.opened
+            self.lead.kept self.lead.master self.lead.seat self.lead.sets.value.spare }
+        ensures told { Tells T.took T.missed tape.old tape.new (T.faults tape.old)
+            (T.faults tape.new) (run_shown
+            (setting_of self.entry.world.now.script.now
+            (X.meaning self.entry.world.now.device.now) self.entry.world.now.limit)
+            machine.old) result }
+        ensures left { Leaves
+            (setting_of self.entry.world.now.script.now
+            (X.meaning self.entry.world.now.device.now) self.entry.world.now.limit)
+            machine.old machine.new steps.old steps.new result }
+    {
+        let Bench {
+            board,
+            mut lead,
+            world,
+            gate,
+        } = self;
+        let desk = Desk {
+            rt,
+            board,
+            world,
+            gate,
+        };
+        let ran = run(&desk, &mut lead, machine, tape, steps);
+        board.close(&mut lead.master);
+        ran
+    }
+}
+
+/// The workers and the coordinator, each in a thread of its own.
+fn both<'b, 'w, X: Device, G: Gate, T: Tape, L: Ledger, R: Threads + Wait + Sync>(
+    rt: &'b R,
+    hall: Hall<'b, 'w, X, G>,
+    bench: Bench<'b, 'w, X, G>,
+    machine: &mut Machine,
+    tape: &mut T,
+    steps: &mut Steps<L>,
+) -> Result<Ran, SinkFault>
+    requires number { machine.old.cycle ≤ bench.world.now.limit }
+    requires rested { IsRested machine.old.sio }
+    requires hall { All (λ seat. (seat.board ≡ hall.board.now)
+        × (seat.made_for.now ≡ hall.world.now) × IsFree seat.state) hall.seats.items }
+    requires ready { IsReady bench.board.now (λ w. w.now ≡ bench.world.now) bench.lead.opened
+        bench.lead.kept bench.lead.master bench.lead.seat bench.lead.sets.value.spare }
+    ensures told { Tells T.took T.missed tape.old tape.new (T.faults tape.old) (T.faults tape.new)
+        (run_shown
+        (setting_of bench.entry.world.now.script.now
+        (X.meaning bench.entry.world.now.device.now) bench.entry.world.now.limit)
+        machine.old) result }
+    ensures left { Leaves
+        (setting_of bench.entry.world.now.script.now
+        (X.meaning bench.entry.world.now.device.now) bench.entry.world.now.limit)
+        machine.old machine.new steps.old steps.new result }
+{
+    let mut hall = Some(hall);
+    let mut bench = Some(bench);
+    let ((), ran) = thread::join_mut(
+        rt,
+        &mut || -> ()
+            requires { IfSome hall (λ hall. All (λ seat. (seat.board ≡ hall.board.now)
+                × (seat.made_for.now ≡ hall.world.now) × IsFree seat.state) hall.seats.items) }
+        {
+            if let Some(hall) = hall.take() {
+                hall.work(rt);
+            }
+        },
+        &mut || -> Result<Ran, SinkFault>
+            requires is { IsSome bench }
+            requires number { IfSome bench (λ b. machine.now.cycle ≤ b.world.now.limit) }
+            requires rested { IsRested machine.now.sio }
+            requires ready { IfSome bench (λ b. IsReady b.board.now
+                (λ w. w.now ≡ b.world.now) b.lead.opened
+                b.lead.kept b.lead.master b.lead.seat b.lead.sets.value.spare) }
+            ensures told { IfSome bench.entry (λ b. Tells T.took T.missed tape.entry.now
+                tape.exit.now (T.faults tape.entry.now) (T.faults tape.exit.now)
+                (run_shown
+                (setting_of b.world.now.script.now
+                (X.meaning b.world.now.device.now) b.world.now.limit)
+                machine.entry.now) result) }
+            ensures left { IfSome bench.entry (λ b. Leaves
+                (setting_of b.world.now.script.now
+                (X.meaning b.world.now.device.now) b.world.now.limit)
+                machine.entry.now machine.exit.now steps.entry.now steps.exit.now result) }
+        {
+            match bench.take() {
+                Some(bench) => bench.work(rt, machine, tape, steps),
+                None => unreachable!(),
+            }
+        },
+    );
+    ran
+}
+
+/// Runs the machine with so many workers. None stands for want of memory, before anything has changed.
+fn run_at<'w, X: Device, G: Gate, T: Tape, L: Ledger, R: Threads + Wait + Sync>(
+    rt: &R,
+    alloc: Global,
+    machine: &mut Machine,
+    world: &'w World<'w, X>,
+    workers: usize,
+    gate: &G,
+    tape: &mut T,
+    steps: &mut Steps<L>,
+) -> Option<Result<Ran, SinkFault>>
+    requires number { machine.old.cycle ≤ world.now.limit }
+    requires rested { IsRested machine.old.sio }
+    requires workers { workers ≤ 8 }
+    ensures told { IfSome result (Tells T.took T.missed tape.old tape.new (T.faults tape.old)
+        (T.faults tape.new) (run_shown
+        (setting_of world.now.script.now (X.meaning world.now.device.now) world.now.limit)
+        machine.old)) }
+    ensures left { IfSome result (Leaves
+        (setting_of world.now.script.now (X.meaning world.now.device.now) world.now.limit)
+        machine.old machine.new steps.old steps.new) }
+    ensures memory { is_none result ≡ true → (machine.new ≡ machine.old) × (tape.new ≡ tape.old)
+        × (steps.new ≡ steps.old) }
+{
+    let Ok(crew) = Crew::new(alloc) else {
+        return None;
+    };
+    let Ok(sets) = sets_of(alloc, crew) else {
+        return None;
+    };
+    let Ok((board, master, mut seats)) = Board::<Piece, Found, &'w World<'w, X>>::new(
+        alloc,
+        world,
+        workers + 1,
+    ) else {
+        return None;
+    };
+    let board = &board;
+    let Some(seat) = seats.pop() else {
+        unreachable!()
+    };
+    let hall = Hall {
+        board,
+        seats,
+        world,
+        gate,
+    };
+    let lead = Lead {
+        master,
+        opened: 0,
+        seat,
+        kept: None,
+        sets,
+    };
+    let bench = Bench {
+        board,
+        lead,
+        world,
+        gate,
+    };
+    Some(both(rt, hall, bench, machine, tape, steps))
+}
+
+/// Runs a machine by windows and single cycles up to its first stop, and tells the events of all its cycles to a tape. The lanes
+/// of each window are run by so many threads, 0 to 8, beside this one. Each cycle counts as a step. Whatever the number of
+/// workers, the gate and the order in which the threads go on, the answer is the same.
+///
+/// # Errors
+///
+/// `Sink`: the tape failed at an event, and its count of faults rose. It has the events before that one, and the machine stands
+/// behind a cycle of the run. `Memory`: there was none, before the first event; nothing has changed.
+pub fn run_windows<X: Device, G: Gate, T: Tape, L: Ledger, R: Threads + Wait + Sync>(
+    rt: &R,
+    alloc: Global,
+    machine: &mut Machine,
+    world: &World<'_, X>,
+    workers: usize,
+    gate: &G,
+    tape: &mut T,
+    steps: &mut Steps<L>,
+) -> Result<Ran, RunFault>
+    requires number { machine.old.cycle ≤ world.now.limit }
+    requires rested { IsRested machine.old.sio }
+    requires workers { workers ≤ 8 }
+    ensures told { IfSome (answered result) (Tells T.took T.missed tape.old tape.new
+        (T.faults tape.old) (T.faults tape.new) (run_shown
+        (setting_of world.now.script.now (X.meaning world.now.device.now) world.now.limit)
+        machine.old)) }
+    ensures ran { IfOk result (IsRan
+        (setting_of world.now.script.now (X.meaning world.now.device.now) world.now.limit)
+        machine.old) }
+    ensures state { IfOk result (λ ran. machine.new ≡ last_state
+        (setting_of world.now.script.now (X.meaning world.now.device.now) world.now.limit)
+        machine.old) }
+    ensures on_run { IsOnRun
+        (setting_of world.now.script.now (X.meaning world.now.device.now) world.now.limit)
+        machine.old machine.new }
+    ensures steps { steps.new + machine.old.cycle ≡ steps.old + machine.new.cycle }
+    ensures rested { IsRested machine.new.sio }
+    ensures memory { OnMemory result ((machine.new ≡ machine.old) × (tape.new ≡ tape.old)) }
+{
+    match run_at(rt, alloc, machine, world, workers, gate, tape, steps) {
+        Some(Ok(ran)) => Ok(ran),
+        Some(Err(_)) => Err(RunFault::Sink),
+        None => Err(RunFault::Memory),
+    }
+}
