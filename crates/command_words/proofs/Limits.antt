@@ -11,8 +11,8 @@ use Rattle.line_words.specs.Line.{line_in}
 use Rattle.command_words.specs.Numbers.{within, number_within, number_of}
 use Rattle.command_words.specs.Options.{Setting, settings_of, is_normal, value_for, number_or_zero}
 use Rattle.command_words.specs.Entries.{Entry}
-use Rattle.command_words.specs.Words.{Run, Command, IsLimited, IsRead, cycles_in, workers_in, run_with, run_reading, disassemble, dis_reading, generate, gen_reading, written, reading}
-use Rattle.command_words.specs.Words.Command.{RunImage, DebugImage}
+use Rattle.command_words.specs.Words.{Run, Command, IsLimited, IsRead, workers_of, cycles_in, workers_in, run_with, run_reading, disassemble, dis_reading, generate, gen_reading, written, reading}
+use Rattle.command_words.specs.Words.Command.{RunImage, DebugImage, Disassemble, Assemble, Generate}
 
 abbrev IsRunLimited : Option Run → Type 0
 IsRunLimited None = Unit {0}
@@ -109,3 +109,11 @@ command_limited probes words command e = subst (λ (c : Option Command). AreLimi
 
 pub read_command_limited : (probes : ℕ) (command : Command) → IsRead probes command → IsLimited command
 read_command_limited probes command h = command_limited probes h.0 command h.1
+
+-- and at most 8 workers
+pub workers_within : (command : Command) → IsLimited command → workers_of command ≤ 8
+workers_within (RunImage run) h = h.1
+workers_within (DebugImage run) h = omega arith
+workers_within (Disassemble words side) h = omega arith
+workers_within (Assemble source) h = omega arith
+workers_within (Generate number cycles workers stats) h = h.1
