@@ -1,7 +1,7 @@
 -- The words of a command line, and what they ask for: `run <image> --cycles N [--script FILE] [--pio LIST] [--probe LIST]
 -- [--workers K] [--stats]`, `debug` with the same words but `--probe`, `--workers` and `--stats`, `dis <hex> [--side S] [--opt T]`,
--- `asm <file>` or `gen <number> --cycles N [--workers K] [--stats]`. Where probes are spoken of as a number, it is how many are handed
--- in. The project's own.
+-- `asm <file>` or `gen <number> --cycles N [--workers K] [--stats]`. Where probes are spoken of as a number, it is how many are
+-- handed in. The project's own.
 use Rattle.std.specs.Prelude.{◌≡◌, ℕ, Bool, ◌≤◌, ◌-◌, ◌^◌, if◌then◌else◌, List, [], ◌∷◌, Option, Some, None, codes}
 use Rattle.std.specs.Option.{option_and_then, option_map}
 use Rattle.std.specs.Str.{bytes_eq}
@@ -14,8 +14,8 @@ use Rattle.command_words.specs.Entries.{Entry, entries_of}
 use Rattle.command_words.specs.Targets.{targets_of}
 use Rattle.command_words.specs.Dis.{words_of, side_of}
 
--- a run: the image's name, how many cycles it may have, the script's name, the programs for machines, the probes that are aimed, how
--- many workers run its lanes, and whether it ends with the line of its windows
+-- a run: the image's name, how many cycles it may have, the script's name, the programs for machines, the probes that are aimed,
+-- how many workers run its lanes, and whether it ends with the line of its windows
 pub record Run : Type 0 where
   pub image : List ℕ
   pub cycles : ℕ
@@ -76,7 +76,8 @@ run_with image (Some n) (Some k) script (Some entries) (Some targets) stats =
 -- `<image> --cycles N [--script FILE] [--pio LIST] [--probe LIST] [--workers K] [--stats]`
 unfoldable pub run_reading : ℕ → List ℕ → List Setting → Option Run
 run_reading probes image settings =
-    run_with image (cycles_in settings) (workers_in settings) (script_in settings) (pio_in settings) (probes_in probes settings) (stats_in settings)
+    run_with image (cycles_in settings) (workers_in settings) (script_in settings) (pio_in settings) (probes_in probes settings)
+    (stats_in settings)
 
 abbrev pub disassemble : Option (List ℕ) → Option SideConfig → Option Command
 disassemble (Some words) (Some side) = Some (Disassemble words side)

@@ -288,8 +288,8 @@ fn read_written(alloc: Global, probes: usize, words: &[String]) -> Result<Readin
 
 /// Reads `run <image> --cycles N [--script FILE] [--pio LIST] [--probe LIST] [--workers K] [--stats]`, `debug` with the same words
 /// but `--probe`, `--workers` and `--stats`, `dis <hex> [--side S] [--opt T]`, `asm <file>` or `gen <number> --cycles N
-/// [--workers K] [--stats]`, where so many `probes` are handed in. Words in this form, the options in any order and each at most once,
-/// are read as they are written, all others as `clap` reads them.
+/// [--workers K] [--stats]`, where so many `probes` are handed in. Words in this form, the options in any order and each at most
+/// once, are read as they are written, all others as `clap` reads them.
 ///
 /// # Errors
 ///

@@ -1,5 +1,5 @@
-//! The program: hands the command line, the real files, standard input, standard output, an open gate and two probes to the top call,
-//! and ends with its status.
+//! The program: hands the command line, the real files, standard input, standard output, an open gate and two probes to the top
+//! call, and ends with its status.
 #![tactic(auto)]
 
 mod file_shelf;
@@ -43,8 +43,8 @@ fn words<R: Env + AllocGlobal>(rt: &R) -> Result<Vec<String>, AllocError> {
 }
 
 /// Does what the words say over the real files, standard input and standard output, with a counter of edges and a decoder of lights
-/// as probes 0 and 1, with no device and with a gate that does nothing, and answers the status. The cycles are counted by a ledger that
-/// nobody reads.
+/// as probes 0 and 1, with no device and with a gate that does nothing, and answers the status. The cycles are counted by a ledger
+/// that nobody reads.
 ///
 /// # Errors
 ///

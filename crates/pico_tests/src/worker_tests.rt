@@ -146,8 +146,8 @@ fn a_piece_is_begun_while_another_is_held(rt: HostRuntime) -> Result<(), Fail> {
     Ok(())
 }
 
-/// A device without words that drives nothing, and a gate. It counts the cycles that lane 5 does under a ticket of its own, and holds
-/// ticket 4 until there was one.
+/// A device without words that drives nothing, and a gate. It counts the cycles that lane 5 does under a ticket of its own, and
+/// holds ticket 4 until there was one.
 #[derive(Drop)]
 struct Watch {
     inside: AtomicU64,
@@ -227,8 +227,8 @@ impl Tape for Deaf {
     ghost takes_in_turn = { λ _ _ _ _ _ _ _. tt };
 }
 
-/// What a run of at most 1000 cycles of an image comes to with two workers, where the watch is its device and its gate; none where the
-/// tape fails.
+/// What a run of at most 1000 cycles of an image comes to with two workers, where the watch is its device and its gate; none where
+/// the tape fails.
 fn watched<L: Ledger, R: Threads + Wait + Sync>(
     blank: Blank,
     rt: &R,

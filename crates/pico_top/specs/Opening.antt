@@ -54,7 +54,8 @@ opened_dialogue device aims (Session debugging) =
     Hear input_limit quits (session_told (setting_by device debugging) (first_of debugging.session))
 opened_dialogue device aims (Text text) = Say text.items (Exactly 0)
 
--- a machine has not passed its limit, and its mailboxes are as a cycle's end leaves them; and a session was opened at its first state
+-- a machine has not passed its limit, and its mailboxes are as a cycle's end leaves them; and a session was opened at its first
+-- state
 abbrev pub IsReady : Opened → Type 0
 IsReady (Machine started) = (started.machine.cycle ≤ started.limit) × IsRested started.machine.sio
 IsReady (Session debugging) = OpensAt (first_of debugging.session) debugging.limit debugging.session
@@ -199,8 +200,8 @@ IsTold (Heard bytes way text cost) = Unit {0}
 IsTold (Refused refusal) = ⊥
 IsTold NoMemory = Unit {0}
 
--- what is left of a dialogue was told, or memory ran out before: a walk of it ended so, whatever the files, and what was taken, written
--- and counted goes with that ending
+-- what is left of a dialogue was told, or memory ran out before: a walk of it ended so, whatever the files, and what was taken,
+-- written and counted goes with that ending
 pub record Tells (d : Dialogue) (left left' : Option (List ℕ)) (lost lost' : ℕ) (old new : Option (List ℕ)) (before now : ℕ) (steps steps' : ℕ) (status : ℕ) : Type 0 where
   pub ending : Ending
   pub walked : (files : Option Files) → Walks files d ending

@@ -12,11 +12,11 @@ use Rattle.window_runner.specs.Windows.{answered, OnMemory}
 use Rattle.board_parts.specs.Hearing.{Aim}
 use Rattle.pico_top.specs.RunText.{event_lines, after_events}
 
--- The machine ran from s to t. The lines of all events were sent and the probes heard them, it stopped as the run does, and its windows
--- were counted; or the sink failed at one of the lines, somewhere on the run; or memory ran out before the first cycle. As many
--- steps were counted as it moved.
-pub record RunsTo (w : Setting) (s t : State) (before after : List Aim) (old new : Option (List ℕ)) (lost lost' steps steps' : ℕ) (result : Result Ran RunFault)
-    : Type 0 where
+-- The machine ran from s to t. The lines of all events were sent and the probes heard them, it stopped as the run does, and its
+-- windows were counted; or the sink failed at one of the lines, somewhere on the run; or memory ran out before the first cycle. As
+-- many steps were counted as it moved.
+pub record RunsTo (w : Setting) (s t : State) (before after : List Aim) (old new : Option (List ℕ)) (lost lost' steps steps' : ℕ)
+    (result : Result Ran RunFault) : Type 0 where
   pub sends : IfSome (answered result) (Sends old new lost lost' (event_lines (run_shown w s)))
   pub heard : IfOk result (λ ran. after ≡ after_events (run_shown w s) before)
   pub ran : IfOk result (IsRan w s)

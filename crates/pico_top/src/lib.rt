@@ -159,8 +159,8 @@ where
     }
 }
 
-/// Does what a reading says: loads its files from the shelf, takes the lines that it answers from the source, and writes the text to the
-/// sink. It waits for nobody, and returns. The reading names no workers, and was made for as many `probes` as are handed in.
+/// Does what a reading says: loads its files from the shelf, takes the lines that it answers from the source, and writes the text
+/// to the sink. It waits for nobody, and returns. The reading names no workers, and was made for as many `probes` as are handed in.
 ///
 /// The answer is the status, as that of `pico`; it is not 2.
 pub fn pico_alone<F: Shelf, I: Source, O: Sink, X: Device, L: Ledger>(
@@ -385,9 +385,9 @@ where
 /// others are dropped before it. The `device` stands at the pads of a run and at the addresses that no block covers. Each cycle of
 /// a run, and each that the debugger steps, counts as one of the `steps`.
 ///
-/// Where the words name workers, so many threads run the lanes of a run beside this one, and the `gate` is entered and left round each
-/// piece of a lane; the call then waits for them and for the gate, and what is said here holds if it returns. The text is the same
-/// for each number of workers. Without workers nobody is waited for.
+/// Where the words name workers, so many threads run the lanes of a run beside this one, and the `gate` is entered and left round
+/// each piece of a lane; the call then waits for them and for the gate, and what is said here holds if it returns. The text is the
+/// same for each number of workers. Without workers nobody is waited for.
 pub fn pico<F, I, O, G, X, L, R>(
     rt: &R,
     alloc: Global,

@@ -142,8 +142,8 @@ fn run_told_by<X: Device, O: Sink, G: Gate, L: Ledger, R: Threads + Wait + Sync>
     )
 }
 
-/// Runs a machine up to its first stop on the calling thread alone, lets the probes hear the events, and puts their lines. Each cycle
-/// counts as a step.
+/// Runs a machine up to its first stop on the calling thread alone, lets the probes hear the events, and puts their lines. Each
+/// cycle counts as a step.
 pub fn run_to_stop<X: Device, O: Sink, L: Ledger>(
     alloc: Global,
     machine: &mut Machine,

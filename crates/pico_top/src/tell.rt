@@ -58,8 +58,8 @@ fn end_into<O: Sink>(stats: bool, ran: &Ran, machine: &Machine, probes: &[Aimed]
     }
 }
 
-/// Ends the text of a run that came to this, and answers 0, or 7 where the sink failed or fails; or puts the line that says that memory
-/// ran out before.
+/// Ends the text of a run that came to this, and answers 0, or 7 where the sink failed or fails; or puts the line that says that
+/// memory ran out before.
 fn finish<O: Sink>(
     stats: bool,
     came: Result<Ran, RunFault>,
@@ -84,8 +84,8 @@ fn finish<O: Sink>(
     }
 }
 
-/// Runs a machine that probes hear into a sink, on the calling thread alone, and answers 0, or 7 where the sink fails; or puts the line
-/// that says that memory ran out before.
+/// Runs a machine that probes hear into a sink, on the calling thread alone, and answers 0, or 7 where the sink fails; or puts the
+/// line that says that memory ran out before.
 fn run_into<X: Device, O: Sink, L: Ledger>(
     alloc: Global,
     started: Started,

@@ -1,5 +1,6 @@
 use Rattle.std.proofs.Common.{map, refl, ap, ◌∙◌}
 use Rattle.board_parts.specs.Aiming.{aims_of}
+use Rattle.command_words.proofs.Limits.{read_command_limited}
 use Rattle.pico_top.proofs.Telling.{out_converses}
 use Rattle.pico_top.proofs.pico_alone.Goals as goal
 
@@ -10,3 +11,6 @@ returns-in-Ok g c =
 
 pub returns-in-Err : goal.returns-in-Err
 returns-in-Err g c = out_converses _ _ _ _ _ _ refl refl refl refl c.refuse.ensures refl
+
+pub serve_aimed-requires-after_bounds : goal.serve_aimed-requires-after_bounds
+serve_aimed-requires-after_bounds g c κs within = read_command_limited _ _ c.requires.read

@@ -1,2 +1,8 @@
-use Rattle.command_words.proofs.Limits.{read_command_limited}
+use Rattle.command_words.proofs.Limits.{read_command_limited, workers_within}
 use Rattle.pico_top.proofs.serve.Goals as goal
+
+pub serve_by-requires-clause-workers : goal.serve_by-requires-clause-workers
+serve_by-requires-clause-workers g c = rw c.count_of.ensures (workers_within _ (read_command_limited _ _ c.requires))
+
+pub serve_by-requires-clause-limited : goal.serve_by-requires-clause-limited
+serve_by-requires-clause-limited g c = read_command_limited _ _ c.requires
