@@ -85,10 +85,11 @@ same_answered took missed x y f g events P Q (Ok v) h k l t m = h t.ok
 same_answered took missed x y f g events P Q (Err Sink) h k l t m = k t.err
 same_answered took missed x y f g events P Q (Err Memory) h k l t m = l m
 
-pub on_memory : (P Q : Type 0) (r : Result Ran RunFault) → (P → Q) → OnMemory r P → OnMemory r Q
-on_memory P Q (Ok v) h m = tt
-on_memory P Q (Err Sink) h m = tt
-on_memory P Q (Err Memory) h m = h m
+pub memory_answered : {S T : Type 0} (s t : S) (x y : T) (r : Result Ran RunFault) → OnMemory r ((t ≡ s) × (y ≡ x)) → (written : T → Option (List ℕ)) (faults : T → ℕ)
+    → OnMemory r ((t ≡ s) × (written y ≡ written x) × (faults y ≡ faults x))
+memory_answered s t x y (Ok v) m written faults = tt
+memory_answered s t x y (Err Sink) m written faults = tt
+memory_answered s t x y (Err Memory) m written faults = (m.0, ap written m.1, ap faults m.1)
 
 -- where the machine has not moved no step was counted
 pub none_counted : (s t : State) (before now : ℕ) → t ≡ s → now + s.cycle ≡ before + t.cycle → now ≡ before

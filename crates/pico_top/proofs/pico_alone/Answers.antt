@@ -7,10 +7,10 @@ use Rattle.pico_top.proofs.pico_alone.Goals as goal
 pub returns-in-Ok : goal.returns-in-Ok
 returns-in-Ok g c =
     let probes = map (λ p. (goal.Probe-dyn g (p.vtable, p.value)).meaning p.value) c.args.probes.items in
-    c.serve_aimed.ensures probes (rw c.deref_mut.ensures.value (c.in-Ok.ensures ∙ ap (aims_of probes) c.targets.ensures))
+    record { text = c.serve_aimed.ensures probes (rw c.deref_mut.ensures.value (c.in-Ok.ensures ∙ ap (aims_of probes) c.targets.ensures)) }
 
-pub returns-in-Err : goal.returns-in-Err
-returns-in-Err g c = out_converses _ _ _ _ _ _ refl refl refl refl c.refuse.ensures refl
+pub returns : goal.returns
+returns g c = record { text = out_converses _ _ _ _ _ _ refl refl refl refl c.refuse.ensures refl }
 
 pub serve_aimed-requires-after_bounds : goal.serve_aimed-requires-after_bounds
 serve_aimed-requires-after_bounds g c κs within = read_command_limited _ _ c.requires.read

@@ -5,7 +5,7 @@ use Rattle.pico_top.proofs.Telling.{opened_converses, stopped_converses}
 use Rattle.pico_top.proofs.serve_aimed_by.Goals as goal
 
 pub tell_into_by-requires-clause-is_ready : goal.tell_into_by-requires-clause-is_ready
-tell_into_by-requires-clause-is_ready g c = (c.in-Ok.ensures.answer []).1
+tell_into_by-requires-clause-is_ready g c κs within = (c.in-Ok.ensures.answer []).1
 
 pub returns-in-Ok : goal.returns-in-Ok
 returns-in-Ok g c probes aims = opened_converses _ _ _ _ _ _ _ _ aims c.in-Ok.ensures.answer c.in-Ok.ensures.kept c.tell_into_by.ensures

@@ -1,5 +1,5 @@
 use Rattle.std.proofs.Common.{◌∙◌, ap}
-use Rattle.pico_top.proofs.Cycles.{part_told, sends_answered, heard_answered, same_answered, on_memory}
+use Rattle.pico_top.proofs.Cycles.{part_told, sends_answered, heard_answered, same_answered, memory_answered}
 use Rattle.pico_top.proofs.runner.run_told_by.Goals as goal
 
 pub returns-clause-told : goal.returns-clause-told
@@ -12,7 +12,7 @@ returns-clause-told g c =
       state = h.state;
       on_run = h.on_run;
       counted = h.steps;
-      memory = on_memory _ _ _ (λ m. (m.0, ap (λ t. g.O.Sink.written t.writer.out.now) m.1, ap (λ t. g.O.Sink.faults t.writer.out.now) m.1)) h.memory;
+      memory = memory_answered _ _ _ _ _ h.memory (λ t. g.O.Sink.written t.writer.out.now) (λ t. g.O.Sink.faults t.writer.out.now);
     }
 
 pub returns-clause-same_sink : goal.returns-clause-same_sink
