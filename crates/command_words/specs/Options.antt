@@ -15,13 +15,17 @@ is_command command =
 abbrev pub is_run_option : List ℕ → Bool
 is_run_option name = bytes_eq name (codes "--cycles") || bytes_eq name (codes "--script") || bytes_eq name (codes "--pio")
 
+-- the names of the options with a value that a run on its own has beside these
+abbrev pub is_own_option : List ℕ → Bool
+is_own_option name = bytes_eq name (codes "--probe") || bytes_eq name (codes "--workers")
+
 -- the names of the options that a command has with a value
 abbrev pub is_option : List ℕ → List ℕ → Bool
 is_option command name =
-    if bytes_eq command (codes "run") then is_run_option name || bytes_eq name (codes "--probe")
+    if bytes_eq command (codes "run") then is_run_option name || is_own_option name
     else if bytes_eq command (codes "debug") then is_run_option name
     else if bytes_eq command (codes "dis") then bytes_eq name (codes "--side") || bytes_eq name (codes "--opt")
-    else if bytes_eq command (codes "gen") then bytes_eq name (codes "--cycles") else false
+    else if bytes_eq command (codes "gen") then bytes_eq name (codes "--cycles") || bytes_eq name (codes "--workers") else false
 
 -- the names that stand alone: no value follows them
 abbrev pub is_alone : List ℕ → Bool

@@ -27,6 +27,7 @@ run_in r = record {
   script = option_map string_bytes r.script;
   pio = map entry_in r.pio.items;
   probes = r.probes.items;
+  workers = r.workers;
   stats = r.stats;
 }
 
@@ -36,7 +37,7 @@ command_in (readings.Run r) = RunImage (run_in r)
 command_in (readings.Debug r) = DebugImage (run_in r)
 command_in (readings.Dis d) = Disassemble d.words.items d.side
 command_in (readings.Asm name) = Assemble (string_bytes name)
-command_in (readings.Gen g) = Generate g.number g.cycles g.stats
+command_in (readings.Gen g) = Generate g.number g.cycles g.workers g.stats
 
 -- the answer is what was asked for, or Words where that is none; Memory says nothing
 abbrev pub ReadsAs : Option Command → Result Reading WordsFault → Type 0

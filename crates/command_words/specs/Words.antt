@@ -1,40 +1,46 @@
 -- The words of a command line, and what they ask for: `run <image> --cycles N [--script FILE] [--pio LIST] [--probe LIST]
--- [--stats]`, `debug` with the same words but `--probe` and `--stats`, `dis <hex> [--side S] [--opt T]`, `asm <file>` or
--- `gen <number> --cycles N [--stats]`. Where probes are spoken of as a number, it is how many are handed in. The project's own.
-use Rattle.std.specs.Prelude.{ℕ, Bool, ◌≤◌, ◌-◌, ◌^◌, if◌then◌else◌, List, [], ◌∷◌, Option, Some, None, codes}
+-- [--workers K] [--stats]`, `debug` with the same words but `--probe`, `--workers` and `--stats`, `dis <hex> [--side S] [--opt T]`,
+-- `asm <file>` or `gen <number> --cycles N [--workers K] [--stats]`. Where probes are spoken of as a number, it is how many are
+-- handed in. The project's own.
+use Rattle.std.specs.Prelude.{◌≡◌, ℕ, Bool, ◌≤◌, ◌-◌, ◌^◌, if◌then◌else◌, List, [], ◌∷◌, Option, Some, None, codes}
 use Rattle.std.specs.Option.{option_and_then, option_map}
 use Rattle.std.specs.Str.{bytes_eq}
 use Rattle.pio_words.specs.declared.side.SideConfig.{SideConfig}
 use Rattle.board_parts.specs.declared.target.Target.{Target}
 use Rattle.line_words.specs.Line.{line_in}
 use Rattle.command_words.specs.Numbers.{number_within}
-use Rattle.command_words.specs.Options.{Setting, settings_of, is_given, value_for, is_normal}
+use Rattle.command_words.specs.Options.{Setting, settings_of, is_given, value_for, is_normal, number_for}
 use Rattle.command_words.specs.Entries.{Entry, entries_of}
 use Rattle.command_words.specs.Targets.{targets_of}
 use Rattle.command_words.specs.Dis.{words_of, side_of}
 
--- a run: the image's name, how many cycles it may have, the script's name, the programs for machines, the probes that are aimed, and
--- whether it ends with the line of its windows
+-- a run: the image's name, how many cycles it may have, the script's name, the programs for machines, the probes that are aimed,
+-- how many workers run its lanes, and whether it ends with the line of its windows
 pub record Run : Type 0 where
   pub image : List ℕ
   pub cycles : ℕ
   pub script : Option (List ℕ)
   pub pio : List Entry
   pub probes : List Target
+  pub workers : ℕ
   pub stats : Bool
 
 -- what the words may ask for: a run, the debugger on a run, the source text of instruction words, the listing of a source, or the run
--- of the image that is generated from a number, with or without the line of its windows
+-- of the image that is generated from a number by so many workers, with or without the line of its windows
 pub data Command : Type 0 where
   RunImage : (run : Run) → Command
   DebugImage : (run : Run) → Command
   Disassemble : (words : List ℕ) → (side : SideConfig) → Command
   Assemble : (source : List ℕ) → Command
-  Generate : (number cycles : ℕ) → (stats : Bool) → Command
+  Generate : (number cycles workers : ℕ) → (stats : Bool) → Command
 
 -- the limit of cycles, 1 to 1,000,000,000, which must be given
 abbrev pub cycles_in : List Setting → Option ℕ
 cycles_in settings = option_and_then (number_within 1 1000000000) (value_for (codes "--cycles") settings)
+
+-- the number of workers, 0 to 8, and 0 where it is not given
+abbrev pub workers_in : List Setting → Option ℕ
+workers_in settings = number_for (codes "--workers") 8 settings
 
 -- the line of a run's windows is asked for
 abbrev pub stats_in : List Setting → Bool
@@ -59,17 +65,19 @@ targets_or_none probes (Some list) = targets_of probes list
 abbrev pub probes_in : ℕ → List Setting → Option (List Target)
 probes_in probes settings = targets_or_none probes (value_for (codes "--probe") settings)
 
-abbrev pub run_with : List ℕ → Option ℕ → Option (List ℕ) → Option (List Entry) → Option (List Target) → Bool → Option Run
-run_with image None script pio probes stats = None
-run_with image (Some n) script None probes stats = None
-run_with image (Some n) script (Some entries) None stats = None
-run_with image (Some n) script (Some entries) (Some targets) stats =
-    Some (record { image = image; cycles = n; script = script; pio = entries; probes = targets; stats = stats })
+abbrev pub run_with : List ℕ → Option ℕ → Option ℕ → Option (List ℕ) → Option (List Entry) → Option (List Target) → Bool → Option Run
+run_with image None workers script pio probes stats = None
+run_with image (Some n) None script pio probes stats = None
+run_with image (Some n) (Some k) script None probes stats = None
+run_with image (Some n) (Some k) script (Some entries) None stats = None
+run_with image (Some n) (Some k) script (Some entries) (Some targets) stats =
+    Some (record { image = image; cycles = n; script = script; pio = entries; probes = targets; workers = k; stats = stats })
 
--- `<image> --cycles N [--script FILE] [--pio LIST] [--probe LIST] [--stats]`
+-- `<image> --cycles N [--script FILE] [--pio LIST] [--probe LIST] [--workers K] [--stats]`
 unfoldable pub run_reading : ℕ → List ℕ → List Setting → Option Run
 run_reading probes image settings =
-    run_with image (cycles_in settings) (script_in settings) (pio_in settings) (probes_in probes settings) (stats_in settings)
+    run_with image (cycles_in settings) (workers_in settings) (script_in settings) (pio_in settings) (probes_in probes settings)
+    (stats_in settings)
 
 abbrev pub disassemble : Option (List ℕ) → Option SideConfig → Option Command
 disassemble (Some words) (Some side) = Some (Disassemble words side)
@@ -80,15 +88,16 @@ disassemble None side = None
 unfoldable pub dis_reading : List ℕ → List Setting → Option Command
 dis_reading hex settings = disassemble (words_of hex) (side_of settings)
 
-abbrev pub generate : Option ℕ → Option ℕ → Bool → Option Command
-generate (Some number) (Some cycles) stats = Some (Generate number cycles stats)
-generate (Some number) None stats = None
-generate None cycles stats = None
+abbrev pub generate : Option ℕ → Option ℕ → Option ℕ → Bool → Option Command
+generate (Some number) (Some cycles) (Some workers) stats = Some (Generate number cycles workers stats)
+generate (Some number) (Some cycles) None stats = None
+generate (Some number) None workers stats = None
+generate None cycles workers stats = None
 
--- `gen <number> --cycles N [--stats]`, the number below 2 ^ 64
+-- `gen <number> --cycles N [--workers K] [--stats]`, the number below 2 ^ 64
 unfoldable pub gen_reading : List ℕ → List Setting → Option Command
 gen_reading number settings =
-    generate (number_within 0 (2 ^ 64 - 1) number) (cycles_in settings) (stats_in settings)
+    generate (number_within 0 (2 ^ 64 - 1) number) (cycles_in settings) (workers_in settings) (stats_in settings)
 
 -- what a command, its argument and its options ask for
 unfoldable pub written : ℕ → List (List ℕ) → Option Command
@@ -107,10 +116,22 @@ written probes (command ∷ argument ∷ options) =
 unfoldable pub reading : ℕ → List (List ℕ) → Option Command
 reading probes words = if is_normal words then written probes words else option_and_then (written probes) (line_in words)
 
--- a run that is asked for has at most 1,000,000,000 cycles
+-- a run that is asked for has at most 1,000,000,000 cycles and 8 workers
 abbrev pub IsLimited : Command → Type 0
-IsLimited (RunImage run) = run.cycles ≤ 1000000000
-IsLimited (DebugImage run) = run.cycles ≤ 1000000000
+IsLimited (RunImage run) = (run.cycles ≤ 1000000000) × (run.workers ≤ 8)
+IsLimited (DebugImage run) = (run.cycles ≤ 1000000000) × (run.workers ≤ 8)
 IsLimited (Disassemble words side) = Unit {0}
 IsLimited (Assemble source) = Unit {0}
-IsLimited (Generate number cycles stats) = cycles ≤ 1000000000
+IsLimited (Generate number cycles workers stats) = (cycles ≤ 1000000000) × (workers ≤ 8)
+
+-- how many workers run the lanes of what is asked for; a command without such a number has none
+abbrev pub workers_of : Command → ℕ
+workers_of (RunImage run) = run.workers
+workers_of (DebugImage run) = 0
+workers_of (Disassemble words side) = 0
+workers_of (Assemble source) = 0
+workers_of (Generate number cycles workers stats) = workers
+
+-- what was asked for was read from some words, where so many probes were handed in
+abbrev pub IsRead : ℕ → Command → Type 0
+IsRead probes command = (words : List (List ℕ)) × (reading probes words ≡ Some command)

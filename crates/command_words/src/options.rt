@@ -1,11 +1,11 @@
 //! The normal form of a command line: a command, its argument, and its options in any order, each a name with its value or a name
 //! alone.
 
-ghost use Rattle.std.specs.Prelude.{◌≡◌, [], map, MatchOption};
+ghost use Rattle.std.specs.Prelude.{◌≡◌, ◌≤◌, [], map, IfSome, MatchOption};
 ghost use Rattle.std.specs.Option.{option_map};
 ghost use Rattle.std.specs.String.{string_bytes};
 ghost use Rattle.command_words.specs.Numbers.{begins_with};
-ghost use Rattle.command_words.specs.Options.{is_command, is_run_option, is_option, is_alone, is_flag, settings_of, is_given, value_for, is_of, may_lead, are_options, is_normal, number_for};
+ghost use Rattle.command_words.specs.Options.{is_command, is_run_option, is_own_option, is_option, is_alone, is_flag, settings_of, is_given, value_for, is_of, may_lead, are_options, is_normal, number_for};
 ghost use Rattle.command_words.specs.Read.{IsFirst};
 
 use crate::number::number_within;
@@ -24,15 +24,22 @@ fn is_run_option(name: &str) -> bool
     name == "--cycles" || name == "--script" || name == "--pio"
 }
 
+/// Whether a run on its own has an option of this name with a value beside these.
+fn is_own_option(name: &str) -> bool
+    ensures { result ≡ is_own_option name.now }
+{
+    name == "--probe" || name == "--workers"
+}
+
 /// Whether a command has an option of this name with a value.
 fn is_option(command: &str, name: &str) -> bool
     ensures { result ≡ is_option command.now name.now }
 {
     match command {
-        "run" => is_run_option(name) || name == "--probe",
+        "run" => is_run_option(name) || is_own_option(name),
         "debug" => is_run_option(name),
         "dis" => name == "--side" || name == "--opt",
-        "gen" => name == "--cycles",
+        "gen" => name == "--cycles" || name == "--workers",
         _ => false,
     }
 }
@@ -152,7 +159,8 @@ pub fn is_normal(words: &[String]) -> bool
 
 /// The number of an option, from 0 to `high`; 0 where it is not given.
 pub fn number_for(name: &str, high: u64, options: &[String]) -> Option<u64>
-    ensures { result ≡ number_for name.now high (settings_of (map string_bytes options.now)) }
+    ensures value { result ≡ number_for name.now high (settings_of (map string_bytes options.now)) }
+    ensures within { IfSome result (λ number. number ≤ high) }
 {
     match value_for(name, options) {
         None => Some(0),

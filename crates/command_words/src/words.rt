@@ -4,7 +4,7 @@ ghost use Rattle.std.specs.Prelude.{◌≡◌, map, Some, IfOk};
 ghost use Rattle.std.specs.Option.{option_map};
 ghost use Rattle.std.specs.String.{string_bytes};
 ghost use Rattle.command_words.specs.Options.{settings_of};
-ghost use Rattle.command_words.specs.Words.{run_with, cycles_in, stats_in, script_in, pio_in, probes_in, run_reading, dis_reading, gen_reading, written, reading};
+ghost use Rattle.command_words.specs.Words.{run_with, cycles_in, workers_in, stats_in, script_in, pio_in, probes_in, run_reading, dis_reading, gen_reading, written, reading};
 ghost use Rattle.command_words.specs.Words.Command.{RunImage, DebugImage, Assemble};
 ghost use Rattle.command_words.specs.Read.{ReadsAs, ReadsRun, ReadsEntries, ReadsTargets, entry_in};
 
@@ -12,7 +12,7 @@ use crate::dis::{DisWords, instruction_words, side_config};
 use crate::entries::entries_in;
 use crate::entry::PioEntry;
 use crate::number::number_within;
-use crate::options::{is_given, is_normal, value_for};
+use crate::options::{is_given, is_normal, number_for, value_for};
 use crate::targets::targets_in;
 use board_parts::target::Target;
 use line_words::line_in;
@@ -31,6 +31,8 @@ pub struct RunWords {
     pub pio: Vec<PioEntry>,
     /// The probes that are aimed, in the order of the list; no probe stands twice.
     pub probes: Vec<Target>,
+    /// How many workers run the lanes of its windows, 0 to 8.
+    pub workers: u8,
     /// Whether the text ends with the line of the run's windows.
     pub stats: bool,
 }
@@ -42,6 +44,8 @@ pub struct GenWords {
     pub number: u64,
     /// The limit of cycles, 1 to 1,000,000,000.
     pub cycles: u64,
+    /// How many workers run the lanes of its windows, 0 to 8.
+    pub workers: u8,
     /// Whether the text ends with the line of the run's windows.
     pub stats: bool,
 }
@@ -78,6 +82,14 @@ fn cycles_in(options: &[String]) -> Option<u64>
         None => None,
         Some(value) => number_within(1, 1_000_000_000, value),
     }
+}
+
+/// The number of workers among the options of a run, 0 where it is not given.
+fn workers_in(options: &[String]) -> Option<u8>
+    ensures { result ≡ workers_in (settings_of (map string_bytes options.now)) }
+{
+    let workers = number_for("--workers", 8, options)?;
+    Some(workers as u8)
 }
 
 /// Whether the line of a run's windows is asked for.
@@ -131,11 +143,12 @@ fn owned(
     alloc: Global,
     image: &str,
     cycles: u64,
+    workers: u8,
     options: &[String],
     pio: Vec<PioEntry>,
     probes: Vec<Target>,
 ) -> Result<RunWords, WordsFault>
-    ensures { ReadsRun (run_with image.now (Some cycles)
+    ensures { ReadsRun (run_with image.now (Some cycles) (Some workers)
         (script_in (settings_of (map string_bytes options.now)))
         (Some (map entry_in pio.items)) (Some probes.items)
         (stats_in (settings_of (map string_bytes options.now)))) result }
@@ -150,13 +163,14 @@ fn owned(
             script,
             pio,
             probes,
+            workers,
             stats: stats_in(options),
         }),
         Err(_) => Err(WordsFault::Memory),
     }
 }
 
-/// Reads `<image> --cycles N [--script FILE] [--pio LIST] [--probe LIST] [--stats]`.
+/// Reads `<image> --cycles N [--script FILE] [--pio LIST] [--probe LIST] [--workers K] [--stats]`.
 #[tactic(auto, unfolding(crate::specs::Words::run_reading))]
 fn run_words(
     alloc: Global,
@@ -167,7 +181,7 @@ fn run_words(
     ensures { ReadsRun (run_reading probes image.now (settings_of (map string_bytes options.now)))
         result }
 {
-    let Some(cycles) = cycles_in(options) else {
+    let (Some(cycles), Some(workers)) = (cycles_in(options), workers_in(options)) else {
         return Err(WordsFault::Words);
     };
     let pio = match pio_in(alloc, options) {
@@ -175,7 +189,7 @@ fn run_words(
         Err(fault) => return Err(fault),
     };
     match probes_in(alloc, probes, options) {
-        Ok(targets) => owned(alloc, image, cycles, options, pio, targets),
+        Ok(targets) => owned(alloc, image, cycles, workers, options, pio, targets),
         Err(fault) => Err(fault),
     }
 }
@@ -212,15 +226,17 @@ fn read_debug(
     }
 }
 
-/// Reads `gen <number> --cycles N [--stats]`.
+/// Reads `gen <number> --cycles N [--workers K] [--stats]`.
 #[tactic(auto, unfolding(crate::specs::Words::gen_reading))]
 fn read_gen(number: &str, options: &[String]) -> Result<Reading, WordsFault>
     ensures { ReadsAs (gen_reading number.now (settings_of (map string_bytes options.now))) result }
 {
-    match (number_within(0, u64::MAX, number), cycles_in(options)) {
-        (Some(number), Some(cycles)) => Ok(Reading::Gen(GenWords {
+    let number = number_within(0, u64::MAX, number);
+    match (number, cycles_in(options), workers_in(options)) {
+        (Some(number), Some(cycles), Some(workers)) => Ok(Reading::Gen(GenWords {
             number,
             cycles,
+            workers,
             stats: stats_in(options),
         })),
         _ => Err(WordsFault::Words),
@@ -270,9 +286,10 @@ fn read_written(alloc: Global, probes: usize, words: &[String]) -> Result<Readin
     }
 }
 
-/// Reads `run <image> --cycles N [--script FILE] [--pio LIST] [--probe LIST] [--stats]`, `debug` with the same words but `--probe`
-/// and `--stats`, `dis <hex> [--side S] [--opt T]`, `asm <file>` or `gen <number> --cycles N [--stats]`, where so many `probes` are
-/// handed in. Words in this form, the options in any order and each at most once, are read as they are written, all others as `clap` reads them.
+/// Reads `run <image> --cycles N [--script FILE] [--pio LIST] [--probe LIST] [--workers K] [--stats]`, `debug` with the same words
+/// but `--probe`, `--workers` and `--stats`, `dis <hex> [--side S] [--opt T]`, `asm <file>` or `gen <number> --cycles N
+/// [--workers K] [--stats]`, where so many `probes` are handed in. Words in this form, the options in any order and each at most
+/// once, are read as they are written, all others as `clap` reads them.
 ///
 /// # Errors
 ///

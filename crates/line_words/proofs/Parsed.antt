@@ -64,6 +64,7 @@ same_line found command =
       first_value-rows found (codes "script"),
       first_value-rows found (codes "pio"),
       first_value-rows found (codes "probe"),
+      first_value-rows found (codes "workers"),
       first_value-rows found (codes "side"),
       first_value-rows found (codes "opt"),
       first_value-rows found (codes "stats"),

@@ -22,10 +22,11 @@ alone dashed (Some text) = if bytes_eq text (codes "true") then dashed ∷ [] el
 -- the options that were given; what a command does not have was not given
 abbrev pub pairs : (Text → Option Text) → List Text
 pairs given =
-    (((((pair (codes "--cycles") (given (codes "cycles"))
+    ((((((pair (codes "--cycles") (given (codes "cycles"))
     ++ pair (codes "--script") (given (codes "script")))
     ++ pair (codes "--pio") (given (codes "pio")))
     ++ pair (codes "--probe") (given (codes "probe")))
+    ++ pair (codes "--workers") (given (codes "workers")))
     ++ pair (codes "--side") (given (codes "side")))
     ++ pair (codes "--opt") (given (codes "opt")))
     ++ alone (codes "--stats") (given (codes "stats"))

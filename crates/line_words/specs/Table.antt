@@ -29,9 +29,13 @@ command name = with_rule (new_app name) argument
 abbrev pub with_run : App → App
 with_run app = with_rule (with_rule (with_rule app (needed (codes "cycles"))) (option (codes "script"))) (option (codes "pio"))
 
--- `run <image> --cycles N [--script FILE] [--pio LIST] [--probe LIST] [--stats]`
+-- the options that tell how a run is done and shown: `[--workers K] [--stats]`
+abbrev pub with_way : App → App
+with_way app = with_rule (with_rule app (option (codes "workers"))) (flag (codes "stats"))
+
+-- `run <image> --cycles N [--script FILE] [--pio LIST] [--probe LIST] [--workers K] [--stats]`
 abbrev pub run : App
-run = with_rule (with_rule (with_run (command (codes "run"))) (option (codes "probe"))) (flag (codes "stats"))
+run = with_way (with_rule (with_run (command (codes "run"))) (option (codes "probe")))
 
 -- `debug <image> --cycles N [--script FILE] [--pio LIST]`
 abbrev pub debug : App
@@ -45,9 +49,9 @@ asm = command (codes "asm")
 abbrev pub dis : App
 dis = with_rule (with_rule (command (codes "dis")) (option (codes "side"))) (option (codes "opt"))
 
--- `gen <number> --cycles N [--stats]`
+-- `gen <number> --cycles N [--workers K] [--stats]`
 abbrev pub generate : App
-generate = with_rule (with_rule (command (codes "gen")) (needed (codes "cycles"))) (flag (codes "stats"))
+generate = with_way (with_rule (command (codes "gen")) (needed (codes "cycles")))
 
 -- the first word is no program's name
 abbrev pub top : App

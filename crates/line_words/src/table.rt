@@ -40,7 +40,7 @@ fn flag<'a>(alloc: Global, name: &'a str) -> Arg<'a>
     Arg::new(alloc, name).long(name).action(ArgAction::SetTrue)
 }
 
-/// `run <image> --cycles N [--script FILE] [--pio LIST] [--probe LIST] [--stats]`.
+/// `run <image> --cycles N [--script FILE] [--pio LIST] [--probe LIST] [--workers K] [--stats]`.
 fn run<'a>(alloc: Global) -> Result<Command<'a>, AllocError>
     ensures { IfOk result (λ command. app_of command ≡ run) }
 {
@@ -50,6 +50,7 @@ fn run<'a>(alloc: Global) -> Result<Command<'a>, AllocError>
         .arg(option(alloc, "script"))?
         .arg(option(alloc, "pio"))?
         .arg(option(alloc, "probe"))?
+        .arg(option(alloc, "workers"))?
         .arg(flag(alloc, "stats"))
 }
 
@@ -81,13 +82,14 @@ fn dis<'a>(alloc: Global) -> Result<Command<'a>, AllocError>
         .arg(option(alloc, "opt"))
 }
 
-/// `gen <number> --cycles N [--stats]`.
+/// `gen <number> --cycles N [--workers K] [--stats]`.
 fn generate<'a>(alloc: Global) -> Result<Command<'a>, AllocError>
     ensures { IfOk result (λ command. app_of command ≡ generate) }
 {
     Command::new(alloc, "gen")
         .arg(argument(alloc))?
         .arg(needed(alloc, "cycles"))?
+        .arg(option(alloc, "workers"))?
         .arg(flag(alloc, "stats"))
 }
 

@@ -65,6 +65,7 @@ pub fn written(
     push_pair(alloc, "--script", found.get_str("script"), &mut line)?;
     push_pair(alloc, "--pio", found.get_str("pio"), &mut line)?;
     push_pair(alloc, "--probe", found.get_str("probe"), &mut line)?;
+    push_pair(alloc, "--workers", found.get_str("workers"), &mut line)?;
     push_pair(alloc, "--side", found.get_str("side"), &mut line)?;
     push_pair(alloc, "--opt", found.get_str("opt"), &mut line)?;
     push_alone(alloc, "--stats", found.get_str("stats"), &mut line)?;

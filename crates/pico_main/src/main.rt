@@ -1,5 +1,5 @@
-//! The program: hands the command line, the real files, standard input, standard output and two probes to the top call, and
-//! ends with its status.
+//! The program: hands the command line, the real files, standard input, standard output, an open gate and two probes to the top
+//! call, and ends with its status.
 #![tactic(auto)]
 
 mod file_shelf;
@@ -17,11 +17,14 @@ use file_shelf::FileShelf;
 use lane_look::NoDevice;
 use pico_top::pico;
 use rp_machine::Steps;
+use rp_ports::gate::OpenGate;
 use std::alloc::{AllocError, Global};
 use std::marker::Brand;
 use std::process::ExitCode;
 use std::rt::{Env, Files};
+use std::sync::Wait;
 use std::sync::ledger::{Blank, Ledger};
+use std::thread::Threads;
 use std::{env, io};
 use stdin_source::StdinSource;
 use stdout_sink::StdoutSink;
@@ -40,12 +43,13 @@ fn words<R: Env + AllocGlobal>(rt: &R) -> Result<Vec<String>, AllocError> {
 }
 
 /// Does what the words say over the real files, standard input and standard output, with a counter of edges and a decoder of lights
-/// as probes 0 and 1 and with no device, and answers the status. The cycles are counted by a ledger that nobody reads.
+/// as probes 0 and 1, with no device and with a gate that does nothing, and answers the status. The cycles are counted by a ledger
+/// that nobody reads.
 ///
 /// # Errors
 ///
 /// There was no memory for the probes; nothing was written then.
-fn serve<L: Ledger, R: Files + Input + Print>(
+fn serve<L: Ledger, R: Files + Input + Print + Threads + Wait + Sync>(
     blank: Blank,
     rt: &R,
     alloc: Global,
@@ -64,13 +68,16 @@ fn serve<L: Ledger, R: Files + Input + Print>(
     let mut input = StdinSource::new(rt);
     let mut out = StdoutSink::new(rt);
     Ok(pico(
-        alloc, words, &mut files, &mut input, &mut out, probes, NoDevice, &mut steps,
+        rt, alloc, words, &mut files, &mut input, &mut out, &OpenGate, probes, NoDevice, &mut steps,
     ))
 }
 
 /// Does what the arguments say, and ends with the status of it; with 9 and no word where the arguments or the probes find no
 /// memory.
-fn program<R: Env + Files + Input + Print + AllocGlobal>(rt: &R) -> ExitCode {
+fn program<R>(rt: &R) -> ExitCode
+where
+    R: Env + Files + Input + Print + AllocGlobal + Threads + Wait + Sync,
+{
     let alloc = rt.alloc();
     let Ok(words) = words(rt) else {
         return ExitCode::from(9);

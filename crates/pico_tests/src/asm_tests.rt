@@ -4,10 +4,13 @@ use crate::counted::run_words;
 use rp_ports::mem_shelf::{HeldFile, MemShelf};
 use rp_ports::mem_sink::MemSink;
 use std::alloc::{AllocError, Global};
+use std::sync::Wait;
 use std::test::Fail;
+use std::thread::Threads;
 
 /// What `asm` with these words answers and writes, where the shelf holds `a.pio` with this source and these puts fail.
-fn answer(
+fn answer<R: Threads + Wait + Sync>(
+    rt: &R,
     alloc: Global,
     words: &[&str],
     source: &[u8],
@@ -22,13 +25,19 @@ fn answer(
     let held = vec![in alloc; HeldFile { name, bytes }]?;
     let mut files = MemShelf::new(alloc, held, Vec::new(alloc));
     let mut out = MemSink::new(alloc, failing);
-    let status = run_words(alloc, &owned, &mut files, &mut out);
+    let status = run_words(rt, alloc, &owned, &mut files, &mut out);
     Ok((status, out.bytes))
 }
 
 /// Whether the source gives this status and this text.
-fn gives(alloc: Global, source: &[u8], status: u8, text: &[u8]) -> Result<bool, AllocError> {
-    let (found, bytes) = answer(alloc, &["a.pio"], source, Vec::new(alloc))?;
+fn gives<R: Threads + Wait + Sync>(
+    rt: &R,
+    alloc: Global,
+    source: &[u8],
+    status: u8,
+    text: &[u8],
+) -> Result<bool, AllocError> {
+    let (found, bytes) = answer(rt, alloc, &["a.pio"], source, Vec::new(alloc))?;
     Ok(found == status && bytes.as_slice() == text)
 }
 
@@ -49,18 +58,18 @@ fn programs_are_listed(rt: HostRuntime) -> Result<(), Fail> {
     let alloc = rt.alloc();
     let text =
         b"program ws2812 4 origin - wrap 0 3 side 1 opt 0 pindirs 0\n6221\n1123\n1400\na442\n";
-    assert!(rt; gives(alloc, WS2812, 0, text)?);
+    assert!(rt; gives(&rt, alloc, WS2812, 0, text)?);
     // The text that `dis` writes for these words.
     let source =
         b".program code\n.side_set 1\nout x, 1 side 0 [2]\njmp !x 3 side 1 [1]\njmp 0 side 1 [4]\nnop side 0 [4]\n";
     let text = b"program code 4 origin - wrap 0 3 side 1 opt 0 pindirs 0\n6221\n1123\n1400\na442\n";
-    assert!(rt; gives(alloc, source, 0, text)?);
+    assert!(rt; gives(&rt, alloc, source, 0, text)?);
     // Two programs, CRLF, and no LF at the end.
     let source =
         b".program a\r\n.origin 4\r\n.side_set 1 opt pindirs\r\nnop\r\n.wrap_target\r\nnop side 1\r\n.wrap\r\n.word 0xbeef\r\n.program b\r\nnop";
     let text =
         b"program a 3 origin 4 wrap 1 1 side 1 opt 1 pindirs 1\na042\nb842\nbeef\nprogram b 1 origin - wrap 0 0 side 0 opt 0 pindirs 0\na042\n";
-    assert!(rt; gives(alloc, source, 0, text)?);
+    assert!(rt; gives(&rt, alloc, source, 0, text)?);
     // The most instructions that a program has.
     let source = repeated(alloc, b".program p\n", b"nop\n", 32)?;
     let text = repeated(
@@ -69,11 +78,11 @@ fn programs_are_listed(rt: HostRuntime) -> Result<(), Fail> {
         b"a042\n",
         32,
     )?;
-    assert!(rt; gives(alloc, &source, 0, &text)?);
+    assert!(rt; gives(&rt, alloc, &source, 0, &text)?);
     // The longest source.
     let source = repeated(alloc, b".program p\nnop\n", b"\n", 1_048_561)?;
     let text = b"program p 1 origin - wrap 0 0 side 0 opt 0 pindirs 0\na042\n";
-    assert!(rt; gives(alloc, &source, 0, text)?);
+    assert!(rt; gives(&rt, alloc, &source, 0, text)?);
     Ok(())
 }
 
@@ -81,7 +90,7 @@ fn programs_are_listed(rt: HostRuntime) -> Result<(), Fail> {
 fn the_first_fault_is_one_line(rt: HostRuntime) -> Result<(), Fail> {
     let alloc = rt.alloc();
     let source = repeated(alloc, b".program p\n", b"nop\n", 33)?;
-    assert!(rt; gives(alloc, &source, 5, b"error pio 9 TooLong 34\n")?);
+    assert!(rt; gives(&rt, alloc, &source, 5, b"error pio 9 TooLong 34\n")?);
     let table: [(&[u8], &[u8]); 12] = [
         (b"", b"error pio 2 Syntax 1 1\n"),
         (b"\x7fELF\x00\xff\n", b"error pio 1 Char 1 1\n"),
@@ -100,7 +109,7 @@ fn the_first_fault_is_one_line(rt: HostRuntime) -> Result<(), Fail> {
         (b".program p\n.origin 32\nnop\n", b"error pio 11 Origin 2\n"),
     ];
     for (source, text) in table {
-        assert!(rt; gives(alloc, source, 5, text)?);
+        assert!(rt; gives(&rt, alloc, source, 5, text)?);
     }
     Ok(())
 }
@@ -109,12 +118,12 @@ fn the_first_fault_is_one_line(rt: HostRuntime) -> Result<(), Fail> {
 fn a_source_that_is_not_read(rt: HostRuntime) -> Result<(), Fail> {
     let alloc = rt.alloc();
     let large = repeated(alloc, b"\n", b"\n", 1_048_576)?;
-    assert!(rt; gives(alloc, &large, 3, b"error large a.pio 1048577\n")?);
-    let (status, text) = answer(alloc, &["b.pio"], WS2812, Vec::new(alloc))?;
+    assert!(rt; gives(&rt, alloc, &large, 3, b"error large a.pio 1048577\n")?);
+    let (status, text) = answer(&rt, alloc, &["b.pio"], WS2812, Vec::new(alloc))?;
     assert!(rt; status == 3 && text.as_slice() == b"error file b.pio\n".as_slice());
     let table: [&[&str]; 3] = [&[], &["-a.pio"], &["a.pio", "--cycles"]];
     for words in table {
-        let (status, text) = answer(alloc, words, WS2812, Vec::new(alloc))?;
+        let (status, text) = answer(&rt, alloc, words, WS2812, Vec::new(alloc))?;
         assert!(rt; status == 2 && text.as_slice() == b"error words\n".as_slice());
     }
     Ok(())
@@ -123,7 +132,7 @@ fn a_source_that_is_not_read(rt: HostRuntime) -> Result<(), Fail> {
 #[test]
 fn a_failing_sink_ends_the_listing(rt: HostRuntime) -> Result<(), Fail> {
     let alloc = rt.alloc();
-    let (status, text) = answer(alloc, &["a.pio"], WS2812, vec![in alloc; 2]?)?;
+    let (status, text) = answer(&rt, alloc, &["a.pio"], WS2812, vec![in alloc; 2]?)?;
     let want = b"program ws2812 4 origin - wrap 0 3 side 1 opt 0 pindirs 0\n6221\n".as_slice();
     assert!(rt; status == 7 && text.as_slice() == want);
     Ok(())

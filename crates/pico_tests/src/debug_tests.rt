@@ -11,7 +11,9 @@ use rp_ports::sink::{Put, Sink};
 use rp_ports::source::{Source, Taken};
 use std::alloc::{AllocError, Global};
 use std::cell::Cell;
+use std::sync::Wait;
 use std::test::Fail;
+use std::thread::Threads;
 
 /// A line, and its reply.
 type Row = (&'static [u8], &'static [u8]);
@@ -82,7 +84,8 @@ fn joined(alloc: Global, rows: &[Row]) -> Result<(Vec<u8>, Vec<u8>), AllocError>
 }
 
 /// What `debug` on this code up to this limit of cycles writes of an input whose takes fail at these calls, and its status.
-fn answered(
+fn answered<R: Threads + Wait + Sync>(
+    rt: &R,
     alloc: Global,
     code: &[u16],
     cycles: &str,
@@ -94,23 +97,29 @@ fn answered(
     let mut files = MemShelf::new(alloc, shelf, Vec::new(alloc));
     let mut input = MemSource::new(input, failing);
     let mut out = MemSink::new(alloc, Vec::new(alloc));
-    let status = hear_words(alloc, &words, &mut files, &mut input, &mut out);
+    let status = hear_words(rt, alloc, &words, &mut files, &mut input, &mut out);
     Ok((status, out.bytes))
 }
 
 /// Whether `debug` answers these rows and then ends at the end of the input.
-fn answers(alloc: Global, code: &[u16], cycles: &str, rows: &[Row]) -> Result<bool, AllocError> {
+fn answers<R: Threads + Wait + Sync>(
+    rt: &R,
+    alloc: Global,
+    code: &[u16],
+    cycles: &str,
+    rows: &[Row],
+) -> Result<bool, AllocError> {
     let (lines, replies) = joined(alloc, rows)?;
-    let (status, text) = answered(alloc, code, cycles, lines, Vec::new(alloc))?;
+    let (status, text) = answered(rt, alloc, code, cycles, lines, Vec::new(alloc))?;
     Ok(status == 0 && text.as_slice() == replies.as_slice())
 }
 
 #[test]
 fn sessions_are_answered(rt: HostRuntime) -> Result<(), Fail> {
     let alloc = rt.alloc();
-    assert!(rt; answers(alloc, &STORES_ONCE, "10000", &STORED)?);
-    assert!(rt; answers(alloc, &COPIES_TWO, "100", &COPIED_TWO)?);
-    assert!(rt; answers(alloc, &COPIES_THREE, "100", &COPIED_THREE)?);
+    assert!(rt; answers(&rt, alloc, &STORES_ONCE, "10000", &STORED)?);
+    assert!(rt; answers(&rt, alloc, &COPIES_TWO, "100", &COPIED_TWO)?);
+    assert!(rt; answers(&rt, alloc, &COPIES_THREE, "100", &COPIED_THREE)?);
     Ok(())
 }
 
@@ -119,19 +128,19 @@ fn a_session_ends(rt: HostRuntime) -> Result<(), Fail> {
     let alloc = rt.alloc();
     // At `quit`: a line behind it is not answered.
     let lines = Vec::from_slice(alloc, b"step\n\nquit\r\nstep\n")?;
-    let (status, text) = answered(alloc, &FIVE, "10", lines, Vec::new(alloc))?;
+    let (status, text) = answered(&rt, alloc, &FIVE, "10", lines, Vec::new(alloc))?;
     assert!(rt; status == 0 && text.as_slice() == b"at 1\nbad command\n".as_slice());
     // At the end, where the last line may lack its LF.
     let lines = Vec::from_slice(alloc, b"end\nback")?;
-    let (status, text) = answered(alloc, &FIVE, "10", lines, Vec::new(alloc))?;
+    let (status, text) = answered(&rt, alloc, &FIVE, "10", lines, Vec::new(alloc))?;
     assert!(rt; status == 0 && text.as_slice() == b"stop bkpt core0 2\nat 1\n".as_slice());
     // At a take that fails: the line before it was answered, the open one was not.
     let lines = Vec::from_slice(alloc, b"step\nst")?;
-    let (status, text) = answered(alloc, &FIVE, "10", lines, vec![in alloc; 1]?)?;
+    let (status, text) = answered(&rt, alloc, &FIVE, "10", lines, vec![in alloc; 1]?)?;
     assert!(rt; status == 8 && text.as_slice() == b"at 1\nerror source\n".as_slice());
     // At the limit of the input.
     let lines = vec![in alloc; b'x'; 1_048_576]?;
-    let (status, text) = answered(alloc, &FIVE, "10", lines, Vec::new(alloc))?;
+    let (status, text) = answered(&rt, alloc, &FIVE, "10", lines, Vec::new(alloc))?;
     assert!(rt; status == 10 && text.as_slice() == b"error input\n".as_slice());
     Ok(())
 }
@@ -193,7 +202,7 @@ fn a_reply_is_put_before_the_next_take(rt: HostRuntime) -> Result<(), Fail> {
     };
     let mut out = Counting { puts: &puts };
     assert_eq!(rt;
-        hear_words(alloc, &words, &mut files, &mut input, &mut out),
+        hear_words(&rt, alloc, &words, &mut files, &mut input, &mut out),
         0
     );
     assert_eq!(rt; puts.get(), 2);

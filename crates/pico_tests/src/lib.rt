@@ -19,3 +19,5 @@ mod run_tests;
 mod sample_files;
 #[cfg(test)]
 mod window_tests;
+#[cfg(test)]
+mod worker_tests;

@@ -9,10 +9,13 @@ use rp_ports::mem_shelf::MemShelf;
 use rp_ports::mem_sink::MemSink;
 use rp_ports::mem_source::MemSource;
 use std::alloc::{AllocError, Global};
+use std::sync::Wait;
 use std::test::Fail;
+use std::thread::Threads;
 
 /// The status of words where a counter of edges and a decoder of lights are handed in, and there is no input.
-fn probed(
+fn probed<R: Threads + Wait + Sync>(
+    rt: &R,
     alloc: Global,
     words: &[String],
     files: &mut MemShelf,
@@ -22,11 +25,12 @@ fn probed(
     let mut probes: Vec<Box<dyn Probe>> = Vec::new(alloc);
     probes.push(Box::new(alloc, EdgeCounter::new())?)?;
     probes.push(Box::new(alloc, Ws2812::new())?)?;
-    Ok(probe_words(alloc, words, files, &mut input, out, probes))
+    Ok(probe_words(rt, alloc, words, files, &mut input, out, probes))
 }
 
 /// Whether a run of this code with these words behind `run a.uf2` and these files gives this status and this text.
-fn gives(
+fn gives<R: Threads + Wait + Sync>(
+    rt: &R,
     alloc: Global,
     code: &[u16],
     more: &[&str],
@@ -47,7 +51,7 @@ fn gives(
     }
     let mut files = MemShelf::new(alloc, shelf, Vec::new(alloc));
     let mut out = MemSink::new(alloc, Vec::new(alloc));
-    let answer = probed(alloc, &words, &mut files, &mut out)?;
+    let answer = probed(rt, alloc, &words, &mut files, &mut out)?;
     Ok(answer == status && out.bytes.as_slice() == text)
 }
 
@@ -76,19 +80,19 @@ fn scripts_drive_pins(rt: HostRuntime) -> Result<(), Fail> {
     let script: [(&str, &[u8]); 1] = [("s", b"5 3 1\n9 3 z\n")];
     let lines = b"5 pin 3 1\n9 pin 3 0\nstop limit 20\n";
     let text = with_cores(alloc, lines, "", " 20000000 01000000")?;
-    assert!(rt; gives(alloc, &IDLE, &words, &script, 0, &text)?);
+    assert!(rt; gives(&rt, alloc, &IDLE, &words, &script, 0, &text)?);
     // A pull-up keeps the pin high once it is free.
     let code = [0x4801, 0x215a, 0x6001, 0xe7fe, 0xc010, 0x4001];
     let lines = b"5 pin 3 1\nstop limit 20\n";
     let text = with_cores(alloc, lines, " 4001c010 0000005a", " 20000006 01000000")?;
-    assert!(rt; gives(alloc, &code, &words, &script, 0, &text)?);
+    assert!(rt; gives(&rt, alloc, &code, &words, &script, 0, &text)?);
     // A byte that is sent to a pin, in frames of ten bits.
     let words = ["--cycles", "200", "--script", "s"];
     let script: [(&str, &[u8]); 1] = [("s", b"version 2\n0 3 1\nsend 10 3 65 41\n")];
     let lines =
         b"0 pin 3 1\n10 pin 3 0\n27 pin 3 1\n43 pin 3 0\n124 pin 3 1\n140 pin 3 0\n157 pin 3 1\nstop limit 200\n";
     let text = with_cores(alloc, lines, "", " 20000000 01000000")?;
-    assert!(rt; gives(alloc, &IDLE, &words, &script, 0, &text)?);
+    assert!(rt; gives(&rt, alloc, &IDLE, &words, &script, 0, &text)?);
     Ok(())
 }
 
@@ -108,19 +112,29 @@ fn faults_of_scripts_and_programs(rt: HostRuntime) -> Result<(), Fail> {
         (b"send 10 3 65 41\n", b"error script 1 Form 1\n"),
     ];
     for (script, text) in table {
-        assert!(rt; gives(alloc, &IDLE, &words, &[("s", script)], 6, text)?);
+        assert!(rt; gives(&rt, alloc, &IDLE, &words, &[("s", script)], 6, text)?);
     }
-    assert!(rt; gives(alloc, &IDLE, &words, &[], 3, b"error file s\n")?);
+    assert!(rt; gives(&rt, alloc, &IDLE, &words, &[], 3, b"error file s\n")?);
     let mut long = Vec::from_slice(alloc, b".program a\n")?;
     for _ in 0..32 {
         long.extend_from_slice(b"nop\n")?;
     }
     let words = ["--cycles", "10", "--pio", "0:0:a,0:1:b"];
     let files: [(&str, &[u8]); 2] = [("a", &long), ("b", b".program b\nnop\n")];
-    assert!(rt; gives(alloc, &FIVE, &words, &files, 5, b"error pio 12 NoRoom 1\n")?);
+    assert!(rt;
+        gives(
+            &rt,
+            alloc,
+            &FIVE,
+            &words,
+            &files,
+            5,
+            b"error pio 12 NoRoom 1\n"
+        )?
+    );
     for list in ["", "0:0", "2:0:a", "0:4:a", "0:0:a,", "0:0:a,0:0:b"] {
         let words = ["--cycles", "10", "--pio", list];
-        assert!(rt; gives(alloc, &FIVE, &words, &files, 2, b"error words\n")?);
+        assert!(rt; gives(&rt, alloc, &FIVE, &words, &files, 2, b"error words\n")?);
     }
     Ok(())
 }
@@ -140,7 +154,7 @@ fn programs_of_pio(rt: HostRuntime) -> Result<(), Fail> {
     let low = " 50200000 00000006 00000000 00000001";
     let mut text = with_cores(alloc, lines, low, " 2000000c 01000000")?;
     text.extend_from_slice(b"probe 0 pin 0 edges 4 rises 2\n")?;
-    assert!(rt; gives(alloc, &code, &words, &blink, 0, &text)?);
+    assert!(rt; gives(&rt, alloc, &code, &words, &blink, 0, &text)?);
     // Core 0 writes the words.
     let code = [
         0x4805, 0x2106, 0x6001, 0x4805, 0xa406, 0xcc0e, 0xc00e, 0x2101, 0x4803, 0x6001, 0xe7fe, 0,
@@ -149,7 +163,7 @@ fn programs_of_pio(rt: HostRuntime) -> Result<(), Fail> {
     let lines = b"26 pin 0 1\n28 pin 0 0\n33 pin 0 1\n35 pin 0 0\nstop limit 36\n";
     let low = " 50200000 00000001 0000e101 0000e200 20000030";
     let text = with_cores(alloc, lines, low, " 20000014 01000000")?;
-    assert!(rt; gives(alloc, &code, &["--cycles", "36"], &[], 0, &text)?);
+    assert!(rt; gives(&rt, alloc, &code, &["--cycles", "36"], &[], 0, &text)?);
     Ok(())
 }
 
@@ -183,15 +197,29 @@ fn a_led_gets_its_colour(rt: HostRuntime) -> Result<(), Fail> {
     let mut text = with_cores(alloc, &lines, low, " 2000001c 21000000")?;
     text.extend_from_slice(b"probe 0 pin 1 edges 0 rises 0\n")?;
     text.extend_from_slice(b"probe 1 pin 0 colours 1 last ff8001\n")?;
-    let words = [
-        "--pio",
-        "0:0:ws2812.pio",
-        "--cycles",
-        "4200",
-        "--probe",
-        "1=0,0=1",
-    ];
-    assert!(rt; gives(alloc, &code, &words, &[("ws2812.pio", WS2812)], 0, &text)?);
+    for workers in ["0", "8"] {
+        let words = [
+            "--pio",
+            "0:0:ws2812.pio",
+            "--cycles",
+            "4200",
+            "--probe",
+            "1=0,0=1",
+            "--workers",
+            workers,
+        ];
+        assert!(rt;
+            gives(
+                &rt,
+                alloc,
+                &code,
+                &words,
+                &[("ws2812.pio", WS2812)],
+                0,
+                &text
+            )?
+        );
+    }
     Ok(())
 }
 
@@ -206,7 +234,7 @@ fn a_uart_prints(rt: HostRuntime) -> Result<(), Fail> {
     let lines =
         b"10883 uart0 48\n21733 uart0 65\n32583 uart0 6c\n43433 uart0 6c\n54283 uart0 6f\nstop limit 60000\n";
     let text = with_cores(alloc, lines, " 40034000 0000006f", " 20000024 01000000")?;
-    assert!(rt; gives(alloc, &code, &["--cycles", "60000"], &[], 0, &text)?);
+    assert!(rt; gives(&rt, alloc, &code, &["--cycles", "60000"], &[], 0, &text)?);
     Ok(())
 }
 
@@ -220,11 +248,11 @@ fn dma_copies_words(rt: HostRuntime) -> Result<(), Fail> {
     let low = " 50000010 20000024 20000100 00000002 001f8039 20000024 55667788";
     let words = ["--cycles", "100"];
     let text = with_cores(alloc, b"stop bkpt core0 18\n", low, " 20000012 01000000")?;
-    assert!(rt; gives(alloc, &code, &words, &[], 0, &text)?);
+    assert!(rt; gives(&rt, alloc, &code, &words, &[], 0, &text)?);
     // Core 0 and the second write meet on bank 1: the write goes first, since the bank's last master was the DMA read.
     code[7] = 0x6856;
     code[8] = 0xbf00;
     let text = with_cores(alloc, b"stop bkpt core0 19\n", low, " 20000012 01000000")?;
-    assert!(rt; gives(alloc, &code, &words, &[], 0, &text)?);
+    assert!(rt; gives(&rt, alloc, &code, &words, &[], 0, &text)?);
     Ok(())
 }

@@ -8,7 +8,9 @@ use rp_ports::mem_shelf::{HeldFile, MemShelf};
 use rp_ports::mem_sink::MemSink;
 use rp_ports::sink::{Put, Sink};
 use std::alloc::{AllocError, Global};
+use std::sync::Wait;
 use std::test::Fail;
+use std::thread::Threads;
 
 /// A shelf that holds one file, `a.uf2`.
 fn shelf(alloc: Global, bytes: Vec<u8>, failing: Vec<u64>) -> Result<MemShelf, AllocError> {
@@ -18,7 +20,8 @@ fn shelf(alloc: Global, bytes: Vec<u8>, failing: Vec<u64>) -> Result<MemShelf, A
 }
 
 /// Whether the words give this status and this text, where the shelf holds `a.uf2` with these bytes.
-fn gives(
+fn gives<R: Threads + Wait + Sync>(
+    rt: &R,
     alloc: Global,
     words: &[&str],
     file: Vec<u8>,
@@ -28,7 +31,7 @@ fn gives(
     let words = texts(alloc, words)?;
     let mut files = shelf(alloc, file, Vec::new(alloc))?;
     let mut out = MemSink::new(alloc, Vec::new(alloc));
-    let answer = run_words(alloc, &words, &mut files, &mut out);
+    let answer = run_words(rt, alloc, &words, &mut files, &mut out);
     Ok(answer == status && out.bytes.as_slice() == text)
 }
 
@@ -53,15 +56,15 @@ fn joined(alloc: Global, lines: &[&[u8]]) -> Result<Vec<u8>, AllocError> {
 fn a_run_prints_its_end(rt: HostRuntime) -> Result<(), Fail> {
     let alloc = rt.alloc();
     let text = joined(alloc, &[FIRST, CORE0, b"core1 asleep\n"])?;
-    assert!(rt; gives(alloc, &TEN, image(alloc, &FIVE)?, 0, &text)?);
+    assert!(rt; gives(&rt, alloc, &TEN, image(alloc, &FIVE)?, 0, &text)?);
     let one = ["run", "a.uf2", "--cycles", "1"];
     let text =
         b"stop limit 1\ncore0 00000005 00000000 00000000 00000000 00000000 00000000 00000000 00000000 00000000 00000000 00000000 00000000 00000000 20042000 ffffffff 20000002 01000000\ncore1 asleep\n";
-    assert!(rt; gives(alloc, &one, image(alloc, &FIVE)?, 0, text)?);
+    assert!(rt; gives(&rt, alloc, &one, image(alloc, &FIVE)?, 0, text)?);
     let text =
         b"stop outside core0 0000002c 10\ncore0 00000000 00000000 00000000 00000000 00000000 00000000 00000000 00000000 00000000 00000000 00000000 00000000 00000000 20042000 ffffffff 20000002 01000000\ncore1 asleep\n";
     let more = ["run", "a.uf2", "--cycles", "11"];
-    assert!(rt; gives(alloc, &more, image(alloc, &[0xdf00])?, 0, text)?);
+    assert!(rt; gives(&rt, alloc, &more, image(alloc, &[0xdf00])?, 0, text)?);
     Ok(())
 }
 
@@ -80,7 +83,8 @@ fn core_line(alloc: Global, low: &str, high: &str) -> Result<Vec<u8>, AllocError
 }
 
 /// Whether the code stops with this line and these registers.
-fn ends(
+fn ends<R: Threads + Wait + Sync>(
+    rt: &R,
     alloc: Global,
     code: &[u16],
     stop: &[u8],
@@ -89,7 +93,7 @@ fn ends(
 ) -> Result<bool, AllocError> {
     let words = ["run", "a.uf2", "--cycles", "100"];
     let text = joined(alloc, &[stop, core_line(alloc, low, high)?.as_slice()])?;
-    gives(alloc, &words, image(alloc, code)?, 0, &text)
+    gives(rt, alloc, &words, image(alloc, code)?, 0, &text)
 }
 
 #[test]
@@ -99,16 +103,16 @@ fn instructions_and_their_cycles(rt: HostRuntime) -> Result<(), Fail> {
     let code = [0x2000, 0x43c0, 0x2100, 0x43c9, 0x4288, 0x4148, 0xbe00];
     let low = " ffffffff ffffffff";
     let high = " 20042000 ffffffff 2000000c a1000000";
-    assert!(rt; ends(alloc, &code, b"stop bkpt core0 6\n", low, high)?);
+    assert!(rt; ends(&rt, alloc, &code, b"stop bkpt core0 6\n", low, high)?);
     // LSRS by 32 and ASRS by 255.
     let code = [0x2001, 0x07c0, 0x22ff, 0x0001, 0x0800, 0x4111, 0xbe00];
     let low = " 00000000 ffffffff 000000ff";
-    assert!(rt; ends(alloc, &code, b"stop bkpt core0 6\n", low, high)?);
+    assert!(rt; ends(&rt, alloc, &code, b"stop bkpt core0 6\n", low, high)?);
     // BL has three cycles, PUSH of two registers three, POP with PC five.
     let code = [0x2003, 0xf000, 0xf801, 0xbe00, 0xb501, 0xbd02];
     let low = " 00000003 00000003";
     let high = " 20042000 20000007 20000006 01000000";
-    assert!(rt; ends(alloc, &code, b"stop bkpt core0 12\n", low, high)?);
+    assert!(rt; ends(&rt, alloc, &code, b"stop bkpt core0 12\n", low, high)?);
     // Narrow stores and loads: LDR, LDR, STRB, STRH, LDR, LDRB, LDRH, each of two cycles.
     let code = [
         0x4803, 0x4904, 0x7041, 0x8041, 0x6802, 0x7843, 0x8844, 0xbe00, 0x0014, 0x2000, 0x3210,
@@ -116,7 +120,7 @@ fn instructions_and_their_cycles(rt: HostRuntime) -> Result<(), Fail> {
     ];
     let low = " 20000014 76543210 32101010 00000010 00003210";
     let high = " 20042000 ffffffff 2000000e 01000000";
-    assert!(rt; ends(alloc, &code, b"stop bkpt core0 14\n", low, high)?);
+    assert!(rt; ends(&rt, alloc, &code, b"stop bkpt core0 14\n", low, high)?);
     // STM and LDM of two registers, each of three cycles, and the same words in the view that has one bank after another.
     let code = [
         0x2101, 0x2202, 0x4802, 0xc006, 0x4802, 0x6803, 0xc830, 0xbe00, 0x0040, 0x2000, 0x0010,
@@ -124,16 +128,25 @@ fn instructions_and_their_cycles(rt: HostRuntime) -> Result<(), Fail> {
     ];
     let low = " 21000018 00000001 00000002 00000001 00000001";
     let high = " 20042000 ffffffff 2000000e 01000000";
-    assert!(rt; ends(alloc, &code, b"stop bkpt core0 14\n", low, high)?);
+    assert!(rt; ends(&rt, alloc, &code, b"stop bkpt core0 14\n", low, high)?);
     // SEV sets the event register for the first WFE alone, and the second waits.
     let code = [0xbf40, 0xbf20, 0xbf20, 0xbe00];
     let high = " 20042000 ffffffff 20000004 01000000";
-    assert!(rt; ends(alloc, &code, b"stop limit 100\n", "", high)?);
+    assert!(rt; ends(&rt, alloc, &code, b"stop limit 100\n", "", high)?);
     // A load outside the machine: the first cycle of the access stops.
     let code = [0x2001, 0x0780, 0x6800];
     let low = " 40000000";
     let high = " 20042000 ffffffff 20000004 01000000";
-    assert!(rt; ends(alloc, &code, b"stop outside core0 40000000 3\n", low, high)?);
+    assert!(rt;
+        ends(
+            &rt,
+            alloc,
+            &code,
+            b"stop outside core0 40000000 3\n",
+            low,
+            high
+        )?
+    );
     Ok(())
 }
 
@@ -163,7 +176,7 @@ fn exceptions_and_their_returns(rt: HostRuntime) -> Result<(), Fail> {
     let code = with_vector(alloc, &code, 150, 0x15)?;
     let low = " e000ed08 20000100 00000000 00000000 00000007";
     let high = " 20042000 ffffffff 20000008 01000000";
-    assert!(rt; ends(alloc, &code, b"stop bkpt core0 38\n", low, high)?);
+    assert!(rt; ends(&rt, alloc, &code, b"stop bkpt core0 38\n", low, high)?);
     // A load at an odd address inside HardFault.
     let code = [
         0x4802, 0x4903, 0x6001, 0xde00, 0xbe00, 0, 0xed08, 0xe000, 0x0100, 0x2000, 0x2301, 0x681b,
@@ -171,7 +184,7 @@ fn exceptions_and_their_returns(rt: HostRuntime) -> Result<(), Fail> {
     let code = with_vector(alloc, &code, 134, 0x15)?;
     let low = " e000ed08 20000100 00000000 00000001";
     let high = " 20041fe0 fffffff9 20000016 01000003";
-    assert!(rt; ends(alloc, &code, b"stop lockup core0 23\n", low, high)?);
+    assert!(rt; ends(&rt, alloc, &code, b"stop lockup core0 23\n", low, high)?);
     // A return to another handler, where no other exception is active: HardFault, whose handler is at 20000002.
     let code = [
         0xe006, 0xbe00, 0, 0, 0, 0, 0x0003, 0x2000, 0x4807, 0x2101, 0x0749, 0x6001, 0xdf00, 0xbe00,
@@ -179,7 +192,7 @@ fn exceptions_and_their_returns(rt: HostRuntime) -> Result<(), Fail> {
     ];
     let low = " e000ed08 20000000 00000000 00000000 fffffff1";
     let high = " 20041fc0 fffffff1 20000002 81000003";
-    assert!(rt; ends(alloc, &code, b"stop bkpt core0 44\n", low, high)?);
+    assert!(rt; ends(&rt, alloc, &code, b"stop bkpt core0 44\n", low, high)?);
     Ok(())
 }
 
@@ -227,9 +240,9 @@ fn a_nested_handler_returns_to_no_thread(rt: HostRuntime) -> Result<(), Fail> {
     let alloc = rt.alloc();
     let high = " 20041fa0 fffffff1 20000002 a1000003";
     let low = " e000ed04 20000000 c0000000 10000000 fffffff9";
-    assert!(rt; ends(alloc, &nested(6), b"stop bkpt core0 68\n", low, high)?);
+    assert!(rt; ends(&rt, alloc, &nested(6), b"stop bkpt core0 68\n", low, high)?);
     let low = " e000ed04 20000000 c0000000 10000000 fffffffd";
-    assert!(rt; ends(alloc, &nested(2), b"stop bkpt core0 68\n", low, high)?);
+    assert!(rt; ends(&rt, alloc, &nested(2), b"stop bkpt core0 68\n", low, high)?);
     Ok(())
 }
 
@@ -239,18 +252,18 @@ fn words_are_disassembled(rt: HostRuntime) -> Result<(), Fail> {
     let text =
         b".program code\n.side_set 1\nout x, 1 side 0 [2]\njmp !x 3 side 1 [1]\njmp 0 side 1 [4]\nnop side 0 [4]\n";
     let words = ["dis", "622111231400a442", "--side", "1"];
-    assert!(rt; gives(alloc, &words, Vec::new(alloc), 0, text)?);
+    assert!(rt; gives(&rt, alloc, &words, Vec::new(alloc), 0, text)?);
     let words = ["dis", "a042", "--opt", "1", "--side", "5"];
-    assert!(rt; gives(alloc, &words, Vec::new(alloc), 2, b"error words\n")?);
+    assert!(rt; gives(&rt, alloc, &words, Vec::new(alloc), 2, b"error words\n")?);
     let words = ["dis", "a042a"];
-    assert!(rt; gives(alloc, &words, Vec::new(alloc), 2, b"error words\n")?);
+    assert!(rt; gives(&rt, alloc, &words, Vec::new(alloc), 2, b"error words\n")?);
     let words = ["dis", "a04g"];
-    assert!(rt; gives(alloc, &words, Vec::new(alloc), 2, b"error words\n")?);
+    assert!(rt; gives(&rt, alloc, &words, Vec::new(alloc), 2, b"error words\n")?);
     let words = ["dis", "a042", "--opt", "1"];
     let text = b".program code\n.side_set 0 opt\nnop\n";
-    assert!(rt; gives(alloc, &words, Vec::new(alloc), 0, text)?);
+    assert!(rt; gives(&rt, alloc, &words, Vec::new(alloc), 0, text)?);
     let words = ["dis", "a042", "--opt", "1", "--opt", "1"];
-    assert!(rt; gives(alloc, &words, Vec::new(alloc), 2, b"error words\n")?);
+    assert!(rt; gives(&rt, alloc, &words, Vec::new(alloc), 2, b"error words\n")?);
     // The most words.
     let mut digits = String::new(alloc);
     let mut text = joined(alloc, &[b".program code\n"])?;
@@ -259,10 +272,10 @@ fn words_are_disassembled(rt: HostRuntime) -> Result<(), Fail> {
         text.extend_from_slice(b"nop\n")?;
     }
     let words = ["dis", digits.as_str()];
-    assert!(rt; gives(alloc, &words, Vec::new(alloc), 0, &text)?);
+    assert!(rt; gives(&rt, alloc, &words, Vec::new(alloc), 0, &text)?);
     digits.push_str("a042")?;
     let words = ["dis", digits.as_str()];
-    assert!(rt; gives(alloc, &words, Vec::new(alloc), 2, b"error words\n")?);
+    assert!(rt; gives(&rt, alloc, &words, Vec::new(alloc), 2, b"error words\n")?);
     Ok(())
 }
 
@@ -270,11 +283,12 @@ fn words_are_disassembled(rt: HostRuntime) -> Result<(), Fail> {
 fn a_refusal_is_one_line(rt: HostRuntime) -> Result<(), Fail> {
     let alloc = rt.alloc();
     let none = ["run", "a.uf2", "--cycles", "0"];
-    assert!(rt; gives(alloc, &none, image(alloc, &FIVE)?, 2, b"error words\n")?);
-    assert!(rt; gives(alloc, &[], image(alloc, &FIVE)?, 2, b"error words\n")?);
+    assert!(rt; gives(&rt, alloc, &none, image(alloc, &FIVE)?, 2, b"error words\n")?);
+    assert!(rt; gives(&rt, alloc, &[], image(alloc, &FIVE)?, 2, b"error words\n")?);
     let other = ["run", "b.uf2", "--cycles", "10"];
     assert!(rt;
         gives(
+            &rt,
             alloc,
             &other,
             image(alloc, &FIVE)?,
@@ -283,10 +297,20 @@ fn a_refusal_is_one_line(rt: HostRuntime) -> Result<(), Fail> {
         )?
     );
     let large = vec![in alloc; 0; 16_777_217]?;
-    assert!(rt; gives(alloc, &TEN, large, 3, b"error large a.uf2 16777217\n")?);
-    assert!(rt; gives(alloc, &TEN, Vec::new(alloc), 4, b"error image 1 Empty\n")?);
+    assert!(rt; gives(&rt, alloc, &TEN, large, 3, b"error large a.uf2 16777217\n")?);
     assert!(rt;
         gives(
+            &rt,
+            alloc,
+            &TEN,
+            Vec::new(alloc),
+            4,
+            b"error image 1 Empty\n"
+        )?
+    );
+    assert!(rt;
+        gives(
+            &rt,
             alloc,
             &TEN,
             vec![in alloc; 0; 511]?,
@@ -296,6 +320,7 @@ fn a_refusal_is_one_line(rt: HostRuntime) -> Result<(), Fail> {
     );
     assert!(rt;
         gives(
+            &rt,
             alloc,
             &TEN,
             vec![in alloc; 0; 513]?,
@@ -305,6 +330,7 @@ fn a_refusal_is_one_line(rt: HostRuntime) -> Result<(), Fail> {
     );
     assert!(rt;
         gives(
+            &rt,
             alloc,
             &TEN,
             vec![in alloc; 0; 512]?,
@@ -321,15 +347,15 @@ fn a_failing_call_ends_the_text(rt: HostRuntime) -> Result<(), Fail> {
     let words = texts(alloc, &TEN)?;
     let mut files = shelf(alloc, image(alloc, &FIVE)?, Vec::new(alloc))?;
     let mut out = MemSink::new(alloc, vec![in alloc; 2]?);
-    assert_eq!(rt; run_words(alloc, &words, &mut files, &mut out), 7);
+    assert_eq!(rt; run_words(&rt, alloc, &words, &mut files, &mut out), 7);
     assert!(rt; out.bytes.as_slice() == joined(alloc, &[FIRST, CORE0])?.as_slice());
     let mut files = shelf(alloc, image(alloc, &FIVE)?, vec![in alloc; 0]?)?;
     let mut out = MemSink::new(alloc, Vec::new(alloc));
-    assert_eq!(rt; run_words(alloc, &words, &mut files, &mut out), 3);
+    assert_eq!(rt; run_words(&rt, alloc, &words, &mut files, &mut out), 3);
     assert!(rt; out.bytes.as_slice() == b"error file a.uf2\n".as_slice());
     let mut files = MemShelf::new(alloc, Vec::new(alloc), Vec::new(alloc));
     let mut out = MemSink::new(alloc, Vec::new(alloc));
-    assert_eq!(rt; run_words(alloc, &words, &mut files, &mut out), 3);
+    assert_eq!(rt; run_words(&rt, alloc, &words, &mut files, &mut out), 3);
     assert!(rt; out.bytes.as_slice() == b"error file a.uf2\n".as_slice());
     Ok(())
 }
@@ -369,7 +395,7 @@ fn a_text_comes_whole_byte_by_byte(rt: HostRuntime) -> Result<(), Fail> {
         bytes: Vec::new(alloc),
         faults: 0,
     };
-    assert_eq!(rt; run_words(alloc, &words, &mut files, &mut out), 0);
+    assert_eq!(rt; run_words(&rt, alloc, &words, &mut files, &mut out), 0);
     assert!(rt;
         out.bytes.as_slice() == joined(alloc, &[FIRST, CORE0, b"core1 asleep\n"])?.as_slice()
     );

@@ -6,27 +6,34 @@ use crate::sample_files::{held, image, texts};
 use rp_ports::mem_shelf::MemShelf;
 use rp_ports::mem_sink::MemSink;
 use std::alloc::{AllocError, Global};
+use std::sync::Wait;
 use std::test::Fail;
+use std::thread::Threads;
 
 /// A run of a program over 100 cycles gives this text.
-fn counts(alloc: Global, code: &[u16], wanted: &[u8]) -> Result<bool, AllocError> {
+fn counts<R: Threads + Wait + Sync>(
+    rt: &R,
+    alloc: Global,
+    code: &[u16],
+    wanted: &[u8],
+) -> Result<bool, AllocError> {
     let mut held_files = Vec::new(alloc);
     held_files.push(held(alloc, "a.uf2", &image(alloc, code)?)?)?;
     let words = texts(alloc, &["run", "a.uf2", "--cycles", "100", "--stats"])?;
     let mut files = MemShelf::new(alloc, held_files, Vec::new(alloc));
     let mut out = MemSink::new(alloc, Vec::new(alloc));
-    let status = run_words(alloc, &words, &mut files, &mut out);
+    let status = run_words(rt, alloc, &words, &mut files, &mut out);
     Ok(status == 0 && out.bytes.as_slice() == wanted)
 }
 
 /// Core 0 starts core 1, and then writes the fourth of its instructions, which core 1 fetches three cycles later.
-const WRITES_CODE: [u16; 24] = [
+pub const WRITES_CODE: [u16; 24] = [
     0x27d0, 0x063f, 0x6578, 0x6578, 0x2001, 0x6578, 0x6578, 0x4803, 0x6578, 0x4806, 0x6578, 0x7147,
     0xe7fe, 0x0000, 0x1000, 0x2004, 0x2101, 0x2102, 0x2103, 0x2104, 0xbe00, 0x0000, 0x0021, 0x2000,
 ];
 
 /// What its run prints.
-const WROTE_CODE: &[u8] = b"stop bkpt core1 18\n\
+pub const WROTE_CODE: &[u8] = b"stop bkpt core1 18\n\
     core0 20000021 00000000 00000000 00000000 00000000 00000000 00000000 d0000000 \
     00000000 00000000 00000000 00000000 00000000 20042000 ffffffff 20000018 01000000\n\
     core1 00000000 00000000 00000000 00000000 00000000 00000000 00000000 00000000 \
@@ -36,7 +43,7 @@ const WROTE_CODE: &[u8] = b"stop bkpt core1 18\n\
 #[test]
 fn what_the_other_core_writes_ends_a_window(rt: HostRuntime) -> Result<(), Fail> {
     let alloc = rt.alloc();
-    assert!(rt; counts(alloc, &WRITES_CODE, WROTE_CODE)?);
+    assert!(rt; counts(&rt, alloc, &WRITES_CODE, WROTE_CODE)?);
     Ok(())
 }
 
@@ -58,7 +65,7 @@ const THREE: &[u8] = b"stop limit 100\n\
 #[test]
 fn accesses_to_one_bank_end_a_window(rt: HostRuntime) -> Result<(), Fail> {
     let alloc = rt.alloc();
-    assert!(rt; counts(alloc, &COPIES_TWO, TWO)?);
-    assert!(rt; counts(alloc, &COPIES_THREE, THREE)?);
+    assert!(rt; counts(&rt, alloc, &COPIES_TWO, TWO)?);
+    assert!(rt; counts(&rt, alloc, &COPIES_THREE, THREE)?);
     Ok(())
 }

@@ -1,5 +1,5 @@
 -- The text and the cycles of a run.
-use Rattle.std.proofs.Common.{◌≡◌, ℕ, Bool, ◌+◌, ◌-◌, ◌≤◌, [], ◌∷◌, ◌++◌, List, Option, Some, Result, Ok, Err, IfOk, refl, ap, ap₂, subst, sym, arith, ◌∙◌, append_assoc}
+use Rattle.std.proofs.Common.{◌≡◌, ℕ, Bool, ◌+◌, ◌-◌, ◌≤◌, [], ◌∷◌, ◌++◌, List, Option, Some, Result, Ok, Err, IfOk, IfSome, refl, ap, ap₂, subst, sym, arith, ◌∙◌, append_assoc}
 use Rattle.outer_lane.specs.Setting.{Setting}
 use Rattle.trace_text.specs.Line.{stop_text, event_text}
 use Rattle.rp_ports.specs.Sink.{Appends}
@@ -13,7 +13,10 @@ use Rattle.rp_machine.specs.Run.{last_state}
 use Rattle.window_runner.specs.Told.{run_shown}
 use Rattle.board_parts.specs.Hearing.{Aim}
 use Rattle.window_runner.specs.declared.alone.Ran.{Ran}
+use Rattle.window_runner.specs.declared.windows.RunFault.{RunFault}
+use Rattle.window_runner.specs.declared.windows.RunFault.TheVariants.{Sink, Memory}
 use Rattle.window_runner.specs.Alone.{IsRan}
+use Rattle.window_runner.specs.Windows.{answered, OnMemory}
 use Rattle.pico_top.specs.RunText.{event_lines, after_events, probe_lines, counts_text, stats_text, run_text, run_cycles, end_text, core_lines}
 use Rattle.pico_top.specs.Teller.{HasTold, lines_both, one_line}
 
@@ -59,6 +62,38 @@ pub same_told : {T A E : Type 0} (took : T → List Event → T → Type 0) (mis
     → (took x events y → P) → (FailsAmong took missed x y events → P) → Tells took missed x y f g events r → P
 same_told took missed x y f g events P (Ok v) h k t = h t.ok
 same_told took missed x y f g events P (Err e) h k t = k t.err
+
+-- ---- the same of an answer that may be want of memory
+
+pub sends_answered : {T : Type 0} (took : T → List Event → T → Type 0) (missed : T → Event → T → Type 0) (x y : T) (a b : Option (List ℕ)) (f g : ℕ) (events : List Event) (r : Result Ran RunFault)
+    → (took x events y → Appends a b (event_lines events)) → (FailsAmong took missed x y events → AppendsPart a b (event_lines events))
+    → IfSome (answered r) (Tells took missed x y f g events) → IfSome (answered r) (Sends a b f g (event_lines events))
+sends_answered took missed x y a b f g events (Ok v) h k t = sends_told took missed x y a b f g events (Ok v) h k t
+sends_answered took missed x y a b f g events (Err Sink) h k t = sends_told took missed x y a b f g events (Err tt) h k t
+sends_answered took missed x y a b f g events (Err Memory) h k t = tt
+
+pub heard_answered : {T : Type 0} (took : T → List Event → T → Type 0) (missed : T → Event → T → Type 0) (x y : T) (f g : ℕ) (events : List Event) (P : Type 0) (r : Result Ran RunFault)
+    → (took x events y → P) → IfSome (answered r) (Tells took missed x y f g events) → IfOk r (λ v. P)
+heard_answered took missed x y f g events P (Ok v) h t = h t.ok
+heard_answered took missed x y f g events P (Err Sink) h t = tt
+heard_answered took missed x y f g events P (Err Memory) h t = tt
+
+pub same_answered : {T : Type 0} (took : T → List Event → T → Type 0) (missed : T → Event → T → Type 0) (x y : T) (f g : ℕ) (events : List Event) (P Q : Type 0) (r : Result Ran RunFault)
+    → (took x events y → P) → (FailsAmong took missed x y events → P) → (Q → P)
+    → IfSome (answered r) (Tells took missed x y f g events) → OnMemory r Q → P
+same_answered took missed x y f g events P Q (Ok v) h k l t m = h t.ok
+same_answered took missed x y f g events P Q (Err Sink) h k l t m = k t.err
+same_answered took missed x y f g events P Q (Err Memory) h k l t m = l m
+
+pub memory_answered : {S T : Type 0} (s t : S) (x y : T) (r : Result Ran RunFault) → OnMemory r ((t ≡ s) × (y ≡ x)) → (written : T → Option (List ℕ)) (faults : T → ℕ)
+    → OnMemory r ((t ≡ s) × (written y ≡ written x) × (faults y ≡ faults x))
+memory_answered s t x y (Ok v) m written faults = tt
+memory_answered s t x y (Err Sink) m written faults = tt
+memory_answered s t x y (Err Memory) m written faults = (m.0, ap written m.1, ap faults m.1)
+
+-- where the machine has not moved no step was counted
+pub none_counted : (s t : State) (before now : ℕ) → t ≡ s → now + s.cycle ≡ before + t.cycle → now ≡ before
+none_counted s t before now e count = let same : t.cycle ≡ s.cycle = ap (λ (x : State). x.cycle) e in omega arith
 
 -- ---- the cycles
 

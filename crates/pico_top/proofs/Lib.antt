@@ -1,6 +1,7 @@
 pub mod Causing
 pub mod Completing
 pub mod Cycles
+pub mod Finishing
 pub mod Opens
 pub mod Pieces
 pub mod ProbeLines

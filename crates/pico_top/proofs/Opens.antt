@@ -159,7 +159,7 @@ boots_opens aims (ForRun stats) files failed device script limit image ps loads 
     let v : Setting = setting_in device started in
     let here : Said (run_text stats w aims first) (Exactly (run_cycles w first)) ≡ Said (run_text started.stats v aims started.machine) (Exactly (run_cycles v started.machine)) = rw (same, h.1, h.2, h.3) refl in (
       refl,
-      (omega (arith, at), subst (λ (m : State). IsRested m.sio) (sym h.0) (start_rested device image loads), h.4),
+      (omega (arith, at), subst (λ (m : State). IsRested m.sio) (sym h.0) (start_rested device image loads)),
       λ e walk. said_words files ps (programs_of loads) (λ programs. run_text stats w aims (start device image (loads_of ps programs))) (λ programs. Exactly (run_cycles w (start device image (loads_of ps programs)))) (run_text started.stats v aims started.machine) (Exactly (run_cycles v started.machine)) e (have_words ps loads placed) here walk,
     )
 boots_opens aims (ForRun stats) files failed device script limit image ps loads (Ok (Text text)) placed h = absurd h
@@ -179,8 +179,8 @@ programs_open aims purpose files a b device run image script loads (Err stop) pr
     (last.0, programs.2.2 (use_for aims purpose (setting_of script device run.cycles) image) last.0 last.1, programs.0 ∙ last.2, last.3)
 
 -- a generated image needs no file
-pub generated_opens : (files : Option Files) (failed : List (List ℕ)) (device : DeviceMeaning) (number cycles : ℕ) (stats : Bool) (image : Loaded) (script : List ScriptEntry) (result : Result Opened Stop) → image ≡ image_of_number number → script ≡ [] → Boots (ForRun stats) (start device image []) script cycles result → OpensFor files failed failed device (Generate number cycles stats) result
-generated_opens files failed device number cycles stats image script result is empty boots aims =
+pub generated_opens : (files : Option Files) (failed : List (List ℕ)) (device : DeviceMeaning) (number cycles workers : ℕ) (stats : Bool) (image : Loaded) (script : List ScriptEntry) (result : Result Opened Stop) → image ≡ image_of_number number → script ≡ [] → Boots (ForRun stats) (start device image []) script cycles result → OpensFor files failed failed device (Generate number cycles workers stats) result
+generated_opens files failed device number cycles workers stats image script result is empty boots aims =
     let own = subst (λ (i : Loaded). Boots (ForRun stats) (start device i []) script cycles result) is boots in
     let plain = subst (λ (s : List ScriptEntry). Boots (ForRun stats) (start device (image_of_number number) []) s cycles result) empty own in
     boots_opens aims (ForRun stats) files failed device [] cycles (image_of_number number) [] [] result tt plain

@@ -29,12 +29,23 @@ tells_said text cost left lost old new before now steps steps' status puts whole
   counted = record { whole = whole; forward = forward; within = within };
 }
 
--- no load failed where something was told
+-- memory ran out before the text
+pub tells_out : (text : List ℕ) (cost : Cost) (left : Option (List ℕ)) (lost : ℕ) (old mid new : Option (List ℕ)) (before between now steps steps' status : ℕ) → mid ≡ old → between ≡ before → steps' ≡ steps → RunsOut mid new between now status → Tells (Say text cost) left left lost lost old new before now steps steps' status
+tells_out text cost left lost old mid new before between now steps steps' status same none still out = record {
+  ending = NoMemory;
+  walked = λ files. inr refl;
+  told = tt;
+  takes = (refl, refl);
+  ends = subst (λ (w : Option (List ℕ)). RunsOut w new before now status) same (subst (λ (f : ℕ). RunsOut mid new f now status) none out);
+  counted = still;
+}
+
+-- no load failed where no input was refused
 none_failed : (failed : List (List ℕ)) (e : Ending) → IsTold e → failed ≡ failed_names failed e
 none_failed failed (Said text cost) h = refl
 none_failed failed (Heard bytes way text cost) h = refl
 none_failed failed (Refused refusal) h = absurd h
-none_failed failed NoMemory h = absurd h
+none_failed failed NoMemory h = refl
 
 -- the call where something was opened
 pub opened_converses : (device : DeviceMeaning) (probes : List ProbeMeaning) (command : Command) (before after : Outside) (aims : List Aim) (opened : Opened) (status : ℕ) → aims ≡ aims_in probes command → OpensFor before.files before.failed after.failed device command (Ok opened) → after.files ≡ before.files → Tells (opened_dialogue device aims opened) before.left after.left before.source_faults after.source_faults before.written after.written before.sink_faults after.sink_faults before.steps after.steps status → ConversesFor device probes (Some command) before after status

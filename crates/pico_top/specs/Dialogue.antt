@@ -139,17 +139,18 @@ targets_in (RunImage run) = run.probes
 targets_in (DebugImage run) = []
 targets_in (Disassemble words side) = []
 targets_in (Assemble name) = []
-targets_in (Generate number cycles stats) = []
+targets_in (Generate number cycles workers stats) = []
 
 -- the probes that are aimed, of those that are handed in
 abbrev pub aims_in : List ProbeMeaning → Command → List Aim
 aims_in probes command = aims_of probes (targets_in command)
 
 -- A run and the debugger on it load its image, its script and its programs, and a listing its source; the source text of
--- instruction words needs no file. The run of a generated image has no script and no programs.
+-- instruction words needs no file. The run of a generated image has no script and no programs. How many workers run the lanes of a
+-- run makes no difference.
 abbrev pub dialogue_of : DeviceMeaning → List Aim → Command → Dialogue
 dialogue_of device aims (RunImage run) = with_image run.image (behind_image (say_run run.stats aims) device run)
 dialogue_of device aims (DebugImage run) = with_image run.image (behind_image hear_run device run)
 dialogue_of device aims (Disassemble words side) = Say (source_text side words) (Exactly 0)
 dialogue_of device aims (Assemble name) = with_source name (λ plans. SayWords plans listing (λ programs. Exactly 0))
-dialogue_of device aims (Generate number cycles stats) = say_run stats aims (setting_of [] device cycles) (image_of_number number) []
+dialogue_of device aims (Generate number cycles workers stats) = say_run stats aims (setting_of [] device cycles) (image_of_number number) []

@@ -5,5 +5,6 @@ pub mod Dialogue
 pub mod Loads
 pub mod Opening
 pub mod RunText
+pub mod Running
 pub mod Teller
 pub mod Walk

@@ -20,7 +20,6 @@ use Rattle.command_words.specs.Entries.{Entry}
 use Rattle.reverse_debug.specs.Standing.{first_of, OpensAt}
 use Rattle.rp_machine.specs.State.{State}
 use Rattle.window_merge.specs.Merging.{IsRested}
-use Rattle.window_merge.specs.Jobs.{IsWhole}
 use Rattle.pico_top.specs.declared.open.Started.{Started}
 use Rattle.pico_top.specs.declared.open.Debugging.{Debugging}
 use Rattle.pico_top.specs.declared.open.Purpose.{Purpose}
@@ -55,10 +54,10 @@ opened_dialogue device aims (Session debugging) =
     Hear input_limit quits (session_told (setting_by device debugging) (first_of debugging.session))
 opened_dialogue device aims (Text text) = Say text.items (Exactly 0)
 
--- a machine has not passed its limit, its mailboxes are as a cycle's end leaves them and each of its lanes has its jobs; and a
--- session was opened at its first state
+-- a machine has not passed its limit, and its mailboxes are as a cycle's end leaves them; and a session was opened at its first
+-- state
 abbrev pub IsReady : Opened → Type 0
-IsReady (Machine started) = (started.machine.cycle ≤ started.limit) × IsRested started.machine.sio × IsWhole started.crew
+IsReady (Machine started) = (started.machine.cycle ≤ started.limit) × IsRested started.machine.sio
 IsReady (Session debugging) = OpensAt (first_of debugging.session) debugging.limit debugging.session
 IsReady (Text text) = Unit {0}
 
@@ -111,10 +110,10 @@ ReadsScript bytes (Err (Refusing (BadImage fault))) = ⊥
 ReadsScript bytes (Err (Refusing (Source fault))) = ⊥
 ReadsScript bytes (Err Memory) = Unit {0}
 
--- a machine in its first state for a run, with its jobs, or a session there for the debugger, or memory ran out
+-- a machine in its first state for a run, or a session there for the debugger, or memory ran out
 abbrev pub Boots : Purpose → State → List ScriptEntry → ℕ → Result Opened Stop → Type 0
 Boots (ForRun stats) first script limit (Ok (Machine started)) =
-    (started.machine ≡ first) × (started.script ≡ script) × (started.limit ≡ limit) × (started.stats ≡ stats) × IsWhole started.crew
+    (started.machine ≡ first) × (started.script ≡ script) × (started.limit ≡ limit) × (started.stats ≡ stats)
 Boots (ForRun stats) first script limit (Ok (Session debugging)) = ⊥
 Boots ForDebug first script limit (Ok (Session debugging)) =
     OpensAt first limit debugging.session × (debugging.script ≡ script) × (debugging.limit ≡ limit)
@@ -194,15 +193,15 @@ Refuses old new before now status (Refusing refusal) =
     Puts old new before now status (status_of (meant refusal)) (line_of (meant refusal)) ⊎ RunsOut old new before now status
 Refuses old new before now status Memory = RunsOut old new before now status
 
--- something is said or heard
+-- no input is refused
 abbrev pub IsTold : Ending → Type 0
 IsTold (Said text cost) = Unit {0}
 IsTold (Heard bytes way text cost) = Unit {0}
 IsTold (Refused refusal) = ⊥
-IsTold NoMemory = ⊥
+IsTold NoMemory = Unit {0}
 
--- what is left of a dialogue was told: a walk of it ended so, whatever the files, and what was taken, written and counted goes
--- with that ending
+-- what is left of a dialogue was told, or memory ran out before: a walk of it ended so, whatever the files, and what was taken,
+-- written and counted goes with that ending
 pub record Tells (d : Dialogue) (left left' : Option (List ℕ)) (lost lost' : ℕ) (old new : Option (List ℕ)) (before now : ℕ) (steps steps' : ℕ) (status : ℕ) : Type 0 where
   pub ending : Ending
   pub walked : (files : Option Files) → Walks files d ending

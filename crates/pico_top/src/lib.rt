@@ -10,12 +10,12 @@ mod send;
 mod tell;
 mod teller;
 
-ghost use Rattle.std.specs.Prelude.{◌≡◌, List, None, Some, length, map};
+ghost use Rattle.std.specs.Prelude.{◌≡◌, ◌≤◌, List, None, Some, length, map};
 ghost use Rattle.std.specs.String.{string_bytes};
 ghost use Rattle.rp_ports.specs.Fault.{Rose};
 ghost use Rattle.board_parts.specs.Probe.{ProbeMeaning};
 ghost use Rattle.board_parts.specs.Hearing.{aim_of, seen};
-ghost use Rattle.command_words.specs.Words.{reading, IsLimited};
+ghost use Rattle.command_words.specs.Words.{reading, workers_of, IsLimited, IsRead};
 ghost use Rattle.command_words.specs.Read.{command_in};
 ghost use Rattle.pico_top.specs.Answer.{Converses, ConversesFor};
 ghost use Rattle.pico_top.specs.Causes.{HasCause, IsComplete, IsStatus};
@@ -25,17 +25,21 @@ use board_parts::aimed::Aimed;
 use board_parts::aiming::aim_all;
 use board_parts::probe::Probe;
 use board_parts::target::Target;
-use command_words::{Reading, WordsFault, read_words};
+pub use command_words::{Reading, WordsFault, read_words};
 use lane_look::Device;
 use open::{Stop, open_reading};
 use refusal_lines::Refusal;
 use rp_machine::Steps;
+use rp_ports::gate::Gate;
 use rp_ports::shelf::Shelf;
 use rp_ports::sink::Sink;
 use rp_ports::source::Source;
+use runner::Workers;
 use std::alloc::Global;
+use std::sync::Wait;
 use std::sync::ledger::Ledger;
-use tell::{refuse, tell_into};
+use std::thread::Threads;
+use tell::{refuse, tell_into, tell_into_by};
 
 /// The probes that a reading aims.
 fn targets(reading: &Reading) -> &[Target]
@@ -44,6 +48,17 @@ fn targets(reading: &Reading) -> &[Target]
     match reading {
         Reading::Run(run) => &run.probes,
         Reading::Debug(_) | Reading::Dis(_) | Reading::Asm(_) | Reading::Gen(_) => &[],
+    }
+}
+
+/// How many workers a reading asks for; none where its command has no such number.
+fn count_of(reading: &Reading) -> u8
+    ensures { result ≡ workers_of (command_in reading.now) }
+{
+    match reading {
+        Reading::Run(run) => run.workers,
+        Reading::Gen(run) => run.workers,
+        Reading::Debug(_) | Reading::Dis(_) | Reading::Asm(_) => 0,
     }
 }
 
@@ -85,14 +100,121 @@ fn serve_aimed<F: Shelf, I: Source, O: Sink, X: Device, L: Ledger>(
         result }
 {
     match open_reading(alloc, reading, files, device) {
-        Ok(opened) => tell_into(opened, aimed, device, input, out, steps),
+        Ok(opened) => tell_into(alloc, opened, aimed, device, input, out, steps),
         Err(stop) => refuse(alloc, &stop, out),
     }
 }
 
-/// Aims the probes that a reading names, loads its files, and writes the text.
-fn serve<F: Shelf, I: Source, O: Sink, X: Device, L: Ledger>(
+/// The same, where workers run the lanes of a run.
+fn serve_aimed_by<F, I, O, G, X, L, R>(
+    rt: &R,
     alloc: Global,
+    workers: &Workers<'_, G>,
+    reading: &Reading,
+    files: &mut F,
+    input: &mut I,
+    out: &mut O,
+    aimed: &mut [Aimed],
+    device: &X,
+    steps: &mut Steps<L>,
+) -> u8
+where
+    F: Shelf,
+    I: Source,
+    O: Sink,
+    G: Gate,
+    X: Device,
+    L: Ledger,
+    R: Threads + Wait + Sync,
+    requires workers { workers.now.count ≤ 8 }
+    requires limited { IsLimited (command_in reading.now) }
+    ensures { (probes : List ProbeMeaning)
+        → seen aimed.old (λ a. aim_of a.index a.pin
+        (⟦<dyn Probe as Probe>⟧ a.probe.vtable) a.probe.value)
+        ≡ aims_in probes (command_in reading.now)
+        → ConversesFor (X.meaning device.now) probes (Some (command_in reading.now))
+        record {
+          files = F.files files.old;
+          failed = F.failed files.old;
+          left = I.left input.old;
+          source_faults = I.faults input.old;
+          written = O.written out.old;
+          sink_faults = O.faults out.old;
+          steps = steps.old;
+        }
+        record {
+          files = F.files files.new;
+          failed = F.failed files.new;
+          left = I.left input.new;
+          source_faults = I.faults input.new;
+          written = O.written out.new;
+          sink_faults = O.faults out.new;
+          steps = steps.new;
+        }
+        result }
+{
+    match open_reading(alloc, reading, files, device) {
+        Ok(opened) => tell_into_by(rt, alloc, workers, opened, aimed, device, input, out, steps),
+        Err(stop) => refuse(alloc, &stop, out),
+    }
+}
+
+/// Does what a reading says: loads its files from the shelf, takes the lines that it answers from the source, and writes the text
+/// to the sink. It waits for nobody, and returns. The reading names no workers, and was made for as many `probes` as are handed in.
+///
+/// The answer is the status, as that of `pico`; it is not 2.
+pub fn pico_alone<F: Shelf, I: Source, O: Sink, X: Device, L: Ledger>(
+    alloc: Global,
+    reading: &Reading,
+    files: &mut F,
+    input: &mut I,
+    out: &mut O,
+    probes: Vec<Box<dyn Probe>>,
+    device: X,
+    steps: &mut Steps<L>,
+) -> u8
+    requires alone { workers_of (command_in reading.now) ≡ 0 }
+    requires read { IsRead (length probes.items) (command_in reading.now) }
+
+    // A walk of the reading's dialogue over the shelf ended, and its text was written whole with its status; or a part of it,
+    // and the sink failed; or memory ran out, and the line that says so was written alone. The bytes that were heard were
+    // taken from the source. So many steps were counted as that text costs.
+    ensures text { ConversesFor (X.meaning device)
+        (map (λ p. (⟦<dyn Probe as Probe>⟧ p.vtable).meaning p.value) probes.items)
+        (Some (command_in reading.now))
+        record {
+          files = F.files files.old;
+          failed = F.failed files.old;
+          left = I.left input.old;
+          source_faults = I.faults input.old;
+          written = O.written out.old;
+          sink_faults = O.faults out.old;
+          steps = steps.old;
+        }
+        record {
+          files = F.files files.new;
+          failed = F.failed files.new;
+          left = I.left input.new;
+          source_faults = I.faults input.new;
+          written = O.written out.new;
+          sink_faults = O.faults out.new;
+          steps = steps.new;
+        }
+        result }
+{
+    match aim_all(alloc, probes, targets(reading)) {
+        Ok(mut aimed) => serve_aimed(
+            alloc, reading, files, input, out, &mut aimed, &device, steps,
+        ),
+        Err(_) => refuse(alloc, &Stop::Memory, out),
+    }
+}
+
+/// Aims the probes that a reading names, loads its files, and writes the text, where workers run the lanes of a run.
+fn serve_by<F, I, O, G, X, L, R>(
+    rt: &R,
+    alloc: Global,
+    workers: &Workers<'_, G>,
     reading: &Reading,
     files: &mut F,
     input: &mut I,
@@ -101,7 +223,16 @@ fn serve<F: Shelf, I: Source, O: Sink, X: Device, L: Ledger>(
     device: &X,
     steps: &mut Steps<L>,
 ) -> u8
-    requires { IsLimited (command_in reading.now) }
+where
+    F: Shelf,
+    I: Source,
+    O: Sink,
+    G: Gate,
+    X: Device,
+    L: Ledger,
+    R: Threads + Wait + Sync,
+    requires workers { workers.now.count ≤ 8 }
+    requires limited { IsLimited (command_in reading.now) }
     ensures { ConversesFor (X.meaning device.now)
         (map (λ p. (⟦<dyn Probe as Probe>⟧ p.vtable).meaning p.value) probes.items)
         (Some (command_in reading.now))
@@ -126,26 +257,93 @@ fn serve<F: Shelf, I: Source, O: Sink, X: Device, L: Ledger>(
         result }
 {
     match aim_all(alloc, probes, targets(reading)) {
-        Ok(mut aimed) => serve_aimed(alloc, reading, files, input, out, &mut aimed, device, steps),
+        Ok(mut aimed) => serve_aimed_by(
+            rt, alloc, workers, reading, files, input, out, &mut aimed, device, steps,
+        ),
         Err(_) => refuse(alloc, &Stop::Memory, out),
     }
 }
 
+/// Does what a reading says, with as many workers as it names.
+fn serve<F, I, O, G, X, L, R>(
+    rt: &R,
+    alloc: Global,
+    reading: &Reading,
+    files: &mut F,
+    input: &mut I,
+    out: &mut O,
+    gate: &G,
+    probes: Vec<Box<dyn Probe>>,
+    device: X,
+    steps: &mut Steps<L>,
+) -> u8
+where
+    F: Shelf,
+    I: Source,
+    O: Sink,
+    G: Gate,
+    X: Device,
+    L: Ledger,
+    R: Threads + Wait + Sync,
+    requires { IsRead (length probes.items) (command_in reading.now) }
+    ensures { ConversesFor (X.meaning device)
+        (map (λ p. (⟦<dyn Probe as Probe>⟧ p.vtable).meaning p.value) probes.items)
+        (Some (command_in reading.now))
+        record {
+          files = F.files files.old;
+          failed = F.failed files.old;
+          left = I.left input.old;
+          source_faults = I.faults input.old;
+          written = O.written out.old;
+          sink_faults = O.faults out.old;
+          steps = steps.old;
+        }
+        record {
+          files = F.files files.new;
+          failed = F.failed files.new;
+          left = I.left input.new;
+          source_faults = I.faults input.new;
+          written = O.written out.new;
+          sink_faults = O.faults out.new;
+          steps = steps.new;
+        }
+        result }
+{
+    let count = count_of(reading);
+    if count == 0 {
+        return pico_alone(alloc, reading, files, input, out, probes, device, steps);
+    }
+    let workers = Workers { gate, count };
+    serve_by(
+        rt, alloc, &workers, reading, files, input, out, probes, &device, steps,
+    )
+}
+
 /// Reads the words, and does what they say.
-fn converse<F: Shelf, I: Source, O: Sink, X: Device, L: Ledger>(
+fn converse<F, I, O, G, X, L, R>(
+    rt: &R,
     alloc: Global,
     words: &[String],
     files: &mut F,
     input: &mut I,
     out: &mut O,
+    gate: &G,
     probes: Vec<Box<dyn Probe>>,
-    device: &X,
+    device: X,
     steps: &mut Steps<L>,
 ) -> u8
+where
+    F: Shelf,
+    I: Source,
+    O: Sink,
+    G: Gate,
+    X: Device,
+    L: Ledger,
+    R: Threads + Wait + Sync,
     ensures { Converses record {
       words = map string_bytes words.now;
       probes = map (λ p. (⟦<dyn Probe as Probe>⟧ p.vtable).meaning p.value) probes.items;
-      device = X.meaning device.now;
+      device = X.meaning device;
     }
         record {
           files = F.files files.old;
@@ -168,7 +366,9 @@ fn converse<F: Shelf, I: Source, O: Sink, X: Device, L: Ledger>(
         result }
 {
     match read_words(alloc, words, probes.len()) {
-        Ok(reading) => serve(alloc, &reading, files, input, out, probes, device, steps),
+        Ok(reading) => serve(
+            rt, alloc, &reading, files, input, out, gate, probes, device, steps,
+        ),
         Err(WordsFault::Words) => refuse(alloc, &Stop::Refusing(Refusal::Words), out),
         Err(WordsFault::Memory) => refuse(alloc, &Stop::Memory, out),
     }
@@ -184,16 +384,31 @@ fn converse<F: Shelf, I: Source, O: Sink, X: Device, L: Ledger>(
 /// answers. Those of the `probes` that the words name are aimed at their pins, hear the run, and have their lines at its end; the
 /// others are dropped before it. The `device` stands at the pads of a run and at the addresses that no block covers. Each cycle of
 /// a run, and each that the debugger steps, counts as one of the `steps`.
-pub fn pico<F: Shelf, I: Source, O: Sink, X: Device, L: Ledger>(
+///
+/// Where the words name workers, so many threads run the lanes of a run beside this one, and the `gate` is entered and left round
+/// each piece of a lane; the call then waits for them and for the gate, and what is said here holds if it returns. The text is the
+/// same for each number of workers. Without workers nobody is waited for.
+pub fn pico<F, I, O, G, X, L, R>(
+    rt: &R,
     alloc: Global,
     words: &[String],
     files: &mut F,
     input: &mut I,
     out: &mut O,
+    gate: &G,
     probes: Vec<Box<dyn Probe>>,
     device: X,
     steps: &mut Steps<L>,
 ) -> u8
+where
+    F: Shelf,
+    I: Source,
+    O: Sink,
+    G: Gate,
+    X: Device,
+    L: Ledger,
+    R: Threads + Wait + Sync,
+
     // A walk of the words' dialogue over the shelf ended, and its text was written whole with its status; or a part of it,
     // and the sink failed; or memory ran out, and the line that says so was written alone. The bytes that were heard were
     // taken from the source. So many steps were counted as that text costs.
@@ -284,5 +499,7 @@ pub fn pico<F: Shelf, I: Source, O: Sink, X: Device, L: Ledger>(
         }
         result }
 {
-    converse(alloc, words, files, input, out, probes, &device, steps)
+    converse(
+        rt, alloc, words, files, input, out, gate, probes, device, steps,
+    )
 }

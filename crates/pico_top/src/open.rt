@@ -29,7 +29,6 @@ use rp_machine::{Machine, PioLoad, World};
 use rp_ports::shelf::{Loaded, Shelf};
 use std::alloc::Global;
 use uf2_image::{Image, ImageFault, read_image};
-use window_merge::Crew;
 
 /// An image file has at most 16 MiB.
 const IMAGE_LIMIT: usize = 16_777_216;
@@ -49,13 +48,11 @@ pub enum Stop {
     Memory,
 }
 
-/// A machine that can run, with the jobs of its windows, its script and its limit of cycles.
+/// A machine that can run, with its script and its limit of cycles.
 #[derive(Drop)]
 pub struct Started {
     /// The machine before its first cycle.
     pub machine: Machine,
-    /// The jobs of its lanes in a window.
-    pub crew: Crew,
     /// The levels that drive its pins.
     pub script: Script,
     /// The limit, 1 to 1,000,000,000.
@@ -182,16 +179,12 @@ fn begin(
     ensures { Boots purpose machine script limit result }
 {
     match purpose {
-        Purpose::Run { stats } => match Crew::new(alloc) {
-            Ok(crew) => Ok(Opened::Machine(Started {
-                machine,
-                crew,
-                script,
-                limit,
-                stats,
-            })),
-            Err(_) => Err(Stop::Memory),
-        },
+        Purpose::Run { stats } => Ok(Opened::Machine(Started {
+            machine,
+            script,
+            limit,
+            stats,
+        })),
         Purpose::Debug => match Session::open(alloc, &machine, limit) {
             Ok(session) => Ok(Opened::Session(Debugging {
                 session,
@@ -342,7 +335,7 @@ fn open_generated<X: Device>(alloc: Global, asked: &GenWords, device: &X) -> Res
     requires limit { asked.now.cycles ≤ 1000000000 }
     ensures { (files : Option Files) (failed : List (List ℕ))
         → OpensFor files failed failed (X.meaning device.now)
-        (Generate asked.now.number asked.now.cycles asked.now.stats) result }
+        (Generate asked.now.number asked.now.cycles asked.now.workers asked.now.stats) result }
 {
     match generated(alloc, asked.number) {
         Ok(image) => {

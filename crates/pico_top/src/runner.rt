@@ -1,55 +1,61 @@
-//! A run by windows, up to the first state that has a stop.
+//! A run by windows, up to the first state that has a stop: on one thread, or with workers.
 
-ghost use Rattle.std.specs.Prelude.{◌≡◌, ◌+◌, ◌≤◌, IfOk};
+ghost use Rattle.std.specs.Prelude.{◌≡◌, ◌+◌, ◌≤◌, IfOk, IfSome};
 ghost use Rattle.outer_lane.specs.Setting.{setting_of};
-ghost use Rattle.trace_text.specs.Sent.{Sends};
+ghost use Rattle.trace_text.specs.Tape.{Tells};
 ghost use Rattle.rp_machine.specs.Run.{last_state};
 ghost use Rattle.window_merge.specs.Merging.{IsRested};
-ghost use Rattle.window_merge.specs.Jobs.{IsWhole};
 ghost use Rattle.window_runner.specs.Told.{run_shown};
 ghost use Rattle.window_runner.specs.Alone.{IsRan, IsOnRun};
+ghost use Rattle.window_runner.specs.Windows.{answered, OnMemory};
 ghost use Rattle.board_parts.specs.Hearing.{aim_of, seen};
-ghost use Rattle.pico_top.specs.RunText.{event_lines, after_events};
+ghost use Rattle.pico_top.specs.Running.{RunsTo};
 
 use crate::teller::Teller;
 use board_parts::aimed::Aimed;
 use board_parts::probe::Probe;
 use lane_look::Device;
 use rp_machine::{Machine, Steps, World};
+use rp_ports::gate::Gate;
 use rp_ports::sink::Sink;
+use std::alloc::Global;
 use std::marker::PhantomData;
+use std::sync::Wait;
 use std::sync::ledger::Ledger;
-use trace_text::writer::{SinkFault, Writer};
+use std::thread::Threads;
+use trace_text::tape::Tape;
+use trace_text::writer::Writer;
 use window_merge::Crew;
 use window_runner::alone::{Ran, run_alone};
+use window_runner::windows::{RunFault, run_windows};
 
-/// Runs a machine up to its first stop and tells its events. Each cycle counts as a step.
-fn run_told<X: Device, O: Sink, L: Ledger>(
+/// How many threads run the lanes of a run's windows beside the calling one, and what is entered and left round each piece.
+#[derive(Drop)]
+pub struct Workers<'a, G: Gate> {
+    /// The gate.
+    pub gate: &'a G,
+    /// How many, at most 8.
+    pub count: u8,
+}
+
+/// Makes the jobs of a run, and runs a machine up to its first stop on the calling thread alone. Each cycle counts as a step.
+///
+/// # Errors
+///
+/// `Sink`: the tape failed at an event. `Memory`: there was none for the jobs; nothing has changed.
+fn run_by_one<X: Device, T: Tape, L: Ledger>(
+    alloc: Global,
     machine: &mut Machine,
     world: &World<'_, X>,
-    crew: &mut Crew,
-    teller: &mut Teller<'_, O>,
+    tape: &mut T,
     steps: &mut Steps<L>,
-) -> Result<Ran, SinkFault>
+) -> Result<Ran, RunFault>
     requires number { machine.old.cycle ≤ world.now.limit }
     requires rested { IsRested machine.old.sio }
-    requires whole { IsWhole crew.old }
-    ensures sends { Sends (O.written teller.old.writer.out.now)
-        (O.written teller.new.writer.out.now)
-        (O.faults teller.old.writer.out.now) (O.faults teller.new.writer.out.now)
-        (event_lines (run_shown
+    ensures told { IfSome (answered result) (Tells T.took T.missed tape.old tape.new
+        (T.faults tape.old) (T.faults tape.new) (run_shown
         (setting_of world.now.script.now (X.meaning world.now.device.now) world.now.limit)
-        machine.old))
-        result }
-    ensures heard { IfOk result (λ ran. seen teller.new.probes.now (λ a. aim_of a.index a.pin
-        (⟦<dyn Probe as Probe>⟧ a.probe.vtable) a.probe.value)
-        ≡ after_events (run_shown
-        (setting_of world.now.script.now (X.meaning world.now.device.now) world.now.limit)
-        machine.old)
-        (seen teller.old.probes.now (λ a. aim_of a.index a.pin
-        (⟦<dyn Probe as Probe>⟧ a.probe.vtable) a.probe.value))) }
-    ensures same_sink { teller.new.writer.out.ghost_name ≡ teller.old.writer.out.ghost_name }
-    ensures same_probes { teller.new.probes.ghost_name ≡ teller.old.probes.ghost_name }
+        machine.old)) }
     ensures ran { IfOk result (IsRan
         (setting_of world.now.script.now (X.meaning world.now.device.now) world.now.limit)
         machine.old) }
@@ -60,50 +66,140 @@ fn run_told<X: Device, O: Sink, L: Ledger>(
         (setting_of world.now.script.now (X.meaning world.now.device.now) world.now.limit)
         machine.old machine.new }
     ensures steps { steps.new + machine.old.cycle ≡ steps.old + machine.new.cycle }
+    ensures memory { OnMemory result ((machine.new ≡ machine.old) × (tape.new ≡ tape.old)) }
 {
-    run_alone(machine, world, crew, teller, steps)
+    let Ok(mut crew) = Crew::new(alloc) else {
+        return Err(RunFault::Memory);
+    };
+    match run_alone(machine, world, &mut crew, tape, steps) {
+        Ok(ran) => Ok(ran),
+        Err(_) => Err(RunFault::Sink),
+    }
 }
 
-/// Runs a machine up to its first stop, lets the probes hear the events, and puts their lines. Each cycle counts as a step.
-pub fn run_to_stop<X: Device, O: Sink, L: Ledger>(
+/// Runs a machine up to its first stop on the calling thread alone and tells its events. Each cycle counts as a step.
+fn run_told<X: Device, O: Sink, L: Ledger>(
+    alloc: Global,
     machine: &mut Machine,
     world: &World<'_, X>,
-    crew: &mut Crew,
+    teller: &mut Teller<'_, O>,
+    steps: &mut Steps<L>,
+) -> Result<Ran, RunFault>
+    requires number { machine.old.cycle ≤ world.now.limit }
+    requires rested { IsRested machine.old.sio }
+    ensures told { RunsTo
+        (setting_of world.now.script.now (X.meaning world.now.device.now) world.now.limit)
+        machine.old machine.new
+        (seen teller.old.probes.now (λ a. aim_of a.index a.pin
+        (⟦<dyn Probe as Probe>⟧ a.probe.vtable) a.probe.value))
+        (seen teller.new.probes.now (λ a. aim_of a.index a.pin
+        (⟦<dyn Probe as Probe>⟧ a.probe.vtable) a.probe.value))
+        (O.written teller.old.writer.out.now) (O.written teller.new.writer.out.now)
+        (O.faults teller.old.writer.out.now) (O.faults teller.new.writer.out.now)
+        steps.old steps.new result }
+    ensures same_sink { teller.new.writer.out.ghost_name ≡ teller.old.writer.out.ghost_name }
+    ensures same_probes { teller.new.probes.ghost_name ≡ teller.old.probes.ghost_name }
+{
+    run_by_one(alloc, machine, world, teller, steps)
+}
+
+/// Runs a machine up to its first stop with workers and tells its events. Each cycle counts as a step.
+fn run_told_by<X: Device, O: Sink, G: Gate, L: Ledger, R: Threads + Wait + Sync>(
+    rt: &R,
+    alloc: Global,
+    workers: &Workers<'_, G>,
+    machine: &mut Machine,
+    world: &World<'_, X>,
+    teller: &mut Teller<'_, O>,
+    steps: &mut Steps<L>,
+) -> Result<Ran, RunFault>
+    requires workers { workers.now.count ≤ 8 }
+    requires number { machine.old.cycle ≤ world.now.limit }
+    requires rested { IsRested machine.old.sio }
+    ensures told { RunsTo
+        (setting_of world.now.script.now (X.meaning world.now.device.now) world.now.limit)
+        machine.old machine.new
+        (seen teller.old.probes.now (λ a. aim_of a.index a.pin
+        (⟦<dyn Probe as Probe>⟧ a.probe.vtable) a.probe.value))
+        (seen teller.new.probes.now (λ a. aim_of a.index a.pin
+        (⟦<dyn Probe as Probe>⟧ a.probe.vtable) a.probe.value))
+        (O.written teller.old.writer.out.now) (O.written teller.new.writer.out.now)
+        (O.faults teller.old.writer.out.now) (O.faults teller.new.writer.out.now)
+        steps.old steps.new result }
+    ensures same_sink { teller.new.writer.out.ghost_name ≡ teller.old.writer.out.ghost_name }
+    ensures same_probes { teller.new.probes.ghost_name ≡ teller.old.probes.ghost_name }
+{
+    let count = usize::from(workers.count);
+    run_windows(
+        rt,
+        alloc,
+        machine,
+        world,
+        count,
+        workers.gate,
+        teller,
+        steps,
+    )
+}
+
+/// Runs a machine up to its first stop on the calling thread alone, lets the probes hear the events, and puts their lines. Each
+/// cycle counts as a step.
+pub fn run_to_stop<X: Device, O: Sink, L: Ledger>(
+    alloc: Global,
+    machine: &mut Machine,
+    world: &World<'_, X>,
     probes: &mut [Aimed],
     out: &mut O,
     steps: &mut Steps<L>,
-) -> Result<Ran, SinkFault>
+) -> Result<Ran, RunFault>
     requires number { machine.old.cycle ≤ world.now.limit }
     requires rested { IsRested machine.old.sio }
-    requires whole { IsWhole crew.old }
-    ensures sends { Sends (O.written out.old) (O.written out.new) (O.faults out.old)
-        (O.faults out.new)
-        (event_lines (run_shown
+    ensures { RunsTo
         (setting_of world.now.script.now (X.meaning world.now.device.now) world.now.limit)
-        machine.old))
-        result }
-    ensures heard { IfOk result (λ ran. seen probes.new (λ a. aim_of a.index a.pin
-        (⟦<dyn Probe as Probe>⟧ a.probe.vtable) a.probe.value)
-        ≡ after_events (run_shown
-        (setting_of world.now.script.now (X.meaning world.now.device.now) world.now.limit)
-        machine.old)
+        machine.old machine.new
         (seen probes.old (λ a. aim_of a.index a.pin
-        (⟦<dyn Probe as Probe>⟧ a.probe.vtable) a.probe.value))) }
-    ensures ran { IfOk result (IsRan
-        (setting_of world.now.script.now (X.meaning world.now.device.now) world.now.limit)
-        machine.old) }
-    ensures state { IfOk result (λ ran. machine.new ≡ last_state
-        (setting_of world.now.script.now (X.meaning world.now.device.now) world.now.limit)
-        machine.old) }
-    ensures on_run { IsOnRun
-        (setting_of world.now.script.now (X.meaning world.now.device.now) world.now.limit)
-        machine.old machine.new }
-    ensures steps { steps.new + machine.old.cycle ≡ steps.old + machine.new.cycle }
+        (⟦<dyn Probe as Probe>⟧ a.probe.vtable) a.probe.value))
+        (seen probes.new (λ a. aim_of a.index a.pin
+        (⟦<dyn Probe as Probe>⟧ a.probe.vtable) a.probe.value))
+        (O.written out.old) (O.written out.new) (O.faults out.old) (O.faults out.new)
+        steps.old steps.new result }
 {
     let mut teller = Teller {
         writer: Writer { out },
         probes,
         boxed: PhantomData,
     };
-    run_told(machine, world, crew, &mut teller, steps)
+    run_told(alloc, machine, world, &mut teller, steps)
+}
+
+/// The same with workers.
+pub fn run_to_stop_by<X: Device, O: Sink, G: Gate, L: Ledger, R: Threads + Wait + Sync>(
+    rt: &R,
+    alloc: Global,
+    workers: &Workers<'_, G>,
+    machine: &mut Machine,
+    world: &World<'_, X>,
+    probes: &mut [Aimed],
+    out: &mut O,
+    steps: &mut Steps<L>,
+) -> Result<Ran, RunFault>
+    requires workers { workers.now.count ≤ 8 }
+    requires number { machine.old.cycle ≤ world.now.limit }
+    requires rested { IsRested machine.old.sio }
+    ensures { RunsTo
+        (setting_of world.now.script.now (X.meaning world.now.device.now) world.now.limit)
+        machine.old machine.new
+        (seen probes.old (λ a. aim_of a.index a.pin
+        (⟦<dyn Probe as Probe>⟧ a.probe.vtable) a.probe.value))
+        (seen probes.new (λ a. aim_of a.index a.pin
+        (⟦<dyn Probe as Probe>⟧ a.probe.vtable) a.probe.value))
+        (O.written out.old) (O.written out.new) (O.faults out.old) (O.faults out.new)
+        steps.old steps.new result }
+{
+    let mut teller = Teller {
+        writer: Writer { out },
+        probes,
+        boxed: PhantomData,
+    };
+    run_told_by(rt, alloc, workers, machine, world, &mut teller, steps)
 }

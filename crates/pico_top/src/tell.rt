@@ -1,23 +1,26 @@
 //! What was opened, or why nothing was, into the sink.
 
-ghost use Rattle.std.specs.Prelude.{◌≡◌, ◌+◌, ◌≤◌, ◌++◌};
+ghost use Rattle.std.specs.Prelude.{◌≡◌, ◌≤◌, ◌++◌, ℕ, List, Option};
 ghost use Rattle.trace_text.specs.Line.{stop_text};
 ghost use Rattle.refusal_lines.specs.Refusals.{line_of, status_of};
 ghost use Rattle.refusal_lines.specs.Meant.{meant};
-ghost use Rattle.board_parts.specs.Hearing.{aim_of, seen};
+ghost use Rattle.board_parts.specs.Hearing.{Aim, aim_of, seen};
+ghost use Rattle.outer_lane.specs.Setting.{Setting};
+ghost use Rattle.rp_machine.specs.State.{State};
 ghost use Rattle.window_merge.specs.Merging.{IsRested};
-ghost use Rattle.window_merge.specs.Jobs.{IsWhole};
 ghost use Rattle.pico_top.specs.RunText.{core_lines, counts_text, probe_lines, run_cycles, run_text};
 ghost use Rattle.pico_top.specs.Answer.{Puts, RunsOut};
+ghost use Rattle.pico_top.specs.Running.{RunsTo};
 ghost use Rattle.line_talk.specs.Debugger.{quits};
 ghost use Rattle.line_talk.specs.Hearing.{way_line, way_status};
 ghost use Rattle.reverse_debug.specs.Standing.{first_of, OpensAt};
 ghost use Rattle.pico_top.specs.Dialogue.{input_limit, session_told};
-ghost use Rattle.pico_top.specs.Dialogue.Dialogue.{Hear};
+ghost use Rattle.pico_top.specs.Dialogue.Cost.{Exactly};
+ghost use Rattle.pico_top.specs.Dialogue.Dialogue.{Hear, Say};
 ghost use Rattle.pico_top.specs.Opening.{setting_in, setting_by, opened_dialogue, IsReady, Refuses, Tells};
 
 use crate::open::{Debugging, Opened, Started, Stop};
-use crate::runner::run_to_stop;
+use crate::runner::{Workers, run_to_stop, run_to_stop_by};
 use crate::send::{send_last, send_text};
 use board_parts::aimed::Aimed;
 use board_parts::probe::Probe;
@@ -26,12 +29,16 @@ use line_talk::hear::hear;
 use line_talk::way::Way;
 use refusal_lines::{refusal_line, status};
 use rp_machine::{Machine, Steps, World};
+use rp_ports::gate::Gate;
 use rp_ports::sink::Sink;
 use rp_ports::source::Source;
 use std::alloc::Global;
+use std::sync::Wait;
 use std::sync::ledger::Ledger;
+use std::thread::Threads;
 use trace_text::writer::Writer;
 use window_runner::alone::Ran;
+use window_runner::windows::RunFault;
 
 /// An input has at most 1 MiB up to its last line.
 const INPUT_LIMIT: usize = 1_048_576;
@@ -51,8 +58,36 @@ fn end_into<O: Sink>(stats: bool, ran: &Ran, machine: &Machine, probes: &[Aimed]
     }
 }
 
-/// Runs a machine that probes hear into a sink, and answers 0, or 7 where the sink fails.
+/// Ends the text of a run that came to this, and answers 0, or 7 where the sink failed or fails; or puts the line that says that
+/// memory ran out before.
+fn finish<O: Sink>(
+    stats: bool,
+    came: Result<Ran, RunFault>,
+    machine: &Machine,
+    probes: &[Aimed],
+    out: &mut O,
+) -> u8
+    ensures { (w : Setting) (s : State) (before : List Aim) (old : Option (List ℕ))
+        (lost steps steps' : ℕ)
+        → RunsTo w s machine.now before (seen probes.now (λ a. aim_of a.index a.pin
+        (⟦<dyn Probe as Probe>⟧ a.probe.vtable) a.probe.value))
+        old (O.written out.old) lost (O.faults out.old) steps steps' came
+        → (left : Option (List ℕ)) (faults : ℕ)
+        → Tells (Say (run_text stats w before s) (Exactly (run_cycles w s)))
+        left left faults faults old (O.written out.new) lost (O.faults out.new)
+        steps steps' result }
+{
+    match came {
+        Ok(ran) => end_into(stats, &ran, machine, probes, out),
+        Err(RunFault::Sink) => 7,
+        Err(RunFault::Memory) => run_out(out),
+    }
+}
+
+/// Runs a machine that probes hear into a sink, on the calling thread alone, and answers 0, or 7 where the sink fails; or puts the
+/// line that says that memory ran out before.
 fn run_into<X: Device, O: Sink, L: Ledger>(
+    alloc: Global,
     started: Started,
     probes: &mut [Aimed],
     device: &X,
@@ -61,22 +96,16 @@ fn run_into<X: Device, O: Sink, L: Ledger>(
 ) -> u8
     requires number { started.machine.cycle ≤ started.limit }
     requires rested { IsRested started.machine.sio }
-    requires whole { IsWhole started.crew }
-    ensures puts { Puts (O.written out.old) (O.written out.new) (O.faults out.old)
-        (O.faults out.new)
-        result 0 (run_text started.stats (setting_in (X.meaning device.now) started)
+    ensures { (left : Option (List ℕ)) (lost : ℕ)
+        → Tells (Say (run_text started.stats (setting_in (X.meaning device.now) started)
         (seen probes.old (λ a. aim_of a.index a.pin
-        (⟦<dyn Probe as Probe>⟧ a.probe.vtable) a.probe.value))
-        started.machine) }
-    ensures whole { result ≡ 0 → steps.new
-        ≡ steps.old + run_cycles (setting_in (X.meaning device.now) started) started.machine }
-    ensures forward { steps.old ≤ steps.new }
-    ensures within { steps.new ≤ steps.old + run_cycles (setting_in (X.meaning device.now) started)
-        started.machine }
+        (⟦<dyn Probe as Probe>⟧ a.probe.vtable) a.probe.value)) started.machine)
+        (Exactly (run_cycles (setting_in (X.meaning device.now) started) started.machine)))
+        left left lost lost (O.written out.old) (O.written out.new) (O.faults out.old)
+        (O.faults out.new) steps.old steps.new result }
 {
     let Started {
         mut machine,
-        mut crew,
         script,
         limit,
         stats,
@@ -86,10 +115,45 @@ fn run_into<X: Device, O: Sink, L: Ledger>(
         device,
         limit,
     };
-    match run_to_stop(&mut machine, &world, &mut crew, probes, out, steps) {
-        Ok(ran) => end_into(stats, &ran, &machine, probes, out),
-        Err(_) => 7,
-    }
+    let came = run_to_stop(alloc, &mut machine, &world, probes, out, steps);
+    finish(stats, came, &machine, probes, out)
+}
+
+/// The same with workers.
+fn run_into_by<X: Device, O: Sink, G: Gate, L: Ledger, R: Threads + Wait + Sync>(
+    rt: &R,
+    alloc: Global,
+    workers: &Workers<'_, G>,
+    started: Started,
+    probes: &mut [Aimed],
+    device: &X,
+    out: &mut O,
+    steps: &mut Steps<L>,
+) -> u8
+    requires workers { workers.now.count ≤ 8 }
+    requires number { started.machine.cycle ≤ started.limit }
+    requires rested { IsRested started.machine.sio }
+    ensures { (left : Option (List ℕ)) (lost : ℕ)
+        → Tells (Say (run_text started.stats (setting_in (X.meaning device.now) started)
+        (seen probes.old (λ a. aim_of a.index a.pin
+        (⟦<dyn Probe as Probe>⟧ a.probe.vtable) a.probe.value)) started.machine)
+        (Exactly (run_cycles (setting_in (X.meaning device.now) started) started.machine)))
+        left left lost lost (O.written out.old) (O.written out.new) (O.faults out.old)
+        (O.faults out.new) steps.old steps.new result }
+{
+    let Started {
+        mut machine,
+        script,
+        limit,
+        stats,
+    } = started;
+    let world = World {
+        script: &script,
+        device,
+        limit,
+    };
+    let came = run_to_stop_by(rt, alloc, workers, &mut machine, &world, probes, out, steps);
+    finish(stats, came, &machine, probes, out)
 }
 
 /// Puts a text into a sink, and answers 0, or 7 where the sink fails.
@@ -185,8 +249,9 @@ fn talk_into<I: Source, X: Device, O: Sink, L: Ledger>(
 }
 
 /// Puts the text of what was opened into a sink, where a run is heard by the probes, or what is told of the lines of the source;
-/// answers the status, 7 where the sink fails.
+/// answers the status, 7 where the sink fails. Where a run finds no memory before it begins, it puts the line that says so.
 pub fn tell_into<I: Source, X: Device, O: Sink, L: Ledger>(
+    alloc: Global,
     opened: Opened,
     probes: &mut [Aimed],
     device: &X,
@@ -203,7 +268,44 @@ pub fn tell_into<I: Source, X: Device, O: Sink, L: Ledger>(
         (O.faults out.new) steps.old steps.new result }
 {
     match opened {
-        Opened::Machine(started) => run_into(started, probes, device, out, steps),
+        Opened::Machine(started) => run_into(alloc, started, probes, device, out, steps),
+        Opened::Session(debugging) => talk_into(debugging, device, input, out, steps),
+        Opened::Text(text) => text_into(&text, out),
+    }
+}
+
+/// The same, where workers run the lanes of a run.
+pub fn tell_into_by<I, X, O, G, L, R>(
+    rt: &R,
+    alloc: Global,
+    workers: &Workers<'_, G>,
+    opened: Opened,
+    probes: &mut [Aimed],
+    device: &X,
+    input: &mut I,
+    out: &mut O,
+    steps: &mut Steps<L>,
+) -> u8
+where
+    I: Source,
+    X: Device,
+    O: Sink,
+    G: Gate,
+    L: Ledger,
+    R: Threads + Wait + Sync,
+    requires workers { workers.now.count ≤ 8 }
+    requires is_ready { IsReady opened }
+    ensures { Tells (opened_dialogue (X.meaning device.now)
+        (seen probes.old (λ a. aim_of a.index a.pin
+        (⟦<dyn Probe as Probe>⟧ a.probe.vtable) a.probe.value)) opened)
+        (I.left input.old) (I.left input.new) (I.faults input.old) (I.faults input.new)
+        (O.written out.old) (O.written out.new) (O.faults out.old)
+        (O.faults out.new) steps.old steps.new result }
+{
+    match opened {
+        Opened::Machine(started) => {
+            run_into_by(rt, alloc, workers, started, probes, device, out, steps)
+        }
         Opened::Session(debugging) => talk_into(debugging, device, input, out, steps),
         Opened::Text(text) => text_into(&text, out),
     }

@@ -1,4 +1,5 @@
-//! Lines in other forms, what they are read as, and whether a run is to end with the line of its windows.
+//! Lines in other forms, what they are read as, how many workers are asked for, and whether a run is to end with the line of its
+//! windows.
 
 use command_words::{Reading, WordsFault, read_words};
 use line_words::line_in;
@@ -54,6 +55,14 @@ fn lines_in_other_forms(rt: HostRuntime) -> Result<(), Fail> {
             "run --stats a.uf2 --cycles=10",
             "run a.uf2 --cycles 10 --stats",
         ),
+        (
+            "run --stats --workers=3 a.uf2 --cycles=10",
+            "run a.uf2 --cycles 10 --workers 3 --stats",
+        ),
+        (
+            "gen --workers 3 --cycles=10 1",
+            "gen 1 --cycles 10 --workers 3",
+        ),
         ("gen --stats --cycles=10 1", "gen 1 --cycles 10 --stats"),
         (
             "run a.uf2 --cycles=10 --script=--stats",
@@ -80,6 +89,10 @@ fn lines_that_are_refused(rt: HostRuntime) -> Result<(), Fail> {
         "gen 1",
         "debug a.uf2 --cycles=10 --probe=0=3",
         "debug a.uf2 --cycles=10 --stats",
+        "debug a.uf2 --cycles=10 --workers=1",
+        "run a.uf2 --cycles=10 --workers=1 --workers=1",
+        "run a.uf2 --cycles=10 --workers",
+        "run a.uf2 --cycles=10 --workers -1",
         "--help",
         "help",
         "run -h",
@@ -108,6 +121,42 @@ fn words_that_ask_for_windows(rt: HostRuntime) -> Result<(), Fail> {
         ("asm a --stats", "none"),
     ] {
         assert!(rt; asks(alloc, text, want)?);
+    }
+    Ok(())
+}
+
+/// The number of workers that the words of a text ask for; none where they are refused or their command has no such number.
+fn workers(alloc: Global, text: &str) -> Result<Option<u8>, AllocError> {
+    match read_words(alloc, &split(alloc, text)?, 0) {
+        Ok(Reading::Run(run)) => Ok(Some(run.workers)),
+        Ok(Reading::Gen(run)) => Ok(Some(run.workers)),
+        Err(WordsFault::Memory) => Err(AllocError),
+        _ => Ok(None),
+    }
+}
+
+#[test]
+fn words_that_ask_for_workers(rt: HostRuntime) -> Result<(), Fail> {
+    let alloc = rt.alloc();
+    for (text, want) in [
+        ("run a --cycles 10", Some(0)),
+        ("run a --cycles 10 --workers 0", Some(0)),
+        ("run a --workers 8 --cycles 10", Some(8)),
+        ("run --workers=8 a --cycles=10", Some(8)),
+        ("gen 1 --cycles 10", Some(0)),
+        ("gen 1 --workers 1 --cycles 10 --stats", Some(1)),
+        ("run a --cycles 10 --workers 9", None),
+        ("run a --cycles 10 --workers 08", None),
+        ("run a --cycles 10 --workers=+1", None),
+        ("run a --cycles 10 --workers=-1", None),
+        ("run a --cycles 10 --workers", None),
+        ("run a --cycles 10 --workers 1 --workers 1", None),
+        ("gen 1 --cycles 10 --workers 256", None),
+        ("debug a --cycles 10 --workers 1", None),
+        ("asm a --workers 1", None),
+        ("dis a042 --workers 1", None),
+    ] {
+        assert!(rt; workers(alloc, text)? == want);
     }
     Ok(())
 }

@@ -9,4 +9,5 @@ returns c =
     let with_3 = adds _ _ _ _ _ with_2 c.option.ensures.rule c.option.ensures.local c.in_ok-arg-3.ensures in
     let with_4 = adds _ _ _ _ _ with_3 c.option-2.ensures.rule c.option-2.ensures.local c.in_ok-arg-4.ensures in
     let with_5 = adds _ _ _ _ _ with_4 c.option-3.ensures.rule c.option-3.ensures.local c.in_ok-arg-5.ensures in
-    IfOk-weaker c.arg-6.result _ _ (λ r h. adds _ _ r _ _ with_5 c.flag.ensures.rule c.flag.ensures.local h) c.arg-6.ensures
+    let with_6 = adds _ _ _ _ _ with_5 c.option-4.ensures.rule c.option-4.ensures.local c.in_ok-arg-6.ensures in
+    IfOk-weaker c.arg-7.result _ _ (λ r h. adds _ _ r _ _ with_6 c.flag.ensures.rule c.flag.ensures.local h) c.arg-7.ensures

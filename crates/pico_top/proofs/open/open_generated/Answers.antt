@@ -3,5 +3,5 @@ use Rattle.pico_top.proofs.open.open_generated.Goals as goal
 
 pub returns-in-Ok : goal.returns-in-Ok
 returns-in-Ok g c files failed =
-    generated_opens files failed (g.X.Device.meaning c.args.device.now) c.args.asked.now.number c.args.asked.now.cycles c.args.asked.now.stats c.in-Ok.image
+    generated_opens files failed (g.X.Device.meaning c.args.device.now) c.args.asked.now.number c.args.asked.now.cycles c.args.asked.now.workers c.args.asked.now.stats c.in-Ok.image
     _ c.boot.result c.in-Ok.ensures.image c.new-script.ensures c.boot.ensures

@@ -4,7 +4,7 @@ use Rattle.pico_top.proofs.Telling.{tells_said}
 use Rattle.pico_top.proofs.tell.tell_into.Goals as goal
 
 pub returns-in-Machine : goal.returns-in-Machine
-returns-in-Machine g c = let h = c.run_into.ensures in rw c.in-Machine.is (tells_said _ _ _ _ _ _ _ _ _ _ _ h.puts h.whole h.forward h.within)
+returns-in-Machine g c = rw c.in-Machine.is (c.run_into.ensures _ _)
 
 pub returns-in-Text : goal.returns-in-Text
 returns-in-Text g c =
