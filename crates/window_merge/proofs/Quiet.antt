@@ -1,11 +1,9 @@
 -- The peripherals that run alone ask the same in each cycle, and their run never ends early.
-use Rattle.std.proofs.Common.{◌≡◌, ℕ, zero, suc, ◌+◌, Bool, true, false, if◌then◌else◌, List, [], ◌∷◌, ◌++◌, Option, refl, ap, sym, ◌∙◌}
-use Rattle.lane_look.specs.Asking.{Asking}
-use Rattle.lane_look.specs.Asking.Asking.{Ready, Question}
+use Rattle.std.proofs.Common.{◌≡◌, ℕ, zero, suc, ◌+◌, Bool, true, false, List, ◌∷◌, ◌++◌, refl, ap, sym, ◌∙◌}
 use Rattle.lane_look.specs.declared.lane.Ask.{Ask}
 use Rattle.lane_look.specs.declared.lane.Ask.TheVariants as ask
-use Rattle.lane_look.specs.Replay.{Entry, asked, after_begun}
-use Rattle.lane_look.specs.Alone.{Alone, begun_alone, alone, ends_at, least, alone_length}
+use Rattle.lane_look.specs.Replay.{Entry, asked}
+use Rattle.lane_look.specs.Alone.{begun_alone, alone, ends_at, least, alone_length}
 use Rattle.io_bank.specs.Levels.{is_used}
 use Rattle.outer_lane.specs.Setting.{Setting}
 use Rattle.outer_lane.specs.declared.world.SeenOutputs.{SeenOutputs}

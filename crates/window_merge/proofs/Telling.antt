@@ -1,5 +1,5 @@
 -- The first entry in which a true report differs from its lane's run alone has the same question, and another answer.
-use Rattle.std.proofs.Common.{◌≡◌, ◌≢◌, ◌⊎◌, ℕ, zero, suc, ◌+◌, ◌<◌, ◌≤◌, inl, inr, List, [], ◌∷◌, ◌++◌, length, take, Option, Some, None, refl, ap, sym, ◌∙◌, subst, arith}
+use Rattle.std.proofs.Common.{◌≡◌, ◌⊎◌, ℕ, zero, suc, ◌+◌, ◌<◌, ◌≤◌, inl, inr, List, [], ◌∷◌, ◌++◌, take, Option, Some, None, refl, ap, sym, ◌∙◌, subst, arith}
 use Rattle.std.specs.List.{slice_get}
 use Rattle.std.proofs.lemmas.List.{take-append-le}
 use Rattle.std.proofs.lemmas.Option.{slice_get_within}
@@ -8,8 +8,8 @@ use Rattle.lane_look.specs.Asking.{Asking, answered}
 use Rattle.lane_look.specs.Asking.Asking.{Ready, Question}
 use Rattle.lane_look.specs.declared.lane.Ask.{Ask}
 use Rattle.lane_look.specs.declared.replay.Report.{Report}
-use Rattle.lane_look.specs.Replay.{Meaning, Entry, Replay, first_answer, others, told, talk, asked, after_begun, replayed}
-use Rattle.lane_look.specs.Alone.{Alone, begun_alone, alone}
+use Rattle.lane_look.specs.Replay.{Meaning, Entry, first_answer, others, told, talk, asked, after_begun, replayed}
+use Rattle.lane_look.specs.Alone.{alone}
 use Rattle.lane_look.specs.Truth.{IsTrue, replay_of}
 use Rattle.rp_machine.specs.State.{State}
 use Rattle.rp_machine.specs.Answers.{answer_of}

@@ -1,5 +1,5 @@
 -- What a comparison of logs and lengths says of a report.
-use Rattle.std.proofs.Common.{◌≡◌, ℕ, ◌+◌, ◌^◌, ◌<◌, ◌≤◌, Bool, true, false, ◌&&◌, List, Option, Some, None, refl, ap, sym, ◌∙◌, subst, arith}
+use Rattle.std.proofs.Common.{◌≡◌, ℕ, ◌+◌, ◌^◌, ◌<◌, ◌≤◌, Bool, true, false, ◌&&◌, List, Option, Some, None, refl, ap, sym, ◌∙◌, subst}
 use Rattle.std.specs.Prelude.{Result, Ok, Err, is_ok, is_none, IfErr}
 use Rattle.std.specs.Bool.{Decides}
 use Rattle.std.specs.List.{slice_get}
@@ -7,7 +7,6 @@ use Rattle.lane_look.specs.declared.replay.Report.{Report}
 use Rattle.lane_look.specs.Replay.{Meaning, Entry}
 use Rattle.lane_look.specs.Alone.{alone_length}
 use Rattle.lane_look.specs.Truth.{IsTrue}
-use Rattle.m0_core.specs.State.{State as Core}
 use Rattle.outer_lane.specs.Setting.{Setting}
 use Rattle.outer_lane.specs.State.{OuterState}
 use Rattle.rp_machine.specs.State.{State}
@@ -19,9 +18,9 @@ use Rattle.window_merge.specs.declared.questions.Questions.{Questions}
 use Rattle.window_merge.specs.Lanes.{around, core_lane, dma_lane, pio_lane, peripheral_lane}
 use Rattle.window_merge.specs.Window.{longest}
 use Rattle.window_merge.specs.Merging.{IsRunAlone}
-use Rattle.window_merge.specs.Jobs.{core_of, block_of, core_bound, IsTrueRun, IsTrueIn, IsAloneBy, IsAlone, start_of, length_of, longest_by}
+use Rattle.window_merge.specs.Jobs.{core_of, block_of, IsTrueRun, IsTrueIn, IsAloneBy, IsAlone, start_of, length_of, longest_by}
 use Rattle.window_merge.specs.Accept.{talk_alone, IsStrange, IsStrangeBy, IsStranger}
-use Rattle.window_merge.specs.Judged.{DifferAt, IsFirstOther, IsUnlike, IsUnlikeBy, Judges}
+use Rattle.window_merge.specs.Judged.{IsFirstOther, IsUnlike, IsUnlikeBy, Judges}
 use Rattle.window_merge.specs.Questions.{questions_of, asking_lane}
 use Rattle.window_merge.proofs.Quiet.{talk_quiet, length_quiet}
 use Rattle.window_merge.proofs.Reported.{longest_same}

@@ -125,12 +125,18 @@ fn words_of_one_bank_close_more(rt: HostRuntime) -> Result<(), Fail> {
     Ok(())
 }
 
-/// The report of a lane's run alone.
-fn report_of<X: Device>(machine: &Machine, world: &World<'_, X>, lane_job: LaneJob) -> LaneReport {
-    let mut lane_job = lane_job;
+/// The report of the run alone of the lane whose job is there.
+fn report_of<X: Device>(
+    machine: &Machine,
+    world: &World<'_, X>,
+    place: &mut Option<LaneJob>,
+) -> Result<LaneReport, Fail> {
+    let Some(mut lane_job) = place.take() else {
+        return Err("no job".into());
+    };
     lane_job.limit = world.limit;
     job(machine, &mut lane_job);
-    run_by(lane_job, world)
+    Ok(run_by(lane_job, world))
 }
 
 /// What is said of the reports of core 0 and of the peripherals by the machine that they were run from, by one whose first word
@@ -150,15 +156,9 @@ fn said_of<L: Ledger>(alloc: Global, blank: Blank) -> Result<[Result<(), Strange
         limit: 100,
     };
     let mut machine = Machine::boot(alloc, &image, &[], &world)?;
-    let Crew {
-        jobs,
-        spare: _spare,
-    } = Crew::new(alloc)?;
-    let [Some(core0), _, _, _, _, Some(outer)] = jobs else {
-        return Err("no jobs".into());
-    };
-    let core0 = report_of(&machine, &world, core0);
-    let outer = report_of(&machine, &world, outer);
+    let mut crew = Crew::new(alloc)?;
+    let core0 = report_of(&machine, &world, &mut crew.jobs[0])?;
+    let outer = report_of(&machine, &world, &mut crew.jobs[5])?;
     let here = accept(&machine, &core0);
     let outer_here = accept(&machine, &outer);
     machine.ram.write(0, 0xf, 0);

@@ -137,16 +137,22 @@ fn ends_wants(wants: &[Want; 2]) -> bool
         || !matches!(second, Want::Nothing | Want::Ram(_))
 }
 
-/// One cycle of a lane, as it is where it runs alone. Gives whether the run ends before this cycle.
-fn step<S: Lane<()>>(lane: &mut S, cycle: u64, walker: &mut Walker<'_, '_>) -> bool
+/// One cycle of a lane, as it is where it runs alone. Gives whether the run ends before this cycle. What was in `marks` is of no
+/// use, and what is left there too.
+fn step<S: Lane<()>>(
+    lane: &mut S,
+    cycle: u64,
+    walker: &mut Walker<'_, '_>,
+    marks: &mut Marks,
+) -> bool
     requires { length walker.old.words + 2 ≤ 512 }
     ensures { IsStepped (meaning S.asks S.wanted S.next S.marked) cycle lane.old lane.new walker.old
         walker.new result }
 {
-    let mut marks = Marks::new();
     let begun = lane.begin(&(), cycle, walker);
     let wants = S::wants(&begun);
-    finish_alone(lane, &(), &begun, &mut marks);
+    marks.clear();
+    finish_alone(lane, &(), &begun, marks);
     walker.store(&wants);
     ends_wants(&wants)
 }
@@ -161,9 +167,10 @@ fn walk<S: Lane<()>>(lane: &mut S, start: u64, cycles: u16, walker: &mut Walker<
     ensures { IsWalked (meaning S.asks S.wanted S.next S.marked) lane.old start walker.old cycles
         lane.new walker.new result }
 {
+    let mut marks = Marks::new();
     let mut ended = false;
     for k in 0..cycles {
-        if step(lane, start + u64::from(k), walker) {
+        if step(lane, start + u64::from(k), walker, &mut marks) {
             ended = true;
         }
     }

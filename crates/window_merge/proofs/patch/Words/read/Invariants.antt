@@ -1,4 +1,4 @@
-use Rattle.std.proofs.Common.{◌≡◌, take, length}
+use Rattle.std.proofs.Common.{◌≡◌, take}
 use Rattle.std.specs.Prelude.{slice_index}
 use Rattle.window_merge.specs.Patch.{patched}
 use Rattle.window_merge.proofs.patch.Words.read.Given as goal
