@@ -2,10 +2,12 @@
 
 ghost use Rattle.std.specs.Prelude.{◌≡◌, true, false, All, IsSome, IfSome};
 ghost use Rattle.outer_lane.specs.Setting.{setting_of};
+ghost use Rattle.crossbeam_utils.specs.Padded.{padded_value};
 ghost use Rattle.turn_board.specs.Tickets.{IsFree, IsUnfinished};
 ghost use Rattle.window_merge.specs.Jobs.{IsJobFor, IsTrueIn};
 
 use crate::piece::{Found, Piece};
+use crossbeam_utils::CachePadded;
 use lane_look::Device;
 use outer_lane::World;
 use rp_ports::gate::Gate;
@@ -82,7 +84,7 @@ fn serve<'w, X: Device, G: Gate, H: Wait>(
 #[derive(Drop)]
 struct Shift<'b, 'w, X: Device, G: Gate> {
     board: &'b Board<Piece, Found, &'w World<'w, X>>,
-    seat: Seat<Piece, Found, &'w World<'w, X>>,
+    seat: CachePadded<Seat<Piece, Found, &'w World<'w, X>>>,
     world: &'w World<'w, X>,
     gate: &'b G,
 }
@@ -90,9 +92,9 @@ struct Shift<'b, 'w, X: Device, G: Gate> {
 impl<'b, 'w, X: Device, G: Gate> Shift<'b, 'w, X, G> {
     /// Serves until the board is closed.
     fn work<H: Wait>(self, rt: &H)
-        requires board { self.seat.board ≡ self.board.now }
-        requires world { self.seat.made_for.now ≡ self.world.now }
-        requires free { IsFree self.seat.state }
+        requires board { (padded_value self.seat).board ≡ self.board.now }
+        requires world { (padded_value self.seat).made_for.now ≡ self.world.now }
+        requires free { IsFree (padded_value self.seat).state }
     {
         let Shift {
             board,
@@ -100,7 +102,7 @@ impl<'b, 'w, X: Device, G: Gate> Shift<'b, 'w, X, G> {
             world,
             gate,
         } = self;
-        serve(rt, board, seat, world, gate)
+        serve(rt, board, seat.into_inner(), world, gate)
     }
 }
 
@@ -129,15 +131,15 @@ impl<'b, 'w, X: Device, G: Gate> Hall<'b, 'w, X, G> {
         for seat in seats {
             let shift = Shift {
                 board,
-                seat,
+                seat: CachePadded::new(seat),
                 world,
                 gate,
             };
             let started = scope.spawn(
                 move || -> ()
-                    requires board { shift.seat.board ≡ shift.board.now }
-                    requires world { shift.seat.made_for.now ≡ shift.world.now }
-                    requires free { IsFree shift.seat.state }
+                    requires board { (padded_value shift.seat).board ≡ shift.board.now }
+                    requires world { (padded_value shift.seat).made_for.now ≡ shift.world.now }
+                    requires free { IsFree (padded_value shift.seat).state }
                 { shift.work(rt) },
             );
             if started.is_err() {
