@@ -270,6 +270,9 @@ fn watched_file<R: Threads + Wait + Sync>(
     file: &[u8],
     watch: &Watch,
 ) -> Result<Option<Ran>, AllocError> {
+    if file.len() > 16_777_216 {
+        return Ok(None);
+    }
     match read_image(alloc, file) {
         Ok(image) => watched::<Brand, R>(Blank::new(1), rt, alloc, &image, watch),
         Err(_) => Ok(None),
