@@ -2,7 +2,7 @@
 
 ghost use Rattle.std.specs.Prelude.{◌≡◌, ◌≤◌, ◌<◌};
 ghost use Rattle.outer_lane.specs.Setting.{setting_of};
-ghost use Rattle.reverse_debug.specs.Standing.{StandsFor};
+ghost use Rattle.reverse_debug.specs.Session.{StandsFor};
 
 use arrayvec::ArrayVec;
 use lane_look::{Device, NoDevice};

@@ -14,7 +14,7 @@ use Rattle.dma_engine.specs.declared.waiting.WaitingWrite.{WaitingWrite}
 use Rattle.dma_engine.specs.State.{Engine, idle_channel}
 use Rattle.dma_engine.specs.Asks.{waits_for_counts, write_begun, next_request, asks_read, asks, idle_begun}
 use Rattle.dma_engine.specs.Choice.{is_candidate, first_in_turn, choice_of}
-use Rattle.dma_engine.specs.Timers.{gets_credit, after_timers}
+use Rattle.dma_engine.specs.Timer.{gets_credit, after_timers}
 use Rattle.dma_engine.specs.Cycle.{is_over, after_ends, with_read_by, with_read, after_read, after_write, choice_where_none, after_choice, after_transfers, next, after_read_of, after_write_of}
 use Rattle.dma_engine.proofs.InTurn.{after_ends-none}
 use Rattle.dma_engine.proofs.TimersAtRest.{both_left, both_right, not_is, after_timers-at_rest}

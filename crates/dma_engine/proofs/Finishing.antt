@@ -3,7 +3,7 @@ use Rattle.std.proofs.Common.{◌≡◌, ℕ, ◌<◌, Bool, true, false, cond, 
 use Rattle.lane_look.specs.declared.lane.Turn.{Turn}
 use Rattle.dma_engine.specs.declared.begun.BegunTransfer.{BegunTransfer}
 use Rattle.dma_engine.specs.State.{Engine}
-use Rattle.dma_engine.specs.Timers.{gets_credit, after_timers}
+use Rattle.dma_engine.specs.Timer.{gets_credit, after_timers}
 use Rattle.dma_engine.specs.Cycle.{after_transfers, next}
 use Rattle.dma_engine.proofs.InTurn.{after_timers-same}
 

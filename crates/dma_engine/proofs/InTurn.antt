@@ -1,8 +1,8 @@
 -- Channels in turn, from 0 up.
 use Rattle.std.proofs.Common.{◌≡◌, ℕ, zero, suc, ◌+◌, ◌<◌, ◌≤◌, Bool, true, false, refl, ap, arith, add-one}
 use Rattle.dma_engine.specs.State.{Engine}
-use Rattle.dma_engine.specs.Channels.{in_turn, with_end}
-use Rattle.dma_engine.specs.Timers.{with_credit, with_stepped_timers, after_timers}
+use Rattle.dma_engine.specs.Channel.{in_turn, with_end}
+use Rattle.dma_engine.specs.Timer.{with_credit, with_stepped_timers, after_timers}
 use Rattle.dma_engine.specs.Cycle.{is_over, after_ends}
 
 pub in_turn-none : (test : ℕ → Bool) (act : ℕ → Engine → Engine) (e : Engine) → in_turn test act 0 e ≡ e

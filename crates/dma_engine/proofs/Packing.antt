@@ -1,7 +1,7 @@
 -- What was packed at an index is taken from there.
 use Rattle.std.proofs.Common.{◌≡◌, ℕ, zero, suc, ◌+◌, ◌*◌, ◌/◌, ◌%◌, ◌^◌, ◌≤◌, [], ◌∷◌, ap, sym, ◌∙◌, arith}
 use Rattle.std.proofs.lemmas.Nat.{shr-shr}
-use Rattle.dma_engine.specs.Pacing.{packed_counts, CountsAreTakenAsPacked}
+use Rattle.dma_engine.specs.Pace.{packed_counts, CountsAreTakenAsPacked}
 
 first : (count rest : ℕ) → count ≤ 63 → (count + rest * 2 ^ 6) % 2 ^ 6 ≡ count
 first count rest h = omega arith

@@ -8,7 +8,7 @@ use Rattle.dma_engine.specs.declared.timer.PacingTimer.{PacingTimer}
 use Rattle.dma_engine.specs.State.{Engine, channel_at}
 use Rattle.dma_engine.specs.Control.{treq_of}
 use Rattle.dma_engine.specs.Choice.{pace_of}
-use Rattle.dma_engine.specs.Timers.{gives, stepped, given_by, is_given, gets_credit, with_credit, with_stepped_timers, after_timers}
+use Rattle.dma_engine.specs.Timer.{gives, stepped, given_by, is_given, gets_credit, with_credit, with_stepped_timers, after_timers}
 use Rattle.dma_engine.specs.Rest.{is_idle_timer}
 use Rattle.dma_engine.proofs.InTurn.{in_turn-all_failing}
 

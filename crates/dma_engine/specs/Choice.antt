@@ -8,7 +8,7 @@ use Rattle.dma_engine.specs.declared.waiting.WaitingWrite.{WaitingWrite}
 use Rattle.dma_engine.specs.declared.pace.Pace.{Pace}
 use Rattle.dma_engine.specs.declared.pace.Pace.TheVariants as pace
 use Rattle.dma_engine.specs.Control.{is_high, treq_of}
-use Rattle.dma_engine.specs.Pacing.{count_at}
+use Rattle.dma_engine.specs.Pace.{count_at}
 use Rattle.dma_engine.specs.State.{Engine, channel_at}
 
 -- ---- what paces a channel

@@ -15,9 +15,9 @@ use Rattle.dma_engine.specs.declared.pace.Pace.{Pace}
 use Rattle.dma_engine.specs.declared.pace.Pace.TheVariants as pace
 use Rattle.dma_engine.specs.Control.{treq_of}
 use Rattle.dma_engine.specs.Choice.{pace_of, choice_of}
-use Rattle.dma_engine.specs.Channels.{in_turn, changed, with_end}
+use Rattle.dma_engine.specs.Channel.{in_turn, changed, with_end}
 use Rattle.dma_engine.specs.Transfer.{moved, write_after}
-use Rattle.dma_engine.specs.Timers.{gets_credit, after_timers}
+use Rattle.dma_engine.specs.Timer.{gets_credit, after_timers}
 use Rattle.dma_engine.specs.State.{Engine, channel_at}
 
 -- ---- wants

@@ -1,13 +1,13 @@
 pub mod Asks
 pub mod Bounds
-pub mod Channels
+pub mod Channel
 pub mod Choice
 pub mod Control
 pub mod Cycle
 pub mod Laws
-pub mod Pacing
+pub mod Pace
 pub mod Rest
 pub mod State
-pub mod Timers
+pub mod Timer
 pub mod Transfer
 pub mod Words

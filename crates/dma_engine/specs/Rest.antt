@@ -7,7 +7,7 @@ use Rattle.lane_look.specs.Asking.Asking.{Ready}
 use Rattle.lane_look.specs.declared.lane.Turn.{Turn}
 use Rattle.lane_look.specs.declared.lane.Want.TheVariants as want
 use Rattle.dma_engine.specs.declared.begun.BegunTransfer.{BegunTransfer}
-use Rattle.dma_engine.specs.Timers.{runs}
+use Rattle.dma_engine.specs.Timer.{runs}
 use Rattle.dma_engine.specs.Asks.{asks, idle_begun}
 use Rattle.dma_engine.specs.Cycle.{wanted, next}
 use Rattle.dma_engine.specs.State.{Engine}

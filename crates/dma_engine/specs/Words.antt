@@ -10,7 +10,7 @@ use Rattle.dma_engine.specs.declared.registers.Register.TheVariants.{ReadAddress
 use Rattle.dma_engine.specs.declared.timer.PacingTimer.{PacingTimer}
 use Rattle.dma_engine.specs.declared.line.InterruptLine.{InterruptLine}
 use Rattle.dma_engine.specs.Control.{is_quiet}
-use Rattle.dma_engine.specs.Channels.{changed, with_trigger, with_abort, with_raised, in_turn}
+use Rattle.dma_engine.specs.Channel.{changed, with_trigger, with_abort, with_raised, in_turn}
 use Rattle.dma_engine.specs.State.{Engine, channel_at, timer_at}
 
 -- ---- channels: sixteen words of each, its four registers in four orders

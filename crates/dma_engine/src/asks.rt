@@ -2,7 +2,7 @@
 
 ghost use Rattle.std.specs.Prelude.{◌≡◌, ◌%◌, ◌^◌};
 ghost use Rattle.std.specs.List.{list_any};
-ghost use Rattle.rp_base.specs.AddressMap.{place_of};
+ghost use Rattle.rp_base.specs.Map.{place_of};
 ghost use Rattle.lane_look.specs.Asking.{Runs};
 ghost use Rattle.dma_engine.specs.Asks.{may_be_device, elsewhere, write_for, write_begun, next_request, asks_for, asks_read, waits_for_counts, asks};
 

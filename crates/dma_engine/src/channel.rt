@@ -2,7 +2,7 @@
 
 ghost use Rattle.std.specs.Prelude.{◌≡◌, ◌<◌};
 ghost use Rattle.dma_engine.specs.Control.{is_enabled, is_high, size_of, increments_read, increments_write, ring_of, rings_write, chain_of, treq_of, is_quiet, swaps};
-ghost use Rattle.dma_engine.specs.Channels.{triggered, aborted, idle};
+ghost use Rattle.dma_engine.specs.Channel.{triggered, aborted, idle};
 
 use rp_base::Size;
 

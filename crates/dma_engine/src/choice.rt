@@ -3,7 +3,7 @@
 ghost use Rattle.std.specs.Prelude.{◌≡◌, ◌<◌, ◌≤◌, false, Some};
 ghost use Rattle.dma_engine.specs.State.{channel_at};
 ghost use Rattle.dma_engine.specs.Control.{is_high};
-ghost use Rattle.dma_engine.specs.Pacing.{count_at};
+ghost use Rattle.dma_engine.specs.Pace.{count_at};
 ghost use Rattle.dma_engine.specs.Choice.{is_paced_by, chosen_by, unread, writes_of, unwritten, is_ready, is_candidate, or_else, choice_of};
 
 use crate::channel::Channel;

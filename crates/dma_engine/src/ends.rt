@@ -2,7 +2,7 @@
 
 ghost use Rattle.std.specs.Prelude.{◌≡◌, ◌<◌, ℕ, false, slice_index_or};
 ghost use Rattle.word_bits.specs.Word.{has_bit};
-ghost use Rattle.dma_engine.specs.Channels.{with_trigger, with_abort, with_raised, with_report, with_chain, with_end_of, with_end, in_turn};
+ghost use Rattle.dma_engine.specs.Channel.{with_trigger, with_abort, with_raised, with_report, with_chain, with_end_of, with_end, in_turn};
 ghost use Rattle.dma_engine.specs.Cycle.{is_chosen, has_write, is_in_flight, is_over, after_ends};
 
 use crate::channel::Channel;
@@ -19,7 +19,7 @@ fn has_write(writes: &[WaitingWrite], number: u8) -> bool
 
 impl Engine {
     /// Triggers a channel.
-    #[tactic(auto, unfolding(crate::specs::Channels::with_trigger))]
+    #[tactic(auto, unfolding(crate::specs::Channel::with_trigger))]
     pub(crate) fn trigger(&mut self, number: u8)
         ensures { self.new ≡ with_trigger number self.old }
     {
@@ -30,7 +30,7 @@ impl Engine {
     }
 
     /// Aborts the sequence of a channel.
-    #[tactic(auto, unfolding(crate::specs::Channels::with_abort))]
+    #[tactic(auto, unfolding(crate::specs::Channel::with_abort))]
     fn abort(&mut self, number: u8)
         ensures { self.new ≡ with_abort number self.old }
     {
@@ -89,7 +89,7 @@ impl Engine {
     }
 
     /// The channel's sequence ends.
-    #[tactic(auto, unfolding(crate::specs::Channels::with_end))]
+    #[tactic(auto, unfolding(crate::specs::Channel::with_end))]
     fn end(&mut self, number: u8)
         requires { number < 12 }
         ensures { self.new ≡ with_end number self.old }

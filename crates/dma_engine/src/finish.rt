@@ -7,10 +7,10 @@ ghost use Rattle.lane_look.specs.declared.lane.Turn.{Turn};
 ghost use Rattle.dma_engine.specs.Control.{treq_of};
 ghost use Rattle.dma_engine.specs.Choice.{pace_of};
 ghost use Rattle.dma_engine.specs.State.{channel_at};
-ghost use Rattle.dma_engine.specs.Timers.{gives, stepped, given_by, is_given, gets_credit, more_credits, credited, with_credit, after_timers};
+ghost use Rattle.dma_engine.specs.Timer.{gives, stepped, given_by, is_given, gets_credit, more_credits, credited, with_credit, after_timers};
 ghost use Rattle.dma_engine.specs.Rest.{is_idle_channel, is_idle_timer, is_at_rest};
 ghost use Rattle.dma_engine.specs.Cycle.{want_of, word_of, word_read, with_data, with_read, is_written, after_write, credits_left, counted, after_choice, after_transfers, next};
-ghost use Rattle.dma_engine.specs.Channels.{in_turn};
+ghost use Rattle.dma_engine.specs.Channel.{in_turn};
 
 use crate::begun::{Access, BegunTransfer};
 use crate::channel::Channel;
@@ -236,7 +236,7 @@ impl Engine {
     }
 
     /// The pacing timers have their cycle, in which these channels get a credit.
-    #[tactic(auto, unfolding(crate::specs::Timers::after_timers))]
+    #[tactic(auto, unfolding(crate::specs::Timer::after_timers))]
     fn step_timers(&mut self, credited: &[bool; 12])
         ensures { self.new ≡ after_timers (λ k. slice_index_or credited.now k false) self.old }
     {

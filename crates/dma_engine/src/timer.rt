@@ -1,7 +1,7 @@
 //! A pacing timer.
 
 ghost use Rattle.std.specs.Prelude.{◌≡◌, ◌≤◌};
-ghost use Rattle.dma_engine.specs.Timers.{runs, step_of, gives, accumulated, stepped};
+ghost use Rattle.dma_engine.specs.Timer.{runs, step_of, gives, accumulated, stepped};
 
 /// One pacing timer (RP2040 Datasheet, 2.5.7, TIMER0): it gives a credit in X of each Y cycles.
 #[derive(Clone, Copy, PartialEq, Eq)]

@@ -142,7 +142,7 @@ impl Engine {
     }
 
     /// A word that was written in a trigger word.
-    #[tactic(auto, unfolding(crate::specs::Channels::with_trigger))]
+    #[tactic(auto, unfolding(crate::specs::Channel::with_trigger))]
     fn write_trigger(&mut self, number: u16, word: u32)
         ensures { self.new ≡ trigger_word number word self.old }
     {

@@ -3,11 +3,11 @@ use Rattle.std.proofs.Common.{◌≡◌, ℕ, ◌+◌, ◌-◌, ◌≤◌, nat_l
 use Rattle.std.proofs.lemmas.Bool.Decides.{nat_tests}
 use Rattle.outer_lane.specs.Setting.{Setting}
 use Rattle.rp_machine.specs.State.{State}
-use Rattle.snap_ring.specs.Snapshots.{spacing_of}
-use Rattle.reverse_debug.specs.Commands.{Command, is_quit, command_of}
-use Rattle.reverse_debug.specs.Commands.Command.{Step, Back, Goto, End, Regs, Mem, Pins, Pio, LastWrite, Quit, Bad}
-use Rattle.reverse_debug.specs.Replies.{move_cost, command_cost, answer, heard, cost}
-use Rattle.reverse_debug.specs.Standing.{Standing, first_of, StandsFor}
+use Rattle.snap_ring.specs.Ring.{spacing_of}
+use Rattle.reverse_debug.specs.Command.{Command, is_quit, command_of}
+use Rattle.reverse_debug.specs.Command.Command.{Step, Back, Goto, End, Regs, Mem, Pins, Pio, LastWrite, Quit, Bad}
+use Rattle.reverse_debug.specs.Reply.{move_cost, command_cost, answer, heard, cost}
+use Rattle.reverse_debug.specs.Session.{Standing, first_of, StandsFor}
 use Rattle.reverse_debug.proofs.Moves.{quits_exactly}
 use Rattle.line_talk.specs.Talk.{spent_on}
 use Rattle.line_talk.specs.Debugger.{quits, talk_of}

@@ -11,9 +11,9 @@ use Rattle.trace_text.specs.declared.writer.SinkFault.{SinkFault}
 use Rattle.line_talk.specs.declared.way.Way.{Way}
 use Rattle.line_talk.specs.declared.way.Way.TheVariants.{Closed, Ended, Broken, Full}
 use Rattle.line_talk.specs.Lines.{line_limit, complete_lines, open_line, unless_empty, all_lines, until, has_last, closes}
-use Rattle.line_talk.specs.Hearing.{MayEnd, lines_heard, BearsOut, IsTaken, status_by}
+use Rattle.line_talk.specs.Hear.{MayEnd, lines_heard, BearsOut, IsTaken, status_by}
 use Rattle.line_talk.specs.Talk.{Talk, text_from, place_after, cost_from, said_to, spent_on, Hears}
-use Rattle.line_talk.specs.Going.{Answered, Along, CutOff, IsClosed, Feeds, Finishes, Taking, Turns}
+use Rattle.line_talk.specs.Way.{Answered, Along, CutOff, IsClosed, Feeds, Finishes, Taking, Turns}
 use Rattle.line_talk.specs.declared.hear.Turn.{Turn}
 use Rattle.line_talk.specs.declared.hear.Turn.TheVariants.{Took, Over}
 use Rattle.std.specs.Option.{option_map}

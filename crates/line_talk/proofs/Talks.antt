@@ -10,7 +10,7 @@ use Rattle.trace_text.proofs.Sending.{part_of_longer, part_behind, rose_later}
 use Rattle.trace_text.specs.declared.writer.SinkFault.{SinkFault}
 use Rattle.line_talk.specs.Lines.{line_limit, line_of, complete_from, complete_lines, open_line, has_last, closes, until}
 use Rattle.line_talk.specs.Talk.{Talk, text_from, place_after, cost_from, said_to, spent_on}
-use Rattle.line_talk.specs.Going.{Answered, Along, CutOff, IsClosed, Feeds}
+use Rattle.line_talk.specs.Way.{Answered, Along, CutOff, IsClosed, Feeds}
 use Rattle.line_talk.proofs.LineLists.{complete_append, complete_grows, open_grows, complete_ends, open_ends, closes_more, has_last_both, until_more, until_last, last_closes, kept_both}
 
 -- ---- lines behind lines

@@ -2,10 +2,10 @@
 use Rattle.std.specs.Prelude.{ℕ, Bool, List}
 use Rattle.outer_lane.specs.Setting.{Setting}
 use Rattle.rp_machine.specs.State.{State}
-use Rattle.snap_ring.specs.Snapshots.{spacing_of}
-use Rattle.reverse_debug.specs.Commands.{is_quit, command_of}
-use Rattle.reverse_debug.specs.Replies.{heard, cost}
-use Rattle.reverse_debug.specs.Standing.{Standing, first_of}
+use Rattle.snap_ring.specs.Ring.{spacing_of}
+use Rattle.reverse_debug.specs.Command.{is_quit, command_of}
+use Rattle.reverse_debug.specs.Reply.{heard, cost}
+use Rattle.reverse_debug.specs.Session.{Standing, first_of}
 use Rattle.line_talk.specs.Talk.{Talk}
 
 -- the line that ends a session

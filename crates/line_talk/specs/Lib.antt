@@ -1,5 +1,5 @@
 pub mod Debugger
-pub mod Hearing
+pub mod Hear
 pub mod Lines
 pub mod Talk
-pub mod Going
+pub mod Way

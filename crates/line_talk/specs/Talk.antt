@@ -4,7 +4,7 @@ use Rattle.trace_text.specs.Sent.{Sends}
 use Rattle.trace_text.specs.declared.writer.SinkFault.{SinkFault}
 use Rattle.line_talk.specs.declared.way.Way.{Way}
 use Rattle.line_talk.specs.Lines.{closes}
-use Rattle.line_talk.specs.Hearing.{MayEnd, IsTaken, lines_heard, status_by}
+use Rattle.line_talk.specs.Hear.{MayEnd, IsTaken, lines_heard, status_by}
 
 -- Who answers stands at a place, a number. To a line there it has a reply, goes to a next place, and takes at most so many steps.
 -- A last line ends the talk and has no reply.

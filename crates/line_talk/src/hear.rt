@@ -5,11 +5,11 @@ ghost use Rattle.std.specs.Str.Lines.{strip_carriage_return};
 ghost use Rattle.arrayvec.specs.ArrayVec.{array_vec_len};
 ghost use Rattle.trace_text.specs.Sent.{Sends};
 ghost use Rattle.outer_lane.specs.Setting.{setting_of};
-ghost use Rattle.reverse_debug.specs.Standing.{first_of, StandsFor};
+ghost use Rattle.reverse_debug.specs.Session.{first_of, StandsFor};
 ghost use Rattle.line_talk.specs.Debugger.{talk_with};
 ghost use Rattle.line_talk.specs.Lines.{all_lines};
 ghost use Rattle.line_talk.specs.Talk.{Talk, said_to, spent_on, Hears};
-ghost use Rattle.line_talk.specs.Going.{Along, Feeds, Finishes, Taking, Turns};
+ghost use Rattle.line_talk.specs.Way.{Along, Feeds, Finishes, Taking, Turns};
 
 use crate::way::Way;
 use arrayvec::ArrayVec;

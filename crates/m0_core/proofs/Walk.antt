@@ -4,7 +4,7 @@ use Rattle.std.specs.Prelude.{Option, Some, None, map, slice_get}
 use Rattle.rp_base.specs.declared.Request.{Request}
 use Rattle.rp_base.specs.declared.map.Spot.{Spot}
 use Rattle.rp_base.specs.declared.map.Spot.TheVariants as spot
-use Rattle.rp_base.specs.AddressMap.{place_of}
+use Rattle.rp_base.specs.Map.{place_of}
 use Rattle.rp_base.specs.Access.{lanes_of}
 use Rattle.m0_beats.specs.declared.timing.Beat.{Beat}
 use Rattle.m0_beats.specs.declared.timing.Beat.TheVariants.{Inner, Access}

@@ -1,7 +1,7 @@
 //! What a core asks in a cycle.
 
 ghost use Rattle.std.specs.Prelude.{◌≡◌, ◌%◌, ◌^◌};
-ghost use Rattle.rp_base.specs.AddressMap.{place_of};
+ghost use Rattle.rp_base.specs.Map.{place_of};
 ghost use Rattle.lane_look.specs.Asking.{Runs};
 ghost use Rattle.lane_look.specs.Asking.Asking.{Ready};
 ghost use Rattle.rp_base.specs.Access.{master_of};
@@ -25,7 +25,7 @@ use thumb_rows::{decode, is_long};
 
 /// An address of SRAM. Most are in its striped view, which costs one test.
 #[inline(always)]
-#[tactic(auto, unfolding(crate::specs::Fetch::is_ram, rp_base::specs::AddressMap::place_of))]
+#[tactic(auto, unfolding(crate::specs::Fetch::is_ram, rp_base::specs::Map::place_of))]
 fn is_ram(address: u32) -> bool
     ensures { result ≡ is_ram address }
 {

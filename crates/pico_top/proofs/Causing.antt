@@ -14,7 +14,7 @@ use Rattle.refusal_lines.specs.Refusals.{Refusal, line_of, status_of}
 use Rattle.refusal_lines.specs.Refusals.Refusal.{BadWords, Lost, TooLarge, BadImage, BadScript, BadSource}
 use Rattle.pico_top.specs.Call.{Asked, read_from, Outside}
 use Rattle.line_talk.specs.declared.way.Way.{Way}
-use Rattle.line_talk.specs.Hearing.{way_status}
+use Rattle.line_talk.specs.Hear.{way_status}
 use Rattle.line_talk.specs.declared.way.Way.TheVariants.{Closed, Ended, Broken, Full}
 use Rattle.pico_top.specs.Walk.{Ending, WalksFrom, failed_names}
 use Rattle.pico_top.specs.Walk.Ending.{Said, Heard, Refused, NoMemory}

@@ -10,7 +10,7 @@ use Rattle.command_words.specs.Words.{Command}
 use Rattle.pico_top.specs.Call.{Asked, read_from, Outside}
 use Rattle.line_talk.specs.Lines.{closes}
 use Rattle.line_talk.specs.declared.way.Way.{Way}
-use Rattle.line_talk.specs.Hearing.{MayEnd, way_status, IsTaken}
+use Rattle.line_talk.specs.Hear.{MayEnd, way_status, IsTaken}
 use Rattle.line_talk.specs.declared.way.Way.TheVariants.{Closed, Ended, Broken, Full}
 use Rattle.pico_top.specs.Walk.{Ending, WalksFrom, failed_names, Verdict, verdict_from, status_over}
 use Rattle.pico_top.specs.Walk.Verdict.{Refuses, Says, Hears}

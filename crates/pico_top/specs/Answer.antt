@@ -7,7 +7,7 @@ use Rattle.board_parts.specs.Probe.{ProbeMeaning}
 use Rattle.command_words.specs.Words.{Command}
 use Rattle.refusal_lines.specs.Refusals.{line_of, status_of}
 use Rattle.pico_top.specs.Call.{Asked, read_from, Outside}
-use Rattle.line_talk.specs.Hearing.{way_status, IsTaken}
+use Rattle.line_talk.specs.Hear.{way_status, IsTaken}
 use Rattle.pico_top.specs.Dialogue.{Cost}
 use Rattle.pico_top.specs.Dialogue.Cost.{Exactly, AtMost}
 use Rattle.pico_top.specs.Walk.{Ending, WalksFrom, failed_names}

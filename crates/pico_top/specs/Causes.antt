@@ -8,7 +8,7 @@ use Rattle.refusal_lines.specs.Refusals.{Refusal, status_of}
 use Rattle.refusal_lines.specs.Refusals.Refusal.{Lost, TooLarge, BadImage, BadScript, BadSource}
 use Rattle.pico_top.specs.Call.{Asked, read_from, Outside}
 use Rattle.line_talk.specs.declared.way.Way.{Way}
-use Rattle.line_talk.specs.Hearing.{IsTaken}
+use Rattle.line_talk.specs.Hear.{IsTaken}
 use Rattle.line_talk.specs.declared.way.Way.TheVariants.{Broken, Full}
 use Rattle.pico_top.specs.Dialogue.{Cost}
 use Rattle.pico_top.specs.Walk.{Verdict, WalksFrom, verdict_from, status_over, failed_names}

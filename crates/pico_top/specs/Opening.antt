@@ -17,7 +17,7 @@ use Rattle.pin_script.specs.Script.{script_of}
 use Rattle.pin_script.specs.declared.entry.Entry.{Entry as ScriptEntry}
 use Rattle.rp_machine.specs.Boot.{AreLoads}
 use Rattle.command_words.specs.Entries.{Entry}
-use Rattle.reverse_debug.specs.Standing.{first_of, OpensAt}
+use Rattle.reverse_debug.specs.Session.{first_of, OpensAt}
 use Rattle.rp_machine.specs.State.{State}
 use Rattle.window_merge.specs.Merging.{IsRested}
 use Rattle.pico_top.specs.declared.open.Started.{Started}

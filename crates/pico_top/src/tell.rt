@@ -12,8 +12,8 @@ ghost use Rattle.pico_top.specs.RunText.{core_lines, counts_text, probe_lines, r
 ghost use Rattle.pico_top.specs.Answer.{Puts, RunsOut};
 ghost use Rattle.pico_top.specs.Running.{RunsTo};
 ghost use Rattle.line_talk.specs.Debugger.{quits};
-ghost use Rattle.line_talk.specs.Hearing.{way_line, way_status};
-ghost use Rattle.reverse_debug.specs.Standing.{first_of, OpensAt};
+ghost use Rattle.line_talk.specs.Hear.{way_line, way_status};
+ghost use Rattle.reverse_debug.specs.Session.{first_of, OpensAt};
 ghost use Rattle.pico_top.specs.Dialogue.{input_limit, session_told};
 ghost use Rattle.pico_top.specs.Dialogue.Cost.{Exactly};
 ghost use Rattle.pico_top.specs.Dialogue.Dialogue.{Hear, Say};

@@ -6,7 +6,7 @@ use Rattle.rp_machine.specs.State.{State}
 use Rattle.rp_machine.specs.Cycle.{stop, next}
 use Rattle.rp_machine.specs.Run.{states}
 use Rattle.rp_machine.proofs.Runs.{states_here, states_on}
-use Rattle.reverse_debug.specs.Replies.{word_at, last_cycle, changes, last_write}
+use Rattle.reverse_debug.specs.Reply.{word_at, last_cycle, changes, last_write}
 use Rattle.reverse_debug.specs.Advance.{Advances, CountsMove}
 use Rattle.reverse_debug.proofs.Paths.{Path, path_here, path_join, path_last, none_first}
 

@@ -3,7 +3,7 @@ use Rattle.std.proofs.Common.{◌≡◌, ◌<◌, ℕ, ◌+◌, ◌*◌, ◌^◌
 use Rattle.std.proofs.Math.Nat.{pow-zero, pow-succ', pow-le-pow_right}
 use Rattle.std.proofs.lemmas.Bool.{cases_Bool}
 use Rattle.std.specs.List.{list_all}
-use Rattle.reverse_debug.specs.Commands.{value_in}
+use Rattle.reverse_debug.specs.Command.{value_in}
 
 -- the number of the digits, where those before them stand for n
 abbrev pub digits_from : ℕ → (ℕ → Bool) → (ℕ → ℕ) → ℕ → List ℕ → Option ℕ

@@ -2,7 +2,7 @@
 use Rattle.std.proofs.Common.{◌≡◌, ℕ, suc, ◌+◌, ◌-◌, ◌<◌, List, [], ◌∷◌, ◌++◌, flat_map, drop, length, get_or, refl, sym, ap, arith, ◌∙◌, append_assoc, append-nil}
 use Rattle.std.specs.List.{range_with_len}
 use Rattle.trace_text.specs.Line.{hex_word, spaced_word}
-use Rattle.reverse_debug.specs.Replies.{pio_words}
+use Rattle.reverse_debug.specs.Reply.{pio_words}
 
 -- one piece more, where the rest begins with its item
 pub piece_more : (f : ℕ → List ℕ) (now after : List ℕ) (x : ℕ) (left rest : List ℕ) (whole : List ℕ) → left ≡ x ∷ rest → now ++ flat_map f left ≡ whole → after ≡ now ++ f x → after ++ flat_map f rest ≡ whole

@@ -9,14 +9,14 @@ use Rattle.outer_lane.specs.Setting.{Setting}
 use Rattle.rp_machine.specs.State.{State}
 use Rattle.rp_machine.specs.Cycle.{stop}
 use Rattle.rp_machine.specs.Run.{last_state}
-use Rattle.reverse_debug.specs.Replies.{Said, said, last_cycle, at_last, at_reply, moved_to, moved_back, move_cost, answer, heard, command_cost}
-use Rattle.reverse_debug.specs.Commands.{Command, is_quit, command_of}
-use Rattle.reverse_debug.specs.Commands.Command.{Step, Back, Goto, End, Regs, Mem, Pins, Pio, LastWrite, Quit, Bad}
+use Rattle.reverse_debug.specs.Reply.{Said, said, last_cycle, at_last, at_reply, moved_to, moved_back, move_cost, answer, heard, command_cost}
+use Rattle.reverse_debug.specs.Command.{Command, is_quit, command_of}
+use Rattle.reverse_debug.specs.Command.Command.{Step, Back, Goto, End, Regs, Mem, Pins, Pio, LastWrite, Quit, Bad}
 use Rattle.reverse_debug.specs.declared.command.Command.{Command as Asked}
 use Rattle.reverse_debug.specs.declared.command.Command.TheVariants as code
 use Rattle.reverse_debug.specs.Reading.{meant, Fits}
 use Rattle.reverse_debug.specs.Advance.{CountsMove}
-use Rattle.reverse_debug.specs.Standing.{Standing, first_of, StandsFor, StaysFor, GoesOn, Lands, Does}
+use Rattle.reverse_debug.specs.Session.{Standing, first_of, StandsFor, StaysFor, GoesOn, Lands, Does}
 use Rattle.reverse_debug.proofs.Paths.{path_last, last_within}
 use Rattle.reverse_debug.proofs.Sessions.{now_in_last, now_low, path_of, stays_here, stays_on}
 

@@ -7,7 +7,7 @@ use Rattle.rp_machine.specs.Cycle.{stop, next}
 use Rattle.rp_machine.specs.Run.{states, last_state, unless_stopped}
 use Rattle.rp_machine.proofs.Runs.{states_here, states_on, below_limit, next_cycle}
 use Rattle.rp_machine.proofs.Joining.{join}
-use Rattle.reverse_debug.specs.Replies.{last_cycle}
+use Rattle.reverse_debug.specs.Reply.{last_cycle}
 use Rattle.reverse_debug.specs.Advance.{Advances, CountsMove}
 
 -- the run from one state comes to another

@@ -3,9 +3,9 @@ use Rattle.std.proofs.Common.{◌≡◌, ◌⊎◌, ◌*◌, ◌^◌, ◌%◌, �
 use Rattle.std.proofs.lemmas.Bool.{cases_Bool, cases_lt}
 use Rattle.std.proofs.lemmas.Bool.Decides.{nat_tests}
 use Rattle.std.specs.List.{slice_split, onto_first, list_all}
-use Rattle.rp_base.specs.AddressMap.{Range, ranges, place_by, place_of}
-use Rattle.reverse_debug.specs.Commands.{words, command_by, command_of, is_ram, addresses, are_words}
-use Rattle.reverse_debug.specs.Commands.Command.{Bad}
+use Rattle.rp_base.specs.Map.{Range, ranges, place_by, place_of}
+use Rattle.reverse_debug.specs.Command.{words, command_by, command_of, is_ram, addresses, are_words}
+use Rattle.reverse_debug.specs.Command.Command.{Bad}
 
 -- there is always a word
 some_word : (p : ℕ → Bool) (xs : List ℕ) → (q : List ℕ) × (qs : List (List ℕ)) × (slice_split p xs ≡ q ∷ qs)

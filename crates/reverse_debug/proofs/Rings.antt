@@ -5,7 +5,7 @@ use Rattle.std.proofs.Math.Nat.{mul-add-mod_self_left, div-add-mod, mod-eq_of_lt
 use Rattle.outer_lane.specs.Setting.{Setting}
 use Rattle.rp_machine.specs.State.{State}
 use Rattle.rp_machine.specs.Run.{states}
-use Rattle.snap_ring.specs.Snapshots.{Snapshots, is_kept, is_due, kept_with, state_at, restored}
+use Rattle.snap_ring.specs.Ring.{Snapshots, is_kept, is_due, kept_with, state_at, restored}
 
 -- ---- multiples of a spacing
 

@@ -8,11 +8,11 @@ use Rattle.outer_lane.specs.Setting.{Setting}
 use Rattle.rp_machine.specs.State.{State}
 use Rattle.rp_machine.specs.Cycle.{stop}
 use Rattle.rp_machine.specs.Run.{states}
-use Rattle.snap_ring.specs.Snapshots.{Snapshots, spacing_of, is_kept, is_due, kept_with, state_at, restored, IsGreatest, IsNearest}
+use Rattle.snap_ring.specs.Ring.{Snapshots, spacing_of, is_kept, is_due, kept_with, state_at, restored, IsGreatest, IsNearest}
 use Rattle.window_merge.specs.Merging.{IsRested}
-use Rattle.reverse_debug.specs.Replies.{last_cycle}
+use Rattle.reverse_debug.specs.Reply.{last_cycle}
 use Rattle.reverse_debug.specs.Advance.{Advances}
-use Rattle.reverse_debug.specs.Standing.{Standing, first_of, IsAlong, StandsFor, OpensAt, StaysFor, GoesOn, Lands}
+use Rattle.reverse_debug.specs.Session.{Standing, first_of, IsAlong, StandsFor, OpensAt, StaysFor, GoesOn, Lands}
 use Rattle.reverse_debug.proofs.Paths.{Path, path_join, path_in_last, last_within, none_first}
 use Rattle.reverse_debug.proofs.Windows.{rested_on}
 use Rattle.reverse_debug.proofs.Rings.{next_multiple, multiple_below, restored_cycle, restored_any, spacing_stays, kept_still, kept_now, one_of_run, one_below, found_still}

@@ -3,9 +3,9 @@ use Rattle.std.proofs.Common.{◌≡◌, ℕ, ◌+◌, ◌≤◌, Option, sym, a
 use Rattle.outer_lane.specs.Setting.{Setting}
 use Rattle.rp_machine.specs.State.{State}
 use Rattle.rp_machine.specs.Run.{states}
-use Rattle.snap_ring.specs.Snapshots.{state_at, restored}
-use Rattle.reverse_debug.specs.Replies.{last_cycle, last_write}
-use Rattle.reverse_debug.specs.Standing.{Standing, first_of, StandsFor}
+use Rattle.snap_ring.specs.Ring.{state_at, restored}
+use Rattle.reverse_debug.specs.Reply.{last_cycle, last_write}
+use Rattle.reverse_debug.specs.Session.{Standing, first_of, StandsFor}
 use Rattle.reverse_debug.proofs.Sessions.{now_in_last}
 
 -- v is what the parts of the session stand for, and s the machine that was set to the first state

@@ -1,5 +1,5 @@
 pub mod Advance
-pub mod Commands
+pub mod Command
 pub mod Reading
-pub mod Replies
-pub mod Standing
+pub mod Reply
+pub mod Session

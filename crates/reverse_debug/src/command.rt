@@ -1,7 +1,7 @@
 //! The commands, and how a line asks for them.
 
 ghost use Rattle.std.specs.Prelude.{◌≡◌, not};
-ghost use Rattle.reverse_debug.specs.Commands.{is_quit, command_of, alone, with_one, with_two, mem_of, last_write_of, pio_of};
+ghost use Rattle.reverse_debug.specs.Command.{is_quit, command_of, alone, with_one, with_two, mem_of, last_write_of, pio_of};
 ghost use Rattle.reverse_debug.specs.Reading.{meant, Fits};
 
 use crate::words::{address_of, are_words, first_word, is, number_of};
@@ -139,7 +139,7 @@ fn with_two(name: &[u8], first: &[u8], second: &[u8]) -> Command
 }
 
 /// What a line asks for.
-#[tactic(auto, unfolding(crate::specs::Commands::command_of, crate::specs::Commands::command_by))]
+#[tactic(auto, unfolding(crate::specs::Command::command_of, crate::specs::Command::command_by))]
 pub(crate) fn command_of(line: &[u8]) -> Command
     ensures meaning { meant result ≡ command_of line.now }
     ensures fits { Fits result }

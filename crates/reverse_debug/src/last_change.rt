@@ -3,7 +3,7 @@
 ghost use Rattle.std.specs.Prelude.{◌≡◌, ◌≤◌, ◌+◌, Some, if◌then◌else◌};
 ghost use Rattle.outer_lane.specs.Setting.{setting_of};
 ghost use Rattle.rp_machine.specs.Run.{states};
-ghost use Rattle.reverse_debug.specs.Replies.{last_cycle, last_write};
+ghost use Rattle.reverse_debug.specs.Reply.{last_cycle, last_write};
 
 use crate::advance::advance;
 use crate::reply::word_at;

@@ -5,8 +5,8 @@ ghost use Rattle.std.specs.List.{range_with_len};
 ghost use Rattle.arrayvec.specs.ArrayVec.{array_vec_len};
 ghost use Rattle.word_bits.specs.Word.{has_bit};
 ghost use Rattle.trace_text.specs.Line.{hex_word, level_digit, spaced_word};
-ghost use Rattle.reverse_debug.specs.Commands.{addresses, are_words};
-ghost use Rattle.reverse_debug.specs.Replies.{word_at, regs_reply, mem_reply, pins_reply, pio_words, pio_reply, at_reply, write_text, last_write_reply};
+ghost use Rattle.reverse_debug.specs.Command.{addresses, are_words};
+ghost use Rattle.reverse_debug.specs.Reply.{word_at, regs_reply, mem_reply, pins_reply, pio_words, pio_reply, at_reply, write_text, last_write_reply};
 
 use arrayvec::ArrayVec;
 use rp_machine::Machine;
@@ -27,7 +27,7 @@ pub(crate) fn word_at(machine: &Machine, address: u32) -> u32
 }
 
 /// The lines of both cores.
-#[tactic(auto, unfolding(crate::specs::Replies::regs_reply))]
+#[tactic(auto, unfolding(crate::specs::Reply::regs_reply))]
 pub(crate) fn put_registers(machine: &Machine, reply: &mut Reply)
     requires { reply.old.items ≡ [] }
     ensures { reply.new.items ≡ regs_reply machine.now }
@@ -68,7 +68,7 @@ fn push_words(machine: &Machine, address: u32, count: u64, reply: &mut Reply)
 }
 
 /// Words of SRAM.
-#[tactic(auto, unfolding(crate::specs::Replies::mem_reply))]
+#[tactic(auto, unfolding(crate::specs::Reply::mem_reply))]
 pub(crate) fn put_words(machine: &Machine, address: u32, count: u64, reply: &mut Reply)
     requires empty { reply.old.items ≡ [] }
     requires words { are_words address count ≡ true }
@@ -101,7 +101,7 @@ fn push_levels(pads: u32, reply: &mut Reply)
 }
 
 /// The levels of the pads.
-#[tactic(auto, unfolding(crate::specs::Replies::pins_reply))]
+#[tactic(auto, unfolding(crate::specs::Reply::pins_reply))]
 pub(crate) fn put_pins(machine: &Machine, reply: &mut Reply)
     requires { reply.old.items ≡ [] }
     ensures { reply.new.items ≡ pins_reply machine.now }
@@ -138,7 +138,7 @@ fn push_pio_words(words: &[u32; 5], reply: &mut Reply)
 }
 
 /// The registers of a machine of a PIO block.
-#[tactic(auto, unfolding(crate::specs::Replies::pio_reply))]
+#[tactic(auto, unfolding(crate::specs::Reply::pio_reply))]
 pub(crate) fn put_pio(machine: &Machine, block: u8, number: u8, reply: &mut Reply)
     requires empty { reply.old.items ≡ [] }
     requires block { block ≤ 1 }
@@ -154,7 +154,7 @@ pub(crate) fn put_pio(machine: &Machine, block: u8, number: u8, reply: &mut Repl
 }
 
 /// The cycle at which the session stands.
-#[tactic(auto, unfolding(crate::specs::Replies::at_reply))]
+#[tactic(auto, unfolding(crate::specs::Reply::at_reply))]
 pub(crate) fn put_cycle(cycle: u64, reply: &mut Reply)
     requires { reply.old.items ≡ [] }
     ensures { reply.new.items ≡ at_reply cycle }
@@ -165,7 +165,7 @@ pub(crate) fn put_cycle(cycle: u64, reply: &mut Reply)
 }
 
 /// The last cycle that changed a word.
-#[tactic(auto, unfolding(crate::specs::Replies::last_write_reply))]
+#[tactic(auto, unfolding(crate::specs::Reply::last_write_reply))]
 pub(crate) fn put_last_write(address: u32, write: Option<u64>, reply: &mut Reply)
     requires { reply.old.items ≡ [] }
     ensures { reply.new.items ≡ last_write_reply address write }

@@ -62,7 +62,7 @@ pub struct Session {
 }
 
 impl Model for Session {
-    ghost use Rattle.reverse_debug.specs.Standing.{Standing};
+    ghost use Rattle.reverse_debug.specs.Session.{Standing};
     ghost use Rattle.window_merge.specs.Jobs.{IsWhole};
 
     ghost Value = { Standing };
@@ -80,11 +80,11 @@ impl Model for Session {
 impl Session {
     ghost use Rattle.std.specs.Prelude.{◌≡◌, ◌≤◌, ◌<◌, ◌+◌, IfOk, IfNone, not, []};
     ghost use Rattle.outer_lane.specs.Setting.{Setting, setting_of};
-    ghost use Rattle.reverse_debug.specs.Commands.{are_words};
+    ghost use Rattle.reverse_debug.specs.Command.{are_words};
     ghost use Rattle.reverse_debug.specs.Reading.{meant, Fits};
-    ghost use Rattle.reverse_debug.specs.Replies.{heard, answer, cost, command_cost, moved_to, moved_back, move_cost, last_write};
+    ghost use Rattle.reverse_debug.specs.Reply.{heard, answer, cost, command_cost, moved_to, moved_back, move_cost, last_write};
     ghost use Rattle.reverse_debug.specs.Advance.{CountsMove};
-    ghost use Rattle.reverse_debug.specs.Standing.{first_of, StandsFor, OpensAt, StaysFor, GoesOn, Lands, Does};
+    ghost use Rattle.reverse_debug.specs.Session.{first_of, StandsFor, OpensAt, StaysFor, GoesOn, Lands, Does};
 
     /// A session at the state of a machine before its first cycle, for runs up to a limit of at most 1,000,000,000 cycles. It takes
     /// the memory for 64 states that will be kept, and for the jobs of windows.
@@ -300,7 +300,7 @@ impl Session {
     ///
     /// The session has to stand for the world that is handed in, as it does after `open` for each world of its limit, and after a
     /// command for the same world.
-    #[tactic(auto, unfolding(crate::specs::Replies::heard, crate::specs::Replies::cost))]
+    #[tactic(auto, unfolding(crate::specs::Reply::heard, crate::specs::Reply::cost))]
     pub fn command<X: Device, L: Ledger>(
         &mut self,
         world: &World<'_, X>,

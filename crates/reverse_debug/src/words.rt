@@ -4,8 +4,8 @@ ghost use Rattle.std.specs.Prelude.{◌≡◌, ◌∷◌, ◌<◌, ◌≤◌, �
 ghost use Rattle.std.specs.Char.{is_ascii_digit, is_ascii_hexdigit};
 ghost use Rattle.std.specs.List.{list_all};
 ghost use Rattle.std.specs.Str.{bytes_eq};
-ghost use Rattle.reverse_debug.specs.Commands.{words, value_in, decimal_digit, hexadecimal_digit, number_of, address_of, is_ram, addresses, are_words};
-ghost use Rattle.rp_base.specs.AddressMap.{place_of};
+ghost use Rattle.reverse_debug.specs.Command.{words, value_in, decimal_digit, hexadecimal_digit, number_of, address_of, is_ram, addresses, are_words};
+ghost use Rattle.rp_base.specs.Map.{place_of};
 
 use rp_base::map::{Spot, place};
 
@@ -115,7 +115,7 @@ fn is_ram(address: u32) -> bool
 }
 
 /// All of 1 to 16 words from an address on are words of SRAM, and the address is a multiple of 4.
-#[tactic(auto, unfolding(crate::specs::Commands::are_words))]
+#[tactic(auto, unfolding(crate::specs::Command::are_words))]
 pub(crate) fn are_words(address: u32, count: u64) -> bool
     ensures value { result ≡ are_words address count }
     ensures low { result ≡ true → address + 4 * count < 0x2200_0004 }

@@ -1,2 +1,2 @@
 pub mod Access
-pub mod AddressMap
+pub mod Map

@@ -2,7 +2,7 @@
 #![tactic(auto)]
 
 ghost use Rattle.std.specs.Prelude.{◌≡◌, ◌/◌, ◌%◌, ◌<◌, ◌≤◌};
-ghost use Rattle.rp_base.specs.AddressMap.{IsWithin, place_of, port_of, registers};
+ghost use Rattle.rp_base.specs.Map.{IsWithin, place_of, port_of, registers};
 
 /// A block of registers on the APB or the AHB-Lite bus.
 #[derive(Clone, Copy, Debug, PartialEq, Eq)]
@@ -63,7 +63,7 @@ pub enum Spot {
 }
 
 /// The place that an address names; its two low bits do not matter.
-#[tactic(auto, unfolding(crate::specs::AddressMap::place_of))]
+#[tactic(auto, unfolding(crate::specs::Map::place_of))]
 pub fn place(address: u32) -> Spot
     ensures value { result ≡ place_of address }
     ensures within { IsWithin result }
@@ -82,7 +82,7 @@ pub fn place(address: u32) -> Spot
 }
 
 /// The place of an address from 20000000 to 2FFFFFFF.
-#[tactic(auto, unfolding(crate::specs::AddressMap::place_of))]
+#[tactic(auto, unfolding(crate::specs::Map::place_of))]
 fn ram(address: u32) -> Spot
     requires { address / 0x10000000 ≡ 2 }
     ensures value { result ≡ place_of address }
@@ -116,7 +116,7 @@ fn ram(address: u32) -> Spot
 }
 
 /// The place of an address from 40000000 to 5FFFFFFF.
-#[tactic(auto, unfolding(crate::specs::AddressMap::place_of))]
+#[tactic(auto, unfolding(crate::specs::Map::place_of))]
 fn register(address: u32) -> Spot
     requires low { 0x40000000 ≤ address }
     requires high { address < 0x60000000 }

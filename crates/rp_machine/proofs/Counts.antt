@@ -1,6 +1,6 @@
 -- Counts that are packed one after another.
 use Rattle.std.proofs.Common.{◌≡◌, ℕ, ◌+◌, ◌*◌, ◌^◌, List, [], ◌∷◌, ◌++◌, length, arith}
-use Rattle.dma_engine.specs.Pacing.{packed_counts}
+use Rattle.dma_engine.specs.Pace.{packed_counts}
 
 -- eight counts, and those that follow
 pub packed_after : (xs ys : List ℕ) → length xs ≡ 8 → packed_counts (xs ++ ys) ≡ packed_counts xs + packed_counts ys * 2 ^ 48

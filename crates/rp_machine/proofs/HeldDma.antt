@@ -9,8 +9,8 @@ use Rattle.dma_engine.specs.State.{Engine, channel_at, with_hold}
 use Rattle.dma_engine.specs.declared.registers.TheConstants.{INTR, INTE0, INTF0, INTS0, INTE1, INTF1, INTS1}
 use Rattle.dma_engine.specs.declared.line.InterruptLine.{InterruptLine}
 use Rattle.dma_engine.specs.Control.{is_quiet}
-use Rattle.dma_engine.specs.Channels.{triggered, aborted, idle, with_channels, changed, with_trigger, with_abort, with_raised, with_report, with_chain, with_end_of, with_end, in_turn}
-use Rattle.dma_engine.specs.Timers.{gets_credit, credited, with_credit, after_timers}
+use Rattle.dma_engine.specs.Channel.{triggered, aborted, idle, with_channels, changed, with_trigger, with_abort, with_raised, with_report, with_chain, with_end_of, with_end, in_turn}
+use Rattle.dma_engine.specs.Timer.{gets_credit, credited, with_credit, after_timers}
 use Rattle.dma_engine.specs.Choice.{choice_of}
 use Rattle.dma_engine.specs.Cycle.{is_over, after_ends, word_of, word_read, is_written, after_read_of, after_write_of, with_data, with_read_by, with_read, after_read, after_write, counted, choice_where_none, after_transfers, next}
 use Rattle.dma_engine.specs.Words.{null_trigger, trigger_word, with_word_of, with_register, register_at, index_of, number_of, channel_written, without_raised, with_enable, with_force, interrupt_written, timer_written, control_written, written, after_any, effect_of}

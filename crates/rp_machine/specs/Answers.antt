@@ -1,12 +1,12 @@
 -- What the machine answers a lane, by the lane's number and the state at the start of a cycle. Lanes 0 and 1 are the cores, 2
 -- is the DMA engine, 3 and 4 are the PIO blocks, and 5 has the peripherals.
 use Rattle.std.specs.Prelude.{ℕ, ◌+◌, ◌*◌, ◌^◌, ◌==◌, if◌then◌else◌, Bool, false, List, ◌++◌, bit_or, slice_index, slice_index_or, unwrap_or}
-use Rattle.rp_base.specs.AddressMap.{place_of}
+use Rattle.rp_base.specs.Map.{place_of}
 use Rattle.word_bits.specs.Word.{bit_number}
 use Rattle.lane_look.specs.declared.lane.Ask.{Ask}
 use Rattle.lane_look.specs.declared.lane.Ask.TheVariants as ask
 use Rattle.dma_engine.specs.Words as dma
-use Rattle.dma_engine.specs.Pacing.{packed_counts}
+use Rattle.dma_engine.specs.Pace.{packed_counts}
 use Rattle.pio_block.specs.State.{Block as Pio}
 use Rattle.pio_block.specs.Words as pio
 use Rattle.outer_lane.specs.Lines.{outer_lines, outer_inputs, outer_pacing}

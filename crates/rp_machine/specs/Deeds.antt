@@ -3,7 +3,7 @@
 -- "SIO", 2.2 "Address Map").
 use Rattle.std.specs.Prelude.{ℕ, ◌<◌, ◌==◌, ◌&&◌, Bool, true, false, if◌then◌else◌, nat_le, Option, Some, None, is_none, is_some, unwrap_or}
 use Rattle.rp_base.specs.Access.{lanes_at, replicated, word_written}
-use Rattle.rp_base.specs.AddressMap.{place_of, port_of}
+use Rattle.rp_base.specs.Map.{place_of, port_of}
 use Rattle.rp_base.specs.declared.Master.{Master}
 use Rattle.rp_base.specs.declared.Master.TheVariants as master
 use Rattle.rp_base.specs.declared.Request.{Request}

@@ -1,7 +1,7 @@
 //! What the wants of the masters come to: causes to stop, requests to the fabric, turns and deeds.
 
 ghost use Rattle.std.specs.Prelude.{◌≡◌};
-ghost use Rattle.rp_base.specs.AddressMap.{place_of, IsWithin};
+ghost use Rattle.rp_base.specs.Map.{place_of, IsWithin};
 ghost use Rattle.bus_fabric.specs.Masters.{HasPort};
 ghost use Rattle.rp_machine.specs.Deeds.{port_at, asked_at, asked_of, is_done_at, is_lock, is_same_word, reads_at, is_core1, is_late, turn_at, stored_at, StoresInSram};
 
@@ -133,7 +133,7 @@ fn stored_at(request: &Request, spot: &Spot) -> Deed
 
 impl Machine {
     ghost use Rattle.std.specs.Prelude.{◌≡◌, ◌≤◌};
-    ghost use Rattle.rp_base.specs.AddressMap.{place_of};
+    ghost use Rattle.rp_base.specs.Map.{place_of};
     ghost use Rattle.outer_lane.specs.Setting.{setting_of};
     ghost use Rattle.rp_machine.specs.Deeds.{sio_word, word_for, is_allowed_at, is_open, outside_unless, cause_by, cause_of, told_at, turn_of, accessed_at, deed_of, StoresInSram};
 

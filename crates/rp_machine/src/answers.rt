@@ -1,7 +1,7 @@
 //! What the machine tells a lane of the others: interrupt lines, the counts that pace DMA channels, and pins.
 
 ghost use Rattle.std.specs.Prelude.{◌≡◌, ◌+◌, ◌*◌, ◌^◌, ◌≤◌, ◌<◌};
-ghost use Rattle.dma_engine.specs.Pacing.{packed_counts};
+ghost use Rattle.dma_engine.specs.Pace.{packed_counts};
 ghost use Rattle.rp_machine.specs.Answers.{pair_number, packed_pair, sio_lines};
 
 use crate::machine::Machine;

@@ -1,7 +1,7 @@
 //! What the machine answers a lane.
 
 ghost use Rattle.std.specs.Prelude.{◌≡◌};
-ghost use Rattle.rp_base.specs.AddressMap.{place_of};
+ghost use Rattle.rp_base.specs.Map.{place_of};
 ghost use Rattle.rp_machine.specs.Sram.{half_of, ram_word};
 ghost use Rattle.rp_machine.specs.Answers.{word_in, answer_of};
 
@@ -25,7 +25,7 @@ fn half_at(word: u32, address: u32) -> u16
 /// The word of SRAM that holds an address. None exactly where the address is not in SRAM. Most are in its striped view, which
 /// costs one test.
 #[inline(always)]
-#[tactic(auto, unfolding(rp_base::specs::AddressMap::place_of))]
+#[tactic(auto, unfolding(rp_base::specs::Map::place_of))]
 pub(crate) fn word_at(ram: &Ram, address: u32) -> Option<u32>
     ensures { result ≡ ram_word ram.now (place_of address) }
 {

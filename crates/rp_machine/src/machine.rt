@@ -85,7 +85,7 @@ impl Model for Machine {
 
 impl Machine {
     ghost use Rattle.std.specs.Prelude.{◌≡◌, ◌≤◌, IfOk};
-    ghost use Rattle.rp_base.specs.AddressMap.{place_of};
+    ghost use Rattle.rp_base.specs.Map.{place_of};
     ghost use Rattle.uf2_image.specs.Uf2.{FitsSram};
     ghost use Rattle.rp_machine.specs.Sram.{ram_word};
     ghost use Rattle.rp_machine.specs.State.{first_state};

@@ -5,8 +5,8 @@ use Rattle.rp_uart.specs.declared.receiver.Receiver.{Receiver}
 use Rattle.rp_uart.specs.declared.receiver.Receiver.TheVariants as receivers
 use Rattle.rp_uart.specs.declared.sender.Sender.{Sender}
 use Rattle.rp_uart.specs.declared.sender.Sender.TheVariants as senders
-use Rattle.rp_uart.specs.Receiving.{after_more_waiting, after_waiting, after_line, is_byte_due, after_receiving}
-use Rattle.rp_uart.specs.Sending.{level_of, with_first, can_send, next_frame, after_sender, after_sending, ended_byte}
+use Rattle.rp_uart.specs.Receiver.{after_more_waiting, after_waiting, after_line, is_byte_due, after_receiving}
+use Rattle.rp_uart.specs.Sender.{level_of, with_first, can_send, next_frame, after_sender, after_sending, ended_byte}
 use Rattle.rp_uart.specs.State.{SerialPort}
 use Rattle.rp_uart.specs.Step.{is_running, output_of, heard_of, after_step, sent_byte}
 

@@ -13,7 +13,7 @@ use Rattle.rp_uart.specs.declared.frame.LineControl.{LineControl}
 use Rattle.rp_uart.specs.declared.receiver.Errors.{Errors}
 use Rattle.rp_uart.specs.Frame.{width_of, ones_of, is_odd, parity_bit, level_at, parity_at, stop_at}
 use Rattle.rp_uart.specs.Laws.{samples_of, IsHeard, WhatIsSentIsHeard}
-use Rattle.rp_uart.specs.Receiving.{with_sample, byte_heard, has_parity_error}
+use Rattle.rp_uart.specs.Receiver.{with_sample, byte_heard, has_parity_error}
 use Rattle.rp_uart.specs.State.{no_errors}
 use Rattle.rp_uart.proofs.Frames.{level_at-start, level_at-data, level_at-parity, level_at-after, level_at-plain}
 

@@ -10,8 +10,8 @@ use Rattle.rp_uart.specs.declared.sender.Sending.{Sending}
 use Rattle.rp_uart.specs.declared.sender.Sender.{Sender}
 use Rattle.rp_uart.specs.declared.sender.Sender.TheVariants as senders
 use Rattle.rp_uart.specs.Interrupts.{depth_of, receive_trigger, transmit_trigger, receive_interrupt, transmit_interrupt, timeout_interrupt, error_interrupts, told}
-use Rattle.rp_uart.specs.Receiving.{byte_heard, errors_of, with_overrun, stored, dropped, with_waited, after_byte, after_more_waiting, after_waiting, with_receiver, can_receive, first_heard, sampled, after_stop, after_sample, after_line, is_stop, is_false_start, is_byte_due, after_receiving}
-use Rattle.rp_uart.specs.Sending.{bit_time, with_sender, with_first, can_send, next_frame, after_bit, after_sender, after_sending, is_over, is_last_bit, elapsed_after}
+use Rattle.rp_uart.specs.Receiver.{byte_heard, errors_of, with_overrun, stored, dropped, with_waited, after_byte, after_more_waiting, after_waiting, with_receiver, can_receive, first_heard, sampled, after_stop, after_sample, after_line, is_stop, is_false_start, is_byte_due, after_receiving}
+use Rattle.rp_uart.specs.Sender.{bit_time, with_sender, with_first, can_send, next_frame, after_bit, after_sender, after_sending, is_over, is_last_bit, elapsed_after}
 use Rattle.rp_uart.specs.State.{SerialPort}
 
 pub either : {A : Type 0} (f : SerialPort → A) (b : Bool) (x y : SerialPort) (a : A) → f x ≡ a → f y ≡ a → f (cond b x y) ≡ a

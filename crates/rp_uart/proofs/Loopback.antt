@@ -17,8 +17,8 @@ use Rattle.rp_uart.specs.declared.sender.Sender.TheVariants as senders
 use Rattle.rp_uart.specs.Frame.{width_of, level_at, frame_length, stop_at}
 use Rattle.rp_uart.specs.Interrupts.{depth_of, receive_trigger, transmit_trigger, receive_interrupt, transmit_interrupt, error_interrupts, told}
 use Rattle.rp_uart.specs.Laws.{after_cycles, samples_of, begun, frame_time, HearsItself, TheByteComesBack}
-use Rattle.rp_uart.specs.Receiving.{byte_heard, errors_of, with_overrun, stored, with_waited, after_byte, after_waiting, with_receiver, can_receive, first_heard, after_idle, is_false_start, is_stop, with_sample, sampled, after_stop, after_hearing, after_line, is_frame_due, is_byte_due, after_receiving}
-use Rattle.rp_uart.specs.Sending.{bit_time, is_over, elapsed_after, level_of, with_sender, with_first, can_send, next_frame, is_last_bit, after_bit, after_sender, after_sending}
+use Rattle.rp_uart.specs.Receiver.{byte_heard, errors_of, with_overrun, stored, with_waited, after_byte, after_waiting, with_receiver, can_receive, first_heard, after_idle, is_false_start, is_stop, with_sample, sampled, after_stop, after_hearing, after_line, is_frame_due, is_byte_due, after_receiving}
+use Rattle.rp_uart.specs.Sender.{bit_time, is_over, elapsed_after, level_of, with_sender, with_first, can_send, next_frame, is_last_bit, after_bit, after_sender, after_sending}
 use Rattle.rp_uart.specs.State.{SerialPort, no_errors}
 use Rattle.rp_uart.specs.Step.{is_running, output_of, heard_of, after_step}
 use Rattle.rp_uart.proofs.Frames.{frame_length-sum, level_at-start}

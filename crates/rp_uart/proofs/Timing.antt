@@ -13,8 +13,8 @@ use Rattle.rp_uart.specs.declared.sender.Sender.{Sender}
 use Rattle.rp_uart.specs.declared.sender.Sender.TheVariants as senders
 use Rattle.rp_uart.specs.Frame.{level_at, frame_length}
 use Rattle.rp_uart.specs.Laws.{after_cycles, frame_time, AFrameTakesItsTime}
-use Rattle.rp_uart.specs.Receiving.{after_receiving}
-use Rattle.rp_uart.specs.Sending.{bit_time, is_over, level_of, with_sender, is_last_bit, after_frame, after_sender, after_sending, ended_byte}
+use Rattle.rp_uart.specs.Receiver.{after_receiving}
+use Rattle.rp_uart.specs.Sender.{bit_time, is_over, level_of, with_sender, is_last_bit, after_frame, after_sender, after_sending, ended_byte}
 use Rattle.rp_uart.specs.State.{SerialPort}
 use Rattle.rp_uart.specs.Step.{is_running, output_of, heard_of, after_step, sent_byte}
 use Rattle.rp_uart.proofs.Kept.{sending-keeps, receiving-keeps}

@@ -7,8 +7,8 @@ use Rattle.rp_uart.specs.declared.sender.Sender.{Sender}
 use Rattle.rp_uart.specs.declared.sender.Sender.TheVariants as senders
 use Rattle.rp_uart.specs.Frame.{width_of, level_at, frame_length, stop_at}
 use Rattle.rp_uart.specs.Interrupts.{depth_of}
-use Rattle.rp_uart.specs.Receiving.{with_sample, byte_heard, errors_of, can_receive}
-use Rattle.rp_uart.specs.Sending.{bit_time, can_send}
+use Rattle.rp_uart.specs.Receiver.{with_sample, byte_heard, errors_of, can_receive}
+use Rattle.rp_uart.specs.Sender.{bit_time, can_send}
 use Rattle.rp_uart.specs.State.{SerialPort, no_errors}
 use Rattle.rp_uart.specs.Step.{is_running, output_of, after_step, sent_byte}
 

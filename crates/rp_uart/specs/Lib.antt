@@ -1,8 +1,8 @@
 pub mod Frame
 pub mod Interrupts
 pub mod Laws
-pub mod Receiving
-pub mod Sending
+pub mod Receiver
+pub mod Sender
 pub mod State
 pub mod Step
 pub mod Words

@@ -2,8 +2,8 @@
 -- loopback testing, 2.7, DMA interface, and 3.3.14, UARTDMACR).
 use Rattle.std.specs.Prelude.{ℕ, ◌-◌, Bool, nat_lt, if◌then◌else◌, List, [], ◌∷◌, length, Option, None}
 use Rattle.rp_uart.specs.Interrupts.{depth_of}
-use Rattle.rp_uart.specs.Receiving.{after_receiving}
-use Rattle.rp_uart.specs.Sending.{level_of, after_sending, ended_byte}
+use Rattle.rp_uart.specs.Receiver.{after_receiving}
+use Rattle.rp_uart.specs.Sender.{level_of, after_sending, ended_byte}
 use Rattle.rp_uart.specs.State.{SerialPort}
 
 -- with an integer divisor of 0 nothing runs

@@ -14,7 +14,7 @@ use Rattle.rp_uart.specs.declared.registers.TheConstants.{DR, RSR, FR, IBRD, FBR
 use Rattle.rp_uart.specs.declared.sender.Sender.{Sender}
 use Rattle.rp_uart.specs.declared.sender.Sender.TheVariants as senders
 use Rattle.rp_uart.specs.Interrupts.{depth_of, error_bits, masked, cleared, settled}
-use Rattle.rp_uart.specs.Receiving.{with_overrun}
+use Rattle.rp_uart.specs.Receiver.{with_overrun}
 use Rattle.rp_uart.specs.State.{SerialPort, no_errors}
 
 -- ---- UARTDR and UARTRSR

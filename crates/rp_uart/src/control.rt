@@ -1,7 +1,7 @@
 //! The registers that say how a UART runs.
 
 ghost use Rattle.std.specs.Prelude.{◌≡◌, ◌<◌, ◌^◌};
-ghost use Rattle.rp_uart.specs.Sending.{bit_time, is_over, elapsed_after};
+ghost use Rattle.rp_uart.specs.Sender.{bit_time, is_over, elapsed_after};
 
 /// UARTIBRD and UARTFBRD: a bit lasts 64 times the divisor, in quarters of a cycle (DDI 0183, 3.3.5 and 3.3.6).
 #[derive(Clone, Copy, PartialEq, Eq)]

@@ -1,7 +1,7 @@
 //! Receiving.
 
 ghost use Rattle.std.specs.Prelude.{◌≡◌, ◌<◌, length};
-ghost use Rattle.rp_uart.specs.Receiving.{byte_heard, has_parity_error, errors_of, stored, dropped, after_byte, after_waiting, after_idle, after_lull, sampled, after_stop, after_sample, after_hearing, after_line, is_byte_due, is_stop, is_frame_due, after_receiving};
+ghost use Rattle.rp_uart.specs.Receiver.{byte_heard, has_parity_error, errors_of, stored, dropped, after_byte, after_waiting, after_idle, after_lull, sampled, after_stop, after_sample, after_hearing, after_line, is_byte_due, is_stop, is_frame_due, after_receiving};
 
 use crate::frame::{LineControl, WordLength};
 use crate::interrupts::{RECEIVE, TIMEOUT};
@@ -53,7 +53,7 @@ pub enum Receiver {
 
 impl Uart {
     /// The receiver's cycle at a level of the line, and that of the timeout.
-    #[tactic(auto, unfolding(crate::specs::Receiving::after_receiving))]
+    #[tactic(auto, unfolding(crate::specs::Receiver::after_receiving))]
     pub(crate) fn receive(&mut self, line: bool)
         requires { 0 < self.old.divisor.integer }
         ensures { self.new ≡ after_receiving line self.old }
@@ -64,7 +64,7 @@ impl Uart {
     }
 
     /// The receiver's cycle; whether a byte came.
-    #[tactic(auto, unfolding(crate::specs::Receiving::after_line, crate::specs::Receiving::is_byte_due))]
+    #[tactic(auto, unfolding(crate::specs::Receiver::after_line, crate::specs::Receiver::is_byte_due))]
     fn hear(&mut self, line: bool) -> bool
         requires { 0 < self.old.divisor.integer }
         ensures after { self.new ≡ after_line self.old.receiver line self.old }
@@ -148,7 +148,7 @@ impl Uart {
     }
 
     /// A byte came.
-    #[tactic(auto, unfolding(crate::specs::Receiving::after_byte))]
+    #[tactic(auto, unfolding(crate::specs::Receiver::after_byte))]
     fn end_byte(&mut self, byte: u8, errors: Errors)
         ensures { self.new ≡ after_byte byte errors self.old }
     {
@@ -195,7 +195,7 @@ impl Uart {
     }
 
     /// The timeout's cycle.
-    #[tactic(auto, unfolding(crate::specs::Receiving::after_waiting))]
+    #[tactic(auto, unfolding(crate::specs::Receiver::after_waiting))]
     fn wait(&mut self)
         ensures { self.new ≡ after_waiting self.old }
     {

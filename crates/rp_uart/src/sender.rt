@@ -1,7 +1,7 @@
 //! Sending.
 
 ghost use Rattle.std.specs.Prelude.{◌≡◌, ◌<◌, Some, None, if◌then◌else◌};
-ghost use Rattle.rp_uart.specs.Sending.{next_frame, is_last_bit, after_bit, after_frame, after_sending, ended_byte, frame_byte};
+ghost use Rattle.rp_uart.specs.Sender.{next_frame, is_last_bit, after_bit, after_frame, after_sending, ended_byte, frame_byte};
 
 use crate::interrupts::TRANSMIT;
 use crate::uart::Uart;
@@ -28,7 +28,7 @@ pub enum Sender {
 
 impl Uart {
     /// The sender's cycle, and the byte whose frame ends in it.
-    #[tactic(auto, unfolding(crate::specs::Sending::after_sending))]
+    #[tactic(auto, unfolding(crate::specs::Sender::after_sending))]
     pub(crate) fn send(&mut self) -> Option<u8>
         requires { 0 < self.old.divisor.integer }
         ensures after { self.new ≡ after_sending self.old }
@@ -80,7 +80,7 @@ impl Uart {
     }
 
     /// A frame begins where a byte waits and sending is enabled; its start bit has lasted for so long.
-    #[tactic(auto, unfolding(crate::specs::Sending::next_frame))]
+    #[tactic(auto, unfolding(crate::specs::Sender::next_frame))]
     fn next_frame(&mut self, elapsed: u32)
         ensures { self.new ≡ next_frame elapsed self.old }
     {

@@ -5,7 +5,7 @@ use Rattle.std.proofs.lemmas.Slice.Eq.{bytes_eq-Decides}
 use Rattle.ram_banks.specs.Pages.{page_of}
 use Rattle.rp_machine.specs.State.{State}
 use Rattle.snap_ring.specs.Pages.{is_same_page, differing}
-use Rattle.snap_ring.specs.Snapshots.{stored_for, stored_of}
+use Rattle.snap_ring.specs.Ring.{stored_for, stored_of}
 
 same_answers : (r t : Bool) (P : Type 0) → Decides r P → Decides t P → r ≡ t
 same_answers true true P a b = refl

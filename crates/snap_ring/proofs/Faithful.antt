@@ -2,7 +2,7 @@
 use Rattle.std.proofs.Common.{◌≡◌, ℕ, ◌*◌, ◌%◌, ◌==◌, Bool, true, false, not, ◌&&◌, nat_lt, if◌then◌else◌, List, ◌∷◌, refl, ap, ◌∙◌, sym, Some}
 use Rattle.std.proofs.lemmas.Bool.{eq-eqb, eqb-true, and_parts, not-true, false_from_ne_true, true≢false}
 use Rattle.rp_machine.specs.State.{State}
-use Rattle.snap_ring.specs.Snapshots.{Snapshots, is_kept, is_due, state_at}
+use Rattle.snap_ring.specs.Ring.{Snapshots, is_kept, is_due, state_at}
 use Rattle.snap_ring.specs.Laws.{KeepingIsFaithful}
 
 if_yes : {A : Type 0} (b : Bool) (x y : A) → b ≡ true → (if b then x else y) ≡ x

@@ -5,7 +5,7 @@ use Rattle.std.specs.List.{AllByRecursion}
 use Rattle.std.proofs.lemmas.List.{take_rest}
 use Rattle.rp_machine.specs.State.{State}
 use Rattle.snap_ring.specs.declared.place.Place.{Place}
-use Rattle.snap_ring.specs.Snapshots.{is_kept, state_at, stored_for}
+use Rattle.snap_ring.specs.Ring.{is_kept, state_at, stored_for}
 use Rattle.snap_ring.specs.Store.{AreStored, state_in, states_in, place_at, first_numbers, stored_anew}
 use Rattle.snap_ring.proofs.Joining.{sram-later, below_more}
 

@@ -5,7 +5,7 @@ use Rattle.std.proofs.lemmas.Grind.{drop-set_at}
 use Rattle.std.proofs.lemmas.List.{length-map, drop_all}
 use Rattle.rp_machine.specs.State.{State}
 use Rattle.snap_ring.specs.declared.place.Place.{Place}
-use Rattle.snap_ring.specs.Snapshots.{Snapshots, spacing_of, is_due, kept_with, WereDue, stored_for, stored_of}
+use Rattle.snap_ring.specs.Ring.{Snapshots, spacing_of, is_due, kept_with, WereDue, stored_for, stored_of}
 use Rattle.snap_ring.specs.Store.{IsPage, AreStored, AreSound, state_in, states_in}
 use Rattle.snap_ring.proofs.Counting.{stored_of-le}
 use Rattle.snap_ring.proofs.Finding.{states-later, stored_more}

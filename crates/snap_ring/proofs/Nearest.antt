@@ -3,7 +3,7 @@ use Rattle.std.proofs.Common.{◌≡◌, ◌≤◌, ◌<◌, ℕ, ◌==◌, true
 use Rattle.std.proofs.lemmas.Bool.{or_cases, or_left, or_right, eqb-true, eq-eqb, ltb-true, ltb-false, cases_lt, true≢false}
 use Rattle.std.proofs.lemmas.List.Folds.{list_any-append}
 use Rattle.rp_machine.specs.State.{State}
-use Rattle.snap_ring.specs.Snapshots.{is_kept, is_beyond, IsNearest}
+use Rattle.snap_ring.specs.Ring.{is_kept, is_beyond, IsNearest}
 
 more : (d : ℕ) (xs : List State) (s : State) → is_kept d (xs ++ s ∷ []) ≡ (is_kept d xs || ((s.cycle == d) || false))
 more d xs s = list_any-append (λ t. t.cycle == d) xs (s ∷ [])

@@ -7,7 +7,7 @@ use Rattle.std.proofs.Math.Dec.{eqb, ltb}
 use Rattle.std.proofs.lemmas.Bool.{and_parts, not-true, or_parts, or_cases, eqb-true, eqb-false, ltb-true, false_from_ne_true}
 use Rattle.std.proofs.lemmas.Map.Steps.{length-le_from_distinct_below}
 use Rattle.rp_machine.specs.State.{State}
-use Rattle.snap_ring.specs.Snapshots.{is_kept, is_due, WereDue}
+use Rattle.snap_ring.specs.Ring.{is_kept, is_due, WereDue}
 
 record IsDue (spacing : ℕ) (kept : List State) (cycle : ℕ) : Type 0 where
   multiple : cycle % spacing ≡ 0

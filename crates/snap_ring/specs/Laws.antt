@@ -1,7 +1,7 @@
 -- What holds of snapshots, in other words than their definition.
 use Rattle.std.specs.Prelude.{◌≡◌, ℕ, true, Some}
 use Rattle.rp_machine.specs.State.{State}
-use Rattle.snap_ring.specs.Snapshots.{Snapshots, is_kept, is_due, kept_with, state_at}
+use Rattle.snap_ring.specs.Ring.{Snapshots, is_kept, is_due, kept_with, state_at}
 
 -- a state that is to be kept is found by its cycle, and whatever is kept stays as it is, whichever state is offered later
 pub record IsFaithful (ring : Snapshots) (s : State) : Type 0 where

@@ -6,7 +6,7 @@ use Rattle.rp_machine.specs.State.{State}
 use Rattle.rp_machine.specs.Rest.{state_with}
 use Rattle.snap_ring.specs.declared.place.Place.{Place}
 use Rattle.snap_ring.specs.Pages.{differing}
-use Rattle.snap_ring.specs.Snapshots.{WereDue, stored_of}
+use Rattle.snap_ring.specs.Ring.{WereDue, stored_of}
 
 -- the words of a stored page
 abbrev pub page_at : List (List ℕ) → ℕ → List ℕ

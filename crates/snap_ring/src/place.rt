@@ -2,7 +2,7 @@
 
 ghost use Rattle.std.specs.Prelude.{◌≡◌, IfOk, List, ℕ, vec_len};
 ghost use Rattle.std.specs.Option.{option_copied};
-ghost use Rattle.snap_ring.specs.Snapshots.{is_kept, is_beyond, IsNearest};
+ghost use Rattle.snap_ring.specs.Ring.{is_kept, is_beyond, IsNearest};
 ghost use Rattle.snap_ring.specs.Store.{first_numbers, place_at, states_in};
 
 use rp_machine::{Machine, Rest};

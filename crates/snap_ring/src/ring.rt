@@ -31,7 +31,7 @@ pub struct Ring {
 
 impl Model for Ring {
     ghost use Rattle.std.specs.Prelude.{◌≤◌, drop, vec_capacity};
-    ghost use Rattle.snap_ring.specs.Snapshots.{Snapshots};
+    ghost use Rattle.snap_ring.specs.Ring.{Snapshots};
     ghost use Rattle.snap_ring.specs.Store.{states_in, AreSound};
 
     ghost Value = { Snapshots };
@@ -47,7 +47,7 @@ impl Model for Ring {
 
 impl Ring {
     ghost use Rattle.std.specs.Prelude.{◌≡◌, ◌≤◌, IfOk, []};
-    ghost use Rattle.snap_ring.specs.Snapshots.{spacing_of, is_kept, is_due, kept_with, state_at, restored, IsNearest, stored_of};
+    ghost use Rattle.snap_ring.specs.Ring.{spacing_of, is_kept, is_due, kept_with, state_at, restored, IsNearest, stored_of};
 
     /// Room for 64 snapshots of a run up to a limit, and none kept.
     ///

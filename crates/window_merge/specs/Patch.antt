@@ -1,6 +1,6 @@
 -- SRAM with words that were written into it since. The project's own.
 use Rattle.std.specs.Prelude.{ℕ, List, [], ◌∷◌, slice_set}
-use Rattle.rp_base.specs.AddressMap.{place_of}
+use Rattle.rp_base.specs.Map.{place_of}
 use Rattle.lane_look.specs.declared.lane.Want.{Want}
 use Rattle.lane_look.specs.declared.lane.Want.TheVariants as want
 use Rattle.rp_machine.specs.Cycle.{stored}

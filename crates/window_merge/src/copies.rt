@@ -1,7 +1,7 @@
 //! What a lane that runs alone can ask of the rest of the machine, copied from a state.
 
 ghost use Rattle.std.specs.Prelude.{◌≡◌};
-ghost use Rattle.rp_base.specs.AddressMap.{place_of};
+ghost use Rattle.rp_base.specs.Map.{place_of};
 ghost use Rattle.rp_machine.specs.Cycle.{stored};
 ghost use Rattle.rp_machine.specs.Deeds.{stored_at};
 ghost use Rattle.rp_machine.specs.Sram.{half_of};

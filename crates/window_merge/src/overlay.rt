@@ -153,7 +153,7 @@ impl Around for Overlay<'_> {
 impl<'a> Overlay<'a> {
     ghost use Rattle.std.specs.Prelude.{◌≡◌, ◌<◌, slice_index};
     ghost use Rattle.ram_banks.specs.Sram.{written};
-    ghost use Rattle.rp_base.specs.AddressMap.{place_of};
+    ghost use Rattle.rp_base.specs.Map.{place_of};
     ghost use Rattle.rp_machine.specs.Answers.{word_in};
     ghost use Rattle.rp_machine.specs.Cycle.{stored};
     ghost use Rattle.rp_machine.specs.Deeds.{stored_at};

@@ -1,5 +1,5 @@
 use Rattle.outer_lane.specs.Setting.{setting_of}
-use Rattle.reverse_debug.specs.Standing.{StandsFor}
+use Rattle.reverse_debug.specs.Session.{StandsFor}
 use Rattle.debug_tests.proofs.reverse_debug_tests.end_of.Given as goal
 
 abbrev pub invariant-rows : goal.invariant-rows

@@ -1,7 +1,7 @@
 use Rattle.std.proofs.Common.{refl, sym, ap, arith, ◌∙◌}
 use Rattle.std.proofs.lemmas.List.{length-take}
 use Rattle.outer_lane.specs.Setting.{setting_of}
-use Rattle.reverse_debug.specs.Standing.{first_of}
+use Rattle.reverse_debug.specs.Session.{first_of}
 use Rattle.line_talk.specs.Debugger.{talk_of}
 use Rattle.line_talk.proofs.Takings.{taking_first, over_hears, cut_hears, full_hears, took_takes}
 use Rattle.line_talk.proofs.hear.hear.Goals as goal

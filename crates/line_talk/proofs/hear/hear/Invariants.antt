@@ -1,8 +1,8 @@
 use Rattle.std.proofs.Common.{◌≡◌, ◌-◌}
 use Rattle.outer_lane.specs.Setting.{setting_of}
-use Rattle.reverse_debug.specs.Standing.{first_of, StandsFor}
+use Rattle.reverse_debug.specs.Session.{first_of, StandsFor}
 use Rattle.line_talk.specs.Debugger.{talk_of}
-use Rattle.line_talk.specs.Going.{Taking}
+use Rattle.line_talk.specs.Way.{Taking}
 use Rattle.line_talk.proofs.hear.hear.Given as goal
 
 -- so many bytes were taken, and the talk goes on

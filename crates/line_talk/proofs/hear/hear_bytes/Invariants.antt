@@ -1,8 +1,8 @@
 use Rattle.std.proofs.Common.{◌≡◌, ◌++◌, ℕ, List, Option, take}
 use Rattle.outer_lane.specs.Setting.{setting_of}
-use Rattle.reverse_debug.specs.Standing.{first_of, StandsFor}
+use Rattle.reverse_debug.specs.Session.{first_of, StandsFor}
 use Rattle.line_talk.specs.Debugger.{talk_of}
-use Rattle.line_talk.specs.Going.{Along}
+use Rattle.line_talk.specs.Way.{Along}
 use Rattle.line_talk.proofs.hear.hear_bytes.Given as goal
 
 -- the bytes so far were heard, and the talk goes on

@@ -1,5 +1,5 @@
 use Rattle.std.proofs.Common.{refl}
-use Rattle.reverse_debug.specs.Standing.{first_of}
+use Rattle.reverse_debug.specs.Session.{first_of}
 use Rattle.pico_top.specs.Opening.{setting_by}
 use Rattle.pico_top.proofs.Talking.{tells_heard, tells_cut, opened_place}
 use Rattle.pico_top.proofs.tell.talk.Goals as goal

@@ -1,5 +1,5 @@
 use Rattle.std.specs.Char.{is_ascii_digit}
-use Rattle.reverse_debug.specs.Commands.{decimal_digit}
+use Rattle.reverse_debug.specs.Command.{decimal_digit}
 use Rattle.reverse_debug.proofs.Digits.{all_read}
 use Rattle.reverse_debug.proofs.words.decimal.Goals as goal
 

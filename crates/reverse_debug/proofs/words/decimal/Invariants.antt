@@ -1,6 +1,6 @@
 use Rattle.std.proofs.Common.{◌≡◌, ◌^◌, ◌<◌, drop}
 use Rattle.std.specs.Char.{is_ascii_digit}
-use Rattle.reverse_debug.specs.Commands.{decimal_digit}
+use Rattle.reverse_debug.specs.Command.{decimal_digit}
 use Rattle.reverse_debug.proofs.Digits.{digits_from}
 use Rattle.reverse_debug.proofs.words.decimal.Given as goal
 

@@ -1,6 +1,6 @@
 use Rattle.std.proofs.Common.{◌<◌, arith}
 use Rattle.std.specs.Char.{is_ascii_hexdigit}
-use Rattle.reverse_debug.specs.Commands.{hexadecimal_digit}
+use Rattle.reverse_debug.specs.Command.{hexadecimal_digit}
 use Rattle.reverse_debug.proofs.Digits.{all_read, low_value}
 use Rattle.reverse_debug.proofs.words.hexadecimal.Goals as goal
 

@@ -1,6 +1,6 @@
 use Rattle.std.proofs.Common.{◌≡◌, ◌^◌, ◌<◌, drop}
 use Rattle.std.specs.Char.{is_ascii_hexdigit}
-use Rattle.reverse_debug.specs.Commands.{hexadecimal_digit}
+use Rattle.reverse_debug.specs.Command.{hexadecimal_digit}
 use Rattle.reverse_debug.proofs.Digits.{digits_from}
 use Rattle.reverse_debug.proofs.words.hexadecimal.Given as goal
 

@@ -1,6 +1,6 @@
 use Rattle.std.proofs.Common.{◌≡◌, ◌≤◌, ◌+◌, [], ◌∷◌, ◌++◌, take, sym, ap, ◌∙◌, subst, arith, Some}
 use Rattle.std.proofs.lemmas.List.{map_more, take_all}
-use Rattle.snap_ring.specs.Snapshots.{is_beyond, IsNearest}
+use Rattle.snap_ring.specs.Ring.{is_beyond, IsNearest}
 use Rattle.snap_ring.specs.Store.{state_in, states_in}
 use Rattle.snap_ring.proofs.Nearest.{stays, moves, joined}
 use Rattle.snap_ring.proofs.place.nearest_of.Goals.{then-kept-cycle+then-is_beyond, else-kept-cycle, else-kept-cycle-via-then-kept-cycle+else-is_beyond, else-kept-cycle-via-else-kept-cycle}

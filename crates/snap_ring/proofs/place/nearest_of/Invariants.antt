@@ -1,5 +1,5 @@
 use Rattle.std.proofs.Common.{ℕ, List, take}
-use Rattle.snap_ring.specs.Snapshots.{IsNearest}
+use Rattle.snap_ring.specs.Ring.{IsNearest}
 use Rattle.snap_ring.specs.Store.{states_in}
 use Rattle.snap_ring.proofs.place.nearest_of.Given as goal
 

@@ -1,6 +1,6 @@
 use Rattle.std.proofs.Common.{◌≡◌, ℕ, ◌<◌, Bool, false, List, length, get_or}
 use Rattle.dma_engine.specs.State.{Engine}
-use Rattle.dma_engine.specs.Timers.{gets_credit}
+use Rattle.dma_engine.specs.Timer.{gets_credit}
 use Rattle.dma_engine.proofs.engine.Engine.credited.Given as goal
 
 -- the channels below a number are told

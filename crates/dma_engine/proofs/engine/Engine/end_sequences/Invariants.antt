@@ -1,5 +1,5 @@
 use Rattle.std.proofs.Common.{◌≡◌}
-use Rattle.dma_engine.specs.Channels.{in_turn, with_end}
+use Rattle.dma_engine.specs.Channel.{in_turn, with_end}
 use Rattle.dma_engine.specs.Cycle.{is_over}
 use Rattle.dma_engine.proofs.engine.Engine.end_sequences.Given as goal
 

@@ -1,6 +1,6 @@
 use Rattle.std.proofs.Common.{◌≡◌, false, get_or}
-use Rattle.dma_engine.specs.Channels.{in_turn}
-use Rattle.dma_engine.specs.Timers.{with_credit}
+use Rattle.dma_engine.specs.Channel.{in_turn}
+use Rattle.dma_engine.specs.Timer.{with_credit}
 use Rattle.dma_engine.proofs.engine.Engine.take_credits.Given as goal
 
 abbrev pub invariant-loop-number : goal.invariant-loop-number

@@ -1,6 +1,6 @@
 use Rattle.std.proofs.Common.{◌≡◌}
 use Rattle.word_bits.specs.Word.{has_bit}
-use Rattle.dma_engine.specs.Channels.{in_turn, with_trigger}
+use Rattle.dma_engine.specs.Channel.{in_turn, with_trigger}
 use Rattle.dma_engine.proofs.engine.Engine.trigger_all.Given as goal
 
 abbrev pub invariant-loop-number : goal.invariant-loop-number

@@ -1,7 +1,7 @@
 use Rattle.std.proofs.Common.{◌-◌, None}
 use Rattle.outer_lane.specs.Setting.{setting_of}
 use Rattle.reverse_debug.specs.Advance.{CountsMove}
-use Rattle.reverse_debug.specs.Standing.{GoesOn}
+use Rattle.reverse_debug.specs.Session.{GoesOn}
 use Rattle.reverse_debug.proofs.session.Session.forward.Given as goal
 
 abbrev pub invariant-stretches : goal.invariant-stretches

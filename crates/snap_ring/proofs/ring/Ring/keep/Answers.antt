@@ -2,7 +2,7 @@ use Rattle.std.proofs.Common.{◌≡◌, ℕ, ◌+◌, List, length, drop, sym, 
 use Rattle.rp_machine.specs.State.{State}
 use Rattle.rp_machine.specs.Rest.{rest_of, state_with}
 use Rattle.snap_ring.specs.declared.place.Place.{Place}
-use Rattle.snap_ring.specs.Snapshots.{stored_for}
+use Rattle.snap_ring.specs.Ring.{stored_for}
 use Rattle.snap_ring.specs.Store.{AreStored, first_numbers, stored_anew, state_in, states_in}
 use Rattle.snap_ring.proofs.Finding.{from_place, anew_is}
 use Rattle.snap_ring.proofs.Keeping.{due_of, has_room, sound_after, view_after}

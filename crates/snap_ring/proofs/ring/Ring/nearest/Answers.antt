@@ -1,6 +1,6 @@
 use Rattle.std.proofs.Common.{List, subst}
 use Rattle.snap_ring.specs.declared.place.Place.{Place}
-use Rattle.snap_ring.specs.Snapshots.{Snapshots, IsNearest}
+use Rattle.snap_ring.specs.Ring.{Snapshots, IsNearest}
 use Rattle.snap_ring.specs.Store.{states_in}
 use Rattle.snap_ring.proofs.Finding.{from_place}
 use Rattle.snap_ring.proofs.ring.Ring.nearest.Goals as goal

@@ -2,7 +2,7 @@ use Rattle.std.proofs.Common.{◌≡◌, ℕ, List, drop, length, sym, ap, ◌�
 use Rattle.std.specs.Option.{is_some, option_map, option_copied}
 use Rattle.rp_machine.specs.State.{State}
 use Rattle.snap_ring.specs.declared.place.Place.{Place}
-use Rattle.snap_ring.specs.Snapshots.{Snapshots, is_kept, state_at, restored}
+use Rattle.snap_ring.specs.Ring.{Snapshots, is_kept, state_at, restored}
 use Rattle.snap_ring.specs.Store.{AreStored, state_in, place_at}
 use Rattle.snap_ring.proofs.Finding.{from_place, kept_at, state_at-in, place_at-has}
 use Rattle.snap_ring.proofs.ring.Ring.restore.Goals as goal

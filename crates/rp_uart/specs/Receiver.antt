@@ -10,7 +10,7 @@ use Rattle.rp_uart.specs.declared.receiver.Receiver.{Receiver}
 use Rattle.rp_uart.specs.declared.receiver.Receiver.TheVariants as receivers
 use Rattle.rp_uart.specs.Frame.{width_of, parity_bit, parity_at, stop_at}
 use Rattle.rp_uart.specs.Interrupts.{depth_of, receive_trigger, receive_interrupt, timeout_interrupt, error_interrupts, told, told_if}
-use Rattle.rp_uart.specs.Sending.{bit_time, is_over, elapsed_after}
+use Rattle.rp_uart.specs.Sender.{bit_time, is_over, elapsed_after}
 use Rattle.rp_uart.specs.State.{SerialPort}
 
 -- ---- a byte that came

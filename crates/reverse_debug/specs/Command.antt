@@ -6,7 +6,7 @@ use Rattle.std.specs.List.{slice_split, list_all}
 use Rattle.std.specs.Str.{bytes_eq}
 use Rattle.rp_base.specs.declared.map.Spot.{Spot}
 use Rattle.rp_base.specs.declared.map.Spot.TheVariants as spot
-use Rattle.rp_base.specs.AddressMap.{place_of}
+use Rattle.rp_base.specs.Map.{place_of}
 
 pub data Command : Type 0 where
   -- move so many cycles forward, or back

@@ -4,7 +4,7 @@ use Rattle.std.specs.Prelude.{ℕ, zero, suc, ◌+◌, ◌-◌, Bool, true, fals
 use Rattle.std.specs.List.{range_with_len}
 use Rattle.word_bits.specs.Word.{has_bit}
 use Rattle.rp_base.specs.declared.Why.{Why}
-use Rattle.rp_base.specs.AddressMap.{place_of}
+use Rattle.rp_base.specs.Map.{place_of}
 use Rattle.trace_text.specs.Line.{hex_word, level_digit, spaced_word, stop_text, register_text}
 use Rattle.outer_lane.specs.Setting.{Setting}
 use Rattle.rp_machine.specs.State.{State}
@@ -12,8 +12,8 @@ use Rattle.rp_machine.specs.Cycle.{stop, next}
 use Rattle.rp_machine.specs.Sram.{ram_word}
 use Rattle.rp_machine.specs.Readers.{registers_of, pio_registers}
 use Rattle.rp_machine.specs.Run.{states, last_state}
-use Rattle.reverse_debug.specs.Commands.{Command, addresses, command_of}
-use Rattle.reverse_debug.specs.Commands.Command.{Step, Back, Goto, End, Regs, Mem, Pins, Pio, LastWrite, Quit, Bad}
+use Rattle.reverse_debug.specs.Command.{Command, addresses, command_of}
+use Rattle.reverse_debug.specs.Command.Command.{Step, Back, Goto, End, Regs, Mem, Pins, Pio, LastWrite, Quit, Bad}
 
 -- where the session stands after a line, the reply, and whether the line ends the session
 pub record Said : Type 0 where

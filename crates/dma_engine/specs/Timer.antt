@@ -6,7 +6,7 @@ use Rattle.dma_engine.specs.declared.pace.Pace.{Pace}
 use Rattle.dma_engine.specs.declared.pace.Pace.TheVariants as pace
 use Rattle.dma_engine.specs.declared.timer.PacingTimer.{PacingTimer}
 use Rattle.dma_engine.specs.Control.{treq_of}
-use Rattle.dma_engine.specs.Channels.{changed, in_turn}
+use Rattle.dma_engine.specs.Channel.{changed, in_turn}
 use Rattle.dma_engine.specs.Choice.{pace_of}
 use Rattle.dma_engine.specs.State.{Engine, channel_at}
 

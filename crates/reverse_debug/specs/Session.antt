@@ -5,8 +5,8 @@ use Rattle.outer_lane.specs.Setting.{Setting}
 use Rattle.rp_machine.specs.State.{State}
 use Rattle.rp_machine.specs.Cycle.{stop}
 use Rattle.rp_machine.specs.Run.{states}
-use Rattle.snap_ring.specs.Snapshots.{Snapshots, spacing_of, is_kept, state_at, restored}
-use Rattle.reverse_debug.specs.Replies.{Said, last_cycle}
+use Rattle.snap_ring.specs.Ring.{Snapshots, spacing_of, is_kept, state_at, restored}
+use Rattle.reverse_debug.specs.Reply.{Said, last_cycle}
 
 pub record Standing : Type 0 where
   -- the machine's state at the present cycle
