@@ -62,7 +62,7 @@ impl Machine {
 
     /// Core 1 sleeps, and the DMA engine and both PIO blocks are at rest.
     #[inline(always)]
-    pub(crate) fn is_core0_alone(&self) -> bool
+    pub fn is_core0_alone(&self) -> bool
         ensures { result ≡ true → IsAlone self.now }
     {
         self.core1.is_asleep()
@@ -126,7 +126,7 @@ impl Machine {
 
     /// One cycle in which core 0, which is alone, has begun this and wants that.
     #[tactic(auto, unfolding(crate::specs::Alone::alone_next))]
-    fn step_alone<X: Device>(
+    pub fn step_alone<X: Device>(
         &mut self,
         world: &World<'_, X>,
         core0: &Doing,

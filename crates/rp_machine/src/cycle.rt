@@ -64,10 +64,10 @@ impl Machine {
     ghost use Rattle.rp_machine.specs.BusRest.{is_bus_at_rest, core1_at_rest, rest_next};
     ghost use Rattle.rp_machine.specs.Cycle.{begun, wanted, cause_in, stop, turns, deeds, with_turns, signalled, pins_of, with_sio, sio_accessed, after_deed, after_launcher, after_core1, stored, ended, after_deeds, next_by, next, mark};
 
-    /// The first cause of a master to stop before this cycle.
+    /// The first cause of a master to stop before a cycle in which this was begun and wanted.
     #[inline(always)]
     #[tactic(auto, unfolding(crate::specs::Cycle::cause_in))]
-    fn cause_in<X: Device>(
+    pub fn cause_in<X: Device>(
         &self,
         world: &World<'_, X>,
         begun: &Begun,
