@@ -4,7 +4,7 @@ use Rattle.std.specs.List.{AllByRecursion}
 use Rattle.std.proofs.Math.Seq.{take-append_seam, drop-append-add, take-add}
 use Rattle.std.proofs.lemmas.List.{drop-drop, take_all, get_or-take, length-take-le}
 use Rattle.ram_banks.specs.Pages.{page_of, with_page}
-use Rattle.snap_ring.specs.Store.{page_at, sram_of, IsPage}
+use Rattle.snap_ring.specs.Snapshot.{page_at, sram_of, IsPage}
 
 pub below_more : (n m : ℕ) (ns : List ℕ) → n ≤ m → AllByRecursion (λ k. k < n) ns → AllByRecursion (λ k. k < m) ns
 below_more n m [] le h = tt
@@ -59,7 +59,7 @@ pub whole_sram : (pages : List (List ℕ)) (ns sram : List ℕ) → length ns �
 whole_sram pages ns sram long is h =
     from_page pages ns 0 sram (λ k lt. h k lt ∙ ap (λ m. page_of m sram) (omega arith)) ∙ take_all (length ns * 256) sram (omega (arith, long, is))
 
--- ---- putting the pages of one list in the places of another's
+-- ---- putting the pages of one list in the ones of another's
 
 pub put_page : (page : ℕ) (target old : List ℕ) → (page + 1) * 256 ≤ length target →
     with_page page (page_of page target) (take (page * 256) target ++ drop (page * 256) old) ≡ take ((page + 1) * 256) target ++ drop ((page + 1) * 256) old

@@ -1,4 +1,4 @@
--- Of 64 places one is free where a state is to be kept.
+-- Of 64 snapshots one is free where a state is to be kept.
 use Rattle.std.proofs.Common.{◌≡◌, ◌≤◌, ◌<◌, ℕ, suc, ◌+◌, ◌*◌, ◌/◌, ◌%◌, ◌==◌, true, false, not, ◌&&◌, nat_lt, List, [], ◌∷◌, length, refl, ap, ◌∙◌, sym, arith, subst, inl, inr}
 use Rattle.std.proofs.Math.Nat.{div-add-mod, div-lt_iff_lt-mul}
 use Rattle.std.specs.List.{list_any, AllByRecursion, IsDistinct}
@@ -24,7 +24,7 @@ due spacing kept cycle h =
       new = not-true (is_kept cycle kept) b.1;
     }
 
--- the numbers of the places
+-- the numbers of the snapshots
 slots : ℕ → List State → List ℕ
 slots spacing kept = map (λ s. s.cycle / spacing) kept
 

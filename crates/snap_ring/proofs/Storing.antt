@@ -6,7 +6,7 @@ use Rattle.std.proofs.lemmas.Bool.{cases_eq}
 use Rattle.std.proofs.lemmas.List.{get_or-set_other, get_or-set_same, take-append-le, length-take-le, take_all}
 use Rattle.ram_banks.specs.Pages.{page_of}
 use Rattle.snap_ring.specs.Pages.{differing}
-use Rattle.snap_ring.specs.Store.{page_at, sram_of, IsPage, AreStored, is_in_force, pages_with, number_in, stored_anew}
+use Rattle.snap_ring.specs.Snapshot.{page_at, sram_of, IsPage, AreStored, is_in_force, pages_with, number_in, stored_anew}
 use Rattle.snap_ring.proofs.Counting.{differing-next, differing-le}
 use Rattle.snap_ring.proofs.Joining.{page_of-sram, page_at-later, whole_sram}
 

@@ -1,4 +1,4 @@
 pub mod Laws
 pub mod Pages
 pub mod Ring
-pub mod Store
+pub mod Snapshot

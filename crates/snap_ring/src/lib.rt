@@ -3,7 +3,7 @@
 
 pub mod laws;
 mod pages;
-mod place;
 mod ring;
+mod snapshot;
 
 pub use ring::Ring;

@@ -3,9 +3,9 @@
 ghost use Rattle.std.specs.Prelude.{◌≡◌, ◌<◌, ◌≤◌, ◌+◌, ◌∷◌, ◌++◌, [], take, length, vec_capacity, IfSome};
 ghost use Rattle.std.specs.List.{AllByRecursion};
 ghost use Rattle.ram_banks.specs.Pages.{page_of};
-ghost use Rattle.snap_ring.specs.Store.{page_at, sram_of, IsPage, AreStored, number_in, pages_with, stored_anew, state_in};
+ghost use Rattle.snap_ring.specs.Snapshot.{page_at, sram_of, IsPage, AreStored, number_in, pages_with, stored_anew, state_in};
 
-use crate::place::Place;
+use crate::snapshot::Snapshot;
 use ram_banks::{PAGES, Ram};
 use rp_machine::Machine;
 
@@ -105,12 +105,12 @@ fn load(pages: &[[u32; 256]], numbers: &[u32; 264], ram: &mut Ram)
     }
 }
 
-/// Sets a machine to what a place holds.
-pub(crate) fn set_to(machine: &mut Machine, pages: &[[u32; 256]], place: &Place)
-    requires stored { AreStored (length pages.now) place.now.numbers }
+/// Sets a machine to a snapshot.
+pub(crate) fn set_to(machine: &mut Machine, pages: &[[u32; 256]], snapshot: &Snapshot)
+    requires stored { AreStored (length pages.now) snapshot.now.numbers }
     requires whole { AllByRecursion IsPage pages.now }
-    ensures { machine.new ≡ state_in pages.now place.now }
+    ensures { machine.new ≡ state_in pages.now snapshot.now }
 {
-    machine.rest_from(&place.rest);
-    load(pages, &place.numbers, &mut machine.ram);
+    machine.rest_from(&snapshot.rest);
+    load(pages, &snapshot.numbers, &mut machine.ram);
 }

@@ -1,13 +1,13 @@
 //! The ring of snapshots.
 
 use crate::pages::{set_to, store};
-use crate::place::{Place, find, first_numbers, is_among, nearest_of, places_for};
+use crate::snapshot::{Snapshot, find, first_numbers, is_among, nearest_of, snapshots_for};
 use rp_machine::Machine;
 use std::alloc::{AllocError, Global};
 use std::marker::Model;
 
 /// How many snapshots there is room for.
-const PLACES: usize = 64;
+const SNAPSHOTS: usize = 64;
 
 /// How many pages there is room for: all those of each snapshot.
 const ROOM: usize = 64 * 264;
@@ -21,9 +21,9 @@ const LEAST_SPACING: u64 = 4096;
 pub struct Ring {
     /// How many cycles apart the snapshots are.
     spacing: u64,
-    /// The places from `free` on hold the snapshots, the last one first.
-    places: Vec<Place>,
-    /// How many places are free.
+    /// Those from `free` on are kept, the last one first.
+    snapshots: Vec<Snapshot>,
+    /// How many of them are free.
     free: usize,
     /// The stored pages, in the order in which they came.
     pages: Vec<[u32; 256]>,
@@ -32,16 +32,16 @@ pub struct Ring {
 impl Model for Ring {
     ghost use Rattle.std.specs.Prelude.{◌≤◌, drop, vec_capacity};
     ghost use Rattle.snap_ring.specs.Ring.{Snapshots};
-    ghost use Rattle.snap_ring.specs.Store.{states_in, AreSound};
+    ghost use Rattle.snap_ring.specs.Snapshot.{states_in, AreSound};
 
     ghost Value = { Snapshots };
 
     ghost view = { λ r. record {
       spacing = r.spacing;
-      kept = states_in r.pages.items (drop r.free r.places.items);
+      kept = states_in r.pages.items (drop r.free r.snapshots.items);
     } };
 
-    ghost invariant = { λ r. AreSound r.spacing r.free r.places.items r.pages.items
+    ghost invariant = { λ r. AreSound r.spacing r.free r.snapshots.items r.pages.items
         × (16896 ≤ vec_capacity r.pages) };
 }
 
@@ -59,9 +59,9 @@ impl Ring {
         ensures { IfOk result (λ ring. ring ≡ record { spacing = spacing_of limit; kept = [] }) }
     {
         Ok(Ring {
-            spacing: LEAST_SPACING.max(limit.div_ceil(PLACES as u64)),
-            places: places_for(alloc, machine, PLACES)?,
-            free: PLACES,
+            spacing: LEAST_SPACING.max(limit.div_ceil(SNAPSHOTS as u64)),
+            snapshots: snapshots_for(alloc, machine, SNAPSHOTS)?,
+            free: SNAPSHOTS,
             pages: Vec::with_capacity(alloc, ROOM)?,
         })
     }
@@ -86,8 +86,8 @@ impl Ring {
         ensures { result ≡ is_due self.now.spacing self.now.kept cycle }
     {
         cycle % self.spacing == 0
-            && cycle < PLACES as u64 * self.spacing
-            && !is_among(&self.places[self.free..], cycle)
+            && cycle < SNAPSHOTS as u64 * self.spacing
+            && !is_among(&self.snapshots[self.free..], cycle)
     }
 
     /// Keeps the machine as it is. False exactly where its cycle is no multiple of the spacing, or is 64 spacings or more, or is
@@ -99,10 +99,10 @@ impl Ring {
         if !self.is_due(machine.number()) {
             return false;
         }
-        let in_force = first_numbers(&self.places[self.free..]);
+        let in_force = first_numbers(&self.snapshots[self.free..]);
         let numbers = store(&mut self.pages, &machine.ram, in_force);
         self.free -= 1;
-        self.places[self.free].set(machine, numbers);
+        self.snapshots[self.free].set(machine, numbers);
         true
     }
 
@@ -110,7 +110,7 @@ impl Ring {
     pub fn nearest(&self, cycle: u64) -> Option<u64>
         ensures { IsNearest cycle self.now.kept result }
     {
-        nearest_of(&self.places[self.free..], cycle)
+        nearest_of(&self.snapshots[self.free..], cycle)
     }
 
     /// Sets a machine to the snapshot of this cycle. False exactly where none is kept; the machine is not changed then. It takes
@@ -119,9 +119,9 @@ impl Ring {
         ensures answer { result ≡ is_kept cycle self.now.kept }
         ensures machine { machine.new ≡ restored (state_at cycle self.now.kept) machine.old }
     {
-        match find(&self.places[self.free..], cycle) {
-            Some(place) => {
-                set_to(machine, &self.pages, place);
+        match find(&self.snapshots[self.free..], cycle) {
+            Some(snapshot) => {
+                set_to(machine, &self.pages, snapshot);
                 true
             }
             None => false,

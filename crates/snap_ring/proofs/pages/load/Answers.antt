@@ -1,6 +1,6 @@
 use Rattle.std.proofs.Common.{◌≡◌, ◌*◌, length, take, drop, ◌++◌, sym, ap, ◌∙◌, arith}
 use Rattle.ram_banks.specs.Pages.{page_of, with_page}
-use Rattle.snap_ring.specs.Store.{sram_of}
+use Rattle.snap_ring.specs.Snapshot.{sram_of}
 use Rattle.snap_ring.proofs.Joining.{sram-length, page_of-sram, put_page, all_put}
 use Rattle.snap_ring.proofs.pages.load.Goals as goal
 

@@ -1,5 +1,5 @@
 use Rattle.std.proofs.Common.{◌≡◌, ◌<◌, ◌*◌, ◌++◌, length, take, drop}
-use Rattle.snap_ring.specs.Store.{sram_of}
+use Rattle.snap_ring.specs.Snapshot.{sram_of}
 use Rattle.snap_ring.proofs.pages.load.Given as goal
 
 abbrev pub invariant-loop-page : goal.invariant-loop-page

@@ -4,7 +4,7 @@ use Rattle.std.specs.List.{AllByRecursion}
 use Rattle.std.specs.Cmp.Lexicographic.{pointwise}
 use Rattle.rp_machine.specs.State.{State}
 use Rattle.rp_machine.specs.Rest.{state_with}
-use Rattle.snap_ring.specs.declared.place.Place.{Place}
+use Rattle.snap_ring.specs.declared.snapshot.Snapshot.{Snapshot}
 use Rattle.snap_ring.specs.Pages.{differing}
 use Rattle.snap_ring.specs.Ring.{WereDue, stored_of}
 
@@ -44,29 +44,29 @@ abbrev pub stored_anew : ℕ → List (List ℕ) → Option (List ℕ) → List 
 stored_anew n pages None sram = n
 stored_anew n pages (Some numbers) sram = differing n (sram_of pages numbers) sram
 
--- the state that is kept in a place
-abbrev pub state_in : List (List ℕ) → Place → State
-state_in pages place = state_with (sram_of pages place.numbers) place.rest
+-- the state that a snapshot keeps
+abbrev pub state_in : List (List ℕ) → Snapshot → State
+state_in pages snapshot = state_with (sram_of pages snapshot.numbers) snapshot.rest
 
-abbrev pub states_in : List (List ℕ) → List Place → List State
-states_in pages places = map (state_in pages) places
+abbrev pub states_in : List (List ℕ) → List Snapshot → List State
+states_in pages snapshots = map (state_in pages) snapshots
 
--- the place of a cycle
-abbrev pub place_at : ℕ → List Place → Option Place
-place_at cycle [] = None
-place_at cycle (p ∷ older) = if p.rest.cycle == cycle then Some p else place_at cycle older
+-- the snapshot of a cycle
+abbrev pub snapshot_at : ℕ → List Snapshot → Option Snapshot
+snapshot_at cycle [] = None
+snapshot_at cycle (p ∷ older) = if p.rest.cycle == cycle then Some p else snapshot_at cycle older
 
--- the numbers of the pages of the first place
-abbrev pub first_numbers : List Place → Option (List ℕ)
+-- the numbers of the pages of the first snapshot
+abbrev pub first_numbers : List Snapshot → Option (List ℕ)
 first_numbers [] = None
 first_numbers (p ∷ older) = Some p.numbers
 
--- of the places those from `free` on are in use
-pub record AreSound (spacing free : ℕ) (places : List Place) (pages : List (List ℕ)) : Type 0 where
+-- of the snapshots those from `free` on are kept
+pub record AreSound (spacing free : ℕ) (snapshots : List Snapshot) (pages : List (List ℕ)) : Type 0 where
   pub small : spacing ≤ 15625000
-  pub long : length places ≡ 64
+  pub long : length snapshots ≡ 64
   pub low : free ≤ 64
   pub whole : AllByRecursion IsPage pages
-  pub stored : AllByRecursion (λ p. AreStored (length pages) p.numbers) (drop free places)
-  pub due : WereDue spacing (states_in pages (drop free places))
-  pub count : length pages ≡ stored_of (states_in pages (drop free places))
+  pub stored : AllByRecursion (λ p. AreStored (length pages) p.numbers) (drop free snapshots)
+  pub due : WereDue spacing (states_in pages (drop free snapshots))
+  pub count : length pages ≡ stored_of (states_in pages (drop free snapshots))
