@@ -9,7 +9,7 @@ ghost use Rattle.reverse_debug.specs.Session.{first_of, StandsFor};
 ghost use Rattle.line_talk.specs.Debugger.{talk_with};
 ghost use Rattle.line_talk.specs.Lines.{all_lines};
 ghost use Rattle.line_talk.specs.Talk.{Talk, said_to, spent_on, Hears};
-ghost use Rattle.line_talk.specs.Way.{Along, Feeds, Finishes, Taking, Turns};
+ghost use Rattle.line_talk.specs.Way.{Along, Feeds, Finishes, Taking, IsAfterTake};
 
 use crate::way::Way;
 use arrayvec::ArrayVec;
@@ -32,7 +32,7 @@ const PIECE: usize = 256;
 
 /// What came of one take.
 #[derive(Clone, Copy)]
-pub enum Turn {
+pub enum AfterTake {
     /// So many bytes were taken, and there may be more.
     Took(usize),
     /// The taking ended so.
@@ -82,7 +82,7 @@ fn say<X: Device, L: Ledger>(
         (setting_of world.now.script.now (X.meaning world.now.device.now) world.now.limit)
         session.old in
         result ≡ true → reply.new.items ≡ t.reply session.old.now.cycle line.now }
-    ensures place { let t = talk_with
+    ensures cycle { let t = talk_with
         (setting_of world.now.script.now (X.meaning world.now.device.now) world.now.limit)
         session.old in
         result ≡ true → session.new.now.cycle ≡ t.next session.old.now.cycle line.now }
@@ -125,7 +125,7 @@ fn answer<X: Device, O: Sink, L: Ledger>(
         Sends (O.written writer.old.out.now) (O.written writer.new.out.now)
         (O.faults writer.old.out.now) (O.faults writer.new.out.now)
         (said_to t session.old.now.cycle line.now) result }
-    ensures place { let t = talk_with
+    ensures cycle { let t = talk_with
         (setting_of world.now.script.now (X.meaning world.now.device.now) world.now.limit)
         session.old in
         IfOk result (λ more. more ≡ true
@@ -166,10 +166,10 @@ fn hear_byte<X: Device, O: Sink, L: Ledger>(
     ensures feeds { let t = talk_with
         (setting_of world.now.script.now (X.meaning world.now.device.now) world.now.limit)
         session.old in
-        (place : ℕ) (seen : List ℕ) (old : Option (List ℕ)) (before base : ℕ)
-        → Along t place seen old (O.written writer.old.out.now) before
+        (cycle : ℕ) (seen : List ℕ) (old : Option (List ℕ)) (before base : ℕ)
+        → Along t cycle seen old (O.written writer.old.out.now) before
         (O.faults writer.old.out.now) base steps.old session.old.now.cycle open.old.items
-        → Feeds t place (seen ++ byte ∷ []) old (O.written writer.new.out.now) before
+        → Feeds t cycle (seen ++ byte ∷ []) old (O.written writer.new.out.now) before
         (O.faults writer.new.out.now) base steps.new session.new.now.cycle open.new.items result }
 {
     if byte != b'\n' {
@@ -201,10 +201,10 @@ fn hear_bytes<X: Device, O: Sink, L: Ledger>(
     ensures feeds { let t = talk_with
         (setting_of world.now.script.now (X.meaning world.now.device.now) world.now.limit)
         session.old in
-        (place : ℕ) (seen : List ℕ) (old : Option (List ℕ)) (before base : ℕ)
-        → Along t place seen old (O.written writer.old.out.now) before
+        (cycle : ℕ) (seen : List ℕ) (old : Option (List ℕ)) (before base : ℕ)
+        → Along t cycle seen old (O.written writer.old.out.now) before
         (O.faults writer.old.out.now) base steps.old session.old.now.cycle open.old.items
-        → Feeds t place (seen ++ bytes.now) old (O.written writer.new.out.now) before
+        → Feeds t cycle (seen ++ bytes.now) old (O.written writer.new.out.now) before
         (O.faults writer.new.out.now) base steps.new session.new.now.cycle open.new.items result }
 {
     for byte in bytes {
@@ -236,10 +236,10 @@ fn hear_end<X: Device, O: Sink, L: Ledger>(
     ensures ends { let t = talk_with
         (setting_of world.now.script.now (X.meaning world.now.device.now) world.now.limit)
         session.old in
-        (place : ℕ) (seen : List ℕ) (old : Option (List ℕ)) (before base : ℕ)
-        → Along t place seen old (O.written writer.old.out.now) before
+        (cycle : ℕ) (seen : List ℕ) (old : Option (List ℕ)) (before base : ℕ)
+        → Along t cycle seen old (O.written writer.old.out.now) before
         (O.faults writer.old.out.now) base steps.old session.old.now.cycle open.now
-        → Finishes t place (all_lines seen) old (O.written writer.new.out.now) before
+        → Finishes t cycle (all_lines seen) old (O.written writer.new.out.now) before
         (O.faults writer.new.out.now) base steps.new result }
 {
     if open.is_empty() {
@@ -260,7 +260,7 @@ fn take_piece<X: Device, I: Source, O: Sink, L: Ledger>(
     open: &mut ArrayVec<u8, LINE>,
     writer: &mut Writer<'_, O>,
     steps: &mut Steps<L>,
-) -> Result<Turn, SinkFault>
+) -> Result<AfterTake, SinkFault>
     requires stood { StandsFor
         (setting_of world.now.script.now (X.meaning world.now.device.now) world.now.limit)
         session.old }
@@ -270,16 +270,16 @@ fn take_piece<X: Device, I: Source, O: Sink, L: Ledger>(
         session.new }
     ensures first { first_of session.new ≡ first_of session.old }
     ensures same_sink { writer.new.out.ghost_name ≡ writer.old.out.ghost_name }
-    ensures turns { let t = talk_with
+    ensures came { let t = talk_with
         (setting_of world.now.script.now (X.meaning world.now.device.now) world.now.limit)
         session.old in
-        (place limit count : ℕ) (left : Option (List ℕ)) (lost : ℕ) (old : Option (List ℕ))
+        (cycle limit count : ℕ) (left : Option (List ℕ)) (lost : ℕ) (old : Option (List ℕ))
         (before base : ℕ)
         → count + length piece.old ≤ limit
-        → Taking t place limit left (I.left input.old) lost (I.faults input.old) old
+        → Taking t cycle limit left (I.left input.old) lost (I.faults input.old) old
         (O.written writer.old.out.now) before (O.faults writer.old.out.now) base
         steps.old session.old.now.cycle open.old.items count
-        → Turns t place limit left (I.left input.new) lost (I.faults input.new) old
+        → IsAfterTake t cycle limit left (I.left input.new) lost (I.faults input.new) old
         (O.written writer.new.out.now) before (O.faults writer.new.out.now) base
         steps.new session.new.now.cycle open.new.items count result }
 {
@@ -292,15 +292,15 @@ fn take_piece<X: Device, I: Source, O: Sink, L: Ledger>(
             writer,
             steps,
         ) {
-            Ok(true) => Ok(Turn::Took(count)),
-            Ok(false) => Ok(Turn::Over(Way::Closed)),
+            Ok(true) => Ok(AfterTake::Took(count)),
+            Ok(false) => Ok(AfterTake::Over(Way::Closed)),
             Err(fault) => Err(fault),
         },
         Taken::End => match hear_end(session, world, open, writer, steps) {
-            Ok(()) => Ok(Turn::Over(Way::Ended)),
+            Ok(()) => Ok(AfterTake::Over(Way::Ended)),
             Err(fault) => Err(fault),
         },
-        Taken::Failed => Ok(Turn::Over(Way::Broken)),
+        Taken::Failed => Ok(AfterTake::Over(Way::Broken)),
     }
 }
 
@@ -346,8 +346,8 @@ pub fn hear<X: Device, I: Source, O: Sink, L: Ledger>(
             writer,
             steps,
         ) {
-            Ok(Turn::Took(count)) => taken += count,
-            Ok(Turn::Over(way)) => return Ok(way),
+            Ok(AfterTake::Took(count)) => taken += count,
+            Ok(AfterTake::Over(way)) => return Ok(way),
             Err(fault) => return Err(fault),
         }
     }
