@@ -26,8 +26,8 @@ use Rattle.pico_top.specs.declared.open.Opened.TheVariants.{Machine, Session, Te
 use Rattle.pico_top.specs.declared.open.Purpose.{Purpose}
 use Rattle.pico_top.specs.declared.open.Purpose.TheVariants.{Run as ForRun, Debug as ForDebug}
 use Rattle.reverse_debug.specs.Session.{first_of, OpensAt}
-use Rattle.pico_top.specs.declared.open.Stop.{Stop}
-use Rattle.pico_top.specs.declared.open.Stop.TheVariants.{Refusing, Memory}
+use Rattle.pico_top.specs.declared.open.Unopened.{Unopened}
+use Rattle.pico_top.specs.declared.open.Unopened.TheVariants.{Refusing, Memory}
 use Rattle.pico_top.specs.RunText.{run_text, run_cycles}
 use Rattle.line_talk.specs.Debugger.{quits}
 use Rattle.pico_top.specs.Loads.{Placed, loads_of, plans_in}
@@ -40,17 +40,17 @@ use Rattle.pico_top.specs.Answer.{Puts}
 use Rattle.board_parts.specs.Hearing.{Aim}
 use Rattle.gen_image.specs.Code.{image_of_number}
 use Rattle.command_words.specs.Words.Command.{Generate}
-use Rattle.pico_top.specs.Opening.{StopsAs, Opens, OpensFor, LoadsAs, Passes, Refuses, ReadsScript, Boots, use_for, setting_in, setting_by, IsPlaced, ArePlaced, LoadsAll}
+use Rattle.pico_top.specs.Opening.{EndsAs, Opens, OpensFor, LoadsAs, Passes, Refuses, ReadsScript, Boots, use_for, setting_in, setting_by, IsPlaced, ArePlaced, LoadsAll}
 use Rattle.pico_top.proofs.Walking.{runs_out}
 
 -- a load failed
-pub load_lost : (files : Option Files) (failed failed' : List (List ℕ)) (name : List ℕ) (limit : ℕ) (stop : Stop) → failed' ≡ failed_after failed name Failed → StopsAs stop (Refused (Lost name)) → LoadsAs files failed failed' name limit (Err stop)
-load_lost files failed failed' name limit stop names is next = (Refused (Lost name), (Failed, [], tt, refl), names, is)
+pub load_lost : (files : Option Files) (failed failed' : List (List ℕ)) (name : List ℕ) (limit : ℕ) (unopened : Unopened) → failed' ≡ failed_after failed name Failed → EndsAs unopened (Refused (Lost name)) → LoadsAs files failed failed' name limit (Err unopened)
+load_lost files failed failed' name limit unopened names is next = (Refused (Lost name), (Failed, [], tt, refl), names, is)
 
 -- ---- scripts
 
 -- the verdict of a script leads on, or the walk ends there
-script_judged : (files : Option Files) (failed : List (List ℕ)) (bytes : List ℕ) (result : Result (List ScriptEntry) Stop) → ReadsScript bytes result → Passes files failed failed (λ next. JudgeScript (script_of bytes) next) result
+script_judged : (files : Option Files) (failed : List (List ℕ)) (bytes : List ℕ) (result : Result (List ScriptEntry) Unopened) → ReadsScript bytes result → Passes files failed failed (λ next. JudgeScript (script_of bytes) next) result
 script_judged files failed bytes (Ok script) is = (refl, λ next e w. subst (λ (v : Result (List ScriptEntry) ScriptFault). Walks files (JudgeScript v next) e) (sym is) (inl w))
 script_judged files failed bytes (Err (Refusing (Script fault))) is = λ next.
     (Refused (BadScript fault), subst (λ (v : Result (List ScriptEntry) ScriptFault). Walks files (JudgeScript v next) (Refused (BadScript fault))) (sym is) (inl refl), refl, refl)
@@ -61,27 +61,27 @@ script_judged files failed bytes (Err (Refusing (Large name long))) is = absurd 
 script_judged files failed bytes (Err (Refusing (Image fault))) is = absurd is
 script_judged files failed bytes (Err (Refusing (Source fault))) is = absurd is
 
-pub no_script : (files : Option Files) (failed : List (List ℕ)) (result : Result (List ScriptEntry) Stop) → ReadsScript [] result → Passes files failed failed (with_script None) result
+pub no_script : (files : Option Files) (failed : List (List ℕ)) (result : Result (List ScriptEntry) Unopened) → ReadsScript [] result → Passes files failed failed (with_script None) result
 no_script files failed result is = script_judged files failed [] result is
 
 -- a part behind a load that gave bytes
-behind_load : {X : Type 0} (files : Option Files) (failed failed' : List (List ℕ)) (name : List ℕ) (limit : ℕ) (bytes : List ℕ) (part : List ℕ → (X → Dialogue) → Dialogue) (result : Result X Stop) → Answers files name limit Done bytes → failed' ≡ failed → Passes files failed failed (part bytes) result → Passes files failed failed' (λ next. Load name limit (λ b. part b next)) result
+behind_load : {X : Type 0} (files : Option Files) (failed failed' : List (List ℕ)) (name : List ℕ) (limit : ℕ) (bytes : List ℕ) (part : List ℕ → (X → Dialogue) → Dialogue) (result : Result X Unopened) → Answers files name limit Done bytes → failed' ≡ failed → Passes files failed failed (part bytes) result → Passes files failed failed' (λ next. Load name limit (λ b. part b next)) result
 behind_load files failed failed' name limit bytes part (Ok x) answers same h = (same, λ next e w. (Done, bytes, answers, h.1 next e w))
-behind_load files failed failed' name limit bytes part (Err stop) answers same h = λ next. let s = h next in (s.0, (Done, bytes, answers, s.1), same ∙ s.2, s.3)
+behind_load files failed failed' name limit bytes part (Err unopened) answers same h = λ next. let s = h next in (s.0, (Done, bytes, answers, s.1), same ∙ s.2, s.3)
 
-pub script_read : (files : Option Files) (failed failed' : List (List ℕ)) (name : List ℕ) (bytes : List ℕ) (result : Result (List ScriptEntry) Stop) → Answers files name script_limit Done bytes → failed' ≡ failed → ReadsScript bytes result → Passes files failed failed' (with_script (Some name)) result
+pub script_read : (files : Option Files) (failed failed' : List (List ℕ)) (name : List ℕ) (bytes : List ℕ) (result : Result (List ScriptEntry) Unopened) → Answers files name script_limit Done bytes → failed' ≡ failed → ReadsScript bytes result → Passes files failed failed' (with_script (Some name)) result
 script_read files failed failed' name bytes result answers same is =
     behind_load files failed failed' name script_limit bytes (λ b next. JudgeScript (script_of b) next) result answers same (script_judged files failed bytes result is)
 
 -- ---- parts of a walk, one behind another
 
 -- what was opened behind a part
-pub opens_behind : {X : Type 0} (files files' : Option Files) (a b c : List (List ℕ)) (device : DeviceMeaning) (aims : List Aim) (part : (X → Dialogue) → Dialogue) (x : X) (next : X → Dialogue) (result : Result Opened Stop) → Passes files a b part (Ok x) → files' ≡ files → Opens files' b c device aims (next x) result → Opens files a c device aims (part next) result
+pub opens_behind : {X : Type 0} (files files' : Option Files) (a b c : List (List ℕ)) (device : DeviceMeaning) (aims : List Aim) (part : (X → Dialogue) → Dialogue) (x : X) (next : X → Dialogue) (result : Result Opened Unopened) → Passes files a b part (Ok x) → files' ≡ files → Opens files' b c device aims (next x) result → Opens files a c device aims (part next) result
 opens_behind files files' a b c device aims part x next (Ok opened) h same opens =
     let o = subst (λ (f : Option Files). Opens f b c device aims (next x) (Ok opened)) same opens in
     (o.0 ∙ h.0, o.1, λ e w. h.1 next e (o.2 e w))
-opens_behind files files' a b c device aims part x next (Err stop) h same opens =
-    let s = subst (λ (f : Option Files). Opens f b c device aims (next x) (Err stop)) same opens in
+opens_behind files files' a b c device aims part x next (Err unopened) h same opens =
+    let s = subst (λ (f : Option Files). Opens f b c device aims (next x) (Err unopened)) same opens in
     (s.0, h.1 next s.0 s.1, s.2 ∙ ap (λ f. failed_names f s.0) h.0, s.3)
 
 -- ---- a run
@@ -136,7 +136,7 @@ heard_words files ps programs limit last told t e have is w = elim w [
 ]
 
 -- the machine booted, or memory ran out
-boots_opens : (aims : List Aim) (purpose : Purpose) (files : Option Files) (failed : List (List ℕ)) (device : DeviceMeaning) (script : List ScriptEntry) (limit : ℕ) (image : Loaded) (ps : List Placed) (loads : List PioLoad) (result : Result Opened Stop) → ArePlaced ps loads → Boots purpose (start device image loads) script limit result → Opens files failed failed device aims (use_for aims purpose (setting_of script device limit) image ps) result
+boots_opens : (aims : List Aim) (purpose : Purpose) (files : Option Files) (failed : List (List ℕ)) (device : DeviceMeaning) (script : List ScriptEntry) (limit : ℕ) (image : Loaded) (ps : List Placed) (loads : List PioLoad) (result : Result Opened Unopened) → ArePlaced ps loads → Boots purpose (start device image loads) script limit result → Opens files failed failed device aims (use_for aims purpose (setting_of script device limit) image ps) result
 boots_opens aims ForDebug files failed device script limit image ps loads (Ok (Session debugging)) placed h =
     let w : Setting = setting_of script device limit in
     let first : State = start device image (loads_of ps (programs_of loads)) in
@@ -169,23 +169,23 @@ boots_opens aims ForDebug files failed device script limit image ps loads (Ok (T
 boots_opens aims ForDebug files failed device script limit image ps loads (Err (Refusing refusal)) placed h = absurd h
 boots_opens aims ForDebug files failed device script limit image ps loads (Err Memory) placed h = runs_out files failed (use_for aims ForDebug (setting_of script device limit) image ps)
 
--- the programs of a run have their places, and the machine booted
-pub programs_open : (aims : List Aim) (purpose : Purpose) (files : Option Files) (a b : List (List ℕ)) (device : DeviceMeaning) (run : Run) (image : Loaded) (script : List ScriptEntry) (loads : Vec PioLoad Global) (result : Result Opened Stop) → LoadsAll files a b run.pio (Ok loads) → Boots purpose (start device image loads.items) script run.cycles result → Opens files a b device aims (behind_script (use_for aims purpose) device run image script) result
+-- the programs of a run are placed, and the machine booted
+pub programs_open : (aims : List Aim) (purpose : Purpose) (files : Option Files) (a b : List (List ℕ)) (device : DeviceMeaning) (run : Run) (image : Loaded) (script : List ScriptEntry) (loads : Vec PioLoad Global) (result : Result Opened Unopened) → LoadsAll files a b run.pio (Ok loads) → Boots purpose (start device image loads.items) script run.cycles result → Opens files a b device aims (behind_script (use_for aims purpose) device run image script) result
 programs_open aims purpose files a b device run image script loads (Ok opened) programs boots =
     let last = boots_opens aims purpose files a device script run.cycles image programs.2.0 loads.items (Ok opened) programs.2.1 boots in
     (programs.0, last.1, λ e w. programs.2.2 (use_for aims purpose (setting_of script device run.cycles) image) e (last.2 e w))
-programs_open aims purpose files a b device run image script loads (Err stop) programs boots =
-    let last = boots_opens aims purpose files a device script run.cycles image programs.2.0 loads.items (Err stop) programs.2.1 boots in
+programs_open aims purpose files a b device run image script loads (Err unopened) programs boots =
+    let last = boots_opens aims purpose files a device script run.cycles image programs.2.0 loads.items (Err unopened) programs.2.1 boots in
     (last.0, programs.2.2 (use_for aims purpose (setting_of script device run.cycles) image) last.0 last.1, programs.0 ∙ last.2, last.3)
 
 -- a generated image needs no file
-pub generated_opens : (files : Option Files) (failed : List (List ℕ)) (device : DeviceMeaning) (number cycles workers : ℕ) (stats : Bool) (image : Loaded) (script : List ScriptEntry) (result : Result Opened Stop) → image ≡ image_of_number number → script ≡ [] → Boots (ForRun stats) (start device image []) script cycles result → OpensFor files failed failed device (Generate number cycles workers stats) result
+pub generated_opens : (files : Option Files) (failed : List (List ℕ)) (device : DeviceMeaning) (number cycles workers : ℕ) (stats : Bool) (image : Loaded) (script : List ScriptEntry) (result : Result Opened Unopened) → image ≡ image_of_number number → script ≡ [] → Boots (ForRun stats) (start device image []) script cycles result → OpensFor files failed failed device (Generate number cycles workers stats) result
 generated_opens files failed device number cycles workers stats image script result is empty boots aims =
     let own = subst (λ (i : Loaded). Boots (ForRun stats) (start device i []) script cycles result) is boots in
     let plain = subst (λ (s : List ScriptEntry). Boots (ForRun stats) (start device (image_of_number number) []) s cycles result) empty own in
     boots_opens aims (ForRun stats) files failed device [] cycles (image_of_number number) [] [] result tt plain
 
 -- the line of a refusal was put with its status
-pub refuses_by : (old new : Option (List ℕ)) (before now status : ℕ) (refusal : Written) (stop : Stop) (wanted : ℕ) (text : List ℕ) → stop ≡ Refusing refusal → wanted ≡ status_of (meant refusal) → text ≡ line_of (meant refusal) → Puts old new before now status wanted text → Refuses old new before now status stop
-refuses_by old new before now status refusal stop wanted text is w t puts =
+pub refuses_by : (old new : Option (List ℕ)) (before now status : ℕ) (refusal : Written) (unopened : Unopened) (wanted : ℕ) (text : List ℕ) → unopened ≡ Refusing refusal → wanted ≡ status_of (meant refusal) → text ≡ line_of (meant refusal) → Puts old new before now status wanted text → Refuses old new before now status unopened
+refuses_by old new before now status refusal unopened wanted text is w t puts =
     rw is (inl (subst (λ (x : ℕ). Puts old new before now status x (line_of (meant refusal))) w (subst (λ (x : List ℕ). Puts old new before now status wanted x) t puts)))

@@ -16,17 +16,17 @@ use Rattle.command_words.specs.declared.entry.PioEntry.{PioEntry}
 use Rattle.command_words.specs.Read.{entry_in}
 use Rattle.refusal_lines.specs.declared.Refusal.TheVariants.{Source}
 use Rattle.refusal_lines.specs.Refusals.Refusal.{BadSource}
-use Rattle.pico_top.specs.declared.open.Stop.{Stop}
-use Rattle.pico_top.specs.declared.open.Stop.TheVariants.{Refusing, Memory}
+use Rattle.pico_top.specs.declared.open.Unopened.{Unopened}
+use Rattle.pico_top.specs.declared.open.Unopened.TheVariants.{Refusing, Memory}
 use Rattle.pico_top.specs.Loads.{Placed, placed_as, taken_from, offset_of}
 use Rattle.pico_top.specs.Dialogue.{Dialogue, with_first, with_programs, source_limit}
-use Rattle.pico_top.specs.Dialogue.Dialogue.{JudgeSource, JudgePlace}
+use Rattle.pico_top.specs.Dialogue.Dialogue.{JudgeSource, JudgeOffset}
 use Rattle.pico_top.specs.Walk.{Ending, Walks, failed_names}
 use Rattle.pico_top.specs.Walk.Ending.{Refused}
-use Rattle.pico_top.specs.Opening.{Stops, LoadsAs, IsPlaced, ArePlaced, LeadsOn, place_part, PlacesAs, source_part, AddsBehind, AddsAs, LoadsAll, taken_by}
+use Rattle.pico_top.specs.Opening.{EndsUnopened, LoadsAs, IsPlaced, ArePlaced, LeadsOn, offset_part, AddsAt, source_part, AddsBehind, AddsAs, LoadsAll, taken_by}
 use Rattle.pico_top.proofs.Walking.{runs_out}
 
--- ---- places
+-- ---- addresses that are taken
 
 load_at : (loads : List PioLoad) (k : ℕ) (d : PioLoad) → AreLoads loads → k < length loads → IsLoad (get_or loads k d)
 load_at [] k d h lt = absurd (omega (arith, lt))
@@ -49,7 +49,7 @@ placed_push [] (l ∷ loads) p load h k = absurd h
 placed_push (q ∷ ps) [] p load h k = absurd h
 placed_push (q ∷ ps) (l ∷ loads) p load h k = (h.0, placed_push ps loads p load h.1 k)
 
--- the places of loads are those of the programs that they place
+-- loads take the addresses of the placed programs
 taken_same : (used block : ℕ) (ps : List Placed) (loads : List PioLoad) → ArePlaced ps loads → taken_from used block ps ≡ taken_by used block loads
 taken_same used block [] [] h = refl
 taken_same used block [] (l ∷ loads) h = absurd h
@@ -68,8 +68,8 @@ offset_same entry ps loads plan program h is =
 
 -- ---- one program
 
--- a program has its place, and its load was added
-pub load_added : (entry : Entry) (before : List Placed) (loads : List PioLoad) (plan : Plan) (program : Program) (load : PioLoad) (done : Unit {0}) → ArePlaced before loads → IsProgram plan program → AreLoads loads → IsLoad load → load ≡ record { block = entry.block; machine = entry.machine; offset = load.offset; program = program } → placed (taken_by 0 entry.block loads) program.origin (length program.words.items) ≡ Ok load.offset → PlacesAs entry before plan (loads ++ load ∷ []) (Ok done)
+-- a program is placed, and its load was added
+pub load_added : (entry : Entry) (before : List Placed) (loads : List PioLoad) (plan : Plan) (program : Program) (load : PioLoad) (done : Unit {0}) → ArePlaced before loads → IsProgram plan program → AreLoads loads → IsLoad load → load ≡ record { block = entry.block; machine = entry.machine; offset = load.offset; program = program } → placed (taken_by 0 entry.block loads) program.origin (length program.words.items) ≡ Ok load.offset → AddsAt entry before plan (loads ++ load ∷ []) (Ok done)
 load_added entry before loads plan program load done h is all fits parts at files =
     let p : Placed = placed_as entry plan load.offset in
     let verdict : offset_of entry before plan ≡ Ok load.offset = offset_same entry before loads plan program h is ∙ at in
@@ -84,47 +84,47 @@ load_added entry before loads plan program load done h is all fits parts at file
         before ++ p ∷ [],
         placed_push before loads p load h there,
         λ next e w.
-            subst (λ (v : Result ℕ PioFault). Walks files (JudgePlace v (λ offset. next (before ++ placed_as entry plan offset ∷ []))) e) (sym verdict) (inl w),
+            subst (λ (v : Result ℕ PioFault). Walks files (JudgeOffset v (λ offset. next (before ++ placed_as entry plan offset ∷ []))) e) (sym verdict) (inl w),
       ),
     )
 
 -- it has no room
-pub load_refused : (entry : Entry) (before : List Placed) (loads new : List PioLoad) (plan : Plan) (program : Program) (fault : PioFault) → ArePlaced before loads → IsProgram plan program → placed (taken_by 0 entry.block loads) program.origin (length program.words.items) ≡ Err fault → PlacesAs entry before plan new (Err (Refusing (Source fault)))
+pub load_refused : (entry : Entry) (before : List Placed) (loads new : List PioLoad) (plan : Plan) (program : Program) (fault : PioFault) → ArePlaced before loads → IsProgram plan program → placed (taken_by 0 entry.block loads) program.origin (length program.words.items) ≡ Err fault → AddsAt entry before plan new (Err (Refusing (Source fault)))
 load_refused entry before loads new plan program fault h is at files failed next =
     let verdict : offset_of entry before plan ≡ Err fault = offset_same entry before loads plan program h is ∙ at in
-    (Refused (BadSource fault), subst (λ (v : Result ℕ PioFault). Walks files (JudgePlace v (λ offset. next (before ++ placed_as entry plan offset ∷ []))) (Refused (BadSource fault))) (sym verdict) (inl refl), refl, refl)
+    (Refused (BadSource fault), subst (λ (v : Result ℕ PioFault). Walks files (JudgeOffset v (λ offset. next (before ++ placed_as entry plan offset ∷ []))) (Refused (BadSource fault))) (sym verdict) (inl refl), refl, refl)
 
 -- memory ran out
-pub load_out : (entry : Entry) (before : List Placed) (new : List PioLoad) (plan : Plan) → PlacesAs entry before plan new (Err Memory)
-load_out entry before new plan files failed next = runs_out files failed (place_part entry before plan next)
+pub load_out : (entry : Entry) (before : List Placed) (new : List PioLoad) (plan : Plan) → AddsAt entry before plan new (Err Memory)
+load_out entry before new plan files failed next = runs_out files failed (offset_part entry before plan next)
 
 -- the load was added, or memory ran out
-pub load_tried : (entry : Entry) (before : List Placed) (loads new : List PioLoad) (plan : Plan) (program : Program) (load : PioLoad) (result : Result (Unit {0}) Stop) → IfOk result (λ done. new ≡ loads ++ load ∷ []) → IfErr result (λ stop. stop ≡ Memory) → ArePlaced before loads → IsProgram plan program → AreLoads loads → IsLoad load → load ≡ record { block = entry.block; machine = entry.machine; offset = load.offset; program = program } → placed (taken_by 0 entry.block loads) program.origin (length program.words.items) ≡ Ok load.offset → PlacesAs entry before plan new result
+pub load_tried : (entry : Entry) (before : List Placed) (loads new : List PioLoad) (plan : Plan) (program : Program) (load : PioLoad) (result : Result (Unit {0}) Unopened) → IfOk result (λ done. new ≡ loads ++ load ∷ []) → IfErr result (λ unopened. unopened ≡ Memory) → ArePlaced before loads → IsProgram plan program → AreLoads loads → IsLoad load → load ≡ record { block = entry.block; machine = entry.machine; offset = load.offset; program = program } → placed (taken_by 0 entry.block loads) program.origin (length program.words.items) ≡ Ok load.offset → AddsAt entry before plan new result
 load_tried entry before loads new plan program load (Ok done) ok err h is all fits parts at =
-    subst (λ (ls : List PioLoad). PlacesAs entry before plan ls (Ok done)) (sym ok) (load_added entry before loads plan program load done h is all fits parts at)
-load_tried entry before loads new plan program load (Err stop) ok err h is all fits parts at =
-    subst (λ (s : Stop). PlacesAs entry before plan new (Err s)) (sym err) (load_out entry before new plan)
+    subst (λ (ls : List PioLoad). AddsAt entry before plan ls (Ok done)) (sym ok) (load_added entry before loads plan program load done h is all fits parts at)
+load_tried entry before loads new plan program load (Err unopened) ok err h is all fits parts at =
+    subst (λ (s : Unopened). AddsAt entry before plan new (Err s)) (sym err) (load_out entry before new plan)
 
 -- ---- one source
 
 -- what comes of a source by its verdict
-abbrev FirstAs : Entry → List Placed → List PioLoad → Result (List Plan) PioFault → Result (Unit {0}) Stop → Type 0
+abbrev FirstAs : Entry → List Placed → List PioLoad → Result (List Plan) PioFault → Result (Unit {0}) Unopened → Type 0
 FirstAs entry before new verdict (Ok done) = (files : Option Files) → LeadsOn files new (λ next. JudgeSource verdict (with_first entry before next))
-FirstAs entry before new verdict (Err stop) = (files : Option Files) (failed : List (List ℕ)) (next : List Placed → Dialogue) → Stops files failed failed (JudgeSource verdict (with_first entry before next)) stop
+FirstAs entry before new verdict (Err unopened) = (files : Option Files) (failed : List (List ℕ)) (next : List Placed → Dialogue) → EndsUnopened files failed failed (JudgeSource verdict (with_first entry before next)) unopened
 
-first_adds : (entry : Entry) (before : List Placed) (new : List PioLoad) (verdict : Result (List Plan) PioFault) (program : Program) (result : Result (Unit {0}) Stop) → IsFirst (Some program) verdict → ((plan : Plan) → IsProgram plan program → PlacesAs entry before plan new result) → FirstAs entry before new verdict result
-first_adds entry before new (Ok []) program result first places = absurd (cc first)
-first_adds entry before new (Ok (plan ∷ plans)) program (Ok done) first places = λ files. let l = places plan first.0 files in (l.0, (l.1.0, l.1.1, λ next e w. inl (l.1.2 next e w)))
-first_adds entry before new (Ok (plan ∷ plans)) program (Err stop) first places = λ files failed next. let s = places plan first.0 files failed next in (s.0, inl s.1, s.2, s.3)
-first_adds entry before new (Err fault) program result first places = absurd first
+first_adds : (entry : Entry) (before : List Placed) (new : List PioLoad) (verdict : Result (List Plan) PioFault) (program : Program) (result : Result (Unit {0}) Unopened) → IsFirst (Some program) verdict → ((plan : Plan) → IsProgram plan program → AddsAt entry before plan new result) → FirstAs entry before new verdict result
+first_adds entry before new (Ok []) program result first adds = absurd (cc first)
+first_adds entry before new (Ok (plan ∷ plans)) program (Ok done) first adds = λ files. let l = adds plan first.0 files in (l.0, (l.1.0, l.1.1, λ next e w. inl (l.1.2 next e w)))
+first_adds entry before new (Ok (plan ∷ plans)) program (Err unopened) first adds = λ files failed next. let s = adds plan first.0 files failed next in (s.0, inl s.1, s.2, s.3)
+first_adds entry before new (Err fault) program result first adds = absurd first
 
-back : (entry : Entry) (before : List Placed) (new : List PioLoad) (bytes : List ℕ) (result : Result (Unit {0}) Stop) → FirstAs entry before new (plans_of bytes) result → AddsBehind entry before bytes new result
+back : (entry : Entry) (before : List Placed) (new : List PioLoad) (bytes : List ℕ) (result : Result (Unit {0}) Unopened) → FirstAs entry before new (plans_of bytes) result → AddsBehind entry before bytes new result
 back entry before new bytes (Ok done) h = h
-back entry before new bytes (Err stop) h = h
+back entry before new bytes (Err unopened) h = h
 
-pub source_adds : (entry : Entry) (before : List Placed) (new : List PioLoad) (bytes : List ℕ) (found : Option Program) (program : Program) (result : Result (Unit {0}) Stop) → found ≡ Some program → IsFirst found (plans_of bytes) → ((plan : Plan) → IsProgram plan program → PlacesAs entry before plan new result) → AddsBehind entry before bytes new result
-source_adds entry before new bytes found program result is first places =
-    back entry before new bytes result (first_adds entry before new (plans_of bytes) program result (subst (λ (x : Option Program). IsFirst x (plans_of bytes)) is first) places)
+pub source_adds : (entry : Entry) (before : List Placed) (new : List PioLoad) (bytes : List ℕ) (found : Option Program) (program : Program) (result : Result (Unit {0}) Unopened) → found ≡ Some program → IsFirst found (plans_of bytes) → ((plan : Plan) → IsProgram plan program → AddsAt entry before plan new result) → AddsBehind entry before bytes new result
+source_adds entry before new bytes found program result is first adds =
+    back entry before new bytes result (first_adds entry before new (plans_of bytes) program result (subst (λ (x : Option Program). IsFirst x (plans_of bytes)) is first) adds)
 
 none_leads : (entry : Entry) (before : List Placed) (verdict : Result (List Plan) PioFault) (files : Option Files) (next : List Placed → Dialogue) (e : Ending) → IsFirst None verdict → Walks files (next before) e → Walks files (JudgeSource verdict (with_first entry before next)) e
 none_leads entry before (Ok []) files next e first w = inl w
@@ -144,13 +144,13 @@ source_out entry before new bytes files failed next = runs_out files failed (sou
 
 -- ---- one entry
 
-pub entry_adds : (files : Option Files) (failed failed' : List (List ℕ)) (entry : Entry) (before : List Placed) (new : List PioLoad) (bytes : List ℕ) (result : Result (Unit {0}) Stop) → Answers files entry.file source_limit Done bytes → failed' ≡ failed → AddsBehind entry before bytes new result → AddsAs files failed failed' entry before new result
+pub entry_adds : (files : Option Files) (failed failed' : List (List ℕ)) (entry : Entry) (before : List Placed) (new : List PioLoad) (bytes : List ℕ) (result : Result (Unit {0}) Unopened) → Answers files entry.file source_limit Done bytes → failed' ≡ failed → AddsBehind entry before bytes new result → AddsAs files failed failed' entry before new result
 entry_adds files failed failed' entry before new bytes (Ok done) answers same h =
     let l = h files in (same, (l.0, (l.1.0, l.1.1, λ next e w. (Done, bytes, answers, l.1.2 next e w))))
-entry_adds files failed failed' entry before new bytes (Err stop) answers same h = λ next. let s = h files failed next in (s.0, (Done, bytes, answers, s.1), same ∙ s.2, s.3)
+entry_adds files failed failed' entry before new bytes (Err unopened) answers same h = λ next. let s = h files failed next in (s.0, (Done, bytes, answers, s.1), same ∙ s.2, s.3)
 
-pub entry_lost : (files : Option Files) (failed failed' : List (List ℕ)) (entry : Entry) (before : List Placed) (new : List PioLoad) (stop : Stop) → LoadsAs files failed failed' entry.file source_limit (Err stop) → AddsAs files failed failed' entry before new (Err stop)
-entry_lost files failed failed' entry before new stop h next = h (source_part_of entry before next)
+pub entry_lost : (files : Option Files) (failed failed' : List (List ℕ)) (entry : Entry) (before : List Placed) (new : List PioLoad) (unopened : Unopened) → LoadsAs files failed failed' entry.file source_limit (Err unopened) → AddsAs files failed failed' entry before new (Err unopened)
+entry_lost files failed failed' entry before new unopened h next = h (source_part_of entry before next)
   where
     source_part_of : Entry → List Placed → (List Placed → Dialogue) → List ℕ → Dialogue
     source_part_of entry before next bytes = source_part entry before bytes next
@@ -187,9 +187,9 @@ along_added files now later failed middle last all left rest entry loads new don
       leads = λ next e w. a.leads next e (subst (λ (l : List Entry). Walks files (with_programs l a.ps next) e) (sym is) (here.1.1.2 (λ more. with_programs rest more next) e w));
     }
 
-pub along_stops : (files now : Option Files) (failed middle last : List (List ℕ)) (all left rest : List Entry) (entry : Entry) (loads new : List PioLoad) (stop : Stop) → Along files now failed middle all left loads → left ≡ entry ∷ rest → ((before : List Placed) → ArePlaced before loads → AddsAs now middle last entry before new (Err stop)) → LoadsAll files failed last all (Err stop)
-along_stops files now failed middle last all left rest entry loads new stop a is adds next =
-    let here = subst (λ (f : Option Files). AddsAs f middle last entry a.ps new (Err stop)) a.kept (adds a.ps a.placed) in
+pub along_ends : (files now : Option Files) (failed middle last : List (List ℕ)) (all left rest : List Entry) (entry : Entry) (loads new : List PioLoad) (unopened : Unopened) → Along files now failed middle all left loads → left ≡ entry ∷ rest → ((before : List Placed) → ArePlaced before loads → AddsAs now middle last entry before new (Err unopened)) → LoadsAll files failed last all (Err unopened)
+along_ends files now failed middle last all left rest entry loads new unopened a is adds next =
+    let here = subst (λ (f : Option Files). AddsAs f middle last entry a.ps new (Err unopened)) a.kept (adds a.ps a.placed) in
     let s = here (λ more. with_programs rest more next) in
     (s.0, a.leads next s.0 (subst (λ (l : List Entry). Walks files (with_programs l a.ps next) s.0) (sym is) s.1), s.2 ∙ ap (λ f. failed_names f s.0) a.names, s.3)
 

@@ -33,10 +33,10 @@ counts_most : (most status wanted steps steps' : ℕ) → steps ≤ steps' → s
 counts_most most status wanted steps steps' forward within = record { whole = λ _. (forward, within); forward = forward; within = within }
 
 -- the hearing ended, and the line of its way was put
-pub tells_heard : (w : Setting) (f : State) (left left' : Option (List ℕ)) (lost lost' : ℕ) (old mid new : Option (List ℕ)) (before between now steps steps' status : ℕ) (way : Way) (place : ℕ) → place ≡ 0 →
-    Hears (talk_of w f) place input_limit left left' lost lost' old mid before between steps steps' (Ok way) → Puts mid new between now status (way_status way) (way_line way) →
+pub tells_heard : (w : Setting) (f : State) (left left' : Option (List ℕ)) (lost lost' : ℕ) (old mid new : Option (List ℕ)) (before between now steps steps' status : ℕ) (way : Way) (cycle : ℕ) → cycle ≡ 0 →
+    Hears (talk_of w f) cycle input_limit left left' lost lost' old mid before between steps steps' (Ok way) → Puts mid new between now status (way_status way) (way_line way) →
     Tells (Hear input_limit quits (session_told w f)) left left' lost lost' old new before now steps steps' status
-tells_heard w f left left' lost lost' old mid new before between now steps steps' status way place zero h₀ puts =
+tells_heard w f left left' lost lost' old mid new before between now steps steps' status way cycle zero h₀ puts =
     let h : Hears (talk_of w f) 0 input_limit left left' lost lost' old mid before between steps steps' (Ok way) =
     subst (λ p. Hears (talk_of w f) p input_limit left left' lost lost' old mid before between steps steps' (Ok way)) zero h₀ in
     let lines = lines_heard quits h.way h.bytes in
@@ -54,10 +54,10 @@ cut_as : (old new : Option (List ℕ)) (before now : ℕ) (text : List ℕ) (fau
 cut_as old new before now text fault h = record { ok = tt; err = h.err; cause = h.cause; count = h.count }
 
 -- the sink failed at an answer
-pub tells_cut : (w : Setting) (f : State) (left left' : Option (List ℕ)) (lost lost' : ℕ) (old new : Option (List ℕ)) (before now steps steps' : ℕ) (fault : SinkFault) (place : ℕ) → place ≡ 0 →
-    Hears (talk_of w f) place input_limit left left' lost lost' old new before now steps steps' (Err fault) →
+pub tells_cut : (w : Setting) (f : State) (left left' : Option (List ℕ)) (lost lost' : ℕ) (old new : Option (List ℕ)) (before now steps steps' : ℕ) (fault : SinkFault) (cycle : ℕ) → cycle ≡ 0 →
+    Hears (talk_of w f) cycle input_limit left left' lost lost' old new before now steps steps' (Err fault) →
     Tells (Hear input_limit quits (session_told w f)) left left' lost lost' old new before now steps steps' 7
-tells_cut w f left left' lost lost' old new before now steps steps' fault place zero h₀ =
+tells_cut w f left left' lost lost' old new before now steps steps' fault cycle zero h₀ =
     let h : Hears (talk_of w f) 0 input_limit left left' lost lost' old new before now steps steps' (Err fault) =
     subst (λ p. Hears (talk_of w f) p input_limit left left' lost lost' old new before now steps steps' (Err fault)) zero h₀ in
     let lines = lines_heard quits h.way h.bytes in
@@ -72,5 +72,5 @@ tells_cut w f left left' lost lost' old new before now steps steps' fault place 
     }
 
 -- a session that was opened stands at cycle 0
-pub opened_place : (w : Setting) (session : Standing) (limit : ℕ) → w.limit ≡ limit → OpensAt (first_of session) limit session → session.now.cycle ≡ 0
-opened_place w session limit e h = ap (λ (s : State). s.cycle) h.now ∙ (h.stands w e).begins
+pub opened_cycle : (w : Setting) (session : Standing) (limit : ℕ) → w.limit ≡ limit → OpensAt (first_of session) limit session → session.now.cycle ≡ 0
+opened_cycle w session limit e h = ap (λ (s : State). s.cycle) h.now ∙ (h.stands w e).begins

@@ -7,15 +7,15 @@ use Rattle.command_words.specs.Words.{Command, reading}
 use Rattle.refusal_lines.specs.declared.Refusal.TheVariants.{Words}
 use Rattle.refusal_lines.specs.Refusals.Refusal.{BadWords}
 use Rattle.pico_top.specs.declared.open.Opened.{Opened}
-use Rattle.pico_top.specs.declared.open.Stop.{Stop}
-use Rattle.pico_top.specs.declared.open.Stop.TheVariants.{Refusing, Memory}
+use Rattle.pico_top.specs.declared.open.Unopened.{Unopened}
+use Rattle.pico_top.specs.declared.open.Unopened.TheVariants.{Refusing, Memory}
 use Rattle.pico_top.specs.Call.{Asked, Outside}
 use Rattle.pico_top.specs.Dialogue.{Cost, aims_in}
 use Rattle.pico_top.specs.Dialogue.Dialogue.{Say}
 use Rattle.pico_top.specs.Walk.{Ending, WalksFrom, failed_names}
 use Rattle.pico_top.specs.Walk.Ending.{Said, Heard, Refused, NoMemory}
 use Rattle.pico_top.specs.Answer.{Puts, RunsOut, Takes, Ends, Counts, Ticks, most, ConversesFor, Converses}
-use Rattle.pico_top.specs.Opening.{opened_dialogue, IsShort, StopsAs, OpensFor, Refuses, IsTold, Tells}
+use Rattle.pico_top.specs.Opening.{opened_dialogue, IsShort, EndsAs, OpensFor, Refuses, IsTold, Tells}
 use Rattle.pico_top.proofs.Walking.{runs_out_from}
 
 -- a text was said
@@ -81,14 +81,14 @@ short_takes (Heard bytes way text cost) left left' lost lost' status short a b =
 short_takes (Refused refusal) left left' lost lost' status short a b = (a, b)
 short_takes NoMemory left left' lost lost' status short a b = (a, b)
 
--- the walk of what is asked for ended in this stop
-abbrev pub StopsFrom : DeviceMeaning → List ProbeMeaning → Option Command → Outside → Outside → Stop → Type 0
-StopsFrom device probes asked before after stop =
-    (e : Ending) × WalksFrom before.files device probes asked e × (after.failed ≡ failed_names before.failed e) × StopsAs stop e
+-- the walk of what is asked for ended so that nothing was opened
+abbrev pub EndsFrom : DeviceMeaning → List ProbeMeaning → Option Command → Outside → Outside → Unopened → Type 0
+EndsFrom device probes asked before after unopened =
+    (e : Ending) × WalksFrom before.files device probes asked e × (after.failed ≡ failed_names before.failed e) × EndsAs unopened e
 
 -- the call where nothing was opened
-pub stopped_converses : (device : DeviceMeaning) (probes : List ProbeMeaning) (asked : Option Command) (before after : Outside) (stop : Stop) (status : ℕ) → StopsFrom device probes asked before after stop → after.files ≡ before.files → after.left ≡ before.left → after.source_faults ≡ before.source_faults → Refuses before.written after.written before.sink_faults after.sink_faults status stop → after.steps ≡ before.steps → ConversesFor device probes asked before after status
-stopped_converses device probes asked before after (Refusing refusal) status opens kept left lost refuses same = record {
+pub unopened_converses : (device : DeviceMeaning) (probes : List ProbeMeaning) (asked : Option Command) (before after : Outside) (unopened : Unopened) (status : ℕ) → EndsFrom device probes asked before after unopened → after.files ≡ before.files → after.left ≡ before.left → after.source_faults ≡ before.source_faults → Refuses before.written after.written before.sink_faults after.sink_faults status unopened → after.steps ≡ before.steps → ConversesFor device probes asked before after status
+unopened_converses device probes asked before after (Refusing refusal) status opens kept left lost refuses same = record {
   ending = opens.0;
   walked = opens.1;
   failed = opens.2;
@@ -97,7 +97,7 @@ stopped_converses device probes asked before after (Refusing refusal) status ope
   ends = subst (λ (e : Ending). Ends before.written after.written before.sink_faults after.sink_faults status e) (sym opens.3) refuses;
   counted = subst (λ (e : Ending). Counts e status before.steps after.steps) (sym opens.3) same;
 }
-stopped_converses device probes asked before after Memory status opens kept left lost refuses same = record {
+unopened_converses device probes asked before after Memory status opens kept left lost refuses same = record {
   ending = opens.0;
   walked = opens.1;
   failed = opens.2;
@@ -108,12 +108,12 @@ stopped_converses device probes asked before after Memory status opens kept left
 }
 
 -- nothing is opened for words that are refused
-pub refused_words : (device : DeviceMeaning) (probes : List ProbeMeaning) (asked : Option Command) (before after : Outside) → asked ≡ None → after.failed ≡ before.failed → StopsFrom device probes asked before after (Refusing Words)
+pub refused_words : (device : DeviceMeaning) (probes : List ProbeMeaning) (asked : Option Command) (before after : Outside) → asked ≡ None → after.failed ≡ before.failed → EndsFrom device probes asked before after (Refusing Words)
 refused_words device probes asked before after none same =
-    subst (λ (a : Option Command). StopsFrom device probes a before after (Refusing Words)) (sym none) (Refused BadWords, refl, same, refl)
+    subst (λ (a : Option Command). EndsFrom device probes a before after (Refusing Words)) (sym none) (Refused BadWords, refl, same, refl)
 
 -- nor where memory ran out
-pub no_memory_from : (device : DeviceMeaning) (probes : List ProbeMeaning) (asked : Option Command) (before after : Outside) → after.failed ≡ before.failed → StopsFrom device probes asked before after Memory
+pub no_memory_from : (device : DeviceMeaning) (probes : List ProbeMeaning) (asked : Option Command) (before after : Outside) → after.failed ≡ before.failed → EndsFrom device probes asked before after Memory
 no_memory_from device probes asked before after same =
     let out = runs_out_from before.files before.failed device probes asked in (out.0, out.1, same ∙ out.2, out.3)
 
@@ -125,10 +125,10 @@ read_converses asked count command before after status long is h =
 -- the call where memory ran out before a file was loaded
 pub out_converses : (device : DeviceMeaning) (probes : List ProbeMeaning) (asked : Option Command) (before after : Outside) (status : ℕ) → after.failed ≡ before.failed → after.files ≡ before.files → after.left ≡ before.left → after.source_faults ≡ before.source_faults → Refuses before.written after.written before.sink_faults after.sink_faults status Memory → after.steps ≡ before.steps → ConversesFor device probes asked before after status
 out_converses device probes asked before after status failed kept left lost refuses same =
-    stopped_converses device probes asked before after Memory status (no_memory_from device probes asked before after failed) kept left lost refuses same
+    unopened_converses device probes asked before after Memory status (no_memory_from device probes asked before after failed) kept left lost refuses same
 
 -- the call where the words are refused
 pub refused_converses : (asked : Asked) (count : ℕ) (before after : Outside) (status : ℕ) → count ≡ length asked.probes → reading count asked.words ≡ None → after.failed ≡ before.failed → after.files ≡ before.files → after.left ≡ before.left → after.source_faults ≡ before.source_faults → Refuses before.written after.written before.sink_faults after.sink_faults status (Refusing Words) → after.steps ≡ before.steps → Converses asked before after status
 refused_converses asked count before after status long none failed kept left lost refuses same =
     read_converses asked count None before after status long none
-    (stopped_converses asked.device asked.probes None before after (Refusing Words) status (refused_words asked.device asked.probes None before after refl failed) kept left lost refuses same)
+    (unopened_converses asked.device asked.probes None before after (Refusing Words) status (refused_words asked.device asked.probes None before after refl failed) kept left lost refuses same)

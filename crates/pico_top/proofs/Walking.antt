@@ -7,16 +7,16 @@ use Rattle.rp_ports.specs.declared.shelf.Loaded.TheVariants.{Done, Large, Failed
 use Rattle.board_parts.specs.Probe.{ProbeMeaning}
 use Rattle.command_words.specs.Words.{Command}
 use Rattle.refusal_lines.specs.Refusals.Refusal.{BadWords, Lost, TooLarge}
-use Rattle.pico_top.specs.declared.open.Stop.TheVariants.{Memory as OutOfMemory}
+use Rattle.pico_top.specs.declared.open.Unopened.TheVariants.{Memory as OutOfMemory}
 use Rattle.line_talk.specs.Lines.{closes}
 use Rattle.line_talk.specs.declared.way.Way.{Way}
 use Rattle.line_talk.specs.Hear.{MayEnd, lines_heard, way_line}
 use Rattle.pico_top.specs.Dialogue.{Cost, Told, Dialogue, aims_in, dialogue_of}
-use Rattle.pico_top.specs.Dialogue.Dialogue.{Load, JudgeImage, JudgeScript, JudgeSource, JudgePlace, SayWords, Say, Hear, HearWords}
+use Rattle.pico_top.specs.Dialogue.Dialogue.{Load, JudgeImage, JudgeScript, JudgeSource, JudgeOffset, SayWords, Say, Hear, HearWords}
 use Rattle.pico_top.specs.Walk.{Ending, IsHeard, AfterLoad, Walks, WalksFrom, failed_names, Verdict, on_held, verdict, verdict_from}
 use Rattle.pico_top.specs.Walk.Verdict.{Refuses, Says, Hears}
 use Rattle.pico_top.specs.Walk.Ending.{Said, Heard, Refused, NoMemory}
-use Rattle.pico_top.specs.Opening.{IsShort, Stops}
+use Rattle.pico_top.specs.Opening.{IsShort, EndsUnopened}
 
 -- memory may run out in every dialogue
 no_memory : (files : Option Files) (d : Dialogue) → Walks files d NoMemory
@@ -27,14 +27,14 @@ no_memory files (JudgeSource (Ok plans) next) = inr refl
 no_memory files (JudgeSource (Err fault) next) = inr refl
 no_memory files (JudgeScript (Ok script) next) = inr refl
 no_memory files (JudgeScript (Err fault) next) = inr refl
-no_memory files (JudgePlace (Ok offset) next) = inr refl
-no_memory files (JudgePlace (Err fault) next) = inr refl
+no_memory files (JudgeOffset (Ok offset) next) = inr refl
+no_memory files (JudgeOffset (Err fault) next) = inr refl
 no_memory files (SayWords plans text cost) = inr refl
 no_memory files (Say text cost) = inr refl
 no_memory files (Hear limit last told) = inr refl
 no_memory files (HearWords plans limit last told) = inr refl
 
-pub runs_out : (files : Option Files) (failed : List (List ℕ)) (d : Dialogue) → Stops files failed failed d OutOfMemory
+pub runs_out : (files : Option Files) (failed : List (List ℕ)) (d : Dialogue) → EndsUnopened files failed failed d OutOfMemory
 runs_out files failed d = (NoMemory, no_memory files d, refl, tt)
 
 -- the words are refused, or memory runs out
@@ -57,8 +57,8 @@ walk_reads files (JudgeSource (Ok plans) next) h = elim h [ inl w ↦ walk_reads
 walk_reads files (JudgeSource (Err fault) next) h = elim h [ inl e ↦ absurd (cc e) | inr e ↦ absurd (cc e) ]
 walk_reads files (JudgeScript (Ok script) next) h = elim h [ inl w ↦ walk_reads files (next script) w | inr e ↦ absurd (cc e) ]
 walk_reads files (JudgeScript (Err fault) next) h = elim h [ inl e ↦ absurd (cc e) | inr e ↦ absurd (cc e) ]
-walk_reads files (JudgePlace (Ok offset) next) h = elim h [ inl w ↦ walk_reads files (next offset) w | inr e ↦ absurd (cc e) ]
-walk_reads files (JudgePlace (Err fault) next) h = elim h [ inl e ↦ absurd (cc e) | inr e ↦ absurd (cc e) ]
+walk_reads files (JudgeOffset (Ok offset) next) h = elim h [ inl w ↦ walk_reads files (next offset) w | inr e ↦ absurd (cc e) ]
+walk_reads files (JudgeOffset (Err fault) next) h = elim h [ inl e ↦ absurd (cc e) | inr e ↦ absurd (cc e) ]
 walk_reads files (SayWords plans text cost) h = elim h [ inl w ↦ absurd (let e = w.2 in cc e) | inr e ↦ absurd (cc e) ]
 walk_reads files (Say text cost) h = elim h [ inl e ↦ absurd (cc e) | inr e ↦ absurd (cc e) ]
 walk_reads files (Hear limit last told) h = elim h [ inl w ↦ absurd (let e = w.4 in cc e) | inr e ↦ absurd (cc e) ]
@@ -111,8 +111,8 @@ walk_follows f (JudgeSource (Ok plans) next) e h = elim h [ inl w ↦ walk_follo
 walk_follows f (JudgeSource (Err fault) next) e h = elim h [ inl is ↦ inr (inr is) | inr none ↦ inl none ]
 walk_follows f (JudgeScript (Ok script) next) e h = elim h [ inl w ↦ walk_follows f (next script) e w | inr none ↦ inl none ]
 walk_follows f (JudgeScript (Err fault) next) e h = elim h [ inl is ↦ inr (inr is) | inr none ↦ inl none ]
-walk_follows f (JudgePlace (Ok offset) next) e h = elim h [ inl w ↦ walk_follows f (next offset) e w | inr none ↦ inl none ]
-walk_follows f (JudgePlace (Err fault) next) e h = elim h [ inl is ↦ inr (inr is) | inr none ↦ inl none ]
+walk_follows f (JudgeOffset (Ok offset) next) e h = elim h [ inl w ↦ walk_follows f (next offset) e w | inr none ↦ inl none ]
+walk_follows f (JudgeOffset (Err fault) next) e h = elim h [ inl is ↦ inr (inr is) | inr none ↦ inl none ]
 walk_follows f (SayWords plans text cost) e h = elim h [ inl w ↦ inr (inr (text w.0, cost w.0, w.2)) | inr none ↦ inl none ]
 walk_follows f (Say text cost) e h = elim h [ inl is ↦ inr (inr (text, cost, is)) | inr none ↦ inl none ]
 walk_follows f (Hear limit last told) e h = elim h [

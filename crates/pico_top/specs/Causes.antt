@@ -40,7 +40,7 @@ pub record HasCause (asked : Asked) (before after : Outside) (status : ℕ) : Ty
   pub broken : status ≡ 8 → (bytes : List ℕ) × HasHeard asked before after status bytes Broken
   pub full : status ≡ 10 → (bytes : List ℕ) × HasHeard asked before after status bytes Full
 
--- the status is this one, or one that may come in the place of any: the sink failed, or memory ran out
+-- the status is this one, or one that may come in place of any: the sink failed, or memory ran out
 abbrev pub IsStatus : ℕ → ℕ → Type 0
 IsStatus status wanted = (status ≡ wanted) ⊎ ((status ≡ 7) ⊎ (status ≡ 9))
 

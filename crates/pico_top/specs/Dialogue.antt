@@ -40,8 +40,8 @@ pub record Told : Type 0 where
   pub cost : Cost
 
 -- Load: the file of this name is loaded, if it has at most so many bytes, and what is next goes on with its bytes.
--- JudgeImage, JudgeScript, JudgeSource, JudgePlace: what is next goes on with the image, the script, the programs or the offset of
--- a program; where there is a fault in its place, the dialogue ends with it.
+-- JudgeImage, JudgeScript, JudgeSource, JudgeOffset: what is next goes on with the image, the script, the programs or the offset of
+-- a program; where there is a fault instead, the dialogue ends with it.
 -- SayWords: a text of programs is said, each with the words that stand with its lines.
 -- Say: a text is said.
 -- Hear: at most so many bytes are taken from the input, up to the first complete line that is a last one, and the lines before it
@@ -52,7 +52,7 @@ pub data Dialogue : Type 0 where
   JudgeImage : (verdict : Result Image ImageFault) → (next : Image → Dialogue) → Dialogue
   JudgeScript : (verdict : Result (List ScriptEntry) ScriptFault) → (next : List ScriptEntry → Dialogue) → Dialogue
   JudgeSource : (verdict : Result (List Plan) PioFault) → (next : List Plan → Dialogue) → Dialogue
-  JudgePlace : (verdict : Result ℕ PioFault) → (next : ℕ → Dialogue) → Dialogue
+  JudgeOffset : (verdict : Result ℕ PioFault) → (next : ℕ → Dialogue) → Dialogue
   SayWords : (plans : List Plan) → (text : List Program → List ℕ) → (cost : List Program → Cost) → Dialogue
   Say : (text : List ℕ) → (cost : Cost) → Dialogue
   Hear : (limit : ℕ) → (last : List ℕ → Bool) → (told : List (List ℕ) → Told) → Dialogue
@@ -85,13 +85,13 @@ with_script (Some name) next = Load name script_limit (λ bytes. JudgeScript (sc
 abbrev pub with_source : List ℕ → (List Plan → Dialogue) → Dialogue
 with_source name next = Load name source_limit (λ bytes. JudgeSource (plans_of bytes) next)
 
--- the first of some programs gets its place behind others
+-- the first of some programs is placed behind others
 abbrev pub with_first : Entry → List Placed → (List Placed → Dialogue) → List Plan → Dialogue
 with_first entry others next [] = next others
 with_first entry others next (plan ∷ plans) =
-    JudgePlace (offset_of entry others plan) (λ offset. next (others ++ placed_as entry plan offset ∷ []))
+    JudgeOffset (offset_of entry others plan) (λ offset. next (others ++ placed_as entry plan offset ∷ []))
 
--- the program of an entry: its file, its source, its place
+-- the program of an entry: its file, its source, its offset
 abbrev pub with_program : Entry → List Placed → (List Placed → Dialogue) → Dialogue
 with_program entry others next = with_source entry.file (with_first entry others next)
 

@@ -26,15 +26,15 @@ use Rattle.pico_top.specs.declared.open.Purpose.{Purpose}
 use Rattle.pico_top.specs.declared.open.Purpose.TheVariants.{Run as ForRun, Debug as ForDebug}
 use Rattle.pico_top.specs.declared.open.Opened.{Opened}
 use Rattle.pico_top.specs.declared.open.Opened.TheVariants.{Machine, Session, Text}
-use Rattle.pico_top.specs.declared.open.Stop.{Stop}
-use Rattle.pico_top.specs.declared.open.Stop.TheVariants.{Refusing, Memory}
+use Rattle.pico_top.specs.declared.open.Unopened.{Unopened}
+use Rattle.pico_top.specs.declared.open.Unopened.TheVariants.{Refusing, Memory}
 use Rattle.pico_top.specs.RunText.{run_text, run_cycles}
 use Rattle.pio_asm.specs.Assembly.{Plan, IsProgram}
 use Rattle.pio_listing.specs.Listing.{plans_of}
 use Rattle.line_talk.specs.Debugger.{quits}
 use Rattle.pico_top.specs.Loads.{Placed, placed_as, offset_of}
 use Rattle.pico_top.specs.Dialogue.{Use, Dialogue, dialogue_of, say_run, hear_run, input_limit, session_told, with_first, with_program, with_programs}
-use Rattle.pico_top.specs.Dialogue.Dialogue.{Load, JudgeSource, JudgePlace, Say, Hear}
+use Rattle.pico_top.specs.Dialogue.Dialogue.{Load, JudgeSource, JudgeOffset, Say, Hear}
 use Rattle.pico_top.specs.Dialogue.Cost.{Exactly}
 use Rattle.pico_top.specs.Walk.{Ending, Walks, failed_names}
 use Rattle.pico_top.specs.Walk.Ending.{Said, Heard, Refused, NoMemory}
@@ -68,39 +68,39 @@ IsShort (Heard bytes way text cost) = ⊥
 IsShort (Refused refusal) = Unit {0}
 IsShort NoMemory = Unit {0}
 
--- the ending in which an opening stopped; memory may run out in the place of a refusal
-abbrev pub StopsAs : Stop → Ending → Type 0
-StopsAs (Refusing refusal) e = e ≡ Refused (meant refusal)
-StopsAs Memory e = IsShort e
+-- the ending of a walk that opened nothing; memory may run out in place of a refusal
+abbrev pub EndsAs : Unopened → Ending → Type 0
+EndsAs (Refusing refusal) e = e ≡ Refused (meant refusal)
+EndsAs Memory e = IsShort e
 
--- a walk of the dialogue ended in this stop, over a shelf with these files, and with these failed names before and after it
-abbrev pub Stops : Option Files → List (List ℕ) → List (List ℕ) → Dialogue → Stop → Type 0
-Stops files failed failed' d stop = (e : Ending) × Walks files d e × (failed' ≡ failed_names failed e) × StopsAs stop e
+-- a walk of the dialogue ended so that nothing was opened, over a shelf with these files, and with these failed names before and after it
+abbrev pub EndsUnopened : Option Files → List (List ℕ) → List (List ℕ) → Dialogue → Unopened → Type 0
+EndsUnopened files failed failed' d unopened = (e : Ending) × Walks files d e × (failed' ≡ failed_names failed e) × EndsAs unopened e
 
--- something was opened, which these probes hear, from which every walk is one of the dialogue; or a walk ended in a stop
-abbrev pub Opens : Option Files → List (List ℕ) → List (List ℕ) → DeviceMeaning → List Aim → Dialogue → Result Opened Stop → Type 0
+-- something was opened, which these probes hear, from which every walk is one of the dialogue; or a walk ended so that nothing was opened
+abbrev pub Opens : Option Files → List (List ℕ) → List (List ℕ) → DeviceMeaning → List Aim → Dialogue → Result Opened Unopened → Type 0
 Opens files failed failed' device aims d (Ok opened) =
     (failed' ≡ failed) × IsReady opened × ((e : Ending) → Walks files (opened_dialogue device aims opened) e → Walks files d e)
-Opens files failed failed' device aims d (Err stop) = Stops files failed failed' d stop
+Opens files failed failed' device aims d (Err unopened) = EndsUnopened files failed failed' d unopened
 
 -- the same of the dialogue of a command, whatever probes hear it
-abbrev pub OpensFor : Option Files → List (List ℕ) → List (List ℕ) → DeviceMeaning → Command → Result Opened Stop → Type 0
+abbrev pub OpensFor : Option Files → List (List ℕ) → List (List ℕ) → DeviceMeaning → Command → Result Opened Unopened → Type 0
 OpensFor files failed failed' device command result =
     (aims : List Aim) → Opens files failed failed' device aims (dialogue_of device aims command) result
 
 -- a load gave these bytes, or the walk ended at it, whatever comes behind
-abbrev pub LoadsAs : Option Files → List (List ℕ) → List (List ℕ) → List ℕ → ℕ → Result (Vec ℕ Global) Stop → Type 0
+abbrev pub LoadsAs : Option Files → List (List ℕ) → List (List ℕ) → List ℕ → ℕ → Result (Vec ℕ Global) Unopened → Type 0
 LoadsAs files failed failed' name limit (Ok bytes) = Answers files name limit Done bytes.items × (failed' ≡ failed)
-LoadsAs files failed failed' name limit (Err stop) = (next : List ℕ → Dialogue) → Stops files failed failed' (Load name limit next) stop
+LoadsAs files failed failed' name limit (Err unopened) = (next : List ℕ → Dialogue) → EndsUnopened files failed failed' (Load name limit next) unopened
 
 -- A part of a dialogue gave a value from which every walk of what comes behind is a walk of the whole; or the walk ended in it.
-abbrev pub Passes : {X : Type 0} → Option Files → List (List ℕ) → List (List ℕ) → ((X → Dialogue) → Dialogue) → Result X Stop → Type 0
+abbrev pub Passes : {X : Type 0} → Option Files → List (List ℕ) → List (List ℕ) → ((X → Dialogue) → Dialogue) → Result X Unopened → Type 0
 Passes {X} files failed failed' part (Ok x) =
     (failed' ≡ failed) × ((next : X → Dialogue) (e : Ending) → Walks files (next x) e → Walks files (part next) e)
-Passes {X} files failed failed' part (Err stop) = (next : X → Dialogue) → Stops files failed failed' (part next) stop
+Passes {X} files failed failed' part (Err unopened) = (next : X → Dialogue) → EndsUnopened files failed failed' (part next) unopened
 
 -- the bytes' script, or its first fault
-abbrev pub ReadsScript : List ℕ → Result (List ScriptEntry) Stop → Type 0
+abbrev pub ReadsScript : List ℕ → Result (List ScriptEntry) Unopened → Type 0
 ReadsScript bytes (Ok script) = script_of bytes ≡ Ok script
 ReadsScript bytes (Err (Refusing (Script fault))) = script_of bytes ≡ Err fault
 ReadsScript bytes (Err (Refusing Words)) = ⊥
@@ -111,7 +111,7 @@ ReadsScript bytes (Err (Refusing (Source fault))) = ⊥
 ReadsScript bytes (Err Memory) = Unit {0}
 
 -- a machine in its first state for a run, or a session there for the debugger, or memory ran out
-abbrev pub Boots : Purpose → State → List ScriptEntry → ℕ → Result Opened Stop → Type 0
+abbrev pub Boots : Purpose → State → List ScriptEntry → ℕ → Result Opened Unopened → Type 0
 Boots (ForRun stats) first script limit (Ok (Machine started)) =
     (started.machine ≡ first) × (started.script ≡ script) × (started.limit ≡ limit) × (started.stats ≡ stats)
 Boots (ForRun stats) first script limit (Ok (Session debugging)) = ⊥
@@ -127,9 +127,9 @@ abbrev pub use_for : List Aim → Purpose → Use
 use_for aims (ForRun stats) = say_run stats aims
 use_for aims ForDebug = hear_run
 
--- ---- programs that have their places
+-- ---- placed programs
 
--- the places of a block that are taken, one bit each, behind some that are
+-- the addresses of a block that are taken, one bit each, behind some that are
 abbrev pub taken_by : ℕ → ℕ → List PioLoad → ℕ
 taken_by used block [] = used
 taken_by used block (load ∷ loads) =
@@ -155,40 +155,40 @@ LeadsOn files loads part =
     × ((next : List Placed → Dialogue) (e : Ending) → Walks files (next after) e → Walks files (part next) e))
 
 -- the placing of a plan behind others
-abbrev pub place_part : Entry → List Placed → Plan → (List Placed → Dialogue) → Dialogue
-place_part entry before plan next = JudgePlace (offset_of entry before plan) (λ offset. next (before ++ placed_as entry plan offset ∷ []))
+abbrev pub offset_part : Entry → List Placed → Plan → (List Placed → Dialogue) → Dialogue
+offset_part entry before plan next = JudgeOffset (offset_of entry before plan) (λ offset. next (before ++ placed_as entry plan offset ∷ []))
 
-abbrev pub PlacesAs : Entry → List Placed → Plan → List PioLoad → Result (Unit {0}) Stop → Type 0
-PlacesAs entry before plan loads (Ok done) = (files : Option Files) → LeadsOn files loads (place_part entry before plan)
-PlacesAs entry before plan loads (Err stop) =
-    (files : Option Files) (failed : List (List ℕ)) (next : List Placed → Dialogue) → Stops files failed failed (place_part entry before plan next) stop
+abbrev pub AddsAt : Entry → List Placed → Plan → List PioLoad → Result (Unit {0}) Unopened → Type 0
+AddsAt entry before plan loads (Ok done) = (files : Option Files) → LeadsOn files loads (offset_part entry before plan)
+AddsAt entry before plan loads (Err unopened) =
+    (files : Option Files) (failed : List (List ℕ)) (next : List Placed → Dialogue) → EndsUnopened files failed failed (offset_part entry before plan next) unopened
 
 -- the judging of a source, and the placing of its first program
 abbrev pub source_part : Entry → List Placed → List ℕ → (List Placed → Dialogue) → Dialogue
 source_part entry before bytes next = JudgeSource (plans_of bytes) (with_first entry before next)
 
-abbrev pub AddsBehind : Entry → List Placed → List ℕ → List PioLoad → Result (Unit {0}) Stop → Type 0
+abbrev pub AddsBehind : Entry → List Placed → List ℕ → List PioLoad → Result (Unit {0}) Unopened → Type 0
 AddsBehind entry before bytes loads (Ok done) = (files : Option Files) → LeadsOn files loads (source_part entry before bytes)
-AddsBehind entry before bytes loads (Err stop) =
-    (files : Option Files) (failed : List (List ℕ)) (next : List Placed → Dialogue) → Stops files failed failed (source_part entry before bytes next) stop
+AddsBehind entry before bytes loads (Err unopened) =
+    (files : Option Files) (failed : List (List ℕ)) (next : List Placed → Dialogue) → EndsUnopened files failed failed (source_part entry before bytes next) unopened
 
 -- the program of an entry, with its load
-abbrev pub AddsAs : Option Files → List (List ℕ) → List (List ℕ) → Entry → List Placed → List PioLoad → Result (Unit {0}) Stop → Type 0
+abbrev pub AddsAs : Option Files → List (List ℕ) → List (List ℕ) → Entry → List Placed → List PioLoad → Result (Unit {0}) Unopened → Type 0
 AddsAs files failed failed' entry before loads (Ok done) = (failed' ≡ failed) × LeadsOn files loads (with_program entry before)
-AddsAs files failed failed' entry before loads (Err stop) =
-    (next : List Placed → Dialogue) → Stops files failed failed' (with_program entry before next) stop
+AddsAs files failed failed' entry before loads (Err unopened) =
+    (next : List Placed → Dialogue) → EndsUnopened files failed failed' (with_program entry before next) unopened
 
--- the programs of all entries have these places, or the walk ended in one of them
-abbrev pub LoadsAll : Option Files → List (List ℕ) → List (List ℕ) → List Entry → Result (Vec PioLoad Global) Stop → Type 0
+-- the programs of all entries are placed so, or the walk ended in one of them
+abbrev pub LoadsAll : Option Files → List (List ℕ) → List (List ℕ) → List Entry → Result (Vec PioLoad Global) Unopened → Type 0
 LoadsAll files failed failed' entries (Ok loads) =
     (failed' ≡ failed) × AreLoads loads.items
     × ((ps : List Placed) × ArePlaced ps loads.items
     × ((next : List Placed → Dialogue) (e : Ending) → Walks files (next ps) e → Walks files (with_programs entries [] next) e))
-LoadsAll files failed failed' entries (Err stop) =
-    (next : List Placed → Dialogue) → Stops files failed failed' (with_programs entries [] next) stop
+LoadsAll files failed failed' entries (Err unopened) =
+    (next : List Placed → Dialogue) → EndsUnopened files failed failed' (with_programs entries [] next) unopened
 
 -- the line of a refusal was put, or memory ran out
-abbrev pub Refuses : Option (List ℕ) → Option (List ℕ) → ℕ → ℕ → ℕ → Stop → Type 0
+abbrev pub Refuses : Option (List ℕ) → Option (List ℕ) → ℕ → ℕ → ℕ → Unopened → Type 0
 Refuses old new before now status (Refusing refusal) =
     Puts old new before now status (status_of (meant refusal)) (line_of (meant refusal)) ⊎ RunsOut old new before now status
 Refuses old new before now status Memory = RunsOut old new before now status

@@ -14,7 +14,7 @@ use Rattle.line_talk.specs.Lines.{closes}
 use Rattle.line_talk.specs.declared.way.Way.{Way}
 use Rattle.line_talk.specs.Hear.{MayEnd, lines_heard, way_line}
 use Rattle.pico_top.specs.Dialogue.{Cost, Told, Dialogue, aims_in, dialogue_of}
-use Rattle.pico_top.specs.Dialogue.Dialogue.{Load, JudgeImage, JudgeScript, JudgeSource, JudgePlace, SayWords, Say, Hear, HearWords}
+use Rattle.pico_top.specs.Dialogue.Dialogue.{Load, JudgeImage, JudgeScript, JudgeSource, JudgeOffset, SayWords, Say, Hear, HearWords}
 
 -- how a walk ends: its text was said, these bytes were heard up to an end and this was told, an input was refused with every
 -- input before it accepted, or memory ran out
@@ -53,8 +53,8 @@ Walks files (JudgeScript (Ok script) next) e = Walks files (next script) e ⊎ (
 Walks files (JudgeScript (Err fault) next) e = (e ≡ Refused (BadScript fault)) ⊎ (e ≡ NoMemory)
 Walks files (JudgeSource (Ok plans) next) e = Walks files (next plans) e ⊎ (e ≡ NoMemory)
 Walks files (JudgeSource (Err fault) next) e = (e ≡ Refused (BadSource fault)) ⊎ (e ≡ NoMemory)
-Walks files (JudgePlace (Ok offset) next) e = Walks files (next offset) e ⊎ (e ≡ NoMemory)
-Walks files (JudgePlace (Err fault) next) e = (e ≡ Refused (BadSource fault)) ⊎ (e ≡ NoMemory)
+Walks files (JudgeOffset (Ok offset) next) e = Walks files (next offset) e ⊎ (e ≡ NoMemory)
+Walks files (JudgeOffset (Err fault) next) e = (e ≡ Refused (BadSource fault)) ⊎ (e ≡ NoMemory)
 Walks files (SayWords plans text cost) e =
     ((programs : List Program) × ArePrograms plans programs × (e ≡ Said (text programs) (cost programs))) ⊎ (e ≡ NoMemory)
 Walks files (Say text cost) e = (e ≡ Said text cost) ⊎ (e ≡ NoMemory)
@@ -101,8 +101,8 @@ verdict files (JudgeScript (Ok script) next) = verdict files (next script)
 verdict files (JudgeScript (Err fault) next) = Refuses (BadScript fault)
 verdict files (JudgeSource (Ok plans) next) = verdict files (next plans)
 verdict files (JudgeSource (Err fault) next) = Refuses (BadSource fault)
-verdict files (JudgePlace (Ok offset) next) = verdict files (next offset)
-verdict files (JudgePlace (Err fault) next) = Refuses (BadSource fault)
+verdict files (JudgeOffset (Ok offset) next) = verdict files (next offset)
+verdict files (JudgeOffset (Err fault) next) = Refuses (BadSource fault)
 verdict files (SayWords plans text cost) = Says
 verdict files (Say text cost) = Says
 verdict files (Hear limit last told) = Hears limit last

@@ -27,7 +27,7 @@ use board_parts::probe::Probe;
 use board_parts::target::Target;
 pub use command_words::{Reading, WordsFault, read_words};
 use lane_look::Device;
-use open::{Stop, open_reading};
+use open::{Unopened, open_reading};
 use refusal_lines::Refusal;
 use rp_machine::Steps;
 use rp_ports::gate::Gate;
@@ -101,7 +101,7 @@ fn serve_aimed<F: Shelf, I: Source, O: Sink, X: Device, L: Ledger>(
 {
     match open_reading(alloc, reading, files, device) {
         Ok(opened) => tell_into(alloc, opened, aimed, device, input, out, steps),
-        Err(stop) => refuse(alloc, &stop, out),
+        Err(unopened) => refuse(alloc, &unopened, out),
     }
 }
 
@@ -155,7 +155,7 @@ where
 {
     match open_reading(alloc, reading, files, device) {
         Ok(opened) => tell_into_by(rt, alloc, workers, opened, aimed, device, input, out, steps),
-        Err(stop) => refuse(alloc, &stop, out),
+        Err(unopened) => refuse(alloc, &unopened, out),
     }
 }
 
@@ -206,7 +206,7 @@ pub fn pico_alone<F: Shelf, I: Source, O: Sink, X: Device, L: Ledger>(
         Ok(mut aimed) => serve_aimed(
             alloc, reading, files, input, out, &mut aimed, &device, steps,
         ),
-        Err(_) => refuse(alloc, &Stop::Memory, out),
+        Err(_) => refuse(alloc, &Unopened::Memory, out),
     }
 }
 
@@ -260,7 +260,7 @@ where
         Ok(mut aimed) => serve_aimed_by(
             rt, alloc, workers, reading, files, input, out, &mut aimed, device, steps,
         ),
-        Err(_) => refuse(alloc, &Stop::Memory, out),
+        Err(_) => refuse(alloc, &Unopened::Memory, out),
     }
 }
 
@@ -369,8 +369,8 @@ where
         Ok(reading) => serve(
             rt, alloc, &reading, files, input, out, gate, probes, device, steps,
         ),
-        Err(WordsFault::Words) => refuse(alloc, &Stop::Refusing(Refusal::Words), out),
-        Err(WordsFault::Memory) => refuse(alloc, &Stop::Memory, out),
+        Err(WordsFault::Words) => refuse(alloc, &Unopened::Refusing(Refusal::Words), out),
+        Err(WordsFault::Memory) => refuse(alloc, &Unopened::Memory, out),
     }
 }
 
@@ -474,7 +474,7 @@ where
 
     // Where the shelf tells its files and no load failed, the status is that of the dialogue over these files, and where it
     // hears an input, over the bytes of the source, unless the sink failed or memory ran out.
-    ensures held { IsComplete record {
+    ensures complete { IsComplete record {
       words = map string_bytes words.now;
       probes = map (λ p. (⟦<dyn Probe as Probe>⟧ p.vtable).meaning p.value) probes.items;
       device = X.meaning device;

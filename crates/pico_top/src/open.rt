@@ -41,7 +41,7 @@ pub const SOURCE_LIMIT: usize = 1_048_576;
 
 /// Why nothing is opened.
 #[derive(Drop)]
-pub enum Stop {
+pub enum Unopened {
     /// The words or an input are refused.
     Refusing(Refusal),
     /// There was no memory left.
@@ -101,7 +101,7 @@ pub fn load<F: Shelf>(
     name: &str,
     limit: usize,
     files: &mut F,
-) -> Result<Vec<u8>, Stop>
+) -> Result<Vec<u8>, Unopened>
     ensures kept { F.files files.new ≡ F.files files.old }
     ensures answer { LoadsAs (F.files files.old) (F.failed files.old)
         (F.failed files.new) name.now limit result }
@@ -110,19 +110,19 @@ pub fn load<F: Shelf>(
     match files.load(name, limit, &mut bytes) {
         Loaded::Done => Ok(bytes),
         Loaded::Large(length) => match String::from_str(alloc, name) {
-            Ok(name) => Err(Stop::Refusing(Refusal::Large(name, length))),
-            Err(_) => Err(Stop::Memory),
+            Ok(name) => Err(Unopened::Refusing(Refusal::Large(name, length))),
+            Err(_) => Err(Unopened::Memory),
         },
         Loaded::Failed => match String::from_str(alloc, name) {
-            Ok(name) => Err(Stop::Refusing(Refusal::File(name))),
-            Err(_) => Err(Stop::Memory),
+            Ok(name) => Err(Unopened::Refusing(Refusal::File(name))),
+            Err(_) => Err(Unopened::Memory),
         },
-        Loaded::Memory => Err(Stop::Memory),
+        Loaded::Memory => Err(Unopened::Memory),
     }
 }
 
 /// Loads an image file and reads it.
-fn open_image<F: Shelf>(alloc: Global, name: &str, files: &mut F) -> Result<Image, Stop>
+fn open_image<F: Shelf>(alloc: Global, name: &str, files: &mut F) -> Result<Image, Unopened>
     ensures kept { F.files files.new ≡ F.files files.old }
     ensures answer { Passes (F.files files.old) (F.failed files.old) (F.failed files.new)
         (with_image name.now) result }
@@ -131,27 +131,27 @@ fn open_image<F: Shelf>(alloc: Global, name: &str, files: &mut F) -> Result<Imag
     match load(alloc, name, IMAGE_LIMIT, files) {
         Ok(bytes) => match read_image(alloc, &bytes) {
             Ok(image) => Ok(image),
-            Err(ImageFault::Memory) => Err(Stop::Memory),
-            Err(fault) => Err(Stop::Refusing(Refusal::Image(fault))),
+            Err(ImageFault::Memory) => Err(Unopened::Memory),
+            Err(fault) => Err(Unopened::Refusing(Refusal::Image(fault))),
         },
-        Err(stop) => Err(stop),
+        Err(unopened) => Err(unopened),
     }
 }
 
 /// The script of a file's bytes.
-fn script_in(alloc: Global, bytes: &[u8]) -> Result<Script, Stop>
+fn script_in(alloc: Global, bytes: &[u8]) -> Result<Script, Unopened>
     requires { length bytes.now ≤ SCRIPT_LIMIT }
     ensures { ReadsScript bytes.now result }
 {
     match read_script(alloc, bytes) {
         Ok(script) => Ok(script),
-        Err(ScriptFault::Memory) => Err(Stop::Memory),
-        Err(fault) => Err(Stop::Refusing(Refusal::Script(fault))),
+        Err(ScriptFault::Memory) => Err(Unopened::Memory),
+        Err(fault) => Err(Unopened::Refusing(Refusal::Script(fault))),
     }
 }
 
 /// Loads the script file of a run and reads it; without one the script is that of an empty file.
-fn open_script<F: Shelf>(alloc: Global, run: &RunWords, files: &mut F) -> Result<Script, Stop>
+fn open_script<F: Shelf>(alloc: Global, run: &RunWords, files: &mut F) -> Result<Script, Unopened>
     ensures kept { F.files files.new ≡ F.files files.old }
     ensures answer { Passes (F.files files.old) (F.failed files.old) (F.failed files.new)
         (with_script (option_map string_bytes run.now.script)) result }
@@ -160,7 +160,7 @@ fn open_script<F: Shelf>(alloc: Global, run: &RunWords, files: &mut F) -> Result
         None => script_in(alloc, &[]),
         Some(name) => match load(alloc, name.as_str(), SCRIPT_LIMIT, files) {
             Ok(bytes) => script_in(alloc, &bytes),
-            Err(stop) => Err(stop),
+            Err(unopened) => Err(unopened),
         },
     }
 }
@@ -172,7 +172,7 @@ fn begin(
     machine: Machine,
     script: Script,
     limit: u64,
-) -> Result<Opened, Stop>
+) -> Result<Opened, Unopened>
     requires start { machine.cycle ≡ 0 }
     requires rested { IsRested machine.sio }
     requires limit { limit ≤ 1000000000 }
@@ -191,7 +191,7 @@ fn begin(
                 script,
                 limit,
             })),
-            Err(_) => Err(Stop::Memory),
+            Err(_) => Err(Unopened::Memory),
         },
     }
 }
@@ -205,7 +205,7 @@ fn boot<X: Device>(
     loads: &[PioLoad],
     limit: u64,
     device: &X,
-) -> Result<Opened, Stop>
+) -> Result<Opened, Unopened>
     requires image { FitsSram image.now }
     requires loads { AreLoads loads.now }
     requires limit { limit ≤ 1000000000 }
@@ -218,7 +218,7 @@ fn boot<X: Device>(
     };
     match Machine::boot(alloc, image, loads, &world) {
         Ok(machine) => begin(alloc, purpose, machine, script, limit),
-        Err(_) => Err(Stop::Memory),
+        Err(_) => Err(Unopened::Memory),
     }
 }
 
@@ -231,7 +231,7 @@ fn open_behind_script<F: Shelf, X: Device>(
     script: Script,
     files: &mut F,
     device: &X,
-) -> Result<Opened, Stop>
+) -> Result<Opened, Unopened>
     requires image { FitsSram image.now }
     requires limit { run.now.cycles ≤ 1000000000 }
     ensures kept { F.files files.new ≡ F.files files.old }
@@ -243,7 +243,7 @@ fn open_behind_script<F: Shelf, X: Device>(
 {
     match open_programs(alloc, &run.pio, files) {
         Ok(loads) => boot(alloc, purpose, image, script, &loads, run.cycles, device),
-        Err(stop) => Err(stop),
+        Err(unopened) => Err(unopened),
     }
 }
 
@@ -255,7 +255,7 @@ fn open_behind_image<F: Shelf, X: Device>(
     image: &Image,
     files: &mut F,
     device: &X,
-) -> Result<Opened, Stop>
+) -> Result<Opened, Unopened>
     requires image { FitsSram image.now }
     requires limit { run.now.cycles ≤ 1000000000 }
     ensures kept { F.files files.new ≡ F.files files.old }
@@ -267,7 +267,7 @@ fn open_behind_image<F: Shelf, X: Device>(
 {
     match open_script(alloc, run, files) {
         Ok(script) => open_behind_script(alloc, purpose, run, image, script, files, device),
-        Err(stop) => Err(stop),
+        Err(unopened) => Err(unopened),
     }
 }
 
@@ -278,7 +278,7 @@ fn open_run<F: Shelf, X: Device>(
     run: &RunWords,
     files: &mut F,
     device: &X,
-) -> Result<Opened, Stop>
+) -> Result<Opened, Unopened>
     requires limit { run.now.cycles ≤ 1000000000 }
     ensures kept { F.files files.new ≡ F.files files.old }
     ensures answer { (aims : List Aim)
@@ -289,7 +289,7 @@ fn open_run<F: Shelf, X: Device>(
 {
     match open_image(alloc, run.image.as_str(), files) {
         Ok(image) => open_behind_image(alloc, purpose, run, &image, files, device),
-        Err(stop) => Err(stop),
+        Err(unopened) => Err(unopened),
     }
 }
 
@@ -299,7 +299,7 @@ fn open_source<F: Shelf, X: Device>(
     name: &str,
     files: &mut F,
     device: &X,
-) -> Result<Opened, Stop>
+) -> Result<Opened, Unopened>
     ensures kept { F.files files.new ≡ F.files files.old }
     ensures answer { OpensFor (F.files files.old) (F.failed files.old) (F.failed files.new)
         (X.meaning device.now)
@@ -309,29 +309,33 @@ fn open_source<F: Shelf, X: Device>(
         Ok(bytes) => match programs_in(alloc, &bytes) {
             Ok(programs) => match listing(alloc, &programs) {
                 Ok(text) => Ok(Opened::Text(text)),
-                Err(_) => Err(Stop::Memory),
+                Err(_) => Err(Unopened::Memory),
             },
-            Err(PioFault::Memory) => Err(Stop::Memory),
-            Err(fault) => Err(Stop::Refusing(Refusal::Source(fault))),
+            Err(PioFault::Memory) => Err(Unopened::Memory),
+            Err(fault) => Err(Unopened::Refusing(Refusal::Source(fault))),
         },
-        Err(stop) => Err(stop),
+        Err(unopened) => Err(unopened),
     }
 }
 
 /// The source text of instruction words.
-fn open_text(alloc: Global, asked: &DisWords) -> Result<Opened, Stop>
+fn open_text(alloc: Global, asked: &DisWords) -> Result<Opened, Unopened>
     ensures { (files : Option Files) (failed : List (List ℕ)) (device : DeviceMeaning)
         → OpensFor files failed failed device (Disassemble asked.now.words.items asked.now.side)
         result }
 {
     match write_source(alloc, &asked.words, &asked.side) {
         Ok(text) => Ok(Opened::Text(text)),
-        Err(_) => Err(Stop::Memory),
+        Err(_) => Err(Unopened::Memory),
     }
 }
 
 /// Generates the image of a number, and boots the machine of its run.
-fn open_generated<X: Device>(alloc: Global, asked: &GenWords, device: &X) -> Result<Opened, Stop>
+fn open_generated<X: Device>(
+    alloc: Global,
+    asked: &GenWords,
+    device: &X,
+) -> Result<Opened, Unopened>
     requires limit { asked.now.cycles ≤ 1000000000 }
     ensures { (files : Option Files) (failed : List (List ℕ))
         → OpensFor files failed failed (X.meaning device.now)
@@ -350,7 +354,7 @@ fn open_generated<X: Device>(alloc: Global, asked: &GenWords, device: &X) -> Res
                 device,
             )
         }
-        Err(_) => Err(Stop::Memory),
+        Err(_) => Err(Unopened::Memory),
     }
 }
 
@@ -360,7 +364,7 @@ pub fn open_reading<F: Shelf, X: Device>(
     reading: &Reading,
     files: &mut F,
     device: &X,
-) -> Result<Opened, Stop>
+) -> Result<Opened, Unopened>
     requires { IsLimited (command_in reading.now) }
     ensures kept { F.files files.new ≡ F.files files.old }
     ensures answer { OpensFor (F.files files.old) (F.failed files.old) (F.failed files.new)

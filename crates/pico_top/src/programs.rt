@@ -1,16 +1,16 @@
-//! The programs that a run loads: the file of each, its source, and its place.
+//! The programs that a run loads: the file of each, its source, and its offset.
 
 ghost use Rattle.std.specs.Prelude.{◌≡◌, List, [], ◌∷◌, ◌++◌, Ok, Err, length, map, IfOk, IfErr};
 ghost use Rattle.rp_machine.specs.Boot.{IsLoad, AreLoads};
 ghost use Rattle.pio_listing.specs.Fitting.{IsRunnable};
 ghost use Rattle.pio_listing.specs.Placing.{placed};
 ghost use Rattle.command_words.specs.Read.{entry_in};
-ghost use Rattle.pico_top.specs.declared.open.Stop.TheVariants.{Memory};
+ghost use Rattle.pico_top.specs.declared.open.Unopened.TheVariants.{Memory};
 ghost use Rattle.pico_top.specs.Loads.{Placed};
 ghost use Rattle.pio_asm.specs.Assembly.{Plan, IsProgram};
-ghost use Rattle.pico_top.specs.Opening.{taken_by, ArePlaced, PlacesAs, AddsBehind, AddsAs, LoadsAll};
+ghost use Rattle.pico_top.specs.Opening.{taken_by, ArePlaced, AddsAt, AddsBehind, AddsAs, LoadsAll};
 
-use crate::open::{SOURCE_LIMIT, Stop, load};
+use crate::open::{SOURCE_LIMIT, Unopened, load};
 use command_words::PioEntry;
 use pio_asm::Program;
 use pio_listing::{first_program, offset_for, with_addresses};
@@ -20,7 +20,7 @@ use rp_machine::PioLoad;
 use rp_ports::shelf::Shelf;
 use std::alloc::Global;
 
-/// The places of a block that are taken, one bit each.
+/// The addresses of a block that are taken, one bit each.
 fn taken(block: u8, loads: &[PioLoad]) -> u32
     requires { AreLoads loads.now }
     ensures { result ≡ taken_by 0 block loads.now }
@@ -34,7 +34,7 @@ fn taken(block: u8, loads: &[PioLoad]) -> u32
     used
 }
 
-/// A program at its place behind others.
+/// A program at its offset behind others.
 fn load_of(entry: &PioEntry, program: Program, others: &[PioLoad]) -> Result<PioLoad, PioFault>
     requires others { AreLoads others.now }
     requires runs { IsRunnable program }
@@ -64,37 +64,37 @@ fn load_of(entry: &PioEntry, program: Program, others: &[PioLoad]) -> Result<Pio
 }
 
 /// Adds a load behind others.
-fn add(load: PioLoad, loads: &mut Vec<PioLoad>) -> Result<(), Stop>
+fn add(load: PioLoad, loads: &mut Vec<PioLoad>) -> Result<(), Unopened>
     ensures ok { IfOk result (λ done. loads.new.items ≡ loads.old.items ++ load ∷ []) }
-    ensures err { IfErr result (λ stop. stop ≡ Memory) }
+    ensures err { IfErr result (λ unopened. unopened ≡ Memory) }
 {
     match loads.push(load) {
         Ok(()) => Ok(()),
-        Err(_) => Err(Stop::Memory),
+        Err(_) => Err(Unopened::Memory),
     }
 }
 
-/// Adds a program at its place behind others.
-fn add_load(entry: &PioEntry, program: Program, loads: &mut Vec<PioLoad>) -> Result<(), Stop>
+/// Adds a program at its offset behind others.
+fn add_load(entry: &PioEntry, program: Program, loads: &mut Vec<PioLoad>) -> Result<(), Unopened>
     requires loads { AreLoads loads.old.items }
     requires runs { IsRunnable program }
     ensures { (before : List Placed) (plan : Plan) → ArePlaced before loads.old.items
         → IsProgram plan program
-        → PlacesAs (entry_in entry.now) before plan loads.new.items result }
+        → AddsAt (entry_in entry.now) before plan loads.new.items result }
 {
     match load_of(entry, program, loads) {
         Ok(load) => add(load, loads),
-        Err(fault) => Err(Stop::Refusing(Refusal::Source(fault))),
+        Err(fault) => Err(Unopened::Refusing(Refusal::Source(fault))),
     }
 }
 
-/// Adds the first program of a source, if it has one, at its place behind others.
+/// Adds the first program of a source, if it has one, at its offset behind others.
 fn add_first(
     alloc: Global,
     entry: &PioEntry,
     bytes: &[u8],
     loads: &mut Vec<PioLoad>,
-) -> Result<(), Stop>
+) -> Result<(), Unopened>
     requires { AreLoads loads.old.items }
     ensures { (before : List Placed) → ArePlaced before loads.old.items
         → AddsBehind (entry_in entry.now) before bytes.now loads.new.items result }
@@ -104,8 +104,8 @@ fn add_first(
             Some(program) => add_load(entry, program, loads),
             None => Ok(()),
         },
-        Err(PioFault::Memory) => Err(Stop::Memory),
-        Err(fault) => Err(Stop::Refusing(Refusal::Source(fault))),
+        Err(PioFault::Memory) => Err(Unopened::Memory),
+        Err(fault) => Err(Unopened::Refusing(Refusal::Source(fault))),
     }
 }
 
@@ -115,7 +115,7 @@ fn open_program<F: Shelf>(
     entry: &PioEntry,
     loads: &mut Vec<PioLoad>,
     files: &mut F,
-) -> Result<(), Stop>
+) -> Result<(), Unopened>
     requires { AreLoads loads.old.items }
     ensures kept { F.files files.new ≡ F.files files.old }
     ensures answer { (before : List Placed) → ArePlaced before loads.old.items
@@ -125,7 +125,7 @@ fn open_program<F: Shelf>(
 {
     match load(alloc, entry.file.as_str(), SOURCE_LIMIT, files) {
         Ok(bytes) => add_first(alloc, entry, &bytes, loads),
-        Err(stop) => Err(stop),
+        Err(unopened) => Err(unopened),
     }
 }
 
@@ -134,7 +134,7 @@ pub fn open_programs<F: Shelf>(
     alloc: Global,
     entries: &[PioEntry],
     files: &mut F,
-) -> Result<Vec<PioLoad>, Stop>
+) -> Result<Vec<PioLoad>, Unopened>
     ensures kept { F.files files.new ≡ F.files files.old }
     ensures answer { LoadsAll (F.files files.old) (F.failed files.old) (F.failed files.new)
         (map entry_in entries.now) result }
@@ -143,7 +143,7 @@ pub fn open_programs<F: Shelf>(
     for entry in entries {
         match open_program(alloc, entry, &mut loads, files) {
             Ok(()) => {}
-            Err(stop) => return Err(stop),
+            Err(unopened) => return Err(unopened),
         }
     }
     Ok(loads)

@@ -139,7 +139,7 @@ pub fn send_last<O: Sink>(
     send_heard(stats, ran, probes, writer)
 }
 
-/// The place behind the first line that begins at a place.
+/// The index behind the first line that begins at an index.
 fn line_end(text: &[u8], from: usize) -> usize
     requires { from < length text.now }
     ensures after { from < result }
@@ -147,7 +147,7 @@ fn line_end(text: &[u8], from: usize) -> usize
 {
     let (_, rest) = text.split_at(from);
     match rest.iter().position(|byte| *byte == b'\n') {
-        Some(place) => from + place + 1,
+        Some(index) => from + index + 1,
         None => text.len(),
     }
 }

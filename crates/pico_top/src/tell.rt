@@ -19,7 +19,7 @@ ghost use Rattle.pico_top.specs.Dialogue.Cost.{Exactly};
 ghost use Rattle.pico_top.specs.Dialogue.Dialogue.{Hear, Say};
 ghost use Rattle.pico_top.specs.Opening.{setting_in, setting_by, opened_dialogue, IsReady, Refuses, Tells};
 
-use crate::open::{Debugging, Opened, Started, Stop};
+use crate::open::{Debugging, Opened, Started, Unopened};
 use crate::runner::{Workers, run_to_stop, run_to_stop_by};
 use crate::send::{send_last, send_text};
 use board_parts::aimed::Aimed;
@@ -328,16 +328,16 @@ fn run_out<O: Sink>(out: &mut O) -> u8
     say(9, b"error memory\n", out)
 }
 
-/// Puts the line of a stop.
-pub fn refuse<O: Sink>(alloc: Global, stop: &Stop, out: &mut O) -> u8
+/// Puts the line of what is refused, or of want of memory.
+pub fn refuse<O: Sink>(alloc: Global, unopened: &Unopened, out: &mut O) -> u8
     ensures { Refuses (O.written out.old) (O.written out.new) (O.faults out.old)
-        (O.faults out.new) result stop.now }
+        (O.faults out.new) result unopened.now }
 {
-    match stop {
-        Stop::Refusing(refusal) => match refusal_line(alloc, refusal) {
+    match unopened {
+        Unopened::Refusing(refusal) => match refusal_line(alloc, refusal) {
             Ok(line) => say(status(refusal), &line, out),
             Err(_) => run_out(out),
         },
-        Stop::Memory => run_out(out),
+        Unopened::Memory => run_out(out),
     }
 }

@@ -20,5 +20,5 @@ returns-clause-cause g c = causes_from _ _ _ _ c.converse.ensures
 pub returns-clause-sink : goal.returns-clause-sink
 returns-clause-sink g c = sink_from _ _ _ _ c.converse.ensures
 
-pub returns-clause-held : goal.returns-clause-held
-returns-clause-held g c = complete_from _ _ _ _ c.converse.ensures
+pub returns-clause-complete : goal.returns-clause-complete
+returns-clause-complete g c = complete_from _ _ _ _ c.converse.ensures

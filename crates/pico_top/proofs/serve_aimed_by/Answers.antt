@@ -1,7 +1,7 @@
 use Rattle.std.proofs.Common.{[], refl}
 use Rattle.pico_top.specs.Dialogue.{aims_in}
 use Rattle.command_words.specs.Read.{command_in}
-use Rattle.pico_top.proofs.Telling.{opened_converses, stopped_converses}
+use Rattle.pico_top.proofs.Telling.{opened_converses, unopened_converses}
 use Rattle.pico_top.proofs.serve_aimed_by.Goals as goal
 
 pub tell_into_by-requires-clause-is_ready : goal.tell_into_by-requires-clause-is_ready
@@ -12,4 +12,4 @@ returns-in-Ok g c probes aims = opened_converses _ _ _ _ _ _ _ _ aims c.in-Ok.en
 
 pub returns-in-Err : goal.returns-in-Err
 returns-in-Err g c probes aims =
-    stopped_converses _ _ _ _ _ _ _ (c.in-Err.ensures.answer (aims_in probes (command_in c.args.reading.now))) c.in-Err.ensures.kept refl refl c.refuse.ensures refl
+    unopened_converses _ _ _ _ _ _ _ (c.in-Err.ensures.answer (aims_in probes (command_in c.args.reading.now))) c.in-Err.ensures.kept refl refl c.refuse.ensures refl

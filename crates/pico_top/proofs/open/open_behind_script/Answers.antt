@@ -16,5 +16,5 @@ returns-in-Ok-clause-answer g c aims =
 
 pub returns-in-Err-clause-answer : goal.returns-in-Err-clause-answer
 returns-in-Err-clause-answer g c aims =
-    let all = λ (es : List PioEntry). LoadsAll (g.F.Shelf.files c.args.files.now) (g.F.Shelf.failed c.args.files.now) (g.F.Shelf.failed c.open_programs.new.files) (map entry_in es) (Err c.in-Err.stop) in
+    let all = λ (es : List PioEntry). LoadsAll (g.F.Shelf.files c.args.files.now) (g.F.Shelf.failed c.args.files.now) (g.F.Shelf.failed c.open_programs.new.files) (map entry_in es) (Err c.in-Err.unopened) in
     subst all c.deref.ensures.value c.in-Err.ensures.answer (use_for aims c.args.purpose (setting_of c.args.script (g.X.Device.meaning c.args.device.now) c.args.run.now.cycles) c.args.image.now)

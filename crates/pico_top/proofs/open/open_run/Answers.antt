@@ -13,5 +13,5 @@ returns-in-Ok-clause-answer g c aims =
 
 pub returns-in-Err-clause-answer : goal.returns-in-Err-clause-answer
 returns-in-Err-clause-answer g c aims =
-    let family = λ (n : List ℕ). Passes {X = Image} (g.F.Shelf.files c.args.files.now) (g.F.Shelf.failed c.args.files.now) (g.F.Shelf.failed c.open_image.new.files) (with_image n) (Err c.in-Err.stop) in
+    let family = λ (n : List ℕ). Passes {X = Image} (g.F.Shelf.files c.args.files.now) (g.F.Shelf.failed c.args.files.now) (g.F.Shelf.failed c.open_image.new.files) (with_image n) (Err c.in-Err.unopened) in
     subst family c.as_str.ensures.value c.in-Err.ensures.answer (behind_image (use_for aims c.args.purpose) (g.X.Device.meaning c.args.device.now) (run_in c.args.run.now))

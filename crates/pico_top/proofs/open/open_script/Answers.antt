@@ -18,5 +18,5 @@ returns-in-Ok-clause-answer g c =
 
 pub returns-in-Err-clause-answer : goal.returns-in-Err-clause-answer
 returns-in-Err-clause-answer g c =
-    let named = λ (n : List ℕ). LoadsAs (g.F.Shelf.files c.args.files.now) (g.F.Shelf.failed c.args.files.now) (g.F.Shelf.failed c.load.new.files) n script_limit (Err c.in-Err.stop) in
+    let named = λ (n : List ℕ). LoadsAs (g.F.Shelf.files c.args.files.now) (g.F.Shelf.failed c.args.files.now) (g.F.Shelf.failed c.load.new.files) n script_limit (Err c.in-Err.unopened) in
     rw c.in-Some.is (λ next. subst named c.as_str.ensures.value c.in-Err.ensures.answer (λ bytes. JudgeScript (script_of bytes) next))

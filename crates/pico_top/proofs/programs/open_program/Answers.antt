@@ -16,5 +16,5 @@ returns-in-Ok-clause-answer g c before h =
 
 pub returns-in-Err-clause-answer : goal.returns-in-Err-clause-answer
 returns-in-Err-clause-answer g c before h =
-    let lost = subst (λ (n : List ℕ). LoadsAs (g.F.Shelf.files c.args.files.now) (g.F.Shelf.failed c.args.files.now) (g.F.Shelf.failed c.load.new.files) n source_limit (Err c.in-Err.stop)) c.as_str.ensures.value c.in-Err.ensures.answer in
-    entry_lost (g.F.Shelf.files c.args.files.now) (g.F.Shelf.failed c.args.files.now) (g.F.Shelf.failed c.load.new.files) (entry_in c.args.entry.now) before c.args.loads.now.items c.in-Err.stop lost
+    let lost = subst (λ (n : List ℕ). LoadsAs (g.F.Shelf.files c.args.files.now) (g.F.Shelf.failed c.args.files.now) (g.F.Shelf.failed c.load.new.files) n source_limit (Err c.in-Err.unopened)) c.as_str.ensures.value c.in-Err.ensures.answer in
+    entry_lost (g.F.Shelf.files c.args.files.now) (g.F.Shelf.failed c.args.files.now) (g.F.Shelf.failed c.load.new.files) (entry_in c.args.entry.now) before c.args.loads.now.items c.in-Err.unopened lost

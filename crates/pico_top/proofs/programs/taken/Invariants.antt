@@ -2,6 +2,6 @@ use Rattle.std.proofs.Common.{◌≡◌, drop}
 use Rattle.pico_top.specs.Opening.{taken_by}
 use Rattle.pico_top.proofs.programs.taken.Given as goal
 
--- the loads that are left take the rest of the places
+-- the loads that are left take the rest of the addresses
 abbrev pub invariant-loop-load : goal.invariant-loop-load
 invariant-loop-load l = taken_by l.used l.block (drop l.load-index l.loads) ≡ taken_by 0 l.block l.loads
