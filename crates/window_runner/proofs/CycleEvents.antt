@@ -101,31 +101,31 @@ events_both cycle before mark = sym (shown_both (bytes_of cycle 0 mark.uart) (ch
 
 -- ---- marks
 
--- those of the marks from a place on
+-- those of the marks from an index on
 unfoldable pub shown_behind : ℕ → ℕ → List Mark → ℕ → List Shown
-shown_behind cycle before marks place = all_shown (events_by (cycle + place) before (drop place marks))
+shown_behind cycle before marks index = all_shown (events_by (cycle + index) before (drop index marks))
 
 pub behind_first : (cycle before : ℕ) (marks : List Mark) → all_shown (events_by cycle before marks) ≡ shown_behind cycle before marks 0
 unfolding shown_behind
 behind_first cycle before marks = let same : cycle + 0 ≡ cycle = omega arith in ap (λ n. all_shown (events_by n before marks)) (sym same)
 
-next_mark : (marks : List Mark) (place : ℕ) (mark : Mark) → slice_get marks place ≡ Some mark → drop place marks ≡ mark ∷ drop (place + 1) marks
-next_mark marks place mark e =
-    drop_more marks place mark (slice_get_within marks place mark e)
-    ∙ ap (λ m. m ∷ drop (place + 1) marks) (get_or_from_slice_get marks place mark mark e)
+next_mark : (marks : List Mark) (index : ℕ) (mark : Mark) → slice_get marks index ≡ Some mark → drop index marks ≡ mark ∷ drop (index + 1) marks
+next_mark marks index mark e =
+    drop_more marks index mark (slice_get_within marks index mark e)
+    ∙ ap (λ m. m ∷ drop (index + 1) marks) (get_or_from_slice_get marks index mark mark e)
 
 -- one more of those that are left
-pub behind_step : (cycle before : ℕ) (marks : List Mark) (place n : ℕ) (mark : Mark) → n ≡ place → slice_get marks place ≡ Some mark
-    → shown_behind cycle before marks place ≡ all_shown (events_of (cycle + n) before mark) ++ shown_behind cycle mark.pads marks (place + 1)
+pub behind_step : (cycle before : ℕ) (marks : List Mark) (index n : ℕ) (mark : Mark) → n ≡ index → slice_get marks index ≡ Some mark
+    → shown_behind cycle before marks index ≡ all_shown (events_of (cycle + n) before mark) ++ shown_behind cycle mark.pads marks (index + 1)
 unfolding shown_behind
-behind_step cycle before marks place n mark same e =
-    let next : cycle + place + 1 ≡ cycle + (place + 1) = omega arith in
-    ap (λ ms. all_shown (events_by (cycle + place) before ms)) (next_mark marks place mark e)
-    ∙ shown_both (events_of (cycle + place) before mark) (events_by (cycle + place + 1) mark.pads (drop (place + 1) marks))
-    ∙ ap (λ n. all_shown (events_of (cycle + place) before mark) ++ all_shown (events_by n mark.pads (drop (place + 1) marks))) next
-    ∙ ap (λ k. all_shown (events_of (cycle + k) before mark) ++ all_shown (events_by (cycle + (place + 1)) mark.pads (drop (place + 1) marks))) (sym same)
+behind_step cycle before marks index n mark same e =
+    let next : cycle + index + 1 ≡ cycle + (index + 1) = omega arith in
+    ap (λ ms. all_shown (events_by (cycle + index) before ms)) (next_mark marks index mark e)
+    ∙ shown_both (events_of (cycle + index) before mark) (events_by (cycle + index + 1) mark.pads (drop (index + 1) marks))
+    ∙ ap (λ n. all_shown (events_of (cycle + index) before mark) ++ all_shown (events_by n mark.pads (drop (index + 1) marks))) next
+    ∙ ap (λ k. all_shown (events_of (cycle + k) before mark) ++ all_shown (events_by (cycle + (index + 1)) mark.pads (drop (index + 1) marks))) (sym same)
 
 -- none is left
-pub behind_end : (cycle before : ℕ) (marks : List Mark) (place : ℕ) → length marks ≤ place → shown_behind cycle before marks place ≡ []
+pub behind_end : (cycle before : ℕ) (marks : List Mark) (index : ℕ) → length marks ≤ index → shown_behind cycle before marks index ≡ []
 unfolding shown_behind
-behind_end cycle before marks place le = ap (λ ms. all_shown (events_by (cycle + place) before ms)) (drop_all place marks le) ∙ shown_none
+behind_end cycle before marks index le = ap (λ ms. all_shown (events_by (cycle + index) before ms)) (drop_all index marks le) ∙ shown_none

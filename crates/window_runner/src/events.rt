@@ -110,9 +110,9 @@ pub fn tell_marks<T: Tape>(
         (all_shown (events_by cycle before marks.now)) result }
 {
     let mut levels = before;
-    for place in 0..marks.count() {
-        let mark = marks.entry(place);
-        match tell_cycle(cycle + u64::from(place), levels, &mark, tape) {
+    for index in 0..marks.count() {
+        let mark = marks.entry(index);
+        match tell_cycle(cycle + u64::from(index), levels, &mark, tape) {
             Ok(()) => levels = mark.pads,
             Err(fault) => return Err(fault),
         }
