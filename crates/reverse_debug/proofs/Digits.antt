@@ -10,8 +10,8 @@ abbrev pub digits_from : ℕ → (ℕ → Bool) → (ℕ → ℕ) → ℕ → Li
 digits_from base ok value n [] = Some n
 digits_from base ok value n (d ∷ ds) = if ok d then digits_from base ok value (base * n + value d) ds else None
 
-abbrev pub placed : ℕ → (ℕ → Bool) → (ℕ → ℕ) → ℕ → List ℕ → Option ℕ
-placed base ok value n ds = if list_all ok ds then Some (n * base ^ length ds + value_in base value ds) else None
+abbrev pub weighed : ℕ → (ℕ → Bool) → (ℕ → ℕ) → ℕ → List ℕ → Option ℕ
+weighed base ok value n ds = if list_all ok ds then Some (n * base ^ length ds + value_in base value ds) else None
 
 none_left : (base : ℕ) (value : ℕ → ℕ) (n : ℕ) → n ≡ n * base ^ 0 + value_in base value []
 unfolding value_in
@@ -27,7 +27,7 @@ moved base value n d ds =
     one_more base n (value d) (base ^ length ds) (value_in base value ds)
     ∙ ap (λ p. n * p + (value d * base ^ length ds + value_in base value ds)) (sym (pow-succ' base (length ds)))
 
-pub from_front : (base : ℕ) (ok : ℕ → Bool) (value : ℕ → ℕ) (n : ℕ) (ds : List ℕ) → digits_from base ok value n ds ≡ placed base ok value n ds
+pub from_front : (base : ℕ) (ok : ℕ → Bool) (value : ℕ → ℕ) (n : ℕ) (ds : List ℕ) → digits_from base ok value n ds ≡ weighed base ok value n ds
 from_front base ok value n [] = ap Some (none_left base value n)
 from_front base ok value n (d ∷ ds) = elim (cases_Bool (ok d)) [
   | inl is ↦ rw is (from_front base ok value (base * n + value d) ds ∙ ap (λ k. cond (list_all ok ds) (Some k) None) (moved base value n d ds))
@@ -37,9 +37,9 @@ from_front base ok value n (d ∷ ds) = elim (cases_Bool (ok d)) [
 zero_first : (base : ℕ) (value : ℕ → ℕ) (ds : List ℕ) → 0 * base ^ length ds + value_in base value ds ≡ value_in base value ds
 zero_first base value ds = grind arith
 
--- digits stand for what their places say
-pub by_places : (base : ℕ) (ok : ℕ → Bool) (value : ℕ → ℕ) (ds : List ℕ) → digits_from base ok value 0 ds ≡ (if list_all ok ds then Some (value_in base value ds) else None)
-by_places base ok value ds = from_front base ok value 0 ds ∙ ap (λ k. cond (list_all ok ds) (Some k) None) (zero_first base value ds)
+-- digits stand for the sum of their weights
+pub by_weights : (base : ℕ) (ok : ℕ → Bool) (value : ℕ → ℕ) (ds : List ℕ) → digits_from base ok value 0 ds ≡ (if list_all ok ds then Some (value_in base value ds) else None)
+by_weights base ok value ds = from_front base ok value 0 ds ∙ ap (λ k. cond (list_all ok ds) (Some k) None) (zero_first base value ds)
 
 drop-all : (i : ℕ) (ds : List ℕ) → length ds ≤ i → drop i ds ≡ []
 drop-all zero [] le = refl
@@ -49,11 +49,11 @@ drop-all (suc i) (d ∷ ds) le = drop-all i ds (omega arith)
 
 -- all digits are read
 pub all_read : (base : ℕ) (ok : ℕ → Bool) (value : ℕ → ℕ) (n i : ℕ) (ds : List ℕ) → digits_from base ok value 0 ds ≡ digits_from base ok value n (drop i ds) → length ds ≤ i → Some n ≡ (if list_all ok ds then Some (value_in base value ds) else None)
-all_read base ok value n i ds so_far end = sym (so_far ∙ ap (digits_from base ok value n) (drop-all i ds end)) ∙ by_places base ok value ds
+all_read base ok value n i ds so_far end = sym (so_far ∙ ap (digits_from base ok value n) (drop-all i ds end)) ∙ by_weights base ok value ds
 
 -- one is no digit
 pub not_all : (base : ℕ) (ok : ℕ → Bool) (value : ℕ → ℕ) (n i : ℕ) (ds : List ℕ) (d : ℕ) → digits_from base ok value 0 ds ≡ digits_from base ok value n (drop i ds) → drop i ds ≡ d ∷ drop (i + 1) ds → ok d ≡ false → None ≡ (if list_all ok ds then Some (value_in base value ds) else None)
-not_all base ok value n i ds d so_far here bad = sym (so_far ∙ ap (digits_from base ok value n) here ∙ rw bad refl) ∙ by_places base ok value ds
+not_all base ok value n i ds d so_far here bad = sym (so_far ∙ ap (digits_from base ok value n) here ∙ rw bad refl) ∙ by_weights base ok value ds
 
 -- the value of at most 8 hexadecimal digits
 pub low_value : (n i : ℕ) → n < 16 ^ i → i ≤ 8 → n < 4294967296

@@ -31,7 +31,7 @@ abbrev pub is_quit : Command → Bool
 is_quit Quit = true
 is_quit _ = false
 
--- ---- numbers: a digit counts by the power of the base at its place
+-- ---- numbers: a digit weighs a power of the base
 
 unfoldable pub value_in : ℕ → (ℕ → ℕ) → List ℕ → ℕ
 value_in base value [] = 0

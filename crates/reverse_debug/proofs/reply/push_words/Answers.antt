@@ -13,6 +13,6 @@ words-preserved c = record {
       (addresses c.words.next c.words.left) (addresses (c.words.next + 4) (c.words.left - 1)) _
       (addresses_on c.words.next c.words.left c.words-test.true) c.words.invariant.text
       (c.push_spaced_word.ensures.text ∙ ap (λ w. c.words.reply.items ++ spaced_word w) c.word_at.ensures);
-  place = omega arith;
+  reach = omega arith;
   room = omega arith;
 }

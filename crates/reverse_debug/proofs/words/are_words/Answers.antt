@@ -7,7 +7,7 @@ words-preserved c =
     let below : c.words.next < 0x22000000 = c.is_ram.ensures.low c.if-not-is_ram.false in
     record {
       rest = c.words.invariant.rest ∙ words_on c.words.next c.words.left c.words-test.true (sym c.is_ram.ensures.value ∙ c.if-not-is_ram.false);
-      place = omega arith;
+      reach = omega arith;
       low = λ _. omega arith;
       fewer = omega arith;
     }
