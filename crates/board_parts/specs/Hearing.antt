@@ -5,14 +5,14 @@ use Rattle.board_parts.specs.Probe.{ProbeMeaning}
 use Rattle.board_parts.specs.declared.probe.Probe.{Ghosts}
 use Rattle.board_parts.specs.declared.change.PinChange.{PinChange}
 
--- a probe that is aimed: its place among the probes, its pin, what it does, and its state
+-- a probe that is aimed: its index among the probes, its pin, what it does, and its state
 pub record Aim : Type 0 where
   pub index : ℕ
   pub pin : ℕ
   pub probe : ProbeMeaning
   pub state : List ℕ
 
--- what is seen of an aimed probe: its place, its pin, and what its kind tells of it
+-- what is seen of an aimed probe: its index, its pin, and what its kind tells of it
 abbrev pub aim_of : {P : Type 0} → ℕ → ℕ → Ghosts P → P → Aim
 aim_of index pin kind probe = record { index = index; pin = pin; probe = kind.meaning probe; state = kind.state probe }
 

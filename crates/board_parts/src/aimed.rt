@@ -11,7 +11,7 @@ use trace_text::line::{push_number, push_text};
 /// A probe that is aimed at a pin.
 #[derive(Drop)]
 pub struct Aimed {
-    /// Its place among the probes.
+    /// Its index among the probes.
     pub index: u64,
     /// Its pin.
     pub pin: u8,
@@ -20,7 +20,7 @@ pub struct Aimed {
 }
 
 impl Aimed {
-    /// Aims a probe at a pin, where `index` is its place among the probes.
+    /// Aims a probe at a pin, where `index` is its index among the probes.
     pub fn new(index: u64, pin: u8, probe: Box<dyn Probe>) -> Aimed
         ensures { record {
           index = result.index;

@@ -9,7 +9,7 @@ use crate::probe::Probe;
 use crate::target::Target;
 use std::alloc::{AllocError, Global};
 
-/// The pin that the targets name for the probe of a place.
+/// The pin that the targets name for the probe of an index.
 fn pin_for(index: u64, targets: &[Target]) -> Option<u8>
     ensures { result ≡ pin_for index targets.now }
 {

@@ -4,7 +4,7 @@ use Rattle.board_parts.specs.Aiming.{aims_from}
 use Rattle.board_parts.specs.Hearing.{aim_of, seen}
 use Rattle.board_parts.proofs.aiming.aim_all.Given as goal
 
--- the probes that were aimed, and those that are left from a place on, are all
+-- the probes that were aimed, and those that are left from an index on, are all
 abbrev pub invariant-loop-probe : goal.invariant-loop-probe
 invariant-loop-probe g l =
     (seen l.aimed.items (λ a. aim_of a.index a.pin (goal.Probe-dyn g (a.probe.vtable, a.probe.value)) a.probe.value)
