@@ -72,7 +72,7 @@ fn push_code(count: u32, random: &mut Lcg64Xsh32, bytes: &mut Vec<u8>) -> Result
 #[tactic(auto, unfolding(crate::specs::Code::program_of))]
 pub fn generated(alloc: Global, number: u64) -> Result<Image, AllocError>
     ensures image { IfOk result (λ image. image ≡ image_of_number number) }
-    // What holds of every image, for callers that place one.
+    // What holds of every image, for callers that load one.
     ensures fits { IfOk result FitsSram }
 {
     let mut random = Lcg64Xsh32::new(number, 1);

@@ -36,7 +36,7 @@ pub record SentTo (old new : Option (List ℕ)) (before now : ℕ) (text : List 
   pub appended : Appends old new (take done text)
   pub count : before ≤ now
 
--- one more piece, up to a place e
+-- one more piece, up to an index e
 pub sent_on : (a b c : Option (List ℕ)) (f g h : ℕ) (text : List ℕ) (d e : ℕ) → SentTo a b f g text d → d < e → e ≤ length text → Appends b c (take (e - d) (drop d text)) → g ≤ h → SentTo a c f h text e
 sent_on a b c f g h text d e so_far lt le piece count =
     let there : d + (e - d) ≡ e = omega arith in
