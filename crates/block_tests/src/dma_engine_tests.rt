@@ -320,7 +320,7 @@ fn priorities_and_aborts(rt: HostRuntime) {
 #[test]
 fn pacing(rt: HostRuntime) {
     let mut memory = Memory::with_words(&[7, 8, 9]);
-    // a transmitter with two free places, which fill, and one of which is free again in the seventh cycle
+    // a transmitter with two free entries, which fill, and one of which is free again in the seventh cycle
     let mut dma = started(SRAM, 0x5020_0010, 9, 0x0000_0019);
     let cycles = [
         (2, (0, 0)),

@@ -51,7 +51,7 @@ enum Deed {
     Cycle(u32, u32),
     /// How often the inputs were asked for.
     Asked(u32),
-    /// The FIFOs' free places and words.
+    /// The FIFOs' free entries and words.
     Pacing([u8; 8]),
     /// PC, X, Y, ISR and OSR of a machine.
     Registers(u8, [u32; 5]),
@@ -61,7 +61,7 @@ enum Deed {
     Lines(bool, bool),
     /// The block rests, or not.
     Idle(bool),
-    /// A copy takes the block's place.
+    /// A copy goes on instead of the block.
     Copy,
 }
 
@@ -115,9 +115,9 @@ fn acts(block: &mut PioBlock, look: &mut Levels, deed: &Deed) -> bool {
         Deed::Registers(machine, words) => {
             return machine < 4 && block.registers(machine) == words;
         }
-        Deed::Counter(machine, place) => {
-            if machine < 4 && place < 32 {
-                block.set_counter(machine, place);
+        Deed::Counter(machine, address) => {
+            if machine < 4 && address < 32 {
+                block.set_counter(machine, address);
             }
         }
         Deed::Lines(first, second) => return block.lines() == [first, second],

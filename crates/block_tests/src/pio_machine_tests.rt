@@ -21,7 +21,7 @@ fn seen(program: &[u16; 4]) -> Seen {
 /// A word, and then PC, X, Y, both shift registers and both counts.
 type Row = (u16, u8, u32, u32, u32, u32, u8, u8);
 
-/// Words written to INSTR of a machine that is not enabled, in place 7 with X 5, Y 0, 8 bits of 12345678 in the ISR and 4
+/// Words written to INSTR of a machine that is not enabled, at address 7 with X 5, Y 0, 8 bits of 12345678 in the ISR and 4
 /// bits out of the OSR, which has 9abcdef0.
 const WORDS: [Row; 20] = [
     // jmp !x 3; jmp x-- 3; jmp !y 3; jmp y-- 3; jmp x!=y 3; jmp !osre 3
@@ -72,9 +72,9 @@ fn leaves(row: &Row) -> bool {
 
 /// The first row that is not so.
 fn first_wrong(rows: &[Row]) -> Option<usize> {
-    for (place, row) in rows.iter().enumerate() {
+    for (index, row) in rows.iter().enumerate() {
         if !leaves(row) {
-            return Some(place);
+            return Some(index);
         }
     }
     None
@@ -156,7 +156,7 @@ enum Deed {
     Clear,
     /// SM_RESTART.
     Restart,
-    /// A copy takes its place.
+    /// A copy goes on instead.
     Copy,
     /// So many cycles.
     Cycles(u8),
@@ -174,7 +174,7 @@ enum Deed {
     Level(u8, u32),
     /// RXSTALL, and that the word at PC has shifted.
     Stalled(bool, bool),
-    /// The places of both FIFOs, and that both are full.
+    /// The depths of both FIFOs, and that both are full.
     Depths(u8, u8, bool),
 }
 
@@ -189,7 +189,7 @@ fn fill(machine: &mut Machine1) -> bool {
     true
 }
 
-/// A copy takes the machine's place.
+/// A copy goes on instead of the machine.
 fn replace(machine: &mut Machine1) {
     let mut copy = Machine1::new();
     copy.copy_from(machine);
@@ -255,18 +255,18 @@ fn runs(machine: &mut Machine1, seen: &mut Seen, deed: &Deed) -> bool {
     }
 }
 
-/// The first of these that is not so, of an enabled machine that runs this program, with one more word at place 5.
+/// The first of these that is not so, of an enabled machine that runs this program, with one more word at address 5.
 fn first_fault(program: &[u16; 4], fifth: u16, deeds: &[Deed]) -> Option<usize> {
     let mut seen = seen(program);
     seen.memory[5] = fifth;
     let mut machine = Machine1::new();
     machine.enabled = true;
-    for (place, deed) in deeds.iter().enumerate() {
+    for (index, deed) in deeds.iter().enumerate() {
         let so = sets(&mut machine, deed)
             && runs(&mut machine, &mut seen, deed)
             && shows(&machine, deed);
         if !so {
-            return Some(place);
+            return Some(index);
         }
     }
     None
@@ -433,7 +433,7 @@ const OVER: [Deed; 15] = [
     Deed::Isr(0),
 ];
 
-// Each word has its own memory of what it did: in y, 32; at place 5 in x, 8.
+// Each word has its own memory of what it did: in y, 32; at address 5 in x, 8.
 #[test]
 fn memories(rt: HostRuntime) {
     let program = [0x4040, 0, 0, 0];

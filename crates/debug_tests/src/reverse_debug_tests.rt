@@ -89,11 +89,11 @@ fn block(code: &[u32; 9]) -> [u8; 512] {
         1,
         0xe48b_ff56u32,
     ];
-    for (place, word) in words.iter().enumerate() {
-        bytes[4 * place..4 * place + 4].copy_from_slice(&word.to_le_bytes());
+    for (index, word) in words.iter().enumerate() {
+        bytes[4 * index..4 * index + 4].copy_from_slice(&word.to_le_bytes());
     }
-    for (place, word) in code.iter().enumerate() {
-        bytes[32 + 4 * place..36 + 4 * place].copy_from_slice(&word.to_le_bytes());
+    for (index, word) in code.iter().enumerate() {
+        bytes[32 + 4 * index..36 + 4 * index].copy_from_slice(&word.to_le_bytes());
     }
     bytes[508..512].copy_from_slice(&u32::to_le_bytes(0x0ab1_6f30));
     bytes
@@ -111,11 +111,11 @@ fn end_of<X: Device, L: Ledger>(
         session.old }
 {
     let mut reply = ArrayVec::<u8, 1024>::new();
-    'rows: for (place, (line, expected)) in rows.iter().enumerate() {
+    'rows: for (row, (line, expected)) in rows.iter().enumerate() {
         let goes_on = session.command(world, line, &mut reply, steps);
         let right = reply.as_slice() == *expected;
         if !goes_on || !right {
-            return (place, right);
+            return (row, right);
         }
     }
     (rows.len(), true)

@@ -28,11 +28,11 @@ fn block() -> [u8; 512] {
         1,
         0xe48b_ff56u32,
     ];
-    for (place, word) in words.iter().enumerate() {
-        bytes[4 * place..4 * place + 4].copy_from_slice(&word.to_le_bytes());
+    for (index, word) in words.iter().enumerate() {
+        bytes[4 * index..4 * index + 4].copy_from_slice(&word.to_le_bytes());
     }
-    for (place, half) in STORES_ONCE.iter().enumerate() {
-        bytes[32 + 2 * place..34 + 2 * place].copy_from_slice(&half.to_le_bytes());
+    for (index, half) in STORES_ONCE.iter().enumerate() {
+        bytes[32 + 2 * index..34 + 2 * index].copy_from_slice(&half.to_le_bytes());
     }
     bytes[508..512].copy_from_slice(&u32::to_le_bytes(0x0ab1_6f30));
     bytes

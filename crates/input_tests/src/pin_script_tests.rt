@@ -58,9 +58,9 @@ const FAULTS: [(&[u8], ScriptFault); 47] = [
 
 /// The first of these scripts whose fault is another one.
 fn first_wrong(alloc: Global, cases: &[(&[u8], ScriptFault)]) -> Option<usize> {
-    for (place, (bytes, fault)) in cases.iter().enumerate() {
+    for (row, (bytes, fault)) in cases.iter().enumerate() {
         if bytes.len() > 100 || read_script(alloc, bytes).err() != Some(*fault) {
-            return Some(place);
+            return Some(row);
         }
     }
     None

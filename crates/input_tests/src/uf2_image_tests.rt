@@ -80,8 +80,8 @@ fn push_block(file: &mut Vec<u8>, fields: Fields) -> Result<(), AllocError> {
         push_word(file, word)?;
     }
     let fill = (fields.number & 0xff) as u8;
-    for place in 0..476u32 {
-        file.push(if place < fields.size { fill } else { 238 })?;
+    for index in 0..476u32 {
+        file.push(if index < fields.size { fill } else { 238 })?;
     }
     push_word(file, fields.magic.2)
 }
@@ -182,7 +182,7 @@ fn faults_of_fields(rt: HostRuntime) -> Result<(), Fail> {
 }
 
 #[test]
-fn faults_of_places(rt: HostRuntime) -> Result<(), Fail> {
+fn faults_of_addresses(rt: HostRuntime) -> Result<(), Fail> {
     let alloc = rt.alloc();
     let skip = skipped(0x2000, 7);
     let cases = [
@@ -277,8 +277,8 @@ fn faults_of_places(rt: HostRuntime) -> Result<(), Fail> {
 fn expect_parts(rt: &impl Abort, image: &Image, want: &[(u32, usize, u8)]) {
     let parts = image.parts.as_slice();
     assert!(rt; parts.len() <= want.len());
-    for (place, (address, size, number)) in want.iter().enumerate() {
-        if let Some(part) = parts.get(place) {
+    for (index, (address, size, number)) in want.iter().enumerate() {
+        if let Some(part) = parts.get(index) {
             let bytes = part.bytes.as_slice();
             assert_eq!(rt; part.address, *address);
             assert_eq!(rt; bytes.len(), *size);
@@ -357,8 +357,8 @@ fn largest_file(rt: HostRuntime) -> Result<(), Fail> {
     let alloc = rt.alloc();
     let mut file = Vec::with_capacity(alloc, 16_777_216)?;
     for number in 0..32_768u32 {
-        let place = number.wrapping_mul(4097) % 32_768;
-        push_block(&mut file, plain(number, 32_768, 0x2000_0000 + 8 * place, 8))?;
+        let index = number.wrapping_mul(4097) % 32_768;
+        push_block(&mut file, plain(number, 32_768, 0x2000_0000 + 8 * index, 8))?;
     }
     let Ok(image) = read(alloc, &file) else {
         panic!(rt; "no image");

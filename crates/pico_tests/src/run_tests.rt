@@ -154,12 +154,12 @@ fn instructions_and_their_cycles(rt: HostRuntime) -> Result<(), Fail> {
 fn with_vector(
     alloc: Global,
     code: &[u16],
-    place: usize,
+    offset: usize,
     target: u16,
 ) -> Result<Vec<u16>, AllocError> {
     let mut halves = Vec::new(alloc);
     halves.extend_from_slice(code)?;
-    for _ in halves.len()..place {
+    for _ in halves.len()..offset {
         halves.push(0)?;
     }
     halves.extend_from_slice(&[target, 0x2000])?;
