@@ -1,5 +1,5 @@
 -- The choice is found in one pass over the channels in turn, from the first one on.
-use Rattle.std.proofs.Common.{◌≡◌, ℕ, suc, ◌+◌, ◌-◌, ◌%◌, ◌<◌, ◌≤◌, Bool, true, false, ◌&&◌, refl, ap, subst, sym, ◌∙◌, arith, Option, Some, None}
+use Rattle.std.proofs.Common.{◌≡◌, ℕ, zero, suc, ◌+◌, ◌-◌, ◌%◌, ◌<◌, ◌≤◌, Bool, true, false, ◌&&◌, refl, ap, subst, sym, ◌∙◌, arith, Option, Some, None}
 use Rattle.dma_engine.specs.State.{Engine, channel_at}
 use Rattle.dma_engine.specs.Control.{is_high}
 use Rattle.dma_engine.specs.Choice.{is_ready, is_candidate, first_in_turn, next_candidate, or_else, choice_of}
@@ -60,6 +60,21 @@ high_of counts s n h = with_high (channel_at n s).busy _ (is_high (channel_at n 
 
 not_of : (counts : ℕ) (s : Engine) (n : ℕ) → is_candidate false counts s n ≡ false → is_candidate true counts s n ≡ false
 not_of counts s n h = without_high (channel_at n s).busy _ (is_high (channel_at n s)) (is_ready counts (channel_at n s) s) h
+
+-- ---- no candidate
+
+none_in_turn : (test : ℕ → Bool) (n left : ℕ) → ((k : ℕ) → k < 12 → test k ≡ false) → first_in_turn test n left ≡ None
+unfolding first_in_turn
+none_in_turn test n zero h = refl
+none_in_turn test n (suc left) h = let low : n % 12 < 12 = omega arith in rw (h (n % 12) low) (none_in_turn test (n + 1) left h)
+
+pub no_choice : (counts : ℕ) (s : Engine) → ((k : ℕ) → k < 12 → is_candidate false counts s k ≡ false) → choice_of counts s ≡ None
+unfolding choice_of
+no_choice counts s h =
+    let high : next_candidate true counts s ≡ None =
+    none_in_turn (is_candidate true counts s) (s.last_chosen + 1) 12 (λ k low. not_of counts s k (h k low)) in
+    let others : next_candidate false counts s ≡ None = none_in_turn (is_candidate false counts s) (s.last_chosen + 1) 12 h in
+    rw (high, others) refl
 
 -- ---- the pass
 

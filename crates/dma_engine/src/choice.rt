@@ -1,6 +1,6 @@
 //! Which channel is chosen for the next transfer.
 
-ghost use Rattle.std.specs.Prelude.{◌≡◌, ◌<◌, ◌≤◌, false, Some};
+ghost use Rattle.std.specs.Prelude.{◌≡◌, ◌<◌, ◌≤◌, ℕ, false, Some};
 ghost use Rattle.dma_engine.specs.State.{channel_at};
 ghost use Rattle.dma_engine.specs.Control.{is_high};
 ghost use Rattle.dma_engine.specs.Pace.{count_at};
@@ -68,6 +68,7 @@ impl Engine {
     }
 
     /// The channel is ready for one more transfer.
+    #[inline(never)]
     #[tactic(auto, unfolding(crate::specs::Choice::is_ready))]
     fn is_ready(&self, counts: u128, channel: &Channel) -> bool
         ensures { result ≡ is_ready counts channel.now self.now }
@@ -83,6 +84,7 @@ impl Engine {
     }
 
     /// The channel can be chosen.
+    #[inline(always)]
     fn is_candidate(&self, counts: u128, number: u8) -> bool
         requires { number < 12 }
         ensures { result ≡ is_candidate false counts self.now number }
@@ -99,10 +101,35 @@ impl Engine {
         self.channels[number as usize].is_high()
     }
 
+    /// Some channel can be chosen.
+    fn has_candidate(&self, counts: u128) -> bool
+        ensures { result ≡ false
+            → (k : ℕ) → k < 12 → is_candidate false counts self.now k ≡ false }
+    {
+        for number in 0..CHANNELS {
+            if self.is_candidate(counts, number) {
+                return true;
+            }
+        }
+        false
+    }
+
     /// The choice: of the channels that can be chosen, the next one of high priority after the one that was chosen last, or
-    /// else the next one of all.
-    #[tactic(auto, using(crate::proofs::Search::searching))]
+    /// else the next one of all. In most cycles no channel can be chosen.
+    #[tactic(auto, using(crate::proofs::Search::no_choice))]
     pub(crate) fn choice(&self, counts: u128) -> Option<u8>
+        ensures { result ≡ choice_of counts self.now }
+    {
+        if self.has_candidate(counts) {
+            self.choice_in_turn(counts)
+        } else {
+            None
+        }
+    }
+
+    /// The choice, found by asking each channel in its turn.
+    #[tactic(auto, using(crate::proofs::Search::searching))]
+    fn choice_in_turn(&self, counts: u128) -> Option<u8>
         ensures { result ≡ choice_of counts self.now }
     {
         let mut other = None;

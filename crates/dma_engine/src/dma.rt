@@ -28,7 +28,7 @@ impl Model for Dma {
 }
 
 impl Dma {
-    ghost use Rattle.std.specs.Prelude.{Decides, false, true};
+    ghost use Rattle.std.specs.Prelude.{Decides, false, true, ◌∷◌, []};
     ghost use Rattle.dma_engine.specs.Rest.{StaysAtRest};
     ghost use Rattle.dma_engine.specs.State.{reset_state, with_hold};
     ghost use Rattle.dma_engine.specs.Words.{word_of, is_allowed, effect_of, lines_of};
@@ -89,6 +89,14 @@ impl Dma {
         ensures { Decides result (self.now ≡ other.now) }
     {
         self.engine.is_same(&other.engine)
+    }
+
+    /// No interrupt is raised or forced, so that both lines are low.
+    #[inline(always)]
+    pub fn is_silent(&self) -> bool
+        ensures { result ≡ true → lines_of self.now ≡ false ∷ false ∷ [] }
+    {
+        self.engine.is_silent()
     }
 
     /// The two interrupt lines, DMA_IRQ_0 and DMA_IRQ_1: some bit of INTS0, and some bit of INTS1.

@@ -112,6 +112,7 @@ impl Engine {
     }
 
     /// A transfer of the channel is chosen and not written.
+    #[inline(never)]
     fn is_in_flight(&self, number: u8) -> bool
         ensures { result ≡ is_in_flight number self.now }
     {

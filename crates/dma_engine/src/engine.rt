@@ -1,6 +1,6 @@
 //! The engine: its state, a reset, and its interrupt lines.
 
-ghost use Rattle.std.specs.Prelude.{◌≡◌, Decides};
+ghost use Rattle.std.specs.Prelude.{◌≡◌, ◌∷◌, [], true, false, Decides};
 
 use crate::channel::Channel;
 use crate::line::InterruptLine;
@@ -74,6 +74,14 @@ impl Engine {
         } else {
             self.held = false;
         }
+    }
+
+    /// No interrupt is raised or forced.
+    #[inline(always)]
+    pub(crate) fn is_silent(&self) -> bool
+        ensures { result ≡ true → lines_of self.now ≡ false ∷ false ∷ [] }
+    {
+        self.raised == 0 && self.line_0.force == 0 && self.line_1.force == 0
     }
 
     /// The two interrupt lines.

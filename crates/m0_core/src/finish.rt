@@ -177,13 +177,13 @@ impl Core {
     fn pass_work(&mut self, work: &Work)
         ensures { self.new ≡ passed_work work.now self.old }
     {
-        match *work {
-            Work::Instruction(op) => self.pass_instruction(&op),
+        match work {
+            Work::Instruction(op) => self.pass_instruction(op),
             Work::Entry(number) => {
-                self.take_first(number);
-                self.pass_entry(number);
+                self.take_first(*number);
+                self.pass_entry(*number);
             }
-            Work::Return(value) => self.pass_return(value),
+            Work::Return(value) => self.pass_return(*value),
         }
     }
 
@@ -280,17 +280,17 @@ impl Core {
     pub(crate) fn after(&mut self, act: &Act, word: Option<u32>)
         ensures { self.new ≡ after act.now word self.old }
     {
-        match *act {
+        match act {
             Act::Asleep | Act::Stopped(_) => {}
             Act::Fault => self.fault(),
-            Act::Inner(work) => self.after_inner(&work),
+            Act::Inner(work) => self.after_inner(work),
             Act::Read(work, request, told) => {
-                let value = lanes(request.size, request.address, told);
-                self.after_access(word, &work, Some(value));
+                let value = lanes(request.size, request.address, *told);
+                self.after_access(word, work, Some(value));
             }
-            Act::Write(work, _) => self.after_access(word, &work, None),
-            Act::Outward(work, request) => self.after_outward(word, &work, &request),
-            Act::Private(work, request, offset) => self.after_private(&work, &request, offset),
+            Act::Write(work, _) => self.after_access(word, work, None),
+            Act::Outward(work, request) => self.after_outward(word, work, request),
+            Act::Private(work, request, offset) => self.after_private(work, request, *offset),
         }
     }
 

@@ -45,7 +45,7 @@ impl Lane<()> for Core {
         [want(begun), Want::Nothing]
     }
 
-    #[inline(always)]
+    #[inline(never)]
     #[tactic(auto, unfolding(crate::specs::Cycle::next))]
     fn finish(&mut self, _env: &(), begun: &Doing, turns: [Turn; 2], _marks: &mut Marks) {
         if !is_idle(&begun.act) {

@@ -1,14 +1,14 @@
 -- A step of the pads that is left out, and one that is done.
-use Rattle.std.proofs.Common.{◌≡◌, ◌<◌, ℕ, suc, zero, ◌-◌, ◌^◌, ◌==◌, Bool, true, List, [], ◌∷◌, length, Option, slice_index_or, refl, sym, ap, ◌∙◌, arith}
-use Rattle.std.specs.Prelude.{slice_index}
+use Rattle.std.proofs.Common.{◌≡◌, ◌<◌, ℕ, ◌==◌, Bool, true, false, cond, List, refl, sym, ap, ◌∙◌, arith}
 use Rattle.std.proofs.lemmas.Bool.Decides.{nat_tests}
-use Rattle.io_bank.specs.declared.outputs.Outs.{Outs}
 use Rattle.io_bank.specs.State.{Bank}
 use Rattle.io_bank.specs.Edges.{edges_of}
+use Rattle.io_bank.specs.Interrupts.{line_of}
 use Rattle.io_bank.specs.Levels.{levels_of, by_sets}
 use Rattle.io_bank.specs.Step.{after_step, is_at_rest, with_edges, with_levels}
 use Rattle.io_bank.proofs.AtRest.{rest_step}
 use Rattle.outer_lane.specs.declared.drivers.Drivers.{Drivers}
+use Rattle.outer_lane.specs.Lines.{bank_line}
 use Rattle.outer_lane.specs.Rest.{IsAtRest, is_same, outs_by, pads_after}
 use Rattle.lane_look.specs.declared.device.Wires.{Wires}
 use Rattle.pin_script.specs.declared.entry.Entry.{Entry}
@@ -44,7 +44,7 @@ same_drivers a b e =
 -- ---- left out
 
 pub left_pads : (sio : List ℕ) (kept now : Drivers) (b : Bank) → IsAtRest sio kept b → is_same kept now ≡ true → b ≡ pads_after sio now b
-left_pads sio kept now b at_rest e = sym (ap (λ d. pads_after sio d b) (sym (same_drivers kept now e)) ∙ at_rest)
+left_pads sio kept now b at_rest e = sym (ap (λ d. pads_after sio d b) (sym (same_drivers kept now e)) ∙ at_rest.0)
 
 -- ---- done
 
@@ -57,12 +57,22 @@ pub levels_left : (sio : List ℕ) (d : Drivers) (b : Bank) → (pads_after sio 
 unfolding pads_after
 levels_left sio d b = refl
 
-at_rest-again : (sio : List ℕ) (d : Drivers) (b : Bank) → is_at_rest (pads_after sio d b) ≡ true → IsAtRest sio d (pads_after sio d b)
+at_rest-again : (sio : List ℕ) (d : Drivers) (b : Bank) → is_at_rest (pads_after sio d b) ≡ true → pads_after sio d (pads_after sio d b) ≡ pads_after sio d b
 unfolding pads_after
 at_rest-again sio d b h = rest_step (outs_by sio d) (by_sets d.driven d.high) (after_step (outs_by sio d) (by_sets d.driven d.high) b) h refl
 
-pub rest_again : (sio : List ℕ) (d : Drivers) (b after : Bank) → after ≡ pads_after sio d b → is_at_rest after ≡ true → IsAtRest sio d after
-rest_again sio d b after e h = rw e (at_rest-again sio d b (rw e at h))
+both_low : (first : Bool) (x y : Bool) → x ≡ false → y ≡ false → cond first x y ≡ false
+both_low true x y h k = h
+both_low false x y h k = k
+
+neither : (b : Bank) → line_of b b.core0 ≡ false → line_of b b.core1 ≡ false → (core : ℕ) → bank_line core b ≡ false
+neither b h k core = both_low (core == 0) (line_of b b.core0) (line_of b b.core1) h k
+
+pub rest_again : (sio : List ℕ) (d : Drivers) (b after : Bank) → after ≡ pads_after sio d b → is_at_rest after ≡ true →
+    line_of after after.core0 ≡ false → line_of after after.core1 ≡ false → IsAtRest sio d after
+rest_again sio d b after e h core0 core1 =
+    let rests : pads_after sio d after ≡ after = rw e (at_rest-again sio d b (rw e at h)) in
+    (rests, neither after core0 core1)
 
 -- ---- by the definition of a cycle
 

@@ -1,10 +1,11 @@
 -- What the pads are stepped by, in words, and when a step by these changes nothing. Nothing of it is told outside.
-use Rattle.std.specs.Prelude.{◌≡◌, ℕ, ◌-◌, ◌^◌, Bool, ◌&&◌, ◌==◌, List, [], ◌∷◌}
+use Rattle.std.specs.Prelude.{◌≡◌, ℕ, ◌-◌, ◌^◌, Bool, false, ◌&&◌, ◌==◌, List, [], ◌∷◌}
 use Rattle.io_bank.specs.declared.outputs.Outs.{Outs}
 use Rattle.io_bank.specs.State.{Bank}
 use Rattle.io_bank.specs.Levels.{by_sets}
 use Rattle.io_bank.specs.Step as pads
 use Rattle.outer_lane.specs.declared.drivers.Drivers.{Drivers}
+use Rattle.outer_lane.specs.Lines.{bank_line}
 
 abbrev pub outs_by : List ℕ → Drivers → Outs
 outs_by sio d = record {
@@ -25,6 +26,6 @@ is_same a b =
 unfoldable pub pads_after : List ℕ → Drivers → Bank → Bank
 pads_after sio d b = pads.after_step (outs_by sio d) (by_sets d.driven d.high) b
 
--- a step by these changes nothing
+-- a step by these changes nothing, and the pads interrupt neither core
 abbrev pub IsAtRest : List ℕ → Drivers → Bank → Type 0
-IsAtRest sio d b = pads_after sio d b ≡ b
+IsAtRest sio d b = (pads_after sio d b ≡ b) × ((core : ℕ) → bank_line core b ≡ false)

@@ -32,7 +32,7 @@ pub struct Outer {
     pub(crate) sio: [u32; 2],
     // where what the script drives is looked for first
     pub(crate) cursor: Cursor,
-    // the pads are at rest while they are stepped by these
+    // the pads are at rest while they are stepped by these, and interrupt neither core
     pub(crate) at_rest: bool,
     pub(crate) drivers: Drivers,
 }
@@ -54,7 +54,7 @@ impl Model for Outer {
       sio = o.sio;
     } };
 
-    // a step of pads at rest changes nothing
+    // a step of pads at rest changes nothing, and no line of them is high
     ghost invariant = { λ o. o.at_rest ≡ true → IsAtRest o.sio o.drivers o.pads };
 }
 
@@ -62,7 +62,7 @@ impl Outer {
     ghost use Rattle.std.specs.Prelude.{◌≡◌, Decides};
     ghost use Rattle.io_bank.specs.Levels.{inputs_of};
     ghost use Rattle.outer_lane.specs.State.{outer_at_start, first_words, outer_reset};
-    ghost use Rattle.outer_lane.specs.Lines.{outer_lines, outer_inputs, outer_pacing};
+    ghost use Rattle.outer_lane.specs.Lines.{bank_line, outer_lines, outer_inputs, outer_pacing};
 
     /// The state before the first cycle: each block is at reset and none is held, and the device has started.
     pub fn new<X: Device>(device: &X) -> Outer
@@ -112,11 +112,22 @@ impl Outer {
     pub fn lines(&self, core: u8) -> u32
         ensures { result ≡ outer_lines core self.now }
     {
-        let [bank0, bank1] = self.pads.lines();
-        let bank = if core == 0 { bank0 } else { bank1 };
+        let bank = self.bank_line(core);
         self.irq
             | (self.timer.block.lines()
                 | block_lines(bank, self.uart0.block.line(), self.uart1.block.line()))
+    }
+
+    /// The line of IO_BANK0 to a core.
+    #[inline(always)]
+    fn bank_line(&self, core: u8) -> bool
+        ensures { result ≡ bank_line core self.now.pads }
+    {
+        if self.at_rest {
+            return false;
+        }
+        let [bank0, bank1] = self.pads.lines();
+        if core == 0 { bank0 } else { bank1 }
     }
 
     /// The levels of the pads, pad 0 in bit 0.

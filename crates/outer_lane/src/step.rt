@@ -1,6 +1,8 @@
 //! The parts of a cycle.
 
-ghost use Rattle.std.specs.Prelude.{◌≡◌};
+ghost use Rattle.std.specs.Prelude.{◌≡◌, true, false};
+ghost use Rattle.io_bank.specs.Interrupts.{line_of};
+ghost use Rattle.io_bank.specs.Step.{is_at_rest};
 ghost use Rattle.outer_lane.specs.Step.{wires_by, words_by, uart_after, byte_of, timer_after};
 
 use crate::drivers::Drivers;
@@ -8,7 +10,7 @@ use crate::outer::Outer;
 use crate::outside::outside;
 use crate::world::SeenOutputs;
 use arrayvec::ArrayVec;
-use io_bank::{Outs, uart_outputs};
+use io_bank::{IoBank, Outs, uart_outputs};
 use lane_look::{Device, Mark, Wires};
 use pin_script::{Drives, Script};
 use register_block::Resettable;
@@ -17,6 +19,15 @@ use rp_uart::Uart;
 
 /// All pins.
 const PINS: u32 = 0x3fff_ffff;
+
+/// The pads are at rest, and interrupt neither core.
+fn are_still(pads: &IoBank) -> bool
+    ensures rests { result ≡ true → is_at_rest pads.now ≡ true }
+    ensures core0 { result ≡ true → line_of pads.now pads.now.core0 ≡ false }
+    ensures core1 { result ≡ true → line_of pads.now pads.now.core1 ≡ false }
+{
+    pads.is_at_rest() && pads.is_silent()
+}
 
 /// The device steps, by the levels of the pads at the start. One that has another number of words does nothing.
 #[tactic(auto, unfolding(crate::specs::Step::wires_by, crate::specs::Step::words_by))]
@@ -94,6 +105,22 @@ impl Outer {
         }
     }
 
+    /// The pads step by these, whatever the last step was by.
+    #[inline(never)]
+    fn step_changed(&mut self, drivers: Drivers) -> u32
+        ensures levels { result ≡ (pads_after self.old.sio drivers self.old.pads).current }
+        ensures after { self.new ≡ record self.old {
+          pads = pads_after self.old.sio drivers
+              self.old.pads;
+        } }
+    {
+        let outs = drivers.outs(self.sio);
+        let levels = self.pads.step_by_sets(&outs, drivers.driven, drivers.high);
+        self.at_rest = are_still(&self.pads);
+        self.drivers = drivers;
+        levels
+    }
+
     /// The pads step by these, unless they are at rest and the last step was by the same.
     fn step_driven(&mut self, drivers: Drivers) -> u32
         ensures levels { result ≡ (pads_after self.old.sio drivers self.old.pads).current }
@@ -105,11 +132,7 @@ impl Outer {
         if self.at_rest && self.drivers.is_same(&drivers) {
             return self.pads.pads();
         }
-        let outs = drivers.outs(self.sio);
-        let levels = self.pads.step_by_sets(&outs, drivers.driven, drivers.high);
-        self.at_rest = self.pads.is_at_rest();
-        self.drivers = drivers;
-        levels
+        self.step_changed(drivers)
     }
 
     /// The pads step, by the outputs at the start and by what the script and the device drive in this cycle.

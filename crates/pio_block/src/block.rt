@@ -29,7 +29,7 @@ impl Model for PioBlock {
 }
 
 impl PioBlock {
-    ghost use Rattle.std.specs.Prelude.{◌≡◌, ◌<◌, not, Decides, IsTrue};
+    ghost use Rattle.std.specs.Prelude.{◌≡◌, ◌<◌, not, Decides, IsTrue, true, false, ◌∷◌, []};
     ghost use Rattle.pio_block.specs.State.{at_reset, with_held, machine_of, is_busy};
     ghost use Rattle.pio_block.specs.Cycle.{after_cycle, Rests};
     ghost use Rattle.pio_block.specs.Words.{word_of, effect_of, is_allowed, pacing_of, register_list, counter_set, outs_of, lines_of};
@@ -115,6 +115,14 @@ impl PioBlock {
         ensures { result ≡ lines_of self.now }
     {
         self.state.lines()
+    }
+
+    /// No interrupt is enabled or forced, so that both lines are low.
+    #[inline(always)]
+    pub fn is_silent(&self) -> bool
+        ensures { result ≡ true → lines_of self.now ≡ false ∷ false ∷ [] }
+    {
+        self.state.is_silent()
     }
 
     /// A cycle in which the block steps.

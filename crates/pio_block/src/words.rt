@@ -18,7 +18,7 @@ use word_bits::has_bit;
 const PINS: u32 = 0x3fff_ffff;
 
 impl State {
-    ghost use Rattle.std.specs.Prelude.{◌≡◌, ◌<◌, ◌≤◌, Bool};
+    ghost use Rattle.std.specs.Prelude.{◌≡◌, ◌<◌, ◌≤◌, ◌∷◌, [], Bool, true, false};
     ghost use Rattle.pio_block.specs.declared.registers.TheConstants.{INSTR_MEM0, SM0_CLKDIV, INTR};
     ghost use Rattle.pio_block.specs.Control.{control_written};
     ghost use Rattle.pio_block.specs.Queues.{fdebug_of, debug_written, sent, taken, first_of, is_rx_empty};
@@ -211,6 +211,15 @@ impl State {
             return u32::from(self.intf1);
         }
         (self.intr() & u32::from(self.inte1)) | u32::from(self.intf1)
+    }
+
+    /// No interrupt of a line is enabled or forced.
+    #[inline(always)]
+    #[tactic(auto, using(crate::proofs::Masks::none_enabled))]
+    pub(crate) fn is_silent(&self) -> bool
+        ensures { result ≡ true → lines_of self.now ≡ false ∷ false ∷ [] }
+    {
+        self.inte0 == 0 && self.intf0 == 0 && self.inte1 == 0 && self.intf1 == 0
     }
 
     /// Both interrupt lines.

@@ -164,6 +164,7 @@ impl Machine {
     }
 
     /// One cycle of a machine in which core 0 is alone, below its limit.
+    #[inline(always)]
     #[tactic(auto, unfolding(crate::specs::Cycle::mark))]
     pub(crate) fn cycle_alone<X: Device, L: Ledger>(
         &mut self,

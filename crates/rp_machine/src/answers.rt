@@ -17,6 +17,7 @@ fn pair_number(lines: [bool; 2]) -> u32
 }
 
 /// The line of SIO to a core.
+#[inline(always)]
 fn sio_lines(sio: &Sio, core: u8) -> u32
     ensures value { result ≡ sio_lines core sio.now }
     ensures small { result ≤ 0x10000 }
@@ -71,6 +72,9 @@ impl Machine {
     fn block_lines(&self, core: u8) -> u32
         ensures { result ≡ block_lines core self.now }
     {
+        if self.pio0.is_silent() && self.pio1.is_silent() && self.dma.is_silent() {
+            return sio_lines(&self.sio, core);
+        }
         pair_number(self.pio0.lines()) * 0x80
             + pair_number(self.pio1.lines()) * 0x200
             + pair_number(self.dma.lines()) * 0x800

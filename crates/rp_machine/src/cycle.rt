@@ -20,6 +20,7 @@ use sio_block::Sio;
 use std::sync::ledger::Ledger;
 
 /// What the masters ask of the fabric.
+#[inline(always)]
 #[tactic(auto, unfolding(crate::specs::Cycle::asked))]
 fn asked(wants: &[Wanted; 4]) -> [Option<(u8, bool)>; 4]
     ensures ports { HavePorts result }
@@ -65,7 +66,7 @@ impl Machine {
     ghost use Rattle.rp_machine.specs.Cycle.{begun, wanted, cause_in, stop, turns, deeds, with_turns, signalled, pins_of, with_sio, sio_accessed, after_deed, after_launcher, after_core1, stored, ended, after_deeds, next_by, next, mark};
 
     /// The first cause of a master to stop before a cycle in which this was begun and wanted.
-    #[inline(always)]
+    #[inline(never)]
     #[tactic(auto, unfolding(crate::specs::Cycle::cause_in))]
     pub fn cause_in<X: Device>(
         &self,
@@ -92,6 +93,7 @@ impl Machine {
     }
 
     /// What the bus gives each master, by what is granted.
+    #[inline(always)]
     #[tactic(auto, unfolding(crate::specs::Cycle::turns))]
     fn turns<X: Device>(
         &self,
@@ -116,6 +118,7 @@ impl Machine {
     }
 
     /// What the wants come to, by what is granted.
+    #[inline(always)]
     #[tactic(auto, unfolding(crate::specs::Cycle::deeds))]
     fn deeds<X: Device>(
         &self,

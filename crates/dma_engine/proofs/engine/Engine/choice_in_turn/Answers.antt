@@ -1,8 +1,8 @@
 use Rattle.std.proofs.Common.{◌≡◌, ◌+◌, ◌%◌, sym, ap, ◌∙◌, refl}
 use Rattle.dma_engine.specs.State.{Engine}
 use Rattle.dma_engine.proofs.Search.{passing-none, passing-other_at, passing-candidate_at}
-use Rattle.dma_engine.proofs.engine.Engine.choice.Goals as goal
-use Rattle.dma_engine.proofs.engine.Engine.choice.Goals.{then-is_candidate+else-is_high, else-is_candidate}
+use Rattle.dma_engine.proofs.engine.Engine.choice_in_turn.Goals as goal
+use Rattle.dma_engine.proofs.engine.Engine.choice_in_turn.Goals.{then-is_candidate+else-is_high, else-is_candidate}
 
 pub loop-passed-init : goal.loop-passed-init
 loop-passed-init c = passing-none c.args.counts c.args.self.now
