@@ -7,4 +7,5 @@ mod Waits
 mod Walk
 pub mod Carrying
 pub mod Comparisons
+pub mod Plain
 pub mod Shapes

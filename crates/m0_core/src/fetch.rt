@@ -11,7 +11,7 @@ ghost use Rattle.m0_core.specs.Fetch.{is_ram, is_locked, asks_fault, is_callable
 
 use crate::doing::{Act, Work};
 use crate::exceptions::RETURN_BEATS;
-use crate::kinds::{is_breakpoint, is_call, is_undefined};
+use crate::kinds::{is_breakpoint, is_call, is_plain, is_undefined};
 use crate::processor::Core;
 use crate::returns::{is_misfit, value_at};
 use lane_look::{Ask, Look};
@@ -195,12 +195,16 @@ impl Core {
         }
     }
 
-    /// The first beat of an instruction, or the stop at it.
+    /// The first beat of an instruction, or the stop at it. Most instructions are plain, which costs one test.
     #[inline(always)]
     #[tactic(auto, unfolding(crate::specs::Fetch::asks_decoded))]
     fn begin_decoded<K: Look>(&self, op: Op, look: &mut K, act: &mut Act)
         ensures { Runs K.answers look.old (asks_decoded op self.now) act.new look.new }
     {
+        if self.regs.t && is_plain(&op) {
+            *act = Act::Inner(Work::Instruction(op));
+            return;
+        }
         if is_breakpoint(&op) {
             *act = Act::Stopped(Why::Bkpt(self.number()));
             return;

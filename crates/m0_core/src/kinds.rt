@@ -1,7 +1,7 @@
 //! The instructions that a core treats by themselves.
 
 ghost use Rattle.std.specs.Prelude.{◌≡◌};
-ghost use Rattle.m0_core.specs.Kinds.{is_breakpoint, is_signal, awaits_event, awaits_interrupt, is_call, is_undefined};
+ghost use Rattle.m0_core.specs.Kinds.{is_breakpoint, is_signal, awaits_event, awaits_interrupt, is_call, is_undefined, is_plain};
 
 use rp_base::op::Op;
 
@@ -51,4 +51,54 @@ pub(crate) fn is_undefined(op: &Op) -> bool
     ensures { result ≡ is_undefined op.now }
 {
     matches!(op, Op::Udf { .. } | Op::Undefined)
+}
+
+/// An instruction with inner beats alone, which does not fault in Thumb state: a sum, a shift, a move, a comparison or a branch
+/// by an offset.
+#[inline(always)]
+pub(crate) fn is_plain(op: &Op) -> bool
+    ensures { result ≡ is_plain op.now }
+{
+    matches!(
+        op,
+        Op::LslImm { .. }
+            | Op::LsrImm { .. }
+            | Op::AsrImm { .. }
+            | Op::AddReg { .. }
+            | Op::SubReg { .. }
+            | Op::AddImm3 { .. }
+            | Op::SubImm3 { .. }
+            | Op::MovImm { .. }
+            | Op::CmpImm { .. }
+            | Op::AddImm8 { .. }
+            | Op::SubImm8 { .. }
+            | Op::And { .. }
+            | Op::Eor { .. }
+            | Op::LslReg { .. }
+            | Op::LsrReg { .. }
+            | Op::AsrReg { .. }
+            | Op::Adc { .. }
+            | Op::Sbc { .. }
+            | Op::Ror { .. }
+            | Op::Tst { .. }
+            | Op::Rsb { .. }
+            | Op::Cmp { .. }
+            | Op::Cmn { .. }
+            | Op::Orr { .. }
+            | Op::Mul { .. }
+            | Op::Bic { .. }
+            | Op::Mvn { .. }
+            | Op::CmpHigh { .. }
+            | Op::SubSpImm { .. }
+            | Op::Sxth { .. }
+            | Op::Sxtb { .. }
+            | Op::Uxth { .. }
+            | Op::Uxtb { .. }
+            | Op::Rev { .. }
+            | Op::Rev16 { .. }
+            | Op::Revsh { .. }
+            | Op::BCond { .. }
+            | Op::B { .. }
+            | Op::Bl { .. }
+    )
 }

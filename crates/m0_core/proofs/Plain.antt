@@ -1,0 +1,148 @@
+-- A plain instruction begins with an inner beat in Thumb state.
+use Rattle.std.proofs.Common.{◌≡◌, ℕ, zero, suc, Bool, true, false, not, ◌||◌, ◌&&◌, cond, refl, ap, ◌∙◌}
+use Rattle.std.specs.Prelude.{slice_get, unwrap_or}
+use Rattle.std.specs.List.{list_any}
+use Rattle.rp_base.specs.declared.op.Op.{Op}
+use Rattle.rp_base.specs.declared.op.Op.TheVariants as op
+use Rattle.rp_base.specs.declared.Why.TheVariants as why
+use Rattle.m0_beats.specs.declared.registers.Regs.{Regs}
+use Rattle.m0_beats.specs.declared.timing.Beat.TheVariants.{Inner}
+use Rattle.m0_beats.specs.Beats.{beats_of, inner, is_unaligned_beat, is_unaligned_of}
+use Rattle.m0_beats.specs.Conditions.{condition_holds}
+use Rattle.lane_look.specs.Asking.Asking.{Ready}
+use Rattle.m0_core.specs.declared.doing.Act.TheVariants as act
+use Rattle.m0_core.specs.declared.doing.Work.TheVariants as works
+use Rattle.m0_core.specs.Kinds.{is_breakpoint, is_call, is_undefined, is_plain}
+use Rattle.m0_core.specs.Fetch.{asks_beat, asks_decoded, asks_fault, beat_of, in_beat, is_callable, is_faulty, stopped}
+use Rattle.m0_core.specs.State.{State}
+
+inner_at : (n k : ℕ) → unwrap_or (slice_get (inner n) k) Inner ≡ Inner
+inner_at zero k = refl
+inner_at (suc n) zero = refl
+inner_at (suc n) (suc k) = inner_at n k
+
+aligned : (n : ℕ) → list_any is_unaligned_beat (inner n) ≡ false
+aligned zero = refl
+aligned (suc n) = aligned n
+
+either_inner : (b : Bool) → cond b (inner 2) (inner 1) ≡ inner (cond b 2 1)
+either_inner true = refl
+either_inner false = refl
+
+no_access : (o : Op) (r : Regs) (n : ℕ) → beats_of o r ≡ inner n → is_unaligned_of o r ≡ false
+unfolding beats_of is_unaligned_of
+no_access o r n beats = ap (list_any is_unaligned_beat) beats ∙ aligned n
+
+inner_beat : (o : Op) (s : State) (n : ℕ) → beats_of o s.regs ≡ inner n → beat_of o s ≡ Inner
+unfolding beat_of
+inner_beat o s n beats = ap (λ list. unwrap_or (slice_get list s.beats_done) Inner) beats ∙ inner_at n s.beats_done
+
+begins : (o : Op) (s : State) → beat_of o s ≡ Inner → asks_beat (works.Instruction o) s ≡ Ready (act.Inner (works.Instruction o))
+unfolding asks_beat
+begins o s beat = ap (in_beat (works.Instruction o) s) beat
+
+no_fault : (u t a c x : Bool) → u ≡ false → t ≡ true → a ≡ false → c ≡ false → (u || (not t || (a || (c && x)))) ≡ false
+no_fault u t a c x p q r e = rw (p, q, r, e) refl
+
+neither : {A : Type 0} (b c : Bool) (x y z : A) → b ≡ false → c ≡ false → cond b x (cond c y z) ≡ z
+neither b c x y z h k = rw (h, k) refl
+
+-- by inner beats alone
+decoded : (o : Op) (s : State) (n : ℕ) → is_breakpoint o ≡ false → is_undefined o ≡ false → is_call o ≡ false →
+    beats_of o s.regs ≡ inner n → s.regs.t ≡ true → asks_decoded o s ≡ Ready (act.Inner (works.Instruction o))
+unfolding asks_decoded
+decoded o s n breakpoint undefined call beats t =
+    let fault : is_faulty o s ≡ false =
+    no_fault (is_undefined o) s.regs.t (is_unaligned_of o s.regs) (is_call o) (not (is_callable s)) undefined t
+    (no_access o s.regs n beats) call in
+    neither (is_breakpoint o) (is_faulty o s) (stopped (why.Bkpt s.number)) (asks_fault s) (asks_beat (works.Instruction o) s)
+    breakpoint fault
+    ∙ begins o s (inner_beat o s n beats)
+
+pub plain_decoded : (o : Op) (s : State) → is_plain o ≡ true → s.regs.t ≡ true →
+    asks_decoded o s ≡ Ready (act.Inner (works.Instruction o))
+unfolding beats_of
+plain_decoded (op.LslImm i m d) s h t = decoded (op.LslImm i m d) s 1 refl refl refl refl t
+plain_decoded (op.LsrImm i m d) s h t = decoded (op.LsrImm i m d) s 1 refl refl refl refl t
+plain_decoded (op.AsrImm i m d) s h t = decoded (op.AsrImm i m d) s 1 refl refl refl refl t
+plain_decoded (op.AddReg m n d) s h t = decoded (op.AddReg m n d) s 1 refl refl refl refl t
+plain_decoded (op.SubReg m n d) s h t = decoded (op.SubReg m n d) s 1 refl refl refl refl t
+plain_decoded (op.AddImm3 i n d) s h t = decoded (op.AddImm3 i n d) s 1 refl refl refl refl t
+plain_decoded (op.SubImm3 i n d) s h t = decoded (op.SubImm3 i n d) s 1 refl refl refl refl t
+plain_decoded (op.MovImm d i) s h t = decoded (op.MovImm d i) s 1 refl refl refl refl t
+plain_decoded (op.CmpImm d i) s h t = decoded (op.CmpImm d i) s 1 refl refl refl refl t
+plain_decoded (op.AddImm8 d i) s h t = decoded (op.AddImm8 d i) s 1 refl refl refl refl t
+plain_decoded (op.SubImm8 d i) s h t = decoded (op.SubImm8 d i) s 1 refl refl refl refl t
+plain_decoded (op.And m d) s h t = decoded (op.And m d) s 1 refl refl refl refl t
+plain_decoded (op.Eor m d) s h t = decoded (op.Eor m d) s 1 refl refl refl refl t
+plain_decoded (op.LslReg m d) s h t = decoded (op.LslReg m d) s 1 refl refl refl refl t
+plain_decoded (op.LsrReg m d) s h t = decoded (op.LsrReg m d) s 1 refl refl refl refl t
+plain_decoded (op.AsrReg m d) s h t = decoded (op.AsrReg m d) s 1 refl refl refl refl t
+plain_decoded (op.Adc m d) s h t = decoded (op.Adc m d) s 1 refl refl refl refl t
+plain_decoded (op.Sbc m d) s h t = decoded (op.Sbc m d) s 1 refl refl refl refl t
+plain_decoded (op.Ror m d) s h t = decoded (op.Ror m d) s 1 refl refl refl refl t
+plain_decoded (op.Tst m d) s h t = decoded (op.Tst m d) s 1 refl refl refl refl t
+plain_decoded (op.Rsb m d) s h t = decoded (op.Rsb m d) s 1 refl refl refl refl t
+plain_decoded (op.Cmp m d) s h t = decoded (op.Cmp m d) s 1 refl refl refl refl t
+plain_decoded (op.Cmn m d) s h t = decoded (op.Cmn m d) s 1 refl refl refl refl t
+plain_decoded (op.Orr m d) s h t = decoded (op.Orr m d) s 1 refl refl refl refl t
+plain_decoded (op.Mul m d) s h t = decoded (op.Mul m d) s 1 refl refl refl refl t
+plain_decoded (op.Bic m d) s h t = decoded (op.Bic m d) s 1 refl refl refl refl t
+plain_decoded (op.Mvn m d) s h t = decoded (op.Mvn m d) s 1 refl refl refl refl t
+plain_decoded (op.AddHigh d m) s h t = absurd (cc)
+plain_decoded (op.CmpHigh d m) s h t = decoded (op.CmpHigh d m) s 1 refl refl refl refl t
+plain_decoded (op.MovHigh d m) s h t = absurd (cc)
+plain_decoded (op.Bx m) s h t = absurd (cc)
+plain_decoded (op.Blx m) s h t = absurd (cc)
+plain_decoded (op.LdrLit u i) s h t = absurd (cc)
+plain_decoded (op.StrReg m n u) s h t = absurd (cc)
+plain_decoded (op.StrhReg m n u) s h t = absurd (cc)
+plain_decoded (op.StrbReg m n u) s h t = absurd (cc)
+plain_decoded (op.LdrsbReg m n u) s h t = absurd (cc)
+plain_decoded (op.LdrReg m n u) s h t = absurd (cc)
+plain_decoded (op.LdrhReg m n u) s h t = absurd (cc)
+plain_decoded (op.LdrbReg m n u) s h t = absurd (cc)
+plain_decoded (op.LdrshReg m n u) s h t = absurd (cc)
+plain_decoded (op.StrImm i n u) s h t = absurd (cc)
+plain_decoded (op.LdrImm i n u) s h t = absurd (cc)
+plain_decoded (op.StrbImm i n u) s h t = absurd (cc)
+plain_decoded (op.LdrbImm i n u) s h t = absurd (cc)
+plain_decoded (op.StrhImm i n u) s h t = absurd (cc)
+plain_decoded (op.LdrhImm i n u) s h t = absurd (cc)
+plain_decoded (op.StrSp u i) s h t = absurd (cc)
+plain_decoded (op.LdrSp u i) s h t = absurd (cc)
+plain_decoded (op.Adr d i) s h t = absurd (cc)
+plain_decoded (op.AddSp d i) s h t = absurd (cc)
+plain_decoded (op.AddSpImm i) s h t = absurd (cc)
+plain_decoded (op.SubSpImm i) s h t = decoded (op.SubSpImm i) s 1 refl refl refl refl t
+plain_decoded (op.Sxth m d) s h t = decoded (op.Sxth m d) s 1 refl refl refl refl t
+plain_decoded (op.Sxtb m d) s h t = decoded (op.Sxtb m d) s 1 refl refl refl refl t
+plain_decoded (op.Uxth m d) s h t = decoded (op.Uxth m d) s 1 refl refl refl refl t
+plain_decoded (op.Uxtb m d) s h t = decoded (op.Uxtb m d) s 1 refl refl refl refl t
+plain_decoded (op.Push r l) s h t = absurd (cc)
+plain_decoded (op.Pop r l) s h t = absurd (cc)
+plain_decoded op.Cpsie s h t = absurd (cc)
+plain_decoded op.Cpsid s h t = absurd (cc)
+plain_decoded (op.Rev m d) s h t = decoded (op.Rev m d) s 1 refl refl refl refl t
+plain_decoded (op.Rev16 m d) s h t = decoded (op.Rev16 m d) s 1 refl refl refl refl t
+plain_decoded (op.Revsh m d) s h t = decoded (op.Revsh m d) s 1 refl refl refl refl t
+plain_decoded (op.Bkpt i) s h t = absurd (cc)
+plain_decoded op.Nop s h t = absurd (cc)
+plain_decoded op.Yield s h t = absurd (cc)
+plain_decoded op.Wfe s h t = absurd (cc)
+plain_decoded op.Wfi s h t = absurd (cc)
+plain_decoded op.Sev s h t = absurd (cc)
+plain_decoded (op.Stm n l) s h t = absurd (cc)
+plain_decoded (op.Ldm n l) s h t = absurd (cc)
+plain_decoded (op.BCond c i) s h t =
+    decoded (op.BCond c i) s (cond (condition_holds c s.regs) 2 1) refl refl refl (either_inner (condition_holds c s.regs)) t
+plain_decoded (op.Udf i) s h t = absurd (cc)
+plain_decoded (op.Svc i) s h t = absurd (cc)
+plain_decoded (op.B i) s h t = decoded (op.B i) s 2 refl refl refl refl t
+plain_decoded (op.Bl q i j) s h t = decoded (op.Bl q i j) s 3 refl refl refl refl t
+plain_decoded (op.Msr n q) s h t = absurd (cc)
+plain_decoded (op.Mrs d q) s h t = absurd (cc)
+plain_decoded op.Dsb s h t = absurd (cc)
+plain_decoded op.Dmb s h t = absurd (cc)
+plain_decoded op.Isb s h t = absurd (cc)
+plain_decoded op.Undefined s h t = absurd (cc)
