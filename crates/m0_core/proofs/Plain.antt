@@ -1,6 +1,6 @@
--- A plain instruction begins with an inner beat in Thumb state.
+-- A plain instruction begins with an inner beat in Thumb state, and its end begins no return, calls nothing and waits for nothing.
 use Rattle.std.proofs.Common.{◌≡◌, ℕ, zero, suc, Bool, true, false, not, ◌||◌, ◌&&◌, cond, refl, ap, ◌∙◌}
-use Rattle.std.specs.Prelude.{slice_get, unwrap_or}
+use Rattle.std.specs.Prelude.{slice_get, unwrap_or, List, [], Option, None}
 use Rattle.std.specs.List.{list_any}
 use Rattle.rp_base.specs.declared.op.Op.{Op}
 use Rattle.rp_base.specs.declared.op.Op.TheVariants as op
@@ -9,11 +9,15 @@ use Rattle.m0_beats.specs.declared.registers.Regs.{Regs}
 use Rattle.m0_beats.specs.declared.timing.Beat.TheVariants.{Inner}
 use Rattle.m0_beats.specs.Beats.{beats_of, inner, is_unaligned_beat, is_unaligned_of}
 use Rattle.m0_beats.specs.Conditions.{condition_holds}
+use Rattle.m0_beats.specs.Effects.{effect_of, return_of}
+use Rattle.m0_nvic.specs.declared.numbers.TheConstants.{SVCALL}
+use Rattle.m0_nvic.specs.Changes.{pended}
 use Rattle.lane_look.specs.Asking.Asking.{Ready}
 use Rattle.m0_core.specs.declared.doing.Act.TheVariants as act
 use Rattle.m0_core.specs.declared.doing.Work.TheVariants as works
-use Rattle.m0_core.specs.Kinds.{is_breakpoint, is_call, is_undefined, is_plain}
+use Rattle.m0_core.specs.Kinds.{awaits_event, is_breakpoint, is_call, is_undefined, is_plain}
 use Rattle.m0_core.specs.Fetch.{asks_beat, asks_decoded, asks_fault, beat_of, in_beat, is_callable, is_faulty, stopped}
+use Rattle.m0_core.specs.Cycle.{returning, ended}
 use Rattle.m0_core.specs.State.{State}
 
 inner_at : (n k : ℕ) → unwrap_or (slice_get (inner n) k) Inner ≡ Inner
@@ -146,3 +150,117 @@ plain_decoded op.Dsb s h t = absurd (cc)
 plain_decoded op.Dmb s h t = absurd (cc)
 plain_decoded op.Isb s h t = absurd (cc)
 plain_decoded op.Undefined s h t = absurd (cc)
+
+-- ---- the end
+
+and_true : (b : Bool) → (b && true) ≡ b
+and_true true = refl
+and_true false = refl
+
+quiet : (o : Op) → is_plain o ≡ true →
+    (is_call o ≡ false) × ((awaits_event o ≡ false) × ((r : Regs) (read : List ℕ) → return_of o r read ≡ None))
+unfolding return_of
+quiet (op.LslImm i m d) h = (refl, (refl, λ r read. refl))
+quiet (op.LsrImm i m d) h = (refl, (refl, λ r read. refl))
+quiet (op.AsrImm i m d) h = (refl, (refl, λ r read. refl))
+quiet (op.AddReg m n d) h = (refl, (refl, λ r read. refl))
+quiet (op.SubReg m n d) h = (refl, (refl, λ r read. refl))
+quiet (op.AddImm3 i n d) h = (refl, (refl, λ r read. refl))
+quiet (op.SubImm3 i n d) h = (refl, (refl, λ r read. refl))
+quiet (op.MovImm d i) h = (refl, (refl, λ r read. refl))
+quiet (op.CmpImm d i) h = (refl, (refl, λ r read. refl))
+quiet (op.AddImm8 d i) h = (refl, (refl, λ r read. refl))
+quiet (op.SubImm8 d i) h = (refl, (refl, λ r read. refl))
+quiet (op.And m d) h = (refl, (refl, λ r read. refl))
+quiet (op.Eor m d) h = (refl, (refl, λ r read. refl))
+quiet (op.LslReg m d) h = (refl, (refl, λ r read. refl))
+quiet (op.LsrReg m d) h = (refl, (refl, λ r read. refl))
+quiet (op.AsrReg m d) h = (refl, (refl, λ r read. refl))
+quiet (op.Adc m d) h = (refl, (refl, λ r read. refl))
+quiet (op.Sbc m d) h = (refl, (refl, λ r read. refl))
+quiet (op.Ror m d) h = (refl, (refl, λ r read. refl))
+quiet (op.Tst m d) h = (refl, (refl, λ r read. refl))
+quiet (op.Rsb m d) h = (refl, (refl, λ r read. refl))
+quiet (op.Cmp m d) h = (refl, (refl, λ r read. refl))
+quiet (op.Cmn m d) h = (refl, (refl, λ r read. refl))
+quiet (op.Orr m d) h = (refl, (refl, λ r read. refl))
+quiet (op.Mul m d) h = (refl, (refl, λ r read. refl))
+quiet (op.Bic m d) h = (refl, (refl, λ r read. refl))
+quiet (op.Mvn m d) h = (refl, (refl, λ r read. refl))
+quiet (op.AddHigh d m) h = absurd (cc)
+quiet (op.CmpHigh d m) h = (refl, (refl, λ r read. refl))
+quiet (op.MovHigh d m) h = absurd (cc)
+quiet (op.Bx m) h = absurd (cc)
+quiet (op.Blx m) h = absurd (cc)
+quiet (op.LdrLit u i) h = absurd (cc)
+quiet (op.StrReg m n u) h = absurd (cc)
+quiet (op.StrhReg m n u) h = absurd (cc)
+quiet (op.StrbReg m n u) h = absurd (cc)
+quiet (op.LdrsbReg m n u) h = absurd (cc)
+quiet (op.LdrReg m n u) h = absurd (cc)
+quiet (op.LdrhReg m n u) h = absurd (cc)
+quiet (op.LdrbReg m n u) h = absurd (cc)
+quiet (op.LdrshReg m n u) h = absurd (cc)
+quiet (op.StrImm i n u) h = absurd (cc)
+quiet (op.LdrImm i n u) h = absurd (cc)
+quiet (op.StrbImm i n u) h = absurd (cc)
+quiet (op.LdrbImm i n u) h = absurd (cc)
+quiet (op.StrhImm i n u) h = absurd (cc)
+quiet (op.LdrhImm i n u) h = absurd (cc)
+quiet (op.StrSp u i) h = absurd (cc)
+quiet (op.LdrSp u i) h = absurd (cc)
+quiet (op.Adr d i) h = absurd (cc)
+quiet (op.AddSp d i) h = absurd (cc)
+quiet (op.AddSpImm i) h = absurd (cc)
+quiet (op.SubSpImm i) h = (refl, (refl, λ r read. refl))
+quiet (op.Sxth m d) h = (refl, (refl, λ r read. refl))
+quiet (op.Sxtb m d) h = (refl, (refl, λ r read. refl))
+quiet (op.Uxth m d) h = (refl, (refl, λ r read. refl))
+quiet (op.Uxtb m d) h = (refl, (refl, λ r read. refl))
+quiet (op.Push r l) h = absurd (cc)
+quiet (op.Pop r l) h = absurd (cc)
+quiet op.Cpsie h = absurd (cc)
+quiet op.Cpsid h = absurd (cc)
+quiet (op.Rev m d) h = (refl, (refl, λ r read. refl))
+quiet (op.Rev16 m d) h = (refl, (refl, λ r read. refl))
+quiet (op.Revsh m d) h = (refl, (refl, λ r read. refl))
+quiet (op.Bkpt i) h = absurd (cc)
+quiet op.Nop h = absurd (cc)
+quiet op.Yield h = absurd (cc)
+quiet op.Wfe h = absurd (cc)
+quiet op.Wfi h = absurd (cc)
+quiet op.Sev h = absurd (cc)
+quiet (op.Stm n l) h = absurd (cc)
+quiet (op.Ldm n l) h = absurd (cc)
+quiet (op.BCond c i) h = (refl, (refl, λ r read. refl))
+quiet (op.Udf i) h = absurd (cc)
+quiet (op.Svc i) h = absurd (cc)
+quiet (op.B i) h = (refl, (refl, λ r read. refl))
+quiet (op.Bl q i j) h = (refl, (refl, λ r read. refl))
+quiet (op.Msr n q) h = absurd (cc)
+quiet (op.Mrs d q) h = absurd (cc)
+quiet op.Dsb h = absurd (cc)
+quiet op.Dmb h = absurd (cc)
+quiet op.Isb h = absurd (cc)
+quiet op.Undefined h = absurd (cc)
+
+same_end : (o : Op) (s : State) (call wait : Bool) (value : Option ℕ) → call ≡ false → wait ≡ false → value ≡ None →
+    record s {
+      regs = effect_of o s.regs s.read;
+      nvic = cond call (pended SVCALL s.nvic) s.nvic;
+      event = s.event && not wait;
+      work = returning value;
+      beats_done = 0;
+      read = [];
+    } ≡ record s { regs = effect_of o s.regs s.read; work = None; beats_done = 0; read = [] }
+same_end o s call wait value p q r =
+    rw (p, q, r)
+    (ap (λ e. record s { regs = effect_of o s.regs s.read; event = e; work = None; beats_done = 0; read = [] })
+    (and_true s.event))
+
+pub plain_ended : (o : Op) (s : State) → is_plain o ≡ true →
+    ended o s ≡ record s { regs = effect_of o s.regs s.read; work = None; beats_done = 0; read = [] }
+unfolding ended
+plain_ended o s h =
+    let q = quiet o h in
+    same_end o s (is_call o) (awaits_event o) (return_of o s.regs s.read) q.0 q.1.0 (q.1.1 s.regs s.read)

@@ -1,12 +1,13 @@
 //! What a core wants in a cycle, and how the cycle ends.
 
-ghost use Rattle.std.specs.Prelude.{◌≡◌, ◌<◌, ℕ, length, Some, slice_get};
+ghost use Rattle.std.specs.Prelude.{◌≡◌, ◌<◌, ℕ, length, true, Some, slice_get};
+ghost use Rattle.m0_core.specs.Kinds.{is_plain};
 ghost use Rattle.m0_beats.specs.Beats.{beats_of};
 ghost use Rattle.m0_core.specs.Cycle.{signals, want_of, with_value, waiting, followed, with_read, returning, called, ended, passed_instruction, passed_entry, passed_return, passed_work, passed, is_paused_op, is_paused, after_inner, faulted, word_of, done_word, after_access, value_of, after_outward, after_private, after, closed, is_idle};
 
 use crate::doing::{Act, Doing, Work};
 use crate::exceptions::{ENTRY_BEATS, RETURN_BEATS};
-use crate::kinds::{awaits_event, awaits_interrupt, is_call, is_signal};
+use crate::kinds::{awaits_event, awaits_interrupt, is_call, is_plain, is_signal};
 use crate::processor::Core;
 use lane_look::{Turn, Want};
 use m0_beats::{beat_count, effect, exception_return};
@@ -118,12 +119,29 @@ impl Core {
         }
     }
 
+    /// The last beat of a plain instruction is over: it begins no return, is no call and waits for nothing.
+    #[inline(always)]
+    #[tactic(auto, using(crate::proofs::Plain::plain_ended))]
+    fn end_plain(&mut self, op: &Op)
+        requires { is_plain op.now ≡ true }
+        ensures { self.new ≡ ended op.now self.old }
+    {
+        effect(op, &mut self.regs, self.read.as_slice());
+        self.work = None;
+        self.beats_done = 0;
+        self.read.clear();
+    }
+
     /// The last beat of an instruction is over.
     #[inline(always)]
     #[tactic(auto, unfolding(crate::specs::Cycle::ended))]
     fn end(&mut self, op: &Op)
         ensures { self.new ≡ ended op.now self.old }
     {
+        if is_plain(op) {
+            self.end_plain(op);
+            return;
+        }
         let value = exception_return(op, &self.regs, self.read.as_slice());
         effect(op, &mut self.regs, self.read.as_slice());
         self.call(op);
