@@ -2,15 +2,15 @@
 #![tactic(auto)]
 
 #[cfg(test)]
+mod bus_fabric_tests;
+#[cfg(test)]
 mod dma_engine_tests;
 #[cfg(test)]
 mod io_bank_tests;
 #[cfg(test)]
 mod outer_lane_tests;
 #[cfg(test)]
-mod pio_block_tests;
-#[cfg(test)]
-mod pio_machine_tests;
+mod ram_banks_tests;
 #[cfg(test)]
 mod rp_timer_tests;
 #[cfg(test)]

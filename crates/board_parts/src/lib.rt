@@ -8,6 +8,4 @@ pub mod edge_counter;
 pub mod laws;
 pub mod probe;
 pub mod target;
-#[cfg(test)]
-mod tests;
 pub mod ws2812;

@@ -8,8 +8,6 @@ ghost use Rattle.bus_fabric.specs.Grant.{beats, is_high, is_last, is_master, cyc
 
 pub mod laws;
 pub mod registers;
-#[cfg(test)]
-mod tests;
 mod words;
 
 use rp_base::Master;

@@ -2,6 +2,8 @@
 #![tactic(auto)]
 
 #[cfg(test)]
+mod gen_image_tests;
+#[cfg(test)]
 mod pin_script_tests;
 #[cfg(test)]
 mod uf2_image_tests;

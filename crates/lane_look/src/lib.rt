@@ -13,8 +13,6 @@ pub mod log;
 pub mod marks;
 pub mod pair;
 pub mod replay;
-#[cfg(test)]
-mod tests;
 
 pub use alone::{Around, run_alone};
 pub use device::{Device, NoDevice, Wires};

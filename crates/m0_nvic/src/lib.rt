@@ -13,8 +13,6 @@ pub mod laws;
 pub mod numbers;
 pub mod registers;
 pub mod systick;
-#[cfg(test)]
-mod tests;
 mod words;
 
 use numbers::{HARDFAULT, NMI, NUMBERS, SYSTICK};

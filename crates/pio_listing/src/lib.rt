@@ -1,13 +1,7 @@
 //! The programs of a PIO source file, and their listing.
 #![tactic(auto)]
 
-#[cfg(test)]
-mod form_tests;
 mod placing;
-#[cfg(test)]
-mod program_tests;
-#[cfg(test)]
-mod source_tests;
 
 ghost use Rattle.std.specs.Prelude.{◌≡◌, ◌++◌, length, flat_map, take, IfOk, IfErr, OnOk, decimal};
 ghost use Rattle.pio_asm.specs.Assembly.{Assembles, IsFaultOf};

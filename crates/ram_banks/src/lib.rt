@@ -6,8 +6,6 @@ ghost use Rattle.ram_banks.specs.Lanes.{lane_byte, with_lanes};
 ghost use Rattle.ram_banks.specs.Sram.{zeros};
 
 pub mod laws;
-#[cfg(test)]
-mod tests;
 
 use std::alloc::{AllocError, Global};
 use std::marker::Model;

@@ -8,5 +8,3 @@ pub mod mem_source;
 pub mod shelf;
 pub mod sink;
 pub mod source;
-#[cfg(test)]
-mod tests;

@@ -3,8 +3,6 @@
 
 mod long;
 mod short;
-#[cfg(test)]
-mod tests;
 
 ghost use Rattle.std.specs.Prelude.{◌≡◌, ℕ, false};
 ghost use Rattle.thumb_rows.specs.Rows.{ExactlyOneFits, begins_long, operation_of};

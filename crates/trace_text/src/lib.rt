@@ -4,6 +4,4 @@
 pub mod event;
 pub mod line;
 pub mod tape;
-#[cfg(test)]
-mod tests;
 pub mod writer;

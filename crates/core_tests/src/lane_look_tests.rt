@@ -5,8 +5,8 @@ ghost use Rattle.std.proofs.Common.{refl, rules};
 ghost use Rattle.lane_look.specs.Asking.{Asking, Runs};
 ghost use Rattle.lane_look.specs.Asking.Asking.{Ready, Question};
 
-use crate::laws::{none_adds_nothing, the_first_device_drives};
-use crate::{Ask, Device, Lane, Look, Mark, Marks, NoDevice, Pair, Turn, Want, Wires};
+use lane_look::laws::{none_adds_nothing, the_first_device_drives};
+use lane_look::{Ask, Device, Lane, Look, Mark, Marks, NoDevice, Pair, Turn, Want, Wires};
 use rp_base::{Request, Size};
 
 /// A lane that asks for the word at an address of its own, and wants to write it back.

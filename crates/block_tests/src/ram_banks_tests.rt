@@ -1,6 +1,6 @@
 //! Worked values.
 
-use crate::{Ram, WORDS};
+use ram_banks::{Ram, WORDS};
 use std::alloc::AllocError;
 
 /// Lanes, value and word before, and the word after.

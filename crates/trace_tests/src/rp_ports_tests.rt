@@ -1,11 +1,11 @@
 //! A shelf, a source and a sink in memory, each with a call that fails.
 
-use crate::mem_shelf::{HeldFile, MemShelf};
-use crate::mem_sink::MemSink;
-use crate::mem_source::MemSource;
-use crate::shelf::{Loaded, Shelf};
-use crate::sink::{Put, Sink};
-use crate::source::{Source, Taken};
+use rp_ports::mem_shelf::{HeldFile, MemShelf};
+use rp_ports::mem_sink::MemSink;
+use rp_ports::mem_source::MemSource;
+use rp_ports::shelf::{Loaded, Shelf};
+use rp_ports::sink::{Put, Sink};
+use rp_ports::source::{Source, Taken};
 use std::alloc::{AllocError, Global};
 use std::test::Fail;
 

@@ -1,9 +1,9 @@
 //! The printed text of each line.
 
-use crate::event::Event;
-use crate::line::{event_line, register_line, stop_line};
 use arrayvec::ArrayVec;
 use rp_base::{Master, Why};
+use trace_text::event::Event;
+use trace_text::line::{event_line, register_line, stop_line};
 
 fn same_stop(why: &Why, cycle: u64, want: &[u8]) -> bool {
     let mut out = ArrayVec::<u8, 192>::new();

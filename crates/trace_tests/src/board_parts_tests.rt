@@ -1,12 +1,12 @@
 //! What the two probes show of changes that were counted by hand.
 
-use crate::aimed::{Aimed, hear_all};
-use crate::change::PinChange;
-use crate::edge_counter::EdgeCounter;
-use crate::laws::{hears_in_turn, hears_its_own_pin};
-use crate::probe::Probe;
-use crate::ws2812::Ws2812;
 use arrayvec::ArrayVec;
+use board_parts::aimed::{Aimed, hear_all};
+use board_parts::change::PinChange;
+use board_parts::edge_counter::EdgeCounter;
+use board_parts::laws::{hears_in_turn, hears_its_own_pin};
+use board_parts::probe::Probe;
+use board_parts::ws2812::Ws2812;
 use std::test::Fail;
 
 /// Aims a probe, lets it hear the changes of its pin, and compares what it shows.

@@ -1,6 +1,6 @@
 //! Worked values.
 
-use crate::Fabric;
+use bus_fabric::Fabric;
 use rp_base::Master;
 
 /// A read and a write on a port.

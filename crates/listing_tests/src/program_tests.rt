@@ -1,7 +1,7 @@
 //! Whole sources: the words that each gives, and the first fault of those that have one.
 
-use crate::programs_in;
 use pio_asm::place_program;
+use pio_listing::programs_in;
 use pio_parse::PioFault;
 use std::alloc::Global;
 

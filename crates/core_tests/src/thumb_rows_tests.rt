@@ -1,7 +1,7 @@
 //! Words of a real assembler, and words that no row fits.
 
-use crate::decode;
 use rp_base::op::Op;
+use thumb_rows::decode;
 
 // The words are those that GNU as 2.40 writes for `-mcpu=cortex-m0plus`, in the order of the manual's tables.
 

@@ -1,8 +1,8 @@
 //! Words as the manual gives them, and a run of the system timer.
 
-use crate::Nvic;
-use crate::numbers::{INTERRUPT_0, SYSTICK};
-use crate::registers::{
+use m0_nvic::Nvic;
+use m0_nvic::numbers::{INTERRUPT_0, SYSTICK};
+use m0_nvic::registers::{
     AIRCR, CCR, CPUID, ICSR, NVIC_ICER, NVIC_ICPR, NVIC_IPR0, NVIC_IPR7, NVIC_ISER, NVIC_ISPR, SCR,
     SHPR2, SHPR3, SYST_CALIB, SYST_CSR, SYST_CVR, SYST_RVR, VTOR,
 };

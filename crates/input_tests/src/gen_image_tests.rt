@@ -1,6 +1,6 @@
 //! The first bytes of a generated program.
 
-use crate::generated;
+use gen_image::generated;
 use std::test::Fail;
 
 #[test]
