@@ -16,7 +16,7 @@ ghost use Rattle.window_runner.specs.Seated.{Keeps, IsSeatAt, IsReady};
 
 use crate::alone::{Counts, Ran, count_window, is_bounded, tell_step};
 use crate::piece::{Found, Piece};
-use crate::sets::{Sets, give_back_all, pieces_of, settle_all};
+use crate::sets::{Sets, give_back_all, has_report, no_pieces, pieces_of, settle_all};
 use crate::worker::pass;
 use lane_look::{Device, Marks};
 use outer_lane::World;
@@ -29,10 +29,14 @@ use trace_text::tape::Tape;
 use trace_text::writer::SinkFault;
 use turn_board::{Board, Gather, Master, Seat, See, Six, Ticket};
 use window_merge::Moved;
+use window_merge::here::window as window_here;
 use window_merge::reports::merge;
 
 /// How many numbers may be open before a window, so that six more can be.
 const MOST: u64 = (1 << 62) - 6;
+
+/// A window of fewer cycles is short: a job of the next one would cost more than it saves.
+const SHORT: u16 = 16;
 
 /// Draws tickets and passes those that are open, and keeps the first one that is not.
 fn help<'w, X: Device, G: Gate>(
@@ -95,6 +99,8 @@ pub(crate) struct Lead<'w, X: Device> {
     /// The ticket that its seat drew and that was not open yet.
     pub(crate) kept: Option<Ticket>,
     pub(crate) sets: Box<Sets>,
+    /// Whether the last window was short.
+    pub(crate) after_short: bool,
 }
 
 /// Opens six numbers with these pieces, helps, and gathers what was found once all is done.
@@ -125,8 +131,9 @@ fn gather<'w, X: Device, G: Gate, H: Wait>(
     }
 }
 
-/// The reports of the window from the machine's state that come over the board. None goes over it where the peripherals have
-/// another number of words than the device, or where no more numbers can be opened.
+/// The reports of the window from the machine's state that come over the board. Behind a short window the pieces have no job, so
+/// that there is no report. Nothing goes over the board where the peripherals have another number of words than the device, or where no
+/// more numbers can be opened.
 fn found_in<'w, X: Device, G: Gate, H: Wait>(
     desk: &Desk<'_, 'w, X, G, H>,
     lead: &mut Lead<'w, X>,
@@ -143,12 +150,16 @@ fn found_in<'w, X: Device, G: Gate, H: Wait>(
     if lead.opened > MOST || !machine.outer.has_device(desk.world.device) {
         return nothing();
     }
-    let pieces = pieces_of(machine, desk.world, &mut lead.sets.first);
+    let pieces = if lead.after_short {
+        no_pieces()
+    } else {
+        pieces_of(machine, desk.world, &mut lead.sets.first)
+    };
     gather(desk, lead, pieces)
 }
 
 /// Moves the machine by a window whose lanes are run by all who draw tickets, and gives its length. Of a lane without a report that
-/// is accepted the run is made here.
+/// is accepted the run is made here; where no lane has one the window is made here as on one thread.
 fn window<'w, X: Device, G: Gate, H: Wait, L: Ledger>(
     desk: &Desk<'_, 'w, X, G, H>,
     lead: &mut Lead<'w, X>,
@@ -179,9 +190,15 @@ fn window<'w, X: Device, G: Gate, H: Wait, L: Ledger>(
         lead.new.kept lead.new.master lead.new.seat lead.new.sets.value.spare }
 {
     let found = found_in(desk, lead, machine);
-    let mut reports = settle_all(machine, desk.world, found, &mut *lead.sets);
-    let length = merge(machine, desk.world, &mut reports, marks, steps);
-    give_back_all(reports, &mut *lead.sets);
+    let length = if has_report(&found) {
+        let mut reports = settle_all(machine, desk.world, found, &mut *lead.sets);
+        let length = merge(machine, desk.world, &mut reports, marks, steps);
+        give_back_all(reports, &mut *lead.sets);
+        length
+    } else {
+        window_here(machine, desk.world, &mut lead.sets.notes, marks, steps)
+    };
+    lead.after_short = length < SHORT;
     length
 }
 

@@ -1,6 +1,6 @@
 //! The two jobs of each lane, and its report in a window.
 
-ghost use Rattle.std.specs.Prelude.{◌≡◌, length, IfOk, IfSome};
+ghost use Rattle.std.specs.Prelude.{◌≡◌, length, IfOk, IfSome, None};
 ghost use Rattle.outer_lane.specs.Setting.{setting_of};
 ghost use Rattle.turn_board.specs.Answers.{EachLane};
 ghost use Rattle.window_merge.specs.Jobs.{AreAlone, HasNumber, IsAlone, IsJobFor, IsTrueIn, IsWhole};
@@ -12,7 +12,7 @@ use outer_lane::World;
 use rp_machine::Machine;
 use std::alloc::{AllocError, Global};
 use turn_board::Six;
-use window_merge::{Crew, LaneJob, LaneReport, accept, back, job, run_by};
+use window_merge::{Crew, LaneJob, LaneReport, Notes, accept, back, job, run_by};
 
 /// Two jobs for each lane. Between two windows the second ones are all there; a first one is lost where it went over the board
 /// and nothing came back.
@@ -22,6 +22,8 @@ pub(crate) struct Sets {
     pub(crate) first: Six<Option<LaneJob>>,
     /// The second ones, for what is run here.
     pub(crate) spare: Six<Option<LaneJob>>,
+    /// Room for a window that is made here.
+    pub(crate) notes: Notes,
 }
 
 /// The jobs of a crew.
@@ -29,7 +31,7 @@ pub(crate) fn sets_of(alloc: Global, crew: Crew) -> Result<Box<Sets>, AllocError
     requires { IsWhole crew }
     ensures { IfOk result (λ sets. EachLane HasNumber sets.value.spare) }
 {
-    let Crew { jobs, spare } = crew;
+    let Crew { jobs, spare, notes } = crew;
     let [core0, core1, dma, pio0, pio1, outer] = jobs;
     let first = Six {
         l0: core0,
@@ -48,7 +50,14 @@ pub(crate) fn sets_of(alloc: Global, crew: Crew) -> Result<Box<Sets>, AllocError
         l4: pio1,
         l5: outer,
     };
-    Ok(Box::new(alloc, Sets { first, spare })?)
+    Ok(Box::new(
+        alloc,
+        Sets {
+            first,
+            spare,
+            notes,
+        },
+    )?)
 }
 
 /// A lane's piece of the window from the machine's state: its first job, or none where that is lost.
@@ -90,6 +99,30 @@ pub(crate) fn pieces_of<X: Device>(
         l4: piece_of(machine, world, &mut first.l4),
         l5: piece_of(machine, world, &mut first.l5),
     }
+}
+
+/// Six pieces without a job.
+pub(crate) fn no_pieces() -> Six<Piece>
+    ensures { EachLane (λ lane piece. piece.job ≡ None) result }
+{
+    Six {
+        l0: Piece { job: None },
+        l1: Piece { job: None },
+        l2: Piece { job: None },
+        l3: Piece { job: None },
+        l4: Piece { job: None },
+        l5: Piece { job: None },
+    }
+}
+
+/// Whether some lane has a report.
+pub(crate) fn has_report(found: &Six<Found>) -> bool {
+    found.l0.report.is_some()
+        || found.l1.report.is_some()
+        || found.l2.report.is_some()
+        || found.l3.report.is_some()
+        || found.l4.report.is_some()
+        || found.l5.report.is_some()
 }
 
 /// Runs a lane here, by its second job.
@@ -163,7 +196,7 @@ pub(crate) fn settle_all<X: Device>(
         machine.now result }
     ensures spare { EachLane MayHaveNumber sets.new.spare }
 {
-    let Sets { first, spare } = sets;
+    let Sets { first, spare, .. } = sets;
     [
         settle(machine, world, found.l0, &mut first.l0, &mut spare.l0, 0),
         settle(machine, world, found.l1, &mut first.l1, &mut spare.l1, 1),
@@ -195,7 +228,7 @@ pub(crate) fn give_back_all(reports: [LaneReport; 6], sets: &mut Sets)
     ensures { EachLane HasNumber sets.new.spare }
 {
     let [core0, core1, dma, pio0, pio1, outer] = reports;
-    let Sets { first, spare } = sets;
+    let Sets { first, spare, .. } = sets;
     give_back(core0, &mut first.l0, &mut spare.l0, 0);
     give_back(core1, &mut first.l1, &mut spare.l1, 1);
     give_back(dma, &mut first.l2, &mut spare.l2, 2);

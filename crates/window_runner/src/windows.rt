@@ -206,6 +206,7 @@ fn run_at<'w, X: Device, G: Gate, T: Tape, L: Ledger, R: Threads + Wait + Sync>(
         seat,
         kept: None,
         sets,
+        after_short: false,
     };
     let bench = Bench {
         board,
