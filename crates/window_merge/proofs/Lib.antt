@@ -10,7 +10,6 @@ pub mod Reported
 pub mod Keeping
 pub mod Lanes
 pub mod Logs
-pub mod Overlaying
 pub mod Patching
 pub mod Ports
 pub mod Positions

@@ -12,12 +12,14 @@ pub mod lane_job;
 pub mod lane_run;
 pub mod laws;
 pub mod merge;
-pub mod overlay;
+mod notes;
+mod pass;
 mod patch;
 pub mod position;
 mod questions;
 pub mod reports;
 pub mod runs;
+mod start;
 #[cfg(test)]
 mod tests;
 mod walk;

@@ -43,7 +43,7 @@ fn any_shared(a: &Want, b: &Want, c: &Want, d: &Want) -> bool
 }
 
 /// Two of the masters' wants ask for one port.
-fn clash(begun: &Begun, wants: &[Wanted; 4]) -> bool
+pub(crate) fn clash(begun: &Begun, wants: &[Wanted; 4]) -> bool
     requires { wants.now ≡ wanted begun.now }
     ensures { result ≡ clash (wants_of begun.now) }
 {
@@ -104,12 +104,13 @@ pub(crate) fn longest<X: Device>(machine: &Machine, world: &World<'_, X>) -> u16
     if cycles <= 256 { cycles as u16 } else { 256 }
 }
 
-/// What the lanes keep of SIO is what it holds: the machine's type keeps it.
-fn is_known(machine: &Machine)
+/// What the lanes keep of SIO is what it holds, and SRAM has its words: the machine's type keeps it.
+pub(crate) fn is_known(machine: &Machine)
     ensures pins { machine.now.outer.sio ≡ pins_of machine.now.sio }
     ensures offer { machine.now.core1.offer ≡ offers_of machine.now.sio }
+    ensures sram { length machine.now.sram ≡ 67584 }
 {
-    let _number = machine.at;
+    let _word = machine.ram.read(0);
 }
 
 /// The cycles of a window have numbers.
