@@ -59,7 +59,7 @@ lane_next m lane before s n k state cycle rest state' rest' h on t e_state e_res
     record { is_alone = e_state ∙ t.state_after; is_log = rw e_rest t.left_over; within = omega arith }
 
 -- its run goes on, so it wants nothing, or an access to SRAM
-ends_is : {S B : Type 0} (m : Meaning (Unit {0}) S B) (lane : ℕ) (before : S) (s : State) (k : ℕ) → ends_at m (around lane) tt before s.cycle s k ≡ ends_wants (wanted_in m (around lane) tt before s.cycle s k)
+pub ends_is : {S B : Type 0} (m : Meaning (Unit {0}) S B) (lane : ℕ) (before : S) (s : State) (k : ℕ) → ends_at m (around lane) tt before s.cycle s k ≡ ends_wants (wanted_in m (around lane) tt before s.cycle s k)
 unfolding ends_at wanted_in
 ends_is m lane before s k = refl
 

@@ -20,7 +20,7 @@ use Rattle.window_merge.specs.Patch.{patched, sram_after}
 use Rattle.window_merge.specs.Accept.{talk_alone}
 use Rattle.window_merge.specs.Judged.{IsFirstOther}
 use Rattle.window_merge.specs.Walks.{seen_by, IsCompared, GoesOn, Answers, IsStepped, IsMet, IsWalked}
-use Rattle.window_merge.proofs.Cutting.{least_meets}
+use Rattle.window_merge.proofs.Meeting.{least_meets}
 use Rattle.window_merge.proofs.Lanes.{below_least}
 use Rattle.window_merge.proofs.Logs.{take_more, get-append, get-seam}
 

@@ -48,7 +48,10 @@ pub(crate) fn window_within<X: Device, L: Ledger>(
     is_known(machine);
     is_numbered(machine, world, at_most);
     marks.clear();
-    if at_most == 0 || is_launching(&machine.core1) {
+    if at_most == 0 {
+        return 0;
+    }
+    if is_launching(&machine.core1) {
         return 0;
     }
     let Some(start) = try_first(machine, world, &mut crew.notes, marks) else {

@@ -3,6 +3,7 @@
 ghost use Rattle.std.specs.Prelude.{◌≡◌, ◌+◌, ◌-◌, ◌^◌, ◌<◌, ◌≤◌, ◌++◌, ◌∷◌, [], if◌then◌else◌, is_some, IfSome, length};
 ghost use Rattle.outer_lane.specs.Setting.{setting_of};
 ghost use Rattle.outer_lane.specs.Step.{marked};
+ghost use Rattle.lane_look.specs.Alone.{ends_want};
 ghost use Rattle.rp_machine.specs.Cycle.{begun, wanted, next_by};
 ghost use Rattle.window_merge.specs.Lanes.{is_launching};
 ghost use Rattle.window_merge.specs.Notes.{no_notes, noted_by, HasRoom};
