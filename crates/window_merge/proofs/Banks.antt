@@ -1,7 +1,7 @@
 -- A place in SRAM has the index of a word and is in one of the six banks, and is reached through its port.
-use Rattle.std.proofs.Common.{◌≡◌, ℕ, ◌<◌, ◌≤◌, ◌-◌, ◌/◌, ◌%◌, ◌&&◌, Bool, true, false, nat_le, if◌then◌else◌, inl, inr, List, [], ◌∷◌, Option, Some, None, refl, arith}
+use Rattle.std.proofs.Common.{◌≡◌, ℕ, ◌<◌, ◌≤◌, ◌-◌, ◌&&◌, Bool, true, false, nat_le, if◌then◌else◌, inl, inr, List, [], ◌∷◌, refl, arith}
 use Rattle.std.proofs.lemmas.Bool.Decides.{leb_tells}
-use Rattle.rp_base.specs.Map.{Range, place_by, ranges, place_of, striped, flat}
+use Rattle.rp_base.specs.Map.{Range, place_by, ranges, place_of}
 use Rattle.rp_base.specs.declared.map.Spot.{Spot}
 use Rattle.rp_base.specs.declared.map.Spot.TheVariants as spot
 

@@ -1,8 +1,8 @@
 -- A cycle in which every want is nothing or an access to SRAM, no two accesses name one port and none lasts: each lane steps as
 -- if it ran alone.
-use Rattle.std.proofs.Common.{◌≡◌, ◌==◌, ◌||◌, ◌&&◌, ℕ, ◌+◌, ◌<◌, Bool, true, false, not, nat_lt, if◌then◌else◌, List, [], ◌∷◌, ◌++◌, length, map, Option, Some, None, refl, sym, ap, ◌∙◌, subst}
+use Rattle.std.proofs.Common.{◌≡◌, ◌&&◌, ℕ, ◌+◌, Bool, true, false, if◌then◌else◌, List, [], ◌∷◌, map, Option, Some, None, refl, sym, ap, ◌∙◌, subst}
 use Rattle.std.specs.Prelude.{is_some}
-use Rattle.rp_base.specs.Map.{place_of, port_of}
+use Rattle.rp_base.specs.Map.{place_of}
 use Rattle.rp_base.specs.declared.Master.{Master}
 use Rattle.rp_base.specs.declared.Master.TheVariants as master
 use Rattle.rp_base.specs.declared.Request.{Request}
@@ -25,17 +25,14 @@ use Rattle.outer_lane.specs.State.{OuterState}
 use Rattle.outer_lane.specs.Step as outer
 use Rattle.bus_fabric.specs.State.{has_hold}
 use Rattle.sio_block.specs.State.{SioState}
-use Rattle.sio_block.specs.Mailbox.{Mailbox}
-use Rattle.sio_block.specs.Launcher.{offers_of, after_turn, launch_of}
+use Rattle.sio_block.specs.Launcher.{offers_of}
 use Rattle.sio_block.specs.Cycle.{after_cycle}
 use Rattle.rp_machine.specs.declared.begun.Begun.{Begun}
-use Rattle.rp_machine.specs.declared.wanted.Wanted.{Wanted}
 use Rattle.rp_machine.specs.declared.deed.Deed.{Deed}
 use Rattle.rp_machine.specs.declared.deed.Deed.TheVariants as deed
 use Rattle.rp_machine.specs.State.{State}
-use Rattle.rp_machine.specs.Deeds.{port_at, asked_at, asked_of, turn_of, turn_at, stored_at, deed_of}
-use Rattle.rp_machine.specs.Cycle.{wanted, asked, granted, turns, turns_by, with_turns, deeds, deeds_by, with_sio, with_offer, with_pins, pins_of, after_deed, after_launcher, started_by, after_core1, after_masters, stored, all_stored, with_stores, ended, after_deeds, with_grants, stepped, next_by}
-use Rattle.window_merge.specs.Window.{is_port_of, share_port}
+use Rattle.rp_machine.specs.Deeds.{port_at, asked_at, asked_of, turn_of, stored_at, deed_of}
+use Rattle.rp_machine.specs.Cycle.{wanted, asked, granted, turns, with_turns, deeds, with_sio, with_offer, with_pins, pins_of, after_deed, after_launcher, after_masters, stored, all_stored, with_stores, ended, after_deeds, with_grants, stepped, next_by}
 use Rattle.window_merge.specs.Patch.{sram_after}
 use Rattle.window_merge.specs.Merging.{IsRested, Knows}
 use Rattle.window_merge.proofs.Banks.{HasBank, has_bank}

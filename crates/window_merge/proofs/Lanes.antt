@@ -1,10 +1,10 @@
 -- One lane of a window: where it stands after k cycles, and what its run alone makes of the next one.
-use Rattle.std.proofs.Common.{◌≡◌, ◌≢◌, ℕ, zero, suc, ◌+◌, ◌<◌, ◌≤◌, Bool, true, false, if◌then◌else◌, inl, inr, List, [], ◌∷◌, ◌++◌, refl, ap, sym, ◌∙◌, arith}
+use Rattle.std.proofs.Common.{◌≡◌, ◌≢◌, ℕ, zero, suc, ◌+◌, ◌<◌, ◌≤◌, Bool, true, false, if◌then◌else◌, inl, inr, List, ◌++◌, refl, ap, sym, ◌∙◌, arith}
 use Rattle.std.proofs.lemmas.Bool.Decides.{eqb_tells}
 use Rattle.lane_look.specs.Asking.{answered}
 use Rattle.lane_look.specs.declared.lane.Ask.{Ask}
 use Rattle.lane_look.specs.Replay.{Meaning, Entry, told, left, talk, after_begun}
-use Rattle.lane_look.specs.Alone.{ends_wants, ends_at, first_from, least, alone, alone_length, wanted_in, asked_in, differs}
+use Rattle.lane_look.specs.Alone.{ends_wants, ends_at, first_from, least, alone, alone_length, wanted_in, differs}
 use Rattle.rp_machine.specs.State.{State}
 use Rattle.rp_machine.specs.Answers.{answer_of}
 use Rattle.window_merge.specs.Lanes.{around}

@@ -1,13 +1,13 @@
 -- A window in one pass: in each cycle the lanes begin what their runs alone begin, and the pass ends where the window closes.
-use Rattle.std.proofs.Common.{◌≡◌, ◌≢◌, ℕ, zero, suc, ◌+◌, ◌*◌, ◌<◌, ◌≤◌, ◌==◌, ◌||◌, ◌&&◌, ◌⊎◌, Bool, true, false, not, if◌then◌else◌, inl, inr, List, [], ◌∷◌, ◌++◌, length, Option, refl, ap, sym, ◌∙◌, subst, append-nil, add-one, arith}
+use Rattle.std.proofs.Common.{◌≡◌, ◌≢◌, ℕ, zero, suc, ◌+◌, ◌*◌, ◌<◌, ◌≤◌, ◌||◌, ◌&&◌, ◌⊎◌, Bool, true, false, not, if◌then◌else◌, inl, inr, List, [], ◌∷◌, ◌++◌, length, refl, ap, sym, ◌∙◌, subst, append-nil, add-one, arith}
 use Rattle.std.specs.Prelude.{slice_index}
 use Rattle.std.proofs.lemmas.Bool.Decides.{eqb_tells}
 use Rattle.lane_look.specs.Asking.{answered}
 use Rattle.lane_look.specs.declared.lane.Ask.{Ask}
 use Rattle.lane_look.specs.declared.lane.Want.{Want}
 use Rattle.lane_look.specs.declared.marks.Mark.{Mark}
-use Rattle.lane_look.specs.Replay.{Meaning, Entry, asked, talk}
-use Rattle.lane_look.specs.Alone.{Surroundings, all_stored, alone, alone_length, ends_want, ends_wants, ends_at, wanted_in, differs, least}
+use Rattle.lane_look.specs.Replay.{Meaning, Entry}
+use Rattle.lane_look.specs.Alone.{all_stored, alone, alone_length, ends_want, ends_wants, ends_at, wanted_in, differs, least}
 use Rattle.m0_core.specs.State.{State as Core}
 use Rattle.m0_core.specs.declared.doing.Doing.{Doing}
 use Rattle.m0_core.specs.Fetch as core_asks
@@ -16,16 +16,13 @@ use Rattle.dma_engine.specs.State.{Engine}
 use Rattle.dma_engine.specs.declared.begun.BegunTransfer.{BegunTransfer}
 use Rattle.dma_engine.specs.Asks as dma_asks
 use Rattle.dma_engine.specs.Cycle as dma
-use Rattle.pio_block.specs.State.{Block as Pio}
 use Rattle.pio_block.specs.Cycle as pio
 use Rattle.outer_lane.specs.Setting.{Setting}
-use Rattle.outer_lane.specs.State.{OuterState}
 use Rattle.outer_lane.specs.Step as outer
 use Rattle.bus_fabric.specs.State.{has_hold}
 use Rattle.rp_machine.specs.declared.begun.Begun.{Begun}
 use Rattle.rp_machine.specs.declared.deed.Deed.{Deed}
 use Rattle.rp_machine.specs.declared.deed.Deed.TheVariants as deed
-use Rattle.rp_machine.specs.declared.wanted.Wanted.{Wanted}
 use Rattle.rp_machine.specs.State.{State}
 use Rattle.rp_machine.specs.Answers.{answer_of}
 use Rattle.rp_machine.specs.Cycle.{begun, wanted, stored, next_by}
@@ -36,16 +33,16 @@ use Rattle.window_merge.specs.Merging.{Rests, begun_by, left_by, differs_by, wan
 use Rattle.window_merge.specs.Patch.{patched, sram_after}
 use Rattle.window_merge.specs.declared.notes.Notes.{Notes}
 use Rattle.window_merge.specs.declared.start.Start.{Start}
-use Rattle.window_merge.specs.Notes.{is_none, seen_of, seen_word, own_of, is_clean, write_of, original_word, own_word, with_word, no_notes, noted, noted_by, HasRoom}
+use Rattle.window_merge.specs.Notes.{is_none, seen_of, seen_word, is_clean, write_of, original_word, own_word, with_word, no_notes, noted, noted_by, HasRoom}
 use Rattle.window_merge.specs.Start.{start_of, guess, begun_from, differs_from, ends_wanted, goes_by, goes_first, goes_on}
 use Rattle.window_merge.proofs.Agree.{both_false}
-use Rattle.window_merge.proofs.Calm.{IsCalm, sram_left, calm_sram}
+use Rattle.window_merge.proofs.Calm.{IsCalm, calm_sram}
 use Rattle.window_merge.proofs.Meeting.{least_meets}
-use Rattle.window_merge.proofs.Lanes.{LaneStands, LaneTold, lane_first, below_least, ends_is, no_cycles}
-use Rattle.window_merge.proofs.Noting.{Restores, Undoes, undoes_on, own_on, still, sight, no_word, with_word-length, in_sram, after_want}
+use Rattle.window_merge.proofs.Lanes.{LaneStands, lane_first, below_least, ends_is, no_cycles}
+use Rattle.window_merge.proofs.Noting.{Restores, undoes_on, own_on, still, sight, no_word, with_word-length, in_sram, after_want}
 use Rattle.window_merge.proofs.Reading.{read_only}
 use Rattle.window_merge.proofs.Starting.{HasLines, lines0, lines1, lines2, lines3, lines4, lines5, guess_is, around_over, stored_sram, same_answered, same_asked, differs_never}
-use Rattle.window_merge.proofs.Windows.{Lengths, AreLengths, AreWithin, AreOn, Stands, AreTold, Goes, Fitted, all_told, are_within, stands_first, fitted, goes_next, goes_tried, run_within, full_within, they_end}
+use Rattle.window_merge.proofs.Windows.{Lengths, AreWithin, AreOn, Stands, AreTold, Goes, all_told, are_within, stands_first, fitted, goes_next, goes_tried, run_within, full_within, they_end}
 
 -- ---- the whole runs alone
 
@@ -383,9 +380,9 @@ unfolding patched
 sees_start m lane before s k now start notes f quiet i lt =
     sight (is_none notes.core0 && (is_none notes.core1 && is_none notes.dma)) [] notes.originals now.sram s.sram s.sram i
     (λ c.
-        let p = both_true (is_none notes.core0) _ c in
-        let q = both_true (is_none notes.core1) (is_none notes.dma) p.1 in
-        f.clean (no_word notes.core0 p.0) (no_word notes.core1 q.0) (no_word notes.dma q.1)) f.restores refl f.long lt
+    let p = both_true (is_none notes.core0) _ c in
+    let q = both_true (is_none notes.core1) (is_none notes.dma) p.1 in
+    f.clean (no_word notes.core0 p.0) (no_word notes.core1 q.0) (no_word notes.dma q.1)) f.restores refl f.long lt
     ∙ ap (λ (t : State). slice_index t.sram i) (sym (quiet_around m lane before s k quiet))
 
 -- what the start answers is what the run alone is answered

@@ -1,5 +1,5 @@
 -- What the start of a window answers a lane is what its run alone is answered.
-use Rattle.std.proofs.Common.{◌≡◌, ℕ, zero, suc, ◌+◌, ◌<◌, ◌==◌, ◌||◌, ◌&&◌, nat_eq, not, Bool, true, false, if◌then◌else◌, inl, inr, List, [], ◌∷◌, ◌++◌, length, Option, Some, None, refl, ap, sym, ◌∙◌, subst, arith}
+use Rattle.std.proofs.Common.{◌≡◌, ℕ, zero, suc, ◌+◌, ◌<◌, ◌==◌, ◌||◌, ◌&&◌, nat_eq, not, Bool, true, false, if◌then◌else◌, inl, inr, List, [], ◌∷◌, refl, ap, sym, ◌∙◌, subst}
 use Rattle.std.specs.Prelude.{slice_index, unwrap_or}
 use Rattle.std.proofs.Math.Bool.{and-true}
 use Rattle.std.proofs.lemmas.Bool.Decides.{eqb_tells}
@@ -13,13 +13,13 @@ use Rattle.lane_look.specs.declared.lane.Ask.TheVariants as ask
 use Rattle.lane_look.specs.declared.lane.Want.{Want}
 use Rattle.lane_look.specs.declared.lane.Want.TheVariants as want
 use Rattle.lane_look.specs.Replay.{Meaning, Entry, asked}
-use Rattle.lane_look.specs.Alone.{Surroundings, all_stored, begun_alone, alone, differs}
+use Rattle.lane_look.specs.Alone.{all_stored, begun_alone, alone, differs}
 use Rattle.pio_block.specs.State.{Block as Pio}
 use Rattle.pio_block.specs.Words as pio_words
 use Rattle.outer_lane.specs.Lines.{outer_lines}
 use Rattle.rp_machine.specs.State.{State}
 use Rattle.rp_machine.specs.Sram.{half_of, ram_word}
-use Rattle.rp_machine.specs.Answers.{word_in, block_lines, lines_of, pacing_of, inputs_of, packed_pair, outs_of, answer_of}
+use Rattle.rp_machine.specs.Answers.{block_lines, lines_of, packed_pair, outs_of, answer_of}
 use Rattle.window_merge.specs.Lanes.{around, stored_by}
 use Rattle.window_merge.specs.Patch.{sram_after}
 use Rattle.window_merge.specs.declared.notes.Notes.{Notes}

@@ -1,15 +1,13 @@
 -- A window, cycle by cycle: where the machine, the six lanes and their logs stand.
-use Rattle.std.proofs.Common.{◌≡◌, ◌≢◌, ℕ, zero, suc, ◌+◌, ◌-◌, ◌<◌, ◌≤◌, ◌==◌, Bool, true, false, not, ◌||◌, ◌&&◌, nat_eq, nat_le, if◌then◌else◌, inl, inr, List, [], ◌∷◌, ◌++◌, length, length-append, map, Option, Some, None, refl, ap, sym, ◌∙◌, subst, add-one, arith}
+use Rattle.std.proofs.Common.{◌≡◌, ◌≢◌, ℕ, ◌+◌, ◌-◌, ◌<◌, ◌≤◌, Bool, true, false, not, ◌||◌, ◌&&◌, nat_eq, if◌then◌else◌, inl, inr, List, [], ◌∷◌, ◌++◌, length, length-append, None, refl, ap, sym, ◌∙◌, subst, add-one, arith}
 use Rattle.std.proofs.lemmas.Bool.Decides.{eqb_tells, leb_tells}
-use Rattle.lane_look.specs.Asking.{answered}
 use Rattle.lane_look.specs.declared.lane.Want.{Want}
 use Rattle.lane_look.specs.declared.lane.Want.TheVariants as want
 use Rattle.lane_look.specs.declared.marks.Mark.{Mark}
-use Rattle.lane_look.specs.Replay.{Entry, told, left, talk}
-use Rattle.lane_look.specs.Alone.{ends_want, ends_wants, alone_length, wanted_in, differs, least}
+use Rattle.lane_look.specs.Replay.{talk}
+use Rattle.lane_look.specs.Alone.{ends_want, ends_wants, alone_length, wanted_in, differs}
 use Rattle.lane_look.proofs.Least.{is_least}
 use Rattle.rp_base.specs.declared.Master.{Master}
-use Rattle.m0_core.specs.State.{State as Core}
 use Rattle.m0_core.specs.Fetch as core_asks
 use Rattle.m0_core.specs.Cycle as core
 use Rattle.dma_engine.specs.Asks as dma_asks
@@ -20,15 +18,14 @@ use Rattle.outer_lane.specs.declared.world.SeenOutputs.{SeenOutputs}
 use Rattle.outer_lane.specs.Step as outer
 use Rattle.bus_fabric.specs.State.{has_hold}
 use Rattle.rp_machine.specs.declared.begun.Begun.{Begun}
-use Rattle.rp_machine.specs.declared.wanted.Wanted.{Wanted}
 use Rattle.rp_machine.specs.State.{State}
 use Rattle.rp_machine.specs.Answers.{answer_of}
 use Rattle.rp_machine.specs.Deeds.{asked_of, cause_by, cause_of}
-use Rattle.rp_machine.specs.Cycle.{begun, wanted, first_cause, cause_in, stop, next_by, next, mark}
-use Rattle.rp_machine.specs.Run.{states, unless_stopped}
+use Rattle.rp_machine.specs.Cycle.{begun, wanted, cause_in, stop, next_by, next, mark}
+use Rattle.rp_machine.specs.Run.{states}
 use Rattle.rp_machine.proofs.Joining.{runs_follow}
-use Rattle.window_merge.specs.Lanes.{Run, core_lane, dma_lane, pio_lane, peripheral_lane, around, is_launching, core1_bound, runs_of}
-use Rattle.window_merge.specs.Window.{longest, ends_in, differs_in, clash, clash_in, is_port_of, share_port, closes, window_length, window_within}
+use Rattle.window_merge.specs.Lanes.{core_lane, dma_lane, pio_lane, peripheral_lane, around, is_launching, core1_bound, runs_of}
+use Rattle.window_merge.specs.Window.{longest, ends_in, differs_in, clash, clash_in, share_port, closes, window_length, window_within}
 use Rattle.window_merge.specs.declared.runs.Runs.{Runs}
 use Rattle.window_merge.specs.Merging.{Rests, begun_by, left_by, differs_by, wants_of, fits, marks_in, Knows, AreCut, IsWithin, rests_at, end_at}
 use Rattle.window_merge.proofs.Agree.{both_false}

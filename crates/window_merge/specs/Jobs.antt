@@ -1,5 +1,5 @@
 -- What a job holds, and when a report is true in a world and is the run alone of its lane. The project's own.
-use Rattle.std.specs.Prelude.{◌≡◌, ℕ, suc, ◌-◌, ◌==◌, ◌&&◌, Bool, nat_le, if◌then◌else◌, List, [], ◌∷◌, length, slice_index, slice_index_or, Option, Some, None}
+use Rattle.std.specs.Prelude.{◌≡◌, ℕ, suc, ◌-◌, ◌==◌, ◌&&◌, nat_le, if◌then◌else◌, List, [], ◌∷◌, length, Option, Some, None}
 use Rattle.lane_look.specs.declared.replay.Report.{Report}
 use Rattle.lane_look.specs.Replay.{Meaning}
 use Rattle.lane_look.specs.Alone.{Surroundings, alone, alone_length}
@@ -8,7 +8,6 @@ use Rattle.m0_core.specs.State.{State as Core}
 use Rattle.pio_block.specs.State.{Block as Pio}
 use Rattle.outer_lane.specs.Setting.{Setting}
 use Rattle.rp_machine.specs.State.{State}
-use Rattle.window_merge.specs.declared.copies.Copies.{Copies}
 use Rattle.window_merge.specs.declared.lane_run.LaneRun.{LaneRun}
 use Rattle.window_merge.specs.declared.lane_run.LaneRun.TheVariants as run
 use Rattle.window_merge.specs.declared.lane_job.LaneJob.{LaneJob}

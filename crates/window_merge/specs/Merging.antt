@@ -1,5 +1,5 @@
 -- One cycle of a window, by what is left of the logs of the six runs. The project's own.
-use Rattle.std.specs.Prelude.{◌≡◌, ℕ, zero, suc, ◌+◌, ◌<◌, ◌≤◌, Option, Some, None, true, ◌==◌, nat_lt, if◌then◌else◌, not, ◌||◌, Bool, false, List, [], ◌∷◌, ◌++◌, length, drop}
+use Rattle.std.specs.Prelude.{◌≡◌, ℕ, zero, suc, ◌+◌, ◌<◌, ◌≤◌, Some, None, true, ◌==◌, nat_lt, if◌then◌else◌, not, ◌||◌, Bool, false, List, [], ◌∷◌, ◌++◌, length, drop}
 use Rattle.lane_look.specs.declared.lane.Want.{Want}
 use Rattle.lane_look.specs.declared.marks.Mark.{Mark}
 use Rattle.lane_look.specs.declared.replay.Report.{Report}

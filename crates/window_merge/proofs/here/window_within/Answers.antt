@@ -1,9 +1,7 @@
-use Rattle.std.proofs.Common.{◌≡◌, ◌<◌, ◌≤◌, true, false, List, [], refl, sym, ◌∙◌, subst, arith}
-use Rattle.lane_look.specs.declared.marks.Mark.{Mark}
+use Rattle.std.proofs.Common.{◌≡◌, true, false, refl, sym, ◌∙◌, subst, arith}
 use Rattle.outer_lane.specs.Setting.{setting_of}
 use Rattle.rp_machine.specs.State.{State}
 use Rattle.window_merge.specs.Lanes.{is_launching}
-use Rattle.window_merge.specs.Window.{longest}
 use Rattle.window_merge.proofs.Windows.{at_most}
 use Rattle.window_merge.proofs.Passing.{First, closed_at_once, closed_launching, closed_first, closed_later, closed_full, passes_first, passes_later, has_room, no_states, no_marks, still_none}
 use Rattle.window_merge.proofs.here.window_within.Goals as goal

@@ -1,6 +1,5 @@
-use Rattle.std.proofs.Common.{◌<◌, ◌≡◌, ◌≤◌, sym, ◌∙◌, subst, arith}
+use Rattle.std.proofs.Common.{◌≡◌, sym, ◌∙◌, arith}
 use Rattle.outer_lane.specs.Setting.{setting_of}
-use Rattle.window_merge.specs.Window.{longest}
 use Rattle.window_merge.specs.Merging.{rests_at}
 use Rattle.window_merge.proofs.Windows.{lengths_of, stands_at_first, within_first, ends_at_run, goes_at, goes_tried, goes_next, full_within}
 use Rattle.window_merge.proofs.merge.merge_runs.Goals as goal
