@@ -33,4 +33,4 @@ pub use lane_job::{Crew, LaneJob, LaneReport};
 pub use lane_run::{LaneRun, LaneSet};
 pub use merge::merge_runs;
 pub use position::{Moved, advance};
-pub use runs::{Places, Runs};
+pub use runs::{Indices, Runs};
