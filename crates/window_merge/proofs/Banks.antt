@@ -1,12 +1,12 @@
--- A place in SRAM is in one of the six banks, and is reached through its port.
-use Rattle.std.proofs.Common.{◌≡◌, ℕ, ◌<◌, ◌≤◌, ◌-◌, ◌/◌, ◌%◌, ◌&&◌, Bool, true, false, nat_le, if◌then◌else◌, inl, inr, List, [], ◌∷◌, Option, Some, None, refl, arith}
+-- A place in SRAM has the index of a word and is in one of the six banks, and is reached through its port.
+use Rattle.std.proofs.Common.{◌≡◌, ℕ, ◌<◌, ◌≤◌, ◌-◌, ◌&&◌, Bool, true, false, nat_le, if◌then◌else◌, inl, inr, List, [], ◌∷◌, refl, arith}
 use Rattle.std.proofs.lemmas.Bool.Decides.{leb_tells}
-use Rattle.rp_base.specs.Map.{Range, place_by, ranges, place_of, striped, flat}
+use Rattle.rp_base.specs.Map.{Range, place_by, ranges, place_of}
 use Rattle.rp_base.specs.declared.map.Spot.{Spot}
 use Rattle.rp_base.specs.declared.map.Spot.TheVariants as spot
 
 abbrev pub HasBank : Spot → Type 0
-HasBank (spot.Ram index bank) = bank < 6
+HasBank (spot.Ram index bank) = (index < 67584) × (bank < 6)
 HasBank _ = Unit {0}
 
 -- what a range gives has a bank
@@ -38,13 +38,13 @@ placed (r ∷ rs) address h =
 
 all_banked : AreBanked ranges
 all_banked = (
-  record { banked = λ a le. omega arith },
+  record { banked = λ a le. (omega (arith, le), omega arith) },
   (
-    record { banked = λ a le. omega arith },
+    record { banked = λ a le. (omega (arith, le), omega arith) },
     (
-      record { banked = λ a le. omega arith },
+      record { banked = λ a le. (omega (arith, le), omega arith) },
       (
-        record { banked = λ a le. omega (arith, le) },
+        record { banked = λ a le. (omega (arith, le), omega (arith, le)) },
         (
           record { banked = λ a le. tt },
           (

@@ -1,8 +1,8 @@
 -- A cycle in which every want is nothing or an access to SRAM, no two accesses name one port and none lasts: each lane steps as
 -- if it ran alone.
-use Rattle.std.proofs.Common.{◌≡◌, ◌==◌, ◌||◌, ◌&&◌, ℕ, ◌+◌, ◌<◌, Bool, true, false, not, nat_lt, if◌then◌else◌, List, [], ◌∷◌, ◌++◌, length, map, Option, Some, None, refl, sym, ap, ◌∙◌, subst}
+use Rattle.std.proofs.Common.{◌≡◌, ◌&&◌, ℕ, ◌+◌, Bool, true, false, if◌then◌else◌, List, [], ◌∷◌, map, Option, Some, None, refl, sym, ap, ◌∙◌, subst}
 use Rattle.std.specs.Prelude.{is_some}
-use Rattle.rp_base.specs.Map.{place_of, port_of}
+use Rattle.rp_base.specs.Map.{place_of}
 use Rattle.rp_base.specs.declared.Master.{Master}
 use Rattle.rp_base.specs.declared.Master.TheVariants as master
 use Rattle.rp_base.specs.declared.Request.{Request}
@@ -25,17 +25,15 @@ use Rattle.outer_lane.specs.State.{OuterState}
 use Rattle.outer_lane.specs.Step as outer
 use Rattle.bus_fabric.specs.State.{has_hold}
 use Rattle.sio_block.specs.State.{SioState}
-use Rattle.sio_block.specs.Mailbox.{Mailbox}
-use Rattle.sio_block.specs.Launcher.{offers_of, after_turn, launch_of}
+use Rattle.sio_block.specs.Launcher.{offers_of}
 use Rattle.sio_block.specs.Cycle.{after_cycle}
 use Rattle.rp_machine.specs.declared.begun.Begun.{Begun}
-use Rattle.rp_machine.specs.declared.wanted.Wanted.{Wanted}
 use Rattle.rp_machine.specs.declared.deed.Deed.{Deed}
 use Rattle.rp_machine.specs.declared.deed.Deed.TheVariants as deed
 use Rattle.rp_machine.specs.State.{State}
-use Rattle.rp_machine.specs.Deeds.{port_at, asked_at, asked_of, turn_of, turn_at, stored_at, deed_of}
-use Rattle.rp_machine.specs.Cycle.{wanted, asked, granted, turns, turns_by, with_turns, deeds, deeds_by, with_sio, with_offer, with_pins, pins_of, after_deed, after_launcher, started_by, after_core1, after_masters, with_stores, ended, after_deeds, with_grants, stepped, next_by}
-use Rattle.window_merge.specs.Window.{is_port_of, share_port}
+use Rattle.rp_machine.specs.Deeds.{port_at, asked_at, asked_of, turn_of, stored_at, deed_of}
+use Rattle.rp_machine.specs.Cycle.{wanted, asked, granted, turns, with_turns, deeds, with_sio, with_offer, with_pins, pins_of, after_deed, after_launcher, after_masters, stored, all_stored, with_stores, ended, after_deeds, with_grants, stepped, next_by}
+use Rattle.window_merge.specs.Patch.{sram_after}
 use Rattle.window_merge.specs.Merging.{IsRested, Knows}
 use Rattle.window_merge.proofs.Banks.{HasBank, has_bank}
 use Rattle.window_merge.proofs.InSram.{IsPlaced}
@@ -45,7 +43,7 @@ use Rattle.window_merge.proofs.Ports.{InBank, Apart, free_done, free_after}
 -- ---- one want
 
 in_bank_at : (request : Request) (place : Spot) → is_ram_spot place ≡ true → HasBank place → InBank (asked_at request (port_at place))
-in_bank_at request (spot.Ram index bank) e h = h
+in_bank_at request (spot.Ram index bank) e h = h.1
 in_bank_at request (spot.Reg block offset alias) e h = absurd (cc e)
 in_bank_at request (spot.Sio offset) e h = absurd (cc e)
 in_bank_at request (spot.Ppb offset) e h = absurd (cc e)
@@ -303,3 +301,34 @@ lanes_calm w b s h =
 
 pub calm_next : (w : Setting) (b : Begun) (s : State) → IsCalm b s → IsStepped w b s (next_by w b (wanted b) s)
 calm_next w b s h = subst (IsStepped w b s) (sym (stepped_calm w b s h)) (lanes_calm w b s h)
+
+-- ---- SRAM
+
+stored_calm_by : (w : Setting) (seen : SeenOutputs) (v : Want) (s : State) (sram : List ℕ) → ends_want v ≡ false → IsPlaced v
+    → stored (deed_of w seen (is_some (asked_of v)) v s) sram ≡ sram_after v sram
+unfolding deed_of asked_of
+stored_calm_by w seen want.Nothing s sram calm placed = refl
+stored_calm_by w seen (want.Ram request) s sram calm placed = rw (asks_at request (place_of request.address) placed) refl
+stored_calm_by w seen (want.Outward request) s sram calm placed = absurd (cc calm)
+stored_calm_by w seen want.Signal s sram calm placed = absurd (cc calm)
+stored_calm_by w seen (want.Stopped cause) s sram calm placed = absurd (cc calm)
+
+-- what the masters leave of SRAM, one after the other
+abbrev pub sram_left : Begun → List ℕ → List ℕ
+sram_left b sram =
+    sram_after (dma.want_of b.dma.write) (sram_after (dma.want_of b.dma.read) (sram_after (core.want_of b.core1) (sram_after (core.want_of b.core0) sram)))
+
+after_sram : (w : Setting) (b : Begun) (s : State) → (after_calm w b s).sram ≡ all_stored (calm_deeds w b s) s.sram
+unfolding ended with_sio with_turns
+after_sram w b s = refl
+
+pub calm_sram : (w : Setting) (b : Begun) (s : State) → IsCalm b s → (next_by w b (wanted b) s).sram ≡ sram_left b s.sram
+calm_sram w b s h =
+    ap (λ (t : State). t.sram) (stepped_calm w b s h) ∙ after_sram w b s
+    ∙ rw (
+      stored_calm_by w b.outer (core.want_of b.core0) s s.sram h.calm0 h.placed0,
+      stored_calm_by w b.outer (core.want_of b.core1) s (sram_after (core.want_of b.core0) s.sram) h.calm1 h.placed1,
+      stored_calm_by w b.outer (dma.want_of b.dma.read) s (sram_after (core.want_of b.core1) (sram_after (core.want_of b.core0) s.sram)) h.calm_read h.placed_read,
+      stored_calm_by w b.outer (dma.want_of b.dma.write) s
+          (sram_after (dma.want_of b.dma.read) (sram_after (core.want_of b.core1) (sram_after (core.want_of b.core0) s.sram))) h.calm_write h.placed_write,
+    ) refl

@@ -1,5 +1,5 @@
 -- A look that answers by a log, and compares its answers with the machine's.
-use Rattle.std.proofs.Common.{◌≡◌, ℕ, ◌+◌, ◌<◌, ◌≤◌, Bool, true, false, not, ◌&&◌, ◌||◌, nat_eq, nat_lt, if◌then◌else◌, inl, inr, List, [], ◌∷◌, length, drop, zero, suc, add-one, Option, Some, None, refl, ap, sym, ◌∙◌, subst, arith}
+use Rattle.std.proofs.Common.{◌≡◌, ℕ, ◌+◌, ◌<◌, ◌≤◌, Bool, true, false, not, ◌&&◌, ◌||◌, nat_eq, inl, inr, List, [], ◌∷◌, length, drop, zero, suc, add-one, Option, Some, None, refl, ap, sym, ◌∙◌, subst, arith}
 use Rattle.std.proofs.Math.Bool.{and-true}
 use Rattle.std.proofs.lemmas.Bool.Decides.{leb_tells}
 use Rattle.lane_look.specs.Asking.{Asking, Runs}
@@ -13,32 +13,32 @@ use Rattle.rp_machine.specs.Answers.{answer_of}
 use Rattle.rp_machine.specs.Deeds.{asked_of}
 use Rattle.window_merge.specs.declared.compare.Comparer.{Comparer}
 use Rattle.window_merge.specs.Window.{is_port_of, share_port, clash}
-use Rattle.window_merge.specs.Merging.{next_place}
+use Rattle.window_merge.specs.Merging.{next_index}
 
--- ---- places in a log
+-- ---- indices in a log
 
-pub nothing_left : (log : List Entry) (place : ℕ) → length log ≤ place → drop place log ≡ []
+pub nothing_left : (log : List Entry) (index : ℕ) → length log ≤ index → drop index log ≡ []
 nothing_left [] zero le = refl
-nothing_left [] (suc place) le = refl
+nothing_left [] (suc index) le = refl
 nothing_left (entry ∷ log) zero le = absurd (omega arith)
-nothing_left (entry ∷ log) (suc place) le = nothing_left log place (omega arith)
+nothing_left (entry ∷ log) (suc index) le = nothing_left log index (omega arith)
 
-drop_suc : (log : List Entry) (place : ℕ) → place < length log → drop (suc place) log ≡ others (drop place log)
-drop_suc [] place lt = absurd (omega arith)
+drop_suc : (log : List Entry) (index : ℕ) → index < length log → drop (suc index) log ≡ others (drop index log)
+drop_suc [] index lt = absurd (omega arith)
 drop_suc (entry ∷ log) zero lt = refl
-drop_suc (entry ∷ log) (suc place) lt = drop_suc log place (omega arith)
+drop_suc (entry ∷ log) (suc index) lt = drop_suc log index (omega arith)
 
-drop_next : (log : List Entry) (place : ℕ) → place < length log → drop (place + 1) log ≡ others (drop place log)
-drop_next log place lt = rw add-one (drop_suc log place lt)
+drop_next : (log : List Entry) (index : ℕ) → index < length log → drop (index + 1) log ≡ others (drop index log)
+drop_next log index lt = rw add-one (drop_suc log index lt)
 
-pub behind : (log : List Entry) (place : ℕ) → drop (next_place log place) log ≡ others (drop place log)
-behind log place = elim (leb_tells (suc place) (length log)) [
-  | inl h ↦ rw h.0 (drop_next log place (omega (arith, h.1)))
-  | inr h ↦ let le : length log ≤ place = omega (arith, h.1) in rw (h.0, nothing_left log place le) refl
+pub behind : (log : List Entry) (index : ℕ) → drop (next_index log index) log ≡ others (drop index log)
+behind log index = elim (leb_tells (suc index) (length log)) [
+  | inl h ↦ rw h.0 (drop_next log index (omega (arith, h.1)))
+  | inr h ↦ let le : length log ≤ index = omega (arith, h.1) in rw (h.0, nothing_left log index le) refl
 ]
 
-pub behind_within : (log : List Entry) (place : ℕ) → place ≤ length log → next_place log place ≤ length log
-behind_within log place le = elim (leb_tells (suc place) (length log)) [
+pub behind_within : (log : List Entry) (index : ℕ) → index ≤ length log → next_index log index ≤ length log
+behind_within log index le = elim (leb_tells (suc index) (length log)) [
   | inl h ↦ rw h.0 (omega (arith, h.1))
   | inr h ↦ rw h.0 le
 ]
@@ -46,14 +46,14 @@ behind_within log place le = elim (leb_tells (suc place) (length log)) [
 -- ---- the look
 
 abbrev pub ByBoth : Comparer → Ask → ℕ → Comparer → Type 0
-ByBoth old ask answer new = (answer ≡ first_answer (drop old.place old.log.now)) × (new ≡ record old { place = next_place old.log.now old.place; same = old.same && nat_eq (answer_of old.lane old.machine.now ask) answer })
+ByBoth old ask answer new = (answer ≡ first_answer (drop old.index old.log.now)) × (new ≡ record old { index = next_index old.log.now old.index; same = old.same && nat_eq (answer_of old.lane old.machine.now ask) answer })
 
 -- what was begun by the log, what is left of it, and whether the answers are the same
 pub record Both {B : Type 0} (old : Comparer) (tree : Asking B) (result : B) (new : Comparer) : Type 0 where
-  pub begun : result ≡ told (drop old.place old.log.now) tree
-  pub left_over : drop new.place old.log.now ≡ left (drop old.place old.log.now) tree
-  pub within : old.place ≤ length old.log.now → new.place ≤ length old.log.now
-  pub is_same : new.same ≡ old.same && not (differs (answer_of old.lane old.machine.now) (talk (drop old.place old.log.now) tree))
+  pub begun : result ≡ told (drop old.index old.log.now) tree
+  pub left_over : drop new.index old.log.now ≡ left (drop old.index old.log.now) tree
+  pub within : old.index ≤ length old.log.now → new.index ≤ length old.log.now
+  pub is_same : new.same ≡ old.same && not (differs (answer_of old.lane old.machine.now) (talk (drop old.index old.log.now) tree))
 
 all_same : (a b c : Bool) → (a && b) && not c ≡ a && not (not b || c)
 all_same true true c = refl
@@ -63,26 +63,26 @@ all_same false b c = refl
 pub runs_both : {B : Type 0} (old : Comparer) (tree : Asking B) (result : B) (new : Comparer) → Runs ByBoth old tree result new → Both old tree result new
 runs_both old (Ready begun) result new r = record {
   begun = r.1;
-  left_over = ap (λ (k : Comparer). drop k.place old.log.now) r.0;
+  left_over = ap (λ (k : Comparer). drop k.index old.log.now) r.0;
   within = λ le. rw r.0 le;
   is_same = ap (λ (k : Comparer). k.same) r.0 ∙ sym (and-true old.same);
 }
 runs_both old (Question ask next) result new r =
     let log = old.log.now in
     let f = answer_of old.lane old.machine.now in
-    let x = first_answer (drop old.place log) in
-    let mid : Comparer = record old { place = next_place log old.place; same = old.same && nat_eq (f ask) x } in
-    let e_mid : r.1 ≡ mid = r.2.1 ∙ ap (λ (y : ℕ). record old { place = next_place log old.place; same = old.same && nat_eq (f ask) y }) r.2.0 in
+    let x = first_answer (drop old.index log) in
+    let mid : Comparer = record old { index = next_index log old.index; same = old.same && nat_eq (f ask) x } in
+    let e_mid : r.1 ≡ mid = r.2.1 ∙ ap (λ (y : ℕ). record old { index = next_index log old.index; same = old.same && nat_eq (f ask) y }) r.2.0 in
     let here : Runs ByBoth mid (next r.0) result new = subst (λ (k : Comparer). Runs ByBoth k (next r.0) result new) e_mid r.3 in
     let there : Runs ByBoth mid (next x) result new = subst (λ (y : ℕ). Runs ByBoth mid (next y) result new) r.2.0 here in
     let rest = runs_both mid (next x) result new there in
-    let e_rest : drop (next_place log old.place) log ≡ others (drop old.place log) = behind log old.place in
+    let e_rest : drop (next_index log old.index) log ≡ others (drop old.index log) = behind log old.index in
     record {
       begun = rest.begun ∙ ap (λ (es : List Entry). told es (next x)) e_rest;
       left_over = rest.left_over ∙ ap (λ (es : List Entry). left es (next x)) e_rest;
-      within = λ le. rest.within (behind_within log old.place le);
+      within = λ le. rest.within (behind_within log old.index le);
       is_same = rest.is_same ∙ ap (λ (es : List Entry). (old.same && nat_eq (f ask) x) && not (differs f (talk es (next x)))) e_rest
-          ∙ all_same old.same (nat_eq (f ask) x) (differs f (talk (others (drop old.place log)) (next x)));
+          ∙ all_same old.same (nat_eq (f ask) x) (differs f (talk (others (drop old.index log)) (next x)));
     }
 
 -- ---- four wants among twelve

@@ -1,5 +1,5 @@
 -- A lane that runs alone by copies goes the way of one that runs alone in the state that was copied.
-use Rattle.std.proofs.Common.{◌≡◌, ◌==◌, ℕ, zero, suc, ◌+◌, ◌<◌, Bool, true, false, if◌then◌else◌, List, [], ◌∷◌, ◌++◌, refl, ap, sym, ◌∙◌, arith}
+use Rattle.std.proofs.Common.{◌≡◌, ◌==◌, ℕ, zero, suc, ◌+◌, Bool, true, false, if◌then◌else◌, List, [], ◌∷◌, refl, ap, ◌∙◌}
 use Rattle.lane_look.specs.Asking.{Asking, answered}
 use Rattle.lane_look.specs.Asking.Asking.{Ready, Question}
 use Rattle.lane_look.specs.declared.lane.Ask.{Ask}
@@ -7,7 +7,7 @@ use Rattle.lane_look.specs.declared.lane.Ask.TheVariants as ask
 use Rattle.lane_look.specs.declared.lane.Want.{Want}
 use Rattle.lane_look.specs.declared.lane.Want.TheVariants as want
 use Rattle.lane_look.specs.declared.marks.Mark.{Mark}
-use Rattle.lane_look.specs.Replay.{Meaning, meaning, Entry, asked, after_begun, marks_with}
+use Rattle.lane_look.specs.Replay.{Meaning, Entry, asked, after_begun, marks_with}
 use Rattle.lane_look.specs.Alone.{Surroundings, surroundings, Alone, standing, all_stored, begun_alone, alone_cycle, alone, ends_wants, ends_now, ends_at, first_from, least, alone_length}
 use Rattle.rp_machine.specs.State.{State}
 use Rattle.pio_block.specs.Words as pio

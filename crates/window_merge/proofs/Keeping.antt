@@ -1,7 +1,6 @@
 -- What a cycle of a lane leaves of the copies that it has of the rest of the machine.
 use Rattle.std.proofs.Common.{◌≡◌, ◌==◌, ◌+◌, nat_lt, slice_get, ℕ, Bool, true, false, if◌then◌else◌, List, Option, Some, None, refl, ◌∙◌}
 use Rattle.rp_base.specs.declared.Request.{Request}
-use Rattle.rp_base.specs.declared.op.Op.{Op}
 use Rattle.lane_look.specs.declared.lane.Turn.{Turn}
 use Rattle.m0_core.specs.declared.doing.Act.{Act}
 use Rattle.m0_core.specs.declared.doing.Act.TheVariants as act

@@ -1,10 +1,10 @@
 -- One lane of a window: where it stands after k cycles, and what its run alone makes of the next one.
-use Rattle.std.proofs.Common.{◌≡◌, ◌≢◌, ℕ, zero, suc, ◌+◌, ◌<◌, ◌≤◌, Bool, true, false, if◌then◌else◌, inl, inr, List, [], ◌∷◌, ◌++◌, refl, ap, sym, ◌∙◌, arith}
+use Rattle.std.proofs.Common.{◌≡◌, ◌≢◌, ℕ, zero, suc, ◌+◌, ◌<◌, ◌≤◌, Bool, true, false, if◌then◌else◌, inl, inr, List, ◌++◌, refl, ap, sym, ◌∙◌, arith}
 use Rattle.std.proofs.lemmas.Bool.Decides.{eqb_tells}
 use Rattle.lane_look.specs.Asking.{answered}
 use Rattle.lane_look.specs.declared.lane.Ask.{Ask}
 use Rattle.lane_look.specs.Replay.{Meaning, Entry, told, left, talk, after_begun}
-use Rattle.lane_look.specs.Alone.{ends_wants, ends_at, first_from, least, alone, alone_length, wanted_in, asked_in, differs}
+use Rattle.lane_look.specs.Alone.{ends_wants, ends_at, first_from, least, alone, alone_length, wanted_in, differs}
 use Rattle.rp_machine.specs.State.{State}
 use Rattle.rp_machine.specs.Answers.{answer_of}
 use Rattle.window_merge.specs.Lanes.{around}
@@ -59,7 +59,7 @@ lane_next m lane before s n k state cycle rest state' rest' h on t e_state e_res
     record { is_alone = e_state ∙ t.state_after; is_log = rw e_rest t.left_over; within = omega arith }
 
 -- its run goes on, so it wants nothing, or an access to SRAM
-ends_is : {S B : Type 0} (m : Meaning (Unit {0}) S B) (lane : ℕ) (before : S) (s : State) (k : ℕ) → ends_at m (around lane) tt before s.cycle s k ≡ ends_wants (wanted_in m (around lane) tt before s.cycle s k)
+pub ends_is : {S B : Type 0} (m : Meaning (Unit {0}) S B) (lane : ℕ) (before : S) (s : State) (k : ℕ) → ends_at m (around lane) tt before s.cycle s k ≡ ends_wants (wanted_in m (around lane) tt before s.cycle s k)
 unfolding ends_at wanted_in
 ends_is m lane before s k = refl
 

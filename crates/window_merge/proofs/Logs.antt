@@ -1,8 +1,8 @@
--- Lists: what stands at a place, and before it.
+-- Lists: what stands at an index, and before it.
 use Rattle.std.proofs.Common.{◌≡◌, ℕ, zero, suc, ◌<◌, List, [], ◌∷◌, ◌++◌, length, take, Some, refl, ap, arith}
 use Rattle.std.specs.List.{slice_get}
 
--- the entries before the next place
+-- the entries before the next index
 pub take_more : {A : Type 0} (xs : List A) (k : ℕ) (x : A) → slice_get xs k ≡ Some x → take (suc k) xs ≡ take k xs ++ x ∷ []
 take_more [] k x e = absurd (cc e)
 take_more (y ∷ xs) zero x e = cc e

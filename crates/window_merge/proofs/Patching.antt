@@ -14,7 +14,7 @@ unfolding patched
 patched-append [] word sram = refl
 patched-append (w ∷ words) word sram = patched-append words word (slice_set sram w.0 w.1)
 
-set-length : (xs : List ℕ) (i x : ℕ) → length (set xs i x) ≡ length xs
+pub set-length : (xs : List ℕ) (i x : ℕ) → length (set xs i x) ≡ length xs
 set-length [] i x = refl
 set-length (y ∷ xs) zero x = refl
 set-length (y ∷ xs) (suc i) x = ap suc (set-length xs i x)

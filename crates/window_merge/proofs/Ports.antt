@@ -1,15 +1,13 @@
 -- Where no two accesses to SRAM name one port, and no access lasts, each of them is done.
-use Rattle.std.proofs.Common.{◌≡◌, ◌≢◌, ◌==◌, ℕ, ◌<◌, Bool, true, false, not, ◌||◌, ◌&&◌, nat_eq, inl, inr, List, [], ◌∷◌, Option, Some, None, refl, sym, ap, ◌∙◌, arith}
-use Rattle.std.specs.Prelude.{is_some, is_none}
-use Rattle.std.specs.List.{list_all, find}
+use Rattle.std.proofs.Common.{◌≡◌, ◌≢◌, ℕ, ◌<◌, Bool, true, false, nat_eq, inl, inr, List, [], ◌∷◌, Option, Some, None, refl, ap, ◌∙◌, arith}
+use Rattle.std.specs.Prelude.{is_some}
 use Rattle.std.proofs.lemmas.Bool.Decides.{eqb_tells}
 use Rattle.rp_base.specs.declared.Master.{Master}
 use Rattle.rp_base.specs.declared.Master.TheVariants.{Core0, Core1, DmaRead, DmaWrite}
 use Rattle.bus_fabric.specs.declared.Hold.{Hold}
-use Rattle.bus_fabric.specs.Masters.{masters, Access, access_of, is_on, asks_on}
+use Rattle.bus_fabric.specs.Masters.{Access, access_of, is_on, asks_on}
 use Rattle.bus_fabric.specs.State.{Crossbar, last_on, has_hold}
-use Rattle.bus_fabric.specs.Grant.{apb, is_high, wins, winner_of, is_done, done_of, hold_after, after_grant}
-use Rattle.bus_fabric.specs.Laws.{IsArbitrated}
+use Rattle.bus_fabric.specs.Grant.{apb, is_high, winner_of, is_done, done_of, hold_after, after_grant}
 use Rattle.bus_fabric.proofs.Arbitration.{arbitrated}
 use Rattle.window_merge.specs.Window.{is_port_of}
 

@@ -1,10 +1,9 @@
 -- The same lane in two environments: what is true of its replays and runs in the one is true in the other.
-use Rattle.std.proofs.Common.{◌≡◌, ℕ, zero, suc, ◌+◌, List, ◌++◌, refl, ap, sym, ◌∙◌}
-use Rattle.lane_look.specs.declared.marks.Mark.{Mark}
+use Rattle.std.proofs.Common.{◌≡◌, ℕ, zero, suc, ◌+◌, List, refl, ap, sym, ◌∙◌}
 use Rattle.lane_look.specs.declared.replay.Report.{Report}
 use Rattle.lane_look.specs.Asking.{Asking}
-use Rattle.lane_look.specs.Replay.{Meaning, Entry, Replay, told, left, talk, after_begun, marks_with, replay_by, replay_cycle, replayed}
-use Rattle.lane_look.specs.Alone.{Surroundings, Alone, alone, alone_length}
+use Rattle.lane_look.specs.Replay.{Meaning, Entry, Replay, told, after_begun, marks_with, replay_by, replay_cycle, replayed}
+use Rattle.lane_look.specs.Alone.{Surroundings, Alone}
 use Rattle.lane_look.specs.Truth.{IsTrue}
 use Rattle.window_merge.specs.Jobs.{RanIn}
 use Rattle.window_merge.proofs.Copying.{Copied, SameLane, alone_same, length_same}

@@ -1,23 +1,19 @@
 -- The run alone by what a job holds is that from the state which the job was taken from; and six reports in order.
-use Rattle.std.proofs.Common.{◌≡◌, ℕ, suc, ◌-◌, nat_le, if◌then◌else◌, List, [], ◌∷◌, Option, Some, None, refl, ap, sym, ◌∙◌, subst}
+use Rattle.std.proofs.Common.{◌≡◌, ℕ, Some, refl, ap, ◌∙◌, subst}
 use Rattle.lane_look.specs.declared.replay.Report.{Report}
 use Rattle.lane_look.specs.Replay.{Meaning}
 use Rattle.m0_core.specs.State.{State as Core}
-use Rattle.dma_engine.specs.State.{Engine}
-use Rattle.pio_block.specs.State.{Block as Pio}
-use Rattle.outer_lane.specs.State.{OuterState}
 use Rattle.outer_lane.specs.Setting.{Setting}
 use Rattle.rp_machine.specs.State.{State}
 use Rattle.window_merge.specs.declared.copies.Copies.{Copies}
 use Rattle.window_merge.specs.declared.lane_run.LaneRun.{LaneRun}
 use Rattle.window_merge.specs.declared.lane_run.LaneRun.TheVariants as run
 use Rattle.window_merge.specs.declared.lane_job.LaneJob.{LaneJob}
-use Rattle.window_merge.specs.declared.lane_job.LaneReport.{LaneReport}
-use Rattle.window_merge.specs.Around.{copies_of, copied, RanAlone}
+use Rattle.window_merge.specs.Around.{copies_of, copied}
 use Rattle.window_merge.specs.Lanes.{core_lane, dma_lane, pio_lane, peripheral_lane}
 use Rattle.window_merge.specs.Window.{longest}
 use Rattle.window_merge.specs.Merging.{IsRunAlone}
-use Rattle.window_merge.specs.Jobs.{core_of, block_of, core_bound, BeginsIn, HasLane, IsJobOf, IsAloneBy, IsAlone, RanIn, Ran, longest_by}
+use Rattle.window_merge.specs.Jobs.{core_of, block_of, core_bound, BeginsIn, HasLane, IsJobOf, IsAloneBy, RanIn, Ran, longest_by}
 use Rattle.window_merge.proofs.Copying.{as_run_alone}
 
 one_alone : {S B : Type 0} (m : Meaning (Unit {0}) S B) (lane : ℕ) (before room : S) (s : State) (start : ℕ) (copies : Copies) (bound bound' : ℕ) (report : Report S)

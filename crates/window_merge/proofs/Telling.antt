@@ -137,8 +137,8 @@ abbrev answer_in : Option Entry → ℕ
 answer_in None = 0
 answer_in (Some entry) = entry.1
 
-same_place : (log run : List Entry) (n p : ℕ) → DifferAt log run n → OtherAnswerAt log run p → p ≡ n
-same_place log run n p d o = elim (below_or_not n p) [
+same_index : (log run : List Entry) (n p : ℕ) → DifferAt log run n → OtherAnswerAt log run p → p ≡ n
+same_index log run n p d o = elim (below_or_not n p) [
   | inl lt ↦ absurd (d.other_there (below log run n p lt o.same_before))
   | inr le ↦ elim (below_or_not p n) [
     | inl lt ↦
@@ -159,7 +159,7 @@ other_at_end m lane s report n h d (inl level) =
 other_at_end m lane s report n h d (inr other) =
     let run = (alone m (around lane) tt report.before report.start s report.length).talk in
     let o : OtherAnswerAt report.log run other.0 = subst (λ (l : List Entry). OtherAnswerAt l run other.0) h.whole other.1 in
-    subst (λ p. OtherAnswerAt report.log run p) (same_place report.log run n other.0 d o) o
+    subst (λ p. OtherAnswerAt report.log run p) (same_index report.log run n other.0 d o) o
 
 pub other_answer : {S B : Type 0} (m : Meaning (Unit {0}) S B) (lane : ℕ) (before : S) (s : State) (report : Report S) (n : ℕ) → IsTrue m tt report
     → report.start ≡ s.cycle → report.before ≡ before → DifferAt report.log (talk_alone m lane before s report.length) n

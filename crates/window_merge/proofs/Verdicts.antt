@@ -34,11 +34,11 @@ both false b e = absurd (cc e)
 
 same_logs : (log talk : List Entry) (other : Option ℕ) → IsFirstOther log talk other → is_none other ≡ true → log ≡ talk
 same_logs log talk None h e = h
-same_logs log talk (Some place) h e = absurd (cc e)
+same_logs log talk (Some index) h e = absurd (cc e)
 
 no_other : (log talk : List Entry) (other : Option ℕ) → IsFirstOther log talk other → log ≡ talk → is_none other ≡ true
 no_other log talk None h e = refl
-no_other log talk (Some place) h e = absurd (h.other_there (ap (λ (l : List Entry). slice_get l place) e))
+no_other log talk (Some index) h e = absurd (h.other_there (ap (λ (l : List Entry). slice_get l index) e))
 
 both_true : (a b : Bool) → a ≡ true → b ≡ true → (a && b) ≡ true
 both_true a b e_a e_b = rw (e_a, e_b) refl
@@ -46,7 +46,7 @@ both_true a b e_a e_b = rw (e_a, e_b) refl
 unlike : {S B : Type 0} (m : Meaning (Unit {0}) S B) (lane : ℕ) (before : S) (s : State) (report : Report S) (other : Option ℕ)
     → report.before ≡ before → IsFirstOther report.log (talk_alone m lane before s report.length) other → IsUnlike m lane before s report other
 unlike m lane before s report None e_before h = λ _. h
-unlike m lane before s report (Some place) e_before h = (e_before, h)
+unlike m lane before s report (Some index) e_before h = (e_before, h)
 
 if_err : (P : Option ℕ → Type 0) (result : Result (Unit {0}) (Option ℕ)) (other : Option ℕ) → IfErr result (λ entry. entry ≡ other) → P other → IfErr result P
 if_err P (Ok x) other e h = tt
@@ -142,7 +142,7 @@ by_limit w s report n start result h e_start e_n j =
 one_strange : {S B : Type 0} (m : Meaning (Unit {0}) S B) (lane : ℕ) (before : S) (s : State) (report : Report S) (entry : Option ℕ) → IsTrue m tt report → report.start ≡ s.cycle
     → IsUnlike m lane before s report entry → IsStrange m lane before s report entry
 one_strange m lane before s report None h e_start u = λ _ e. u e
-one_strange m lane before s report (Some place) h e_start u = (e_start, u.0, other_answer m lane before s report place h e_start u.0 u.1)
+one_strange m lane before s report (Some index) h e_start u = (e_start, u.0, other_answer m lane before s report index h e_start u.0 u.1)
 
 strange_by : (w : Setting) (s : State) (lane : ℕ) (r : LaneRun) (entry : Option ℕ) → IsTrueRun w r → start_of r ≡ s.cycle → IsUnlikeBy w s lane r entry → IsStrangeBy w s lane r entry
 strange_by w s lane (run.Core report) entry h e u = one_strange core_lane lane (core_of lane s) s report entry h e u

@@ -20,40 +20,40 @@ use Rattle.window_merge.specs.Patch.{patched, sram_after}
 use Rattle.window_merge.specs.Accept.{talk_alone}
 use Rattle.window_merge.specs.Judged.{IsFirstOther}
 use Rattle.window_merge.specs.Walks.{seen_by, IsCompared, GoesOn, Answers, IsStepped, IsMet, IsWalked}
-use Rattle.window_merge.proofs.Cutting.{least_meets}
+use Rattle.window_merge.proofs.Meeting.{least_meets}
 use Rattle.window_merge.proofs.Lanes.{below_least}
 use Rattle.window_merge.proofs.Logs.{take_more, get-append, get-seam}
 
 -- ---- two logs
 
 -- they differ where one more entry follows
-still : (log talk more : List Entry) (place : ℕ) → IsCompared log talk place false → IsCompared log (talk ++ more) place false
-still log talk more place h =
-    let lt : place < length talk = h.0 in (
+still : (log talk more : List Entry) (index : ℕ) → IsCompared log talk index false → IsCompared log (talk ++ more) index false
+still log talk more index h =
+    let lt : index < length talk = h.0 in (
       omega (arith, lt, length-append talk more),
       record {
-        same_before = h.1.same_before ∙ sym (take-append-le place talk more (omega (arith, lt)));
-        other_there = λ e. h.1.other_there (e ∙ get-append talk more place lt);
+        same_before = h.1.same_before ∙ sym (take-append-le index talk more (omega (arith, lt)));
+        other_there = λ e. h.1.other_there (e ∙ get-append talk more index lt);
       },
     )
 
-pub still_other : (log : List Entry) (entry : Entry) (place : ℕ) (same : Bool) → same ≡ false → GoesOn log (entry ∷ []) place same place false
-still_other log entry place true e = absurd (cc e)
-still_other log entry place false e = λ talk h. still log talk (entry ∷ []) place h
+pub still_other : (log : List Entry) (entry : Entry) (index : ℕ) (same : Bool) → same ≡ false → GoesOn log (entry ∷ []) index same index false
+still_other log entry index true e = absurd (cc e)
+still_other log entry index false e = λ talk h. still log talk (entry ∷ []) index h
 
 -- the next entry is the same
-pub one_more : (log : List Entry) (entry next : Entry) (place : ℕ) (same : Bool) → same ≡ true → slice_get log place ≡ Some next → next ≡ entry
-    → GoesOn log (entry ∷ []) place same (place + 1) true
-one_more log entry next place false e e_get e_next = absurd (cc e)
-one_more log entry next place true e e_get e_next = λ talk h. (
+pub one_more : (log : List Entry) (entry next : Entry) (index : ℕ) (same : Bool) → same ≡ true → slice_get log index ≡ Some next → next ≡ entry
+    → GoesOn log (entry ∷ []) index same (index + 1) true
+one_more log entry next index false e e_get e_next = absurd (cc e)
+one_more log entry next index true e e_get e_next = λ talk h. (
   let one = length-append talk (entry ∷ []) in omega (arith, one, h.0),
-  ap (λ n. take n log) (add-one place) ∙ take_more log place next e_get ∙ ap (λ (l : List Entry). l ++ next ∷ []) h.1 ∙ ap (λ (x : Entry). talk ++ x ∷ []) e_next,
+  ap (λ n. take n log) (add-one index) ∙ take_more log index next e_get ∙ ap (λ (l : List Entry). l ++ next ∷ []) h.1 ∙ ap (λ (x : Entry). talk ++ x ∷ []) e_next,
 )
 
 -- the next entry is another one, or there is none
-pub now_other : (log : List Entry) (entry : Entry) (place : ℕ) (same : Bool) → slice_get log place ≢ Some entry → same ≡ true → GoesOn log (entry ∷ []) place same place false
-now_other log entry place false other e = absurd (cc e)
-now_other log entry place true other e = λ talk h. (
+pub now_other : (log : List Entry) (entry : Entry) (index : ℕ) (same : Bool) → slice_get log index ≢ Some entry → same ≡ true → GoesOn log (entry ∷ []) index same index false
+now_other log entry index false other e = absurd (cc e)
+now_other log entry index true other e = λ talk h. (
   let one = length-append talk (entry ∷ []) in omega (arith, one, h.0),
   record {
     same_before = h.1 ∙ sym (ap (λ n. take n (talk ++ entry ∷ [])) h.0 ∙ take-append_seam talk (entry ∷ []));
@@ -61,8 +61,8 @@ now_other log entry place true other e = λ talk h. (
   },
 )
 
-pub not_next : (log : List Entry) (place : ℕ) (next entry : Entry) → slice_get log place ≡ Some next → (next ≡ entry → ⊥) → slice_get log place ≢ Some entry
-not_next log place next entry e_get other e = other (cc (e_get, e))
+pub not_next : (log : List Entry) (index : ℕ) (next entry : Entry) → slice_get log index ≡ Some next → (next ≡ entry → ⊥) → slice_get log index ≢ Some entry
+not_next log index next entry e_get other e = other (cc (e_get, e))
 
 -- ---- what the walker answers, and does
 
@@ -92,36 +92,36 @@ stores_over words new s want.Signal e = ap (λ (l : List ℕ). record s { sram =
 stores_over words new s (want.Stopped cause) e = ap (λ (l : List ℕ). record s { sram = l }) e
 
 abbrev with_found : Walker → ℕ → Bool → Walker
-with_found k place same = record k { place = place; same = same }
+with_found k index same = record k { index = index; same = same }
 
 -- what was begun is what the state answers, and the questions are compared
 pub record Found {B : Type 0} (old : Walker) (tree : Asking B) (result : B) (new : Walker) : Type 0 where
   pub begun : result ≡ answered (answer_of old.lane (seen_by old)) tree
-  pub kept : new ≡ with_found old new.place new.same
-  pub goes_on : GoesOn old.log.now (asked (answer_of old.lane (seen_by old)) tree) old.place old.same new.place new.same
+  pub kept : new ≡ with_found old new.index new.same
+  pub goes_on : GoesOn old.log.now (asked (answer_of old.lane (seen_by old)) tree) old.index old.same new.index new.same
 
-found : {B : Type 0} (k : Walker) (place : ℕ) (same : Bool) (tree : Asking B) (result : B) (new : Walker) → Runs Answers (with_found k place same) tree result new → Found (with_found k place same) tree result new
-found k place same (Ready begun) result new r = record {
+found : {B : Type 0} (k : Walker) (index : ℕ) (same : Bool) (tree : Asking B) (result : B) (new : Walker) → Runs Answers (with_found k index same) tree result new → Found (with_found k index same) tree result new
+found k index same (Ready begun) result new r = record {
   begun = r.1;
-  kept = r.0 ∙ ap (λ (x : Walker). with_found k x.place x.same) (sym r.0);
-  goes_on = λ talk h. subst (λ (x : Walker). IsCompared k.log.now (talk ++ []) x.place x.same) (sym r.0)
-      (subst (λ (l : List Entry). IsCompared k.log.now l place same) (sym (append-nil talk)) h);
+  kept = r.0 ∙ ap (λ (x : Walker). with_found k x.index x.same) (sym r.0);
+  goes_on = λ talk h. subst (λ (x : Walker). IsCompared k.log.now (talk ++ []) x.index x.same) (sym r.0)
+      (subst (λ (l : List Entry). IsCompared k.log.now l index same) (sym (append-nil talk)) h);
 }
-found {B} k place same (Question ask next) result new r =
+found {B} k index same (Question ask next) result new r =
     let f = answer_of k.lane (seen_by k) in
-    let here : Runs Answers (with_found k r.1.place r.1.same) (next r.0) result new = subst (λ (x : Walker). Runs Answers x (next r.0) result new) r.2.1 r.3 in
-    let there : Runs Answers (with_found k r.1.place r.1.same) (next (f ask)) result new = subst (λ (x : ℕ). Runs Answers (with_found k r.1.place r.1.same) (next x) result new) r.2.0 here in
-    let rest = found k r.1.place r.1.same (next (f ask)) result new there in
+    let here : Runs Answers (with_found k r.1.index r.1.same) (next r.0) result new = subst (λ (x : Walker). Runs Answers x (next r.0) result new) r.2.1 r.3 in
+    let there : Runs Answers (with_found k r.1.index r.1.same) (next (f ask)) result new = subst (λ (x : ℕ). Runs Answers (with_found k r.1.index r.1.same) (next x) result new) r.2.0 here in
+    let rest = found k r.1.index r.1.same (next (f ask)) result new there in
     record {
       begun = rest.begun;
       kept = rest.kept;
       goes_on = λ talk h.
-          subst (λ (l : List Entry). IsCompared k.log.now l new.place new.same) (append_assoc talk ((ask, f ask) ∷ []) (asked f (next (f ask))))
-          (rest.goes_on (talk ++ (ask, f ask) ∷ []) (subst (λ (x : ℕ). IsCompared k.log.now (talk ++ (ask, x) ∷ []) r.1.place r.1.same) r.2.0 (r.2.2 talk h)));
+          subst (λ (l : List Entry). IsCompared k.log.now l new.index new.same) (append_assoc talk ((ask, f ask) ∷ []) (asked f (next (f ask))))
+          (rest.goes_on (talk ++ (ask, f ask) ∷ []) (subst (λ (x : ℕ). IsCompared k.log.now (talk ++ (ask, x) ∷ []) r.1.index r.1.same) r.2.0 (r.2.2 talk h)));
     }
 
 pub runs_found : {B : Type 0} (k : Walker) (tree : Asking B) (result : B) (new : Walker) → Runs Answers k tree result new → Found k tree result new
-runs_found k tree result new r = found k k.place k.same tree result new r
+runs_found k tree result new r = found k k.index k.same tree result new r
 
 -- ---- one cycle
 
@@ -137,7 +137,7 @@ stepped {S} {B} m cycle lane lane' begun k mid k' wants ends h e_wants e_lane e_
       is_end = e_ends ∙ ap ends_wants e_wanted;
       is_state = e_lane ∙ ap (λ (b : B). after_begun m tt lane b) e_begun;
       is_around = e_seen ∙ ap (λ (x : Walker). all_stored (around x.lane) (seen_by x) wants) h.kept ∙ ap (all_stored (around k.lane) (seen_by k)) e_wanted;
-      goes_on = subst (λ (x : Walker). GoesOn k.log.now (asked (answer_of k.lane (seen_by k)) (m.asks tt lane cycle)) k.place k.same x.place x.same) (sym e_rest) h.goes_on;
+      goes_on = subst (λ (x : Walker). GoesOn k.log.now (asked (answer_of k.lane (seen_by k)) (m.asks tt lane cycle)) k.index k.same x.index x.same) (sym e_rest) h.goes_on;
       same_lane = ap (λ (x : Walker). x.lane) e_rest ∙ ap (λ (x : Walker). x.lane) h.kept;
       same_log = ap (λ (x : Walker). x.log) e_rest ∙ ap (λ (x : Walker). x.log) h.kept;
       few = omega (arith, few, same_words);
@@ -174,13 +174,13 @@ met_next test k false false h e = λ j lt. elim (eqb_tells j k) [
   | inr is ↦ h j (omega (arith, lt, is.1))
 ]
 
-pub walk_first : {S B : Type 0} (m : Meaning (Unit {0}) S B) (before : S) (start : ℕ) (first : Walker) → first.words ≡ [] → first.place ≡ 0 → first.same ≡ true
+pub walk_first : {S B : Type 0} (m : Meaning (Unit {0}) S B) (before : S) (start : ℕ) (first : Walker) → first.words ≡ [] → first.index ≡ 0 → first.same ≡ true
     → IsWalked m before start first 0 before first false
 unfolding alone
-walk_first m before start first e_words e_place e_same = record {
+walk_first m before start first e_words e_index e_same = record {
   is_state = refl;
   is_around = refl;
-  is_compared = subst (λ (b : Bool). IsCompared first.log.now [] first.place b) (sym e_same) (e_place, ap (λ n. take n first.log.now) e_place);
+  is_compared = subst (λ (b : Bool). IsCompared first.log.now [] first.index b) (sym e_same) (e_index, ap (λ n. take n first.log.now) e_index);
   is_ended = λ j lt. absurd (omega (arith, lt));
   same_lane = refl;
   same_log = refl;
@@ -195,15 +195,15 @@ walk_on {S} m before start first n lane lane' k k' cycle ended ends h step e_cyc
     let a = alone m (around first.lane) tt before start (seen_by first) n in
     let e = turned_same m k.lane first.lane cycle (start + n) lane a.state (seen_by k) a.around h.same_lane e_cycle h.is_state h.is_around in
     let log : k.log.now ≡ first.log.now = ap (λ l. l.now) h.same_log in
-    let before_it : IsCompared k.log.now a.talk k.place k.same = subst (λ (l : List Entry). IsCompared l a.talk k.place k.same) (sym log) h.is_compared in
+    let before_it : IsCompared k.log.now a.talk k.index k.same = subst (λ (l : List Entry). IsCompared l a.talk k.index k.same) (sym log) h.is_compared in
     let after_it = step.goes_on a.talk before_it in
     let few = h.few in
     let more = step.few in
     record {
       is_state = step.is_state ∙ ap (λ (t : Turned S). t.state) e;
       is_around = step.is_around ∙ ap (λ (t : Turned S). t.round) e;
-      is_compared = subst (λ (t : List Entry). IsCompared first.log.now (a.talk ++ t) k'.place k'.same) (ap (λ (t : Turned S). t.talk) e)
-          (subst (λ (l : List Entry). IsCompared l (a.talk ++ asked (answer_of k.lane (seen_by k)) (m.asks tt lane cycle)) k'.place k'.same) log after_it);
+      is_compared = subst (λ (t : List Entry). IsCompared first.log.now (a.talk ++ t) k'.index k'.same) (ap (λ (t : Turned S). t.talk) e)
+          (subst (λ (l : List Entry). IsCompared l (a.talk ++ asked (answer_of k.lane (seen_by k)) (m.asks tt lane cycle)) k'.index k'.same) log after_it);
       is_ended = met_next (ends_at m (around first.lane) tt before start (seen_by first)) n ended ends h.is_ended (step.is_end ∙ ap (λ (t : Turned S). t.ends) e);
       same_lane = step.same_lane ∙ h.same_lane;
       same_log = step.same_log ∙ h.same_log;
@@ -272,7 +272,7 @@ unwritten k s e_words e_machine = ap (λ w. record k.machine.now { sram = patche
 
 pub walked_other : {S B : Type 0} (m : Meaning (Unit {0}) S B) (before : S) (start : ℕ) (first : Walker) (cycles : ℕ) (lane : S) (k : Walker) (ended : Bool) (s : State) (number : ℕ) (log : List Entry) (result : Option ℕ)
     → IsWalked m before start first cycles lane k ended → first.lane ≡ number → first.words ≡ [] → first.machine.now ≡ s → start ≡ s.cycle → first.log.now ≡ log
-    → ((talk : List Entry) → IsCompared log talk k.place k.same → IsFirstOther log talk result) → IsFirstOther log (talk_alone m number before s cycles) result
+    → ((talk : List Entry) → IsCompared log talk k.index k.same → IsFirstOther log talk result) → IsFirstOther log (talk_alone m number before s cycles) result
 walked_other m before start first cycles lane k ended s number log result h e_lane e_words e_machine e_start e_log tells =
     let e_seen = unwritten first s e_words e_machine in
     let e : (alone m (around first.lane) tt before start (seen_by first) cycles).talk ≡ talk_alone m number before s cycles =
@@ -280,8 +280,8 @@ walked_other m before start first cycles lane k ended s number log result h e_la
     ∙ ap (λ (x : State). (alone m (around number) tt before start x cycles).talk) e_seen
     ∙ ap (λ c. (alone m (around number) tt before c s cycles).talk) e_start in
     tells (talk_alone m number before s cycles)
-    (subst (λ (l : List Entry). IsCompared l (talk_alone m number before s cycles) k.place k.same) e_log
-    (subst (λ (l : List Entry). IsCompared first.log.now l k.place k.same) e h.is_compared))
+    (subst (λ (l : List Entry). IsCompared l (talk_alone m number before s cycles) k.index k.same) e_log
+    (subst (λ (l : List Entry). IsCompared first.log.now l k.index k.same) e h.is_compared))
 
 pub walked_length : {S B : Type 0} (m : Meaning (Unit {0}) S B) (before : S) (start : ℕ) (first : Walker) (cycles : ℕ) (lane : S) (k : Walker) (ended : Bool) (s : State) (number bound : ℕ) (result : Bool)
     → IsWalked m before start first cycles lane k ended → first.lane ≡ number → first.words ≡ [] → first.machine.now ≡ s → start ≡ s.cycle

@@ -1,15 +1,13 @@
 -- A window, cycle by cycle: where the machine, the six lanes and their logs stand.
-use Rattle.std.proofs.Common.{◌≡◌, ◌≢◌, ℕ, zero, suc, ◌+◌, ◌-◌, ◌<◌, ◌≤◌, ◌==◌, Bool, true, false, not, ◌||◌, ◌&&◌, nat_eq, nat_le, if◌then◌else◌, inl, inr, List, [], ◌∷◌, ◌++◌, length, length-append, map, Option, Some, None, refl, ap, sym, ◌∙◌, subst, add-one, arith}
+use Rattle.std.proofs.Common.{◌≡◌, ◌≢◌, ℕ, ◌+◌, ◌-◌, ◌<◌, ◌≤◌, Bool, true, false, not, ◌||◌, ◌&&◌, nat_eq, if◌then◌else◌, inl, inr, List, [], ◌∷◌, ◌++◌, length, length-append, None, refl, ap, sym, ◌∙◌, subst, add-one, arith}
 use Rattle.std.proofs.lemmas.Bool.Decides.{eqb_tells, leb_tells}
-use Rattle.lane_look.specs.Asking.{answered}
 use Rattle.lane_look.specs.declared.lane.Want.{Want}
 use Rattle.lane_look.specs.declared.lane.Want.TheVariants as want
 use Rattle.lane_look.specs.declared.marks.Mark.{Mark}
-use Rattle.lane_look.specs.Replay.{Entry, told, left, talk}
-use Rattle.lane_look.specs.Alone.{ends_want, ends_wants, alone_length, wanted_in, differs, least}
+use Rattle.lane_look.specs.Replay.{talk}
+use Rattle.lane_look.specs.Alone.{ends_want, ends_wants, alone_length, wanted_in, differs}
 use Rattle.lane_look.proofs.Least.{is_least}
 use Rattle.rp_base.specs.declared.Master.{Master}
-use Rattle.m0_core.specs.State.{State as Core}
 use Rattle.m0_core.specs.Fetch as core_asks
 use Rattle.m0_core.specs.Cycle as core
 use Rattle.dma_engine.specs.Asks as dma_asks
@@ -20,15 +18,14 @@ use Rattle.outer_lane.specs.declared.world.SeenOutputs.{SeenOutputs}
 use Rattle.outer_lane.specs.Step as outer
 use Rattle.bus_fabric.specs.State.{has_hold}
 use Rattle.rp_machine.specs.declared.begun.Begun.{Begun}
-use Rattle.rp_machine.specs.declared.wanted.Wanted.{Wanted}
 use Rattle.rp_machine.specs.State.{State}
 use Rattle.rp_machine.specs.Answers.{answer_of}
 use Rattle.rp_machine.specs.Deeds.{asked_of, cause_by, cause_of}
-use Rattle.rp_machine.specs.Cycle.{begun, wanted, first_cause, cause_in, stop, next_by, next, mark}
-use Rattle.rp_machine.specs.Run.{states, unless_stopped}
+use Rattle.rp_machine.specs.Cycle.{begun, wanted, cause_in, stop, next_by, next, mark}
+use Rattle.rp_machine.specs.Run.{states}
 use Rattle.rp_machine.proofs.Joining.{runs_follow}
-use Rattle.window_merge.specs.Lanes.{Run, core_lane, dma_lane, pio_lane, peripheral_lane, around, is_launching, core1_bound, runs_of}
-use Rattle.window_merge.specs.Window.{longest, ends_in, differs_in, clash, clash_in, is_port_of, share_port, closes, window_length, window_within}
+use Rattle.window_merge.specs.Lanes.{core_lane, dma_lane, pio_lane, peripheral_lane, around, is_launching, core1_bound, runs_of}
+use Rattle.window_merge.specs.Window.{longest, ends_in, differs_in, clash, clash_in, share_port, closes, window_length, window_within}
 use Rattle.window_merge.specs.declared.runs.Runs.{Runs}
 use Rattle.window_merge.specs.Merging.{Rests, begun_by, left_by, differs_by, wants_of, fits, marks_in, Knows, AreCut, IsWithin, rests_at, end_at}
 use Rattle.window_merge.proofs.Agree.{both_false}
@@ -67,7 +64,7 @@ pub record AreWithin (w : Setting) (s : State) (n : Lengths) : Type 0 where
 same_within : (n m : ℕ) → n ≡ m → n ≤ m
 same_within n m e = omega (arith, e)
 
-are_within : (w : Setting) (s : State) (n : Lengths) → AreLengths w s n → AreWithin w s n
+pub are_within : (w : Setting) (s : State) (n : Lengths) → AreLengths w s n → AreWithin w s n
 are_within w s n h = record {
   core0 = same_within _ _ h.core0;
   core1 = same_within _ _ h.core1;
@@ -105,13 +102,13 @@ pub record Stands (w : Setting) (s : State) (n : Lengths) (k : ℕ) (now : State
   pub few : length marks ≡ k
 
 -- what the logs tell the lanes in the next cycle
-record AreTold (w : Setting) (s : State) (n : Lengths) (k : ℕ) (now : State) (rests : Rests) : Type 0 where
-  core0 : LaneTold core_lane 0 s.core0 s n.core0 k now.core0 now.cycle rests.core0
-  core1 : LaneTold core_lane 1 s.core1 s n.core1 k now.core1 now.cycle rests.core1
-  dma : LaneTold dma_lane 2 s.dma s n.dma k now.dma now.cycle rests.dma
-  pio0 : LaneTold pio_lane 3 s.pio0 s n.pio0 k now.pio0 now.cycle rests.pio0
-  pio1 : LaneTold pio_lane 4 s.pio1 s n.pio1 k now.pio1 now.cycle rests.pio1
-  outer : LaneTold (peripheral_lane w) 5 s.outer s n.outer k now.outer now.cycle rests.outer
+pub record AreTold (w : Setting) (s : State) (n : Lengths) (k : ℕ) (now : State) (rests : Rests) : Type 0 where
+  pub core0 : LaneTold core_lane 0 s.core0 s n.core0 k now.core0 now.cycle rests.core0
+  pub core1 : LaneTold core_lane 1 s.core1 s n.core1 k now.core1 now.cycle rests.core1
+  pub dma : LaneTold dma_lane 2 s.dma s n.dma k now.dma now.cycle rests.dma
+  pub pio0 : LaneTold pio_lane 3 s.pio0 s n.pio0 k now.pio0 now.cycle rests.pio0
+  pub pio1 : LaneTold pio_lane 4 s.pio1 s n.pio1 k now.pio1 now.cycle rests.pio1
+  pub outer : LaneTold (peripheral_lane w) 5 s.outer s n.outer k now.outer now.cycle rests.outer
 
 -- the loop tries the cycle k, in which no run ends
 pub record Goes (w : Setting) (s : State) (n : Lengths) (k : ℕ) (now : State) (rests : Rests) (marks : List Mark) : Type 0 where
@@ -120,7 +117,7 @@ pub record Goes (w : Setting) (s : State) (n : Lengths) (k : ℕ) (now : State) 
   pub on : AreOn n k
   pub below : k < longest w s
 
-all_told : (w : Setting) (s : State) (n : Lengths) (k : ℕ) (now : State) (rests : Rests) (marks : List Mark) → Goes w s n k now rests marks → AreTold w s n k now rests
+pub all_told : (w : Setting) (s : State) (n : Lengths) (k : ℕ) (now : State) (rests : Rests) (marks : List Mark) → Goes w s n k now rests marks → AreTold w s n k now rests
 all_told w s n k now rests marks t = record {
   core0 = lane_told core_lane 0 s.core0 s n.core0 k now.core0 now.cycle rests.core0 t.stands.core0 t.on.core0 t.stands.at;
   core1 = lane_told core_lane 1 s.core1 s n.core1 k now.core1 now.cycle rests.core1 t.stands.core1 t.on.core1 t.stands.at;
@@ -395,12 +392,12 @@ stands_first w s n rests marks free knows l0 l1 l2 l3 l4 l5 e = record {
 }
 
 -- what is known of a cycle that fits
-record Fitted (w : Setting) (s : State) (n : Lengths) (k : ℕ) (now : State) (rests : Rests) : Type 0 where
-  same : begun_by rests now ≡ begun now
-  calm : IsCalm (begun now) now
-  runs : stop w now ≡ None
+pub record Fitted (w : Setting) (s : State) (n : Lengths) (k : ℕ) (now : State) (rests : Rests) : Type 0 where
+  pub same : begun_by rests now ≡ begun now
+  pub calm : IsCalm (begun now) now
+  pub runs : stop w now ≡ None
 
-fitted : (w : Setting) (s : State) (n : Lengths) (k : ℕ) (now : State) (rests : Rests) (marks : List Mark) → Goes w s n k now rests marks → fits rests now ≡ true → Fitted w s n k now rests
+pub fitted : (w : Setting) (s : State) (n : Lengths) (k : ℕ) (now : State) (rests : Rests) (marks : List Mark) → Goes w s n k now rests marks → fits rests now ≡ true → Fitted w s n k now rests
 fitted w s n k now rests marks t e =
     let parts = both_false (differs_by rests now) (clash (wants_of (begun_by rests now))) (is_not _ e) in
     let same = begins_same w s n k now rests (all_told w s n k now rests marks t) (all_same rests now parts.0) in
@@ -455,7 +452,7 @@ goes_tried w s n k now rests marks fitting bound t is_fitting is_false lt =
     let ends : closes w s k ≡ true = closes_tried w s n k now rests marks t ∙ ap not (sym is_fitting ∙ is_false) in
     sym (is_least (closes w s) bound k (omega (arith, lt)) t.stands.goes (λ lt. ends))
 
-run_within : (w : Setting) (s : State) (n : Lengths) (k : ℕ) (now : State) (rests : Rests) (marks : List Mark) (bound : ℕ) → Stands w s n k now rests marks → k < bound → ends_in (runs_of w s (longest w s)) k ≡ true → k ≡ window_within w s bound
+pub run_within : (w : Setting) (s : State) (n : Lengths) (k : ℕ) (now : State) (rests : Rests) (marks : List Mark) (bound : ℕ) → Stands w s n k now rests marks → k < bound → ends_in (runs_of w s (longest w s)) k ≡ true → k ≡ window_within w s bound
 unfolding closes
 run_within w s n k now rests marks bound t lt here =
     sym (is_least (closes w s) bound k (omega (arith, lt)) t.goes (λ lt. rw here refl))

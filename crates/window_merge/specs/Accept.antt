@@ -19,14 +19,14 @@ use Rattle.window_merge.specs.Jobs.{core_of, block_of}
 abbrev pub talk_alone : {S B : Type 0} → Meaning (Unit {0}) S B → ℕ → S → State → ℕ → List Entry
 talk_alone m lane before s length = (alone m (around lane) tt before s.cycle s length).talk
 
--- a log has the same entries as a run before a place, and there the same question with another answer
-pub record OtherAnswerAt (log talk : List Entry) (place : ℕ) : Type 0 where
-  pub same_before : take place log ≡ take place talk
+-- a log has the same entries as a run before an index, and there the same question with another answer
+pub record OtherAnswerAt (log talk : List Entry) (index : ℕ) : Type 0 where
+  pub same_before : take index log ≡ take index talk
   pub question : Ask
   pub told : ℕ
   pub answer : ℕ
-  pub in_log : slice_get log place ≡ Some (question, told)
-  pub in_run : slice_get talk place ≡ Some (question, answer)
+  pub in_log : slice_get log index ≡ Some (question, told)
+  pub in_run : slice_get talk index ≡ Some (question, answer)
   pub other : told ≢ answer
 
 -- the first entry of a report's log, by its number from 0, that has another answer than the run alone from the state, in as many
@@ -34,9 +34,9 @@ pub record OtherAnswerAt (log talk : List Entry) (place : ℕ) : Type 0 where
 abbrev pub IsStrange : {S B : Type 0} → Meaning (Unit {0}) S B → ℕ → S → State → Report S → Option ℕ → Type 0
 IsStrange m lane before s report None =
     report.start ≡ s.cycle → report.before ≡ before → report.log ≡ talk_alone m lane before s report.length
-IsStrange m lane before s report (Some place) =
+IsStrange m lane before s report (Some index) =
     (report.start ≡ s.cycle) × (report.before ≡ before)
-    × OtherAnswerAt report.log (talk_alone m lane before s report.length) place
+    × OtherAnswerAt report.log (talk_alone m lane before s report.length) index
 
 abbrev pub IsStrangeBy : Setting → State → ℕ → LaneRun → Option ℕ → Type 0
 IsStrangeBy w s lane (run.Core report) entry = IsStrange core_lane lane (core_of lane s) s report entry

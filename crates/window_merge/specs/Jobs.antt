@@ -1,5 +1,5 @@
 -- What a job holds, and when a report is true in a world and is the run alone of its lane. The project's own.
-use Rattle.std.specs.Prelude.{◌≡◌, ℕ, suc, ◌-◌, ◌==◌, ◌&&◌, Bool, nat_le, if◌then◌else◌, List, [], ◌∷◌, length, slice_index, slice_index_or, Option, Some, None}
+use Rattle.std.specs.Prelude.{◌≡◌, ℕ, suc, ◌-◌, ◌==◌, ◌&&◌, nat_le, if◌then◌else◌, List, [], ◌∷◌, length, Option, Some, None}
 use Rattle.lane_look.specs.declared.replay.Report.{Report}
 use Rattle.lane_look.specs.Replay.{Meaning}
 use Rattle.lane_look.specs.Alone.{Surroundings, alone, alone_length}
@@ -8,7 +8,6 @@ use Rattle.m0_core.specs.State.{State as Core}
 use Rattle.pio_block.specs.State.{Block as Pio}
 use Rattle.outer_lane.specs.Setting.{Setting}
 use Rattle.rp_machine.specs.State.{State}
-use Rattle.window_merge.specs.declared.copies.Copies.{Copies}
 use Rattle.window_merge.specs.declared.lane_run.LaneRun.{LaneRun}
 use Rattle.window_merge.specs.declared.lane_run.LaneRun.TheVariants as run
 use Rattle.window_merge.specs.declared.lane_job.LaneJob.{LaneJob}
@@ -118,7 +117,7 @@ Ran a w lane start around bound (run.Pio room) (run.Pio report) = RanIn a pio_la
 Ran a w lane start around bound (run.Outer room) (run.Outer report) = RanIn a (peripheral_lane w) tt room.before start around bound report
 Ran a w lane start around bound room report = ⊥
 
--- ---- a report's start
+-- ---- a report's first cycle
 
 abbrev pub start_of : LaneRun → ℕ
 start_of (run.Core report) = report.start
@@ -126,61 +125,13 @@ start_of (run.Dma report) = report.start
 start_of (run.Pio report) = report.start
 start_of (run.Outer report) = report.start
 
--- ---- the first cycles of a run alone, in the room of a job
+-- ---- how many cycles it has
 
 abbrev pub length_of : LaneRun → ℕ
 length_of (run.Core report) = report.length
 length_of (run.Dma report) = report.length
 length_of (run.Pio report) = report.length
 length_of (run.Outer report) = report.length
-
--- a report has the length and the log of the run alone of a lane, of at most so many cycles
-pub record IsStart {S B : Type 0} (m : Meaning (Unit {0}) S B) (lane : ℕ) (before : S) (s : State) (bound : ℕ) (report : Report S) : Type 0 where
-  pub same_length : report.length ≡ alone_length m (around lane) tt before s.cycle s bound
-  pub same_log : report.log ≡ (alone m (around lane) tt before s.cycle s report.length).talk
-
-abbrev pub IsStartBy : Setting → State → ℕ → ℕ → LaneRun → Type 0
-IsStartBy w s bound lane (run.Core report) = IsStart core_lane lane (core_of lane s) s (core_bound lane (core_of lane s) bound) report
-IsStartBy w s bound lane (run.Dma report) = IsStart dma_lane lane s.dma s bound report
-IsStartBy w s bound lane (run.Pio report) = IsStart pio_lane lane (block_of lane s) s bound report
-IsStartBy w s bound lane (run.Outer report) = IsStart (peripheral_lane w) lane s.outer s bound report
-
--- a report of no cycle
-abbrev pub IsEmpty : LaneRun → Type 0
-IsEmpty (run.Core report) = (report.length ≡ 0) × (report.log ≡ [])
-IsEmpty (run.Dma report) = (report.length ≡ 0) × (report.log ≡ [])
-IsEmpty (run.Pio report) = (report.length ≡ 0) × (report.log ≡ [])
-IsEmpty (run.Outer report) = (report.length ≡ 0) × (report.log ≡ [])
-
--- it is in the room, and has n cycles
-abbrev pub HasRunIn : Setting → State → ℕ → ℕ → ℕ → Option LaneRun → Type 0
-HasRunIn w s bound lane n None = ⊥
-HasRunIn w s bound lane n (Some run) = (n ≡ length_of run) × IsStartBy w s bound lane run
-
-abbrev pub HasRun : Setting → State → ℕ → ℕ → ℕ → Option LaneJob → Type 0
-HasRun w s bound lane n None = ⊥
-HasRun w s bound lane n (Some job) = HasRunIn w s bound lane n job.set.room
-
-abbrev pub HoldsEmptyIn : Option LaneRun → Type 0
-HoldsEmptyIn None = ⊥
-HoldsEmptyIn (Some run) = IsEmpty run
-
-abbrev pub HoldsEmpty : Option LaneJob → Type 0
-HoldsEmpty None = ⊥
-HoldsEmpty (Some job) = HoldsEmptyIn job.set.room
-
-abbrev pub HoldsRun : Option LaneJob → LaneRun → Type 0
-HoldsRun None run = ⊥
-HoldsRun (Some job) run = job.set.room ≡ Some run
-
--- each lane's job holds the first cycles of its run alone, no more than those of the lane before it
-pub record AreRuns (w : Setting) (s : State) (at_most : ℕ) (lengths : List ℕ) (jobs : List (Option LaneJob)) : Type 0 where
-  pub core0 : HasRun w s at_most 0 (slice_index lengths 0) (slice_index_or jobs 0 None)
-  pub core1 : HasRun w s (slice_index lengths 0) 1 (slice_index lengths 1) (slice_index_or jobs 1 None)
-  pub dma : HasRun w s (slice_index lengths 1) 2 (slice_index lengths 2) (slice_index_or jobs 2 None)
-  pub pio0 : HasRun w s (slice_index lengths 2) 3 (slice_index lengths 3) (slice_index_or jobs 3 None)
-  pub pio1 : HasRun w s (slice_index lengths 3) 4 (slice_index lengths 4) (slice_index_or jobs 4 None)
-  pub outer : HasRun w s (slice_index lengths 4) 5 (slice_index lengths 5) (slice_index_or jobs 5 None)
 
 -- ---- the crew
 

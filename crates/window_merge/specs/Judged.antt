@@ -11,22 +11,22 @@ use Rattle.window_merge.specs.Lanes.{core_lane, dma_lane, pio_lane, peripheral_l
 use Rattle.window_merge.specs.Jobs.{core_of, block_of}
 use Rattle.window_merge.specs.Accept.{talk_alone}
 
--- two logs have the same entries before a place, and not the same entry there: it is another one, or one of them has ended
-pub record DifferAt (log other : List Entry) (place : ℕ) : Type 0 where
-  pub same_before : take place log ≡ take place other
-  pub other_there : slice_get log place ≢ slice_get other place
+-- two logs have the same entries before an index, and not the same entry there: it is another one, or one of them has ended
+pub record DifferAt (log other : List Entry) (index : ℕ) : Type 0 where
+  pub same_before : take index log ≡ take index other
+  pub other_there : slice_get log index ≢ slice_get other index
 
--- the first place at which two logs differ, if they do
+-- the first index at which two logs differ, if they do
 abbrev pub IsFirstOther : List Entry → List Entry → Option ℕ → Type 0
 IsFirstOther log other None = log ≡ other
-IsFirstOther log other (Some place) = DifferAt log other place
+IsFirstOther log other (Some index) = DifferAt log other index
 
 -- the first entry of a report's log that is not the one of the run alone; none where the report begins in another state of the
 -- lane, and where the logs are the same
 abbrev pub IsUnlike : {S B : Type 0} → Meaning (Unit {0}) S B → ℕ → S → State → Report S → Option ℕ → Type 0
 IsUnlike m lane before s report None = report.before ≡ before → report.log ≡ talk_alone m lane before s report.length
-IsUnlike m lane before s report (Some place) =
-    (report.before ≡ before) × DifferAt report.log (talk_alone m lane before s report.length) place
+IsUnlike m lane before s report (Some index) =
+    (report.before ≡ before) × DifferAt report.log (talk_alone m lane before s report.length) index
 
 abbrev pub IsUnlikeBy : Setting → State → ℕ → LaneRun → Option ℕ → Type 0
 IsUnlikeBy w s lane (run.Core report) entry = IsUnlike core_lane lane (core_of lane s) s report entry

@@ -1,8 +1,7 @@
 -- The six lanes of the machine as lanes that run alone, and what is around each: it is answered as the state at the start would,
 -- but for the words of SRAM that its own run wrote. The project's own.
-use Rattle.std.specs.Prelude.{ℕ, ◌==◌, ◌||◌, ◌&&◌, Bool, false, if◌then◌else◌, List, [], ◌∷◌, Option, Some, None}
+use Rattle.std.specs.Prelude.{ℕ, ◌&&◌, Bool, if◌then◌else◌, List, [], ◌∷◌, Option, Some, None}
 use Rattle.rp_base.specs.Map.{place_of}
-use Rattle.lane_look.specs.declared.lane.Ask.{Ask}
 use Rattle.lane_look.specs.declared.lane.Want.{Want}
 use Rattle.lane_look.specs.declared.lane.Want.TheVariants as want
 use Rattle.lane_look.specs.Alone.{Surroundings, surroundings, alone_length, asked_in, wanted_in}

@@ -1,5 +1,5 @@
 -- What holds of windows and of the positions of a run, in other words than their definitions.
-use Rattle.std.specs.Prelude.{◌≡◌, ℕ, ◌≤◌, List}
+use Rattle.std.specs.Prelude.{◌≡◌, ◌≤◌, List}
 use Rattle.lane_look.specs.Device.{DeviceMeaning}
 use Rattle.uf2_image.specs.declared.parts.Image.{Image}
 use Rattle.outer_lane.specs.Setting.{Setting}

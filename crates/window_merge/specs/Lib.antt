@@ -7,8 +7,9 @@ pub mod Kinds
 pub mod Lanes
 pub mod Laws
 pub mod Merging
-pub mod Overlaid
+pub mod Notes
 pub mod Patch
 pub mod Questions
+pub mod Start
 pub mod Walks
 pub mod Window

@@ -1,5 +1,5 @@
 -- One cycle of a window, by what is left of the logs of the six runs. The project's own.
-use Rattle.std.specs.Prelude.{◌≡◌, ℕ, zero, suc, ◌+◌, ◌<◌, ◌≤◌, Option, Some, None, true, ◌==◌, nat_lt, if◌then◌else◌, not, ◌||◌, Bool, false, List, [], ◌∷◌, ◌++◌, length, drop}
+use Rattle.std.specs.Prelude.{◌≡◌, ℕ, zero, suc, ◌+◌, ◌<◌, ◌≤◌, Some, None, true, ◌==◌, nat_lt, if◌then◌else◌, not, ◌||◌, Bool, false, List, [], ◌∷◌, ◌++◌, length, drop}
 use Rattle.lane_look.specs.declared.lane.Want.{Want}
 use Rattle.lane_look.specs.declared.marks.Mark.{Mark}
 use Rattle.lane_look.specs.declared.replay.Report.{Report}
@@ -20,7 +20,7 @@ use Rattle.rp_machine.specs.Answers.{answer_of}
 use Rattle.rp_machine.specs.Cycle.{pins_of, stop, next, mark}
 use Rattle.rp_machine.specs.Run.{states}
 use Rattle.window_merge.specs.declared.runs.Runs.{Runs}
-use Rattle.window_merge.specs.declared.runs.Places.{Places}
+use Rattle.window_merge.specs.declared.runs.Indices.{Indices}
 use Rattle.window_merge.specs.Lanes.{around, core_lane, dma_lane, pio_lane, peripheral_lane, core1_bound, runs_of}
 use Rattle.window_merge.specs.declared.position.Moved.{Moved}
 use Rattle.window_merge.specs.declared.position.Moved.TheVariants as moved
@@ -101,28 +101,28 @@ pub record Knows (s : State) : Type 0 where
 
 -- ---- the six reports, and how much of their logs is used
 
--- the place behind that of the next entry
-abbrev pub next_place : List Entry → ℕ → ℕ
-next_place log place = if nat_lt place (length log) then place + 1 else place
+-- the index behind that of the next entry
+abbrev pub next_index : List Entry → ℕ → ℕ
+next_index log index = if nat_lt index (length log) then index + 1 else index
 
-abbrev pub rests_at : Runs → Places → Rests
-rests_at runs places = record {
-  core0 = drop places.core0 runs.core0.now.log;
-  core1 = drop places.core1 runs.core1.now.log;
-  dma = drop places.dma runs.dma.now.log;
-  pio0 = drop places.pio0 runs.pio0.now.log;
-  pio1 = drop places.pio1 runs.pio1.now.log;
-  outer = drop places.outer runs.outer.now.log;
+abbrev pub rests_at : Runs → Indices → Rests
+rests_at runs indices = record {
+  core0 = drop indices.core0 runs.core0.now.log;
+  core1 = drop indices.core1 runs.core1.now.log;
+  dma = drop indices.dma runs.dma.now.log;
+  pio0 = drop indices.pio0 runs.pio0.now.log;
+  pio1 = drop indices.pio1 runs.pio1.now.log;
+  outer = drop indices.outer runs.outer.now.log;
 }
 
 -- no more than the logs have
-pub record IsWithin (runs : Runs) (places : Places) : Type 0 where
-  pub core0 : places.core0 ≤ length runs.core0.now.log
-  pub core1 : places.core1 ≤ length runs.core1.now.log
-  pub dma : places.dma ≤ length runs.dma.now.log
-  pub pio0 : places.pio0 ≤ length runs.pio0.now.log
-  pub pio1 : places.pio1 ≤ length runs.pio1.now.log
-  pub outer : places.outer ≤ length runs.outer.now.log
+pub record IsWithin (runs : Runs) (indices : Indices) : Type 0 where
+  pub core0 : indices.core0 ≤ length runs.core0.now.log
+  pub core1 : indices.core1 ≤ length runs.core1.now.log
+  pub dma : indices.dma ≤ length runs.dma.now.log
+  pub pio0 : indices.pio0 ≤ length runs.pio0.now.log
+  pub pio1 : indices.pio1 ≤ length runs.pio1.now.log
+  pub outer : indices.outer ≤ length runs.outer.now.log
 
 -- some run has this length
 abbrev pub end_at : Runs → ℕ → Bool

@@ -9,8 +9,7 @@ ghost use Rattle.window_merge.specs.Jobs.{core_of, block_of, core_bound, IsTrueI
 ghost use Rattle.window_merge.specs.Accept.{IsStranger};
 ghost use Rattle.window_merge.specs.Judged.{IsUnlike, IsUnlikeBy, Judges};
 
-use crate::here::length_of;
-use crate::jobs::{longest_by, start_of};
+use crate::jobs::{length_of, longest_by, start_of};
 use crate::lane_job::LaneReport;
 use crate::lane_run::LaneRun;
 use crate::questions::questions_of;

@@ -7,6 +7,7 @@ ghost use Rattle.window_merge.specs.Jobs.{HasLanesFrom, IsWhole};
 use crate::copies::Copies;
 use crate::lane_job::{Crew, LaneJob};
 use crate::lane_run::{LaneRun, LaneSet};
+use crate::notes::Notes;
 use dma_engine::Dma;
 use lane_look::{Log, Marks, NoDevice, Report};
 use m0_core::Core;
@@ -98,6 +99,7 @@ impl Crew {
     {
         let jobs = six_jobs(alloc)?;
         let spare = six_jobs(alloc)?;
-        Ok(Crew { jobs, spare })
+        let notes = Notes::new(alloc)?;
+        Ok(Crew { jobs, spare, notes })
     }
 }

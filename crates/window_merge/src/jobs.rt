@@ -8,7 +8,7 @@ ghost use Rattle.rp_machine.specs.State.{State};
 ghost use Rattle.window_merge.specs.Around.{copies_of};
 ghost use Rattle.window_merge.specs.Kinds.{is_run_of, has_room_for};
 ghost use Rattle.window_merge.specs.Lanes.{core_lane, dma_lane, pio_lane, peripheral_lane};
-ghost use Rattle.window_merge.specs.Jobs.{core_of, block_of, core_bound, BeginsIn, HasLane, HasWords, HasWordsIn, IsJobOf, IsJobFor, IsTrueRun, IsTrueIn, IsAlone, RanIn, Ran, longest_by, start_of};
+ghost use Rattle.window_merge.specs.Jobs.{core_of, block_of, core_bound, BeginsIn, HasLane, HasWords, HasWordsIn, IsJobOf, IsJobFor, IsTrueRun, IsTrueIn, IsAlone, RanIn, Ran, longest_by, start_of, length_of};
 
 use crate::copies::Copies;
 use crate::lane_job::{LaneJob, LaneReport};
@@ -222,6 +222,18 @@ pub(crate) fn start_of(run: &LaneRun) -> u64
         LaneRun::Dma(report) => report.start,
         LaneRun::Pio(report) => report.start,
         LaneRun::Outer(report) => report.start,
+    }
+}
+
+/// How many cycles a run has.
+pub(crate) fn length_of(run: &LaneRun) -> u16
+    ensures { result ≡ length_of run.now }
+{
+    match run {
+        LaneRun::Core(report) => report.length,
+        LaneRun::Dma(report) => report.length,
+        LaneRun::Pio(report) => report.length,
+        LaneRun::Outer(report) => report.length,
     }
 }
 

@@ -4,6 +4,7 @@ ghost use Rattle.std.specs.Prelude.{◌≡◌, true};
 ghost use Rattle.window_merge.specs.Kinds.{is_run_of, has_room_for};
 
 use crate::lane_run::{LaneRun, LaneSet};
+use crate::notes::Notes;
 
 /// What a lane is to do alone. Its type keeps that the lane is at most 5 and that the set has room for a report of that lane.
 #[derive(Drop)]
@@ -33,11 +34,14 @@ pub struct LaneReport {
     pub ghost fits: { is_run_of lane run ≡ true },
 }
 
-/// Two jobs for each lane, in the order of the lanes. None stands for a job that is somewhere else.
+/// Two jobs for each lane, in the order of the lanes, and room for what a window notes. None stands for a job that is somewhere
+/// else.
 #[derive(Drop)]
 pub struct Crew {
     /// The first ones.
     pub jobs: [Option<LaneJob>; 6],
     /// The second ones.
     pub spare: [Option<LaneJob>; 6],
+    /// Room for the notes of a window on one thread.
+    pub(crate) notes: Notes,
 }

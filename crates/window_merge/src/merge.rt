@@ -11,7 +11,7 @@ ghost use Rattle.window_merge.specs.Window.{share_port, clash, longest, window_w
 ghost use Rattle.window_merge.specs.Merging.{AreCut, IsWithin, rests_at, begun_by, left_by, wants_of, fits, marks_in, IsRested};
 
 use crate::compare::{Comparison, compare};
-use crate::runs::{Places, Runs};
+use crate::runs::{Indices, Runs};
 use lane_look::{Device, Marks, Want};
 use outer_lane::World;
 use rp_machine::begun::Begun;
@@ -43,7 +43,7 @@ fn any_shared(a: &Want, b: &Want, c: &Want, d: &Want) -> bool
 }
 
 /// Two of the masters' wants ask for one port.
-fn clash(begun: &Begun, wants: &[Wanted; 4]) -> bool
+pub(crate) fn clash(begun: &Begun, wants: &[Wanted; 4]) -> bool
     requires { wants.now ≡ wanted begun.now }
     ensures { result ≡ clash (wants_of begun.now) }
 {
@@ -57,32 +57,32 @@ fn try_cycle<X: Device>(
     machine: &mut Machine,
     world: &World<'_, X>,
     runs: &Runs<'_>,
-    places: &mut Places,
+    indices: &mut Indices,
     marks: &mut Marks,
 ) -> bool
     requires number { machine.old.cycle < 2 ^ 64 - 1 }
     requires marks { length marks.old < 256 }
-    requires within { IsWithin runs.now places.old }
-    ensures fits { result ≡ fits (rests_at runs.now places.old) machine.old }
-    ensures within { IsWithin runs.now places.new }
-    ensures places { rests_at runs.now places.new ≡ left_by (rests_at runs.now places.old)
+    requires within { IsWithin runs.now indices.old }
+    ensures fits { result ≡ fits (rests_at runs.now indices.old) machine.old }
+    ensures within { IsWithin runs.now indices.new }
+    ensures indices { rests_at runs.now indices.new ≡ left_by (rests_at runs.now indices.old)
         machine.old }
     ensures state { machine.new ≡ (if result then next_by
         (setting_of world.now.script.now (X.meaning world.now.device.now) world.now.limit)
-        (begun_by (rests_at runs.now places.old) machine.old)
-        (wanted (begun_by (rests_at runs.now places.old) machine.old)) machine.old
+        (begun_by (rests_at runs.now indices.old) machine.old)
+        (wanted (begun_by (rests_at runs.now indices.old) machine.old)) machine.old
         else machine.old) }
     ensures marks { marks.new ≡ marks.old ++ (if result then marked
         (setting_of world.now.script.now (X.meaning world.now.device.now) world.now.limit)
-        machine.old.outer (begun_by (rests_at runs.now places.old) machine.old).outer ∷ []
+        machine.old.outer (begun_by (rests_at runs.now indices.old) machine.old).outer ∷ []
         else []) }
 {
     let Comparison {
         begun,
-        places: used,
+        indices: used,
         same,
-    } = compare(machine, world, runs, places);
-    *places = used;
+    } = compare(machine, world, runs, indices);
+    *indices = used;
     let wants = all_wanted(&begun);
     let fits = same && !clash(&begun, &wants);
     if fits {
@@ -104,12 +104,13 @@ pub(crate) fn longest<X: Device>(machine: &Machine, world: &World<'_, X>) -> u16
     if cycles <= 256 { cycles as u16 } else { 256 }
 }
 
-/// What the lanes keep of SIO is what it holds: the machine's type keeps it.
-fn is_known(machine: &Machine)
+/// What the lanes keep of SIO is what it holds, and SRAM has its words: the machine's type keeps it.
+pub(crate) fn is_known(machine: &Machine)
     ensures pins { machine.now.outer.sio ≡ pins_of machine.now.sio }
     ensures offer { machine.now.core1.offer ≡ offers_of machine.now.sio }
+    ensures sram { length machine.now.sram ≡ 67584 }
 {
-    let _number = machine.at;
+    let _word = machine.ram.read(0);
 }
 
 /// The cycles of a window have numbers.
@@ -159,12 +160,12 @@ pub fn merge_runs<X: Device, L: Ledger>(
     is_known(machine);
     is_numbered(machine, world, at_most);
     marks.clear();
-    let mut places = Places::first();
+    let mut indices = Indices::first();
     for k in 0..at_most {
         if runs.end_at(k) {
             return k;
         }
-        if !try_cycle(machine, world, runs, &mut places, marks) {
+        if !try_cycle(machine, world, runs, &mut indices, marks) {
             return k;
         }
         steps.tick();

@@ -43,7 +43,7 @@ fn lane_byte(lanes: u8, value: u32, word: u32, lane: u8) -> u32
 
 /// The word that a write of some byte lanes leaves.
 #[tactic(auto, unfolding(ram_banks::specs::Lanes::with_lanes))]
-fn with_lanes(lanes: u8, value: u32, word: u32) -> u32
+pub(crate) fn with_lanes(lanes: u8, value: u32, word: u32) -> u32
     ensures { result ≡ with_lanes lanes value word }
 {
     lane_byte(lanes, value, word, 3) * 0x100_0000

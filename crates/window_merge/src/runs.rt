@@ -25,7 +25,7 @@ pub struct Runs<'a> {
 
 /// How many entries of each log are used.
 #[derive(Clone, Copy)]
-pub struct Places {
+pub struct Indices {
     /// Of core 0's.
     pub core0: u16,
     /// Of core 1's.
@@ -57,14 +57,14 @@ impl Runs<'_> {
     }
 }
 
-impl Places {
+impl Indices {
     ghost use Rattle.std.specs.Prelude.{◌≡◌};
 
     /// None is used.
-    pub(crate) fn first() -> Places
+    pub(crate) fn first() -> Indices
         ensures { result ≡ record { core0 = 0; core1 = 0; dma = 0; pio0 = 0; pio1 = 0; outer = 0 } }
     {
-        Places {
+        Indices {
             core0: 0,
             core1: 0,
             dma: 0,

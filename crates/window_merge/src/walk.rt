@@ -26,7 +26,7 @@ pub(crate) struct Walker<'a, 'b> {
     words: Words,
     log: &'b Log,
     /// How many entries of the log are those that the lane made, from the first.
-    place: u16,
+    index: u16,
     /// Whether these are all that it made.
     same: bool,
 }
@@ -40,30 +40,30 @@ fn is_entry(entry: (Ask, u128), ask: Ask, answer: u128) -> bool
 }
 
 /// Compares one more entry with a log: how many are the same, and whether these are all.
-fn compare(log: &Log, place: u16, same: bool, ask: Ask, answer: u128) -> (u16, bool)
-    ensures { GoesOn log.now ((ask, answer) ∷ []) place same result.0 result.1 }
+fn compare(log: &Log, index: u16, same: bool, ask: Ask, answer: u128) -> (u16, bool)
+    ensures { GoesOn log.now ((ask, answer) ∷ []) index same result.0 result.1 }
 {
     if !same {
-        return (place, false);
+        return (index, false);
     }
-    if place < log.count() {
-        if is_entry(log.entry(place), ask, answer) {
-            return (place + 1, true);
+    if index < log.count() {
+        if is_entry(log.entry(index), ask, answer) {
+            return (index + 1, true);
         }
     }
-    (place, false)
+    (index, false)
 }
 
 /// The first entry of a log that is another one than what was asked, where so many are the same, and where these are all that
 /// was asked or not.
-fn first_other(log: &Log, place: u16, same: bool) -> Option<u16>
-    ensures { (talk : List Entry) → IsCompared log.now talk place same → IsFirstOther log.now talk
+fn first_other(log: &Log, index: u16, same: bool) -> Option<u16>
+    ensures { (talk : List Entry) → IsCompared log.now talk index same → IsFirstOther log.now talk
         result }
 {
-    if same && place == log.count() {
+    if same && index == log.count() {
         None
     } else {
-        Some(place)
+        Some(index)
     }
 }
 
@@ -121,8 +121,8 @@ impl Look for Walker<'_, '_> {
 
     fn ask(&mut self, ask: Ask) -> u128 {
         let answer = self.answer(ask);
-        let (place, same) = compare(self.log, self.place, self.same, ask, answer);
-        self.place = place;
+        let (index, same) = compare(self.log, self.index, self.same, ask, answer);
+        self.index = index;
         self.same = same;
         answer
     }
@@ -162,7 +162,7 @@ fn walk<S: Lane<()>>(lane: &mut S, start: u64, cycles: u16, walker: &mut Walker<
     requires cycles { cycles ≤ 256 }
     requires number { start + cycles < 2 ^ 64 }
     requires words { walker.old.words ≡ [] }
-    requires place { walker.old.place ≡ 0 }
+    requires index { walker.old.index ≡ 0 }
     requires same { walker.old.same ≡ true }
     ensures { IsWalked (meaning S.asks S.wanted S.next S.marked) lane.old start walker.old cycles
         lane.new walker.new result }
@@ -245,11 +245,11 @@ pub(crate) fn compare_run<S: Lane<()> + Drop>(
         lane: number,
         words: Words::new(),
         log,
-        place: 0,
+        index: 0,
         same: true,
     };
     let ended = walk(&mut lane, machine.at, cycles, &mut walker);
-    let other = first_other(log, walker.place, walker.same);
+    let other = first_other(log, walker.index, walker.same);
     let same_length = is_length(&lane, machine.at, &mut walker, ended, cycles, at_most);
     Outcome { same_length, other }
 }

@@ -1,6 +1,6 @@
 use Rattle.std.proofs.Common.{◌∙◌, arith}
 use Rattle.outer_lane.specs.Setting.{setting_of}
-use Rattle.window_merge.proofs.Going.{way_first, way_window, way_cycle, way_reached, way_stopped, fewer_window, fewer_cycle}
+use Rattle.window_merge.proofs.Going.{way_first, way_window, way_cycle, way_stopped, fewer_cycle}
 use Rattle.window_merge.proofs.alone.advance_alone.Goals as goal
 
 pub moves-init : goal.moves-init

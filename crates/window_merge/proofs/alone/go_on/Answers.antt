@@ -2,7 +2,7 @@ use Rattle.std.proofs.Common.{sym, subst, arith}
 use Rattle.outer_lane.specs.Setting.{setting_of}
 use Rattle.rp_machine.specs.State.{State}
 use Rattle.window_merge.specs.Merging.{IsRested}
-use Rattle.window_merge.proofs.Cutting.{short_window}
+use Rattle.window_merge.proofs.Meeting.{short_window}
 use Rattle.window_merge.proofs.Resting.{rested_cycle, rested_states}
 use Rattle.window_merge.proofs.alone.go_on.Goals as goal
 

@@ -1,4 +1,3 @@
-use Rattle.std.proofs.Common.{sym}
 use Rattle.outer_lane.specs.Setting.{setting_of}
 use Rattle.window_merge.proofs.Reported.{job_alone}
 use Rattle.window_merge.proofs.jobs.run_by.Goals as goal

@@ -6,7 +6,7 @@ use Rattle.window_merge.proofs.merge.merge_runs.Given as goal
 
 abbrev pub invariant-loop-k : goal.invariant-loop-k
 invariant-loop-k g l = record {
-  stands : Stands (setting_of l.world.script.now (g.X.Device.meaning l.world.device.now) l.world.limit) l.fn.machine (lengths_of l.runs) l.k l.machine (rests_at l.runs l.places) l.marks;
-  within : IsWithin l.runs l.places;
+  stands : Stands (setting_of l.world.script.now (g.X.Device.meaning l.world.device.now) l.world.limit) l.fn.machine (lengths_of l.runs) l.k l.machine (rests_at l.runs l.indices) l.marks;
+  within : IsWithin l.runs l.indices;
   counted : l.steps ≡ l.fn.steps + l.k;
 }

@@ -5,21 +5,21 @@ use Rattle.window_merge.proofs.Walking.{still_other, one_more, now_other, not_ne
 use Rattle.window_merge.proofs.walk.compare.Goals as goal
 
 pub returns-then-not-same : goal.returns-then-not-same
-returns-then-not-same c = still_other c.args.log.now (c.args.ask, c.args.answer) c.args.place c.args.same c.if-not-same.true
+returns-then-not-same c = still_other c.args.log.now (c.args.ask, c.args.answer) c.args.index c.args.same c.if-not-same.true
 
 pub returns-then-is_entry : goal.returns-then-is_entry
 returns-then-is_entry c =
-    one_more c.args.log.now (c.args.ask, c.args.answer) c.entry.result c.args.place c.args.same c.if-not-same.false c.entry.ensures
+    one_more c.args.log.now (c.args.ask, c.args.answer) c.entry.result c.args.index c.args.same c.if-not-same.false c.entry.ensures
     (c.is_entry.ensures.0 c.if-is_entry.true)
 
 pub returns-else-is_entry : goal.returns-else-is_entry
 returns-else-is_entry c =
-    now_other c.args.log.now (c.args.ask, c.args.answer) c.args.place c.args.same
-    (not_next c.args.log.now c.args.place c.entry.result (c.args.ask, c.args.answer) c.entry.ensures (not_from_Decides c.is_entry.result c.is_entry.ensures c.if-is_entry.false))
+    now_other c.args.log.now (c.args.ask, c.args.answer) c.args.index c.args.same
+    (not_next c.args.log.now c.args.index c.entry.result (c.args.ask, c.args.answer) c.entry.ensures (not_from_Decides c.is_entry.result c.is_entry.ensures c.if-is_entry.false))
     c.if-not-same.false
 
-pub returns-else-place-count : goal.returns-else-place-count
-returns-else-place-count c =
-    let past : length c.args.log.now ≤ c.args.place = let n = c.count.ensures.value in let no_more = c.if-place-count.false in omega (arith, n, no_more) in
-    now_other c.args.log.now (c.args.ask, c.args.answer) c.args.place c.args.same
-    (λ e. let none = slice_get_past c.args.log.now c.args.place past in absurd (cc (none, e))) c.if-not-same.false
+pub returns-else-index-count : goal.returns-else-index-count
+returns-else-index-count c =
+    let past : length c.args.log.now ≤ c.args.index = let n = c.count.ensures.value in let no_more = c.if-index-count.false in omega (arith, n, no_more) in
+    now_other c.args.log.now (c.args.ask, c.args.answer) c.args.index c.args.same
+    (λ e. let none = slice_get_past c.args.log.now c.args.index past in absurd (cc (none, e))) c.if-not-same.false

@@ -1,0 +1,13 @@
+use Rattle.std.proofs.Common.{◌≡◌, subst}
+use Rattle.lane_look.specs.Asking.{answered}
+use Rattle.lane_look.proofs.Answers.{runs_answered}
+use Rattle.rp_machine.specs.State.{State}
+use Rattle.rp_machine.specs.Answers.{answer_of}
+use Rattle.window_merge.proofs.start.begin_here.Goals as goal
+
+pub returns : goal.returns
+returns g c =
+    let f = answer_of c.args.number c.args.machine.now in
+    let told = runs_answered _ f _ (λ ask x k' h. h) _ _ _ c.begin.ensures in
+    let family : State → Type 0 = λ s. c.begin.result ≡ answered f (g.S.Lane.asks c.args.env.now c.args.lane.now s.cycle) in
+    subst family c.machine.view_is told

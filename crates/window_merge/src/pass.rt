@@ -1,0 +1,117 @@
+//! The cycles of a window on one thread: each is the machine's own, and is kept where it goes as the lanes would go alone.
+
+ghost use Rattle.std.specs.Prelude.{◌≡◌, ◌+◌, ◌-◌, ◌^◌, ◌<◌, ◌≤◌, ◌++◌, ◌∷◌, [], if◌then◌else◌, is_some, IfSome, length};
+ghost use Rattle.outer_lane.specs.Setting.{setting_of};
+ghost use Rattle.outer_lane.specs.Step.{marked};
+ghost use Rattle.lane_look.specs.Alone.{ends_want};
+ghost use Rattle.rp_machine.specs.Cycle.{begun, wanted, next_by};
+ghost use Rattle.window_merge.specs.Lanes.{is_launching};
+ghost use Rattle.window_merge.specs.Notes.{no_notes, noted_by, HasRoom};
+ghost use Rattle.window_merge.specs.Start.{start_of, begun_from, ends_wanted, goes_first, goes_on};
+
+use crate::merge::clash;
+use crate::notes::Notes;
+use crate::start::{Beginning, Start, begin_first, begin_later};
+use lane_look::{Device, Marks, Want};
+use m0_core::Core;
+use outer_lane::World;
+use rp_machine::Machine;
+use rp_machine::wanted::{Wanted, all_wanted};
+
+/// Core 1 has a word of its launcher to take.
+pub(crate) fn is_launching(core: &Core) -> bool
+    ensures { result ≡ is_launching core.now }
+{
+    core.is_asleep() && core.has_offer()
+}
+
+/// A run alone ends before a cycle with this want.
+#[inline(always)]
+fn ends_want(wanted: &Wanted) -> bool
+    ensures { result ≡ ends_want wanted.now.want }
+{
+    match wanted.want {
+        Want::Nothing | Want::Ram(_) => false,
+        Want::Outward(_) | Want::Signal | Want::Stopped(_) => true,
+    }
+}
+
+/// A run alone ends before a cycle with these wants.
+#[inline(always)]
+fn ends_wanted(wants: &[Wanted; 4]) -> bool
+    ensures { result ≡ ends_wanted wants.now }
+{
+    let [core0, core1, read, write] = wants;
+    ends_want(core0) || ends_want(core1) || ends_want(read) || ends_want(write)
+}
+
+/// The first cycle of a window, where no run alone ends and no two accesses name one port. Gives what the start answers.
+/// Otherwise the machine and the marks stay.
+pub(crate) fn try_first<X: Device>(
+    machine: &mut Machine,
+    world: &World<'_, X>,
+    notes: &mut Notes,
+    marks: &mut Marks,
+) -> Option<Start>
+    requires number { machine.old.cycle < 2 ^ 64 - 1 }
+    requires marks { length marks.old < 256 }
+    ensures goes { is_some result ≡ goes_first machine.old }
+    ensures start { IfSome result (λ start. start ≡ start_of machine.old) }
+    ensures state { machine.new ≡ (if is_some result then next_by
+        (setting_of world.now.script.now (X.meaning world.now.device.now) world.now.limit)
+        (begun machine.old) (wanted (begun machine.old)) machine.old
+        else machine.old) }
+    ensures marks { marks.new ≡ marks.old ++ (if is_some result then marked
+        (setting_of world.now.script.now (X.meaning world.now.device.now) world.now.limit)
+        machine.old.outer (begun machine.old).outer ∷ []
+        else []) }
+    ensures notes { IfSome result (λ _. notes.new ≡ noted_by (wanted (begun machine.old))
+        machine.old.sram no_notes) }
+{
+    let begun = begin_first(machine, world);
+    let wants = all_wanted(&begun);
+    if ends_wanted(&wants) || clash(&begun, &wants) {
+        return None;
+    }
+    let start = Start::of(machine);
+    notes.clear();
+    notes.note(&machine.ram, &wants);
+    machine.step(world, &begun, &wants, marks);
+    Some(start)
+}
+
+/// A later cycle of a window, where each answer of the start is what the machine answers, no run alone ends and no two accesses
+/// name one port. Otherwise the machine, the notes and the marks stay.
+pub(crate) fn try_later<X: Device>(
+    machine: &mut Machine,
+    world: &World<'_, X>,
+    start: &Start,
+    notes: &mut Notes,
+    marks: &mut Marks,
+) -> bool
+    requires number { machine.old.cycle < 2 ^ 64 - 1 }
+    requires marks { length marks.old < 256 }
+    requires room { HasRoom notes.old 3 }
+    ensures goes { result ≡ goes_on start.now notes.old machine.old }
+    ensures state { machine.new ≡ (if result then next_by
+        (setting_of world.now.script.now (X.meaning world.now.device.now) world.now.limit)
+        (begun_from start.now notes.old machine.old)
+        (wanted (begun_from start.now notes.old machine.old)) machine.old
+        else machine.old) }
+    ensures marks { marks.new ≡ marks.old ++ (if result then marked
+        (setting_of world.now.script.now (X.meaning world.now.device.now) world.now.limit)
+        machine.old.outer (begun_from start.now notes.old machine.old).outer ∷ []
+        else []) }
+    ensures notes { notes.new ≡ (if result then noted_by
+        (wanted (begun_from start.now notes.old machine.old)) machine.old.sram notes.old
+        else notes.old) }
+{
+    let Beginning { begun, same } = begin_later(machine, world, start, notes);
+    let wants = all_wanted(&begun);
+    let goes = same && !ends_wanted(&wants) && !clash(&begun, &wants);
+    if goes {
+        notes.note(&machine.ram, &wants);
+        machine.step(world, &begun, &wants, marks);
+    }
+    goes
+}
