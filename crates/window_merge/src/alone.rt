@@ -67,7 +67,7 @@ fn go_on<X: Device, L: Ledger>(
         return Moved::Stopped(why);
     }
     let at_most = longest_to(machine, world, to);
-    Moved::Window(window_within(machine, world, crew, at_most, marks, steps))
+    Moved::Window(window_within(machine, world, &mut crew.notes, at_most, marks, steps))
 }
 
 /// Moves the machine to a cycle, by windows where it can, on one thread; or to the cycle below it at which it stops. None where

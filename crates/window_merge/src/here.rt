@@ -6,10 +6,9 @@ ghost use Rattle.bus_fabric.specs.State.{has_hold};
 ghost use Rattle.rp_machine.specs.Run.{states};
 ghost use Rattle.window_merge.specs.Window.{longest, window_length, window_within};
 ghost use Rattle.window_merge.specs.Merging.{marks_in, IsRested};
-ghost use Rattle.window_merge.specs.Jobs.{IsWhole};
 
-use crate::lane_job::Crew;
 use crate::merge::{is_known, is_numbered, longest};
+use crate::notes::Notes;
 use crate::pass::{is_launching, try_first, try_later};
 use lane_look::{Device, Marks};
 use outer_lane::World;
@@ -20,7 +19,7 @@ use std::sync::ledger::Ledger;
 pub(crate) fn window_within<X: Device, L: Ledger>(
     machine: &mut Machine,
     world: &World<'_, X>,
-    crew: &mut Crew,
+    notes: &mut Notes,
     at_most: u16,
     marks: &mut Marks,
     steps: &mut Steps<L>,
@@ -31,7 +30,6 @@ pub(crate) fn window_within<X: Device, L: Ledger>(
         machine.old }
     requires free { has_hold machine.old.fabric ≡ false }
     requires rested { IsRested machine.old.sio }
-    requires crew { IsWhole crew.old }
     ensures length { result ≡ window_within
         (setting_of world.now.script.now (X.meaning world.now.device.now) world.now.limit)
         machine.old at_most }
@@ -43,7 +41,6 @@ pub(crate) fn window_within<X: Device, L: Ledger>(
         (setting_of world.now.script.now (X.meaning world.now.device.now) world.now.limit)
         machine.old result }
     ensures steps { steps.new ≡ steps.old + result }
-    ensures crew { IsWhole crew.new }
 {
     is_known(machine);
     is_numbered(machine, world, at_most);
@@ -54,12 +51,12 @@ pub(crate) fn window_within<X: Device, L: Ledger>(
     if is_launching(&machine.core1) {
         return 0;
     }
-    let Some(start) = try_first(machine, world, &mut crew.notes, marks) else {
+    let Some(start) = try_first(machine, world, notes, marks) else {
         return 0;
     };
     steps.tick();
     for k in 1..at_most {
-        if !try_later(machine, world, &start, &mut crew.notes, marks) {
+        if !try_later(machine, world, &start, notes, marks) {
             return k;
         }
         steps.tick();
@@ -68,18 +65,18 @@ pub(crate) fn window_within<X: Device, L: Ledger>(
 }
 
 /// Moves the machine by a window: as far as its lanes, each alone from its state, would go the machine's way. Gives the
-/// window's length. The marks of its cycles are left in `marks`, and each counts as one of the steps.
+/// window's length. The marks of its cycles are left in `marks`, each counts as one of the steps, and `notes` is room for what it
+/// writes to SRAM.
 pub fn window<X: Device, L: Ledger>(
     machine: &mut Machine,
     world: &World<'_, X>,
-    crew: &mut Crew,
+    notes: &mut Notes,
     marks: &mut Marks,
     steps: &mut Steps<L>,
 ) -> u16
     requires number { machine.old.cycle ≤ world.now.limit }
     requires free { has_hold machine.old.fabric ≡ false }
     requires rested { IsRested machine.old.sio }
-    requires crew { IsWhole crew.old }
     ensures length { result ≡ window_length
         (setting_of world.now.script.now (X.meaning world.now.device.now) world.now.limit)
         machine.old }
@@ -91,8 +88,7 @@ pub fn window<X: Device, L: Ledger>(
         (setting_of world.now.script.now (X.meaning world.now.device.now) world.now.limit)
         machine.old result }
     ensures steps { steps.new ≡ steps.old + result }
-    ensures crew { IsWhole crew.new }
 {
     let longest = longest(machine, world);
-    window_within(machine, world, crew, longest, marks, steps)
+    window_within(machine, world, notes, longest, marks, steps)
 }

@@ -43,5 +43,5 @@ pub struct Crew {
     /// The second ones.
     pub spare: [Option<LaneJob>; 6],
     /// Room for the notes of a window on one thread.
-    pub(crate) notes: Notes,
+    pub notes: Notes,
 }

@@ -20,8 +20,6 @@ mod questions;
 pub mod reports;
 pub mod runs;
 mod start;
-#[cfg(test)]
-mod tests;
 mod walk;
 
 pub use accepting::{Stranger, accept};
@@ -32,5 +30,6 @@ pub use jobs::{back, job, run_by, run_job};
 pub use lane_job::{Crew, LaneJob, LaneReport};
 pub use lane_run::{LaneRun, LaneSet};
 pub use merge::merge_runs;
+pub use notes::Notes;
 pub use position::{Moved, advance};
 pub use runs::{Indices, Runs};

@@ -162,7 +162,7 @@ fn original_word(ram: &Ram, deed: &Deed) -> Option<(u32, u32)>
 
 /// The notes of a window.
 #[derive(Drop)]
-pub(crate) struct Notes {
+pub struct Notes {
     /// The words that were written, as they were before.
     pub(crate) originals: Noted,
     /// What core 0 wrote.

@@ -11,7 +11,7 @@ ghost use Rattle.window_merge.specs.Start.{start_of, begun_from, ends_wanted, go
 
 use crate::merge::clash;
 use crate::notes::Notes;
-use crate::start::{Beginning, Start, begin_first, begin_later};
+use crate::start::{Beginning, Start, begin_at_start, begin_later};
 use lane_look::{Device, Marks, Want};
 use m0_core::Core;
 use outer_lane::World;
@@ -68,7 +68,7 @@ pub(crate) fn try_first<X: Device>(
     ensures notes { IfSome result (λ _. notes.new ≡ noted_by (wanted (begun machine.old))
         machine.old.sram no_notes) }
 {
-    let begun = begin_first(machine, world);
+    let begun = begin_at_start(machine, world);
     let wants = all_wanted(&begun);
     if ends_wanted(&wants) || clash(&begun, &wants) {
         return None;

@@ -73,12 +73,12 @@ impl Words {
         self.list.len()
     }
 
-    /// The index and the word at a place.
-    fn entry(&self, place: usize) -> (u32, u32)
-        requires { place < length self.now }
-        ensures { slice_get self.now place ≡ Some result }
+    /// The index and the word of an entry.
+    fn entry(&self, index: usize) -> (u32, u32)
+        requires { index < length self.now }
+        ensures { slice_get self.now index ≡ Some result }
     {
-        self.list[place]
+        self.list[index]
     }
 
     /// Adds a word at the end.

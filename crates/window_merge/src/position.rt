@@ -55,5 +55,5 @@ pub fn advance<X: Device, L: Ledger>(
     if let Some(why) = machine.stop(world) {
         return Moved::Stopped(why);
     }
-    Moved::Window(window(machine, world, crew, marks, steps))
+    Moved::Window(window(machine, world, &mut crew.notes, marks, steps))
 }

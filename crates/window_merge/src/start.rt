@@ -89,7 +89,7 @@ fn begin_here<E, S: Lane<E>>(lane: &S, env: &E, number: u8, machine: &Machine) -
 /// What the lanes begin, as the machine answers.
 #[inline(always)]
 #[tactic(auto, unfolding(rp_machine::specs::Cycle::begun))]
-pub(crate) fn begin_first<X: Device>(machine: &Machine, world: &World<'_, X>) -> Begun
+pub(crate) fn begin_at_start<X: Device>(machine: &Machine, world: &World<'_, X>) -> Begun
     ensures { result ≡ begun machine.now }
 {
     Begun {

@@ -66,7 +66,6 @@ loop-k-init g c =
       passes = passes_first w c.args.machine.now c.in-Some.start c.clear.new.self true c.try_first.new.machine c.try_first.new.notes c.try_first.new.marks first (sym launching ∙ c.if-is_launching.false) (omega (arith, some, short))
           c.in-Some.ensures.goes refl c.in-Some.ensures.start c.in-Some.ensures.state c.in-Some.ensures.marks c.in-Some.ensures.notes;
       counted = c.tick.ensures;
-      crew = record { jobs = c.requires.crew.jobs; spare = c.requires.crew.spare };
     }
 
 pub try_later-requires-clause-room : goal.try_later-requires-clause-room
@@ -75,7 +74,7 @@ try_later-requires-clause-room g c κs within =
     let below = c.loop-k-test.true in
     let short = c.requires.cycles in
     let few = at_most w c.args.machine.now in
-    has_room c.args.machine.now c.loop-k.k c.loop-k.machine c.in-Some.start c.loop-k.crew.notes c.loop-k.invariant.passes.follows (omega (arith, below, short, few))
+    has_room c.args.machine.now c.loop-k.k c.loop-k.machine c.in-Some.start c.loop-k.notes c.loop-k.invariant.passes.follows (omega (arith, below, short, few))
 
 pub try_later-requires-clause-number : goal.try_later-requires-clause-number
 try_later-requires-clause-number g c κs within =
@@ -98,7 +97,7 @@ returns-then-not-try_later-clause-length g c =
     let w = setting_of c.args.world.now.script.now (g.X.Device.meaning c.args.world.now.device.now) c.args.world.now.limit in
     let family : State → Type 0 = λ s. c.is_launching.result ≡ is_launching s.core1 in
     let launching = subst family c.machine.view_is c.is_launching.ensures in
-    closed_later w c.args.machine.now c.loop-k.k c.loop-k.machine c.in-Some.start c.loop-k.crew.notes c.loop-k.marks c.try_later.result c.args.at_most c.loop-k.invariant.passes
+    closed_later w c.args.machine.now c.loop-k.k c.loop-k.machine c.in-Some.start c.loop-k.notes c.loop-k.marks c.try_later.result c.args.at_most c.loop-k.invariant.passes
     (sym launching ∙ c.if-is_launching.false) c.requires.cycles c.loop-k-test.true c.try_later.ensures.goes c.if-not-try_later.true
 
 pub loop-k-preserved : goal.loop-k-preserved
@@ -109,10 +108,9 @@ loop-k-preserved g c =
     let family : State → Type 0 = λ s. c.is_launching.result ≡ is_launching s.core1 in
     let launching = subst family c.machine.view_is c.is_launching.ensures in
     record {
-      passes = passes_later w c.args.machine.now c.loop-k.k c.loop-k.machine c.in-Some.start c.loop-k.crew.notes c.loop-k.marks c.try_later.result c.try_later.new.machine c.try_later.new.notes c.try_later.new.marks c.loop-k.invariant.passes
+      passes = passes_later w c.args.machine.now c.loop-k.k c.loop-k.machine c.in-Some.start c.loop-k.notes c.loop-k.marks c.try_later.result c.try_later.new.machine c.try_later.new.notes c.try_later.new.marks c.loop-k.invariant.passes
           (sym launching ∙ c.if-is_launching.false) (omega (arith, below, short)) c.try_later.ensures.goes c.if-not-try_later.false c.try_later.ensures.state c.try_later.ensures.marks c.try_later.ensures.notes;
       counted = let before = c.loop-k.invariant.counted in let tick = c.tick-in-loop-k.ensures in omega (arith, before, tick);
-      crew = record { jobs = c.loop-k.invariant.crew.jobs; spare = c.loop-k.invariant.crew.spare };
     }
 
 pub returns-clause-length : goal.returns-clause-length
@@ -120,4 +118,4 @@ returns-clause-length g c =
     let w = setting_of c.args.world.now.script.now (g.X.Device.meaning c.args.world.now.device.now) c.args.world.now.limit in
     let some = c.if-at_most-eq0.false in
     let full : c.loop-k.k ≡ c.args.at_most = let ended = c.loop-k-test.false in let end = c.loop-k.auto.k-end in omega (arith, some, ended, end) in
-    sym full ∙ closed_full w c.args.machine.now c.loop-k.k c.loop-k.machine c.in-Some.start c.loop-k.crew.notes c.loop-k.marks c.args.at_most c.loop-k.invariant.passes full
+    sym full ∙ closed_full w c.args.machine.now c.loop-k.k c.loop-k.machine c.in-Some.start c.loop-k.notes c.loop-k.marks c.args.at_most c.loop-k.invariant.passes full

@@ -1,12 +1,10 @@
 use Rattle.std.proofs.Common.{◌≡◌, ◌+◌}
 use Rattle.outer_lane.specs.Setting.{setting_of}
-use Rattle.window_merge.specs.Jobs.{IsWhole}
 use Rattle.window_merge.proofs.Passing.{Passes}
 use Rattle.window_merge.proofs.here.window_within.Given as goal
 
 abbrev pub invariant-loop-k : goal.invariant-loop-k
 invariant-loop-k g l = record {
-  passes : Passes (setting_of l.world.script.now (g.X.Device.meaning l.world.device.now) l.world.limit) l.fn.machine l.k l.machine l.start l.crew.notes l.marks;
+  passes : Passes (setting_of l.world.script.now (g.X.Device.meaning l.world.device.now) l.world.limit) l.fn.machine l.k l.machine l.start l.notes l.marks;
   counted : l.steps ≡ l.fn.steps + l.k;
-  crew : IsWhole l.crew;
 }

@@ -2,7 +2,7 @@ use Rattle.std.proofs.Common.{sym, subst}
 use Rattle.rp_machine.specs.State.{State}
 use Rattle.window_merge.specs.Merging.{IsRested}
 use Rattle.window_merge.proofs.Resting.{start_rested}
-use Rattle.window_merge.proofs.tests.windows_of.Goals as goal
+use Rattle.window_tests.proofs.window_merge_tests.windows_of.Goals as goal
 
 pub loop-init : goal.loop-init
 loop-init g c =

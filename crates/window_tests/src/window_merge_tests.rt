@@ -2,8 +2,6 @@
 
 ghost use Rattle.std.specs.Prelude.{◌≡◌, ◌<◌};
 
-use crate::jobs::run_by;
-use crate::{Crew, LaneJob, LaneReport, Moved, Stranger, accept, advance, job};
 use arrayvec::ArrayVec;
 use lane_look::{Device, Marks, NoDevice};
 use pin_script::read_script;
@@ -14,6 +12,8 @@ use std::marker::Brand;
 use std::sync::ledger::{Blank, Ledger};
 use std::test::Fail;
 use uf2_image::read_image;
+use window_merge::jobs::run_by;
+use window_merge::{Crew, LaneJob, LaneReport, Moved, Stranger, accept, advance, job};
 
 /// ADR of the words, LDM, a store that begins the copy, and a loop; then the words of the channel, and what is copied.
 const COPY: [u8; 36] = [
@@ -42,8 +42,8 @@ fn block(code: &[u8; 36]) -> [u8; 512] {
         1,
         0xe48b_ff56u32,
     ];
-    for (place, word) in words.iter().enumerate() {
-        bytes[4 * place..4 * place + 4].copy_from_slice(&word.to_le_bytes());
+    for (index, word) in words.iter().enumerate() {
+        bytes[4 * index..4 * index + 4].copy_from_slice(&word.to_le_bytes());
     }
     bytes[32..68].copy_from_slice(code);
     bytes[508..512].copy_from_slice(&u32::to_le_bytes(0x0ab1_6f30));
@@ -129,9 +129,9 @@ fn words_of_one_bank_close_more(rt: HostRuntime) -> Result<(), Fail> {
 fn report_of<X: Device>(
     machine: &Machine,
     world: &World<'_, X>,
-    place: &mut Option<LaneJob>,
+    room: &mut Option<LaneJob>,
 ) -> Result<LaneReport, Fail> {
-    let Some(mut lane_job) = place.take() else {
+    let Some(mut lane_job) = room.take() else {
         return Err("no job".into());
     };
     lane_job.limit = world.limit;
