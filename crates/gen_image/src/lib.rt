@@ -10,7 +10,6 @@ use rand_pcg::Lcg64Xsh32;
 use std::alloc::{AllocError, Global};
 use uf2_image::{Image, Part, PartBytes, PartList};
 
-
 /// How many instructions stand before the BL.
 const COUNT: u32 = 16382;
 
