@@ -86,7 +86,7 @@ fn six_jobs(alloc: Global) -> Result<[Option<LaneJob>; 6], AllocError>
 }
 
 impl Crew {
-    ghost use Rattle.std.specs.Prelude.{IfOk};
+    ghost use Rattle.std.specs.Prelude.{◌≡◌, IfOk};
     ghost use Rattle.window_merge.specs.Jobs.{IsWhole};
 
     /// Both jobs of each lane, which hold nothing yet. Nothing that uses them takes memory.
@@ -101,5 +101,18 @@ impl Crew {
         let spare = six_jobs(alloc)?;
         let notes = Notes::new(alloc)?;
         Ok(Crew { jobs, spare, notes })
+    }
+
+    /// The jobs, the first ones and the second ones.
+    pub fn into_jobs(self) -> ([Option<LaneJob>; 6], [Option<LaneJob>; 6])
+        ensures first { result.0 ≡ self.jobs }
+        ensures spare { result.1 ≡ self.spare }
+    {
+        let Crew {
+            jobs,
+            spare,
+            notes: _notes,
+        } = self;
+        (jobs, spare)
     }
 }

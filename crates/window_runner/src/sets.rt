@@ -29,7 +29,7 @@ pub(crate) fn sets_of(alloc: Global, crew: Crew) -> Result<Box<Sets>, AllocError
     requires { IsWhole crew }
     ensures { IfOk result (λ sets. EachLane HasNumber sets.value.spare) }
 {
-    let Crew { jobs, spare, .. } = crew;
+    let (jobs, spare) = crew.into_jobs();
     let [core0, core1, dma, pio0, pio1, outer] = jobs;
     let first = Six {
         l0: core0,
