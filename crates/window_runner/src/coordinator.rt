@@ -9,7 +9,7 @@ ghost use Rattle.rp_machine.specs.Run.{last_state, states, unless_stopped};
 ghost use Rattle.turn_board.specs.Answers.{EachLane};
 ghost use Rattle.window_merge.specs.Window.{next_position, window_length};
 ghost use Rattle.window_merge.specs.Merging.{marks_in, IsRested, IsStep};
-ghost use Rattle.window_merge.specs.Jobs.{IsJobFor, IsTrueIn};
+ghost use Rattle.window_merge.specs.Jobs.{HasNumber, IsJobFor, IsTrueIn};
 ghost use Rattle.window_runner.specs.Told.{all_shown, step_events, run_shown};
 ghost use Rattle.window_runner.specs.Alone.{IsRan, IsOnRun, position_at, stop_in};
 ghost use Rattle.window_runner.specs.Seated.{Keeps, IsSeatAt, IsReady};
@@ -158,8 +158,44 @@ fn found_in<'w, X: Device, G: Gate, H: Wait>(
     gather(desk, lead, pieces)
 }
 
-/// Moves the machine by a window whose lanes are run by all who draw tickets, and gives its length. Of a lane without a report that
-/// is accepted the run is made here; where no lane has one the window is made here as on one thread.
+/// Moves the machine by a window of these reports, and gives its length. Of a lane without a report that is accepted the run is made
+/// here.
+fn merge_found<X: Device, L: Ledger>(
+    machine: &mut Machine,
+    world: &World<'_, X>,
+    found: Six<Found>,
+    sets: &mut Sets,
+    marks: &mut Marks,
+    steps: &mut Steps<L>,
+) -> u16
+    requires number { machine.old.cycle ≤ world.now.limit }
+    requires free { has_hold machine.old.fabric ≡ false }
+    requires rested { IsRested machine.old.sio }
+    requires found { EachLane (λ lane found. IfSome found.report (IsTrueIn
+        (setting_of world.now.script.now (X.meaning world.now.device.now) world.now.limit)))
+        found }
+    requires spare { EachLane HasNumber sets.old.spare }
+    ensures length { result ≡ window_length
+        (setting_of world.now.script.now (X.meaning world.now.device.now) world.now.limit)
+        machine.old }
+    ensures state { machine.new ≡ states
+        (setting_of world.now.script.now (X.meaning world.now.device.now) world.now.limit)
+        machine.old result }
+    ensures number { machine.new.cycle ≡ machine.old.cycle + result }
+    ensures marks { marks.new ≡ marks_in
+        (setting_of world.now.script.now (X.meaning world.now.device.now) world.now.limit)
+        machine.old result }
+    ensures steps { steps.new ≡ steps.old + result }
+    ensures spare { EachLane HasNumber sets.new.spare }
+{
+    let mut reports = settle_all(machine, world, found, &mut *sets);
+    let length = merge(machine, world, &mut reports, marks, steps);
+    give_back_all(reports, &mut *sets);
+    length
+}
+
+/// Moves the machine by a window whose lanes are run by all who draw tickets, and gives its length. Where no lane has a report the
+/// window is made here, as on one thread.
 fn window<'w, X: Device, G: Gate, H: Wait, L: Ledger>(
     desk: &Desk<'_, 'w, X, G, H>,
     lead: &mut Lead<'w, X>,
@@ -190,14 +226,12 @@ fn window<'w, X: Device, G: Gate, H: Wait, L: Ledger>(
         lead.new.kept lead.new.master lead.new.seat lead.new.sets.value.spare }
 {
     let found = found_in(desk, lead, machine);
-    let length = if has_report(&found) {
-        let mut reports = settle_all(machine, desk.world, found, &mut *lead.sets);
-        let length = merge(machine, desk.world, &mut reports, marks, steps);
-        give_back_all(reports, &mut *lead.sets);
-        length
-    } else {
-        window_here(machine, desk.world, &mut lead.sets.notes, marks, steps)
-    };
+    if has_report(&found) {
+        let length = merge_found(machine, desk.world, found, &mut *lead.sets, marks, steps);
+        lead.after_short = length < SHORT;
+        return length;
+    }
+    let length = window_here(machine, desk.world, &mut lead.sets.notes, marks, steps);
     lead.after_short = length < SHORT;
     length
 }
