@@ -63,6 +63,50 @@ fn a_text_is_the_same_for_each_number_of_workers(rt: HostRuntime) -> Result<(), 
     Ok(())
 }
 
+/// The status and the text of a run with so many workers, in which a script drives pin 3, and the sink fails at a call.
+fn broken<R: Threads + Wait + Sync>(
+    rt: &R,
+    alloc: Global,
+    workers: &str,
+    call: u64,
+) -> Result<(u8, Vec<u8>), AllocError> {
+    let script = held(alloc, "s", b"5 3 1\n600 3 0\n700 3 1\n")?;
+    let shelf = vec![in alloc; held(alloc, "a.uf2", &image(alloc, &[0xe7fe])?)?, script]?;
+    let mut files = MemShelf::new(alloc, shelf, Vec::new(alloc));
+    let words = [
+        "run",
+        "a.uf2",
+        "--cycles",
+        "1000",
+        "--script",
+        "s",
+        "--workers",
+        workers,
+    ];
+    let words = texts(alloc, &words)?;
+    let mut out = MemSink::new(alloc, vec![in alloc; call]?);
+    let status = gated_words(rt, alloc, &words, &mut files, &mut out, &OpenGate);
+    Ok((status, out.bytes))
+}
+
+/// It fails at the first event, at the second, which is of another window, and at the stop.
+#[test]
+fn a_failing_sink_ends_a_run_with_workers(rt: HostRuntime) -> Result<(), Fail> {
+    let alloc = rt.alloc();
+    let rows: [(u64, &[u8]); 3] = [
+        (0, b""),
+        (1, b"5 pin 3 1\n"),
+        (3, b"5 pin 3 1\n600 pin 3 0\n700 pin 3 1\n"),
+    ];
+    for workers in ["2", "8"] {
+        for (call, wanted) in rows {
+            let (status, text) = broken(&rt, alloc, workers, call)?;
+            assert!(rt; status == 7 && text.as_slice() == wanted);
+        }
+    }
+    Ok(())
+}
+
 #[test]
 fn workers_run_a_generated_program(rt: HostRuntime) -> Result<(), Fail> {
     let alloc = rt.alloc();
