@@ -91,7 +91,7 @@ no_port : (a : Option (ℕ × Bool)) → is_port_of a None ≡ false
 no_port None = refl
 no_port (Some access) = refl
 
-shares_none : (a : Want) → share_port a want.Nothing ≡ false
+pub shares_none : (a : Want) → share_port a want.Nothing ≡ false
 unfolding asked_of
 shares_none want.Nothing = refl
 shares_none (want.Ram request) = no_port (asked_of (want.Ram request))

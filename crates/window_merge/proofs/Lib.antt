@@ -11,6 +11,7 @@ pub mod Lanes
 pub mod Logs
 pub mod Meeting
 pub mod Noting
+pub mod OneCore
 pub mod Passing
 pub mod Patching
 pub mod Ports

@@ -1,10 +1,11 @@
 -- A window in one pass: in each cycle the lanes begin what their runs alone begin, and the pass ends where the window closes.
-use Rattle.std.proofs.Common.{◌≡◌, ◌≢◌, ℕ, zero, suc, ◌+◌, ◌*◌, ◌<◌, ◌≤◌, ◌||◌, ◌&&◌, ◌⊎◌, Bool, true, false, not, if◌then◌else◌, inl, inr, List, [], ◌∷◌, ◌++◌, length, refl, ap, sym, ◌∙◌, subst, append-nil, add-one, arith}
+use Rattle.std.proofs.Common.{◌≡◌, ◌≢◌, ℕ, zero, suc, ◌+◌, ◌*◌, ◌<◌, ◌≤◌, ◌||◌, ◌&&◌, ◌⊎◌, Bool, true, false, not, if◌then◌else◌, inl, inr, List, [], ◌∷◌, ◌++◌, length, None, nat_eq, refl, ap, sym, ◌∙◌, subst, append-nil, add-one, arith}
 use Rattle.std.specs.Prelude.{slice_index}
 use Rattle.std.proofs.lemmas.Bool.Decides.{eqb_tells}
 use Rattle.lane_look.specs.Asking.{answered}
 use Rattle.lane_look.specs.declared.lane.Ask.{Ask}
 use Rattle.lane_look.specs.declared.lane.Want.{Want}
+use Rattle.lane_look.specs.declared.lane.Want.TheVariants as want
 use Rattle.lane_look.specs.declared.marks.Mark.{Mark}
 use Rattle.lane_look.specs.Replay.{Meaning, Entry}
 use Rattle.lane_look.specs.Alone.{all_stored, alone, alone_length, ends_want, ends_wants, ends_at, wanted_in, differs, least}
@@ -25,10 +26,10 @@ use Rattle.rp_machine.specs.declared.deed.Deed.{Deed}
 use Rattle.rp_machine.specs.declared.deed.Deed.TheVariants as deed
 use Rattle.rp_machine.specs.State.{State}
 use Rattle.rp_machine.specs.Answers.{answer_of}
-use Rattle.rp_machine.specs.Cycle.{begun, wanted, stored, next_by}
+use Rattle.rp_machine.specs.Cycle.{begun, wanted, stored, stop, next_by}
 use Rattle.rp_machine.specs.Run.{states}
 use Rattle.window_merge.specs.Lanes.{core_lane, dma_lane, pio_lane, peripheral_lane, around, is_launching, core1_bound, runs_of}
-use Rattle.window_merge.specs.Window.{longest, ends_in, clash, window_within}
+use Rattle.window_merge.specs.Window.{longest, ends_in, differs_in, clash, clash_in, closes, window_length, window_within}
 use Rattle.window_merge.specs.Merging.{Rests, begun_by, left_by, differs_by, wants_of, fits, marks_in, Knows}
 use Rattle.window_merge.specs.Patch.{patched, sram_after}
 use Rattle.window_merge.specs.declared.notes.Notes.{Notes}
@@ -37,12 +38,12 @@ use Rattle.window_merge.specs.Notes.{is_none, seen_of, seen_word, is_clean, writ
 use Rattle.window_merge.specs.Start.{start_of, guess, begun_from, differs_from, ends_wanted, goes_by, goes_first, goes_on}
 use Rattle.window_merge.proofs.Agree.{both_false}
 use Rattle.window_merge.proofs.Calm.{IsCalm, calm_sram}
-use Rattle.window_merge.proofs.Meeting.{least_meets}
+use Rattle.window_merge.proofs.Meeting.{least_meets, short_window}
 use Rattle.window_merge.proofs.Lanes.{LaneStands, lane_first, below_least, ends_is, no_cycles}
 use Rattle.window_merge.proofs.Noting.{Restores, undoes_on, own_on, still, sight, no_word, with_word-length, in_sram, after_want}
 use Rattle.window_merge.proofs.Reading.{read_only}
 use Rattle.window_merge.proofs.Starting.{HasLines, lines0, lines1, lines2, lines3, lines4, lines5, guess_is, around_over, stored_sram, same_answered, same_asked, differs_never}
-use Rattle.window_merge.proofs.Windows.{Lengths, AreWithin, AreOn, Stands, AreTold, Goes, all_told, are_within, stands_first, fitted, goes_next, goes_tried, run_within, full_within, they_end}
+use Rattle.window_merge.proofs.Windows.{Lengths, AreWithin, AreOn, Stands, AreTold, Goes, all_told, are_within, stands_first, fitted, goes_next, goes_tried, run_within, full_within, they_end, runs_on, short, differ_of, first_ends}
 
 -- ---- the whole runs alone
 
@@ -672,3 +673,63 @@ no_marks w s marks e = e
 pub still_none : (w : Setting) (s : State) (marks marks' : List Mark) → marks ≡ [] → marks' ≡ marks ++ [] → marks' ≡ marks_in w s 0
 unfolding marks_in
 still_none w s marks marks' none e = e ∙ append-nil marks ∙ none
+
+-- ---- a window that has a cycle begins where nothing stops
+
+lane_calm : {S B : Type 0} (m : Meaning (Unit {0}) S B) (lane : ℕ) (before : S) (s : State) (n bound : ℕ) (did : B) → n ≡ alone_length m (around lane) tt before s.cycle s bound → 0 < n
+    → LaneBegins m lane before s 0 before s.cycle did → ends_wants (m.wanted did) ≡ false
+unfolding alone_length
+lane_calm m lane before s n bound did e lt h =
+    let t = lane_first m lane before s n (alone m (around lane) tt before s.cycle s n).talk refl in
+    sym (lane_test m lane before s n 0 before s.cycle (alone m (around lane) tt before s.cycle s n).talk did t (omega arith) h)
+    ∙ below_least (ends_at m (around lane) tt before s.cycle s) bound 0 (omega (arith, e, lt))
+
+none_at_first : (w : Setting) (s : State) → closes w s 0 ≡ false → ends_in (runs_of w s (longest w s)) 0 ≡ false
+unfolding closes
+none_at_first w s e =
+    let runs = runs_of w s (longest w s) in
+    (both_false (ends_in runs 0) (differs_in runs (states w s 0) 0) (both_false (ends_in runs 0 || differs_in runs (states w s 0) 0) (clash_in runs 0) e).0).0
+
+record HaveCycles (w : Setting) (s : State) : Type 0 where
+  core0 : 0 < (whole w s).core0
+  core1 : 0 < (whole w s).core1
+  dma : 0 < (whole w s).dma
+
+have_cycles : (w : Setting) (s : State) → ends_in (runs_of w s (longest w s)) 0 ≡ false → HaveCycles w s
+have_cycles w s e =
+    let a = both_false (nat_eq 0 (whole w s).core0) _ e in
+    let b = both_false (nat_eq 0 (whole w s).core1) _ a.1 in
+    let c = both_false (nat_eq 0 (whole w s).dma) _ b.1 in
+    let ne0 = differ_of 0 (whole w s).core0 a.0 in
+    let ne1 = differ_of 0 (whole w s).core1 b.0 in
+    let ne2 = differ_of 0 (whole w s).dma c.0 in
+    record { core0 = omega (arith, ne0); core1 = omega (arith, ne1); dma = omega (arith, ne2) }
+
+pub unstopped : (w : Setting) (s : State) (bound n : ℕ) → n ≡ window_within w s bound → bound ≤ longest w s → 0 < n → stop w s ≡ None
+unstopped w s bound n e le lt =
+    let same : n ≡ least (closes w s) bound = e in
+    let few = short_window w s bound n e in
+    let low = short w s in
+    let ne : s.cycle ≢ w.limit = λ here. omega (arith, here, few, le, low, lt) in
+    let none : closes w s 0 ≡ false = below_least (closes w s) bound 0 (omega (arith, same, lt)) in
+    let have = have_cycles w s (none_at_first w s none) in
+    let b = begins_first w s in
+    let c0 = lane_calm core_lane 0 s.core0 s (whole w s).core0 (longest w s) (begun s).core0 refl have.core0 b.core0 in
+    let c1 = lane_calm core_lane 1 s.core1 s (whole w s).core1 (core1_bound s (longest w s)) (begun s).core1 refl have.core1 b.core1 in
+    let d = lane_calm dma_lane 2 s.dma s (whole w s).dma (longest w s) (begun s).dma refl have.dma b.dma in
+    runs_on w s ne (record {
+      calm0 = (first_ends (core.want_of (begun s).core0) want.Nothing c0).0;
+      calm1 = (first_ends (core.want_of (begun s).core1) want.Nothing c1).0;
+      calm_read = (first_ends (dma.want_of (begun s).dma.read) (dma.want_of (begun s).dma.write) d).0;
+      calm_write = (first_ends (dma.want_of (begun s).dma.read) (dma.want_of (begun s).dma.write) d).1;
+    })
+
+pub unstopped_whole : (w : Setting) (s : State) (n : ℕ) → n ≡ window_length w s → 0 < n → stop w s ≡ None
+unfolding window_length
+unstopped_whole w s n e lt = unstopped w s (longest w s) n e (omega arith) lt
+
+-- none at all
+pub no_cycle : (w : Setting) (s t : State) (n : ℕ) → t ≡ states w s n → n ≤ 0 → t ≡ s
+unfolding states
+no_cycle w s t zero e le = e
+no_cycle w s t (suc n) e le = absurd (omega (arith, le))

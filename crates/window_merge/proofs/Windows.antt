@@ -248,18 +248,18 @@ begins_same w s n k now rests t same =
       lane_agrees (peripheral_lane w) 5 s.outer s n.outer k now.outer now.cycle rests.outer (answer_of 5 now) t.outer same.outer,
     ) refl
 
-first_ends : (v u : Want) → ends_wants (v ∷ u ∷ []) ≡ false → (ends_want v ≡ false) × (ends_want u ≡ false)
+pub first_ends : (v u : Want) → ends_wants (v ∷ u ∷ []) ≡ false → (ends_want v ≡ false) × (ends_want u ≡ false)
 first_ends v u e =
     let a = both_false (ends_want v) _ e in
     let b = both_false (ends_want u) _ a.1 in
     (a.0, b.0)
 
 -- what is wanted is nothing, or an access to SRAM
-record AreCalm (b : Begun) : Type 0 where
-  calm0 : ends_want (core.want_of b.core0) ≡ false
-  calm1 : ends_want (core.want_of b.core1) ≡ false
-  calm_read : ends_want (dma.want_of b.dma.read) ≡ false
-  calm_write : ends_want (dma.want_of b.dma.write) ≡ false
+pub record AreCalm (b : Begun) : Type 0 where
+  pub calm0 : ends_want (core.want_of b.core0) ≡ false
+  pub calm1 : ends_want (core.want_of b.core1) ≡ false
+  pub calm_read : ends_want (dma.want_of b.dma.read) ≡ false
+  pub calm_write : ends_want (dma.want_of b.dma.write) ≡ false
 
 all_calm : (w : Setting) (s : State) (n : Lengths) (k : ℕ) (now : State) (rests : Rests) (marks : List Mark) → Goes w s n k now rests marks → AreCalm (begun_by rests now)
 all_calm w s n k now rests marks t =
@@ -316,7 +316,7 @@ no_cause w seen m (want.Outward request) s e = absurd (cc e)
 no_cause w seen m want.Signal s e = absurd (cc e)
 no_cause w seen m (want.Stopped cause) s e = absurd (cc e)
 
-none_stops : (w : Setting) (b : Begun) (s : State) → IsCalm b s → cause_in w b (wanted b) s ≡ None
+pub none_stops : (w : Setting) (b : Begun) (s : State) → AreCalm b → cause_in w b (wanted b) s ≡ None
 unfolding cause_in cause_of wanted
 none_stops w b s h =
     rw (
@@ -326,11 +326,11 @@ none_stops w b s h =
       no_cause w b.outer _ (dma.want_of b.dma.write) s h.calm_write,
     ) refl
 
-runs_on : (w : Setting) (s : State) → s.cycle ≢ w.limit → IsCalm (begun s) s → stop w s ≡ None
+pub runs_on : (w : Setting) (s : State) → s.cycle ≢ w.limit → AreCalm (begun s) → stop w s ≡ None
 unfolding stop
 runs_on w s ne h = rw (not_equal s.cycle w.limit ne) (none_stops w (begun s) s h)
 
-short : (w : Setting) (s : State) → longest w s ≤ w.limit - s.cycle
+pub short : (w : Setting) (s : State) → longest w s ≤ w.limit - s.cycle
 short w s = elim (leb_tells (w.limit - s.cycle) 256) [
   | inl h ↦ rw h.0 (omega arith)
   | inr h ↦ let more = h.1 in rw h.0 (omega arith)
@@ -406,7 +406,7 @@ fitted w s n k now rests marks t e =
     let least_limit = short w s in
     let at = t.stands.at in
     let ne : now.cycle ≢ w.limit = λ here. omega (arith, here) in
-    record { same = same; calm = calm; runs = runs_on w now ne calm }
+    record { same = same; calm = calm; runs = runs_on w now ne (record { calm0 = calm.calm0; calm1 = calm.calm1; calm_read = calm.calm_read; calm_write = calm.calm_write }) }
 
 pub goes_next : (w : Setting) (s : State) (n : Lengths) (k : ℕ) (now : State) (rests : Rests) (marks : List Mark) (fitting : Bool) (now' : State) (rests' : Rests) (marks' : List Mark)
     → Goes w s n k now rests marks → fitting ≡ fits rests now → fitting ≡ true
@@ -555,7 +555,7 @@ ends_at_run w s at_most runs k now rests marks ended h t below e is_true =
     run_within w s (lengths_of runs) k now rests marks at_most t below
     (ends_some w s k at_most _ _ _ _ _ _ h.core0.ends h.core1.ends h.dma.ends h.pio0.ends h.pio1.ends h.outer.ends below (sym e ∙ is_true))
 
-differ_of : (x y : ℕ) → nat_eq x y ≡ false → x ≢ y
+pub differ_of : (x y : ℕ) → nat_eq x y ≡ false → x ≢ y
 differ_of x y e = elim (eqb_tells x y) [
   | inl h ↦ absurd (let there = h.0 in cc (e, there))
   | inr h ↦ h.1

@@ -78,6 +78,12 @@ differs_from start n s =
     || (differs (answer_of 4 s) (asked (guess 4 start (seen_of 4 n s.sram)) (pio.asks s.pio1))
     || (differs (answer_of 5 s) (asked (guess 5 start (seen_of 5 n s.sram)) (outer.asks s.outer s.cycle)) || false)))))
 
+-- the same where core 0 is alone: the other lanes but the peripherals ask nothing
+abbrev pub differs_alone : Start → Notes → State → Bool
+differs_alone start n s =
+    differs (answer_of 0 s) (asked (guess 0 start (seen_of 0 n s.sram)) (core_asks.asks s.core0 s.cycle))
+    || (differs (answer_of 5 s) (asked (guess 5 start (seen_of 5 n s.sram)) (outer.asks s.outer s.cycle)) || false)
+
 -- ---- whether a cycle is one of the window
 
 -- a run alone ends before the cycle

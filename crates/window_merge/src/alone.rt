@@ -63,11 +63,15 @@ fn go_on<X: Device, L: Ledger>(
             None => Moved::Cycle,
         };
     }
-    if let Some(why) = machine.stop(world) {
-        return Moved::Stopped(why);
-    }
     let at_most = longest_to(machine, world, to);
-    Moved::Window(window_within(machine, world, &mut crew.notes, at_most, marks, steps))
+    let length = window_within(machine, world, &mut crew.notes, at_most, marks, steps);
+    if length > 0 {
+        return Moved::Window(length);
+    }
+    match machine.stop(world) {
+        Some(why) => Moved::Stopped(why),
+        None => Moved::Window(length),
+    }
 }
 
 /// Moves the machine to a cycle, by windows where it can, on one thread; or to the cycle below it at which it stops. None where

@@ -7,39 +7,46 @@ ghost use Rattle.bus_fabric.specs.State.{has_hold};
 ghost use Rattle.sio_block.specs.Launcher.{offers_of};
 ghost use Rattle.rp_machine.specs.Cycle.{pins_of, wanted, next_by};
 ghost use Rattle.rp_machine.specs.Run.{states};
-ghost use Rattle.window_merge.specs.Window.{share_port, clash, longest, window_within};
+ghost use Rattle.window_merge.specs.Window.{is_port_of, clash, longest, window_within};
 ghost use Rattle.window_merge.specs.Merging.{AreCut, IsWithin, rests_at, begun_by, left_by, wants_of, fits, marks_in, IsRested};
 
 use crate::compare::{Comparison, compare};
 use crate::runs::{Indices, Runs};
-use lane_look::{Device, Marks, Want};
+use lane_look::{Device, Marks};
 use outer_lane::World;
 use rp_machine::begun::Begun;
 use rp_machine::wanted::{Wanted, all_wanted};
 use rp_machine::{Machine, Steps, asked_of};
 use std::sync::ledger::Ledger;
 
-/// Two wants ask for one port.
-fn share_port(first: &Want, second: &Want) -> bool
-    ensures { result ≡ share_port first.now second.now }
+/// Two accesses are to one port.
+#[inline(always)]
+fn is_port_of(first: Option<(u8, bool)>, second: Option<(u8, bool)>) -> bool
+    ensures { result ≡ is_port_of first second }
 {
-    match (asked_of(first), asked_of(second)) {
+    match (first, second) {
         (Some((port, _)), Some((other, _))) => other == port,
         _ => false,
     }
 }
 
-/// Two of four wants ask for one port.
-fn any_shared(a: &Want, b: &Want, c: &Want, d: &Want) -> bool
-    ensures { result ≡ share_port a.now b.now || (share_port a.now c.now || (share_port a.now d.now
-        || (share_port b.now c.now || (share_port b.now d.now || share_port c.now d.now)))) }
+/// Two of four accesses are to one port.
+#[inline(always)]
+fn any_shared(
+    a: Option<(u8, bool)>,
+    b: Option<(u8, bool)>,
+    c: Option<(u8, bool)>,
+    d: Option<(u8, bool)>,
+) -> bool
+    ensures { result ≡ is_port_of a b || (is_port_of a c || (is_port_of a d
+        || (is_port_of b c || (is_port_of b d || is_port_of c d)))) }
 {
-    share_port(a, b)
-        || share_port(a, c)
-        || share_port(a, d)
-        || share_port(b, c)
-        || share_port(b, d)
-        || share_port(c, d)
+    is_port_of(a, b)
+        || is_port_of(a, c)
+        || is_port_of(a, d)
+        || is_port_of(b, c)
+        || is_port_of(b, d)
+        || is_port_of(c, d)
 }
 
 /// Two of the masters' wants ask for one port.
@@ -48,7 +55,11 @@ pub(crate) fn clash(begun: &Begun, wants: &[Wanted; 4]) -> bool
     ensures { result ≡ clash (wants_of begun.now) }
 {
     let [core0, core1, read, write] = wants;
-    any_shared(&core0.want, &core1.want, &read.want, &write.want)
+    let core0 = asked_of(&core0.want);
+    let core1 = asked_of(&core1.want);
+    let read = asked_of(&read.want);
+    let write = asked_of(&write.want);
+    any_shared(core0, core1, read, write)
 }
 
 /// One cycle of a window, where each logged answer is what the machine answers and no two accesses name one port. Otherwise

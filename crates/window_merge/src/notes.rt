@@ -176,7 +176,8 @@ pub struct Notes {
 impl Notes {
     ghost use Rattle.std.specs.Prelude.{◌≡◌, IfOk};
     ghost use Rattle.rp_machine.specs.Deeds.{StoresInSram};
-    ghost use Rattle.window_merge.specs.Notes.{own_of, is_clean, seen_of, own_word, no_notes, noted_by, HasRoom};
+    ghost use Rattle.lane_look.specs.declared.lane.Want.TheVariants as want;
+    ghost use Rattle.window_merge.specs.Notes.{own_of, is_clean, seen_of, own_word, no_notes, noted, noted_by, HasRoom};
 
     /// None, and room for those of 256 cycles.
     pub(crate) fn new(alloc: Global) -> Result<Notes, AllocError>
@@ -242,6 +243,18 @@ impl Notes {
             }
             _ => None,
         }
+    }
+
+    /// Notes what core 0 writes in a cycle in which no other master wants anything, before it does.
+    #[inline(always)]
+    pub(crate) fn note_core0(&mut self, ram: &Ram, core0: &Want)
+        requires { HasRoom self.old 3 }
+        ensures { self.new ≡ noted core0.now want.Nothing want.Nothing ram.now self.old }
+    {
+        let write = write_of(core0);
+        let word = self.own_word(ram, 0, &write);
+        self.originals.add(original_word(ram, &write));
+        self.core0.add(word);
     }
 
     /// Notes what the masters write in a cycle, before they do. A read of the DMA engine writes nothing.

@@ -4,17 +4,20 @@ ghost use Rattle.std.specs.Prelude.{◌≡◌, ◌+◌, ◌-◌, ◌^◌, ◌<�
 ghost use Rattle.outer_lane.specs.Setting.{setting_of};
 ghost use Rattle.outer_lane.specs.Step.{marked};
 ghost use Rattle.lane_look.specs.Alone.{ends_want};
+ghost use Rattle.m0_core.specs.Cycle.{want_of};
 ghost use Rattle.rp_machine.specs.Cycle.{begun, wanted, next_by};
+ghost use Rattle.rp_machine.specs.Alone.{IsAlone};
 ghost use Rattle.window_merge.specs.Lanes.{is_launching};
 ghost use Rattle.window_merge.specs.Notes.{no_notes, noted_by, HasRoom};
 ghost use Rattle.window_merge.specs.Start.{start_of, begun_from, ends_wanted, goes_first, goes_on};
 
 use crate::merge::clash;
 use crate::notes::Notes;
-use crate::start::{Beginning, Start, begin_at_start, begin_later};
-use lane_look::{Device, Marks, Want};
-use m0_core::Core;
+use crate::start::{Beginning, BeginningAlone, Start, begin_alone, begin_at_start, begin_later};
+use lane_look::{Device, Lane, Marks, Want};
+use m0_core::{Core, Doing};
 use outer_lane::World;
+use rp_base::Master;
 use rp_machine::Machine;
 use rp_machine::wanted::{Wanted, all_wanted};
 
@@ -80,9 +83,60 @@ pub(crate) fn try_first<X: Device>(
     Some(start)
 }
 
-/// A later cycle of a window, where each answer of the start is what the machine answers, no run alone ends and no two accesses
-/// name one port. Otherwise the machine, the notes and the marks stay.
-pub(crate) fn try_later<X: Device>(
+/// What a core wants.
+#[inline(always)]
+fn want_of(begun: &Doing) -> Want
+    ensures { result ≡ want_of begun.now }
+{
+    let [want, _] = <Core as Lane<()>>::wants(begun);
+    want
+}
+
+/// A later cycle of a window in which core 0 is alone: nothing is asked of the lanes at rest.
+fn try_alone<X: Device>(
+    machine: &mut Machine,
+    world: &World<'_, X>,
+    start: &Start,
+    notes: &mut Notes,
+    marks: &mut Marks,
+) -> bool
+    requires alone { IsAlone machine.old }
+    requires number { machine.old.cycle < 2 ^ 64 - 1 }
+    requires marks { length marks.old < 256 }
+    requires room { HasRoom notes.old 3 }
+    ensures goes { result ≡ goes_on start.now notes.old machine.old }
+    ensures state { machine.new ≡ (if result then next_by
+        (setting_of world.now.script.now (X.meaning world.now.device.now) world.now.limit)
+        (begun_from start.now notes.old machine.old)
+        (wanted (begun_from start.now notes.old machine.old)) machine.old
+        else machine.old) }
+    ensures marks { marks.new ≡ marks.old ++ (if result then marked
+        (setting_of world.now.script.now (X.meaning world.now.device.now) world.now.limit)
+        machine.old.outer (begun_from start.now notes.old machine.old).outer ∷ []
+        else []) }
+    ensures notes { notes.new ≡ (if result then noted_by
+        (wanted (begun_from start.now notes.old machine.old)) machine.old.sram notes.old
+        else notes.old) }
+{
+    let BeginningAlone { core0, outer, same } = begin_alone(machine, world, start, notes);
+    if !same {
+        return false;
+    }
+    let wanted = Wanted {
+        master: Master::Core0,
+        want: want_of(&core0),
+    };
+    if ends_want(&wanted) {
+        return false;
+    }
+    notes.note_core0(&machine.ram, &wanted.want);
+    machine.step_alone(world, &core0, &outer, &wanted, marks);
+    true
+}
+
+/// A later cycle of a window in which each lane may be at work.
+#[inline(never)]
+fn try_all<X: Device>(
     machine: &mut Machine,
     world: &World<'_, X>,
     start: &Start,
@@ -114,4 +168,37 @@ pub(crate) fn try_later<X: Device>(
         machine.step(world, &begun, &wants, marks);
     }
     goes
+}
+
+/// A later cycle of a window, where each answer of the start is what the machine answers, no run alone ends and no two accesses
+/// name one port. Otherwise the machine, the notes and the marks stay.
+pub(crate) fn try_later<X: Device>(
+    machine: &mut Machine,
+    world: &World<'_, X>,
+    start: &Start,
+    notes: &mut Notes,
+    marks: &mut Marks,
+) -> bool
+    requires number { machine.old.cycle < 2 ^ 64 - 1 }
+    requires marks { length marks.old < 256 }
+    requires room { HasRoom notes.old 3 }
+    ensures goes { result ≡ goes_on start.now notes.old machine.old }
+    ensures state { machine.new ≡ (if result then next_by
+        (setting_of world.now.script.now (X.meaning world.now.device.now) world.now.limit)
+        (begun_from start.now notes.old machine.old)
+        (wanted (begun_from start.now notes.old machine.old)) machine.old
+        else machine.old) }
+    ensures marks { marks.new ≡ marks.old ++ (if result then marked
+        (setting_of world.now.script.now (X.meaning world.now.device.now) world.now.limit)
+        machine.old.outer (begun_from start.now notes.old machine.old).outer ∷ []
+        else []) }
+    ensures notes { notes.new ≡ (if result then noted_by
+        (wanted (begun_from start.now notes.old machine.old)) machine.old.sram notes.old
+        else notes.old) }
+{
+    if machine.is_core0_alone() {
+        try_alone(machine, world, start, notes, marks)
+    } else {
+        try_all(machine, world, start, notes, marks)
+    }
 }

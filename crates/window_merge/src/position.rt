@@ -52,8 +52,12 @@ pub fn advance<X: Device, L: Ledger>(
             None => Moved::Cycle,
         };
     }
-    if let Some(why) = machine.stop(world) {
-        return Moved::Stopped(why);
+    let length = window(machine, world, &mut crew.notes, marks, steps);
+    if length > 0 {
+        return Moved::Window(length);
     }
-    Moved::Window(window(machine, world, &mut crew.notes, marks, steps))
+    match machine.stop(world) {
+        Some(why) => Moved::Stopped(why),
+        None => Moved::Window(length),
+    }
 }

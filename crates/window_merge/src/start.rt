@@ -7,12 +7,13 @@ ghost use Rattle.lane_look.specs.Alone.{differs};
 ghost use Rattle.rp_machine.specs.Answers.{answer_of};
 ghost use Rattle.rp_machine.specs.Cycle.{begun};
 ghost use Rattle.window_merge.specs.Notes.{seen_of};
-ghost use Rattle.window_merge.specs.Start.{guess, begun_from, differs_from};
+ghost use Rattle.window_merge.specs.Start.{guess, begun_from, differs_from, differs_alone};
 
 use crate::copies::half_of;
 use crate::notes::{Notes, seen_word};
 use lane_look::{Ask, Device, Lane, Look};
-use outer_lane::World;
+use m0_core::Doing;
+use outer_lane::{SeenOutputs, World};
 use rp_base::map::{Spot, place};
 use rp_machine::Machine;
 use rp_machine::begun::Begun;
@@ -280,5 +281,35 @@ pub(crate) fn begin_later<X: Device>(
             pio1: pio1.begun,
             outer: outer.begun,
         },
+    }
+}
+
+/// What core 0 and the peripherals have begun where the start answers.
+#[derive(Drop)]
+pub(crate) struct BeginningAlone {
+    pub(crate) core0: Doing,
+    pub(crate) outer: SeenOutputs,
+    /// Whether each answer is what the machine answers.
+    pub(crate) same: bool,
+}
+
+/// Begins the cycle of core 0 and of the peripherals alone as the start answers, and compares each answer with the machine's.
+#[inline(always)]
+pub(crate) fn begin_alone<X: Device>(
+    machine: &Machine,
+    world: &World<'_, X>,
+    start: &Start,
+    notes: &Notes,
+) -> BeginningAlone
+    ensures core0 { result.core0 ≡ (begun_from start.now notes.now machine.now).core0 }
+    ensures outer { result.outer ≡ (begun_from start.now notes.now machine.now).outer }
+    ensures same { result.same ≡ not (differs_alone start.now notes.now machine.now) }
+{
+    let core0 = begin_by(&machine.core0, &(), 0, machine, start, notes);
+    let outer = begin_by(&machine.outer, world, 5, machine, start, notes);
+    BeginningAlone {
+        same: core0.same && outer.same,
+        core0: core0.begun,
+        outer: outer.begun,
     }
 }

@@ -1,0 +1,42 @@
+use Rattle.std.proofs.Common.{◌≡◌, true, false, refl, ap, sym, ◌∙◌, subst}
+use Rattle.lane_look.specs.declared.lane.Want.TheVariants as want
+use Rattle.lane_look.specs.Alone.{ends_want}
+use Rattle.m0_core.specs.Cycle as core
+use Rattle.outer_lane.specs.Setting.{setting_of}
+use Rattle.rp_machine.specs.State.{State}
+use Rattle.window_merge.specs.Notes.{noted}
+use Rattle.window_merge.specs.Start.{begun_from}
+use Rattle.window_merge.proofs.OneCore.{goes_alone, next_alone, noted_alone}
+use Rattle.window_merge.proofs.pass.try_alone.Goals as goal
+
+pub returns-then-not-same-clause-goes : goal.returns-then-not-same-clause-goes
+returns-then-not-same-clause-goes g c =
+    let b = begun_from c.args.start.now c.args.notes.now c.args.machine.now in
+    goes_alone c.args.start.now c.args.notes.now c.args.machine.now false (ends_want (core.want_of b.core0)) c.requires.alone (sym c.if-not-same.true ∙ c.begin_alone-same.ensures.same) refl
+
+pub returns-then-ends_want-clause-goes : goal.returns-then-ends_want-clause-goes
+returns-then-ends_want-clause-goes g c =
+    let e_want = c.want_of.ensures ∙ ap core.want_of c.begin_alone-same.ensures.core0 in
+    goes_alone c.args.start.now c.args.notes.now c.args.machine.now true true c.requires.alone (sym c.if-not-same.false ∙ c.begin_alone-same.ensures.same)
+    (sym c.if-ends_want.true ∙ c.ends_want.ensures ∙ ap ends_want e_want)
+
+pub returns-clause-goes : goal.returns-clause-goes
+returns-clause-goes g c =
+    let e_want = c.want_of.ensures ∙ ap core.want_of c.begin_alone-same.ensures.core0 in
+    goes_alone c.args.start.now c.args.notes.now c.args.machine.now true false c.requires.alone (sym c.if-not-same.false ∙ c.begin_alone-same.ensures.same)
+    (sym c.if-ends_want.false ∙ c.ends_want.ensures ∙ ap ends_want e_want)
+
+pub returns-clause-state : goal.returns-clause-state
+returns-clause-state g c =
+    let w = setting_of c.args.world.now.script.now (g.X.Device.meaning c.args.world.now.device.now) c.args.world.now.limit in
+    let e_want = c.want_of.ensures ∙ ap core.want_of c.begin_alone-same.ensures.core0 in
+    let goes = goes_alone c.args.start.now c.args.notes.now c.args.machine.now true false c.requires.alone (sym c.if-not-same.false ∙ c.begin_alone-same.ensures.same)
+    (sym c.if-ends_want.false ∙ c.ends_want.ensures ∙ ap ends_want e_want) in
+    next_alone w c.args.start.now c.args.notes.now c.args.machine.now c.step_alone.new.self c.begin_alone-same.result.core0 c.begin_alone-same.result.outer c.want_of.result c.requires.alone (sym goes)
+    c.begin_alone-same.ensures.core0 c.begin_alone-same.ensures.outer c.want_of.ensures c.step_alone.ensures.state
+
+pub returns-clause-notes : goal.returns-clause-notes
+returns-clause-notes g c =
+    let e_want = c.want_of.ensures ∙ ap core.want_of c.begin_alone-same.ensures.core0 in
+    let family : State → Type 0 = λ s. c.note_core0.new.self ≡ noted c.want_of.result want.Nothing want.Nothing s.sram c.args.notes.now in
+    noted_alone c.args.start.now c.args.notes.now c.args.machine.now c.want_of.result c.note_core0.new.self c.requires.alone e_want (subst family c.machine.view_is c.note_core0.ensures)
