@@ -1,4 +1,4 @@
-//! Places of known addresses, and their ports.
+//! Spots of known addresses, and their ports.
 
 use rp_base::map::{Block, Spot, place, port};
 

@@ -182,3 +182,7 @@ is_raised raised line = not (status_of raised line == 0)
 
 abbrev pub lines_of : Engine → List Bool
 lines_of s = is_raised s.raised s.line_0 ∷ is_raised s.raised s.line_1 ∷ []
+
+-- nothing is raised and nothing forced
+abbrev pub is_silent : Engine → Bool
+is_silent s = s.raised == 0 && s.line_0.force == 0 && s.line_1.force == 0

@@ -31,7 +31,7 @@ impl Dma {
     ghost use Rattle.std.specs.Prelude.{Decides, false, true, ◌∷◌, []};
     ghost use Rattle.dma_engine.specs.Rest.{StaysAtRest};
     ghost use Rattle.dma_engine.specs.State.{reset_state, with_hold};
-    ghost use Rattle.dma_engine.specs.Words.{word_of, is_allowed, effect_of, lines_of};
+    ghost use Rattle.dma_engine.specs.Words.{word_of, is_allowed, effect_of, is_silent, lines_of};
 
     /// The engine in its reset state: no channel is busy, and every register is 0.
     pub fn new() -> Dma
@@ -94,7 +94,8 @@ impl Dma {
     /// No interrupt is raised or forced, so that both lines are low.
     #[inline(always)]
     pub fn is_silent(&self) -> bool
-        ensures { result ≡ true → lines_of self.now ≡ false ∷ false ∷ [] }
+        ensures value { result ≡ is_silent self.now }
+        ensures lines { result ≡ true → lines_of self.now ≡ false ∷ false ∷ [] }
     {
         self.engine.is_silent()
     }

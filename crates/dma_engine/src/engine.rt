@@ -46,7 +46,7 @@ impl Model for Engine {
 
 impl Engine {
     ghost use Rattle.dma_engine.specs.State.{reset_state, with_hold};
-    ghost use Rattle.dma_engine.specs.Words.{lines_of};
+    ghost use Rattle.dma_engine.specs.Words.{is_silent, lines_of};
 
     /// The reset state.
     pub(crate) fn new(held: bool) -> Engine
@@ -79,7 +79,8 @@ impl Engine {
     /// No interrupt is raised or forced.
     #[inline(always)]
     pub(crate) fn is_silent(&self) -> bool
-        ensures { result ≡ true → lines_of self.now ≡ false ∷ false ∷ [] }
+        ensures value { result ≡ is_silent self.now }
+        ensures lines { result ≡ true → lines_of self.now ≡ false ∷ false ∷ [] }
     {
         self.raised == 0 && self.line_0.force == 0 && self.line_1.force == 0
     }

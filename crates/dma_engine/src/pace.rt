@@ -7,7 +7,7 @@ ghost use Rattle.dma_engine.specs.Cycle.{uses_credits};
 /// What paces a channel, by its data request (RP2040 Datasheet, 2.5.3.1 and 2.5.7, TREQ_SEL).
 #[derive(Clone, Copy)]
 pub enum Pace {
-    /// A transmitter's FIFO, whose count of free places is at that index of the counts.
+    /// A transmitter's FIFO, whose count of free entries is at that index of the counts.
     Sender(u8),
     /// A receiver's FIFO, whose count of words is at that index of the counts.
     Receiver(u8),

@@ -1,6 +1,6 @@
 //! The pads: their state, their cycle and their readers.
 
-ghost use Rattle.std.specs.Prelude.{◌≡◌, ◌<◌, ◌∷◌, [], Decides, IfSome, slice_index, true, false};
+ghost use Rattle.std.specs.Prelude.{◌≡◌, ◌<◌, ◌∷◌, ◌&&◌, [], Decides, IfSome, not, slice_index};
 ghost use Rattle.io_bank.specs.State.{at_reset, after_held, with_bank_held, with_pads_held};
 ghost use Rattle.io_bank.specs.Levels.{levels_of, by_list, by_sets, inputs_of, pins_of, is_used, first_in, receive_pin, receive_level};
 ghost use Rattle.io_bank.specs.Edges.{edges_of};
@@ -231,8 +231,7 @@ impl IoBank {
 
     /// Both interrupt lines are low.
     pub fn is_silent(&self) -> bool
-        ensures core0 { result ≡ true → line_of self.now self.now.core0 ≡ false }
-        ensures core1 { result ≡ true → line_of self.now self.now.core1 ≡ false }
+        ensures { result ≡ (not (line_of self.now self.now.core0) && not (line_of self.now self.now.core1)) }
     {
         let [core0, core1] = self.lines();
         !core0 && !core1

@@ -89,7 +89,7 @@ pop_beats list s = Inner ∷ (reads (sp_of s) (registers_of list) ++ pop_end lis
 
 abbrev pub beats_of_action : Action → Regs → List Beat
 beats_of_action (act.Move d m) s = inner_to d
-beats_of_action (act.Place d x y) s = inner_to d
+beats_of_action (act.Total d x y) s = inner_to d
 beats_of_action (act.Branch offset) s = inner 2
 beats_of_action (act.BranchIf condition offset) s = if condition_holds condition s then inner 2 else inner 1
 beats_of_action (act.Exchange m) s = inner 2

@@ -61,7 +61,7 @@ action_of (op.Mul m d) = act.Word words.Mul (Some d) (Register d) (Register m)
 action_of (op.Bic m d) = act.Word words.Bic (Some d) (Register d) (Register m)
 action_of (op.Mvn m d) = act.Word words.Mvn (Some d) (Number 0) (Register m)
 -- A5.2.3, all registers and branches to a register
-action_of (op.AddHigh d m) = act.Place d (Register d) (Register m)
+action_of (op.AddHigh d m) = act.Total d (Register d) (Register m)
 action_of (op.CmpHigh d m) = act.Sum sums.Sub None (Register d) (Register m)
 action_of (op.MovHigh d m) = act.Move d m
 action_of (op.Bx m) = act.Exchange m
@@ -85,9 +85,9 @@ action_of (op.LdrhImm i n t) = act.Load t sizes.Half false (Register n) (Number 
 action_of (op.StrSp t i) = act.Store t sizes.Word (Register 13) (Number (4 * i))
 action_of (op.LdrSp t i) = act.Load t sizes.Word false (Register 13) (Number (4 * i))
 -- A5.2.5, addresses, the stack pointer and extensions
-action_of (op.Adr d i) = act.Place d AlignedPc (Number (4 * i))
-action_of (op.AddSp d i) = act.Place d (Register 13) (Number (4 * i))
-action_of (op.AddSpImm i) = act.Place 13 (Register 13) (Number (4 * i))
+action_of (op.Adr d i) = act.Total d AlignedPc (Number (4 * i))
+action_of (op.AddSp d i) = act.Total d (Register 13) (Number (4 * i))
+action_of (op.AddSpImm i) = act.Total 13 (Register 13) (Number (4 * i))
 action_of (op.SubSpImm i) = act.LowerSp (4 * i)
 action_of (op.Sxth m d) = act.Extend extends.Sxth d m
 action_of (op.Sxtb m d) = act.Extend extends.Sxtb d m

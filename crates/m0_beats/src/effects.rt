@@ -39,7 +39,7 @@ fn carry_out(action: &Action, regs: &mut Regs, read: &[u32])
         ),
         Action::Extend(kind, d, m) => regs.after_value(d, extend(kind, regs.register(m))),
         Action::Move(d, m) => regs.after_value(d, regs.register(m)),
-        Action::Place(d, x, y) => regs.after_value(d, x.value(regs).wrapping_add(y.value(regs))),
+        Action::Total(d, x, y) => regs.after_value(d, x.value(regs).wrapping_add(y.value(regs))),
         Action::LowerSp(by) => regs.after_value(13, regs.active_sp().wrapping_sub(by)),
         Action::Load(t, size, signed, _, _) => regs.after_value(
             t,

@@ -68,7 +68,7 @@ pub enum Action {
     /// Moves the second register into the first, which may be any.
     Move(u8, u8),
     /// Puts a sum into any register, with no flags.
-    Place(u8, Operand, Operand),
+    Total(u8, Operand, Operand),
     /// Takes a number off the stack pointer.
     LowerSp(u32),
     /// Loads a register, as a signed number where the flag is set, from the sum of two operands.
@@ -145,7 +145,7 @@ pub fn classify(op: &Op) -> Action
         Op::Bic { m, d } => Action::Word(WordKind::Bic, Some(d), Register(d), Register(m)),
         Op::Mvn { m, d } => Action::Word(WordKind::Mvn, Some(d), Number(0), Register(m)),
         // A5.2.3, all registers and branches to a register
-        Op::AddHigh { d, m } => Action::Place(d, Register(d), Register(m)),
+        Op::AddHigh { d, m } => Action::Total(d, Register(d), Register(m)),
         Op::CmpHigh { d, m } => Action::Sum(SumKind::Sub, None, Register(d), Register(m)),
         Op::MovHigh { d, m } => Action::Move(d, m),
         Op::Bx { m } => Action::Exchange(m),
@@ -169,9 +169,9 @@ pub fn classify(op: &Op) -> Action
         Op::StrSp { t, i } => Action::Store(t, Size::Word, Register(13), words(i)),
         Op::LdrSp { t, i } => Action::Load(t, Size::Word, false, Register(13), words(i)),
         // A5.2.5, addresses, the stack pointer and extensions
-        Op::Adr { d, i } => Action::Place(d, AlignedPc, words(i)),
-        Op::AddSp { d, i } => Action::Place(d, Register(13), words(i)),
-        Op::AddSpImm { i } => Action::Place(13, Register(13), words(i)),
+        Op::Adr { d, i } => Action::Total(d, AlignedPc, words(i)),
+        Op::AddSp { d, i } => Action::Total(d, Register(13), words(i)),
+        Op::AddSpImm { i } => Action::Total(13, Register(13), words(i)),
         Op::SubSpImm { i } => Action::LowerSp(4 * u32::from(i)),
         Op::Sxth { m, d } => Action::Extend(ExtendKind::Sxth, d, m),
         Op::Sxtb { m, d } => Action::Extend(ExtendKind::Sxtb, d, m),

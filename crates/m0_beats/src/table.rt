@@ -46,7 +46,7 @@ fn action_shape(action: &Action, regs: &Regs) -> Shape
     ensures { beats_of_shape result regs.now ≡ beats_of_action action.now regs.now }
 {
     match *action {
-        Action::Move(d, _) | Action::Place(d, _, _) => {
+        Action::Move(d, _) | Action::Total(d, _, _) => {
             if d >= 15 { Shape::Twice } else { Shape::Once }
         }
         Action::Branch(..) | Action::Exchange(..) | Action::ExchangeLink(..) | Action::Pause =>

@@ -86,7 +86,7 @@ reading-pop address list =
 
 reading-action : (a : Action) (s : Regs) → reading (beats_of_action a s) ≤ 16
 reading-action (act.Move d m) s = reading-to (nat_le 15 d)
-reading-action (act.Place d x y) s = reading-to (nat_le 15 d)
+reading-action (act.Total d x y) s = reading-to (nat_le 15 d)
 reading-action (act.BranchIf c offset) s = reading-to (condition_holds c s)
 reading-action (act.Load t size sign x y) s = reading-single (address_of x y s) _
 reading-action (act.Store t size x y) s = reading-single (address_of x y s) _

@@ -149,9 +149,9 @@ sio_read : (offset : ℕ) (request : Request) (w : Option ℕ) (g : Given) (s : 
 sio_read offset request None g s = refl
 sio_read offset request (Some write) g s = refl
 
-lands_at : (op : Op) (g : Given) (s : State) (lines cycle : ℕ) (request : Request) (place : Spot) → s.asleep ≡ false
-    → is_stop (want_of_act (answered g.answers (at_spot (works.Instruction op) request s place))) ≡ false
-    → Lands op s.regs s.beats_done (with_value s.read (read_at place request request.write g s)) (step_by lines cycle g.word s (answered g.answers (at_spot (works.Instruction op) request s place)))
+lands_at : (op : Op) (g : Given) (s : State) (lines cycle : ℕ) (request : Request) (spot : Spot) → s.asleep ≡ false
+    → is_stop (want_of_act (answered g.answers (at_spot (works.Instruction op) request s spot))) ≡ false
+    → Lands op s.regs s.beats_done (with_value s.read (read_at spot request request.write g s)) (step_by lines cycle g.word s (answered g.answers (at_spot (works.Instruction op) request s spot)))
 lands_at op g s lines cycle request (spot.Ram index bank) awake goes = lands_ram op g s lines cycle index bank request request.write awake
 lands_at op g s lines cycle request (spot.Ppb offset) awake goes = private_allowed op g s lines cycle offset request (is_allowed s.nvic offset (word_written request.size request.write)) awake goes
 lands_at op g s lines cycle request (spot.Sio offset) awake goes = lands_outward op s lines cycle g.word request _ awake (sio_read offset request request.write g s)
@@ -268,9 +268,9 @@ pub value_kept : (read : List ℕ) (v : Option ℕ) → length read + length (op
 value_kept read None h = sym (append-nil read)
 value_kept read (Some x) h = ap (λ b. cond b (read ++ x ∷ []) read) (lt-ltb (length read) 16 (omega arith))
 
-reads_access : (place : Spot) (request : Request) (w : Option ℕ) (g : Given) (s : State) → length (option_to_list (read_at place request w g s)) ≡ is_read w
-reads_access place request None g s = refl
-reads_access place request (Some write) g s = refl
+reads_access : (spot : Spot) (request : Request) (w : Option ℕ) (g : Given) (s : State) → length (option_to_list (read_at spot request w g s)) ≡ is_read w
+reads_access spot request None g s = refl
+reads_access spot request (Some write) g s = refl
 
 pub reads_beat : (b : Beat) (g : Given) (s : State) → length (option_to_list (read_in b g s)) ≡ reads_one b
 reads_beat Inner g s = refl
@@ -297,9 +297,9 @@ wants_private : (op : Op) (g : Given) (s : State) (offset : ℕ) (request : Requ
 wants_private op g s offset request true goes = refl
 wants_private op g s offset request false goes = absurd (true≢false goes)
 
-wants_place : (op : Op) (g : Given) (s : State) (request : Request) (place : Spot)
-    → is_stop (want_of_act (answered g.answers (at_spot (works.Instruction op) request s place))) ≡ false
-    → want_of_act (answered g.answers (at_spot (works.Instruction op) request s place)) ≡ want_at place request
+wants_place : (op : Op) (g : Given) (s : State) (request : Request) (spot : Spot)
+    → is_stop (want_of_act (answered g.answers (at_spot (works.Instruction op) request s spot))) ≡ false
+    → want_of_act (answered g.answers (at_spot (works.Instruction op) request s spot)) ≡ want_at spot request
 wants_place op g s request (spot.Ram index bank) goes = wants_ram op g request request.write
 wants_place op g s request (spot.Ppb offset) goes = wants_private op g s offset request (is_allowed s.nvic offset (word_written request.size request.write)) goes
 wants_place op g s request (spot.Sio offset) goes = refl
@@ -379,9 +379,9 @@ changes_private op g s lines cycle offset request true e goes =
     changes_closed op (private_value request request.write offset s) (accessed request offset s) lines cycle e
 changes_private op g s lines cycle offset request false e goes = absurd (true≢false goes)
 
-changes_at : (op : Op) (g : Given) (s : State) (lines cycle : ℕ) (request : Request) (place : Spot) → awaits_event op ≡ false
-    → is_stop (want_of_act (answered g.answers (at_spot (works.Instruction op) request s place))) ≡ false
-    → ChangesBy op (touched_at place request) lines cycle s (step_by lines cycle g.word s (answered g.answers (at_spot (works.Instruction op) request s place)))
+changes_at : (op : Op) (g : Given) (s : State) (lines cycle : ℕ) (request : Request) (spot : Spot) → awaits_event op ≡ false
+    → is_stop (want_of_act (answered g.answers (at_spot (works.Instruction op) request s spot))) ≡ false
+    → ChangesBy op (touched_at spot request) lines cycle s (step_by lines cycle g.word s (answered g.answers (at_spot (works.Instruction op) request s spot)))
 changes_at op g s lines cycle request (spot.Ram index bank) e goes = changes_ram op g s lines cycle request request.write e
 changes_at op g s lines cycle request (spot.Ppb offset) e goes =
     changes_private op g s lines cycle offset request (is_allowed s.nvic offset (word_written request.size request.write)) e goes

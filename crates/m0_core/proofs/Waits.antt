@@ -43,8 +43,8 @@ unfolding next closed
 waits_ram op g s lines cycle request None = record { awake = refl; kept = refl; so_far = refl; values = refl; still = refl; exceptions = refl; event = refl }
 waits_ram op g s lines cycle request (Some write) = record { awake = refl; kept = refl; so_far = refl; values = refl; still = refl; exceptions = refl; event = refl }
 
-waits_at : (op : Op) (g : Given) (s : State) (lines cycle : ℕ) (request : Request) (place : Spot) → is_access (want_at place request) ≡ true
-    → Waits op lines cycle s (next s (ends_with lines cycle (answered g.answers (at_spot (works.Instruction op) request s place))) (turn.Wait ∷ turn.Nothing ∷ []))
+waits_at : (op : Op) (g : Given) (s : State) (lines cycle : ℕ) (request : Request) (spot : Spot) → is_access (want_at spot request) ≡ true
+    → Waits op lines cycle s (next s (ends_with lines cycle (answered g.answers (at_spot (works.Instruction op) request s spot))) (turn.Wait ∷ turn.Nothing ∷ []))
 unfolding next closed
 waits_at op g s lines cycle request (spot.Ram index bank) e = waits_ram op g s lines cycle request request.write
 waits_at op g s lines cycle request (spot.Ppb offset) e = absurd (true≢false (sym e))

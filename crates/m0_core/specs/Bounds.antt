@@ -31,7 +31,7 @@ few_in_ram : (n : ℕ) (work : Work) (request : Request) (write : Option ℕ) �
 few_in_ram n work request None = few_ask n _ _ (λ word. few_ready n _)
 few_in_ram n work request (Some value) = few_ready _ _
 
-few_at_spot : (n : ℕ) (work : Work) (request : Request) (s : State) (place : Spot) → Few (suc n) (at_spot work request s place)
+few_at_spot : (n : ℕ) (work : Work) (request : Request) (s : State) (spot : Spot) → Few (suc n) (at_spot work request s spot)
 few_at_spot n work request s (spot.Ram index bank) = few_in_ram n work request request.write
 few_at_spot n work request s (spot.Ppb offset) = few_if (suc n) _ _ _ (few_ready _ _) (few_ready _ _)
 few_at_spot n work request s (spot.Reg block offset alias) = few_ready _ _

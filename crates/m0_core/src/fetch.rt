@@ -90,7 +90,7 @@ impl Core {
         }
     }
 
-    /// An access, by the place that it goes to.
+    /// An access, by the spot that it goes to.
     #[inline(always)]
     fn begin_access<K: Look>(&self, work: Work, request: Request, look: &mut K, act: &mut Act)
         ensures { Runs K.answers look.old (at_spot work request self.now (place_of request.address))

@@ -23,7 +23,7 @@ outer_lines core s =
     (bit_or (lines_of s.timer.block)
     (block_lines (bank_line core s.pads) (is_line_high s.uart0.block) (is_line_high s.uart1.block)))
 
--- what paces DMA channels: the free places of the transmit FIFO and the words of the receive FIFO, of UART0 and then of UART1
+-- what paces DMA channels: the free entries of the transmit FIFO and the words of the receive FIFO, of UART0 and then of UART1
 abbrev pub outer_pacing : OuterState → List ℕ
 outer_pacing s = pacing_of s.uart0.block ++ pacing_of s.uart1.block
 

@@ -145,7 +145,7 @@ impl Outer {
         self.pads.inputs()
     }
 
-    /// The counts that pace DMA channels: the free places of the transmit FIFO and the words of the receive FIFO of UART0,
+    /// The counts that pace DMA channels: the free entries of the transmit FIFO and the words of the receive FIFO of UART0,
     /// and the same of UART1, each 0 where UARTDMACR does not ask for it (RP2040 Datasheet, 4.2.3).
     pub fn pacing(&self) -> [u8; 4]
         ensures { result ≡ outer_pacing self.now }

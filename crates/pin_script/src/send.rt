@@ -32,7 +32,7 @@ pub(crate) struct SendWords<'a> {
 
 /// What a line sends.
 #[derive(Clone, Copy)]
-struct Sending {
+struct LineSend {
     number: u32,
     cycle: u64,
     pin: u64,
@@ -91,7 +91,7 @@ fn frame_level(byte: u32, bit: u32) -> Level
 }
 
 /// The entry of bit `k` of a line.
-fn sent_entry(sending: Sending, bytes: &[u8], k: usize) -> LineEntry
+fn sent_entry(sending: LineSend, bytes: &[u8], k: usize) -> LineEntry
     requires digits { are_bytes bytes.now ≡ true }
     requires within { k < sent_count bytes.now }
     requires cycle { sending.cycle < 10_000_000_000 }
@@ -112,7 +112,7 @@ fn sent_entry(sending: Sending, bytes: &[u8], k: usize) -> LineEntry
 /// Adds the entries of a line, one for each bit.
 fn push_bits(
     entries: &mut Vec<LineEntry>,
-    sending: Sending,
+    sending: LineSend,
     bytes: &[u8],
 ) -> Result<(), ScriptFault>
     requires digits { are_bytes bytes.now ≡ true }
@@ -137,7 +137,7 @@ impl Earlier {
     ghost use Rattle.pin_script.specs.Lines.{added, sent, sent_count, sent_entries, after_send, send_words_of};
 
     /// Adds the entries of a line that sends bytes.
-    fn add_send(&mut self, sending: Sending, bytes: &[u8]) -> Result<(), ScriptFault>
+    fn add_send(&mut self, sending: LineSend, bytes: &[u8]) -> Result<(), ScriptFault>
         requires cycle { sending.cycle < 10_000_000_000 }
         ensures ok { OnOk result (sent sending.number self.old sending.cycle sending.pin
             sending.divisor bytes.now ≡ Ok self.new) }
@@ -159,7 +159,7 @@ impl Earlier {
 
     /// Adds the entries of a line whose words are right.
     #[tactic(auto, using(crate::proofs::Sending::sent_length))]
-    fn add_bits(&mut self, sending: Sending, bytes: &[u8]) -> Result<(), ScriptFault>
+    fn add_bits(&mut self, sending: LineSend, bytes: &[u8]) -> Result<(), ScriptFault>
         requires digits { are_bytes bytes.now ≡ true }
         requires cycle { sending.cycle < 10_000_000_000 }
         requires divisor { sending.divisor < 10_000_000 }
@@ -198,7 +198,7 @@ impl Earlier {
             number_of(DIVISOR_DIGITS, words.divisor),
         ) {
             (Some(cycle), Some(pin), Some(divisor)) => {
-                let sending = Sending {
+                let sending = LineSend {
                     number,
                     cycle,
                     pin,

@@ -11,13 +11,13 @@ use Rattle.pio_words.specs.declared.side.SideDelay.{SideDelay}
 use Rattle.pio_words.specs.Operation.{HasFields, IsWaitSource, bit}
 use Rattle.pio_words.specs.Side.{IsOptionalSide, IsPlainSide, IsSideField}
 use Rattle.pio_parse.specs.declared.syntax.Statement.TheVariants.{SideSet as SideSetStatement, Word as WordStatement}
-use Rattle.pio_asm.specs.declared.operand.Part.{Part}
+use Rattle.pio_asm.specs.declared.operand.Modifier.{Modifier}
 use Rattle.pio_asm.specs.declared.plan.Member.{Member}
 use Rattle.pio_asm.specs.declared.plan.Member.TheVariants.{Word as WordMember, Coded}
 use Rattle.pio_asm.specs.declared.building.Building.{Building}
 use Rattle.pio_asm.specs.Symbols.{Names}
-use Rattle.pio_asm.specs.Operand.{field_in, part_in}
-use Rattle.pio_asm.specs.Plan.{IsConfig, config_of, delay_bits, delay_part_in, greatest, operation_in, side_part_in, side_value_of, sure_op}
+use Rattle.pio_asm.specs.Operand.{field_in, modifier_in}
+use Rattle.pio_asm.specs.Plan.{IsConfig, config_of, delay_bits, delay_modifier_in, greatest, operation_in, side_modifier_in, side_value_of, sure_op}
 use Rattle.pio_asm.specs.Step.{line_step}
 use Rattle.pio_asm.proofs.LineApart.{IsSmall}
 use Rattle.pio_asm.proofs.LineParse.{delay_terms, line_with, number_terms, side_terms, statement_if, syntax_of, wait_syntax}
@@ -28,10 +28,10 @@ field_number locals globals low high n a b c =
     let whole : n ≤ 4294967295 = omega arith in
     rw (le-leb n 4294967295 whole, le-leb low n a, le-leb n high b) refl
 
-abbrev part_with_value : ℕ → Part
-part_with_value n = record { value = n; lost = false; unknown = false; outside = false; fault = false }
+abbrev modifier_with_value : ℕ → Modifier
+modifier_with_value n = record { value = n; lost = false; unknown = false; outside = false; fault = false }
 
-part_number : (locals globals : Names) (most n : ℕ) → n ≤ most → n ≤ 4294967295 → part_in locals globals most (number_terms n) ≡ part_with_value n
+part_number : (locals globals : Names) (most n : ℕ) → n ≤ most → n ≤ 4294967295 → modifier_in locals globals most (number_terms n) ≡ modifier_with_value n
 part_number locals globals most n a whole =
     let low : 0 ≤ n = omega arith in
     rw (le-leb n 4294967295 whole, le-leb 0 n low, le-leb n most a) refl
@@ -63,7 +63,7 @@ delay_fits true n (Some v) d f h = let e : 5 - (n + 1) ≡ 4 - n = omega arith i
 delay_fits false n None d f h = let z = h.0 in let lt = h.1 in let e : 5 - (n + 0) ≡ 5 = omega arith in rw e (omega arith)
 delay_fits false n (Some v) d f h = let e : 5 - (n + 0) ≡ 5 - n = omega arith in let lt = h.2 in rw e (omega arith)
 
-delay_planned : (locals globals : Names) (config : SideConfig) (d : ℕ) → d ≤ greatest (delay_bits config) → d < 100 → delay_part_in locals globals config (delay_terms d) ≡ part_with_value d
+delay_planned : (locals globals : Names) (config : SideConfig) (d : ℕ) → d ≤ greatest (delay_bits config) → d < 100 → delay_modifier_in locals globals config (delay_terms d) ≡ modifier_with_value d
 delay_planned locals globals config d fits lt = elim (eqb_tells d 0) [
   | inl e ↦ let none = e.1 in rw e.0 (rw none refl)
   | inr e ↦ rw e.0 (part_number locals globals (greatest (delay_bits config)) d fits (omega arith))
@@ -79,21 +79,21 @@ HasBits None = Unit {0}
 HasBits (Some config) = ((config.count == 0) && not config.opt) ≡ false
 
 record IsSidePlanned (locals globals : Names) (set : Option SideConfig) (v : Option ℕ) : Type 0 where
-  part : side_part_in locals globals set (side_terms v) ≡ part_with_value (value_or_zero v)
+  modifier : side_modifier_in locals globals set (side_terms v) ≡ modifier_with_value (value_or_zero v)
   value : side_value_of (config_of set) (is_some (side_terms v)) (value_or_zero v) ≡ v
 
 side_planned_at : (locals globals : Names) (opt : Bool) (n : ℕ) (pindirs : Bool) (v : Option ℕ) (d f : ℕ) → ((n == 0) && not opt) ≡ false → MatchBool opt (IsOptionalSide n v d f) (IsPlainSide n v d f) → IsSmall v → IsSidePlanned locals globals (Some (record { count = n; opt = opt; pindirs = pindirs })) v
-side_planned_at locals globals true n pindirs None d f bits h small = record { part = refl; value = refl }
-side_planned_at locals globals true n pindirs (Some v) d f bits h small = let lt = h.2 in record { part = part_number locals globals (greatest n) v (omega arith) (omega arith); value = refl }
+side_planned_at locals globals true n pindirs None d f bits h small = record { modifier = refl; value = refl }
+side_planned_at locals globals true n pindirs (Some v) d f bits h small = let lt = h.2 in record { modifier = part_number locals globals (greatest n) v (omega arith) (omega arith); value = refl }
 side_planned_at locals globals false n pindirs None d f bits h small = absurd (let z = h.0 in let g : ((n == 0) && true) ≡ false = bits in let k : ((0 == 0) && true) ≡ false = rw z at g in let m : true ≡ false = k in cc)
 side_planned_at locals globals false n pindirs (Some v) d f bits h small =
     let some = h.0 in
     let lt = h.3 in
     let other : (n == 0) ≡ false = grind (arith, nat_tests) in
-    record { part = part_number locals globals (greatest n) v (omega arith) (omega arith); value = rw other refl }
+    record { modifier = part_number locals globals (greatest n) v (omega arith) (omega arith); value = rw other refl }
 
 side_planned : (locals globals : Names) (set : Option SideConfig) (v : Option ℕ) (d f : ℕ) → HasBits set → IsSideField (config_of set) v d f → IsSmall v → IsSidePlanned locals globals set v
-side_planned locals globals None None d f bits h small = record { part = refl; value = refl }
+side_planned locals globals None None d f bits h small = record { modifier = refl; value = refl }
 side_planned locals globals None (Some v) d f bits h small = absurd (let none = h.0 in omega arith)
 side_planned locals globals (Some config) v d f bits h small = side_planned_at locals globals config.opt config.count config.pindirs v d f bits h small
 
@@ -109,9 +109,9 @@ pub instruction_assembles : (whole globals : Names) (total number : ℕ) (set : 
     line_step whole globals total (line_with number (statement_if true op side 0)) (built code set) ≡ Ok (built (code ++ Coded op (config_of set) side.value side.delay ∷ []) set)
 instruction_assembles whole globals total number set op side major middle low f code h bits fits small short lt =
     let planned = operation_planned whole globals op major middle low h in
-    let part = side_planned whole globals set side.value side.delay f bits fits small in
+    let modifier = side_planned whole globals set side.value side.delay f bits fits small in
     let delay = delay_planned whole globals (config_of set) side.delay (delay_fits (config_of set).opt (config_of set).count side.value side.delay f fits) short in
-    rw (planned, part.part, delay, room code lt, part.value) refl
+    rw (planned, modifier.modifier, delay, room code lt, modifier.value) refl
 
 pub word_assembles : (whole globals : Names) (total number : ℕ) (set : Option SideConfig) (word : ℕ) (code : List Member) → word < 65536 → length code < 32 → line_step whole globals total (line_with number (WordStatement (number_terms word))) (built code set) ≡ Ok (built (code ++ WordMember word ∷ []) set)
 word_assembles whole globals total number set word code half lt =

@@ -10,13 +10,13 @@ use Rattle.pio_parse.specs.declared.syntax.Operation.{Operation}
 use Rattle.pio_parse.specs.declared.syntax.Operation.TheVariants.{Jmp, WaitGpio, WaitPin, WaitIrq, In, Out, Push, Pull, Mov, Irq, Set}
 use Rattle.pio_parse.specs.declared.syntax.Instruction.{Instruction}
 use Rattle.pio_asm.specs.declared.operand.Field.{Field}
-use Rattle.pio_asm.specs.declared.operand.Part.{Part}
+use Rattle.pio_asm.specs.declared.operand.Modifier.{Modifier}
 use Rattle.pio_asm.specs.declared.plan.Planned.{Planned}
 use Rattle.pio_asm.specs.Symbols.{Names}
 use Rattle.pio_asm.specs.Kept.{AllValued, is_kept}
 use Rattle.pio_asm.specs.Operand.{field_in, polarity_in}
-use Rattle.pio_asm.specs.Plan.{config_of, delay_bits, delay_part_in, greatest, instruction_in, judged_of, member_of, operation_in, planned_by, side_part_in, waited_for}
-use Rattle.pio_asm.proofs.Valued.{IsFieldValued, IsFound, field-valued, part-found, polarity-valued}
+use Rattle.pio_asm.specs.Plan.{config_of, delay_bits, delay_modifier_in, greatest, instruction_in, judged_of, member_of, operation_in, planned_by, side_modifier_in, waited_for}
+use Rattle.pio_asm.proofs.Valued.{IsFieldValued, IsFound, field-valued, modifier-found, polarity-valued}
 
 pub or-parts : (a b : Bool) → (a || b) ≡ false → (a ≡ false) × (b ≡ false)
 or-parts true b h = cc
@@ -59,21 +59,21 @@ planned locals globals (Mov d o s) l g = λ u r. refl
 planned locals globals (Irq a b t f) l g = planned-one (λ n. IrqOp a b (record { number = n; relative = f })) (field_in locals globals 0 7 t) (field-valued locals globals 0 7 t l g)
 planned locals globals (Set d t) l g = planned-one (λ n. SetOp d n) (field_in locals globals 0 31 t) (field-valued locals globals 0 31 t l g)
 
-side-found : (locals globals : Names) (config : Option SideConfig) (terms : Option (List Term)) → AllValued locals → AllValued globals → IsFound (side_part_in locals globals config terms)
+side-found : (locals globals : Names) (config : Option SideConfig) (terms : Option (List Term)) → AllValued locals → AllValued globals → IsFound (side_modifier_in locals globals config terms)
 side-found locals globals None None l g = λ u o. refl
-side-found locals globals None (Some terms) l g = part-found locals globals 0 terms l g
+side-found locals globals None (Some terms) l g = modifier-found locals globals 0 terms l g
 side-found locals globals (Some config) None l g = λ u o. refl
-side-found locals globals (Some config) (Some terms) l g = part-found locals globals (greatest config.count) terms l g
+side-found locals globals (Some config) (Some terms) l g = modifier-found locals globals (greatest config.count) terms l g
 
-delay-found : (locals globals : Names) (config : SideConfig) (terms : Option (List Term)) → AllValued locals → AllValued globals → IsFound (delay_part_in locals globals config terms)
+delay-found : (locals globals : Names) (config : SideConfig) (terms : Option (List Term)) → AllValued locals → AllValued globals → IsFound (delay_modifier_in locals globals config terms)
 delay-found locals globals config None l g = λ u o. refl
-delay-found locals globals config (Some terms) l g = part-found locals globals (greatest (delay_bits config)) terms l g
+delay-found locals globals config (Some terms) l g = modifier-found locals globals (greatest (delay_bits config)) terms l g
 
-kept_if : (config : SideConfig) (given : Bool) (op : Option PioOp) (side delay : Part) → is_some op ≡ true → side.lost ≡ false → delay.lost ≡ false → is_kept (member_of config given op side delay) ≡ true
+kept_if : (config : SideConfig) (given : Bool) (op : Option PioOp) (side delay : Modifier) → is_some op ≡ true → side.lost ≡ false → delay.lost ≡ false → is_kept (member_of config given op side delay) ≡ true
 kept_if config given None side delay h s d = h
 kept_if config given (Some op) side delay h s d = rw (s, d) refl
 
-judged-kept : (config : SideConfig) (given : Bool) (p : Planned) (side delay : Part) → IsPlanned p → IsFound side → IsFound delay → (judged_of config given p side delay).unknown ≡ false → (judged_of config given p side delay).range ≡ false → is_kept (judged_of config given p side delay).member ≡ true
+judged-kept : (config : SideConfig) (given : Bool) (p : Planned) (side delay : Modifier) → IsPlanned p → IsFound side → IsFound delay → (judged_of config given p side delay).unknown ≡ false → (judged_of config given p side delay).range ≡ false → is_kept (judged_of config given p side delay).member ≡ true
 judged-kept config given p side delay hp hs hd u r =
     let u1 = or-parts (p.unknown || side.unknown) delay.unknown u in
     let u2 = or-parts p.unknown side.unknown u1.0 in
@@ -84,5 +84,5 @@ judged-kept config given p side delay hp hs hd u r =
 -- an instruction without an unknown name and a value out of range is kept
 pub instruction-kept : (locals globals : Names) (config : Option SideConfig) (instruction : Instruction) → AllValued locals → AllValued globals → (instruction_in locals globals config instruction).unknown ≡ false → (instruction_in locals globals config instruction).range ≡ false → is_kept (instruction_in locals globals config instruction).member ≡ true
 instruction-kept locals globals config instruction l g =
-    judged-kept (config_of config) (is_some instruction.side) (operation_in locals globals instruction.operation) (side_part_in locals globals config instruction.side) (delay_part_in locals globals (config_of config) instruction.delay)
+    judged-kept (config_of config) (is_some instruction.side) (operation_in locals globals instruction.operation) (side_modifier_in locals globals config instruction.side) (delay_modifier_in locals globals (config_of config) instruction.delay)
     (planned locals globals instruction.operation l g) (side-found locals globals config instruction.side l g) (delay-found locals globals (config_of config) instruction.delay l g)

@@ -8,11 +8,11 @@ use Rattle.pio_parse.specs.declared.expression.Term.TheVariants.{Number, Name, O
 use Rattle.pio_asm.specs.declared.value.Evaluation.{Evaluation}
 use Rattle.pio_asm.specs.declared.value.Evaluated.{Evaluated}
 use Rattle.pio_asm.specs.declared.operand.Field.{Field}
-use Rattle.pio_asm.specs.declared.operand.Part.{Part}
+use Rattle.pio_asm.specs.declared.operand.Modifier.{Modifier}
 use Rattle.pio_asm.specs.Symbols.{Names, found}
 use Rattle.pio_asm.specs.Kept.{AllValued}
 use Rattle.pio_asm.specs.Value.{after_binary, after_unary, binary_step, evaluated, evaluation_of, name_step, one_operand, operator_step, rest_of, term_step, top_of, two_operands, unary_step, value_in, with_result}
-use Rattle.pio_asm.specs.Operand.{field_by, field_in, field_with, number_within, part_by, part_in, part_with, polarity_in}
+use Rattle.pio_asm.specs.Operand.{field_by, field_in, field_with, number_within, modifier_by, modifier_in, modifier_with, polarity_in}
 
 pub option_cases : {X : Type 0} (o : Option X) → (o ≡ None) ⊎ ((x : X) × (o ≡ Some x))
 option_cases None = inl refl
@@ -119,17 +119,17 @@ pub polarity-valued : (locals globals : Names) (terms : Option (List Term)) → 
 polarity-valued locals globals None lv gv = λ u r. refl
 polarity-valued locals globals (Some terms) lv gv = field-valued locals globals 0 1 terms lv gv
 
-abbrev pub IsFound : Part → Type 0
+abbrev pub IsFound : Modifier → Type 0
 IsFound p = p.unknown ≡ false → p.outside ≡ false → p.lost ≡ false
 
-part_with-found : (u o : Bool) (n : Option ℕ) → IsFound (part_with u o n)
-part_with-found u o None hu ho = refl
-part_with-found u o (Some n) hu ho = refl
+modifier_with-found : (u o : Bool) (n : Option ℕ) → IsFound (modifier_with u o n)
+modifier_with-found u o None hu ho = refl
+modifier_with-found u o (Some n) hu ho = refl
 
-part_by-found : (greatest : ℕ) (u o : Bool) (v : Option ℤ) → (u ≡ false → o ≡ false → is_some v ≡ true) → IsFound (part_by greatest u o v)
-part_by-found greatest u o None h hu ho = let e : false ≡ true = h hu ho in cc
-part_by-found greatest u o (Some z) h hu ho = part_with-found u o (number_within 0 greatest z) hu ho
+modifier_by-found : (greatest : ℕ) (u o : Bool) (v : Option ℤ) → (u ≡ false → o ≡ false → is_some v ≡ true) → IsFound (modifier_by greatest u o v)
+modifier_by-found greatest u o None h hu ho = let e : false ≡ true = h hu ho in cc
+modifier_by-found greatest u o (Some z) h hu ho = modifier_with-found u o (number_within 0 greatest z) hu ho
 
-pub part-found : (locals globals : Names) (greatest : ℕ) (terms : List Term) → AllValued locals → AllValued globals → IsFound (part_in locals globals greatest terms)
-part-found locals globals greatest terms lv gv =
-    let e : Evaluated = evaluated locals globals terms in part_by-found greatest e.unknown e.outside e.value (evaluated-valued locals globals terms lv gv)
+pub modifier-found : (locals globals : Names) (greatest : ℕ) (terms : List Term) → AllValued locals → AllValued globals → IsFound (modifier_in locals globals greatest terms)
+modifier-found locals globals greatest terms lv gv =
+    let e : Evaluated = evaluated locals globals terms in modifier_by-found greatest e.unknown e.outside e.value (evaluated-valued locals globals terms lv gv)

@@ -3,7 +3,7 @@ use Rattle.std.specs.Prelude.{◌&&◌, nat_le, ℕ, ℤ, pos, negsuc, Bool, tru
 use Rattle.pio_parse.specs.declared.expression.Term.{Term}
 use Rattle.pio_asm.specs.declared.value.Evaluated.{Evaluated}
 use Rattle.pio_asm.specs.declared.operand.Field.{Field}
-use Rattle.pio_asm.specs.declared.operand.Part.{Part}
+use Rattle.pio_asm.specs.declared.operand.Modifier.{Modifier}
 use Rattle.pio_asm.specs.Symbols.{Names}
 use Rattle.pio_asm.specs.Value.{evaluated}
 
@@ -32,17 +32,17 @@ abbrev pub polarity_in : Names → Names → Option (List Term) → Field
 polarity_in locals globals None = record { value = Some 1; unknown = false; range = false }
 polarity_in locals globals (Some terms) = field_in locals globals 0 1 terms
 
-abbrev pub part_with : Bool → Bool → Option ℕ → Part
-part_with unknown outside None = record { value = 0; lost = false; unknown = unknown; outside = outside; fault = true }
-part_with unknown outside (Some n) = record { value = n; lost = false; unknown = unknown; outside = outside; fault = false }
+abbrev pub modifier_with : Bool → Bool → Option ℕ → Modifier
+modifier_with unknown outside None = record { value = 0; lost = false; unknown = unknown; outside = outside; fault = true }
+modifier_with unknown outside (Some n) = record { value = n; lost = false; unknown = unknown; outside = outside; fault = false }
 
-abbrev pub part_by : ℕ → Bool → Bool → Option ℤ → Part
-part_by greatest unknown outside None = record { value = 0; lost = true; unknown = unknown; outside = outside; fault = false }
-part_by greatest unknown outside (Some z) = part_with unknown outside (number_within 0 greatest z)
+abbrev pub modifier_by : ℕ → Bool → Bool → Option ℤ → Modifier
+modifier_by greatest unknown outside None = record { value = 0; lost = true; unknown = unknown; outside = outside; fault = false }
+modifier_by greatest unknown outside (Some z) = modifier_with unknown outside (number_within 0 greatest z)
 
 -- a side-set value or a delay of at most `greatest`
-abbrev pub part_of : ℕ → Evaluated → Part
-part_of greatest e = part_by greatest e.unknown e.outside e.value
+abbrev pub modifier_of : ℕ → Evaluated → Modifier
+modifier_of greatest e = modifier_by greatest e.unknown e.outside e.value
 
-abbrev pub part_in : Names → Names → ℕ → List Term → Part
-part_in locals globals greatest terms = part_of greatest (evaluated locals globals terms)
+abbrev pub modifier_in : Names → Names → ℕ → List Term → Modifier
+modifier_in locals globals greatest terms = modifier_of greatest (evaluated locals globals terms)

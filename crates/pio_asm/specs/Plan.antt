@@ -13,14 +13,14 @@ use Rattle.pio_parse.specs.declared.syntax.Operation.{Operation}
 use Rattle.pio_parse.specs.declared.syntax.Operation.TheVariants.{Jmp, WaitGpio, WaitPin, WaitIrq, In, Out, Push, Pull, Mov, Irq, Set}
 use Rattle.pio_parse.specs.declared.syntax.Instruction.{Instruction}
 use Rattle.pio_asm.specs.declared.operand.Field.{Field}
-use Rattle.pio_asm.specs.declared.operand.Part.{Part}
+use Rattle.pio_asm.specs.declared.operand.Modifier.{Modifier}
 use Rattle.pio_asm.specs.declared.plan.Member.{Member}
 use Rattle.pio_asm.specs.declared.plan.Member.TheVariants.{Word, Coded, Lost}
 use Rattle.pio_asm.specs.declared.plan.Planned.{Planned}
 use Rattle.pio_asm.specs.declared.plan.Judged.{Judged}
 use Rattle.pio_asm.specs.Symbols.{Names}
 use Rattle.pio_asm.specs.Fits.{FitsSide, IsInRange}
-use Rattle.pio_asm.specs.Operand.{field_in, part_in, polarity_in}
+use Rattle.pio_asm.specs.Operand.{field_in, modifier_in, polarity_in}
 
 abbrev pub planned_of : Option PioOp → Field → Planned
 planned_of op field = record { op = op; unknown = field.unknown; range = field.range }
@@ -69,11 +69,11 @@ delay_bits config = 5 - (config.count + bit config.opt)
 abbrev pub greatest : ℕ → ℕ
 greatest bits = 2 ^ bits - 1
 
-abbrev pub no_part : Part
-no_part = record { value = 0; lost = false; unknown = false; outside = false; fault = false }
+abbrev pub no_modifier : Modifier
+no_modifier = record { value = 0; lost = false; unknown = false; outside = false; fault = false }
 
-abbrev pub with_fault : Part → Bool → Part
-with_fault part fault = record part { fault = fault }
+abbrev pub with_fault : Modifier → Bool → Modifier
+with_fault modifier fault = record modifier { fault = fault }
 
 -- a program without a side-set
 abbrev pub config_of : Option SideConfig → SideConfig
@@ -81,26 +81,26 @@ config_of None = record { count = 0; opt = false; pindirs = false }
 config_of (Some config) = config
 
 -- the side-set value of an instruction: with a side-set, each instruction has one unless it is optional, and without one none has
-abbrev pub side_part_in : Names → Names → Option SideConfig → Option (List Term) → Part
-side_part_in locals globals None None = no_part
-side_part_in locals globals None (Some terms) = with_fault (part_in locals globals 0 terms) true
-side_part_in locals globals (Some config) None = with_fault no_part (not config.opt)
-side_part_in locals globals (Some config) (Some terms) = part_in locals globals (greatest config.count) terms
+abbrev pub side_modifier_in : Names → Names → Option SideConfig → Option (List Term) → Modifier
+side_modifier_in locals globals None None = no_modifier
+side_modifier_in locals globals None (Some terms) = with_fault (modifier_in locals globals 0 terms) true
+side_modifier_in locals globals (Some config) None = with_fault no_modifier (not config.opt)
+side_modifier_in locals globals (Some config) (Some terms) = modifier_in locals globals (greatest config.count) terms
 
 -- the delay of an instruction, 0 where none is written
-abbrev pub delay_part_in : Names → Names → SideConfig → Option (List Term) → Part
-delay_part_in locals globals config None = no_part
-delay_part_in locals globals config (Some terms) = part_in locals globals (greatest (delay_bits config)) terms
+abbrev pub delay_modifier_in : Names → Names → SideConfig → Option (List Term) → Modifier
+delay_modifier_in locals globals config None = no_modifier
+delay_modifier_in locals globals config (Some terms) = modifier_in locals globals (greatest (delay_bits config)) terms
 
 -- the value that the word has, if it has bits for one
 abbrev pub side_value_of : SideConfig → Bool → ℕ → Option ℕ
 side_value_of config given value = if given && (config.opt || not (config.count == 0)) then Some value else None
 
-abbrev pub member_of : SideConfig → Bool → Option PioOp → Part → Part → Member
+abbrev pub member_of : SideConfig → Bool → Option PioOp → Modifier → Modifier → Member
 member_of config given None side delay = Lost
 member_of config given (Some op) side delay = if side.lost || delay.lost then Lost else Coded op config (side_value_of config given side.value) delay.value
 
-abbrev pub judged_of : SideConfig → Bool → Planned → Part → Part → Judged
+abbrev pub judged_of : SideConfig → Bool → Planned → Modifier → Modifier → Judged
 judged_of config given planned side delay = record {
   member = member_of config given planned.op side delay;
   unknown = planned.unknown || side.unknown || delay.unknown;
@@ -112,7 +112,7 @@ judged_of config given planned side delay = record {
 -- an instruction with the faults that it has by itself
 abbrev pub instruction_in : Names → Names → Option SideConfig → Instruction → Judged
 instruction_in locals globals config instruction = judged_of (config_of config) (is_some instruction.side) (operation_in locals globals instruction.operation)
-    (side_part_in locals globals config instruction.side) (delay_part_in locals globals (config_of config) instruction.delay)
+    (side_modifier_in locals globals config instruction.side) (delay_modifier_in locals globals (config_of config) instruction.delay)
 
 -- a member has a word
 abbrev pub IsSound : Member → Type 0

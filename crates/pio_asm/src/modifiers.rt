@@ -1,9 +1,9 @@
 //! The delay and the side-set value of an instruction.
 
 ghost use Rattle.std.specs.Prelude.{◌≡◌, ◌≤◌, IfOk, true, false, is_some, ◌||◌, ◌==◌};
-ghost use Rattle.pio_asm.specs.Plan.{IsConfig, IsOptionalConfig, config_of, delay_bits, delay_part_in, greatest, side_part_in, side_value_of};
+ghost use Rattle.pio_asm.specs.Plan.{IsConfig, IsOptionalConfig, config_of, delay_bits, delay_modifier_in, greatest, side_modifier_in, side_value_of};
 
-use crate::operand::{Part, Scope, read_part};
+use crate::operand::{Modifier, Scope, read_modifier};
 use pio_parse::Expression;
 use pio_words::SideConfig;
 use std::alloc::AllocError;
@@ -36,7 +36,7 @@ fn bits_of_delay(config: &SideConfig) -> u8
     }
 }
 
-const NO_PART: Part = Part {
+const NO_MODIFIER: Modifier = Modifier {
     value: 0,
     lost: false,
     unknown: false,
@@ -59,50 +59,50 @@ pub(crate) fn config_or_none(config: Option<SideConfig>) -> SideConfig
     config.unwrap_or(NO_SIDE)
 }
 
-pub(crate) fn side_part(
+pub(crate) fn side_modifier(
     scope: &Scope,
     config: Option<SideConfig>,
     side: &Option<Expression>,
-) -> Result<Part, AllocError>
+) -> Result<Modifier, AllocError>
     requires { IsOptionalConfig config }
     ensures value { IfOk result (λ p. p
-        ≡ side_part_in scope.now.locals.now scope.now.globals.now config side.now) }
+        ≡ side_modifier_in scope.now.locals.now scope.now.globals.now config side.now) }
     ensures inside { IfOk result (λ p. p.value ≤ greatest (config_of config).count) }
     ensures fault { IfOk result (λ p. p.fault ≡ false
         → (is_some side.now || (config_of config).opt || (config_of config).count == 0) ≡ true) }
 {
     match config {
         None => match side {
-            None => Ok(NO_PART),
+            None => Ok(NO_MODIFIER),
             Some(side) => {
-                let mut part = read_part(scope, side, 0)?;
-                part.fault = true;
-                Ok(part)
+                let mut modifier = read_modifier(scope, side, 0)?;
+                modifier.fault = true;
+                Ok(modifier)
             }
         },
         Some(config) => match side {
-            None => Ok(Part {
+            None => Ok(Modifier {
                 fault: !config.opt,
-                ..NO_PART
+                ..NO_MODIFIER
             }),
-            Some(side) => read_part(scope, side, greatest_of(config.count)),
+            Some(side) => read_modifier(scope, side, greatest_of(config.count)),
         },
     }
 }
 
-pub(crate) fn delay_part(
+pub(crate) fn delay_modifier(
     scope: &Scope,
     config: &SideConfig,
     delay: &Option<Expression>,
-) -> Result<Part, AllocError>
+) -> Result<Modifier, AllocError>
     requires { IsConfig config.now }
     ensures value { IfOk result (λ p. p
-        ≡ delay_part_in scope.now.locals.now scope.now.globals.now config.now delay.now) }
+        ≡ delay_modifier_in scope.now.locals.now scope.now.globals.now config.now delay.now) }
     ensures inside { IfOk result (λ p. p.value ≤ greatest (delay_bits config.now)) }
 {
     match delay {
-        None => Ok(NO_PART),
-        Some(delay) => read_part(scope, delay, greatest_of(bits_of_delay(config))),
+        None => Ok(NO_MODIFIER),
+        Some(delay) => read_modifier(scope, delay, greatest_of(bits_of_delay(config))),
     }
 }
 

@@ -2,7 +2,7 @@
 
 ghost use Rattle.std.specs.Prelude.{◌≡◌, ◌≤◌, IfOk, IfSome};
 ghost use Rattle.pio_asm.specs.Value.{evaluated};
-ghost use Rattle.pio_asm.specs.Operand.{field_in, field_of, number_within, part_in, part_of, polarity_in};
+ghost use Rattle.pio_asm.specs.Operand.{field_in, field_of, number_within, modifier_in, modifier_of, polarity_in};
 
 use crate::symbols::Symbols;
 use crate::value::{Evaluated, evaluate};
@@ -40,7 +40,7 @@ pub(crate) struct Field {
 
 /// A side-set value or a delay.
 #[derive(Clone, Copy)]
-pub(crate) struct Part {
+pub(crate) struct Modifier {
     /// Its value, or 0.
     pub(crate) value: u8,
     /// Whether it uses a name whose definition has a fault.
@@ -138,8 +138,8 @@ pub(crate) fn read_polarity(
     }
 }
 
-fn part_for(evaluated: Evaluated, greatest: u8) -> Part
-    ensures value { result ≡ part_of greatest evaluated }
+fn modifier_for(evaluated: Evaluated, greatest: u8) -> Modifier
+    ensures value { result ≡ modifier_of greatest evaluated }
     ensures inside { result.value ≤ greatest }
 {
     let Evaluated {
@@ -148,7 +148,7 @@ fn part_for(evaluated: Evaluated, greatest: u8) -> Part
         outside,
     } = evaluated;
     match value {
-        None => Part {
+        None => Modifier {
             value: 0,
             lost: true,
             unknown,
@@ -156,14 +156,14 @@ fn part_for(evaluated: Evaluated, greatest: u8) -> Part
             fault: false,
         },
         Some(value) => match small_number(value, 0, greatest) {
-            Some(value) => Part {
+            Some(value) => Modifier {
                 value,
                 lost: false,
                 unknown,
                 outside,
                 fault: false,
             },
-            None => Part {
+            None => Modifier {
                 value: 0,
                 lost: false,
                 unknown,
@@ -175,14 +175,14 @@ fn part_for(evaluated: Evaluated, greatest: u8) -> Part
 }
 
 /// A side-set value or a delay of at most `greatest`.
-pub(crate) fn read_part(
+pub(crate) fn read_modifier(
     scope: &Scope,
     expression: &Expression,
     greatest: u8,
-) -> Result<Part, AllocError>
+) -> Result<Modifier, AllocError>
     ensures value { IfOk result (λ p. p
-        ≡ part_in scope.now.locals.now scope.now.globals.now greatest expression.now) }
+        ≡ modifier_in scope.now.locals.now scope.now.globals.now greatest expression.now) }
     ensures inside { IfOk result (λ p. p.value ≤ greatest) }
 {
-    Ok(part_for(scope.evaluate(expression)?, greatest))
+    Ok(modifier_for(scope.evaluate(expression)?, greatest))
 }

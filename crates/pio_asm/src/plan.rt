@@ -4,8 +4,8 @@ ghost use Rattle.std.specs.Prelude.{◌≡◌, ◌≤◌, IfOk, IfSome, true, fa
 ghost use Rattle.pio_asm.specs.Fits.{IsInRange};
 ghost use Rattle.pio_asm.specs.Plan.{IsConfig, IsOptionalConfig, IsSound, delay_bits, greatest, instruction_in, member_of};
 
-use crate::modifiers::{config_or_none, delay_part, side_part, side_value};
-use crate::operand::{Part, Scope};
+use crate::modifiers::{config_or_none, delay_modifier, side_modifier, side_value};
+use crate::operand::{Modifier, Scope};
 use crate::operation::plan_operation;
 use pio_parse::Instruction;
 use pio_words::{PioOp, SideConfig};
@@ -53,8 +53,8 @@ fn choose_member(
     config: &SideConfig,
     given: bool,
     op: Option<PioOp>,
-    side: Part,
-    delay: Part,
+    side: Modifier,
+    delay: Modifier,
 ) -> Member
     requires config { IsConfig config.now }
     requires op { IfSome op IsInRange }
@@ -93,10 +93,10 @@ pub(crate) fn judge_instruction(
     ensures sound { IfOk result (λ j. j.side ≡ false → IsSound j.member) }
 {
     let planned = plan_operation(scope, &instruction.operation)?;
-    let side = side_part(scope, config, &instruction.side)?;
+    let side = side_modifier(scope, config, &instruction.side)?;
     let given = instruction.side.is_some();
     let config = config_or_none(config);
-    let delay = delay_part(scope, &config, &instruction.delay)?;
+    let delay = delay_modifier(scope, &config, &instruction.delay)?;
     Ok(Judged {
         member: choose_member(&config, given, planned.op, side, delay),
         unknown: planned.unknown || side.unknown || delay.unknown,

@@ -32,7 +32,7 @@ impl PioBlock {
     ghost use Rattle.std.specs.Prelude.{◌≡◌, ◌<◌, not, Decides, IsTrue, true, false, ◌∷◌, []};
     ghost use Rattle.pio_block.specs.State.{at_reset, with_held, machine_of, is_busy};
     ghost use Rattle.pio_block.specs.Cycle.{after_cycle, Rests};
-    ghost use Rattle.pio_block.specs.Words.{word_of, effect_of, is_allowed, pacing_of, register_list, counter_set, outs_of, lines_of};
+    ghost use Rattle.pio_block.specs.Words.{word_of, effect_of, is_allowed, pacing_of, register_list, counter_set, outs_of, is_silent, lines_of};
 
     /// The reset state: no machine is enabled, and all FIFOs are empty.
     pub fn new() -> PioBlock
@@ -120,7 +120,8 @@ impl PioBlock {
     /// No interrupt is enabled or forced, so that both lines are low.
     #[inline(always)]
     pub fn is_silent(&self) -> bool
-        ensures { result ≡ true → lines_of self.now ≡ false ∷ false ∷ [] }
+        ensures value { result ≡ is_silent self.now }
+        ensures lines { result ≡ true → lines_of self.now ≡ false ∷ false ∷ [] }
     {
         self.state.is_silent()
     }

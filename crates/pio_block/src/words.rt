@@ -22,7 +22,7 @@ impl State {
     ghost use Rattle.pio_block.specs.declared.registers.TheConstants.{INSTR_MEM0, SM0_CLKDIV, INTR};
     ghost use Rattle.pio_block.specs.Control.{control_written};
     ghost use Rattle.pio_block.specs.Queues.{fdebug_of, debug_written, sent, taken, first_of, is_rx_empty};
-    ghost use Rattle.pio_block.specs.Words.{control_word, after_control, fifo_word, after_fifo, fifo_number, is_rxf, pin_word, after_pin, after_memory, register_number, register_offset, machine_word, after_machine, intr_of, ints_of, ints0_of, ints1_of, interrupt_word, after_interrupt, value_of, listed_word, word_of, after_write, after_read, after_any, effect_of, is_allowed, lines_of};
+    ghost use Rattle.pio_block.specs.Words.{control_word, after_control, fifo_word, after_fifo, fifo_number, is_rxf, pin_word, after_pin, after_memory, register_number, register_offset, machine_word, after_machine, intr_of, ints_of, ints0_of, ints1_of, interrupt_word, after_interrupt, value_of, listed_word, word_of, after_write, after_read, after_any, effect_of, is_allowed, is_silent, lines_of};
 
     /// FDEBUG.
     #[tactic(auto, unfolding(crate::specs::Queues::fdebug_of))]
@@ -217,7 +217,8 @@ impl State {
     #[inline(always)]
     #[tactic(auto, using(crate::proofs::Masks::none_enabled))]
     pub(crate) fn is_silent(&self) -> bool
-        ensures { result ≡ true → lines_of self.now ≡ false ∷ false ∷ [] }
+        ensures value { result ≡ is_silent self.now }
+        ensures lines { result ≡ true → lines_of self.now ≡ false ∷ false ∷ [] }
     {
         self.inte0 == 0 && self.intf0 == 0 && self.inte1 == 0 && self.intf1 == 0
     }

@@ -35,11 +35,11 @@ impl<T: Drop> From<AllocFailed<T>> for Stop {
 
 /// The tokens of a line that have not been read.
 #[derive(Drop)]
-pub(crate) struct Cursor<'a> {
+pub(crate) struct TokenCursor<'a> {
     pub(crate) rest: &'a [Token],
 }
 
-impl Cursor<'_> {
+impl TokenCursor<'_> {
     /// What the next token is.
     pub(crate) fn peek(&self) -> TokenKind
         ensures { result ≡ head_kind self.now.rest.now }

@@ -4,7 +4,7 @@ ghost use Rattle.std.specs.Prelude.{◌≡◌, ◌++◌, ◌∷◌, [], List, �
 ghost use Rattle.pio_parse.specs.Calls.{HasPopped, Reads, ReadsOperand, ReadsOperator, newest, reading_of, stack_of};
 ghost use Rattle.pio_parse.specs.Expression.{expression_at, level_of, name_at, operand_at, operand_step, operator_step, reduced, token_step, with_binary, with_closed};
 
-use crate::cursor::{Cursor, Stop};
+use crate::cursor::{Stop, TokenCursor};
 use crate::name::Name;
 use crate::token::{Span, Token, TokenKind};
 use std::alloc::{AllocError, Global};
@@ -321,7 +321,7 @@ fn finish(alloc: Global, mut reading: Reading) -> Result<Expression, AllocError>
 }
 
 /// The longest expression that the next tokens begin with.
-pub(crate) fn read_expression(file: &File, cursor: &mut Cursor) -> Result<Expression, Stop>
+pub(crate) fn read_expression(file: &File, cursor: &mut TokenCursor) -> Result<Expression, Stop>
     ensures { Reads result cursor.new.rest.now
         (expression_at file.now.text.now cursor.old.rest.now) }
 {
@@ -349,7 +349,7 @@ fn single(file: &File, term: Term) -> Result<Expression, AllocError>
 }
 
 /// A number, a name or an expression in parentheses.
-pub(crate) fn read_operand(file: &File, cursor: &mut Cursor) -> Result<Expression, Stop>
+pub(crate) fn read_operand(file: &File, cursor: &mut TokenCursor) -> Result<Expression, Stop>
     ensures { Reads result cursor.new.rest.now (operand_at file.now.text.now cursor.old.rest.now) }
 {
     match cursor.peek() {

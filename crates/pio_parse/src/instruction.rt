@@ -4,7 +4,7 @@ ghost use Rattle.std.specs.Prelude.{◌≡◌};
 ghost use Rattle.pio_parse.specs.Calls.{Reads};
 ghost use Rattle.pio_parse.specs.Instruction.{delay_at, instruction_at, is_instruction, operands_at, side_at, modifiers_at};
 
-use crate::cursor::{Cursor, Stop};
+use crate::cursor::{Stop, TokenCursor};
 use crate::expression::{Expression, File, read_expression, read_operand};
 use crate::jump::read_jmp;
 use crate::syntax::{Instruction, Operation};
@@ -14,7 +14,7 @@ use crate::wait::{read_irq, read_wait};
 use pio_words::{MovDestination, MovOperation, MovSource};
 
 /// What follows the first word of an instruction.
-fn read_operands(file: &File, keyword: Keyword, cursor: &mut Cursor) -> Result<Operation, Stop>
+fn read_operands(file: &File, keyword: Keyword, cursor: &mut TokenCursor) -> Result<Operation, Stop>
     ensures { Reads result cursor.new.rest.now
         (operands_at file.now.text.now keyword cursor.old.rest.now) }
 {
@@ -54,7 +54,7 @@ fn begins_instruction(keyword: Keyword) -> bool
     )
 }
 
-fn read_side(file: &File, cursor: &mut Cursor) -> Result<Option<Expression>, Stop>
+fn read_side(file: &File, cursor: &mut TokenCursor) -> Result<Option<Expression>, Stop>
     ensures { Reads result cursor.new.rest.now (side_at file.now.text.now cursor.old.rest.now) }
 {
     match cursor.peek() {
@@ -66,7 +66,7 @@ fn read_side(file: &File, cursor: &mut Cursor) -> Result<Option<Expression>, Sto
     }
 }
 
-fn read_delay(file: &File, cursor: &mut Cursor) -> Result<Option<Expression>, Stop>
+fn read_delay(file: &File, cursor: &mut TokenCursor) -> Result<Option<Expression>, Stop>
     ensures { Reads result cursor.new.rest.now (delay_at file.now.text.now cursor.old.rest.now) }
 {
     match cursor.peek() {
@@ -83,7 +83,7 @@ fn read_delay(file: &File, cursor: &mut Cursor) -> Result<Option<Expression>, St
 /// A side-set value and a delay, in either order.
 fn read_modifiers(
     file: &File,
-    cursor: &mut Cursor,
+    cursor: &mut TokenCursor,
 ) -> Result<(Option<Expression>, Option<Expression>), Stop>
     ensures { Reads result cursor.new.rest.now
         (modifiers_at file.now.text.now cursor.old.rest.now) }
@@ -106,7 +106,7 @@ fn read_modifiers(
 pub(crate) fn read_instruction(
     file: &File,
     keyword: Keyword,
-    cursor: &mut Cursor,
+    cursor: &mut TokenCursor,
 ) -> Result<Instruction, Stop>
     ensures { Reads result cursor.new.rest.now
         (instruction_at file.now.text.now keyword cursor.old.rest.now) }

@@ -4,7 +4,7 @@ ghost use Rattle.std.specs.Prelude.{◌≡◌, Ok};
 ghost use Rattle.pio_parse.specs.Calls.{Reads};
 ghost use Rattle.pio_parse.specs.Instruction.{conditional_at, decrement_at, jmp_at, jmp_condition_at, not_condition_at, x_condition_at};
 
-use crate::cursor::{Cursor, Stop};
+use crate::cursor::{Stop, TokenCursor};
 use crate::expression::{File, read_operand};
 use crate::operands::skip_comma;
 use crate::syntax::Operation;
@@ -12,7 +12,7 @@ use crate::token::{Keyword, TokenKind};
 use pio_words::JmpCondition;
 
 /// A condition, after which a comma may stand.
-fn conditional(condition: JmpCondition, cursor: &mut Cursor) -> JmpCondition
+fn conditional(condition: JmpCondition, cursor: &mut TokenCursor) -> JmpCondition
     ensures { conditional_at condition cursor.old.rest.now ≡ Ok (result, cursor.new.rest.now) }
 {
     skip_comma(cursor);
@@ -20,7 +20,7 @@ fn conditional(condition: JmpCondition, cursor: &mut Cursor) -> JmpCondition
 }
 
 /// `--`, whose signs have to stand together.
-fn read_decrement(condition: JmpCondition, cursor: &mut Cursor) -> Result<JmpCondition, Stop>
+fn read_decrement(condition: JmpCondition, cursor: &mut TokenCursor) -> Result<JmpCondition, Stop>
     ensures { Reads result cursor.new.rest.now (decrement_at condition cursor.old.rest.now) }
 {
     let first = cursor.position();
@@ -32,7 +32,7 @@ fn read_decrement(condition: JmpCondition, cursor: &mut Cursor) -> Result<JmpCon
 }
 
 /// What follows `x` of `jmp`: `--` or `!=y`.
-fn read_x_condition(cursor: &mut Cursor) -> Result<JmpCondition, Stop>
+fn read_x_condition(cursor: &mut TokenCursor) -> Result<JmpCondition, Stop>
     ensures { Reads result cursor.new.rest.now (x_condition_at cursor.old.rest.now) }
 {
     if matches!(cursor.peek(), TokenKind::NotEqual) {
@@ -45,7 +45,7 @@ fn read_x_condition(cursor: &mut Cursor) -> Result<JmpCondition, Stop>
 }
 
 /// What follows `!` of `jmp`: `x`, `y` or `osre`.
-fn read_not_condition(cursor: &mut Cursor) -> Result<JmpCondition, Stop>
+fn read_not_condition(cursor: &mut TokenCursor) -> Result<JmpCondition, Stop>
     ensures { Reads result cursor.new.rest.now (not_condition_at cursor.old.rest.now) }
 {
     let condition = match cursor.peek() {
@@ -58,7 +58,7 @@ fn read_not_condition(cursor: &mut Cursor) -> Result<JmpCondition, Stop>
     Ok(conditional(condition, cursor))
 }
 
-fn read_jmp_condition(cursor: &mut Cursor) -> Result<JmpCondition, Stop>
+fn read_jmp_condition(cursor: &mut TokenCursor) -> Result<JmpCondition, Stop>
     ensures { Reads result cursor.new.rest.now (jmp_condition_at cursor.old.rest.now) }
 {
     match cursor.peek() {
@@ -82,7 +82,7 @@ fn read_jmp_condition(cursor: &mut Cursor) -> Result<JmpCondition, Stop>
     }
 }
 
-pub(crate) fn read_jmp(file: &File, cursor: &mut Cursor) -> Result<Operation, Stop>
+pub(crate) fn read_jmp(file: &File, cursor: &mut TokenCursor) -> Result<Operation, Stop>
     ensures { Reads result cursor.new.rest.now (jmp_at file.now.text.now cursor.old.rest.now) }
 {
     let condition = read_jmp_condition(cursor)?;

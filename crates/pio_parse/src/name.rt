@@ -5,10 +5,10 @@ ghost use Rattle.std.specs.Prelude.{◌≡◌, IfOk};
 use std::alloc::{AllocError, Global};
 use std::marker::Model;
 
-/// How long a name is that stands in its place.
+/// How long a name is that is kept in the token itself.
 const SHORT: usize = 7;
 
-/// The bytes of a name. A short one stands in its place, since a file may have hundreds of thousands; a
+/// The bytes of a name. A short one is kept in the token itself, since a file may have hundreds of thousands; a
 /// longer one has a block of memory, which is in proportion to its text.
 #[derive(Drop)]
 enum Bytes {

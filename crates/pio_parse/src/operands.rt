@@ -5,19 +5,19 @@ ghost use Rattle.pio_parse.specs.Calls.{Reads};
 ghost use Rattle.pio_parse.specs.Cursor.{head_kind};
 ghost use Rattle.pio_parse.specs.Instruction.{flag_at, is_rel, last_operand_at, past_comma};
 
-use crate::cursor::{Cursor, Stop};
+use crate::cursor::{Stop, TokenCursor};
 use crate::expression::{Expression, File, read_operand};
 use crate::token::{Keyword, TokenKind};
 
 /// Reads a comma that may stand or be missing.
-pub(crate) fn skip_comma(cursor: &mut Cursor)
+pub(crate) fn skip_comma(cursor: &mut TokenCursor)
     ensures { cursor.new.rest.now ≡ past_comma cursor.old.rest.now }
 {
     cursor.skip_if(matches!(cursor.peek(), TokenKind::Comma));
 }
 
 /// An operand after a comma that may be missing.
-pub(crate) fn read_last_operand(file: &File, cursor: &mut Cursor) -> Result<Expression, Stop>
+pub(crate) fn read_last_operand(file: &File, cursor: &mut TokenCursor) -> Result<Expression, Stop>
     ensures { Reads result cursor.new.rest.now
         (last_operand_at file.now.text.now cursor.old.rest.now) }
 {
@@ -26,7 +26,7 @@ pub(crate) fn read_last_operand(file: &File, cursor: &mut Cursor) -> Result<Expr
 }
 
 /// `rel`, which may be written.
-pub(crate) fn read_rel(cursor: &mut Cursor) -> bool
+pub(crate) fn read_rel(cursor: &mut TokenCursor) -> bool
     ensures { flag_at (is_rel (head_kind cursor.old.rest.now)) cursor.old.rest.now
         ≡ Ok (result, cursor.new.rest.now) }
 {

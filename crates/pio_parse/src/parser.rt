@@ -6,7 +6,7 @@ ghost use Rattle.pio_parse.specs.Source.{IsFault, parsed, source_of};
 ghost use Rattle.pio_parse.specs.Calls.{IsStopOf};
 ghost use Rattle.pio_parse.specs.Gathering.{grouped, line_step, source_of_groups, with_line, with_program};
 
-use crate::cursor::{Cursor, Stop};
+use crate::cursor::{Stop, TokenCursor};
 use crate::expression::File;
 use crate::fault::PioFault;
 use crate::name::Name;
@@ -115,7 +115,7 @@ fn add_line(file: &File, tokens: &[Token], groups: &mut Groups) -> Result<(), St
     ensures ok { OnOk result (line_step file.now.text.now groups.old tokens.now ≡ Ok groups.new) }
     ensures err { IfErr result (IsStopOf (line_step file.now.text.now groups.old tokens.now)) }
 {
-    let mut cursor = Cursor { rest: tokens };
+    let mut cursor = TokenCursor { rest: tokens };
     let line = read_line(file, groups.current.is_some(), &mut cursor)?;
     group(file.alloc, groups, line)?;
     Ok(())

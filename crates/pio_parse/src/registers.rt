@@ -5,7 +5,7 @@ ghost use Rattle.pio_parse.specs.Calls.{Reads};
 ghost use Rattle.pio_parse.specs.Registers.{in_source_of, mov_destination_of, mov_source_of, out_destination_of, set_destination_of};
 ghost use Rattle.pio_parse.specs.Instruction.{named_at};
 
-use crate::cursor::{Cursor, Stop};
+use crate::cursor::{Stop, TokenCursor};
 use crate::token::{Keyword, TokenKind};
 use pio_words::{InSource, MovDestination, MovSource, OutDestination, SetDestination};
 
@@ -82,7 +82,7 @@ pub(crate) fn set_destination(kind: TokenKind) -> Option<SetDestination>
 }
 
 /// A word that has to name one of an instruction's registers.
-pub(crate) fn read_named<T: Copy>(cursor: &mut Cursor, named: Option<T>) -> Result<T, Stop>
+pub(crate) fn read_named<T: Copy>(cursor: &mut TokenCursor, named: Option<T>) -> Result<T, Stop>
     ensures { Reads result cursor.new.rest.now (named_at named cursor.old.rest.now) }
 {
     match named {

@@ -4,14 +4,14 @@ ghost use Rattle.std.specs.Prelude.{◌≡◌};
 ghost use Rattle.pio_parse.specs.Calls.{Reads};
 ghost use Rattle.pio_parse.specs.Statement.{define_at, directive_at, end_at, is_end_after, is_first, is_program, label_at, line_at, name_token_at, side_set_at, statement_at, version_at};
 
-use crate::cursor::{Cursor, Stop};
+use crate::cursor::{Stop, TokenCursor};
 use crate::expression::{File, read_expression};
 use crate::instruction::read_instruction;
 use crate::name::Name;
 use crate::syntax::{BoxedInstruction, Line, Statement};
 use crate::token::{Directive, Keyword, TokenKind};
 
-fn read_name(file: &File, cursor: &mut Cursor) -> Result<Name, Stop>
+fn read_name(file: &File, cursor: &mut TokenCursor) -> Result<Name, Stop>
     ensures { Reads result cursor.new.rest.now
         (name_token_at file.now.text.now cursor.old.rest.now) }
 {
@@ -24,7 +24,7 @@ fn read_name(file: &File, cursor: &mut Cursor) -> Result<Name, Stop>
     }
 }
 
-fn read_define(file: &File, cursor: &mut Cursor) -> Result<Statement, Stop>
+fn read_define(file: &File, cursor: &mut TokenCursor) -> Result<Statement, Stop>
     ensures { Reads result cursor.new.rest.now (define_at file.now.text.now cursor.old.rest.now) }
 {
     cursor.skip_if(matches!(cursor.peek(), TokenKind::Keyword(Keyword::Public)));
@@ -33,7 +33,7 @@ fn read_define(file: &File, cursor: &mut Cursor) -> Result<Statement, Stop>
     Ok(Statement::Define { name, value })
 }
 
-fn read_side_set(file: &File, cursor: &mut Cursor) -> Result<Statement, Stop>
+fn read_side_set(file: &File, cursor: &mut TokenCursor) -> Result<Statement, Stop>
     ensures { Reads result cursor.new.rest.now (side_set_at file.now.text.now cursor.old.rest.now) }
 {
     let count = read_expression(file, cursor)?;
@@ -49,7 +49,7 @@ fn read_side_set(file: &File, cursor: &mut Cursor) -> Result<Statement, Stop>
 }
 
 /// The number after `.pio_version`, which has to be 0.
-fn read_version(cursor: &mut Cursor) -> Result<Option<Statement>, Stop>
+fn read_version(cursor: &mut TokenCursor) -> Result<Option<Statement>, Stop>
     ensures { Reads result cursor.new.rest.now (version_at cursor.old.rest.now) }
 {
     cursor.expect(matches!(cursor.peek(), TokenKind::Number(0)))?;
@@ -60,7 +60,7 @@ fn read_version(cursor: &mut Cursor) -> Result<Option<Statement>, Stop>
 fn read_directive(
     file: &File,
     directive: Directive,
-    cursor: &mut Cursor,
+    cursor: &mut TokenCursor,
 ) -> Result<Option<Statement>, Stop>
     ensures { Reads result cursor.new.rest.now
         (directive_at file.now.text.now directive cursor.old.rest.now) }
@@ -79,7 +79,7 @@ fn read_directive(
 }
 
 /// A directive or an instruction, if the line has one.
-fn read_statement(file: &File, cursor: &mut Cursor) -> Result<Option<Statement>, Stop>
+fn read_statement(file: &File, cursor: &mut TokenCursor) -> Result<Option<Statement>, Stop>
     ensures { Reads result cursor.new.rest.now
         (statement_at file.now.text.now cursor.old.rest.now) }
 {
@@ -99,7 +99,7 @@ fn read_statement(file: &File, cursor: &mut Cursor) -> Result<Option<Statement>,
 }
 
 /// `[[public] name:]`.
-fn read_label(file: &File, cursor: &mut Cursor) -> Result<Option<Name>, Stop>
+fn read_label(file: &File, cursor: &mut TokenCursor) -> Result<Option<Name>, Stop>
     ensures { Reads result cursor.new.rest.now (label_at file.now.text.now cursor.old.rest.now) }
 {
     match cursor.peek() {
@@ -148,7 +148,7 @@ fn may_end(has_program: bool, kind: TokenKind) -> bool
 fn read_end(
     is_started: bool,
     statement: &Option<Statement>,
-    cursor: &mut Cursor,
+    cursor: &mut TokenCursor,
 ) -> Result<(), Stop>
     ensures { Reads result cursor.new.rest.now
         (end_at is_started statement.now cursor.old.rest.now) }
@@ -158,7 +158,11 @@ fn read_end(
 }
 
 /// A line up to its end. Before the first `.program` few lines may stand.
-pub(crate) fn read_line(file: &File, is_started: bool, cursor: &mut Cursor) -> Result<Line, Stop>
+pub(crate) fn read_line(
+    file: &File,
+    is_started: bool,
+    cursor: &mut TokenCursor,
+) -> Result<Line, Stop>
     ensures { Reads result cursor.new.rest.now
         (line_at file.now.text.now is_started cursor.old.rest.now) }
 {

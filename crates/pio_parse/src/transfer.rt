@@ -4,7 +4,7 @@ ghost use Rattle.std.specs.Prelude.{◌≡◌, Ok};
 ghost use Rattle.pio_parse.specs.Calls.{Reads};
 ghost use Rattle.pio_parse.specs.Instruction.{block_at, in_at, mov_at, mov_operation_at, out_at, pull_at, push_at, set_at};
 
-use crate::cursor::{Cursor, Stop};
+use crate::cursor::{Stop, TokenCursor};
 use crate::expression::File;
 use crate::operands::{read_last_operand, skip_comma};
 use crate::registers::{
@@ -14,7 +14,7 @@ use crate::syntax::Operation;
 use crate::token::{Keyword, TokenKind};
 use pio_words::MovOperation;
 
-pub(crate) fn read_in(file: &File, cursor: &mut Cursor) -> Result<Operation, Stop>
+pub(crate) fn read_in(file: &File, cursor: &mut TokenCursor) -> Result<Operation, Stop>
     ensures { Reads result cursor.new.rest.now (in_at file.now.text.now cursor.old.rest.now) }
 {
     let source = read_named(cursor, in_source(cursor.peek()))?;
@@ -22,7 +22,7 @@ pub(crate) fn read_in(file: &File, cursor: &mut Cursor) -> Result<Operation, Sto
     Ok(Operation::In { source, count })
 }
 
-pub(crate) fn read_out(file: &File, cursor: &mut Cursor) -> Result<Operation, Stop>
+pub(crate) fn read_out(file: &File, cursor: &mut TokenCursor) -> Result<Operation, Stop>
     ensures { Reads result cursor.new.rest.now (out_at file.now.text.now cursor.old.rest.now) }
 {
     let destination = read_named(cursor, out_destination(cursor.peek()))?;
@@ -30,7 +30,7 @@ pub(crate) fn read_out(file: &File, cursor: &mut Cursor) -> Result<Operation, St
     Ok(Operation::Out { destination, count })
 }
 
-pub(crate) fn read_set(file: &File, cursor: &mut Cursor) -> Result<Operation, Stop>
+pub(crate) fn read_set(file: &File, cursor: &mut TokenCursor) -> Result<Operation, Stop>
     ensures { Reads result cursor.new.rest.now (set_at file.now.text.now cursor.old.rest.now) }
 {
     let destination = read_named(cursor, set_destination(cursor.peek()))?;
@@ -38,7 +38,7 @@ pub(crate) fn read_set(file: &File, cursor: &mut Cursor) -> Result<Operation, St
     Ok(Operation::Set { destination, value })
 }
 
-fn read_mov_operation(cursor: &mut Cursor) -> MovOperation
+fn read_mov_operation(cursor: &mut TokenCursor) -> MovOperation
     ensures { mov_operation_at cursor.old.rest.now ≡ Ok (result, cursor.new.rest.now) }
 {
     match cursor.peek() {
@@ -54,7 +54,7 @@ fn read_mov_operation(cursor: &mut Cursor) -> MovOperation
     }
 }
 
-pub(crate) fn read_mov(cursor: &mut Cursor) -> Result<Operation, Stop>
+pub(crate) fn read_mov(cursor: &mut TokenCursor) -> Result<Operation, Stop>
     ensures { Reads result cursor.new.rest.now (mov_at cursor.old.rest.now) }
 {
     let destination = read_named(cursor, mov_destination(cursor.peek()))?;
@@ -69,7 +69,7 @@ pub(crate) fn read_mov(cursor: &mut Cursor) -> Result<Operation, Stop>
 }
 
 /// `block`, which is meant where nothing is written, or `noblock`.
-fn read_block(cursor: &mut Cursor) -> bool
+fn read_block(cursor: &mut TokenCursor) -> bool
     ensures { block_at cursor.old.rest.now ≡ Ok (result, cursor.new.rest.now) }
 {
     match cursor.peek() {
@@ -85,7 +85,7 @@ fn read_block(cursor: &mut Cursor) -> bool
     }
 }
 
-pub(crate) fn read_push(cursor: &mut Cursor) -> Operation
+pub(crate) fn read_push(cursor: &mut TokenCursor) -> Operation
     ensures { push_at cursor.old.rest.now ≡ Ok (result, cursor.new.rest.now) }
 {
     let if_full = matches!(cursor.peek(), TokenKind::Keyword(Keyword::IfFull));
@@ -94,7 +94,7 @@ pub(crate) fn read_push(cursor: &mut Cursor) -> Operation
     Operation::Push { if_full, block }
 }
 
-pub(crate) fn read_pull(cursor: &mut Cursor) -> Operation
+pub(crate) fn read_pull(cursor: &mut TokenCursor) -> Operation
     ensures { pull_at cursor.old.rest.now ≡ Ok (result, cursor.new.rest.now) }
 {
     let if_empty = matches!(cursor.peek(), TokenKind::Keyword(Keyword::IfEmpty));

@@ -5,13 +5,13 @@ ghost use Rattle.pio_parse.specs.Calls.{Reads};
 ghost use Rattle.pio_parse.specs.Cursor.{head_kind};
 ghost use Rattle.pio_parse.specs.Instruction.{irq_at, irq_mode_at, polarity_at, wait_at, wait_for};
 
-use crate::cursor::{Cursor, Stop};
+use crate::cursor::{Stop, TokenCursor};
 use crate::expression::{Expression, File, read_operand};
 use crate::operands::{read_last_operand, read_rel};
 use crate::syntax::Operation;
 use crate::token::{Keyword, TokenKind};
 
-fn read_polarity(file: &File, cursor: &mut Cursor) -> Result<Option<Expression>, Stop>
+fn read_polarity(file: &File, cursor: &mut TokenCursor) -> Result<Option<Expression>, Stop>
     ensures { Reads result cursor.new.rest.now (polarity_at file.now.text.now cursor.old.rest.now) }
 {
     match cursor.peek() {
@@ -24,7 +24,7 @@ fn read_polarity(file: &File, cursor: &mut Cursor) -> Result<Option<Expression>,
 fn read_source(
     file: &File,
     polarity: Option<Expression>,
-    cursor: &mut Cursor,
+    cursor: &mut TokenCursor,
 ) -> Result<Operation, Stop>
     ensures { Reads result cursor.new.rest.now (wait_for file.now.text.now polarity
         (head_kind cursor.old.rest.now) cursor.old.rest.now) }
@@ -46,7 +46,7 @@ fn read_source(
     })
 }
 
-pub(crate) fn read_wait(file: &File, cursor: &mut Cursor) -> Result<Operation, Stop>
+pub(crate) fn read_wait(file: &File, cursor: &mut TokenCursor) -> Result<Operation, Stop>
     ensures { Reads result cursor.new.rest.now (wait_at file.now.text.now cursor.old.rest.now) }
 {
     let polarity = read_polarity(file, cursor)?;
@@ -54,7 +54,7 @@ pub(crate) fn read_wait(file: &File, cursor: &mut Cursor) -> Result<Operation, S
 }
 
 /// Whether an `irq` clears its flag and whether it waits.
-fn read_irq_mode(cursor: &mut Cursor) -> (bool, bool)
+fn read_irq_mode(cursor: &mut TokenCursor) -> (bool, bool)
     ensures { irq_mode_at cursor.old.rest.now ≡ Ok (result, cursor.new.rest.now) }
 {
     let mode = match cursor.peek() {
@@ -67,7 +67,7 @@ fn read_irq_mode(cursor: &mut Cursor) -> (bool, bool)
     mode
 }
 
-pub(crate) fn read_irq(file: &File, cursor: &mut Cursor) -> Result<Operation, Stop>
+pub(crate) fn read_irq(file: &File, cursor: &mut TokenCursor) -> Result<Operation, Stop>
     ensures { Reads result cursor.new.rest.now (irq_at file.now.text.now cursor.old.rest.now) }
 {
     let (clear, wait) = read_irq_mode(cursor);

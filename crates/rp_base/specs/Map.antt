@@ -6,7 +6,7 @@ use Rattle.rp_base.specs.declared.map.Spot.TheVariants.{Ram, Reg, Sio, Ppb, Outs
 use Rattle.rp_base.specs.declared.map.Block.{Block}
 use Rattle.rp_base.specs.declared.map.Block.TheVariants.{Resets, IoBank0, PadsBank0, Busctrl, Uart0, Uart1, Timer, Dma, Pio0, Pio1}
 
--- a range of byte addresses, and the place of the byte that stands so many bytes after its first one
+-- a range of byte addresses, and the spot of the byte that stands so many bytes after its first one
 pub record Range : Type 0 where
   pub first : ℕ
   pub last : ℕ
@@ -57,17 +57,17 @@ ranges =
     ∷ range 0xE000E000 0xE000EFFF private_bus
     ∷ []
 
--- the place of an address by a list of ranges; what is in none of them is outside
+-- the spot of an address by a list of ranges; what is in none of them is outside
 abbrev pub place_by : List Range → ℕ → Spot
 place_by [] address = Outside
 place_by (r ∷ rs) address =
     if nat_le r.first address && nat_le address r.last then r.at (address - r.first) else place_by rs address
 
--- the place of an address
+-- the spot of an address
 unfoldable pub place_of : ℕ → Spot
 place_of address = place_by ranges address
 
--- the numbers of a place lie in the part of the machine that it names
+-- the numbers of a spot lie in the part of the machine that it names
 abbrev pub IsWithin : Spot → Type 0
 IsWithin (Ram index bank) = (index < 67584) × (bank < 6)
 IsWithin (Reg block offset alias) = (offset < 0x1000) × (alias < 4)
@@ -75,7 +75,7 @@ IsWithin (Sio offset) = offset < 0x180
 IsWithin (Ppb offset) = offset < 0x1000
 IsWithin Outside = Unit {0}
 
--- the port that a place is reached through: 0 to 5 for the banks of SRAM, 6 for APB, 7 for AHB-Lite
+-- the port that a spot is reached through: 0 to 5 for the banks of SRAM, 6 for APB, 7 for AHB-Lite
 -- (RP2040 Datasheet, 2.1 "Bus Fabric"); SIO and a core's private bus have none
 abbrev pub block_port : Block → ℕ
 block_port Dma = 7

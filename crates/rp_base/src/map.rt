@@ -1,4 +1,4 @@
-//! The address map: which place of the machine each address names (RP2040 Datasheet, 2.2).
+//! The address map: which spot of the machine each address names (RP2040 Datasheet, 2.2).
 #![tactic(auto)]
 
 ghost use Rattle.std.specs.Prelude.{◌≡◌, ◌/◌, ◌%◌, ◌<◌, ◌≤◌};
@@ -29,7 +29,7 @@ pub enum Block {
     Pio1,
 }
 
-/// The place of the word that holds an address.
+/// The spot of the word that holds an address.
 #[derive(Clone, Copy, Debug, PartialEq, Eq)]
 pub enum Spot {
     /// A word of SRAM.
@@ -58,11 +58,11 @@ pub enum Spot {
         /// The byte offset of the word after E000E000, a multiple of 4 below 1000h.
         offset: u16,
     },
-    /// No place of the machine.
+    /// No spot of the machine.
     Outside,
 }
 
-/// The place that an address names; its two low bits do not matter.
+/// The spot that an address names; its two low bits do not matter.
 #[tactic(auto, unfolding(crate::specs::Map::place_of))]
 pub fn place(address: u32) -> Spot
     ensures value { result ≡ place_of address }
@@ -81,7 +81,7 @@ pub fn place(address: u32) -> Spot
     }
 }
 
-/// The place of an address from 20000000 to 2FFFFFFF.
+/// The spot of an address from 20000000 to 2FFFFFFF.
 #[tactic(auto, unfolding(crate::specs::Map::place_of))]
 fn ram(address: u32) -> Spot
     requires { address / 0x10000000 ≡ 2 }
@@ -115,7 +115,7 @@ fn ram(address: u32) -> Spot
     }
 }
 
-/// The place of an address from 40000000 to 5FFFFFFF.
+/// The spot of an address from 40000000 to 5FFFFFFF.
 #[tactic(auto, unfolding(crate::specs::Map::place_of))]
 fn register(address: u32) -> Spot
     requires low { 0x40000000 ≤ address }
@@ -150,12 +150,12 @@ fn view(block: Block, address: u32) -> Spot
     }
 }
 
-/// The port of the bus fabric that a place is reached through: 0 to 5 for a bank of SRAM, 6 for APB, 7 for AHB-Lite;
+/// The port of the bus fabric that a spot is reached through: 0 to 5 for a bank of SRAM, 6 for APB, 7 for AHB-Lite;
 /// SIO, the private bus and what is outside have none.
-pub fn port(place: &Spot) -> Option<u8>
-    ensures { result ≡ port_of place.now }
+pub fn port(spot: &Spot) -> Option<u8>
+    ensures { result ≡ port_of spot.now }
 {
-    match place {
+    match spot {
         Spot::Ram { bank, .. } => Some(*bank),
         Spot::Reg {
             block: Block::Dma | Block::Pio0 | Block::Pio1,

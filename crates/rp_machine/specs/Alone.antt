@@ -18,7 +18,7 @@ use Rattle.rp_machine.specs.declared.deed.Deed.{Deed}
 use Rattle.rp_machine.specs.declared.wanted.Wanted.{Wanted}
 use Rattle.rp_machine.specs.State.{State}
 use Rattle.rp_machine.specs.Deeds.{asked_of, turn_of, deed_of}
-use Rattle.rp_machine.specs.Cycle.{wanted_by, after_deed, stored, ended}
+use Rattle.rp_machine.specs.Cycle.{begun, next, wanted_by, after_deed, stored, ended}
 use Rattle.rp_machine.specs.BusRest.{core1_at_rest}
 
 pub record IsAlone (s : State) : Type 0 where
@@ -71,3 +71,7 @@ alone_next w b seen x s =
 unfoldable pub alone_at_rest : Setting → Doing → SeenOutputs → State → State
 alone_at_rest w b seen s =
     record (ended (core1_at_rest (stepped_alone w b seen turn.Nothing s))) { cycle = s.cycle + 1 }
+
+-- a cycle of a machine in which core 0 alone is at work
+abbrev pub OneCoreGoesAlone : Type 0
+OneCoreGoesAlone = (w : Setting) (s : State) → IsAlone s → next w s ≡ alone_next w (begun s).core0 (begun s).outer (core.want_of (begun s).core0) s

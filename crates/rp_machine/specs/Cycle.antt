@@ -178,7 +178,7 @@ started_by (Some l) s = record s { core1 = started l.vtor l.sp l.entry s.core1 }
 unfoldable pub after_launcher : State → State
 after_launcher s = started_by (launch_of s.sio) (with_sio (after_turn s.sio) s)
 
--- while core 1 sleeps its launcher has its place
+-- while core 1 sleeps its launcher stands for it
 abbrev pub after_core1 : Setting → Deed → State → State
 after_core1 w d s = if s.core1.asleep then after_launcher s else after_deed w master.Core1 d s
 

@@ -4,7 +4,7 @@ use Rattle.std.specs.List.{range_with_len, fold}
 use Rattle.byteorder.specs.Endian.{little_number}
 use Rattle.uf2_image.specs.declared.parts.Part.{Part}
 
--- the bytes with a part's bytes at their place; the first byte is that of address 20000000
+-- the bytes with a part's bytes at their addresses; the first byte is that of address 20000000
 abbrev pub with_part : List ℕ → Part → List ℕ
 with_part bytes part =
     let at = part.address - 0x20000000 in take at bytes ++ part.bytes ++ drop (at + length part.bytes) bytes

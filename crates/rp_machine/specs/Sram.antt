@@ -8,7 +8,7 @@ use Rattle.rp_base.specs.declared.map.Spot.TheVariants as spot
 abbrev pub half_of : ℕ → ℕ → ℕ
 half_of word address = if address / 2 % 2 == 0 then word % 2 ^ 16 else word / 2 ^ 16
 
--- the word of a place; None where it is not in SRAM
+-- the word of a spot; None where it is not in SRAM
 abbrev pub ram_word : List ℕ → Spot → Option ℕ
 ram_word sram (spot.Ram index bank) = Some (slice_index sram index)
 ram_word sram _ = None

@@ -3,7 +3,6 @@
 ghost use Rattle.std.specs.Prelude.{◌≡◌};
 ghost use Rattle.bus_fabric.specs.Masters.{HasPort};
 ghost use Rattle.bus_fabric.specs.Grant.{is_done, after_grant};
-ghost use Rattle.m0_core.specs.Cycle.{want_of};
 ghost use Rattle.rp_machine.specs.Alone.{asked_alone};
 
 use crate::access::asked_of;
@@ -11,10 +10,10 @@ use crate::begun::begin_lane;
 use crate::cycle::wants_nothing;
 use crate::machine::Machine;
 use crate::steps::Steps;
-use crate::wanted::Wanted;
+use crate::wanted::{Wanted, want_of};
 use bus_fabric::Fabric;
-use lane_look::{Device, Lane, Marks, Turn, Want};
-use m0_core::{Core, Doing};
+use lane_look::{Device, Lane, Marks, Turn};
+use m0_core::Doing;
 use outer_lane::{SeenOutputs, World};
 use rp_base::{Master, Why};
 use std::sync::ledger::Ledger;
@@ -42,15 +41,6 @@ fn grant_alone(fabric: &mut Fabric, asked: Option<(u8, bool)>) -> bool
     }
 }
 
-/// What a core wants.
-#[inline(always)]
-fn want_of(begun: &Doing) -> Want
-    ensures { result ≡ want_of begun.now }
-{
-    let [want, _] = <Core as Lane<()>>::wants(begun);
-    want
-}
-
 impl Machine {
     ghost use Rattle.std.specs.Prelude.{◌≡◌, ◌+◌, ◌-◌, ◌^◌, ◌<◌, ◌≤◌, ◌∷◌, ◌++◌, if◌then◌else◌, is_some, [], length, true, ◌&&◌, not};
     ghost use Rattle.outer_lane.specs.Setting.{setting_of};
@@ -60,7 +50,8 @@ impl Machine {
     ghost use Rattle.rp_machine.specs.BusRest.{is_nothing};
     ghost use Rattle.bus_fabric.specs.State.{has_hold};
 
-    /// Core 1 sleeps, and the DMA engine and both PIO blocks are at rest.
+    /// Core 1 sleeps, and the DMA engine and both PIO blocks are at rest. False says nothing: a part that has been at work
+    /// may still stand as if it were.
     #[inline(always)]
     pub fn is_core0_alone(&self) -> bool
         ensures { result ≡ true → IsAlone self.now }

@@ -52,7 +52,7 @@ impl Machine {
     /// What the lanes begin, by the state at the start of the cycle.
     #[inline(always)]
     #[tactic(auto, unfolding(crate::specs::Cycle::begun))]
-    pub(crate) fn begin<X: Device>(&self, world: &World<'_, X>) -> Begun
+    pub fn begin<X: Device>(&self, world: &World<'_, X>) -> Begun
         ensures { result ≡ begun self.now }
     {
         Begun {

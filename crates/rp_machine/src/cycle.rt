@@ -68,7 +68,7 @@ impl Machine {
     /// The first cause of a master to stop before a cycle in which this was begun and wanted.
     #[inline(never)]
     #[tactic(auto, unfolding(crate::specs::Cycle::cause_in))]
-    pub fn cause_in<X: Device>(
+    fn cause_in<X: Device>(
         &self,
         world: &World<'_, X>,
         begun: &Begun,

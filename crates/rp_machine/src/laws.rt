@@ -2,6 +2,7 @@
 
 ghost use Rattle.rp_machine.specs.Laws.{RunsFollowEachOther, SramChangesByTheWritesAlone, EffectsComeAfterTheSteps, SioIsKnown};
 ghost use Rattle.rp_machine.specs.BusRest.{CyclesAtRestChangeTheLanesAlone};
+ghost use Rattle.rp_machine.specs.Alone.{OneCoreGoesAlone};
 
 /// A run of some cycles and then of others is one of all of them: it ends in the same state and has the same events.
 pub fn runs_follow_each_other()
@@ -26,6 +27,12 @@ pub fn effects_come_after_the_steps()
 /// RESETS stay, and each lane steps by what it has begun.
 pub fn cycles_at_rest_change_the_lanes_alone()
     ensures { CyclesAtRestChangeTheLanesAlone }
+{}
+
+/// Where core 0 alone is at work a cycle is its own and the peripherals': nothing is asked of core 1, the DMA engine and PIO, and
+/// they stay as they are.
+pub fn one_core_goes_alone()
+    ensures { OneCoreGoesAlone }
 {}
 
 /// In the first state and after each cycle the pads know the levels and enables that SIO puts out, and core 1 whether its

@@ -9,7 +9,7 @@ pub struct PioLoad {
     pub block: u8,
     /// The machine that runs the program, 0 to 3.
     pub machine: u8,
-    /// The place of the program's first word in the block's memory.
+    /// The index of the program's first word in the block's memory.
     pub offset: u8,
     /// The program.
     pub program: Program,

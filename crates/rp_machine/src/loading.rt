@@ -26,7 +26,7 @@ fn empty_bytes(alloc: Global, count: usize) -> Result<Vec<u8>, AllocError>
     vec![in alloc; 0; count]
 }
 
-/// Puts a part's bytes at their place.
+/// Puts a part's bytes at their addresses.
 fn put_part(bytes: &mut Vec<u8>, part: &Part)
     requires size { vec_len bytes.old ≡ BYTES }
     requires low { FIRST ≤ part.now.address }

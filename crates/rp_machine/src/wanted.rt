@@ -1,12 +1,13 @@
 //! What the masters of the bus fabric want in a cycle.
 
 ghost use Rattle.std.specs.Prelude.{◌≡◌};
+ghost use Rattle.m0_core.specs.Cycle.{want_of};
 ghost use Rattle.rp_machine.specs.Cycle.{wanted};
 
 use crate::begun::Begun;
 use dma_engine::Dma;
 use lane_look::{Lane, Want};
-use m0_core::Core;
+use m0_core::{Core, Doing};
 use rp_base::Master;
 
 /// A master, and what it wants in a cycle.
@@ -16,6 +17,15 @@ pub struct Wanted {
     pub master: Master,
     /// What it wants.
     pub want: Want,
+}
+
+/// What a core wants.
+#[inline(always)]
+pub fn want_of(begun: &Doing) -> Want
+    ensures { result ≡ want_of begun.now }
+{
+    let [want, _] = <Core as Lane<()>>::wants(begun);
+    want
 }
 
 /// What the four masters want in a cycle in which this was begun, in their order.

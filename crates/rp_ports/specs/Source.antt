@@ -13,7 +13,7 @@ Consumes old new bytes = old ≡ option_map (λ left. bytes ++ left) new
 abbrev pub IsAtEnd : Option (List ℕ) → Type 0
 IsAtEnd left = IfSome left (λ bytes. bytes ≡ [])
 
--- what the answer says of the bytes: Took n gives the next n in the first places of the buffer, at least one; at End none is
+-- what the answer says of the bytes: Took n gives the next n in the first entries of the buffer, at least one; at End none is
 -- left; Failed takes none
 abbrev pub Takes : Option (List ℕ) → Option (List ℕ) → List ℕ → Taken → Type 0
 Takes old new buf (Took n) = (0 < n) × (n ≤ length buf) × Consumes old new (take n buf)

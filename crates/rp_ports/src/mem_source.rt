@@ -41,7 +41,7 @@ impl MemSource {
     }
 }
 
-/// Copies the first bytes of a piece to the front of a buffer, as many as it has places for.
+/// Copies the first bytes of a piece to the front of a buffer, as many as it has room for.
 fn give(piece: &[u8], buf: &mut [u8]) -> usize
     ensures count { result ≡ min (length piece.now) (length buf.old) }
     ensures kept { length buf.new ≡ length buf.old }
@@ -58,7 +58,7 @@ impl Source for MemSource {
 
     ghost faults = { λ s. s.faults };
 
-    /// Gives as many of the next bytes as the buffer has places; fails exactly at the listed calls. Each call is counted,
+    /// Gives as many of the next bytes as the buffer has room for; fails exactly at the listed calls. Each call is counted,
     /// and the list stays.
     fn take(&mut self, buf: &mut [u8]) -> Taken
         requires room { 0 < length buf.old }

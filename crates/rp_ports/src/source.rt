@@ -6,7 +6,7 @@ ghost use Rattle.rp_ports.specs.Source.{Takes, Counts};
 /// What a take answers.
 #[derive(Clone, Copy, Debug, PartialEq, Eq)]
 pub enum Taken {
-    /// The first so many places of the buffer hold the next bytes, at least one.
+    /// The first so many entries of the buffer hold the next bytes, at least one.
     Took(usize),
     /// No byte is left.
     End,

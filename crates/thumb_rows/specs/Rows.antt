@@ -11,7 +11,7 @@ abbrev pub field : ℕ → ℕ → ℕ → ℕ
 field w high low = w / 2 ^ low % 2 ^ (high + 1 - low)
 
 abbrev pub is_set : ℕ → ℕ → Bool
-is_set w place = field w place place == 1
+is_set w bit = field w bit bit == 1
 
 -- A pattern is written as in the manual, from bit 15 down to bit 0: a digit is a bit that is fixed, and a letter is a
 -- bit of the operand of that letter. The mask has a 1 at each fixed bit, and the value has the fixed bits. The codes of

@@ -1,4 +1,4 @@
--- A place in SRAM has the index of a word and is in one of the six banks, and is reached through its port.
+-- A spot in SRAM has the index of a word and is in one of the six banks, and is reached through its port.
 use Rattle.std.proofs.Common.{◌≡◌, ℕ, ◌<◌, ◌≤◌, ◌-◌, ◌&&◌, Bool, true, false, nat_le, if◌then◌else◌, inl, inr, List, [], ◌∷◌, refl, arith}
 use Rattle.std.proofs.lemmas.Bool.Decides.{leb_tells}
 use Rattle.rp_base.specs.Map.{Range, place_by, ranges, place_of}

@@ -42,14 +42,14 @@ use Rattle.window_merge.proofs.Ports.{InBank, Apart, free_done, free_after}
 
 -- ---- one want
 
-in_bank_at : (request : Request) (place : Spot) → is_ram_spot place ≡ true → HasBank place → InBank (asked_at request (port_at place))
+in_bank_at : (request : Request) (spot : Spot) → is_ram_spot spot ≡ true → HasBank spot → InBank (asked_at request (port_at spot))
 in_bank_at request (spot.Ram index bank) e h = h.1
 in_bank_at request (spot.Reg block offset alias) e h = absurd (cc e)
 in_bank_at request (spot.Sio offset) e h = absurd (cc e)
 in_bank_at request (spot.Ppb offset) e h = absurd (cc e)
 in_bank_at request spot.Outside e h = absurd (cc e)
 
-asks_at : (request : Request) (place : Spot) → is_ram_spot place ≡ true → is_some (asked_at request (port_at place)) ≡ true
+asks_at : (request : Request) (spot : Spot) → is_ram_spot spot ≡ true → is_some (asked_at request (port_at spot)) ≡ true
 asks_at request (spot.Ram index bank) e = refl
 asks_at request (spot.Reg block offset alias) e = absurd (cc e)
 asks_at request (spot.Sio offset) e = absurd (cc e)
@@ -79,8 +79,8 @@ IsStore deed.Nothing = Unit {0}
 IsStore (deed.Store index lanes value) = Unit {0}
 IsStore _ = ⊥
 
-stored_calm : (request : Request) (write : Option ℕ) (place : Spot) → IsStore (stored_at request write place)
-stored_calm request None place = tt
+stored_calm : (request : Request) (write : Option ℕ) (spot : Spot) → IsStore (stored_at request write spot)
+stored_calm request None spot = tt
 stored_calm request (Some value) (spot.Ram index bank) = tt
 stored_calm request (Some value) (spot.Reg block offset alias) = tt
 stored_calm request (Some value) (spot.Sio offset) = tt

@@ -74,7 +74,7 @@ in_ram_placed : (f : Ask → ℕ) (work : Work) (request : Request) (write : Opt
 in_ram_placed f work request None e = record { met = record { placed = e } }
 in_ram_placed f work request (Some value) e = record { met = record { placed = e } }
 
-at_spot_placed : (f : Ask → ℕ) (work : Work) (request : Request) (s : State) (place : Spot) → place_of request.address ≡ place → Begins Placed f (at_spot work request s place)
+at_spot_placed : (f : Ask → ℕ) (work : Work) (request : Request) (s : State) (spot : Spot) → place_of request.address ≡ spot → Begins Placed f (at_spot work request s spot)
 at_spot_placed f work request s (spot.Ram index bank) e = in_ram_placed f work request request.write (ap is_ram_spot e)
 at_spot_placed f work request s (spot.Ppb offset) e = either Placed f _ _ _ (ready f _ (private_act_placed work request offset)) (ready f _ (stop_placed _))
 at_spot_placed f work request s (spot.Reg block offset alias) e = ready f _ (outward_act_placed work request)
@@ -161,14 +161,14 @@ access_either false a b p q = q
 outside_placed : (m : Master) (request : Request) → AccessIsPlaced (dma_asks.elsewhere m request spot.Outside)
 outside_placed m request = access_either (dma_asks.may_be_device request.address) (access.Outward request) (dma_asks.outside m request) tt tt
 
-elsewhere_placed : (m : Master) (request : Request) (place : Spot) → AccessIsPlaced (dma_asks.elsewhere m request place)
+elsewhere_placed : (m : Master) (request : Request) (spot : Spot) → AccessIsPlaced (dma_asks.elsewhere m request spot)
 elsewhere_placed m request (spot.Reg block offset alias) = tt
 elsewhere_placed m request spot.Outside = outside_placed m request
 elsewhere_placed m request (spot.Ram index bank) = tt
 elsewhere_placed m request (spot.Sio offset) = tt
 elsewhere_placed m request (spot.Ppb offset) = tt
 
-write_placed : (request : Request) (place : Spot) → place_of request.address ≡ place → AccessIsPlaced (dma_asks.write_at request place)
+write_placed : (request : Request) (spot : Spot) → place_of request.address ≡ spot → AccessIsPlaced (dma_asks.write_at request spot)
 write_placed request (spot.Ram index bank) e = ap is_ram_spot e
 write_placed request (spot.Reg block offset alias) e = tt
 write_placed request spot.Outside e = outside_placed DmaWrite request
@@ -183,7 +183,7 @@ begun_write_placed : (s : Engine) → AccessIsPlaced (dma_asks.write_begun s)
 unfolding dma_asks.write_begun
 begun_write_placed s = write_for_placed _
 
-read_at_placed : (f : Ask → ℕ) (counts : ℕ) (write : DmaAccess) (request : Request) (place : Spot) → place_of request.address ≡ place → AccessIsPlaced write → Begins ArePlaced f (dma_asks.asks_at counts write request place)
+read_at_placed : (f : Ask → ℕ) (counts : ℕ) (write : DmaAccess) (request : Request) (spot : Spot) → place_of request.address ≡ spot → AccessIsPlaced write → Begins ArePlaced f (dma_asks.asks_at counts write request spot)
 read_at_placed f counts write request (spot.Ram index bank) e w = record { met = record { read = ap is_ram_spot e; write = w } }
 read_at_placed f counts write request (spot.Reg block offset alias) e w = record { met = record { read = tt; write = w } }
 read_at_placed f counts write request spot.Outside e w = record { met = record { read = outside_placed DmaRead request; write = w } }

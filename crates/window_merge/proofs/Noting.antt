@@ -53,8 +53,8 @@ with_word-length (Some word) words = let more = length-append words (word ∷ []
 
 -- ---- a want
 
-at_place : (request : Request) (write : Option ℕ) (place : Spot) → HasBank place → StoresInSram (stored_at request write place)
-at_place request None place h = tt
+at_place : (request : Request) (write : Option ℕ) (spot : Spot) → HasBank spot → StoresInSram (stored_at request write spot)
+at_place request None spot h = tt
 at_place request (Some value) (spot.Ram index bank) h = h.0
 at_place request (Some value) (spot.Reg block offset alias) h = tt
 at_place request (Some value) (spot.Sio offset) h = tt

@@ -32,7 +32,7 @@ outside_nothing : (c : Bool) (request : Request) → Writes (if c then access.Ou
 outside_nothing true request = refl
 outside_nothing false request = refl
 
-elsewhere_nothing : (request : Request) (place : Spot) → Writes (dma_asks.elsewhere DmaRead request place)
+elsewhere_nothing : (request : Request) (spot : Spot) → Writes (dma_asks.elsewhere DmaRead request spot)
 elsewhere_nothing request (spot.Reg block offset alias) = refl
 elsewhere_nothing request spot.Outside = outside_nothing (dma_asks.may_be_device request.address) request
 elsewhere_nothing request (spot.Ram index bank) = refl
@@ -44,7 +44,7 @@ abbrev IsRead : Option Request → Type 0
 IsRead None = Unit {0}
 IsRead (Some request) = request.write ≡ None
 
-at_nothing : (f : Ask → ℕ) (counts : ℕ) (write : Access) (request : Request) (place : Spot) → request.write ≡ None → WritesNothing (answered f (dma_asks.asks_at counts write request place))
+at_nothing : (f : Ask → ℕ) (counts : ℕ) (write : Access) (request : Request) (spot : Spot) → request.write ≡ None → WritesNothing (answered f (dma_asks.asks_at counts write request spot))
 at_nothing f counts write request (spot.Ram index bank) e = record { met = ap (λ (w : Option ℕ). stored_at request w (place_of request.address)) e }
 at_nothing f counts write request (spot.Reg block offset alias) e = record { met = elsewhere_nothing request (spot.Reg block offset alias) }
 at_nothing f counts write request spot.Outside e = record { met = elsewhere_nothing request spot.Outside }

@@ -32,7 +32,7 @@ use Rattle.window_merge.proofs.Walking.{lines_over, pacing_over, inputs_over, ou
 
 -- ---- one question
 
-word_at : (seen : ℕ → ℕ) (sees : List ℕ) (place : Spot) → HasBank place → ((i : ℕ) → i < 67584 → seen i ≡ slice_index sees i) → word_by seen place ≡ unwrap_or (ram_word sees place) 0
+word_at : (seen : ℕ → ℕ) (sees : List ℕ) (spot : Spot) → HasBank spot → ((i : ℕ) → i < 67584 → seen i ≡ slice_index sees i) → word_by seen spot ≡ unwrap_or (ram_word sees spot) 0
 word_at seen sees (spot.Ram index bank) h sight = sight index h.0
 word_at seen sees (spot.Reg block offset alias) h sight = refl
 word_at seen sees (spot.Sio offset) h sight = refl
@@ -176,8 +176,8 @@ pub runs_guess : {B : Type 0} (old : Guesser) (tree : Asking B) (result : B) (ne
 runs_guess old tree result new r = by_guess old old.same tree result new r
 
 -- where no other lane wrote, SRAM is answered by the machine
-seen_here : (sram : List ℕ) (own originals : List (ℕ × ℕ)) (clean : Bool) (place : Spot) → clean ≡ true → unwrap_or (ram_word sram place) 0 ≡ word_by (seen_word clean own originals sram) place
-seen_here sram own originals false place e = absurd (cc e)
+seen_here : (sram : List ℕ) (own originals : List (ℕ × ℕ)) (clean : Bool) (spot : Spot) → clean ≡ true → unwrap_or (ram_word sram spot) 0 ≡ word_by (seen_word clean own originals sram) spot
+seen_here sram own originals false spot e = absurd (cc e)
 seen_here sram own originals true (spot.Ram index bank) e = refl
 seen_here sram own originals true (spot.Reg block offset alias) e = refl
 seen_here sram own originals true (spot.Sio offset) e = refl

@@ -37,7 +37,7 @@ start_of s = record {
   pio1 = outs_of 1 s;
 }
 
--- the word of a place; 0 where it is not in SRAM
+-- the word of a spot; 0 where it is not in SRAM
 abbrev pub word_by : (ℕ → ℕ) → Spot → ℕ
 word_by seen (spot.Ram index bank) = seen index
 word_by seen _ = 0
