@@ -1,12 +1,12 @@
 //! A lane's job: what it is given from a machine, its run alone, and the set that comes back.
 
-ghost use Rattle.std.specs.Prelude.{◌≡◌, ℕ, ◌+◌, ◌^◌, ◌<◌, ◌≤◌, ◌==◌, ◌&&◌, ◌∷◌, [], true, length, if◌then◌else◌, Some};
+ghost use Rattle.std.specs.Prelude.{◌≡◌, ℕ, ◌+◌, ◌^◌, ◌<◌, ◌≤◌, ◌==◌, ◌&&◌, true, length, Some};
 ghost use Rattle.lane_look.specs.Replay.{meaning};
 ghost use Rattle.outer_lane.specs.Setting.{setting_of};
 ghost use Rattle.rp_machine.specs.State.{State};
-ghost use Rattle.window_merge.specs.Kinds.{is_run_of, has_room_for};
+ghost use Rattle.window_merge.specs.Kinds.{is_run_of};
 ghost use Rattle.window_merge.specs.Lanes.{core_lane, dma_lane, pio_lane, peripheral_lane};
-ghost use Rattle.window_merge.specs.Jobs.{core_of, block_of, core_bound, BeginsIn, HasLane, HasWords, HasWordsIn, IsJobOf, IsJobFor, IsTrueRun, IsTrueIn, IsAlone, RanIn, Ran, longest_by, start_of, length_of};
+ghost use Rattle.window_merge.specs.Jobs.{core_bound, BeginsIn, HasWords, HasWordsIn, IsJobOf, IsJobFor, IsTrueRun, IsTrueIn, IsAlone, RanIn, Ran, longest_by, start_of, length_of};
 
 use crate::copies::Copies;
 use crate::lane_job::{LaneJob, LaneReport};

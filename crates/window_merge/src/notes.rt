@@ -1,6 +1,6 @@
 //! What a window writes to SRAM: each word as it was before the window, and the words that each lane wrote.
 
-ghost use Rattle.std.specs.Prelude.{◌≡◌, ◌+◌, ◌<◌, ◌≤◌, length};
+ghost use Rattle.std.specs.Prelude.{◌≡◌, ◌<◌, ◌≤◌, length};
 ghost use Rattle.rp_machine.specs.Deeds.{StoresInSram};
 ghost use Rattle.window_merge.specs.Notes.{first_of, last_of, seen_word, write_of, original_word};
 

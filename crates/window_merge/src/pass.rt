@@ -1,6 +1,6 @@
 //! The cycles of a window on one thread: each is the machine's own, and is kept where it goes as the lanes would go alone.
 
-ghost use Rattle.std.specs.Prelude.{◌≡◌, ◌+◌, ◌-◌, ◌^◌, ◌<◌, ◌≤◌, ◌++◌, ◌∷◌, [], if◌then◌else◌, is_some, IfSome, length};
+ghost use Rattle.std.specs.Prelude.{◌≡◌, ◌+◌, ◌-◌, ◌^◌, ◌<◌, ◌++◌, ◌∷◌, [], if◌then◌else◌, is_some, IfSome, length};
 ghost use Rattle.outer_lane.specs.Setting.{setting_of};
 ghost use Rattle.outer_lane.specs.Step.{marked};
 ghost use Rattle.rp_machine.specs.Cycle.{begun, wanted, next_by};

@@ -1,6 +1,6 @@
 //! A lane that runs alone again from a machine, and is compared with the log of a report.
 
-ghost use Rattle.std.specs.Prelude.{◌≡◌, ◌+◌, ◌*◌, ◌^◌, ◌<◌, ◌≤◌, ◌∷◌, [], true, List, length, Decides};
+ghost use Rattle.std.specs.Prelude.{◌≡◌, ◌+◌, ◌^◌, ◌<◌, ◌≤◌, ◌∷◌, [], true, List, length, Decides};
 ghost use Rattle.lane_look.specs.Replay.{Entry, meaning};
 ghost use Rattle.lane_look.specs.Alone.{ends_want, ends_wants, ends_now, alone_length};
 ghost use Rattle.window_merge.specs.declared.walk.Walker.{Walker};
