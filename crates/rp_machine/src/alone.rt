@@ -8,6 +8,7 @@ ghost use Rattle.rp_machine.specs.Alone.{asked_alone};
 use crate::access::asked_of;
 use crate::begun::begin_lane;
 use crate::cycle::wants_nothing;
+use crate::look::MachineLook;
 use crate::machine::Machine;
 use crate::steps::Steps;
 use crate::wanted::{Wanted, want_of};
@@ -68,7 +69,8 @@ impl Machine {
     fn begin_core0(&self) -> Doing
         ensures { result ≡ (begun self.now).core0 }
     {
-        begin_lane(self, 0, &self.core0, &())
+        let mut look = MachineLook { lane: 0, machine: self };
+        Lane::<()>::begin(&self.core0, &(), self.at, &mut look)
     }
 
     /// What the peripherals begin.
@@ -178,6 +180,12 @@ impl Machine {
     {
         let core0 = self.begin_core0();
         let outer = self.begin_outer(world);
+        if core0.wants_nothing() && !self.fabric.holds() {
+            marks.clear();
+            steps.tick();
+            self.step_alone_at_rest(world, &core0, &outer, marks);
+            return None;
+        }
         let wanted = Wanted {
             master: Master::Core0,
             want: want_of(&core0),
