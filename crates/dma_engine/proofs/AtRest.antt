@@ -1,6 +1,7 @@
 -- An engine at rest asks nothing and stays as it is.
 use Rattle.std.proofs.Common.{◌≡◌, ℕ, zero, suc, ◌+◌, ◌%◌, Bool, true, false, not, ◌&&◌, ◌||◌, cond, List, [], ◌∷◌, length, drop, nat_eq, nat_lt, refl, ap, ◌∙◌, arith, get_or, Option, Some, None}
-use Rattle.std.specs.Prelude.{is_none}
+use Rattle.std.specs.Prelude.{is_none, bit_and, bit_or}
+use Rattle.std.specs.Int.Bits.{and_zero_l}
 use Rattle.std.specs.List.{list_all, list_any}
 use Rattle.std.proofs.lemmas.Grind.{common_steps}
 use Rattle.std.proofs.lemmas.Bool.Decides.{nat_tests}
@@ -16,9 +17,10 @@ use Rattle.dma_engine.specs.Asks.{waits_for_counts, write_begun, next_request, a
 use Rattle.dma_engine.specs.Choice.{is_candidate, first_in_turn, choice_of}
 use Rattle.dma_engine.specs.Timer.{gets_credit, after_timers}
 use Rattle.dma_engine.specs.Cycle.{is_over, after_ends, with_read_by, with_read, after_read, after_write, choice_where_none, after_choice, after_transfers, next, after_read_of, after_write_of}
+use Rattle.dma_engine.specs.Words.{is_silent, lines_of}
 use Rattle.dma_engine.proofs.InTurn.{after_ends-none}
 use Rattle.dma_engine.proofs.TimersAtRest.{both_left, both_right, not_is, after_timers-at_rest}
-use Rattle.dma_engine.specs.Rest.{is_idle_channel, is_idle_timer, is_at_rest, StaysAtRest}
+use Rattle.dma_engine.specs.Rest.{is_idle_channel, is_idle_timer, is_at_rest, is_still, StaysAtRest}
 
 -- ---- what an engine at rest is
 
@@ -139,7 +141,7 @@ either_same : {A : Type 0} (b : Bool) (x y : A) → y ≡ x → cond b x y ≡ x
 either_same true x y h = refl
 either_same false x y h = h
 
-pub next-at_rest : (s : Engine) (begun : BegunTransfer) (turns : List Turn) → is_at_rest s ≡ true → next s begun turns ≡ s
+next-at_rest : (s : Engine) (begun : BegunTransfer) (turns : List Turn) → is_at_rest s ≡ true → next s begun turns ≡ s
 unfolding next
 next-at_rest s begun turns h = either_same s.held s _ (parts_at_rest s begun turns (rests s h))
 
@@ -162,26 +164,61 @@ reads_nothing : (s : Engine) → Rests s → asks_read 0 s ≡ Ready idle_begun
 unfolding asks_read
 reads_nothing s r = rw (no_write s r, no_request s r) refl
 
-pub asks-at_rest : (s : Engine) → is_at_rest s ≡ true → asks s ≡ Ready idle_begun
+asks-at_rest : (s : Engine) → is_at_rest s ≡ true → asks s ≡ Ready idle_begun
 unfolding asks
 asks-at_rest s h =
     let r : Rests s = rests s h in
     either_same s.held (Ready idle_begun) _ (rw (none_waits s.channels r.channels) (reads_nothing s r))
 
-pub stays_at_rest : (s : Engine) → is_at_rest s ≡ true → StaysAtRest s
+stays_at_rest : (s : Engine) → is_at_rest s ≡ true → StaysAtRest s
 stays_at_rest s h = record {
   asks_nothing = asks-at_rest s h;
   wants_nothing = refl;
   stays = λ begun turns. next-at_rest s begun turns h;
 }
 
--- a flag that tells of rest
-pub told : (flag rest : Bool) → (not flag || rest) ≡ true → flag ≡ true → rest ≡ true
-told true rest h e = h
-told false rest h e = absurd (cc)
+-- ---- the interrupt lines
 
-pub not_or : (rest : Bool) → (not rest || rest) ≡ true
+silent : (e f : ℕ) (r : ℕ) → r ≡ 0 → f ≡ 0 → not (nat_eq (bit_or (bit_and r e) f) 0) ≡ false
+silent e f r hr hf = rw (hr, hf) (ap (λ n. not (nat_eq (bit_or n 0) 0)) (and_zero_l e))
+
+zero_is : (n : ℕ) → nat_eq n 0 ≡ true → n ≡ 0
+zero_is zero h = refl
+zero_is (suc n) h = absurd (grind (arith, nat_tests, common_steps))
+
+silent_lines : (s : Engine) → is_silent s ≡ true → lines_of s ≡ false ∷ false ∷ []
+silent_lines s h =
+    let both : (nat_eq s.raised 0 && nat_eq s.line_0.force 0) ≡ true = both_left _ (nat_eq s.line_1.force 0) h in
+    let r : s.raised ≡ 0 = zero_is s.raised (both_left _ (nat_eq s.line_0.force 0) both) in
+    let f0 : s.line_0.force ≡ 0 = zero_is s.line_0.force (both_right (nat_eq s.raised 0) _ both) in
+    let f1 : s.line_1.force ≡ 0 = zero_is s.line_1.force (both_right (nat_eq s.raised 0 && nat_eq s.line_0.force 0) _ h) in
+    ap (λ b. b ∷ not (nat_eq (bit_or (bit_and s.raised s.line_1.enable) s.line_1.force) 0) ∷ [])
+    (silent s.line_0.enable s.line_0.force s.raised r f0)
+    ∙ ap (λ b. false ∷ b ∷ []) (silent s.line_1.enable s.line_1.force s.raised r f1)
+
+-- ---- a flag that tells of rest
+
+pub told : (flag still : Bool) → (not flag || still) ≡ true → flag ≡ true → still ≡ true
+told true still h e = h
+told false still h e = absurd (cc)
+
+rests_of : (s : Engine) → is_still s ≡ true → is_at_rest s ≡ true
+rests_of s h = both_left (is_at_rest s) _ h
+
+pub next-still : (s : Engine) (begun : BegunTransfer) (turns : List Turn) → is_still s ≡ true → next s begun turns ≡ s
+next-still s begun turns h = next-at_rest s begun turns (rests_of s h)
+
+pub asks-still : (s : Engine) → is_still s ≡ true → asks s ≡ Ready idle_begun
+asks-still s h = asks-at_rest s (rests_of s h)
+
+pub stays_still : (s : Engine) → is_still s ≡ true → StaysAtRest s
+stays_still s h = stays_at_rest s (rests_of s h)
+
+pub lines-still : (s : Engine) → is_still s ≡ true → lines_of s ≡ false ∷ false ∷ []
+lines-still s h = silent_lines s (both_right (is_at_rest s) _ h)
+
+pub not_or : (still : Bool) → (not still || still) ≡ true
 not_or true = refl
 not_or false = refl
 
-pub ruleset at_rest = (next-at_rest, asks-at_rest, stays_at_rest, told, not_or)
+pub ruleset at_rest = (next-still, asks-still, stays_still, lines-still, told, not_or)

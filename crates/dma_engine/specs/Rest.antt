@@ -11,6 +11,7 @@ use Rattle.dma_engine.specs.Timer.{runs}
 use Rattle.dma_engine.specs.Asks.{asks, idle_begun}
 use Rattle.dma_engine.specs.Cycle.{wanted, next}
 use Rattle.dma_engine.specs.State.{Engine}
+use Rattle.dma_engine.specs.Words.{is_silent}
 
 abbrev pub is_idle_channel : Channel → Bool
 is_idle_channel c = not c.busy
@@ -24,7 +25,11 @@ is_at_rest s =
     is_none s.chosen
     && (length s.waiting == 0 && (list_all is_idle_channel s.channels && list_all is_idle_timer s.timers))
 
--- what that comes to: the engine asks nothing, wants nothing, and stays as it is, whatever it began and the bus gave
+-- the engine is at rest, and no interrupt is raised or forced
+abbrev pub is_still : Engine → Bool
+is_still s = is_at_rest s && is_silent s
+
+-- what the first comes to: the engine asks nothing, wants nothing, and stays as it is, whatever it began and the bus gave
 pub record StaysAtRest (s : Engine) : Type 0 where
   pub asks_nothing : asks s ≡ Ready idle_begun
   pub wants_nothing : wanted idle_begun ≡ want.Nothing ∷ want.Nothing ∷ []

@@ -11,20 +11,20 @@ use std::marker::Model;
 #[derive(Drop)]
 pub struct Dma {
     pub(crate) engine: Engine,
-    /// Nothing happens until a register is written.
+    /// Nothing happens until a register is written, and both interrupt lines are low.
     pub(crate) at_rest: bool,
 }
 
 impl Model for Dma {
     ghost use Rattle.std.specs.Prelude.{◌≡◌, ◌||◌, not, true};
     ghost use Rattle.dma_engine.specs.State.{Engine as State};
-    ghost use Rattle.dma_engine.specs.Rest.{is_at_rest};
+    ghost use Rattle.dma_engine.specs.Rest.{is_still};
 
     ghost Value = { State };
 
     ghost view = { λ d. d.engine };
 
-    ghost invariant = { λ d. (not d.at_rest || is_at_rest d.engine) ≡ true };
+    ghost invariant = { λ d. (not d.at_rest || is_still d.engine) ≡ true };
 }
 
 impl Dma {
@@ -76,10 +76,12 @@ impl Dma {
         self.engine.set_held(held);
     }
 
-    /// The engine is at rest: until a register is written it asks nothing, wants nothing and stays as it is.
+    /// The engine is at rest: until a register is written it asks nothing, wants nothing and stays as it is, and both
+    /// interrupt lines are low.
     #[inline(always)]
     pub fn is_at_rest(&self) -> bool
-        ensures { result ≡ true → StaysAtRest self.now }
+        ensures rests { result ≡ true → StaysAtRest self.now }
+        ensures lines { result ≡ true → lines_of self.now ≡ false ∷ false ∷ [] }
     {
         self.at_rest
     }

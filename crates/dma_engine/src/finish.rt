@@ -8,7 +8,7 @@ ghost use Rattle.dma_engine.specs.Control.{treq_of};
 ghost use Rattle.dma_engine.specs.Choice.{pace_of};
 ghost use Rattle.dma_engine.specs.State.{channel_at};
 ghost use Rattle.dma_engine.specs.Timer.{gives, stepped, given_by, is_given, gets_credit, more_credits, credited, with_credit, after_timers};
-ghost use Rattle.dma_engine.specs.Rest.{is_idle_channel, is_idle_timer, is_at_rest};
+ghost use Rattle.dma_engine.specs.Rest.{is_idle_channel, is_idle_timer, is_at_rest, is_still};
 ghost use Rattle.dma_engine.specs.Cycle.{want_of, word_of, word_read, with_data, with_read, is_written, after_write, credits_left, counted, after_choice, after_transfers, next};
 ghost use Rattle.dma_engine.specs.Channel.{in_turn};
 
@@ -280,5 +280,12 @@ impl Engine {
             return false;
         }
         are_idle(&self.channels) && are_idle_timers(&self.timers)
+    }
+
+    /// Nothing can happen by itself, and both interrupt lines are low.
+    pub(crate) fn is_still(&self) -> bool
+        ensures { result ≡ is_still self.now }
+    {
+        self.is_at_rest() && self.is_silent()
     }
 }

@@ -45,7 +45,7 @@ impl Lane<()> for Dma {
     fn finish(&mut self, _env: &(), begun: &BegunTransfer, turns: [Turn; 2], _marks: &mut Marks) {
         if !self.at_rest {
             self.engine.finish(begun, &turns);
-            self.at_rest = self.engine.is_at_rest();
+            self.at_rest = self.engine.is_still();
         }
     }
 

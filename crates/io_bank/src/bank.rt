@@ -4,7 +4,7 @@ ghost use Rattle.std.specs.Prelude.{◌≡◌, ◌<◌, ◌∷◌, ◌&&◌, [],
 ghost use Rattle.io_bank.specs.State.{at_reset, after_held, with_bank_held, with_pads_held};
 ghost use Rattle.io_bank.specs.Levels.{levels_of, by_list, by_sets, inputs_of, pins_of, is_used, first_in, receive_pin, receive_level};
 ghost use Rattle.io_bank.specs.Edges.{edges_of};
-ghost use Rattle.io_bank.specs.Step.{after_step, is_at_rest};
+ghost use Rattle.io_bank.specs.Step.{after_step, is_at_rest, with_edges, with_levels};
 ghost use Rattle.io_bank.specs.Interrupts.{raw_of, line_of};
 
 use crate::events::{Edges, Events, Interrupts};
@@ -150,13 +150,21 @@ impl IoBank {
         ensures after { self.new ≡ after_step outs.now (by_sets driven high) self.old }
     {
         let levels = self.levels(outs, driven, high);
+        self.step_to(levels);
+        levels
+    }
+
+    /// A cycle in which the pads get these levels, whatever drives them.
+    #[inline(always)]
+    pub fn step_to(&mut self, levels: u32)
+        ensures { self.new ≡ with_levels levels (with_edges (edges_of self.old) self.old) }
+    {
         let edges = self.edges();
         self.latched = self.latched.joined(edges);
         self.fresh = edges;
         self.second = self.first;
         self.first = self.current;
         self.current = levels;
-        levels
     }
 
     /// The levels of the last three cycles are the same, and the last step latched no edge. A step that gives these levels
@@ -173,7 +181,7 @@ impl IoBank {
 
     /// The levels of the pads, where outside drives the pins of a set, and of these drives high those of another one.
     #[inline]
-    fn levels(&self, outs: &Outs, driven: u32, high: u32) -> u32
+    pub fn levels(&self, outs: &Outs, driven: u32, high: u32) -> u32
         ensures { result ≡ levels_of outs.now (by_sets driven high) self.now }
     {
         self.routes.levels(outs, driven, high)

@@ -1,7 +1,8 @@
 -- A plain instruction begins with an inner beat in Thumb state, and its end begins no return, calls nothing and waits for nothing.
-use Rattle.std.proofs.Common.{◌≡◌, ℕ, zero, suc, Bool, true, false, not, ◌||◌, ◌&&◌, cond, refl, ap, ◌∙◌}
-use Rattle.std.specs.Prelude.{slice_get, unwrap_or, List, [], Option, None}
+use Rattle.std.proofs.Common.{◌≡◌, ◌+◌, ℕ, zero, suc, Bool, true, false, not, ◌||◌, ◌&&◌, cond, nat_lt, refl, ap, arith, ◌∙◌}
+use Rattle.std.specs.Prelude.{slice_get, unwrap_or, length, List, [], Option, None, ◌==◌}
 use Rattle.std.specs.List.{list_any}
+use Rattle.std.proofs.lemmas.Bool.Decides.{nat_tests}
 use Rattle.rp_base.specs.declared.op.Op.{Op}
 use Rattle.rp_base.specs.declared.op.Op.TheVariants as op
 use Rattle.rp_base.specs.declared.Why.TheVariants as why
@@ -15,9 +16,9 @@ use Rattle.m0_nvic.specs.Changes.{pended}
 use Rattle.lane_look.specs.Asking.Asking.{Ready}
 use Rattle.m0_core.specs.declared.doing.Act.TheVariants as act
 use Rattle.m0_core.specs.declared.doing.Work.TheVariants as works
-use Rattle.m0_core.specs.Kinds.{awaits_event, is_breakpoint, is_call, is_undefined, is_plain}
+use Rattle.m0_core.specs.Kinds.{awaits_event, awaits_interrupt, is_breakpoint, is_call, is_undefined, is_plain, is_single}
 use Rattle.m0_core.specs.Fetch.{asks_beat, asks_decoded, asks_fault, beat_of, in_beat, is_callable, is_faulty, stopped}
-use Rattle.m0_core.specs.Cycle.{returning, ended}
+use Rattle.m0_core.specs.Cycle.{returning, ended, after_inner, passed, passed_instruction, passed_of, is_paused_op, waiting}
 use Rattle.m0_core.specs.State.{State}
 
 inner_at : (n k : ℕ) → unwrap_or (slice_get (inner n) k) Inner ≡ Inner
@@ -264,3 +265,118 @@ unfolding ended
 plain_ended o s h =
     let q = inner_only o h in
     same_end o s (is_call o) (awaits_event o) (return_of o s.regs s.read) q.0 q.1.0 (q.1.1 s.regs s.read)
+
+-- a plain instruction that is no branch has one beat, and is done at its end
+one_beat : (o : Op) → is_single o ≡ true → (g : Regs) → (beats_of o g ≡ inner 1) × (awaits_interrupt o ≡ false)
+unfolding beats_of
+one_beat (op.LslImm i m d) h g = (refl, refl)
+one_beat (op.LsrImm i m d) h g = (refl, refl)
+one_beat (op.AsrImm i m d) h g = (refl, refl)
+one_beat (op.AddReg m n d) h g = (refl, refl)
+one_beat (op.SubReg m n d) h g = (refl, refl)
+one_beat (op.AddImm3 i n d) h g = (refl, refl)
+one_beat (op.SubImm3 i n d) h g = (refl, refl)
+one_beat (op.MovImm d i) h g = (refl, refl)
+one_beat (op.CmpImm d i) h g = (refl, refl)
+one_beat (op.AddImm8 d i) h g = (refl, refl)
+one_beat (op.SubImm8 d i) h g = (refl, refl)
+one_beat (op.And m d) h g = (refl, refl)
+one_beat (op.Eor m d) h g = (refl, refl)
+one_beat (op.LslReg m d) h g = (refl, refl)
+one_beat (op.LsrReg m d) h g = (refl, refl)
+one_beat (op.AsrReg m d) h g = (refl, refl)
+one_beat (op.Adc m d) h g = (refl, refl)
+one_beat (op.Sbc m d) h g = (refl, refl)
+one_beat (op.Ror m d) h g = (refl, refl)
+one_beat (op.Tst m d) h g = (refl, refl)
+one_beat (op.Rsb m d) h g = (refl, refl)
+one_beat (op.Cmp m d) h g = (refl, refl)
+one_beat (op.Cmn m d) h g = (refl, refl)
+one_beat (op.Orr m d) h g = (refl, refl)
+one_beat (op.Mul m d) h g = (refl, refl)
+one_beat (op.Bic m d) h g = (refl, refl)
+one_beat (op.Mvn m d) h g = (refl, refl)
+one_beat (op.AddHigh d m) h g = absurd (cc)
+one_beat (op.CmpHigh d m) h g = (refl, refl)
+one_beat (op.MovHigh d m) h g = absurd (cc)
+one_beat (op.Bx m) h g = absurd (cc)
+one_beat (op.Blx m) h g = absurd (cc)
+one_beat (op.LdrLit u i) h g = absurd (cc)
+one_beat (op.StrReg m n u) h g = absurd (cc)
+one_beat (op.StrhReg m n u) h g = absurd (cc)
+one_beat (op.StrbReg m n u) h g = absurd (cc)
+one_beat (op.LdrsbReg m n u) h g = absurd (cc)
+one_beat (op.LdrReg m n u) h g = absurd (cc)
+one_beat (op.LdrhReg m n u) h g = absurd (cc)
+one_beat (op.LdrbReg m n u) h g = absurd (cc)
+one_beat (op.LdrshReg m n u) h g = absurd (cc)
+one_beat (op.StrImm i n u) h g = absurd (cc)
+one_beat (op.LdrImm i n u) h g = absurd (cc)
+one_beat (op.StrbImm i n u) h g = absurd (cc)
+one_beat (op.LdrbImm i n u) h g = absurd (cc)
+one_beat (op.StrhImm i n u) h g = absurd (cc)
+one_beat (op.LdrhImm i n u) h g = absurd (cc)
+one_beat (op.StrSp u i) h g = absurd (cc)
+one_beat (op.LdrSp u i) h g = absurd (cc)
+one_beat (op.Adr d i) h g = absurd (cc)
+one_beat (op.AddSp d i) h g = absurd (cc)
+one_beat (op.AddSpImm i) h g = absurd (cc)
+one_beat (op.SubSpImm i) h g = (refl, refl)
+one_beat (op.Sxth m d) h g = (refl, refl)
+one_beat (op.Sxtb m d) h g = (refl, refl)
+one_beat (op.Uxth m d) h g = (refl, refl)
+one_beat (op.Uxtb m d) h g = (refl, refl)
+one_beat (op.Push r l) h g = absurd (cc)
+one_beat (op.Pop r l) h g = absurd (cc)
+one_beat op.Cpsie h g = absurd (cc)
+one_beat op.Cpsid h g = absurd (cc)
+one_beat (op.Rev m d) h g = (refl, refl)
+one_beat (op.Rev16 m d) h g = (refl, refl)
+one_beat (op.Revsh m d) h g = (refl, refl)
+one_beat (op.Bkpt i) h g = absurd (cc)
+one_beat op.Nop h g = absurd (cc)
+one_beat op.Yield h g = absurd (cc)
+one_beat op.Wfe h g = absurd (cc)
+one_beat op.Wfi h g = absurd (cc)
+one_beat op.Sev h g = absurd (cc)
+one_beat (op.Stm n l) h g = absurd (cc)
+one_beat (op.Ldm n l) h g = absurd (cc)
+one_beat (op.BCond c i) h g = absurd (cc)
+one_beat (op.Udf i) h g = absurd (cc)
+one_beat (op.Svc i) h g = absurd (cc)
+one_beat (op.B i) h g = absurd (cc)
+one_beat (op.Bl q i j) h g = absurd (cc)
+one_beat (op.Msr n q) h g = absurd (cc)
+one_beat (op.Mrs d q) h g = absurd (cc)
+one_beat op.Dsb h g = absurd (cc)
+one_beat op.Dmb h g = absurd (cc)
+one_beat op.Isb h g = absurd (cc)
+one_beat op.Undefined h g = absurd (cc)
+
+both : (a b : Bool) → (a && b) ≡ true → (a ≡ true) × (b ≡ true)
+both true b h = (refl, h)
+both false b h = absurd (cc)
+
+and_none : (a : Bool) → (a && false) ≡ false
+and_none true = refl
+and_none false = refl
+
+pub single_plain : (o : Op) → is_single o ≡ true → is_plain o ≡ true
+single_plain o h = (both (is_plain o) _ h).0
+
+goes_on : (o : Op) (s : State) → awaits_event o ≡ false → awaits_interrupt o ≡ false → is_paused_op o s ≡ false
+goes_on o s p q = rw (p, q) (and_none (s.beats_done == 1))
+
+passes : (o : Op) (s : State) (n : ℕ) → n ≡ 1 → passed_of (works.Instruction o) n (ended o s) s ≡ ended o s
+passes o s n h =
+    let last : nat_lt (s.beats_done + 1) 1 ≡ false = grind (arith, nat_tests) in
+    rw (h, last) refl
+
+pub single_after : (o : Op) (s : State) → is_single o ≡ true → after_inner (works.Instruction o) s ≡ ended o s
+unfolding after_inner passed passed_instruction
+single_after o s h =
+    let plain = single_plain o h in
+    let one = one_beat o h s.regs in
+    let inner = inner_only o plain in
+    ap (λ paused. cond paused (waiting (works.Instruction o) s) (passed (works.Instruction o) None s)) (goes_on o s inner.1.0 one.1)
+    ∙ passes o s (length (beats_of o s.regs)) (ap length one.0)

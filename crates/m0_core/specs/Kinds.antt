@@ -1,5 +1,5 @@
 -- The instructions that a core treats by themselves (ARMv6-M Architecture Reference Manual, A6.7).
-use Rattle.std.specs.Prelude.{Bool, true, false}
+use Rattle.std.specs.Prelude.{Bool, true, false, not, ◌&&◌}
 use Rattle.rp_base.specs.declared.op.Op.{Op}
 use Rattle.rp_base.specs.declared.op.Op.TheVariants.{Bkpt, Sev, Wfe, Wfi, Svc, Udf, Undefined, LslImm, LsrImm, AsrImm, AddReg, SubReg, AddImm3, SubImm3, MovImm, CmpImm, AddImm8, SubImm8, And, Eor, LslReg, LsrReg, AsrReg, Adc, Sbc, Ror, Tst, Rsb, Cmp, Cmn, Orr, Mul, Bic, Mvn, CmpHigh, SubSpImm, Sxth, Sxtb, Uxth, Uxtb, Rev, Rev16, Revsh, BCond, B, Bl}
 
@@ -75,3 +75,13 @@ is_plain (BCond c i) = true
 is_plain (B i) = true
 is_plain (Bl s i j) = true
 is_plain _ = false
+
+-- branches by an offset; the other plain instructions have one beat
+abbrev pub is_branch : Op → Bool
+is_branch (BCond c i) = true
+is_branch (B i) = true
+is_branch (Bl s i j) = true
+is_branch _ = false
+
+abbrev pub is_single : Op → Bool
+is_single o = is_plain o && not (is_branch o)

@@ -1,13 +1,14 @@
 //! What a core wants in a cycle, and how the cycle ends.
 
-ghost use Rattle.std.specs.Prelude.{◌≡◌, ◌<◌, ℕ, length, true, Some, slice_get};
+ghost use Rattle.std.specs.Prelude.{◌≡◌, ◌<◌, ℕ, Decides, if◌then◌else◌, length, true, Some, slice_get};
+ghost use Rattle.lane_look.specs.declared.lane.Want.TheVariants.{Nothing};
 ghost use Rattle.m0_core.specs.Kinds.{is_plain};
 ghost use Rattle.m0_beats.specs.Beats.{beats_of};
 ghost use Rattle.m0_core.specs.Cycle.{signals, want_of, with_value, waiting, followed, with_read, returning, called, ended, passed_instruction, passed_entry, passed_return, passed_work, passed, is_paused_op, is_paused, after_inner, faulted, word_of, done_word, after_access, value_of, after_outward, after_private, after, closed, is_idle};
 
 use crate::doing::{Act, Doing, Work};
 use crate::exceptions::{ENTRY_BEATS, RETURN_BEATS};
-use crate::kinds::{awaits_event, awaits_interrupt, is_call, is_plain, is_signal};
+use crate::kinds::{awaits_event, awaits_interrupt, is_call, is_plain, is_signal, is_single};
 use crate::processor::Core;
 use lane_look::{Turn, Want};
 use m0_beats::{beat_count, effect, exception_return};
@@ -42,6 +43,20 @@ pub(crate) fn want(begun: &Doing) -> Want
         }
         Act::Read(_, request, _) | Act::Write(_, request) => Want::Ram(request),
         Act::Outward(_, request) => Want::Outward(request),
+    }
+}
+
+impl Doing {
+    /// The core wants nothing.
+    #[inline(always)]
+    pub fn wants_nothing(&self) -> bool
+        ensures { Decides result (want_of self.now ≡ Nothing) }
+    {
+        match &self.act {
+            Act::Inner(work) => !signals(work),
+            Act::Asleep | Act::Fault | Act::Private(..) => true,
+            Act::Stopped(_) | Act::Read(..) | Act::Write(..) | Act::Outward(..) => false,
+        }
     }
 }
 
@@ -130,6 +145,21 @@ impl Core {
         self.work = None;
         self.beats_done = 0;
         self.read.clear();
+    }
+
+    /// Ends a plain instruction of one beat, as most are; false where the work is other, and then nothing changes.
+    #[inline(always)]
+    #[tactic(auto, using(crate::proofs::Plain::single_after, crate::proofs::Plain::single_plain))]
+    pub(crate) fn end_single(&mut self, work: &Work) -> bool
+        ensures { self.new ≡ (if result then after_inner work.now self.old else self.old) }
+    {
+        match work {
+            Work::Instruction(op) if is_single(op) => {
+                self.end_plain(op);
+                true
+            }
+            _ => false,
+        }
     }
 
     /// The last beat of an instruction is over.
@@ -313,6 +343,7 @@ impl Core {
     }
 
     /// The system timer and the interrupt lines have their turn.
+    #[inline(always)]
     #[tactic(auto, unfolding(crate::specs::Cycle::closed))]
     pub(crate) fn close(&mut self, lines: u32, cycle: u64)
         ensures { self.new ≡ closed lines cycle self.old }

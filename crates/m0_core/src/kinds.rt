@@ -1,7 +1,7 @@
 //! The instructions that a core treats by themselves.
 
 ghost use Rattle.std.specs.Prelude.{◌≡◌};
-ghost use Rattle.m0_core.specs.Kinds.{is_breakpoint, is_signal, awaits_event, awaits_interrupt, is_call, is_undefined, is_plain};
+ghost use Rattle.m0_core.specs.Kinds.{is_breakpoint, is_signal, awaits_event, awaits_interrupt, is_call, is_undefined, is_plain, is_branch, is_single};
 
 use rp_base::op::Op;
 
@@ -101,4 +101,20 @@ pub(crate) fn is_plain(op: &Op) -> bool
             | Op::B { .. }
             | Op::Bl { .. }
     )
+}
+
+/// A branch by an offset.
+#[inline(always)]
+fn is_branch(op: &Op) -> bool
+    ensures { result ≡ is_branch op.now }
+{
+    matches!(op, Op::BCond { .. } | Op::B { .. } | Op::Bl { .. })
+}
+
+/// A plain instruction of one beat: one that is no branch.
+#[inline(always)]
+pub(crate) fn is_single(op: &Op) -> bool
+    ensures { result ≡ is_single op.now }
+{
+    is_plain(op) && !is_branch(op)
 }

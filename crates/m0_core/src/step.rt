@@ -48,6 +48,12 @@ impl Lane<()> for Core {
     #[inline(never)]
     #[tactic(auto, unfolding(crate::specs::Cycle::next))]
     fn finish(&mut self, _env: &(), begun: &Doing, turns: [Turn; 2], _marks: &mut Marks) {
+        if let Act::Inner(work) = &begun.act {
+            if self.end_single(work) {
+                self.close(begun.lines, begun.cycle);
+                return;
+            }
+        }
         if !is_idle(&begun.act) {
             self.after(&begun.act, done_word(&turns));
             self.close(begun.lines, begun.cycle);

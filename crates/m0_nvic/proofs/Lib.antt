@@ -3,3 +3,4 @@ pub mod Held
 pub mod InForce
 pub mod Least
 pub mod Members
+pub mod Silent

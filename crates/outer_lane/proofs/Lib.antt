@@ -2,3 +2,4 @@ mod PadWords
 mod Rest
 mod Sets
 mod Stepped
+mod Still

@@ -1,21 +1,18 @@
 -- A step of the pads that is left out, and one that is done.
-use Rattle.std.proofs.Common.{◌≡◌, ◌<◌, ℕ, ◌==◌, Bool, true, false, cond, List, refl, sym, ap, ◌∙◌, arith}
+use Rattle.std.proofs.Common.{◌≡◌, ◌<◌, ℕ, ◌==◌, Bool, true, false, cond, List, [], ◌∷◌, refl, sym, ap, ◌∙◌, arith}
 use Rattle.std.proofs.lemmas.Bool.Decides.{nat_tests}
 use Rattle.io_bank.specs.State.{Bank}
 use Rattle.io_bank.specs.Edges.{edges_of}
 use Rattle.io_bank.specs.Interrupts.{line_of}
-use Rattle.io_bank.specs.Levels.{levels_of, by_sets}
+use Rattle.io_bank.specs.Levels.{levels_of, by_sets, uart_outputs}
 use Rattle.io_bank.specs.Step.{after_step, is_at_rest, with_edges, with_levels}
 use Rattle.io_bank.proofs.AtRest.{rest_step}
 use Rattle.outer_lane.specs.declared.drivers.Drivers.{Drivers}
 use Rattle.outer_lane.specs.Lines.{bank_line}
-use Rattle.outer_lane.specs.Rest.{IsAtRest, is_same, outs_by, pads_after}
-use Rattle.lane_look.specs.declared.device.Wires.{Wires}
-use Rattle.pin_script.specs.declared.entry.Entry.{Entry}
-use Rattle.outer_lane.specs.declared.world.SeenOutputs.{SeenOutputs}
-use Rattle.outer_lane.specs.State.{OuterState}
-use Rattle.outer_lane.specs.Step.{levels_by, outs_of, outside_of, pads_by}
-use Rattle.outer_lane.proofs.Sets.{levels_same}
+use Rattle.register_block.specs.declared.resettable.Resettable.{Resettable}
+use Rattle.rp_uart.specs.State.{SerialPort}
+use Rattle.rp_uart.specs.Step.{output_of}
+use Rattle.outer_lane.specs.Rest.{IsAtRest, IsStill, is_same, outs_by, pads_after}
 
 abbrev by_words : ℕ → ℕ → ℕ → ℕ → ℕ → ℕ → ℕ → ℕ → ℕ → Drivers
 by_words a b c d e f g h i = record {
@@ -46,6 +43,29 @@ same_drivers a b e =
 pub left_pads : (sio : List ℕ) (kept now : Drivers) (b : Bank) → IsAtRest sio kept b → is_same kept now ≡ true → b ≡ pads_after sio now b
 left_pads sio kept now b at_rest e = sym (ap (λ d. pads_after sio d b) (sym (same_drivers kept now e)) ∙ at_rest.0)
 
+-- the same levels again
+pub same_levels : (sio : List ℕ) (kept now : Drivers) (b : Bank) (levels : ℕ) → IsAtRest sio kept b →
+    levels ≡ levels_of (outs_by sio now) (by_sets now.driven now.high) b → levels ≡ b.current → pads_after sio now b ≡ b
+unfolding pads_after
+same_levels sio kept now b levels at_rest is current =
+    let before : levels_of (outs_by sio kept) (by_sets kept.driven kept.high) b ≡ b.current = ap (λ (x : Bank). x.current) at_rest.0 in
+    ap (λ n. with_levels n (with_edges (edges_of b) b)) (sym is ∙ current ∙ sym before) ∙ at_rest.0
+
+quiet-go : (x : List ℕ) (a b c d : ℕ) → a ≡ c → b ≡ d → x ≡ a ∷ b ∷ [] → x ≡ c ∷ d ∷ []
+quiet-go x a b c d e f h = rw (← e, ← f) h
+
+-- all stays at rest
+pub still_by : (sio : List ℕ) (kept now : Drivers) (b : Bank) (uart0 uart1 : Resettable SerialPort) → IsStill sio kept b uart0 uart1 →
+    pads_after sio now b ≡ b → kept.uart_levels ≡ now.uart_levels → kept.uart_enables ≡ now.uart_enables → IsStill sio now b uart0 uart1
+still_by sio kept now b uart0 uart1 still same levels enables = (
+  same,
+  (
+    quiet-go (uart_outputs (output_of uart0.block) (output_of uart1.block)) kept.uart_levels kept.uart_enables
+        now.uart_levels now.uart_enables levels enables still.1.0,
+    still.1.1,
+  ),
+)
+
 -- ---- done
 
 pub done_pads : (sio : List ℕ) (d : Drivers) (b after : Bank) → after ≡ after_step (outs_by sio d) (by_sets d.driven d.high) b → after ≡ pads_after sio d b
@@ -73,24 +93,3 @@ pub rest_again : (sio : List ℕ) (d : Drivers) (b after : Bank) → after ≡ p
 rest_again sio d b after e h core0 core1 =
     let rests : pads_after sio d after ≡ after = rw e (at_rest-again sio d b (rw e at h)) in
     (rests, neither after core0 core1)
-
--- ---- by the definition of a cycle
-
--- the same drivers in the words of the definition of a cycle
-pub levels_by_drivers : (script : List Entry) (wires : Wires) (seen : SeenOutputs) (s : OuterState) (d : Drivers) → outs_by s.sio d ≡ outs_of wires seen s →
-    ((pin : ℕ) → pin < 30 → by_sets d.driven d.high pin ≡ outside_of script wires seen.cycle pin) →
-    (pads_after s.sio d s.pads).current ≡ levels_by script wires seen s
-unfolding levels_by
-levels_by_drivers script wires seen s d outs outside =
-    levels_left s.sio d s.pads
-    ∙ ap (λ o. levels_of o (by_sets d.driven d.high) s.pads) outs
-    ∙ levels_same (outs_of wires seen s) (by_sets d.driven d.high) (outside_of script wires seen.cycle) s.pads outside
-
-pub pads_by_drivers : (script : List Entry) (wires : Wires) (seen : SeenOutputs) (s : OuterState) (d : Drivers) → outs_by s.sio d ≡ outs_of wires seen s →
-    ((pin : ℕ) → pin < 30 → by_sets d.driven d.high pin ≡ outside_of script wires seen.cycle pin) →
-    pads_after s.sio d s.pads ≡ pads_by script wires seen s
-unfolding pads_after pads_by
-pads_by_drivers script wires seen s d outs outside =
-    ap (λ o. after_step o (by_sets d.driven d.high) s.pads) outs
-    ∙ ap (λ levels. with_levels levels (with_edges (edges_of s.pads) s.pads))
-    (levels_same (outs_of wires seen s) (by_sets d.driven d.high) (outside_of script wires seen.cycle) s.pads outside)

@@ -1,9 +1,12 @@
 //! What the pads are stepped by in a cycle, in words.
 
-ghost use Rattle.std.specs.Prelude.{◌≡◌};
+ghost use Rattle.std.specs.Prelude.{◌≡◌, ◌+◌, ◌*◌, ◌^◌, ◌∷◌, [], true};
 ghost use Rattle.outer_lane.specs.Rest.{is_same, outs_by};
 
+use crate::world::SeenOutputs;
 use io_bank::Outs;
+use lane_look::Wires;
+use pin_script::Drives;
 
 /// All pins.
 const PINS: u32 = 0x3fff_ffff;
@@ -52,6 +55,24 @@ impl Drivers {
             && self.high == other.high
     }
 
+    /// Each word but those of the UARTs is what is seen and driven.
+    #[inline(always)]
+    pub(crate) fn is_driven_by(&self, wires: &Wires, seen: &SeenOutputs, drives: Drives) -> bool
+        ensures pio0 { result ≡ true
+            → seen.now.pio0 ≡ self.now.pio0_levels ∷ self.now.pio0_enables ∷ [] }
+        ensures pio1 { result ≡ true
+            → seen.now.pio1 ≡ self.now.pio1_levels ∷ self.now.pio1_enables ∷ [] }
+        ensures pwm { result ≡ true → wires.now.pwm ≡ self.now.pwm }
+        ensures driven { result ≡ true → drives.driven ≡ self.now.driven }
+        ensures high { result ≡ true → drives.high ≡ self.now.high }
+    {
+        are_same(seen.pio0, [self.pio0_levels, self.pio0_enables])
+            && are_same(seen.pio1, [self.pio1_levels, self.pio1_enables])
+            && self.pwm == wires.pwm
+            && self.driven == drives.driven
+            && self.high == drives.high
+    }
+
     /// The outputs of all parts, where SIO puts these out.
     #[inline(always)]
     pub(crate) fn outs(&self, sio: [u32; 2]) -> Outs
@@ -65,4 +86,32 @@ impl Drivers {
             uart: [self.uart_levels, self.uart_enables],
         }
     }
+}
+
+/// It holds still, and the words of the UARTs stay.
+#[inline(always)]
+pub(crate) fn stays(still: bool, kept: &Drivers, now: &Drivers) -> bool
+    ensures still { result ≡ true → still ≡ true }
+    ensures levels { result ≡ true → kept.now.uart_levels ≡ now.now.uart_levels }
+    ensures enables { result ≡ true → kept.now.uart_enables ≡ now.now.uart_enables }
+{
+    still && kept.uart_levels == now.uart_levels && kept.uart_enables == now.uart_enables
+}
+
+/// Two pairs are the same. Each is compared as one number.
+#[inline(always)]
+fn are_same(first: [u32; 2], second: [u32; 2]) -> bool
+    ensures { result ≡ true → first ≡ second }
+{
+    let [low, high] = first;
+    let [other_low, other_high] = second;
+    joined(low, high) == joined(other_low, other_high)
+}
+
+/// Two words as one number.
+#[inline(always)]
+fn joined(low: u32, high: u32) -> u64
+    ensures { result ≡ low + high * 2 ^ 32 }
+{
+    u64::from(low) | (u64::from(high) << 32)
 }

@@ -76,6 +76,7 @@ impl<X: Device> Lane<World<'_, X>> for Outer {
         [Want::Nothing, Want::Nothing]
     }
 
+    #[inline(always)]
     fn finish(
         &mut self,
         env: &World<'_, X>,

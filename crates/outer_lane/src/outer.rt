@@ -34,13 +34,15 @@ pub struct Outer {
     pub(crate) cursor: Cursor,
     // the pads are at rest while they are stepped by these, and interrupt neither core
     pub(crate) at_rest: bool,
+    // beside that both UARTs are at rest, and put out what is among these
+    pub(crate) still: bool,
     pub(crate) drivers: Drivers,
 }
 
 impl Model for Outer {
     ghost use Rattle.std.specs.Prelude.{◌≡◌, true};
     ghost use Rattle.outer_lane.specs.State.{OuterState};
-    ghost use Rattle.outer_lane.specs.Rest.{IsAtRest};
+    ghost use Rattle.outer_lane.specs.Rest.{IsAtRest, IsStill};
 
     ghost Value = { OuterState };
 
@@ -54,8 +56,9 @@ impl Model for Outer {
       sio = o.sio;
     } };
 
-    // a step of pads at rest changes nothing, and no line of them is high
-    ghost invariant = { λ o. o.at_rest ≡ true → IsAtRest o.sio o.drivers o.pads };
+    // a step of pads at rest changes nothing, and no line of them is high; still says so of the UARTs too
+    ghost invariant = { λ o. (o.at_rest ≡ true → IsAtRest o.sio o.drivers o.pads)
+        × (o.still ≡ true → IsStill o.sio o.drivers o.pads o.uart0 o.uart1) };
 }
 
 impl Outer {
@@ -78,6 +81,7 @@ impl Outer {
             sio: [0, 0],
             cursor: Cursor::new(),
             at_rest: false,
+            still: false,
             drivers: Drivers::NONE,
         }
     }
@@ -88,6 +92,7 @@ impl Outer {
         ensures { self.new ≡ outer_reset bits self.old }
     {
         self.at_rest = false;
+        self.still = false;
         self.timer.set_held(has_bit(bits, TIMER));
         self.uart0.set_held(has_bit(bits, UART0));
         self.uart1.set_held(has_bit(bits, UART1));
@@ -102,6 +107,7 @@ impl Outer {
     {
         if self.sio != outs {
             self.at_rest = false;
+            self.still = false;
             self.sio = outs;
         }
     }
@@ -209,6 +215,7 @@ impl Outer {
         self.sio = other.sio;
         self.cursor = other.cursor;
         self.at_rest = other.at_rest;
+        self.still = other.still;
         self.drivers = other.drivers;
     }
 }

@@ -8,6 +8,7 @@ use lane_look::Wires;
 use pin_script::{Cursor, Drives, Script};
 
 /// What the script and the device drive in a cycle.
+#[inline(never)]
 pub(crate) fn outside(script: &Script, cursor: &mut Cursor, wires: &Wires, cycle: u64) -> Drives
     ensures { (pin : ℕ) → pin < 30 → by_sets result.driven result.high pin
         ≡ outside_of script.now wires.now cycle pin }

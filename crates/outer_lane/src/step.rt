@@ -1,11 +1,14 @@
 //! The parts of a cycle.
 
-ghost use Rattle.std.specs.Prelude.{◌≡◌, true, false};
+ghost use Rattle.std.specs.Prelude.{◌≡◌, ◌∷◌, [], true, false, None};
 ghost use Rattle.io_bank.specs.Interrupts.{line_of};
+ghost use Rattle.io_bank.specs.Levels.{receive_level, uart_outputs};
 ghost use Rattle.io_bank.specs.Step.{is_at_rest};
+ghost use Rattle.rp_uart.specs.Step.{output_of};
+ghost use Rattle.outer_lane.specs.Rest.{AreQuiet};
 ghost use Rattle.outer_lane.specs.Step.{wires_by, words_by, uart_after, byte_of, timer_after};
 
-use crate::drivers::Drivers;
+use crate::drivers::{Drivers, stays};
 use crate::outer::Outer;
 use crate::outside::outside;
 use crate::world::SeenOutputs;
@@ -47,17 +50,43 @@ pub(crate) fn step_device<X: Device>(
     }
 }
 
-/// A UART steps unless it is held; the byte whose frame ended.
+/// UART 0 or 1 steps unless it is held; the byte whose frame ended.
 #[inline(always)]
-pub(crate) fn step_uart(uart: &mut Resettable<Uart>, line: bool) -> Option<u8>
-    ensures after { uart.new ≡ uart_after line uart.old }
+pub(crate) fn step_uart(uart: &mut Resettable<Uart>, pads: &IoBank, number: u8) -> Option<u8>
+    ensures after { uart.new ≡ uart_after (receive_level number pads.now) uart.old }
     ensures byte { result ≡ byte_of uart.old }
 {
-    if uart.held {
+    if uart.held || uart.block.is_stopped() {
         None
     } else {
-        uart.block.step(line)
+        uart.block.step(pads.receive_level(number))
     }
+}
+
+/// UART 0 or 1 is held, or a cycle changes nothing of it.
+#[inline(always)]
+fn rests(uart: &Resettable<Uart>, pads: &IoBank, number: u8) -> bool
+    ensures same { result ≡ true → uart_after (receive_level number pads.now) uart.now ≡ uart.now }
+    ensures silent { result ≡ true → byte_of uart.now ≡ None }
+{
+    uart.held || uart.block.rests(pads.receive_level(number))
+}
+
+/// Both UARTs are at rest, and put out what the pads are stepped by.
+#[inline(never)]
+fn are_quiet(
+    drivers: &Drivers,
+    pads: &IoBank,
+    uart0: &Resettable<Uart>,
+    uart1: &Resettable<Uart>,
+) -> bool
+    ensures { result ≡ true → AreQuiet drivers.now pads.now uart0.now uart1.now }
+{
+    let [levels, enables] = uart_outputs(uart0.block.out(), uart1.block.out());
+    drivers.uart_levels == levels
+        && drivers.uart_enables == enables
+        && rests(uart0, pads, 0)
+        && rests(uart1, pads, 1)
 }
 
 /// The timer steps unless it is held.
@@ -70,18 +99,24 @@ pub(crate) fn step_timer(timer: &mut Resettable<Timer>, cycle: u64)
 }
 
 impl Outer {
-    ghost use Rattle.std.specs.Prelude.{◌≡◌};
-    ghost use Rattle.std.specs.Prelude.{◌<◌, ℕ};
-    ghost use Rattle.io_bank.specs.Levels.{by_sets};
-    ghost use Rattle.outer_lane.specs.Rest.{outs_by, pads_after};
-    ghost use Rattle.outer_lane.specs.Step.{outs_of, outside_of, levels_by, pads_by, next_by, marked_by};
+    ghost use Rattle.std.specs.Prelude.{◌≡◌, ◌<◌, ℕ, true, ◌∷◌, [], None};
+    ghost use Rattle.io_bank.specs.Levels.{by_sets, levels_of, receive_level};
+    ghost use Rattle.outer_lane.specs.Rest.{outs_by, pads_after, pads_driven, next_driven, marked_driven};
+    ghost use Rattle.outer_lane.specs.Step.{outs_of, outside_of, uart_after, byte_of, timer_after, next_by, marked_by};
 
     /// What the script and the device drive in a cycle.
+    #[inline(always)]
     fn drives(&mut self, script: &Script, wires: &Wires, cycle: u64) -> Drives
         ensures kept { self.new ≡ self.old }
         ensures drives { (pin : ℕ) → pin < 30 → by_sets result.driven result.high pin
             ≡ outside_of script.now wires.now cycle pin }
     {
+        if script.as_slice().is_empty() {
+            return Drives {
+                driven: wires.mask,
+                high: wires.level,
+            };
+        }
         outside(script, &mut self.cursor, wires, cycle)
     }
 
@@ -105,23 +140,24 @@ impl Outer {
         }
     }
 
-    /// The pads step by these, whatever the last step was by.
-    #[inline(never)]
-    fn step_changed(&mut self, drivers: Drivers) -> u32
-        ensures levels { result ≡ (pads_after self.old.sio drivers self.old.pads).current }
-        ensures after { self.new ≡ record self.old {
+    /// The pads step to these levels, which these drivers give.
+    #[inline(always)]
+    fn step_changed(&mut self, drivers: Drivers, levels: u32)
+        requires { levels ≡ levels_of (outs_by self.old.sio drivers)
+            (by_sets drivers.driven drivers.high) self.old.pads }
+        ensures { self.new ≡ record self.old {
           pads = pads_after self.old.sio drivers
               self.old.pads;
         } }
     {
-        let outs = drivers.outs(self.sio);
-        let levels = self.pads.step_by_sets(&outs, drivers.driven, drivers.high);
+        self.pads.step_to(levels);
+        self.still = false;
         self.at_rest = are_still(&self.pads);
         self.drivers = drivers;
-        levels
     }
 
-    /// The pads step by these, unless they are at rest and the last step was by the same.
+    /// The pads step by these, unless they are at rest and get the same levels again.
+    #[inline(always)]
     fn step_driven(&mut self, drivers: Drivers) -> u32
         ensures levels { result ≡ (pads_after self.old.sio drivers self.old.pads).current }
         ensures after { self.new ≡ record self.old {
@@ -132,40 +168,114 @@ impl Outer {
         if self.at_rest && self.drivers.is_same(&drivers) {
             return self.pads.pads();
         }
-        self.step_changed(drivers)
+        let outs = drivers.outs(self.sio);
+        let levels = self.pads.levels(&outs, drivers.driven, drivers.high);
+        if self.at_rest && levels == self.pads.pads() {
+            self.still = stays(self.still, &self.drivers, &drivers);
+            self.drivers = drivers;
+        } else {
+            self.step_changed(drivers, levels);
+        }
+        levels
     }
 
-    /// The pads step, by the outputs at the start and by what the script and the device drive in this cycle.
-    fn step_pads(&mut self, script: &Script, wires: &Wires, seen: &SeenOutputs) -> u32
-        ensures levels { result ≡ levels_by script.now wires.now seen.now self.old }
+    /// The UARTs step; the bytes whose frames ended.
+    #[inline(always)]
+    fn step_uarts(&mut self) -> [Option<u8>; 2]
+        ensures bytes { result ≡ byte_of self.old.uart0 ∷ byte_of self.old.uart1 ∷ [] }
         ensures after { self.new ≡ record self.old {
-          pads = pads_by script.now wires.now seen.now
-              self.old;
+          uart0 = uart_after (receive_level 0 self.old.pads) self.old.uart0;
+          uart1 = uart_after (receive_level 1 self.old.pads) self.old.uart1;
         } }
     {
-        let drives = self.drives(script, wires, seen.cycle);
-        let drivers = self.drivers(wires, seen, drives);
-        self.step_driven(drivers)
+        if self.still {
+            return [None, None];
+        }
+        [
+            step_uart(&mut self.uart0, &self.pads, 0),
+            step_uart(&mut self.uart1, &self.pads, 1),
+        ]
+    }
+
+    /// Keeps in mind that all is at rest, where it is.
+    #[inline(always)]
+    fn settle(&mut self)
+        ensures { self.new ≡ self.old }
+    {
+        if self.at_rest && !self.still && self.uart0.block.is_idle() && self.uart1.block.is_idle() {
+            self.still = are_quiet(&self.drivers, &self.pads, &self.uart0, &self.uart1);
+        }
+    }
+
+    /// A cycle by these changes neither the pads nor a UART, and no byte's frame ends in it.
+    #[inline(always)]
+    fn is_still_by(&self, wires: &Wires, seen: &SeenOutputs, drives: Drives) -> bool
+        ensures pads { result ≡ true
+            → pads_driven wires.now seen.now drives self.now ≡ self.now.pads }
+        ensures uart0 { result ≡ true
+            → uart_after (receive_level 0 self.now.pads) self.now.uart0 ≡ self.now.uart0 }
+        ensures uart1 { result ≡ true
+            → uart_after (receive_level 1 self.now.pads) self.now.uart1 ≡ self.now.uart1 }
+        ensures byte0 { result ≡ true → byte_of self.now.uart0 ≡ None }
+        ensures byte1 { result ≡ true → byte_of self.now.uart1 ≡ None }
+    {
+        self.still && self.drivers.is_driven_by(wires, seen, drives)
+    }
+
+    /// A cycle in which nothing changes but the timer, and the lines of the device.
+    #[inline(always)]
+    fn step_still(&mut self, irq: u32, cycle: u64) -> Mark
+        ensures state { self.new ≡ record self.old {
+          timer = timer_after cycle self.old.timer;
+          irq = irq;
+        } }
+        ensures mark { result ≡ record { uart = None ∷ None ∷ []; pads = self.old.pads.current } }
+    {
+        self.irq = irq;
+        step_timer(&mut self.timer, cycle);
+        Mark {
+            uart: [None, None],
+            pads: self.pads.pads(),
+        }
+    }
+
+    /// A cycle by these, whatever changes.
+    #[inline(never)]
+    #[tactic(auto, unfolding(crate::specs::Rest::pads_after))]
+    fn step_any(&mut self, wires: Wires, seen: &SeenOutputs, drives: Drives) -> Mark
+        ensures state { self.new ≡ next_driven wires seen.now drives self.old }
+        ensures mark { result ≡ marked_driven wires seen.now drives self.old }
+    {
+        let drivers = self.drivers(&wires, seen, drives);
+        let uart = self.step_uarts();
+        let pads = self.step_driven(drivers);
+        self.irq = wires.irq;
+        step_timer(&mut self.timer, seen.cycle);
+        self.settle();
+        Mark { uart, pads }
+    }
+
+    /// A cycle by these.
+    #[inline(always)]
+    fn step_all(&mut self, wires: &Wires, seen: &SeenOutputs, drives: Drives) -> Mark
+        ensures state { self.new ≡ next_driven wires.now seen.now drives self.old }
+        ensures mark { result ≡ marked_driven wires.now seen.now drives self.old }
+    {
+        if self.is_still_by(wires, seen, drives) {
+            self.step_still(wires.irq, seen.cycle)
+        } else {
+            self.step_any(*wires, seen, drives)
+        }
     }
 
     /// All but the device steps, by what the device drives; the mark that the cycle leaves.
-    #[tactic(auto, unfolding(crate::specs::Step::next_by, crate::specs::Step::marked_by))]
+    #[inline(always)]
     pub(crate) fn step_by(&mut self, script: &Script, wires: &Wires, seen: &SeenOutputs) -> Mark
         ensures state { self.new ≡ next_by script.now wires.now seen.now self.old }
         ensures mark { result ≡ marked_by script.now wires.now seen.now self.old }
     {
-        let line0 = self.pads.receive_level(0);
-        let line1 = self.pads.receive_level(1);
-        let pads = self.step_pads(script, wires, seen);
-        self.irq = wires.irq;
-        step_timer(&mut self.timer, seen.cycle);
-        Mark {
-            uart: [
-                step_uart(&mut self.uart0, line0),
-                step_uart(&mut self.uart1, line1),
-            ],
-            pads,
-        }
+        let drives = self.drives(script, wires, seen.cycle);
+        self.step_all(wires, seen, drives)
     }
 
     /// The outputs of all parts, where the device drives these.

@@ -145,6 +145,7 @@ impl Outer {
         ensures { self.new ≡ outer_accessed block offset write self.old }
     {
         self.at_rest = false;
+        self.still = false;
         match block {
             Block::IoBank0 => access_bank(&mut self.pads, offset, write),
             Block::PadsBank0 => access_pads(&mut self.pads, offset, write),

@@ -1,3 +1,4 @@
+pub mod AtRest
 pub mod Depths
 pub mod Held
 pub mod Highest

@@ -13,26 +13,27 @@ use std::marker::Model;
 #[derive(Drop)]
 pub struct PioBlock {
     state: State,
-    /// No machine is enabled, and no written word waits.
+    /// No machine is enabled, no written word waits, and no interrupt is enabled or forced.
     at_rest: bool,
 }
 
 impl Model for PioBlock {
-    ghost use Rattle.std.specs.Prelude.{◌≡◌, not};
-    ghost use Rattle.pio_block.specs.State.{Block, is_busy};
+    ghost use Rattle.std.specs.Prelude.{◌≡◌};
+    ghost use Rattle.pio_block.specs.State.{Block};
+    ghost use Rattle.pio_block.specs.Words.{is_at_rest};
 
     ghost Value = { Block };
 
     ghost view = { λ b. b.state };
 
-    ghost invariant = { λ b. b.at_rest ≡ not (is_busy b.state) };
+    ghost invariant = { λ b. b.at_rest ≡ is_at_rest b.state };
 }
 
 impl PioBlock {
-    ghost use Rattle.std.specs.Prelude.{◌≡◌, ◌<◌, not, Decides, IsTrue, true, false, ◌∷◌, []};
+    ghost use Rattle.std.specs.Prelude.{◌≡◌, ◌<◌, Decides, IsTrue, true, false, ◌∷◌, []};
     ghost use Rattle.pio_block.specs.State.{at_reset, with_held, machine_of, is_busy};
     ghost use Rattle.pio_block.specs.Cycle.{after_cycle, Rests};
-    ghost use Rattle.pio_block.specs.Words.{word_of, effect_of, is_allowed, pacing_of, register_list, counter_set, outs_of, is_silent, lines_of};
+    ghost use Rattle.pio_block.specs.Words.{word_of, effect_of, is_allowed, pacing_of, register_list, counter_set, outs_of, is_silent, is_at_rest, lines_of};
 
     /// The reset state: no machine is enabled, and all FIFOs are empty.
     pub fn new() -> PioBlock
@@ -65,7 +66,7 @@ impl PioBlock {
         ensures allowed { result ≡ is_allowed offset write }
     {
         let allowed = self.state.effect(offset, write);
-        self.at_rest = !self.state.is_busy();
+        self.at_rest = self.state.is_at_rest();
         allowed
     }
 
@@ -91,7 +92,7 @@ impl PioBlock {
         ensures { self.new ≡ counter_set machine address self.old }
     {
         self.state.set_counter(machine, address);
-        self.at_rest = !self.state.is_busy();
+        self.at_rest = self.state.is_at_rest();
     }
 
     /// Holds the block in its reset state, or lets it go.
@@ -99,7 +100,7 @@ impl PioBlock {
         ensures { self.new ≡ with_held held self.old }
     {
         self.state.set_held(held);
-        self.at_rest = !self.state.is_busy();
+        self.at_rest = self.state.is_at_rest();
     }
 
     /// What the machines have written to the pins: the levels, and the enables.
@@ -131,15 +132,25 @@ impl PioBlock {
         ensures { self.new ≡ after_cycle inputs.now inputs.second self.old }
     {
         self.state.step(inputs);
-        self.at_rest = !self.state.is_busy();
+        self.at_rest = self.state.is_at_rest();
     }
 
-    /// No machine is enabled, and no written word waits: in a cycle the block asks and wants nothing, and stays as it is.
+    /// A machine is enabled, or a written word waits.
     #[inline(always)]
-    #[tactic(auto, unfolding(crate::specs::Cycle::asks, crate::specs::Cycle::next))]
+    pub(crate) fn is_busy(&self) -> bool
+        ensures { result ≡ is_busy self.now }
+    {
+        self.state.is_busy()
+    }
+
+    /// No machine is enabled, no written word waits, and no interrupt is enabled or forced: in a cycle the block asks and
+    /// wants nothing, and stays as it is, and both lines are low.
+    #[inline(always)]
+    #[tactic(auto, using(crate::proofs::AtRest::at_rest))]
     pub fn is_at_rest(&self) -> bool
-        ensures value { result ≡ not (is_busy self.now) }
+        ensures value { result ≡ is_at_rest self.now }
         ensures rests { IsTrue result → Rests self.now }
+        ensures lines { result ≡ true → lines_of self.now ≡ false ∷ false ∷ [] }
     {
         self.at_rest
     }

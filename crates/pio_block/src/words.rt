@@ -22,7 +22,7 @@ impl State {
     ghost use Rattle.pio_block.specs.declared.registers.TheConstants.{INSTR_MEM0, SM0_CLKDIV, INTR};
     ghost use Rattle.pio_block.specs.Control.{control_written};
     ghost use Rattle.pio_block.specs.Queues.{fdebug_of, debug_written, sent, taken, first_of, is_rx_empty};
-    ghost use Rattle.pio_block.specs.Words.{control_word, after_control, fifo_word, after_fifo, fifo_number, is_rxf, pin_word, after_pin, after_memory, register_number, register_offset, machine_word, after_machine, intr_of, ints_of, ints0_of, ints1_of, interrupt_word, after_interrupt, value_of, listed_word, word_of, after_write, after_read, after_any, effect_of, is_allowed, is_silent, lines_of};
+    ghost use Rattle.pio_block.specs.Words.{control_word, after_control, fifo_word, after_fifo, fifo_number, is_rxf, pin_word, after_pin, after_memory, register_number, register_offset, machine_word, after_machine, intr_of, ints_of, ints0_of, ints1_of, interrupt_word, after_interrupt, value_of, listed_word, word_of, after_write, after_read, after_any, effect_of, is_allowed, is_silent, is_at_rest, lines_of};
 
     /// FDEBUG.
     #[tactic(auto, unfolding(crate::specs::Queues::fdebug_of))]
@@ -221,6 +221,14 @@ impl State {
         ensures lines { result ≡ true → lines_of self.now ≡ false ∷ false ∷ [] }
     {
         self.inte0 == 0 && self.intf0 == 0 && self.inte1 == 0 && self.intf1 == 0
+    }
+
+    /// Nothing happens in the block by itself, and both lines are low.
+    #[inline(always)]
+    pub(crate) fn is_at_rest(&self) -> bool
+        ensures { result ≡ is_at_rest self.now }
+    {
+        !self.is_busy() && self.is_silent()
     }
 
     /// Both interrupt lines.

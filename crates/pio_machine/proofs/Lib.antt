@@ -5,3 +5,4 @@ pub mod Goes
 pub mod Once
 pub mod Refills
 pub mod Stream
+pub mod Sides

@@ -8,11 +8,7 @@ pub(crate) fn low_mask(count: u8) -> u32
     requires { count ≤ 32 }
     ensures { result ≡ 2 ^ count - 1 }
 {
-    if count < 32 {
-        (1 << count) - 1
-    } else {
-        0xffff_ffff
-    }
+    ((1u64 << count) - 1) as u32
 }
 
 /// The low bits of a word, `count` of them.
@@ -78,5 +74,5 @@ pub(crate) fn entered(right: bool, count: u8, value: u32, word: u32) -> u32
 pub(crate) fn counted(before: u8, count: u8) -> u8
     ensures { result ≡ counted before count }
 {
-    before.saturating_add(count).min(32)
+    (u16::from(before) + u16::from(count)).min(32) as u8
 }

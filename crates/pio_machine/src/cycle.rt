@@ -1,9 +1,9 @@
 //! A cycle of a machine.
 
-ghost use Rattle.std.specs.Prelude.{◌≡◌, ◌<◌};
-ghost use Rattle.pio_machine.specs.Cycle.{after_op, written_with_side, after_try, written_by_try, ticks, divided, advanced, word_tried, delayed, after_cycle, written_in_cycle};
+ghost use Rattle.std.specs.Prelude.{◌≡◌, ◌<◌, true, false, Some, None};
+ghost use Rattle.pio_machine.specs.Cycle.{after_op, written_with_side, after_try, written_by_try, ticks, advanced, delayed, after_cycle, written_in_cycle};
 
-use crate::machine::{Done, Machine1, Seen};
+use crate::machine::{Done, Machine1, Seen, Waiting};
 use pio_words::{PioOp, decode_word};
 
 impl Machine1 {
@@ -21,6 +21,7 @@ impl Machine1 {
     }
 
     /// Tries a word, the one at PC or the one that waits.
+    #[inline(never)]
     #[tactic(auto, unfolding(crate::specs::Cycle::after_try, crate::specs::Cycle::written_by_try))]
     fn attempt(&mut self, word: u16, number: u8, seen: &Seen, done: &mut Done)
         requires { number < 4 }
@@ -31,38 +32,81 @@ impl Machine1 {
     }
 
     /// The machine ticks in this cycle.
+    #[inline(always)]
     fn ticks(&self) -> bool
         ensures { result ≡ ticks self.now }
     {
         self.enabled && self.acc < 256
     }
 
-    /// The word that is tried in this cycle.
-    #[tactic(auto, unfolding(crate::specs::Cycle::word_tried))]
-    fn word_tried(&self, seen: &Seen) -> Option<u16>
-        ensures { result ≡ word_tried seen.now self.now }
+    /// The divider goes on in a tick.
+    #[inline(always)]
+    fn begin_period(&mut self)
+        requires { ticks self.old ≡ true }
+        ensures { self.new ≡ advanced self.old }
     {
-        match self.waiting {
-            Some(waiting) if waiting.forced || self.ticks() => Some(waiting.word),
-            None if self.ticks() && self.delay == 0 => Some(seen.memory[(self.pc % 32) as usize]),
-            _ => None,
+        self.acc = self.acc + self.divider() - 256;
+    }
+
+    /// The divider goes on in a cycle that is no tick.
+    #[inline(always)]
+    fn count_down(&mut self)
+        requires { ticks self.old ≡ false }
+        ensures { self.new ≡ advanced self.old }
+    {
+        if self.enabled {
+            self.acc -= 256;
         }
     }
 
     /// The divider goes on.
+    #[inline(always)]
     fn advance(&mut self)
         ensures { self.new ≡ advanced self.old }
     {
-        if self.enabled {
-            if self.acc < 256 {
-                self.acc = self.acc + self.divider() - 256;
-            } else {
-                self.acc -= 256;
-            }
+        if self.ticks() {
+            self.begin_period();
+        } else {
+            self.count_down();
+        }
+    }
+
+    /// A cycle in which a word waits.
+    #[inline(never)]
+    #[tactic(auto, unfolding(crate::specs::Cycle::after_cycle, crate::specs::Cycle::written_in_cycle, crate::specs::Cycle::word_tried))]
+    fn cycle_waiting(&mut self, waiting: Waiting, number: u8, seen: &Seen, done: &mut Done)
+        requires number { number < 4 }
+        requires waiting { self.old.waiting ≡ Some waiting }
+        ensures machine { self.new ≡ after_cycle number seen.now self.old }
+        ensures done { done.new ≡ written_in_cycle number seen.now self.old done.old }
+    {
+        let tried = waiting.forced || self.ticks();
+        self.advance();
+        if tried {
+            self.attempt(waiting.word, number, seen, done);
+        }
+    }
+
+    /// A tick in which no word waits.
+    #[inline(always)]
+    #[tactic(auto, unfolding(crate::specs::Cycle::after_cycle, crate::specs::Cycle::written_in_cycle, crate::specs::Cycle::word_tried))]
+    fn tick_at_pc(&mut self, number: u8, seen: &Seen, done: &mut Done)
+        requires number { number < 4 }
+        requires ticks { ticks self.old ≡ true }
+        requires waiting { self.old.waiting ≡ None }
+        ensures machine { self.new ≡ after_cycle number seen.now self.old }
+        ensures done { done.new ≡ written_in_cycle number seen.now self.old done.old }
+    {
+        self.begin_period();
+        if self.delay == 0 {
+            self.attempt(seen.memory[(self.pc % 32) as usize], number, seen, done);
+        } else {
+            self.pass_delay();
         }
     }
 
     /// A tick of the delay passes.
+    #[inline(always)]
     fn pass_delay(&mut self)
         ensures { self.new ≡ delayed self.old }
     {
@@ -73,18 +117,18 @@ impl Machine1 {
 
 /// One cycle of the machine of that number, 0 to 3, which adds to what the machines before it have written in this cycle,
 /// and wins over them.
-#[tactic(auto, unfolding(crate::specs::Cycle::after_cycle, crate::specs::Cycle::written_in_cycle))]
+#[tactic(auto, unfolding(crate::specs::Cycle::after_cycle, crate::specs::Cycle::written_in_cycle, crate::specs::Cycle::word_tried))]
+#[inline(always)]
 pub fn tick(machine: &mut Machine1, number: u8, seen: &Seen, done: &mut Done)
     requires { number < 4 }
     ensures machine { machine.new ≡ after_cycle number seen.now machine.old }
     ensures done { done.new ≡ written_in_cycle number seen.now machine.old done.old }
 {
-    let word = machine.word_tried(seen);
-    let ticked = machine.ticks();
-    machine.advance();
-    match word {
-        Some(word) => machine.attempt(word, number, seen, done),
-        None if ticked => machine.pass_delay(),
-        None => {}
+    if let Some(waiting) = machine.waiting {
+        machine.cycle_waiting(waiting, number, seen, done);
+    } else if machine.ticks() {
+        machine.tick_at_pc(number, seen, done);
+    } else {
+        machine.count_down();
     }
 }

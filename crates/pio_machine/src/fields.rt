@@ -34,12 +34,8 @@ impl Machine1 {
         ensures low { 256 ≤ result }
         ensures high { result ≤ 0x100_0000 }
     {
-        let whole = self.clkdiv >> 16;
-        if whole == 0 {
-            0x100_0000
-        } else {
-            whole * 256 + ((self.clkdiv >> 8) & 0xff)
-        }
+        let period = self.clkdiv >> 8;
+        if period < 256 { 0x100_0000 } else { period }
     }
 
     pub(crate) fn side_enable(&self) -> bool

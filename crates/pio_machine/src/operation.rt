@@ -1,7 +1,8 @@
 //! A try of an operation, and its side-set.
 
-ghost use Rattle.std.specs.Prelude.{◌≡◌, ◌<◌, ◌≤◌};
+ghost use Rattle.std.specs.Prelude.{◌≡◌, ◌<◌, ◌≤◌, ◌^◌, true};
 ghost use Rattle.pio_machine.specs.Operation.{tried, written, loads_osr, with_autopull, side_field, delay_of, side_value, has_side, side_pins, with_side};
+ghost use Rattle.pio_machine.specs.Fields.{side_count};
 ghost use Rattle.pio_machine.specs.Tie.{stands_for};
 
 use crate::flags::flag_of;
@@ -30,6 +31,15 @@ fn side_field(word: u16) -> u8
     ensures small { result < 32 }
 {
     ((word >> 8) & 0x1f) as u8
+}
+
+/// Two words of pins have 32 bits.
+#[inline(always)]
+fn have_32_bits(levels: u32, enables: u32)
+    ensures levels { levels < 2 ^ 32 }
+    ensures enables { enables < 2 ^ 32 }
+{
+    let _ = (levels, enables);
 }
 
 impl Machine1 {
@@ -79,10 +89,21 @@ impl Machine1 {
         }
     }
 
+    /// No bit of a word is for side-set.
+    #[inline(always)]
+    fn has_no_side(&self) -> bool
+        ensures { result ≡ true → side_count self.now ≡ 0 }
+    {
+        self.pinctrl < 0x2000_0000
+    }
+
     /// The delay that a word asks for.
     pub(crate) fn delay_of(&self, word: u16) -> u8
         ensures { result ≡ delay_of word self.now }
     {
+        if self.has_no_side() {
+            return side_field(word);
+        }
         side_field(word) % (1 << (5 - self.side_count()))
     }
 
@@ -110,10 +131,14 @@ impl Machine1 {
     }
 
     /// The side-set of a word.
-    #[tactic(auto, unfolding(crate::specs::Operation::with_side))]
+    #[tactic(auto, unfolding(crate::specs::Operation::with_side), using(crate::proofs::Sides::side_none))]
     pub(crate) fn set_side(&self, word: u16, done: &mut Done)
         ensures { done.new ≡ with_side word self.now done.old }
     {
+        if self.has_no_side() {
+            have_32_bits(done.levels, done.enables);
+            return;
+        }
         if self.has_side(word) {
             let value = u32::from(self.side_value(word));
             if self.side_pindir() {

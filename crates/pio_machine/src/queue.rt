@@ -9,6 +9,7 @@ use crate::machine::{Machine1, Outcome};
 
 impl Machine1 {
     /// Loads the OSR, where a word waits.
+    #[inline(never)]
     pub(crate) fn load(&mut self)
         ensures { self.new ≡ loaded self.old }
     {

@@ -68,20 +68,22 @@ impl Machine1 {
         self.autopush_now()
     }
 
-    fn out_value(&self, count: u8) -> u32
-        requires { count ≤ 32 }
-        ensures { result ≡ out_value count self.now }
-    {
-        taken(self.out_right(), count, self.osr)
-    }
-
     /// Bits leave the OSR.
-    fn shift_out(&mut self, count: u8)
+    #[inline(always)]
+    fn shift_out(&mut self, count: u8) -> u32
         requires { count ≤ 32 }
-        ensures { self.new ≡ shifted_out count self.old }
+        ensures value { result ≡ out_value count self.old }
+        ensures machine { self.new ≡ shifted_out count self.old }
     {
-        self.osr = remaining(self.out_right(), count, self.osr);
+        let before = self.osr;
         self.osr_count = counted(self.osr_count, count);
+        if self.out_right() {
+            self.osr = remaining(true, count, before);
+            taken(true, count, before)
+        } else {
+            self.osr = remaining(false, count, before);
+            taken(false, count, before)
+        }
     }
 
     /// A register takes the bits that left the OSR.
@@ -131,16 +133,19 @@ impl Machine1 {
     }
 
     /// An OUT that does not stall.
-    fn out_now(&mut self, destination: OutDestination, count: u8) -> Outcome
+    fn out_now(&mut self, destination: OutDestination, count: u8, done: &mut Done) -> Outcome
         requires { count ≤ 32 }
         ensures machine { self.new ≡ (out_done destination count self.old).machine }
         ensures ending { stands_for result ≡ (out_done destination count self.old).ending }
+        ensures done { done.new ≡ out_pins destination (out_value count self.old) self.old
+            done.old }
     {
-        let value = self.out_value(count);
-        self.shift_out(count);
+        let value = self.shift_out(count);
+        self.out_pins(destination, value, done);
         self.put_out(destination, value, count);
+        let outcome = outcome_of_out(destination, value);
         self.refill();
-        outcome_of_out(destination, value)
+        outcome
     }
 
     /// A try of OUT.
@@ -159,9 +164,7 @@ impl Machine1 {
             self.starve();
             return Outcome::Stalled;
         }
-        let count = count.min(32);
-        self.out_pins(destination, self.out_value(count), done);
-        self.out_now(destination, count)
+        self.out_now(destination, count.min(32), done)
     }
 
     /// SET of a register.

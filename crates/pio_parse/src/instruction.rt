@@ -113,8 +113,7 @@ pub(crate) fn read_instruction(
 {
     cursor.expect(begins_instruction(keyword))?;
     let operation = read_operands(file, keyword, cursor)?;
-    let (side, delay) = read_modifiers(file, cursor)?;
-    Ok(Instruction {
+    read_modifiers(file, cursor).map(|(side, delay)| Instruction {
         operation,
         side,
         delay,

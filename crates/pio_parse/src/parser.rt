@@ -33,14 +33,10 @@ fn ends_line(kind: TokenKind) -> bool
 fn add(groups: &mut Groups, line: Line) -> Result<(), AllocError>
     ensures { OnOk result (groups.new ≡ with_line line groups.old) }
 {
-    match groups.current.take() {
-        None => groups.globals.push(line)?,
-        Some(mut program) => {
-            program.lines.push(line)?;
-            groups.current = Some(program);
-        }
+    match &mut groups.current {
+        None => groups.globals.push(line),
+        Some(program) => program.lines.push(line),
     }
-    Ok(())
 }
 
 /// Begins a program. A label of its line is the last line of the program before it.
@@ -64,15 +60,15 @@ fn begin(
             },
         )?;
     }
-    if let Some(program) = groups.current.take() {
-        groups.programs.push(program)?;
-    }
-    groups.current = Some(SourceProgram {
+    let program = SourceProgram {
         name,
         number,
         lines,
-    });
-    Ok(())
+    };
+    match groups.current.replace(program) {
+        Some(before) => groups.programs.push(before),
+        None => Ok(()),
+    }
 }
 
 fn group(alloc: Global, groups: &mut Groups, line: Line) -> Result<(), AllocError>

@@ -29,8 +29,7 @@ fn read_define(file: &File, cursor: &mut TokenCursor) -> Result<Statement, Stop>
 {
     cursor.skip_if(matches!(cursor.peek(), TokenKind::Keyword(Keyword::Public)));
     let name = read_name(file, cursor)?;
-    let value = read_expression(file, cursor)?;
-    Ok(Statement::Define { name, value })
+    read_expression(file, cursor).map(|value| Statement::Define { name, value })
 }
 
 fn read_side_set(file: &File, cursor: &mut TokenCursor) -> Result<Statement, Stop>
@@ -108,8 +107,9 @@ fn read_label(file: &File, cursor: &mut TokenCursor) -> Result<Option<Name>, Sto
         _ => return Ok(None),
     }
     let name = read_name(file, cursor)?;
-    cursor.expect(matches!(cursor.peek(), TokenKind::Colon))?;
-    Ok(Some(name))
+    cursor
+        .expect(matches!(cursor.peek(), TokenKind::Colon))
+        .map(|()| Some(name))
 }
 
 /// Whether a line that begins so may stand before the first `.program`.
@@ -172,8 +172,7 @@ pub(crate) fn read_line(
     let number = u64::from(cursor.position().line);
     let label = read_label(file, cursor)?;
     let statement = read_statement(file, cursor)?;
-    read_end(is_started, &statement, cursor)?;
-    Ok(Line {
+    read_end(is_started, &statement, cursor).map(|()| Line {
         number,
         label,
         statement,

@@ -1,13 +1,11 @@
 -- What each part of a cycle leaves of the copies that lanes keep: they agree as before.
-use Rattle.std.proofs.Common.{◌≡◌, ◌<◌, ◌^◌, ℕ, Bool, true, false, if◌then◌else◌, List, [], ◌∷◌, Option, Some, None, refl, sym, ap, arith, ◌∙◌}
-use Rattle.std.specs.Prelude.{slice_index}
+use Rattle.std.proofs.Common.{◌≡◌, ◌<◌, ◌^◌, ℕ, false, List, Option, refl, arith, ◌∙◌}
 use Rattle.word_bits.specs.Word.{has_bit}
 use Rattle.register_block.specs.declared.resets.TheConstants.{DMA, IO_BANK0, PADS_BANK0, PIO0, PIO1}
 use Rattle.rp_base.specs.declared.map.Block.{Block}
-use Rattle.lane_look.specs.Device.{DeviceMeaning}
 use Rattle.lane_look.specs.declared.lane.Turn.{Turn}
 use Rattle.m0_core.specs.State.{State as Core}
-use Rattle.m0_core.specs.Start.{sleeping, started}
+use Rattle.m0_core.specs.Start.{sleeping}
 use Rattle.m0_core.specs.declared.doing.Doing.{Doing as CoreDoing}
 use Rattle.m0_core.specs.Cycle as core_steps
 use Rattle.dma_engine.specs.State.{Engine, with_hold, reset_state}
@@ -31,7 +29,7 @@ use Rattle.sio_block.specs.Launcher.{offers_of}
 use Rattle.rp_machine.specs.declared.load.PioLoad.{PioLoad}
 use Rattle.rp_machine.specs.Boot.{block_loaded}
 use Rattle.rp_machine.specs.Cycle.{pins_of, with_pins, with_offer}
-use Rattle.rp_machine.specs.Copies.{held_by, held_of, Agree}
+use Rattle.rp_machine.specs.Copies.{Agree}
 use Rattle.rp_machine.proofs.HeldDma.{Holds, dma_next, dma_effect, dma_reset}
 use Rattle.rp_machine.proofs.HeldLanes.{PioHolds, pio_next, pio_effect, pio_reset, pio_loaded, SameCopies, outer_next, outer_effect, outer_device, bank_reset, Offers, core_next}
 

@@ -17,8 +17,8 @@ use Rattle.rp_machine.specs.declared.deed.Deed.TheVariants as deed
 use Rattle.rp_machine.specs.declared.registers.TheConstants.{RESET, WDSEL}
 use Rattle.rp_machine.specs.State.{State}
 use Rattle.rp_machine.specs.Registers.{with_reset, resets_written, block_accessed}
-use Rattle.rp_machine.specs.Cycle.{begun, wanted, with_event, with_offer, with_pins, with_sio, sio_accessed, after_deed, started_by, after_launcher, after_master, after_masters, with_stores, ended, after_deeds, with_turns, stepped, next_by, next}
-use Rattle.rp_machine.specs.Laws.{deeds_in, own_core0, own_core1, own_dma, own_outer, core_alone, outer_alone, is_for, is_dma, is_pio0, is_pio1, is_outer, is_for_outer, NoneIs, IsItsOwnStep, EffectsComeAfterTheSteps}
+use Rattle.rp_machine.specs.Cycle.{begun, wanted, with_event, with_sio, sio_accessed, after_deed, started_by, after_launcher, after_master, after_masters, with_stores, ended, after_deeds, with_turns, stepped, next_by, next}
+use Rattle.rp_machine.specs.Laws.{deeds_in, own_core0, own_core1, own_dma, own_outer, core_alone, outer_alone, is_for, is_dma, is_pio0, is_pio1, is_outer, is_for_outer, NoneIs, EffectsComeAfterTheSteps}
 use Rattle.rp_machine.proofs.HeldDma.{either_way}
 use Rattle.rp_machine.proofs.Kept.{deeds_core0}
 

@@ -1,5 +1,5 @@
 -- A cycle in which core 0 alone is at work is the one that the definition says.
-use Rattle.std.proofs.Common.{◌≡◌, ◌≢◌, ◌+◌, ◌==◌, ℕ, ◌&&◌, Bool, true, false, not, List, [], ◌∷◌, ◌++◌, Option, Some, None, refl, sym, ap, ◌∙◌}
+use Rattle.std.proofs.Common.{◌≡◌, ◌≢◌, ◌+◌, ℕ, ◌&&◌, Bool, true, false, not, List, [], ◌∷◌, ◌++◌, Option, Some, None, refl, sym, ap, ◌∙◌}
 use Rattle.rp_base.specs.declared.Master.TheVariants as master
 use Rattle.rp_base.specs.declared.Why.{Why}
 use Rattle.lane_look.specs.declared.marks.Mark.{Mark}
@@ -18,7 +18,7 @@ use Rattle.pio_block.specs.State.{Block as Pio}
 use Rattle.pio_block.specs.declared.inputs.Inputs.{Inputs}
 use Rattle.pio_block.specs.Cycle as pio
 use Rattle.bus_fabric.specs.State.{Crossbar, has_hold, served}
-use Rattle.bus_fabric.specs.Grant.{is_done, after_grant}
+use Rattle.bus_fabric.specs.Grant.{after_grant}
 use Rattle.bus_fabric.proofs.Alone.{nobody-after, alone-after}
 use Rattle.outer_lane.specs.Setting.{Setting}
 use Rattle.outer_lane.specs.declared.world.SeenOutputs.{SeenOutputs}
@@ -26,10 +26,10 @@ use Rattle.outer_lane.specs.Step.{marked}
 use Rattle.rp_machine.specs.declared.begun.Begun.{Begun}
 use Rattle.rp_machine.specs.State.{State}
 use Rattle.rp_machine.specs.Deeds.{asked_of, turn_of, deed_of, cause_of}
-use Rattle.rp_machine.specs.Cycle.{begun, wanted, wanted_by, first_cause, cause_in, stop, asked, granted, turns, turn_for, deeds, with_turns, with_grants, after_deed, after_deeds, stepped, next_by, next, mark}
+use Rattle.rp_machine.specs.Cycle.{begun, wanted, wanted_by, first_cause, cause_in, asked, granted, turns, turn_for, deeds, with_turns, with_grants, after_deed, after_deeds, stepped, next_by, next, mark}
 use Rattle.rp_machine.specs.BusRest.{is_nothing, core1_at_rest}
 use Rattle.rp_machine.proofs.BusRest.{both, nothing, is_false}
-use Rattle.rp_machine.specs.Alone.{IsAlone, asked_alone, beside, stepped_alone, turn_alone, alone_at_rest, alone_next}
+use Rattle.rp_machine.specs.Alone.{IsAlone, asked_alone, beside, stepped_alone, alone_at_rest, alone_next}
 
 -- ---- what the parts at rest begin
 
@@ -158,7 +158,7 @@ one_granted access port writes s is apart e h = rw is (sym (alone-after master.C
 
 -- ---- a cycle in which core 0 wants nothing, and no access lasts
 
-rest_by : (w : Setting) (b : Doing) (seen : SeenOutputs) (x : Want) (s : State) → x ≡ want.Nothing → has_hold s.fabric ≡ false
+pub rest_by : (w : Setting) (b : Doing) (seen : SeenOutputs) (x : Want) (s : State) → x ≡ want.Nothing → has_hold s.fabric ≡ false
     → alone_at_rest w b seen s ≡ alone_next w b seen x s
 unfolding alone_next alone_at_rest turn_of deed_of asked_of after_deed
 rest_by w b seen x s e free = rw (e, nobody-after s.fabric free) refl
@@ -168,3 +168,7 @@ pub rest_alone : (w : Setting) (b : Doing) (seen : SeenOutputs) (x : Want) (s : 
 rest_alone w b seen x s h =
     let parts = both (is_nothing x) _ h in
     rest_by w b seen x s (nothing x parts.0) (is_false (has_hold s.fabric) parts.1)
+
+pub nothing_stops : (w : Setting) (seen : SeenOutputs) (x : Want) (s : State) → x ≡ want.Nothing → None ≡ cause_of w seen s (wanted_by master.Core0 x)
+unfolding cause_of
+nothing_stops w seen x s h = rw h refl

@@ -42,13 +42,15 @@ fn grant_alone(fabric: &mut Fabric, asked: Option<(u8, bool)>) -> bool
 }
 
 impl Machine {
-    ghost use Rattle.std.specs.Prelude.{◌≡◌, ◌+◌, ◌-◌, ◌^◌, ◌<◌, ◌≤◌, ◌∷◌, ◌++◌, if◌then◌else◌, is_some, [], length, true, ◌&&◌, not};
+    ghost use Rattle.std.specs.Prelude.{◌≡◌, ◌+◌, ◌-◌, ◌^◌, ◌<◌, ◌≤◌, ◌∷◌, ◌++◌, if◌then◌else◌, is_some, [], length, true, false, Decides, ◌&&◌, not};
     ghost use Rattle.outer_lane.specs.Setting.{setting_of};
     ghost use Rattle.outer_lane.specs.Step.{marked};
     ghost use Rattle.rp_machine.specs.Cycle.{begun, wanted, cause_in, next, mark};
     ghost use Rattle.rp_machine.specs.Alone.{IsAlone, alone_at_rest, alone_next};
     ghost use Rattle.rp_machine.specs.BusRest.{is_nothing};
     ghost use Rattle.bus_fabric.specs.State.{has_hold};
+    ghost use Rattle.lane_look.specs.declared.lane.Want.TheVariants.{Nothing};
+    ghost use Rattle.m0_core.specs.Cycle.{want_of};
 
     /// Core 1 sleeps, and the DMA engine and both PIO blocks are at rest. False says nothing: a part that has been at work
     /// may still stand as if it were.
@@ -86,6 +88,14 @@ impl Machine {
         ensures { result ≡ (is_nothing wanted.now.want && not (has_hold self.now.fabric)) }
     {
         wants_nothing(wanted) && !self.fabric.holds()
+    }
+
+    /// Core 0, which has begun this, wants nothing, and no access lasts.
+    #[inline(always)]
+    fn is_bus_free(&self, core0: &Doing) -> bool
+        ensures { Decides result ((want_of core0.now ≡ Nothing) × (has_hold self.now.fabric ≡ false)) }
+    {
+        core0.wants_nothing() && !self.fabric.holds()
     }
 
     /// One cycle in which core 0, which is alone, has begun this and wants nothing, and no access lasts.
@@ -154,7 +164,7 @@ impl Machine {
         self.at = at + 1;
     }
 
-    /// One cycle of a machine in which core 0 is alone, below its limit.
+    /// One cycle of a machine in which core 0 is alone, below its limit. In most it wants nothing, which costs one test.
     #[inline(always)]
     #[tactic(auto, unfolding(crate::specs::Cycle::mark))]
     pub(crate) fn cycle_alone<X: Device, L: Ledger>(
@@ -178,6 +188,12 @@ impl Machine {
     {
         let core0 = self.begin_core0();
         let outer = self.begin_outer(world);
+        if self.is_bus_free(&core0) {
+            marks.clear();
+            steps.tick();
+            self.step_alone_at_rest(world, &core0, &outer, marks);
+            return None;
+        }
         let wanted = Wanted {
             master: Master::Core0,
             want: want_of(&core0),

@@ -72,6 +72,9 @@ impl Machine {
     fn block_lines(&self, core: u8) -> u32
         ensures { result ≡ block_lines core self.now }
     {
+        if self.pio0.is_at_rest() && self.pio1.is_at_rest() && self.dma.is_at_rest() {
+            return sio_lines(&self.sio, core);
+        }
         if self.pio0.is_silent() && self.pio1.is_silent() && self.dma.is_silent() {
             return sio_lines(&self.sio, core);
         }

@@ -1,8 +1,9 @@
 //! A UART: its state, its cycle and its readers.
 
-ghost use Rattle.std.specs.Prelude.{◌≡◌, true, None, Decides};
+ghost use Rattle.std.specs.Prelude.{◌≡◌, true, not, None, Decides};
 ghost use Rattle.rp_uart.specs.State.{at_reset};
 ghost use Rattle.rp_uart.specs.Interrupts.{is_line_high};
+ghost use Rattle.rp_uart.specs.Sender.{is_idle};
 ghost use Rattle.rp_uart.specs.Step.{is_running, output_of, heard_of, after_step, sent_byte, pacing_of};
 
 use crate::control::{Control, Divisor, DmaControl};
@@ -231,6 +232,30 @@ impl Uart {
             && self.waited.is_none()
             && self.to_send.is_empty()
             && (line || self.control.loopback)
+    }
+
+    /// A cycle with this level changes nothing: the UART has no divisor, or is at rest.
+    pub fn rests(&self, line: bool) -> bool
+        ensures same { result ≡ true → after_step line self.now ≡ self.now }
+        ensures silent { result ≡ true → sent_byte self.now ≡ None }
+    {
+        self.is_stopped() || self.is_at_rest(line)
+    }
+
+    /// The UART has no divisor, so that it does not run.
+    #[inline(always)]
+    pub fn is_stopped(&self) -> bool
+        ensures { result ≡ not (is_running self.now) }
+    {
+        self.divisor.integer == 0
+    }
+
+    /// No frame is sent.
+    #[inline(always)]
+    pub fn is_idle(&self) -> bool
+        ensures { result ≡ is_idle self.now.sender }
+    {
+        matches!(self.sender, Sender::Idle)
     }
 
     /// The level that the receiver hears.

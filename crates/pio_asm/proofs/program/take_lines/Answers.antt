@@ -1,9 +1,28 @@
-use Rattle.std.proofs.Common.{◌≡◌, [], drop, ap, ◌∙◌, arith}
-use Rattle.std.proofs.lemmas.Grind.{common_steps}
+use Rattle.std.proofs.Common.{◌≡◌, ℕ, ◌+◌, ◌<◌, List, [], ◌∷◌, length, drop, get_or, drop-cons, add-one, ap, sym, refl, ◌∙◌}
+use Rattle.std.specs.Prelude.{Ok}
+use Rattle.std.proofs.lemmas.List.{drop_all}
+use Rattle.pio_parse.specs.declared.syntax.Line.{Line}
+use Rattle.pio_asm.specs.declared.building.Building.{Building}
 use Rattle.pio_asm.specs.Symbols.{Names}
+use Rattle.pio_asm.specs.Step.{line_step}
 use Rattle.pio_asm.specs.Assembly.{lines_from}
 use Rattle.pio_asm.proofs.Keeping.{names_valued}
 use Rattle.pio_asm.proofs.program.take_lines.Goals as goal
+
+line_next : (whole globals : Names) (total index : ℕ) (lines : List Line) (line : Line) (building next : Building) → index < length lines → line ≡ get_or lines index line
+    → line_step whole globals total line building ≡ Ok next
+    → lines_from whole globals total (drop index lines) building ≡ lines_from whole globals total (drop (index + 1) lines) next
+line_next whole globals total index lines line building next inside is step =
+    let rest : drop index lines ≡ get_or lines index line ∷ drop (index + 1) lines = rw add-one (drop-cons lines index line inside) in
+    rw (rest, ← is, step) refl
+
+pub loop-line-preserved : goal.loop-line-preserved
+loop-line-preserved c = record {
+  side = c.in_ok-take_line.ensures.side;
+  rest = c.loop-line.invariant.rest
+      ∙ line_next c.args.context.now.whole.now c.args.context.now.globals.now c.args.context.now.total c.loop-line.line-index c.args.lines.now c.line-item.result c.loop-line.building c.take_line.new.building
+      c.loop-line-test.true c.line-item.is c.in_ok-take_line.ensures.step;
+}
 
 pub returns-clause-valued : goal.returns-clause-valued
 returns-clause-valued c =
@@ -11,5 +30,5 @@ returns-clause-valued c =
     let globals : Names = c.args.context.now.globals.now in
     let total = c.args.context.now.total in
     let building = c.loop-line.building in
-    let end : drop c.loop-line.line-index c.args.lines.now ≡ [] = grind (arith, common_steps) in
+    let end : drop c.loop-line.line-index c.args.lines.now ≡ [] = drop_all c.loop-line.line-index c.args.lines.now c.loop-line-test.false in
     names_valued whole globals total c.args.lines.now building (c.loop-line.invariant.rest ∙ ap (λ lines. lines_from whole globals total lines building) end)

@@ -1,21 +1,51 @@
 use Rattle.std.proofs.Common.{sym, ap, ◌∙◌}
 use Rattle.io_bank.specs.State.{Bank}
 use Rattle.outer_lane.specs.contracts.outer.Outer.{the_view}
-use Rattle.outer_lane.proofs.Rest.{left_pads}
+use Rattle.outer_lane.proofs.Rest.{left_pads, levels_left, same_levels, still_by}
 use Rattle.outer_lane.proofs.outer.Outer.step_driven.Goals as goal
 
 pub returns-then-is_same-clause-levels : goal.returns-then-is_same-clause-levels
 returns-then-is_same-clause-levels c =
-    let left =
-    left_pads c.self.inside.sio c.self.inside.drivers c.args.drivers c.self.inside.pads (c.self.invariant c.if-self.true)
-    (sym c.is_same.ensures ∙ c.if-is_same.true)
-    in
+    let i = c.self.inside in
+    let left = left_pads i.sio i.drivers c.args.drivers i.pads (c.self.invariant.0 c.if-self.true) (sym c.is_same.ensures ∙ c.if-is_same.true) in
     rw (← c.self.view_is) (c.pads.ensures ∙ ap (λ (b : Bank). b.current) left)
 
 pub returns-then-is_same-clause-after : goal.returns-then-is_same-clause-after
 returns-then-is_same-clause-after c =
-    let left =
-    left_pads c.self.inside.sio c.self.inside.drivers c.args.drivers c.self.inside.pads (c.self.invariant c.if-self.true)
-    (sym c.is_same.ensures ∙ c.if-is_same.true)
-    in
-    rw (← c.self.view_is) (ap (λ (b : Bank). record (the_view c.self.inside) { pads = b }) left)
+    let i = c.self.inside in
+    let left = left_pads i.sio i.drivers c.args.drivers i.pads (c.self.invariant.0 c.if-self.true) (sym c.is_same.ensures ∙ c.if-is_same.true) in
+    rw (← c.self.view_is) (ap (λ (b : Bank). record (the_view i) { pads = b }) left)
+
+pub invariant_of-self : goal.invariant_of-self
+invariant_of-self c =
+    let i = c.self.inside in
+    let rest = c.self.invariant.0 c.if-self-2.true in
+    let same =
+    same_levels i.sio i.drivers c.args.drivers i.pads c.levels-levels.result rest (rw c.outs-outs.ensures at c.levels-levels.ensures)
+    (c.if-levels-pads.true ∙ c.pads-then-self-2.ensures) in (
+      (λ _. (same, rest.1)),
+      (λ still. still_by i.sio i.drivers c.args.drivers i.pads i.uart0 i.uart1
+          (c.self.invariant.1 (c.stays-self-inside.ensures.still still)) same (c.stays-self-inside.ensures.levels still)
+          (c.stays-self-inside.ensures.enables still)),
+    )
+
+pub returns-then-levels-pads-clause-levels : goal.returns-then-levels-pads-clause-levels
+returns-then-levels-pads-clause-levels c =
+    let i = c.self.inside in
+    let levels = rw c.outs-outs.ensures at c.levels-levels.ensures in
+    rw (← c.self.view_is) (levels ∙ sym (levels_left i.sio c.args.drivers i.pads))
+
+pub returns-then-levels-pads-clause-after : goal.returns-then-levels-pads-clause-after
+returns-then-levels-pads-clause-after c =
+    let i = c.self.inside in
+    let rest = c.self.invariant.0 c.if-self-2.true in
+    let same =
+    same_levels i.sio i.drivers c.args.drivers i.pads c.levels-levels.result rest (rw c.outs-outs.ensures at c.levels-levels.ensures)
+    (c.if-levels-pads.true ∙ c.pads-then-self-2.ensures) in
+    rw (← c.self.view_is) (ap (λ (b : Bank). record (the_view i) { pads = b }) (sym same))
+
+pub returns-else-self-2-clause-levels : goal.returns-else-self-2-clause-levels
+returns-else-self-2-clause-levels c =
+    let i = c.self.inside in
+    let levels = rw c.outs-outs.ensures at c.levels-levels.ensures in
+    rw (← c.self.view_is) (levels ∙ sym (levels_left i.sio c.args.drivers i.pads))

@@ -1,0 +1,18 @@
+use Rattle.std.proofs.Common.{ap, ◌∙◌}
+use Rattle.outer_lane.specs.Step.{next_by, marked_by}
+use Rattle.outer_lane.proofs.Still.{driven_next, driven_marked}
+use Rattle.outer_lane.proofs.outer.Outer.step_by.Goals as goal
+
+pub returns-clause-state : goal.returns-clause-state
+returns-clause-state c =
+    let d = c.drives-drives in
+    c.step_all.ensures.state
+    ∙ driven_next c.args.script.now c.args.wires.now c.args.seen.now d.result d.new.self d.ensures.drives
+    ∙ ap (next_by c.args.script.now c.args.wires.now c.args.seen.now) d.ensures.kept
+
+pub returns-clause-mark : goal.returns-clause-mark
+returns-clause-mark c =
+    let d = c.drives-drives in
+    c.step_all.ensures.mark
+    ∙ driven_marked c.args.script.now c.args.wires.now c.args.seen.now d.result d.new.self d.ensures.drives
+    ∙ ap (marked_by c.args.script.now c.args.wires.now c.args.seen.now) d.ensures.kept

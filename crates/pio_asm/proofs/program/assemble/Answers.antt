@@ -1,0 +1,30 @@
+use Rattle.std.proofs.Common.{◌≡◌, ℕ, List, [], ap}
+use Rattle.std.specs.Prelude.{Ok}
+use Rattle.pio_parse.specs.Outcome.{and_then}
+use Rattle.pio_parse.specs.declared.syntax.Line.{Line}
+use Rattle.pio_parse.specs.declared.syntax.Source.{Source}
+use Rattle.pio_asm.specs.declared.building.Building.{Building}
+use Rattle.pio_asm.specs.Symbols.{Names}
+use Rattle.pio_asm.specs.Step.{names_of}
+use Rattle.pio_asm.specs.Assembly.{assembled, lines_of, programs_from}
+use Rattle.pio_asm.proofs.Verdicts.{known}
+use Rattle.pio_asm.proofs.program.assemble.Goals as goal
+
+-- after the lines before the first program come the programs
+assembled_at : (source : Source) (nothing : Names) (first lines : List Line) (names : Names × ℕ) (building : Building) → nothing ≡ [] → first ≡ source.globals → lines ≡ source.globals
+    → names ≡ names_of nothing [] 0 first → lines_of nothing lines names ≡ Ok building → assembled source ≡ programs_from building.seen [] [] source.programs
+assembled_at source nothing first lines names building none f l is h =
+    ap (λ outcome. and_then (λ (globals : Building). programs_from globals.seen [] [] source.programs) outcome) (rw (is, none, f, l) at h)
+
+after_globals : (c : goal.After-drop-nothing-inside-2) → assembled c.args.source.now ≡ programs_from c.in_ok-building.building.seen [] [] c.args.source.now.programs
+after_globals c =
+    let names = known (λ (names : Names × ℕ). names ≡ names_of c.new-nothing.result [] 0 c.as_slice.result.now) c.read_names.result c.or_memory.result (c.in_ok-whole.whole, c.in_ok-whole.total)
+    c.or_memory.ensures c.in_ok-whole.was c.read_names.ensures in
+    assembled_at c.args.source.now c.new-nothing.result c.as_slice.result.now c.as_slice-2.result.now (c.in_ok-whole.whole, c.in_ok-whole.total) c.in_ok-building.building
+    c.new-nothing.ensures c.as_slice.ensures c.as_slice-2.ensures names c.in_ok-building.ensures.ok
+
+pub returns-clause-ok : goal.returns-clause-ok
+returns-clause-ok c = rw (after_globals c, ← c.as_slice-3.ensures) c.take_programs.ensures.ok
+
+pub returns-clause-err : goal.returns-clause-err
+returns-clause-err c = rw (after_globals c, ← c.as_slice-3.ensures) c.take_programs.ensures.err
