@@ -92,7 +92,7 @@ impl Machine {
 
     /// Core 0, which has begun this, wants nothing, and no access lasts.
     #[inline(always)]
-    fn is_bus_free(&self, core0: &Doing) -> bool
+    pub fn is_bus_free(&self, core0: &Doing) -> bool
         ensures { Decides result ((want_of core0.now ≡ Nothing) × (has_hold self.now.fabric ≡ false)) }
     {
         core0.wants_nothing() && !self.fabric.holds()
@@ -101,7 +101,7 @@ impl Machine {
     /// One cycle in which core 0, which is alone, has begun this and wants nothing, and no access lasts.
     #[inline(always)]
     #[tactic(auto, unfolding(crate::specs::Alone::alone_at_rest))]
-    fn step_alone_at_rest<X: Device>(
+    pub fn step_alone_at_rest<X: Device>(
         &mut self,
         world: &World<'_, X>,
         core0: &Doing,

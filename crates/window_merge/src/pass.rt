@@ -11,7 +11,7 @@ ghost use Rattle.window_merge.specs.Start.{start_of, begun_from, ends_wanted, go
 
 use crate::merge::clash;
 use crate::notes::Notes;
-use crate::start::{Beginning, BeginningAlone, Start, begin_alone, begin_later};
+use crate::start::{Start, begin_by, begin_later};
 use crate::walk::ends_want;
 use lane_look::{Device, Marks};
 use m0_core::Core;
@@ -100,9 +100,15 @@ fn try_alone<X: Device>(
         (wanted (begun_from start.now notes.old machine.old)) machine.old.sram notes.old
         else notes.old) }
 {
-    let BeginningAlone { core0, outer, same } = begin_alone(machine, world, start, notes);
+    let mut same = true;
+    let core0 = begin_by(&machine.core0, &(), 0, machine, start, notes, &mut same);
+    let outer = begin_by(&machine.outer, world, 5, machine, start, notes, &mut same);
     if !same {
         return false;
+    }
+    if machine.is_bus_free(&core0) {
+        machine.step_alone_at_rest(world, &core0, &outer, marks);
+        return true;
     }
     let wanted = Wanted {
         master: Master::Core0,
@@ -142,7 +148,8 @@ fn try_all<X: Device>(
         (wanted (begun_from start.now notes.old machine.old)) machine.old.sram notes.old
         else notes.old) }
 {
-    let Beginning { begun, same } = begin_later(machine, world, start, notes);
+    let mut same = true;
+    let begun = begin_later(machine, world, start, notes, &mut same);
     let wants = all_wanted(&begun);
     let goes = same && !ends_wanted(&wants) && !clash(&begun, &wants);
     if goes {

@@ -155,30 +155,25 @@ impl Look for Guesser<'_> {
     }
 }
 
-/// What a lane has begun, and whether each answer is what the machine answers.
-#[derive(Drop)]
-struct Guessed<B> {
-    begun: B,
-    same: bool,
-}
-
-/// Begins the cycle of a lane of that number as the start answers, and compares each answer with the machine's.
+/// Begins the cycle of a lane of that number as the start answers, and compares each answer with the machine's: `same` stays where
+/// each is.
 #[inline(always)]
-fn begin_by<E, S: Lane<E>>(
+pub(crate) fn begin_by<E, S: Lane<E>>(
     lane: &S,
     env: &E,
     number: u8,
     machine: &Machine,
     start: &Start,
     notes: &Notes,
-) -> Guessed<S::Begun>
-    ensures begun { result.begun ≡ answered
+    same: &mut bool,
+) -> S::Begun
+    ensures begun { result ≡ answered
         (guess number start.now (seen_of number notes.now machine.now.sram))
         (S.asks env.now lane.now machine.now.cycle) }
-    ensures same { result.same ≡ not (differs
+    ensures same { same.new ≡ (same.old && not (differs
         (answer_of number machine.now)
         (asked (guess number start.now (seen_of number notes.now machine.now.sram))
-        (S.asks env.now lane.now machine.now.cycle))) }
+        (S.asks env.now lane.now machine.now.cycle)))) }
 {
     let mut look = Guesser {
         machine,
@@ -187,79 +182,31 @@ fn begin_by<E, S: Lane<E>>(
         clean: notes.is_clean(number),
         own: notes.own(number),
         originals: notes.originals.words(),
-        same: true,
+        same: *same,
     };
     let begun = lane.begin(env, machine.at, &mut look);
-    Guessed {
-        begun,
-        same: look.same,
-    }
+    *same = look.same;
+    begun
 }
 
-/// What the six lanes have begun where the start answers.
-#[derive(Drop)]
-pub(crate) struct Beginning {
-    pub(crate) begun: Begun,
-    /// Whether each answer is what the machine answers.
-    pub(crate) same: bool,
-}
-
-/// Begins the cycle of all lanes as the start answers, and compares each answer with the machine's.
+/// Begins the cycle of all lanes as the start answers, and compares each answer with the machine's: `same` stays where each is.
 #[inline(always)]
 pub(crate) fn begin_later<X: Device>(
     machine: &Machine,
     world: &World<'_, X>,
     start: &Start,
     notes: &Notes,
-) -> Beginning
-    ensures begun { result.begun ≡ begun_from start.now notes.now machine.now }
-    ensures same { result.same ≡ not (differs_from start.now notes.now machine.now) }
+    same: &mut bool,
+) -> Begun
+    ensures begun { result ≡ begun_from start.now notes.now machine.now }
+    ensures same { same.new ≡ (same.old && not (differs_from start.now notes.now machine.now)) }
 {
-    let core0 = begin_by(&machine.core0, &(), 0, machine, start, notes);
-    let core1 = begin_by(&machine.core1, &(), 1, machine, start, notes);
-    let dma = begin_by(&machine.dma, &(), 2, machine, start, notes);
-    let pio0 = begin_by(&machine.pio0, &(), 3, machine, start, notes);
-    let pio1 = begin_by(&machine.pio1, &(), 4, machine, start, notes);
-    let outer = begin_by(&machine.outer, world, 5, machine, start, notes);
-    Beginning {
-        same: core0.same && core1.same && dma.same && pio0.same && pio1.same && outer.same,
-        begun: Begun {
-            core0: core0.begun,
-            core1: core1.begun,
-            dma: dma.begun,
-            pio0: pio0.begun,
-            pio1: pio1.begun,
-            outer: outer.begun,
-        },
-    }
-}
-
-/// What core 0 and the peripherals have begun where the start answers.
-#[derive(Drop)]
-pub(crate) struct BeginningAlone {
-    pub(crate) core0: Doing,
-    pub(crate) outer: SeenOutputs,
-    /// Whether each answer is what the machine answers.
-    pub(crate) same: bool,
-}
-
-/// Begins the cycle of core 0 and of the peripherals alone as the start answers, and compares each answer with the machine's.
-#[inline(always)]
-pub(crate) fn begin_alone<X: Device>(
-    machine: &Machine,
-    world: &World<'_, X>,
-    start: &Start,
-    notes: &Notes,
-) -> BeginningAlone
-    ensures core0 { result.core0 ≡ (begun_from start.now notes.now machine.now).core0 }
-    ensures outer { result.outer ≡ (begun_from start.now notes.now machine.now).outer }
-    ensures same { result.same ≡ not (differs_alone start.now notes.now machine.now) }
-{
-    let core0 = begin_by(&machine.core0, &(), 0, machine, start, notes);
-    let outer = begin_by(&machine.outer, world, 5, machine, start, notes);
-    BeginningAlone {
-        same: core0.same && outer.same,
-        core0: core0.begun,
-        outer: outer.begun,
+    Begun {
+        core0: begin_by(&machine.core0, &(), 0, machine, start, notes, same),
+        core1: begin_by(&machine.core1, &(), 1, machine, start, notes, same),
+        dma: begin_by(&machine.dma, &(), 2, machine, start, notes, same),
+        pio0: begin_by(&machine.pio0, &(), 3, machine, start, notes, same),
+        pio1: begin_by(&machine.pio1, &(), 4, machine, start, notes, same),
+        outer: begin_by(&machine.outer, world, 5, machine, start, notes, same),
     }
 }
