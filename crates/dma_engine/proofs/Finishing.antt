@@ -7,7 +7,7 @@ use Rattle.dma_engine.specs.Timer.{gets_credit, after_timers}
 use Rattle.dma_engine.specs.Cycle.{after_transfers, next}
 use Rattle.dma_engine.proofs.InTurn.{after_timers-same}
 
-other_of : {A : Type 0} (b : Bool) (x y : A) → b ≡ false → cond b x y ≡ y
+pub other_of : {A : Type 0} (b : Bool) (x y : A) → b ≡ false → cond b x y ≡ y
 other_of true x y h = absurd (cc)
 other_of false x y h = refl
 

@@ -4,6 +4,7 @@ pub mod Counting
 pub mod Finishing
 pub mod First
 pub mod Four
+pub mod Idle
 pub mod InTurn
 pub mod Packing
 pub mod Ring

@@ -75,3 +75,11 @@ none_in [] h k = refl
 none_in (true ∷ l) h k = absurd (cc)
 none_in (false ∷ l) h zero = refl
 none_in (false ∷ l) h (suc k) = none_in l h k
+
+-- where no timer gives a credit no channel gets one
+pub gets_none : (s : Engine) (given : List Bool) → given ≡ given_by s.timers → list_any (λ b. b) given ≡ false → (n : ℕ) →
+    gets_credit s n ≡ false
+gets_none s given is h n =
+    both_not (channel_at n s).busy _
+    (is_given-none (given_by s.timers) (pace_of (treq_of (channel_at n s)))
+    (λ k. none_in (given_by s.timers) (sym (ap (list_any (λ b. b)) is) ∙ h) k))

@@ -85,7 +85,7 @@ impl Engine {
 
     /// The channel can be chosen.
     #[inline(always)]
-    fn is_candidate(&self, counts: u128, number: u8) -> bool
+    pub(crate) fn is_candidate(&self, counts: u128, number: u8) -> bool
         requires { number < 12 }
         ensures { result ≡ is_candidate false counts self.now number }
     {
@@ -107,8 +107,10 @@ impl Engine {
             → (k : ℕ) → k < 12 → is_candidate false counts self.now k ≡ false }
     {
         for number in 0..CHANNELS {
-            if self.is_candidate(counts, number) {
-                return true;
+            if self.channels[number as usize].busy {
+                if self.is_candidate(counts, number) {
+                    return true;
+                }
             }
         }
         false

@@ -120,7 +120,7 @@ impl Engine {
     }
 
     /// The channel is busy, and has nothing left and nothing in flight.
-    fn is_over(&self, number: u8) -> bool
+    pub(crate) fn is_over(&self, number: u8) -> bool
         requires { number < 12 }
         ensures { result ≡ is_over self.now number }
     {
@@ -144,8 +144,10 @@ impl Engine {
         ensures { result ≡ false → (k : ℕ) → k < 12 → is_over self.now k ≡ false }
     {
         for number in 0..CHANNELS {
-            if self.is_over(number) {
-                return true;
+            if self.channels[number as usize].busy {
+                if self.is_over(number) {
+                    return true;
+                }
             }
         }
         false

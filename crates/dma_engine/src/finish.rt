@@ -1,15 +1,16 @@
 //! How a cycle ends: sequences end, the read and the write are done or wait, the next channel is chosen, and the pacing
 //! timers give their credits.
 
-ghost use Rattle.std.specs.Prelude.{◌≡◌, ◌<◌, ℕ, false, length, map, slice_index_or, Some};
-ghost use Rattle.std.specs.List.{list_all};
+ghost use Rattle.std.specs.Prelude.{◌≡◌, ◌<◌, ℕ, false, true, length, map, slice_index_or, Some};
+ghost use Rattle.std.specs.List.{list_all, list_any};
 ghost use Rattle.lane_look.specs.declared.lane.Turn.{Turn};
 ghost use Rattle.dma_engine.specs.Control.{treq_of};
-ghost use Rattle.dma_engine.specs.Choice.{pace_of};
+ghost use Rattle.dma_engine.specs.Choice.{pace_of, is_candidate};
+ghost use Rattle.dma_engine.specs.declared.begun.Access.TheVariants as Access;
 ghost use Rattle.dma_engine.specs.State.{channel_at};
-ghost use Rattle.dma_engine.specs.Timer.{gives, stepped, given_by, is_given, gets_credit, more_credits, credited, with_credit, after_timers};
+ghost use Rattle.dma_engine.specs.Timer.{gives, stepped, given_by, is_given, gets_credit, more_credits, credited, with_credit, with_stepped_timers, after_timers};
 ghost use Rattle.dma_engine.specs.Rest.{is_idle_channel, is_idle_timer, is_at_rest, is_still};
-ghost use Rattle.dma_engine.specs.Cycle.{want_of, word_of, word_read, with_data, with_read, is_written, after_write, credits_left, counted, after_choice, after_transfers, next};
+ghost use Rattle.dma_engine.specs.Cycle.{want_of, word_of, word_read, with_data, with_read, is_written, after_write, credits_left, counted, after_choice, is_over, after_transfers, next};
 ghost use Rattle.dma_engine.specs.Channel.{in_turn};
 
 use crate::begun::{Access, BegunTransfer};
@@ -79,17 +80,35 @@ fn given_by(timers: &[PacingTimer; 4]) -> [bool; 4]
     ]
 }
 
-/// The timers after a cycle.
-#[tactic(auto, using(crate::proofs::Four::four))]
-fn stepped(timers: &[PacingTimer; 4]) -> [PacingTimer; 4]
-    ensures { result ≡ map stepped timers.now }
+/// Some timer gives a credit.
+#[inline(always)]
+fn some_given(given: &[bool; 4]) -> bool
+    ensures { result ≡ list_any (λ b. b) given.now }
 {
-    [
-        timers[0].stepped(),
-        timers[1].stepped(),
-        timers[2].stepped(),
-        timers[3].stepped(),
-    ]
+    given.iter().any(|gives| *gives)
+}
+
+/// A cycle of the timers.
+#[inline(always)]
+#[tactic(auto, using(crate::proofs::Four::four))]
+fn step_all(timers: &mut [PacingTimer; 4])
+    ensures { timers.new ≡ map stepped timers.old }
+{
+    timers[0].step_once();
+    timers[1].step_once();
+    timers[2].step_once();
+    timers[3].step_once();
+}
+
+/// The access is none.
+#[inline(always)]
+fn is_nothing(access: &Access) -> bool
+    ensures { result ≡ true → access.now ≡ Access.Nothing }
+{
+    match *access {
+        Access::Nothing => true,
+        _ => false,
+    }
 }
 
 impl Channel {
@@ -199,18 +218,33 @@ impl Engine {
     }
 
     /// Which channels get a credit in this cycle.
-    fn credited(&self) -> [bool; 12]
+    #[inline(never)]
+    fn credited(&self, given: &[bool; 4]) -> [bool; 12]
+        requires given { given.now ≡ given_by self.now.timers }
         ensures { (k : ℕ) → k < 12 → slice_index_or result k false ≡ gets_credit self.now k }
     {
         let mut credited = [false; 12];
-        if are_idle_timers(&self.timers) {
-            return credited;
-        }
-        let given = given_by(&self.timers);
         for number in 0..CHANNELS {
-            credited[number as usize] = self.gets_credit(&given, number);
+            credited[number as usize] = self.gets_credit(given, number);
         }
         credited
+    }
+
+    /// Some channel can be chosen, or is over.
+    #[inline(always)]
+    fn has_work(&self, counts: u128) -> bool
+        ensures choice { result ≡ false
+            → (k : ℕ) → k < 12 → is_candidate false counts self.now k ≡ false }
+        ensures ends { result ≡ false → (k : ℕ) → k < 12 → is_over self.now k ≡ false }
+    {
+        for number in 0..CHANNELS {
+            if self.channels[number as usize].busy {
+                if self.is_candidate(counts, number) || self.is_over(number) {
+                    return true;
+                }
+            }
+        }
+        false
     }
 
     /// A channel takes a credit.
@@ -220,6 +254,19 @@ impl Engine {
     {
         let channel = &mut self.channels[number as usize];
         channel.take_credit();
+    }
+
+    /// The cycle of an engine that is not held, in which some timer gives a credit.
+    #[inline(never)]
+    #[tactic(auto, unfolding(crate::specs::Cycle::next))]
+    fn finish_with_credits(&mut self, begun: &BegunTransfer, turns: &[Turn; 2], given: &[bool; 4])
+        requires held { self.old.held ≡ false }
+        requires given { given.now ≡ given_by self.old.timers }
+        ensures { self.new ≡ next self.old begun.now turns.now }
+    {
+        let credited = self.credited(given);
+        self.move_on(begun, turns);
+        self.step_timers(&credited);
     }
 
     /// The channels that were found take their credits.
@@ -235,16 +282,25 @@ impl Engine {
         }
     }
 
+    /// The pacing timers have their cycle.
+    #[inline(always)]
+    fn advance_timers(&mut self)
+        ensures { self.new ≡ with_stepped_timers self.old }
+    {
+        step_all(&mut self.timers);
+    }
+
     /// The pacing timers have their cycle, in which these channels get a credit.
     #[tactic(auto, unfolding(crate::specs::Timer::after_timers))]
     fn step_timers(&mut self, credited: &[bool; 12])
         ensures { self.new ≡ after_timers (λ k. slice_index_or credited.now k false) self.old }
     {
-        self.timers = stepped(&self.timers);
+        self.advance_timers();
         self.take_credits(credited);
     }
 
     /// The transfers have their cycle.
+    #[inline(never)]
     #[tactic(auto, unfolding(crate::specs::Cycle::after_transfers))]
     fn move_on(&mut self, begun: &BegunTransfer, turns: &[Turn; 2])
         ensures { self.new ≡ after_transfers self.old begun.now turns.now }
@@ -258,6 +314,18 @@ impl Engine {
         self.take_choice(choice);
     }
 
+    /// The transfers have their cycle. In most cycles nothing was begun, and no sequence ends or can go on.
+    #[inline(always)]
+    #[tactic(auto, using(crate::proofs::Idle::nothing_moves))]
+    fn transfer(&mut self, begun: &BegunTransfer, turns: &[Turn; 2])
+        ensures { self.new ≡ after_transfers self.old begun.now turns.now }
+    {
+        if is_nothing(&begun.read) && is_nothing(&begun.write) && !self.has_work(begun.counts) {
+            return;
+        }
+        self.move_on(begun, turns);
+    }
+
     /// The cycle, where this was begun and these turns were given.
     #[tactic(auto, unfolding(crate::specs::Cycle::next))]
     pub(crate) fn finish(&mut self, begun: &BegunTransfer, turns: &[Turn; 2])
@@ -266,9 +334,13 @@ impl Engine {
         if self.held {
             return;
         }
-        let credited = self.credited();
-        self.move_on(begun, turns);
-        self.step_timers(&credited);
+        let given = given_by(&self.timers);
+        if some_given(&given) {
+            self.finish_with_credits(begun, turns, &given);
+            return;
+        }
+        self.transfer(begun, turns);
+        self.advance_timers();
     }
 
     /// Nothing can happen by itself.

@@ -56,17 +56,13 @@ impl PacingTimer {
         }
     }
 
-    /// The timer after a cycle.
-    pub(crate) fn stepped(&self) -> PacingTimer
-        ensures { result ≡ stepped self.now }
+    /// A cycle of the timer.
+    #[inline(always)]
+    pub(crate) fn step_once(&mut self)
+        ensures { self.new ≡ stepped self.old }
     {
-        if !self.runs() {
-            return *self;
-        }
-        PacingTimer {
-            x: self.x,
-            y: self.y,
-            accumulator: self.accumulated(),
+        if self.runs() {
+            self.accumulator = self.accumulated();
         }
     }
 }

@@ -3,6 +3,7 @@ pub mod Control
 pub mod Queues
 pub mod Registers
 pub mod Words
+pub mod Told
 pub mod Cycle
 pub mod Bounds
 pub mod Laws

@@ -15,18 +15,19 @@ pub struct PioBlock {
     state: State,
     /// No machine is enabled, no written word waits, and no interrupt is enabled or forced.
     at_rest: bool,
+    /// No interrupt is enabled or forced.
+    silent: bool,
 }
 
 impl Model for PioBlock {
-    ghost use Rattle.std.specs.Prelude.{◌≡◌};
     ghost use Rattle.pio_block.specs.State.{Block};
-    ghost use Rattle.pio_block.specs.Words.{is_at_rest};
+    ghost use Rattle.pio_block.specs.Told.{AreTold};
 
     ghost Value = { Block };
 
     ghost view = { λ b. b.state };
 
-    ghost invariant = { λ b. b.at_rest ≡ is_at_rest b.state };
+    ghost invariant = { λ b. AreTold b.at_rest b.silent b.state };
 }
 
 impl PioBlock {
@@ -42,6 +43,7 @@ impl PioBlock {
         PioBlock {
             state: State::new(),
             at_rest: true,
+            silent: true,
         }
     }
 
@@ -67,6 +69,7 @@ impl PioBlock {
     {
         let allowed = self.state.effect(offset, write);
         self.at_rest = self.state.is_at_rest();
+        self.silent = self.state.is_silent();
         allowed
     }
 
@@ -93,6 +96,7 @@ impl PioBlock {
     {
         self.state.set_counter(machine, address);
         self.at_rest = self.state.is_at_rest();
+        self.silent = self.state.is_silent();
     }
 
     /// Holds the block in its reset state, or lets it go.
@@ -101,6 +105,7 @@ impl PioBlock {
     {
         self.state.set_held(held);
         self.at_rest = self.state.is_at_rest();
+        self.silent = self.state.is_silent();
     }
 
     /// What the machines have written to the pins: the levels, and the enables.
@@ -124,7 +129,7 @@ impl PioBlock {
         ensures value { result ≡ is_silent self.now }
         ensures lines { result ≡ true → lines_of self.now ≡ false ∷ false ∷ [] }
     {
-        self.state.is_silent()
+        self.silent
     }
 
     /// A cycle in which the block steps.
@@ -132,7 +137,7 @@ impl PioBlock {
         ensures { self.new ≡ after_cycle inputs.now inputs.second self.old }
     {
         self.state.step(inputs);
-        self.at_rest = self.state.is_at_rest();
+        self.at_rest = self.silent && !self.state.is_busy();
     }
 
     /// A machine is enabled, or a written word waits.
@@ -168,6 +173,7 @@ impl PioBlock {
     {
         self.state.copy_from(&other.state);
         self.at_rest = other.at_rest;
+        self.silent = other.silent;
     }
 }
 

@@ -73,7 +73,7 @@ fn overlaid(mask: u32, bits: u32, word: u32) -> u32
 impl State {
     ghost use Rattle.std.specs.Prelude.{◌≡◌, ◌<◌, Decides};
     ghost use Rattle.pio_block.specs.State.{at_reset, with_held, is_busy, machine_of};
-    ghost use Rattle.pio_block.specs.Words.{counter_set, pacing_of, register_list, outs_of};
+    ghost use Rattle.pio_block.specs.Words.{counter_set, pacing_of, register_list, outs_of, is_silent};
     ghost use Rattle.pio_block.specs.Cycle.{seen_by, all_written, with_stepped, joined, after_cycle};
 
     /// The reset state.
@@ -146,9 +146,10 @@ impl State {
     }
 
     /// A cycle of the block.
-    #[tactic(auto, unfolding(crate::specs::Cycle::after_cycle))]
+    #[tactic(auto, unfolding(crate::specs::Cycle::after_cycle, crate::specs::Cycle::joined))]
     pub(crate) fn step(&mut self, inputs: Inputs)
-        ensures { self.new ≡ after_cycle inputs.now inputs.second self.old }
+        ensures after { self.new ≡ after_cycle inputs.now inputs.second self.old }
+        ensures silent { is_silent self.new ≡ is_silent self.old }
     {
         let done = self.step_machines(inputs);
         self.join(&done);

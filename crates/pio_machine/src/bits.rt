@@ -31,7 +31,7 @@ fn shifted_right(word: u32, count: u8) -> u32
     requires { count ≤ 32 }
     ensures { result ≡ word / 2 ^ count }
 {
-    if count < 32 { word >> count } else { 0 }
+    (u64::from(word) >> count) as u32
 }
 
 /// The bits that leave a word at its bottom or at its top.

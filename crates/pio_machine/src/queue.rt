@@ -2,7 +2,7 @@
 
 ghost use Rattle.std.specs.Prelude.{◌≡◌, false};
 ghost use Rattle.pio_machine.specs.Queue.{loaded, is_spent, refilled, is_pull_void, pulled_from, try_pull, pushed, with_isr_cleared, try_push_now, try_push};
-ghost use Rattle.pio_machine.specs.Fields.{is_rx_full};
+ghost use Rattle.pio_machine.specs.Fields.{autopull as autopull_of, pull_threshold, is_rx_full};
 ghost use Rattle.pio_machine.specs.Tie.{stands_for};
 
 use crate::machine::{Machine1, Outcome};
@@ -33,6 +33,21 @@ impl Machine1 {
     {
         if self.autopull() {
             if self.is_spent() {
+                self.load();
+            }
+        }
+    }
+
+    /// Autopull, where these are its settings.
+    #[inline(always)]
+    #[tactic(auto, unfolding(crate::specs::Queue::refilled))]
+    pub(crate) fn refill_by(&mut self, autopull: bool, threshold: u8)
+        requires autopull { autopull ≡ autopull_of self.old }
+        requires threshold { threshold ≡ pull_threshold self.old }
+        ensures { self.new ≡ refilled self.old }
+    {
+        if autopull {
+            if threshold <= self.osr_count {
                 self.load();
             }
         }

@@ -140,11 +140,13 @@ impl Machine1 {
         ensures done { done.new ≡ out_pins destination (out_value count self.old) self.old
             done.old }
     {
+        let autopull = self.autopull();
+        let threshold = self.pull_threshold();
         let value = self.shift_out(count);
         self.out_pins(destination, value, done);
         self.put_out(destination, value, count);
         let outcome = outcome_of_out(destination, value);
-        self.refill();
+        self.refill_by(autopull, threshold);
         outcome
     }
 

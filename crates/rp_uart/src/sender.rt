@@ -1,6 +1,6 @@
 //! Sending.
 
-ghost use Rattle.std.specs.Prelude.{◌≡◌, ◌<◌, Some, None, if◌then◌else◌};
+ghost use Rattle.std.specs.Prelude.{◌≡◌, ◌<◌, true, false, Some, None, if◌then◌else◌};
 ghost use Rattle.rp_uart.specs.Sender.{next_frame, is_last_bit, after_bit, after_frame, after_sending, ended_byte, frame_byte};
 
 use crate::interrupts::TRANSMIT;
@@ -41,6 +41,30 @@ impl Uart {
             }
             Sender::Frame(frame) => self.send_frame(frame),
         }
+    }
+
+    /// The sender's cycle, where a frame is sent and no bit of it ends; else nothing. Whether it was.
+    #[inline(always)]
+    #[tactic(auto, unfolding(crate::specs::Sender::after_sending))]
+    pub(crate) fn goes_on(&mut self) -> bool
+        requires { 0 < self.old.divisor.integer }
+        ensures on { result ≡ true → self.new ≡ after_sending self.old }
+        ensures off { result ≡ false → self.new ≡ self.old }
+        ensures byte { result ≡ true → ended_byte self.old.sender self.old ≡ None }
+    {
+        let Sender::Frame(frame) = self.sender else {
+            return false;
+        };
+        let (over, elapsed) = self.divisor.pass(frame.elapsed);
+        if over {
+            return false;
+        }
+        self.sender = Sender::Frame(Sending {
+            byte: frame.byte,
+            bit: frame.bit,
+            elapsed,
+        });
+        true
     }
 
     /// The cycle of a frame.

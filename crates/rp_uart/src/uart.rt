@@ -1,6 +1,7 @@
 //! A UART: its state, its cycle and its readers.
 
-ghost use Rattle.std.specs.Prelude.{◌≡◌, true, not, None, Decides};
+ghost use Rattle.std.specs.Prelude.{◌≡◌, true, false, not, None, Decides};
+ghost use Rattle.rp_uart.specs.declared.receiver.Receiver.TheVariants.{Idle};
 ghost use Rattle.rp_uart.specs.State.{at_reset};
 ghost use Rattle.rp_uart.specs.Interrupts.{is_line_high};
 ghost use Rattle.rp_uart.specs.Sender.{is_idle};
@@ -170,8 +171,22 @@ impl Uart {
 
     /// One cycle of a UART that has a divisor.
     #[inline(never)]
-    #[tactic(auto, using(crate::proofs::Kept::kept))]
+    #[tactic(auto, using(crate::proofs::GoesOn::goes_on))]
     fn run(&mut self, line: bool) -> Option<u8>
+        requires { is_running self.old ≡ true }
+        ensures after { self.new ≡ after_step line self.old }
+        ensures byte { result ≡ sent_byte self.old }
+    {
+        if self.hears_nothing(line) && self.goes_on() {
+            return None;
+        }
+        self.run_any(line)
+    }
+
+    /// The same, whatever is sent and received.
+    #[inline(never)]
+    #[tactic(auto, using(crate::proofs::Kept::kept))]
+    fn run_any(&mut self, line: bool) -> Option<u8>
         requires { is_running self.old ≡ true }
         ensures after { self.new ≡ after_step line self.old }
         ensures byte { result ≡ sent_byte self.old }
@@ -256,6 +271,20 @@ impl Uart {
         ensures { result ≡ is_idle self.now.sender }
     {
         matches!(self.sender, Sender::Idle)
+    }
+
+    /// The line is high, the receiver hears it and waits for a low one, and no byte waits to be told.
+    #[inline(always)]
+    fn hears_nothing(&self, line: bool) -> bool
+        ensures receiver { result ≡ true → self.now.receiver ≡ Idle }
+        ensures waited { result ≡ true → self.now.waited ≡ None }
+        ensures line { result ≡ true → line ≡ true }
+        ensures loopback { result ≡ true → self.now.control.loopback ≡ false }
+    {
+        matches!(self.receiver, Receiver::Idle)
+            && self.waited.is_none()
+            && line
+            && !self.control.loopback
     }
 
     /// The level that the receiver hears.

@@ -4,4 +4,4 @@ use Rattle.pio_block.proofs.AtRest.{rests}
 use Rattle.pio_block.proofs.block.PioBlock.is_at_rest.Goals as goal
 
 pub returns-clause-rests : goal.returns-clause-rests
-returns-clause-rests c = λ e. rests c.args.self.now (sym (ap is_at_rest c.self.view_is) ∙ (sym c.self.invariant ∙ e))
+returns-clause-rests c = λ e. rests c.args.self.now (sym (ap is_at_rest c.self.view_is) ∙ (sym c.self.invariant.of_rest ∙ e))
