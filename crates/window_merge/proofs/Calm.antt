@@ -204,10 +204,6 @@ pins_same pins o e = rw e refl
 abbrev after_lanes : Setting → Begun → State → State
 after_lanes w b s = with_turns w b (calm_turns b) (with_grants (wanted b) s)
 
-core1_after : (w : Setting) (b : Begun) (s : State) → core.next s.core1 b.core1 (turn_alone (core.want_of b.core1) ∷ turn.Nothing ∷ []) ≡ (after_lanes w b s).core1
-unfolding with_turns
-core1_after w b s = refl
-
 -- core 1 and the pads know of SIO what they have to know
 record KnowsOn (w : Setting) (b : Begun) (s t : State) : Type 0 where
   asleep : t.core1.asleep ≡ s.core1.asleep

@@ -14,6 +14,7 @@ use Rattle.rp_machine.specs.Deeds.{asked_of}
 use Rattle.window_merge.specs.declared.compare.Comparer.{Comparer}
 use Rattle.window_merge.specs.Window.{is_port_of, share_port, clash}
 use Rattle.window_merge.specs.Merging.{next_index}
+use Rattle.window_merge.proofs.Agree.{all_same}
 
 -- ---- indices in a log
 
@@ -54,11 +55,6 @@ pub record Both {B : Type 0} (old : Comparer) (tree : Asking B) (result : B) (ne
   pub left_over : drop new.index old.log.now ≡ left (drop old.index old.log.now) tree
   pub within : old.index ≤ length old.log.now → new.index ≤ length old.log.now
   pub is_same : new.same ≡ old.same && not (differs (answer_of old.lane old.machine.now) (talk (drop old.index old.log.now) tree))
-
-all_same : (a b c : Bool) → (a && b) && not c ≡ a && not (not b || c)
-all_same true true c = refl
-all_same true false c = refl
-all_same false b c = refl
 
 pub runs_both : {B : Type 0} (old : Comparer) (tree : Asking B) (result : B) (new : Comparer) → Runs ByBoth old tree result new → Both old tree result new
 runs_both old (Ready begun) result new r = record {

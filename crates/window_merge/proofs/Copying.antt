@@ -8,23 +8,24 @@ use Rattle.lane_look.specs.declared.lane.Want.{Want}
 use Rattle.lane_look.specs.declared.lane.Want.TheVariants as want
 use Rattle.lane_look.specs.declared.marks.Mark.{Mark}
 use Rattle.lane_look.specs.Replay.{Meaning, Entry, asked, after_begun, marks_with}
-use Rattle.lane_look.specs.Alone.{Surroundings, surroundings, Alone, standing, all_stored, begun_alone, alone_cycle, alone, ends_wants, ends_now, ends_at, first_from, least, alone_length}
+use Rattle.lane_look.specs.Alone.{Surroundings, surroundings, Alone, all_stored, begun_alone, alone_cycle, alone, ends_wants, ends_now, ends_at, first_from, least, alone_length}
 use Rattle.rp_machine.specs.State.{State}
 use Rattle.pio_block.specs.Words as pio
 use Rattle.rp_machine.specs.Answers.{packed_pair, block_lines, lines_of, pacing_of, inputs_of, outs_of, answer_of}
 use Rattle.window_merge.specs.Lanes.{stored_by, around}
 use Rattle.window_merge.specs.declared.copies.Copies.{Copies}
-use Rattle.window_merge.specs.Around.{copies_of, copied_answer, copied_store, copied, RanAlone}
+use Rattle.window_merge.specs.Around.{copies_of, copied_answer, copied_store, copied}
 use Rattle.window_merge.specs.Merging.{IsRunAlone}
+use Rattle.window_merge.specs.Jobs.{RanIn}
 use Rattle.lane_look.specs.declared.replay.Report.{Report}
 
 -- ---- two functions that answer the same
 
-answered_same : {B : Type 0} (f g : Ask → ℕ) (tree : Asking B) → ((ask : Ask) → f ask ≡ g ask) → answered f tree ≡ answered g tree
+pub answered_same : {B : Type 0} (f g : Ask → ℕ) (tree : Asking B) → ((ask : Ask) → f ask ≡ g ask) → answered f tree ≡ answered g tree
 answered_same f g (Ready begun) h = refl
 answered_same {B} f g (Question ask next) h = ap (λ (x : ℕ). answered f (next x)) (h ask) ∙ answered_same f g (next (g ask)) h
 
-asked_same : {B : Type 0} (f g : Ask → ℕ) (tree : Asking B) → ((ask : Ask) → f ask ≡ g ask) → asked f tree ≡ asked g tree
+pub asked_same : {B : Type 0} (f g : Ask → ℕ) (tree : Asking B) → ((ask : Ask) → f ask ≡ g ask) → asked f tree ≡ asked g tree
 asked_same f g (Ready begun) h = refl
 asked_same {B} f g (Question ask next) h = ap (λ (x : ℕ). (ask, x) ∷ asked f (next x)) (h ask) ∙ ap (λ (es : List Entry). (ask, g ask) ∷ es) (asked_same f g (next (g ask)) h)
 
@@ -105,7 +106,7 @@ pick : (c : Bool) (s : State) → (if c then packed_pair (pio.outs_of s.pio0) el
 pick true s = refl
 pick false s = refl
 
-outs_same : (block : ℕ) (s : State) → (if block == 0 then outs_of 0 s else outs_of 1 s) ≡ outs_of block s
+pub outs_same : (block : ℕ) (s : State) → (if block == 0 then outs_of 0 s else outs_of 1 s) ≡ outs_of block s
 unfolding outs_of
 outs_same block s = pick (block == 0) s
 
@@ -128,26 +129,14 @@ stores_copied lane s (want.Stopped cause) = refl
 pub is_copied : (lane : ℕ) → Copied (surroundings copied_answer copied_store) (around lane) (copies_of lane)
 is_copied lane = record { answers = answers_copied lane; stores = stores_copied lane }
 
--- a report of a run by copies is one of the run alone
-pub as_run_alone : {E S B : Type 0} (m : Meaning E S B) (env : E) (n : Meaning (Unit {0}) S B) (lane : ℕ) (before : S) (s : State) (bound : ℕ) (report : Report S)
-    → RanAlone m env lane before s bound report → SameLane m env n tt → IsRunAlone n lane before s bound report
-as_run_alone {E} {S} {B} m env n lane before s bound report h same = record {
-  same_start = h.same_start;
-  same_lane = h.same_lane;
-  same_length = h.same_length ∙ length_same m env n tt copied (around lane) (copies_of lane) same (is_copied lane) before s.cycle s bound;
-  same_log = h.same_log ∙ ap (λ (r : Alone S Copies). r.talk) (alone_same m env n tt copied (around lane) (copies_of lane) same (is_copied lane) before s.cycle s report.length);
-}
-
--- a report that was made by the run alone
-pub as_ran : {E S B : Type 0} (m : Meaning E S B) (env : E) (lane : ℕ) (before : S) (s : State) (bound start : ℕ) (lane_before : S) (copies : Copies) (report : Report S) (around_after : Copies)
-    → copies ≡ copies_of lane s → start ≡ s.cycle → lane_before ≡ before
-    → report.start ≡ start → report.before ≡ lane_before
-    → report.length ≡ alone_length m copied env lane_before start copies bound
-    → standing report.after around_after report.log report.marks ≡ alone m copied env lane_before start copies report.length
-    → RanAlone m env lane before s bound report
-as_ran {E} {S} m env lane before s bound start lane_before copies report around_after e_copies e_start e_lane e_report e_before e_length e_run = record {
-  same_start = e_report ∙ e_start;
-  same_lane = e_before ∙ e_lane;
-  same_length = rw (← e_copies, ← e_start, ← e_lane) e_length;
-  same_log = rw (← e_copies, ← e_start, ← e_lane) (ap (λ (r : Alone S Copies). r.talk) e_run);
-}
+-- a report of a run by copies of a state is the run alone
+pub as_run_alone : {S B : Type 0} (m : Meaning (Unit {0}) S B) (lane : ℕ) (before room : S) (s : State) (start : ℕ) (copies : Copies) (bound bound' : ℕ) (report : Report S)
+    → start ≡ s.cycle → copies ≡ copies_of lane s → room ≡ before → bound ≡ bound' → RanIn m tt room start copies bound report → IsRunAlone m lane before s bound' report
+as_run_alone {S} m lane before room s start copies bound bound' report e_start e_copies e_lane e_bound h =
+    let same : SameLane m tt m tt = record { asks = λ s cycle. refl; wanted = λ b. refl; next = λ s b. refl; marked = λ s b marks. refl } in
+    record {
+      same_start = h.same_start ∙ e_start;
+      same_lane = h.same_lane ∙ e_lane;
+      same_length = rw (← e_copies, ← e_start, ← e_lane, ← e_bound) h.same_length ∙ length_same m tt m tt copied (around lane) (copies_of lane) same (is_copied lane) before s.cycle s bound';
+      same_log = rw (← e_copies, ← e_start, ← e_lane) h.same_log ∙ ap (λ (r : Alone S Copies). r.talk) (alone_same m tt m tt copied (around lane) (copies_of lane) same (is_copied lane) before s.cycle s report.length);
+    }

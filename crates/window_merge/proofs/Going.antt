@@ -1,5 +1,5 @@
 -- The way to a cycle by windows goes along the states of the run.
-use Rattle.std.proofs.Common.{◌≡◌, ℕ, zero, suc, ◌+◌, ◌-◌, ◌*◌, ◌<◌, ◌≤◌, ◌==◌, Bool, true, false, if◌then◌else◌, Some, None, refl, ap, sym, ◌∙◌, subst, arith}
+use Rattle.std.proofs.Common.{◌≡◌, ℕ, ◌+◌, ◌-◌, ◌*◌, ◌<◌, ◌≤◌, Bool, true, false, if◌then◌else◌, Some, None, refl, ap, sym, ◌∙◌, subst, arith}
 use Rattle.rp_base.specs.declared.Why.{Why}
 use Rattle.outer_lane.specs.Setting.{Setting}
 use Rattle.rp_machine.specs.State.{State}
@@ -49,11 +49,6 @@ way_cycle w s to now before steps now' steps' h lt runs e counted =
     let at : now'.cycle ≡ now.cycle + 1 = ap (λ (t : State). t.cycle) e ∙ next_cycle w now in
     way_window w s to now before steps 1 now' steps' h (e ∙ sym (one w now runs)) at (omega (arith, lt, at)) counted
 
-pub way_reached : (w : Setting) (s : State) (to : ℕ) (now : State) (before steps : ℕ) → OnWay w s to now before steps → to ≤ now.cycle → now ≡ states w s (to - s.cycle)
-way_reached w s to now before steps h le =
-    let within = h.within in
-    h.is_states ∙ ap (λ k. states w s (k - s.cycle)) (omega (arith, within, le))
-
 pub way_stopped : (w : Setting) (s : State) (to : ℕ) (now : State) (before steps : ℕ) (why : Why) → OnWay w s to now before steps → stop w now ≡ Some why → now ≡ states w s (to - s.cycle)
 way_stopped w s to now before steps why h e =
     let later = h.later in
@@ -66,15 +61,6 @@ way_stopped w s to now before steps why h e =
 -- how many steps are left at most
 abbrev pub steps_left : ℕ → State → Bool → ℕ
 steps_left to now after_empty = 2 * (to - now.cycle) + (if after_empty then 0 else 1)
-
-fewer_by : (empty : Bool) (to at at' n : ℕ) → (n == 0) ≡ empty → at' ≡ at + n → at' ≤ to → 2 * (to - at') + (if empty then 0 else 1) < 2 * (to - at) + 1
-fewer_by true to at at' n e is le = omega (arith, is, le)
-fewer_by false to at at' zero e is le = absurd (cc e)
-fewer_by false to at at' (suc n) e is le = omega (arith, is, le)
-
-pub fewer_window : (to : ℕ) (now now' : State) (before after : Bool) (n : ℕ) → before ≡ false → after ≡ (n == 0) → now'.cycle ≡ now.cycle + n → now'.cycle ≤ to → steps_left to now' after < steps_left to now before
-fewer_window to now now' before after n e_before e_after at le =
-    rw e_before (fewer_by after to now.cycle now'.cycle n (sym e_after) at le)
 
 fewer_one : (b : Bool) (x y : ℕ) → y + 1 ≡ x → 2 * y + 1 < 2 * x + (if b then 0 else 1)
 fewer_one true x y e = omega (arith, e)

@@ -161,13 +161,6 @@ access_either false a b p q = q
 outside_placed : (m : Master) (request : Request) → AccessIsPlaced (dma_asks.elsewhere m request spot.Outside)
 outside_placed m request = access_either (dma_asks.may_be_device request.address) (access.Outward request) (dma_asks.outside m request) tt tt
 
-elsewhere_placed : (m : Master) (request : Request) (spot : Spot) → AccessIsPlaced (dma_asks.elsewhere m request spot)
-elsewhere_placed m request (spot.Reg block offset alias) = tt
-elsewhere_placed m request spot.Outside = outside_placed m request
-elsewhere_placed m request (spot.Ram index bank) = tt
-elsewhere_placed m request (spot.Sio offset) = tt
-elsewhere_placed m request (spot.Ppb offset) = tt
-
 write_placed : (request : Request) (spot : Spot) → place_of request.address ≡ spot → AccessIsPlaced (dma_asks.write_at request spot)
 write_placed request (spot.Ram index bank) e = ap is_ram_spot e
 write_placed request (spot.Reg block offset alias) e = tt

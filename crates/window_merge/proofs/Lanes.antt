@@ -63,7 +63,7 @@ pub ends_is : {S B : Type 0} (m : Meaning (Unit {0}) S B) (lane : ℕ) (before :
 unfolding ends_at wanted_in
 ends_is m lane before s k = refl
 
-pub lane_goes_on : {S B : Type 0} (m : Meaning (Unit {0}) S B) (lane : ℕ) (before : S) (s : State) (bound n k : ℕ) (state : S) (cycle : ℕ) (rest : List Entry) → LaneStands m lane before s n k state rest → k ≢ n → n ≤ alone_length m (around lane) tt before s.cycle s bound → LaneTold m lane before s n k state cycle rest → ends_wants (m.wanted (told rest (m.asks tt state cycle))) ≡ false
+pub lane_goes_on : {S B : Type 0} (m : Meaning (Unit {0}) S B) (lane : ℕ) (before : S) (s : State) (bound n k : ℕ) (state : S) (cycle : ℕ) (rest : List Entry) → LaneStands m lane before s n k state rest → k ≢ n → n ≡ alone_length m (around lane) tt before s.cycle s bound → LaneTold m lane before s n k state cycle rest → ends_wants (m.wanted (told rest (m.asks tt state cycle))) ≡ false
 unfolding alone_length
 lane_goes_on m lane before s bound n k state cycle rest h on e t =
     let within = h.within in

@@ -1,11 +1,11 @@
 pub mod Agree
+pub mod AskingAlone
 pub mod Banks
 pub mod Calm
 pub mod Comparing
 pub mod Copying
 pub mod Going
 pub mod InSram
-pub mod Reported
 pub mod Keeping
 pub mod Lanes
 pub mod Logs
@@ -16,9 +16,9 @@ pub mod Passing
 pub mod Patching
 pub mod Ports
 pub mod Positions
-pub mod Quiet
 pub mod Reading
 pub mod Replaying
+pub mod Reported
 pub mod Resting
 pub mod Starting
 pub mod Telling

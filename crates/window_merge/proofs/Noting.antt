@@ -1,8 +1,8 @@
 -- What is noted of the writes of a window: SRAM as it was before, and as each lane sees it.
-use Rattle.std.proofs.Common.{◌≡◌, ℕ, ◌+◌, ◌<◌, ◌≤◌, ◌==◌, Bool, true, false, if◌then◌else◌, inl, inr, List, [], ◌∷◌, ◌++◌, length, Option, Some, None, refl, ap, sym, ◌∙◌, subst, length-append, arith}
+use Rattle.std.proofs.Common.{◌≡◌, ℕ, ◌+◌, ◌<◌, ◌≤◌, ◌==◌, Bool, true, false, if◌then◌else◌, inl, inr, List, [], ◌∷◌, ◌++◌, length, Option, Some, None, refl, ap, sym, ◌∙◌, length-append, arith}
 use Rattle.std.specs.Prelude.{slice_index, slice_set}
 use Rattle.std.proofs.lemmas.Bool.Decides.{eqb_tells}
-use Rattle.std.proofs.lemmas.List.{get_or-set_same, get_or-set_other}
+use Rattle.std.proofs.lemmas.List.{get_or-set_other}
 use Rattle.rp_base.specs.declared.Request.{Request}
 use Rattle.rp_base.specs.declared.map.Spot.{Spot}
 use Rattle.rp_base.specs.declared.map.Spot.TheVariants as spot
@@ -17,23 +17,9 @@ use Rattle.rp_machine.specs.Cycle.{stored}
 use Rattle.window_merge.specs.Patch.{patched, sram_after}
 use Rattle.window_merge.specs.Notes.{first_of, last_of, is_none, seen_word, write_of, original_word, own_word, with_word}
 use Rattle.window_merge.proofs.Banks.{HasBank, has_bank}
-use Rattle.window_merge.proofs.Patching.{patched-append, set-length}
+use Rattle.window_merge.proofs.Patching.{patched-append, patched_last}
 
 -- ---- words by their index
-
--- what stands at an index once a word was put
-set_at : (sram : List ℕ) (at word i : ℕ) → i < length sram → slice_index (slice_set sram at word) i ≡ (if at == i then word else slice_index sram i)
-set_at sram at word i lt = elim (eqb_tells at i) [
-  | inl h ↦ rw h.0 (ap (λ n. slice_index (slice_set sram n word) i) h.1 ∙ get_or-set_same sram i word 0 lt)
-  | inr h ↦ rw h.0 (get_or-set_other sram at i word 0 (λ e. h.1 (sym e)))
-]
-
-pub patched_last : (own : List (ℕ × ℕ)) (sram : List ℕ) (i : ℕ) → i < length sram → slice_index (patched own sram) i ≡ last_of own i (slice_index sram i)
-unfolding patched
-patched_last [] sram i lt = refl
-patched_last (n ∷ ns) sram i lt =
-    patched_last ns (slice_set sram n.0 n.1) i (subst (λ l. i < l) (sym (set-length sram n.0 n.1)) lt)
-    ∙ ap (last_of ns i) (set_at sram n.0 n.1 i lt)
 
 first_append : (words : List (ℕ × ℕ)) (at noted i word : ℕ) → first_of (words ++ (at, noted) ∷ []) i word ≡ first_of words i (if at == i then noted else word)
 first_append [] at noted i word = refl

@@ -36,14 +36,15 @@ use Rattle.window_merge.specs.declared.notes.Notes.{Notes}
 use Rattle.window_merge.specs.declared.start.Start.{Start}
 use Rattle.window_merge.specs.Notes.{is_none, seen_of, seen_word, is_clean, write_of, original_word, own_word, with_word, no_notes, noted, noted_by, HasRoom}
 use Rattle.window_merge.specs.Start.{start_of, guess, begun_from, differs_from, ends_wanted, goes_by, goes_first, goes_on}
-use Rattle.window_merge.proofs.Agree.{both_false}
+use Rattle.window_merge.proofs.Agree.{both_false, differ_of}
 use Rattle.window_merge.proofs.Calm.{IsCalm, calm_sram}
+use Rattle.window_merge.proofs.Copying.{answered_same, asked_same}
 use Rattle.window_merge.proofs.Meeting.{least_meets, short_window}
 use Rattle.window_merge.proofs.Lanes.{LaneStands, lane_first, below_least, ends_is, no_cycles}
 use Rattle.window_merge.proofs.Noting.{Restores, undoes_on, own_on, still, sight, no_word, with_word-length, in_sram, after_want}
 use Rattle.window_merge.proofs.Reading.{read_only}
-use Rattle.window_merge.proofs.Starting.{HasLines, lines0, lines1, lines2, lines3, lines4, lines5, guess_is, around_over, stored_sram, same_answered, same_asked, differs_never}
-use Rattle.window_merge.proofs.Windows.{Lengths, AreWithin, AreOn, Stands, AreTold, Goes, all_told, are_within, stands_first, fitted, goes_next, goes_tried, run_within, full_within, they_end, runs_on, short, differ_of, first_ends}
+use Rattle.window_merge.proofs.Starting.{HasLines, lines0, lines1, lines2, lines3, lines4, lines5, guess_is, around_over, stored_sram, differs_never}
+use Rattle.window_merge.proofs.Windows.{Lengths, AreLengths, AreOn, Stands, AreTold, Tries, all_told, stands_first, fitted, stands_next, closes_within, run_within, full_within, they_end, runs_on, short, first_ends}
 
 -- ---- the whole runs alone
 
@@ -57,8 +58,8 @@ whole w s = record {
   outer = alone_length (peripheral_lane w) (around 5) tt s.outer s.cycle s (longest w s);
 }
 
-all_whole : (w : Setting) (s : State) → AreWithin w s (whole w s)
-all_whole w s = are_within w s (whole w s) (record { core0 = refl; core1 = refl; dma = refl; pio0 = refl; pio1 = refl; outer = refl })
+all_whole : (w : Setting) (s : State) → AreLengths w s (whole w s)
+all_whole w s = record { core0 = refl; core1 = refl; dma = refl; pio0 = refl; pio1 = refl; outer = refl }
 
 abbrev whole_talks : Setting → State → Rests
 whole_talks w s = record {
@@ -226,7 +227,7 @@ told_same w s k now rests b t h =
 
 -- the cycle is tried, in which no run ends
 record Tried (w : Setting) (s : State) (k : ℕ) (now : State) (rests : Rests) (marks : List Mark) (b : Begun) (d : Bool) : Type 0 where
-  goes : Goes w s (whole w s) k now rests marks
+  goes : Tries w s (whole w s) k now rests marks
   same : begun_by rests now ≡ b
   fitting : fits rests now ≡ not (d || clash (wants_of b))
 
@@ -234,7 +235,7 @@ tried : (w : Setting) (s : State) (k : ℕ) (now : State) (rests : Rests) (marks
     → (AreTold w s (whole w s) k now rests → differs_by rests now ≡ d)
     → is_launching s.core1 ≡ false → k < longest w s → ends_wanted (wanted b) ≡ false → Tried w s k now rests marks b d
 tried w s k now rests marks b d t h differ calm lt e =
-    let goes : Goes w s (whole w s) k now rests marks = record { stands = t; lengths = all_whole w s; on = runs_go_on w s k now rests marks b t h calm lt e; below = lt } in
+    let goes : Tries w s (whole w s) k now rests marks = record { stands = t; lengths = all_whole w s; on = runs_go_on w s k now rests marks b t h calm lt e; below = lt } in
     let told_here = all_told w s (whole w s) k now rests marks goes in
     let same = told_same w s k now rests b told_here h in
     record {
@@ -266,7 +267,7 @@ closed w s k now rests marks b d goes bound t h differ calm short lt e is_false 
   | inl ends ↦ run_within w s (whole w s) k now rests marks bound t lt (run_ends w s k now rests marks b t h ends)
   | inr none ↦
       let r = tried w s k now rests marks b d t h differ calm (omega (arith, lt, short)) none in
-      goes_tried w s (whole w s) k now rests marks goes bound r.goes (e ∙ kept_by d (ends_wanted (wanted b)) (clash (wants_of b)) none ∙ sym r.fitting) is_false lt
+      closes_within w s (whole w s) k now rests marks goes bound r.goes (e ∙ kept_by d (ends_wanted (wanted b)) (clash (wants_of b)) none ∙ sym r.fitting) is_false lt
 ]
 
 -- where it is, the machine goes on
@@ -290,7 +291,7 @@ gone_on w s k now rests marks b d goes now' marks' t h differ calm lt e is_true 
     let f = fitted w s (whole w s) k now rests marks r.goes (sym fitting ∙ is_true) in
     record {
       rests = left_by rests now;
-      stands = goes_next w s (whole w s) k now rests marks goes now' (left_by rests now) marks' r.goes fitting is_true
+      stands = stands_next w s (whole w s) k now rests marks goes now' (left_by rests now) marks' r.goes fitting is_true
           (subst (λ (x : Begun). now' ≡ (if goes then next_by w x (wanted x) now else now)) (sym r.same) e_now) refl
           (subst (λ (x : Begun). marks' ≡ marks ++ (if goes then outer.marked w now.outer x.outer ∷ [] else [])) (sym r.same) e_marks);
       calm = subst (λ (x : Begun). IsCalm x now) (sym f.same ∙ r.same) f.calm;
@@ -367,24 +368,24 @@ sees2 s k now start notes f i lt = sight (is_clean 2 notes) notes.dma notes.orig
     (λ c. let p = clean_and (is_none notes.core0) (is_none notes.core1) c in f.clean2 (no_word notes.core0 p.0) (no_word notes.core1 p.1)) f.restores f.dma f.long lt
 
 -- a lane that wants nothing leaves what is around it
-quiet_around : {S B : Type 0} (m : Meaning (Unit {0}) S B) (lane : ℕ) (before : S) (s : State) (k : ℕ)
+still_around : {S B : Type 0} (m : Meaning (Unit {0}) S B) (lane : ℕ) (before : S) (s : State) (k : ℕ)
     → ((t : State) (did : B) → all_stored (around lane) t (m.wanted did) ≡ t) → (alone m (around lane) tt before s.cycle s k).around ≡ s
 unfolding alone
-quiet_around m lane before s zero h = refl
-quiet_around m lane before s (suc k) h = h _ _ ∙ quiet_around m lane before s k h
+still_around m lane before s zero h = refl
+still_around m lane before s (suc k) h = h _ _ ∙ still_around m lane before s k h
 
 -- such a lane sees SRAM as it was at the start
 sees_start : {S B : Type 0} (m : Meaning (Unit {0}) S B) (lane : ℕ) (before : S) (s : State) (k : ℕ) (now : State) (start : Start) (notes : Notes) → Follows s k now start notes
     → ((t : State) (did : B) → all_stored (around lane) t (m.wanted did) ≡ t)
     → Sees (seen_word (is_none notes.core0 && (is_none notes.core1 && is_none notes.dma)) [] notes.originals now.sram) (sram_alone m lane before s k)
 unfolding patched
-sees_start m lane before s k now start notes f quiet i lt =
+sees_start m lane before s k now start notes f stores_none i lt =
     sight (is_none notes.core0 && (is_none notes.core1 && is_none notes.dma)) [] notes.originals now.sram s.sram s.sram i
     (λ c.
     let p = both_true (is_none notes.core0) _ c in
     let q = both_true (is_none notes.core1) (is_none notes.dma) p.1 in
     f.clean (no_word notes.core0 p.0) (no_word notes.core1 q.0) (no_word notes.dma q.1)) f.restores refl f.long lt
-    ∙ ap (λ (t : State). slice_index t.sram i) (sym (quiet_around m lane before s k quiet))
+    ∙ ap (λ (t : State). slice_index t.sram i) (sym (still_around m lane before s k stores_none))
 
 -- what the start answers is what the run alone is answered
 answers_alone : {S B : Type 0} (m : Meaning (Unit {0}) S B) (lane : ℕ) (before : S) (s : State) (k : ℕ) (start : Start) (seen : ℕ → ℕ) → start ≡ start_of s → HasLines lane s
@@ -415,12 +416,12 @@ all_alone w s k now start notes f = record {
 
 begins_later : (w : Setting) (s : State) (k : ℕ) (now : State) (start : Start) (notes : Notes) → AnswerAlone w s k now start notes → Begins w s k now (begun_from start notes now)
 begins_later w s k now start notes a = record {
-  core0 = same_answered _ _ (core_asks.asks now.core0 now.cycle) a.core0;
-  core1 = same_answered _ _ (core_asks.asks now.core1 now.cycle) a.core1;
-  dma = same_answered _ _ (dma_asks.asks now.dma) a.dma;
-  pio0 = same_answered _ _ (pio.asks now.pio0) a.pio0;
-  pio1 = same_answered _ _ (pio.asks now.pio1) a.pio1;
-  outer = same_answered _ _ (outer.asks now.outer now.cycle) a.outer;
+  core0 = answered_same _ _ (core_asks.asks now.core0 now.cycle) a.core0;
+  core1 = answered_same _ _ (core_asks.asks now.core1 now.cycle) a.core1;
+  dma = answered_same _ _ (dma_asks.asks now.dma) a.dma;
+  pio0 = answered_same _ _ (pio.asks now.pio0) a.pio0;
+  pio1 = answered_same _ _ (pio.asks now.pio1) a.pio1;
+  outer = answered_same _ _ (outer.asks now.outer now.cycle) a.outer;
 }
 
 -- the logs of the whole runs would tell the same answers
@@ -428,12 +429,12 @@ differs_later : (w : Setting) (s : State) (k : ℕ) (now : State) (rests : Rests
     → differs_by rests now ≡ differs_from start notes now
 differs_later w s k now rests start notes a t =
     rw (
-      t.core0.talk_here ∙ sym t.core0.asked_here ∙ sym (same_asked _ _ (core_asks.asks now.core0 now.cycle) a.core0),
-      t.core1.talk_here ∙ sym t.core1.asked_here ∙ sym (same_asked _ _ (core_asks.asks now.core1 now.cycle) a.core1),
-      t.dma.talk_here ∙ sym t.dma.asked_here ∙ sym (same_asked _ _ (dma_asks.asks now.dma) a.dma),
-      t.pio0.talk_here ∙ sym t.pio0.asked_here ∙ sym (same_asked _ _ (pio.asks now.pio0) a.pio0),
-      t.pio1.talk_here ∙ sym t.pio1.asked_here ∙ sym (same_asked _ _ (pio.asks now.pio1) a.pio1),
-      t.outer.talk_here ∙ sym t.outer.asked_here ∙ sym (same_asked _ _ (outer.asks now.outer now.cycle) a.outer),
+      t.core0.talk_here ∙ sym t.core0.asked_here ∙ sym (asked_same _ _ (core_asks.asks now.core0 now.cycle) a.core0),
+      t.core1.talk_here ∙ sym t.core1.asked_here ∙ sym (asked_same _ _ (core_asks.asks now.core1 now.cycle) a.core1),
+      t.dma.talk_here ∙ sym t.dma.asked_here ∙ sym (asked_same _ _ (dma_asks.asks now.dma) a.dma),
+      t.pio0.talk_here ∙ sym t.pio0.asked_here ∙ sym (asked_same _ _ (pio.asks now.pio0) a.pio0),
+      t.pio1.talk_here ∙ sym t.pio1.asked_here ∙ sym (asked_same _ _ (pio.asks now.pio1) a.pio1),
+      t.outer.talk_here ∙ sym t.outer.asked_here ∙ sym (asked_same _ _ (outer.asks now.outer now.cycle) a.outer),
     ) refl
 
 -- in the first cycle nothing differs

@@ -1,13 +1,13 @@
 -- What a word of SRAM is where words were written into it.
-use Rattle.std.proofs.Common.{◌≡◌, ℕ, zero, suc, ◌+◌, ◌<◌, List, [], ◌∷◌, ◌++◌, length, take, Some, refl, ap, sym, ◌∙◌, add-one, arith}
+use Rattle.std.proofs.Common.{◌≡◌, ℕ, zero, suc, ◌<◌, ◌==◌, if◌then◌else◌, inl, inr, List, [], ◌∷◌, ◌++◌, length, refl, ap, sym, ◌∙◌, subst, arith}
 use Rattle.std.specs.Prelude.{slice_index, slice_set}
-use Rattle.std.specs.List.{slice_get}
 use Rattle.std.proofs.Math.ListN.{set}
+use Rattle.std.proofs.lemmas.Bool.Decides.{eqb_tells}
 use Rattle.std.proofs.lemmas.List.{get_or-set_same, get_or-set_other}
 use Rattle.ram_banks.specs.Lanes.{with_lanes}
 use Rattle.ram_banks.specs.Sram.{written}
+use Rattle.window_merge.specs.Notes.{last_of}
 use Rattle.window_merge.specs.Patch.{patched}
-use Rattle.window_merge.proofs.Logs.{take_more}
 
 pub patched-append : (words : List (ℕ × ℕ)) (word : ℕ × ℕ) (sram : List ℕ) → patched (words ++ word ∷ []) sram ≡ slice_set (patched words sram) word.0 word.1
 unfolding patched
@@ -19,38 +19,25 @@ set-length [] i x = refl
 set-length (y ∷ xs) zero x = refl
 set-length (y ∷ xs) (suc i) x = ap suc (set-length xs i x)
 
-pub patched-length : (words : List (ℕ × ℕ)) (sram : List ℕ) → length (patched words sram) ≡ length sram
+-- what stands at an index once a word was put
+set_at : (sram : List ℕ) (at word i : ℕ) → i < length sram → slice_index (slice_set sram at word) i ≡ (if at == i then word else slice_index sram i)
+set_at sram at word i lt = elim (eqb_tells at i) [
+  | inl h ↦ rw h.0 (ap (λ n. slice_index (slice_set sram n word) i) h.1 ∙ get_or-set_same sram i word 0 lt)
+  | inr h ↦ rw h.0 (get_or-set_other sram at i word 0 (λ e. h.1 (sym e)))
+]
+
+pub patched_last : (own : List (ℕ × ℕ)) (sram : List ℕ) (i : ℕ) → i < length sram → slice_index (patched own sram) i ≡ last_of own i (slice_index sram i)
 unfolding patched
-patched-length [] sram = refl
-patched-length (w ∷ words) sram = patched-length words (slice_set sram w.0 w.1) ∙ set-length sram w.0 w.1
+patched_last [] sram i lt = refl
+patched_last (n ∷ ns) sram i lt =
+    patched_last ns (slice_set sram n.0 n.1) i (subst (λ l. i < l) (sym (set-length sram n.0 n.1)) lt)
+    ∙ ap (last_of ns i) (set_at sram n.0 n.1 i lt)
 
-pub none_read : (sram : List ℕ) (index word : ℕ) → word ≡ slice_index sram index → word ≡ slice_index (patched [] sram) index
-unfolding patched
-none_read sram index word e = e
-
--- with one more word
-more_patched : (words : List (ℕ × ℕ)) (k : ℕ) (sram : List ℕ) (at later : ℕ) → slice_get words k ≡ Some (at, later)
-    → patched (take (k + 1) words) sram ≡ slice_set (patched (take k words) sram) at later
-more_patched words k sram at later e_get =
-    ap (λ n. patched (take n words) sram) (add-one k) ∙ ap (λ ws. patched ws sram) (take_more words k (at, later) e_get) ∙ patched-append (take k words) (at, later) sram
-
--- the word that is read so far, where the next one that was written is this one
-pub read_same : (words : List (ℕ × ℕ)) (k : ℕ) (sram : List ℕ) (index at later new : ℕ) → length sram ≡ 67584 → index < 67584
-    → slice_get words k ≡ Some (at, later) → at ≡ index → new ≡ later → new ≡ slice_index (patched (take (k + 1) words) sram) index
-read_same words k sram index at later new e_sram lt e_get e_at e_new =
-    let before = patched (take k words) sram in
-    let long : length before ≡ 67584 = patched-length (take k words) sram ∙ e_sram in
-    let here : slice_index (slice_set before at later) index ≡ later =
-    ap (λ n. slice_index (slice_set before n later) index) e_at ∙ get_or-set_same before index later 0 (omega (arith, long, lt)) in
-    e_new ∙ sym here ∙ ap (λ l. slice_index l index) (sym (more_patched words k sram at later e_get))
-
--- or another one
-pub read_other : (words : List (ℕ × ℕ)) (k : ℕ) (sram : List ℕ) (index at later word new : ℕ) → slice_get words k ≡ Some (at, later) → (at ≡ index → ⊥)
-    → word ≡ slice_index (patched (take k words) sram) index → new ≡ word → new ≡ slice_index (patched (take (k + 1) words) sram) index
-read_other words k sram index at later word new e_get other e_word e_new =
-    let before = patched (take k words) sram in
-    let here : slice_index (slice_set before at later) index ≡ slice_index before index = get_or-set_other before at index later 0 (λ e. other (sym e)) in
-    e_new ∙ e_word ∙ sym here ∙ ap (λ l. slice_index l index) (sym (more_patched words k sram at later e_get))
+-- the last word of an index is the one that is read
+pub read_last : (words shown : List (ℕ × ℕ)) (sram : List ℕ) (index word result : ℕ) → length sram ≡ 67584 → index < 67584 → shown ≡ words → word ≡ slice_index sram index
+    → result ≡ last_of shown index word → result ≡ slice_index (patched words sram) index
+read_last words shown sram index word result long lt e_words e_word e =
+    e ∙ ap (λ (ws : List (ℕ × ℕ)). last_of ws index word) e_words ∙ ap (last_of words index) e_word ∙ sym (patched_last words sram index (omega (arith, long, lt)))
 
 -- what a write leaves
 pub write_more : (words new : List (ℕ × ℕ)) (sram : List ℕ) (index lanes value before word : ℕ) → before ≡ slice_index (patched words sram) index

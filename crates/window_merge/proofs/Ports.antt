@@ -10,6 +10,7 @@ use Rattle.bus_fabric.specs.State.{Crossbar, last_on, has_hold}
 use Rattle.bus_fabric.specs.Grant.{apb, is_high, winner_of, is_done, done_of, hold_after, after_grant}
 use Rattle.bus_fabric.proofs.Arbitration.{arbitrated}
 use Rattle.window_merge.specs.Window.{is_port_of}
+use Rattle.window_merge.proofs.Agree.{itself}
 
 -- an access to SRAM, or none
 abbrev pub InBank : Option Access → Type 0
@@ -24,12 +25,6 @@ pub record Apart (a0 a1 a2 a3 : Option Access) : Type 0 where
   pub apart12 : is_port_of a1 a2 ≡ false
   pub apart13 : is_port_of a1 a3 ≡ false
   pub apart23 : is_port_of a2 a3 ≡ false
-
-itself : (x : ℕ) → nat_eq x x ≡ true
-itself x = elim (eqb_tells x x) [
-  | inl h ↦ h.0
-  | inr h ↦ absurd (h.1 refl)
-]
 
 turned_number : (x y : ℕ) → nat_eq x y ≡ false → nat_eq y x ≡ false
 turned_number x y e = elim (eqb_tells y x) [

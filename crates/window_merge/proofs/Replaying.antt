@@ -3,8 +3,10 @@ use Rattle.std.proofs.Common.{◌≡◌, ℕ, zero, suc, ◌+◌, List, refl, ap
 use Rattle.lane_look.specs.declared.replay.Report.{Report}
 use Rattle.lane_look.specs.Asking.{Asking}
 use Rattle.lane_look.specs.Replay.{Meaning, Entry, Replay, told, after_begun, marks_with, replay_by, replay_cycle, replayed}
-use Rattle.lane_look.specs.Alone.{Surroundings, Alone}
+use Rattle.lane_look.specs.Alone.{Alone}
 use Rattle.lane_look.specs.Truth.{IsTrue}
+use Rattle.window_merge.specs.declared.copies.Copies.{Copies}
+use Rattle.window_merge.specs.Around.{copied}
 use Rattle.window_merge.specs.Jobs.{RanIn}
 use Rattle.window_merge.proofs.Copying.{Copied, SameLane, alone_same, length_same}
 
@@ -34,15 +36,16 @@ true_same {E} {F} {S} m env n env' same report h =
       marks_left = h.marks_left ∙ ap (λ (r : Replay S). r.marks) e;
     }
 
-itself : {W : Type 0} (a : Surroundings W) → Copied a a (λ (around : W). around)
-itself a = record { answers = λ w ask. refl; stores = λ w v. refl }
+itself : Copied copied copied (λ (copies : Copies). copies)
+itself = record { answers = λ w ask. refl; stores = λ w v. refl }
 
--- a run by what is around a lane is that of the lane in the other environment
-pub ran_same : {E F S B W : Type 0} (a : Surroundings W) (m : Meaning E S B) (env : E) (n : Meaning F S B) (env' : F) (before : S) (start : ℕ) (around : W) (bound : ℕ) (report : Report S) → RanIn a m env before start around bound report → SameLane m env n env' → RanIn a n env' before start around bound report
-ran_same {E} {F} {S} {B} {W} a m env n env' before start around bound report h same = record {
+-- a run by copies of what is around a lane is that of the lane in the other environment
+pub ran_same : {E F S B : Type 0} (m : Meaning E S B) (env : E) (n : Meaning F S B) (env' : F) (before : S) (start : ℕ) (copies : Copies) (bound : ℕ) (report : Report S)
+    → RanIn m env before start copies bound report → SameLane m env n env' → RanIn n env' before start copies bound report
+ran_same {E} {F} {S} m env n env' before start copies bound report h same = record {
   same_start = h.same_start;
   same_lane = h.same_lane;
-  same_length = h.same_length ∙ length_same m env n env' a a (λ (w : W). w) same (itself a) before start around bound;
-  same_log = h.same_log ∙ ap (λ (r : Alone S W). r.talk) (alone_same m env n env' a a (λ (w : W). w) same (itself a) before start around report.length);
+  same_length = h.same_length ∙ length_same m env n env' copied copied (λ (c : Copies). c) same itself before start copies bound;
+  same_log = h.same_log ∙ ap (λ (r : Alone S Copies). r.talk) (alone_same m env n env' copied copied (λ (c : Copies). c) same itself before start copies report.length);
   replays = true_same m env n env' same report h.replays;
 }

@@ -1,7 +1,5 @@
 -- The run alone by what a job holds is that from the state which the job was taken from; and six reports in order.
-use Rattle.std.proofs.Common.{◌≡◌, ℕ, Some, refl, ap, ◌∙◌, subst}
-use Rattle.lane_look.specs.declared.replay.Report.{Report}
-use Rattle.lane_look.specs.Replay.{Meaning}
+use Rattle.std.proofs.Common.{◌≡◌, ℕ, Some, ap, ◌∙◌, subst}
 use Rattle.m0_core.specs.State.{State as Core}
 use Rattle.outer_lane.specs.Setting.{Setting}
 use Rattle.rp_machine.specs.State.{State}
@@ -9,23 +7,11 @@ use Rattle.window_merge.specs.declared.copies.Copies.{Copies}
 use Rattle.window_merge.specs.declared.lane_run.LaneRun.{LaneRun}
 use Rattle.window_merge.specs.declared.lane_run.LaneRun.TheVariants as run
 use Rattle.window_merge.specs.declared.lane_job.LaneJob.{LaneJob}
-use Rattle.window_merge.specs.Around.{copies_of, copied}
+use Rattle.window_merge.specs.Around.{copies_of}
 use Rattle.window_merge.specs.Lanes.{core_lane, dma_lane, pio_lane, peripheral_lane}
 use Rattle.window_merge.specs.Window.{longest}
-use Rattle.window_merge.specs.Merging.{IsRunAlone}
-use Rattle.window_merge.specs.Jobs.{core_of, block_of, core_bound, BeginsIn, HasLane, IsJobOf, IsAloneBy, RanIn, Ran, longest_by}
+use Rattle.window_merge.specs.Jobs.{core_of, block_of, core_bound, BeginsIn, HasLane, IsJobOf, IsAloneBy, Ran, longest_by}
 use Rattle.window_merge.proofs.Copying.{as_run_alone}
-
-one_alone : {S B : Type 0} (m : Meaning (Unit {0}) S B) (lane : ℕ) (before room : S) (s : State) (start : ℕ) (copies : Copies) (bound bound' : ℕ) (report : Report S)
-    → start ≡ s.cycle → copies ≡ copies_of lane s → room ≡ before → bound ≡ bound' → RanIn copied m tt room start copies bound report → IsRunAlone m lane before s bound' report
-one_alone m lane before room s start copies bound bound' report e_start e_copies e_lane e_bound h =
-    as_run_alone m tt m lane before s bound' report (record {
-      same_start = h.same_start ∙ e_start;
-      same_lane = h.same_lane ∙ e_lane;
-      same_length = rw (← e_copies, ← e_start, ← e_lane, ← e_bound) h.same_length;
-      same_log = rw (← e_copies, ← e_start, ← e_lane) h.same_log;
-    })
-    (record { asks = λ s cycle. refl; wanted = λ b. refl; next = λ s b. refl; marked = λ s b marks. refl })
 
 pub longest_same : (w : Setting) (s : State) (limit start : ℕ) → limit ≡ w.limit → start ≡ s.cycle → longest_by limit start ≡ longest w s
 longest_same w s limit start e_limit e_start = ap (λ n. longest_by n start) e_limit ∙ ap (longest_by w.limit) e_start
@@ -34,31 +20,31 @@ bound_same : (lane : ℕ) (room core : Core) (n m : ℕ) → room ≡ core → n
 bound_same lane room core n m e_core e_bound = ap (λ c. core_bound lane c n) e_core ∙ ap (core_bound lane core) e_bound
 
 pub ran_alone : (w : Setting) (s : State) (lane start : ℕ) (copies : Copies) (n m : ℕ) (room report : LaneRun)
-    → start ≡ s.cycle → copies ≡ copies_of lane s → n ≡ m → BeginsIn lane s room → Ran copied w lane start copies n room report → IsAloneBy w s m lane report
+    → start ≡ s.cycle → copies ≡ copies_of lane s → n ≡ m → BeginsIn lane s room → Ran w lane start copies n room report → IsAloneBy w s m lane report
 ran_alone w s lane start copies n m (run.Core room) (run.Core report) e_start e_copies e_bound e_lane h =
-    one_alone core_lane lane (core_of lane s) room.before s start copies (core_bound lane room.before n) (core_bound lane (core_of lane s) m) report e_start e_copies e_lane
+    as_run_alone core_lane lane (core_of lane s) room.before s start copies (core_bound lane room.before n) (core_bound lane (core_of lane s) m) report e_start e_copies e_lane
     (bound_same lane room.before (core_of lane s) n m e_lane e_bound) h
 ran_alone w s lane start copies n m (run.Core room) (run.Dma report) e_start e_copies e_bound e_lane h = absurd h
 ran_alone w s lane start copies n m (run.Core room) (run.Pio report) e_start e_copies e_bound e_lane h = absurd h
 ran_alone w s lane start copies n m (run.Core room) (run.Outer report) e_start e_copies e_bound e_lane h = absurd h
 ran_alone w s lane start copies n m (run.Dma room) (run.Core report) e_start e_copies e_bound e_lane h = absurd h
 ran_alone w s lane start copies n m (run.Dma room) (run.Dma report) e_start e_copies e_bound e_lane h =
-    one_alone dma_lane lane s.dma room.before s start copies n m report e_start e_copies e_lane e_bound h
+    as_run_alone dma_lane lane s.dma room.before s start copies n m report e_start e_copies e_lane e_bound h
 ran_alone w s lane start copies n m (run.Dma room) (run.Pio report) e_start e_copies e_bound e_lane h = absurd h
 ran_alone w s lane start copies n m (run.Dma room) (run.Outer report) e_start e_copies e_bound e_lane h = absurd h
 ran_alone w s lane start copies n m (run.Pio room) (run.Core report) e_start e_copies e_bound e_lane h = absurd h
 ran_alone w s lane start copies n m (run.Pio room) (run.Dma report) e_start e_copies e_bound e_lane h = absurd h
 ran_alone w s lane start copies n m (run.Pio room) (run.Pio report) e_start e_copies e_bound e_lane h =
-    one_alone pio_lane lane (block_of lane s) room.before s start copies n m report e_start e_copies e_lane e_bound h
+    as_run_alone pio_lane lane (block_of lane s) room.before s start copies n m report e_start e_copies e_lane e_bound h
 ran_alone w s lane start copies n m (run.Pio room) (run.Outer report) e_start e_copies e_bound e_lane h = absurd h
 ran_alone w s lane start copies n m (run.Outer room) (run.Core report) e_start e_copies e_bound e_lane h = absurd h
 ran_alone w s lane start copies n m (run.Outer room) (run.Dma report) e_start e_copies e_bound e_lane h = absurd h
 ran_alone w s lane start copies n m (run.Outer room) (run.Pio report) e_start e_copies e_bound e_lane h = absurd h
 ran_alone w s lane start copies n m (run.Outer room) (run.Outer report) e_start e_copies e_bound e_lane h =
-    one_alone (peripheral_lane w) lane s.outer room.before s start copies n m report e_start e_copies e_lane e_bound h
+    as_run_alone (peripheral_lane w) lane s.outer room.before s start copies n m report e_start e_copies e_lane e_bound h
 
 -- a job that is of a state, and what came of it
-pub job_alone : (w : Setting) (s : State) (job : LaneJob) (room report : LaneRun) (n : ℕ) → IsJobOf s job → job.limit ≡ w.limit → job.set.room ≡ Some room → n ≡ longest_by job.limit job.start → Ran copied w job.lane job.start job.set.copies n room report
+pub job_alone : (w : Setting) (s : State) (job : LaneJob) (room report : LaneRun) (n : ℕ) → IsJobOf s job → job.limit ≡ w.limit → job.set.room ≡ Some room → n ≡ longest_by job.limit job.start → Ran w job.lane job.start job.set.copies n room report
     → IsAloneBy w s (longest w s) job.lane report
 job_alone w s job room report n h e_limit e_room e_n ran =
     let begins : HasLane job.lane s (Some room) = subst (HasLane job.lane s) e_room h.lane in

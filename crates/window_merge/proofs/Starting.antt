@@ -1,8 +1,7 @@
 -- What the start of a window answers a lane is what its run alone is answered.
-use Rattle.std.proofs.Common.{◌≡◌, ℕ, zero, suc, ◌+◌, ◌<◌, ◌==◌, ◌||◌, ◌&&◌, nat_eq, not, Bool, true, false, if◌then◌else◌, inl, inr, List, [], ◌∷◌, refl, ap, sym, ◌∙◌, subst}
+use Rattle.std.proofs.Common.{◌≡◌, ℕ, zero, suc, ◌+◌, ◌<◌, ◌==◌, ◌&&◌, nat_eq, not, Bool, false, if◌then◌else◌, List, [], ◌∷◌, refl, ap, sym, ◌∙◌, subst}
 use Rattle.std.specs.Prelude.{slice_index, unwrap_or}
 use Rattle.std.proofs.Math.Bool.{and-true}
-use Rattle.std.proofs.lemmas.Bool.Decides.{eqb_tells}
 use Rattle.rp_base.specs.declared.map.Spot.{Spot}
 use Rattle.rp_base.specs.declared.map.Spot.TheVariants as spot
 use Rattle.rp_base.specs.Map.{place_of}
@@ -12,14 +11,12 @@ use Rattle.lane_look.specs.declared.lane.Ask.{Ask}
 use Rattle.lane_look.specs.declared.lane.Ask.TheVariants as ask
 use Rattle.lane_look.specs.declared.lane.Want.{Want}
 use Rattle.lane_look.specs.declared.lane.Want.TheVariants as want
-use Rattle.lane_look.specs.Replay.{Meaning, Entry, asked}
+use Rattle.lane_look.specs.Replay.{Meaning, asked}
 use Rattle.lane_look.specs.Alone.{all_stored, begun_alone, alone, differs}
-use Rattle.pio_block.specs.State.{Block as Pio}
-use Rattle.pio_block.specs.Words as pio_words
 use Rattle.outer_lane.specs.Lines.{outer_lines}
 use Rattle.rp_machine.specs.State.{State}
 use Rattle.rp_machine.specs.Sram.{half_of, ram_word}
-use Rattle.rp_machine.specs.Answers.{block_lines, lines_of, packed_pair, outs_of, answer_of}
+use Rattle.rp_machine.specs.Answers.{block_lines, lines_of, answer_of}
 use Rattle.window_merge.specs.Lanes.{around, stored_by}
 use Rattle.window_merge.specs.Patch.{sram_after}
 use Rattle.window_merge.specs.declared.notes.Notes.{Notes}
@@ -27,7 +24,9 @@ use Rattle.window_merge.specs.Notes.{seen_word, own_of, is_clean, seen_of}
 use Rattle.window_merge.specs.declared.start.Start.{Start}
 use Rattle.window_merge.specs.declared.start.Guesser.{Guesser}
 use Rattle.window_merge.specs.Start.{start_of, word_by, guess, guessed}
+use Rattle.window_merge.proofs.Agree.{all_same, itself}
 use Rattle.window_merge.proofs.Banks.{HasBank, has_bank}
+use Rattle.window_merge.proofs.Copying.{outs_same}
 use Rattle.window_merge.proofs.Walking.{lines_over, pacing_over, inputs_over, outs_over}
 
 -- ---- one question
@@ -38,14 +37,6 @@ word_at seen sees (spot.Reg block offset alias) h sight = refl
 word_at seen sees (spot.Sio offset) h sight = refl
 word_at seen sees (spot.Ppb offset) h sight = refl
 word_at seen sees spot.Outside h sight = refl
-
-outs_if : (c : Bool) (a b : Pio) → (if c then packed_pair (pio_words.outs_of a) else packed_pair (pio_words.outs_of b)) ≡ packed_pair (pio_words.outs_of (if c then a else b))
-outs_if true a b = refl
-outs_if false a b = refl
-
-outs_by : (block : ℕ) (s : State) → (if block == 0 then outs_of 0 s else outs_of 1 s) ≡ outs_of block s
-unfolding outs_of
-outs_by block s = outs_if (block == 0) s.pio0 s.pio1
 
 -- the lines of a core that is not core 0
 abbrev pub HasLines : ℕ → State → Type 0
@@ -80,7 +71,7 @@ guess_is lane s seen sees (ask.Half address) lines sight = ap (λ word. half_of 
 guess_is lane s seen sees (ask.Word address) lines sight = word_at seen sees (place_of address) (has_bank address) sight
 guess_is lane s seen sees ask.Pacing lines sight = pacing_over s sees
 guess_is lane s seen sees ask.Inputs lines sight = inputs_over s sees
-guess_is lane s seen sees (ask.Outs block) lines sight = outs_by block s ∙ outs_over block s sees
+guess_is lane s seen sees (ask.Outs block) lines sight = outs_same block s ∙ outs_over block s sees
 
 -- ---- what is around a lane that runs alone
 
@@ -113,24 +104,7 @@ stored_sram (want.Outward request) t = refl
 stored_sram want.Signal t = refl
 stored_sram (want.Stopped cause) t = refl
 
--- ---- two functions that answer the same
-
-pub same_answered : {B : Type 0} (f g : Ask → ℕ) (tree : Asking B) → ((question : Ask) → f question ≡ g question) → answered f tree ≡ answered g tree
-same_answered f g (Ready begun) h = refl
-same_answered {B} f g (Question question next) h =
-    ap (λ (x : ℕ). answered f (next x)) (h question) ∙ same_answered f g (next (g question)) h
-
-pub same_asked : {B : Type 0} (f g : Ask → ℕ) (tree : Asking B) → ((question : Ask) → f question ≡ g question) → asked f tree ≡ asked g tree
-same_asked f g (Ready begun) h = refl
-same_asked {B} f g (Question question next) h =
-    ap (λ (x : ℕ). (question, x) ∷ asked f (next x)) (h question)
-    ∙ ap (λ (es : List Entry). (question, g question) ∷ es) (same_asked f g (next (g question)) h)
-
-itself : (n : ℕ) → nat_eq n n ≡ true
-itself n = elim (eqb_tells n n) [
-  | inl h ↦ h.0
-  | inr h ↦ absurd (h.1 refl)
-]
+-- ---- a function agrees with itself
 
 pub differs_never : {B : Type 0} (f : Ask → ℕ) (tree : Asking B) → differs f (asked f tree) ≡ false
 differs_never f (Ready begun) = refl
@@ -148,11 +122,6 @@ with_same k same = record k { same = same }
 pub record ByGuess {B : Type 0} (old : Guesser) (tree : Asking B) (result : B) (new : Guesser) : Type 0 where
   pub begun : result ≡ answered (guessed old) tree
   pub is_same : new.same ≡ old.same && not (differs (answer_of old.lane old.machine.now) (asked (guessed old) tree))
-
-all_same : (a b c : Bool) → (a && b) && not c ≡ a && not (not b || c)
-all_same true true c = refl
-all_same true false c = refl
-all_same false b c = refl
 
 by_guess : {B : Type 0} (k : Guesser) (same : Bool) (tree : Asking B) (result : B) (new : Guesser) → Runs ByStart (with_same k same) tree result new → ByGuess (with_same k same) tree result new
 by_guess k same (Ready begun) result new r = record {
@@ -174,25 +143,6 @@ by_guess {B} k same (Question question next) result new r =
 
 pub runs_guess : {B : Type 0} (old : Guesser) (tree : Asking B) (result : B) (new : Guesser) → Runs ByStart old tree result new → ByGuess old tree result new
 runs_guess old tree result new r = by_guess old old.same tree result new r
-
--- where no other lane wrote, SRAM is answered by the machine
-seen_here : (sram : List ℕ) (own originals : List (ℕ × ℕ)) (clean : Bool) (spot : Spot) → clean ≡ true → unwrap_or (ram_word sram spot) 0 ≡ word_by (seen_word clean own originals sram) spot
-seen_here sram own originals false spot e = absurd (cc e)
-seen_here sram own originals true (spot.Ram index bank) e = refl
-seen_here sram own originals true (spot.Reg block offset alias) e = refl
-seen_here sram own originals true (spot.Sio offset) e = refl
-seen_here sram own originals true (spot.Ppb offset) e = refl
-seen_here sram own originals true spot.Outside e = refl
-
-pub clean_half : (k : Guesser) (address : ℕ) → k.clean ≡ true → answer_of k.lane k.machine.now (ask.Half address) ≡ guessed k (ask.Half address)
-clean_half k address e = ap (λ word. half_of word address) (seen_here k.machine.now.sram k.own.now k.originals.now k.clean (place_of address) e)
-
-pub clean_word : (k : Guesser) (address : ℕ) → k.clean ≡ true → answer_of k.lane k.machine.now (ask.Word address) ≡ guessed k (ask.Word address)
-clean_word k address e = seen_here k.machine.now.sram k.own.now k.originals.now k.clean (place_of address) e
-
--- an answer of the machine is the same
-pub still_same : (k : Guesser) (n answer : ℕ) → answer ≡ n → k ≡ record k { same = k.same && nat_eq n answer }
-still_same k n answer e = ap (with_same k) (sym (and-true k.same) ∙ ap (λ b. k.same && b) (sym (ap (nat_eq n) e ∙ itself n)))
 
 -- the look sees what the notes tell of the lane
 pub same_guess : (lane : ℕ) (start : Start) (notes : Notes) (sram : List ℕ) (clean : Bool) (own originals : List (ℕ × ℕ)) → clean ≡ is_clean lane notes → own ≡ own_of lane notes → originals ≡ notes.originals

@@ -1,5 +1,5 @@
 -- What a comparison of logs and lengths says of a report.
-use Rattle.std.proofs.Common.{◌≡◌, ℕ, ◌+◌, ◌^◌, ◌<◌, ◌≤◌, Bool, true, false, ◌&&◌, List, Option, Some, None, refl, ap, sym, ◌∙◌, subst}
+use Rattle.std.proofs.Common.{◌≡◌, ℕ, Bool, true, false, ◌&&◌, List, Option, Some, None, refl, ap, sym, ◌∙◌, subst}
 use Rattle.std.specs.Prelude.{Result, Ok, Err, is_ok, is_none, IfErr}
 use Rattle.std.specs.Bool.{Decides}
 use Rattle.std.specs.List.{slice_get}
@@ -16,13 +16,12 @@ use Rattle.window_merge.specs.declared.lane_job.LaneReport.{LaneReport}
 use Rattle.window_merge.specs.declared.accepting.Stranger.{Stranger}
 use Rattle.window_merge.specs.declared.questions.Questions.{Questions}
 use Rattle.window_merge.specs.Lanes.{around, core_lane, dma_lane, pio_lane, peripheral_lane}
-use Rattle.window_merge.specs.Window.{longest}
 use Rattle.window_merge.specs.Merging.{IsRunAlone}
-use Rattle.window_merge.specs.Jobs.{core_of, block_of, IsTrueRun, IsTrueIn, IsAloneBy, IsAlone, start_of, length_of, longest_by}
+use Rattle.window_merge.specs.Jobs.{core_of, block_of, IsTrueRun, IsTrueIn, IsAloneBy, IsAlone, start_of, longest_by}
 use Rattle.window_merge.specs.Accept.{talk_alone, IsStrange, IsStrangeBy, IsStranger}
 use Rattle.window_merge.specs.Judged.{IsFirstOther, IsUnlike, IsUnlikeBy, Judges}
 use Rattle.window_merge.specs.Questions.{questions_of, asking_lane}
-use Rattle.window_merge.proofs.Quiet.{talk_quiet, length_quiet}
+use Rattle.window_merge.proofs.AskingAlone.{talk_same, length_asking}
 use Rattle.window_merge.proofs.Reported.{longest_same}
 use Rattle.window_merge.proofs.Telling.{other_answer}
 
@@ -90,16 +89,16 @@ moved {S} m lane state before s bound bound' report result e_state e_bound h =
 
 -- ---- the peripherals
 
-pub judged_quiet : (w : Setting) (lane : ℕ) (before : OuterState) (s : State) (bound : ℕ) (report : Report OuterState) (same_length : Bool) (other : Option ℕ) (result : Result (Unit {0}) (Option ℕ))
+pub judged_alike : (w : Setting) (lane : ℕ) (before : OuterState) (s : State) (bound : ℕ) (report : Report OuterState) (same_length : Bool) (other : Option ℕ) (result : Result (Unit {0}) (Option ℕ))
     → report.start ≡ s.cycle → report.before ≡ before
     → Decides same_length (report.length ≡ alone_length asking_lane (around lane) tt (questions_of before) s.cycle s bound)
     → IsFirstOther report.log (talk_alone asking_lane lane (questions_of before) s report.length) other
     → is_ok result ≡ same_length && is_none other → IfErr result (λ entry. entry ≡ other)
     → Judges (IsRunAlone (peripheral_lane w) lane before s bound report) (IsUnlike (peripheral_lane w) lane before s report) result
-judged_quiet w lane before s bound report same_length other result e_start e_before e_length h e_ok e_err =
+judged_alike w lane before s bound report same_length other result e_start e_before e_length h e_ok e_err =
     judged (peripheral_lane w) lane before s bound report same_length other result e_start e_before
-    (subst (λ n. Decides same_length (report.length ≡ n)) (length_quiet w lane before s.cycle s bound) e_length)
-    (subst (λ (l : List Entry). IsFirstOther report.log l other) (talk_quiet w lane before s.cycle s report.length) h) e_ok e_err
+    (subst (λ n. Decides same_length (report.length ≡ n)) (length_asking w lane before s.cycle s bound) e_length)
+    (subst (λ (l : List Entry). IsFirstOther report.log l other) (talk_same w lane before s.cycle s report.length) h) e_ok e_err
 
 pub judged_asking : (w : Setting) (lane : ℕ) (before : OuterState) (q : Questions) (s : State) (bound : ℕ) (report : Report OuterState) (same_length : Bool) (other : Option ℕ) (result : Result (Unit {0}) (Option ℕ))
     → report.start ≡ s.cycle → report.before ≡ before → q ≡ questions_of before
@@ -108,28 +107,11 @@ pub judged_asking : (w : Setting) (lane : ℕ) (before : OuterState) (q : Questi
     → is_ok result ≡ same_length && is_none other → IfErr result (λ entry. entry ≡ other)
     → Judges (IsRunAlone (peripheral_lane w) lane before s bound report) (IsUnlike (peripheral_lane w) lane before s report) result
 judged_asking w lane before q s bound report same_length other result e_start e_before e_q e_length h e_ok e_err =
-    judged_quiet w lane before s bound report same_length other result e_start e_before
+    judged_alike w lane before s bound report same_length other result e_start e_before
     (subst (λ (x : Questions). Decides same_length (report.length ≡ alone_length asking_lane (around lane) tt x s.cycle s bound)) e_q e_length)
     (subst (λ (x : Questions). IsFirstOther report.log (talk_alone asking_lane lane x s report.length) other) e_q h) e_ok e_err
 
 -- ---- any report
-
--- one that begins at another cycle, or whose cycles have no numbers, which no true one does
-pub nowhere : (w : Setting) (s : State) (lane bound : ℕ) (r : LaneRun) → IsTrueRun w r
-    → (start_of r ≡ s.cycle → length_of r ≤ 256 → start_of r + length_of r < 2 ^ 64 → ⊥) → (¬ IsAloneBy w s bound lane r) × IsStrangeBy w s lane r None
-nowhere w s lane bound (run.Core report) h never = (λ alone. never alone.same_start h.short h.number, λ e _. absurd (never e h.short h.number))
-nowhere w s lane bound (run.Dma report) h never = (λ alone. never alone.same_start h.short h.number, λ e _. absurd (never e h.short h.number))
-nowhere w s lane bound (run.Pio report) h never = (λ alone. never alone.same_start h.short h.number, λ e _. absurd (never e h.short h.number))
-nowhere w s lane bound (run.Outer report) h never = (λ alone. never alone.same_start h.short h.number, λ e _. absurd (never e h.short h.number))
-
-pub not_alone : (w : Setting) (s : State) (report : LaneReport) → IsTrueIn w report
-    → (start_of report.run ≡ s.cycle → length_of report.run ≤ 256 → start_of report.run + length_of report.run < 2 ^ 64 → ⊥) → Decides false (IsAlone w s report)
-not_alone w s report h never = (λ e. absurd (cc e), λ alone. absurd ((nowhere w s report.lane (longest w s) report.run h.replays never).0 alone))
-
-pub not_here : (w : Setting) (s : State) (report : LaneReport) (stranger : Stranger) → stranger ≡ record { lane = report.lane; entry = None } → IsTrueIn w report
-    → (start_of report.run ≡ s.cycle → length_of report.run ≤ 256 → start_of report.run + length_of report.run < 2 ^ 64 → ⊥) → IsStranger w s report stranger
-not_here w s report stranger e h never =
-    subst (λ (x : Stranger). IsStranger w s report x) (sym e) (record { lane = refl; entry = (nowhere w s report.lane (longest w s) report.run h.replays never).1 })
 
 -- what is said under the report's limit
 pub by_limit : (w : Setting) (s : State) (report : LaneReport) (n start : ℕ) (result : Result (Unit {0}) (Option ℕ)) → IsTrueIn w report → start ≡ s.cycle → n ≡ longest_by report.limit start

@@ -8,15 +8,14 @@ use Rattle.std.proofs.lemmas.Bool.Decides.{eqb_tells}
 use Rattle.lane_look.specs.Asking.{Asking, Runs, answered}
 use Rattle.lane_look.specs.Asking.Asking.{Ready, Question}
 use Rattle.lane_look.specs.declared.lane.Want.{Want}
-use Rattle.lane_look.specs.declared.lane.Want.TheVariants as want
 use Rattle.lane_look.specs.Replay.{Meaning, Entry, asked, after_begun}
 use Rattle.lane_look.specs.Alone.{all_stored, begun_alone, alone, ends_wants, ends_now, ends_at, least, alone_length}
 use Rattle.lane_look.proofs.Least.{is_least}
 use Rattle.rp_machine.specs.State.{State}
 use Rattle.rp_machine.specs.Answers.{block_lines, lines_of, pacing_of, inputs_of, outs_of, answer_of}
 use Rattle.window_merge.specs.declared.walk.Walker.{Walker}
-use Rattle.window_merge.specs.Lanes.{around, stored_by}
-use Rattle.window_merge.specs.Patch.{patched, sram_after}
+use Rattle.window_merge.specs.Lanes.{around}
+use Rattle.window_merge.specs.Patch.{patched}
 use Rattle.window_merge.specs.Accept.{talk_alone}
 use Rattle.window_merge.specs.Judged.{IsFirstOther}
 use Rattle.window_merge.specs.Walks.{seen_by, IsCompared, GoesOn, Answers, IsStepped, IsMet, IsWalked}
@@ -82,14 +81,6 @@ inputs_over s sram = refl
 pub outs_over : (block : ℕ) (s : State) (sram : List ℕ) → outs_of block s ≡ outs_of block (record s { sram = sram })
 unfolding outs_of
 outs_over block s sram = refl
-
-pub stores_over : (words new : List (ℕ × ℕ)) (s : State) (v : Want) → patched new s.sram ≡ sram_after v (patched words s.sram)
-    → record s { sram = patched new s.sram } ≡ stored_by v (record s { sram = patched words s.sram })
-stores_over words new s want.Nothing e = ap (λ (l : List ℕ). record s { sram = l }) e
-stores_over words new s (want.Ram request) e = ap (λ (l : List ℕ). record s { sram = l }) e
-stores_over words new s (want.Outward request) e = ap (λ (l : List ℕ). record s { sram = l }) e
-stores_over words new s want.Signal e = ap (λ (l : List ℕ). record s { sram = l }) e
-stores_over words new s (want.Stopped cause) e = ap (λ (l : List ℕ). record s { sram = l }) e
 
 abbrev with_found : Walker → ℕ → Bool → Walker
 with_found k index same = record k { index = index; same = same }

@@ -27,9 +27,10 @@ use Rattle.rp_machine.proofs.Joining.{runs_follow}
 use Rattle.window_merge.specs.Lanes.{core_lane, dma_lane, pio_lane, peripheral_lane, around, is_launching, core1_bound, runs_of}
 use Rattle.window_merge.specs.Window.{longest, ends_in, differs_in, clash, clash_in, share_port, closes, window_length, window_within}
 use Rattle.window_merge.specs.declared.runs.Runs.{Runs}
-use Rattle.window_merge.specs.Merging.{Rests, begun_by, left_by, differs_by, wants_of, fits, marks_in, Knows, AreCut, IsWithin, rests_at, end_at}
-use Rattle.window_merge.proofs.Agree.{both_false}
+use Rattle.window_merge.specs.Merging.{Rests, begun_by, left_by, differs_by, wants_of, fits, marks_in, Knows, AreRunsAlone, IsWithin, rests_at, end_at}
+use Rattle.window_merge.proofs.Agree.{both_false, is_not, itself, not_equal, differ_of}
 use Rattle.window_merge.proofs.Calm.{IsCalm, IsStepped, calm_next}
+use Rattle.window_merge.proofs.Comparing.{clash_four}
 use Rattle.window_merge.proofs.InSram.{core_placed, dma_placed}
 use Rattle.window_merge.proofs.Lanes.{LaneStands, lane_first, LaneTold, lane_told, lane_next, lane_goes_on, lane_agrees, no_cycles}
 use Rattle.window_merge.proofs.Ports.{Apart}
@@ -51,28 +52,6 @@ pub record AreLengths (w : Setting) (s : State) (n : Lengths) : Type 0 where
   pub pio0 : n.pio0 ≡ alone_length pio_lane (around 3) tt s.pio0 s.cycle s (longest w s)
   pub pio1 : n.pio1 ≡ alone_length pio_lane (around 4) tt s.pio1 s.cycle s (longest w s)
   pub outer : n.outer ≡ alone_length (peripheral_lane w) (around 5) tt s.outer s.cycle s (longest w s)
-
--- none is longer than the lane's run alone
-pub record AreWithin (w : Setting) (s : State) (n : Lengths) : Type 0 where
-  pub core0 : n.core0 ≤ alone_length core_lane (around 0) tt s.core0 s.cycle s (longest w s)
-  pub core1 : n.core1 ≤ alone_length core_lane (around 1) tt s.core1 s.cycle s (core1_bound s (longest w s))
-  pub dma : n.dma ≤ alone_length dma_lane (around 2) tt s.dma s.cycle s (longest w s)
-  pub pio0 : n.pio0 ≤ alone_length pio_lane (around 3) tt s.pio0 s.cycle s (longest w s)
-  pub pio1 : n.pio1 ≤ alone_length pio_lane (around 4) tt s.pio1 s.cycle s (longest w s)
-  pub outer : n.outer ≤ alone_length (peripheral_lane w) (around 5) tt s.outer s.cycle s (longest w s)
-
-same_within : (n m : ℕ) → n ≡ m → n ≤ m
-same_within n m e = omega (arith, e)
-
-pub are_within : (w : Setting) (s : State) (n : Lengths) → AreLengths w s n → AreWithin w s n
-are_within w s n h = record {
-  core0 = same_within _ _ h.core0;
-  core1 = same_within _ _ h.core1;
-  dma = same_within _ _ h.dma;
-  pio0 = same_within _ _ h.pio0;
-  pio1 = same_within _ _ h.pio1;
-  outer = same_within _ _ h.outer;
-}
 
 -- no run ends at k
 pub record AreOn (n : Lengths) (k : ℕ) : Type 0 where
@@ -111,13 +90,13 @@ pub record AreTold (w : Setting) (s : State) (n : Lengths) (k : ℕ) (now : Stat
   pub outer : LaneTold (peripheral_lane w) 5 s.outer s n.outer k now.outer now.cycle rests.outer
 
 -- the loop tries the cycle k, in which no run ends
-pub record Goes (w : Setting) (s : State) (n : Lengths) (k : ℕ) (now : State) (rests : Rests) (marks : List Mark) : Type 0 where
+pub record Tries (w : Setting) (s : State) (n : Lengths) (k : ℕ) (now : State) (rests : Rests) (marks : List Mark) : Type 0 where
   pub stands : Stands w s n k now rests marks
-  pub lengths : AreWithin w s n
+  pub lengths : AreLengths w s n
   pub on : AreOn n k
   pub below : k < longest w s
 
-pub all_told : (w : Setting) (s : State) (n : Lengths) (k : ℕ) (now : State) (rests : Rests) (marks : List Mark) → Goes w s n k now rests marks → AreTold w s n k now rests
+pub all_told : (w : Setting) (s : State) (n : Lengths) (k : ℕ) (now : State) (rests : Rests) (marks : List Mark) → Tries w s n k now rests marks → AreTold w s n k now rests
 all_told w s n k now rests marks t = record {
   core0 = lane_told core_lane 0 s.core0 s n.core0 k now.core0 now.cycle rests.core0 t.stands.core0 t.on.core0 t.stands.at;
   core1 = lane_told core_lane 1 s.core1 s n.core1 k now.core1 now.cycle rests.core1 t.stands.core1 t.on.core1 t.stands.at;
@@ -128,12 +107,6 @@ all_told w s n k now rests marks t = record {
 }
 
 -- ---- whether the window goes on
-
-not_equal : (x y : ℕ) → x ≢ y → nat_eq x y ≡ false
-not_equal x y ne = elim (eqb_tells x y) [
-  | inl h ↦ absurd (let same : x ≡ y = h.1 in omega arith)
-  | inr h ↦ h.0
-]
 
 -- the wants of six lanes, one after another
 abbrev joined : List Want → List Want → List Want → List Want → List Want → List Want → List Want
@@ -162,26 +135,26 @@ fits_here w s n k now rests e t =
     ap (λ d. not (d || clash (wants_of (begun_by rests now)))) (differs_here w s n k now rests t ∙ ap (λ x. differs_in (runs_of w s (longest w s)) x k) e)
     ∙ ap (λ c. not (differs_in (runs_of w s (longest w s)) (states w s k) k || c)) (clash_here w s n k now rests t)
 
--- a run that is no shorter than what is left of it ends later
-later : (k n m : ℕ) → k ≤ n → k ≢ n → n ≤ m → nat_eq k m ≡ false
-later k n m low on high = not_equal k m (λ e. on (omega (arith, low, high, e)))
+-- a run ends at its length alone
+later : (k n m : ℕ) → k ≢ n → n ≡ m → nat_eq k m ≡ false
+later k n m on e = ap (nat_eq k) (sym e) ∙ not_equal k n on
 
-none_ends : (w : Setting) (s : State) (n : Lengths) (k : ℕ) (now : State) (rests : Rests) (marks : List Mark) → Goes w s n k now rests marks → ends_in (runs_of w s (longest w s)) k ≡ false
+none_ends : (w : Setting) (s : State) (n : Lengths) (k : ℕ) (now : State) (rests : Rests) (marks : List Mark) → Tries w s n k now rests marks → ends_in (runs_of w s (longest w s)) k ≡ false
 none_ends w s n k now rests marks t =
     rw (
-      later k n.core0 _ t.stands.core0.within t.on.core0 t.lengths.core0,
-      later k n.core1 _ t.stands.core1.within t.on.core1 t.lengths.core1,
-      later k n.dma _ t.stands.dma.within t.on.dma t.lengths.dma,
-      later k n.pio0 _ t.stands.pio0.within t.on.pio0 t.lengths.pio0,
-      later k n.pio1 _ t.stands.pio1.within t.on.pio1 t.lengths.pio1,
-      later k n.outer _ t.stands.outer.within t.on.outer t.lengths.outer,
+      later k n.core0 _ t.on.core0 t.lengths.core0,
+      later k n.core1 _ t.on.core1 t.lengths.core1,
+      later k n.dma _ t.on.dma t.lengths.dma,
+      later k n.pio0 _ t.on.pio0 t.lengths.pio0,
+      later k n.pio1 _ t.on.pio1 t.lengths.pio1,
+      later k n.outer _ t.on.outer t.lengths.outer,
     ) refl
 
 twice_not : (a b : Bool) → a ≡ not b → b ≡ not a
 twice_not a true e = ap not (sym e)
 twice_not a false e = ap not (sym e)
 
-closes_tried : (w : Setting) (s : State) (n : Lengths) (k : ℕ) (now : State) (rests : Rests) (marks : List Mark) → Goes w s n k now rests marks → closes w s k ≡ not (fits rests now)
+closes_tried : (w : Setting) (s : State) (n : Lengths) (k : ℕ) (now : State) (rests : Rests) (marks : List Mark) → Tries w s n k now rests marks → closes w s k ≡ not (fits rests now)
 unfolding closes
 closes_tried w s n k now rests marks t =
     let runs = runs_of w s (longest w s) in
@@ -190,31 +163,17 @@ closes_tried w s n k now rests marks t =
 
 -- ---- a cycle that fits
 
--- four wants and eight of the rest
+-- four wants of the machine's twelve
 apart_by : (c0 c1 r v : Want)
     → clash (c0 ∷ want.Nothing ∷ c1 ∷ want.Nothing ∷ r ∷ v ∷ want.Nothing ∷ want.Nothing ∷ want.Nothing ∷ want.Nothing ∷ want.Nothing ∷ want.Nothing ∷ []) ≡ false
     → Apart (asked_of c0) (asked_of c1) (asked_of r) (asked_of v)
 apart_by c0 c1 r v e =
-    let a = both_false (share_port c0 want.Nothing || (share_port c0 c1 || (share_port c0 want.Nothing || (share_port c0 r || (share_port c0 v || (share_port c0 want.Nothing || (share_port c0 want.Nothing || (share_port c0 want.Nothing || (share_port c0 want.Nothing || (share_port c0 want.Nothing || (share_port c0 want.Nothing || false)))))))))))
-    (clash (want.Nothing ∷ c1 ∷ want.Nothing ∷ r ∷ v ∷ want.Nothing ∷ want.Nothing ∷ want.Nothing ∷ want.Nothing ∷ want.Nothing ∷ want.Nothing ∷ [])) e in
-    let a1 = both_false (share_port c0 want.Nothing) _ a.0 in
-    let a2 = both_false (share_port c0 c1) _ a1.1 in
-    let a3 = both_false (share_port c0 want.Nothing) _ a2.1 in
-    let a4 = both_false (share_port c0 r) _ a3.1 in
-    let a5 = both_false (share_port c0 v) _ a4.1 in
-    let b = both_false _ (clash (c1 ∷ want.Nothing ∷ r ∷ v ∷ want.Nothing ∷ want.Nothing ∷ want.Nothing ∷ want.Nothing ∷ want.Nothing ∷ want.Nothing ∷ [])) a.1 in
-    let c = both_false _ (clash (want.Nothing ∷ r ∷ v ∷ want.Nothing ∷ want.Nothing ∷ want.Nothing ∷ want.Nothing ∷ want.Nothing ∷ want.Nothing ∷ [])) b.1 in
-    let c1' = both_false (share_port c1 want.Nothing) _ c.0 in
-    let c2 = both_false (share_port c1 r) _ c1'.1 in
-    let c3 = both_false (share_port c1 v) _ c2.1 in
-    let d = both_false _ (clash (r ∷ v ∷ want.Nothing ∷ want.Nothing ∷ want.Nothing ∷ want.Nothing ∷ want.Nothing ∷ want.Nothing ∷ [])) c.1 in
-    let f = both_false _ (clash (v ∷ want.Nothing ∷ want.Nothing ∷ want.Nothing ∷ want.Nothing ∷ want.Nothing ∷ want.Nothing ∷ [])) d.1 in
-    let f1 = both_false (share_port r v) _ f.0 in
-    record { apart01 = a2.0; apart02 = a4.0; apart03 = a5.0; apart12 = c2.0; apart13 = c3.0; apart23 = f1.0 }
-
-is_not : (a : Bool) → not a ≡ true → a ≡ false
-is_not true e = absurd (cc e)
-is_not false e = refl
+    let a = both_false (share_port c0 c1) _ (sym (clash_four c0 c1 r v) ∙ e) in
+    let b = both_false (share_port c0 r) _ a.1 in
+    let c = both_false (share_port c0 v) _ b.1 in
+    let d = both_false (share_port c1 r) _ c.1 in
+    let f = both_false (share_port c1 v) (share_port r v) d.1 in
+    record { apart01 = a.0; apart02 = b.0; apart03 = c.0; apart12 = d.0; apart13 = f.0; apart23 = f.1 }
 
 -- no answer of a lane differs
 record Same (rests : Rests) (now : State) : Type 0 where
@@ -261,7 +220,7 @@ pub record AreCalm (b : Begun) : Type 0 where
   pub calm_read : ends_want (dma.want_of b.dma.read) ≡ false
   pub calm_write : ends_want (dma.want_of b.dma.write) ≡ false
 
-all_calm : (w : Setting) (s : State) (n : Lengths) (k : ℕ) (now : State) (rests : Rests) (marks : List Mark) → Goes w s n k now rests marks → AreCalm (begun_by rests now)
+all_calm : (w : Setting) (s : State) (n : Lengths) (k : ℕ) (now : State) (rests : Rests) (marks : List Mark) → Tries w s n k now rests marks → AreCalm (begun_by rests now)
 all_calm w s n k now rests marks t =
     let told_here = all_told w s n k now rests marks t in
     let c0 = lane_goes_on core_lane 0 s.core0 s (longest w s) n.core0 k now.core0 now.cycle rests.core0 t.stands.core0 t.on.core0 t.lengths.core0 told_here.core0 in
@@ -275,19 +234,18 @@ all_calm w s n k now rests marks t =
     }
 
 -- core 1 has no word of its launcher to take
-launching_by : (c : Bool) (s : State) (bound n k : ℕ) → n ≤ alone_length core_lane (around 1) tt s.core1 s.cycle s (if c then 0 else bound) → k ≤ n → k ≢ n → c ≡ false
-launching_by true s bound n k short le on =
-    let none : n ≤ 0 = subst (λ m. n ≤ m) (no_cycles core_lane 1 s.core1 s) short in
-    absurd (on (omega (arith, none, le)))
-launching_by false s bound n k short le on = refl
+launching_by : (c : Bool) (s : State) (bound n k : ℕ) → n ≡ alone_length core_lane (around 1) tt s.core1 s.cycle s (if c then 0 else bound) → k ≤ n → k ≢ n → c ≡ false
+launching_by true s bound n k e le on =
+    let none : n ≡ 0 = e ∙ no_cycles core_lane 1 s.core1 s in absurd (on (omega (arith, none, le)))
+launching_by false s bound n k e le on = refl
 
-not_launching : (w : Setting) (s : State) (n : Lengths) (k : ℕ) (now : State) (rests : Rests) (marks : List Mark) → Goes w s n k now rests marks → (now.core1.asleep && now.core1.offer) ≡ false
+not_launching : (w : Setting) (s : State) (n : Lengths) (k : ℕ) (now : State) (rests : Rests) (marks : List Mark) → Tries w s n k now rests marks → (now.core1.asleep && now.core1.offer) ≡ false
 not_launching w s n k now rests marks t =
     rw (t.stands.asleep, t.stands.offer)
     (launching_by (is_launching s.core1) s (longest w s) n.core1 k t.lengths.core1 t.stands.core1.within t.on.core1)
 
 -- such a cycle is calm
-calm_here : (w : Setting) (s : State) (n : Lengths) (k : ℕ) (now : State) (rests : Rests) (marks : List Mark) → Goes w s n k now rests marks → begun_by rests now ≡ begun now → clash (wants_of (begun_by rests now)) ≡ false → IsCalm (begun now) now
+calm_here : (w : Setting) (s : State) (n : Lengths) (k : ℕ) (now : State) (rests : Rests) (marks : List Mark) → Tries w s n k now rests marks → begun_by rests now ≡ begun now → clash (wants_of (begun_by rests now)) ≡ false → IsCalm (begun now) now
 unfolding begun
 calm_here w s n k now rests marks t same none =
     let calm = subst AreCalm same (all_calm w s n k now rests marks t) in
@@ -397,7 +355,7 @@ pub record Fitted (w : Setting) (s : State) (n : Lengths) (k : ℕ) (now : State
   pub calm : IsCalm (begun now) now
   pub runs : stop w now ≡ None
 
-pub fitted : (w : Setting) (s : State) (n : Lengths) (k : ℕ) (now : State) (rests : Rests) (marks : List Mark) → Goes w s n k now rests marks → fits rests now ≡ true → Fitted w s n k now rests
+pub fitted : (w : Setting) (s : State) (n : Lengths) (k : ℕ) (now : State) (rests : Rests) (marks : List Mark) → Tries w s n k now rests marks → fits rests now ≡ true → Fitted w s n k now rests
 fitted w s n k now rests marks t e =
     let parts = both_false (differs_by rests now) (clash (wants_of (begun_by rests now))) (is_not _ e) in
     let same = begins_same w s n k now rests (all_told w s n k now rests marks t) (all_same rests now parts.0) in
@@ -408,14 +366,14 @@ fitted w s n k now rests marks t e =
     let ne : now.cycle ≢ w.limit = λ here. omega (arith, here) in
     record { same = same; calm = calm; runs = runs_on w now ne (record { calm0 = calm.calm0; calm1 = calm.calm1; calm_read = calm.calm_read; calm_write = calm.calm_write }) }
 
-pub goes_next : (w : Setting) (s : State) (n : Lengths) (k : ℕ) (now : State) (rests : Rests) (marks : List Mark) (fitting : Bool) (now' : State) (rests' : Rests) (marks' : List Mark)
-    → Goes w s n k now rests marks → fitting ≡ fits rests now → fitting ≡ true
+pub stands_next : (w : Setting) (s : State) (n : Lengths) (k : ℕ) (now : State) (rests : Rests) (marks : List Mark) (fitting : Bool) (now' : State) (rests' : Rests) (marks' : List Mark)
+    → Tries w s n k now rests marks → fitting ≡ fits rests now → fitting ≡ true
     → now' ≡ (if fitting then next_by w (begun_by rests now) (wanted (begun_by rests now)) now else now)
     → rests' ≡ left_by rests now
     → marks' ≡ marks ++ (if fitting then outer.marked w now.outer (begun_by rests now).outer ∷ [] else [])
     → Stands w s n (k + 1) now' rests' marks'
 unfolding next mark
-goes_next w s n k now rests marks fitting now' rests' marks' t is_fitting is_true e_if e_rests e_marks_if =
+stands_next w s n k now rests marks fitting now' rests' marks' t is_fitting is_true e_if e_rests e_marks_if =
     let f = fitted w s n k now rests marks t (sym is_fitting ∙ is_true) in
     let told_here = all_told w s n k now rests marks t in
     let e_now : now' ≡ next_by w (begun_by rests now) (wanted (begun_by rests now)) now = rw is_true at e_if in
@@ -447,8 +405,8 @@ goes_next w s n k now rests marks fitting now' rests' marks' t is_fitting is_tru
 
 -- ---- the ways out of the loop
 
-pub goes_tried : (w : Setting) (s : State) (n : Lengths) (k : ℕ) (now : State) (rests : Rests) (marks : List Mark) (fitting : Bool) (bound : ℕ) → Goes w s n k now rests marks → fitting ≡ fits rests now → fitting ≡ false → k < bound → k ≡ window_within w s bound
-goes_tried w s n k now rests marks fitting bound t is_fitting is_false lt =
+pub closes_within : (w : Setting) (s : State) (n : Lengths) (k : ℕ) (now : State) (rests : Rests) (marks : List Mark) (fitting : Bool) (bound : ℕ) → Tries w s n k now rests marks → fitting ≡ fits rests now → fitting ≡ false → k < bound → k ≡ window_within w s bound
+closes_within w s n k now rests marks fitting bound t is_fitting is_false lt =
     let ends : closes w s k ≡ true = closes_tried w s n k now rests marks t ∙ ap not (sym is_fitting ∙ is_false) in
     sym (is_least (closes w s) bound k (omega (arith, lt)) t.stands.goes (λ lt. ends))
 
@@ -461,29 +419,9 @@ pub full_within : (w : Setting) (s : State) (n : Lengths) (k : ℕ) (now : State
 full_within w s n k now rests marks bound t e =
     sym (is_least (closes w s) bound k (omega (arith, e)) t.goes (λ lt. absurd (omega (arith, e, lt))))
 
--- ---- where the reports are the whole runs alone
-
--- the loop tries the cycle k, in which no run ends
-pub record Tries (w : Setting) (s : State) (n : Lengths) (k : ℕ) (now : State) (rests : Rests) (marks : List Mark) : Type 0 where
-  pub stands : Stands w s n k now rests marks
-  pub lengths : AreLengths w s n
-  pub on : AreOn n k
-  pub below : k < longest w s
-
-goes_of : (w : Setting) (s : State) (n : Lengths) (k : ℕ) (now : State) (rests : Rests) (marks : List Mark) → Tries w s n k now rests marks → Goes w s n k now rests marks
-goes_of w s n k now rests marks t = record { stands = t.stands; lengths = are_within w s n t.lengths; on = t.on; below = t.below }
-
-pub stands_next : (w : Setting) (s : State) (n : Lengths) (k : ℕ) (now : State) (rests : Rests) (marks : List Mark) (fitting : Bool) (now' : State) (rests' : Rests) (marks' : List Mark)
-    → Tries w s n k now rests marks → fitting ≡ fits rests now → fitting ≡ true
-    → now' ≡ (if fitting then next_by w (begun_by rests now) (wanted (begun_by rests now)) now else now)
-    → rests' ≡ left_by rests now
-    → marks' ≡ marks ++ (if fitting then outer.marked w now.outer (begun_by rests now).outer ∷ [] else [])
-    → Stands w s n (k + 1) now' rests' marks'
-stands_next w s n k now rests marks fitting now' rests' marks' t = goes_next w s n k now rests marks fitting now' rests' marks' (goes_of w s n k now rests marks t)
-
 pub ends_tried : (w : Setting) (s : State) (n : Lengths) (k : ℕ) (now : State) (rests : Rests) (marks : List Mark) (fitting : Bool) → Tries w s n k now rests marks → fitting ≡ fits rests now → fitting ≡ false → k ≡ window_length w s
 unfolding window_length
-ends_tried w s n k now rests marks fitting t is_fitting is_false = goes_tried w s n k now rests marks fitting (longest w s) (goes_of w s n k now rests marks t) is_fitting is_false t.below
+ends_tried w s n k now rests marks fitting t is_fitting is_false = closes_within w s n k now rests marks fitting (longest w s) t is_fitting is_false t.below
 
 pub ends_run : (w : Setting) (s : State) (n : Lengths) (k : ℕ) (now : State) (rests : Rests) (marks : List Mark) → Stands w s n k now rests marks → k < longest w s → ends_in (runs_of w s (longest w s)) k ≡ true → k ≡ window_length w s
 unfolding window_length
@@ -492,6 +430,10 @@ ends_run w s n k now rests marks t below here = run_within w s n k now rests mar
 pub ends_full : (w : Setting) (s : State) (n : Lengths) (k : ℕ) (now : State) (rests : Rests) (marks : List Mark) → Stands w s n k now rests marks → k ≡ longest w s → k ≡ window_length w s
 unfolding window_length
 ends_full w s n k now rests marks t e = full_within w s n k now rests marks (longest w s) t e
+
+pub is_whole : (w : Setting) (s : State) (n bound : ℕ) → n ≡ window_within w s bound → bound ≡ longest w s → n ≡ window_length w s
+unfolding window_length
+is_whole w s n bound e same = e ∙ ap (window_within w s) same
 
 -- ---- six reports
 
@@ -505,20 +447,20 @@ lengths_of runs = record {
   outer = runs.outer.now.length;
 }
 
-are_short : (w : Setting) (s : State) (at_most : ℕ) (runs : Runs) → AreCut w s at_most runs → AreWithin w s (lengths_of runs)
-are_short w s at_most runs h = record {
-  core0 = h.core0.within;
-  core1 = h.core1.within;
-  dma = h.dma.within;
-  pio0 = h.pio0.within;
-  pio1 = h.pio1.within;
-  outer = h.outer.within;
+are_lengths : (w : Setting) (s : State) (runs : Runs) → AreRunsAlone w s runs → AreLengths w s (lengths_of runs)
+are_lengths w s runs h = record {
+  core0 = h.core0.same_length;
+  core1 = h.core1.same_length;
+  dma = h.dma.same_length;
+  pio0 = h.pio0.same_length;
+  pio1 = h.pio1.same_length;
+  outer = h.outer.same_length;
 }
 
 -- the loop begins with nothing used
-pub stands_at_first : (w : Setting) (s : State) (at_most : ℕ) (runs : Runs) (marks : List Mark) → has_hold s.fabric ≡ false → Knows s → AreCut w s at_most runs → marks ≡ []
+pub stands_at_first : (w : Setting) (s : State) (runs : Runs) (marks : List Mark) → has_hold s.fabric ≡ false → Knows s → AreRunsAlone w s runs → marks ≡ []
     → Stands w s (lengths_of runs) 0 s (rests_at runs (record { core0 = 0; core1 = 0; dma = 0; pio0 = 0; pio1 = 0; outer = 0 })) marks
-stands_at_first w s at_most runs marks free knows h e = stands_first w s (lengths_of runs) (rests_at runs (record { core0 = 0; core1 = 0; dma = 0; pio0 = 0; pio1 = 0; outer = 0 })) marks free knows
+stands_at_first w s runs marks free knows h e = stands_first w s (lengths_of runs) (rests_at runs (record { core0 = 0; core1 = 0; dma = 0; pio0 = 0; pio1 = 0; outer = 0 })) marks free knows
     (lane_first core_lane 0 s.core0 s runs.core0.now.length runs.core0.now.log h.core0.same_log)
     (lane_first core_lane 1 s.core1 s runs.core1.now.length runs.core1.now.log h.core1.same_log)
     (lane_first dma_lane 2 s.dma s runs.dma.now.length runs.dma.now.log h.dma.same_log)
@@ -529,37 +471,14 @@ stands_at_first w s at_most runs marks free knows h e = stands_first w s (length
 pub within_first : (runs : Runs) → IsWithin runs (record { core0 = 0; core1 = 0; dma = 0; pio0 = 0; pio1 = 0; outer = 0 })
 within_first runs = record { core0 = omega arith; core1 = omega arith; dma = omega arith; pio0 = omega arith; pio1 = omega arith; outer = omega arith }
 
--- where a report ends, some run alone ends
-some_end : (test : ℕ → Bool) (k at_most n : ℕ) → k < at_most → (n < at_most → test n ≡ true) → {b : Bool} → (b ≡ true → test k ≡ true) → (nat_eq k n || b) ≡ true → test k ≡ true
-some_end test k at_most n lt h rest e = elim (eqb_tells k n) [
-  | inl is ↦ let same : k ≡ n = is.1 in ap test same ∙ h (omega (arith, same, lt))
-  | inr is ↦ rest (rw is.0 at e)
-]
+-- some report has this length exactly where some run alone ends
+ends_as : (w : Setting) (s : State) (runs : Runs) (k : ℕ) → AreRunsAlone w s runs → ends_in (runs_of w s (longest w s)) k ≡ end_at runs k
+ends_as w s runs k h =
+    rw (← h.core0.same_length, ← h.core1.same_length, ← h.dma.same_length, ← h.pio0.same_length, ← h.pio1.same_length, ← h.outer.same_length) refl
 
-ends_some : (w : Setting) (s : State) (k at_most n0 n1 n2 n3 n4 n5 : ℕ)
-    → (n0 < at_most → ends_in (runs_of w s (longest w s)) n0 ≡ true) → (n1 < at_most → ends_in (runs_of w s (longest w s)) n1 ≡ true)
-    → (n2 < at_most → ends_in (runs_of w s (longest w s)) n2 ≡ true) → (n3 < at_most → ends_in (runs_of w s (longest w s)) n3 ≡ true)
-    → (n4 < at_most → ends_in (runs_of w s (longest w s)) n4 ≡ true) → (n5 < at_most → ends_in (runs_of w s (longest w s)) n5 ≡ true)
-    → k < at_most → (nat_eq k n0 || (nat_eq k n1 || (nat_eq k n2 || (nat_eq k n3 || (nat_eq k n4 || (nat_eq k n5 || false)))))) ≡ true → ends_in (runs_of w s (longest w s)) k ≡ true
-ends_some w s k at_most n0 n1 n2 n3 n4 n5 h0 h1 h2 h3 h4 h5 lt e =
-    some_end (λ n. ends_in (runs_of w s (longest w s)) n) k at_most n0 lt h0
-    (some_end (λ n. ends_in (runs_of w s (longest w s)) n) k at_most n1 lt h1
-    (some_end (λ n. ends_in (runs_of w s (longest w s)) n) k at_most n2 lt h2
-    (some_end (λ n. ends_in (runs_of w s (longest w s)) n) k at_most n3 lt h3
-    (some_end (λ n. ends_in (runs_of w s (longest w s)) n) k at_most n4 lt h4
-    (some_end (λ n. ends_in (runs_of w s (longest w s)) n) k at_most n5 lt h5
-    (λ f. absurd (cc f))))))) e
-
-pub ends_at_run : (w : Setting) (s : State) (at_most : ℕ) (runs : Runs) (k : ℕ) (now : State) (rests : Rests) (marks : List Mark) (ended : Bool) → AreCut w s at_most runs → Stands w s (lengths_of runs) k now rests marks → k < at_most → ended ≡ end_at runs k → ended ≡ true → k ≡ window_within w s at_most
-ends_at_run w s at_most runs k now rests marks ended h t below e is_true =
-    run_within w s (lengths_of runs) k now rests marks at_most t below
-    (ends_some w s k at_most _ _ _ _ _ _ h.core0.ends h.core1.ends h.dma.ends h.pio0.ends h.pio1.ends h.outer.ends below (sym e ∙ is_true))
-
-pub differ_of : (x y : ℕ) → nat_eq x y ≡ false → x ≢ y
-differ_of x y e = elim (eqb_tells x y) [
-  | inl h ↦ absurd (let there = h.0 in cc (e, there))
-  | inr h ↦ h.1
-]
+pub ends_at_run : (w : Setting) (s : State) (runs : Runs) (k : ℕ) (now : State) (rests : Rests) (marks : List Mark) (ended : Bool) → AreRunsAlone w s runs → Stands w s (lengths_of runs) k now rests marks → k < longest w s → ended ≡ end_at runs k → ended ≡ true → k ≡ window_length w s
+ends_at_run w s runs k now rests marks ended h t below e is_true =
+    ends_run w s (lengths_of runs) k now rests marks t below (ends_as w s runs k h ∙ sym e ∙ is_true)
 
 on_of : (runs : Runs) (k : ℕ) → end_at runs k ≡ false → AreOn (lengths_of runs) k
 on_of runs k e =
@@ -578,21 +497,11 @@ on_of runs k e =
       outer = differ_of k runs.outer.now.length g.0;
     }
 
-pub goes_at : (w : Setting) (s : State) (at_most : ℕ) (runs : Runs) (k : ℕ) (now : State) (rests : Rests) (marks : List Mark) (ended : Bool) → AreCut w s at_most runs → Stands w s (lengths_of runs) k now rests marks → k < at_most → at_most ≤ longest w s → ended ≡ end_at runs k → ended ≡ false → Goes w s (lengths_of runs) k now rests marks
-goes_at w s at_most runs k now rests marks ended h t below short e is_false = record {
-  stands = t;
-  lengths = are_short w s at_most runs h;
-  on = on_of runs k (sym e ∙ is_false);
-  below = omega (arith, below, short);
-}
+pub tries_at : (w : Setting) (s : State) (runs : Runs) (k : ℕ) (now : State) (rests : Rests) (marks : List Mark) (ended : Bool) → AreRunsAlone w s runs → Stands w s (lengths_of runs) k now rests marks → k < longest w s → ended ≡ end_at runs k → ended ≡ false → Tries w s (lengths_of runs) k now rests marks
+tries_at w s runs k now rests marks ended h t below e is_false =
+    record { stands = t; lengths = are_lengths w s runs h; on = on_of runs k (sym e ∙ is_false); below = below }
 
 -- ---- at the length of each run alone a run ends
-
-itself : (n : ℕ) → nat_eq n n ≡ true
-itself n = elim (eqb_tells n n) [
-  | inl h ↦ h.0
-  | inr h ↦ absurd (h.1 refl)
-]
 
 or_true : (b : Bool) → (b || true) ≡ true
 or_true true = refl
@@ -616,7 +525,3 @@ they_end w s = record {
   pio1 = rw (itself, or_true, or_true, or_true, or_true) refl;
   outer = rw (itself, or_true, or_true, or_true, or_true, or_true) refl;
 }
-
-pub is_whole : (w : Setting) (s : State) (n bound : ℕ) → n ≡ window_within w s bound → bound ≡ longest w s → n ≡ window_length w s
-unfolding window_length
-is_whole w s n bound e same = e ∙ ap (window_within w s) same

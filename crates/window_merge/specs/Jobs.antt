@@ -2,19 +2,20 @@
 use Rattle.std.specs.Prelude.{◌≡◌, ℕ, suc, ◌-◌, ◌==◌, ◌&&◌, nat_le, if◌then◌else◌, List, [], ◌∷◌, length, Option, Some, None}
 use Rattle.lane_look.specs.declared.replay.Report.{Report}
 use Rattle.lane_look.specs.Replay.{Meaning}
-use Rattle.lane_look.specs.Alone.{Surroundings, alone, alone_length}
+use Rattle.lane_look.specs.Alone.{alone, alone_length}
 use Rattle.lane_look.specs.Truth.{IsTrue}
 use Rattle.m0_core.specs.State.{State as Core}
 use Rattle.pio_block.specs.State.{Block as Pio}
 use Rattle.outer_lane.specs.Setting.{Setting}
 use Rattle.rp_machine.specs.State.{State}
+use Rattle.window_merge.specs.declared.copies.Copies.{Copies}
 use Rattle.window_merge.specs.declared.lane_run.LaneRun.{LaneRun}
 use Rattle.window_merge.specs.declared.lane_run.LaneRun.TheVariants as run
 use Rattle.window_merge.specs.declared.lane_job.LaneJob.{LaneJob}
 use Rattle.window_merge.specs.declared.lane_job.LaneReport.{LaneReport}
 use Rattle.window_merge.specs.declared.lane_job.Crew.{Crew}
-use Rattle.window_merge.specs.Around.{copies_of}
-use Rattle.window_merge.specs.Lanes.{around, core_lane, dma_lane, pio_lane, peripheral_lane, is_launching}
+use Rattle.window_merge.specs.Around.{copies_of, copied}
+use Rattle.window_merge.specs.Lanes.{core_lane, dma_lane, pio_lane, peripheral_lane, is_launching}
 use Rattle.window_merge.specs.Window.{longest}
 use Rattle.window_merge.specs.Merging.{IsRunAlone}
 
@@ -97,12 +98,12 @@ AreAlone w s reports = AreAloneFrom 0 w s reports
 
 -- ---- the run alone by what a job holds
 
--- a report is the run alone of a lane by what is around it, of at most so many cycles
-pub record RanIn {E S B W : Type 0} (a : Surroundings W) (m : Meaning E S B) (env : E) (before : S) (start : ℕ) (around : W) (bound : ℕ) (report : Report S) : Type 0 where
+-- a report is the run alone of a lane by copies of what is around it, of at most so many cycles
+pub record RanIn {E S B : Type 0} (m : Meaning E S B) (env : E) (before : S) (start : ℕ) (copies : Copies) (bound : ℕ) (report : Report S) : Type 0 where
   pub same_start : report.start ≡ start
   pub same_lane : report.before ≡ before
-  pub same_length : report.length ≡ alone_length m a env before start around bound
-  pub same_log : report.log ≡ (alone m a env before start around report.length).talk
+  pub same_length : report.length ≡ alone_length m copied env before start copies bound
+  pub same_log : report.log ≡ (alone m copied env before start copies report.length).talk
   pub replays : IsTrue m env report
 
 -- a run ends after at most 256 cycles, and at the limit
@@ -110,12 +111,12 @@ abbrev pub longest_by : ℕ → ℕ → ℕ
 longest_by limit start = if nat_le (limit - start) 256 then limit - start else 256
 
 -- of the lane whose state is in the room
-abbrev pub Ran : {W : Type 0} → Surroundings W → Setting → ℕ → ℕ → W → ℕ → LaneRun → LaneRun → Type 0
-Ran a w lane start around bound (run.Core room) (run.Core report) = RanIn a core_lane tt room.before start around (core_bound lane room.before bound) report
-Ran a w lane start around bound (run.Dma room) (run.Dma report) = RanIn a dma_lane tt room.before start around bound report
-Ran a w lane start around bound (run.Pio room) (run.Pio report) = RanIn a pio_lane tt room.before start around bound report
-Ran a w lane start around bound (run.Outer room) (run.Outer report) = RanIn a (peripheral_lane w) tt room.before start around bound report
-Ran a w lane start around bound room report = ⊥
+abbrev pub Ran : Setting → ℕ → ℕ → Copies → ℕ → LaneRun → LaneRun → Type 0
+Ran w lane start copies bound (run.Core room) (run.Core report) = RanIn core_lane tt room.before start copies (core_bound lane room.before bound) report
+Ran w lane start copies bound (run.Dma room) (run.Dma report) = RanIn dma_lane tt room.before start copies bound report
+Ran w lane start copies bound (run.Pio room) (run.Pio report) = RanIn pio_lane tt room.before start copies bound report
+Ran w lane start copies bound (run.Outer room) (run.Outer report) = RanIn (peripheral_lane w) tt room.before start copies bound report
+Ran w lane start copies bound room report = ⊥
 
 -- ---- a report's first cycle
 

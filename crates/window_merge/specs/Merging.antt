@@ -1,5 +1,5 @@
 -- One cycle of a window, by what is left of the logs of the six runs. The project's own.
-use Rattle.std.specs.Prelude.{◌≡◌, ℕ, zero, suc, ◌+◌, ◌<◌, ◌≤◌, Some, None, true, ◌==◌, nat_lt, if◌then◌else◌, not, ◌||◌, Bool, false, List, [], ◌∷◌, ◌++◌, length, drop}
+use Rattle.std.specs.Prelude.{◌≡◌, ℕ, zero, suc, ◌+◌, ◌≤◌, Some, None, true, ◌==◌, nat_lt, if◌then◌else◌, not, ◌||◌, Bool, false, List, [], ◌∷◌, ◌++◌, length, drop}
 use Rattle.lane_look.specs.declared.lane.Want.{Want}
 use Rattle.lane_look.specs.declared.marks.Mark.{Mark}
 use Rattle.lane_look.specs.declared.replay.Report.{Report}
@@ -21,10 +21,10 @@ use Rattle.rp_machine.specs.Cycle.{pins_of, stop, next, mark}
 use Rattle.rp_machine.specs.Run.{states}
 use Rattle.window_merge.specs.declared.runs.Runs.{Runs}
 use Rattle.window_merge.specs.declared.runs.Indices.{Indices}
-use Rattle.window_merge.specs.Lanes.{around, core_lane, dma_lane, pio_lane, peripheral_lane, core1_bound, runs_of}
+use Rattle.window_merge.specs.Lanes.{around, core_lane, dma_lane, pio_lane, peripheral_lane, core1_bound}
 use Rattle.window_merge.specs.declared.position.Moved.{Moved}
 use Rattle.window_merge.specs.declared.position.Moved.TheVariants as moved
-use Rattle.window_merge.specs.Window.{longest, ends_in, clash, is_tried, window_length}
+use Rattle.window_merge.specs.Window.{longest, clash, is_tried, window_length}
 
 -- a report is the run alone of a lane, of at most so many cycles
 pub record IsRunAlone {S B : Type 0} (m : Meaning (Unit {0}) S B) (lane : ℕ) (before : S) (s : State) (bound : ℕ) (report : Report S) : Type 0 where
@@ -130,21 +130,14 @@ end_at runs k =
     (k == runs.core0.now.length) || ((k == runs.core1.now.length) || ((k == runs.dma.now.length) || ((k == runs.pio0.now.length)
     || ((k == runs.pio1.now.length) || ((k == runs.outer.now.length) || false)))))
 
--- ---- reports that end early: what a window of at most so many cycles asks of them
-
--- a report is the first cycles of the run alone of a lane; where it has fewer than so many, some lane's run ends with it
-pub record IsCut (w : Setting) {S B : Type 0} (m : Meaning (Unit {0}) S B) (lane : ℕ) (before : S) (s : State) (bound at_most : ℕ) (report : Report S) : Type 0 where
-  pub within : report.length ≤ alone_length m (around lane) tt before s.cycle s bound
-  pub same_log : report.log ≡ (alone m (around lane) tt before s.cycle s report.length).talk
-  pub ends : report.length < at_most → ends_in (runs_of w s (longest w s)) report.length ≡ true
-
-pub record AreCut (w : Setting) (s : State) (at_most : ℕ) (runs : Runs) : Type 0 where
-  pub core0 : IsCut w core_lane 0 s.core0 s (longest w s) at_most runs.core0.now
-  pub core1 : IsCut w core_lane 1 s.core1 s (core1_bound s (longest w s)) at_most runs.core1.now
-  pub dma : IsCut w dma_lane 2 s.dma s (longest w s) at_most runs.dma.now
-  pub pio0 : IsCut w pio_lane 3 s.pio0 s (longest w s) at_most runs.pio0.now
-  pub pio1 : IsCut w pio_lane 4 s.pio1 s (longest w s) at_most runs.pio1.now
-  pub outer : IsCut w (peripheral_lane w) 5 s.outer s (longest w s) at_most runs.outer.now
+-- they are the runs alone of the lanes
+pub record AreRunsAlone (w : Setting) (s : State) (runs : Runs) : Type 0 where
+  pub core0 : IsRunAlone core_lane 0 s.core0 s (longest w s) runs.core0.now
+  pub core1 : IsRunAlone core_lane 1 s.core1 s (core1_bound s (longest w s)) runs.core1.now
+  pub dma : IsRunAlone dma_lane 2 s.dma s (longest w s) runs.dma.now
+  pub pio0 : IsRunAlone pio_lane 3 s.pio0 s (longest w s) runs.pio0.now
+  pub pio1 : IsRunAlone pio_lane 4 s.pio1 s (longest w s) runs.pio1.now
+  pub outer : IsRunAlone (peripheral_lane w) 5 s.outer s (longest w s) runs.outer.now
 
 -- ---- from one position of a run to the next
 

@@ -65,24 +65,27 @@ fn job_of(alloc: Global, lane: u8) -> Result<LaneJob, AllocError>
     })
 }
 
+/// The jobs of a lane and of the next one.
+fn two_jobs(alloc: Global, lane: u8) -> Result<[Option<LaneJob>; 2], AllocError>
+    requires { lane ≤ 4 }
+    ensures { IfOk result (λ jobs. HasLanesFrom lane jobs) }
+{
+    let first = job_of(alloc, lane)?;
+    let second = job_of(alloc, lane + 1)?;
+    Ok([Some(first), Some(second)])
+}
+
 /// A job for each lane.
 fn six_jobs(alloc: Global) -> Result<[Option<LaneJob>; 6], AllocError>
     ensures { IfOk result (λ jobs. HasLanesFrom 0 jobs) }
 {
-    let core0 = job_of(alloc, 0)?;
-    let core1 = job_of(alloc, 1)?;
-    let dma = job_of(alloc, 2)?;
-    let pio0 = job_of(alloc, 3)?;
-    let pio1 = job_of(alloc, 4)?;
-    let outer = job_of(alloc, 5)?;
-    Ok([
-        Some(core0),
-        Some(core1),
-        Some(dma),
-        Some(pio0),
-        Some(pio1),
-        Some(outer),
-    ])
+    let cores = two_jobs(alloc, 0)?;
+    let middle = two_jobs(alloc, 2)?;
+    let last = two_jobs(alloc, 4)?;
+    let [core0, core1] = cores;
+    let [dma, pio0] = middle;
+    let [pio1, outer] = last;
+    Ok([core0, core1, dma, pio0, pio1, outer])
 }
 
 impl Crew {

@@ -1,20 +1,18 @@
 //! A lane's job: what it is given from a machine, its run alone, and the set that comes back.
 
-ghost use Rattle.std.specs.Prelude.{◌≡◌, ℕ, ◌+◌, ◌^◌, ◌<◌, ◌≤◌, ◌==◌, ◌&&◌, ◌∷◌, [], true, length, if◌then◌else◌, Some};
+ghost use Rattle.std.specs.Prelude.{◌≡◌, ℕ, ◌+◌, ◌^◌, ◌<◌, ◌≤◌, ◌==◌, ◌&&◌, true, length, Some};
 ghost use Rattle.lane_look.specs.Replay.{meaning};
-ghost use Rattle.lane_look.specs.Alone.{surroundings};
 ghost use Rattle.outer_lane.specs.Setting.{setting_of};
 ghost use Rattle.rp_machine.specs.State.{State};
-ghost use Rattle.window_merge.specs.Around.{copies_of};
-ghost use Rattle.window_merge.specs.Kinds.{is_run_of, has_room_for};
+ghost use Rattle.window_merge.specs.Kinds.{is_run_of};
 ghost use Rattle.window_merge.specs.Lanes.{core_lane, dma_lane, pio_lane, peripheral_lane};
-ghost use Rattle.window_merge.specs.Jobs.{core_of, block_of, core_bound, BeginsIn, HasLane, HasWords, HasWordsIn, IsJobOf, IsJobFor, IsTrueRun, IsTrueIn, IsAlone, RanIn, Ran, longest_by, start_of, length_of};
+ghost use Rattle.window_merge.specs.Jobs.{core_bound, BeginsIn, HasWords, HasWordsIn, IsJobOf, IsJobFor, IsTrueRun, IsTrueIn, IsAlone, RanIn, Ran, longest_by, start_of, length_of};
 
 use crate::copies::Copies;
 use crate::lane_job::{LaneJob, LaneReport};
 use crate::lane_run::{LaneRun, LaneSet};
 use dma_engine::Dma;
-use lane_look::{Around, Device, Lane, Report, run_alone};
+use lane_look::{Device, Lane, Report, run_alone};
 use m0_core::Core;
 use outer_lane::{Outer, World};
 use pio_block::PioBlock;
@@ -64,96 +62,94 @@ pub fn job(machine: &Machine, job: &mut LaneJob)
     }
 }
 
-/// Runs a lane alone, in the room of a report that has its state. Gives what is left around the lane.
-fn run_lane<E, S: Lane<E>, W: Around>(
+/// Runs a lane alone, in the room of a report that has its state. Gives what is left of its copies.
+fn run_lane<E, S: Lane<E>>(
     room: &mut Report<S>,
     env: &E,
     start: u64,
-    around: W,
+    copies: Copies,
     at_most: u16,
-) -> W
+) -> Copies
     requires cycles { at_most ≤ 256 }
     requires number { start + at_most < 2 ^ 64 }
-    ensures { RanIn (surroundings W.answer W.stored) (meaning S.asks S.wanted S.next S.marked)
-        env.now room.old.before start around at_most room.new }
+    ensures { RanIn (meaning S.asks S.wanted S.next S.marked) env.now room.old.before start copies
+        at_most room.new }
 {
     room.start = start;
-    run_alone(room, env, around, at_most)
+    run_alone(room, env, copies, at_most)
 }
 
 /// Runs a core alone: for no cycle where it is core 1 and has a word of its launcher to take.
-fn run_core<W: Around>(room: &mut Report<Core>, lane: u8, start: u64, around: W, at_most: u16) -> W
+fn run_core(room: &mut Report<Core>, lane: u8, start: u64, copies: Copies, at_most: u16) -> Copies
     requires cycles { at_most ≤ 256 }
     requires number { start + at_most < 2 ^ 64 }
-    ensures { RanIn (surroundings W.answer W.stored) core_lane tt room.old.before start around
+    ensures { RanIn core_lane tt room.old.before start copies
         (core_bound lane room.old.before at_most) room.new }
 {
     if lane == 1 && room.before.is_asleep() && room.before.has_offer() {
-        run_lane(room, &(), start, around, 0)
+        run_lane(room, &(), start, copies, 0)
     } else {
-        run_lane(room, &(), start, around, at_most)
+        run_lane(room, &(), start, copies, at_most)
     }
 }
 
 /// Runs the DMA engine alone.
-fn run_dma<W: Around>(room: &mut Report<Dma>, start: u64, around: W, at_most: u16) -> W
+fn run_dma(room: &mut Report<Dma>, start: u64, copies: Copies, at_most: u16) -> Copies
     requires cycles { at_most ≤ 256 }
     requires number { start + at_most < 2 ^ 64 }
-    ensures { RanIn (surroundings W.answer W.stored) dma_lane tt room.old.before start around
-        at_most room.new }
+    ensures { RanIn dma_lane tt room.old.before start copies at_most room.new }
 {
-    run_lane(room, &(), start, around, at_most)
+    run_lane(room, &(), start, copies, at_most)
 }
 
 /// Runs a PIO block alone.
-fn run_pio<W: Around>(room: &mut Report<PioBlock>, start: u64, around: W, at_most: u16) -> W
+fn run_pio(room: &mut Report<PioBlock>, start: u64, copies: Copies, at_most: u16) -> Copies
     requires cycles { at_most ≤ 256 }
     requires number { start + at_most < 2 ^ 64 }
-    ensures { RanIn (surroundings W.answer W.stored) pio_lane tt room.old.before start around
-        at_most room.new }
+    ensures { RanIn pio_lane tt room.old.before start copies at_most room.new }
 {
-    run_lane(room, &(), start, around, at_most)
+    run_lane(room, &(), start, copies, at_most)
 }
 
 /// Runs the peripherals alone.
-fn run_outer<X: Device, W: Around>(
+fn run_outer<X: Device>(
     room: &mut Report<Outer>,
     world: &World<'_, X>,
     start: u64,
-    around: W,
+    copies: Copies,
     at_most: u16,
-) -> W
+) -> Copies
     requires cycles { at_most ≤ 256 }
     requires number { start + at_most < 2 ^ 64 }
-    ensures { RanIn (surroundings W.answer W.stored) (peripheral_lane
+    ensures { RanIn (peripheral_lane
         (setting_of world.now.script.now (X.meaning world.now.device.now) world.now.limit))
-        tt room.old.before start around at_most room.new }
+        tt room.old.before start copies at_most room.new }
 {
-    run_lane(room, world, start, around, at_most)
+    run_lane(room, world, start, copies, at_most)
 }
 
-/// Runs the lane alone whose state is in the room. Gives what is left around the lane.
-pub(crate) fn run_room<X: Device, W: Around>(
+/// Runs the lane alone whose state is in the room. Gives what is left of its copies.
+pub(crate) fn run_room<X: Device>(
     room: &mut LaneRun,
     lane: u8,
     world: &World<'_, X>,
     start: u64,
-    around: W,
+    copies: Copies,
     at_most: u16,
-) -> W
+) -> Copies
     requires kind { is_run_of lane room.old ≡ true }
     requires cycles { at_most ≤ 256 }
     requires number { start + at_most < 2 ^ 64 }
     ensures kind { is_run_of lane room.new ≡ true }
-    ensures run { Ran (surroundings W.answer W.stored)
+    ensures run { Ran
         (setting_of world.now.script.now (X.meaning world.now.device.now) world.now.limit)
-        lane start around at_most room.old room.new }
+        lane start copies at_most room.old room.new }
 {
     match room {
-        LaneRun::Core(room) => run_core(room, lane, start, around, at_most),
-        LaneRun::Dma(room) => run_dma(room, start, around, at_most),
-        LaneRun::Pio(room) => run_pio(room, start, around, at_most),
-        LaneRun::Outer(room) => run_outer(room, world, start, around, at_most),
+        LaneRun::Core(room) => run_core(room, lane, start, copies, at_most),
+        LaneRun::Dma(room) => run_dma(room, start, copies, at_most),
+        LaneRun::Pio(room) => run_pio(room, start, copies, at_most),
+        LaneRun::Outer(room) => run_outer(room, world, start, copies, at_most),
     }
 }
 

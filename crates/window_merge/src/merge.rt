@@ -7,8 +7,8 @@ ghost use Rattle.bus_fabric.specs.State.{has_hold};
 ghost use Rattle.sio_block.specs.Launcher.{offers_of};
 ghost use Rattle.rp_machine.specs.Cycle.{pins_of, wanted, next_by};
 ghost use Rattle.rp_machine.specs.Run.{states};
-ghost use Rattle.window_merge.specs.Window.{is_port_of, clash, longest, window_within};
-ghost use Rattle.window_merge.specs.Merging.{AreCut, IsWithin, rests_at, begun_by, left_by, wants_of, fits, marks_in, IsRested};
+ghost use Rattle.window_merge.specs.Window.{is_port_of, clash, longest, window_length};
+ghost use Rattle.window_merge.specs.Merging.{AreRunsAlone, IsWithin, rests_at, begun_by, left_by, wants_of, fits, marks_in, IsRested};
 
 use crate::compare::{Comparison, compare};
 use crate::runs::{Indices, Runs};
@@ -135,30 +135,24 @@ pub(crate) fn is_numbered<X: Device>(machine: &Machine, world: &World<'_, X>, at
     let _longest = longest(machine, world);
 }
 
-/// Moves the machine by the window of six runs alone from its state, and gives the window's length. It has at most so many
-/// cycles, and the runs end where some run ends or after as many. The marks of its cycles are left in `marks`, and each
-/// counts as one of the steps.
+/// Moves the machine by the window of six runs alone from its state, and gives the window's length. The marks of its cycles are
+/// left in `marks`, and each counts as one of the steps.
 pub fn merge_runs<X: Device, L: Ledger>(
     machine: &mut Machine,
     world: &World<'_, X>,
     runs: &Runs<'_>,
-    at_most: u16,
     marks: &mut Marks,
     steps: &mut Steps<L>,
 ) -> u16
     requires number { machine.old.cycle ≤ world.now.limit }
     requires free { has_hold machine.old.fabric ≡ false }
     requires rested { IsRested machine.old.sio }
-    requires cycles { at_most ≤ longest
+    requires runs { AreRunsAlone
+        (setting_of world.now.script.now (X.meaning world.now.device.now) world.now.limit)
+        machine.old runs.now }
+    ensures length { result ≡ window_length
         (setting_of world.now.script.now (X.meaning world.now.device.now) world.now.limit)
         machine.old }
-    requires runs { AreCut
-        (setting_of world.now.script.now (X.meaning world.now.device.now) world.now.limit)
-        machine.old at_most
-        runs.now }
-    ensures length { result ≡ window_within
-        (setting_of world.now.script.now (X.meaning world.now.device.now) world.now.limit)
-        machine.old at_most }
     ensures state { machine.new ≡ states
         (setting_of world.now.script.now (X.meaning world.now.device.now) world.now.limit)
         machine.old result }
@@ -169,10 +163,10 @@ pub fn merge_runs<X: Device, L: Ledger>(
     ensures steps { steps.new ≡ steps.old + result }
 {
     is_known(machine);
-    is_numbered(machine, world, at_most);
     marks.clear();
+    let longest = longest(machine, world);
     let mut indices = Indices::first();
-    for k in 0..at_most {
+    for k in 0..longest {
         if runs.end_at(k) {
             return k;
         }
@@ -181,5 +175,5 @@ pub fn merge_runs<X: Device, L: Ledger>(
         }
         steps.tick();
     }
-    at_most
+    longest
 }

@@ -1,10 +1,10 @@
 //! What a window writes to SRAM: each word as it was before the window, and the words that each lane wrote.
 
-ghost use Rattle.std.specs.Prelude.{◌≡◌, ◌+◌, ◌<◌, ◌≤◌, length};
+ghost use Rattle.std.specs.Prelude.{◌≡◌, ◌<◌, ◌≤◌, length};
 ghost use Rattle.rp_machine.specs.Deeds.{StoresInSram};
 ghost use Rattle.window_merge.specs.Notes.{first_of, last_of, seen_word, write_of, original_word};
 
-use crate::patch::with_lanes;
+use crate::patch::{last_of, with_lanes};
 use lane_look::Want;
 use ram_banks::Ram;
 use rp_base::access::{lanes_at, replicated};
@@ -92,20 +92,6 @@ fn first_of(words: &[(u32, u32)], index: u32, word: u32) -> u32
         }
     }
     word
-}
-
-/// The last word of an index; else this word.
-fn last_of(words: &[(u32, u32)], index: u32, word: u32) -> u32
-    ensures { result ≡ last_of words.now index word }
-{
-    let mut last = word;
-    for noted in words {
-        let (at, later) = *noted;
-        if at == index {
-            last = later;
-        }
-    }
-    last
 }
 
 /// The word of an index, as a lane sees it.

@@ -1,10 +1,8 @@
 //! The cycles of a window on one thread: each is the machine's own, and is kept where it goes as the lanes would go alone.
 
-ghost use Rattle.std.specs.Prelude.{◌≡◌, ◌+◌, ◌-◌, ◌^◌, ◌<◌, ◌≤◌, ◌++◌, ◌∷◌, [], if◌then◌else◌, is_some, IfSome, length};
+ghost use Rattle.std.specs.Prelude.{◌≡◌, ◌+◌, ◌-◌, ◌^◌, ◌<◌, ◌++◌, ◌∷◌, [], if◌then◌else◌, is_some, IfSome, length};
 ghost use Rattle.outer_lane.specs.Setting.{setting_of};
 ghost use Rattle.outer_lane.specs.Step.{marked};
-ghost use Rattle.lane_look.specs.Alone.{ends_want};
-ghost use Rattle.m0_core.specs.Cycle.{want_of};
 ghost use Rattle.rp_machine.specs.Cycle.{begun, wanted, next_by};
 ghost use Rattle.rp_machine.specs.Alone.{IsAlone};
 ghost use Rattle.window_merge.specs.Lanes.{is_launching};
@@ -13,13 +11,14 @@ ghost use Rattle.window_merge.specs.Start.{start_of, begun_from, ends_wanted, go
 
 use crate::merge::clash;
 use crate::notes::Notes;
-use crate::start::{Beginning, BeginningAlone, Start, begin_alone, begin_at_start, begin_later};
-use lane_look::{Device, Lane, Marks, Want};
-use m0_core::{Core, Doing};
+use crate::start::{Beginning, BeginningAlone, Start, begin_alone, begin_later};
+use crate::walk::ends_want;
+use lane_look::{Device, Marks};
+use m0_core::Core;
 use outer_lane::World;
 use rp_base::Master;
 use rp_machine::Machine;
-use rp_machine::wanted::{Wanted, all_wanted};
+use rp_machine::wanted::{Wanted, all_wanted, want_of};
 
 /// Core 1 has a word of its launcher to take.
 pub(crate) fn is_launching(core: &Core) -> bool
@@ -28,24 +27,16 @@ pub(crate) fn is_launching(core: &Core) -> bool
     core.is_asleep() && core.has_offer()
 }
 
-/// A run alone ends before a cycle with this want.
-#[inline(always)]
-fn ends_want(wanted: &Wanted) -> bool
-    ensures { result ≡ ends_want wanted.now.want }
-{
-    match wanted.want {
-        Want::Nothing | Want::Ram(_) => false,
-        Want::Outward(_) | Want::Signal | Want::Stopped(_) => true,
-    }
-}
-
 /// A run alone ends before a cycle with these wants.
 #[inline(always)]
 fn ends_wanted(wants: &[Wanted; 4]) -> bool
     ensures { result ≡ ends_wanted wants.now }
 {
     let [core0, core1, read, write] = wants;
-    ends_want(core0) || ends_want(core1) || ends_want(read) || ends_want(write)
+    ends_want(&core0.want)
+        || ends_want(&core1.want)
+        || ends_want(&read.want)
+        || ends_want(&write.want)
 }
 
 /// The first cycle of a window, where no run alone ends and no two accesses name one port. Gives what the start answers.
@@ -71,7 +62,7 @@ pub(crate) fn try_first<X: Device>(
     ensures notes { IfSome result (λ _. notes.new ≡ noted_by (wanted (begun machine.old))
         machine.old.sram no_notes) }
 {
-    let begun = begin_at_start(machine, world);
+    let begun = machine.begin(world);
     let wants = all_wanted(&begun);
     if ends_wanted(&wants) || clash(&begun, &wants) {
         return None;
@@ -81,15 +72,6 @@ pub(crate) fn try_first<X: Device>(
     notes.note(&machine.ram, &wants);
     machine.step(world, &begun, &wants, marks);
     Some(start)
-}
-
-/// What a core wants.
-#[inline(always)]
-fn want_of(begun: &Doing) -> Want
-    ensures { result ≡ want_of begun.now }
-{
-    let [want, _] = <Core as Lane<()>>::wants(begun);
-    want
 }
 
 /// A later cycle of a window in which core 0 is alone: nothing is asked of the lanes at rest.
@@ -126,7 +108,7 @@ fn try_alone<X: Device>(
         master: Master::Core0,
         want: want_of(&core0),
     };
-    if ends_want(&wanted) {
+    if ends_want(&wanted.want) {
         return false;
     }
     notes.note_core0(&machine.ram, &wanted.want);

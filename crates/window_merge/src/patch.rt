@@ -2,6 +2,7 @@
 
 ghost use Rattle.std.specs.Prelude.{◌≡◌, ◌<◌, ◌^◌};
 ghost use Rattle.ram_banks.specs.Lanes.{lane_byte, with_lanes};
+ghost use Rattle.window_merge.specs.Notes.{last_of};
 
 use arrayvec::ArrayVec;
 use lane_look::Want;
@@ -15,11 +16,11 @@ const ROOM: usize = 512;
 
 /// Words of SRAM by their index, as they were written in turn.
 #[derive(Drop)]
-pub(crate) struct Words {
+pub(crate) struct WordLog {
     list: ArrayVec<(u32, u32), 512>,
 }
 
-impl Model for Words {
+impl Model for WordLog {
     ghost use Rattle.std.specs.Prelude.{ℕ, List};
 
     ghost Value = { List (ℕ × ℕ) };
@@ -52,33 +53,32 @@ pub(crate) fn with_lanes(lanes: u8, value: u32, word: u32) -> u32
         + lane_byte(lanes, value, word, 0)
 }
 
-impl Words {
-    ghost use Rattle.std.specs.Prelude.{◌≡◌, ◌+◌, ◌<◌, ◌≤◌, ◌++◌, ◌∷◌, [], Some, length, slice_get, slice_index};
+/// The last word of an index; else this word.
+pub(crate) fn last_of(words: &[(u32, u32)], index: u32, word: u32) -> u32
+    ensures { result ≡ last_of words.now index word }
+{
+    let mut last = word;
+    for noted in words {
+        let (at, later) = *noted;
+        if at == index {
+            last = later;
+        }
+    }
+    last
+}
+
+impl WordLog {
+    ghost use Rattle.std.specs.Prelude.{◌≡◌, ◌+◌, ◌<◌, ◌≤◌, ◌++◌, ◌∷◌, [], length, slice_index};
     ghost use Rattle.ram_banks.specs.Sram.{written};
     ghost use Rattle.window_merge.specs.Patch.{patched, sram_after};
 
     /// None.
-    pub(crate) fn new() -> Words
+    pub(crate) fn new() -> WordLog
         ensures { result ≡ [] }
     {
-        Words {
+        WordLog {
             list: ArrayVec::new(),
         }
-    }
-
-    /// How many there are.
-    fn count(&self) -> usize
-        ensures { result ≡ length self.now }
-    {
-        self.list.len()
-    }
-
-    /// The index and the word of an entry.
-    fn entry(&self, index: usize) -> (u32, u32)
-        requires { index < length self.now }
-        ensures { slice_get self.now index ≡ Some result }
-    {
-        self.list[index]
     }
 
     /// Adds a word at the end.
@@ -94,14 +94,7 @@ impl Words {
         requires { index < 67584 }
         ensures { result ≡ slice_index (patched self.now ram.now) index }
     {
-        let mut word = ram.read(index);
-        for k in 0..self.count() {
-            let (at, later) = self.entry(k);
-            if at == index {
-                word = later;
-            }
-        }
-        word
+        last_of(self.list.as_slice(), index, ram.read(index))
     }
 
     /// Writes some byte lanes of a word.

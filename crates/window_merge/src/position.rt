@@ -1,10 +1,8 @@
 //! The positions at which a run stands between windows and single cycles.
 
-ghost use Rattle.std.specs.Prelude.{◌≡◌, ◌+◌, ◌≤◌, ◌&&◌, ◌∷◌, [], if◌then◌else◌, false, not, is_some};
+ghost use Rattle.std.specs.Prelude.{◌≤◌};
 ghost use Rattle.outer_lane.specs.Setting.{setting_of};
-ghost use Rattle.bus_fabric.specs.State.{has_hold};
 ghost use Rattle.rp_machine.specs.Cycle.{stop};
-ghost use Rattle.window_merge.specs.Window.{is_tried, window_length};
 ghost use Rattle.window_merge.specs.Merging.{IsRested, IsStep};
 ghost use Rattle.window_merge.specs.Jobs.{IsWhole};
 

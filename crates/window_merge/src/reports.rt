@@ -11,7 +11,7 @@ ghost use Rattle.window_merge.specs.Jobs.{AreAlone};
 
 use crate::lane_job::LaneReport;
 use crate::lane_run::LaneRun;
-use crate::merge::{longest, merge_runs};
+use crate::merge::merge_runs;
 use crate::runs::Runs;
 use dma_engine::Dma;
 use lane_look::{Device, Marks, Report};
@@ -104,6 +104,5 @@ pub fn merge<X: Device, L: Ledger>(
         pio1: pio_in(pio1),
         outer: outer_in(outer),
     };
-    let longest = longest(machine, world);
-    merge_runs(machine, world, &runs, longest, marks, steps)
+    merge_runs(machine, world, &runs, marks, steps)
 }

@@ -5,7 +5,6 @@ ghost use Rattle.lane_look.specs.Asking.{answered};
 ghost use Rattle.lane_look.specs.Replay.{asked};
 ghost use Rattle.lane_look.specs.Alone.{differs};
 ghost use Rattle.rp_machine.specs.Answers.{answer_of};
-ghost use Rattle.rp_machine.specs.Cycle.{begun};
 ghost use Rattle.window_merge.specs.Notes.{seen_of};
 ghost use Rattle.window_merge.specs.Start.{guess, begun_from, differs_from, differs_alone};
 
@@ -51,55 +50,6 @@ impl Start {
             pio0: machine.answer(5, Ask::Outs(0)),
             pio1: machine.answer(5, Ask::Outs(1)),
         }
-    }
-}
-
-/// Answers a lane as the machine does.
-#[derive(Drop)]
-struct Here<'a> {
-    lane: u8,
-    machine: &'a Machine,
-}
-
-impl Look for Here<'_> {
-    ghost use Rattle.std.specs.Prelude.{◌≡◌};
-    ghost use Rattle.rp_machine.specs.Answers.{answer_of};
-
-    ghost answers = { λ old ask answer new. (answer ≡ answer_of old.lane old.machine.now ask)
-        × (new ≡ old) };
-
-    #[inline(always)]
-    fn ask(&mut self, ask: Ask) -> u128 {
-        self.machine.answer(self.lane, ask)
-    }
-}
-
-/// What a lane of the machine, by its number, begins.
-#[inline(always)]
-fn begin_here<E, S: Lane<E>>(lane: &S, env: &E, number: u8, machine: &Machine) -> S::Begun
-    ensures { result ≡ answered (answer_of number machine.now)
-        (S.asks env.now lane.now machine.now.cycle) }
-{
-    let mut look = Here {
-        lane: number,
-        machine,
-    };
-    lane.begin(env, machine.at, &mut look)
-}
-
-/// What the lanes begin, as the machine answers.
-#[inline(always)]
-#[tactic(auto, unfolding(rp_machine::specs::Cycle::begun))]
-pub(crate) fn begin_at_start<X: Device>(machine: &Machine, world: &World<'_, X>) -> Begun
-    ensures { result ≡ begun machine.now }
-{
-    Begun {
-        core0: begin_here(&machine.core0, &(), 0, machine),
-        core1: begin_here(&machine.core1, &(), 1, machine),
-        dma: begin_here(&machine.dma, &(), 2, machine),
-        pio0: begin_here(&machine.pio0, &(), 3, machine),
-        pio1: begin_here(&machine.pio1, &(), 4, machine),
-        outer: begin_here(&machine.outer, world, 5, machine),
     }
 }
 

@@ -1,8 +1,8 @@
 //! A lane that runs alone again from a machine, and is compared with the log of a report.
 
-ghost use Rattle.std.specs.Prelude.{◌≡◌, ◌+◌, ◌*◌, ◌^◌, ◌<◌, ◌≤◌, ◌∷◌, [], true, List, length, Decides};
+ghost use Rattle.std.specs.Prelude.{◌≡◌, ◌+◌, ◌^◌, ◌<◌, ◌≤◌, ◌∷◌, [], true, List, length, Decides};
 ghost use Rattle.lane_look.specs.Replay.{Entry, meaning};
-ghost use Rattle.lane_look.specs.Alone.{ends_wants, ends_now, alone_length};
+ghost use Rattle.lane_look.specs.Alone.{ends_want, ends_wants, ends_now, alone_length};
 ghost use Rattle.window_merge.specs.declared.walk.Walker.{Walker};
 ghost use Rattle.window_merge.specs.Lanes.{around};
 ghost use Rattle.window_merge.specs.Accept.{talk_alone};
@@ -10,7 +10,7 @@ ghost use Rattle.window_merge.specs.Judged.{IsFirstOther};
 ghost use Rattle.window_merge.specs.Walks.{seen_by, IsCompared, GoesOn, IsStepped, IsWalked};
 
 use crate::copies::half_of;
-use crate::patch::Words;
+use crate::patch::WordLog;
 use lane_look::replay::finish_alone;
 use lane_look::{Ask, Lane, Log, Look, Marks, Want};
 use rp_base::map::{Spot, place};
@@ -23,7 +23,7 @@ pub(crate) struct Walker<'a, 'b> {
     machine: &'a Machine,
     lane: u8,
     /// What the lane wrote.
-    words: Words,
+    words: WordLog,
     log: &'b Log,
     /// How many entries of the log are those that the lane made, from the first.
     index: u16,
@@ -128,13 +128,23 @@ impl Look for Walker<'_, '_> {
     }
 }
 
+/// A run alone ends before a cycle with this want.
+#[inline(always)]
+pub(crate) fn ends_want(want: &Want) -> bool
+    ensures { result ≡ ends_want want.now }
+{
+    match want {
+        Want::Nothing | Want::Ram(_) => false,
+        Want::Outward(_) | Want::Signal | Want::Stopped(_) => true,
+    }
+}
+
 /// A run alone ends before a cycle with one of these wants.
 fn ends_wants(wants: &[Want; 2]) -> bool
     ensures { result ≡ ends_wants wants.now }
 {
     let [first, second] = wants;
-    !matches!(first, Want::Nothing | Want::Ram(_))
-        || !matches!(second, Want::Nothing | Want::Ram(_))
+    ends_want(first) || ends_want(second)
 }
 
 /// One cycle of a lane, as it is where it runs alone. Gives whether the run ends before this cycle. What was in `marks` is of no
@@ -243,7 +253,7 @@ pub(crate) fn compare_run<S: Lane<()> + Drop>(
     let mut walker = Walker {
         machine,
         lane: number,
-        words: Words::new(),
+        words: WordLog::new(),
         log,
         index: 0,
         same: true,

@@ -1,6 +1,5 @@
 -- A true report that is accepted is the lane's run alone.
-use Rattle.std.proofs.Common.{◌≡◌, ℕ, zero, suc, ◌+◌, ◌<◌, ◌≤◌, Bool, true, false, not, nat_eq, inl, inr, List, ◌∷◌, ◌++◌, refl, ap, sym, ◌∙◌, arith}
-use Rattle.std.proofs.lemmas.Bool.Decides.{eqb_tells}
+use Rattle.std.proofs.Common.{◌≡◌, ℕ, zero, suc, ◌+◌, ◌<◌, ◌≤◌, false, not, nat_eq, List, ◌∷◌, ◌++◌, refl, ap, sym, ◌∙◌, arith}
 use Rattle.lane_look.specs.Asking.{Asking, answered}
 use Rattle.lane_look.specs.Asking.Asking.{Ready, Question}
 use Rattle.lane_look.specs.declared.lane.Ask.{Ask}
@@ -12,20 +11,10 @@ use Rattle.rp_machine.specs.State.{State}
 use Rattle.rp_machine.specs.Answers.{answer_of}
 use Rattle.window_merge.specs.Lanes.{around}
 use Rattle.window_merge.specs.Merging.{IsRunAlone}
-use Rattle.window_merge.proofs.Agree.{both_false}
+use Rattle.window_merge.proofs.Agree.{both_false, not_false, same_number}
 use Rattle.window_runner.specs.Reports.{talk_in, overlaid, IsAccepted}
 
 -- ---- one cycle
-
-not_false : (a : Bool) → not a ≡ false → a ≡ true
-not_false true e = refl
-not_false false e = absurd (cc e)
-
-same_number : (x y : ℕ) → nat_eq x y ≡ true → x ≡ y
-same_number x y e = elim (eqb_tells x y) [
-  | inl h ↦ h.1
-  | inr h ↦ absurd (let e2 = h.0 in cc (e, e2))
-]
 
 -- a log whose answers are those of a function tells what the function answers
 record TellsSame {B : Type 0} (f : Ask → ℕ) (log : List Entry) (tree : Asking B) : Type 0 where

@@ -2,7 +2,6 @@ pub mod Accepting
 pub mod Along
 pub mod CycleEvents
 pub mod Finishing
-pub mod Least
 pub mod Marks
 pub mod Merges
 pub mod Ordering

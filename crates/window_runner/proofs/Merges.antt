@@ -11,12 +11,12 @@ use Rattle.rp_machine.specs.Run.{states}
 use Rattle.window_merge.specs.Lanes.{core_lane, dma_lane, pio_lane, peripheral_lane, runs_of}
 use Rattle.window_merge.specs.Window.{longest, ends_in, window_length}
 use Rattle.window_merge.specs.Merging.{Rests, begun_by, left_by, fits, Knows}
-use Rattle.window_merge.proofs.Agree.{both_false}
+use Rattle.window_merge.proofs.Agree.{both_false, not_false, is_not, differ_of}
 use Rattle.window_merge.proofs.Lanes.{lane_first, below_least}
+use Rattle.window_merge.proofs.Meeting.{least_meets}
 use Rattle.window_merge.proofs.Windows.{Lengths, AreLengths, AreOn, Stands, Tries, stands_first, stands_next, ends_tried, ends_run, ends_full}
 use Rattle.window_runner.specs.Reports.{SixReports}
 use Rattle.window_runner.specs.Merge.{logs_of, by_logs, any_ends, merge_ends, merged_length, merged}
-use Rattle.window_runner.proofs.Least.{least_meets}
 use Rattle.window_runner.proofs.Taking.{AreAlone}
 
 abbrev lengths_of : SixReports → Lengths
@@ -43,12 +43,6 @@ ends_as : (w : Setting) (s : State) (six : SixReports) (k : ℕ) → AreAlone w 
 ends_as w s six k h =
     rw (← h.core0.same_length, ← h.core1.same_length, ← h.dma.same_length, ← h.pio0.same_length, ← h.pio1.same_length, ← h.outer.same_length) refl
 
-differ_of : (x y : ℕ) → nat_eq x y ≡ false → x ≢ y
-differ_of x y e = elim (eqb_tells x y) [
-  | inl h ↦ absurd (let there = h.0 in cc (e, there))
-  | inr h ↦ h.1
-]
-
 on_of : (six : SixReports) (k : ℕ) → any_ends six k ≡ false → AreOn (lengths_of six) k
 on_of six k e =
     let a = both_false (nat_eq k six.core0.length) _ e in
@@ -65,10 +59,6 @@ on_of six k e =
       pio1 = differ_of k six.pio1.length f.0;
       outer = differ_of k six.outer.length g.0;
     }
-
-not_false : (a : Bool) → not a ≡ false → a ≡ true
-not_false true e = refl
-not_false false e = absurd (cc e)
 
 -- what the merge begins with
 pub record Starts (w : Setting) (s : State) (six : SixReports) : Type 0 where
@@ -126,10 +116,6 @@ at_cycle w s six (suc k) h le on =
     next_at w s six k h.alone (at_cycle w s six k h (omega arith) (λ j lt. on j (omega arith))) (on k (omega arith)) (omega arith)
 
 -- ---- its end
-
-is_not : (a : Bool) → not a ≡ true → a ≡ false
-is_not true e = absurd (cc e)
-is_not false e = refl
 
 ends_by : (w : Setting) (s : State) (six : SixReports) (k : ℕ) (now : State) (rests : Rests) (marks : List Mark) (ended : Bool)
     → AreAlone w s six → Stands w s (lengths_of six) k now rests marks → k < longest w s → any_ends six k ≡ ended

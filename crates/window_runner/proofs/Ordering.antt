@@ -7,7 +7,7 @@ use Rattle.rp_machine.specs.State.{State}
 use Rattle.rp_machine.specs.Cycle.{stop}
 use Rattle.rp_machine.specs.Run.{states}
 use Rattle.turn_board.specs.Tickets as board
-use Rattle.turn_board.specs.Tickets.Event.{Draw as DrawOn, SeeOpen as SeeOpenOn, Finish as FinishOn, Open as OpenOn, Close as CloseOn, SeeDone as SeeDoneOn}
+use Rattle.turn_board.specs.Tickets.Event.{Draw as DrawOn, SeeOpen as SeeOpenOn, Finish as FinishOn, Close as CloseOn, SeeDone as SeeDoneOn}
 use Rattle.window_merge.specs.Window.{Position, first_position, is_tried, next_position, window_length}
 use Rattle.window_runner.specs.Reports.{OneReport, IsTrueOrNone, SixReports, AreTaken}
 use Rattle.window_runner.specs.Merge.{merged, merged_length}

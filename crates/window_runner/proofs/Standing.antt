@@ -12,6 +12,7 @@ use Rattle.rp_machine.proofs.Runs.{below_limit, next_cycle}
 use Rattle.rp_machine.proofs.Copies.{sio_known}
 use Rattle.window_merge.specs.Window.{Position, first_position, is_tried, by_window, by_cycle, next_position, positions, last_position, window_length}
 use Rattle.window_merge.specs.Merging.{Knows}
+use Rattle.window_merge.proofs.Agree.{not_equal}
 use Rattle.window_merge.proofs.Resting.{rested_next}
 use Rattle.window_merge.proofs.Positions.{left_of, nearer, run_ends}
 use Rattle.window_runner.specs.Orders.{begins_window, window_start, onward}
@@ -159,12 +160,6 @@ and_last : (a b c : Bool) → c ≡ false → (a && (b && c)) ≡ false
 and_last true true c e = e
 and_last true false c e = refl
 and_last false b c e = refl
-
-not_equal : (x y : ℕ) → x ≢ y → nat_eq x y ≡ false
-not_equal x y ne = elim (eqb_tells x y) [
-  | inl h ↦ absurd (let same : x ≡ y = h.1 in omega arith)
-  | inr h ↦ h.0
-]
 
 equal : (x y : ℕ) → x ≡ y → nat_eq x y ≡ true
 equal x y e = elim (eqb_tells x y) [

@@ -141,12 +141,3 @@ tells_cut took missed a b f g xs ys events e same t = record {
   cause = t.cause;
   count = t.count;
 }
-
--- what was told stays, whatever else an answer has
-pub tells_ok : {T A B E F : Type 0} (took : T → List Event → T → Type 0) (missed : T → Event → T → Type 0) (a b : T) (f g : ℕ) (events : List Event) (x : A) (y : B)
-    → Tells {E = E} took missed a b f g events (Ok x) → Tells {E = F} took missed a b f g events (Ok y)
-tells_ok took missed a b f g events x y t = record { ok = t.ok; err = tt; cause = tt; count = t.count }
-
-pub tells_err : {T A B E F : Type 0} (took : T → List Event → T → Type 0) (missed : T → Event → T → Type 0) (a b : T) (f g : ℕ) (events : List Event) (x : E) (y : F)
-    → Tells {A = A} took missed a b f g events (Err x) → Tells {A = B} took missed a b f g events (Err y)
-tells_err took missed a b f g events x y t = record { ok = tt; err = t.err; cause = t.cause; count = t.count }

@@ -12,7 +12,7 @@ ghost use Rattle.window_merge.specs.Merging.{marks_in, IsRested, IsStep};
 ghost use Rattle.window_merge.specs.Jobs.{HasNumber, IsJobFor, IsTrueIn};
 ghost use Rattle.window_runner.specs.Told.{all_shown, step_events, run_shown};
 ghost use Rattle.window_runner.specs.Alone.{IsRan, IsOnRun, position_at, stop_in};
-ghost use Rattle.window_runner.specs.Seated.{Keeps, IsSeatAt, IsReady};
+ghost use Rattle.window_runner.specs.Seated.{IsSeatAt, IsReady};
 
 use crate::alone::{Counts, Ran, count_window, is_bounded, tell_step};
 use crate::piece::{Found, Piece};

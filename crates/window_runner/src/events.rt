@@ -1,6 +1,6 @@
 //! The events of cycles, one after another, to a tape.
 
-ghost use Rattle.std.specs.Prelude.{◌≡◌, ◌+◌, ◌<◌, ◌^◌, List, Option, length};
+ghost use Rattle.std.specs.Prelude.{◌+◌, ◌<◌, ◌^◌, Option, length};
 ghost use Rattle.trace_text.specs.Tape.{Tells};
 ghost use Rattle.rp_machine.specs.Events.{bytes_of, changes_of, events_of};
 ghost use Rattle.window_runner.specs.Told.{all_shown, events_by};

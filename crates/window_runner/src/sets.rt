@@ -1,6 +1,6 @@
 //! The two jobs of each lane, and its report in a window.
 
-ghost use Rattle.std.specs.Prelude.{◌≡◌, length, IfOk, IfSome, None};
+ghost use Rattle.std.specs.Prelude.{◌≡◌, ◌||◌, length, is_some, IfOk, IfSome, None};
 ghost use Rattle.outer_lane.specs.Setting.{setting_of};
 ghost use Rattle.turn_board.specs.Answers.{EachLane};
 ghost use Rattle.window_merge.specs.Jobs.{AreAlone, HasNumber, IsAlone, IsJobFor, IsTrueIn, IsWhole};
@@ -116,7 +116,11 @@ pub(crate) fn no_pieces() -> Six<Piece>
 }
 
 /// Whether some lane has a report.
-pub(crate) fn has_report(found: &Six<Found>) -> bool {
+pub(crate) fn has_report(found: &Six<Found>) -> bool
+    ensures { result ≡ is_some found.now.l0.report || (is_some found.now.l1.report
+        || (is_some found.now.l2.report || (is_some found.now.l3.report
+        || (is_some found.now.l4.report || is_some found.now.l5.report)))) }
+{
     found.l0.report.is_some()
         || found.l1.report.is_some()
         || found.l2.report.is_some()

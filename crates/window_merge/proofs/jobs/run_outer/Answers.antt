@@ -1,5 +1,4 @@
 use Rattle.std.proofs.Common.{refl}
-use Rattle.lane_look.specs.Alone.{surroundings}
 use Rattle.outer_lane.specs.Setting.{setting_of}
 use Rattle.window_merge.specs.Lanes.{peripheral_lane}
 use Rattle.window_merge.proofs.Replaying.{ran_same}
@@ -7,5 +6,5 @@ use Rattle.window_merge.proofs.jobs.run_outer.Goals as goal
 
 pub returns : goal.returns
 returns g c =
-    ran_same (surroundings g.W.Around.answer g.W.Around.stored) _ _ (peripheral_lane (setting_of c.args.world.now.script.now (g.X.Device.meaning c.args.world.now.device.now) c.args.world.now.limit)) tt _ _ _ _ _ c.run_lane.ensures
+    ran_same _ _ (peripheral_lane (setting_of c.args.world.now.script.now (g.X.Device.meaning c.args.world.now.device.now) c.args.world.now.limit)) tt _ _ _ _ _ c.run_lane.ensures
     (record { asks = λ s cycle. refl; wanted = λ b. refl; next = λ s b. refl; marked = λ s b marks. refl })

@@ -1,4 +1,4 @@
-use Rattle.std.proofs.Common.{◌≡◌, sym, subst}
+use Rattle.std.proofs.Common.{sym, subst}
 use Rattle.outer_lane.specs.Setting.{setting_of}
 use Rattle.rp_machine.specs.State.{State}
 use Rattle.window_merge.specs.Merging.{IsRested}

@@ -37,18 +37,18 @@ asked_same : (f : Ask → ℕ) (s : OuterState) (cycle : ℕ) → asked f (asks 
 asked_same f s cycle = both_same f s cycle (is_used 6 s.pads) (is_used 7 s.pads) refl refl
 
 -- after so many cycles
-record IsQuiet (w : Setting) (lane : ℕ) (before : OuterState) (start : ℕ) (s : State) (k : ℕ) : Type 0 where
+record AsksSame (w : Setting) (lane : ℕ) (before : OuterState) (start : ℕ) (s : State) (k : ℕ) : Type 0 where
   uses : questions_of (alone (peripheral_lane w) (around lane) tt before start s k).state ≡ questions_of before
   round : (alone (peripheral_lane w) (around lane) tt before start s k).around ≡ s
   asking : (alone asking_lane (around lane) tt (questions_of before) start s k).state ≡ questions_of before
   asking_round : (alone asking_lane (around lane) tt (questions_of before) start s k).around ≡ s
   same_talk : (alone (peripheral_lane w) (around lane) tt before start s k).talk ≡ (alone asking_lane (around lane) tt (questions_of before) start s k).talk
 
-is_quiet : (w : Setting) (lane : ℕ) (before : OuterState) (start : ℕ) (s : State) (k : ℕ) → IsQuiet w lane before start s k
+asks_same : (w : Setting) (lane : ℕ) (before : OuterState) (start : ℕ) (s : State) (k : ℕ) → AsksSame w lane before start s k
 unfolding alone
-is_quiet w lane before start s zero = record { uses = refl; round = refl; asking = refl; asking_round = refl; same_talk = refl }
-is_quiet w lane before start s (suc k) =
-    let h = is_quiet w lane before start s k in
+asks_same w lane before start s zero = record { uses = refl; round = refl; asking = refl; asking_round = refl; same_talk = refl }
+asks_same w lane before start s (suc k) =
+    let h = asks_same w lane before start s k in
     let a = alone (peripheral_lane w) (around lane) tt before start s k in
     let b = alone asking_lane (around lane) tt (questions_of before) start s k in
     let more : asked (answer_of lane a.around) (asks a.state (start + k)) ≡ asked (answer_of lane b.around) (questions b.state) =
@@ -64,16 +64,16 @@ is_quiet w lane before start s (suc k) =
           ∙ ap (λ (l : List Entry). b.talk ++ l) more;
     }
 
-pub talk_quiet : (w : Setting) (lane : ℕ) (before : OuterState) (start : ℕ) (s : State) (k : ℕ)
+pub talk_same : (w : Setting) (lane : ℕ) (before : OuterState) (start : ℕ) (s : State) (k : ℕ)
     → (alone asking_lane (around lane) tt (questions_of before) start s k).talk ≡ (alone (peripheral_lane w) (around lane) tt before start s k).talk
-talk_quiet w lane before start s k = sym (is_quiet w lane before start s k).same_talk
+talk_same w lane before start s k = sym (asks_same w lane before start s k).same_talk
 
-ends_quiet : (w : Setting) (lane : ℕ) (before : OuterState) (start : ℕ) (s : State) (k : ℕ)
+ends_same : (w : Setting) (lane : ℕ) (before : OuterState) (start : ℕ) (s : State) (k : ℕ)
     → ends_at asking_lane (around lane) tt (questions_of before) start s k ≡ ends_at (peripheral_lane w) (around lane) tt before start s k
 unfolding ends_at
-ends_quiet w lane before start s k = refl
+ends_same w lane before start s k = refl
 
-pub length_quiet : (w : Setting) (lane : ℕ) (before : OuterState) (start : ℕ) (s : State) (bound : ℕ)
+pub length_asking : (w : Setting) (lane : ℕ) (before : OuterState) (start : ℕ) (s : State) (bound : ℕ)
     → alone_length asking_lane (around lane) tt (questions_of before) start s bound ≡ alone_length (peripheral_lane w) (around lane) tt before start s bound
 unfolding alone_length least
-length_quiet w lane before start s bound = first_same _ _ 0 bound (ends_quiet w lane before start s)
+length_asking w lane before start s bound = first_same _ _ 0 bound (ends_same w lane before start s)

@@ -1,5 +1,5 @@
 use Rattle.window_merge.proofs.Patching.{write_more}
-use Rattle.window_merge.proofs.patch.Words.write.Goals as goal
+use Rattle.window_merge.proofs.patch.WordLog.write.Goals as goal
 
 pub returns-clause-value : goal.returns-clause-value
 returns-clause-value c =
