@@ -3,3 +3,4 @@ mod Rest
 mod Sets
 mod Stepped
 mod Still
+mod NoTick

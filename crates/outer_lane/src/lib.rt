@@ -10,6 +10,7 @@ mod lane;
 pub mod outer;
 mod outside;
 mod step;
+pub mod ticks;
 mod words;
 pub mod world;
 

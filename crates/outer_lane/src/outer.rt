@@ -1,6 +1,7 @@
 //! The peripherals: their state, how it starts, and its readers.
 
 use crate::drivers::Drivers;
+use crate::ticks::Ticks;
 use arrayvec::ArrayVec;
 use io_bank::IoBank;
 use lane_look::Device;
@@ -32,6 +33,8 @@ pub struct Outer {
     pub(crate) sio: [u32; 2],
     // where what the script drives is looked for first
     pub(crate) cursor: Cursor,
+    // where the timer does not tick
+    pub(crate) ticks: Ticks,
     // the pads are at rest while they are stepped by these, and interrupt neither core
     pub(crate) at_rest: bool,
     // beside that both UARTs are at rest, and put out what is among these
@@ -80,6 +83,7 @@ impl Outer {
             device: started(device),
             sio: [0, 0],
             cursor: Cursor::new(),
+            ticks: Ticks::new(),
             at_rest: false,
             still: false,
             drivers: Drivers::NONE,
@@ -214,6 +218,7 @@ impl Outer {
         let _ = self.device.try_extend_from_slice(other.device.as_slice());
         self.sio = other.sio;
         self.cursor = other.cursor;
+        self.ticks.copy_from(&other.ticks);
         self.at_rest = other.at_rest;
         self.still = other.still;
         self.drivers = other.drivers;

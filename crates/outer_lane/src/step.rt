@@ -222,6 +222,27 @@ impl Outer {
         self.still && self.drivers.is_driven_by(wires, seen, drives)
     }
 
+    /// The timer steps.
+    #[inline(always)]
+    #[tactic(auto, using(crate::proofs::NoTick::no_tick))]
+    fn step_time(&mut self, cycle: u64)
+        ensures { self.new ≡ record self.old { timer = timer_after cycle self.old.timer } }
+    {
+        if self.ticks.is_between(cycle) {
+            return;
+        }
+        self.step_tick(cycle);
+    }
+
+    /// The same, where the timer may tick.
+    #[inline(never)]
+    fn step_tick(&mut self, cycle: u64)
+        ensures { self.new ≡ record self.old { timer = timer_after cycle self.old.timer } }
+    {
+        self.ticks.go_to(cycle);
+        step_timer(&mut self.timer, cycle);
+    }
+
     /// A cycle in which nothing changes but the timer, and the lines of the device.
     #[inline(always)]
     fn step_still(&mut self, irq: u32, cycle: u64) -> Mark
@@ -232,7 +253,7 @@ impl Outer {
         ensures mark { result ≡ record { uart = None ∷ None ∷ []; pads = self.old.pads.current } }
     {
         self.irq = irq;
-        step_timer(&mut self.timer, cycle);
+        self.step_time(cycle);
         Mark {
             uart: [None, None],
             pads: self.pads.pads(),

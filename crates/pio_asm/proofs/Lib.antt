@@ -3,7 +3,6 @@ pub mod Bounds
 pub mod Codes
 pub mod Words
 pub mod Sides
-pub mod Verdicts
 pub mod CodeLaws
 pub mod ProgramLaws
 pub mod LinePieces

@@ -69,6 +69,11 @@ clash_alone start n s h =
     let r = rest_of start n s h in
     rw (r.core1, r.dma) (clash_by (core.want_of (begun_from start n s).core0))
 
+neither : (a b : Bool) → ((true && not a) && not b) ≡ not (a || (b || false))
+neither true b = refl
+neither false true = refl
+neither false false = refl
+
 -- ---- whether the cycle is kept
 
 kept_by : (d e : Bool) → not d && not e ≡ not (d || not (not ((e || (false || (false || (false || false)))) || false)))
@@ -127,3 +132,16 @@ pub noted_alone : (start : Start) (n : Notes) (s : State) (x : Want) (n' : Notes
 noted_alone start n s x n' h e_x e =
     e ∙ ap (λ (v : Want). noted v want.Nothing want.Nothing s.sram n) e_x
     ∙ sym (ap (λ xs. noted_by xs s.sram n) (wanted_alone start n s h))
+
+-- both lanes are answered as the machine answers
+pub same_alone : (start : Start) (n : Notes) (s : State) (first second : Bool)
+    → first ≡ (true && not (differs (answer_of 0 s) (asked (guess 0 start (seen_of 0 n s.sram)) (core_asks.asks s.core0 s.cycle))))
+    → second ≡ (first && not (differs (answer_of 5 s) (asked (guess 5 start (seen_of 5 n s.sram)) (outer.asks s.outer s.cycle))))
+    → second ≡ not (differs_alone start n s)
+same_alone start n s first second e0 e5 =
+    e5 ∙ ap (λ b. b && not (differs (answer_of 5 s) (asked (guess 5 start (seen_of 5 n s.sram)) (outer.asks s.outer s.cycle)))) e0
+    ∙ neither (differs (answer_of 0 s) (asked (guess 0 start (seen_of 0 n s.sram)) (core_asks.asks s.core0 s.cycle))) _
+
+pub notes_nothing : (start : Start) (n : Notes) (s : State) → IsAlone s → core.want_of (begun_from start n s).core0 ≡ want.Nothing
+    → n ≡ noted_by (wanted (begun_from start n s)) s.sram n
+notes_nothing start n s h e = noted_alone start n s want.Nothing n h (sym e) refl

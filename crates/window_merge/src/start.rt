@@ -1,18 +1,17 @@
 //! What the start of a window answers each lane, while the machine goes on; and the looks that answer so.
 
-ghost use Rattle.std.specs.Prelude.{◌≡◌, not};
+ghost use Rattle.std.specs.Prelude.{◌≡◌, ◌&&◌, not};
 ghost use Rattle.lane_look.specs.Asking.{answered};
 ghost use Rattle.lane_look.specs.Replay.{asked};
 ghost use Rattle.lane_look.specs.Alone.{differs};
 ghost use Rattle.rp_machine.specs.Answers.{answer_of};
 ghost use Rattle.window_merge.specs.Notes.{seen_of};
-ghost use Rattle.window_merge.specs.Start.{guess, begun_from, differs_from, differs_alone};
+ghost use Rattle.window_merge.specs.Start.{guess, begun_from, differs_from};
 
 use crate::copies::half_of;
 use crate::notes::{Notes, seen_word};
 use lane_look::{Ask, Device, Lane, Look};
-use m0_core::Doing;
-use outer_lane::{SeenOutputs, World};
+use outer_lane::World;
 use rp_base::map::{Spot, place};
 use rp_machine::Machine;
 use rp_machine::begun::Begun;

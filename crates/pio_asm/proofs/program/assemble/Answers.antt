@@ -1,5 +1,7 @@
-use Rattle.std.proofs.Common.{◌≡◌, ℕ, List, [], ap}
-use Rattle.std.specs.Prelude.{Ok}
+use Rattle.std.proofs.Common.{◌≡◌, ℕ, List, [], ap, subst}
+use Rattle.std.specs.Prelude.{Result, Ok, Err, MatchResult, IfOk}
+use Rattle.pio_parse.specs.declared.fault.PioFault.{PioFault}
+use Rattle.pio_parse.specs.declared.fault.PioFault.TheVariants.{Memory}
 use Rattle.pio_parse.specs.Outcome.{and_then}
 use Rattle.pio_parse.specs.declared.syntax.Line.{Line}
 use Rattle.pio_parse.specs.declared.syntax.Source.{Source}
@@ -7,8 +9,13 @@ use Rattle.pio_asm.specs.declared.building.Building.{Building}
 use Rattle.pio_asm.specs.Symbols.{Names}
 use Rattle.pio_asm.specs.Step.{names_of}
 use Rattle.pio_asm.specs.Assembly.{assembled, lines_of, programs_from}
-use Rattle.pio_asm.proofs.Verdicts.{known}
 use Rattle.pio_asm.proofs.program.assemble.Goals as goal
+
+-- what a call that may want memory gave is known where its answer is Ok
+known : {T E : Type 0} (P : T → Type 0) (outcome : Result T E) (result : Result T PioFault) (x : T) → MatchResult outcome (λ y. result ≡ Ok y) (λ e. result ≡ Err Memory)
+    → result ≡ Ok x → IfOk outcome P → P x
+known P (Ok y) result x h is p = let e : y ≡ x = cc in subst P e p
+known P (Err e) result x h is p = absurd cc
 
 -- after the lines before the first program come the programs
 assembled_at : (source : Source) (nothing : Names) (first lines : List Line) (names : Names × ℕ) (building : Building) → nothing ≡ [] → first ≡ source.globals → lines ≡ source.globals

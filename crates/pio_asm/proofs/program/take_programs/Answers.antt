@@ -1,5 +1,4 @@
 use Rattle.std.proofs.Common.{◌≡◌, ◌+◌, ◌∷◌, drop, None, ap, sym, ◌∙◌}
-use Rattle.std.proofs.lemmas.List.{drop_all}
 use Rattle.pio_asm.specs.Symbols.{put}
 use Rattle.pio_asm.specs.Assembly.{programs_from}
 use Rattle.pio_asm.proofs.ProgramLaws.{drop_next, goes_on}
@@ -24,9 +23,3 @@ loop-program-preserved c =
           ∙ g.goes
           ∙ ap (λ t. programs_from globals t g.after (drop (index + 1) programs)) (sym names);
     }
-
-pub returns-clause-ok : goal.returns-clause-ok
-returns-clause-ok c =
-    let making = c.loop-program.invariant in
-    let end = drop_all c.loop-program.program-index c.args.programs.now c.loop-program-test.false in
-    rw (making.rest ∙ ap (λ ps. programs_from c.args.globals.now c.loop-program.taken making.plans ps) end) making.are

@@ -1,7 +1,9 @@
-use Rattle.std.proofs.Common.{◌≡◌, ◌==◌, ℕ, ◌+◌, ◌<◌, Bool, true, false, List, ◌∷◌, ◌++◌, length, drop, get_or, Ok, option_to_list, add-one, drop-cons, arith, refl, sym, ◌∙◌}
+use Rattle.std.proofs.Common.{◌≡◌, ◌==◌, ℕ, ◌+◌, ◌<◌, ◌≤◌, Bool, true, false, List, [], ◌∷◌, ◌++◌, length, drop, get_or, Option, Ok, Err, option_to_list, add-one, drop-cons, arith, refl, sym, ◌∙◌}
+use Rattle.std.proofs.lemmas.List.{drop_all}
 use Rattle.pio_parse.specs.declared.token.SourcePosition.{SourcePosition}
 use Rattle.pio_parse.specs.declared.token.Token.{Token}
-use Rattle.pio_parse.specs.Scan.{Mode, Step, next_position, scanned_from, steps}
+use Rattle.pio_parse.specs.declared.token.TokenKind.TheVariants.{FileEnd}
+use Rattle.pio_parse.specs.Scan.{Mode, Step, finishes, next_position, scanned_from, steps}
 use Rattle.pio_parse.specs.Scanning.{IsPositionBelow, mode_of, step_of}
 use Rattle.pio_parse.proofs.scan.scan.Goals as goal
 
@@ -32,3 +34,37 @@ loop-index-preserved c =
           c.loop-index.tokens.items c.add.new.tokens.items c.add-in-loop-index.new.tokens.items (step_of c.in-Ok.done)
           c.loop-index-test.true (sym c.in-Ok.ensures.value) c.position_after-here.ensures c.in_ok-add.ensures.ok c.in_ok-add-2.ensures.ok;
     }
+
+-- the scan that stops at the next character
+scan_stops : (text : List ℕ) (index : ℕ) (mode : Mode) (here after position : SourcePosition) (tokens : List Token) → index < length text
+    → steps text index mode (get_or text index 0) here ≡ Err position → scanned_from text (drop index text) index mode here after tokens ≡ Err position
+scan_stops text index mode here after position tokens inside h = rw (drop_next text index inside, h) refl
+
+-- the scan at the end of the file
+scan_ends : (text : List ℕ) (index : ℕ) (mode : Mode) (here after : SourcePosition) (tokens one two : List Token) (last : Option Token) → length text ≤ index
+    → finishes text mode ≡ Ok last → one ≡ tokens ++ option_to_list last → two ≡ one ++ record { kind = FileEnd; position = after } ∷ []
+    → scanned_from text (drop index text) index mode here after tokens ≡ Ok two
+scan_ends text index mode here after tokens one two last end h first second = rw (drop_all index text end, h, second, first) refl
+
+scan_ends_badly : (text : List ℕ) (index : ℕ) (mode : Mode) (here after position : SourcePosition) (tokens : List Token) → length text ≤ index
+    → finishes text mode ≡ Err position → scanned_from text (drop index text) index mode here after tokens ≡ Err position
+scan_ends_badly text index mode here after position tokens end h = rw (drop_all index text end, h) refl
+
+pub returns-in-Err-clause-err : goal.returns-in-Err-clause-err
+returns-in-Err-clause-err c =
+    let loop = c.loop-index in
+    rw c.char_fault.ensures (loop.invariant.scan
+    ∙ scan_stops c.args.text.now loop.index (mode_of loop.mode) loop.here loop.after c.in-Err.position loop.tokens.items c.loop-index-test.true (sym c.in-Err.ensures.value))
+
+pub returns-in-Err-finish-clause-err : goal.returns-in-Err-finish-clause-err
+returns-in-Err-finish-clause-err c =
+    let loop = c.loop-index in
+    rw c.char_fault-in-Err-finish.ensures (loop.invariant.scan
+    ∙ scan_ends_badly c.args.text.now loop.index (mode_of loop.mode) loop.here loop.after c.in-Err-finish.position loop.tokens.items c.loop-index-test.false (sym c.in-Err-finish.ensures))
+
+pub returns-clause-ok : goal.returns-clause-ok
+returns-clause-ok c =
+    let loop = c.loop-index in
+    loop.invariant.scan
+    ∙ scan_ends c.args.text.now loop.index (mode_of loop.mode) loop.here loop.after loop.tokens.items c.add-in-Ok-finish.new.tokens.items c.add-2.new.tokens.items c.in-Ok-finish.last
+    c.loop-index-test.false (sym c.in-Ok-finish.ensures) c.in_ok-add-in-Ok-finish.ensures.ok c.in_ok-add-3.ensures.ok

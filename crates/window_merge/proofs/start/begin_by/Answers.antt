@@ -1,4 +1,4 @@
-use Rattle.std.proofs.Common.{◌≡◌, ℕ, not, ap, ◌∙◌, subst}
+use Rattle.std.proofs.Common.{◌≡◌, ℕ, not, ◌&&◌, ap, ◌∙◌, subst}
 use Rattle.lane_look.specs.Asking.{answered}
 use Rattle.lane_look.specs.declared.lane.Ask.{Ask}
 use Rattle.lane_look.specs.Replay.{asked}
@@ -23,6 +23,6 @@ returns-clause-same g c =
     let f = guess c.args.number c.args.start.now (seen_of c.args.number c.args.notes.now c.args.machine.now.sram) in
     let here = answer_of c.args.number c.args.machine.now in
     let e = same_guess c.args.number c.args.start.now c.args.notes.now c.args.machine.now.sram c.is_clean.result c.own.result.now c.words.result.now c.is_clean.ensures c.own.ensures c.words.ensures in
-    let family : State → Type 0 = λ s. c.begin-begun.new.look.same ≡ not (differs here (asked f (g.S.Lane.asks c.args.env.now c.args.lane.now s.cycle))) in
+    let family : State → Type 0 = λ s. c.begin-begun.new.look.same ≡ (c.args.same.now && not (differs here (asked f (g.S.Lane.asks c.args.env.now c.args.lane.now s.cycle)))) in
     let tree = g.S.Lane.asks c.args.env.now c.args.lane.now c.machine.inside.at in
-    subst family c.machine.view_is ((runs_guess _ tree _ _ c.begin-begun.ensures).is_same ∙ ap (λ (h : Ask → ℕ). not (differs here (asked h tree))) e)
+    subst family c.machine.view_is ((runs_guess _ tree _ _ c.begin-begun.ensures).is_same ∙ ap (λ (h : Ask → ℕ). c.args.same.now && not (differs here (asked h tree))) e)
