@@ -24,7 +24,7 @@ use Rattle.window_merge.specs.Merging.{wants_of}
 use Rattle.window_merge.specs.declared.notes.Notes.{Notes}
 use Rattle.window_merge.specs.declared.start.Start.{Start}
 use Rattle.window_merge.specs.Notes.{seen_of, noted, noted_by}
-use Rattle.window_merge.specs.Start.{guess, begun_from, differs_from, differs_alone, ends_wanted, goes_by, goes_on}
+use Rattle.window_merge.specs.Start.{guess, begun_from, differs_core0, differs_outer, differs_from, differs_alone, ends_wanted, goes_by, goes_on}
 use Rattle.window_merge.proofs.Agree.{agree, both_false}
 use Rattle.window_merge.proofs.Comparing.{clash_four, shares_none}
 
@@ -135,12 +135,10 @@ noted_alone start n s x n' h e_x e =
 
 -- both lanes are answered as the machine answers
 pub same_alone : (start : Start) (n : Notes) (s : State) (first second : Bool)
-    → first ≡ (true && not (differs (answer_of 0 s) (asked (guess 0 start (seen_of 0 n s.sram)) (core_asks.asks s.core0 s.cycle))))
-    → second ≡ (first && not (differs (answer_of 5 s) (asked (guess 5 start (seen_of 5 n s.sram)) (outer.asks s.outer s.cycle))))
+    → first ≡ (true && not (differs_core0 start n s)) → second ≡ (first && not (differs_outer start n s))
     → second ≡ not (differs_alone start n s)
 same_alone start n s first second e0 e5 =
-    e5 ∙ ap (λ b. b && not (differs (answer_of 5 s) (asked (guess 5 start (seen_of 5 n s.sram)) (outer.asks s.outer s.cycle)))) e0
-    ∙ neither (differs (answer_of 0 s) (asked (guess 0 start (seen_of 0 n s.sram)) (core_asks.asks s.core0 s.cycle))) _
+    e5 ∙ ap (λ b. b && not (differs_outer start n s)) e0 ∙ neither (differs_core0 start n s) (differs_outer start n s)
 
 pub notes_nothing : (start : Start) (n : Notes) (s : State) → IsAlone s → core.want_of (begun_from start n s).core0 ≡ want.Nothing
     → n ≡ noted_by (wanted (begun_from start n s)) s.sram n

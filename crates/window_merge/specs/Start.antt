@@ -68,21 +68,26 @@ begun_from start n s = record {
   outer = answered (guess 5 start (seen_of 5 n s.sram)) (outer.asks s.outer s.cycle);
 }
 
--- some answer is not the one that the machine gives
+-- some answer to core 0, or to the peripherals, is not the one that the machine gives
+abbrev pub differs_core0 : Start → Notes → State → Bool
+differs_core0 start n s = differs (answer_of 0 s) (asked (guess 0 start (seen_of 0 n s.sram)) (core_asks.asks s.core0 s.cycle))
+
+abbrev pub differs_outer : Start → Notes → State → Bool
+differs_outer start n s = differs (answer_of 5 s) (asked (guess 5 start (seen_of 5 n s.sram)) (outer.asks s.outer s.cycle))
+
+-- some answer to a lane is not
 abbrev pub differs_from : Start → Notes → State → Bool
 differs_from start n s =
-    differs (answer_of 0 s) (asked (guess 0 start (seen_of 0 n s.sram)) (core_asks.asks s.core0 s.cycle))
+    differs_core0 start n s
     || (differs (answer_of 1 s) (asked (guess 1 start (seen_of 1 n s.sram)) (core_asks.asks s.core1 s.cycle))
     || (differs (answer_of 2 s) (asked (guess 2 start (seen_of 2 n s.sram)) (dma_asks.asks s.dma))
     || (differs (answer_of 3 s) (asked (guess 3 start (seen_of 3 n s.sram)) (pio.asks s.pio0))
     || (differs (answer_of 4 s) (asked (guess 4 start (seen_of 4 n s.sram)) (pio.asks s.pio1))
-    || (differs (answer_of 5 s) (asked (guess 5 start (seen_of 5 n s.sram)) (outer.asks s.outer s.cycle)) || false)))))
+    || (differs_outer start n s || false)))))
 
 -- the same where core 0 is alone: the other lanes but the peripherals ask nothing
 abbrev pub differs_alone : Start → Notes → State → Bool
-differs_alone start n s =
-    differs (answer_of 0 s) (asked (guess 0 start (seen_of 0 n s.sram)) (core_asks.asks s.core0 s.cycle))
-    || (differs (answer_of 5 s) (asked (guess 5 start (seen_of 5 n s.sram)) (outer.asks s.outer s.cycle)) || false)
+differs_alone start n s = differs_core0 start n s || (differs_outer start n s || false)
 
 -- ---- whether a cycle is one of the window
 

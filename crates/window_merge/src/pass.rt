@@ -11,7 +11,7 @@ ghost use Rattle.window_merge.specs.Start.{start_of, begun_from, ends_wanted, go
 
 use crate::merge::clash;
 use crate::notes::Notes;
-use crate::start::{Start, begin_by, begin_later};
+use crate::start::{Start, begin_core0, begin_later, begin_outer};
 use crate::walk::ends_want;
 use lane_look::{Device, Marks};
 use m0_core::Core;
@@ -101,8 +101,8 @@ fn try_alone<X: Device>(
         else notes.old) }
 {
     let mut same = true;
-    let core0 = begin_by(&machine.core0, &(), 0, machine, start, notes, &mut same);
-    let outer = begin_by(&machine.outer, world, 5, machine, start, notes, &mut same);
+    let core0 = begin_core0(machine, start, notes, &mut same);
+    let outer = begin_outer(machine, world, start, notes, &mut same);
     if !same {
         return false;
     }
@@ -150,13 +150,16 @@ fn try_all<X: Device>(
 {
     let mut same = true;
     let begun = begin_later(machine, world, start, notes, &mut same);
-    let wants = all_wanted(&begun);
-    let goes = same && !ends_wanted(&wants) && !clash(&begun, &wants);
-    if goes {
-        notes.note(&machine.ram, &wants);
-        machine.step(world, &begun, &wants, marks);
+    if !same {
+        return false;
     }
-    goes
+    let wants = all_wanted(&begun);
+    if ends_wanted(&wants) || clash(&begun, &wants) {
+        return false;
+    }
+    notes.note(&machine.ram, &wants);
+    machine.step(world, &begun, &wants, marks);
+    true
 }
 
 /// A later cycle of a window, where each answer of the start is what the machine answers, no run alone ends and no two accesses

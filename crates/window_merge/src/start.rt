@@ -6,12 +6,13 @@ ghost use Rattle.lane_look.specs.Replay.{asked};
 ghost use Rattle.lane_look.specs.Alone.{differs};
 ghost use Rattle.rp_machine.specs.Answers.{answer_of};
 ghost use Rattle.window_merge.specs.Notes.{seen_of};
-ghost use Rattle.window_merge.specs.Start.{guess, begun_from, differs_from};
+ghost use Rattle.window_merge.specs.Start.{guess, begun_from, differs_core0, differs_outer, differs_from};
 
 use crate::copies::half_of;
 use crate::notes::{Notes, seen_word};
 use lane_look::{Ask, Device, Lane, Look};
-use outer_lane::World;
+use m0_core::Doing;
+use outer_lane::{SeenOutputs, World};
 use rp_base::map::{Spot, place};
 use rp_machine::Machine;
 use rp_machine::begun::Begun;
@@ -157,7 +158,7 @@ impl Look for Guesser<'_> {
 /// Begins the cycle of a lane of that number as the start answers, and compares each answer with the machine's: `same` stays where
 /// each is.
 #[inline(always)]
-pub(crate) fn begin_by<E, S: Lane<E>>(
+fn begin_by<E, S: Lane<E>>(
     lane: &S,
     env: &E,
     number: u8,
@@ -188,6 +189,30 @@ pub(crate) fn begin_by<E, S: Lane<E>>(
     begun
 }
 
+/// Begins the cycle of core 0 so.
+#[inline(always)]
+pub(crate) fn begin_core0(machine: &Machine, start: &Start, notes: &Notes, same: &mut bool) -> Doing
+    ensures begun { result ≡ (begun_from start.now notes.now machine.now).core0 }
+    ensures same { same.new ≡ (same.old && not (differs_core0 start.now notes.now machine.now)) }
+{
+    begin_by(&machine.core0, &(), 0, machine, start, notes, same)
+}
+
+/// Begins the cycle of the peripherals so.
+#[inline(always)]
+pub(crate) fn begin_outer<X: Device>(
+    machine: &Machine,
+    world: &World<'_, X>,
+    start: &Start,
+    notes: &Notes,
+    same: &mut bool,
+) -> SeenOutputs
+    ensures begun { result ≡ (begun_from start.now notes.now machine.now).outer }
+    ensures same { same.new ≡ (same.old && not (differs_outer start.now notes.now machine.now)) }
+{
+    begin_by(&machine.outer, world, 5, machine, start, notes, same)
+}
+
 /// Begins the cycle of all lanes as the start answers, and compares each answer with the machine's: `same` stays where each is.
 #[inline(always)]
 pub(crate) fn begin_later<X: Device>(
@@ -201,11 +226,11 @@ pub(crate) fn begin_later<X: Device>(
     ensures same { same.new ≡ (same.old && not (differs_from start.now notes.now machine.now)) }
 {
     Begun {
-        core0: begin_by(&machine.core0, &(), 0, machine, start, notes, same),
+        core0: begin_core0(machine, start, notes, same),
         core1: begin_by(&machine.core1, &(), 1, machine, start, notes, same),
         dma: begin_by(&machine.dma, &(), 2, machine, start, notes, same),
         pio0: begin_by(&machine.pio0, &(), 3, machine, start, notes, same),
         pio1: begin_by(&machine.pio1, &(), 4, machine, start, notes, same),
-        outer: begin_by(&machine.outer, world, 5, machine, start, notes, same),
+        outer: begin_outer(machine, world, start, notes, same),
     }
 }
