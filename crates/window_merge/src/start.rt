@@ -195,7 +195,18 @@ pub(crate) fn begin_core0(machine: &Machine, start: &Start, notes: &Notes, same:
     ensures begun { result ≡ (begun_from start.now notes.now machine.now).core0 }
     ensures same { same.new ≡ (same.old && not (differs_core0 start.now notes.now machine.now)) }
 {
-    begin_by(&machine.core0, &(), 0, machine, start, notes, same)
+    let mut look = Guesser {
+        machine,
+        lane: 0,
+        start,
+        clean: notes.is_clean(0),
+        own: notes.own(0),
+        originals: notes.originals.words(),
+        same: *same,
+    };
+    let begun = Lane::<()>::begin(&machine.core0, &(), machine.at, &mut look);
+    *same = look.same;
+    begun
 }
 
 /// Begins the cycle of the peripherals so.
