@@ -2,5 +2,5 @@ mod PadWords
 mod Rest
 mod Sets
 mod Stepped
-mod Still
+mod Staying
 mod NoTick

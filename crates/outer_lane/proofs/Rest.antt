@@ -12,7 +12,7 @@ use Rattle.outer_lane.specs.Lines.{bank_line}
 use Rattle.register_block.specs.declared.resettable.Resettable.{Resettable}
 use Rattle.rp_uart.specs.State.{SerialPort}
 use Rattle.rp_uart.specs.Step.{output_of}
-use Rattle.outer_lane.specs.Rest.{IsAtRest, IsStill, is_same, outs_by, pads_after}
+use Rattle.outer_lane.specs.Rest.{IsAtRest, IsLaneAtRest, is_same, outs_by, pads_after}
 
 abbrev by_words : ℕ → ℕ → ℕ → ℕ → ℕ → ℕ → ℕ → ℕ → ℕ → Drivers
 by_words a b c d e f g h i = record {
@@ -51,18 +51,18 @@ same_levels sio kept now b levels at_rest is current =
     let before : levels_of (outs_by sio kept) (by_sets kept.driven kept.high) b ≡ b.current = ap (λ (x : Bank). x.current) at_rest.0 in
     ap (λ n. with_levels n (with_edges (edges_of b) b)) (sym is ∙ current ∙ sym before) ∙ at_rest.0
 
-quiet-go : (x : List ℕ) (a b c d : ℕ) → a ≡ c → b ≡ d → x ≡ a ∷ b ∷ [] → x ≡ c ∷ d ∷ []
-quiet-go x a b c d e f h = rw (← e, ← f) h
+same-outputs : (x : List ℕ) (a b c d : ℕ) → a ≡ c → b ≡ d → x ≡ a ∷ b ∷ [] → x ≡ c ∷ d ∷ []
+same-outputs x a b c d e f h = rw (← e, ← f) h
 
 -- all stays at rest
-pub still_by : (sio : List ℕ) (kept now : Drivers) (b : Bank) (uart0 uart1 : Resettable SerialPort) → IsStill sio kept b uart0 uart1 →
-    pads_after sio now b ≡ b → kept.uart_levels ≡ now.uart_levels → kept.uart_enables ≡ now.uart_enables → IsStill sio now b uart0 uart1
-still_by sio kept now b uart0 uart1 still same levels enables = (
+pub lane_by : (sio : List ℕ) (kept now : Drivers) (b : Bank) (uart0 uart1 : Resettable SerialPort) → IsLaneAtRest sio kept b uart0 uart1 →
+    pads_after sio now b ≡ b → kept.uart_levels ≡ now.uart_levels → kept.uart_enables ≡ now.uart_enables → IsLaneAtRest sio now b uart0 uart1
+lane_by sio kept now b uart0 uart1 rest same levels enables = (
   same,
   (
-    quiet-go (uart_outputs (output_of uart0.block) (output_of uart1.block)) kept.uart_levels kept.uart_enables
-        now.uart_levels now.uart_enables levels enables still.1.0,
-    still.1.1,
+    same-outputs (uart_outputs (output_of uart0.block) (output_of uart1.block)) kept.uart_levels kept.uart_enables
+        now.uart_levels now.uart_enables levels enables rest.1.0,
+    rest.1.1,
   ),
 )
 

@@ -62,12 +62,12 @@ abbrev pub IsAtRest : List ℕ → Drivers → Bank → Type 0
 IsAtRest sio d b = (pads_after sio d b ≡ b) × ((core : ℕ) → bank_line core b ≡ false)
 
 -- a cycle changes nothing of the UARTs, whose outputs are among these
-abbrev pub AreQuiet : Drivers → Bank → Resettable SerialPort → Resettable SerialPort → Type 0
-AreQuiet d b uart0 uart1 =
+abbrev pub AreUartsAtRest : Drivers → Bank → Resettable SerialPort → Resettable SerialPort → Type 0
+AreUartsAtRest d b uart0 uart1 =
     (uart_outputs (uart.output_of uart0.block) (uart.output_of uart1.block) ≡ d.uart_levels ∷ d.uart_enables ∷ [])
     × ((uart_after (receive_level 0 b) uart0 ≡ uart0) × ((byte_of uart0 ≡ None)
     × ((uart_after (receive_level 1 b) uart1 ≡ uart1) × (byte_of uart1 ≡ None))))
 
 -- a cycle by these changes nothing of the pads and the UARTs
-abbrev pub IsStill : List ℕ → Drivers → Bank → Resettable SerialPort → Resettable SerialPort → Type 0
-IsStill sio d b uart0 uart1 = (pads_after sio d b ≡ b) × AreQuiet d b uart0 uart1
+abbrev pub IsLaneAtRest : List ℕ → Drivers → Bank → Resettable SerialPort → Resettable SerialPort → Type 0
+IsLaneAtRest sio d b uart0 uart1 = (pads_after sio d b ≡ b) × AreUartsAtRest d b uart0 uart1

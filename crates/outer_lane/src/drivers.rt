@@ -88,14 +88,14 @@ impl Drivers {
     }
 }
 
-/// It holds still, and the words of the UARTs stay.
+/// The lane is at rest, and the words of the UARTs stay.
 #[inline(always)]
-pub(crate) fn stays(still: bool, kept: &Drivers, now: &Drivers) -> bool
-    ensures still { result ≡ true → still ≡ true }
+pub(crate) fn stays_at_rest(at_rest: bool, kept: &Drivers, now: &Drivers) -> bool
+    ensures rest { result ≡ true → at_rest ≡ true }
     ensures levels { result ≡ true → kept.now.uart_levels ≡ now.now.uart_levels }
     ensures enables { result ≡ true → kept.now.uart_enables ≡ now.now.uart_enables }
 {
-    still && kept.uart_levels == now.uart_levels && kept.uart_enables == now.uart_enables
+    at_rest && kept.uart_levels == now.uart_levels && kept.uart_enables == now.uart_enables
 }
 
 /// Two pairs are the same. Each is compared as one number.

@@ -36,16 +36,16 @@ pub struct Outer {
     // where the timer does not tick
     pub(crate) ticks: Ticks,
     // the pads are at rest while they are stepped by these, and interrupt neither core
-    pub(crate) at_rest: bool,
+    pub(crate) pads_at_rest: bool,
     // beside that both UARTs are at rest, and put out what is among these
-    pub(crate) still: bool,
+    pub(crate) at_rest: bool,
     pub(crate) drivers: Drivers,
 }
 
 impl Model for Outer {
     ghost use Rattle.std.specs.Prelude.{◌≡◌, true};
     ghost use Rattle.outer_lane.specs.State.{OuterState};
-    ghost use Rattle.outer_lane.specs.Rest.{IsAtRest, IsStill};
+    ghost use Rattle.outer_lane.specs.Rest.{IsAtRest, IsLaneAtRest};
 
     ghost Value = { OuterState };
 
@@ -59,9 +59,9 @@ impl Model for Outer {
       sio = o.sio;
     } };
 
-    // a step of pads at rest changes nothing, and no line of them is high; still says so of the UARTs too
-    ghost invariant = { λ o. (o.at_rest ≡ true → IsAtRest o.sio o.drivers o.pads)
-        × (o.still ≡ true → IsStill o.sio o.drivers o.pads o.uart0 o.uart1) };
+    // a step of pads at rest changes nothing, and no line of them is high; the lane is at rest where the UARTs are too
+    ghost invariant = { λ o. (o.pads_at_rest ≡ true → IsAtRest o.sio o.drivers o.pads)
+        × (o.at_rest ≡ true → IsLaneAtRest o.sio o.drivers o.pads o.uart0 o.uart1) };
 }
 
 impl Outer {
@@ -84,8 +84,8 @@ impl Outer {
             sio: [0, 0],
             cursor: Cursor::new(),
             ticks: Ticks::new(),
+            pads_at_rest: false,
             at_rest: false,
-            still: false,
             drivers: Drivers::NONE,
         }
     }
@@ -95,8 +95,8 @@ impl Outer {
     pub fn reset(&mut self, bits: u32)
         ensures { self.new ≡ outer_reset bits self.old }
     {
+        self.pads_at_rest = false;
         self.at_rest = false;
-        self.still = false;
         self.timer.set_held(has_bit(bits, TIMER));
         self.uart0.set_held(has_bit(bits, UART0));
         self.uart1.set_held(has_bit(bits, UART1));
@@ -110,8 +110,8 @@ impl Outer {
         ensures { self.new ≡ record self.old { sio = outs } }
     {
         if self.sio != outs {
+            self.pads_at_rest = false;
             self.at_rest = false;
-            self.still = false;
             self.sio = outs;
         }
     }
@@ -133,7 +133,7 @@ impl Outer {
     fn bank_line(&self, core: u8) -> bool
         ensures { result ≡ bank_line core self.now.pads }
     {
-        if self.at_rest {
+        if self.pads_at_rest {
             return false;
         }
         let [bank0, bank1] = self.pads.lines();
@@ -219,8 +219,8 @@ impl Outer {
         self.sio = other.sio;
         self.cursor = other.cursor;
         self.ticks.copy_from(&other.ticks);
+        self.pads_at_rest = other.pads_at_rest;
         self.at_rest = other.at_rest;
-        self.still = other.still;
         self.drivers = other.drivers;
     }
 }

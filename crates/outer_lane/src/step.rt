@@ -5,10 +5,10 @@ ghost use Rattle.io_bank.specs.Interrupts.{line_of};
 ghost use Rattle.io_bank.specs.Levels.{receive_level, uart_outputs};
 ghost use Rattle.io_bank.specs.Step.{is_at_rest};
 ghost use Rattle.rp_uart.specs.Step.{output_of};
-ghost use Rattle.outer_lane.specs.Rest.{AreQuiet};
+ghost use Rattle.outer_lane.specs.Rest.{AreUartsAtRest};
 ghost use Rattle.outer_lane.specs.Step.{wires_by, words_by, uart_after, byte_of, timer_after};
 
-use crate::drivers::{Drivers, stays};
+use crate::drivers::{Drivers, stays_at_rest};
 use crate::outer::Outer;
 use crate::outside::outside;
 use crate::world::SeenOutputs;
@@ -24,7 +24,7 @@ use rp_uart::Uart;
 const PINS: u32 = 0x3fff_ffff;
 
 /// The pads are at rest, and interrupt neither core.
-fn are_still(pads: &IoBank) -> bool
+fn are_pads_at_rest(pads: &IoBank) -> bool
     ensures rests { result ≡ true → is_at_rest pads.now ≡ true }
     ensures core0 { result ≡ true → line_of pads.now pads.now.core0 ≡ false }
     ensures core1 { result ≡ true → line_of pads.now pads.now.core1 ≡ false }
@@ -65,28 +65,28 @@ pub(crate) fn step_uart(uart: &mut Resettable<Uart>, pads: &IoBank, number: u8) 
 
 /// UART 0 or 1 is held, or a cycle changes nothing of it.
 #[inline(always)]
-fn rests(uart: &Resettable<Uart>, pads: &IoBank, number: u8) -> bool
+fn is_uart_at_rest(uart: &Resettable<Uart>, pads: &IoBank, number: u8) -> bool
     ensures same { result ≡ true → uart_after (receive_level number pads.now) uart.now ≡ uart.now }
     ensures silent { result ≡ true → byte_of uart.now ≡ None }
 {
-    uart.held || uart.block.rests(pads.receive_level(number))
+    uart.held || uart.block.is_at_rest(pads.receive_level(number))
 }
 
 /// Both UARTs are at rest, and put out what the pads are stepped by.
 #[inline(never)]
-fn are_quiet(
+fn are_uarts_at_rest(
     drivers: &Drivers,
     pads: &IoBank,
     uart0: &Resettable<Uart>,
     uart1: &Resettable<Uart>,
 ) -> bool
-    ensures { result ≡ true → AreQuiet drivers.now pads.now uart0.now uart1.now }
+    ensures { result ≡ true → AreUartsAtRest drivers.now pads.now uart0.now uart1.now }
 {
     let [levels, enables] = uart_outputs(uart0.block.out(), uart1.block.out());
     drivers.uart_levels == levels
         && drivers.uart_enables == enables
-        && rests(uart0, pads, 0)
-        && rests(uart1, pads, 1)
+        && is_uart_at_rest(uart0, pads, 0)
+        && is_uart_at_rest(uart1, pads, 1)
 }
 
 /// The timer steps unless it is held.
@@ -151,8 +151,8 @@ impl Outer {
         } }
     {
         self.pads.step_to(levels);
-        self.still = false;
-        self.at_rest = are_still(&self.pads);
+        self.at_rest = false;
+        self.pads_at_rest = are_pads_at_rest(&self.pads);
         self.drivers = drivers;
     }
 
@@ -165,13 +165,13 @@ impl Outer {
               self.old.pads;
         } }
     {
-        if self.at_rest && self.drivers.is_same(&drivers) {
+        if self.pads_at_rest && self.drivers.is_same(&drivers) {
             return self.pads.pads();
         }
         let outs = drivers.outs(self.sio);
         let levels = self.pads.levels(&outs, drivers.driven, drivers.high);
-        if self.at_rest && levels == self.pads.pads() {
-            self.still = stays(self.still, &self.drivers, &drivers);
+        if self.pads_at_rest && levels == self.pads.pads() {
+            self.at_rest = stays_at_rest(self.at_rest, &self.drivers, &drivers);
             self.drivers = drivers;
         } else {
             self.step_changed(drivers, levels);
@@ -188,7 +188,7 @@ impl Outer {
           uart1 = uart_after (receive_level 1 self.old.pads) self.old.uart1;
         } }
     {
-        if self.still {
+        if self.at_rest {
             return [None, None];
         }
         [
@@ -202,14 +202,18 @@ impl Outer {
     fn settle(&mut self)
         ensures { self.new ≡ self.old }
     {
-        if self.at_rest && !self.still && self.uart0.block.is_idle() && self.uart1.block.is_idle() {
-            self.still = are_quiet(&self.drivers, &self.pads, &self.uart0, &self.uart1);
+        if self.pads_at_rest
+            && !self.at_rest
+            && self.uart0.block.is_idle()
+            && self.uart1.block.is_idle()
+        {
+            self.at_rest = are_uarts_at_rest(&self.drivers, &self.pads, &self.uart0, &self.uart1);
         }
     }
 
     /// A cycle by these changes neither the pads nor a UART, and no byte's frame ends in it.
     #[inline(always)]
-    fn is_still_by(&self, wires: &Wires, seen: &SeenOutputs, drives: Drives) -> bool
+    fn stays_by(&self, wires: &Wires, seen: &SeenOutputs, drives: Drives) -> bool
         ensures pads { result ≡ true
             → pads_driven wires.now seen.now drives self.now ≡ self.now.pads }
         ensures uart0 { result ≡ true
@@ -219,7 +223,7 @@ impl Outer {
         ensures byte0 { result ≡ true → byte_of self.now.uart0 ≡ None }
         ensures byte1 { result ≡ true → byte_of self.now.uart1 ≡ None }
     {
-        self.still && self.drivers.is_driven_by(wires, seen, drives)
+        self.at_rest && self.drivers.is_driven_by(wires, seen, drives)
     }
 
     /// The timer steps.
@@ -282,7 +286,7 @@ impl Outer {
         ensures state { self.new ≡ next_driven wires.now seen.now drives self.old }
         ensures mark { result ≡ marked_driven wires.now seen.now drives self.old }
     {
-        if self.is_still_by(wires, seen, drives) {
+        if self.stays_by(wires, seen, drives) {
             self.step_still(wires.irq, seen.cycle)
         } else {
             self.step_any(*wires, seen, drives)

@@ -144,8 +144,8 @@ impl Outer {
     pub fn effect(&mut self, block: Block, offset: u16, write: Option<u32>)
         ensures { self.new ≡ outer_accessed block offset write self.old }
     {
+        self.pads_at_rest = false;
         self.at_rest = false;
-        self.still = false;
         match block {
             Block::IoBank0 => access_bank(&mut self.pads, offset, write),
             Block::PadsBank0 => access_pads(&mut self.pads, offset, write),

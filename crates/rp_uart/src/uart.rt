@@ -191,7 +191,7 @@ impl Uart {
         ensures after { self.new ≡ after_step line self.old }
         ensures byte { result ≡ sent_byte self.old }
     {
-        if self.is_at_rest(line) {
+        if self.has_nothing_to_do(line) {
             return None;
         }
         let heard = self.heard(line);
@@ -238,7 +238,7 @@ impl Uart {
     /// Nothing is sent, nothing is received and no byte waits to be told, so that a cycle with this level changes nothing.
     #[inline(always)]
     #[tactic(auto, using(crate::proofs::AtRest::at_rest))]
-    fn is_at_rest(&self, line: bool) -> bool
+    fn has_nothing_to_do(&self, line: bool) -> bool
         ensures same { result ≡ true → after_step line self.now ≡ self.now }
         ensures silent { result ≡ true → sent_byte self.now ≡ None }
     {
@@ -249,12 +249,12 @@ impl Uart {
             && (line || self.control.loopback)
     }
 
-    /// A cycle with this level changes nothing: the UART has no divisor, or is at rest.
-    pub fn rests(&self, line: bool) -> bool
+    /// A cycle with this level changes nothing: the UART has no divisor, or nothing to do.
+    pub fn is_at_rest(&self, line: bool) -> bool
         ensures same { result ≡ true → after_step line self.now ≡ self.now }
         ensures silent { result ≡ true → sent_byte self.now ≡ None }
     {
-        self.is_stopped() || self.is_at_rest(line)
+        self.is_stopped() || self.has_nothing_to_do(line)
     }
 
     /// The UART has no divisor, so that it does not run.

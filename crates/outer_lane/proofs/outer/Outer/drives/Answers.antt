@@ -2,7 +2,7 @@ use Rattle.std.proofs.Common.{◌≡◌, length, ap, sym, ◌∙◌, arith}
 use Rattle.std.proofs.lemmas.Bool.Decides.{nat_tests}
 use Rattle.pin_script.specs.declared.entry.Entry.{Entry}
 use Rattle.std.proofs.Common.{List}
-use Rattle.outer_lane.proofs.Still.{empty_outside}
+use Rattle.outer_lane.proofs.Staying.{empty_outside}
 use Rattle.outer_lane.proofs.outer.Outer.drives.Goals as goal
 
 pub returns-then-is_empty-clause-drives : goal.returns-then-is_empty-clause-drives

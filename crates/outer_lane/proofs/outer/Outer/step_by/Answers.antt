@@ -1,6 +1,6 @@
 use Rattle.std.proofs.Common.{ap, ◌∙◌}
 use Rattle.outer_lane.specs.Step.{next_by, marked_by}
-use Rattle.outer_lane.proofs.Still.{driven_next, driven_marked}
+use Rattle.outer_lane.proofs.Staying.{driven_next, driven_marked}
 use Rattle.outer_lane.proofs.outer.Outer.step_by.Goals as goal
 
 pub returns-clause-state : goal.returns-clause-state

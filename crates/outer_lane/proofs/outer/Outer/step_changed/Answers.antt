@@ -14,8 +14,8 @@ invariant_of-self c =
     ∙ ap (λ (n : ℕ). with_levels n (with_edges (edges_of i.pads) i.pads)) (rw (← c.self.view_is) at c.requires) in (
       (λ at_rest. rest_again i.sio c.args.drivers i.pads c.step_to.new.self
           (done_pads i.sio c.args.drivers i.pads c.step_to.new.self after)
-          (c.are_still-self-inside.ensures.rests at_rest) (c.are_still-self-inside.ensures.core0 at_rest)
-          (c.are_still-self-inside.ensures.core1 at_rest)),
+          (c.are_pads_at_rest-self-inside.ensures.rests at_rest) (c.are_pads_at_rest-self-inside.ensures.core0 at_rest)
+          (c.are_pads_at_rest-self-inside.ensures.core1 at_rest)),
       (λ h. absurd (let g : false ≡ true = h in cc)),
     )
 

@@ -13,7 +13,7 @@ use Rattle.pin_script.specs.Levels.{drive_at}
 use Rattle.rp_uart.specs.Step.{output_of}
 use Rattle.outer_lane.specs.declared.drivers.Drivers.{Drivers}
 use Rattle.outer_lane.specs.declared.world.SeenOutputs.{SeenOutputs}
-use Rattle.outer_lane.specs.Rest.{IsStill, outs_by, pads_after, pads_driven, next_driven, marked_driven}
+use Rattle.outer_lane.specs.Rest.{IsLaneAtRest, outs_by, pads_after, pads_driven, next_driven, marked_driven}
 use Rattle.outer_lane.specs.State.{OuterState}
 use Rattle.outer_lane.specs.Step.{outs_of, outside_of, levels_by, pads_by, next_by, marked_by, uart_after, byte_of, timer_after}
 use Rattle.outer_lane.proofs.Sets.{levels_same}
@@ -41,19 +41,19 @@ parts sio a b c d = record { sio = sio; pio0 = a; pio1 = b; pwm = c; uart = d }
 parts-go : (sio a b c d a' b' c' d' : List ℕ) → a ≡ a' → b ≡ b' → c ≡ c' → d ≡ d' → parts sio a b c d ≡ parts sio a' b' c' d'
 parts-go sio a b c d a' b' c' d' p q r s = rw (p, q, r, s) refl
 
-pub still_pads : (wires : Wires) (seen : SeenOutputs) (drives : Drives) (s : OuterState) (d : Drivers) → IsStill s.sio d s.pads s.uart0 s.uart1 →
+pub pads_stay : (wires : Wires) (seen : SeenOutputs) (drives : Drives) (s : OuterState) (d : Drivers) → IsLaneAtRest s.sio d s.pads s.uart0 s.uart1 →
     seen.pio0 ≡ d.pio0_levels ∷ d.pio0_enables ∷ [] → seen.pio1 ≡ d.pio1_levels ∷ d.pio1_enables ∷ [] → wires.pwm ≡ d.pwm →
     drives.driven ≡ d.driven → drives.high ≡ d.high → pads_driven wires seen drives s ≡ s.pads
 unfolding pads_driven pads_after
-still_pads wires seen drives s d still pio0 pio1 pwm driven high =
+pads_stay wires seen drives s d rest pio0 pio1 pwm driven high =
     let outs : outs_of wires seen s ≡ outs_by s.sio d =
     parts-go s.sio seen.pio0 seen.pio1 (wires.pwm ∷ (2 ^ 30 - 1) ∷ []) (uart_outputs (output_of s.uart0.block) (output_of s.uart1.block))
     (d.pio0_levels ∷ d.pio0_enables ∷ []) (d.pio1_levels ∷ d.pio1_enables ∷ []) (d.pwm ∷ (2 ^ 30 - 1) ∷ []) (d.uart_levels ∷ d.uart_enables ∷ [])
-    pio0 pio1 (ap (λ (n : ℕ). n ∷ (2 ^ 30 - 1) ∷ []) pwm) still.1.0 in
+    pio0 pio1 (ap (λ (n : ℕ). n ∷ (2 ^ 30 - 1) ∷ []) pwm) rest.1.0 in
     ap (λ (o : Outs). after_step o (by_sets drives.driven drives.high) s.pads) outs
     ∙ ap (λ (n : ℕ). after_step (outs_by s.sio d) (by_sets n drives.high) s.pads) driven
     ∙ ap (λ (n : ℕ). after_step (outs_by s.sio d) (by_sets d.driven n) s.pads) high
-    ∙ still.0
+    ∙ rest.0
 
 -- ---- any cycle, part by part
 
