@@ -11,11 +11,11 @@ pub mod exceptions;
 mod fetch;
 mod finish;
 mod kinds;
+mod lane;
 pub mod laws;
 mod private;
 pub mod processor;
 mod returns;
-mod step;
 
 pub use doing::{Act, Doing, Work};
 pub use processor::Core;
