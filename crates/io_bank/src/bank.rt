@@ -239,7 +239,8 @@ impl IoBank {
 
     /// Both interrupt lines are low.
     pub fn is_silent(&self) -> bool
-        ensures { result ≡ (not (line_of self.now self.now.core0) && not (line_of self.now self.now.core1)) }
+        ensures { result ≡ (not (line_of self.now self.now.core0)
+            && not (line_of self.now self.now.core1)) }
     {
         let [core0, core1] = self.lines();
         !core0 && !core1

@@ -95,7 +95,8 @@ fn put_counted(
     register: &[u8],
     number: u8,
 ) -> Result<(), AllocError>
-    ensures { OnOk result (out.new.items ≡ out.old.items ++ (word.now ++ register.now ++ codes ", " ++ decimal number)) }
+    ensures { OnOk result (out.new.items
+        ≡ out.old.items ++ (word.now ++ register.now ++ codes ", " ++ decimal number)) }
 {
     put(out, word)?;
     put(out, register)?;

@@ -93,7 +93,8 @@ impl Machine {
     /// Core 0, which has begun this, wants nothing, and no access lasts.
     #[inline(always)]
     pub fn is_bus_free(&self, core0: &Doing) -> bool
-        ensures { Decides result ((want_of core0.now ≡ Nothing) × (has_hold self.now.fabric ≡ false)) }
+        ensures { Decides result ((want_of core0.now ≡ Nothing)
+            × (has_hold self.now.fabric ≡ false)) }
     {
         core0.wants_nothing() && !self.fabric.holds()
     }
