@@ -195,7 +195,8 @@ impl Session {
             (setting_of world.now.script.now (X.meaning world.now.device.now) world.now.limit)
             self.old }
         requires empty { reply.old.items ≡ [] }
-        ensures { let w = setting_of world.now.script.now (X.meaning world.now.device.now) world.now.limit in
+        ensures { let w = setting_of world.now.script.now (X.meaning world.now.device.now)
+            world.now.limit in
             let what = moved_to w (first_of self.old) target in
             Does w self.old what (move_cost self.old.ring.spacing self.old.now.cycle what.cycle)
             self.new reply.new.items
@@ -220,7 +221,8 @@ impl Session {
             (setting_of world.now.script.now (X.meaning world.now.device.now) world.now.limit)
             self.old }
         requires empty { reply.old.items ≡ [] }
-        ensures { let w = setting_of world.now.script.now (X.meaning world.now.device.now) world.now.limit in
+        ensures { let w = setting_of world.now.script.now (X.meaning world.now.device.now)
+            world.now.limit in
             let what = moved_back w (first_of self.old) self.old.now.cycle cycles in
             Does w self.old what (move_cost self.old.ring.spacing self.old.now.cycle what.cycle)
             self.new reply.new.items
@@ -269,7 +271,8 @@ impl Session {
             self.old }
         requires fits { Fits command }
         requires empty { reply.old.items ≡ [] }
-        ensures { let w = setting_of world.now.script.now (X.meaning world.now.device.now) world.now.limit in
+        ensures { let w = setting_of world.now.script.now (X.meaning world.now.device.now)
+            world.now.limit in
             let what = answer w (first_of self.old) self.old.now.cycle (meant command) in
             Does w self.old what
             (command_cost self.old.ring.spacing self.old.now.cycle what.cycle (meant command))
