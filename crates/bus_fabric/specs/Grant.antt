@@ -4,7 +4,7 @@
 use Rattle.std.specs.Prelude.{ℕ, suc, ◌-◌, ◌*◌, Bool, false, not, ◌&&◌, ◌||◌, ◌==◌, nat_lt, nat_le, if◌then◌else◌, List, [], ◌∷◌, map, Option, Some, None, is_none, unwrap_or}
 use Rattle.std.specs.List.{list_all, find}
 use Rattle.rp_base.specs.declared.Master.{Master}
-use Rattle.word_bits.specs.Word.{has_bit}
+use Rattle.rp_base.specs.Word.{has_bit}
 use Rattle.bus_fabric.specs.declared.Hold.{Hold}
 use Rattle.bus_fabric.specs.Masters.{masters, number_of, distance, Access, access_of, asks_on}
 use Rattle.bus_fabric.specs.State.{Crossbar, last_on}

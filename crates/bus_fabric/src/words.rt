@@ -5,7 +5,7 @@ ghost use Rattle.bus_fabric.specs.Words.{word_of, is_allowed, effect_of};
 
 use crate::Fabric;
 use crate::registers::{BUS_PRIORITY, BUS_PRIORITY_ACK};
-use register_block::Registers;
+use rp_base::Registers;
 
 impl Registers<()> for Fabric {
     ghost word = { λ _. word_of };

@@ -1,6 +1,6 @@
 -- The comparisons of the parts of the engine are true exactly where both are one.
 use Rattle.std.proofs.Common.{refl}
-use Rattle.same_values.proofs.Exact.{IsExact, numbers, flags, pairs, parts, bare}
+use Rattle.rp_base.proofs.Exact.{IsExact, numbers, flags, pairs, parts, bare}
 use Rattle.dma_engine.specs.contracts.channel.ChannelPartialEq.TheImpl as channel
 use Rattle.dma_engine.specs.contracts.waiting.WaitingWritePartialEq.TheImpl as waiting
 use Rattle.dma_engine.specs.contracts.timer.PacingTimerPartialEq.TheImpl as timer

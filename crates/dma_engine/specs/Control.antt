@@ -2,7 +2,7 @@
 use Rattle.std.specs.Prelude.{ℕ, ◌/◌, ◌%◌, ◌^◌, Bool, ◌==◌, if◌then◌else◌}
 use Rattle.rp_base.specs.declared.Size.{Size}
 use Rattle.rp_base.specs.declared.Size.TheVariants.{Byte, Half, Word}
-use Rattle.word_bits.specs.Word.{has_bit}
+use Rattle.rp_base.specs.Word.{has_bit}
 use Rattle.dma_engine.specs.declared.channel.Channel.{Channel}
 
 -- EN

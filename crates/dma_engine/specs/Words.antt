@@ -1,8 +1,8 @@
 -- The words of the engine's registers by their offsets, what they read as and what a write does (RP2040 Datasheet, 2.5.7,
 -- "List of Registers").
 use Rattle.std.specs.Prelude.{ℕ, ◌+◌, ◌-◌, ◌*◌, ◌/◌, ◌%◌, ◌^◌, Bool, not, ◌&&◌, ◌==◌, nat_lt, if◌then◌else◌, List, [], ◌∷◌, Option, Some, None, bit_and, bit_or, slice_index_or, slice_set, is_some}
-use Rattle.word_bits.specs.Word.{has_bit, bit_number}
-use Rattle.register_block.specs.Held.{unless_held, after_access}
+use Rattle.rp_base.specs.Word.{has_bit, bit_number}
+use Rattle.rp_base.specs.Held.{unless_held, after_access}
 use Rattle.dma_engine.specs.declared.channel.Channel.{Channel}
 use Rattle.dma_engine.specs.declared.registers.TheConstants.{INTR, INTE0, INTF0, INTS0, INTE1, INTF1, INTS1, TIMER0, MULTI_CHAN_TRIGGER, CHAN_ABORT, N_CHANNELS}
 use Rattle.dma_engine.specs.declared.registers.Register.{Register}

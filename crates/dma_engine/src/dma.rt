@@ -4,7 +4,7 @@ ghost use Rattle.std.specs.Prelude.{◌≡◌};
 ghost use Rattle.dma_engine.specs.Words.{word_of, is_allowed, effect_of};
 
 use crate::engine::Engine;
-use register_block::Registers;
+use rp_base::Registers;
 use std::marker::Model;
 
 /// The DMA engine: its channels, pacing timers and interrupts, the transfer that is chosen, and the writes that wait.

@@ -1,14 +1,14 @@
 //! Triggers, aborts, and the ends of sequences.
 
 ghost use Rattle.std.specs.Prelude.{◌≡◌, ◌<◌, ℕ, false, slice_index_or};
-ghost use Rattle.word_bits.specs.Word.{has_bit};
+ghost use Rattle.rp_base.specs.Word.{has_bit};
 ghost use Rattle.dma_engine.specs.Channel.{with_trigger, with_abort, with_raised, with_report, with_chain, with_end_of, with_end, in_turn};
 ghost use Rattle.dma_engine.specs.Cycle.{is_chosen, has_write, is_in_flight, is_over, after_ends};
 
 use crate::channel::Channel;
 use crate::engine::{CHANNELS, Engine};
 use crate::waiting::WaitingWrite;
-use word_bits::has_bit;
+use rp_base::bits::has_bit;
 
 /// A write of the channel waits.
 fn has_write(writes: &[WaitingWrite], number: u8) -> bool

@@ -9,7 +9,7 @@ use crate::registers::{
     TIMER0, register_at,
 };
 use crate::timer::PacingTimer;
-use register_block::unless_held;
+use rp_base::unless_held;
 
 /// The number of the channel of an offset, and the index of the word among its sixteen.
 fn channel_index(offset: u16) -> (u16, u16)

@@ -6,7 +6,7 @@ use Rattle.std.proofs.lemmas.Bool.Decides.{nat_tests}
 use Rattle.std.proofs.lemmas.Nat.{or_comm, or_shifted, one_shl}
 use Rattle.std.proofs.Math.Nat.{pow-suc}
 use Rattle.std.proofs.lemmas.Nat.Bits.{bit_at-lt, same_from_bits_below, bit_at_cat_low, bit_at_cat_high, bit_at_and, bit_at_or, bit_at_xor, bit_at_ones}
-use Rattle.word_bits.specs.Word.{has_bit, bit_number}
+use Rattle.rp_base.specs.Word.{has_bit, bit_number}
 use Rattle.io_bank.specs.Pins.{bits_below}
 
 -- ---- the recursion

@@ -1,6 +1,6 @@
 -- The comparisons of events are true exactly where both are one.
 use Rattle.std.proofs.Common.{refl}
-use Rattle.same_values.proofs.Exact.{IsExact, numbers, pairs, parts}
+use Rattle.rp_base.proofs.Exact.{IsExact, numbers, pairs, parts}
 use Rattle.io_bank.specs.contracts.events.EdgesPartialEq.TheImpl as edges
 use Rattle.io_bank.specs.contracts.events.EventsPartialEq.TheImpl as events
 use Rattle.io_bank.specs.contracts.events.InterruptsPartialEq.TheImpl as interrupts

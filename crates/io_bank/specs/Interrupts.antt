@@ -1,7 +1,7 @@
 -- The words INTR, INTE, INTF and INTS (RP2040 Datasheet, 2.19.3, Interrupts, and 2.19.6.1, INTR0 to PROC1_INTS3). Each
 -- word has four bits for each of eight pins: level low, level high, edge low and edge high.
 use Rattle.std.specs.Prelude.{ℕ, ◌+◌, ◌*◌, ◌/◌, ◌%◌, Bool, not, ◌&&◌, ◌||◌, ◌==◌, if◌then◌else◌, bit_and, bit_or}
-use Rattle.word_bits.specs.Word.{has_bit}
+use Rattle.rp_base.specs.Word.{has_bit}
 use Rattle.io_bank.specs.declared.events.Edges.{Edges}
 use Rattle.io_bank.specs.declared.events.Events.{Events}
 use Rattle.io_bank.specs.declared.events.Interrupts.{Interrupts}

@@ -1,7 +1,7 @@
 -- The levels of the pads, pin by pin, and what the parts of the chip see of them (RP2040 Datasheet, 1.4.3, GPIO
 -- functions, 2.19.2, Function Select, 2.19.4, Pads, and 2.19.6.1, GPIO0_STATUS and GPIO0_CTRL).
 use Rattle.std.specs.Prelude.{ℕ, ◌+◌, ◌*◌, ◌^◌, Bool, true, not, ◌&&◌, ◌==◌, if◌then◌else◌, List, [], ◌∷◌, Option, Some, None, slice_index, slice_index_or}
-use Rattle.word_bits.specs.Word.{has_bit, bit_number}
+use Rattle.rp_base.specs.Word.{has_bit, bit_number}
 use Rattle.io_bank.specs.declared.outputs.Outs.{Outs}
 use Rattle.io_bank.specs.Pins.{pins_where, field, overridden}
 use Rattle.io_bank.specs.State.{Bank}

@@ -1,7 +1,7 @@
 -- Sets of pins, fields of words and overrides (RP2040 Datasheet, 1.4.3, GPIO functions, and 2.19.6.1, GPIO0_CTRL). There
 -- are 30 pins, and bit p of a set tells whether pin p is in it.
 use Rattle.std.specs.Prelude.{ℕ, zero, suc, ◌+◌, ◌*◌, ◌/◌, ◌%◌, ◌^◌, Bool, not, ◌==◌, if◌then◌else◌}
-use Rattle.word_bits.specs.Word.{bit_number}
+use Rattle.rp_base.specs.Word.{bit_number}
 
 -- the number whose bits below a count are what a test says of them
 unfoldable pub bits_below : (ℕ → Bool) → ℕ → ℕ

@@ -11,8 +11,8 @@ use crate::events::{Edges, Events, Interrupts};
 use crate::outputs::Outs;
 use crate::routes::Routes;
 use crate::sets::{PINS, driven_by, high_by, pins_with};
+use rp_base::bits::has_bit;
 use std::marker::Model;
-use word_bits::has_bit;
 
 /// The words of CTRL and of a pad at reset: no function; input enable, pull-down and Schmitt trigger.
 const CONTROLS: [u32; 30] = [0x1f; 30];

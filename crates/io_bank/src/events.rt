@@ -6,7 +6,7 @@ ghost use Rattle.io_bank.specs.Edges.{joined};
 ghost use Rattle.io_bank.specs.Interrupts.{kind_of, event_word, with_eight, with_word, shown, is_any, left_of, cleared};
 
 use crate::sets::with_bit;
-use word_bits::has_bit;
+use rp_base::bits::has_bit;
 
 /// The pins with an edge to low and with an edge to high.
 #[derive(Clone, Copy, PartialEq, Eq)]

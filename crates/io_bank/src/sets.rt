@@ -1,7 +1,7 @@
 //! Sets of pins, and words, bit by bit.
 
 ghost use Rattle.std.specs.Prelude.{◌≡◌, ◌==◌, ◌+◌, ◌*◌, ◌/◌, ◌%◌, ◌^◌, ◌<◌, false, slice_index, is_some, unwrap_or};
-ghost use Rattle.word_bits.specs.Word.{bit_number};
+ghost use Rattle.rp_base.specs.Word.{bit_number};
 ghost use Rattle.io_bank.specs.Pins.{bits_below, pins_where, overridden};
 ghost use Rattle.io_bank.specs.Levels.{by_list};
 

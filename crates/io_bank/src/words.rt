@@ -14,8 +14,8 @@ use crate::registers::{
 };
 use crate::routes::Routes;
 use crate::sets::overridden;
-use register_block::{Registers, unless_held};
-use word_bits::{bit_number, has_bit};
+use rp_base::bits::{bit_number, has_bit};
+use rp_base::{Registers, unless_held};
 
 impl IoBank {
     ghost use Rattle.io_bank.specs.declared.registers.TheConstants.{INTR0, PADS_BANK0, PAD_GPIO29};

@@ -2,7 +2,7 @@
 -- A6.7.68 to A6.7.71).
 use Rattle.std.specs.Prelude.{ℕ, ◌+◌, ◌*◌, ◌%◌, ◌^◌}
 use Rattle.std.specs.Int.{w8, w16, cast_signed}
-use Rattle.word_bits.specs.Word.{word_of, byte_of, joined}
+use Rattle.rp_base.specs.Word.{word_of, byte_of, joined}
 use Rattle.m0_alu.specs.declared.ExtendKind.{ExtendKind}
 use Rattle.m0_alu.specs.declared.ExtendKind.TheVariants.{Sxth, Sxtb, Uxth, Uxtb, Rev, Rev16, Revsh}
 

@@ -2,7 +2,7 @@
 -- shift is of an unbounded number, and the carry is the last bit that leaves the word.
 use Rattle.std.specs.Prelude.{ℕ, ◌+◌, ◌-◌, ◌*◌, ◌/◌, ◌%◌, ◌^◌, Bool, ◌==◌, pos, if◌then◌else◌}
 use Rattle.std.specs.Int.{w32, cast_signed, int_div_euclid}
-use Rattle.word_bits.specs.Word.{word_of, has_bit, has_signed_bit}
+use Rattle.rp_base.specs.Word.{word_of, has_bit, has_signed_bit}
 use Rattle.m0_alu.specs.declared.ShiftKind.{ShiftKind}
 use Rattle.m0_alu.specs.declared.ShiftKind.TheVariants.{Lsl, Lsr, Asr, Ror}
 

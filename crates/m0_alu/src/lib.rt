@@ -8,7 +8,7 @@ ghost use Rattle.m0_alu.specs.Shift.{shifted, shifted_left, shifted_right, shift
 ghost use Rattle.m0_alu.specs.Extend.{extended, signed_half, signed_byte};
 ghost use Rattle.m0_alu.specs.Product.{product_of};
 
-use word_bits::{byte, join};
+use rp_base::bits::{byte, join};
 
 /// The four shifts of the manual (ARMv6-M Architecture Reference Manual, A6.4.2).
 #[derive(Clone, Copy, Debug, PartialEq, Eq)]

@@ -5,7 +5,7 @@ use Rattle.std.specs.Int.Count.{ones, ones_step, ones-ones}
 use Rattle.std.proofs.Math.Nat.{div-eq_of_lt}
 use Rattle.std.proofs.lemmas.Nat.{shr-shr}
 use Rattle.std.proofs.lemmas.Bool.Decides.{nat_tests}
-use Rattle.word_bits.specs.Word.{has_bit}
+use Rattle.rp_base.specs.Word.{has_bit}
 use Rattle.std.specs.Prelude.{slice_index, map, ◌++◌, Option, Some, None}
 use Rattle.m0_beats.specs.Registers.{register_of}
 use Rattle.std.proofs.Common.{append_assoc}

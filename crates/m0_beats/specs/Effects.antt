@@ -3,7 +3,7 @@
 use Rattle.std.specs.Prelude.{ℕ, ◌+◌, ◌-◌, ◌*◌, ◌/◌, ◌%◌, ◌^◌, Bool, true, false, ◌==◌, if◌then◌else◌, List, [], ◌∷◌, length, Option, Some, None, bit_and, bit_or, bit_xor, slice_index}
 use Rattle.std.specs.Int.{w32, bit_not}
 use Rattle.std.specs.Bool.{then_some}
-use Rattle.word_bits.specs.Word.{has_bit}
+use Rattle.rp_base.specs.Word.{has_bit}
 use Rattle.m0_alu.specs.Sum.{add_with_carry}
 use Rattle.m0_alu.specs.Shift.{shifted}
 use Rattle.m0_alu.specs.Extend.{extended}

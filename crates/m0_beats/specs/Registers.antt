@@ -1,6 +1,6 @@
 -- Registers and flags, and the words that they are read and written as (ARMv6-M Architecture Reference Manual, B1.4).
 use Rattle.std.specs.Prelude.{ℕ, ◌+◌, ◌*◌, ◌/◌, ◌%◌, ◌^◌, Bool, ◌&&◌, ◌==◌, nat_lt, if◌then◌else◌, List, [], ◌∷◌, ◌++◌, slice_index, slice_set}
-use Rattle.word_bits.specs.Word.{bit_number, has_bit, is_negative_word, is_zero_word}
+use Rattle.rp_base.specs.Word.{bit_number, has_bit, is_negative_word, is_zero_word}
 use Rattle.m0_beats.specs.declared.registers.Regs.{Regs}
 
 -- Thread mode is the mode of no exception

@@ -1,7 +1,7 @@
 -- What each row of the encoding tables does (ARMv6-M Architecture Reference Manual, A5.2, A5.3 and A6.7).
 use Rattle.std.specs.Prelude.{ℕ, ◌+◌, ◌-◌, ◌*◌, ◌%◌, ◌^◌, Bool, true, false, ◌==◌, nat_lt, if◌then◌else◌, Some, None}
 use Rattle.std.specs.Bool.{beq}
-use Rattle.word_bits.specs.Word.{bit_number, has_bit}
+use Rattle.rp_base.specs.Word.{bit_number, has_bit}
 use Rattle.m0_alu.specs.declared.ShiftKind.TheVariants as shifts
 use Rattle.m0_alu.specs.declared.ExtendKind.TheVariants as extends
 use Rattle.rp_base.specs.declared.Size.TheVariants as sizes

@@ -1,7 +1,7 @@
 -- The special registers by their number SYSm (ARMv6-M Architecture Reference Manual, B5.1.1, MRS and MSR). Those that are
 -- not named read 0 and ignore writes; IPSR is never written.
 use Rattle.std.specs.Prelude.{ℕ, ◌+◌, ◌*◌, ◌/◌, ◌%◌, ◌||◌, ◌==◌, nat_lt, if◌then◌else◌}
-use Rattle.word_bits.specs.Word.{bit_number, has_bit}
+use Rattle.rp_base.specs.Word.{bit_number, has_bit}
 use Rattle.m0_beats.specs.declared.registers.Regs.{Regs}
 use Rattle.m0_beats.specs.Registers.{is_thread, flags_word, ipsr_word, with_flags_word}
 

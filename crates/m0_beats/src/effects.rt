@@ -4,7 +4,7 @@ ghost use Rattle.std.specs.Prelude.{◌≡◌, slice_index};
 ghost use Rattle.m0_beats.specs.Beats.{value_of, registers_of, bytes_of_list, push_address};
 ghost use Rattle.m0_beats.specs.Effects.{with_result, sum_result, with_sum_flags, after_sum, word_result, after_word, after_shift, after_value, loaded, exchanged, exchanged_link, with_loaded, with_all_loaded, base_after, after_load_many, after_store_many, after_push, after_pop, link_value, branched, branched_if, branched_link, after_read_special, after_write_special, after_mask, effect_of_action, effect_of, return_of};
 ghost use Rattle.m0_beats.specs.Registers.{register_of};
-ghost use Rattle.word_bits.specs.Word.{has_bit};
+ghost use Rattle.rp_base.specs.Word.{has_bit};
 
 use crate::conditions::is_exception_return;
 use crate::registers::Regs;

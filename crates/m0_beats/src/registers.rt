@@ -2,7 +2,7 @@
 
 ghost use Rattle.std.specs.Prelude.{◌≡◌};
 ghost use Rattle.m0_beats.specs.Registers.{is_thread, sp_of, pc_of, register_of, with_sp, with_pc, with_register, moved_on, with_sign, flags_word, with_flags_word, ipsr_word, xpsr_of, register_words};
-ghost use Rattle.word_bits.specs.Word.{bit_number};
+ghost use Rattle.rp_base.specs.Word.{bit_number};
 
 /// The registers and flags of one core (ARMv6-M Architecture Reference Manual, B1.4).
 #[derive(Clone, Copy, PartialEq, Eq)]

@@ -1,7 +1,7 @@
 //! The rows of the encoding tables, gathered by what they do.
 
 ghost use Rattle.std.specs.Prelude.{◌≡◌, ◌<◌, ◌≤◌, ◌^◌, ◌-◌, ◌+◌, ◌*◌, ◌==◌};
-ghost use Rattle.word_bits.specs.Word.{bit_number, has_bit};
+ghost use Rattle.rp_base.specs.Word.{bit_number, has_bit};
 ghost use Rattle.m0_beats.specs.Rows.{action_of, right_amount, sign_extended, link_offset};
 
 use crate::registers::one;

@@ -1,6 +1,6 @@
 -- The comparisons of the parts of a core are true exactly where both are one.
 use Rattle.std.proofs.Common.{refl}
-use Rattle.same_values.proofs.Exact.{IsExact, numbers, flags, lists, pairs, parts, none, one, two, three, enums}
+use Rattle.rp_base.proofs.Exact.{IsExact, numbers, flags, lists, pairs, parts, none, one, two, three, enums}
 use Rattle.rp_base.specs.contracts.op.OpPartialEq.TheImpl as op
 use Rattle.m0_beats.specs.contracts.registers.RegsPartialEq.TheImpl as regs
 use Rattle.m0_core.specs.contracts.doing.WorkPartialEq.TheImpl as work

@@ -1,7 +1,7 @@
 -- No instruction reads more than 16 values.
 use Rattle.std.proofs.Common.{◌≡◌, ℕ, suc, ◌+◌, ◌≤◌, ◌==◌, ◌/◌, ◌%◌, ◌^◌, Bool, true, false, cond, nat_le, List, [], ◌∷◌, ◌++◌, length, refl, ap, arith}
 use Rattle.std.specs.Prelude.{Option, Some, None, map, filter}
-use Rattle.word_bits.specs.Word.{has_bit}
+use Rattle.rp_base.specs.Word.{has_bit}
 use Rattle.rp_base.specs.declared.Request.{Request}
 use Rattle.rp_base.specs.declared.op.Op.{Op}
 use Rattle.m0_beats.specs.declared.registers.Regs.{Regs}

@@ -1,7 +1,7 @@
 -- Exception entry in 15 beats (ARMv6-M Architecture Reference Manual, B1.5.6, ExceptionEntry, PushStack and
 -- ExceptionTaken): the exception is taken, eight words are stacked, the vector is read, and five beats are inner.
 use Rattle.std.specs.Prelude.{ℕ, ◌+◌, ◌-◌, ◌*◌, ◌/◌, ◌^◌, ◌%◌, true, false, ◌==◌, nat_lt, if◌then◌else◌, List, [], ◌∷◌, Some, None, bit_and, bit_or, slice_index}
-use Rattle.word_bits.specs.Word.{has_bit}
+use Rattle.rp_base.specs.Word.{has_bit}
 use Rattle.rp_base.specs.declared.Size.TheVariants as sizes
 use Rattle.m0_beats.specs.declared.registers.Regs.{Regs}
 use Rattle.m0_beats.specs.declared.timing.Beat.{Beat}

@@ -1,7 +1,7 @@
 -- Exception return in 13 beats (ARMv6-M Architecture Reference Manual, B1.5.8, ExceptionReturn and PopStack): the first is
 -- inner, eight words are read, and four beats are inner.
 use Rattle.std.specs.Prelude.{ℕ, ◌+◌, ◌-◌, ◌*◌, ◌/◌, ◌^◌, ◌%◌, Bool, true, not, ◌==◌, ◌||◌, nat_lt, if◌then◌else◌, List, [], None, bit_or, slice_index, slice_set}
-use Rattle.word_bits.specs.Word.{has_bit}
+use Rattle.rp_base.specs.Word.{has_bit}
 use Rattle.rp_base.specs.declared.Size.TheVariants as sizes
 use Rattle.m0_beats.specs.declared.registers.Regs.{Regs}
 use Rattle.m0_beats.specs.declared.timing.Beat.{Beat}

@@ -1,7 +1,7 @@
 -- A core before its first instruction (ARMv6-M Architecture Reference Manual, B1.5.5, reset behavior; RP2040 Datasheet,
 -- 2.8.2, how the second core is started with a vector table, a stack pointer and an entry).
 use Rattle.std.specs.Prelude.{ℕ, ◌-◌, ◌*◌, ◌/◌, ◌^◌, Bool, true, false, [], None, replicate}
-use Rattle.word_bits.specs.Word.{has_bit}
+use Rattle.rp_base.specs.Word.{has_bit}
 use Rattle.m0_beats.specs.declared.registers.Regs.{Regs}
 use Rattle.m0_nvic.specs.State.{Exceptions, at_reset}
 use Rattle.m0_core.specs.State.{State}

@@ -1,6 +1,6 @@
 -- The comparison of two system timers is true exactly where both are one.
 use Rattle.std.proofs.Common.{refl}
-use Rattle.same_values.proofs.Exact.{IsExact, numbers, flags, pairs, parts}
+use Rattle.rp_base.proofs.Exact.{IsExact, numbers, flags, pairs, parts}
 use Rattle.m0_nvic.specs.contracts.systick.SysTickPartialEq.TheImpl as systick
 
 pub exact_systick : IsExact systick.eq-value.it

@@ -1,7 +1,7 @@
 -- The end of a cycle: the system timer, then the interrupt lines (ARMv6-M Architecture Reference Manual, B3.3, SysTick,
 -- and B3.4.1, level-sensitive and pulse interrupts; RP2040 Datasheet, 4.7.2, Tick Generation).
 use Rattle.std.specs.Prelude.{ℕ, ◌+◌, ◌-◌, ◌%◌, Bool, true, false, ◌||◌, ◌&&◌, ◌==◌, if◌then◌else◌, bit_and}
-use Rattle.word_bits.specs.Word.{has_bit}
+use Rattle.rp_base.specs.Word.{has_bit}
 use Rattle.m0_nvic.specs.declared.numbers.TheConstants.{SYSTICK}
 use Rattle.m0_nvic.specs.declared.systick.SysTick.{SysTick}
 use Rattle.m0_nvic.specs.State.{Exceptions}

@@ -1,7 +1,7 @@
 -- The execution priority as a least element (ARMv6-M Architecture Reference Manual, B1.5.4), and what a line that is held high
 -- leaves (B3.4.1).
 use Rattle.std.specs.Prelude.{◌≡◌, ℕ, ◌+◌, ◌^◌, ◌<◌, Bool, true, false, ◌⊎◌, ℤ, pos, int_lt, List, [], ◌∷◌, length}
-use Rattle.word_bits.specs.Word.{has_bit}
+use Rattle.rp_base.specs.Word.{has_bit}
 use Rattle.m0_nvic.specs.declared.numbers.TheConstants.{INTERRUPT_0}
 use Rattle.m0_nvic.specs.State.{Exceptions}
 use Rattle.m0_nvic.specs.Numbers.{is_member}

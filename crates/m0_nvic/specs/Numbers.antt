@@ -1,7 +1,7 @@
 -- Sets of exception numbers as numbers of bits (ARMv6-M Architecture Reference Manual, B1.5.2, exception number definition,
 -- and B3.4, the NVIC registers with one bit for each interrupt).
 use Rattle.std.specs.Prelude.{ℕ, zero, suc, ◌+◌, ◌-◌, ◌*◌, ◌/◌, ◌%◌, ◌^◌, Bool, ◌&&◌, nat_lt, List, [], ◌∷◌, bit_and, filter}
-use Rattle.word_bits.specs.Word.{has_bit}
+use Rattle.rp_base.specs.Word.{has_bit}
 use Rattle.m0_nvic.specs.declared.numbers.TheConstants.{NUMBERS}
 
 -- there are 48 exception numbers: 16 of the system and 32 interrupts

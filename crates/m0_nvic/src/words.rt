@@ -1,8 +1,8 @@
 //! The words of the private bus that show the exceptions, by their offsets after E000E000.
 
 ghost use Rattle.std.specs.Prelude.{◌≡◌, ◌^◌, ◌*◌, ◌/◌, ◌<◌, ◌≤◌};
-ghost use Rattle.word_bits.specs.Word.{bit_number};
-ghost use Rattle.word_bits.specs.Word.{byte_of};
+ghost use Rattle.rp_base.specs.Word.{bit_number};
+ghost use Rattle.rp_base.specs.Word.{byte_of};
 ghost use Rattle.m0_nvic.specs.Words.{csr_of, timer_word, timer_written, timer_read, interrupt_word, interrupts_written, four_priorities, priority_word, with_four, priorities_written, is_priority_offset, icsr_of, shpr2_of, shpr3_of, fixed_word, control_word, pended_if, cleared_if, icsr_written, control_written, word_of, asks_reset, is_allowed, after_write, effect_of};
 
 use crate::numbers::{INTERRUPT_0, NMI, PENDSV, SVCALL, SYSTICK};

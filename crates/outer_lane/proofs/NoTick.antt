@@ -2,7 +2,7 @@
 use Rattle.std.proofs.Common.{◌≡◌, ◌∙◌, ℕ, ◌+◌, ◌%◌, ◌==◌, ◌&&◌, Bool, true, false, cond, refl, sym, ap, arith}
 use Rattle.std.specs.Prelude.{not}
 use Rattle.std.proofs.lemmas.Bool.Decides.{nat_tests}
-use Rattle.register_block.specs.Held.{stays_if}
+use Rattle.rp_base.specs.Held.{stays_if}
 use Rattle.rp_timer.specs.State.{TimerState}
 use Rattle.rp_timer.specs.Step.{is_tick, risen}
 use Rattle.outer_lane.specs.State.{OuterState}

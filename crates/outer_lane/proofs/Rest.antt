@@ -9,7 +9,7 @@ use Rattle.io_bank.specs.Step.{after_step, is_at_rest, with_edges, with_levels}
 use Rattle.io_bank.proofs.AtRest.{rest_step}
 use Rattle.outer_lane.specs.declared.drivers.Drivers.{Drivers}
 use Rattle.outer_lane.specs.Lines.{bank_line}
-use Rattle.register_block.specs.declared.resettable.Resettable.{Resettable}
+use Rattle.rp_base.specs.declared.resettable.Resettable.{Resettable}
 use Rattle.rp_uart.specs.State.{SerialPort}
 use Rattle.rp_uart.specs.Step.{output_of}
 use Rattle.outer_lane.specs.Rest.{IsAtRest, IsLaneAtRest, is_same, outs_by, pads_after}

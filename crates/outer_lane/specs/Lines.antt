@@ -1,7 +1,7 @@
 -- What the other lanes ask of the peripherals. The interrupt lines of a core that come from them (RP2040 Datasheet, 2.3.2, Interrupts): TIMER 0 to 3, IO_BANK0 13,
 -- which is each core's own, UART0 20 and UART1 21, and those of the device.
 use Rattle.std.specs.Prelude.{ℕ, ◌+◌, ◌*◌, ◌^◌, ◌==◌, Bool, if◌then◌else◌, List, [], ◌∷◌, ◌++◌, bit_or}
-use Rattle.word_bits.specs.Word.{bit_number}
+use Rattle.rp_base.specs.Word.{bit_number}
 use Rattle.io_bank.specs.State.{Bank}
 use Rattle.io_bank.specs.Levels.{inputs_of}
 use Rattle.io_bank.specs.Interrupts.{line_of}

@@ -1,6 +1,6 @@
 -- What the pads are stepped by, in words, and when a step by these changes nothing. Nothing of it is told outside.
 use Rattle.std.specs.Prelude.{◌≡◌, ℕ, ◌-◌, ◌^◌, Bool, false, ◌&&◌, ◌==◌, List, [], ◌∷◌, None}
-use Rattle.register_block.specs.declared.resettable.Resettable.{Resettable}
+use Rattle.rp_base.specs.declared.resettable.Resettable.{Resettable}
 use Rattle.lane_look.specs.declared.marks.Mark.{Mark}
 use Rattle.lane_look.specs.declared.device.Wires.{Wires}
 use Rattle.pin_script.specs.declared.script.Drives.{Drives}

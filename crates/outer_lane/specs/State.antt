@@ -1,10 +1,10 @@
 -- The state of the peripherals between two cycles: the timer, both UARTs, the pads and the device outside (RP2040 Datasheet,
 -- 2.19, GPIO, 4.2, UART, and 4.6, Timer; the device is the project's own).
 use Rattle.std.specs.Prelude.{ℕ, Bool, false, List, [], ◌∷◌, replicate, if◌then◌else◌}
-use Rattle.word_bits.specs.Word.{has_bit}
-use Rattle.register_block.specs.declared.resets.TheConstants.{IO_BANK0, PADS_BANK0, TIMER, UART0, UART1}
-use Rattle.register_block.specs.declared.resettable.Resettable.{Resettable}
-use Rattle.register_block.specs.Resettable.{let_go, with_held}
+use Rattle.rp_base.specs.Word.{has_bit}
+use Rattle.rp_base.specs.declared.resets.TheConstants.{IO_BANK0, PADS_BANK0, TIMER, UART0, UART1}
+use Rattle.rp_base.specs.declared.resettable.Resettable.{Resettable}
+use Rattle.rp_base.specs.Resettable.{let_go, with_held}
 use Rattle.lane_look.specs.Device.{DeviceMeaning}
 use Rattle.io_bank.specs.State.{Bank}
 use Rattle.io_bank.specs.State as bank

@@ -2,8 +2,8 @@
 -- device and the script drive acts on the pads in the same cycle (RP2040 Datasheet, 2.19, GPIO, 4.2, UART, and 4.6, Timer; the
 -- script and the device are the project's own).
 use Rattle.std.specs.Prelude.{ℕ, ◌/◌, ◌%◌, ◌-◌, ◌^◌, ◌==◌, Bool, if◌then◌else◌, List, [], ◌∷◌, length, Option, Some, None}
-use Rattle.register_block.specs.declared.resettable.Resettable.{Resettable}
-use Rattle.register_block.specs.Resettable.{unless_held_becomes}
+use Rattle.rp_base.specs.declared.resettable.Resettable.{Resettable}
+use Rattle.rp_base.specs.Resettable.{unless_held_becomes}
 use Rattle.lane_look.specs.declared.lane.Ask.TheVariants as ask
 use Rattle.lane_look.specs.declared.lane.Want.{Want}
 use Rattle.lane_look.specs.declared.lane.Want.TheVariants as want

@@ -3,9 +3,9 @@
 use Rattle.std.specs.Prelude.{ℕ, ◌+◌, Bool, false, ◌&&◌, nat_lt, if◌then◌else◌, Option, Some, None}
 use Rattle.rp_base.specs.declared.map.Block.{Block}
 use Rattle.rp_base.specs.declared.map.Block.TheVariants as block
-use Rattle.register_block.specs.declared.resettable.Resettable.{Resettable}
-use Rattle.register_block.specs.Held.{unless_held}
-use Rattle.register_block.specs.Resettable.{unless_held_becomes}
+use Rattle.rp_base.specs.declared.resettable.Resettable.{Resettable}
+use Rattle.rp_base.specs.Held.{unless_held}
+use Rattle.rp_base.specs.Resettable.{unless_held_becomes}
 use Rattle.io_bank.specs.declared.outputs.Outs.{Outs}
 use Rattle.io_bank.specs.declared.registers.TheConstants.{PADS_BANK0}
 use Rattle.io_bank.specs.State.{Bank}

@@ -6,12 +6,12 @@ use arrayvec::ArrayVec;
 use io_bank::IoBank;
 use lane_look::Device;
 use pin_script::Cursor;
-use register_block::Resettable;
-use register_block::resets::{IO_BANK0, PADS_BANK0, TIMER, UART0, UART1};
+use rp_base::Resettable;
+use rp_base::bits::has_bit;
+use rp_base::resets::{IO_BANK0, PADS_BANK0, TIMER, UART0, UART1};
 use rp_timer::Timer;
 use rp_uart::Uart;
 use std::marker::Model;
-use word_bits::has_bit;
 
 /// The timer, both UARTs, the pads and the words of the device, between two cycles (RP2040 Datasheet, 2.19, 4.2 and 4.6).
 ///

@@ -16,7 +16,7 @@ use arrayvec::ArrayVec;
 use io_bank::{IoBank, Outs, uart_outputs};
 use lane_look::{Device, Mark, Wires};
 use pin_script::{Drives, Script};
-use register_block::Resettable;
+use rp_base::Resettable;
 use rp_timer::Timer;
 use rp_uart::Uart;
 

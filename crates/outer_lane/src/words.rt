@@ -1,8 +1,8 @@
 //! The words of the register blocks.
 
 ghost use Rattle.std.specs.Prelude.{◌≡◌, ◌+◌};
-ghost use Rattle.register_block.specs.Held.{unless_held};
-ghost use Rattle.register_block.specs.Resettable.{unless_held_becomes};
+ghost use Rattle.rp_base.specs.Held.{unless_held};
+ghost use Rattle.rp_base.specs.Resettable.{unless_held_becomes};
 ghost use Rattle.io_bank.specs.declared.registers.TheConstants.{PADS_BANK0};
 ghost use Rattle.io_bank.specs.Words.{effect_of};
 ghost use Rattle.outer_lane.specs.Words.{bank_accessed};
@@ -14,8 +14,8 @@ use arrayvec::ArrayVec;
 use io_bank::registers::{PAD_GPIO29, PADS_BANK0};
 use io_bank::{IoBank, Outs};
 use lane_look::Device;
-use register_block::{Registers, Resettable};
 use rp_base::map::Block;
+use rp_base::{Registers, Resettable};
 
 /// The last offset of PADS_BANK0.
 const LAST_PAD: u16 = PAD_GPIO29 - PADS_BANK0;

@@ -7,7 +7,7 @@ use Rattle.std.proofs.lemmas.List.{append-nil, get_or_append_left, get_or_push, 
 use Rattle.std.proofs.lemmas.List.Elements.{filter-append}
 use Rattle.std.proofs.lemmas.Nat.Bits.{bit_at-zero, bit_at_set_same, bit_at_set_other, bit_at_clear_same, bit_at_clear_other}
 use Rattle.std.specs.List.{filter}
-use Rattle.word_bits.specs.Word.{has_bit}
+use Rattle.rp_base.specs.Word.{has_bit}
 use Rattle.pin_script.specs.declared.entry.Entry.{Entry}
 use Rattle.pin_script.specs.declared.script.Drives.{Drives}
 use Rattle.pin_script.specs.Levels.{drive_at, drive_of, driven_level, is_due, is_for, last_of, level_after, level_or_free}

@@ -2,7 +2,7 @@
 -- without one the pin is free (the project's own).
 use Rattle.std.specs.Prelude.{ℕ, Bool, true, false, ◌==◌, nat_le, if◌then◌else◌, List, [], ◌∷◌, length, Option, Some, None}
 use Rattle.std.specs.List.{filter}
-use Rattle.word_bits.specs.Word.{has_bit}
+use Rattle.rp_base.specs.Word.{has_bit}
 use Rattle.pin_script.specs.declared.entry.Level.{Level}
 use Rattle.pin_script.specs.declared.entry.Level.TheVariants.{Low, High, Free}
 use Rattle.pin_script.specs.declared.entry.Entry.{Entry}

@@ -5,7 +5,7 @@
 -- TooMany counts.
 use Rattle.std.specs.Prelude.{ℕ, ◌+◌, ◌-◌, ◌*◌, ◌/◌, ◌%◌, Bool, true, ◌||◌, ◌==◌, nat_lt, if◌then◌else◌, List, [], ◌∷◌, ◌++◌, length, map, Option, Some, None, Result, Ok, Err}
 use Rattle.std.specs.List.{range_with_len}
-use Rattle.word_bits.specs.Word.{has_bit}
+use Rattle.rp_base.specs.Word.{has_bit}
 use Rattle.pin_script.specs.declared.entry.Level.{Level}
 use Rattle.pin_script.specs.declared.entry.Level.TheVariants.{Low, High}
 use Rattle.pin_script.specs.declared.entry.LineEntry.{LineEntry}

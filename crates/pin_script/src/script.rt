@@ -1,7 +1,7 @@
 //! A script: its entries, and what they leave at the pins.
 
 ghost use Rattle.std.specs.Prelude.{◌≡◌, ◌≢◌, ◌<◌, ◌+◌, ℕ, length, take, if◌then◌else◌, ◌==◌, IfOk, List};
-ghost use Rattle.word_bits.specs.Word.{has_bit};
+ghost use Rattle.rp_base.specs.Word.{has_bit};
 ghost use Rattle.pin_script.specs.Levels.{drive_of, driven_level};
 ghost use Rattle.pin_script.specs.Reading.{IsTable, Shows};
 ghost use Rattle.pin_script.specs.Script.{IsScript};

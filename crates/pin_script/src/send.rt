@@ -10,7 +10,7 @@ use crate::entry::{Level, LineEntry};
 use crate::fault::ScriptFault;
 use crate::line::{CYCLE_DIGITS, Earlier, LAST_PIN, PIN_DIGITS};
 use crate::words::{are_bytes, byte_at, first_field, is_send, number_of};
-use word_bits::has_bit;
+use rp_base::bits::has_bit;
 
 /// How many digits a divisor may have.
 const DIVISOR_DIGITS: usize = 7;

@@ -1,6 +1,6 @@
 -- What holds of every program of a source: its wrap lies in its members, and its side-set has at most five bits.
 use Rattle.std.specs.Prelude.{◌+◌, ◌<◌, ◌≤◌, List, [], ◌∷◌, length}
-use Rattle.word_bits.specs.Word.{bit_number}
+use Rattle.rp_base.specs.Word.{bit_number}
 use Rattle.pio_asm.specs.Assembly.{Plan}
 
 pub record IsWhole (plan : Plan) : Type 0 where

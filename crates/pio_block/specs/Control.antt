@@ -1,6 +1,6 @@
 -- CTRL (RP2040 Datasheet, 3.7).
 use Rattle.std.specs.Prelude.{ℕ, ◌+◌, if◌then◌else◌, List, Bool}
-use Rattle.word_bits.specs.Word.{has_bit}
+use Rattle.rp_base.specs.Word.{has_bit}
 use Rattle.pio_machine.specs.declared.machine.Machine1.{Machine1}
 use Rattle.pio_machine.specs.Start.{restarted}
 use Rattle.pio_block.specs.State.{Block, each, with_machines}

@@ -1,6 +1,6 @@
 -- The FIFOs as the system sees them: FSTAT, FDEBUG, FLEVEL, TXF and RXF (RP2040 Datasheet, 3.7).
 use Rattle.std.specs.Prelude.{ℕ, ◌+◌, ◌*◌, ◌/◌, ◌%◌, ◌^◌, Bool, not, ◌&&◌, ◌==◌, if◌then◌else◌, List, [], ◌∷◌, ◌++◌, length, bit_or, slice_index}
-use Rattle.word_bits.specs.Word.{has_bit, bit_number}
+use Rattle.rp_base.specs.Word.{has_bit, bit_number}
 use Rattle.pio_machine.specs.declared.machine.Machine1.{Machine1}
 use Rattle.pio_machine.specs.Fields.{is_tx_full, is_rx_full}
 use Rattle.pio_block.specs.State.{Block, machine_of, changed, each, without}

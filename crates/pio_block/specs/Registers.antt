@@ -1,7 +1,7 @@
 -- The registers of one machine: CLKDIV, EXECCTRL, SHIFTCTRL, ADDR, INSTR and PINCTRL (RP2040 Datasheet, 3.7), by their
 -- offsets from the machine's first register.
 use Rattle.std.specs.Prelude.{ℕ, ◌*◌, ◌/◌, ◌%◌, ◌^◌, ◌==◌, if◌then◌else◌, List, [], Some, bit_and, bit_or, slice_index}
-use Rattle.word_bits.specs.Word.{bit_number}
+use Rattle.rp_base.specs.Word.{bit_number}
 use Rattle.pio_machine.specs.declared.machine.Machine1.{Machine1}
 use Rattle.pio_machine.specs.Progress.{forced}
 use Rattle.pio_block.specs.declared.registers.TheConstants.{SM_CLKDIV, SM_EXECCTRL, SM_SHIFTCTRL, SM_ADDR, SM_INSTR, SM_PINCTRL}

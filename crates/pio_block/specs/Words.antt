@@ -1,7 +1,7 @@
 -- The words of a block by their offsets (RP2040 Datasheet, 3.7), what they read as and what an access does.
 use Rattle.std.specs.Prelude.{ℕ, ◌+◌, ◌-◌, ◌*◌, ◌/◌, ◌%◌, ◌^◌, Bool, false, not, ◌&&◌, ◌||◌, ◌==◌, nat_lt, nat_le, if◌then◌else◌, Option, Some, None, List, [], ◌∷◌, length, bit_and, bit_or, slice_set}
-use Rattle.word_bits.specs.Word.{has_bit}
-use Rattle.register_block.specs.Held.{unless_held, after_access}
+use Rattle.rp_base.specs.Word.{has_bit}
+use Rattle.rp_base.specs.Held.{unless_held, after_access}
 use Rattle.pio_machine.specs.Fields.{is_tx_full, tx_depth}
 use Rattle.pio_machine.specs.declared.machine.Machine1.{Machine1}
 use Rattle.pio_machine.specs.Operation.{with_pc}

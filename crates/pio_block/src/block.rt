@@ -6,7 +6,7 @@ ghost use Rattle.pio_block.specs.Words.{word_of, is_allowed, effect_of};
 use crate::inputs::Inputs;
 use crate::state::State;
 use crate::words::is_allowed;
-use register_block::Registers;
+use rp_base::Registers;
 use std::marker::Model;
 
 /// A PIO block (RP2040 Datasheet, chapter 3).

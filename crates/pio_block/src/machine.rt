@@ -8,7 +8,7 @@ ghost use Rattle.pio_block.specs.Registers.{execctrl_of, register_of, joined, re
 
 use crate::registers::{SM_ADDR, SM_CLKDIV, SM_EXECCTRL, SM_INSTR, SM_PINCTRL, SM_SHIFTCTRL};
 use pio_machine::{Machine1, Waiting};
-use word_bits::{bit_number, has_bit};
+use rp_base::bits::{bit_number, has_bit};
 
 /// A word that was written to INSTR waits.
 fn is_written(waiting: Option<Waiting>) -> bool

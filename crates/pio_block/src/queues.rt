@@ -1,7 +1,7 @@
 //! The words that tell of all machines, a bit or a level of each.
 
 ghost use Rattle.std.specs.Prelude.{◌≡◌, ◌≤◌, ◌+◌, ◌*◌};
-ghost use Rattle.word_bits.specs.Word.{bit_number};
+ghost use Rattle.rp_base.specs.Word.{bit_number};
 ghost use Rattle.pio_block.specs.Control.{ctrl_of};
 ghost use Rattle.pio_block.specs.Queues.{bits_of, is_tx_empty, is_rx_empty, fstat_of, flevel_of, levels_of};
 ghost use Rattle.pio_block.specs.Words.{has_room, has_words, room_left, words_held, pacing_of};
@@ -9,7 +9,7 @@ ghost use Rattle.pio_machine.specs.Fields.{is_tx_full, is_rx_full};
 
 use crate::machines::Machines;
 use pio_machine::Machine1;
-use word_bits::bit_number;
+use rp_base::bits::bit_number;
 
 fn is_tx_empty(machine: &Machine1) -> bool
     ensures { result ≡ is_tx_empty machine.now }

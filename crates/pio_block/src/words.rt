@@ -11,8 +11,8 @@ use crate::registers::{
     SM0_CLKDIV, TXF0,
 };
 use crate::state::State;
-use register_block::unless_held;
-use word_bits::has_bit;
+use rp_base::bits::has_bit;
+use rp_base::unless_held;
 
 /// The pins of the chip.
 const PINS: u32 = 0x3fff_ffff;

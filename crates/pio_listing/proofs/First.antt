@@ -3,7 +3,7 @@ use Rattle.std.proofs.Common.{◌≡◌, ℕ, ◌+◌, ◌<◌, ◌≤◌, List,
 use Rattle.pio_parse.specs.declared.fault.PioFault.{PioFault}
 use Rattle.pio_asm.specs.declared.program.Program.{Program}
 use Rattle.pio_asm.specs.Assembly.{Plan, IsProgram, ArePrograms, Assembles}
-use Rattle.word_bits.specs.Word.{bit_number}
+use Rattle.rp_base.specs.Word.{bit_number}
 use Rattle.pio_words.specs.declared.side.SideConfig.{SideConfig}
 use Rattle.pio_listing.specs.Listing.{plans_of}
 use Rattle.pio_asm.specs.Whole.{IsWhole, AreWhole}

@@ -1,6 +1,6 @@
 -- The first program of a file, and what holds of it: its wrap lies in its words, and its side-set has at most five bits.
 use Rattle.std.specs.Prelude.{◌≡◌, ◌+◌, ◌<◌, ◌≤◌, List, [], ◌∷◌, length, Option, None, IsSomeAnd, Result, Ok, Err}
-use Rattle.word_bits.specs.Word.{bit_number}
+use Rattle.rp_base.specs.Word.{bit_number}
 use Rattle.pio_parse.specs.declared.fault.PioFault.{PioFault}
 use Rattle.pio_asm.specs.Assembly.{Plan, IsProgram}
 use Rattle.pio_asm.specs.declared.program.Program.{Program}

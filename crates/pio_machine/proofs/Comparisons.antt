@@ -1,6 +1,6 @@
 -- The comparisons of what waits in a machine are true exactly where both are one.
 use Rattle.std.proofs.Common.{refl}
-use Rattle.same_values.proofs.Exact.{IsExact, numbers, flags, pairs, parts}
+use Rattle.rp_base.proofs.Exact.{IsExact, numbers, flags, pairs, parts}
 use Rattle.pio_machine.specs.contracts.machine.ProgressPartialEq.TheImpl as progress
 use Rattle.pio_machine.specs.contracts.machine.WaitingPartialEq.TheImpl as waiting
 

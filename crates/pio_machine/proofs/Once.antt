@@ -1,6 +1,6 @@
 -- What words that stall do once, they do once.
 use Rattle.std.specs.Int.Bits.{or_zero_l}
-use Rattle.word_bits.specs.Word.{has_bit}
+use Rattle.rp_base.specs.Word.{has_bit}
 use Rattle.std.proofs.Common.{◌≡◌, suc, ◌∙◌, ap, sym, subst, ℕ, ◌^◌, Bool, true, false, if◌then◌else◌, List, [], ◌∷◌, ◌++◌, length, map, replicate, min, refl, Option, Some, None}
 use Rattle.pio_words.specs.declared.op.InSource.{InSource}
 use Rattle.pio_words.specs.declared.op.IrqIndex.{IrqIndex}

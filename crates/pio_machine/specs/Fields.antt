@@ -1,7 +1,7 @@
 -- The fields of a machine's registers (RP2040 Datasheet, 3.7: CLKDIV, EXECCTRL, SHIFTCTRL and PINCTRL), and what they make of
 -- its FIFOs and its divider.
 use Rattle.std.specs.Prelude.{ℕ, ◌+◌, ◌*◌, ◌/◌, ◌%◌, ◌^◌, Bool, ◌==◌, nat_le, if◌then◌else◌, length, min}
-use Rattle.word_bits.specs.Word.{has_bit}
+use Rattle.rp_base.specs.Word.{has_bit}
 use Rattle.pio_machine.specs.declared.machine.Machine1.{Machine1}
 
 -- ---- CLKDIV: INT in bits 31:16, FRAC in bits 15:8

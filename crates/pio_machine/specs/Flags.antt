@@ -1,6 +1,6 @@
 -- The interrupt flags: WAIT and IRQ (RP2040 Datasheet, 3.4.3 and 3.4.9).
 use Rattle.std.specs.Prelude.{ℕ, ◌+◌, ◌*◌, ◌/◌, ◌%◌, ◌^◌, Bool, false, true, not, if◌then◌else◌, bit_or}
-use Rattle.word_bits.specs.Word.{has_bit}
+use Rattle.rp_base.specs.Word.{has_bit}
 use Rattle.pio_words.specs.declared.op.IrqIndex.{IrqIndex}
 use Rattle.pio_words.specs.declared.op.WaitSource.{WaitSource}
 use Rattle.pio_words.specs.declared.op.WaitSource.TheVariants.{Gpio, Pin, Irq}

@@ -1,6 +1,6 @@
 -- Laws of words that stall, over all their tries (RP2040 Datasheet, 3.4.4, 3.4.9 and 3.5.4): what is done once is done once.
 use Rattle.std.specs.Prelude.{◌≡◌, ℕ, ◌^◌, Bool, false, true, ◌&&◌, nat_le, if◌then◌else◌, List, [], ◌∷◌, ◌++◌, length, map, replicate, min}
-use Rattle.word_bits.specs.Word.{has_bit}
+use Rattle.rp_base.specs.Word.{has_bit}
 use Rattle.pio_words.specs.declared.op.InSource.{InSource}
 use Rattle.pio_words.specs.declared.op.IrqIndex.{IrqIndex}
 use Rattle.pio_words.specs.declared.op.PioOp.{PioOp}

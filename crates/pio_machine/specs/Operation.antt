@@ -1,7 +1,7 @@
 -- A try of an instruction word: its operation, autopull, its side-set, and how it ends (RP2040 Datasheet, 3.4.1, 3.5.1, 3.5.2
 -- and 3.5.4).
 use Rattle.std.specs.Prelude.{ℕ, ◌-◌, ◌/◌, ◌%◌, ◌+◌, ◌^◌, Bool, true, false, not, ◌||◌, ◌==◌, if◌then◌else◌, Option, Some, None}
-use Rattle.word_bits.specs.Word.{has_bit}
+use Rattle.rp_base.specs.Word.{has_bit}
 use Rattle.pio_words.specs.declared.op.MovDestination.{MovDestination}
 use Rattle.pio_words.specs.declared.op.MovDestination.TheVariants as destination
 use Rattle.pio_words.specs.declared.op.PioOp.{PioOp}

@@ -4,7 +4,7 @@ ghost use Rattle.std.specs.Prelude.{◌≡◌, ◌≤◌, ◌<◌};
 ghost use Rattle.pio_machine.specs.Fields.{divider, side_enable, side_pindir, jmp_pin, wrap_top, wrap_bottom, status_of_rx, status_level, join_rx, join_tx, threshold, pull_threshold, push_threshold, out_right, in_right, autopull, autopush, side_count, set_count, out_count, in_base, side_base, set_base, out_base, depth, tx_depth, rx_depth, is_tx_full, is_rx_full};
 
 use crate::machine::Machine1;
-use word_bits::has_bit;
+use rp_base::bits::has_bit;
 
 /// A threshold, of which 0 stands for 32.
 fn threshold(field: u8) -> u8

@@ -2,12 +2,12 @@
 
 ghost use Rattle.std.specs.Prelude.{◌≡◌, ◌<◌, ◌^◌};
 ghost use Rattle.pio_machine.specs.Flags.{flag_of, with_set, with_clear, is_high, is_met, ending_of_wait, cleared_by, written_by_wait, waits_for_clear, ending_of_irq, after_irq, written_by_irq};
-ghost use Rattle.word_bits.specs.Word.{has_bit};
+ghost use Rattle.rp_base.specs.Word.{has_bit};
 ghost use Rattle.pio_machine.specs.Tie.{stands_for};
 
 use crate::machine::{Done, Machine1, Outcome, Seen};
 use pio_words::{IrqIndex, WaitSource};
-use word_bits::has_bit;
+use rp_base::bits::has_bit;
 
 /// The flag that an index names to the machine of this number.
 pub(crate) fn flag_of(index: IrqIndex, number: u8) -> u8

@@ -6,7 +6,7 @@ ghost use Rattle.pio_machine.specs.Tie.{stands_for};
 
 use crate::machine::{Machine1, Outcome, Seen};
 use pio_words::JmpCondition;
-use word_bits::has_bit;
+use rp_base::bits::has_bit;
 
 impl Machine1 {
     fn is_taken(&self, condition: JmpCondition, seen: &Seen) -> bool

@@ -9,7 +9,7 @@ use crate::flags::flag_of;
 use crate::machine::{Done, Machine1, Outcome, Seen};
 use crate::moves::outcome_of_mov;
 use pio_words::{MovDestination, PioOp};
-use word_bits::has_bit;
+use rp_base::bits::has_bit;
 
 /// The operation loads the OSR itself.
 fn loads_osr(op: PioOp) -> bool

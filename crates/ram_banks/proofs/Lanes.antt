@@ -1,7 +1,7 @@
 -- What a write of some byte lanes leaves: byte by byte, and where all lanes or none are chosen.
 use Rattle.std.proofs.Common.{◌≡◌, ℕ, zero, suc, ◌^◌, ◌<◌, true, false, cond, arith, ◌∙◌, ap}
-use Rattle.word_bits.specs.Word.{has_bit}
-use Rattle.word_bits.specs.Word.{byte_of, joined}
+use Rattle.rp_base.specs.Word.{has_bit}
+use Rattle.rp_base.specs.Word.{byte_of, joined}
 use Rattle.ram_banks.specs.Lanes.{lane_byte, with_lanes}
 use Rattle.ram_banks.specs.Laws.{LanesLaw}
 

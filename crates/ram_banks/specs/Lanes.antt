@@ -1,8 +1,8 @@
 -- The byte lanes of a word on the bus: lane k carries byte k, the least significant being lane 0 (AMBA 3 AHB-Lite Protocol
 -- Specification, chapter 6 "Data Buses", active byte lanes of a 32-bit little-endian data bus).
 use Rattle.std.specs.Prelude.{ℕ, if◌then◌else◌}
-use Rattle.word_bits.specs.Word.{has_bit}
-use Rattle.word_bits.specs.Word.{byte_of, joined}
+use Rattle.rp_base.specs.Word.{has_bit}
+use Rattle.rp_base.specs.Word.{byte_of, joined}
 
 -- the byte that a write leaves in a lane: that of the value where the lane's bit is set, else that of the word
 abbrev pub lane_byte : ℕ → ℕ → ℕ → ℕ → ℕ

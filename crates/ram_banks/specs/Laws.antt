@@ -1,7 +1,7 @@
 -- What a write of some byte lanes means byte by byte: it changes the chosen bytes and no other.
 use Rattle.std.specs.Prelude.{◌≡◌, ◌<◌, ◌^◌, ℕ, true, false}
-use Rattle.word_bits.specs.Word.{has_bit}
-use Rattle.word_bits.specs.Word.{byte_of}
+use Rattle.rp_base.specs.Word.{has_bit}
+use Rattle.rp_base.specs.Word.{byte_of}
 use Rattle.ram_banks.specs.Lanes.{with_lanes}
 
 pub record WritesLanes (lanes value word : ℕ) : Type 0 where

@@ -2,7 +2,7 @@
 -- reply, which shows a part of the run's state at the cycle reached.
 use Rattle.std.specs.Prelude.{ℕ, zero, suc, ◌+◌, ◌-◌, Bool, true, false, not, ◌==◌, nat_lt, if◌then◌else◌, List, [], ◌∷◌, ◌++◌, drop, flat_map, Option, Some, None, codes, decimal}
 use Rattle.std.specs.List.{range_with_len}
-use Rattle.word_bits.specs.Word.{has_bit}
+use Rattle.rp_base.specs.Word.{has_bit}
 use Rattle.rp_base.specs.declared.Why.{Why}
 use Rattle.rp_base.specs.Map.{place_of}
 use Rattle.trace_text.specs.Line.{hex_word, level_digit, spaced_word, stop_text, register_text}

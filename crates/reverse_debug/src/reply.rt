@@ -3,15 +3,15 @@
 ghost use Rattle.std.specs.Prelude.{◌≡◌, ◌≤◌, ◌<◌, ◌+◌, ◌*◌, ◌^◌, ◌++◌, ◌∷◌, [], drop, length, codes, flat_map, true};
 ghost use Rattle.std.specs.List.{range_with_len};
 ghost use Rattle.arrayvec.specs.ArrayVec.{array_vec_len};
-ghost use Rattle.word_bits.specs.Word.{has_bit};
+ghost use Rattle.rp_base.specs.Word.{has_bit};
 ghost use Rattle.trace_text.specs.Line.{hex_word, level_digit, spaced_word};
 ghost use Rattle.reverse_debug.specs.Command.{addresses, are_words};
 ghost use Rattle.reverse_debug.specs.Reply.{word_at, regs_reply, mem_reply, pins_reply, pio_words, pio_reply, at_reply, write_text, last_write_reply};
 
 use arrayvec::ArrayVec;
+use rp_base::bits::has_bit;
 use rp_machine::Machine;
 use trace_text::line::{push_number, push_text, push_word, register_line};
-use word_bits::has_bit;
 
 /// The reply to a line, at most 1024 bytes.
 pub(crate) type Reply = ArrayVec<u8, 1024>;

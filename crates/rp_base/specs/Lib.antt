@@ -1,2 +1,5 @@
 pub mod Access
+pub mod Held
 pub mod Map
+pub mod Resettable
+pub mod Word

@@ -1,9 +1,17 @@
-//! The types that the whole emulator shares: instructions, bus requests and the causes of a stop.
+//! What the whole emulator shares: instructions, bus requests and the causes of a stop, the bits of words, and a block of
+//! registers as the bus and RESETS see it.
 #![tactic(auto)]
 
 pub mod access;
+pub mod bits;
 pub mod map;
 pub mod op;
+pub mod registers;
+pub mod resets;
+pub mod resettable;
+
+pub use registers::Registers;
+pub use resettable::{Reset, Resettable, unless_held};
 
 /// The size of a bus access.
 #[derive(Clone, Copy, Debug, PartialEq, Eq)]

@@ -1,7 +1,7 @@
 -- The DMA engine keeps its bit of RESETS in a cycle and in an access.
 use Rattle.std.proofs.Common.{◌≡◌, ℕ, zero, suc, Bool, true, false, ◌&&◌, ◌==◌, if◌then◌else◌, nat_lt, length, Option, Some, None, List, refl}
 use Rattle.std.specs.Prelude.{slice_get, slice_set}
-use Rattle.word_bits.specs.Word.{has_bit}
+use Rattle.rp_base.specs.Word.{has_bit}
 use Rattle.lane_look.specs.declared.lane.Turn.{Turn}
 use Rattle.dma_engine.specs.declared.channel.Channel.{Channel}
 use Rattle.dma_engine.specs.declared.begun.BegunTransfer.{BegunTransfer}

@@ -2,7 +2,7 @@
 -- is the DMA engine, 3 and 4 are the PIO blocks, and 5 has the peripherals.
 use Rattle.std.specs.Prelude.{ℕ, ◌+◌, ◌*◌, ◌^◌, ◌==◌, if◌then◌else◌, Bool, false, List, ◌++◌, bit_or, slice_index, slice_index_or, unwrap_or}
 use Rattle.rp_base.specs.Map.{place_of}
-use Rattle.word_bits.specs.Word.{bit_number}
+use Rattle.rp_base.specs.Word.{bit_number}
 use Rattle.lane_look.specs.declared.lane.Ask.{Ask}
 use Rattle.lane_look.specs.declared.lane.Ask.TheVariants as ask
 use Rattle.dma_engine.specs.Words as dma

@@ -1,7 +1,7 @@
 -- The first state of a run: the image, and the PIO programs that are loaded before the first cycle (RP2040 Datasheet, 3.2.2 and
 -- 3.7; what of a program is loaded is the project's own).
 use Rattle.std.specs.Prelude.{ℕ, ◌+◌, ◌*◌, ◌/◌, ◌%◌, ◌^◌, ◌<◌, ◌≤◌, ◌==◌, if◌then◌else◌, List, [], ◌∷◌, length, Some}
-use Rattle.word_bits.specs.Word.{bit_number}
+use Rattle.rp_base.specs.Word.{bit_number}
 use Rattle.lane_look.specs.Device.{DeviceMeaning}
 use Rattle.uf2_image.specs.declared.parts.Image.{Image}
 use Rattle.pio_words.specs.declared.side.SideConfig.{SideConfig}

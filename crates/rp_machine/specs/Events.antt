@@ -1,7 +1,7 @@
 -- The events of a cycle: the bytes whose frames ended, UART0's first, and then the pins whose levels changed, by their numbers.
 use Rattle.std.specs.Prelude.{ℕ, ◌+◌, Bool, List, [], ◌∷◌, ◌++◌, map, Option, Some, None, bit_xor}
 use Rattle.std.specs.List.{filter, range_with_len}
-use Rattle.word_bits.specs.Word.{has_bit}
+use Rattle.rp_base.specs.Word.{has_bit}
 use Rattle.lane_look.specs.declared.marks.Mark.{Mark}
 use Rattle.outer_lane.specs.Setting.{Setting}
 use Rattle.rp_machine.specs.State.{State}

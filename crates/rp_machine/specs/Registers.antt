@@ -5,8 +5,8 @@ use Rattle.rp_base.specs.declared.Request.{Request}
 use Rattle.rp_base.specs.declared.map.Block.{Block}
 use Rattle.rp_base.specs.declared.map.Block.TheVariants as block
 use Rattle.rp_base.specs.Access.{replicated}
-use Rattle.word_bits.specs.Word.{has_bit}
-use Rattle.register_block.specs.declared.resets.TheConstants.{DMA, PIO0, PIO1}
+use Rattle.rp_base.specs.Word.{has_bit}
+use Rattle.rp_base.specs.declared.resets.TheConstants.{DMA, PIO0, PIO1}
 use Rattle.bus_fabric.specs.Words as busctrl
 use Rattle.dma_engine.specs.State.{with_hold}
 use Rattle.dma_engine.specs.Words as dma

@@ -1,7 +1,7 @@
 //! The first state of a run, with the PIO programs that are loaded before the first cycle.
 
 ghost use Rattle.std.specs.Prelude.{◌≡◌, ◌+◌, ◌≤◌, ◌<◌, length};
-ghost use Rattle.word_bits.specs.Word.{bit_number};
+ghost use Rattle.rp_base.specs.Word.{bit_number};
 ghost use Rattle.rp_machine.specs.Boot.{relocated, words_loaded, execctrl_of, pinctrl_of, block_loaded, IsLoad};
 
 use crate::load::PioLoad;

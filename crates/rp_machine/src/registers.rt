@@ -6,12 +6,11 @@ ghost use Rattle.rp_machine.specs.Registers.{aliased, plain_write};
 use crate::machine::Machine;
 use lane_look::Device;
 use outer_lane::{SeenOutputs, World};
-use register_block::Registers;
-use register_block::resets::{DMA, PIO0, PIO1};
-use rp_base::Request;
 use rp_base::access::replicated;
+use rp_base::bits::has_bit;
 use rp_base::map::Block;
-use word_bits::has_bit;
+use rp_base::resets::{DMA, PIO0, PIO1};
+use rp_base::{Registers, Request};
 
 /// RESET of RESETS (RP2040 Datasheet, 2.14.3): a block whose bit is set is held in its reset state.
 pub const RESET: u16 = 0x0;

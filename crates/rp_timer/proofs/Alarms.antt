@@ -5,9 +5,9 @@ use Rattle.std.specs.Int.{bit_at, w32, bit_not}
 use Rattle.std.proofs.lemmas.Grind.{common_steps}
 use Rattle.std.proofs.lemmas.Nat.Bits.{bit_at_or, bit_at_and, bit_at_not, bit_at-lt}
 use Rattle.std.proofs.lemmas.Bool.Decides.{nat_tests}
-use Rattle.word_bits.specs.Word.{has_bit, bit_number}
+use Rattle.rp_base.specs.Word.{has_bit, bit_number}
 use Rattle.rp_timer.specs.State.{TimerState, low_of}
-use Rattle.word_bits.specs.Word.{minus}
+use Rattle.rp_base.specs.Word.{minus}
 use Rattle.rp_timer.specs.Step.{is_due, due_of, alarmed}
 use Rattle.rp_timer.specs.Laws.{after_rises, passes, GoesOff, AnAlarmGoesOffOnce}
 

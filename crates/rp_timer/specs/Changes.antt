@@ -2,7 +2,7 @@
 use Rattle.std.specs.Prelude.{ℕ, ◌+◌, ◌*◌, ◌%◌, ◌^◌, ◌==◌, if◌then◌else◌, Option, Some, None, bit_or, slice_set}
 use Rattle.rp_timer.specs.declared.registers.TheConstants.{TIMEHW, TIMELW, TIMELR, ARMED, DBGPAUSE, PAUSE, INTR, INTE, INTF}
 use Rattle.rp_timer.specs.State.{TimerState, high_of}
-use Rattle.word_bits.specs.Word.{has_bit, minus}
+use Rattle.rp_base.specs.Word.{has_bit, minus}
 use Rattle.rp_timer.specs.Words.{is_alarm, alarm_number}
 
 -- a read of TIMELR latches the high word for TIMEHR

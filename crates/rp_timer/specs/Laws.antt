@@ -1,6 +1,6 @@
 -- Laws of the timer: what its cycles come to.
 use Rattle.std.specs.Prelude.{◌≡◌, ℕ, zero, suc, ◌+◌, ◌-◌, ◌*◌, ◌/◌, ◌%◌, ◌^◌, ◌<◌, Bool, true, false, not, ◌&&◌, ◌||◌, ◌==◌, Option, Some, None, slice_index}
-use Rattle.word_bits.specs.Word.{has_bit}
+use Rattle.rp_base.specs.Word.{has_bit}
 use Rattle.rp_timer.specs.declared.registers.TheConstants.{TIMEHR, TIMELR}
 use Rattle.rp_timer.specs.State.{TimerState, low_of, high_of}
 use Rattle.rp_timer.specs.Words.{word_of}

@@ -1,8 +1,8 @@
 -- One cycle of the timer (RP2040 Datasheet, 4.6.2, Counter, 4.6.3, Alarms, and 4.7.2, Tick Generation).
 use Rattle.std.specs.Prelude.{ℕ, ◌+◌, ◌*◌, ◌%◌, ◌^◌, Bool, not, ◌==◌, ◌&&◌, if◌then◌else◌, bit_or, slice_index}
-use Rattle.word_bits.specs.Word.{has_bit, bit_number}
+use Rattle.rp_base.specs.Word.{has_bit, bit_number}
 use Rattle.rp_timer.specs.State.{TimerState, low_of}
-use Rattle.word_bits.specs.Word.{minus}
+use Rattle.rp_base.specs.Word.{minus}
 
 -- a microsecond ends with a cycle whose number plus 1 is a multiple of 125
 abbrev pub is_tick : ℕ → Bool

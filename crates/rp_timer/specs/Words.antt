@@ -1,6 +1,6 @@
 -- The words of the timer by their offsets after 40054000, as they are read (RP2040 Datasheet, 4.6.5, List of Registers).
 use Rattle.std.specs.Prelude.{ℕ, ◌-◌, ◌/◌, ◌%◌, Bool, ◌||◌, ◌&&◌, ◌==◌, nat_le, nat_lt, if◌then◌else◌, Option, Some, None, slice_index, is_some}
-use Rattle.word_bits.specs.Word.{bit_number}
+use Rattle.rp_base.specs.Word.{bit_number}
 use Rattle.rp_timer.specs.declared.registers.TheConstants.{TIMEHW, TIMELW, TIMEHR, TIMELR, ALARM0, ALARM3, ARMED, TIMERAWH, TIMERAWL, DBGPAUSE, PAUSE, INTR, INTE, INTF, INTS}
 use Rattle.rp_timer.specs.State.{TimerState, low_of, high_of, lines_of}
 

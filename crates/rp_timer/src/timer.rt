@@ -4,7 +4,7 @@ ghost use Rattle.std.specs.Prelude.{◌≡◌, ◌<◌, if◌then◌else◌, Dec
 ghost use Rattle.rp_timer.specs.State.{at_reset, low_of, high_of, lines_of};
 ghost use Rattle.rp_timer.specs.Step.{is_due, due_of, risen, after_step};
 
-use register_block::Reset;
+use rp_base::Reset;
 use std::marker::Model;
 
 /// The timer (RP2040 Datasheet, 4.6).

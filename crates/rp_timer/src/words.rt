@@ -9,7 +9,7 @@ use crate::registers::{
     TIMERAWH, TIMERAWL,
 };
 use crate::timer::{Timer, high_of, low_of};
-use register_block::Registers;
+use rp_base::Registers;
 
 impl Timer {
     /// The word at an offset. None exactly where there is no such word.

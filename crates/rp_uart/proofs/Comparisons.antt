@@ -1,6 +1,6 @@
 -- The comparisons of the parts of a UART are true exactly where both are one.
 use Rattle.std.proofs.Common.{refl}
-use Rattle.same_values.proofs.Exact.{IsExact, numbers, flags, pairs, parts, none, one, enums, bare}
+use Rattle.rp_base.proofs.Exact.{IsExact, numbers, flags, pairs, parts, none, one, enums, bare}
 use Rattle.rp_uart.specs.contracts.receiver.ErrorsPartialEq.TheImpl as errors
 use Rattle.rp_uart.specs.contracts.receiver.ReceivedPartialEq.TheImpl as received
 use Rattle.rp_uart.specs.contracts.receiver.HearingPartialEq.TheImpl as hearing

@@ -2,7 +2,7 @@
 use Rattle.std.proofs.Common.{◌≡◌, ℕ, zero, suc, ◌+◌, ◌-◌, ◌<◌, ◌≤◌, Bool, true, false, cond, List, [], ◌∷◌, ◌++◌, length, get_or, refl, ◌∙◌, arith, length-append}
 use Rattle.std.proofs.lemmas.List.{get_or_append_left, get_or-append_right}
 use Rattle.std.proofs.lemmas.List.FromFn.{length-map-range_with_len, get_or-map-range_with_len, sum_by-map-range_with_len_more}
-use Rattle.word_bits.specs.Word.{has_bit, bit_number}
+use Rattle.rp_base.specs.Word.{has_bit, bit_number}
 use Rattle.rp_uart.specs.declared.frame.LineControl.{LineControl}
 use Rattle.rp_uart.specs.Frame.{width_of, low_bits, ones_of, data_bits, parity_bit, parity_bits, stop_bits, frame_of, level_at, frame_length, stop_at}
 

@@ -8,7 +8,7 @@ use Rattle.std.specs.Int.Bits.{or_shifted_r}
 use Rattle.std.proofs.Math.Nat.{pow-suc, add-mul-div_right, mul-div_cancel, mod-lt, div-eq_of_lt}
 use Rattle.std.proofs.lemmas.Nat.{mod-pow-add, mod_low, shr_split, pow_pos}
 use Rattle.std.proofs.lemmas.Nat.Bits.{bit_at-lt, bit_at_cat_low}
-use Rattle.word_bits.specs.Word.{has_bit, bit_number}
+use Rattle.rp_base.specs.Word.{has_bit, bit_number}
 use Rattle.rp_uart.specs.declared.frame.LineControl.{LineControl}
 use Rattle.rp_uart.specs.declared.receiver.Errors.{Errors}
 use Rattle.rp_uart.specs.Frame.{width_of, ones_of, is_odd, parity_bit, level_at, parity_at, stop_at}

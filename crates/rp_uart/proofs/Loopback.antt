@@ -3,7 +3,7 @@ use Rattle.std.proofs.Common.{◌≡◌, ◌∙◌, ℕ, zero, suc, ◌+◌, ◌
 use Rattle.std.specs.Prelude.{◌&&◌, ◌==◌, nat_lt, nat_le, length, drop, slice_get}
 use Rattle.std.proofs.Math.Nat.{mul-le-mul_right}
 use Rattle.std.proofs.lemmas.Bool.{leb-true, leb-false}
-use Rattle.word_bits.specs.Word.{bit_number}
+use Rattle.rp_base.specs.Word.{bit_number}
 use Rattle.rp_uart.specs.declared.control.Control.{Control}
 use Rattle.rp_uart.specs.declared.control.Divisor.{Divisor}
 use Rattle.rp_uart.specs.declared.frame.LineControl.{LineControl}

@@ -1,7 +1,7 @@
 -- The FIFOs' depth and trigger levels, and the interrupts (PrimeCell UART PL011 Technical Reference Manual, DDI 0183, 2.8,
 -- interrupts, 3.3.7, UARTLCR_H, 3.3.9, UARTIFLS, and 3.3.11, UARTRIS; RP2040 Datasheet, 4.2, FIFOs of 32 entries).
 use Rattle.std.specs.Prelude.{ℕ, ◌+◌, ◌*◌, ◌/◌, ◌%◌, ◌^◌, ◌==◌, Bool, not, nat_lt, if◌then◌else◌, length, bit_and, bit_or}
-use Rattle.word_bits.specs.Word.{bit_number, minus}
+use Rattle.rp_base.specs.Word.{bit_number, minus}
 use Rattle.rp_uart.specs.declared.receiver.Errors.{Errors}
 use Rattle.rp_uart.specs.State.{SerialPort}
 

@@ -2,7 +2,7 @@
 -- 2.8, interrupts, 3.3.1, UARTDR, and 3.3.2, UARTRSR).
 use Rattle.std.specs.Prelude.{ℕ, ◌+◌, ◌*◌, ◌/◌, ◌%◌, ◌^◌, ◌==◌, Bool, true, false, not, ◌&&◌, nat_lt, nat_le, if◌then◌else◌, [], ◌∷◌, ◌++◌, length, Option, Some, None, bit_or}
 use Rattle.std.specs.Bool.{beq}
-use Rattle.word_bits.specs.Word.{has_bit}
+use Rattle.rp_base.specs.Word.{has_bit}
 use Rattle.rp_uart.specs.declared.frame.LineControl.{LineControl}
 use Rattle.rp_uart.specs.declared.receiver.Errors.{Errors}
 use Rattle.rp_uart.specs.declared.receiver.Hearing.{Hearing}

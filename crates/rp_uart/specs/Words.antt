@@ -1,7 +1,7 @@
 -- The registers by their offsets, what they read as and what an access does (RP2040 Datasheet, 4.2, list of registers;
 -- PrimeCell UART PL011 Technical Reference Manual, DDI 0183, 3.3, register descriptions).
 use Rattle.std.specs.Prelude.{ℕ, ◌+◌, ◌*◌, ◌/◌, ◌%◌, ◌^◌, ◌==◌, Bool, true, false, ◌||◌, nat_lt, nat_le, if◌then◌else◌, [], ◌∷◌, ◌++◌, length, drop, Option, Some, None, slice_get, is_some, bit_and}
-use Rattle.word_bits.specs.Word.{has_bit, bit_number}
+use Rattle.rp_base.specs.Word.{has_bit, bit_number}
 use Rattle.rp_uart.specs.declared.control.Control.{Control}
 use Rattle.rp_uart.specs.declared.control.Divisor.{Divisor}
 use Rattle.rp_uart.specs.declared.control.DmaControl.{DmaControl}

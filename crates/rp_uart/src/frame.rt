@@ -3,7 +3,7 @@
 ghost use Rattle.std.specs.Prelude.{◌≡◌, ◌+◌, ◌<◌, ◌≤◌};
 ghost use Rattle.rp_uart.specs.Frame.{width_of, parity_bit, level_at, frame_length, stop_at, ones_of, low_bits};
 
-use word_bits::has_bit;
+use rp_base::bits::has_bit;
 
 /// How many data bits a frame has (WLEN).
 #[derive(Clone, Copy, PartialEq, Eq)]

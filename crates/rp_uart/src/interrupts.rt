@@ -6,7 +6,7 @@ ghost use Rattle.rp_uart.specs.Interrupts.{depth_of, trigger_of, receive_trigger
 
 use crate::receiver::Errors;
 use crate::uart::Uart;
-use word_bits::bit_number;
+use rp_base::bits::bit_number;
 
 /// The interrupts by their bits of UARTRIS: bytes wait to be read, bytes may be sent, and bytes have waited for long.
 pub(crate) const RECEIVE: u32 = 1 << 4;

@@ -12,7 +12,7 @@ use crate::frame::{LineControl, WordLength};
 use crate::receiver::{Errors, Received, Receiver};
 use crate::sender::Sender;
 use arrayvec::ArrayVec;
-use register_block::Reset;
+use rp_base::Reset;
 use std::marker::Model;
 
 /// A UART between two cycles (RP2040 Datasheet, 4.2; PrimeCell UART PL011 Technical Reference Manual, DDI 0183).

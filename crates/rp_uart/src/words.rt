@@ -9,8 +9,8 @@ use crate::receiver::{Errors, Received};
 use crate::registers::{CR, DMACR, DR, FBRD, FR, IBRD, ICR, IFLS, IMSC, LCR_H, MIS, RIS, RSR};
 use crate::sender::Sender;
 use crate::uart::Uart;
-use register_block::Registers;
-use word_bits::{bit_number, has_bit};
+use rp_base::Registers;
+use rp_base::bits::{bit_number, has_bit};
 
 impl Uart {
     /// The word at an offset. None exactly where there is no such word.

@@ -5,9 +5,9 @@ use Rattle.std.specs.Int.{bit_at, w32}
 use Rattle.std.proofs.lemmas.Grind.{common_steps}
 use Rattle.std.proofs.lemmas.Nat.Bits.{bit_at_or, bit_at-pow_same, bit_at_clear_same, bit_at-lt}
 use Rattle.std.proofs.lemmas.Bool.Decides.{nat_tests}
-use Rattle.word_bits.specs.Word.{has_bit}
+use Rattle.rp_base.specs.Word.{has_bit}
 use Rattle.sio_block.specs.declared.locks.Locks.{Locks}
-use Rattle.word_bits.specs.Word.{minus}
+use Rattle.rp_base.specs.Word.{minus}
 use Rattle.sio_block.specs.Locks.{is_lock, lock_number, lock_word, lock_read, lock_written}
 use Rattle.sio_block.specs.State.{SioState}
 use Rattle.sio_block.specs.Words.{word_of}

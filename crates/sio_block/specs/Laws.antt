@@ -1,7 +1,7 @@
 -- Laws of the block: what the definitions come to for the software that uses it.
 use Rattle.std.specs.Prelude.{◌≡◌, ℕ, zero, suc, ◌+◌, ◌*◌, ◌^◌, ◌<◌, ◌≤◌, Bool, true, false, ◌||◌, ◌==◌, ℤ, ◌+ℤ◌, ◌*ℤ◌, unsigned_abs, List, [], ◌∷◌, ◌++◌, Some, None, option_to_list}
-use Rattle.word_bits.specs.Word as word
-use Rattle.word_bits.specs.Word.{has_bit}
+use Rattle.rp_base.specs.Word as word
+use Rattle.rp_base.specs.Word.{has_bit}
 use Rattle.sio_block.specs.declared.registers.TheConstants.{DIV_UDIVIDEND, DIV_UDIVISOR, DIV_SDIVIDEND, DIV_SDIVISOR, SPINLOCK0}
 use Rattle.sio_block.specs.declared.Launch.{Launch}
 use Rattle.sio_block.specs.declared.divider.Divider.{Divider}

@@ -3,7 +3,7 @@
 use Rattle.std.specs.Prelude.{ℕ, ◌-◌, ◌/◌, ◌%◌, ◌^◌, Bool, not, ◌&&◌, ◌==◌, nat_le, if◌then◌else◌, Option, Some, None, bit_or}
 use Rattle.sio_block.specs.declared.registers.TheConstants.{SPINLOCK0, SPINLOCK31}
 use Rattle.sio_block.specs.declared.locks.Locks.{Locks}
-use Rattle.word_bits.specs.Word.{has_bit, minus}
+use Rattle.rp_base.specs.Word.{has_bit, minus}
 
 abbrev pub locks_at_reset : Locks
 locks_at_reset = record { taken = 0; before = 0 }

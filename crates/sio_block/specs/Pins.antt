@@ -3,7 +3,7 @@
 use Rattle.std.specs.Prelude.{ℕ, ◌+◌, ◌%◌, ◌^◌, Bool, ◌||◌, ◌==◌, if◌then◌else◌, Option, Some, None, bit_or, bit_xor}
 use Rattle.sio_block.specs.declared.registers.TheConstants.{GPIO_OUT, GPIO_OE}
 use Rattle.sio_block.specs.declared.pins.Pins.{Pins}
-use Rattle.word_bits.specs.Word.{minus}
+use Rattle.rp_base.specs.Word.{minus}
 
 -- at reset no pin is driven
 abbrev pub pins_at_reset : Pins

@@ -2,7 +2,7 @@
 
 ghost use Rattle.std.specs.Prelude.{◌≡◌, ◌<◌, not, ◌==◌, pos, neg_ℤ, unsigned_abs, true, if◌then◌else◌};
 ghost use Rattle.std.specs.Int.RustNames.{int_div, int_rem};
-ghost use Rattle.word_bits.specs.Word.{word_of, bit_number};
+ghost use Rattle.rp_base.specs.Word.{word_of, bit_number};
 ghost use Rattle.sio_block.specs.Divider.{divider_at_reset, number_of, quotient_of, remainder_of, csr_of, divider_word, begun, ended_by_write, divider_written, divider_read, divider_ended};
 
 use crate::registers::{

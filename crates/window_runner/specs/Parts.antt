@@ -1,6 +1,6 @@
 -- The events of a cycle, part by part.
 use Rattle.std.specs.Prelude.{ℕ, if◌then◌else◌, List, [], ◌∷◌, Option, Some, None}
-use Rattle.word_bits.specs.Word.{has_bit}
+use Rattle.rp_base.specs.Word.{has_bit}
 use Rattle.rp_machine.specs.Events.{Event}
 use Rattle.rp_machine.specs.Events.Event.{Byte, Pin}
 

@@ -7,10 +7,10 @@ ghost use Rattle.window_runner.specs.Told.{all_shown, events_by};
 ghost use Rattle.window_runner.specs.Parts.{byte_of, change_of};
 
 use lane_look::{Mark, Marks};
+use rp_base::bits::has_bit;
 use trace_text::event::Event;
 use trace_text::tape::Tape;
 use trace_text::writer::SinkFault;
-use word_bits::has_bit;
 
 /// Tells the byte that a UART sent, if it sent one.
 fn tell_byte<T: Tape>(

@@ -1,6 +1,6 @@
 use Rattle.std.proofs.Common.{ℕ, ap}
 use Rattle.m0_alu.proofs.ShiftLemmas.{top_bit}
-use Rattle.word_bits.specs.Word.{has_bit}
+use Rattle.rp_base.specs.Word.{has_bit}
 use Rattle.m0_alu.proofs.rotate_right.Goals as goal
 
 pub returns : goal.returns

@@ -1,6 +1,6 @@
 use Rattle.std.proofs.Common.{◌≡◌, ◌/◌, ◌==◌}
 use Rattle.std.specs.Prelude.{if◌then◌else◌}
-use Rattle.word_bits.specs.Word.{has_bit}
+use Rattle.rp_base.specs.Word.{has_bit}
 use Rattle.io_bank.specs.Interrupts.{is_named}
 use Rattle.io_bank.specs.Pins.{bits_below}
 use Rattle.io_bank.proofs.events.with_eight.Given as goal

@@ -1,7 +1,7 @@
 use Rattle.std.proofs.Common.{ℕ, ap, sym, ◌∙◌}
 use Rattle.std.specs.Prelude.{map}
 use Rattle.std.specs.List.{list_any}
-use Rattle.word_bits.specs.Word.{has_bit}
+use Rattle.rp_base.specs.Word.{has_bit}
 use Rattle.m0_beats.specs.Registers.{sp_of}
 use Rattle.m0_beats.specs.Beats.{accesses, registers_of, reads, is_unaligned_beat}
 use Rattle.m0_beats.specs.Shapes.{beats_of_shape}

@@ -1,6 +1,6 @@
 use Rattle.std.proofs.Common.{◌+◌, ◌-◌, ◌++◌, ap, arith, ◌∙◌}
 use Rattle.std.specs.List.{range_with_len}
-use Rattle.word_bits.specs.Word.{has_bit}
+use Rattle.rp_base.specs.Word.{has_bit}
 use Rattle.trace_text.specs.Line.{level_digit}
 use Rattle.reverse_debug.proofs.Listing.{piece_more, range_on}
 use Rattle.reverse_debug.proofs.reply.push_levels.Goals as goal

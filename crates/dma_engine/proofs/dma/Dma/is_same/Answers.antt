@@ -1,4 +1,4 @@
-use Rattle.same_values.proofs.Exact.{seen}
+use Rattle.rp_base.proofs.Exact.{seen}
 use Rattle.dma_engine.proofs.dma.Dma.is_same.Goals as goal
 
 pub returns : goal.returns

@@ -1,5 +1,5 @@
 use Rattle.std.proofs.Common.{refl}
-use Rattle.same_values.proofs.Exact.{numbers, flags, lists, options, both, whole, seen, told}
+use Rattle.rp_base.proofs.Exact.{numbers, flags, lists, options, both, whole, seen, told}
 use Rattle.dma_engine.proofs.Comparisons.{exact_channel, exact_waiting, exact_timer, exact_line}
 use Rattle.dma_engine.proofs.engine.Engine.is_same.Goals as goal
 

@@ -1,5 +1,5 @@
 use Rattle.std.proofs.Common.{◌≡◌}
-use Rattle.word_bits.specs.Word.{has_bit}
+use Rattle.rp_base.specs.Word.{has_bit}
 use Rattle.dma_engine.specs.Channel.{in_turn, with_trigger}
 use Rattle.dma_engine.proofs.engine.Engine.trigger_all.Given as goal
 

@@ -1,5 +1,5 @@
 use Rattle.std.proofs.Common.{refl}
-use Rattle.same_values.proofs.Exact.{numbers, flags, lists, both, whole, seen, told}
+use Rattle.rp_base.proofs.Exact.{numbers, flags, lists, both, whole, seen, told}
 use Rattle.io_bank.proofs.Comparisons.{exact_edges, exact_interrupts}
 use Rattle.io_bank.proofs.bank.IoBank.is_same.Goals as goal
 

@@ -1,5 +1,5 @@
 use Rattle.std.proofs.Common.{◌≡◌, ◌/◌, ◌%◌, ◌*◌, ◌+◌}
-use Rattle.word_bits.specs.Word.{has_bit}
+use Rattle.rp_base.specs.Word.{has_bit}
 use Rattle.io_bank.specs.Interrupts.{kind_of}
 use Rattle.io_bank.specs.Pins.{bits_below}
 use Rattle.io_bank.proofs.events.Events.word.Given as goal

@@ -1,5 +1,5 @@
 use Rattle.std.proofs.Common.{refl}
-use Rattle.same_values.proofs.Exact.{numbers, flags, lists, options, both, whole, seen, told}
+use Rattle.rp_base.proofs.Exact.{numbers, flags, lists, options, both, whole, seen, told}
 use Rattle.m0_core.proofs.Comparisons.{exact_regs, exact_work}
 use Rattle.m0_core.proofs.processor.Core.is_same.Goals as goal
 

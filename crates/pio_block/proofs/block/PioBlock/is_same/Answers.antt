@@ -1,4 +1,4 @@
-use Rattle.same_values.proofs.Exact.{seen}
+use Rattle.rp_base.proofs.Exact.{seen}
 use Rattle.pio_block.proofs.block.PioBlock.is_same.Goals as goal
 
 pub returns : goal.returns

@@ -1,4 +1,4 @@
-use Rattle.same_values.proofs.Exact.{both, four, seen}
+use Rattle.rp_base.proofs.Exact.{both, four, seen}
 use Rattle.pio_block.proofs.machines.Machines.is_same.Goals as goal
 
 pub returns : goal.returns

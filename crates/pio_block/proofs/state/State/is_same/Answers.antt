@@ -1,5 +1,5 @@
 use Rattle.std.proofs.Common.{refl}
-use Rattle.same_values.proofs.Exact.{numbers, flags, lists, both, whole, seen, told}
+use Rattle.rp_base.proofs.Exact.{numbers, flags, lists, both, whole, seen, told}
 use Rattle.pio_block.proofs.state.State.is_same.Goals as goal
 
 pub returns : goal.returns

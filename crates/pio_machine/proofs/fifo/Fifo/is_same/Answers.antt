@@ -1,4 +1,4 @@
-use Rattle.same_values.proofs.Exact.{numbers, lists, seen, told}
+use Rattle.rp_base.proofs.Exact.{numbers, lists, seen, told}
 use Rattle.pio_machine.proofs.fifo.Fifo.is_same.Goals as goal
 
 pub returns : goal.returns

@@ -1,5 +1,5 @@
 use Rattle.std.proofs.Common.{refl}
-use Rattle.same_values.proofs.Exact.{numbers, flags, lists, options, both, whole, seen, told}
+use Rattle.rp_base.proofs.Exact.{numbers, flags, lists, options, both, whole, seen, told}
 use Rattle.rp_uart.proofs.Comparisons.{exact_errors, exact_received, exact_receiver, exact_sender, exact_line, exact_divisor, exact_control, exact_dma}
 use Rattle.rp_uart.proofs.uart.Uart.is_same.Goals as goal
 

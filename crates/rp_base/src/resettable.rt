@@ -1,8 +1,8 @@
 //! Blocks that RESETS holds in their reset states.
 
 ghost use Rattle.std.specs.Prelude.{◌≡◌, ℕ, Bool, Option};
-ghost use Rattle.register_block.specs.Held.{unless_held};
-ghost use Rattle.register_block.specs.Resettable.{let_go, with_held, unless_held_becomes};
+ghost use Rattle.rp_base.specs.Held.{unless_held};
+ghost use Rattle.rp_base.specs.Resettable.{let_go, with_held, unless_held_becomes};
 
 use crate::registers::Registers;
 

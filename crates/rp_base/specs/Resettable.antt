@@ -1,7 +1,7 @@
 -- A block with its bit of RESETS.
 use Rattle.std.specs.Prelude.{ℕ, Bool, false, Option}
-use Rattle.register_block.specs.declared.resettable.Resettable.{Resettable}
-use Rattle.register_block.specs.Held.{stays_if, reset_if}
+use Rattle.rp_base.specs.declared.resettable.Resettable.{Resettable}
+use Rattle.rp_base.specs.Held.{stays_if, reset_if}
 
 -- out of reset
 abbrev pub let_go : {S : Type 0} → S → Resettable S

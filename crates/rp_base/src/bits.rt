@@ -1,8 +1,7 @@
 //! Bits and bytes of 32-bit words. What each function gives is defined in `specs/Word.antt` on whole numbers.
-#![tactic(auto)]
 
 ghost use Rattle.std.specs.Prelude.{◌≡◌, ◌<◌};
-ghost use Rattle.word_bits.specs.Word.{has_bit, bit_number, byte_of, joined};
+ghost use Rattle.rp_base.specs.Word.{has_bit, bit_number, byte_of, joined};
 
 /// The first address of SRAM (RP2040 Datasheet, 2.6.2).
 pub const SRAM_FIRST: u32 = 0x2000_0000;
