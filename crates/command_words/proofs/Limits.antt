@@ -7,7 +7,7 @@ use Rattle.std.proofs.lemmas.Option.{none-some, cond_some}
 use Rattle.std.proofs.lemmas.Bool.{leb-true}
 use Rattle.pio_words.specs.declared.side.SideConfig.{SideConfig}
 use Rattle.board_parts.specs.declared.target.Target.{Target}
-use Rattle.line_words.specs.Line.{line_in}
+use Rattle.command_words.specs.Line.{line_in}
 use Rattle.command_words.specs.Numbers.{within, number_within, number_of}
 use Rattle.command_words.specs.Options.{Setting, settings_of, is_normal, value_for, number_or_zero}
 use Rattle.command_words.specs.Entries.{Entry}

@@ -5,3 +5,7 @@ pub mod Options
 pub mod Read
 pub mod Targets
 pub mod Words
+pub mod Line
+pub mod Table
+pub mod Meant
+pub mod Refusals

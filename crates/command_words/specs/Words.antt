@@ -7,7 +7,7 @@ use Rattle.std.specs.Option.{option_and_then, option_map}
 use Rattle.std.specs.Str.{bytes_eq}
 use Rattle.pio_words.specs.declared.side.SideConfig.{SideConfig}
 use Rattle.board_parts.specs.declared.target.Target.{Target}
-use Rattle.line_words.specs.Line.{line_in}
+use Rattle.command_words.specs.Line.{line_in}
 use Rattle.command_words.specs.Numbers.{number_within}
 use Rattle.command_words.specs.Options.{Setting, settings_of, is_given, value_for, is_normal, number_for}
 use Rattle.command_words.specs.Entries.{Entry, entries_of}

@@ -11,11 +11,11 @@ ghost use Rattle.command_words.specs.Read.{ReadsAs, ReadsRun, ReadsEntries, Read
 use crate::dis::{DisWords, instruction_words, side_config};
 use crate::entries::entries_in;
 use crate::entry::PioEntry;
+use crate::line::line_in;
 use crate::number::number_within;
 use crate::options::{is_given, is_normal, number_for, value_for};
 use crate::targets::targets_in;
 use board_parts::target::Target;
-use line_words::line_in;
 use std::alloc::{AllocError, Global};
 
 /// The words of a run.

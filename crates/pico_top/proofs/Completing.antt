@@ -8,15 +8,15 @@ use Rattle.lane_look.specs.Device.{DeviceMeaning}
 use Rattle.board_parts.specs.Probe.{ProbeMeaning}
 use Rattle.command_words.specs.Words.{Command}
 use Rattle.pico_top.specs.Call.{Asked, read_from, Outside}
-use Rattle.line_talk.specs.Lines.{closes}
-use Rattle.line_talk.specs.declared.way.Way.{Way}
-use Rattle.line_talk.specs.Hear.{MayEnd, way_status, IsTaken}
-use Rattle.line_talk.specs.declared.way.Way.TheVariants.{Closed, Ended, Broken, Full}
+use Rattle.reverse_debug.specs.Lines.{closes}
+use Rattle.reverse_debug.specs.declared.way.Way.{Way}
+use Rattle.reverse_debug.specs.Hear.{MayEnd, way_status, IsTaken}
+use Rattle.reverse_debug.specs.declared.way.Way.TheVariants.{Closed, Ended, Broken, Full}
 use Rattle.pico_top.specs.Walk.{Ending, WalksFrom, failed_names, Verdict, verdict_from, status_over}
 use Rattle.pico_top.specs.Walk.Verdict.{Refuses, Says, Hears}
 use Rattle.pico_top.specs.Answer.{Takes, Converses}
 use Rattle.pico_top.specs.Causes.{IsStatus, Fulfils, IsComplete}
-use Rattle.line_talk.proofs.LineLists.{closes_more}
+use Rattle.reverse_debug.proofs.LineLists.{closes_more}
 use Rattle.pico_top.proofs.Walking.{IsOf, walk_from_follows}
 use Rattle.pico_top.proofs.Causing.{ending_status, status_from}
 

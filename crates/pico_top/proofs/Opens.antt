@@ -16,11 +16,11 @@ use Rattle.window_merge.proofs.Resting.{start_rested}
 use Rattle.rp_machine.specs.Boot.{start, with_loads, with_load, block_loaded}
 use Rattle.rp_machine.specs.declared.load.PioLoad.{PioLoad}
 use Rattle.command_words.specs.Words.{Run}
-use Rattle.refusal_lines.specs.declared.Refusal.{Refusal as Written}
-use Rattle.refusal_lines.specs.declared.Refusal.TheVariants.{Words, File, Large, Image, Script, Source}
-use Rattle.refusal_lines.specs.Refusals.{line_of, status_of}
-use Rattle.refusal_lines.specs.Refusals.Refusal.{Lost, BadScript}
-use Rattle.refusal_lines.specs.Meant.{meant}
+use Rattle.command_words.specs.declared.refusal.Refusal.{Refusal as Written}
+use Rattle.command_words.specs.declared.refusal.Refusal.TheVariants.{Words, File, Large, Image, Script, Source}
+use Rattle.command_words.specs.Refusals.{line_of, status_of}
+use Rattle.command_words.specs.Refusals.Refusal.{Lost, BadScript}
+use Rattle.command_words.specs.Meant.{meant}
 use Rattle.pico_top.specs.declared.open.Opened.{Opened}
 use Rattle.pico_top.specs.declared.open.Opened.TheVariants.{Machine, Session, Text}
 use Rattle.pico_top.specs.declared.open.Purpose.{Purpose}
@@ -29,7 +29,7 @@ use Rattle.reverse_debug.specs.Session.{first_of, OpensAt}
 use Rattle.pico_top.specs.declared.open.Unopened.{Unopened}
 use Rattle.pico_top.specs.declared.open.Unopened.TheVariants.{Refusing, Memory}
 use Rattle.pico_top.specs.RunText.{run_text, run_cycles}
-use Rattle.line_talk.specs.Debugger.{quits}
+use Rattle.reverse_debug.specs.Debugger.{quits}
 use Rattle.pico_top.specs.Loads.{Placed, loads_of, plans_in}
 use Rattle.pico_top.specs.Dialogue.{Cost, Told, Dialogue, behind_script, with_script, input_limit, session_told, script_limit}
 use Rattle.pico_top.specs.Dialogue.Cost.{Exactly}
@@ -38,7 +38,7 @@ use Rattle.pico_top.specs.Walk.{Ending, IsHeard, Walks, failed_names}
 use Rattle.pico_top.specs.Walk.Ending.{Said, Refused}
 use Rattle.pico_top.specs.Answer.{Puts}
 use Rattle.board_parts.specs.Hearing.{Aim}
-use Rattle.gen_image.specs.Code.{image_of_number}
+use Rattle.uf2_image.specs.Code.{image_of_number}
 use Rattle.command_words.specs.Words.Command.{Generate}
 use Rattle.pico_top.specs.Opening.{EndsAs, Opens, OpensFor, LoadsAs, Passes, Refuses, ReadsScript, Boots, use_for, setting_in, setting_by, IsPlaced, ArePlaced, LoadsAll}
 use Rattle.pico_top.proofs.Walking.{runs_out}

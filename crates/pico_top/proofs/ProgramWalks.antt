@@ -6,16 +6,16 @@ use Rattle.pio_parse.specs.declared.fault.PioFault.{PioFault}
 use Rattle.pio_asm.specs.Assembly.{Plan, IsProgram}
 use Rattle.pio_asm.specs.declared.program.Program.{Program}
 use Rattle.pio_asm.proofs.Wholeness.{words_length}
-use Rattle.pio_listing.specs.Listing.{plans_of}
-use Rattle.pio_listing.specs.Fitting.{IsFirst}
-use Rattle.pio_listing.specs.Placing.{placed, with_addresses}
+use Rattle.pio_asm.specs.Listing.{plans_of}
+use Rattle.pio_asm.specs.Fitting.{IsFirst}
+use Rattle.pio_asm.specs.Placing.{placed, with_addresses}
 use Rattle.rp_machine.specs.declared.load.PioLoad.{PioLoad}
 use Rattle.rp_machine.specs.Boot.{IsLoad, AreLoads}
 use Rattle.command_words.specs.Entries.{Entry}
 use Rattle.command_words.specs.declared.entry.PioEntry.{PioEntry}
 use Rattle.command_words.specs.Read.{entry_in}
-use Rattle.refusal_lines.specs.declared.Refusal.TheVariants.{Source}
-use Rattle.refusal_lines.specs.Refusals.Refusal.{BadSource}
+use Rattle.command_words.specs.declared.refusal.Refusal.TheVariants.{Source}
+use Rattle.command_words.specs.Refusals.Refusal.{BadSource}
 use Rattle.pico_top.specs.declared.open.Unopened.{Unopened}
 use Rattle.pico_top.specs.declared.open.Unopened.TheVariants.{Refusing, Memory}
 use Rattle.pico_top.specs.Loads.{Placed, placed_as, taken_from, offset_of}

@@ -6,11 +6,11 @@ use Rattle.trace_text.proofs.Sending.{sends_then, sends_part}
 use Rattle.outer_lane.specs.Setting.{Setting}
 use Rattle.rp_machine.specs.State.{State}
 use Rattle.reverse_debug.specs.Session.{Standing, first_of, OpensAt}
-use Rattle.line_talk.specs.declared.way.Way.{Way}
-use Rattle.line_talk.specs.declared.way.Way.TheVariants.{Closed, Ended, Broken, Full}
-use Rattle.line_talk.specs.Hear.{lines_heard, way_line, way_status, BearsOut, IsTaken}
-use Rattle.line_talk.specs.Talk.{text_from, cost_from, Hears}
-use Rattle.line_talk.specs.Debugger.{quits, talk_of}
+use Rattle.reverse_debug.specs.declared.way.Way.{Way}
+use Rattle.reverse_debug.specs.declared.way.Way.TheVariants.{Closed, Ended, Broken, Full}
+use Rattle.reverse_debug.specs.Hear.{lines_heard, way_line, way_status, BearsOut, IsTaken}
+use Rattle.reverse_debug.specs.Talk.{text_from, cost_from, Hears}
+use Rattle.reverse_debug.specs.Debugger.{quits, talk_of}
 use Rattle.pico_top.specs.Dialogue.{input_limit, session_told}
 use Rattle.pico_top.specs.Dialogue.Cost.{AtMost}
 use Rattle.pico_top.specs.Dialogue.Dialogue.{Hear}

@@ -4,8 +4,8 @@ use Rattle.lane_look.specs.Device.{DeviceMeaning}
 use Rattle.board_parts.specs.Probe.{ProbeMeaning}
 use Rattle.board_parts.specs.Hearing.{Aim}
 use Rattle.command_words.specs.Words.{Command, reading}
-use Rattle.refusal_lines.specs.declared.Refusal.TheVariants.{Words}
-use Rattle.refusal_lines.specs.Refusals.Refusal.{BadWords}
+use Rattle.command_words.specs.declared.refusal.Refusal.TheVariants.{Words}
+use Rattle.command_words.specs.Refusals.Refusal.{BadWords}
 use Rattle.pico_top.specs.declared.open.Opened.{Opened}
 use Rattle.pico_top.specs.declared.open.Unopened.{Unopened}
 use Rattle.pico_top.specs.declared.open.Unopened.TheVariants.{Refusing, Memory}

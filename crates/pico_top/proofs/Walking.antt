@@ -6,11 +6,11 @@ use Rattle.rp_ports.specs.declared.shelf.Loaded.{Loaded}
 use Rattle.rp_ports.specs.declared.shelf.Loaded.TheVariants.{Done, Large, Failed, Memory}
 use Rattle.board_parts.specs.Probe.{ProbeMeaning}
 use Rattle.command_words.specs.Words.{Command}
-use Rattle.refusal_lines.specs.Refusals.Refusal.{BadWords, Lost, TooLarge}
+use Rattle.command_words.specs.Refusals.Refusal.{BadWords, Lost, TooLarge}
 use Rattle.pico_top.specs.declared.open.Unopened.TheVariants.{Memory as OutOfMemory}
-use Rattle.line_talk.specs.Lines.{closes}
-use Rattle.line_talk.specs.declared.way.Way.{Way}
-use Rattle.line_talk.specs.Hear.{MayEnd, lines_heard, way_line}
+use Rattle.reverse_debug.specs.Lines.{closes}
+use Rattle.reverse_debug.specs.declared.way.Way.{Way}
+use Rattle.reverse_debug.specs.Hear.{MayEnd, lines_heard, way_line}
 use Rattle.pico_top.specs.Dialogue.{Cost, Told, Dialogue, aims_in, dialogue_of}
 use Rattle.pico_top.specs.Dialogue.Dialogue.{Load, JudgeImage, JudgeScript, JudgeSource, JudgeOffset, SayWords, Say, Hear, HearWords}
 use Rattle.pico_top.specs.Walk.{Ending, IsHeard, AfterLoad, Walks, WalksFrom, failed_names, Verdict, on_held, verdict, verdict_from}

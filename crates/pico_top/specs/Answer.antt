@@ -5,9 +5,9 @@ use Rattle.trace_text.specs.declared.writer.SinkFault.{SinkFault}
 use Rattle.lane_look.specs.Device.{DeviceMeaning}
 use Rattle.board_parts.specs.Probe.{ProbeMeaning}
 use Rattle.command_words.specs.Words.{Command}
-use Rattle.refusal_lines.specs.Refusals.{line_of, status_of}
+use Rattle.command_words.specs.Refusals.{line_of, status_of}
 use Rattle.pico_top.specs.Call.{Asked, read_from, Outside}
-use Rattle.line_talk.specs.Hear.{way_status, IsTaken}
+use Rattle.reverse_debug.specs.Hear.{way_status, IsTaken}
 use Rattle.pico_top.specs.Dialogue.{Cost}
 use Rattle.pico_top.specs.Dialogue.Cost.{Exactly, AtMost}
 use Rattle.pico_top.specs.Walk.{Ending, WalksFrom, failed_names}

@@ -4,12 +4,12 @@ use Rattle.rp_ports.specs.Fault.{Rose}
 use Rattle.uf2_image.specs.declared.fault.ImageFault.{ImageFault}
 use Rattle.pin_script.specs.declared.fault.ScriptFault.{ScriptFault}
 use Rattle.pio_parse.specs.declared.fault.PioFault.{PioFault}
-use Rattle.refusal_lines.specs.Refusals.{Refusal, status_of}
-use Rattle.refusal_lines.specs.Refusals.Refusal.{Lost, TooLarge, BadImage, BadScript, BadSource}
+use Rattle.command_words.specs.Refusals.{Refusal, status_of}
+use Rattle.command_words.specs.Refusals.Refusal.{Lost, TooLarge, BadImage, BadScript, BadSource}
 use Rattle.pico_top.specs.Call.{Asked, read_from, Outside}
-use Rattle.line_talk.specs.declared.way.Way.{Way}
-use Rattle.line_talk.specs.Hear.{IsTaken}
-use Rattle.line_talk.specs.declared.way.Way.TheVariants.{Broken, Full}
+use Rattle.reverse_debug.specs.declared.way.Way.{Way}
+use Rattle.reverse_debug.specs.Hear.{IsTaken}
+use Rattle.reverse_debug.specs.declared.way.Way.TheVariants.{Broken, Full}
 use Rattle.pico_top.specs.Dialogue.{Cost}
 use Rattle.pico_top.specs.Walk.{Verdict, WalksFrom, verdict_from, status_over, failed_names}
 use Rattle.pico_top.specs.Walk.Verdict.{Refuses, Says, Hears}

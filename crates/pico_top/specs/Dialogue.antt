@@ -6,7 +6,7 @@ use Rattle.board_parts.specs.Probe.{ProbeMeaning}
 use Rattle.board_parts.specs.Hearing.{Aim}
 use Rattle.board_parts.specs.Aiming.{aims_of}
 use Rattle.board_parts.specs.declared.target.Target.{Target}
-use Rattle.gen_image.specs.Code.{image_of_number}
+use Rattle.uf2_image.specs.Code.{image_of_number}
 use Rattle.uf2_image.specs.Uf2.{image_of}
 use Rattle.uf2_image.specs.declared.parts.Image.{Image}
 use Rattle.uf2_image.specs.declared.fault.ImageFault.{ImageFault}
@@ -17,15 +17,15 @@ use Rattle.pio_parse.specs.declared.fault.PioFault.{PioFault}
 use Rattle.pio_asm.specs.Assembly.{Plan}
 use Rattle.pio_asm.specs.declared.program.Program.{Program}
 use Rattle.pio_disasm.specs.Text.{source_text}
-use Rattle.pio_listing.specs.Listing.{plans_of, listing}
+use Rattle.pio_asm.specs.Listing.{plans_of, listing}
 use Rattle.outer_lane.specs.Setting.{Setting, setting_of}
 use Rattle.rp_machine.specs.State.{State}
 use Rattle.rp_machine.specs.Boot.{start}
 use Rattle.command_words.specs.Entries.{Entry}
 use Rattle.command_words.specs.Words.{Run, Command}
 use Rattle.command_words.specs.Words.Command.{RunImage, DebugImage, Disassemble, Assemble, Generate}
-use Rattle.line_talk.specs.Talk.{text_from, cost_from}
-use Rattle.line_talk.specs.Debugger.{quits, talk_of}
+use Rattle.reverse_debug.specs.Talk.{text_from, cost_from}
+use Rattle.reverse_debug.specs.Debugger.{quits, talk_of}
 use Rattle.pico_top.specs.Loads.{Placed, placed_as, offset_of, loads_of, plans_in}
 use Rattle.pico_top.specs.RunText.{run_text, run_cycles}
 

@@ -4,15 +4,15 @@ use Rattle.std.specs.Global.{Global}
 use Rattle.rp_ports.specs.Shelf.{Files, Answers}
 use Rattle.rp_ports.specs.declared.shelf.Loaded.TheVariants.{Done}
 use Rattle.command_words.specs.Words.{Command}
-use Rattle.refusal_lines.specs.declared.Refusal.TheVariants.{Words, File, Large, Image as BadImage, Script, Source}
-use Rattle.refusal_lines.specs.Meant.{meant}
-use Rattle.refusal_lines.specs.Refusals.{line_of, status_of}
+use Rattle.command_words.specs.declared.refusal.Refusal.TheVariants.{Words, File, Large, Image as BadImage, Script, Source}
+use Rattle.command_words.specs.Meant.{meant}
+use Rattle.command_words.specs.Refusals.{line_of, status_of}
 use Rattle.pico_top.specs.Answer.{Puts, RunsOut, Takes, Ends, Counts}
 use Rattle.lane_look.specs.Device.{DeviceMeaning}
 use Rattle.board_parts.specs.Hearing.{Aim}
 use Rattle.outer_lane.specs.Setting.{Setting, setting_of}
 use Rattle.rp_machine.specs.declared.load.PioLoad.{PioLoad}
-use Rattle.pio_listing.specs.Placing.{with_addresses}
+use Rattle.pio_asm.specs.Placing.{with_addresses}
 use Rattle.pin_script.specs.Script.{script_of}
 use Rattle.pin_script.specs.declared.entry.Entry.{Entry as ScriptEntry}
 use Rattle.rp_machine.specs.Boot.{AreLoads}
@@ -30,8 +30,8 @@ use Rattle.pico_top.specs.declared.open.Unopened.{Unopened}
 use Rattle.pico_top.specs.declared.open.Unopened.TheVariants.{Refusing, Memory}
 use Rattle.pico_top.specs.RunText.{run_text, run_cycles}
 use Rattle.pio_asm.specs.Assembly.{Plan, IsProgram}
-use Rattle.pio_listing.specs.Listing.{plans_of}
-use Rattle.line_talk.specs.Debugger.{quits}
+use Rattle.pio_asm.specs.Listing.{plans_of}
+use Rattle.reverse_debug.specs.Debugger.{quits}
 use Rattle.pico_top.specs.Loads.{Placed, placed_as, offset_of}
 use Rattle.pico_top.specs.Dialogue.{Use, Dialogue, dialogue_of, say_run, hear_run, input_limit, session_told, with_first, with_program, with_programs}
 use Rattle.pico_top.specs.Dialogue.Dialogue.{Load, JudgeSource, JudgeOffset, Say, Hear}

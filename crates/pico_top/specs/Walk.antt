@@ -8,11 +8,11 @@ use Rattle.rp_ports.specs.declared.shelf.Loaded.TheVariants.{Done, Large, Failed
 use Rattle.pio_asm.specs.Assembly.{ArePrograms}
 use Rattle.pio_asm.specs.declared.program.Program.{Program}
 use Rattle.command_words.specs.Words.{Command}
-use Rattle.refusal_lines.specs.Refusals.{Refusal}
-use Rattle.refusal_lines.specs.Refusals.Refusal.{BadWords, Lost, TooLarge, BadImage, BadScript, BadSource}
-use Rattle.line_talk.specs.Lines.{closes}
-use Rattle.line_talk.specs.declared.way.Way.{Way}
-use Rattle.line_talk.specs.Hear.{MayEnd, lines_heard, way_line}
+use Rattle.command_words.specs.Refusals.{Refusal}
+use Rattle.command_words.specs.Refusals.Refusal.{BadWords, Lost, TooLarge, BadImage, BadScript, BadSource}
+use Rattle.reverse_debug.specs.Lines.{closes}
+use Rattle.reverse_debug.specs.declared.way.Way.{Way}
+use Rattle.reverse_debug.specs.Hear.{MayEnd, lines_heard, way_line}
 use Rattle.pico_top.specs.Dialogue.{Cost, Told, Dialogue, aims_in, dialogue_of}
 use Rattle.pico_top.specs.Dialogue.Dialogue.{Load, JudgeImage, JudgeScript, JudgeSource, JudgeOffset, SayWords, Say, Hear, HearWords}
 

@@ -16,18 +16,18 @@ ghost use Rattle.pico_top.specs.Dialogue.{behind_image, behind_script, with_imag
 ghost use Rattle.pico_top.specs.Opening.{Opens, OpensFor, LoadsAs, Passes, ReadsScript, Boots, use_for};
 
 use crate::programs::open_programs;
+use command_words::refusal::Refusal;
 use command_words::{DisWords, GenWords, Reading, RunWords};
-use gen_image::generated;
 use lane_look::Device;
 use pin_script::{Script, ScriptFault, read_script};
+use pio_asm::listing::{listing, programs_in};
 use pio_disasm::write_source;
-use pio_listing::{listing, programs_in};
 use pio_parse::PioFault;
-use refusal_lines::Refusal;
 use reverse_debug::Session;
 use rp_machine::{Machine, PioLoad, World};
 use rp_ports::shelf::{Loaded, Shelf};
 use std::alloc::Global;
+use uf2_image::numbered::generated;
 use uf2_image::{Image, ImageFault, read_image};
 
 /// An image file has at most 16 MiB.

@@ -2,8 +2,8 @@
 
 ghost use Rattle.std.specs.Prelude.{◌≡◌, List, [], ◌∷◌, ◌++◌, Ok, Err, length, map, IfOk, IfErr};
 ghost use Rattle.rp_machine.specs.Boot.{IsLoad, AreLoads};
-ghost use Rattle.pio_listing.specs.Fitting.{IsRunnable};
-ghost use Rattle.pio_listing.specs.Placing.{placed};
+ghost use Rattle.pio_asm.specs.Fitting.{IsRunnable};
+ghost use Rattle.pio_asm.specs.Placing.{placed};
 ghost use Rattle.command_words.specs.Read.{entry_in};
 ghost use Rattle.pico_top.specs.declared.open.Unopened.TheVariants.{Memory};
 ghost use Rattle.pico_top.specs.Loads.{Placed};
@@ -12,10 +12,10 @@ ghost use Rattle.pico_top.specs.Opening.{taken_by, ArePlaced, AddsAt, AddsBehind
 
 use crate::open::{SOURCE_LIMIT, Unopened, load};
 use command_words::PioEntry;
+use command_words::refusal::Refusal;
 use pio_asm::Program;
-use pio_listing::{first_program, offset_for, with_addresses};
+use pio_asm::listing::{first_program, offset_for, with_addresses};
 use pio_parse::PioFault;
-use refusal_lines::Refusal;
 use rp_machine::PioLoad;
 use rp_ports::shelf::Shelf;
 use std::alloc::Global;

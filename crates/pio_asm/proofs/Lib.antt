@@ -18,3 +18,7 @@ pub mod Valued
 pub mod Planning
 pub mod Keeping
 pub mod Wholeness
+pub mod First
+pub mod Fitting
+pub mod Addresses
+pub mod Sources

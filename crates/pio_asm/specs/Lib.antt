@@ -12,3 +12,6 @@ pub mod Assembly
 pub mod Addresses
 pub mod Returns
 pub mod Whole
+pub mod Fitting
+pub mod Listing
+pub mod Placing

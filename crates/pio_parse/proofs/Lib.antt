@@ -13,3 +13,11 @@ pub mod Trees
 pub mod Faults
 pub mod LoneOperands
 pub mod Extents
+pub mod Reading
+pub mod Expressions
+pub mod Operands
+pub mod Statements
+pub mod Completes
+pub mod Lines
+pub mod FirstFaults
+pub mod Files

@@ -14,3 +14,6 @@ pub mod Gathering
 pub mod Lexical
 pub mod Grammar
 pub mod Laws
+pub mod Lines
+pub mod Files
+pub mod GrammarLaws

@@ -5,6 +5,7 @@
 mod cursor;
 mod expression;
 mod fault;
+pub mod grammar;
 mod instruction;
 mod jump;
 pub mod laws;

@@ -8,3 +8,7 @@ pub mod Rings
 pub mod Sessions
 pub mod Windows
 pub mod Writes
+pub mod LineLists
+pub mod TalkSessions
+pub mod Takings
+pub mod Talks

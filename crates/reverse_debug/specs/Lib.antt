@@ -3,3 +3,8 @@ pub mod Command
 pub mod Reading
 pub mod Reply
 pub mod Session
+pub mod Debugger
+pub mod Hear
+pub mod Lines
+pub mod Talk
+pub mod Way

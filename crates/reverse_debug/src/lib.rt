@@ -1,11 +1,14 @@
-//! The reverse debugger: a session that stands at a cycle of a run and answers commands there, forward and backward.
+//! The reverse debugger: a session that stands at a cycle of a run and answers commands there, forward and backward; and the
+//! lines of an input, which it answers one after another.
 #![tactic(auto)]
 
 mod advance;
 mod command;
+pub mod hear;
 mod last_change;
 mod reply;
 pub mod session;
+pub mod way;
 mod words;
 
 pub use session::Session;

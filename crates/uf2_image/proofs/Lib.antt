@@ -4,3 +4,4 @@ pub mod Loading
 pub mod Placing
 pub mod Ranges
 pub mod Spread
+pub mod Steps

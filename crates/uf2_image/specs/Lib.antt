@@ -1,2 +1,4 @@
 pub mod Reading
 pub mod Uf2
+pub mod Code
+pub mod Words

@@ -1,6 +1,6 @@
 //! UF2 images (Microsoft, "USB Flashing Format (UF2)"): what a file loads into the SRAM of an RP2040.
 //!
-//! `read_image` gives the image of a file, or the first fault of the file.
+//! `read_image` gives the image of a file, or the first fault of the file; `numbered::generated` the image of a number.
 #![tactic(auto)]
 
 ghost use Rattle.std.specs.Prelude.{◌≡◌, ◌≢◌, ◌≤◌, length, MatchResult, IfOk};
@@ -8,6 +8,7 @@ ghost use Rattle.uf2_image.specs.Uf2.{image_of, FitsSram};
 
 mod blocks;
 pub mod fault;
+pub mod numbered;
 mod order;
 pub mod parts;
 mod reading;

@@ -1,4 +1,4 @@
-use Rattle.pio_listing.specs.Listing.{plans_of, listing}
+use Rattle.pio_asm.specs.Listing.{plans_of, listing}
 use Rattle.pico_top.specs.Dialogue.Cost.{Exactly}
 use Rattle.pico_top.specs.Dialogue.Dialogue.{JudgeSource, SayWords}
 use Rattle.pico_top.proofs.open.open_source.Goals as goal

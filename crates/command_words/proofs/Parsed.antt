@@ -1,0 +1,89 @@
+-- What a parse by the table gives.
+use Rattle.std.proofs.Common.{◌≡◌, Bool, true, false, not, ◌&&◌, List, [], ◌∷◌, Option, Some, None, option_map, refl, ap, ap₂, sym, ◌∙◌}
+use Rattle.std.proofs.lemmas.Option.{none-some}
+use Rattle.std.specs.Prelude.{Box, codes, unwrap_or}
+use Rattle.std.specs.Box.{box_value}
+use Rattle.std.specs.Option.{option_and_then}
+use Rattle.clap.specs.Matches.{first_value}
+use Rattle.clap.specs.Walk.{Row, Rule, Text, rows_of, rule_of}
+use Rattle.clap.specs.declared.parser.matches.Found.{Found}
+use Rattle.clap.proofs.WalkLemmas.{first_value-rows}
+use Rattle.clap.specs.Built.{AddsArg, AddsSubcommand}
+use Rattle.clap.specs.Simple.{App, app_of, is_simple, subcommand_of, subcommand_rows, with_rule, with_subcommand}
+use Rattle.clap.specs.Kinds.{IsAmong, Kinds}
+use Rattle.clap.specs.Faults.{fault_of, is_simple_and_free}
+use Rattle.clap.specs.declared.builder.arg.Arg.{Arg}
+use Rattle.clap.specs.declared.builder.command.Command.{Command}
+use Rattle.clap.specs.declared.error.kind.ErrorKind.{ErrorKind}
+use Rattle.clap.specs.declared.parser.matches.SubCommand.{SubCommand}
+use Rattle.clap.specs.declared.parser.matches.ArgMatches.TheViews.{out-SubCommand}
+use Rattle.clap.proofs.OnLiterals.{clap_on_literals}
+use Rattle.command_words.specs.Table.{table}
+use Rattle.command_words.specs.Line.{line_in, line_of, line_found, without_fault}
+
+pub table_is_simple : is_simple table ≡ true
+unfolding table clap_on_literals
+table_is_simple = refl
+
+pub table_is_free : is_simple_and_free table ≡ true
+unfolding table clap_on_literals
+table_is_free = refl
+
+pub at_ok : (words : List Text) (found : Option (Text × List Row)) → fault_of table words ≡ [] → subcommand_of table words ≡ found
+    → line_in words ≡ option_and_then line_found found
+unfolding line_in
+at_ok words found faultless is = ap₂ without_fault faultless is
+
+pub at_fault : (kinds : Kinds) (kind : ErrorKind) (found : Option (Text × List Row)) → IsAmong kind kinds → without_fault kinds found ≡ None
+at_fault [] kind found among = absurd among
+at_fault (k ∷ ks) kind found among = refl
+
+pub at_err : (words : List Text) (kind : ErrorKind) → IsAmong kind (fault_of table words) → line_in words ≡ None
+unfolding line_in
+at_err words kind among = at_fault (fault_of table words) kind (subcommand_of table words) among
+
+-- no subcommand was met
+pub none_met : (met : Option (Text × List Row)) → None ≡ option_map (λ p. p.1) met → met ≡ None
+none_met None e = refl
+none_met (Some p) e = absurd (none-some p.1 e)
+
+-- a subcommand was met, by its name and its rows
+pub one_met : (Z : Type 0) (met : Option (Box SubCommand Z)) (name : Text) (rows : List Row)
+    → Some name ≡ option_map (λ b. (out-SubCommand (box_value b)).name.now) met
+    → Some rows ≡ option_map (λ p. p.1) (subcommand_rows met)
+    → subcommand_rows met ≡ Some (name, rows)
+one_met Z None name rows n r = absurd (none-some name (sym n))
+one_met Z (Some b) name rows n r = ap Some (ap₂ (λ (x : Text) (y : List Row). (x, y)) (sym (ap (λ o. unwrap_or o name) n)) (sym (ap (λ o. unwrap_or o rows) r)))
+
+-- what the getters give is what stands in the rows
+pub same_line : (found : Found) (command : Text) → line_of command (first_value found) ≡ line_found (command, rows_of found)
+same_line found command =
+    rw (
+      first_value-rows found (codes "argument"),
+      first_value-rows found (codes "cycles"),
+      first_value-rows found (codes "script"),
+      first_value-rows found (codes "pio"),
+      first_value-rows found (codes "probe"),
+      first_value-rows found (codes "workers"),
+      first_value-rows found (codes "side"),
+      first_value-rows found (codes "opt"),
+      first_value-rows found (codes "stats"),
+    ) refl
+
+-- a plain command has no global argument
+pub local_of : (a b g r : Bool) → (a && (b && (not g && r))) ≡ true → g ≡ false
+local_of a b false r e = refl
+local_of true true true r e = sym e
+local_of true false true r e = sym e
+local_of false b true r e = sym e
+
+-- a command with one more argument
+pub adds : (old : Command) (arg : Arg) (new : Command) (app : App) (rule : Rule) → app_of old ≡ app → rule_of arg ≡ rule → arg.global ≡ false
+    → AddsArg old arg new → app_of new ≡ with_rule app rule
+adds old arg new app rule is rules local h = h.shape local ∙ ap₂ with_rule is rules
+
+-- a command with one more subcommand
+pub adds_sub : (old sub new : Command) (app below : App) → app_of old ≡ app → app_of sub ≡ below → below.top.is_plain ≡ true
+    → AddsSubcommand old sub new → app_of new ≡ with_subcommand app below.top
+adds_sub old sub new app below is under plain h =
+    h.shape (local_of _ _ _ _ (ap (λ (a : App). a.top.is_plain) under ∙ plain)) ∙ ap₂ with_subcommand is (ap (λ (a : App). a.top) under)

@@ -1,0 +1,261 @@
+//! What is refused: the causes, and the line and the status of each.
+
+ghost use Rattle.std.specs.Prelude.{◌≡◌, ◌+◌, ◌≤◌, ◌++◌, length, codes, decimal, IfOk};
+ghost use Rattle.arrayvec.specs.ArrayVec.{array_vec_len};
+ghost use Rattle.command_words.specs.Refusals.{fault_words, image_line, script_fault_words, script_line, pio_fault_words, pio_line, then_number, then_address, line_of, status_of};
+ghost use Rattle.command_words.specs.Meant.{meant};
+
+use arrayvec::ArrayVec;
+use itoa::Buffer;
+use pin_script::ScriptFault;
+use pio_parse::PioFault;
+use std::alloc::{AllocError, Global};
+use trace_text::line::{push_number, push_text, push_word};
+use uf2_image::ImageFault;
+
+/// What is refused.
+#[derive(Drop)]
+pub enum Refusal {
+    /// The words are not a command.
+    Words,
+    /// The file of this name could not be loaded.
+    File(String),
+    /// The file of this name has this many bytes, above its limit.
+    Large(String, u64),
+    /// The file is no image.
+    Image(ImageFault),
+    /// The file is no script.
+    Script(ScriptFault),
+    /// The file is no PIO source, its programs have a fault, or the first one finds no room.
+    Source(PioFault),
+}
+
+/// How many bytes the line of a fault has at most.
+const FAULT: usize = 96;
+
+/// Appends a number after a space.
+fn then_number(number: u64, out: &mut ArrayVec<u8, FAULT>)
+    requires { array_vec_len out.old + 21 ≤ FAULT }
+    ensures text { out.new.items ≡ out.old.items ++ then_number number }
+    ensures short { array_vec_len out.new ≤ array_vec_len out.old + 21 }
+{
+    push_text(b" ", out);
+    push_number(number, out);
+}
+
+/// Appends an address after a space.
+fn then_address(address: u32, out: &mut ArrayVec<u8, FAULT>)
+    requires { array_vec_len out.old + 9 ≤ FAULT }
+    ensures text { out.new.items ≡ out.old.items ++ then_address address }
+    ensures short { array_vec_len out.new ≤ array_vec_len out.old + 9 }
+{
+    push_text(b" ", out);
+    push_word(address, out);
+}
+
+/// Appends a short text and a number.
+fn push_one(text: &[u8], number: u64, out: &mut ArrayVec<u8, FAULT>)
+    requires room { array_vec_len out.old + 43 ≤ FAULT }
+    requires small { length text.now ≤ 22 }
+    ensures text { out.new.items ≡ out.old.items ++ text.now ++ then_number number }
+    ensures short { array_vec_len out.new ≤ array_vec_len out.old + 43 }
+{
+    push_text(text, out);
+    then_number(number, out);
+}
+
+/// Appends a short text and two numbers.
+fn push_two(text: &[u8], first: u64, second: u64, out: &mut ArrayVec<u8, FAULT>)
+    requires room { array_vec_len out.old + 64 ≤ FAULT }
+    requires small { length text.now ≤ 22 }
+    ensures text { out.new.items ≡ out.old.items ++ text.now ++ then_number first
+        ++ then_number second }
+    ensures short { array_vec_len out.new ≤ array_vec_len out.old + 64 }
+{
+    push_one(text, first, out);
+    then_number(second, out);
+}
+
+/// Appends an image fault's number, its name and its numbers.
+#[tactic(auto, unfolding(crate::specs::Refusals::fault_words))]
+fn push_fault(fault: &ImageFault, out: &mut ArrayVec<u8, FAULT>)
+    requires { array_vec_len out.old + 64 ≤ FAULT }
+    ensures text { out.new.items ≡ out.old.items ++ fault_words fault.now }
+    ensures short { array_vec_len out.new ≤ array_vec_len out.old + 64 }
+{
+    match *fault {
+        ImageFault::Empty => push_text(b"1 Empty", out),
+        ImageFault::Ragged(length) => {
+            push_text(b"2 Ragged", out);
+            then_number(length, out);
+        }
+        ImageFault::Magic(block) => {
+            push_text(b"3 Magic", out);
+            then_number(u64::from(block), out);
+        }
+        ImageFault::Payload(block, size) => {
+            push_text(b"4 Payload", out);
+            then_number(u64::from(block), out);
+            then_number(u64::from(size), out);
+        }
+        ImageFault::Count(block) => {
+            push_text(b"5 Count", out);
+            then_number(u64::from(block), out);
+        }
+        ImageFault::Number(block) => {
+            push_text(b"6 Number", out);
+            then_number(u64::from(block), out);
+        }
+        ImageFault::Repeat(block) => {
+            push_text(b"7 Repeat", out);
+            then_number(u64::from(block), out);
+        }
+        ImageFault::Flash(block, target) => {
+            push_text(b"8 Flash", out);
+            then_number(u64::from(block), out);
+            then_address(target, out);
+        }
+        ImageFault::Address(block, target) => {
+            push_text(b"9 Address", out);
+            then_number(u64::from(block), out);
+            then_address(target, out);
+        }
+        ImageFault::Overlap(block) => {
+            push_text(b"10 Overlap", out);
+            then_number(u64::from(block), out);
+        }
+        ImageFault::Missing(number) => {
+            push_text(b"11 Missing", out);
+            then_number(u64::from(number), out);
+        }
+        ImageFault::Nothing => push_text(b"12 Nothing", out),
+        ImageFault::Memory => push_text(b"13 Memory", out),
+    }
+}
+
+/// The line of an image fault.
+fn image_fault_line(fault: &ImageFault) -> ArrayVec<u8, FAULT>
+    ensures { result.items ≡ image_line fault.now }
+{
+    let mut line = ArrayVec::new();
+    push_text(b"error image ", &mut line);
+    push_fault(fault, &mut line);
+    push_text(b"\n", &mut line);
+    line
+}
+
+/// Appends a script fault's number, its name and its line.
+#[tactic(auto, unfolding(crate::specs::Refusals::script_fault_words))]
+fn push_script_fault(fault: &ScriptFault, out: &mut ArrayVec<u8, FAULT>)
+    requires { array_vec_len out.old + 64 ≤ FAULT }
+    ensures text { out.new.items ≡ out.old.items ++ script_fault_words fault.now }
+    ensures short { array_vec_len out.new ≤ array_vec_len out.old + 64 }
+{
+    match *fault {
+        ScriptFault::Form(line) => push_one(b"1 Form", u64::from(line), out),
+        ScriptFault::Number(line) => push_one(b"2 Number", u64::from(line), out),
+        ScriptFault::Pin(line) => push_one(b"3 Pin", u64::from(line), out),
+        ScriptFault::Order(line) => push_one(b"4 Order", u64::from(line), out),
+        ScriptFault::TooMany(line) => push_one(b"5 TooMany", u64::from(line), out),
+        ScriptFault::Memory => push_text(b"6 Memory", out),
+        ScriptFault::Version(line) => push_one(b"7 Version", u64::from(line), out),
+        ScriptFault::Divisor(line) => push_one(b"8 Divisor", u64::from(line), out),
+        ScriptFault::Bytes(line) => push_one(b"9 Bytes", u64::from(line), out),
+    }
+}
+
+/// The line of a script fault.
+fn script_fault_line(fault: &ScriptFault) -> ArrayVec<u8, FAULT>
+    ensures { result.items ≡ script_line fault.now }
+{
+    let mut line = ArrayVec::new();
+    push_text(b"error script ", &mut line);
+    push_script_fault(fault, &mut line);
+    push_text(b"\n", &mut line);
+    line
+}
+
+/// Appends a PIO fault's number and its name, then its line and column, or its line.
+#[tactic(auto, unfolding(crate::specs::Refusals::pio_fault_words))]
+fn push_pio_fault(fault: &PioFault, out: &mut ArrayVec<u8, FAULT>)
+    requires { array_vec_len out.old + 64 ≤ FAULT }
+    ensures text { out.new.items ≡ out.old.items ++ pio_fault_words fault.now }
+    ensures short { array_vec_len out.new ≤ array_vec_len out.old + 64 }
+{
+    match *fault {
+        PioFault::Char(line, column) => push_two(b"1 Char", line, column, out),
+        PioFault::Syntax(line, column) => push_two(b"2 Syntax", line, column, out),
+        PioFault::Memory => push_text(b"3 Memory", out),
+        PioFault::Unknown(line) => push_one(b"4 Unknown", line, out),
+        PioFault::Twice(line) => push_one(b"5 Twice", line, out),
+        PioFault::Range(line) => push_one(b"6 Range", line, out),
+        PioFault::Delay(line) => push_one(b"7 Delay", line, out),
+        PioFault::Side(line) => push_one(b"8 Side", line, out),
+        PioFault::TooLong(line) => push_one(b"9 TooLong", line, out),
+        PioFault::Wrap(line) => push_one(b"10 Wrap", line, out),
+        PioFault::Origin(line) => push_one(b"11 Origin", line, out),
+        PioFault::NoRoom(count) => push_one(b"12 NoRoom", count, out),
+    }
+}
+
+/// The line of a PIO fault.
+fn pio_fault_line(fault: &PioFault) -> ArrayVec<u8, FAULT>
+    ensures { result.items ≡ pio_line fault.now }
+{
+    let mut line = ArrayVec::new();
+    push_text(b"error pio ", &mut line);
+    push_pio_fault(fault, &mut line);
+    push_text(b"\n", &mut line);
+    line
+}
+
+/// The line of a file that could not be loaded.
+fn file_line(alloc: Global, name: &str) -> Result<Vec<u8>, AllocError>
+    ensures { IfOk result (λ line. line.items ≡ codes "error file " ++ name.now ++ codes "\n") }
+{
+    let mut line = Vec::from_slice(alloc, b"error file ")?;
+    line.extend_from_slice(name.as_bytes())?;
+    line.extend_from_slice(b"\n")?;
+    Ok(line)
+}
+
+/// The line of a file that is longer than its limit.
+fn large_line(alloc: Global, name: &str, length: u64) -> Result<Vec<u8>, AllocError>
+    ensures { IfOk result (λ line. line.items
+        ≡ codes "error large " ++ name.now ++ codes " " ++ decimal length ++ codes "\n") }
+{
+    let mut line = Vec::from_slice(alloc, b"error large ")?;
+    line.extend_from_slice(name.as_bytes())?;
+    line.extend_from_slice(b" ")?;
+    line.extend_from_slice(Buffer::new().format(length).as_bytes())?;
+    line.extend_from_slice(b"\n")?;
+    Ok(line)
+}
+
+/// The line of a refusal.
+#[tactic(auto, unfolding(crate::specs::Refusals::line_of))]
+pub fn refusal_line(alloc: Global, refusal: &Refusal) -> Result<Vec<u8>, AllocError>
+    ensures { IfOk result (λ line. line.items ≡ line_of (meant refusal.now)) }
+{
+    match refusal {
+        Refusal::Words => Vec::from_slice(alloc, b"error words\n"),
+        Refusal::File(name) => file_line(alloc, name.as_str()),
+        Refusal::Large(name, length) => large_line(alloc, name.as_str(), *length),
+        Refusal::Image(fault) => Vec::from_slice(alloc, &image_fault_line(fault)),
+        Refusal::Script(fault) => Vec::from_slice(alloc, &script_fault_line(fault)),
+        Refusal::Source(fault) => Vec::from_slice(alloc, &pio_fault_line(fault)),
+    }
+}
+
+/// The status of a refusal.
+pub fn status(refusal: &Refusal) -> u8
+    ensures { result ≡ status_of (meant refusal.now) }
+{
+    match refusal {
+        Refusal::Words => 2,
+        Refusal::File(_) | Refusal::Large(_, _) => 3,
+        Refusal::Image(_) => 4,
+        Refusal::Source(_) => 5,
+        Refusal::Script(_) => 6,
+    }
+}

@@ -1,4 +1,0 @@
-pub mod LineLists
-pub mod Sessions
-pub mod Takings
-pub mod Talks

@@ -1,5 +1,0 @@
-use Rattle.pio_grammar.proofs.Files.{syntax_faults_at_first}
-use Rattle.pio_grammar.proofs.laws.syntax_faults_at_first.Goals as goal
-
-pub returns : goal.returns
-returns c = syntax_faults_at_first

@@ -1,4 +1,0 @@
-pub mod First
-pub mod Fitting
-pub mod Addresses
-pub mod Sources

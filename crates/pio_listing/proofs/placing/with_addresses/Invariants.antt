@@ -1,6 +1,0 @@
-use Rattle.std.proofs.Common.{◌≡◌}
-use Rattle.pio_listing.specs.Placing.{with_addresses}
-use Rattle.pio_listing.proofs.placing.with_addresses.Given as goal
-
-abbrev pub invariant-loop-index : goal.invariant-loop-index
-invariant-loop-index l = l.taken ≡ with_addresses l.used l.offset l.index

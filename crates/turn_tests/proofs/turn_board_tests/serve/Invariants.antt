@@ -1,7 +1,0 @@
-use Rattle.std.proofs.Common.{◌≡◌, ℕ}
-use Rattle.turn_board.specs.Tickets.{IsUnfinished}
-use Rattle.turn_tests.specs.declared.turn_board_tests.TheConstants.{LIMIT}
-use Rattle.turn_tests.proofs.turn_board_tests.serve.Given as goal
-
-abbrev pub invariant-loop : goal.invariant-loop
-invariant-loop g l = (goal.iterator-loop g).can_next l.iterator' × (goal.iterator-loop g).is_finite l.iterator' × (l.seat.board ≡ l.board) × (l.seat.made_for ≡ LIMIT) × ((n : ℕ) → ¬ IsUnfinished l.seat.state n)
