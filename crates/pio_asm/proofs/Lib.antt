@@ -20,5 +20,5 @@ pub mod Keeping
 pub mod Wholeness
 pub mod First
 pub mod Fitting
-pub mod Addresses
+pub mod ListedAddresses
 pub mod Sources

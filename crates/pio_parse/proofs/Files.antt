@@ -19,7 +19,7 @@ use Rattle.pio_parse.specs.Lines.{IsLine}
 use Rattle.pio_parse.specs.Files.{AreLines, FaultsAt, IsSource, IsSyntaxFaultAt}
 use Rattle.pio_parse.specs.Files.AreLines.{no_line, one_line}
 use Rattle.pio_parse.specs.Files.FaultsAt.{fits_nothing, after_line}
-use Rattle.pio_parse.proofs.Lines.{complete, sound}
+use Rattle.pio_parse.proofs.ReadLines.{complete, sound}
 use Rattle.pio_parse.proofs.FirstFaults.{faults_there, first_fault}
 
 abbrev are_lines : List (List Token) → Bool

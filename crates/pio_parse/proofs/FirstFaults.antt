@@ -11,7 +11,7 @@ use Rattle.pio_parse.proofs.Finds.{refused}
 use Rattle.pio_parse.specs.GrammarLaws.{LineFaultsAtFirst, is_line}
 use Rattle.pio_parse.specs.Lines.{BeginsLine, IsLine}
 use Rattle.pio_parse.proofs.Reading.{Answer, Can, Refused, Rest, not_true}
-use Rattle.pio_parse.proofs.Lines.{complete, finished, first_good, later_good, line_is, line_rest, sound}
+use Rattle.pio_parse.proofs.ReadLines.{complete, finished, first_good, later_good, line_is, line_rest, sound}
 
 -- where tokens are refused, and how they could have gone on
 record FoundAt (g : Rest) (position : SourcePosition) (tokens : List Token) : Type 0 where

@@ -15,9 +15,9 @@ pub mod LoneOperands
 pub mod Extents
 pub mod Reading
 pub mod Expressions
-pub mod Operands
+pub mod OperandLines
 pub mod Statements
 pub mod Completes
-pub mod Lines
+pub mod ReadLines
 pub mod FirstFaults
 pub mod Files

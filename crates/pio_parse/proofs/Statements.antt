@@ -33,7 +33,7 @@ use Rattle.pio_parse.proofs.Reading.IsOne.{one}
 use Rattle.pio_parse.proofs.Reading.Move.{misfits}
 use Rattle.pio_parse.proofs.Expressions.{IsTerms, expression_reads}
 use Rattle.pio_parse.proofs.Expressions.IsTerms.{sum_terms}
-use Rattle.pio_parse.proofs.Operands.{AfterWord, in_reads, irq_reads, jmp_reads, modifiers_reads, mov_reads, nop_reads, out_reads, pull_reads, push_reads, set_reads, wait_reads}
+use Rattle.pio_parse.proofs.OperandLines.{AfterWord, in_reads, irq_reads, jmp_reads, modifiers_reads, mov_reads, nop_reads, out_reads, pull_reads, push_reads, set_reads, wait_reads}
 
 pub public_of : (kind : TokenKind) → is_public kind ≡ true → kind ≡ KeywordToken Public
 public_of (KeywordToken Public) h = refl

@@ -1,4 +1,4 @@
-use Rattle.pio_asm.proofs.Addresses.{placed_ok, placed_room, placed_err}
+use Rattle.pio_asm.proofs.ListedAddresses.{placed_ok, placed_room, placed_err}
 use Rattle.pio_asm.proofs.placing.offset_for.Goals as goal
 
 pub returns-clause-ok : goal.returns-clause-ok

@@ -1,4 +1,4 @@
-use Rattle.pio_parse.proofs.Lines.{reads_lines}
+use Rattle.pio_parse.proofs.ReadLines.{reads_lines}
 use Rattle.pio_parse.proofs.grammar.reads_lines.Goals as goal
 
 pub returns : goal.returns
