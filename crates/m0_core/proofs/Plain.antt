@@ -2,6 +2,7 @@
 use Rattle.std.proofs.Common.{◌≡◌, ◌+◌, ℕ, zero, suc, Bool, true, false, not, ◌||◌, ◌&&◌, cond, nat_lt, refl, ap, arith, ◌∙◌}
 use Rattle.std.specs.Prelude.{slice_get, unwrap_or, length, List, [], Option, None, ◌==◌}
 use Rattle.std.specs.List.{list_any}
+use Rattle.std.proofs.Math.Bool.{and-false, and-true}
 use Rattle.std.proofs.lemmas.Bool.Decides.{nat_tests}
 use Rattle.rp_base.specs.declared.op.Op.{Op}
 use Rattle.rp_base.specs.declared.op.Op.TheVariants as op
@@ -154,10 +155,6 @@ plain_decoded op.Undefined s h t = absurd (cc)
 
 -- ---- the end
 
-and_true : (b : Bool) → (b && true) ≡ b
-and_true true = refl
-and_true false = refl
-
 inner_only : (o : Op) → is_plain o ≡ true →
     (is_call o ≡ false) × ((awaits_event o ≡ false) × ((r : Regs) (read : List ℕ) → return_of o r read ≡ None))
 unfolding return_of
@@ -257,7 +254,7 @@ same_end : (o : Op) (s : State) (call wait : Bool) (value : Option ℕ) → call
 same_end o s call wait value p q r =
     rw (p, q, r)
     (ap (λ e. record s { regs = effect_of o s.regs s.read; event = e; work = None; beats_done = 0; read = [] })
-    (and_true s.event))
+    (and-true s.event))
 
 pub plain_ended : (o : Op) (s : State) → is_plain o ≡ true →
     ended o s ≡ record s { regs = effect_of o s.regs s.read; work = None; beats_done = 0; read = [] }
@@ -357,15 +354,11 @@ both : (a b : Bool) → (a && b) ≡ true → (a ≡ true) × (b ≡ true)
 both true b h = (refl, h)
 both false b h = absurd (cc)
 
-and_none : (a : Bool) → (a && false) ≡ false
-and_none true = refl
-and_none false = refl
-
 pub single_plain : (o : Op) → is_single o ≡ true → is_plain o ≡ true
 single_plain o h = (both (is_plain o) _ h).0
 
 goes_on : (o : Op) (s : State) → awaits_event o ≡ false → awaits_interrupt o ≡ false → is_paused_op o s ≡ false
-goes_on o s p q = rw (p, q) (and_none (s.beats_done == 1))
+goes_on o s p q = rw (p, q) (and-false (s.beats_done == 1))
 
 passes : (o : Op) (s : State) (n : ℕ) → n ≡ 1 → passed_of (works.Instruction o) n (ended o s) s ≡ ended o s
 passes o s n h =

@@ -1,6 +1,7 @@
 -- An instruction takes its beats: one cycle, then all of them.
 use Rattle.std.proofs.Common.{◌≡◌, ℕ, ◌+◌, ◌%◌, ◌^◌, ◌<◌, ◌≤◌, ◌==◌, ◌&&◌, ◌||◌, not, Bool, true, false, cond, List, [], ◌∷◌, ◌++◌, length, refl, sym, ap, ap₂, subst, ◌∙◌, arith, append_assoc, append-nil, length-append, true≢false, lt-ltb, le-ltb}
 use Rattle.std.specs.Prelude.{Option, Some, None, option_to_list, map, slice_get, unwrap_or, nat_lt}
+use Rattle.std.proofs.Math.Bool.{and-true}
 use Rattle.rp_base.specs.declared.Request.{Request}
 use Rattle.rp_base.specs.declared.map.Spot.{Spot}
 use Rattle.rp_base.specs.declared.map.Spot.TheVariants as spot
@@ -334,10 +335,6 @@ pub record Changes (lines cycle : ℕ) (e : Exceptions) (event : Bool) (t : Stat
   pub exceptions : t.nvic ≡ nvic.after_cycle lines cycle e
   pub event_after : t.event ≡ (event || nvic.is_event lines cycle e)
 
-and_true : (b : Bool) → (b && true) ≡ b
-and_true true = refl
-and_true false = refl
-
 passed_exceptions : (op : Op) (value : Option ℕ) (t : State) → (passed (works.Instruction op) value t).nvic ≡ last_at op t.regs t.beats_done t.nvic
 unfolding passed passed_instruction ended
 passed_exceptions op value t = go (nat_lt (t.beats_done + 1) (length (beats_of op t.regs)))
@@ -352,7 +349,7 @@ passed_event op value t e = go (nat_lt (t.beats_done + 1) (length (beats_of op t
   where
     go : (b : Bool) → (cond b (followed (works.Instruction op) (with_read value t)) (ended op (with_read value t))).event ≡ t.event
     go true = refl
-    go false = ap (λ x. t.event && not x) e ∙ and_true t.event
+    go false = ap (λ x. t.event && not x) e ∙ and-true t.event
 
 changes_closed : (op : Op) (value : Option ℕ) (t : State) (lines cycle : ℕ) → awaits_event op ≡ false
     → Changes lines cycle (last_at op t.regs t.beats_done t.nvic) t.event (closed lines cycle (passed (works.Instruction op) value t))

@@ -5,8 +5,6 @@
 mod file_shelf;
 mod stdin_source;
 mod stdout_sink;
-#[cfg(test)]
-mod tests;
 
 ghost use Rattle.std.specs.Prelude.{◌≡◌, ◌<◌};
 

@@ -5,7 +5,7 @@ ghost use Rattle.rp_uart.specs.declared.receiver.Receiver.TheVariants.{Idle};
 ghost use Rattle.rp_uart.specs.State.{at_reset};
 ghost use Rattle.rp_uart.specs.Interrupts.{is_line_high};
 ghost use Rattle.rp_uart.specs.Sender.{is_idle};
-ghost use Rattle.rp_uart.specs.Step.{is_running, output_of, heard_of, after_step, sent_byte, pacing_of};
+ghost use Rattle.rp_uart.specs.Step.{is_running, is_at_rest, has_nothing_to_do, output_of, heard_of, after_step, sent_byte, pacing_of};
 
 use crate::control::{Control, Divisor, DmaControl};
 use crate::frame::{LineControl, WordLength};
@@ -239,6 +239,7 @@ impl Uart {
     #[inline(always)]
     #[tactic(auto, using(crate::proofs::AtRest::at_rest))]
     fn has_nothing_to_do(&self, line: bool) -> bool
+        ensures value { result ≡ has_nothing_to_do line self.now }
         ensures same { result ≡ true → after_step line self.now ≡ self.now }
         ensures silent { result ≡ true → sent_byte self.now ≡ None }
     {
@@ -251,6 +252,7 @@ impl Uart {
 
     /// A cycle with this level changes nothing: the UART has no divisor, or nothing to do.
     pub fn is_at_rest(&self, line: bool) -> bool
+        ensures value { result ≡ is_at_rest line self.now }
         ensures same { result ≡ true → after_step line self.now ≡ self.now }
         ensures silent { result ≡ true → sent_byte self.now ≡ None }
     {
