@@ -1,5 +1,9 @@
 //! What a core has begun in a cycle.
 
+ghost use Rattle.std.specs.Prelude.{◌≡◌};
+ghost use Rattle.m0_core.specs.declared.doing.Act.TheVariants.{Asleep};
+ghost use Rattle.m0_core.specs.Fetch.{ends_with};
+
 use rp_base::op::Op;
 use rp_base::{Request, Why};
 
@@ -44,4 +48,18 @@ pub struct Doing {
     pub lines: u32,
     /// The cycle's number.
     pub cycle: u64,
+}
+
+impl Doing {
+    /// What a core that is asleep does in cycle 0: room for what is begun.
+    #[inline(always)]
+    pub fn nothing() -> Doing
+        ensures { result ≡ ends_with 0 0 Asleep }
+    {
+        Doing {
+            act: Act::Asleep,
+            lines: 0,
+            cycle: 0,
+        }
+    }
 }

@@ -7,9 +7,9 @@ ghost use Rattle.lane_look.specs.Asking.Asking.{Ready};
 ghost use Rattle.rp_base.specs.Access.{master_of};
 ghost use Rattle.m0_beats.specs.Beats.{beats_of};
 ghost use Rattle.m0_beats.specs.Shapes.{beats_of_shape};
-ghost use Rattle.m0_core.specs.Fetch.{is_ram, is_locked, asks_fault, is_callable, is_faulty, beat_of, beat_of_work, in_ram, in_private, at_spot, asks_beat, locks_last, asks_return, asks_decoded, asks_second, asks_first, taken_of, asks_boundary, asks_work, asks_awake};
+ghost use Rattle.m0_core.specs.Fetch.{is_ram, is_locked, asks_fault, is_callable, is_faulty, beat_of, beat_of_work, in_ram, in_private, at_spot, asks_beat, locks_last, asks_return, asks_decoded, asks_second, asks_first, taken_of, asks_boundary, asks_work, asks_awake, asks};
 
-use crate::doing::{Act, Work};
+use crate::doing::{Act, Doing, Work};
 use crate::exceptions::RETURN_BEATS;
 use crate::kinds::{is_breakpoint, is_call, is_plain, is_undefined};
 use crate::processor::Core;
@@ -40,7 +40,7 @@ fn half_of(answer: u128) -> u16
 }
 
 /// The word of an answer.
-pub(crate) fn word_of(answer: u128) -> u32
+fn word_of(answer: u128) -> u32
     ensures { result ≡ answer % 2 ^ 32 }
 {
     (answer % 0x1_0000_0000) as u32
@@ -298,12 +298,28 @@ impl Core {
     /// The next beat of what is in progress, or what a boundary begins.
     #[inline(always)]
     #[tactic(auto, unfolding(crate::specs::Fetch::asks_awake))]
-    pub(crate) fn begin_awake<K: Look>(&self, look: &mut K, act: &mut Act)
+    fn begin_awake<K: Look>(&self, look: &mut K, act: &mut Act)
         ensures { Runs K.answers look.old (asks_awake self.now) act.new look.new }
     {
         match self.work {
             None => self.begin_boundary(look, act),
             Some(work) => self.begin_work(work, look, act),
+        }
+    }
+
+    /// What the core begins in a cycle, in the place of what it began before.
+    #[inline(always)]
+    #[tactic(auto, unfolding(crate::specs::Fetch::asks), using(crate::proofs::Carrying::carrying))]
+    pub fn begin_into<K: Look>(&self, cycle: u64, look: &mut K, begun: &mut Doing)
+        ensures { Runs K.answers look.old (asks self.now cycle) begun.new look.new }
+    {
+        begun.cycle = cycle;
+        if self.is_asleep() {
+            begun.act = Act::Asleep;
+            begun.lines = 0;
+        } else {
+            begun.lines = word_of(look.ask(Ask::Lines));
+            self.begin_awake(look, &mut begun.act);
         }
     }
 }

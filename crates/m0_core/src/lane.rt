@@ -7,10 +7,9 @@ ghost use Rattle.m0_core.specs.Cycle.{wanted, next};
 ghost use Rattle.m0_core.specs.Bounds.{four_at_most, reads_none};
 
 use crate::doing::{Act, Doing};
-use crate::fetch::word_of;
 use crate::finish::{done_word, is_idle, want};
 use crate::processor::Core;
-use lane_look::{Ask, Lane, Look, Marks, Turn, Want};
+use lane_look::{Lane, Look, Marks, Turn, Want};
 
 impl Lane<()> for Core {
     type Begun = Doing;
@@ -26,17 +25,9 @@ impl Lane<()> for Core {
     ghost marked = { λ _ s begun turns. None };
 
     #[inline(always)]
-    #[tactic(auto, unfolding(crate::specs::Fetch::asks), using(crate::proofs::Carrying::carrying))]
     fn begin<K: Look>(&self, _env: &(), cycle: u64, look: &mut K) -> Doing {
-        let mut begun = Doing {
-            act: Act::Asleep,
-            lines: 0,
-            cycle,
-        };
-        if !self.is_asleep() {
-            begun.lines = word_of(look.ask(Ask::Lines));
-            self.begin_awake(look, &mut begun.act);
-        }
+        let mut begun = Doing::nothing();
+        self.begin_into(cycle, look, &mut begun);
         begun
     }
 
