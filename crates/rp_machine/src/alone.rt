@@ -6,7 +6,7 @@ ghost use Rattle.bus_fabric.specs.Grant.{is_done, after_grant};
 ghost use Rattle.rp_machine.specs.Alone.{asked_alone};
 
 use crate::access::asked_of;
-use crate::begun::begin_lane;
+use crate::begun::{begin_core, begin_lane};
 use crate::cycle::wants_nothing;
 use crate::machine::Machine;
 use crate::steps::Steps;
@@ -64,13 +64,13 @@ impl Machine {
             && self.pio1.is_at_rest()
     }
 
-    /// What core 0 begins.
+    /// What core 0 begins, in the place of what it began before.
     #[inline(always)]
     #[tactic(auto, unfolding(crate::specs::Cycle::begun))]
-    fn begin_core0(&self) -> Doing
-        ensures { result ≡ (begun self.now).core0 }
+    fn begin_core0(&self, core0: &mut Doing)
+        ensures { core0.new ≡ (begun self.now).core0 }
     {
-        begin_lane(self, 0, &self.core0, &())
+        begin_core(self, 0, &self.core0, core0);
     }
 
     /// What the peripherals begin.
@@ -187,7 +187,8 @@ impl Machine {
             self.old ∷ []) }
         ensures steps { steps.new ≡ (if is_some result then steps.old else steps.old + 1) }
     {
-        let core0 = self.begin_core0();
+        let mut core0 = Doing::nothing();
+        self.begin_core0(&mut core0);
         let outer = self.begin_outer(world);
         if self.is_bus_free(&core0) {
             marks.clear();

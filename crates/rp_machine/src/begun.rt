@@ -2,11 +2,14 @@
 
 ghost use Rattle.std.specs.Prelude.{◌≡◌};
 ghost use Rattle.lane_look.specs.Asking.{answered};
+ghost use Rattle.m0_core.specs.Fetch.{asks};
 ghost use Rattle.rp_machine.specs.Answers.{answer_of};
 
 use crate::look::MachineLook;
 use crate::machine::Machine;
+use dma_engine::BegunTransfer;
 use lane_look::{Device, Lane};
+use m0_core::{Core, Doing};
 use outer_lane::{SeenOutputs, World};
 use pio_block::Inputs;
 
@@ -14,11 +17,11 @@ use pio_block::Inputs;
 #[derive(Clone, Copy)]
 pub struct Begun {
     /// What core 0 has begun.
-    pub core0: m0_core::Doing,
+    pub core0: Doing,
     /// What core 1 has begun.
-    pub core1: m0_core::Doing,
+    pub core1: Doing,
     /// What the DMA engine has begun.
-    pub dma: dma_engine::BegunTransfer,
+    pub dma: BegunTransfer,
     /// What PIO block 0 has begun.
     pub pio0: Option<Inputs>,
     /// What PIO block 1 has begun.
@@ -45,6 +48,19 @@ pub(crate) fn begin_lane<E, S: Lane<E>>(
     lane.begin(env, machine.at, &mut look)
 }
 
+/// What a core, by its number, begins, in the place of what it began before.
+#[inline(always)]
+pub(crate) fn begin_core(machine: &Machine, number: u8, core: &Core, begun: &mut Doing)
+    ensures { begun.new ≡ answered (answer_of number machine.now)
+        (asks core.now machine.now.cycle) }
+{
+    let mut look = MachineLook {
+        lane: number,
+        machine,
+    };
+    core.begin_into(machine.at, &mut look, begun);
+}
+
 impl Machine {
     ghost use Rattle.std.specs.Prelude.{◌≡◌};
     ghost use Rattle.rp_machine.specs.Cycle.{begun};
@@ -55,13 +71,16 @@ impl Machine {
     pub fn begin<X: Device>(&self, world: &World<'_, X>) -> Begun
         ensures { result ≡ begun self.now }
     {
-        Begun {
-            core0: begin_lane(self, 0, &self.core0, &()),
-            core1: begin_lane(self, 1, &self.core1, &()),
+        let mut lanes = Begun {
+            core0: Doing::nothing(),
+            core1: Doing::nothing(),
             dma: begin_lane(self, 2, &self.dma, &()),
             pio0: begin_lane(self, 3, &self.pio0, &()),
             pio1: begin_lane(self, 4, &self.pio1, &()),
             outer: begin_lane(self, 5, &self.outer, world),
-        }
+        };
+        begin_core(self, 0, &self.core0, &mut lanes.core0);
+        begin_core(self, 1, &self.core1, &mut lanes.core1);
+        lanes
     }
 }

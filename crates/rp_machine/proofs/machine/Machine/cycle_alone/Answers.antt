@@ -5,16 +5,16 @@ use Rattle.rp_machine.proofs.machine.Machine.cycle_alone.Goals as goal
 pub returns-in-Some-clause-cause : goal.returns-in-Some-clause-cause
 returns-in-Some-clause-cause g c =
     sym c.in-Some.is
-    ∙ cause_is _ c.requires.alone c.begin_core0-core0.ensures c.begin_outer-outer.ensures c.want_of.ensures c.cause_of.ensures
+    ∙ cause_is _ c.requires.alone c.begin_core0.ensures c.begin_outer-outer.ensures c.want_of.ensures c.cause_of.ensures
 
 pub returns-in-None-clause-cause : goal.returns-in-None-clause-cause
 returns-in-None-clause-cause g c =
     sym c.in-None.is
-    ∙ cause_is _ c.requires.alone c.begin_core0-core0.ensures c.begin_outer-outer.ensures c.want_of.ensures c.cause_of.ensures
+    ∙ cause_is _ c.requires.alone c.begin_core0.ensures c.begin_outer-outer.ensures c.want_of.ensures c.cause_of.ensures
 
 pub returns-in-None-clause-state : goal.returns-in-None-clause-state
 returns-in-None-clause-state g c =
-    next_is _ c.requires.alone c.begin_core0-core0.ensures c.begin_outer-outer.ensures c.want_of.ensures c.step_alone.ensures.state
+    next_is _ c.requires.alone c.begin_core0.ensures c.begin_outer-outer.ensures c.want_of.ensures c.step_alone.ensures.state
 
 pub returns-in-None-clause-marks : goal.returns-in-None-clause-marks
 returns-in-None-clause-marks g c =
@@ -24,12 +24,12 @@ returns-in-None-clause-marks g c =
 pub returns-then-is_bus_free-clause-cause : goal.returns-then-is_bus_free-clause-cause
 returns-then-is_bus_free-clause-cause g c =
     let free = c.is_bus_free.ensures.0 c.if-is_bus_free.true in
-    cause_is _ c.requires.alone c.begin_core0-core0.ensures c.begin_outer-outer.ensures refl (nothing_stops _ _ _ _ free.0)
+    cause_is _ c.requires.alone c.begin_core0.ensures c.begin_outer-outer.ensures refl (nothing_stops _ _ _ _ free.0)
 
 pub returns-then-is_bus_free-clause-state : goal.returns-then-is_bus_free-clause-state
 returns-then-is_bus_free-clause-state g c =
     let free = c.is_bus_free.ensures.0 c.if-is_bus_free.true in
-    next_is _ c.requires.alone c.begin_core0-core0.ensures c.begin_outer-outer.ensures refl
+    next_is _ c.requires.alone c.begin_core0.ensures c.begin_outer-outer.ensures refl
     (c.step_alone_at_rest.ensures.state ∙ rest_by _ _ _ _ _ free.0 free.1)
 
 pub returns-then-is_bus_free-clause-marks : goal.returns-then-is_bus_free-clause-marks
