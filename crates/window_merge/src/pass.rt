@@ -14,7 +14,7 @@ use crate::notes::Notes;
 use crate::start::{Start, begin_core0, begin_later, begin_outer};
 use crate::walk::ends_want;
 use lane_look::{Device, Marks};
-use m0_core::Core;
+use m0_core::{Core, Doing};
 use outer_lane::World;
 use rp_base::Master;
 use rp_machine::Machine;
@@ -101,7 +101,8 @@ fn try_alone<X: Device>(
         else notes.old) }
 {
     let mut same = true;
-    let core0 = begin_core0(machine, start, notes, &mut same);
+    let mut core0 = Doing::nothing();
+    begin_core0(machine, start, notes, &mut core0, &mut same);
     let outer = begin_outer(machine, world, start, notes, &mut same);
     if !same {
         return false;

@@ -4,6 +4,7 @@ ghost use Rattle.std.specs.Prelude.{◌≡◌, ◌&&◌, not};
 ghost use Rattle.lane_look.specs.Asking.{answered};
 ghost use Rattle.lane_look.specs.Replay.{asked};
 ghost use Rattle.lane_look.specs.Alone.{differs};
+ghost use Rattle.m0_core.specs.Fetch.{asks};
 ghost use Rattle.rp_machine.specs.Answers.{answer_of};
 ghost use Rattle.window_merge.specs.Notes.{seen_of};
 ghost use Rattle.window_merge.specs.Start.{guess, begun_from, differs_core0, differs_outer, differs_from};
@@ -11,7 +12,7 @@ ghost use Rattle.window_merge.specs.Start.{guess, begun_from, differs_core0, dif
 use crate::copies::half_of;
 use crate::notes::{Notes, seen_word};
 use lane_look::{Ask, Device, Lane, Look};
-use m0_core::Doing;
+use m0_core::{Core, Doing};
 use outer_lane::{SeenOutputs, World};
 use rp_base::map::{Spot, place};
 use rp_machine::Machine;
@@ -189,24 +190,51 @@ fn begin_by<E, S: Lane<E>>(
     begun
 }
 
-/// Begins the cycle of core 0 so.
+/// Begins the cycle of a core of that number so, in the place of what it began before.
 #[inline(always)]
-pub(crate) fn begin_core0(machine: &Machine, start: &Start, notes: &Notes, same: &mut bool) -> Doing
-    ensures begun { result ≡ (begun_from start.now notes.now machine.now).core0 }
-    ensures same { same.new ≡ (same.old && not (differs_core0 start.now notes.now machine.now)) }
+fn begin_core(
+    core: &Core,
+    number: u8,
+    machine: &Machine,
+    start: &Start,
+    notes: &Notes,
+    begun: &mut Doing,
+    same: &mut bool,
+)
+    ensures begun { begun.new ≡ answered
+        (guess number start.now (seen_of number notes.now machine.now.sram))
+        (asks core.now machine.now.cycle) }
+    ensures same { same.new ≡ (same.old && not (differs
+        (answer_of number machine.now)
+        (asked (guess number start.now (seen_of number notes.now machine.now.sram))
+        (asks core.now machine.now.cycle)))) }
 {
     let mut look = Guesser {
         machine,
-        lane: 0,
+        lane: number,
         start,
-        clean: notes.is_clean(0),
-        own: notes.own(0),
+        clean: notes.is_clean(number),
+        own: notes.own(number),
         originals: notes.originals.words(),
         same: *same,
     };
-    let begun = Lane::<()>::begin(&machine.core0, &(), machine.at, &mut look);
+    core.begin_into(machine.at, &mut look, begun);
     *same = look.same;
-    begun
+}
+
+/// Begins the cycle of core 0 so.
+#[inline(always)]
+pub(crate) fn begin_core0(
+    machine: &Machine,
+    start: &Start,
+    notes: &Notes,
+    begun: &mut Doing,
+    same: &mut bool,
+)
+    ensures begun { begun.new ≡ (begun_from start.now notes.now machine.now).core0 }
+    ensures same { same.new ≡ (same.old && not (differs_core0 start.now notes.now machine.now)) }
+{
+    begin_core(&machine.core0, 0, machine, start, notes, begun, same);
 }
 
 /// Begins the cycle of the peripherals so.
@@ -236,9 +264,13 @@ pub(crate) fn begin_later<X: Device>(
     ensures begun { result ≡ begun_from start.now notes.now machine.now }
     ensures same { same.new ≡ (same.old && not (differs_from start.now notes.now machine.now)) }
 {
+    let mut core0 = Doing::nothing();
+    begin_core0(machine, start, notes, &mut core0, same);
+    let mut core1 = Doing::nothing();
+    begin_core(&machine.core1, 1, machine, start, notes, &mut core1, same);
     Begun {
-        core0: begin_core0(machine, start, notes, same),
-        core1: begin_by(&machine.core1, &(), 1, machine, start, notes, same),
+        core0,
+        core1,
         dma: begin_by(&machine.dma, &(), 2, machine, start, notes, same),
         pio0: begin_by(&machine.pio0, &(), 3, machine, start, notes, same),
         pio1: begin_by(&machine.pio1, &(), 4, machine, start, notes, same),
