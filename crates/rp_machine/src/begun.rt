@@ -7,7 +7,7 @@ ghost use Rattle.rp_machine.specs.Answers.{answer_of};
 
 use crate::look::MachineLook;
 use crate::machine::Machine;
-use dma_engine::BegunTransfer;
+use dma_engine::{Access, BegunTransfer};
 use lane_look::{Device, Lane};
 use m0_core::{Core, Doing};
 use outer_lane::{SeenOutputs, World};
@@ -61,26 +61,61 @@ pub(crate) fn begin_core(machine: &Machine, number: u8, core: &Core, begun: &mut
     core.begin_into(machine.at, &mut look, begun);
 }
 
+impl Begun {
+    ghost use Rattle.std.specs.Prelude.{◌≡◌};
+    ghost use Rattle.m0_core.specs.declared.doing.Act.TheVariants.{Asleep};
+    ghost use Rattle.m0_core.specs.Fetch.{ends_with};
+
+    /// What lanes that are asleep or at rest begin in cycle 0: room for what is begun.
+    #[inline(always)]
+    pub fn nothing() -> Begun
+        ensures core0 { result.core0 ≡ ends_with 0 0 Asleep }
+        ensures core1 { result.core1 ≡ ends_with 0 0 Asleep }
+    {
+        Begun {
+            core0: Doing::nothing(),
+            core1: Doing::nothing(),
+            dma: BegunTransfer {
+                read: Access::Nothing,
+                write: Access::Nothing,
+                counts: 0,
+            },
+            pio0: None,
+            pio1: None,
+            outer: SeenOutputs {
+                cycle: 0,
+                pio0: [0, 0],
+                pio1: [0, 0],
+            },
+        }
+    }
+}
+
 impl Machine {
     ghost use Rattle.std.specs.Prelude.{◌≡◌};
     ghost use Rattle.rp_machine.specs.Cycle.{begun};
 
-    /// What the lanes begin, by the state at the start of the cycle.
+    /// What the lanes begin, by the state at the start of the cycle, in the place of what they began before.
     #[inline(always)]
     #[tactic(auto, unfolding(crate::specs::Cycle::begun))]
+    pub fn begin_into<X: Device>(&self, world: &World<'_, X>, lanes: &mut Begun)
+        ensures { lanes.new ≡ begun self.now }
+    {
+        lanes.dma = begin_lane(self, 2, &self.dma, &());
+        lanes.pio0 = begin_lane(self, 3, &self.pio0, &());
+        lanes.pio1 = begin_lane(self, 4, &self.pio1, &());
+        lanes.outer = begin_lane(self, 5, &self.outer, world);
+        begin_core(self, 0, &self.core0, &mut lanes.core0);
+        begin_core(self, 1, &self.core1, &mut lanes.core1);
+    }
+
+    /// What the lanes begin, by the state at the start of the cycle.
+    #[inline(always)]
     pub fn begin<X: Device>(&self, world: &World<'_, X>) -> Begun
         ensures { result ≡ begun self.now }
     {
-        let mut lanes = Begun {
-            core0: Doing::nothing(),
-            core1: Doing::nothing(),
-            dma: begin_lane(self, 2, &self.dma, &()),
-            pio0: begin_lane(self, 3, &self.pio0, &()),
-            pio1: begin_lane(self, 4, &self.pio1, &()),
-            outer: begin_lane(self, 5, &self.outer, world),
-        };
-        begin_core(self, 0, &self.core0, &mut lanes.core0);
-        begin_core(self, 1, &self.core1, &mut lanes.core1);
+        let mut lanes = Begun::nothing();
+        self.begin_into(world, &mut lanes);
         lanes
     }
 }

@@ -393,7 +393,8 @@ impl Machine {
             self.old ∷ []) }
         ensures steps { steps.new ≡ (if is_some result then steps.old else steps.old + 1) }
     {
-        let begun = self.begin(world);
+        let mut begun = Begun::nothing();
+        self.begin_into(world, &mut begun);
         let wants = all_wanted(&begun);
         if let Some(why) = self.cause_in(world, &begun, &wants) {
             return Some(why);
@@ -414,7 +415,8 @@ impl Machine {
         if self.at == world.limit {
             return Some(Why::Limit);
         }
-        let named = self.begin(world);
+        let mut named = Begun::nothing();
+        self.begin_into(world, &mut named);
         self.cause_in(world, &named, &all_wanted(&named))
     }
 
