@@ -18,6 +18,7 @@ use m0_core::{Core, Doing};
 use outer_lane::World;
 use rp_base::Master;
 use rp_machine::Machine;
+use rp_machine::begun::Begun;
 use rp_machine::wanted::{Wanted, all_wanted, want_of};
 
 /// Core 1 has a word of its launcher to take.
@@ -62,7 +63,8 @@ pub(crate) fn try_first<X: Device>(
     ensures notes { IfSome result (λ _. notes.new ≡ noted_by (wanted (begun machine.old))
         machine.old.sram no_notes) }
 {
-    let begun = machine.begin(world);
+    let mut begun = Begun::nothing();
+    machine.begin_into(world, &mut begun);
     let wants = all_wanted(&begun);
     if ends_wanted(&wants) || clash(&begun, &wants) {
         return None;
@@ -150,7 +152,8 @@ fn try_all<X: Device>(
         else notes.old) }
 {
     let mut same = true;
-    let begun = begin_later(machine, world, start, notes, &mut same);
+    let mut begun = Begun::nothing();
+    begin_later(machine, world, start, notes, &mut begun, &mut same);
     if !same {
         return false;
     }

@@ -252,28 +252,32 @@ pub(crate) fn begin_outer<X: Device>(
     begin_by(&machine.outer, world, 5, machine, start, notes, same)
 }
 
-/// Begins the cycle of all lanes as the start answers, and compares each answer with the machine's: `same` stays where each is.
+/// Begins the cycle of all lanes as the start answers, in the place of what they began before, and compares each answer with the
+/// machine's: `same` stays where each is.
 #[inline(always)]
 pub(crate) fn begin_later<X: Device>(
     machine: &Machine,
     world: &World<'_, X>,
     start: &Start,
     notes: &Notes,
+    begun: &mut Begun,
     same: &mut bool,
-) -> Begun
-    ensures begun { result ≡ begun_from start.now notes.now machine.now }
+)
+    ensures begun { begun.new ≡ begun_from start.now notes.now machine.now }
     ensures same { same.new ≡ (same.old && not (differs_from start.now notes.now machine.now)) }
 {
-    let mut core0 = Doing::nothing();
-    begin_core0(machine, start, notes, &mut core0, same);
-    let mut core1 = Doing::nothing();
-    begin_core(&machine.core1, 1, machine, start, notes, &mut core1, same);
-    Begun {
-        core0,
-        core1,
-        dma: begin_by(&machine.dma, &(), 2, machine, start, notes, same),
-        pio0: begin_by(&machine.pio0, &(), 3, machine, start, notes, same),
-        pio1: begin_by(&machine.pio1, &(), 4, machine, start, notes, same),
-        outer: begin_outer(machine, world, start, notes, same),
-    }
+    begin_core0(machine, start, notes, &mut begun.core0, same);
+    begin_core(
+        &machine.core1,
+        1,
+        machine,
+        start,
+        notes,
+        &mut begun.core1,
+        same,
+    );
+    begun.dma = begin_by(&machine.dma, &(), 2, machine, start, notes, same);
+    begun.pio0 = begin_by(&machine.pio0, &(), 3, machine, start, notes, same);
+    begun.pio1 = begin_by(&machine.pio1, &(), 4, machine, start, notes, same);
+    begun.outer = begin_outer(machine, world, start, notes, same);
 }
