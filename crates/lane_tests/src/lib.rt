@@ -10,6 +10,8 @@ mod io_bank_tests;
 #[cfg(test)]
 mod lane_look_tests;
 #[cfg(test)]
+mod m0_alu_tests;
+#[cfg(test)]
 mod m0_beats_tests;
 #[cfg(test)]
 mod m0_core_tests;
