@@ -1,5 +1,6 @@
 -- The events of a cycle, part by part.
 use Rattle.std.proofs.Common.{◌≡◌, ℕ, suc, ◌+◌, ◌-◌, ◌<◌, ◌≤◌, List, [], ◌∷◌, ◌++◌, length, drop, map, Bool, true, false, Option, Some, None, bit_xor, get_or, slice_get, refl, sym, ap, subst, ◌∙◌, arith}
+use Rattle.std.specs.Int.Bits.{xor_self}
 use Rattle.std.specs.List.{filter, range_with_len}
 use Rattle.std.proofs.lemmas.List.{drop_more, drop_all}
 use Rattle.std.proofs.lemmas.Option.{slice_get_within, get_or_from_slice_get}
@@ -98,6 +99,12 @@ from_end cycle changed after pin le = let last : 30 - pin ≡ 0 = omega (arith, 
 pub events_both : (cycle before : ℕ) (mark : Mark) → all_shown (bytes_of cycle 0 mark.uart) ++ all_shown (changes_of cycle before mark.pads) ≡ all_shown (events_of cycle before mark)
 unfolding events_of
 events_both cycle before mark = sym (shown_both (bytes_of cycle 0 mark.uart) (changes_of cycle before mark.pads))
+
+pub no_events : (cycle before : ℕ) (mark : Mark) → mark.uart ≡ None ∷ None ∷ [] → before ≡ mark.pads → all_shown (events_of cycle before mark) ≡ []
+no_events cycle before mark none same =
+    let bytes : all_shown (bytes_of cycle 0 mark.uart) ≡ [] = ap (λ (b : List (Option ℕ)). all_shown (bytes_of cycle 0 b)) none ∙ shown_none in
+    let pads : bit_xor before mark.pads ≡ 0 = ap (λ (n : ℕ). bit_xor n mark.pads) same ∙ xor_self mark.pads in
+    sym (events_both cycle before mark) ∙ (ap (λ (xs : List Shown). xs ++ all_shown (changes_of cycle before mark.pads)) bytes ∙ no_changes cycle before mark.pads pads)
 
 -- ---- marks
 
