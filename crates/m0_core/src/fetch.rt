@@ -47,6 +47,7 @@ fn word_of(answer: u128) -> u32
 }
 
 /// An access to SRAM; a read asks for its word.
+#[inline(always)]
 fn begin_ram<K: Look>(work: Work, request: Request, look: &mut K, act: &mut Act)
     ensures { Runs K.answers look.old (in_ram work request request.write) act.new look.new }
 {
