@@ -1,6 +1,8 @@
 //! Windows of a program: a DMA copy whose second read and first write meet on one bank; and reports that are accepted or not.
 
 ghost use Rattle.std.specs.Prelude.{◌≡◌, ◌<◌};
+ghost use Rattle.window_merge.specs.Merging.{IsRested};
+ghost use Rattle.window_merge.specs.Jobs.{IsWhole};
 
 use arrayvec::ArrayVec;
 use lane_look::{Device, Marks, NoDevice};
@@ -50,7 +52,43 @@ fn block(code: &[u8; 36]) -> [u8; 512] {
     bytes
 }
 
-/// The lengths of the windows of a run, and the cycle at which it stops for its limit.
+/// The lengths of the windows of a run from here, and the cycle at which it stops for its limit.
+fn lengths_of<X: Device, L: Ledger>(
+    machine: &mut Machine,
+    world: &World<'_, X>,
+    crew: &mut Crew,
+    steps: &mut Steps<L>,
+) -> Result<(ArrayVec<u16, 16>, u64), Fail>
+    requires rested { IsRested machine.old.sio }
+    requires crew { IsWhole crew.old }
+{
+    let mut marks = Marks::new();
+    let mut lengths = ArrayVec::new();
+    let mut after_empty = false;
+    for _ in 0..40 {
+        if machine.number() > world.limit {
+            break;
+        }
+        match advance(machine, world, crew, after_empty, &mut marks, steps) {
+            Moved::Stopped(why) => {
+                return match why {
+                    Why::Limit => Ok((lengths, machine.number())),
+                    _ => Err("another stop".into()),
+                };
+            }
+            Moved::Window(length) => {
+                after_empty = length == 0;
+                if !lengths.is_full() {
+                    lengths.push(length);
+                }
+            }
+            Moved::Cycle => after_empty = false,
+        }
+    }
+    Err("no stop".into())
+}
+
+/// The lengths of the windows of a program, and the cycle at which it stops for its limit.
 fn windows_of<L: Ledger>(
     alloc: Global,
     blank: Blank,
@@ -72,38 +110,7 @@ fn windows_of<L: Ledger>(
     };
     let mut machine = Machine::boot(alloc, &image, &[], &world)?;
     let mut crew = Crew::new(alloc)?;
-    let mut marks = Marks::new();
-    let mut lengths = ArrayVec::new();
-    let mut after_empty = false;
-    for _ in 0..40 {
-        if machine.number() > limit {
-            break;
-        }
-        let moved = advance(
-            &mut machine,
-            &world,
-            &mut crew,
-            after_empty,
-            &mut marks,
-            &mut steps,
-        );
-        match moved {
-            Moved::Stopped(why) => {
-                return match why {
-                    Why::Limit => Ok((lengths, machine.number())),
-                    _ => Err("another stop".into()),
-                };
-            }
-            Moved::Window(length) => {
-                after_empty = length == 0;
-                if !lengths.is_full() {
-                    lengths.push(length);
-                }
-            }
-            Moved::Cycle => after_empty = false,
-        }
-    }
-    Err("no stop".into())
+    lengths_of(&mut machine, &world, &mut crew, &mut steps)
 }
 
 #[test]
@@ -141,6 +148,28 @@ fn report_of<X: Device>(
 
 /// What is said of the reports of core 0 and of the peripherals by the machine that they were run from, by one whose first word
 /// is another, and by the machine a cycle later.
+fn said_by<X: Device, L: Ledger>(
+    machine: &mut Machine,
+    world: &World<'_, X>,
+    core0: &LaneReport,
+    outer: &LaneReport,
+    steps: &mut Steps<L>,
+) -> Result<[Result<(), Stranger>; 5], Fail> {
+    let here = accept(machine, core0);
+    let outer_here = accept(machine, outer);
+    machine.ram.write(0, 0xf, 0);
+    let changed = accept(machine, core0);
+    if machine.number() > world.limit {
+        return Err("another cycle".into());
+    }
+    let mut marks = Marks::new();
+    let _ = machine.cycle(world, &mut marks, steps);
+    let later = accept(machine, core0);
+    let outer_later = accept(machine, outer);
+    Ok([here, outer_here, changed, later, outer_later])
+}
+
+/// What is said of two reports from the start of a program.
 fn said_of<L: Ledger>(alloc: Global, blank: Blank) -> Result<[Result<(), Stranger>; 5], Fail>
     requires name { blank.name ≡ L.name }
     requires parts { blank.parts ≡ L.parts }
@@ -159,18 +188,7 @@ fn said_of<L: Ledger>(alloc: Global, blank: Blank) -> Result<[Result<(), Strange
     let mut crew = Crew::new(alloc)?;
     let core0 = report_of(&machine, &world, &mut crew.jobs[0])?;
     let outer = report_of(&machine, &world, &mut crew.jobs[5])?;
-    let here = accept(&machine, &core0);
-    let outer_here = accept(&machine, &outer);
-    machine.ram.write(0, 0xf, 0);
-    let changed = accept(&machine, &core0);
-    if machine.number() > 100 {
-        return Err("another cycle".into());
-    }
-    let mut marks = Marks::new();
-    let _ = machine.cycle(&world, &mut marks, &mut steps);
-    let later = accept(&machine, &core0);
-    let outer_later = accept(&machine, &outer);
-    Ok([here, outer_here, changed, later, outer_later])
+    said_by(&mut machine, &world, &core0, &outer, &mut steps)
 }
 
 #[test]
