@@ -3,15 +3,6 @@
 ghost use Rattle.std.specs.Prelude.{◌≡◌, ◌<◌};
 ghost use Rattle.rp_base.specs.Word.{has_bit, bit_number, byte_of, joined};
 
-/// The first address of SRAM (RP2040 Datasheet, 2.6.2).
-pub const SRAM_FIRST: u32 = 0x2000_0000;
-
-/// The first address after SRAM.
-pub const SRAM_END: u32 = 0x2004_2000;
-
-/// How many words SRAM has.
-pub const SRAM_WORDS: usize = 67_584;
-
 /// Bit `bit` of a word is set, 0 the lowest.
 pub fn has_bit(word: u32, bit: u32) -> bool
     requires { bit < 32 }

@@ -62,7 +62,9 @@ pub(crate) fn begin_core(machine: &Machine, number: u8, core: &Core, begun: &mut
 }
 
 impl Begun {
-    ghost use Rattle.std.specs.Prelude.{◌≡◌};
+    ghost use Rattle.std.specs.Prelude.{◌≡◌, ◌∷◌, [], None};
+    ghost use Rattle.dma_engine.specs.declared.begun.Access.TheVariants.{Nothing};
+    ghost use Rattle.dma_engine.specs.Asks.{begun_with};
     ghost use Rattle.m0_core.specs.declared.doing.Act.TheVariants.{Asleep};
     ghost use Rattle.m0_core.specs.Fetch.{ends_with};
 
@@ -71,6 +73,10 @@ impl Begun {
     pub fn nothing() -> Begun
         ensures core0 { result.core0 ≡ ends_with 0 0 Asleep }
         ensures core1 { result.core1 ≡ ends_with 0 0 Asleep }
+        ensures dma { result.dma ≡ begun_with 0 Nothing Nothing }
+        ensures pio0 { result.pio0 ≡ None }
+        ensures pio1 { result.pio1 ≡ None }
+        ensures outer { result.outer ≡ record { cycle = 0; pio0 = 0 ∷ 0 ∷ []; pio1 = 0 ∷ 0 ∷ [] } }
     {
         Begun {
             core0: Doing::nothing(),

@@ -5,11 +5,9 @@ ghost use Rattle.uf2_image.specs.Uf2.{LieFrom};
 ghost use Rattle.rp_machine.specs.Loading.{with_part, bytes_with, word_at, words_in, zeros, loaded_sram};
 
 use byteorder::{ByteOrder, LittleEndian};
+use ram_banks::WORDS;
 use std::alloc::{AllocError, Global};
 use uf2_image::Part;
-
-/// How many words SRAM has.
-const WORDS: usize = 67584;
 
 /// How many bytes SRAM has.
 const BYTES: usize = 270_336;
