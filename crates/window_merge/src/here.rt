@@ -12,6 +12,7 @@ use crate::notes::Notes;
 use crate::pass::{is_launching, try_first, try_later};
 use lane_look::{Device, Marks};
 use outer_lane::World;
+use rp_machine::begun::Begun;
 use rp_machine::{Machine, Steps};
 use std::sync::ledger::Ledger;
 
@@ -51,12 +52,13 @@ pub(crate) fn window_within<X: Device, L: Ledger>(
     if is_launching(&machine.core1) {
         return 0;
     }
-    let Some(start) = try_first(machine, world, notes, marks) else {
+    let mut begun = Begun::nothing();
+    let Some(start) = try_first(machine, world, notes, &mut begun, marks) else {
         return 0;
     };
     steps.tick();
     for k in 1..at_most {
-        if !try_later(machine, world, &start, notes, marks) {
+        if !try_later(machine, world, &start, notes, &mut begun, marks) {
             return k;
         }
         steps.tick();

@@ -41,11 +41,12 @@ fn ends_wanted(wants: &[Wanted; 4]) -> bool
 }
 
 /// The first cycle of a window, where no run alone ends and no two accesses name one port. Gives what the start answers.
-/// Otherwise the machine and the marks stay.
+/// Otherwise the machine and the marks stay. What the lanes begin is left in `begun`.
 pub(crate) fn try_first<X: Device>(
     machine: &mut Machine,
     world: &World<'_, X>,
     notes: &mut Notes,
+    begun: &mut Begun,
     marks: &mut Marks,
 ) -> Option<Start>
     requires number { machine.old.cycle < 2 ^ 64 - 1 }
@@ -63,16 +64,15 @@ pub(crate) fn try_first<X: Device>(
     ensures notes { IfSome result (λ _. notes.new ≡ noted_by (wanted (begun machine.old))
         machine.old.sram no_notes) }
 {
-    let mut begun = Begun::nothing();
-    machine.begin_into(world, &mut begun);
-    let wants = all_wanted(&begun);
-    if ends_wanted(&wants) || clash(&begun, &wants) {
+    machine.begin_into(world, begun);
+    let wants = all_wanted(begun);
+    if ends_wanted(&wants) || clash(begun, &wants) {
         return None;
     }
     let start = Start::of(machine);
     notes.clear();
     notes.note(&machine.ram, &wants);
-    machine.step(world, &begun, &wants, marks);
+    machine.step(world, begun, &wants, marks);
     Some(start)
 }
 
@@ -82,6 +82,7 @@ fn try_alone<X: Device>(
     world: &World<'_, X>,
     start: &Start,
     notes: &mut Notes,
+    core0: &mut Doing,
     marks: &mut Marks,
 ) -> bool
     requires alone { IsAlone machine.old }
@@ -103,25 +104,24 @@ fn try_alone<X: Device>(
         else notes.old) }
 {
     let mut same = true;
-    let mut core0 = Doing::nothing();
-    begin_core0(machine, start, notes, &mut core0, &mut same);
+    begin_core0(machine, start, notes, core0, &mut same);
     let outer = begin_outer(machine, world, start, notes, &mut same);
     if !same {
         return false;
     }
-    if machine.is_bus_free(&core0) {
-        machine.step_alone_at_rest(world, &core0, &outer, marks);
+    if machine.is_bus_free(core0) {
+        machine.step_alone_at_rest(world, core0, &outer, marks);
         return true;
     }
     let wanted = Wanted {
         master: Master::Core0,
-        want: want_of(&core0),
+        want: want_of(core0),
     };
     if ends_want(&wanted.want) {
         return false;
     }
     notes.note_core0(&machine.ram, &wanted.want);
-    machine.step_alone(world, &core0, &outer, &wanted, marks);
+    machine.step_alone(world, core0, &outer, &wanted, marks);
     true
 }
 
@@ -132,6 +132,7 @@ fn try_all<X: Device>(
     world: &World<'_, X>,
     start: &Start,
     notes: &mut Notes,
+    begun: &mut Begun,
     marks: &mut Marks,
 ) -> bool
     requires number { machine.old.cycle < 2 ^ 64 - 1 }
@@ -152,17 +153,16 @@ fn try_all<X: Device>(
         else notes.old) }
 {
     let mut same = true;
-    let mut begun = Begun::nothing();
-    begin_later(machine, world, start, notes, &mut begun, &mut same);
+    begin_later(machine, world, start, notes, begun, &mut same);
     if !same {
         return false;
     }
-    let wants = all_wanted(&begun);
-    if ends_wanted(&wants) || clash(&begun, &wants) {
+    let wants = all_wanted(begun);
+    if ends_wanted(&wants) || clash(begun, &wants) {
         return false;
     }
     notes.note(&machine.ram, &wants);
-    machine.step(world, &begun, &wants, marks);
+    machine.step(world, begun, &wants, marks);
     true
 }
 
@@ -173,6 +173,7 @@ pub(crate) fn try_later<X: Device>(
     world: &World<'_, X>,
     start: &Start,
     notes: &mut Notes,
+    begun: &mut Begun,
     marks: &mut Marks,
 ) -> bool
     requires number { machine.old.cycle < 2 ^ 64 - 1 }
@@ -193,8 +194,8 @@ pub(crate) fn try_later<X: Device>(
         else notes.old) }
 {
     if machine.is_core0_alone() {
-        try_alone(machine, world, start, notes, marks)
+        try_alone(machine, world, start, notes, &mut begun.core0, marks)
     } else {
-        try_all(machine, world, start, notes, marks)
+        try_all(machine, world, start, notes, begun, marks)
     }
 }

@@ -1,6 +1,6 @@
 //! The events of cycles, one after another, to a tape.
 
-ghost use Rattle.std.specs.Prelude.{◌≡◌, ◌+◌, ◌<◌, ◌^◌, ◌∷◌, [], Option, None, true, length};
+ghost use Rattle.std.specs.Prelude.{◌≡◌, ◌+◌, ◌<◌, ◌^◌, ◌∷◌, [], Option, None, Decides, length};
 ghost use Rattle.trace_text.specs.Tape.{Tells};
 ghost use Rattle.rp_machine.specs.Events.{bytes_of, changes_of, events_of};
 ghost use Rattle.window_runner.specs.Told.{all_shown, events_by};
@@ -85,10 +85,10 @@ fn tell_changes<T: Tape>(cycle: u64, before: u32, after: u32, tape: &mut T) -> R
 /// The mark of a cycle without an event: no byte was sent, and the pads stay as they were.
 #[inline(always)]
 fn is_quiet(before: u32, mark: &Mark) -> bool
-    ensures bytes { result ≡ true → mark.now.uart ≡ None ∷ None ∷ [] }
-    ensures pads { result ≡ true → before ≡ mark.now.pads }
+    ensures { Decides result ((mark.now.uart ≡ None ∷ None ∷ []) × (before ≡ mark.now.pads)) }
 {
-    matches!(mark.uart, [None, None]) && before == mark.pads
+    let silent = mark.uart == [None, None];
+    silent & (before == mark.pads)
 }
 
 /// Tells the events of a cycle that left this mark, where the pads had these levels before. Most cycles have none, which costs one

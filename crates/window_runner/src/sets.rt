@@ -121,12 +121,8 @@ pub(crate) fn has_report(found: &Six<Found>) -> bool
         || (is_some found.now.l2.report || (is_some found.now.l3.report
         || (is_some found.now.l4.report || is_some found.now.l5.report)))) }
 {
-    found.l0.report.is_some()
-        || found.l1.report.is_some()
-        || found.l2.report.is_some()
-        || found.l3.report.is_some()
-        || found.l4.report.is_some()
-        || found.l5.report.is_some()
+    let pio = found.l3.report.is_some() | (found.l4.report.is_some() | found.l5.report.is_some());
+    found.l0.report.is_some() | (found.l1.report.is_some() | (found.l2.report.is_some() | pio))
 }
 
 /// Runs a lane here, by its second job.
