@@ -372,9 +372,40 @@ impl Machine {
         self.at = at + 1;
     }
 
+    /// One cycle below the limit, in which the lanes have begun this.
+    #[tactic(auto, unfolding(crate::specs::Cycle::next, crate::specs::Cycle::mark))]
+    fn cycle_from<X: Device, L: Ledger>(
+        &mut self,
+        world: &World<'_, X>,
+        lanes: &Begun,
+        marks: &mut Marks,
+        steps: &mut Steps<L>,
+    ) -> Option<Why>
+        requires number { self.old.cycle < 2 ^ 64 - 1 }
+        requires begun { lanes.now ≡ begun self.old }
+        ensures cause { result ≡ cause_in
+            (setting_of world.now.script.now (X.meaning world.now.device.now) world.now.limit)
+            (begun self.old) (wanted (begun self.old)) self.old }
+        ensures state { self.new ≡ (if is_some result then self.old else next
+            (setting_of world.now.script.now (X.meaning world.now.device.now) world.now.limit)
+            self.old) }
+        ensures marks { marks.new ≡ (if is_some result then marks.old else mark
+            (setting_of world.now.script.now (X.meaning world.now.device.now) world.now.limit)
+            self.old ∷ []) }
+        ensures steps { steps.new ≡ (if is_some result then steps.old else steps.old + 1) }
+    {
+        let wants = all_wanted(lanes);
+        if let Some(why) = self.cause_in(world, lanes, &wants) {
+            return Some(why);
+        }
+        marks.clear();
+        steps.tick();
+        self.step(world, lanes, &wants, marks);
+        None
+    }
+
     /// One cycle below the limit, in which each lane may be at work.
     #[inline(never)]
-    #[tactic(auto, unfolding(crate::specs::Cycle::next, crate::specs::Cycle::mark))]
     fn cycle_of_all<X: Device, L: Ledger>(
         &mut self,
         world: &World<'_, X>,
@@ -395,14 +426,21 @@ impl Machine {
     {
         let mut begun = Begun::nothing();
         self.begin_into(world, &mut begun);
-        let wants = all_wanted(&begun);
-        if let Some(why) = self.cause_in(world, &begun, &wants) {
-            return Some(why);
+        self.cycle_from(world, &begun, marks, steps)
+    }
+
+    /// The cause for which the next cycle does not happen, if there is one, where this is what the lanes begin.
+    #[tactic(auto, unfolding(crate::specs::Cycle::stop))]
+    pub fn stop_of<X: Device>(&self, world: &World<'_, X>, lanes: &Begun) -> Option<Why>
+        requires { lanes.now ≡ begun self.now }
+        ensures { result ≡ stop
+            (setting_of world.now.script.now (X.meaning world.now.device.now) world.now.limit)
+            self.now }
+    {
+        if self.at == world.limit {
+            return Some(Why::Limit);
         }
-        marks.clear();
-        steps.tick();
-        self.step(world, &begun, &wants, marks);
-        None
+        self.cause_in(world, lanes, &all_wanted(lanes))
     }
 
     /// The cause for which the next cycle does not happen, if there is one.
@@ -418,6 +456,35 @@ impl Machine {
         let mut named = Begun::nothing();
         self.begin_into(world, &mut named);
         self.cause_in(world, &named, &all_wanted(&named))
+    }
+
+    /// Does one cycle of which this is what the lanes begin, counts it and leaves its mark alone in the marks; or changes nothing
+    /// and names the stop.
+    #[tactic(auto, unfolding(crate::specs::Cycle::stop))]
+    pub fn cycle_of<X: Device, L: Ledger>(
+        &mut self,
+        world: &World<'_, X>,
+        lanes: &Begun,
+        marks: &mut Marks,
+        steps: &mut Steps<L>,
+    ) -> Option<Why>
+        requires number { self.old.cycle ≤ world.now.limit }
+        requires begun { lanes.now ≡ begun self.old }
+        ensures cause { result ≡ stop
+            (setting_of world.now.script.now (X.meaning world.now.device.now) world.now.limit)
+            self.old }
+        ensures state { self.new ≡ (if is_some result then self.old else next
+            (setting_of world.now.script.now (X.meaning world.now.device.now) world.now.limit)
+            self.old) }
+        ensures marks { marks.new ≡ (if is_some result then marks.old else mark
+            (setting_of world.now.script.now (X.meaning world.now.device.now) world.now.limit)
+            self.old ∷ []) }
+        ensures steps { steps.new ≡ (if is_some result then steps.old else steps.old + 1) }
+    {
+        if self.at == world.limit {
+            return Some(Why::Limit);
+        }
+        self.cycle_from(world, lanes, marks, steps)
     }
 
     /// Does one cycle, counts it and leaves its mark alone in the marks; or changes nothing and names the stop.

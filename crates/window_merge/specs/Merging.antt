@@ -17,7 +17,7 @@ use Rattle.sio_block.specs.Launcher.{offers_of}
 use Rattle.rp_machine.specs.declared.begun.Begun.{Begun}
 use Rattle.rp_machine.specs.State.{State}
 use Rattle.rp_machine.specs.Answers.{answer_of}
-use Rattle.rp_machine.specs.Cycle.{pins_of, stop, next, mark}
+use Rattle.rp_machine.specs.Cycle.{begun, pins_of, stop, next, mark}
 use Rattle.rp_machine.specs.Run.{states}
 use Rattle.window_merge.specs.declared.runs.Runs.{Runs}
 use Rattle.window_merge.specs.declared.runs.Indices.{Indices}
@@ -140,6 +140,12 @@ pub record AreRunsAlone (w : Setting) (s : State) (runs : Runs) : Type 0 where
   pub outer : IsRunAlone (peripheral_lane w) 5 s.outer s (longest w s) runs.outer.now
 
 -- ---- from one position of a run to the next
+
+-- where a window had no cycle, this is what the lanes begin in the next one
+abbrev pub HasBegun : Moved → Begun → State → Type 0
+HasBegun (moved.Stopped why) lanes s = Unit {0}
+HasBegun (moved.Window n) lanes s = (n == 0) ≡ true → lanes ≡ begun s
+HasBegun moved.Cycle lanes s = Unit {0}
 
 -- it stopped, and nothing changed; or it went by a window; or by one cycle
 abbrev pub IsStep : Setting → Bool → Moved → State → State → List Mark → List Mark → ℕ → ℕ → Type 0

@@ -1,17 +1,18 @@
 //! A machine that goes by windows up to a cycle, on one thread.
 
-ghost use Rattle.std.specs.Prelude.{◌≡◌, ◌+◌, ◌-◌, ◌<◌, ◌≤◌};
+ghost use Rattle.std.specs.Prelude.{◌≡◌, ◌+◌, ◌-◌, ◌<◌, ◌≤◌, true};
 ghost use Rattle.outer_lane.specs.Setting.{setting_of};
+ghost use Rattle.rp_machine.specs.Cycle.{begun};
 ghost use Rattle.rp_machine.specs.Run.{states};
 ghost use Rattle.window_merge.specs.Window.{longest};
-ghost use Rattle.window_merge.specs.Merging.{IsRested};
+ghost use Rattle.window_merge.specs.Merging.{HasBegun, IsRested};
 ghost use Rattle.window_merge.specs.Jobs.{IsWhole};
 ghost use Rattle.window_merge.specs.Going.{IsGone, IsReached};
 
 use crate::here::window_within;
 use crate::lane_job::Crew;
 use crate::merge::longest;
-use crate::position::Moved;
+use crate::position::{Moved, cycle_after};
 use lane_look::{Device, Marks};
 use outer_lane::World;
 use rp_base::Why;
@@ -51,24 +52,34 @@ fn go_on<X: Device, L: Ledger>(
     requires to { machine.old.cycle < to }
     requires rested { IsRested machine.old.sio }
     requires crew { IsWhole crew.old }
+    requires begun { after_empty ≡ true → crew.old.begun ≡ begun machine.old }
     ensures gone { IsGone
         (setting_of world.now.script.now (X.meaning world.now.device.now) world.now.limit)
         after_empty to result machine.old machine.new steps.old steps.new }
     ensures rested { IsRested machine.new.sio }
     ensures crew { IsWhole crew.new }
+    ensures begun { HasBegun result crew.new.begun machine.new }
 {
     if after_empty || machine.fabric.holds() {
-        return match machine.cycle(world, marks, steps) {
+        return match cycle_after(machine, world, &crew.begun, after_empty, marks, steps) {
             Some(why) => Moved::Stopped(why),
             None => Moved::Cycle,
         };
     }
     let at_most = longest_to(machine, world, to);
-    let length = window_within(machine, world, &mut crew.notes, at_most, marks, steps);
+    let length = window_within(
+        machine,
+        world,
+        &mut crew.notes,
+        &mut crew.begun,
+        at_most,
+        marks,
+        steps,
+    );
     if length > 0 {
         return Moved::Window(length);
     }
-    match machine.stop(world) {
+    match machine.stop_of(world, &crew.begun) {
         Some(why) => Moved::Stopped(why),
         None => Moved::Window(length),
     }

@@ -13,6 +13,7 @@ use lane_look::{Log, Marks, NoDevice, Report};
 use m0_core::Core;
 use outer_lane::Outer;
 use pio_block::PioBlock;
+use rp_machine::begun::Begun;
 use std::alloc::{AllocError, Global};
 
 /// A report of no cycle, with room for a log.
@@ -103,6 +104,11 @@ impl Crew {
         let jobs = six_jobs(alloc)?;
         let spare = six_jobs(alloc)?;
         let notes = Notes::new(alloc)?;
-        Ok(Crew { jobs, spare, notes })
+        Ok(Crew {
+            jobs,
+            spare,
+            notes,
+            begun: Begun::nothing(),
+        })
     }
 }

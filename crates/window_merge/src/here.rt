@@ -1,8 +1,9 @@
 //! A window on one thread: one pass of the machine's own cycles, in which each lane is answered as the start answers it.
 
-ghost use Rattle.std.specs.Prelude.{◌≡◌, ◌+◌, ◌≤◌, false};
+ghost use Rattle.std.specs.Prelude.{◌≡◌, ◌+◌, ◌≤◌, ◌==◌, false, true};
 ghost use Rattle.outer_lane.specs.Setting.{setting_of};
 ghost use Rattle.bus_fabric.specs.State.{has_hold};
+ghost use Rattle.rp_machine.specs.Cycle.{begun};
 ghost use Rattle.rp_machine.specs.Run.{states};
 ghost use Rattle.window_merge.specs.Window.{longest, window_length, window_within};
 ghost use Rattle.window_merge.specs.Merging.{marks_in, IsRested};
@@ -16,11 +17,13 @@ use rp_machine::begun::Begun;
 use rp_machine::{Machine, Steps};
 use std::sync::ledger::Ledger;
 
-/// Moves the machine by a window of at most so many cycles. Gives how many it has.
+/// Moves the machine by a window of at most so many cycles. Gives how many it has. Where it has none, what the lanes begin in the
+/// next cycle is left in `lanes`.
 pub(crate) fn window_within<X: Device, L: Ledger>(
     machine: &mut Machine,
     world: &World<'_, X>,
     notes: &mut Notes,
+    lanes: &mut Begun,
     at_most: u16,
     marks: &mut Marks,
     steps: &mut Steps<L>,
@@ -42,23 +45,24 @@ pub(crate) fn window_within<X: Device, L: Ledger>(
         (setting_of world.now.script.now (X.meaning world.now.device.now) world.now.limit)
         machine.old result }
     ensures steps { steps.new ≡ steps.old + result }
+    ensures begun { (result == 0) ≡ true → lanes.new ≡ begun machine.old }
 {
     is_known(machine);
     is_numbered(machine, world, at_most);
     marks.clear();
+    machine.begin_into(world, lanes);
     if at_most == 0 {
         return 0;
     }
     if is_launching(&machine.core1) {
         return 0;
     }
-    let mut begun = Begun::nothing();
-    let Some(start) = try_first(machine, world, notes, &mut begun, marks) else {
+    let Some(start) = try_first(machine, world, lanes, notes, marks) else {
         return 0;
     };
     steps.tick();
     for k in 1..at_most {
-        if !try_later(machine, world, &start, notes, &mut begun, marks) {
+        if !try_later(machine, world, &start, notes, lanes, marks) {
             return k;
         }
         steps.tick();
@@ -67,12 +71,13 @@ pub(crate) fn window_within<X: Device, L: Ledger>(
 }
 
 /// Moves the machine by a window: as far as its lanes, each alone from its state, would go the machine's way. Gives the
-/// window's length. The marks of its cycles are left in `marks`, each counts as one of the steps, and `notes` is room for what it
-/// writes to SRAM.
+/// window's length. The marks of its cycles are left in `marks`, each counts as one of the steps, `notes` is room for what it
+/// writes to SRAM, and `lanes` for what the lanes begin: where the window has no cycle, that of the next cycle is left there.
 pub fn window<X: Device, L: Ledger>(
     machine: &mut Machine,
     world: &World<'_, X>,
     notes: &mut Notes,
+    lanes: &mut Begun,
     marks: &mut Marks,
     steps: &mut Steps<L>,
 ) -> u16
@@ -90,7 +95,8 @@ pub fn window<X: Device, L: Ledger>(
         (setting_of world.now.script.now (X.meaning world.now.device.now) world.now.limit)
         machine.old result }
     ensures steps { steps.new ≡ steps.old + result }
+    ensures begun { (result == 0) ≡ true → lanes.new ≡ begun machine.old }
 {
     let longest = longest(machine, world);
-    window_within(machine, world, notes, longest, marks, steps)
+    window_within(machine, world, notes, lanes, longest, marks, steps)
 }

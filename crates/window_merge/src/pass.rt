@@ -40,17 +40,18 @@ fn ends_wanted(wants: &[Wanted; 4]) -> bool
         || ends_want(&write.want)
 }
 
-/// The first cycle of a window, where no run alone ends and no two accesses name one port. Gives what the start answers.
-/// Otherwise the machine and the marks stay. What the lanes begin is left in `begun`.
+/// The first cycle of a window, in which the lanes begin this, where no run alone ends and no two accesses name one port. Gives what
+/// the start answers. Otherwise the machine and the marks stay.
 pub(crate) fn try_first<X: Device>(
     machine: &mut Machine,
     world: &World<'_, X>,
+    lanes: &Begun,
     notes: &mut Notes,
-    begun: &mut Begun,
     marks: &mut Marks,
 ) -> Option<Start>
     requires number { machine.old.cycle < 2 ^ 64 - 1 }
     requires marks { length marks.old < 256 }
+    requires begun { lanes.now ≡ begun machine.old }
     ensures goes { is_some result ≡ goes_first machine.old }
     ensures start { IfSome result (λ start. start ≡ start_of machine.old) }
     ensures state { machine.new ≡ (if is_some result then next_by
@@ -64,15 +65,14 @@ pub(crate) fn try_first<X: Device>(
     ensures notes { IfSome result (λ _. notes.new ≡ noted_by (wanted (begun machine.old))
         machine.old.sram no_notes) }
 {
-    machine.begin_into(world, begun);
-    let wants = all_wanted(begun);
-    if ends_wanted(&wants) || clash(begun, &wants) {
+    let wants = all_wanted(lanes);
+    if ends_wanted(&wants) || clash(lanes, &wants) {
         return None;
     }
     let start = Start::of(machine);
     notes.clear();
     notes.note(&machine.ram, &wants);
-    machine.step(world, begun, &wants, marks);
+    machine.step(world, lanes, &wants, marks);
     Some(start)
 }
 
@@ -132,7 +132,7 @@ fn try_all<X: Device>(
     world: &World<'_, X>,
     start: &Start,
     notes: &mut Notes,
-    begun: &mut Begun,
+    lanes: &mut Begun,
     marks: &mut Marks,
 ) -> bool
     requires number { machine.old.cycle < 2 ^ 64 - 1 }
@@ -153,16 +153,16 @@ fn try_all<X: Device>(
         else notes.old) }
 {
     let mut same = true;
-    begin_later(machine, world, start, notes, begun, &mut same);
+    begin_later(machine, world, start, notes, lanes, &mut same);
     if !same {
         return false;
     }
-    let wants = all_wanted(begun);
-    if ends_wanted(&wants) || clash(begun, &wants) {
+    let wants = all_wanted(lanes);
+    if ends_wanted(&wants) || clash(lanes, &wants) {
         return false;
     }
     notes.note(&machine.ram, &wants);
-    machine.step(world, begun, &wants, marks);
+    machine.step(world, lanes, &wants, marks);
     true
 }
 
@@ -173,7 +173,7 @@ pub(crate) fn try_later<X: Device>(
     world: &World<'_, X>,
     start: &Start,
     notes: &mut Notes,
-    begun: &mut Begun,
+    lanes: &mut Begun,
     marks: &mut Marks,
 ) -> bool
     requires number { machine.old.cycle < 2 ^ 64 - 1 }
@@ -194,8 +194,8 @@ pub(crate) fn try_later<X: Device>(
         else notes.old) }
 {
     if machine.is_core0_alone() {
-        try_alone(machine, world, start, notes, &mut begun.core0, marks)
+        try_alone(machine, world, start, notes, &mut lanes.core0, marks)
     } else {
-        try_all(machine, world, start, notes, begun, marks)
+        try_all(machine, world, start, notes, lanes, marks)
     }
 }

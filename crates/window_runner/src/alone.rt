@@ -1,9 +1,9 @@
 //! A run by windows on one thread.
 
-ghost use Rattle.std.specs.Prelude.{◌≡◌, ◌+◌, ◌<◌, ◌≤◌, ◌^◌, ◌==◌, [], None, length, if◌then◌else◌, false, IfOk};
+ghost use Rattle.std.specs.Prelude.{◌≡◌, ◌+◌, ◌<◌, ◌≤◌, ◌^◌, ◌==◌, [], None, length, if◌then◌else◌, false, true, IfOk};
 ghost use Rattle.outer_lane.specs.Setting.{setting_of};
 ghost use Rattle.trace_text.specs.Tape.{Tells};
-ghost use Rattle.rp_machine.specs.Cycle.{stop};
+ghost use Rattle.rp_machine.specs.Cycle.{begun, stop};
 ghost use Rattle.rp_machine.specs.Run.{last_state, unless_stopped};
 ghost use Rattle.window_merge.specs.Window.{next_position};
 ghost use Rattle.window_merge.specs.Merging.{IsRested};
@@ -94,6 +94,7 @@ fn step<X: Device, T: Tape, L: Ledger>(
     requires number { machine.old.cycle ≤ world.now.limit }
     requires rested { IsRested machine.old.sio }
     requires crew { IsWhole crew.old }
+    requires begun { counts.old.after_empty ≡ true → crew.old.begun ≡ begun machine.old }
     requires windows { counts.old.windows
         ≤ machine.old.cycle + (if counts.old.after_empty then 1 else 0) }
     requires cycles { counts.old.cycles ≤ machine.old.cycle }
@@ -113,6 +114,8 @@ fn step<X: Device, T: Tape, L: Ledger>(
     ensures steps { steps.new + machine.old.cycle ≡ steps.old + machine.new.cycle }
     ensures rested { IsRested machine.new.sio }
     ensures crew { IsWhole crew.new }
+    ensures begun { counts.new.after_empty ≡ true → stop_in result ≡ None
+        → crew.new.begun ≡ begun machine.new }
 {
     is_bounded(world);
     let cycle = machine.number();

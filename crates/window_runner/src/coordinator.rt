@@ -231,7 +231,8 @@ fn window<'w, X: Device, G: Gate, H: Wait, L: Ledger>(
         lead.after_short = length < SHORT;
         return length;
     }
-    let length = window_here(machine, desk.world, &mut lead.sets.notes, marks, steps);
+    let Sets { notes, begun, .. } = &mut *lead.sets;
+    let length = window_here(machine, desk.world, notes, begun, marks, steps);
     lead.after_short = length < SHORT;
     length
 }

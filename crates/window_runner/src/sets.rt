@@ -10,6 +10,7 @@ use crate::piece::{Found, Piece};
 use lane_look::Device;
 use outer_lane::World;
 use rp_machine::Machine;
+use rp_machine::begun::Begun;
 use std::alloc::{AllocError, Global};
 use turn_board::Six;
 use window_merge::{Crew, LaneJob, LaneReport, Notes, accept, back, job, run_by};
@@ -22,8 +23,10 @@ pub(crate) struct Sets {
     pub(crate) first: Six<Option<LaneJob>>,
     /// The second ones, for what is run here.
     pub(crate) spare: Six<Option<LaneJob>>,
-    /// Room for a window that is made here.
+    /// Room for the notes of a window that is made here.
     pub(crate) notes: Notes,
+    /// Room for what the lanes begin in it.
+    pub(crate) begun: Begun,
 }
 
 /// The jobs of a crew.
@@ -31,7 +34,12 @@ pub(crate) fn sets_of(alloc: Global, crew: Crew) -> Result<Box<Sets>, AllocError
     requires { IsWhole crew }
     ensures { IfOk result (λ sets. EachLane HasNumber sets.value.spare) }
 {
-    let Crew { jobs, spare, notes } = crew;
+    let Crew {
+        jobs,
+        spare,
+        notes,
+        begun,
+    } = crew;
     let [core0, core1, dma, pio0, pio1, outer] = jobs;
     let first = Six {
         l0: core0,
@@ -56,6 +64,7 @@ pub(crate) fn sets_of(alloc: Global, crew: Crew) -> Result<Box<Sets>, AllocError
             first,
             spare,
             notes,
+            begun,
         },
     )?)
 }

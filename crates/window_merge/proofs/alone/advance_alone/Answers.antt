@@ -6,7 +6,7 @@ use Rattle.window_merge.proofs.alone.advance_alone.Goals as goal
 pub moves-init : goal.moves-init
 moves-init g c =
     let w = setting_of c.args.world.now.script.now (g.X.Device.meaning c.args.world.now.device.now) c.args.world.now.limit in
-    (way_first w c.args.machine.now c.args.to _ c.requires.to c.requires.number, c.requires.rested, c.requires.crew)
+    (way_first w c.args.machine.now c.args.to _ c.requires.to c.requires.number, c.requires.rested, c.requires.crew, λ e. absurd (cc e))
 
 pub returns-in-Stopped-clause-state : goal.returns-in-Stopped-clause-state
 returns-in-Stopped-clause-state g c =
@@ -22,6 +22,7 @@ moves-preserved-in-Window g c =
           c.moves.invariant.0 h.1 h.2 h.3 h.4,
       c.in-Window.ensures.rested,
       c.in-Window.ensures.crew,
+      c.in-Window.ensures.begun,
     )
 
 pub moves-smaller : goal.moves-smaller
@@ -42,4 +43,5 @@ moves-preserved g c =
           c.moves.invariant.0 (omega (arith, below, number)) h.0 h.1 h.2,
       c.in-Cycle.ensures.rested,
       c.in-Cycle.ensures.crew,
+      λ e. absurd (cc e),
     )

@@ -10,7 +10,7 @@ use Rattle.window_merge.proofs.position.advance.Goals as goal
 pub returns-in-None-clause-rested : goal.returns-in-None-clause-rested
 returns-in-None-clause-rested g c =
     let w = setting_of c.args.world.now.script.now (g.X.Device.meaning c.args.world.now.device.now) c.args.world.now.limit in
-    rested_cycle w c.args.machine.now c.cycle.new.self _ c.requires.rested c.cycle.ensures.state
+    rested_cycle w c.args.machine.now c.cycle_after.new.machine _ c.requires.rested c.cycle_after.ensures.state
 
 pub returns-then-length-gt0-clause-moved : goal.returns-then-length-gt0-clause-moved
 returns-then-length-gt0-clause-moved g c =
