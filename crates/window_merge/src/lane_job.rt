@@ -5,6 +5,7 @@ ghost use Rattle.window_merge.specs.Kinds.{is_run_of, has_room_for};
 
 use crate::lane_run::{LaneRun, LaneSet};
 use crate::notes::Notes;
+use rp_machine::begun::Begun;
 
 /// What a lane is to do alone. Its type keeps that the lane is at most 5 and that the set has room for a report of that lane.
 #[derive(Drop)]

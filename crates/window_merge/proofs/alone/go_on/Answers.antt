@@ -5,6 +5,7 @@ use Rattle.rp_machine.specs.Cycle.{stop}
 use Rattle.window_merge.specs.Merging.{IsRested}
 use Rattle.window_merge.proofs.Meeting.{short_window}
 use Rattle.window_merge.proofs.Passing.{no_cycle}
+use Rattle.window_merge.proofs.EmptyWindow.{begun_behind}
 use Rattle.window_merge.proofs.Resting.{rested_cycle, rested_states}
 use Rattle.window_merge.proofs.alone.go_on.Goals as goal
 
@@ -13,13 +14,13 @@ returns-in-None-clause-rested g c =
     let w = setting_of c.args.world.now.script.now (g.X.Device.meaning c.args.world.now.device.now) c.args.world.now.limit in
     rested_cycle w c.args.machine.now c.cycle_after.new.machine _ c.requires.rested c.cycle_after.ensures.state
 
-pub returns-in-Some-stop-clause-gone : goal.returns-in-Some-stop-clause-gone
-returns-in-Some-stop-clause-gone g c =
+pub returns-in-Some-stop_of-clause-gone : goal.returns-in-Some-stop_of-clause-gone
+returns-in-Some-stop_of-clause-gone g c =
     let w = setting_of c.args.world.now.script.now (g.X.Device.meaning c.args.world.now.device.now) c.args.world.now.limit in
     let h = c.window_within-length.ensures in
     let none = c.if-length-gt0.false in
     let same = no_cycle w c.args.machine.now c.window_within-length.new.machine c.window_within-length.result h.state (omega (arith, none)) in
-    (ap (stop w) (sym same) ∙ sym c.in-Some-stop.ensures, same, let steps = h.steps in omega (arith, steps, none))
+    (ap (stop w) (sym same) ∙ sym c.in-Some-stop_of.ensures, same, let steps = h.steps in omega (arith, steps, none))
 
 pub returns-then-length-gt0-clause-gone : goal.returns-then-length-gt0-clause-gone
 returns-then-length-gt0-clause-gone g c =
@@ -29,8 +30,8 @@ returns-then-length-gt0-clause-gone g c =
     let number = c.window_within-length.ensures.number in
     (c.if-after_empty.false, c.window_within-length.ensures.state, number, omega (arith, few, within, number), c.window_within-length.ensures.steps)
 
-pub returns-in-None-stop-clause-gone : goal.returns-in-None-stop-clause-gone
-returns-in-None-stop-clause-gone g c =
+pub returns-in-None-stop_of-clause-gone : goal.returns-in-None-stop_of-clause-gone
+returns-in-None-stop_of-clause-gone g c =
     let w = setting_of c.args.world.now.script.now (g.X.Device.meaning c.args.world.now.device.now) c.args.world.now.limit in
     let few = short_window w c.args.machine.now c.longest_to-at_most.result c.window_within-length.result c.window_within-length.ensures.length in
     let within = c.longest_to-at_most.ensures.within in
@@ -43,14 +44,29 @@ returns-then-length-gt0-clause-rested g c =
     let family : State → Type 0 = λ s. IsRested s.sio in
     subst family (sym c.window_within-length.ensures.state) (rested_states w c.args.machine.now c.window_within-length.result c.requires.rested)
 
-pub returns-in-Some-stop-clause-rested : goal.returns-in-Some-stop-clause-rested
-returns-in-Some-stop-clause-rested g c =
+pub returns-in-Some-stop_of-clause-rested : goal.returns-in-Some-stop_of-clause-rested
+returns-in-Some-stop_of-clause-rested g c =
     let w = setting_of c.args.world.now.script.now (g.X.Device.meaning c.args.world.now.device.now) c.args.world.now.limit in
     let family : State → Type 0 = λ s. IsRested s.sio in
     subst family (sym c.window_within-length.ensures.state) (rested_states w c.args.machine.now c.window_within-length.result c.requires.rested)
 
-pub returns-in-None-stop-clause-rested : goal.returns-in-None-stop-clause-rested
-returns-in-None-stop-clause-rested g c =
+pub returns-in-None-stop_of-clause-rested : goal.returns-in-None-stop_of-clause-rested
+returns-in-None-stop_of-clause-rested g c =
     let w = setting_of c.args.world.now.script.now (g.X.Device.meaning c.args.world.now.device.now) c.args.world.now.limit in
     let family : State → Type 0 = λ s. IsRested s.sio in
     subst family (sym c.window_within-length.ensures.state) (rested_states w c.args.machine.now c.window_within-length.result c.requires.rested)
+
+-- a window without a cycle left what the lanes begin in the next one
+pub stop_of-requires-after_bounds : goal.stop_of-requires-after_bounds
+stop_of-requires-after_bounds g c κs within =
+    let w = setting_of c.args.world.now.script.now (g.X.Device.meaning c.args.world.now.device.now) c.args.world.now.limit in
+    let none = c.if-length-gt0.false in
+    let h = c.window_within-length.ensures in
+    begun_behind w c.args.machine.now c.window_within-length.new.machine c.window_within-length.result _ h.state (omega (arith, none)) h.begun
+
+pub returns-in-None-stop_of-clause-begun : goal.returns-in-None-stop_of-clause-begun
+returns-in-None-stop_of-clause-begun g c =
+    let w = setting_of c.args.world.now.script.now (g.X.Device.meaning c.args.world.now.device.now) c.args.world.now.limit in
+    let none = c.if-length-gt0.false in
+    let h = c.window_within-length.ensures in
+    λ e. begun_behind w c.args.machine.now c.window_within-length.new.machine c.window_within-length.result _ h.state (omega (arith, none)) h.begun

@@ -4,6 +4,7 @@ use Rattle.rp_machine.specs.State.{State}
 use Rattle.rp_machine.specs.Cycle.{stop}
 use Rattle.window_merge.specs.Merging.{IsRested}
 use Rattle.window_merge.proofs.Passing.{unstopped_whole, no_cycle}
+use Rattle.window_merge.proofs.EmptyWindow.{begun_behind}
 use Rattle.window_merge.proofs.Resting.{rested_cycle, rested_states}
 use Rattle.window_merge.proofs.position.advance.Goals as goal
 
@@ -18,21 +19,21 @@ returns-then-length-gt0-clause-moved g c =
     let h = c.window-length.ensures in
     (unstopped_whole w c.args.machine.now c.window-length.result h.length c.if-length-gt0.true, search rules, h.length, h.state, h.marks, h.steps, h.number)
 
-pub returns-in-Some-stop-clause-moved : goal.returns-in-Some-stop-clause-moved
-returns-in-Some-stop-clause-moved g c =
+pub returns-in-Some-stop_of-clause-moved : goal.returns-in-Some-stop_of-clause-moved
+returns-in-Some-stop_of-clause-moved g c =
     let w = setting_of c.args.world.now.script.now (g.X.Device.meaning c.args.world.now.device.now) c.args.world.now.limit in
     let h = c.window-length.ensures in
     let none = c.if-length-gt0.false in
     let same = no_cycle w c.args.machine.now c.window-length.new.machine c.window-length.result h.state (omega (arith, none)) in
-    (ap (stop w) (sym same) ∙ sym c.in-Some-stop.ensures, same, let steps = h.steps in omega (arith, steps, none))
+    (ap (stop w) (sym same) ∙ sym c.in-Some-stop_of.ensures, same, let steps = h.steps in omega (arith, steps, none))
 
-pub returns-in-None-stop-clause-moved : goal.returns-in-None-stop-clause-moved
-returns-in-None-stop-clause-moved g c =
+pub returns-in-None-stop_of-clause-moved : goal.returns-in-None-stop_of-clause-moved
+returns-in-None-stop_of-clause-moved g c =
     let w = setting_of c.args.world.now.script.now (g.X.Device.meaning c.args.world.now.device.now) c.args.world.now.limit in
     let h = c.window-length.ensures in
     let none = c.if-length-gt0.false in
     let same = no_cycle w c.args.machine.now c.window-length.new.machine c.window-length.result h.state (omega (arith, none)) in
-    (ap (stop w) (sym same) ∙ sym c.in-None-stop.ensures, search rules, h.length, h.state, h.marks, h.steps, h.number)
+    (ap (stop w) (sym same) ∙ sym c.in-None-stop_of.ensures, search rules, h.length, h.state, h.marks, h.steps, h.number)
 
 pub returns-then-length-gt0-clause-rested : goal.returns-then-length-gt0-clause-rested
 returns-then-length-gt0-clause-rested g c =
@@ -40,14 +41,27 @@ returns-then-length-gt0-clause-rested g c =
     let family : State → Type 0 = λ s. IsRested s.sio in
     subst family (sym c.window-length.ensures.state) (rested_states w c.args.machine.now c.window-length.result c.requires.rested)
 
-pub returns-in-Some-stop-clause-rested : goal.returns-in-Some-stop-clause-rested
-returns-in-Some-stop-clause-rested g c =
+pub returns-in-Some-stop_of-clause-rested : goal.returns-in-Some-stop_of-clause-rested
+returns-in-Some-stop_of-clause-rested g c =
     let w = setting_of c.args.world.now.script.now (g.X.Device.meaning c.args.world.now.device.now) c.args.world.now.limit in
     let family : State → Type 0 = λ s. IsRested s.sio in
     subst family (sym c.window-length.ensures.state) (rested_states w c.args.machine.now c.window-length.result c.requires.rested)
 
-pub returns-in-None-stop-clause-rested : goal.returns-in-None-stop-clause-rested
-returns-in-None-stop-clause-rested g c =
+pub returns-in-None-stop_of-clause-rested : goal.returns-in-None-stop_of-clause-rested
+returns-in-None-stop_of-clause-rested g c =
     let w = setting_of c.args.world.now.script.now (g.X.Device.meaning c.args.world.now.device.now) c.args.world.now.limit in
     let family : State → Type 0 = λ s. IsRested s.sio in
     subst family (sym c.window-length.ensures.state) (rested_states w c.args.machine.now c.window-length.result c.requires.rested)
+
+-- a window without a cycle left what the lanes begin in the next one
+pub stop_of-requires-after_bounds : goal.stop_of-requires-after_bounds
+stop_of-requires-after_bounds g c κs within =
+    let w = setting_of c.args.world.now.script.now (g.X.Device.meaning c.args.world.now.device.now) c.args.world.now.limit in
+    let none = c.if-length-gt0.false in
+    begun_behind w c.args.machine.now c.window-length.new.machine c.window-length.result _ c.window-length.ensures.state (omega (arith, none)) c.window-length.ensures.begun
+
+pub returns-in-None-stop_of-clause-begun : goal.returns-in-None-stop_of-clause-begun
+returns-in-None-stop_of-clause-begun g c =
+    let w = setting_of c.args.world.now.script.now (g.X.Device.meaning c.args.world.now.device.now) c.args.world.now.limit in
+    let none = c.if-length-gt0.false in
+    λ e. begun_behind w c.args.machine.now c.window-length.new.machine c.window-length.result _ c.window-length.ensures.state (omega (arith, none)) c.window-length.ensures.begun
