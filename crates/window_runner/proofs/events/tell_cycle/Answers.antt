@@ -5,7 +5,7 @@ use Rattle.window_runner.proofs.events.tell_cycle.Goals as goal
 pub returns-then-is_quiet : goal.returns-then-is_quiet
 returns-then-is_quiet g c =
     tells_none _ _ _ _ _ _ g.met.T.Tape.takes_none
-    (no_events c.args.cycle c.args.before c.args.mark.now (c.is_quiet.ensures.bytes c.if-is_quiet.true) (c.is_quiet.ensures.pads c.if-is_quiet.true))
+    (no_events c.args.cycle c.args.before c.args.mark.now ((c.is_quiet.ensures.0 c.if-is_quiet.true).0) ((c.is_quiet.ensures.0 c.if-is_quiet.true).1))
 
 pub returns-in-Ok : goal.returns-in-Ok
 returns-in-Ok g c =
