@@ -1,5 +1,7 @@
 //! Worked values.
 
+ghost use Rattle.bus_fabric.specs.Masters.{HavePorts};
+
 use bus_fabric::Fabric;
 use rp_base::Master;
 
@@ -29,13 +31,24 @@ const CYCLES: [(u32, [Option<(u8, bool)>; 4], [bool; 4]); 9] = [
     (0x0100, [R0, R3, R0, R3], [false, true, true, false]),
 ];
 
+/// What the masters ask for in a cycle gives this, and then the fabric holds an access, or not.
+fn grants(
+    fabric: &mut Fabric,
+    asked: &[Option<(u8, bool)>; 4],
+    done: &[bool; 4],
+    holds: bool,
+) -> bool
+    requires { HavePorts asked.now }
+{
+    fabric.grant(asked) == *done && fabric.holds() == holds
+}
+
 #[test]
 fn at_once(rt: HostRuntime) {
     for (priority, asked, done) in CYCLES {
         let mut fabric = Fabric::new();
         fabric.set_priority(priority);
-        assert!(rt; fabric.grant(&asked) == done);
-        assert!(rt; !fabric.holds());
+        assert!(rt; grants(&mut fabric, &asked, &done, false));
     }
 }
 
@@ -87,8 +100,7 @@ const LASTING: [([Option<(u8, bool)>; 4], [bool; 4], bool); 12] = [
 fn lasting(rt: HostRuntime) {
     let mut fabric = Fabric::new();
     for (asked, done, holds) in LASTING {
-        assert!(rt; fabric.grant(&asked) == done);
-        assert_eq!(rt; fabric.holds(), holds);
+        assert!(rt; grants(&mut fabric, &asked, &done, holds));
     }
     assert!(rt; fabric.holder() == Some(Master::Core1));
 }
@@ -110,12 +122,12 @@ const TURNS: [([Option<(u8, bool)>; 4], [bool; 4]); 8] = [
 fn turns(rt: HostRuntime) {
     let mut fabric = Fabric::new();
     for (asked, done) in TURNS {
-        assert!(rt; fabric.grant(&asked) == done);
+        assert!(rt; grants(&mut fabric, &asked, &done, false));
     }
     fabric.served(0, Master::Core1);
     fabric.served(3, Master::Core0);
-    let done = fabric.grant(&[R0, R0, R3, W0]);
-    assert!(rt; done == [false, false, true, true]);
+    let asked = [R0, R0, R3, W0];
+    assert!(rt; grants(&mut fabric, &asked, &[false, false, true, true], false));
 }
 
 #[test]

@@ -8,7 +8,6 @@ use dma_engine::registers::{
 use lane_look::{Ask, Lane, Look, Marks, Turn, Want};
 use rp_base::map::{Spot, place, port};
 use rp_base::{Master, Request, Size, Why};
-use std::process::Abort;
 
 /// The first 128 words of SRAM, and the counts by which channels are paced.
 #[derive(Drop)]
@@ -105,13 +104,6 @@ fn cycle(dma: &mut Dma, memory: &mut Memory, taken: u8, outside: u32) -> (u32, u
     (address(wants[0]), address(wants[1]))
 }
 
-/// An engine whose channel 0 was given its four registers in order.
-fn started(read: u32, write: u32, count: u32, ctrl: u32) -> Dma {
-    let mut dma = Dma::new();
-    start(&mut dma, 0, [read, write, count, ctrl]);
-    dma
-}
-
 /// Gives a channel its four registers in order.
 fn start(dma: &mut Dma, number: u16, registers: [u32; 4]) {
     for k in 0..4 {
@@ -121,61 +113,163 @@ fn start(dma: &mut Dma, number: u16, registers: [u32; 4]) {
     }
 }
 
+/// An engine whose channel 0 was given its four registers in order.
+fn started(read: u32, write: u32, count: u32, ctrl: u32) -> Dma {
+    let mut dma = Dma::new();
+    start(&mut dma, 0, [read, write, count, ctrl]);
+    dma
+}
+
 /// The first address of SRAM.
 const SRAM: u32 = 0x2000_0000;
 
 /// The offset of the words of channel 3.
 const CHANNEL_3: u16 = 0xc0;
 
-/// The write address, a port that another master takes in each cycle, and the low bytes of the reads' and writes' addresses.
-const UNPACED: [(u32, [u8; 6], [(u32, u32); 6]); 2] = [
-    // the second read and the first write meet on bank 0
-    (
-        0x80,
-        [8, 8, 8, 8, 8, 8],
-        [
-            (0, 0),
-            (0x1c, 0),
-            (0x20, 0x80),
-            (0, 0x80),
-            (0, 0x84),
-            (0, 0),
-        ],
-    ),
-    // a core takes the bank of the second write
-    (
-        0x84,
-        [8, 8, 8, 2, 8, 8],
-        [
-            (0, 0),
-            (0x1c, 0),
-            (0x20, 0x84),
-            (0, 0x88),
-            (0, 0x88),
-            (0, 0),
-        ],
-    ),
+/// What is done to an engine, or seen of it and its memory.
+#[derive(Clone, Copy)]
+enum Deed {
+    /// A channel is given its four registers.
+    Start(u16, [u32; 4]),
+    /// A write at an offset.
+    Write(u16, u32),
+    /// What is read at an offset.
+    Reads(u16, u32),
+    /// An offset of no word.
+    Missing(u16),
+    /// RESETS holds the engine, or lets it go.
+    Hold(bool),
+    /// The counts by which channels are paced.
+    Counts(u128),
+    /// A cycle, and the addresses of its read and of its write.
+    Cycle(u32, u32),
+    /// The same where a master before the engine takes a port.
+    Taken(u8, u32, u32),
+    /// The same where an access outside SRAM reads this.
+    Outside(u32, u32, u32),
+    /// A cycle, and the address of its read.
+    Fetch(u32),
+    /// A word of the memory.
+    Word(u32, u32),
+    /// The interrupt lines.
+    Lines(bool, bool),
+    /// The engine rests, or not.
+    Idle(bool),
+    /// What a copy reads at an offset.
+    Twin(u16, u32),
+}
+
+/// What concerns the registers.
+fn acts(dma: &mut Dma, deed: &Deed) -> bool {
+    match *deed {
+        Deed::Start(number, registers) => start(dma, number, registers),
+        Deed::Write(offset, word) => return dma.effect(offset, Some(word)),
+        Deed::Hold(held) => dma.set_held(held),
+        _ => {}
+    }
+    true
+}
+
+/// A cycle, and that it has these addresses.
+fn wants(dma: &mut Dma, memory: &mut Memory, with: (u8, u32), want: (u32, u32)) -> bool {
+    let (read, write) = cycle(dma, memory, with.0, with.1);
+    read == want.0 && write == want.1
+}
+
+/// What concerns the cycles.
+fn runs(dma: &mut Dma, memory: &mut Memory, deed: &Deed) -> bool {
+    match *deed {
+        Deed::Counts(counts) => {
+            memory.counts = counts;
+            true
+        }
+        Deed::Cycle(read, write) => wants(dma, memory, (8, 0), (read, write)),
+        Deed::Taken(port, read, write) => wants(dma, memory, (port, 0), (read, write)),
+        Deed::Outside(word, read, write) => wants(dma, memory, (8, word), (read, write)),
+        Deed::Fetch(read) => cycle(dma, memory, 8, 0).0 == read,
+        _ => true,
+    }
+}
+
+/// What a copy reads at an offset.
+fn copied(dma: &Dma, offset: u16) -> Option<u32> {
+    let mut twin = Dma::new();
+    twin.copy_from(dma);
+    twin.read(offset)
+}
+
+/// What is seen.
+fn shows(dma: &Dma, memory: &Memory, deed: &Deed) -> bool {
+    match *deed {
+        Deed::Reads(offset, word) => dma.read(offset) == Some(word),
+        Deed::Missing(offset) => dma.read(offset).is_none() && !dma.allows(offset, Some(0)),
+        Deed::Word(address, word) => memory.word(address) == word,
+        Deed::Lines(first, second) => dma.lines() == [first, second],
+        Deed::Idle(idle) => dma.is_at_rest() == idle,
+        Deed::Twin(offset, word) => copied(dma, offset) == Some(word),
+        _ => true,
+    }
+}
+
+/// The first of these that is not so.
+fn wrong_deed(dma: &mut Dma, memory: &mut Memory, deeds: &[Deed]) -> Option<usize> {
+    for (index, deed) in deeds.iter().enumerate() {
+        if !acts(dma, deed) || !runs(dma, memory, deed) || !shows(dma, memory, deed) {
+            return Some(index);
+        }
+    }
+    None
+}
+
+/// The first of these that is not so of a new engine and a memory that begins with these words.
+fn first_wrong(words: &[u32], deeds: &[Deed]) -> Option<usize> {
+    wrong_deed(&mut Dma::new(), &mut Memory::with_words(words), deeds)
+}
+
+/// Words 7 and 8 are those that are copied.
+const TWO_WORDS: [u32; 9] = [0, 0, 0, 0, 0, 0, 0, 0x1122_3344, 0x5566_7788];
+
+/// The first channel is chosen in the cycle after the trigger, and read from the next one on. The second read and the first write
+/// meet on bank 0. The sequence ends one cycle after its last write.
+const CLASH: [Deed; 14] = [
+    Deed::Start(0, [SRAM + 0x1c, SRAM + 0x80, 2, 0x001f_8039]),
+    Deed::Reads(CH0_CTRL_TRIG, 0x011f_8039),
+    Deed::Cycle(0, 0),
+    Deed::Cycle(SRAM + 0x1c, 0),
+    Deed::Cycle(SRAM + 0x20, SRAM + 0x80),
+    Deed::Cycle(0, SRAM + 0x80),
+    Deed::Cycle(0, SRAM + 0x84),
+    Deed::Cycle(0, 0),
+    Deed::Word(SRAM + 0x80, 0x1122_3344),
+    Deed::Word(SRAM + 0x84, 0x5566_7788),
+    Deed::Reads(CH0_READ_ADDR, SRAM + 0x24),
+    Deed::Reads(CH0_WRITE_ADDR, SRAM + 0x88),
+    Deed::Reads(CH0_CTRL_TRIG, 0x001f_8039),
+    Deed::Reads(INTR, 1),
 ];
 
-// The first channel is chosen in the cycle after the trigger, and read from the next one on.
+/// A core takes the bank of the second write.
+const TAKEN: [Deed; 14] = [
+    Deed::Start(0, [SRAM + 0x1c, SRAM + 0x84, 2, 0x001f_8039]),
+    Deed::Reads(CH0_CTRL_TRIG, 0x011f_8039),
+    Deed::Cycle(0, 0),
+    Deed::Cycle(SRAM + 0x1c, 0),
+    Deed::Cycle(SRAM + 0x20, SRAM + 0x84),
+    Deed::Taken(2, 0, SRAM + 0x88),
+    Deed::Cycle(0, SRAM + 0x88),
+    Deed::Cycle(0, 0),
+    Deed::Word(SRAM + 0x84, 0x1122_3344),
+    Deed::Word(SRAM + 0x88, 0x5566_7788),
+    Deed::Reads(CH0_READ_ADDR, SRAM + 0x24),
+    Deed::Reads(CH0_WRITE_ADDR, SRAM + 0x8c),
+    Deed::Reads(CH0_CTRL_TRIG, 0x001f_8039),
+    Deed::Reads(INTR, 1),
+];
+
 #[test]
 fn unpaced_copies(rt: HostRuntime) {
-    for (write, taken, wants) in UNPACED {
-        let mut memory = Memory::with_words(&[0, 0, 0, 0, 0, 0, 0, 0x1122_3344, 0x5566_7788]);
-        let mut dma = started(SRAM + 0x1c, SRAM + write, 2, 0x001f_8039);
-        assert_eq!(rt; dma.read(CH0_CTRL_TRIG), Some(0x011f_8039));
-        for k in 0..6 {
-            let (read, write) = cycle(&mut dma, &mut memory, taken[k], 0);
-            assert_eq!(rt; (read % 0x100, write % 0x100), wants[k], "cycle {k}");
-        }
-        assert_eq!(rt; memory.word(SRAM + write), 0x1122_3344);
-        assert_eq!(rt; memory.word(SRAM + write + 4), 0x5566_7788);
-        assert_eq!(rt; dma.read(CH0_READ_ADDR), Some(SRAM + 0x24));
-        assert_eq!(rt; dma.read(CH0_WRITE_ADDR), Some(SRAM + write + 8));
-        // the sequence ended one cycle after its last write
-        assert_eq!(rt; dma.read(CH0_CTRL_TRIG), Some(0x001f_8039));
-        assert_eq!(rt; dma.read(INTR), Some(1));
-    }
+    assert_eq!(rt; first_wrong(&TWO_WORDS, &CLASH), None);
+    assert_eq!(rt; first_wrong(&TWO_WORDS, &TAKEN), None);
 }
 
 /// What is written at an offset, and what is read at another one.
@@ -198,30 +292,39 @@ const WORDS: [(u16, u32, u16, u32); 14] = [
     (N_CHANNELS, 0xffff_ffff, N_CHANNELS, 0x0000_000c),
 ];
 
+/// A word is written at an offset, and one is read at another.
+fn keeps(dma: &mut Dma, row: &(u16, u32, u16, u32)) -> bool {
+    let (offset, written, other, read) = *row;
+    dma.effect(offset, Some(written)) && dma.read(other) == Some(read)
+}
+
+/// What is seen after the words. Held, the engine is in its reset state, reads 0 and takes no write.
+const SEEN: [Deed; 15] = [
+    Deed::Missing(0x001),
+    Deed::Missing(0x300),
+    Deed::Missing(0x410),
+    Deed::Missing(0x434),
+    Deed::Missing(0x44c),
+    Deed::Lines(true, true),
+    Deed::Twin(INTE0, 0xfff),
+    Deed::Hold(true),
+    Deed::Write(INTE0, 1),
+    Deed::Reads(N_CHANNELS, 0),
+    Deed::Hold(false),
+    Deed::Reads(INTE0, 0),
+    Deed::Idle(false),
+    Deed::Cycle(0, 0),
+    Deed::Idle(true),
+];
+
 #[test]
 fn words(rt: HostRuntime) {
     let mut dma = Dma::new();
-    for (offset, written, other, read) in WORDS {
-        assert!(rt; dma.effect(offset, Some(written)), "{offset:x}");
-        assert_eq!(rt; dma.read(other), Some(read), "{offset:x}");
+    for row in WORDS {
+        assert!(rt; keeps(&mut dma, &row), "{:x}", row.0);
     }
-    for offset in [0x001, 0x300, 0x410, 0x434, 0x44c] {
-        assert_eq!(rt; dma.read(offset), None, "{offset:x}");
-        assert!(rt; !dma.allows(offset, Some(0)), "{offset:x}");
-    }
-    assert_eq!(rt; dma.lines(), [true, true]);
-    let mut other = Dma::new();
-    other.copy_from(&dma);
-    assert_eq!(rt; other.read(INTE0), Some(0xfff));
-    // held, the engine is in its reset state, reads 0 and takes no write
-    dma.set_held(true);
-    assert!(rt; dma.effect(INTE0, Some(1)));
-    assert_eq!(rt; dma.read(N_CHANNELS), Some(0));
-    dma.set_held(false);
-    assert_eq!(rt; dma.read(INTE0), Some(0));
-    assert!(rt; !dma.is_at_rest());
-    cycle(&mut dma, &mut Memory::with_words(&[]), 8, 0);
-    assert!(rt; dma.is_at_rest());
+    let mut memory = Memory::with_words(&[]);
+    assert_eq!(rt; wrong_deed(&mut dma, &mut memory, &SEEN), None);
 }
 
 /// CTRL, the low bytes of READ and WRITE, COUNT; READ and WRITE after the copy; the word at 20000040 then.
@@ -238,158 +341,181 @@ const COPIES: [(u32, u32, u32, u32, u32, u32, u32); 6] = [
     (0x001f_84e9, 0x00, 0x44, 3, 0x00, 0x40, 0x4433_2211),
 ];
 
+/// The copy of a row ends so.
+fn copies(row: &(u32, u32, u32, u32, u32, u32, u32)) -> bool {
+    let (ctrl, read, write, count, after_read, after_write, word) = *row;
+    let mut memory = Memory::with_words(&[0x4433_2211, 0x8877_6655]);
+    let mut dma = started(
+        SRAM.wrapping_add(read),
+        SRAM.wrapping_add(write),
+        count,
+        ctrl,
+    );
+    for _ in 0..10 {
+        cycle(&mut dma, &mut memory, 8, 0);
+    }
+    dma.read(CH0_READ_ADDR) == Some(SRAM.wrapping_add(after_read))
+        && dma.read(CH0_WRITE_ADDR) == Some(SRAM.wrapping_add(after_write))
+        && memory.word(SRAM + 0x40) == word
+}
+
 #[test]
 fn sizes_and_rings(rt: HostRuntime) {
-    for (ctrl, read, write, count, after_read, after_write, word) in COPIES {
-        let mut memory = Memory::with_words(&[0x4433_2211, 0x8877_6655]);
-        let mut dma = started(SRAM + read, SRAM + write, count, ctrl);
-        for _ in 0..10 {
-            cycle(&mut dma, &mut memory, 8, 0);
-        }
-        assert_eq!(rt;
-            dma.read(CH0_READ_ADDR),
-            Some(SRAM + after_read),
-            "{ctrl:x}"
-        );
-        assert_eq!(rt;
-            dma.read(CH0_WRITE_ADDR),
-            Some(SRAM + after_write),
-            "{ctrl:x}"
-        );
-        assert_eq!(rt; memory.word(SRAM + 0x40), word, "{ctrl:x}");
+    for row in COPIES {
+        assert!(rt; copies(&row), "{:x}", row.0);
     }
 }
+
+/// Channel 3 waits for channel 0, which is chained to it, and is quiet: the fourth cycle after the read is that of channel 3. A 0
+/// in a trigger word raises the interrupt of a quiet channel, and starts nothing.
+const CHAINED: [Deed; 20] = [
+    Deed::Start(3, [SRAM + 0xc, SRAM + 0x80, 1, 0x003f_9808]),
+    Deed::Write(CHANNEL_3 + CH0_AL1_CTRL, 0x003f_9809),
+    Deed::Start(0, [SRAM, SRAM + 0x84, 1, 0x001f_9809]),
+    Deed::Cycle(0, 0),
+    Deed::Cycle(SRAM, 0),
+    Deed::Cycle(0, SRAM + 0x84),
+    Deed::Cycle(0, 0),
+    Deed::Cycle(0, 0),
+    Deed::Cycle(SRAM + 0xc, 0),
+    Deed::Cycle(0, SRAM + 0x80),
+    Deed::Cycle(0, 0),
+    Deed::Reads(INTR, 1),
+    Deed::Write(CHANNEL_3 + 0x1c, 0),
+    Deed::Reads(INTR, 9),
+    Deed::Reads(CHANNEL_3 + CH0_CTRL_TRIG, 0x003f_9809),
+    Deed::Write(INTS0, 1),
+    Deed::Reads(INTR, 8),
+    Deed::Write(MULTI_CHAN_TRIGGER, 9),
+    Deed::Reads(CH0_CTRL_TRIG, 0x011f_9809),
+    Deed::Reads(CHANNEL_3 + CH0_CTRL_TRIG, 0x013f_9809),
+];
 
 #[test]
 fn chains_and_triggers(rt: HostRuntime) {
-    let mut memory = Memory::with_words(&[1, 2, 3, 4]);
-    let mut dma = Dma::new();
-    // channel 3 waits for channel 0, which is chained to it, and is quiet
-    start(&mut dma, 3, [SRAM + 0xc, SRAM + 0x80, 1, 0x003f_9808]);
-    assert!(rt; dma.effect(CHANNEL_3 + CH0_AL1_CTRL, Some(0x003f_9809)));
-    start(&mut dma, 0, [SRAM, SRAM + 0x84, 1, 0x001f_9809]);
-    // the fourth cycle after the read is that of channel 3
-    for (read, write) in [
-        (0, 0),
-        (SRAM, 0),
-        (0, 0x84),
-        (0, 0),
-        (0, 0),
-        (SRAM + 0xc, 0),
-        (0, 0x80),
-        (0, 0),
-    ] {
-        let wants = cycle(&mut dma, &mut memory, 8, 0);
-        assert_eq!(rt; (wants.0, wants.1 % 0x100), (read, write));
-    }
-    assert_eq!(rt; dma.read(INTR), Some(1));
-    // a 0 in a trigger word raises the interrupt of a quiet channel, and starts nothing
-    assert!(rt; dma.effect(CHANNEL_3 + 0x1c, Some(0)));
-    assert_eq!(rt; dma.read(INTR), Some(9));
-    assert_eq!(rt; dma.read(CHANNEL_3 + CH0_CTRL_TRIG), Some(0x003f_9809));
-    assert!(rt; dma.effect(INTS0, Some(1)));
-    assert_eq!(rt; dma.read(INTR), Some(8));
-    assert!(rt; dma.effect(MULTI_CHAN_TRIGGER, Some(9)));
-    assert_eq!(rt; dma.read(CH0_CTRL_TRIG), Some(0x011f_9809));
-    assert_eq!(rt; dma.read(CHANNEL_3 + CH0_CTRL_TRIG), Some(0x013f_9809));
+    assert_eq!(rt; first_wrong(&[1, 2, 3, 4], &CHAINED), None);
 }
+
+/// Channels 1, 2 and 3, each chained to itself; channel 2 has a high priority. At its abort channel 3 has two transfers in flight:
+/// the one that is chosen now and one whose write waits.
+const ABORTED: [Deed; 18] = [
+    Deed::Start(1, [SRAM + 0x4, SRAM + 0x80, 2, 0x001f_8809]),
+    Deed::Start(2, [SRAM + 0x8, SRAM + 0x90, 2, 0x001f_900b]),
+    Deed::Start(3, [SRAM + 0xc, SRAM + 0xa0, 9, 0x001f_9809]),
+    Deed::Fetch(0),
+    Deed::Fetch(SRAM + 0x8),
+    Deed::Fetch(SRAM + 0x8),
+    Deed::Fetch(SRAM + 0xc),
+    Deed::Fetch(SRAM + 0x4),
+    Deed::Fetch(SRAM + 0xc),
+    Deed::Fetch(SRAM + 0x4),
+    Deed::Fetch(SRAM + 0xc),
+    Deed::Write(CHAN_ABORT, 8),
+    Deed::Reads(CHANNEL_3 + CH0_TRANS_COUNT, 0),
+    Deed::Cycle(SRAM + 0xc, SRAM + 0xa0),
+    Deed::Cycle(0, SRAM + 0xa0),
+    Deed::Cycle(0, 0),
+    Deed::Reads(CHANNEL_3 + CH0_CTRL_TRIG, 0x001f_9809),
+    Deed::Reads(INTR, 6),
+];
 
 #[test]
 fn priorities_and_aborts(rt: HostRuntime) {
-    let mut memory = Memory::with_words(&[1, 2, 3, 4]);
-    let mut dma = Dma::new();
-    // channels 1, 2 and 3, each chained to itself; channel 2 has a high priority
-    start(&mut dma, 1, [SRAM + 0x4, SRAM + 0x80, 2, 0x001f_8809]);
-    start(&mut dma, 2, [SRAM + 0x8, SRAM + 0x90, 2, 0x001f_900b]);
-    start(&mut dma, 3, [SRAM + 0xc, SRAM + 0xa0, 9, 0x001f_9809]);
-    for low in [0, 8, 8, 0xc, 4, 0xc, 4, 0xc] {
-        let (read, _) = cycle(&mut dma, &mut memory, 8, 0);
-        assert_eq!(rt; read % 0x100, low);
-    }
-    // channel 3 has two transfers in flight: the one that is chosen now and one whose write waits
-    assert!(rt; dma.effect(CHAN_ABORT, Some(8)));
-    assert_eq!(rt; dma.read(CHANNEL_3 + CH0_TRANS_COUNT), Some(0));
-    for wants in [(0xc, 0xa0), (0, 0xa0), (0, 0)] {
-        let (read, write) = cycle(&mut dma, &mut memory, 8, 0);
-        assert_eq!(rt; (read % 0x100, write % 0x100), wants);
-    }
-    assert_eq!(rt; dma.read(CHANNEL_3 + CH0_CTRL_TRIG), Some(0x001f_9809));
-    assert_eq!(rt; dma.read(INTR), Some(6));
+    assert_eq!(rt; first_wrong(&[1, 2, 3, 4], &ABORTED), None);
 }
+
+/// A transmitter with two free entries, which fill, and one of which is free again in the seventh cycle.
+const TRANSMITTER: [Deed; 14] = [
+    Deed::Start(0, [SRAM, 0x5020_0010, 9, 0x0000_0019]),
+    Deed::Counts(2),
+    Deed::Cycle(0, 0),
+    Deed::Cycle(SRAM, 0),
+    Deed::Cycle(SRAM + 4, 0x5020_0010),
+    Deed::Counts(1),
+    Deed::Cycle(0, 0x5020_0010),
+    Deed::Counts(0),
+    Deed::Cycle(0, 0),
+    Deed::Cycle(0, 0),
+    Deed::Counts(1),
+    Deed::Cycle(0, 0),
+    Deed::Cycle(SRAM + 8, 0),
+    Deed::Cycle(0, 0x5020_0010),
+];
+
+/// A receiver with one word, read once while it stands there.
+const RECEIVER: [Deed; 7] = [
+    Deed::Counts(0x100_0000),
+    Deed::Start(0, [0x5020_0020, SRAM + 0x80, 9, 0x0002_0029]),
+    Deed::Outside(0xabcd, 0, 0),
+    Deed::Outside(0xabcd, 0x5020_0020, 0),
+    Deed::Counts(0),
+    Deed::Outside(0xabcd, 0, SRAM + 0x80),
+    Deed::Word(SRAM + 0x80, 0xabcd),
+];
 
 #[test]
 fn pacing(rt: HostRuntime) {
-    let mut memory = Memory::with_words(&[7, 8, 9]);
-    // a transmitter with two free entries, which fill, and one of which is free again in the seventh cycle
-    let mut dma = started(SRAM, 0x5020_0010, 9, 0x0000_0019);
-    let cycles = [
-        (2, (0, 0)),
-        (2, (SRAM, 0)),
-        (2, (SRAM + 4, 0x5020_0010)),
-        (1, (0, 0x5020_0010)),
-        (0, (0, 0)),
-        (0, (0, 0)),
-        (1, (0, 0)),
-        (1, (SRAM + 8, 0)),
-        (1, (0, 0x5020_0010)),
-    ];
-    for (free, want) in cycles {
-        memory.counts = free;
-        assert_eq!(rt; cycle(&mut dma, &mut memory, 8, 0), want);
-    }
-    // a receiver with one word, read once while it stands there
-    memory.counts = 1 << 24;
-    let mut dma = started(0x5020_0020, SRAM + 0x80, 9, 0x0002_0029);
-    for want in [(0, 0), (0x5020_0020, 0), (0, SRAM + 0x80)] {
-        assert_eq!(rt; cycle(&mut dma, &mut memory, 8, 0xabcd), want);
-        memory.counts = if want.0 != 0 { 0 } else { 1 << 24 };
-    }
-    assert_eq!(rt; memory.word(SRAM + 0x80), 0xabcd);
+    assert_eq!(rt; first_wrong(&[7, 8, 9], &TRANSMITTER), None);
+    assert_eq!(rt; first_wrong(&[7, 8, 9], &RECEIVER), None);
 }
+
+/// One credit in three cycles, at the end of cycles 2, 5 and 8: each read follows two cycles later.
+const PACED: [Deed; 14] = [
+    Deed::Start(0, [SRAM, SRAM + 0x80, 9, 0x001f_0009]),
+    Deed::Write(TIMER0 + 12, 0x0001_0003),
+    Deed::Fetch(0),
+    Deed::Fetch(0),
+    Deed::Fetch(0),
+    Deed::Fetch(0),
+    Deed::Fetch(SRAM),
+    Deed::Fetch(0),
+    Deed::Fetch(0),
+    Deed::Fetch(SRAM),
+    Deed::Fetch(0),
+    Deed::Fetch(0),
+    Deed::Fetch(SRAM),
+    Deed::Fetch(0),
+];
 
 #[test]
 fn timers(rt: HostRuntime) {
-    let mut memory = Memory::with_words(&[7, 8, 9]);
-    // one credit in three cycles, at the end of cycles 2, 5 and 8: each read follows two cycles later
-    let mut dma = started(SRAM, SRAM + 0x80, 9, 0x001f_0009);
-    assert!(rt; dma.effect(TIMER0 + 12, Some(0x0001_0003)));
-    for number in 0..12 {
-        let (read, _) = cycle(&mut dma, &mut memory, 8, 0);
-        assert_eq!(rt;
-            read != 0,
-            number == 4 || number == 7 || number == 10,
-            "{number}"
-        );
-    }
+    assert_eq!(rt; first_wrong(&[7, 8, 9], &PACED), None);
+}
+
+/// A read from there is the engine's stop.
+fn is_stopped(read: u32, stop: u32) -> bool {
+    let mut memory = Memory::with_words(&[7]);
+    let mut dma = started(read, SRAM + 0x80, 1, 0x001f_8009);
+    cycle(&mut dma, &mut memory, 8, 0);
+    let begun = dma.begin(&(), 1, &mut memory);
+    Dma::wants(&begun)[0] == Want::Stopped(Why::Outside(Master::DmaRead, stop))
+}
+
+/// A write to there goes outward.
+fn is_outward(address: u32) -> bool {
+    let mut memory = Memory::with_words(&[7]);
+    let mut dma = started(SRAM, address, 1, 0x001f_8009);
+    cycle(&mut dma, &mut memory, 8, 0);
+    cycle(&mut dma, &mut memory, 8, 0);
+    let begun = dma.begin(&(), 2, &mut memory);
+    let request = Request {
+        address,
+        size: Size::Word,
+        write: Some(7),
+    };
+    Dma::wants(&begun)[1] == Want::Outward(request)
 }
 
 #[test]
 fn outside(rt: HostRuntime) {
-    let mut memory = Memory::with_words(&[7]);
     for (read, stop) in [
         (0xd000_0000, 0xd000_0000),
         (0xe000_e012, 0xe000_e010),
         (0x1000_0000, 0x1000_0000),
     ] {
-        let mut dma = started(read, SRAM + 0x80, 1, 0x001f_8009);
-        cycle(&mut dma, &mut memory, 8, 0);
-        let begun = dma.begin(&(), 1, &mut memory);
-        let want = Want::Stopped(Why::Outside(Master::DmaRead, stop));
-        assert!(rt; Dma::wants(&begun)[0] == want, "{read:x}");
+        assert!(rt; is_stopped(read, stop), "{read:x}");
     }
     for write in [0x4009_9000, 0x5000_0400] {
-        let mut dma = started(SRAM, write, 1, 0x001f_8009);
-        cycle(&mut dma, &mut memory, 8, 0);
-        cycle(&mut dma, &mut memory, 8, 0);
-        let begun = dma.begin(&(), 2, &mut memory);
-        let request = Request {
-            address: write,
-            size: Size::Word,
-            write: Some(7),
-        };
-        assert!(rt;
-            Dma::wants(&begun)[1] == Want::Outward(request),
-            "{write:x}"
-        );
+        assert!(rt; is_outward(write), "{write:x}");
     }
 }

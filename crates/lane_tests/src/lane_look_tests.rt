@@ -85,34 +85,41 @@ fn step<E, S: Lane<E>, K: Look>(lane: &mut S, env: &E, cycle: u64, look: &mut K,
     lane.finish(env, &begun, [Turn::Done(0), Turn::Done(0)], marks);
 }
 
-#[test]
-fn steps(rt: HostRuntime) {
-    let mut lane = Copier { address: 7 };
+/// Its word is asked for, and becomes its address.
+fn goes_on(lane: &mut Copier, marks: &mut Marks) -> bool {
     let mut look = Count(41);
-    let mut marks = Marks::new();
     let begun = lane.begin(&(), 0, &mut look);
-    assert_eq!(rt; begun, 41);
-    assert!(rt; Copier::wants(&begun)[1] == Want::Nothing);
-    step(&mut lane, &(), 1, &mut look, &mut marks);
-    assert_eq!(rt; lane.address, 42);
-    let mut other = Copier { address: 0 };
-    other.copy_from(&lane);
-    assert_eq!(rt; other.address, 42);
+    step(lane, &(), 1, &mut look, marks);
+    begun == 41 && Copier::wants(&begun)[1] == Want::Nothing && lane.address == 42
 }
 
 #[test]
-fn marks(rt: HostRuntime) {
-    let mut marks = Marks::new();
-    assert_eq!(rt; marks.count(), 0);
+fn steps(rt: HostRuntime) {
+    let mut lane = Copier { address: 7 };
+    let right = goes_on(&mut lane, &mut Marks::new());
+    let mut other = Copier { address: 0 };
+    other.copy_from(&lane);
+    assert!(rt; right && other.address == 42);
+}
+
+/// A mark is kept until they are cleared.
+fn keeps(marks: &mut Marks) -> bool {
     let mark = Mark {
         uart: [None, Some(0x41)],
         pads: 6,
     };
+    if marks.count() != 0 {
+        return false;
+    }
     marks.push(mark);
-    assert_eq!(rt; marks.count(), 1);
-    assert!(rt; marks.entry(0) == mark);
+    let one = marks.count() == 1 && marks.entry(0) == mark;
     marks.clear();
-    assert_eq!(rt; marks.count(), 0);
+    one && marks.count() == 0
+}
+
+#[test]
+fn marks(rt: HostRuntime) {
+    assert!(rt; keeps(&mut Marks::new()));
 }
 
 /// A device of one word at one address: a read leaves 0, a write adds to the word, and each cycle adds one. The word is
@@ -187,51 +194,57 @@ fn tried<D: Device>(device: &D, state: &mut [u32], address: u32) -> (bool, u32, 
     (owned, word, wires)
 }
 
-#[test]
-fn devices(rt: HostRuntime) {
-    let mut none = [];
-    assert_eq!(rt; NoDevice.words(), 0);
-    assert!(rt; tried(&NoDevice, &mut none, 8) == (false, 0, Wires::default()));
+/// No device owns nothing and drives nothing.
+fn none_answers() -> bool {
+    let (owned, word, wires) = tried(&NoDevice, &mut [], 8);
+    NoDevice.words() == 0 && !owned && word == 0 && wires == Wires::default()
+}
 
+/// A counter of this address and these pads.
+fn device_at(address: u32, pads: u32) -> Counter {
+    Counter { address, pads }
+}
+
+/// One device answers.
+fn one_answers() -> bool {
     let mut one = [0];
-    let counter = Counter {
-        address: 8,
-        pads: 6,
-    };
-    let wires = Wires {
+    let device = device_at(8, 6);
+    let (owned, word, wires) = tried(&device, &mut one, 8);
+    let wanted = Wires {
         mask: 6,
         level: 2,
         pwm: 0x30,
         irq: 1,
     };
-    assert_eq!(rt; counter.words(), 1);
-    assert!(rt; tried(&counter, &mut one, 8) == (true, 6, wires));
-    assert_eq!(rt; one[0], 3);
+    device.words() == 1 && owned && word == 6 && wires == wanted && one[0] == 3
+}
 
+/// Two devices both own the address and drive pad 2, which the first one makes low and the second one high.
+fn two_answer() -> bool {
     let mut two = [0; 2];
-    let second = Counter {
-        address: 8,
-        pads: 5,
-    };
     let pair = Pair {
-        first: counter,
-        second,
+        first: device_at(8, 6),
+        second: device_at(8, 5),
     };
-    assert_eq!(rt; pair.words(), 2);
-    // both own the address and drive pad 2, which the first device makes low and the second one high
+    let (owned, word, wires) = tried(&pair, &mut two, 8);
     let joined = Wires {
         mask: 7,
         level: 3,
         pwm: 0x30,
         irq: 1,
     };
-    assert!(rt; tried(&pair, &mut two, 8) == (true, 6, joined));
-    assert_eq!(rt; two[0], 3);
-    assert_eq!(rt; two[1], 6);
+    let right = pair.words() == 2 && owned && word == 6 && wires == joined;
+    let stepped = two[0] == 3 && two[1] == 6;
     // no device owns this address; the second one is asked
-    assert!(rt; !pair.owns(12));
-    assert_eq!(rt; pair.read(&mut two, 12), 6);
-    assert_eq!(rt; two[1], 0);
+    let other = !pair.owns(12) && pair.read(&mut two, 12) == 6;
+    right && stepped && other && two[1] == 0
+}
+
+#[test]
+fn devices(rt: HostRuntime) {
+    assert!(rt; none_answers());
+    assert!(rt; one_answers());
+    assert!(rt; two_answer());
 }
 
 #[test]

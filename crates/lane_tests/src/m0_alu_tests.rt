@@ -50,22 +50,43 @@ const EXTENSIONS: [(ExtendKind, u32, u32); 9] = [
     (ExtendKind::Revsh, 0x1234_0080, 0xffff_8000),
 ];
 
+/// The sum of a row is so.
+fn adds(row: &(u32, u32, bool, u32, bool, bool)) -> bool {
+    let (x, y, carry, sum, c, v) = *row;
+    let result = add_carry(x, y, carry);
+    result.0 == sum && result.1 == c && result.2 == v
+}
+
+/// The shift of a row is so.
+fn shifts(row: &(ShiftKind, u32, u8, bool, u32, bool)) -> bool {
+    let (kind, x, amount, carry, word, c) = *row;
+    let result = shift(kind, x, amount, carry);
+    result.0 == word && result.1 == c
+}
+
 #[test]
-fn corner_values(rt: HostRuntime) {
-    for (x, y, carry, sum, c, v) in SUMS {
-        let result = add_carry(x, y, carry);
-        assert_eq!(rt; result.0, sum);
-        assert_eq!(rt; result.1, c);
-        assert_eq!(rt; result.2, v);
+fn sums(rt: HostRuntime) {
+    for (index, row) in SUMS.iter().enumerate() {
+        assert!(rt; adds(row), "row {index}");
     }
-    for (kind, x, amount, carry, word, c) in SHIFTS {
-        let result = shift(kind, x, amount, carry);
-        assert_eq!(rt; result.0, word);
-        assert_eq!(rt; result.1, c);
+}
+
+#[test]
+fn shifted_words(rt: HostRuntime) {
+    for (index, row) in SHIFTS.iter().enumerate() {
+        assert!(rt; shifts(row), "row {index}");
     }
-    for (kind, x, word) in EXTENSIONS {
-        assert_eq!(rt; extend(kind, x), word);
+}
+
+#[test]
+fn extensions(rt: HostRuntime) {
+    for (index, (kind, x, word)) in EXTENSIONS.iter().enumerate() {
+        assert!(rt; extend(*kind, *x) == *word, "row {index}");
     }
-    assert_eq!(rt; multiply(0x1_0001, 0xffff), 0xffff_ffff);
-    assert_eq!(rt; multiply(0xffff_ffff, 0xffff_ffff), 1);
+}
+
+#[test]
+fn products(rt: HostRuntime) {
+    let least = multiply(0x1_0001, 0xffff) == 0xffff_ffff;
+    assert!(rt; least && multiply(0xffff_ffff, 0xffff_ffff) == 1);
 }

@@ -52,6 +52,25 @@ const AMID: Regs = Regs {
     spsel: false,
 };
 
+/// What is carried out, or what the registers have then.
+#[derive(Clone, Copy)]
+enum Deed {
+    /// An instruction, and its number of beats.
+    Step(Op, usize),
+    /// The same, where it reads two words.
+    Reading(Op, u32, u32, usize),
+    /// One of R0 to R12.
+    Has(usize, u32),
+    /// MSP.
+    Msp(u32),
+    /// LR.
+    Lr(u32),
+    /// PC.
+    Pc(u32),
+    /// xPSR.
+    Xpsr(u32),
+}
+
 /// Carries out an instruction, and answers how many beats it has.
 fn step(regs: &mut Regs, op: Op, read: &[u32]) -> usize {
     let count = beats(&op, regs).len();
@@ -59,70 +78,94 @@ fn step(regs: &mut Regs, op: Op, read: &[u32]) -> usize {
     count
 }
 
+/// What is carried out.
+fn acts(regs: &mut Regs, deed: &Deed) -> bool {
+    match *deed {
+        Deed::Step(op, count) => step(regs, op, &[]) == count,
+        Deed::Reading(op, first, second, count) => step(regs, op, &[first, second]) == count,
+        _ => true,
+    }
+}
+
+/// What is seen.
+fn shows(regs: &Regs, deed: &Deed) -> bool {
+    match *deed {
+        Deed::Has(number, word) => number < 13 && regs.r[number] == word,
+        Deed::Msp(word) => regs.msp == word,
+        Deed::Lr(word) => regs.lr == word,
+        Deed::Pc(word) => regs.pc == word,
+        Deed::Xpsr(word) => regs.xpsr() == word && regs.words()[16] == word,
+        _ => true,
+    }
+}
+
+/// The first of these that is not so of a core that begins.
+fn first_wrong(deeds: &[Deed]) -> Option<usize> {
+    let mut regs = START;
+    for (index, deed) in deeds.iter().enumerate() {
+        if !acts(&mut regs, deed) || !shows(&regs, deed) {
+            return Some(index);
+        }
+    }
+    None
+}
+
+/// 2000 43C0 2100 43C9 4288 4148: ADCS of two greatest words with a carry.
+const ADDS: [Deed; 10] = [
+    Deed::Step(Op::MovImm { d: 0, i: 0 }, 1),
+    Deed::Step(Op::Mvn { m: 0, d: 0 }, 1),
+    Deed::Step(Op::MovImm { d: 1, i: 0 }, 1),
+    Deed::Step(Op::Mvn { m: 1, d: 1 }, 1),
+    Deed::Step(Op::Cmp { m: 1, d: 0 }, 1),
+    Deed::Step(Op::Adc { m: 1, d: 0 }, 1),
+    Deed::Has(0, 0xffff_ffff),
+    Deed::Has(1, 0xffff_ffff),
+    Deed::Pc(0x2000_000c),
+    Deed::Xpsr(0xa100_0000),
+];
+
+/// 2001 07C0 22FF 0001 0800 4111: LSRS by 32 and ASRS by 255.
+const SHIFTS: [Deed; 11] = [
+    Deed::Step(Op::MovImm { d: 0, i: 1 }, 1),
+    Deed::Step(Op::LslImm { i: 31, m: 0, d: 0 }, 1),
+    Deed::Step(Op::MovImm { d: 2, i: 255 }, 1),
+    Deed::Step(Op::LslImm { i: 0, m: 0, d: 1 }, 1),
+    Deed::Step(Op::LsrImm { i: 0, m: 0, d: 0 }, 1),
+    Deed::Step(Op::AsrReg { m: 2, d: 1 }, 1),
+    Deed::Has(0, 0),
+    Deed::Has(1, 0xffff_ffff),
+    Deed::Has(2, 0xff),
+    Deed::Pc(0x2000_000c),
+    Deed::Xpsr(0xa100_0000),
+];
+
+/// The call of 2003 F000 F801 BE00 B501 BD02.
+const CALL: Op = Op::Bl {
+    s: false,
+    i: 1,
+    j: 3,
+};
+
+/// BL, PUSH and POP with PC.
+const CALLS: [Deed; 11] = [
+    Deed::Step(Op::MovImm { d: 0, i: 3 }, 1),
+    Deed::Step(CALL, 3),
+    Deed::Pc(0x2000_0008),
+    Deed::Lr(0x2000_0007),
+    Deed::Step(Op::Push { r: true, l: 1 }, 3),
+    Deed::Msp(0x2004_1ff8),
+    Deed::Reading(Op::Pop { r: true, l: 2 }, 3, 0x2000_0007, 5),
+    Deed::Has(1, 3),
+    Deed::Msp(0x2004_2000),
+    Deed::Pc(0x2000_0006),
+    Deed::Xpsr(0x0100_0000),
+];
+
 #[test]
 fn programs(rt: HostRuntime) {
-    // 2000 43C0 2100 43C9 4288 4148: ADCS of two greatest words with a carry.
-    let mut regs = START;
-    for op in [
-        Op::MovImm { d: 0, i: 0 },
-        Op::Mvn { m: 0, d: 0 },
-        Op::MovImm { d: 1, i: 0 },
-        Op::Mvn { m: 1, d: 1 },
-        Op::Cmp { m: 1, d: 0 },
-        Op::Adc { m: 1, d: 0 },
-    ] {
-        assert_eq!(rt; step(&mut regs, op, &[]), 1);
-    }
-    assert_eq!(rt; regs.r[0], 0xffff_ffff);
-    assert_eq!(rt; regs.r[1], 0xffff_ffff);
-    assert_eq!(rt; regs.pc, 0x2000_000c);
-    assert_eq!(rt; regs.xpsr(), 0xa100_0000);
-
-    // 2001 07C0 22FF 0001 0800 4111: LSRS by 32 and ASRS by 255.
-    let mut regs = START;
-    for op in [
-        Op::MovImm { d: 0, i: 1 },
-        Op::LslImm { i: 31, m: 0, d: 0 },
-        Op::MovImm { d: 2, i: 255 },
-        Op::LslImm { i: 0, m: 0, d: 1 },
-        Op::LsrImm { i: 0, m: 0, d: 0 },
-        Op::AsrReg { m: 2, d: 1 },
-    ] {
-        assert_eq!(rt; step(&mut regs, op, &[]), 1);
-    }
-    assert_eq!(rt; regs.r[0], 0);
-    assert_eq!(rt; regs.r[1], 0xffff_ffff);
-    assert_eq!(rt; regs.r[2], 0xff);
-    assert_eq!(rt; regs.pc, 0x2000_000c);
-    assert_eq!(rt; regs.xpsr(), 0xa100_0000);
-
-    // 2003 F000 F801 BE00 B501 BD02: BL, PUSH and POP with PC.
-    let mut regs = START;
-    assert_eq!(rt; step(&mut regs, Op::MovImm { d: 0, i: 3 }, &[]), 1);
-    assert_eq!(rt;
-        step(
-            &mut regs,
-            Op::Bl {
-                s: false,
-                i: 1,
-                j: 3
-            },
-            &[]
-        ),
-        3
-    );
-    assert_eq!(rt; regs.pc, 0x2000_0008);
-    assert_eq!(rt; regs.lr, 0x2000_0007);
-    assert_eq!(rt; step(&mut regs, Op::Push { r: true, l: 1 }, &[]), 3);
-    assert_eq!(rt; regs.msp, 0x2004_1ff8);
-    assert_eq!(rt;
-        step(&mut regs, Op::Pop { r: true, l: 2 }, &[3, 0x2000_0007]),
-        5
-    );
-    assert_eq!(rt; regs.r[1], 3);
-    assert_eq!(rt; regs.msp, 0x2004_2000);
-    assert_eq!(rt; regs.pc, 0x2000_0006);
-    assert_eq!(rt; regs.words()[16], 0x0100_0000);
+    assert_eq!(rt; first_wrong(&ADDS), None);
+    assert_eq!(rt; first_wrong(&SHIFTS), None);
+    assert_eq!(rt; first_wrong(&CALLS), None);
 }
 
 /// Instructions in the middle of a program with their numbers of beats.
@@ -147,62 +190,104 @@ const COUNTS: [(Op, usize); 18] = [
     (Op::Stm { n: 0, l: 0x0e }, 4),
 ];
 
-#[test]
-fn timing_and_results(rt: HostRuntime) {
-    for (op, count) in COUNTS {
-        assert_eq!(rt; beats(&op, &AMID).len(), count);
-        assert_eq!(rt; beat_count(&op, &AMID), count);
-        assert!(rt; beat_at(&op, &AMID, count - 1).is_some());
-        assert!(rt; beat_at(&op, &AMID, count).is_none());
-    }
+/// An instruction in the middle of a program has so many beats.
+fn takes(op: &Op, count: usize) -> bool {
+    beats(op, &AMID).len() == count
+        && beat_count(op, &AMID) == count
+        && beat_at(op, &AMID, count.wrapping_sub(1)).is_some()
+        && beat_at(op, &AMID, count).is_none()
+}
 
-    // STRB [R0, #1] of R2 writes its low byte; LDRSB of 80h gives a negative number.
-    let store = beats(&Op::StrbImm { i: 1, n: 0, t: 2 }, &AMID);
+#[test]
+fn timing(rt: HostRuntime) {
+    for (index, (op, count)) in COUNTS.iter().enumerate() {
+        assert!(rt; takes(op, *count), "row {index}");
+    }
+}
+
+/// STRB [R0, #1] of R2 writes its low byte.
+fn stores_a_byte() -> bool {
     let request = Request {
         address: 0x2000_0101,
         size: Size::Byte,
         write: Some(0x21),
     };
-    assert!(rt; store.get(1).copied() == Some(Beat::Access(request)));
+    let store = beats(&Op::StrbImm { i: 1, n: 0, t: 2 }, &AMID);
+    store.get(1).copied() == Some(Beat::Access(request))
+}
+
+/// LDRSB of 80h gives a negative number.
+fn loads_a_byte() -> bool {
     let mut regs = AMID;
     effect(&Op::LdrsbReg { m: 3, n: 0, t: 4 }, &mut regs, &[0x80]);
-    assert_eq!(rt; regs.r[4], 0xffff_ff80);
+    regs.r[4] == 0xffff_ff80
+}
 
-    // LDM writes its base back where it is not in its list.
+/// LDM writes its base back where it is not in its list.
+fn writes_back() -> bool {
     let mut regs = AMID;
     effect(&Op::Ldm { n: 0, l: 0x30 }, &mut regs, &[7, 8]);
-    assert_eq!(rt; regs.r[0], 0x2000_0108);
-    assert_eq!(rt; regs.r[5], 8);
+    let outside = regs.r[0] == 0x2000_0108 && regs.r[5] == 8;
     effect(&Op::Ldm { n: 0, l: 0x03 }, &mut regs, &[5, 6]);
-    assert_eq!(rt; regs.r[0], 5);
-    assert_eq!(rt; regs.r[1], 6);
+    outside && regs.r[0] == 5 && regs.r[1] == 6
+}
 
-    // A word at an odd address faults, a byte does not.
-    assert!(rt; is_unaligned(&Op::LdrReg { m: 3, n: 0, t: 4 }, &AMID));
-    assert!(rt; !is_unaligned(&Op::LdrbReg { m: 3, n: 0, t: 4 }, &AMID));
-    assert!(rt; is_unaligned(&Op::Ldm { n: 3, l: 0xf0 }, &AMID));
+/// A word at an odd address faults, a byte does not.
+fn faults_at_odd_addresses() -> bool {
+    is_unaligned(&Op::LdrReg { m: 3, n: 0, t: 4 }, &AMID)
+        && !is_unaligned(&Op::LdrbReg { m: 3, n: 0, t: 4 }, &AMID)
+        && is_unaligned(&Op::Ldm { n: 3, l: 0xf0 }, &AMID)
+}
 
-    // BX to a value that stands for no address begins an exception return in Handler mode alone.
+#[test]
+fn accesses(rt: HostRuntime) {
+    assert!(rt; stores_a_byte());
+    assert!(rt; loads_a_byte());
+    assert!(rt; writes_back());
+    assert!(rt; faults_at_odd_addresses());
+}
+
+/// The registers in a handler of SVC, with LR as it is at the entry.
+fn in_handler() -> Regs {
     let mut regs = AMID;
     regs.lr = 0xffff_fff9;
-    assert_eq!(rt; exception_return(&Op::Bx { m: 14 }, &regs, &[]), None);
     regs.ipsr = 11;
-    assert_eq!(rt;
-        exception_return(&Op::Bx { m: 14 }, &regs, &[]),
-        Some(0xffff_fff9)
-    );
-    effect(&Op::Bx { m: 14 }, &mut regs, &[]);
-    assert_eq!(rt; regs.pc, AMID.pc);
-    assert_eq!(rt;
-        exception_return(&Op::Pop { r: true, l: 0 }, &regs, &[0xffff_fff1]),
-        Some(0xffff_fff1)
-    );
+    regs
+}
 
-    // The special registers.
-    assert_eq!(rt; regs.special(3), 0x6000_000b);
+/// BX to a value that stands for no address begins an exception return in Handler mode alone.
+fn returns_by_bx() -> bool {
+    let mut regs = AMID;
+    regs.lr = 0xffff_fff9;
+    if exception_return(&Op::Bx { m: 14 }, &regs, &[]).is_some() {
+        return false;
+    }
+    regs.ipsr = 11;
+    let begun = exception_return(&Op::Bx { m: 14 }, &regs, &[]) == Some(0xffff_fff9);
+    effect(&Op::Bx { m: 14 }, &mut regs, &[]);
+    begun && regs.pc == AMID.pc
+}
+
+/// So does POP with PC.
+fn returns_by_pop() -> bool {
+    let pop = Op::Pop { r: true, l: 0 };
+    exception_return(&pop, &in_handler(), &[0xffff_fff1]) == Some(0xffff_fff1)
+}
+
+/// CONTROL chooses the process stack in Thread mode alone.
+fn chooses_its_stack() -> bool {
+    let mut regs = in_handler();
+    let psr = regs.special(3) == 0x6000_000b;
     regs.set_special(20, 2);
-    assert!(rt; !regs.spsel);
+    let kept = !regs.spsel;
     regs.ipsr = 0;
     regs.set_special(20, 2);
-    assert_eq!(rt; regs.active_sp(), 0x2003_0000);
+    psr && kept && regs.active_sp() == 0x2003_0000
+}
+
+#[test]
+fn returns_and_special_registers(rt: HostRuntime) {
+    assert!(rt; returns_by_bx());
+    assert!(rt; returns_by_pop());
+    assert!(rt; chooses_its_stack());
 }

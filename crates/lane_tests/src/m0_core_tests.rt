@@ -5,14 +5,13 @@ use m0_core::Core;
 use m0_nvic::numbers::{HARDFAULT, INTERRUPT_0, PENDSV, SVCALL, SYSTICK};
 use rp_base::map::{Spot, place};
 use rp_base::{Master, Request, Size, Why};
-use std::process::Abort;
 
 /// The first 64 words of SRAM and the last 16, and the core's interrupt lines.
 #[derive(Drop)]
-pub(crate) struct Memory {
+struct Memory {
     low: [u32; 64],
     high: [u32; 16],
-    pub(crate) lines: u32,
+    lines: u32,
 }
 
 impl Look for Memory {
@@ -47,7 +46,7 @@ impl Memory {
     }
 
     /// Vectors from the start of SRAM, by their numbers, and code behind 32 of them.
-    pub(crate) fn with_vectors(vectors: &[(u8, u32)], code: &[u16]) -> Memory {
+    fn with_vectors(vectors: &[(u8, u32)], code: &[u16]) -> Memory {
         let mut halves = [0; 128];
         for (k, half) in code.iter().enumerate() {
             if k < 64 {
@@ -62,7 +61,7 @@ impl Memory {
     }
 
     /// The word of an address.
-    pub(crate) fn word(&self, address: u32) -> u32 {
+    fn word(&self, address: u32) -> u32 {
         match place(address) {
             Spot::Ram { index, .. } if index < 64 => self.low[index as usize],
             Spot::Ram { index, .. } if index >= 67_568 && index < 67_584 => self.high[index as usize
@@ -118,7 +117,7 @@ fn cycle(core: &mut Core, memory: &mut Memory, outward: Turn) -> Option<Why> {
 }
 
 /// A run of at most 100 cycles up to a stop, and how many cycles it has.
-pub(crate) fn run(core: &mut Core, memory: &mut Memory) -> (u32, Option<Why>) {
+fn run(core: &mut Core, memory: &mut Memory) -> (u32, Option<Why>) {
     for count in 0..100 {
         if let Some(why) = cycle(core, memory, Turn::Done(0x1122_3344)) {
             return (count, Some(why));
@@ -127,314 +126,483 @@ pub(crate) fn run(core: &mut Core, memory: &mut Memory) -> (u32, Option<Why>) {
     (100, None)
 }
 
-/// Core 0 at the start of SRAM, its stack at the end.
-fn first() -> Core {
-    let mut core = Core::new(0);
-    core.start(0, 0x2004_2000, 0x2000_0001);
-    core
+/// What is done to a core, or seen of it.
+#[derive(Clone, Copy)]
+pub(crate) enum Deed {
+    /// The core's interrupt lines.
+    Lines(u32),
+    /// The event register is set.
+    Signal,
+    /// So many cycles with no stop, in which accesses outside SRAM wait.
+    Pass(u32),
+    /// A run of at most 100 cycles, in how many of them it stops, and by what.
+    Run(u32, Option<Why>),
+    /// A run that stops by this.
+    Ends(Why),
+    /// What a register has.
+    Has(usize, u32),
+    /// What a word of the memory is.
+    Word(u32, u32),
 }
 
-/// Code stops at that cycle by that cause, with these registers.
-fn stops(rt: &impl Abort, code: &[u16], count: u32, why: Why, registers: &[(usize, u32)]) {
-    let mut core = first();
-    let mut memory = Memory::with_code(code);
-    let (cycles, cause) = run(&mut core, &mut memory);
-    assert_eq!(rt; cycles, count);
-    assert!(rt; cause == Some(why));
-    let words = core.registers();
-    for (k, word) in registers {
-        if *k < 17 {
-            assert_eq!(rt; words[*k], *word, "register {k}");
+/// What is done.
+fn acts(core: &mut Core, memory: &mut Memory, deed: &Deed) -> bool {
+    match *deed {
+        Deed::Lines(lines) => memory.lines = lines,
+        Deed::Signal => core.signal(),
+        Deed::Pass(count) => return passes(core, memory, count),
+        Deed::Run(count, why) => {
+            let (cycles, cause) = run(core, memory);
+            return cycles == count && cause == why;
         }
+        Deed::Ends(why) => return run(core, memory).1 == Some(why),
+        _ => {}
     }
-}
-
-#[test]
-fn programs(rt: HostRuntime) {
-    let bkpt = Why::Bkpt(0);
-    // ADCS of two greatest words with a carry.
-    let code = [0x2000, 0x43c0, 0x2100, 0x43c9, 0x4288, 0x4148, 0xbe00];
-    let registers = [
-        (0, 0xffff_ffff),
-        (1, 0xffff_ffff),
-        (15, 0x2000_000c),
-        (16, 0xa100_0000),
-    ];
-    stops(&rt, &code, 6, bkpt, &registers);
-    // LSRS by 32 and ASRS by 255.
-    let code = [0x2001, 0x07c0, 0x22ff, 0x0001, 0x0800, 0x4111, 0xbe00];
-    let registers = [(0, 0), (1, 0xffff_ffff), (2, 0xff), (16, 0xa100_0000)];
-    stops(&rt, &code, 6, bkpt, &registers);
-    // BL has three cycles, PUSH of two registers three, POP with PC five.
-    let code = [0x2003, 0xf000, 0xf801, 0xbe00, 0xb501, 0xbd02];
-    let registers = [
-        (0, 3),
-        (1, 3),
-        (13, 0x2004_2000),
-        (14, 0x2000_0007),
-        (15, 0x2000_0006),
-    ];
-    stops(&rt, &code, 12, bkpt, &registers);
-    // BLX and BX have two cycles each.
-    let code = [0x4b02, 0x4798, 0xbe00, 0, 0x2007, 0x4770, 0x0009, 0x2000];
-    let registers = [(0, 7), (14, 0x2000_0005), (15, 0x2000_0004)];
-    stops(&rt, &code, 7, bkpt, &registers);
-    // PUSH and POP of two registers have three cycles each.
-    let code = [0x2001, 0x2102, 0xb403, 0xbc0c, 0xbe00];
-    stops(&rt, &code, 8, bkpt, &[(2, 1), (3, 2), (13, 0x2004_2000)]);
-}
-
-#[test]
-fn loads_and_stores(rt: HostRuntime) {
-    let bkpt = Why::Bkpt(0);
-    // Words, halfwords and bytes: 11 loads and stores of two cycles each, and two MOVS.
-    let code = [
-        0x4806, 0x4907, 0x6001, 0x7842, 0x8843, 0x2503, 0x5744, 0x2502, 0x5f46, 0x7041, 0x8081,
-        0x6807, 0x6840, 0xbe00, 0x0080, 0x2000, 0x5432, 0x87f6,
-    ];
-    let registers = [
-        (0, 0x5432),
-        (1, 0x87f6_5432),
-        (2, 0x54),
-        (3, 0x87f6),
-        (4, 0xffff_ff87),
-        (6, 0xffff_87f6),
-        (7, 0x87f6_3232),
-    ];
-    stops(&rt, &code, 24, bkpt, &registers);
-    // Address 21010004 is word 1 of bank 1, which is word 5 of the striped order.
-    let code = [
-        0x4802, 0x4903, 0x6001, 0x4a03, 0xbe00, 0, 0x0004, 0x2101, 0xbeef, 0xcafe,
-    ];
-    stops(&rt, &code, 8, bkpt, &[(2, 0xcafe_beef)]);
-    // STM and LDM of three registers have four cycles each, LDM of two with its base in the list three.
-    let code = [
-        0x4805, 0x2111, 0x2222, 0x2333, 0xc00e, 0x380c, 0xc870, 0x380c, 0xc881, 0xbe00, 0, 0,
-        0x0040, 0x2000,
-    ];
-    let registers = [
-        (0, 0x11),
-        (4, 0x11),
-        (5, 0x22),
-        (6, 0x33),
-        (7, 0x22),
-        (16, 0x2100_0000),
-    ];
-    stops(&rt, &code, 18, bkpt, &registers);
-    // A load from SIO has one cycle.
-    stops(
-        &rt,
-        &[0x27d0, 0x063f, 0x6838, 0xbe00],
-        3,
-        bkpt,
-        &[(0, 0x1122_3344)],
-    );
-    // A byte of an APB register has its lane of the word.
-    let code = [0x2740, 0x063f, 0x7878, 0xbe00];
-    stops(&rt, &code, 4, bkpt, &[(0, 0x33)]);
-}
-
-#[test]
-fn stops_and_waits(rt: HostRuntime) {
-    // SEV sets the event register, and WFE clears it: a second WFE waits until it is set again.
-    let mut core = first();
-    let mut memory = Memory::with_code(&[0xbf40, 0xbf20, 0xbf20, 0xbe00]);
-    assert!(rt; run(&mut core, &mut memory) == (100, None));
-    assert_eq!(rt; core.registers()[15], 0x2000_0004);
-    core.signal();
-    assert!(rt; run(&mut core, &mut memory) == (1, Some(Why::Bkpt(0))));
-    // WFI waits.
-    let mut core = first();
-    let mut memory = Memory::with_code(&[0xbf30, 0xbe00]);
-    assert!(rt; run(&mut core, &mut memory) == (100, None));
-    // An access lasts until it is done.
-    let mut core = first();
-    let mut memory = Memory::with_code(&[0x2740, 0x063f, 0x6838, 0xbe00]);
-    for _ in 0..9 {
-        assert!(rt; cycle(&mut core, &mut memory, Turn::Wait).is_none());
-    }
-    assert_eq!(rt; core.registers()[15], 0x2000_0004);
-    assert!(rt; run(&mut core, &mut memory) == (1, Some(Why::Bkpt(0))));
-    // Fetches outside SRAM: BX to 0, and the second halfword of BL behind the end.
-    stops(
-        &rt,
-        &[0x2001, 0x4700],
-        3,
-        Why::Outside(Master::Core0, 0),
-        &[],
-    );
-    let mut core = Core::new(1);
-    core.start(0, 0x2004_2000, 0x2004_1fff);
-    memory.set_word(0x2004_1ffc, 0xf000_0000);
-    assert!(rt; run(&mut core, &mut memory) == (0, Some(Why::Outside(Master::Core1, 0x2004_2000))));
-    // Faults and SVC take 16 cycles up to a vector, here one outside SRAM without T: UDF, SVC, an unaligned word, T clear.
-    let vector = Why::Outside(Master::Core0, 0x1122_3344);
-    let fault = [(13, 0x2004_1fe0), (14, 0xffff_fff9), (16, 3)];
-    stops(&rt, &[0xde00], 16, vector, &fault);
-    stops(&rt, &[0xdf00], 16, vector, &[(16, 11)]);
-    stops(&rt, &[0x2001, 0x6800], 17, vector, &fault);
-    stops(
-        &rt,
-        &[0x4801, 0x4700, 0, 0, 0x0006, 0x2000],
-        20,
-        vector,
-        &fault,
-    );
-    // A word that the private bus does not have.
-    stops(
-        &rt,
-        &[0x4801, 0x6800, 0, 0, 0xe000, 0xe000],
-        3,
-        Why::Outside(Master::Core0, 0xe000_e000),
-        &[],
-    );
-    // A copy goes on as the core does, and a core that was not started is asleep.
-    let mut core = Core::new(1);
-    assert!(rt; core.is_asleep() && !core.has_offer());
-    core.set_offer(true);
-    core.copy_from(&first());
-    assert!(rt; !core.is_asleep() && !core.has_offer());
-    assert!(rt; cycle(&mut core, &mut Memory::with_code(&[0xbf00]), Turn::Wait).is_none());
-    assert_eq!(rt; core.registers()[15], 0x2000_0002);
-}
-
-/// Core 0 behind the vectors.
-pub(crate) fn behind(sp: u32) -> Core {
-    let mut core = Core::new(0);
-    core.start(0x2000_0000, sp, 0x2000_0081);
-    core
+    true
 }
 
 /// So many cycles with no stop.
-pub(crate) fn pass(rt: &impl Abort, core: &mut Core, memory: &mut Memory, count: u32) {
+fn passes(core: &mut Core, memory: &mut Memory, count: u32) -> bool {
     for _ in 0..count {
-        assert!(rt; cycle(core, memory, Turn::Wait).is_none());
+        if cycle(core, memory, Turn::Wait).is_some() {
+            return false;
+        }
+    }
+    true
+}
+
+/// What is seen.
+fn shows(core: &Core, memory: &Memory, deed: &Deed) -> bool {
+    match *deed {
+        Deed::Has(number, word) => number < 17 && core.registers()[number] == word,
+        Deed::Word(address, word) => memory.word(address) == word,
+        _ => true,
     }
 }
 
-/// The core has these registers.
-pub(crate) fn has(rt: &impl Abort, core: &Core, registers: &[(usize, u32)]) {
-    let words = core.registers();
-    for (k, word) in registers {
-        if *k < 17 {
-            assert_eq!(rt; words[*k], *word, "register {k}");
+/// The first of these that is not so.
+fn wrong_deed(core: &mut Core, memory: &mut Memory, deeds: &[Deed]) -> Option<usize> {
+    for (index, deed) in deeds.iter().enumerate() {
+        if !acts(core, memory, deed) || !shows(core, memory, deed) {
+            return Some(index);
         }
     }
+    None
 }
+
+/// Code, and what is done from its start on and seen.
+type Alone = (&'static [u16], &'static [Deed]);
+
+/// The first row, and the first of its deeds, that is not so of core 0 at the start of SRAM, its stack at the end.
+fn wrong_alone(rows: &[Alone]) -> Option<(usize, usize)> {
+    for (row, (code, deeds)) in rows.iter().enumerate() {
+        let mut core = Core::new(0);
+        core.start(0, 0x2004_2000, 0x2000_0001);
+        let mut memory = Memory::with_code(code);
+        if let Some(deed) = wrong_deed(&mut core, &mut memory, deeds) {
+            return Some((row, deed));
+        }
+    }
+    None
+}
+
+/// A stack pointer, vectors, code behind them, and what is done from its start on and seen.
+pub(crate) type Behind = (u32, &'static [(u8, u32)], &'static [u16], &'static [Deed]);
+
+/// The first row, and the first of its deeds, that is not so of core 0 behind its vectors.
+pub(crate) fn wrong_behind(rows: &[Behind]) -> Option<(usize, usize)> {
+    for (row, (sp, vectors, code, deeds)) in rows.iter().enumerate() {
+        let mut core = Core::new(0);
+        core.start(0x2000_0000, *sp, 0x2000_0081);
+        let mut memory = Memory::with_vectors(vectors, code);
+        if let Some(deed) = wrong_deed(&mut core, &mut memory, deeds) {
+            return Some((row, deed));
+        }
+    }
+    None
+}
+
+/// The stop of BKPT.
+pub(crate) const BKPT: Option<Why> = Some(Why::Bkpt(0));
+
+const PROGRAMS: [Alone; 5] = [
+    // ADCS of two greatest words with a carry.
+    (
+        &[0x2000, 0x43c0, 0x2100, 0x43c9, 0x4288, 0x4148, 0xbe00],
+        &[
+            Deed::Run(6, BKPT),
+            Deed::Has(0, 0xffff_ffff),
+            Deed::Has(1, 0xffff_ffff),
+            Deed::Has(15, 0x2000_000c),
+            Deed::Has(16, 0xa100_0000),
+        ],
+    ),
+    // LSRS by 32 and ASRS by 255.
+    (
+        &[0x2001, 0x07c0, 0x22ff, 0x0001, 0x0800, 0x4111, 0xbe00],
+        &[
+            Deed::Run(6, BKPT),
+            Deed::Has(0, 0),
+            Deed::Has(1, 0xffff_ffff),
+            Deed::Has(2, 0xff),
+            Deed::Has(16, 0xa100_0000),
+        ],
+    ),
+    // BL has three cycles, PUSH of two registers three, POP with PC five.
+    (
+        &[0x2003, 0xf000, 0xf801, 0xbe00, 0xb501, 0xbd02],
+        &[
+            Deed::Run(12, BKPT),
+            Deed::Has(0, 3),
+            Deed::Has(1, 3),
+            Deed::Has(13, 0x2004_2000),
+            Deed::Has(14, 0x2000_0007),
+            Deed::Has(15, 0x2000_0006),
+        ],
+    ),
+    // BLX and BX have two cycles each.
+    (
+        &[0x4b02, 0x4798, 0xbe00, 0, 0x2007, 0x4770, 0x0009, 0x2000],
+        &[
+            Deed::Run(7, BKPT),
+            Deed::Has(0, 7),
+            Deed::Has(14, 0x2000_0005),
+            Deed::Has(15, 0x2000_0004),
+        ],
+    ),
+    // PUSH and POP of two registers have three cycles each.
+    (
+        &[0x2001, 0x2102, 0xb403, 0xbc0c, 0xbe00],
+        &[
+            Deed::Run(8, BKPT),
+            Deed::Has(2, 1),
+            Deed::Has(3, 2),
+            Deed::Has(13, 0x2004_2000),
+        ],
+    ),
+];
+
+#[test]
+fn programs(rt: HostRuntime) {
+    assert_eq!(rt; wrong_alone(&PROGRAMS), None);
+}
+
+const LOADS: [Alone; 5] = [
+    // Words, halfwords and bytes: 11 loads and stores of two cycles each, and two MOVS.
+    (
+        &[
+            0x4806, 0x4907, 0x6001, 0x7842, 0x8843, 0x2503, 0x5744, 0x2502, 0x5f46, 0x7041, 0x8081,
+            0x6807, 0x6840, 0xbe00, 0x0080, 0x2000, 0x5432, 0x87f6,
+        ],
+        &[
+            Deed::Run(24, BKPT),
+            Deed::Has(0, 0x5432),
+            Deed::Has(1, 0x87f6_5432),
+            Deed::Has(2, 0x54),
+            Deed::Has(3, 0x87f6),
+            Deed::Has(4, 0xffff_ff87),
+            Deed::Has(6, 0xffff_87f6),
+            Deed::Has(7, 0x87f6_3232),
+        ],
+    ),
+    // Address 21010004 is word 1 of bank 1, which is word 5 of the striped order.
+    (
+        &[
+            0x4802, 0x4903, 0x6001, 0x4a03, 0xbe00, 0, 0x0004, 0x2101, 0xbeef, 0xcafe,
+        ],
+        &[Deed::Run(8, BKPT), Deed::Has(2, 0xcafe_beef)],
+    ),
+    // STM and LDM of three registers have four cycles each, LDM of two with its base in the list three.
+    (
+        &[
+            0x4805, 0x2111, 0x2222, 0x2333, 0xc00e, 0x380c, 0xc870, 0x380c, 0xc881, 0xbe00, 0, 0,
+            0x0040, 0x2000,
+        ],
+        &[
+            Deed::Run(18, BKPT),
+            Deed::Has(0, 0x11),
+            Deed::Has(4, 0x11),
+            Deed::Has(5, 0x22),
+            Deed::Has(6, 0x33),
+            Deed::Has(7, 0x22),
+            Deed::Has(16, 0x2100_0000),
+        ],
+    ),
+    // A load from SIO has one cycle.
+    (
+        &[0x27d0, 0x063f, 0x6838, 0xbe00],
+        &[Deed::Run(3, BKPT), Deed::Has(0, 0x1122_3344)],
+    ),
+    // A byte of an APB register has its lane of the word.
+    (
+        &[0x2740, 0x063f, 0x7878, 0xbe00],
+        &[Deed::Run(4, BKPT), Deed::Has(0, 0x33)],
+    ),
+];
+
+#[test]
+fn loads_and_stores(rt: HostRuntime) {
+    assert_eq!(rt; wrong_alone(&LOADS), None);
+}
+
+/// A vector outside SRAM, without T.
+const VECTOR: Option<Why> = Some(Why::Outside(Master::Core0, 0x1122_3344));
+
+const STOPS: [Alone; 9] = [
+    // SEV sets the event register, and WFE clears it: a second WFE waits until it is set again.
+    (
+        &[0xbf40, 0xbf20, 0xbf20, 0xbe00],
+        &[
+            Deed::Run(100, None),
+            Deed::Has(15, 0x2000_0004),
+            Deed::Signal,
+            Deed::Run(1, BKPT),
+        ],
+    ),
+    // WFI waits.
+    (&[0xbf30, 0xbe00], &[Deed::Run(100, None)]),
+    // An access lasts until it is done.
+    (
+        &[0x2740, 0x063f, 0x6838, 0xbe00],
+        &[
+            Deed::Pass(9),
+            Deed::Has(15, 0x2000_0004),
+            Deed::Run(1, BKPT),
+        ],
+    ),
+    // A fetch outside SRAM: BX to 0.
+    (
+        &[0x2001, 0x4700],
+        &[Deed::Run(3, Some(Why::Outside(Master::Core0, 0)))],
+    ),
+    // Faults and SVC take 16 cycles up to a vector: UDF, SVC, an unaligned word, T clear.
+    (
+        &[0xde00],
+        &[
+            Deed::Run(16, VECTOR),
+            Deed::Has(13, 0x2004_1fe0),
+            Deed::Has(14, 0xffff_fff9),
+            Deed::Has(16, 3),
+        ],
+    ),
+    (&[0xdf00], &[Deed::Run(16, VECTOR), Deed::Has(16, 11)]),
+    (
+        &[0x2001, 0x6800],
+        &[
+            Deed::Run(17, VECTOR),
+            Deed::Has(13, 0x2004_1fe0),
+            Deed::Has(14, 0xffff_fff9),
+            Deed::Has(16, 3),
+        ],
+    ),
+    (
+        &[0x4801, 0x4700, 0, 0, 0x0006, 0x2000],
+        &[
+            Deed::Run(20, VECTOR),
+            Deed::Has(13, 0x2004_1fe0),
+            Deed::Has(14, 0xffff_fff9),
+            Deed::Has(16, 3),
+        ],
+    ),
+    // A word that the private bus does not have.
+    (
+        &[0x4801, 0x6800, 0, 0, 0xe000, 0xe000],
+        &[Deed::Run(3, Some(Why::Outside(Master::Core0, 0xe000_e000)))],
+    ),
+];
+
+#[test]
+fn stops_and_waits(rt: HostRuntime) {
+    assert_eq!(rt; wrong_alone(&STOPS), None);
+}
+
+// A fetch outside SRAM: the second halfword of BL behind the end.
+#[test]
+fn the_end_of_sram(rt: HostRuntime) {
+    let mut core = Core::new(1);
+    core.start(0, 0x2004_2000, 0x2004_1fff);
+    let mut memory = Memory::with_code(&[]);
+    memory.set_word(0x2004_1ffc, 0xf000_0000);
+    let (cycles, why) = run(&mut core, &mut memory);
+    assert!(rt; cycles == 0 && why == Some(Why::Outside(Master::Core1, 0x2004_2000)));
+}
+
+/// A core that was not started is asleep, and a copy goes on as the core does.
+fn copies() -> bool {
+    let mut started = Core::new(0);
+    started.start(0, 0x2004_2000, 0x2000_0001);
+    let mut core = Core::new(1);
+    let asleep = core.is_asleep() && !core.has_offer();
+    core.set_offer(true);
+    core.copy_from(&started);
+    asleep
+        && !core.is_asleep()
+        && !core.has_offer()
+        && cycle(&mut core, &mut Memory::with_code(&[0xbf00]), Turn::Wait).is_none()
+        && core.registers()[15] == 0x2000_0002
+}
+
+#[test]
+fn a_copy_goes_on(rt: HostRuntime) {
+    assert!(rt; copies());
+}
+
+const HANDLERS: [Behind; 4] = [
+    // SVC, whose handler makes PendSV pending; that one reads ICSR.
+    (
+        0x2004_2000,
+        &[(SVCALL, 0x2000_0089), (PENDSV, 0x2000_008d)],
+        &[
+            0x4805, 0x4906, 0xdf00, 0xbe00, 0x6001, 0x4770, 0x2407, 0x6805, 0x4770, 0, 0, 0,
+            0xed04, 0xe000, 0x0000, 0x1000,
+        ],
+        &[
+            Deed::Run(70, BKPT),
+            Deed::Has(4, 7),
+            Deed::Has(5, 14),
+            Deed::Has(13, 0x2004_2000),
+            Deed::Has(14, 0xffff_ffff),
+            Deed::Has(16, 0x100_0000),
+        ],
+    ),
+    // A frame of a stack that is no multiple of 8.
+    (
+        0x2004_1ffc,
+        &[(SVCALL, 0x2000_0085)],
+        &[0xdf00, 0xbe00, 0x4770],
+        &[
+            Deed::Run(31, BKPT),
+            Deed::Has(13, 0x2004_1ffc),
+            Deed::Has(15, 0x2000_0082),
+            Deed::Has(16, 0x100_0000),
+            Deed::Word(0x2004_1ff4, 0x100_0200),
+            Deed::Word(0x2004_1ff0, 0x2000_0082),
+        ],
+    ),
+    // SysTick each 40 cycles.
+    (
+        0x2004_2000,
+        &[(SYSTICK, 0x2000_008d)],
+        &[
+            0x4804, 0x2127, 0x6041, 0x2107, 0x6001, 0xe7fe, 0x3401, 0x4770, 0, 0, 0xe010, 0xe000,
+        ],
+        &[
+            Deed::Pass(63),
+            Deed::Has(4, 0),
+            Deed::Pass(1),
+            Deed::Has(4, 1),
+            Deed::Pass(38),
+            Deed::Has(4, 1),
+            Deed::Pass(1),
+            Deed::Has(4, 2),
+        ],
+    ),
+    // A byte that is written to the private bus is written to all lanes of the word, and one that is read has its own.
+    (
+        0x2004_2000,
+        &[],
+        &[
+            0x4803, 0x21c5, 0x7041, 0x6802, 0x78c3, 0xbe00, 0, 0, 0xe400, 0xe000,
+        ],
+        &[
+            Deed::Run(9, BKPT),
+            Deed::Has(2, 0xc0c0_c0c0),
+            Deed::Has(3, 0xc0),
+        ],
+    ),
+];
 
 #[test]
 fn handlers(rt: HostRuntime) {
-    let bkpt = Some(Why::Bkpt(0));
-    // SVC, whose handler makes PendSV pending; that one reads ICSR.
-    let code = [
-        0x4805, 0x4906, 0xdf00, 0xbe00, 0x6001, 0x4770, 0x2407, 0x6805, 0x4770, 0, 0, 0, 0xed04,
-        0xe000, 0x0000, 0x1000,
-    ];
-    let mut memory = Memory::with_vectors(&[(SVCALL, 0x2000_0089), (PENDSV, 0x2000_008d)], &code);
-    let mut core = behind(0x2004_2000);
-    assert!(rt; run(&mut core, &mut memory) == (70, bkpt));
-    let registers = [
-        (4, 7),
-        (5, 14),
-        (13, 0x2004_2000),
-        (14, 0xffff_ffff),
-        (16, 0x100_0000),
-    ];
-    has(&rt, &core, &registers);
-    // A frame of a stack that is no multiple of 8.
-    let mut memory = Memory::with_vectors(&[(SVCALL, 0x2000_0085)], &[0xdf00, 0xbe00, 0x4770]);
-    let mut core = behind(0x2004_1ffc);
-    assert!(rt; run(&mut core, &mut memory) == (31, bkpt));
-    has(
-        &rt,
-        &core,
-        &[(13, 0x2004_1ffc), (15, 0x2000_0082), (16, 0x100_0000)],
-    );
-    assert_eq!(rt; memory.word(0x2004_1ff4), 0x100_0200);
-    assert_eq!(rt; memory.word(0x2004_1ff0), 0x2000_0082);
-    // SysTick each 40 cycles.
-    let code = [
-        0x4804, 0x2127, 0x6041, 0x2107, 0x6001, 0xe7fe, 0x3401, 0x4770, 0, 0, 0xe010, 0xe000,
-    ];
-    let mut memory = Memory::with_vectors(&[(SYSTICK, 0x2000_008d)], &code);
-    let mut core = behind(0x2004_2000);
-    for (count, total) in [(63, 0), (1, 1), (38, 1), (1, 2)] {
-        pass(&rt, &mut core, &mut memory, count);
-        has(&rt, &core, &[(4, total)]);
-    }
-    // A byte that is written to the private bus is written to all lanes of the word, and one that is read has its own.
-    let code = [
-        0x4803, 0x21c5, 0x7041, 0x6802, 0x78c3, 0xbe00, 0, 0, 0xe400, 0xe000,
-    ];
-    let mut memory = Memory::with_vectors(&[], &code);
-    let mut core = behind(0x2004_2000);
-    assert!(rt; run(&mut core, &mut memory) == (9, bkpt));
-    has(&rt, &core, &[(2, 0xc0c0_c0c0), (3, 0xc0)]);
+    assert_eq!(rt; wrong_behind(&HANDLERS), None);
 }
+
+const INTERRUPTS: [Behind; 2] = [
+    // With PRIMASK an interrupt ends WFI, and is taken after CPSIE.
+    (
+        0x2004_2000,
+        &[(INTERRUPT_0, 0x2000_0091)],
+        &[
+            0x4804, 0x2101, 0x6001, 0xb672, 0xbf30, 0x2201, 0xb662, 0xbe00, 0x2409, 0x4770, 0xe100,
+            0xe000,
+        ],
+        &[
+            Deed::Pass(40),
+            Deed::Has(2, 0),
+            Deed::Has(15, 0x2000_0088),
+            Deed::Lines(1),
+            Deed::Pass(1),
+            Deed::Lines(0),
+            Deed::Pass(2),
+            Deed::Has(2, 1),
+            Deed::Has(4, 0),
+            Deed::Run(32, BKPT),
+            Deed::Has(4, 9),
+            Deed::Has(15, 0x2000_008e),
+        ],
+    ),
+    // Interrupt 0 comes before interrupt 1, into whose entry it falls.
+    (
+        0x2004_2000,
+        &[(INTERRUPT_0, 0x2000_0099), (INTERRUPT_0 + 1, 0x2000_0093)],
+        &[
+            0x4807, 0x4908, 0x2203, 0x6002, 0x2240, 0x0212, 0x600a, 0xbf30, 0xbe00, 0x2401, 0x002e,
+            0x4770, 0x2505, 0x0027, 0x4770, 0, 0xe100, 0xe000, 0xe400, 0xe000,
+        ],
+        &[
+            Deed::Pass(40),
+            Deed::Lines(2),
+            Deed::Pass(1),
+            Deed::Lines(0),
+            Deed::Pass(3),
+            Deed::Lines(1),
+            Deed::Pass(1),
+            Deed::Lines(0),
+            Deed::Pass(1),
+            Deed::Ends(Why::Bkpt(0)),
+            Deed::Has(4, 1),
+            Deed::Has(5, 5),
+            Deed::Has(6, 5),
+            Deed::Has(7, 0),
+            Deed::Has(13, 0x2004_2000),
+        ],
+    ),
+];
 
 #[test]
 fn interrupts(rt: HostRuntime) {
-    let bkpt = Some(Why::Bkpt(0));
-    // With PRIMASK an interrupt ends WFI, and is taken after CPSIE.
-    let code = [
-        0x4804, 0x2101, 0x6001, 0xb672, 0xbf30, 0x2201, 0xb662, 0xbe00, 0x2409, 0x4770, 0xe100,
-        0xe000,
-    ];
-    let mut memory = Memory::with_vectors(&[(INTERRUPT_0, 0x2000_0091)], &code);
-    let mut core = behind(0x2004_2000);
-    pass(&rt, &mut core, &mut memory, 40);
-    has(&rt, &core, &[(2, 0), (15, 0x2000_0088)]);
-    memory.lines = 1;
-    pass(&rt, &mut core, &mut memory, 1);
-    memory.lines = 0;
-    pass(&rt, &mut core, &mut memory, 2);
-    has(&rt, &core, &[(2, 1), (4, 0)]);
-    assert!(rt; run(&mut core, &mut memory) == (32, bkpt));
-    has(&rt, &core, &[(4, 9), (15, 0x2000_008e)]);
-    // Interrupt 0 comes before interrupt 1, into whose entry it falls.
-    let code = [
-        0x4807, 0x4908, 0x2203, 0x6002, 0x2240, 0x0212, 0x600a, 0xbf30, 0xbe00, 0x2401, 0x002e,
-        0x4770, 0x2505, 0x0027, 0x4770, 0, 0xe100, 0xe000, 0xe400, 0xe000,
-    ];
-    let mut memory = Memory::with_vectors(
-        &[(INTERRUPT_0, 0x2000_0099), (INTERRUPT_0 + 1, 0x2000_0093)],
-        &code,
-    );
-    let mut core = behind(0x2004_2000);
-    pass(&rt, &mut core, &mut memory, 40);
-    for lines in [2, 0, 0, 0, 1, 0] {
-        memory.lines = lines;
-        pass(&rt, &mut core, &mut memory, 1);
-    }
-    assert!(rt; run(&mut core, &mut memory).1 == bkpt);
-    has(
-        &rt,
-        &core,
-        &[(4, 1), (5, 5), (6, 5), (7, 0), (13, 0x2004_2000)],
-    );
+    assert_eq!(rt; wrong_behind(&INTERRUPTS), None);
 }
+
+const FAULTS: [Behind; 2] = [
+    // A return with a value that no entry gives is a HardFault, and PC is that of the BX.
+    (
+        0x2004_2000,
+        &[(HARDFAULT, 0x2000_0089), (SVCALL, 0x2000_0083)],
+        &[0xdf00, 0x2000, 0x43c0, 0x4700, 0xbe00],
+        &[
+            Deed::Run(36, BKPT),
+            Deed::Has(13, 0x2004_1fc0),
+            Deed::Has(14, 0xffff_fff1),
+            Deed::Has(16, 0x8100_0003),
+            Deed::Word(0x2004_1fd8, 0x2000_0086),
+        ],
+    ),
+    // A fault inside HardFault.
+    (
+        0x2004_2000,
+        &[(HARDFAULT, 0x2000_0083)],
+        &[0xde00, 0xde01],
+        &[
+            Deed::Run(16, Some(Why::Lockup(0))),
+            Deed::Has(13, 0x2004_1fe0),
+            Deed::Has(15, 0x2000_0082),
+            Deed::Has(16, 0x100_0003),
+        ],
+    ),
+];
 
 #[test]
 fn faults(rt: HostRuntime) {
-    // A return with a value that no entry gives is a HardFault, and PC is that of the BX.
-    let vectors = [(HARDFAULT, 0x2000_0089), (SVCALL, 0x2000_0083)];
-    let code = [0xdf00, 0x2000, 0x43c0, 0x4700, 0xbe00];
-    let mut memory = Memory::with_vectors(&vectors, &code);
-    let mut core = behind(0x2004_2000);
-    assert!(rt; run(&mut core, &mut memory) == (36, Some(Why::Bkpt(0))));
-    has(
-        &rt,
-        &core,
-        &[(13, 0x2004_1fc0), (14, 0xffff_fff1), (16, 0x8100_0003)],
-    );
-    assert_eq!(rt; memory.word(0x2004_1fd8), 0x2000_0086);
-    // A fault inside HardFault.
-    let mut memory = Memory::with_vectors(&[(HARDFAULT, 0x2000_0083)], &[0xde00, 0xde01]);
-    let mut core = behind(0x2004_2000);
-    assert!(rt; run(&mut core, &mut memory) == (16, Some(Why::Lockup(0))));
-    has(
-        &rt,
-        &core,
-        &[(13, 0x2004_1fe0), (15, 0x2000_0082), (16, 0x100_0003)],
-    );
+    assert_eq!(rt; wrong_behind(&FAULTS), None);
 }

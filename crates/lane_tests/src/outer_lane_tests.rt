@@ -4,7 +4,7 @@ ghost use Rattle.std.specs.Prelude.{ℕ, ◌+◌, ◌%◌, ◌^◌, ◌==◌, sl
 
 use lane_look::{Ask, Device, Lane, Look, Mark, Marks, NoDevice, Turn, Wires};
 use outer_lane::{Outer, SeenOutputs, World};
-use pin_script::read_script;
+use pin_script::{Script, read_script};
 use rp_base::map::Block;
 use std::test::Fail;
 
@@ -21,11 +21,9 @@ impl Look for Zeros {
 }
 
 /// SIO drives pin 0 and the script pin 3; two cycles later the chip sees them.
-#[test]
-fn pads(rt: HostRuntime) -> Result<(), Fail> {
-    let script = read_script(rt.alloc(), b"1 3 1\n")?;
+fn are_seen(script: &Script) -> bool {
     let world = World {
-        script: &script,
+        script,
         device: &NoDevice,
         limit: 9,
     };
@@ -35,26 +33,27 @@ fn pads(rt: HostRuntime) -> Result<(), Fail> {
     outer.effect(Block::IoBank0, 4, Some(5));
     let seen = outer.begin(&world, 1, &mut Zeros);
     outer.finish(&world, &seen, [Turn::Nothing; 2], &mut marks);
-    assert_eq!(rt; outer.pads(), 9);
-    assert_eq!(rt; outer.input(), 0);
+    let first = outer.pads() == 9 && outer.input() == 0;
     outer.finish(&world, &seen, [Turn::Nothing; 2], &mut marks);
     outer.finish(&world, &seen, [Turn::Nothing; 2], &mut marks);
-    assert_eq!(rt; outer.input(), 9);
-    assert_eq!(rt;
-        outer.read(&world, &seen, Block::IoBank0, 0),
-        Some(0x000a_3300)
-    );
-    assert_eq!(rt; outer.read(&world, &seen, Block::PadsBank0, 4), Some(0x56));
-    assert_eq!(rt; marks.count(), 3);
+    first
+        && outer.input() == 9
+        && outer.read(&world, &seen, Block::IoBank0, 0) == Some(0x000a_3300)
+        && outer.read(&world, &seen, Block::PadsBank0, 4) == Some(0x56)
+        && marks.count() == 3
+}
+
+#[test]
+fn pads(rt: HostRuntime) -> Result<(), Fail> {
+    let script = read_script(rt.alloc(), b"1 3 1\n")?;
+    assert!(rt; are_seen(&script));
     Ok(())
 }
 
 /// A timer that is held reads 0, ignores writes, and comes out of reset without them; INTF drives its lines.
-#[test]
-fn holds(rt: HostRuntime) -> Result<(), Fail> {
-    let script = read_script(rt.alloc(), b"")?;
+fn is_held(outer: &mut Outer, script: &Script) -> bool {
     let world = World {
-        script: &script,
+        script,
         device: &NoDevice,
         limit: 9,
     };
@@ -63,19 +62,28 @@ fn holds(rt: HostRuntime) -> Result<(), Fail> {
         pio0: [0, 0],
         pio1: [0, 0],
     };
-    let mut outer = Outer::new(&NoDevice);
     outer.effect(Block::Timer, 0x3c, Some(5));
-    assert_eq!(rt; outer.lines(1), 5);
+    let driven = outer.lines(1) == 5;
     outer.reset(0x0020_0000);
     outer.effect(Block::Timer, 0x3c, Some(5));
-    assert_eq!(rt; outer.read(&world, &seen, Block::Timer, 0x3c), Some(0));
+    let held = outer.read(&world, &seen, Block::Timer, 0x3c) == Some(0);
     outer.reset(0);
-    assert_eq!(rt; outer.lines(1), 0);
-    assert_eq!(rt; outer.read(&world, &seen, Block::Resets, 0), None);
+    driven && held && outer.lines(1) == 0 && outer.read(&world, &seen, Block::Resets, 0).is_none()
+}
+
+/// A copy has the lines of what it was copied from.
+fn is_copied(outer: &Outer) -> bool {
     let mut other = Outer::new(&NoDevice);
     other.effect(Block::Timer, 0x3c, Some(7));
-    other.copy_from(&outer);
-    assert_eq!(rt; other.lines(0), 0);
+    other.copy_from(outer);
+    other.lines(0) == 0
+}
+
+#[test]
+fn holds(rt: HostRuntime) -> Result<(), Fail> {
+    let script = read_script(rt.alloc(), b"")?;
+    let mut outer = Outer::new(&NoDevice);
+    assert!(rt; is_held(&mut outer, &script) && is_copied(&outer));
     Ok(())
 }
 
@@ -141,12 +149,40 @@ fn cycle(outer: &mut Outer, world: &World<'_, Counter>, number: u64) -> Mark {
     marks.entry(0)
 }
 
+/// The first cycles, in which the device's word, which rises by 8, drives pins 3 and 4, and the PWM function pin 2.
+fn drives(outer: &mut Outer, world: &World<'_, Counter>) -> bool {
+    for (number, pads) in [(0, 0x0c), (1, 0x0c), (2, 0x14), (3, 0x1c)] {
+        if cycle(outer, world, number).pads != pads {
+            return false;
+        }
+    }
+    outer.lines(0) == 0x14
+}
+
+/// The device's word, and what a write leaves.
+fn owns(outer: &mut Outer, world: &World<'_, Counter>) -> bool {
+    let before = outer.owned_word(world, 0x4006_0000) == Some(32);
+    outer.device_effect(world, 0x4006_0000, Some(7));
+    before
+        && outer.owned_word(world, 0x4006_0000) == Some(7)
+        && outer.owned_word(world, 0x4006_0004).is_none()
+}
+
+/// The last of these cycles in which UART0 has sent the byte 41, or 0.
+fn sent(outer: &mut Outer, world: &World<'_, Counter>) -> u64 {
+    let mut sent = 0;
+    for number in 4..200 {
+        if cycle(outer, world, number).uart[0] == Some(0x41) {
+            sent = number;
+        }
+    }
+    sent
+}
+
 /// A script frees pin 3 for the device; the device's word, lines and PWM; and a byte of UART0 after the ten bits of its frame.
-#[test]
-fn device_and_byte(rt: HostRuntime) -> Result<(), Fail> {
-    let script = read_script(rt.alloc(), b"0 3 1\n2 3 z\n")?;
+fn runs(script: &Script) -> (bool, u64) {
     let world = World {
-        script: &script,
+        script,
         device: &Counter,
         limit: 300,
     };
@@ -156,23 +192,17 @@ fn device_and_byte(rt: HostRuntime) -> Result<(), Fail> {
     outer.effect(Block::Uart0, 0x2c, Some(0x70));
     outer.effect(Block::Uart0, 0x30, Some(0x301));
     outer.effect(Block::Uart0, 0, Some(0x41));
-    for (number, pads) in [(0, 0x0c), (1, 0x0c), (2, 0x14), (3, 0x1c)] {
-        assert_eq!(rt; cycle(&mut outer, &world, number).pads, pads);
-    }
-    assert_eq!(rt; outer.lines(0), 0x14);
-    assert_eq!(rt; outer.owned_word(&world, 0x4006_0000), Some(32));
-    outer.device_effect(&world, 0x4006_0000, Some(7));
-    assert_eq!(rt; outer.owned_word(&world, 0x4006_0000), Some(7));
-    assert_eq!(rt; outer.owned_word(&world, 0x4006_0004), None);
-    let mut sent = 0;
-    for number in 4..200 {
-        if cycle(&mut outer, &world, number).uart[0] == Some(0x41) {
-            sent = number;
-        }
-    }
-    assert_eq!(rt; sent, 160);
-    assert!(rt;
-        !outer.allows(Block::IoBank0, 0x1004, None) && outer.allows(Block::PadsBank0, 4, None)
-    );
+    let right = drives(&mut outer, &world) && owns(&mut outer, &world);
+    let sent = sent(&mut outer, &world);
+    let allowed = !outer.allows(Block::IoBank0, 0x1004, None)
+        && outer.allows(Block::PadsBank0, 4, None);
+    (right && allowed, sent)
+}
+
+#[test]
+fn device_and_byte(rt: HostRuntime) -> Result<(), Fail> {
+    let script = read_script(rt.alloc(), b"0 3 1\n2 3 z\n")?;
+    let (right, sent) = runs(&script);
+    assert!(rt; right && sent == 160, "{sent}");
     Ok(())
 }

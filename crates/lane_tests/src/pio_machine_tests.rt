@@ -127,8 +127,7 @@ fn lamp_bits(rt: HostRuntime) {
     // autopull at 24 bits, to the left
     machine.shiftctrl = 0x3002_0000;
     run(&rt, &mut machine, &seen, b"000");
-    assert!(rt; machine.tx_stall);
-    assert_eq!(rt; machine.tx.level(), 0);
+    assert!(rt; machine.tx_stall && machine.tx.level() == 0);
     machine.tx.push(0x8000_0000);
     run(&rt, &mut machine, &seen, b"0");
     assert_eq!(rt; machine.osr_count, 0);
@@ -307,6 +306,35 @@ fn stalls(rt: HostRuntime) {
     assert_eq!(rt; first_fault(&program, 0, &STALLS), None);
 }
 
+/// The flags of a cycle of machine 3, what it sets and clears, and PC after it.
+const FLAGS: [(u8, u8, u8, u8); 6] = [
+    (0, 2, 0, 0),
+    (2, 0, 0, 0),
+    (0, 0, 0, 1),
+    (0, 0, 0, 1),
+    (2, 0, 2, 2),
+    (0, 0, 0, 3),
+];
+
+/// A cycle of machine 3 is as its row says.
+fn passes(machine: &mut Machine1, seen: &mut Seen, row: &(u8, u8, u8, u8)) -> bool {
+    let (flags, set, clear, pc) = *row;
+    let mut done = Done::new();
+    seen.flags = flags;
+    tick(machine, 3, seen, &mut done);
+    done.set == set && done.clear == clear && machine.pc == pc
+}
+
+/// The word e041 waits as one that was executed, sets Y to 1 and leaves PC.
+fn executes(machine: &mut Machine1, seen: &Seen) -> bool {
+    let waits = match machine.waiting {
+        Some(waiting) => waiting.word == 0xe041 && !waiting.forced,
+        None => false,
+    };
+    tick(machine, 3, seen, &mut Done::new());
+    waits && machine.y == 1 && machine.pc == 3
+}
+
 // irq wait 2 rel by machine 3 waits for flag 1, which wait 1 irq 1 clears; the waiting word of mov exec and its side-set
 #[test]
 fn flags_and_executed_words(rt: HostRuntime) {
@@ -315,30 +343,20 @@ fn flags_and_executed_words(rt: HostRuntime) {
     let mut machine = Machine1::new();
     machine.enabled = true;
     machine.x = 0xe041;
-    for (flags, set, clear, pc) in [
-        (0, 2, 0, 0),
-        (2, 0, 0, 0),
-        (0, 0, 0, 1),
-        (0, 0, 0, 1),
-        (2, 0, 2, 2),
-        (0, 0, 0, 3),
-    ] {
-        let mut done = Done::new();
-        seen.flags = flags;
-        tick(&mut machine, 3, &seen, &mut done);
-        assert_eq!(rt; done.set, set, "{pc}");
-        assert_eq!(rt; done.clear, clear, "{pc}");
-        assert_eq!(rt; machine.pc, pc);
+    for (index, row) in FLAGS.iter().enumerate() {
+        assert!(rt; passes(&mut machine, &mut seen, row), "row {index}");
     }
-    assert!(rt;
-        machine
-            .waiting
-            .is_some_and(|w| w.word == 0xe041 && !w.forced)
-    );
+    assert!(rt; executes(&mut machine, &seen));
+}
+
+/// A cycle of machine 1, and the levels and enables that it writes, each with its mask.
+fn writes(machine: &mut Machine1, seen: &Seen, levels: (u32, u32), enables: (u32, u32)) -> bool {
     let mut done = Done::new();
-    tick(&mut machine, 3, &seen, &mut done);
-    assert_eq!(rt; machine.y, 1);
-    assert_eq!(rt; machine.pc, 3);
+    tick(machine, 1, seen, &mut done);
+    done.level_mask == levels.0
+        && done.levels == levels.1
+        && done.enable_mask == enables.0
+        && done.enables == enables.1
 }
 
 // Pins go on after pin 31 at pin 0: in pins, 3, of which pin 0 is read before its synchroniser; set pins, 5; and out pindirs,
@@ -353,28 +371,21 @@ fn pins_wrap(rt: HostRuntime) {
     machine.shiftctrl = 0;
     // SET_COUNT 3, IN_BASE and SET_BASE 31
     machine.pinctrl = (3 << 26) | (31 << 15) | (31 << 5);
-    run(&rt, &mut machine, &seen, b".");
-    assert_eq!(rt; machine.isr, 7);
-    let mut done = Done::new();
-    tick(&mut machine, 1, &seen, &mut done);
-    assert_eq!(rt; done.level_mask, 0x8000_0003);
-    assert_eq!(rt; done.levels, 0x8000_0002);
-    assert_eq!(rt; done.enable_mask, 0);
+    let none = (0, 0);
+    let read = writes(&mut machine, &seen, none, none) && machine.isr == 7;
+    let levels = (0x8000_0003, 0x8000_0002);
+    assert!(rt; read && writes(&mut machine, &seen, levels, none));
     // SIDESET_COUNT 1, OUT_COUNT 2, SIDESET_BASE 0, OUT_BASE 31; SIDE_PINDIR
     machine.pinctrl = (1 << 29) | (2 << 20) | 31;
     machine.execctrl = 0x2001_f000;
     machine.osr = 0xc000_0000;
     machine.osr_count = 0;
-    tick(&mut machine, 1, &seen, &mut done);
-    assert_eq!(rt; done.enable_mask, 0x8000_0001);
-    assert_eq!(rt; done.enables, 0x8000_0000);
+    let enables = (0x8000_0001, 0x8000_0000);
+    assert!(rt; writes(&mut machine, &seen, none, enables));
     // a side-set that is optional, and not asked for: jmp 0 with delay 0
     machine.execctrl = 0x6001_f000;
     machine.pinctrl = 2 << 29;
-    let mut done = Done::new();
-    tick(&mut machine, 1, &seen, &mut done);
-    assert_eq!(rt; done.enable_mask, 0);
-    assert_eq!(rt; machine.pc, 0);
+    assert!(rt; writes(&mut machine, &seen, none, none) && machine.pc == 0);
 }
 
 /// A fetched in y, 32 stalls, and a written jmp 5 leads to in x, 8, which shifts.

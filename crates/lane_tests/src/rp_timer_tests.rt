@@ -46,35 +46,42 @@ const ACCESSES: [(u64, u16, Option<u32>, u32); 32] = [
 /// Offsets of no word.
 const MISSING: [u16; 5] = [0x02, 0x11, 0x1e, 0x44, 0x100];
 
+/// An access is allowed and done, and gives this word.
+fn is_done(timer: &mut Timer, offset: u16, write: Option<u32>, read: u32) -> bool {
+    timer.allows(offset, write) && timer.effect(offset, write) && timer.read(offset) == Some(read)
+}
+
+/// The first access that is not so.
+fn first_wrong(timer: &mut Timer) -> Option<usize> {
+    let mut next = 0;
+    for (index, (cycle, offset, write, read)) in ACCESSES.iter().enumerate() {
+        for number in next..*cycle {
+            timer.step(number);
+        }
+        next = *cycle;
+        if !is_done(timer, *offset, *write, *read) {
+            return Some(index);
+        }
+    }
+    None
+}
+
 #[test]
 fn accesses(rt: HostRuntime) {
     let mut timer = Timer::new();
-    let mut next = 0;
-    for (cycle, offset, write, read) in ACCESSES {
-        for number in next..cycle {
-            timer.step(number);
-        }
-        next = cycle;
-        let allowed = timer.allows(offset, write);
-        let done = timer.effect(offset, write);
-        let word = timer.read(offset);
-        assert!(rt;
-            allowed && done && word == Some(read),
-            "{cycle} {offset:x} {word:?}"
-        );
-    }
+    assert_eq!(rt; first_wrong(&mut timer), None);
     assert_eq!(rt; timer.lines(), 0);
+}
+
+/// No word is at this offset.
+fn is_missing(timer: &mut Timer, offset: u16) -> bool {
+    !timer.allows(offset, None) && !timer.effect(offset, Some(1)) && timer.read(offset).is_none()
 }
 
 #[test]
 fn missing(rt: HostRuntime) {
     let mut timer = Timer::new();
     for offset in MISSING {
-        let allowed = timer.allows(offset, None);
-        let done = timer.effect(offset, Some(1));
-        assert!(rt;
-            !allowed && !done && timer.read(offset).is_none(),
-            "{offset:x}"
-        );
+        assert!(rt; is_missing(&mut timer, offset), "{offset:x}");
     }
 }

@@ -106,99 +106,127 @@ fn hear(uart: &mut Uart, levels: u64, cycles: u32) {
     }
 }
 
+/// A word that is written is kept so.
+fn keeps(uart: &mut Uart, row: &(u16, u32, u32)) -> bool {
+    let (offset, written, read) = *row;
+    uart.allows(offset, Some(written))
+        && uart.effect(offset, Some(written))
+        && uart.read(offset) == Some(read)
+}
+
+/// No word is at this offset.
+fn is_missing(uart: &mut Uart, offset: u16) -> bool {
+    !uart.allows(offset, None) && !uart.effect(offset, None) && uart.read(offset).is_none()
+}
+
 #[test]
 fn words(rt: HostRuntime) {
     let mut uart = Uart::new();
     for (offset, read) in RESET {
-        assert_eq!(rt; uart.read(offset), Some(read), "{offset:x}");
+        assert!(rt; uart.read(offset) == Some(read), "{offset:x}");
     }
-    for (offset, written, read) in WORDS {
-        let allowed = uart.allows(offset, Some(written));
-        let done = uart.effect(offset, Some(written));
-        assert!(rt;
-            allowed && done && uart.read(offset) == Some(read),
-            "{offset:x}"
-        );
+    for row in WORDS {
+        assert!(rt; keeps(&mut uart, &row), "{:x}", row.0);
     }
     for offset in MISSING {
-        let allowed = uart.allows(offset, None);
-        let done = uart.effect(offset, None);
-        assert!(rt;
-            !allowed && !done && uart.read(offset).is_none(),
-            "{offset:x}"
-        );
+        assert!(rt; is_missing(&mut uart, offset), "{offset:x}");
     }
+}
+
+/// The byte that ends in a cycle.
+fn ended(cycle: u32) -> Option<u8> {
+    for (at, byte) in SENT {
+        if at == cycle {
+            return Some(byte);
+        }
+    }
+    None
+}
+
+/// Does what the program writes in a cycle.
+fn writes(uart: &mut Uart, cycle: u32) {
+    for (at, offset, word) in WRITES {
+        if at == cycle {
+            uart.effect(offset, Some(word));
+        }
+    }
+}
+
+/// The first cycle in which another byte ends than is to.
+fn first_other(uart: &mut Uart) -> Option<u32> {
+    for cycle in 0..60000 {
+        if uart.step(true) != ended(cycle) {
+            return Some(cycle);
+        }
+        writes(uart, cycle);
+    }
+    None
 }
 
 #[test]
 fn hello(rt: HostRuntime) {
     let mut uart = Uart::new();
-    for cycle in 0..60000 {
-        let mut ended = None;
-        for (at, byte) in SENT {
-            if at == cycle {
-                ended = Some(byte);
-            }
-        }
-        assert_eq!(rt; uart.step(true), ended, "cycle {cycle}");
-        for (at, offset, word) in WRITES {
-            if at == cycle {
-                uart.effect(offset, Some(word));
-            }
-        }
-    }
-    assert_eq!(rt; uart.read(FR), Some(0x90));
+    assert_eq!(rt; first_other(&mut uart), None);
+    assert!(rt; uart.read(FR) == Some(0x90));
+}
+
+/// A frame is read so, and leaves nothing.
+fn hears(row: &(u32, u64, u32, u32)) -> bool {
+    let (line_control, levels, cycles, read) = *row;
+    let mut uart = fast(line_control, 0x201);
+    hear(&mut uart, levels, cycles);
+    let word = uart.read(DR);
+    uart.effect(DR, None)
+        && word == Some(read)
+        && uart.read(RSR) == Some(read >> 8)
+        && uart.read(FR) == Some(0x90)
 }
 
 #[test]
 fn frames(rt: HostRuntime) {
-    for (line_control, levels, cycles, read) in FRAMES {
-        let mut uart = fast(line_control, 0x201);
-        hear(&mut uart, levels, cycles);
-        let word = uart.read(DR);
-        let taken = uart.effect(DR, None);
-        let (errors, flags) = (uart.read(RSR), uart.read(FR));
-        assert!(rt;
-            taken && word == Some(read) && errors == Some(read >> 8) && flags == Some(0x90),
-            "{levels:x}"
-        );
+    for row in FRAMES {
+        assert!(rt; hears(&row), "{:x}", row.1);
     }
+}
+
+/// Two bytes are sent and come back, the second one to a copy.
+fn comes_back(line_control: u32) -> bool {
+    let mut uart = fast(line_control, 0x381);
+    for (offset, word) in [(DMACR, 3), (DR, 0x15), (DR, 0x0a)] {
+        uart.effect(offset, Some(word));
+    }
+    let before = uart.pacing() == [30, 0];
+    hear(&mut uart, 0, 1);
+    let low = !uart.out();
+    hear(&mut uart, 0, 400);
+    let after = uart.pacing() == [32, 2];
+    let first = uart.read(DR);
+    uart.effect(DR, None);
+    let mut twin = Uart::new();
+    twin.copy_from(&uart);
+    before && low && after && first == Some(0x15) && twin.read(DR) == Some(0x0a)
 }
 
 #[test]
 fn loopback(rt: HostRuntime) {
     for line_control in [0x10, 0x36, 0x5a, 0x7e] {
-        let mut uart = fast(line_control, 0x381);
-        for (offset, word) in [(DMACR, 3), (DR, 0x15), (DR, 0x0a)] {
-            uart.effect(offset, Some(word));
-        }
-        assert_eq!(rt; uart.pacing(), [30, 0]);
-        hear(&mut uart, 0, 1);
-        assert!(rt; !uart.out());
-        hear(&mut uart, 0, 400);
-        assert_eq!(rt; uart.pacing(), [32, 2]);
-        let first = uart.read(DR);
-        uart.effect(DR, None);
-        let mut twin = Uart::new();
-        twin.copy_from(&uart);
-        assert!(rt;
-            first == Some(0x15) && twin.read(DR) == Some(0x0a),
-            "{line_control:x}"
-        );
+        assert!(rt; comes_back(line_control), "{line_control:x}");
     }
+}
+
+/// What a row says is told.
+fn tells(uart: &mut Uart, row: &(u64, u32, u16, Option<u32>, u16, u32)) -> bool {
+    let (levels, cycles, offset, write, told, read) = *row;
+    hear(uart, levels, cycles);
+    uart.effect(offset, write);
+    let line = uart.read(MIS) != Some(0);
+    uart.read(told) == Some(read) && uart.line() == line
 }
 
 #[test]
 fn told(rt: HostRuntime) {
     let mut uart = fast(0x60, 0x301);
-    for (levels, cycles, offset, write, told, read) in TOLD {
-        hear(&mut uart, levels, cycles);
-        uart.effect(offset, write);
-        let word = uart.read(told);
-        let line = uart.read(MIS) != Some(0);
-        assert!(rt;
-            word == Some(read) && uart.line() == line,
-            "{offset:x} {told:x} {word:?}"
-        );
+    for (index, row) in TOLD.iter().enumerate() {
+        assert!(rt; tells(&mut uart, row), "row {index}");
     }
 }

@@ -7,6 +7,87 @@ use sio_block::registers::{
 };
 use sio_block::{Launch, Sio};
 
+/// What a core does to the block, or what is seen of it.
+#[derive(Clone, Copy)]
+enum Deed {
+    /// A write at an offset.
+    Write(u8, u16, u32),
+    /// A read at an offset, with what it does.
+    Take(u8, u16),
+    /// What is read at an offset.
+    Reads(u8, u16, u32),
+    /// An offset of no word.
+    Missing(u8, u16),
+    /// The end of a cycle.
+    Cycle,
+    /// What the launcher gives in this cycle.
+    Launcher(Option<Launch>),
+    /// The launcher has something to do, or not.
+    Offers(bool),
+    /// The interrupt lines.
+    Lines(bool, bool),
+    /// The levels and enables of the pins.
+    Outs(u32, u32),
+    /// A copy goes on instead of the block.
+    Copy,
+}
+
+/// What a core reads where the levels at the pins are 12345678.
+fn word_at(sio: &Sio, core: u8, offset: u16) -> Option<u32> {
+    if core < 2 {
+        sio.read(core, offset, 0x1234_5678)
+    } else {
+        None
+    }
+}
+
+/// What is done.
+fn acts(sio: &mut Sio, deed: &Deed) -> bool {
+    match *deed {
+        Deed::Write(core, offset, word) => {
+            if core < 2 {
+                sio.effect(core, offset, Some(word));
+            }
+        }
+        Deed::Take(core, offset) => {
+            if core < 2 {
+                sio.effect(core, offset, None);
+            }
+        }
+        Deed::Cycle => sio.end_cycle(),
+        Deed::Launcher(launch) => return sio.launcher() == launch,
+        Deed::Copy => {
+            let mut copy = Sio::new();
+            copy.copy_from(sio);
+            *sio = copy;
+        }
+        _ => {}
+    }
+    true
+}
+
+/// What is seen.
+fn shows(sio: &Sio, deed: &Deed) -> bool {
+    match *deed {
+        Deed::Reads(core, offset, word) => word_at(sio, core, offset) == Some(word),
+        Deed::Missing(core, offset) => word_at(sio, core, offset).is_none(),
+        Deed::Offers(offers) => sio.offers() == offers,
+        Deed::Lines(first, second) => sio.line(0) == first && sio.line(1) == second,
+        Deed::Outs(levels, enables) => sio.outs() == [levels, enables],
+        _ => true,
+    }
+}
+
+/// The first of these that is not so.
+fn wrong_deed(sio: &mut Sio, deeds: &[Deed]) -> Option<usize> {
+    for (index, deed) in deeds.iter().enumerate() {
+        if !acts(sio, deed) || !shows(sio, deed) {
+            return Some(index);
+        }
+    }
+    None
+}
+
 /// The offset of SPINLOCK5.
 const LOCK_5: u16 = SPINLOCK0 + 0x14;
 
@@ -40,11 +121,6 @@ const PINS: [(u16, u32, u32, u16, u32); 10] = [
     (GPIO_OE_XOR, 0x0000_0006, 0x0000_0000, GPIO_OE, 0x0000_0005),
     (GPIO_OE_CLR, 0x0000_0004, 0x0000_0000, GPIO_OE, 0x0000_0001),
     (GPIO_OE, 0x0000_0300, 0x0000_0300, GPIO_OE, 0x0000_0300),
-];
-
-/// Offsets of no word.
-const MISSING: [u16; 10] = [
-    0x008, 0x00c, 0x011, 0x030, 0x04c, 0x07c, 0x080, 0x0fc, 0x102, 0x180,
 ];
 
 /// Offsets of two operands, the operands, the quotient and the remainder.
@@ -105,142 +181,229 @@ const DIVISIONS: [(u16, u16, u32, u32, u32, u32); 12] = [
     (DIV_SDIVISOR, DIV_UDIVIDEND, 7, 0xffff_ff9c, 0x2492_4916, 2),
 ];
 
+/// What a row of the pins says is so.
+fn is_pin(sio: &mut Sio, row: &(u16, u32, u32, u16, u32)) -> bool {
+    let (offset, written, read, word, after) = *row;
+    sio.effect(0, offset, Some(written));
+    sio.read(0, offset, 0x1234_5678) == Some(read) && sio.read(1, word, 0) == Some(after)
+}
+
+/// What is seen after the pins.
+const SEEN: [Deed; 14] = [
+    Deed::Outs(0x1c, 0x300),
+    Deed::Reads(1, CPUID, 1),
+    Deed::Missing(0, 0x008),
+    Deed::Missing(0, 0x00c),
+    Deed::Missing(0, 0x011),
+    Deed::Missing(0, 0x030),
+    Deed::Missing(0, 0x04c),
+    Deed::Missing(0, 0x07c),
+    Deed::Missing(0, 0x080),
+    Deed::Missing(0, 0x0fc),
+    Deed::Missing(0, 0x102),
+    Deed::Missing(0, 0x180),
+    Deed::Copy,
+    Deed::Outs(0x1c, 0x300),
+];
+
 #[test]
 fn words(rt: HostRuntime) {
     let mut sio = Sio::new();
-    for (offset, written, read, word, after) in PINS {
-        sio.effect(0, offset, Some(written));
-        assert_eq!(rt; sio.read(0, offset, 0x1234_5678), Some(read), "{offset:x}");
-        assert_eq!(rt; sio.read(1, word, 0), Some(after), "{offset:x}");
+    for row in PINS {
+        assert!(rt; is_pin(&mut sio, &row), "{:x}", row.0);
     }
-    assert_eq!(rt; sio.outs(), [0x1c, 0x300]);
-    assert_eq!(rt; sio.read(1, CPUID, 0), Some(1));
-    for offset in MISSING {
-        assert_eq!(rt; sio.read(0, offset, 0), None, "{offset:x}");
+    assert_eq!(rt; wrong_deed(&mut sio, &SEEN), None);
+}
+
+/// The operands of core 1 are written in two cycles, and eight cycles later it has a quotient and a remainder.
+fn divides(row: &(u16, u16, u32, u32, u32, u32)) -> bool {
+    let (first, second, one, two, quotient, remainder) = *row;
+    let mut sio = Sio::new();
+    if sio.read(1, DIV_CSR, 0) != Some(1) {
+        return false;
     }
-    let mut other = Sio::new();
-    other.copy_from(&sio);
-    assert_eq!(rt; other.outs(), [0x1c, 0x300]);
+    sio.effect(1, first, Some(one));
+    sio.end_cycle();
+    sio.effect(1, second, Some(two));
+    for _ in 0..8 {
+        sio.end_cycle();
+        if sio.read(0, DIV_CSR, 0) != Some(1) {
+            return false;
+        }
+    }
+    gives(&mut sio, quotient, remainder)
+}
+
+/// The divider of core 1 has these results, which its read of the quotient takes.
+fn gives(sio: &mut Sio, quotient: u32, remainder: u32) -> bool {
+    let right = sio.read(1, DIV_QUOTIENT, 0) == Some(quotient)
+        && sio.read(1, DIV_REMAINDER, 0) == Some(remainder)
+        && sio.read(1, DIV_CSR, 0) == Some(3);
+    sio.effect(1, DIV_QUOTIENT, None);
+    right && sio.read(1, DIV_CSR, 0) == Some(1)
 }
 
 #[test]
 fn divisions(rt: HostRuntime) {
-    for (first, second, one, two, quotient, remainder) in DIVISIONS {
-        let mut sio = Sio::new();
-        assert_eq!(rt; sio.read(1, DIV_CSR, 0), Some(1));
-        sio.effect(1, first, Some(one));
-        sio.end_cycle();
-        sio.effect(1, second, Some(two));
-        for _ in 0..8 {
-            sio.end_cycle();
-            assert_eq!(rt; sio.read(0, DIV_CSR, 0), Some(1));
-        }
-        assert_eq!(rt;
-            sio.read(1, DIV_QUOTIENT, 0),
-            Some(quotient),
-            "{one:x} {two:x}"
-        );
-        assert_eq!(rt;
-            sio.read(1, DIV_REMAINDER, 0),
-            Some(remainder),
-            "{one:x} {two:x}"
-        );
-        assert_eq!(rt; sio.read(1, DIV_CSR, 0), Some(3));
-        sio.effect(1, DIV_QUOTIENT, None);
-        assert_eq!(rt; sio.read(1, DIV_CSR, 0), Some(1));
+    for (index, row) in DIVISIONS.iter().enumerate() {
+        assert!(rt; divides(row), "row {index}");
     }
 }
 
+/// A division that has not ended has no results, and a write of a result ends it.
+const ENDED: [Deed; 28] = [
+    Deed::Write(0, DIV_UDIVIDEND, 30),
+    Deed::Write(0, DIV_UDIVISOR, 7),
+    Deed::Cycle,
+    Deed::Reads(0, DIV_CSR, 2),
+    Deed::Reads(0, DIV_QUOTIENT, 0),
+    Deed::Cycle,
+    Deed::Reads(0, DIV_CSR, 2),
+    Deed::Reads(0, DIV_QUOTIENT, 0),
+    Deed::Cycle,
+    Deed::Reads(0, DIV_CSR, 2),
+    Deed::Reads(0, DIV_QUOTIENT, 0),
+    Deed::Cycle,
+    Deed::Reads(0, DIV_CSR, 2),
+    Deed::Reads(0, DIV_QUOTIENT, 0),
+    Deed::Cycle,
+    Deed::Reads(0, DIV_CSR, 2),
+    Deed::Reads(0, DIV_QUOTIENT, 0),
+    Deed::Cycle,
+    Deed::Reads(0, DIV_CSR, 2),
+    Deed::Reads(0, DIV_QUOTIENT, 0),
+    Deed::Cycle,
+    Deed::Reads(0, DIV_CSR, 2),
+    Deed::Reads(0, DIV_QUOTIENT, 0),
+    Deed::Write(0, DIV_REMAINDER, 5),
+    Deed::Cycle,
+    Deed::Reads(0, DIV_CSR, 3),
+    Deed::Reads(0, DIV_QUOTIENT, 0),
+    Deed::Reads(0, DIV_REMAINDER, 5),
+];
+
 #[test]
 fn a_division_waits_and_is_ended(rt: HostRuntime) {
-    let mut sio = Sio::new();
-    sio.effect(0, DIV_UDIVIDEND, Some(30));
-    sio.effect(0, DIV_UDIVISOR, Some(7));
-    for _ in 0..7 {
-        sio.end_cycle();
-        assert_eq!(rt; sio.read(0, DIV_CSR, 0), Some(2));
-        assert_eq!(rt; sio.read(0, DIV_QUOTIENT, 0), Some(0));
-    }
-    sio.effect(0, DIV_REMAINDER, Some(5));
-    sio.end_cycle();
-    assert_eq!(rt; sio.read(0, DIV_CSR, 0), Some(3));
-    assert_eq!(rt; sio.read(0, DIV_QUOTIENT, 0), Some(0));
-    assert_eq!(rt; sio.read(0, DIV_REMAINDER, 0), Some(5));
+    assert_eq!(rt; wrong_deed(&mut Sio::new(), &ENDED), None);
+}
+
+/// What core 0 sends to the launcher. A third word of 7 is wrong, and the launcher begins again.
+const SENT: [u32; 9] = [0, 0, 7, 0, 0, 1, 1, 0x2004_1000, 0x2000_0021];
+
+/// A word that core 0 sends, what the launcher gives for it, and what it answers.
+fn wrong_send(sio: &mut Sio, word: u32, launch: Option<Launch>, answer: u32) -> Option<usize> {
+    let deeds = [
+        Deed::Write(0, FIFO_WR, word),
+        Deed::Offers(false),
+        Deed::Launcher(None),
+        Deed::Cycle,
+        Deed::Offers(true),
+        Deed::Launcher(launch),
+        Deed::Cycle,
+        Deed::Lines(true, false),
+        Deed::Reads(0, FIFO_RD, answer),
+        Deed::Take(0, FIFO_RD),
+        Deed::Cycle,
+    ];
+    wrong_deed(sio, &deeds)
 }
 
 #[test]
 fn core_1_is_launched(rt: HostRuntime) {
-    // a third word of 7 is wrong, and the launcher begins again
-    let sent = [0, 0, 7, 0, 0, 1, 1, 0x2004_1000, 0x2000_0021];
     let mut sio = Sio::new();
-    for (number, word) in sent.into_iter().enumerate() {
-        sio.effect(0, FIFO_WR, Some(word));
-        assert!(rt; !sio.offers());
-        assert_eq!(rt; sio.launcher(), None);
-        sio.end_cycle();
-        assert!(rt; sio.offers());
+    for (number, word) in SENT.into_iter().enumerate() {
         let launch = Launch {
             vtor: 1,
             sp: 0x2004_1000,
             entry: 0x2000_0021,
         };
         let wanted = if number == 8 { Some(launch) } else { None };
-        assert_eq!(rt; sio.launcher(), wanted, "word {number}");
-        sio.end_cycle();
-        assert!(rt; sio.line(0) && !sio.line(1));
         let answer = if number == 2 { 0xffff_fff8 } else { word };
-        assert_eq!(rt; sio.read(0, FIFO_RD, 0), Some(answer), "word {number}");
-        sio.effect(0, FIFO_RD, None);
-        sio.end_cycle();
+        assert!(rt;
+            wrong_send(&mut sio, word, wanted, answer).is_none(),
+            "word {number}"
+        );
     }
 }
+
+/// A word that comes in the cycle of a read is not seen by it, nor is the room that a read makes seen by a write.
+const MAILBOXES: [Deed; 49] = [
+    Deed::Reads(0, FIFO_ST, 2),
+    Deed::Write(0, FIFO_WR, 10),
+    Deed::Take(1, FIFO_RD),
+    Deed::Cycle,
+    Deed::Reads(1, FIFO_ST, 0xb),
+    Deed::Write(1, FIFO_ST, 8),
+    Deed::Reads(1, FIFO_ST, 3),
+    Deed::Write(0, FIFO_WR, 11),
+    Deed::Cycle,
+    Deed::Write(0, FIFO_WR, 12),
+    Deed::Cycle,
+    Deed::Write(0, FIFO_WR, 13),
+    Deed::Cycle,
+    Deed::Write(0, FIFO_WR, 14),
+    Deed::Cycle,
+    Deed::Write(0, FIFO_WR, 15),
+    Deed::Cycle,
+    Deed::Write(0, FIFO_WR, 16),
+    Deed::Cycle,
+    Deed::Write(0, FIFO_WR, 17),
+    Deed::Cycle,
+    Deed::Reads(0, FIFO_ST, 0),
+    Deed::Write(0, FIFO_WR, 18),
+    Deed::Take(1, FIFO_RD),
+    Deed::Cycle,
+    Deed::Reads(0, FIFO_ST, 6),
+    Deed::Reads(1, FIFO_RD, 11),
+    Deed::Take(1, FIFO_RD),
+    Deed::Cycle,
+    Deed::Reads(1, FIFO_RD, 12),
+    Deed::Take(1, FIFO_RD),
+    Deed::Cycle,
+    Deed::Reads(1, FIFO_RD, 13),
+    Deed::Take(1, FIFO_RD),
+    Deed::Cycle,
+    Deed::Reads(1, FIFO_RD, 14),
+    Deed::Take(1, FIFO_RD),
+    Deed::Cycle,
+    Deed::Reads(1, FIFO_RD, 15),
+    Deed::Take(1, FIFO_RD),
+    Deed::Cycle,
+    Deed::Reads(1, FIFO_RD, 16),
+    Deed::Take(1, FIFO_RD),
+    Deed::Cycle,
+    Deed::Reads(1, FIFO_RD, 17),
+    Deed::Take(1, FIFO_RD),
+    Deed::Cycle,
+    Deed::Reads(1, FIFO_RD, 0),
+    Deed::Lines(true, false),
+];
 
 #[test]
 fn mailboxes_are_judged_at_the_start(rt: HostRuntime) {
-    let mut sio = Sio::new();
-    assert_eq!(rt; sio.read(0, FIFO_ST, 0), Some(2));
-    // a word that comes in the cycle of a read is not seen by it
-    sio.effect(0, FIFO_WR, Some(10));
-    sio.effect(1, FIFO_RD, None);
-    sio.end_cycle();
-    assert_eq!(rt; sio.read(1, FIFO_ST, 0), Some(0xb));
-    sio.effect(1, FIFO_ST, Some(8));
-    assert_eq!(rt; sio.read(1, FIFO_ST, 0), Some(3));
-    for word in 11..18 {
-        sio.effect(0, FIFO_WR, Some(word));
-        sio.end_cycle();
-    }
-    // nor is the room that a read makes seen by a write
-    assert_eq!(rt; sio.read(0, FIFO_ST, 0), Some(0));
-    sio.effect(0, FIFO_WR, Some(18));
-    sio.effect(1, FIFO_RD, None);
-    sio.end_cycle();
-    assert_eq!(rt; sio.read(0, FIFO_ST, 0), Some(6));
-    for word in 11..18 {
-        assert_eq!(rt; sio.read(1, FIFO_RD, 0), Some(word));
-        sio.effect(1, FIFO_RD, None);
-        sio.end_cycle();
-    }
-    assert_eq!(rt; sio.read(1, FIFO_RD, 0), Some(0));
-    assert!(rt; sio.line(0) && !sio.line(1));
+    assert_eq!(rt; wrong_deed(&mut Sio::new(), &MAILBOXES), None);
 }
+
+/// Core 1 reads a spinlock as 0 in the cycle in which core 0 frees it, so it has not taken it. Core 0 sets bit 0 of OUT, which
+/// core 1 inverts in the same cycle.
+const LOCKS: [Deed; 14] = [
+    Deed::Reads(0, LOCK_5, 0x20),
+    Deed::Take(0, LOCK_5),
+    Deed::Reads(1, LOCK_5, 0),
+    Deed::Take(1, LOCK_5),
+    Deed::Cycle,
+    Deed::Reads(1, SPINLOCK_ST, 0x20),
+    Deed::Write(0, LOCK_5, 0),
+    Deed::Take(1, LOCK_5),
+    Deed::Cycle,
+    Deed::Reads(0, SPINLOCK_ST, 0),
+    Deed::Write(0, GPIO_OUT_SET, 1),
+    Deed::Write(1, GPIO_OUT_XOR, 1),
+    Deed::Cycle,
+    Deed::Reads(0, GPIO_OUT, 0),
+];
 
 #[test]
 fn locks_and_pins_of_two_cores(rt: HostRuntime) {
-    let mut sio = Sio::new();
-    assert_eq!(rt; sio.read(0, LOCK_5, 0), Some(0x20));
-    sio.effect(0, LOCK_5, None);
-    assert_eq!(rt; sio.read(1, LOCK_5, 0), Some(0));
-    sio.effect(1, LOCK_5, None);
-    sio.end_cycle();
-    assert_eq!(rt; sio.read(1, SPINLOCK_ST, 0), Some(0x20));
-    // core 1 read 0 in the cycle in which core 0 frees the lock, so it has not taken it
-    sio.effect(0, LOCK_5, Some(0));
-    sio.effect(1, LOCK_5, None);
-    sio.end_cycle();
-    assert_eq!(rt; sio.read(0, SPINLOCK_ST, 0), Some(0));
-    sio.effect(0, GPIO_OUT_SET, Some(1));
-    sio.effect(1, GPIO_OUT_XOR, Some(1));
-    sio.end_cycle();
-    assert_eq!(rt; sio.read(0, GPIO_OUT, 0), Some(0));
+    assert_eq!(rt; wrong_deed(&mut Sio::new(), &LOCKS), None);
 }
