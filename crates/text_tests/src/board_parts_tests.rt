@@ -20,11 +20,12 @@ fn shows<P: Probe>(probe: &mut P, changes: &[(u64, bool)], want: &[u8]) -> bool 
     text.as_slice() == want
 }
 
+const BLINKS: [(u64, bool); 5] = [(15, true), (17, false), (20, true), (22, false), (25, true)];
+
 #[test]
 fn edges_are_counted(rt: HostRuntime) {
     assert!(rt; shows(&mut EdgeCounter::new(), &[], b"edges 0 rises 0"));
-    let blinks = [(15, true), (17, false), (20, true), (22, false), (25, true)];
-    assert!(rt; shows(&mut EdgeCounter::new(), &blinks, b"edges 5 rises 3"));
+    assert!(rt; shows(&mut EdgeCounter::new(), &BLINKS, b"edges 5 rises 3"));
 }
 
 /// A strip's state after 24 bits that begin at cycle 100, each of 160 cycles, a 1 high for 112 of them and a 0 for 32.
@@ -38,23 +39,24 @@ fn sends(decoder: &mut Ws2812, colour: u32) {
     }
 }
 
-#[test]
-fn colours_are_decoded(rt: HostRuntime) {
+/// What a probe shows.
+fn has_line<P: Probe>(probe: &P, want: &[u8]) -> bool {
     let mut text = ArrayVec::<u8, 120>::new();
-    let mut decoder = Ws2812::new();
-    decoder.line(&mut text);
-    assert!(rt; text.as_slice() == b"colours 0 last 000000".as_slice());
-    sends(&mut decoder, 0xff8001);
-    decoder.line(&mut text);
-    assert!(rt; text.as_slice() == b"colours 1 last ff8001".as_slice());
+    probe.line(&mut text);
+    text.as_slice() == want
 }
 
 #[test]
-fn lengths_at_their_bounds(rt: HostRuntime) {
-    let mut text = ArrayVec::<u8, 120>::new();
+fn colours_are_decoded(rt: HostRuntime) {
     let mut decoder = Ws2812::new();
+    let none = has_line(&decoder, b"colours 0 last 000000");
+    sends(&mut decoder, 0xff8001);
+    assert!(rt; none && has_line(&decoder, b"colours 1 last ff8001"));
+}
+
+/// A bit that a low level of 6250 cycles drops, then 23 zeros of 74 cycles and a one of 75, 6249 cycles apart.
+fn sends_at_bounds(decoder: &mut Ws2812) {
     decoder.aim(0);
-    // a bit that a low level of 6250 cycles drops, then 23 zeros of 74 cycles and a one of 75, 6249 cycles apart
     decoder.edge(0, true);
     decoder.edge(100, false);
     let mut cycle: u64 = 100 + 6250;
@@ -64,8 +66,29 @@ fn lengths_at_their_bounds(rt: HostRuntime) {
         decoder.edge(cycle.saturating_add(long), false);
         cycle = cycle.saturating_add(long + 6249);
     }
-    decoder.line(&mut text);
-    assert!(rt; text.as_slice() == b"colours 1 last 000001".as_slice());
+}
+
+#[test]
+fn lengths_at_their_bounds(rt: HostRuntime) {
+    let mut decoder = Ws2812::new();
+    sends_at_bounds(&mut decoder);
+    assert!(rt; has_line(&decoder, b"colours 1 last 000001"));
+}
+
+const CHANGES: [(u64, u8, bool); 3] = [(3, 7, true), (3, 8, true), (9, 7, false)];
+
+/// Lets probes hear the changes.
+fn hear(probes: &mut [Aimed]) {
+    for (cycle, pin, level) in CHANGES {
+        hear_all(probes, &PinChange { cycle, pin, level });
+    }
+}
+
+/// The line of a probe.
+fn has_aimed_line(probe: &Aimed, want: &[u8]) -> bool {
+    let mut line = ArrayVec::<u8, 192>::new();
+    probe.line(&mut line);
+    line.as_slice() == want
 }
 
 #[test]
@@ -74,15 +97,10 @@ fn boxed_probes_hear_their_own_pins(rt: HostRuntime) -> Result<(), Fail> {
     let counter = Aimed::new(0, 7, Box::new(alloc, EdgeCounter::new())?);
     let decoder = Aimed::new(1, 0, Box::new(alloc, Ws2812::new())?);
     let mut probes = [counter, decoder];
-    let changes = [(3, 7, true), (3, 8, true), (9, 7, false)];
-    for (cycle, pin, level) in changes {
-        hear_all(&mut probes, &PinChange { cycle, pin, level });
-    }
-    let mut line = ArrayVec::<u8, 192>::new();
-    probes[0].line(&mut line);
-    assert!(rt; line.as_slice() == b"probe 0 pin 7 edges 2 rises 1\n".as_slice());
-    probes[1].line(&mut line);
-    assert!(rt; line.as_slice() == b"probe 1 pin 0 colours 0 last 000000\n".as_slice());
+    hear(&mut probes);
+    let counts = has_aimed_line(&probes[0], b"probe 0 pin 7 edges 2 rises 1\n");
+    let decodes = has_aimed_line(&probes[1], b"probe 1 pin 0 colours 0 last 000000\n");
+    assert!(rt; counts && decodes);
     Ok(())
 }
 

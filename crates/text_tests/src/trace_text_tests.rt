@@ -11,25 +11,28 @@ fn same_stop(why: &Why, cycle: u64, want: &[u8]) -> bool {
     out.as_slice() == want
 }
 
+/// Stops, their cycles and their lines.
+const STOPS: [(Why, u64, &[u8]); 5] = [
+    (Why::Limit, 0, b"stop limit 0\n"),
+    (Why::Bkpt(1), 18, b"stop bkpt core1 18\n"),
+    (Why::Lockup(0), 1000, b"stop lockup core0 1000\n"),
+    (
+        Why::Outside(Master::DmaRead, 0x4001_c0de),
+        7,
+        b"stop outside dma 4001c0de 7\n",
+    ),
+    (
+        Why::Outside(Master::DmaWrite, 0xe000_e010),
+        7,
+        b"stop outside dma e000e010 7\n",
+    ),
+];
+
 #[test]
 fn each_stop_has_its_line(rt: HostRuntime) {
-    assert!(rt; same_stop(&Why::Limit, 0, b"stop limit 0\n"));
-    assert!(rt; same_stop(&Why::Bkpt(1), 18, b"stop bkpt core1 18\n"));
-    assert!(rt; same_stop(&Why::Lockup(0), 1000, b"stop lockup core0 1000\n"));
-    assert!(rt;
-        same_stop(
-            &Why::Outside(Master::DmaRead, 0x4001_c0de),
-            7,
-            b"stop outside dma 4001c0de 7\n"
-        )
-    );
-    assert!(rt;
-        same_stop(
-            &Why::Outside(Master::DmaWrite, 0xe000_e010),
-            7,
-            b"stop outside dma e000e010 7\n"
-        )
-    );
+    for (index, (why, cycle, want)) in STOPS.iter().enumerate() {
+        assert!(rt; same_stop(why, *cycle, want), "row {index}");
+    }
 }
 
 fn same_event(event: &Event, want: &[u8]) -> bool {
@@ -38,32 +41,64 @@ fn same_event(event: &Event, want: &[u8]) -> bool {
     out.as_slice() == want
 }
 
+/// Events and their lines.
+const EVENTS: [(Event, &[u8]); 4] = [
+    (
+        Event::Uart {
+            cycle: 10883,
+            number: 0,
+            byte: 0x48,
+        },
+        b"10883 uart0 48\n",
+    ),
+    (
+        Event::Uart {
+            cycle: 0,
+            number: 1,
+            byte: 0xaf,
+        },
+        b"0 uart1 af\n",
+    ),
+    (
+        Event::Pin {
+            cycle: 5,
+            pin: 3,
+            level: true,
+        },
+        b"5 pin 3 1\n",
+    ),
+    (
+        Event::Pin {
+            cycle: 1_000_000_000,
+            pin: 29,
+            level: false,
+        },
+        b"1000000000 pin 29 0\n",
+    ),
+];
+
 #[test]
 fn each_event_has_its_line(rt: HostRuntime) {
-    let sent = |cycle, number, byte| Event::Uart {
-        cycle,
-        number,
-        byte,
-    };
-    assert!(rt; same_event(&sent(10883, 0, 0x48), b"10883 uart0 48\n"));
-    assert!(rt; same_event(&sent(0, 1, 0xaf), b"0 uart1 af\n"));
-    let changed = |cycle, pin, level| Event::Pin { cycle, pin, level };
-    assert!(rt; same_event(&changed(5, 3, true), b"5 pin 3 1\n"));
-    assert!(rt; same_event(&changed(1_000_000_000, 29, false), b"1000000000 pin 29 0\n"));
+    for (index, (event, want)) in EVENTS.iter().enumerate() {
+        assert!(rt; same_event(event, want), "row {index}");
+    }
 }
+
+/// The line of a core's registers.
+fn same_registers(core: u8, words: Option<[u32; 17]>, want: &[u8]) -> bool {
+    let mut out = ArrayVec::<u8, 192>::new();
+    register_line(core, words, &mut out);
+    out.as_slice() == want
+}
+
+const STARTED: &[u8] =
+    b"core0 00000000 00000000 00000000 00000000 00000000 00000000 00000000 00000000 00000000 00000000 00000000 00000000 00000000 20042000 ffffffff 00000000 00000000\n";
 
 #[test]
 fn registers_are_a_line(rt: HostRuntime) {
-    let mut out = ArrayVec::<u8, 192>::new();
-    register_line(1, None, &mut out);
-    assert!(rt; out.as_slice() == b"core1 asleep\n".as_slice());
     let mut words = [0; 17];
     words[13] = 0x2004_2000;
     words[14] = 0xffff_ffff;
-    let mut out = ArrayVec::<u8, 192>::new();
-    register_line(0, Some(words), &mut out);
-    assert!(rt;
-        out.as_slice()
-            == b"core0 00000000 00000000 00000000 00000000 00000000 00000000 00000000 00000000 00000000 00000000 00000000 00000000 00000000 20042000 ffffffff 00000000 00000000\n".as_slice()
-    );
+    assert!(rt; same_registers(1, None, b"core1 asleep\n"));
+    assert!(rt; same_registers(0, Some(words), STARTED));
 }

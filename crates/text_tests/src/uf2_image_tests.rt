@@ -1,10 +1,9 @@
 //! Whole files, and what each gives.
 
 use std::alloc::{AllocError, Global};
-use std::process::Abort;
 use std::test::Fail;
 use uf2_image::fault::ImageFault;
-use uf2_image::parts::Image;
+use uf2_image::parts::{Image, Part};
 use uf2_image::read_image;
 
 /// The fields of a block. Each byte of its payload is the low byte of its number, and each other byte is 238.
@@ -103,19 +102,31 @@ fn read(alloc: Global, file: &[u8]) -> Result<Image, ImageFault> {
     read_image(alloc, file)
 }
 
-#[test]
-fn lengths(rt: HostRuntime) -> Result<(), Fail> {
-    let alloc = rt.alloc();
-    let cases = [
-        (0, ImageFault::Empty),
-        (511, ImageFault::Ragged(511)),
-        (513, ImageFault::Ragged(513)),
-    ];
-    for (len, want) in cases {
-        let file = vec![in alloc; 0u8; len]?;
-        assert_eq!(rt; read(alloc, &file).err(), Some(want), "at {len}");
+/// Lengths of files of zeros, and the fault of each.
+const LENGTHS: [(usize, ImageFault); 3] = [
+    (0, ImageFault::Empty),
+    (511, ImageFault::Ragged(511)),
+    (513, ImageFault::Ragged(513)),
+];
+
+/// The fault of a file of so many zeros.
+fn fault_of_zeros(alloc: Global, len: usize) -> Option<ImageFault> {
+    match vec![in alloc; 0u8; len] {
+        Ok(file) => read(alloc, &file).err(),
+        Err(_) => Some(ImageFault::Memory),
     }
-    Ok(())
+}
+
+#[test]
+fn lengths(rt: HostRuntime) {
+    for (len, want) in LENGTHS {
+        assert!(rt; fault_of_zeros(rt.alloc(), len) == Some(want), "at {len}");
+    }
+}
+
+/// The fault of a file of these blocks.
+fn fault_of(alloc: Global, blocks: [Fields; 3]) -> Result<Option<ImageFault>, AllocError> {
+    Ok(read(alloc, &file_of(alloc, blocks)?).err())
 }
 
 #[test]
@@ -175,8 +186,7 @@ fn faults_of_fields(rt: HostRuntime) -> Result<(), Fail> {
         ),
     ];
     for (blocks, want) in cases {
-        let file = file_of(alloc, blocks)?;
-        assert_eq!(rt; read(alloc, &file).err(), Some(want));
+        assert!(rt; fault_of(alloc, blocks)? == Some(want));
     }
     Ok(())
 }
@@ -267,25 +277,50 @@ fn faults_of_addresses(rt: HostRuntime) -> Result<(), Fail> {
         ),
     ];
     for (blocks, want) in cases {
-        let file = file_of(alloc, blocks)?;
-        assert_eq!(rt; read(alloc, &file).err(), Some(want));
+        assert!(rt; fault_of(alloc, blocks)? == Some(want));
     }
     Ok(())
 }
 
-/// The parts of an image are these, each an address, a size and a block number; `NONE` stands for no part.
-fn expect_parts(rt: &impl Abort, image: &Image, want: &[(u32, usize, u8)]) {
-    let parts = image.parts.as_slice();
-    assert!(rt; parts.len() <= want.len());
-    for (index, (address, size, number)) in want.iter().enumerate() {
-        if let Some(part) = parts.get(index) {
-            let bytes = part.bytes.as_slice();
-            assert_eq!(rt; part.address, *address);
-            assert_eq!(rt; bytes.len(), *size);
-            assert!(rt; bytes.iter().all(|byte| *byte == *number));
-        } else {
-            assert_eq!(rt; *size, 0);
+/// Whether a part has this address, this size and this byte throughout.
+fn is_part(part: &Part, want: &(u32, usize, u8)) -> bool {
+    let bytes = part.bytes.as_slice();
+    for byte in bytes {
+        if *byte != want.2 {
+            return false;
         }
+    }
+    part.address == want.0 && bytes.len() == want.1
+}
+
+/// The parts of an image are these, each an address, a size and a block number; `NONE` stands for no part.
+fn has_parts(image: &Image, want: &[(u32, usize, u8)]) -> bool {
+    let parts = image.parts.as_slice();
+    if parts.len() > want.len() {
+        return false;
+    }
+    for (index, row) in want.iter().enumerate() {
+        let right = match parts.get(index) {
+            Some(part) => is_part(part, row),
+            None => row.1 == 0,
+        };
+        if !right {
+            return false;
+        }
+    }
+    true
+}
+
+/// A file of these blocks gives an image with this entry and these parts.
+fn gives(
+    alloc: Global,
+    blocks: [Fields; 3],
+    entry: u32,
+    parts: &[(u32, usize, u8)],
+) -> Result<bool, AllocError> {
+    match read(alloc, &file_of(alloc, blocks)?) {
+        Ok(image) => Ok(image.entry == entry && has_parts(&image, parts)),
+        Err(_) => Ok(false),
     }
 }
 
@@ -342,33 +377,40 @@ fn images(rt: HostRuntime) -> Result<(), Fail> {
         ),
     ];
     for (blocks, entry, parts) in cases {
-        let file = file_of(alloc, blocks)?;
-        let Ok(image) = read(alloc, &file) else {
-            panic!(rt; "no image at {entry:x}");
-        };
-        assert_eq!(rt; image.entry, entry);
-        expect_parts(&rt, &image, &parts);
+        assert!(rt; gives(alloc, blocks, entry, &parts)?, "{entry:x}");
     }
     Ok(())
 }
 
-#[test]
-fn largest_file(rt: HostRuntime) -> Result<(), Fail> {
-    let alloc = rt.alloc();
+/// The largest file: its blocks come in another order than their addresses.
+fn largest(alloc: Global) -> Result<Vec<u8>, AllocError> {
     let mut file = Vec::with_capacity(alloc, 16_777_216)?;
     for number in 0..32_768u32 {
         let index = number.wrapping_mul(4097) % 32_768;
         push_block(&mut file, plain(number, 32_768, 0x2000_0000 + 8 * index, 8))?;
     }
-    let Ok(image) = read(alloc, &file) else {
-        panic!(rt; "no image");
-    };
-    assert_eq!(rt; image.entry, 0x2000_0000);
-    assert_eq!(rt; image.parts.as_slice().len(), 32_768);
+    Ok(file)
+}
+
+/// The parts lie one behind another, each of eight bytes.
+fn are_in_order(image: &Image) -> bool {
     let mut address = 0x2000_0000u32;
     for part in image.parts.as_slice() {
-        assert_eq!(rt; part.address, address);
+        if part.address != address {
+            return false;
+        }
         address = address.wrapping_add(8);
     }
+    image.entry == 0x2000_0000 && image.parts.as_slice().len() == 32_768
+}
+
+#[test]
+fn largest_file(rt: HostRuntime) -> Result<(), Fail> {
+    let file = largest(rt.alloc())?;
+    let right = match read(rt.alloc(), &file) {
+        Ok(image) => are_in_order(&image),
+        Err(_) => false,
+    };
+    assert!(rt; right);
     Ok(())
 }
