@@ -1,6 +1,6 @@
 //! Snapshots of a program that stores one word and then stands in a loop.
 
-ghost use Rattle.std.specs.Prelude.{◌≡◌, ◌<◌};
+ghost use Rattle.std.specs.Prelude.{◌≡◌, ◌≤◌, ◌<◌};
 
 use lane_look::{Marks, NoDevice};
 use pin_script::read_script;
@@ -53,72 +53,125 @@ fn run_to<L: Ledger>(
     }
 }
 
-/// What a ring answered, and the cycle and a word of the machine after each way back.
+/// What is done to a ring and its machine, or seen of them.
 #[derive(Clone, Copy)]
-struct Seen {
-    keeps: [bool; 6],
-    stored: [u32; 2],
-    nearest: [Option<u64>; 2],
-    restores: [bool; 3],
-    back: [(u64, Option<u32>); 3],
-}
-
-/// The cycle of a machine, and the word that the program stores.
-fn shown(machine: &Machine) -> (u64, Option<u32>) {
-    (machine.number(), machine.word(0x2000_0100))
+enum Deed {
+    /// The machine runs up to a cycle.
+    RunsTo(u64),
+    /// Whether the ring keeps the machine.
+    Keeps(bool),
+    /// Whether the machine goes back to a cycle.
+    Restores(u64, bool),
+    /// Nothing is kept within one spacing.
+    IsEmpty,
+    /// How many pages are stored.
+    Stores(u32),
+    /// The nearest cycle that is kept.
+    Nearest(u64, Option<u64>),
+    /// The cycle of the machine, and the word that the program stores.
+    Shows(u64, u32),
 }
 
 /// Keeps the machine at 0, 4095, 4096 (twice) and 8192, goes back to 8191, 4096 and 0, and keeps it there.
-fn keeps_three<L: Ledger>(alloc: Global, blank: Blank) -> Result<Seen, Fail>
+const DEEDS: [Deed; 19] = [
+    Deed::IsEmpty,
+    Deed::Keeps(true),
+    Deed::Stores(264),
+    Deed::RunsTo(4095),
+    Deed::Keeps(false),
+    Deed::RunsTo(4096),
+    Deed::Keeps(true),
+    Deed::Keeps(false),
+    Deed::RunsTo(8192),
+    Deed::Keeps(true),
+    Deed::Stores(265),
+    Deed::Nearest(8191, Some(4096)),
+    Deed::Restores(8191, false),
+    Deed::Shows(8192, 0x2000_0100),
+    Deed::Restores(4096, true),
+    Deed::Shows(4096, 0x2000_0100),
+    Deed::Restores(0, true),
+    Deed::Keeps(false),
+    Deed::Shows(0, 0),
+];
+
+/// What is done.
+fn acts<L: Ledger>(
+    ring: &mut Ring,
+    machine: &mut Machine,
+    world: &World<'_, NoDevice>,
+    steps: &mut Steps<L>,
+    deed: &Deed,
+) -> bool {
+    match *deed {
+        Deed::RunsTo(cycle) => {
+            run_to(machine, world, steps, cycle);
+            true
+        }
+        Deed::Keeps(kept) => ring.keep(machine) == kept,
+        Deed::Restores(cycle, restored) => ring.restore(cycle, machine) == restored,
+        _ => true,
+    }
+}
+
+/// What is seen.
+fn shows(ring: &Ring, machine: &Machine, deed: &Deed) -> bool {
+    match *deed {
+        Deed::IsEmpty => ring.nearest(ring.spacing()).is_none(),
+        Deed::Stores(count) => ring.stored() == count,
+        Deed::Nearest(cycle, nearest) => ring.nearest(cycle) == nearest,
+        Deed::Shows(cycle, word) => {
+            machine.number() == cycle && machine.word(0x2000_0100) == Some(word)
+        }
+        _ => true,
+    }
+}
+
+/// The first deed that is not so of a machine and a new ring.
+fn first_wrong<L: Ledger>(
+    alloc: Global,
+    machine: &mut Machine,
+    world: &World<'_, NoDevice>,
+    steps: &mut Steps<L>,
+) -> Result<Option<usize>, Fail>
+    requires { world.now.limit ≤ 1000000000 }
+{
+    let mut ring = Ring::new(alloc, machine, world.limit)?;
+    for (index, deed) in DEEDS.iter().enumerate() {
+        if !acts(&mut ring, machine, world, steps, deed) || !shows(&ring, machine, deed) {
+            return Ok(Some(index));
+        }
+    }
+    Ok(None)
+}
+
+/// The machine of the program.
+fn machine_of(alloc: Global, world: &World<'_, NoDevice>) -> Result<Machine, Fail> {
+    let image = read_image(alloc, &block())?;
+    Ok(Machine::boot(alloc, &image, &[], world)?)
+}
+
+/// The first deed that is not so of the program.
+fn keeps_three<L: Ledger>(alloc: Global, blank: Blank) -> Result<Option<usize>, Fail>
     requires name { blank.name ≡ L.name }
     requires parts { blank.parts ≡ L.parts }
     requires some { 0 < blank.parts }
 {
     let (book, share) = blank.open::<L>();
     let mut steps = Steps::new(book, share);
-    let image = read_image(alloc, &block())?;
     let script = read_script(alloc, b"")?;
     let world = World {
         script: &script,
         device: &NoDevice,
         limit: 10_000,
     };
-    let mut machine = Machine::boot(alloc, &image, &[], &world)?;
-    let mut ring = Ring::new(alloc, &machine, world.limit)?;
-    let none = ring.nearest(ring.spacing());
-    let start = ring.keep(&machine);
-    let one = ring.stored();
-    run_to(&mut machine, &world, &mut steps, 4095);
-    let early = ring.keep(&machine);
-    run_to(&mut machine, &world, &mut steps, 4096);
-    let second = ring.keep(&machine);
-    let twice = ring.keep(&machine);
-    run_to(&mut machine, &world, &mut steps, 8192);
-    let third = ring.keep(&machine);
-    let three = ring.stored();
-    let nearest = ring.nearest(8191);
-    let missed = ring.restore(8191, &mut machine);
-    let unchanged = shown(&machine);
-    let middle = ring.restore(4096, &mut machine);
-    let stored = shown(&machine);
-    let first = ring.restore(0, &mut machine);
-    Ok(Seen {
-        keeps: [start, early, second, twice, third, ring.keep(&machine)],
-        stored: [one, three],
-        nearest: [none, nearest],
-        restores: [missed, middle, first],
-        back: [unchanged, stored, shown(&machine)],
-    })
+    let mut machine = machine_of(alloc, &world)?;
+    first_wrong(alloc, &mut machine, &world, &mut steps)
 }
 
 #[test]
 fn three_are_kept(rt: HostRuntime) -> Result<(), Fail> {
-    let seen = keeps_three::<Brand>(rt.alloc(), Blank::new(1))?;
-    assert_eq!(rt; seen.keeps, [true, false, true, false, true, false]);
-    assert_eq!(rt; seen.stored, [264, 265]);
-    assert_eq!(rt; seen.nearest, [None, Some(4096)]);
-    assert_eq!(rt; seen.restores, [false, true, true]);
-    let word = Some(0x2000_0100);
-    assert_eq!(rt; seen.back, [(8192, word), (4096, word), (0, Some(0))]);
+    let wrong = keeps_three::<Brand>(rt.alloc(), Blank::new(1))?;
+    assert_eq!(rt; wrong, None);
     Ok(())
 }

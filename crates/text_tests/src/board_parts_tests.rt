@@ -77,13 +77,6 @@ fn lengths_at_their_bounds(rt: HostRuntime) {
 
 const CHANGES: [(u64, u8, bool); 3] = [(3, 7, true), (3, 8, true), (9, 7, false)];
 
-/// Lets probes hear the changes.
-fn hear(probes: &mut [Aimed]) {
-    for (cycle, pin, level) in CHANGES {
-        hear_all(probes, &PinChange { cycle, pin, level });
-    }
-}
-
 /// The line of a probe.
 fn has_aimed_line(probe: &Aimed, want: &[u8]) -> bool {
     let mut line = ArrayVec::<u8, 192>::new();
@@ -97,7 +90,9 @@ fn boxed_probes_hear_their_own_pins(rt: HostRuntime) -> Result<(), Fail> {
     let counter = Aimed::new(0, 7, Box::new(alloc, EdgeCounter::new())?);
     let decoder = Aimed::new(1, 0, Box::new(alloc, Ws2812::new())?);
     let mut probes = [counter, decoder];
-    hear(&mut probes);
+    for (cycle, pin, level) in CHANGES {
+        hear_all(&mut probes, &PinChange { cycle, pin, level });
+    }
     let counts = has_aimed_line(&probes[0], b"probe 0 pin 7 edges 2 rises 1\n");
     let decodes = has_aimed_line(&probes[1], b"probe 1 pin 0 colours 0 last 000000\n");
     assert!(rt; counts && decodes);
