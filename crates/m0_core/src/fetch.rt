@@ -206,6 +206,15 @@ impl Core {
             *act = Act::Inner(Work::Instruction(op));
             return;
         }
+        self.begin_other(op, look, act);
+    }
+
+    /// The same of an instruction that may stop, fault or access.
+    #[inline(never)]
+    #[tactic(auto, unfolding(crate::specs::Fetch::asks_decoded))]
+    fn begin_other<K: Look>(&self, op: Op, look: &mut K, act: &mut Act)
+        ensures { Runs K.answers look.old (asks_decoded op self.now) act.new look.new }
+    {
         if is_breakpoint(&op) {
             *act = Act::Stopped(Why::Bkpt(self.number()));
             return;
@@ -273,6 +282,15 @@ impl Core {
         }
     }
 
+    /// The first beat of the entry to an exception.
+    #[inline(never)]
+    fn begin_entry<K: Look>(&self, number: u8, look: &mut K, act: &mut Act)
+        ensures { Runs K.answers look.old (asks_beat (Work.Entry number) self.now) act.new
+            look.new }
+    {
+        self.begin_beat(Work::Entry(number), look, act);
+    }
+
     /// The entry to an exception, or the next instruction.
     #[inline(always)]
     #[tactic(auto, unfolding(crate::specs::Fetch::asks_boundary))]
@@ -281,12 +299,12 @@ impl Core {
     {
         match self.taken() {
             None => self.begin_first_half(look, act),
-            Some(number) => self.begin_beat(Work::Entry(number), look, act),
+            Some(number) => self.begin_entry(number, look, act),
         }
     }
 
     /// The next beat of what is in progress.
-    #[inline(always)]
+    #[inline(never)]
     fn begin_work<K: Look>(&self, work: Work, look: &mut K, act: &mut Act)
         ensures { Runs K.answers look.old (asks_work work self.now) act.new look.new }
     {
