@@ -27,6 +27,16 @@ fn run<R: Threads + Wait + Sync>(rt: &R, alloc: Global, code: &[u16]) -> Result<
     }
 }
 
+/// Whether a run of at most 100 cycles writes this.
+fn writes<R: Threads + Wait + Sync>(
+    rt: &R,
+    alloc: Global,
+    code: &[u16],
+    text: &[u8],
+) -> Result<bool, Fail> {
+    Ok(run(rt, alloc, code)?.as_slice() == text)
+}
+
 /// LDR of RESET_DONE.
 #[test]
 fn a_register_on_apb_takes_three_cycles(rt: HostRuntime) -> Result<(), Fail> {
@@ -34,7 +44,7 @@ fn a_register_on_apb_takes_three_cycles(rt: HostRuntime) -> Result<(), Fail> {
     let code = [0x4801, 0x6801, 0xbe00, 0x0000, 0xc008, 0x4000];
     let text =
         b"stop bkpt core0 6\ncore0 4000c008 01ffffff 00000000 00000000 00000000 00000000 00000000 00000000 00000000 00000000 00000000 00000000 00000000 20042000 ffffffff 20000004 01000000\ncore1 asleep\n";
-    assert_eq!(rt; run(&rt, alloc, &code)?.as_slice(), text.as_slice());
+    assert!(rt; writes(&rt, alloc, &code, text)?);
     Ok(())
 }
 
@@ -48,7 +58,7 @@ fn a_wrong_word_starts_no_core(rt: HostRuntime) -> Result<(), Fail> {
     ];
     let text =
         b"stop limit 100\ncore0 20000021 00000000 00000000 00000000 00000000 00000000 00000000 d0000000 00000000 00000000 00000000 00000000 00000000 20042000 ffffffff 20000016 01000000\ncore1 asleep\n";
-    assert_eq!(rt; run(&rt, alloc, &code)?.as_slice(), text.as_slice());
+    assert!(rt; writes(&rt, alloc, &code, text)?);
     Ok(())
 }
 
@@ -64,7 +74,7 @@ fn one_lock_goes_to_one_core(rt: HostRuntime) -> Result<(), Fail> {
     ];
     let text =
         b"stop bkpt core0 26\ncore0 20000021 00000000 00000020 00000000 00000008 00000001 00000114 d0000000 00000000 00000000 00000000 00000000 00000000 20042000 ffffffff 20000038 21000000\ncore1 00000000 00000000 00000000 00000000 00000000 00000001 00000114 d0000000 00000000 00000000 00000000 00000000 00000000 20041000 ffffffff 20000038 21000000\n";
-    assert_eq!(rt; run(&rt, alloc, &code)?.as_slice(), text.as_slice());
+    assert!(rt; writes(&rt, alloc, &code, text)?);
     Ok(())
 }
 
@@ -79,7 +89,7 @@ fn core_1_runs_what_core_0_wrote(rt: HostRuntime) -> Result<(), Fail> {
     ];
     let text =
         b"stop bkpt core1 18\ncore0 20000021 00000000 00000000 00000000 00000000 00000000 00000000 d0000000 00000000 00000000 00000000 00000000 00000000 20042000 ffffffff 20000018 01000000\ncore1 00000000 00000000 00000000 00000000 00000000 00000000 00000000 00000000 00000000 00000000 00000000 00000000 00000000 20041000 ffffffff 20000028 41000000\n";
-    assert_eq!(rt; run(&rt, alloc, &code)?.as_slice(), text.as_slice());
+    assert!(rt; writes(&rt, alloc, &code, text)?);
     Ok(())
 }
 
@@ -90,6 +100,6 @@ fn sio_has_no_such_word(rt: HostRuntime) -> Result<(), Fail> {
     let code = [0x27d0, 0x063f, 0x3780, 0x6838];
     let text =
         b"stop outside core0 d0000080 3\ncore0 00000000 00000000 00000000 00000000 00000000 00000000 00000000 d0000080 00000000 00000000 00000000 00000000 00000000 20042000 ffffffff 20000006 81000000\ncore1 asleep\n";
-    assert_eq!(rt; run(&rt, alloc, &code)?.as_slice(), text.as_slice());
+    assert!(rt; writes(&rt, alloc, &code, text)?);
     Ok(())
 }

@@ -123,25 +123,56 @@ fn sessions_are_answered(rt: HostRuntime) -> Result<(), Fail> {
     Ok(())
 }
 
+/// Whether a session of this input, whose takes fail at these calls, ends with this status and this text.
+fn ends<R: Threads + Wait + Sync>(
+    rt: &R,
+    input: Vec<u8>,
+    failing: Vec<u64>,
+    alloc: Global,
+    status: u8,
+    text: &[u8],
+) -> Result<bool, AllocError> {
+    let (found, written) = answered(rt, alloc, &FIVE, "10", input, failing)?;
+    Ok(found == status && written.as_slice() == text)
+}
+
+/// Lines, and the text that they give. The session ends at `quit`, so that a line behind it is not answered, or at the end of the
+/// input, where the last line may lack its LF.
+const ENDED: [Row; 2] = [
+    (b"step\n\nquit\r\nstep\n", b"at 1\nbad command\n"),
+    (b"end\nback", b"stop bkpt core0 2\nat 1\n"),
+];
+
+/// The first lines that give another status or text.
+fn wrong_end<R: Threads + Wait + Sync>(rt: &R, alloc: Global) -> Result<Option<usize>, AllocError> {
+    for (index, (lines, text)) in ENDED.iter().enumerate() {
+        let input = Vec::from_slice(alloc, lines)?;
+        if !ends(rt, input, Vec::new(alloc), alloc, 0, text)? {
+            return Ok(Some(index));
+        }
+    }
+    Ok(None)
+}
+
+/// It ends at a take that fails: the line before it was answered, the open one was not.
+fn ends_at_a_fault<R: Threads + Wait + Sync>(rt: &R, alloc: Global) -> Result<bool, AllocError> {
+    let input = Vec::from_slice(alloc, b"step\nst")?;
+    let failing = vec![in alloc; 1]?;
+    ends(rt, input, failing, alloc, 8, b"at 1\nerror source\n")
+}
+
+/// It ends at the limit of the input.
+fn ends_at_the_limit<R: Threads + Wait + Sync>(rt: &R, alloc: Global) -> Result<bool, AllocError> {
+    let input = vec![in alloc; b'x'; 1_048_576]?;
+    ends(rt, input, Vec::new(alloc), alloc, 10, b"error input\n")
+}
+
 #[test]
 fn a_session_ends(rt: HostRuntime) -> Result<(), Fail> {
-    let alloc = rt.alloc();
-    // At `quit`: a line behind it is not answered.
-    let lines = Vec::from_slice(alloc, b"step\n\nquit\r\nstep\n")?;
-    let (status, text) = answered(&rt, alloc, &FIVE, "10", lines, Vec::new(alloc))?;
-    assert!(rt; status == 0 && text.as_slice() == b"at 1\nbad command\n".as_slice());
-    // At the end, where the last line may lack its LF.
-    let lines = Vec::from_slice(alloc, b"end\nback")?;
-    let (status, text) = answered(&rt, alloc, &FIVE, "10", lines, Vec::new(alloc))?;
-    assert!(rt; status == 0 && text.as_slice() == b"stop bkpt core0 2\nat 1\n".as_slice());
-    // At a take that fails: the line before it was answered, the open one was not.
-    let lines = Vec::from_slice(alloc, b"step\nst")?;
-    let (status, text) = answered(&rt, alloc, &FIVE, "10", lines, vec![in alloc; 1]?)?;
-    assert!(rt; status == 8 && text.as_slice() == b"at 1\nerror source\n".as_slice());
-    // At the limit of the input.
-    let lines = vec![in alloc; b'x'; 1_048_576]?;
-    let (status, text) = answered(&rt, alloc, &FIVE, "10", lines, Vec::new(alloc))?;
-    assert!(rt; status == 10 && text.as_slice() == b"error input\n".as_slice());
+    let wrong = wrong_end(&rt, rt.alloc())?;
+    assert_eq!(rt; wrong, None);
+    assert!(rt; ends_at_a_fault(&rt, rt.alloc())?);
+    assert!(rt; ends_at_the_limit(&rt, rt.alloc())?);
     Ok(())
 }
 

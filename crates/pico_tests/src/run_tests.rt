@@ -39,38 +39,57 @@ const FIVE: [u16; 3] = [0x2005, 0x3007, 0xbe00];
 
 const TEN: [&str; 4] = ["run", "a.uf2", "--cycles", "10"];
 
-const FIRST: &[u8] = b"stop bkpt core0 2\n";
+/// What it prints before the line of core 1.
+const HALF: &[u8] =
+    b"stop bkpt core0 2\ncore0 0000000c 00000000 00000000 00000000 00000000 00000000 00000000 00000000 00000000 00000000 00000000 00000000 00000000 20042000 ffffffff 20000004 01000000\n";
 
-const CORE0: &[u8] =
-    b"core0 0000000c 00000000 00000000 00000000 00000000 00000000 00000000 00000000 00000000 00000000 00000000 00000000 00000000 20042000 ffffffff 20000004 01000000\n";
+/// What it prints.
+const WHOLE: &[u8] =
+    b"stop bkpt core0 2\ncore0 0000000c 00000000 00000000 00000000 00000000 00000000 00000000 00000000 00000000 00000000 00000000 00000000 00000000 20042000 ffffffff 20000004 01000000\ncore1 asleep\n";
 
-fn joined(alloc: Global, lines: &[&[u8]]) -> Result<Vec<u8>, AllocError> {
-    let mut text = Vec::new(alloc);
-    for line in lines {
-        text.extend_from_slice(line)?;
+/// Words, code, and the status and the text that they give.
+type Case = (&'static [&'static str], &'static [u16], u8, &'static [u8]);
+
+/// The first case that gives another status or text.
+fn wrong_case<R: Threads + Wait + Sync>(
+    rt: &R,
+    alloc: Global,
+    cases: &[Case],
+) -> Result<Option<usize>, AllocError> {
+    for (index, (words, code, status, text)) in cases.iter().enumerate() {
+        if !gives(rt, alloc, words, image(alloc, code)?, *status, text)? {
+            return Ok(Some(index));
+        }
     }
-    Ok(text)
+    Ok(None)
 }
+
+const ENDS: [Case; 3] = [
+    (&TEN, &FIVE, 0, WHOLE),
+    (
+        &["run", "a.uf2", "--cycles", "1"],
+        &FIVE,
+        0,
+        b"stop limit 1\ncore0 00000005 00000000 00000000 00000000 00000000 00000000 00000000 00000000 00000000 00000000 00000000 00000000 00000000 20042000 ffffffff 20000002 01000000\ncore1 asleep\n",
+    ),
+    (
+        &["run", "a.uf2", "--cycles", "11"],
+        &[0xdf00],
+        0,
+        b"stop outside core0 0000002c 10\ncore0 00000000 00000000 00000000 00000000 00000000 00000000 00000000 00000000 00000000 00000000 00000000 00000000 00000000 20042000 ffffffff 20000002 01000000\ncore1 asleep\n",
+    ),
+];
 
 #[test]
 fn a_run_prints_its_end(rt: HostRuntime) -> Result<(), Fail> {
-    let alloc = rt.alloc();
-    let text = joined(alloc, &[FIRST, CORE0, b"core1 asleep\n"])?;
-    assert!(rt; gives(&rt, alloc, &TEN, image(alloc, &FIVE)?, 0, &text)?);
-    let one = ["run", "a.uf2", "--cycles", "1"];
-    let text =
-        b"stop limit 1\ncore0 00000005 00000000 00000000 00000000 00000000 00000000 00000000 00000000 00000000 00000000 00000000 00000000 00000000 20042000 ffffffff 20000002 01000000\ncore1 asleep\n";
-    assert!(rt; gives(&rt, alloc, &one, image(alloc, &FIVE)?, 0, text)?);
-    let text =
-        b"stop outside core0 0000002c 10\ncore0 00000000 00000000 00000000 00000000 00000000 00000000 00000000 00000000 00000000 00000000 00000000 00000000 00000000 20042000 ffffffff 20000002 01000000\ncore1 asleep\n";
-    let more = ["run", "a.uf2", "--cycles", "11"];
-    assert!(rt; gives(&rt, alloc, &more, image(alloc, &[0xdf00])?, 0, text)?);
+    let wrong = wrong_case(&rt, rt.alloc(), &ENDS)?;
+    assert_eq!(rt; wrong, None);
     Ok(())
 }
 
-/// The register line of core 0: R0 to R12 as given and 0 for the rest, then SP, LR, PC and xPSR.
-fn core_line(alloc: Global, low: &str, high: &str) -> Result<Vec<u8>, AllocError> {
-    let mut text = Vec::new(alloc);
+/// The line of a stop, and those of both cores: R0 to R12 as given and 0 for the rest, then SP, LR, PC and xPSR; core 1 sleeps.
+fn end_text(alloc: Global, stop: &[u8], low: &str, high: &str) -> Result<Vec<u8>, AllocError> {
+    let mut text = Vec::from_slice(alloc, stop)?;
     text.extend_from_slice(b"core0")?;
     text.extend_from_slice(low.as_bytes())?;
     let zeros = 13usize.saturating_sub(low.len() / 9);
@@ -92,61 +111,89 @@ fn ends<R: Threads + Wait + Sync>(
     high: &str,
 ) -> Result<bool, AllocError> {
     let words = ["run", "a.uf2", "--cycles", "100"];
-    let text = joined(alloc, &[stop, core_line(alloc, low, high)?.as_slice()])?;
+    let text = end_text(alloc, stop, low, high)?;
     gives(rt, alloc, &words, image(alloc, code)?, 0, &text)
 }
 
+/// Code, the line of its stop, and the registers.
+type End = (&'static [u16], &'static [u8], &'static str, &'static str);
+
+/// The first code that ends otherwise.
+fn wrong_end<R: Threads + Wait + Sync>(
+    rt: &R,
+    alloc: Global,
+    rows: &[End],
+) -> Result<Option<usize>, AllocError> {
+    for (index, (code, stop, low, high)) in rows.iter().enumerate() {
+        if !ends(rt, alloc, code, stop, low, high)? {
+            return Ok(Some(index));
+        }
+    }
+    Ok(None)
+}
+
+const INSTRUCTIONS: [End; 7] = [
+    // ADCS of two greatest words with a carry.
+    (
+        &[0x2000, 0x43c0, 0x2100, 0x43c9, 0x4288, 0x4148, 0xbe00],
+        b"stop bkpt core0 6\n",
+        " ffffffff ffffffff",
+        " 20042000 ffffffff 2000000c a1000000",
+    ),
+    // LSRS by 32 and ASRS by 255.
+    (
+        &[0x2001, 0x07c0, 0x22ff, 0x0001, 0x0800, 0x4111, 0xbe00],
+        b"stop bkpt core0 6\n",
+        " 00000000 ffffffff 000000ff",
+        " 20042000 ffffffff 2000000c a1000000",
+    ),
+    // BL has three cycles, PUSH of two registers three, POP with PC five.
+    (
+        &[0x2003, 0xf000, 0xf801, 0xbe00, 0xb501, 0xbd02],
+        b"stop bkpt core0 12\n",
+        " 00000003 00000003",
+        " 20042000 20000007 20000006 01000000",
+    ),
+    // Narrow stores and loads: LDR, LDR, STRB, STRH, LDR, LDRB, LDRH, each of two cycles.
+    (
+        &[
+            0x4803, 0x4904, 0x7041, 0x8041, 0x6802, 0x7843, 0x8844, 0xbe00, 0x0014, 0x2000, 0x3210,
+            0x7654,
+        ],
+        b"stop bkpt core0 14\n",
+        " 20000014 76543210 32101010 00000010 00003210",
+        " 20042000 ffffffff 2000000e 01000000",
+    ),
+    // STM and LDM of two registers, each of three cycles, and the same words in the view that has one bank after another.
+    (
+        &[
+            0x2101, 0x2202, 0x4802, 0xc006, 0x4802, 0x6803, 0xc830, 0xbe00, 0x0040, 0x2000, 0x0010,
+            0x2100,
+        ],
+        b"stop bkpt core0 14\n",
+        " 21000018 00000001 00000002 00000001 00000001",
+        " 20042000 ffffffff 2000000e 01000000",
+    ),
+    // SEV sets the event register for the first WFE alone, and the second waits.
+    (
+        &[0xbf40, 0xbf20, 0xbf20, 0xbe00],
+        b"stop limit 100\n",
+        "",
+        " 20042000 ffffffff 20000004 01000000",
+    ),
+    // A load outside the machine: the first cycle of the access stops.
+    (
+        &[0x2001, 0x0780, 0x6800],
+        b"stop outside core0 40000000 3\n",
+        " 40000000",
+        " 20042000 ffffffff 20000004 01000000",
+    ),
+];
+
 #[test]
 fn instructions_and_their_cycles(rt: HostRuntime) -> Result<(), Fail> {
-    let alloc = rt.alloc();
-    // ADCS of two greatest words with a carry.
-    let code = [0x2000, 0x43c0, 0x2100, 0x43c9, 0x4288, 0x4148, 0xbe00];
-    let low = " ffffffff ffffffff";
-    let high = " 20042000 ffffffff 2000000c a1000000";
-    assert!(rt; ends(&rt, alloc, &code, b"stop bkpt core0 6\n", low, high)?);
-    // LSRS by 32 and ASRS by 255.
-    let code = [0x2001, 0x07c0, 0x22ff, 0x0001, 0x0800, 0x4111, 0xbe00];
-    let low = " 00000000 ffffffff 000000ff";
-    assert!(rt; ends(&rt, alloc, &code, b"stop bkpt core0 6\n", low, high)?);
-    // BL has three cycles, PUSH of two registers three, POP with PC five.
-    let code = [0x2003, 0xf000, 0xf801, 0xbe00, 0xb501, 0xbd02];
-    let low = " 00000003 00000003";
-    let high = " 20042000 20000007 20000006 01000000";
-    assert!(rt; ends(&rt, alloc, &code, b"stop bkpt core0 12\n", low, high)?);
-    // Narrow stores and loads: LDR, LDR, STRB, STRH, LDR, LDRB, LDRH, each of two cycles.
-    let code = [
-        0x4803, 0x4904, 0x7041, 0x8041, 0x6802, 0x7843, 0x8844, 0xbe00, 0x0014, 0x2000, 0x3210,
-        0x7654,
-    ];
-    let low = " 20000014 76543210 32101010 00000010 00003210";
-    let high = " 20042000 ffffffff 2000000e 01000000";
-    assert!(rt; ends(&rt, alloc, &code, b"stop bkpt core0 14\n", low, high)?);
-    // STM and LDM of two registers, each of three cycles, and the same words in the view that has one bank after another.
-    let code = [
-        0x2101, 0x2202, 0x4802, 0xc006, 0x4802, 0x6803, 0xc830, 0xbe00, 0x0040, 0x2000, 0x0010,
-        0x2100,
-    ];
-    let low = " 21000018 00000001 00000002 00000001 00000001";
-    let high = " 20042000 ffffffff 2000000e 01000000";
-    assert!(rt; ends(&rt, alloc, &code, b"stop bkpt core0 14\n", low, high)?);
-    // SEV sets the event register for the first WFE alone, and the second waits.
-    let code = [0xbf40, 0xbf20, 0xbf20, 0xbe00];
-    let high = " 20042000 ffffffff 20000004 01000000";
-    assert!(rt; ends(&rt, alloc, &code, b"stop limit 100\n", "", high)?);
-    // A load outside the machine: the first cycle of the access stops.
-    let code = [0x2001, 0x0780, 0x6800];
-    let low = " 40000000";
-    let high = " 20042000 ffffffff 20000004 01000000";
-    assert!(rt;
-        ends(
-            &rt,
-            alloc,
-            &code,
-            b"stop outside core0 40000000 3\n",
-            low,
-            high
-        )?
-    );
+    let wrong = wrong_end(&rt, rt.alloc(), &INSTRUCTIONS)?;
+    assert_eq!(rt; wrong, None);
     Ok(())
 }
 
@@ -166,33 +213,72 @@ fn with_vector(
     Ok(halves)
 }
 
-#[test]
-fn exceptions_and_their_returns(rt: HostRuntime) -> Result<(), Fail> {
-    let alloc = rt.alloc();
+/// The same, where a vector stands at this many halfwords from the begin of the code.
+type Vectored = (usize, u16, End);
+
+/// The first code with a vector that ends otherwise.
+fn wrong_vectored<R: Threads + Wait + Sync>(
+    rt: &R,
+    alloc: Global,
+    rows: &[Vectored],
+) -> Result<Option<usize>, AllocError> {
+    for (index, (offset, target, (code, stop, low, high))) in rows.iter().enumerate() {
+        let code = with_vector(alloc, code, *offset, *target)?;
+        if !ends(rt, alloc, &code, stop, low, high)? {
+            return Ok(Some(index));
+        }
+    }
+    Ok(None)
+}
+
+const EXCEPTIONS: [Vectored; 2] = [
     // SVC, whose handler at 20000014 returns.
-    let code = [
-        0x4802, 0x4903, 0x6001, 0xdf05, 0xbe00, 0, 0xed08, 0xe000, 0x0100, 0x2000, 0x2407, 0x4770,
-    ];
-    let code = with_vector(alloc, &code, 150, 0x15)?;
-    let low = " e000ed08 20000100 00000000 00000000 00000007";
-    let high = " 20042000 ffffffff 20000008 01000000";
-    assert!(rt; ends(&rt, alloc, &code, b"stop bkpt core0 38\n", low, high)?);
+    (
+        150,
+        0x15,
+        (
+            &[
+                0x4802, 0x4903, 0x6001, 0xdf05, 0xbe00, 0, 0xed08, 0xe000, 0x0100, 0x2000, 0x2407,
+                0x4770,
+            ],
+            b"stop bkpt core0 38\n",
+            " e000ed08 20000100 00000000 00000000 00000007",
+            " 20042000 ffffffff 20000008 01000000",
+        ),
+    ),
     // A load at an odd address inside HardFault.
-    let code = [
-        0x4802, 0x4903, 0x6001, 0xde00, 0xbe00, 0, 0xed08, 0xe000, 0x0100, 0x2000, 0x2301, 0x681b,
-    ];
-    let code = with_vector(alloc, &code, 134, 0x15)?;
-    let low = " e000ed08 20000100 00000000 00000001";
-    let high = " 20041fe0 fffffff9 20000016 01000003";
-    assert!(rt; ends(&rt, alloc, &code, b"stop lockup core0 23\n", low, high)?);
-    // A return to another handler, where no other exception is active: HardFault, whose handler is at 20000002.
-    let code = [
+    (
+        134,
+        0x15,
+        (
+            &[
+                0x4802, 0x4903, 0x6001, 0xde00, 0xbe00, 0, 0xed08, 0xe000, 0x0100, 0x2000, 0x2301,
+                0x681b,
+            ],
+            b"stop lockup core0 23\n",
+            " e000ed08 20000100 00000000 00000001",
+            " 20041fe0 fffffff9 20000016 01000003",
+        ),
+    ),
+];
+
+/// A return to another handler, where no other exception is active: HardFault, whose handler is at 20000002.
+const MISFIT: [End; 1] = [(
+    &[
         0xe006, 0xbe00, 0, 0, 0, 0, 0x0003, 0x2000, 0x4807, 0x2101, 0x0749, 0x6001, 0xdf00, 0xbe00,
         0x240e, 0x43e4, 0x4720, 0, 0, 0, 0, 0, 0x001d, 0x2000, 0xed08, 0xe000,
-    ];
-    let low = " e000ed08 20000000 00000000 00000000 fffffff1";
-    let high = " 20041fc0 fffffff1 20000002 81000003";
-    assert!(rt; ends(&rt, alloc, &code, b"stop bkpt core0 44\n", low, high)?);
+    ],
+    b"stop bkpt core0 44\n",
+    " e000ed08 20000000 00000000 00000000 fffffff1",
+    " 20041fc0 fffffff1 20000002 81000003",
+)];
+
+#[test]
+fn exceptions_and_their_returns(rt: HostRuntime) -> Result<(), Fail> {
+    let wrong = wrong_vectored(&rt, rt.alloc(), &EXCEPTIONS)?;
+    assert_eq!(rt; wrong, None);
+    let wrong = wrong_end(&rt, rt.alloc(), &MISFIT)?;
+    assert_eq!(rt; wrong, None);
     Ok(())
 }
 
@@ -235,128 +321,194 @@ fn nested(complement: u16) -> [u16; 32] {
     ]
 }
 
+/// The complements, and the registers at the end.
+const NESTED: [(u16, &str); 2] = [
+    (6, " e000ed04 20000000 c0000000 10000000 fffffff9"),
+    (2, " e000ed04 20000000 c0000000 10000000 fffffffd"),
+];
+
 #[test]
 fn a_nested_handler_returns_to_no_thread(rt: HostRuntime) -> Result<(), Fail> {
-    let alloc = rt.alloc();
     let high = " 20041fa0 fffffff1 20000002 a1000003";
-    let low = " e000ed04 20000000 c0000000 10000000 fffffff9";
-    assert!(rt; ends(&rt, alloc, &nested(6), b"stop bkpt core0 68\n", low, high)?);
-    let low = " e000ed04 20000000 c0000000 10000000 fffffffd";
-    assert!(rt; ends(&rt, alloc, &nested(2), b"stop bkpt core0 68\n", low, high)?);
+    for (complement, low) in NESTED {
+        let code = nested(complement);
+        assert!(rt;
+            ends(&rt, rt.alloc(), &code, b"stop bkpt core0 68\n", low, high)?,
+            "{complement}"
+        );
+    }
     Ok(())
+}
+
+/// Words of `dis`, and the status and the text that they give over an empty file.
+type Listing = (&'static [&'static str], u8, &'static [u8]);
+
+/// The first words that give another status or text.
+fn wrong_listing<R: Threads + Wait + Sync>(
+    rt: &R,
+    alloc: Global,
+    rows: &[Listing],
+) -> Result<Option<usize>, AllocError> {
+    for (index, (words, status, text)) in rows.iter().enumerate() {
+        if !gives(rt, alloc, words, Vec::new(alloc), *status, text)? {
+            return Ok(Some(index));
+        }
+    }
+    Ok(None)
+}
+
+const LISTINGS: [Listing; 6] = [
+    (
+        &["dis", "622111231400a442", "--side", "1"],
+        0,
+        b".program code\n.side_set 1\nout x, 1 side 0 [2]\njmp !x 3 side 1 [1]\njmp 0 side 1 [4]\nnop side 0 [4]\n",
+    ),
+    (
+        &["dis", "a042", "--opt", "1", "--side", "5"],
+        2,
+        b"error words\n",
+    ),
+    (&["dis", "a042a"], 2, b"error words\n"),
+    (&["dis", "a04g"], 2, b"error words\n"),
+    (
+        &["dis", "a042", "--opt", "1"],
+        0,
+        b".program code\n.side_set 0 opt\nnop\n",
+    ),
+    (
+        &["dis", "a042", "--opt", "1", "--opt", "1"],
+        2,
+        b"error words\n",
+    ),
+];
+
+/// So many words, each of them NOP.
+fn digits(alloc: Global, count: usize) -> Result<String, AllocError> {
+    let mut digits = String::new(alloc);
+    for _ in 0..count {
+        digits.push_str("A042")?;
+    }
+    Ok(digits)
+}
+
+/// The source of the most words.
+fn most(alloc: Global) -> Result<Vec<u8>, AllocError> {
+    let mut text = Vec::from_slice(alloc, b".program code\n")?;
+    for _ in 0..32 {
+        text.extend_from_slice(b"nop\n")?;
+    }
+    Ok(text)
+}
+
+/// Whether so many words give this status and this text.
+fn lists<R: Threads + Wait + Sync>(
+    rt: &R,
+    alloc: Global,
+    count: usize,
+    status: u8,
+    text: &[u8],
+) -> Result<bool, AllocError> {
+    let digits = digits(alloc, count)?;
+    let words = ["dis", digits.as_str()];
+    gives(rt, alloc, &words, Vec::new(alloc), status, text)
 }
 
 #[test]
 fn words_are_disassembled(rt: HostRuntime) -> Result<(), Fail> {
-    let alloc = rt.alloc();
-    let text =
-        b".program code\n.side_set 1\nout x, 1 side 0 [2]\njmp !x 3 side 1 [1]\njmp 0 side 1 [4]\nnop side 0 [4]\n";
-    let words = ["dis", "622111231400a442", "--side", "1"];
-    assert!(rt; gives(&rt, alloc, &words, Vec::new(alloc), 0, text)?);
-    let words = ["dis", "a042", "--opt", "1", "--side", "5"];
-    assert!(rt; gives(&rt, alloc, &words, Vec::new(alloc), 2, b"error words\n")?);
-    let words = ["dis", "a042a"];
-    assert!(rt; gives(&rt, alloc, &words, Vec::new(alloc), 2, b"error words\n")?);
-    let words = ["dis", "a04g"];
-    assert!(rt; gives(&rt, alloc, &words, Vec::new(alloc), 2, b"error words\n")?);
-    let words = ["dis", "a042", "--opt", "1"];
-    let text = b".program code\n.side_set 0 opt\nnop\n";
-    assert!(rt; gives(&rt, alloc, &words, Vec::new(alloc), 0, text)?);
-    let words = ["dis", "a042", "--opt", "1", "--opt", "1"];
-    assert!(rt; gives(&rt, alloc, &words, Vec::new(alloc), 2, b"error words\n")?);
-    // The most words.
-    let mut digits = String::new(alloc);
-    let mut text = joined(alloc, &[b".program code\n"])?;
-    for _ in 0..32 {
-        digits.push_str("A042")?;
-        text.extend_from_slice(b"nop\n")?;
-    }
-    let words = ["dis", digits.as_str()];
-    assert!(rt; gives(&rt, alloc, &words, Vec::new(alloc), 0, &text)?);
-    digits.push_str("a042")?;
-    let words = ["dis", digits.as_str()];
-    assert!(rt; gives(&rt, alloc, &words, Vec::new(alloc), 2, b"error words\n")?);
+    let wrong = wrong_listing(&rt, rt.alloc(), &LISTINGS)?;
+    assert_eq!(rt; wrong, None);
+    // The most words, and one more.
+    assert!(rt; lists(&rt, rt.alloc(), 32, 0, &most(rt.alloc())?)?);
+    assert!(rt; lists(&rt, rt.alloc(), 33, 2, b"error words\n")?);
     Ok(())
+}
+
+const REFUSED: [Case; 3] = [
+    (
+        &["run", "a.uf2", "--cycles", "0"],
+        &FIVE,
+        2,
+        b"error words\n",
+    ),
+    (&[], &FIVE, 2, b"error words\n"),
+    (
+        &["run", "b.uf2", "--cycles", "10"],
+        &FIVE,
+        3,
+        b"error file b.uf2\n",
+    ),
+];
+
+/// Lengths of files of zeros, and the status and the text that each gives.
+const ZEROS: [(usize, u8, &[u8]); 5] = [
+    (16_777_217, 3, b"error large a.uf2 16777217\n"),
+    (0, 4, b"error image 1 Empty\n"),
+    (511, 4, b"error image 2 Ragged 511\n"),
+    (513, 4, b"error image 2 Ragged 513\n"),
+    (512, 4, b"error image 3 Magic 0\n"),
+];
+
+/// The first length that gives another status or text.
+fn wrong_length<R: Threads + Wait + Sync>(
+    rt: &R,
+    alloc: Global,
+) -> Result<Option<usize>, AllocError> {
+    for (len, status, text) in ZEROS {
+        if !gives(rt, alloc, &TEN, vec![in alloc; 0; len]?, status, text)? {
+            return Ok(Some(len));
+        }
+    }
+    Ok(None)
 }
 
 #[test]
 fn a_refusal_is_one_line(rt: HostRuntime) -> Result<(), Fail> {
-    let alloc = rt.alloc();
-    let none = ["run", "a.uf2", "--cycles", "0"];
-    assert!(rt; gives(&rt, alloc, &none, image(alloc, &FIVE)?, 2, b"error words\n")?);
-    assert!(rt; gives(&rt, alloc, &[], image(alloc, &FIVE)?, 2, b"error words\n")?);
-    let other = ["run", "b.uf2", "--cycles", "10"];
-    assert!(rt;
-        gives(
-            &rt,
-            alloc,
-            &other,
-            image(alloc, &FIVE)?,
-            3,
-            b"error file b.uf2\n"
-        )?
-    );
-    let large = vec![in alloc; 0; 16_777_217]?;
-    assert!(rt; gives(&rt, alloc, &TEN, large, 3, b"error large a.uf2 16777217\n")?);
-    assert!(rt;
-        gives(
-            &rt,
-            alloc,
-            &TEN,
-            Vec::new(alloc),
-            4,
-            b"error image 1 Empty\n"
-        )?
-    );
-    assert!(rt;
-        gives(
-            &rt,
-            alloc,
-            &TEN,
-            vec![in alloc; 0; 511]?,
-            4,
-            b"error image 2 Ragged 511\n"
-        )?
-    );
-    assert!(rt;
-        gives(
-            &rt,
-            alloc,
-            &TEN,
-            vec![in alloc; 0; 513]?,
-            4,
-            b"error image 2 Ragged 513\n"
-        )?
-    );
-    assert!(rt;
-        gives(
-            &rt,
-            alloc,
-            &TEN,
-            vec![in alloc; 0; 512]?,
-            4,
-            b"error image 3 Magic 0\n"
-        )?
-    );
+    let wrong = wrong_case(&rt, rt.alloc(), &REFUSED)?;
+    assert_eq!(rt; wrong, None);
+    let wrong = wrong_length(&rt, rt.alloc())?;
+    assert_eq!(rt; wrong, None);
     Ok(())
+}
+
+/// Whether a run over these files, into a sink that fails at these calls, gives this status and this text.
+fn fails<R: Threads + Wait + Sync>(
+    rt: &R,
+    alloc: Global,
+    mut files: MemShelf,
+    failing: Vec<u64>,
+    status: u8,
+    text: &[u8],
+) -> Result<bool, AllocError> {
+    let words = texts(alloc, &TEN)?;
+    let mut out = MemSink::new(alloc, failing);
+    let found = run_words(rt, alloc, &words, &mut files, &mut out);
+    Ok(found == status && out.bytes.as_slice() == text)
+}
+
+/// The third put fails.
+fn a_put_fails<R: Threads + Wait + Sync>(rt: &R, alloc: Global) -> Result<bool, AllocError> {
+    let files = shelf(alloc, image(alloc, &FIVE)?, Vec::new(alloc))?;
+    let failing = vec![in alloc; 2]?;
+    fails(rt, alloc, files, failing, 7, HALF)
+}
+
+/// The first load fails.
+fn a_load_fails<R: Threads + Wait + Sync>(rt: &R, alloc: Global) -> Result<bool, AllocError> {
+    let files = shelf(alloc, image(alloc, &FIVE)?, vec![in alloc; 0]?)?;
+    fails(rt, alloc, files, Vec::new(alloc), 3, b"error file a.uf2\n")
+}
+
+/// There is no file.
+fn a_file_is_missing<R: Threads + Wait + Sync>(rt: &R, alloc: Global) -> Result<bool, AllocError> {
+    let files = MemShelf::new(alloc, Vec::new(alloc), Vec::new(alloc));
+    fails(rt, alloc, files, Vec::new(alloc), 3, b"error file a.uf2\n")
 }
 
 #[test]
 fn a_failing_call_ends_the_text(rt: HostRuntime) -> Result<(), Fail> {
-    let alloc = rt.alloc();
-    let words = texts(alloc, &TEN)?;
-    let mut files = shelf(alloc, image(alloc, &FIVE)?, Vec::new(alloc))?;
-    let mut out = MemSink::new(alloc, vec![in alloc; 2]?);
-    assert_eq!(rt; run_words(&rt, alloc, &words, &mut files, &mut out), 7);
-    assert!(rt; out.bytes.as_slice() == joined(alloc, &[FIRST, CORE0])?.as_slice());
-    let mut files = shelf(alloc, image(alloc, &FIVE)?, vec![in alloc; 0]?)?;
-    let mut out = MemSink::new(alloc, Vec::new(alloc));
-    assert_eq!(rt; run_words(&rt, alloc, &words, &mut files, &mut out), 3);
-    assert!(rt; out.bytes.as_slice() == b"error file a.uf2\n".as_slice());
-    let mut files = MemShelf::new(alloc, Vec::new(alloc), Vec::new(alloc));
-    let mut out = MemSink::new(alloc, Vec::new(alloc));
-    assert_eq!(rt; run_words(&rt, alloc, &words, &mut files, &mut out), 3);
-    assert!(rt; out.bytes.as_slice() == b"error file a.uf2\n".as_slice());
+    assert!(rt; a_put_fails(&rt, rt.alloc())?);
+    assert!(rt; a_load_fails(&rt, rt.alloc())?);
+    assert!(rt; a_file_is_missing(&rt, rt.alloc())?);
     Ok(())
 }
 
@@ -386,18 +538,24 @@ impl Sink for ByteSink {
     }
 }
 
-#[test]
-fn a_text_comes_whole_byte_by_byte(rt: HostRuntime) -> Result<(), Fail> {
-    let alloc = rt.alloc();
+/// The status and the text of a run into such a sink.
+fn byte_by_byte<R: Threads + Wait + Sync>(
+    rt: &R,
+    alloc: Global,
+) -> Result<(u8, Vec<u8>), AllocError> {
     let words = texts(alloc, &TEN)?;
     let mut files = shelf(alloc, image(alloc, &FIVE)?, Vec::new(alloc))?;
     let mut out = ByteSink {
         bytes: Vec::new(alloc),
         faults: 0,
     };
-    assert_eq!(rt; run_words(&rt, alloc, &words, &mut files, &mut out), 0);
-    assert!(rt;
-        out.bytes.as_slice() == joined(alloc, &[FIRST, CORE0, b"core1 asleep\n"])?.as_slice()
-    );
+    let status = run_words(rt, alloc, &words, &mut files, &mut out);
+    Ok((status, out.bytes))
+}
+
+#[test]
+fn a_text_comes_whole_byte_by_byte(rt: HostRuntime) -> Result<(), Fail> {
+    let (status, text) = byte_by_byte(&rt, rt.alloc())?;
+    assert!(rt; status == 0 && text.as_slice() == WHOLE);
     Ok(())
 }
