@@ -83,7 +83,14 @@ pub fn advance<X: Device, L: Ledger>(
             None => Moved::Cycle,
         };
     }
-    let length = window(machine, world, &mut crew.notes, &mut crew.begun, marks, steps);
+    let length = window(
+        machine,
+        world,
+        &mut crew.notes,
+        &mut crew.begun,
+        marks,
+        steps,
+    );
     if length > 0 {
         return Moved::Window(length);
     }
