@@ -4,7 +4,7 @@ use Rattle.lane_look.specs.declared.lane.Ask.TheVariants.{Outs}
 use Rattle.lane_look.specs.Asking.{AsksAtMost}
 use Rattle.lane_look.specs.Bounds.{Few, few_ready, few_ask, few_if}
 use Rattle.outer_lane.specs.State.{OuterState}
-use Rattle.outer_lane.specs.Step.{pins_in, no_pins, seen_of, asks_second, asks}
+use Rattle.outer_lane.specs.Step.{pins_in, no_pins, asks_second, asks}
 
 few_second : (n : ℕ) (s : OuterState) (cycle : ℕ) (first : List ℕ) → Few (suc n) (asks_second s cycle first)
 unfolding asks_second

@@ -1,6 +1,6 @@
 -- The state of the peripherals between two cycles: the timer, both UARTs, the pads and the device outside (RP2040 Datasheet,
 -- 2.19, GPIO, 4.2, UART, and 4.6, Timer; the device is the project's own).
-use Rattle.std.specs.Prelude.{ℕ, Bool, false, List, [], ◌∷◌, replicate, if◌then◌else◌}
+use Rattle.std.specs.Prelude.{ℕ, List, [], ◌∷◌, replicate}
 use Rattle.rp_base.specs.Word.{has_bit}
 use Rattle.rp_base.specs.declared.resets.TheConstants.{IO_BANK0, PADS_BANK0, TIMER, UART0, UART1}
 use Rattle.rp_base.specs.declared.resettable.Resettable.{Resettable}

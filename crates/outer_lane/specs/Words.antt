@@ -1,6 +1,6 @@
 -- The words of the register blocks: what they read as, and what an access does. A block that is held reads 0 and ignores
 -- accesses (RP2040 Datasheet, 2.14, Subsystem Resets, 2.19.6, 4.2.8 and 4.6.5, List of Registers).
-use Rattle.std.specs.Prelude.{ℕ, ◌+◌, Bool, false, ◌&&◌, nat_lt, if◌then◌else◌, Option, Some, None}
+use Rattle.std.specs.Prelude.{ℕ, ◌+◌, Bool, false, ◌&&◌, nat_lt, if◌then◌else◌, Option, None}
 use Rattle.rp_base.specs.declared.map.Block.{Block}
 use Rattle.rp_base.specs.declared.map.Block.TheVariants as block
 use Rattle.rp_base.specs.declared.resettable.Resettable.{Resettable}

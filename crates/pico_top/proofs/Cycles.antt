@@ -1,5 +1,5 @@
 -- The text and the cycles of a run.
-use Rattle.std.proofs.Common.{◌≡◌, ℕ, Bool, ◌+◌, ◌-◌, ◌≤◌, [], ◌∷◌, ◌++◌, List, Option, Some, Result, Ok, Err, IfOk, IfSome, refl, ap, ap₂, subst, sym, arith, ◌∙◌, append_assoc}
+use Rattle.std.proofs.Common.{◌≡◌, ℕ, Bool, ◌+◌, ◌≤◌, [], ◌∷◌, ◌++◌, List, Option, Some, Result, Ok, Err, IfOk, IfSome, refl, ap, ap₂, subst, sym, arith, ◌∙◌, append_assoc}
 use Rattle.outer_lane.specs.Setting.{Setting}
 use Rattle.trace_text.specs.Line.{stop_text, event_text}
 use Rattle.rp_ports.specs.Sink.{Appends}

@@ -1,5 +1,5 @@
 -- The end of a run's text, by what the run came to.
-use Rattle.std.proofs.Common.{◌≡◌, ℕ, Bool, ◌+◌, ◌≤◌, ◌++◌, List, Option, Result, Ok, Err, IfOk, IfSome, refl, ap, sym, subst, arith, ◌∙◌}
+use Rattle.std.proofs.Common.{◌≡◌, ℕ, Bool, ◌+◌, ◌≤◌, ◌++◌, List, Option, Result, Ok, Err, subst, arith}
 use Rattle.outer_lane.specs.Setting.{Setting}
 use Rattle.trace_text.specs.Line.{stop_text}
 use Rattle.trace_text.specs.Sent.{Sends}

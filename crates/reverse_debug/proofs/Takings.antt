@@ -1,5 +1,5 @@
 -- What is taken from a source, and how the taking ends.
-use Rattle.std.proofs.Common.{◌≡◌, ◌⊎◌, ◌==◌, ℕ, ◌+◌, ◌<◌, ◌≤◌, nat_lt, Bool, true, false, not, List, [], ◌∷◌, ◌++◌, length, take, Option, Some, None, Result, Ok, Err, IfOk, OnErr, refl, sym, ap, inl, inr, ◌∙◌, subst, arith, append_assoc, length-append}
+use Rattle.std.proofs.Common.{◌≡◌, ◌==◌, ℕ, ◌+◌, ◌<◌, ◌≤◌, nat_lt, Bool, true, false, not, List, [], ◌∷◌, ◌++◌, length, take, Option, Some, None, Result, Ok, Err, refl, sym, ap, inl, inr, ◌∙◌, subst, arith, append_assoc, length-append}
 use Rattle.std.proofs.lemmas.List.{append-nil, length-take-le}
 use Rattle.rp_ports.specs.Fault.{Rose}
 use Rattle.rp_ports.specs.Sink.{Appends}
@@ -10,8 +10,8 @@ use Rattle.trace_text.proofs.Sending.{part_of_longer, part_behind, rose_later}
 use Rattle.trace_text.specs.declared.writer.SinkFault.{SinkFault}
 use Rattle.reverse_debug.specs.declared.way.Way.{Way}
 use Rattle.reverse_debug.specs.declared.way.Way.TheVariants.{Closed, Ended, Broken, Full}
-use Rattle.reverse_debug.specs.Lines.{line_limit, complete_lines, open_line, unless_empty, all_lines, until, has_last, closes}
-use Rattle.reverse_debug.specs.Hear.{MayEnd, lines_heard, BearsOut, IsTaken, status_by}
+use Rattle.reverse_debug.specs.Lines.{line_limit, complete_lines, open_line, unless_empty, all_lines, until, closes}
+use Rattle.reverse_debug.specs.Hear.{MayEnd, lines_heard, BearsOut}
 use Rattle.reverse_debug.specs.Talk.{Talk, text_from, cycle_after, cost_from, said_to, spent_on, Hears}
 use Rattle.reverse_debug.specs.Way.{Answered, Along, CutOff, IsClosed, Feeds, Finishes, Taking, IsAfterTake}
 use Rattle.reverse_debug.specs.declared.hear.AfterTake.{AfterTake}

@@ -1,5 +1,5 @@
 -- What a session says to a line, as a talk says it.
-use Rattle.std.proofs.Common.{◌≡◌, ℕ, ◌+◌, ◌-◌, ◌≤◌, nat_lt, Bool, false, not, if◌then◌else◌, List, refl, sym, ap, subst, arith, ◌∙◌}
+use Rattle.std.proofs.Common.{◌≡◌, ℕ, ◌+◌, ◌≤◌, nat_lt, Bool, false, not, if◌then◌else◌, List, refl, sym, ap, subst, arith, ◌∙◌}
 use Rattle.std.proofs.lemmas.Bool.Decides.{nat_tests}
 use Rattle.outer_lane.specs.Setting.{Setting}
 use Rattle.rp_machine.specs.State.{State}
@@ -7,7 +7,7 @@ use Rattle.snap_ring.specs.Ring.{spacing_of}
 use Rattle.reverse_debug.specs.Command.{Command, is_quit, command_of}
 use Rattle.reverse_debug.specs.Command.Command.{Step, Back, Goto, End, Regs, Mem, Pins, Pio, LastWrite, Quit, Bad}
 use Rattle.reverse_debug.specs.Reply.{move_cost, command_cost, answer, heard, cost}
-use Rattle.reverse_debug.specs.Session.{Standing, first_of, StandsFor}
+use Rattle.reverse_debug.specs.Session.{Standing, StandsFor}
 use Rattle.reverse_debug.proofs.Moves.{quits_exactly}
 use Rattle.reverse_debug.specs.Talk.{spent_on}
 use Rattle.reverse_debug.specs.Debugger.{quits, talk_of}

@@ -2,13 +2,12 @@
 use Rattle.std.proofs.Common.{◌≡◌, ℕ, ◌+◌, ◌<◌, ◌≤◌, Bool, true, false, not, ◌==◌, List, [], ◌∷◌, ◌++◌, length, take, drop, get_or, add-one, Option, Some, None, Result, Ok, Err, IfOk, OnErr, refl, sym, ap, ◌∙◌, subst, arith, append_assoc}
 use Rattle.std.proofs.lemmas.List.{append-nil, take-append-drop, take_all}
 use Rattle.std.proofs.Math.Seq.{take-suc}
-use Rattle.rp_ports.specs.Fault.{Rose}
 use Rattle.rp_ports.specs.Sink.{Appends}
 use Rattle.rp_ports.proofs.Pieces.{appends_both}
 use Rattle.trace_text.specs.Sent.{AppendsPart, Sends}
-use Rattle.trace_text.proofs.Sending.{part_of_longer, part_behind, rose_later}
+use Rattle.trace_text.proofs.Sending.{part_behind, rose_later}
 use Rattle.trace_text.specs.declared.writer.SinkFault.{SinkFault}
-use Rattle.reverse_debug.specs.Lines.{line_limit, line_of, complete_from, complete_lines, open_line, has_last, closes, until}
+use Rattle.reverse_debug.specs.Lines.{line_limit, line_of, complete_from, complete_lines, open_line, has_last, until}
 use Rattle.reverse_debug.specs.Talk.{Talk, text_from, cycle_after, cost_from, said_to, spent_on}
 use Rattle.reverse_debug.specs.Way.{Answered, Along, CutOff, IsClosed, Feeds}
 use Rattle.reverse_debug.proofs.LineLists.{complete_append, complete_grows, open_grows, complete_ends, open_ends, closes_more, has_last_both, until_more, until_last, last_closes, kept_both}

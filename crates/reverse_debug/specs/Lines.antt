@@ -1,6 +1,6 @@
 -- The lines among the bytes that were taken from an input: the project's own. A line ends with LF, before which one CR is dropped.
 -- Of a line the first 257 bytes count: with a CR at their end these are 256 bytes at least, as those of a longer line.
-use Rattle.std.specs.Prelude.{ℕ, Bool, true, false, ◌==◌, ◌||◌, if◌then◌else◌, List, [], ◌∷◌, ◌++◌, take}
+use Rattle.std.specs.Prelude.{ℕ, Bool, false, ◌==◌, ◌||◌, if◌then◌else◌, List, [], ◌∷◌, ◌++◌, take}
 use Rattle.std.specs.Str.Lines.{strip_carriage_return}
 
 -- how many bytes of a line count

@@ -1,5 +1,5 @@
 -- A talk that goes on.
-use Rattle.std.specs.Prelude.{◌≡◌, ℕ, ◌+◌, ◌<◌, ◌≤◌, Bool, true, false, List, [], ◌∷◌, ◌++◌, length, take, Option, Result, Ok, Err}
+use Rattle.std.specs.Prelude.{◌≡◌, ℕ, ◌+◌, ◌<◌, ◌≤◌, Bool, true, false, List, ◌∷◌, ◌++◌, length, take, Option, Result, Ok, Err}
 use Rattle.rp_ports.specs.Fault.{Rose}
 use Rattle.rp_ports.specs.Sink.{Appends}
 use Rattle.rp_ports.specs.Source.{Consumes}

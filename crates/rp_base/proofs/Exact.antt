@@ -1,6 +1,6 @@
 -- Comparisons that are true exactly where both values are one: of numbers and flags, and from those of the parts, of lists,
 -- options, records and enums.
-use Rattle.std.proofs.Common.{◌≡◌, refl, sym, ap, ◌∙◌, ℕ, Bool, true, false, ◌&&◌, List, [], ◌∷◌, nat_eq, Some, None, inl, inr, true≢false}
+use Rattle.std.proofs.Common.{◌≡◌, refl, sym, ap, ◌∙◌, Bool, true, false, ◌&&◌, List, [], ◌∷◌, nat_eq, Some, None, inl, inr, true≢false}
 use Rattle.std.specs.Prelude.{Option, Decides, ◌⊎◌, ⊤}
 use Rattle.std.specs.Cmp.{unsigned_Decides, booleans_Decides}
 use Rattle.std.specs.Cmp.Lexicographic.{pointwise}
@@ -9,8 +9,7 @@ use Rattle.std.proofs.lemmas.Bool.Decides.{Decides-like, Decides-and, Decides-at
 use Rattle.std.proofs.lemmas.Slice.Eq.{slice_eq-Decides}
 use mathlib.Core.Bool.{beq}
 use denote.Struct.Field.{Field}
-use denote.Struct.Values.{Values}
-use denote.Enum.Declared.{Record, Choice, left_or, right_or, declared}
+use denote.Enum.Declared.{Record, left_or, right_or, declared}
 use denote.Enum.Bare.{Bare, sameb, same_true, true_same}
 use denote.Enum.Compared.{Each, by}
 

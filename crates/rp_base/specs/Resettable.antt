@@ -1,5 +1,5 @@
 -- A block with its bit of RESETS.
-use Rattle.std.specs.Prelude.{ℕ, Bool, false, Option}
+use Rattle.std.specs.Prelude.{Bool, false}
 use Rattle.rp_base.specs.declared.resettable.Resettable.{Resettable}
 use Rattle.rp_base.specs.Held.{stays_if, reset_if}
 

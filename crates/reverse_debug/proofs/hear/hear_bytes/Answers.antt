@@ -1,7 +1,6 @@
 use Rattle.std.proofs.Common.{◌∙◌, sym, refl, ap}
 use Rattle.std.proofs.lemmas.List.{append-nil}
 use Rattle.outer_lane.specs.Setting.{setting_of}
-use Rattle.reverse_debug.specs.Session.{first_of}
 use Rattle.reverse_debug.specs.Debugger.{talk_of}
 use Rattle.reverse_debug.proofs.Talks.{along_same, along_whole, loop_along, loop_closed, loop_cut}
 use Rattle.reverse_debug.proofs.hear.hear_bytes.Goals as goal
