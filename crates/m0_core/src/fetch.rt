@@ -304,7 +304,7 @@ impl Core {
     }
 
     /// The next beat of what is in progress.
-    #[inline(never)]
+    #[inline(always)]
     fn begin_work<K: Look>(&self, work: Work, look: &mut K, act: &mut Act)
         ensures { Runs K.answers look.old (asks_work work self.now) act.new look.new }
     {

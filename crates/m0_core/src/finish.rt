@@ -4,7 +4,7 @@ ghost use Rattle.std.specs.Prelude.{◌≡◌, ◌<◌, ℕ, Decides, if◌then�
 ghost use Rattle.lane_look.specs.declared.lane.Want.TheVariants.{Nothing};
 ghost use Rattle.m0_core.specs.Kinds.{is_plain};
 ghost use Rattle.m0_beats.specs.Beats.{beats_of};
-ghost use Rattle.m0_core.specs.Cycle.{signals, want_of, with_value, waiting, followed, with_read, returning, called, ended, passed_instruction, passed_entry, passed_return, passed_work, passed, is_paused_op, is_paused, after_inner, faulted, word_of, done_word, after_access, value_of, after_outward, after_private, after, closed, is_idle, next};
+ghost use Rattle.m0_core.specs.Cycle.{signals, want_of, with_value, waiting, followed, with_read, returning, called, ended, passed_instruction, passed_entry, passed_return, passed_work, passed, is_paused_op, is_paused, after_inner, faulted, word_of, done_word, after_access, value_of, after_outward, after_private, after, closed, is_idle};
 
 use crate::doing::{Act, Doing, Work};
 use crate::exceptions::{ENTRY_BEATS, RETURN_BEATS};
@@ -339,18 +339,6 @@ impl Core {
             Act::Write(work, _) => self.after_access(word, work, None),
             Act::Outward(work, request) => self.after_outward(word, work, request),
             Act::Private(work, request, offset) => self.after_private(work, request, *offset),
-        }
-    }
-
-    /// The end of a cycle in which this was begun.
-    #[inline(never)]
-    #[tactic(auto, unfolding(crate::specs::Cycle::next))]
-    pub(crate) fn finish_any(&mut self, begun: &Doing, turns: &[Turn; 2])
-        ensures { self.new ≡ next self.old begun.now turns.now }
-    {
-        if !is_idle(&begun.act) {
-            self.after(&begun.act, done_word(turns));
-            self.close(begun.lines, begun.cycle);
         }
     }
 
