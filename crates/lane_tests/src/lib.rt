@@ -1,6 +1,8 @@
 //! Tests of the lanes: cores, blocks of registers, DMA and PIO, with the words, runs and cycles that the manuals give.
 #![tactic(auto)]
 
+pub mod samples;
+
 #[cfg(test)]
 mod bus_fabric_tests;
 #[cfg(test)]

@@ -1,6 +1,8 @@
 //! Tests of the top call, from the words of a command line to the text that is written.
 #![tactic(auto)]
 
+pub mod sample_files;
+
 #[cfg(test)]
 mod asm_tests;
 #[cfg(test)]
@@ -15,8 +17,6 @@ mod gen_tests;
 mod machine_tests;
 #[cfg(test)]
 mod run_tests;
-#[cfg(test)]
-mod sample_files;
 #[cfg(test)]
 mod window_tests;
 #[cfg(test)]

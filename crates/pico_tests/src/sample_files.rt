@@ -1,5 +1,8 @@
 //! What tests hand in: the files of small programs, and the words of a command line.
 
+ghost use Rattle.std.specs.Prelude.{◌≡◌, IfOk};
+ghost use Rattle.std.specs.String.{string_bytes};
+
 use rp_ports::mem_shelf::HeldFile;
 use std::alloc::{AllocError, Global};
 
@@ -30,7 +33,10 @@ pub fn image(alloc: Global, code: &[u16]) -> Result<Vec<u8>, AllocError> {
 }
 
 /// A file and its name.
-pub fn held(alloc: Global, name: &str, bytes: &[u8]) -> Result<HeldFile, AllocError> {
+pub fn held(alloc: Global, name: &str, bytes: &[u8]) -> Result<HeldFile, AllocError>
+    ensures { IfOk result (λ file. (string_bytes file.name ≡ name.now)
+        × (file.bytes.items ≡ bytes.now)) }
+{
     Ok(HeldFile {
         name: String::from_str(alloc, name)?,
         bytes: Vec::from_slice(alloc, bytes)?,

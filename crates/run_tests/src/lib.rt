@@ -1,6 +1,8 @@
 //! Tests of runs: windows and their reports, the board of tickets by one thread and by several, snapshots and the debugger.
 #![tactic(auto)]
 
+pub mod numbers;
+
 #[cfg(test)]
 mod reverse_debug_tests;
 #[cfg(test)]

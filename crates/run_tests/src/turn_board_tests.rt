@@ -1,60 +1,15 @@
 //! Windows passed over the board by one thread, by four, and by two with values that were made for what was lent.
-ghost use Rattle.std.specs.Prelude.{◌≡◌, ◌*◌, ◌+◌, ◌%◌, ◌<◌, ◌≤◌, ℕ, false, IfSome};
+ghost use Rattle.std.specs.Prelude.{◌≡◌, ◌<◌, false};
 ghost use denote.Param.Send.{IsSync};
 ghost use Rattle.turn_board.specs.Tickets.{IsFree};
 ghost use Rattle.turn_board.specs.Answers.{IsReady};
-ghost use Rattle.turn_board.specs.Answers.{EachLane};
 
+use crate::numbers::{LIMIT, Leader, Next, Numbers, WINDOWS, Worker, pieces, serve_one};
 use std::sync::Wait;
 use std::test::Fail;
 use std::thread;
 use std::thread::Threads;
-use turn_board::{Board, Gather, Kept, Master, Seat, See, Six};
-
-const LIMIT: u64 = 1 << 20;
-
-const WINDOWS: u64 = 1000;
-
-// A job, made for a limit where its number is below it, and for its number's lane.
-#[derive(Drop)]
-struct Piece {
-    number: u64,
-}
-
-impl Kept<u64> for Piece {
-    ghost made_for = { λ limit lane p. (p.number < limit) × (p.number % 6 ≡ lane) };
-}
-
-// Its result, which is one more.
-#[derive(Drop)]
-struct Next {
-    number: u64,
-}
-
-impl Kept<u64> for Next {
-    ghost made_for = { λ limit lane n. (n.number ≤ limit) × ((n.number + 5) % 6 ≡ lane) };
-}
-
-type Numbers = Board<Piece, Next, u64>;
-
-type Worker = Seat<Piece, Next, u64>;
-
-type Leader = Master<Piece, Next, u64>;
-
-fn pieces(window: u64) -> Six<Piece>
-    requires { window < WINDOWS }
-    ensures { EachLane (λ lane p. (p.number < LIMIT) × (p.number % 6 ≡ lane)) result }
-{
-    let first = 6 * window;
-    Six {
-        l0: Piece { number: first },
-        l1: Piece { number: first + 1 },
-        l2: Piece { number: first + 2 },
-        l3: Piece { number: first + 3 },
-        l4: Piece { number: first + 4 },
-        l5: Piece { number: first + 5 },
-    }
-}
+use turn_board::{Board, Gather, Kept, Seat, See, Six};
 
 // Whether each lane has its own result.
 fn is_right(window: u64, results: &Six<Next>) -> bool
@@ -109,35 +64,6 @@ fn lead<H: Wait>(rt: &H, board: &Numbers, mut master: Leader) -> u64
     }
     board.close(&mut master);
     right
-}
-
-// Draws the next number and does it, where it is open.
-fn serve_one(board: &Numbers, seat: &mut Worker) -> Option<u64>
-    requires { IsReady board.now LIMIT seat.old }
-    ensures board { (seat.new.board ≡ seat.old.board) × (seat.new.made_for ≡ seat.old.made_for) }
-    ensures free { IfSome result (λ _. IsFree seat.new.state) }
-{
-    let ticket = board.draw(seat);
-    match board.look(seat, &ticket) {
-        See::Open => {}
-        See::NotYet(_) => return None,
-        See::Closed => return None,
-    }
-    let number = ticket.number();
-    let piece = board.take(seat, &ticket);
-    board.put(
-        seat,
-        &ticket,
-        Next {
-            number: piece.number % 6 + 1,
-        },
-    );
-    let next = Next {
-        number: piece.number + 1,
-    };
-    board.put(seat, &ticket, next);
-    board.done(seat, ticket);
-    Some(number)
 }
 
 // Passes all windows in one thread, and says in how many windows each lane had its number and its result.

@@ -2,6 +2,8 @@
 //! the pins.
 #![tactic(auto)]
 
+pub mod uf2_file;
+
 #[cfg(test)]
 mod board_parts_tests;
 #[cfg(test)]

@@ -1,98 +1,13 @@
 //! Whole files, and what each gives.
 
+use crate::uf2_file::{Fields, MAGIC, RP2040, file_of, plain, push_block, skipped, with_magic};
 use std::alloc::{AllocError, Global};
 use std::test::Fail;
 use uf2_image::fault::ImageFault;
 use uf2_image::parts::{Image, Part};
 use uf2_image::read_image;
 
-/// The fields of a block. Each byte of its payload is the low byte of its number, and each other byte is 238.
-#[derive(Clone, Copy)]
-struct Fields {
-    magic: (u32, u32, u32),
-    flags: u32,
-    target: u32,
-    size: u32,
-    number: u32,
-    count: u32,
-    family: u32,
-}
-
-const MAGIC: (u32, u32, u32) = (0x0A32_4655, 0x9E5D_5157, 0x0AB1_6F30);
-
-const RP2040: u32 = 0xE48B_FF56;
-
 const NONE: (u32, usize, u8) = (0, 0, 0);
-
-/// A block for the RP2040.
-fn plain(number: u32, count: u32, target: u32, size: u32) -> Fields {
-    Fields {
-        magic: MAGIC,
-        flags: 0x2000,
-        target,
-        size,
-        number,
-        count,
-        family: RP2040,
-    }
-}
-
-/// A block that is skipped, whose other fields are all wrong.
-fn skipped(flags: u32, family: u32) -> Fields {
-    Fields {
-        magic: MAGIC,
-        flags,
-        target: 0x1000_0000,
-        size: 0,
-        number: 9,
-        count: 0,
-        family,
-    }
-}
-
-/// A block with these magic words.
-fn with_magic(first: u32, second: u32, last: u32) -> Fields {
-    Fields {
-        magic: (first, second, last),
-        ..plain(0, 1, 0x2000_0000, 4)
-    }
-}
-
-/// Appends a word, little-endian.
-fn push_word(file: &mut Vec<u8>, word: u32) -> Result<(), AllocError> {
-    file.extend_from_slice(&word.to_le_bytes())
-}
-
-/// Appends a block to a file.
-fn push_block(file: &mut Vec<u8>, fields: Fields) -> Result<(), AllocError> {
-    let header = [
-        fields.magic.0,
-        fields.magic.1,
-        fields.flags,
-        fields.target,
-        fields.size,
-        fields.number,
-        fields.count,
-        fields.family,
-    ];
-    for word in header {
-        push_word(file, word)?;
-    }
-    let fill = (fields.number & 0xff) as u8;
-    for index in 0..476u32 {
-        file.push(if index < fields.size { fill } else { 238 })?;
-    }
-    push_word(file, fields.magic.2)
-}
-
-/// A file of three blocks.
-fn file_of(alloc: Global, blocks: [Fields; 3]) -> Result<Vec<u8>, AllocError> {
-    let mut file = Vec::new(alloc);
-    for fields in blocks {
-        push_block(&mut file, fields)?;
-    }
-    Ok(file)
-}
 
 /// What a file gives, where it is short enough to be asked.
 fn read(alloc: Global, file: &[u8]) -> Result<Image, ImageFault> {

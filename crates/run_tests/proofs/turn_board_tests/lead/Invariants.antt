@@ -1,5 +1,5 @@
 use Rattle.std.proofs.Common.{◌≡◌, ◌*◌, false}
-use Rattle.run_tests.specs.declared.turn_board_tests.TheConstants.{LIMIT}
+use Rattle.run_tests.specs.declared.numbers.TheConstants.{LIMIT}
 use Rattle.run_tests.proofs.turn_board_tests.lead.Given as goal
 
 abbrev pub invariant-loop-window : goal.invariant-loop-window

@@ -1,6 +1,6 @@
 use Rattle.std.proofs.Common.{◌≡◌, ℕ}
 use Rattle.turn_board.specs.Tickets.{IsUnfinished}
-use Rattle.run_tests.specs.declared.turn_board_tests.TheConstants.{LIMIT}
+use Rattle.run_tests.specs.declared.numbers.TheConstants.{LIMIT}
 use Rattle.run_tests.proofs.turn_board_tests.serve.Given as goal
 
 abbrev pub invariant-loop : goal.invariant-loop
