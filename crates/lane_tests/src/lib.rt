@@ -1,8 +1,6 @@
 //! Tests of the lanes: cores, blocks of registers, DMA and PIO, with the words, runs and cycles that the manuals give.
 #![tactic(auto)]
 
-pub mod samples;
-
 #[cfg(test)]
 mod bus_fabric_tests;
 #[cfg(test)]
@@ -35,6 +33,7 @@ mod rp_base_tests;
 mod rp_timer_tests;
 #[cfg(test)]
 mod rp_uart_tests;
+pub mod samples;
 #[cfg(test)]
 mod sio_block_tests;
 #[cfg(test)]

@@ -79,7 +79,13 @@ impl Look for Count {
 }
 
 /// One cycle of any lane that leaves no mark, each want done with 0.
-pub fn step<E, S: Lane<E>, K: Look>(lane: &mut S, env: &E, cycle: u64, look: &mut K, marks: &mut Marks)
+pub fn step<E, S: Lane<E>, K: Look>(
+    lane: &mut S,
+    env: &E,
+    cycle: u64,
+    look: &mut K,
+    marks: &mut Marks,
+)
     requires { (b : S.Begun) → S.marked env.now lane.old b (Turn.Done 0 ∷ Turn.Done 0 ∷ []) ≡ None }
     ensures { (b : S.Begun) × Runs K.answers look.old (S.asks env.now lane.old cycle) b look.new
         × (lane.new ≡ S.next env.now lane.old b (Turn.Done 0 ∷ Turn.Done 0 ∷ [])) }

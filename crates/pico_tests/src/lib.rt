@@ -1,8 +1,6 @@
 //! Tests of the top call, from the words of a command line to the text that is written.
 #![tactic(auto)]
 
-pub mod sample_files;
-
 #[cfg(test)]
 mod asm_tests;
 #[cfg(test)]
@@ -17,6 +15,7 @@ mod gen_tests;
 mod machine_tests;
 #[cfg(test)]
 mod run_tests;
+pub mod sample_files;
 #[cfg(test)]
 mod window_tests;
 #[cfg(test)]

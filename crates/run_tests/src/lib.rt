@@ -2,7 +2,6 @@
 #![tactic(auto)]
 
 pub mod numbers;
-
 #[cfg(test)]
 mod reverse_debug_tests;
 #[cfg(test)]

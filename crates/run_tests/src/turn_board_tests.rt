@@ -9,7 +9,7 @@ use std::sync::Wait;
 use std::test::Fail;
 use std::thread;
 use std::thread::Threads;
-use turn_board::{Board, Gather, Kept, Seat, See, Six};
+use turn_board::{Board, Gather, Kept, Master, Seat, See, Six};
 
 // Whether each lane has its own result.
 fn is_right(window: u64, results: &Six<Next>) -> bool

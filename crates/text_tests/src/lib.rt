@@ -2,8 +2,6 @@
 //! the pins.
 #![tactic(auto)]
 
-pub mod uf2_file;
-
 #[cfg(test)]
 mod board_parts_tests;
 #[cfg(test)]
@@ -22,5 +20,6 @@ mod rp_ports_tests;
 mod source_tests;
 #[cfg(test)]
 mod trace_text_tests;
+pub mod uf2_file;
 #[cfg(test)]
 mod uf2_image_tests;
