@@ -3,7 +3,8 @@
 ghost use Rattle.std.specs.Prelude.{None};
 
 use crate::counted::hear_words;
-use crate::sample_files::{held, image, texts};
+use crate::held_file::held;
+use crate::sample_files::{image, texts};
 use rp_ports::mem_shelf::MemShelf;
 use rp_ports::mem_sink::MemSink;
 use rp_ports::mem_source::MemSource;

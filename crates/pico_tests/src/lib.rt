@@ -11,11 +11,13 @@ mod counted;
 mod debug_tests;
 #[cfg(test)]
 mod gen_tests;
+pub mod held_file;
 #[cfg(test)]
 mod machine_tests;
 #[cfg(test)]
 mod run_tests;
-pub mod sample_files;
+#[cfg(test)]
+mod sample_files;
 #[cfg(test)]
 mod window_tests;
 #[cfg(test)]

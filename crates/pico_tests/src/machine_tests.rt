@@ -1,7 +1,8 @@
 //! Programs of the whole machine: pads, scripts, UARTs, DMA, PIO and probes, with their whole texts.
 
 use crate::counted::probe_words;
-use crate::sample_files::{held, image};
+use crate::held_file::held;
+use crate::sample_files::image;
 use board_parts::edge_counter::EdgeCounter;
 use board_parts::probe::Probe;
 use board_parts::ws2812::Ws2812;

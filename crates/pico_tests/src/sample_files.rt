@@ -1,9 +1,5 @@
 //! What tests hand in: the files of small programs, and the words of a command line.
 
-ghost use Rattle.std.specs.Prelude.{◌≡◌, IfOk};
-ghost use Rattle.std.specs.String.{string_bytes};
-
-use rp_ports::mem_shelf::HeldFile;
 use std::alloc::{AllocError, Global};
 
 /// The file of a program that is loaded at 20000000: a UF2 block, number 0 of 1.
@@ -30,17 +26,6 @@ pub fn image(alloc: Global, code: &[u16]) -> Result<Vec<u8>, AllocError> {
     }
     bytes.extend_from_slice(&u32::to_le_bytes(0x0ab1_6f30))?;
     Ok(bytes)
-}
-
-/// A file and its name.
-pub fn held(alloc: Global, name: &str, bytes: &[u8]) -> Result<HeldFile, AllocError>
-    ensures { IfOk result (λ file. (string_bytes file.name ≡ name.now)
-        × (file.bytes.items ≡ bytes.now)) }
-{
-    Ok(HeldFile {
-        name: String::from_str(alloc, name)?,
-        bytes: Vec::from_slice(alloc, bytes)?,
-    })
 }
 
 /// The words of a command line.

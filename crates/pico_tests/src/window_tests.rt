@@ -2,7 +2,8 @@
 
 use crate::counted::run_words;
 use crate::debug_tests::{COPIES_THREE, COPIES_TWO};
-use crate::sample_files::{held, image, texts};
+use crate::held_file::held;
+use crate::sample_files::{image, texts};
 use rp_ports::mem_shelf::MemShelf;
 use rp_ports::mem_sink::MemSink;
 use std::alloc::{AllocError, Global};

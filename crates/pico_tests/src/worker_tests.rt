@@ -5,7 +5,8 @@ ghost use Rattle.uf2_image.specs.Uf2.{FitsSram};
 
 use crate::counted::gated_words;
 use crate::gen_tests::MILLION;
-use crate::sample_files::{held, image, texts};
+use crate::held_file::held;
+use crate::sample_files::{image, texts};
 use crate::window_tests::{WRITES_CODE, WROTE_CODE};
 use lane_look::{Device, Wires};
 use pin_script::Script;

@@ -8,6 +8,7 @@ mod board_parts_tests;
 mod command_words_tests;
 #[cfg(test)]
 mod form_tests;
+pub mod little_endian;
 #[cfg(test)]
 mod numbered_tests;
 #[cfg(test)]
@@ -20,6 +21,7 @@ mod rp_ports_tests;
 mod source_tests;
 #[cfg(test)]
 mod trace_text_tests;
-pub mod uf2_file;
+#[cfg(test)]
+mod uf2_file;
 #[cfg(test)]
 mod uf2_image_tests;

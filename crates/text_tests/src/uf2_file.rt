@@ -1,8 +1,6 @@
 //! Files of UF2 blocks, for tests.
 
-ghost use Rattle.std.specs.Prelude.{◌≡◌, ◌++◌, OnOk};
-ghost use Rattle.std.specs.Int.{w32, to_le_bytes};
-
+use crate::little_endian::push_word;
 use std::alloc::{AllocError, Global};
 
 /// The fields of a block. Each byte of its payload is the low byte of its number, and each other byte is 238.
@@ -62,13 +60,6 @@ pub fn with_magic(first: u32, second: u32, last: u32) -> Fields {
         magic: (first, second, last),
         ..plain(0, 1, 0x2000_0000, 4)
     }
-}
-
-/// Appends a word, little-endian.
-fn push_word(file: &mut Vec<u8>, word: u32) -> Result<(), AllocError>
-    ensures { OnOk result (file.new.items ≡ file.old.items ++ to_le_bytes w32 word) }
-{
-    file.extend_from_slice(&word.to_le_bytes())
 }
 
 /// Appends a block to a file.
