@@ -1,10 +1,9 @@
 //! Jobs and results that are numbers, for boards whose values are made for a limit.
 
-ghost use Rattle.std.specs.Prelude.{◌≡◌, ◌+◌, ◌%◌, ◌<◌, ◌≤◌, IfSome};
-ghost use Rattle.turn_board.specs.Tickets.{IsFree};
-ghost use Rattle.turn_board.specs.Answers.{EachLane, IsReady};
+ghost use Rattle.std.specs.Prelude.{◌≡◌, ◌+◌, ◌*◌, ◌%◌, ◌<◌, ◌≤◌};
+ghost use Rattle.turn_board.specs.Answers.{EachLane};
 
-use turn_board::{Board, Kept, Master, Seat, See, Six};
+use turn_board::{Kept, Six};
 
 /// What the values are made for.
 pub const LIMIT: u64 = 1 << 20;
@@ -34,19 +33,11 @@ impl Kept<u64> for Next {
     ghost made_for = { λ limit lane n. (n.number ≤ limit) × ((n.number + 5) % 6 ≡ lane) };
 }
 
-/// A board of these.
-pub type Numbers = Board<Piece, Next, u64>;
-
-/// A seat at it.
-pub type Worker = Seat<Piece, Next, u64>;
-
-/// Its master.
-pub type Leader = Master<Piece, Next, u64>;
-
 /// The jobs of a window, each lane its own.
 pub fn pieces(window: u64) -> Six<Piece>
     requires { window < WINDOWS }
-    ensures { EachLane (λ lane p. (p.number < LIMIT) × (p.number % 6 ≡ lane)) result }
+    ensures made_for { EachLane (λ lane p. (p.number < LIMIT) × (p.number % 6 ≡ lane)) result }
+    ensures numbers { EachLane (λ lane p. p.number ≡ 6 * window + lane) result }
 {
     let first = 6 * window;
     Six {
@@ -59,31 +50,12 @@ pub fn pieces(window: u64) -> Six<Piece>
     }
 }
 
-/// Draws the next number and does it, where it is open; a second put replaces the first one.
-pub fn serve_one(board: &Numbers, seat: &mut Worker) -> Option<u64>
-    requires { IsReady board.now LIMIT seat.old }
-    ensures board { (seat.new.board ≡ seat.old.board) × (seat.new.made_for ≡ seat.old.made_for) }
-    ensures free { IfSome result (λ _. IsFree seat.new.state) }
+/// The result of a job.
+pub fn next_of(piece: &Piece) -> Next
+    requires { piece.now.number < LIMIT }
+    ensures { result.number ≡ piece.now.number + 1 }
 {
-    let ticket = board.draw(seat);
-    match board.look(seat, &ticket) {
-        See::Open => {}
-        See::NotYet(_) => return None,
-        See::Closed => return None,
-    }
-    let number = ticket.number();
-    let piece = board.take(seat, &ticket);
-    board.put(
-        seat,
-        &ticket,
-        Next {
-            number: piece.number % 6 + 1,
-        },
-    );
-    let next = Next {
+    Next {
         number: piece.number + 1,
-    };
-    board.put(seat, &ticket, next);
-    board.done(seat, ticket);
-    Some(number)
+    }
 }

@@ -1,15 +1,24 @@
 //! Windows passed over the board by one thread, by four, and by two with values that were made for what was lent.
-ghost use Rattle.std.specs.Prelude.{◌≡◌, ◌<◌, false};
+ghost use Rattle.std.specs.Prelude.{◌≡◌, ◌<◌, false, IfSome};
 ghost use denote.Param.Send.{IsSync};
 ghost use Rattle.turn_board.specs.Tickets.{IsFree};
 ghost use Rattle.turn_board.specs.Answers.{IsReady};
 
-use crate::numbers::{LIMIT, Leader, Next, Numbers, WINDOWS, Worker, pieces, serve_one};
+use crate::numbers::{LIMIT, Next, Piece, WINDOWS, next_of, pieces};
 use std::sync::Wait;
 use std::test::Fail;
 use std::thread;
 use std::thread::Threads;
 use turn_board::{Board, Gather, Kept, Master, Seat, See, Six};
+
+// A board of these jobs.
+type Numbers = Board<Piece, Next, u64>;
+
+// A seat at it.
+type Worker = Seat<Piece, Next, u64>;
+
+// Its master.
+type Leader = Master<Piece, Next, u64>;
 
 // Whether each lane has its own result.
 fn is_right(window: u64, results: &Six<Next>) -> bool
@@ -22,6 +31,32 @@ fn is_right(window: u64, results: &Six<Next>) -> bool
         && results.l3.number == first + 4
         && results.l4.number == first + 5
         && results.l5.number == first + 6
+}
+
+// Draws the next number and does it, where it is open; a second put replaces the first one.
+fn serve_one(board: &Numbers, seat: &mut Worker) -> Option<u64>
+    requires { IsReady board.now LIMIT seat.old }
+    ensures board { (seat.new.board ≡ seat.old.board) × (seat.new.made_for ≡ seat.old.made_for) }
+    ensures free { IfSome result (λ _. IsFree seat.new.state) }
+{
+    let ticket = board.draw(seat);
+    match board.look(seat, &ticket) {
+        See::Open => {}
+        See::NotYet(_) => return None,
+        See::Closed => return None,
+    }
+    let number = ticket.number();
+    let piece = board.take(seat, &ticket);
+    board.put(
+        seat,
+        &ticket,
+        Next {
+            number: piece.number % 6 + 1,
+        },
+    );
+    board.put(seat, &ticket, next_of(&piece));
+    board.done(seat, ticket);
+    Some(number)
 }
 
 // Serves tickets until the board is closed, and says how many.
@@ -37,10 +72,7 @@ fn serve<H: Wait>(rt: &H, board: &Numbers, mut seat: Worker) -> u64
             See::Closed => return served,
         }
         let piece = board.take(&mut seat, &ticket);
-        let next = Next {
-            number: piece.number + 1,
-        };
-        board.put(&mut seat, &ticket, next);
+        board.put(&mut seat, &ticket, next_of(&piece));
         board.done(&mut seat, ticket);
         served = served.wrapping_add(1);
     }
