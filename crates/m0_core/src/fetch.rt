@@ -29,7 +29,10 @@ use thumb_rows::{decode, is_long};
 fn is_ram(address: u32) -> bool
     ensures { result ≡ is_ram address }
 {
-    0x2000_0000 <= address && address <= 0x2003_ffff || matches!(place(address), Spot::Ram { .. })
+    if 0x2000_0000 <= address && address <= 0x2003_ffff {
+        return true;
+    }
+    matches!(place(address), Spot::Ram { .. })
 }
 
 /// The halfword of an answer.

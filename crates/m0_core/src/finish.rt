@@ -4,7 +4,7 @@ ghost use Rattle.std.specs.Prelude.{◌≡◌, ◌<◌, ℕ, Decides, if◌then�
 ghost use Rattle.lane_look.specs.declared.lane.Want.TheVariants.{Nothing};
 ghost use Rattle.m0_core.specs.Kinds.{is_plain};
 ghost use Rattle.m0_beats.specs.Beats.{beats_of};
-ghost use Rattle.m0_core.specs.Cycle.{signals, want_of, with_value, waiting, followed, with_read, returning, called, ended, passed_instruction, passed_entry, passed_return, passed_work, passed, is_paused_op, is_paused, after_inner, faulted, word_of, done_word, after_access, value_of, after_outward, after_private, after, closed, is_idle};
+ghost use Rattle.m0_core.specs.Cycle.{signals, want_of, with_value, waiting, followed, with_read, returning, called, ended, passed_instruction, passed_entry, passed_return, passed_work, passed, is_paused_op, is_paused, after_inner, faulted, word_of, done_word, after_access, value_of, after_outward, after_private, after, closed, is_idle, next};
 
 use crate::doing::{Act, Doing, Work};
 use crate::exceptions::{ENTRY_BEATS, RETURN_BEATS};
@@ -52,10 +52,12 @@ impl Doing {
     pub fn wants_nothing(&self) -> bool
         ensures { Decides result (want_of self.now ≡ Nothing) }
     {
+        if let Act::Inner(work) = &self.act {
+            return !signals(work);
+        }
         match &self.act {
-            Act::Inner(work) => !signals(work),
             Act::Asleep | Act::Fault | Act::Private(..) => true,
-            Act::Stopped(_) | Act::Read(..) | Act::Write(..) | Act::Outward(..) => false,
+            _ => false,
         }
     }
 }
@@ -147,18 +149,34 @@ impl Core {
         self.read.clear();
     }
 
-    /// Ends a plain instruction of one beat, as most are; false where the work is other, and then nothing changes.
+    /// A beat of a plain instruction is over, as most are; false where the work is other, and then nothing changes.
     #[inline(always)]
-    #[tactic(auto, using(crate::proofs::Plain::single_after, crate::proofs::Plain::single_plain))]
-    pub(crate) fn end_single(&mut self, work: &Work) -> bool
+    #[tactic(auto, using(crate::proofs::Plain::single_after, crate::proofs::Plain::plain_after))]
+    pub(crate) fn pass_plain(&mut self, work: &Work) -> bool
         ensures { self.new ≡ (if result then after_inner work.now self.old else self.old) }
     {
         match work {
-            Work::Instruction(op) if is_single(op) => {
-                self.end_plain(op);
+            Work::Instruction(op) if is_plain(op) => {
+                if is_single(op) {
+                    self.end_plain(op);
+                } else {
+                    self.pass_instruction(op);
+                }
                 true
             }
             _ => false,
+        }
+    }
+
+    /// Ends a cycle in which this was begun, whatever it is.
+    #[inline(never)]
+    #[tactic(auto, unfolding(crate::specs::Cycle::next))]
+    pub(crate) fn finish_any(&mut self, begun: &Doing, turns: &[Turn; 2])
+        ensures { self.new ≡ next self.old begun.now turns.now }
+    {
+        if !is_idle(&begun.act) {
+            self.after(&begun.act, done_word(turns));
+            self.close(begun.lines, begun.cycle);
         }
     }
 
@@ -348,7 +366,8 @@ impl Core {
     pub(crate) fn close(&mut self, lines: u32, cycle: u64)
         ensures { self.new ≡ closed lines cycle self.old }
     {
-        let event = self.nvic.end_cycle(lines, cycle);
-        self.event = self.event || event;
+        if self.nvic.end_cycle(lines, cycle) {
+            self.event = true;
+        }
     }
 }

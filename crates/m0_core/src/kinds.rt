@@ -53,11 +53,10 @@ pub(crate) fn is_undefined(op: &Op) -> bool
     matches!(op, Op::Udf { .. } | Op::Undefined)
 }
 
-/// An instruction with inner beats alone, which does not fault in Thumb state: a sum, a shift, a move, a comparison or a branch
-/// by an offset.
+/// A sum, a shift, a move or a comparison: one beat inside the core, which does not fault in Thumb state.
 #[inline(always)]
-pub(crate) fn is_plain(op: &Op) -> bool
-    ensures { result ≡ is_plain op.now }
+pub(crate) fn is_single(op: &Op) -> bool
+    ensures { result ≡ is_single op.now }
 {
     matches!(
         op,
@@ -97,9 +96,6 @@ pub(crate) fn is_plain(op: &Op) -> bool
             | Op::Rev { .. }
             | Op::Rev16 { .. }
             | Op::Revsh { .. }
-            | Op::BCond { .. }
-            | Op::B { .. }
-            | Op::Bl { .. }
     )
 }
 
@@ -111,10 +107,11 @@ fn is_branch(op: &Op) -> bool
     matches!(op, Op::BCond { .. } | Op::B { .. } | Op::Bl { .. })
 }
 
-/// A plain instruction of one beat: one that is no branch.
+/// An instruction with inner beats alone, which does not fault in Thumb state: a sum, a shift, a move, a comparison or a branch
+/// by an offset.
 #[inline(always)]
-pub(crate) fn is_single(op: &Op) -> bool
-    ensures { result ≡ is_single op.now }
+pub(crate) fn is_plain(op: &Op) -> bool
+    ensures { result ≡ is_plain op.now }
 {
-    is_plain(op) && !is_branch(op)
+    is_single(op) || is_branch(op)
 }

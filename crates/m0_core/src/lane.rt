@@ -7,7 +7,7 @@ ghost use Rattle.m0_core.specs.Cycle.{wanted, next};
 ghost use Rattle.m0_core.specs.Bounds.{four_at_most, reads_none};
 
 use crate::doing::{Act, Doing};
-use crate::finish::{done_word, is_idle, want};
+use crate::finish::want;
 use crate::processor::Core;
 use lane_look::{Lane, Look, Marks, Turn, Want};
 
@@ -36,19 +36,16 @@ impl Lane<()> for Core {
         [want(begun), Want::Nothing]
     }
 
-    #[inline(never)]
+    #[inline(always)]
     #[tactic(auto, unfolding(crate::specs::Cycle::next))]
     fn finish(&mut self, _env: &(), begun: &Doing, turns: [Turn; 2], _marks: &mut Marks) {
         if let Act::Inner(work) = &begun.act {
-            if self.end_single(work) {
+            if self.pass_plain(work) {
                 self.close(begun.lines, begun.cycle);
                 return;
             }
         }
-        if !is_idle(&begun.act) {
-            self.after(&begun.act, done_word(&turns));
-            self.close(begun.lines, begun.cycle);
-        }
+        self.finish_any(begun, &turns);
     }
 
     fn copy_from(&mut self, other: &Core) {

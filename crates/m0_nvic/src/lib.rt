@@ -201,6 +201,7 @@ impl Nvic {
     }
 
     /// The system timer counts.
+    #[inline(always)]
     fn end_timer(&mut self, cycle: u64)
         ensures { self.new ≡ after_timer cycle self.old }
     {

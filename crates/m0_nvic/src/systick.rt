@@ -22,6 +22,7 @@ pub struct SysTick {
 
 impl SysTick {
     /// Counts where the timer counts in this cycle, and tells whether it asks for its exception.
+    #[inline(always)]
     pub(crate) fn end_cycle(&mut self, cycle: u64) -> bool
         ensures after { self.new ≡ timer_after cycle self.old }
         ensures pends { result ≡ timer_pends cycle self.old }
@@ -47,6 +48,7 @@ impl SysTick {
     }
 
     /// The timer counts in this cycle.
+    #[inline(always)]
     fn counts_in(&self, cycle: u64) -> bool
         ensures { result ≡ counts_in cycle self.now }
     {

@@ -102,7 +102,7 @@ impl Machine {
     ghost use Rattle.rp_machine.specs.Cycle.{begun};
 
     /// What the lanes begin, by the state at the start of the cycle, in the place of what they began before.
-    #[inline(always)]
+    #[inline(never)]
     #[tactic(auto, unfolding(crate::specs::Cycle::begun))]
     pub fn begin_into<X: Device>(&self, world: &World<'_, X>, lanes: &mut Begun)
         ensures { lanes.new ≡ begun self.now }

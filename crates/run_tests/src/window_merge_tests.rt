@@ -65,6 +65,7 @@ fn lengths_of<X: Device, L: Ledger>(
     let mut marks = Marks::new();
     let mut lengths = ArrayVec::new();
     let mut after_empty = false;
+    machine.begin_into(world, &mut crew.begun);
     for _ in 0..40 {
         if machine.number() > world.limit {
             break;

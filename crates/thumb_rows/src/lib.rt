@@ -10,6 +10,7 @@ ghost use Rattle.thumb_rows.specs.Rows.{ExactlyOneFits, begins_long, operation_o
 use rp_base::op::Op;
 
 /// The instruction of a pair of halfwords; a 16-bit instruction is the first alone, whatever the second is.
+#[inline(always)]
 pub fn decode(first: u16, second: u16) -> Op
     ensures value { result ≡ operation_of first second }
     ensures short { begins_long first ≡ false → (other : ℕ) → result ≡ operation_of first other }
@@ -22,6 +23,7 @@ pub fn decode(first: u16, second: u16) -> Op
 }
 
 /// Whether an instruction that begins with this halfword has a second one (A5.1).
+#[inline(always)]
 pub fn is_long(first: u16) -> bool
     ensures { result ≡ begins_long first }
 {

@@ -4,7 +4,6 @@ pub mod Banks
 pub mod Calm
 pub mod Comparing
 pub mod Copying
-pub mod EmptyWindow
 pub mod Going
 pub mod InSram
 pub mod Keeping

@@ -25,7 +25,7 @@ use Rattle.window_merge.specs.declared.notes.Notes.{Notes}
 use Rattle.window_merge.specs.declared.start.Start.{Start}
 use Rattle.window_merge.specs.Notes.{seen_of, noted, noted_by}
 use Rattle.window_merge.specs.Start.{guess, begun_from, differs_core0, differs_outer, differs_from, differs_alone, ends_wanted, goes_by, goes_on}
-use Rattle.window_merge.proofs.Agree.{agree, both_false}
+use Rattle.window_merge.proofs.Agree.{agree, both_false, is_not}
 use Rattle.window_merge.proofs.Comparing.{clash_four, shares_none}
 
 -- ---- the lanes at rest
@@ -97,7 +97,7 @@ same_if true e h = absurd (cc h)
 same_if false e h = refl
 
 -- the lanes begin what the machine begins
-same_begun : (start : Start) (n : Notes) (s : State) → differs_from start n s ≡ false → begun s ≡ begun_from start n s
+pub same_begun : (start : Start) (n : Notes) (s : State) → differs_from start n s ≡ false → begun s ≡ begun_from start n s
 unfolding begun
 same_begun start n s e =
     let a0 = both_false (differs (answer_of 0 s) (asked (guess 0 start (seen_of 0 n s.sram)) (core_asks.asks s.core0 s.cycle))) _ e in
@@ -114,6 +114,9 @@ same_begun start n s e =
       agree (answer_of 4 s) (guess 4 start (seen_of 4 n s.sram)) (pio.asks s.pio1) a4.0,
       agree (answer_of 5 s) (guess 5 start (seen_of 5 n s.sram)) (outer.asks s.outer s.cycle) a5.0,
     ) refl
+
+pub begun_alone : (start : Start) (n : Notes) (s : State) (same : Bool) → IsAlone s → same ≡ not (differs_alone start n s) → same ≡ true → begun s ≡ begun_from start n s
+begun_alone start n s same h e is_true = same_begun start n s (rest_differs start n s h ∙ is_not (differs_alone start n s) (sym e ∙ is_true))
 
 next_begun : (w : Setting) (s : State) (b : Begun) → begun s ≡ b → next w s ≡ next_by w b (wanted b) s
 unfolding next

@@ -1,7 +1,8 @@
 -- What the start of a window answers a lane is what its run alone is answered.
-use Rattle.std.proofs.Common.{◌≡◌, ℕ, zero, suc, ◌+◌, ◌<◌, ◌==◌, ◌&&◌, nat_eq, not, Bool, false, if◌then◌else◌, List, [], ◌∷◌, refl, ap, sym, ◌∙◌, subst}
+use Rattle.std.proofs.Common.{◌≡◌, ℕ, zero, suc, ◌+◌, ◌<◌, ◌==◌, ◌&&◌, ◌||◌, nat_eq, not, Bool, true, false, inl, inr, if◌then◌else◌, List, [], ◌∷◌, refl, ap, sym, ◌∙◌, subst}
 use Rattle.std.specs.Prelude.{slice_index, unwrap_or}
 use Rattle.std.proofs.Math.Bool.{and-true}
+use Rattle.std.proofs.lemmas.Bool.Decides.{eqb_tells}
 use Rattle.rp_base.specs.declared.map.Spot.{Spot}
 use Rattle.rp_base.specs.declared.map.Spot.TheVariants as spot
 use Rattle.rp_base.specs.Map.{place_of}
@@ -19,12 +20,11 @@ use Rattle.rp_machine.specs.Sram.{half_of, ram_word}
 use Rattle.rp_machine.specs.Answers.{block_lines, lines_of, answer_of}
 use Rattle.window_merge.specs.Lanes.{around, stored_by}
 use Rattle.window_merge.specs.Patch.{sram_after}
-use Rattle.window_merge.specs.declared.notes.Notes.{Notes}
-use Rattle.window_merge.specs.Notes.{seen_word, own_of, is_clean, seen_of}
+
 use Rattle.window_merge.specs.declared.start.Start.{Start}
-use Rattle.window_merge.specs.declared.start.Guesser.{Guesser}
+use Rattle.window_merge.specs.declared.start.Matcher.{Matcher}
 use Rattle.window_merge.specs.Start.{start_of, word_by, guess, guessed}
-use Rattle.window_merge.proofs.Agree.{all_same, itself}
+use Rattle.window_merge.proofs.Agree.{all_same, itself, not_equal}
 use Rattle.window_merge.proofs.Banks.{HasBank, has_bank}
 use Rattle.window_merge.proofs.Copying.{outs_same}
 use Rattle.window_merge.proofs.Walking.{lines_over, pacing_over, inputs_over, outs_over}
@@ -112,39 +112,50 @@ differs_never {B} f (Question question next) = rw (itself (f question)) (differs
 
 -- ---- the look
 
-abbrev pub ByStart : Guesser → Ask → ℕ → Guesser → Type 0
-ByStart old question answer new = (answer ≡ guessed old question) × (new ≡ record old { same = old.same && nat_eq (answer_of old.lane old.machine.now question) answer })
+abbrev pub ByMatch : Matcher → Ask → ℕ → Matcher → Type 0
+ByMatch old question answer new = (answer ≡ answer_of old.lane old.machine.now question) × (new ≡ record old { same = old.same && nat_eq (guessed old question) answer })
 
-abbrev with_same : Guesser → Bool → Guesser
+abbrev with_same : Matcher → Bool → Matcher
 with_same k same = record k { same = same }
 
--- what was begun, and whether the answers are the same
-pub record ByGuess {B : Type 0} (old : Guesser) (tree : Asking B) (result : B) (new : Guesser) : Type 0 where
-  pub begun : result ≡ answered (guessed old) tree
+-- what was begun, and whether the start answers the same
+pub record Matched {B : Type 0} (old : Matcher) (tree : Asking B) (result : B) (new : Matcher) : Type 0 where
+  pub begun : result ≡ answered (answer_of old.lane old.machine.now) tree
   pub is_same : new.same ≡ old.same && not (differs (answer_of old.lane old.machine.now) (asked (guessed old) tree))
 
-by_guess : {B : Type 0} (k : Guesser) (same : Bool) (tree : Asking B) (result : B) (new : Guesser) → Runs ByStart (with_same k same) tree result new → ByGuess (with_same k same) tree result new
-by_guess k same (Ready begun) result new r = record {
+-- as far as the answers are the same, so is what is asked
+still_same : {B : Type 0} (same : Bool) (f g : Ask → ℕ) (question : Ask) (next : ℕ → Asking B)
+    → (same && nat_eq (g question) (f question)) && not (differs f (asked g (next (f question)))) ≡ same && not (not (nat_eq (f question) (g question)) || differs f (asked g (next (g question))))
+still_same {B} same f g question next = elim (eqb_tells (g question) (f question)) [
+  | inl h ↦
+      let rest = differs f (asked g (next (f question))) in
+      ap (λ (b : Bool). (same && b) && not rest) h.0 ∙ all_same same true rest
+      ∙ ap (λ (b : Bool). same && not (not b || rest)) (sym (itself (f question)))
+      ∙ ap (λ (y : ℕ). same && not (not (nat_eq (f question) y) || differs f (asked g (next y)))) (sym h.1)
+  | inr h ↦
+      let rest = differs f (asked g (next (f question))) in
+      let there = differs f (asked g (next (g question))) in
+      ap (λ (b : Bool). (same && b) && not rest) h.0 ∙ all_same same false rest
+      ∙ ap (λ (b : Bool). same && not (not b || there)) (sym (not_equal (f question) (g question) (λ e. h.1 (sym e))))
+]
+
+by_match : {B : Type 0} (k : Matcher) (same : Bool) (tree : Asking B) (result : B) (new : Matcher) → Runs ByMatch (with_same k same) tree result new → Matched (with_same k same) tree result new
+by_match k same (Ready begun) result new r = record {
   begun = r.1;
-  is_same = ap (λ (x : Guesser). x.same) r.0 ∙ sym (and-true same);
+  is_same = ap (λ (x : Matcher). x.same) r.0 ∙ sym (and-true same);
 }
-by_guess {B} k same (Question question next) result new r =
+by_match {B} k same (Question question next) result new r =
     let f = answer_of k.lane k.machine.now in
     let g = guessed k in
-    let here = same && nat_eq (f question) (g question) in
-    let e_mid : r.1 ≡ with_same k here = r.2.1 ∙ ap (λ (y : ℕ). with_same k (same && nat_eq (f question) y)) r.2.0 in
-    let mid : Runs ByStart (with_same k here) (next r.0) result new = subst (λ (x : Guesser). Runs ByStart x (next r.0) result new) e_mid r.3 in
-    let there : Runs ByStart (with_same k here) (next (g question)) result new = subst (λ (y : ℕ). Runs ByStart (with_same k here) (next y) result new) r.2.0 mid in
-    let rest = by_guess k here (next (g question)) result new there in
+    let here = same && nat_eq (g question) (f question) in
+    let e_mid : r.1 ≡ with_same k here = r.2.1 ∙ ap (λ (y : ℕ). with_same k (same && nat_eq (g question) y)) r.2.0 in
+    let mid : Runs ByMatch (with_same k here) (next r.0) result new = subst (λ (x : Matcher). Runs ByMatch x (next r.0) result new) e_mid r.3 in
+    let there : Runs ByMatch (with_same k here) (next (f question)) result new = subst (λ (y : ℕ). Runs ByMatch (with_same k here) (next y) result new) r.2.0 mid in
+    let rest = by_match k here (next (f question)) result new there in
     record {
       begun = rest.begun;
-      is_same = rest.is_same ∙ all_same same (nat_eq (f question) (g question)) (differs f (asked g (next (g question))));
+      is_same = rest.is_same ∙ still_same same f g question next;
     }
 
-pub runs_guess : {B : Type 0} (old : Guesser) (tree : Asking B) (result : B) (new : Guesser) → Runs ByStart old tree result new → ByGuess old tree result new
-runs_guess old tree result new r = by_guess old old.same tree result new r
-
--- the look sees what the notes tell of the lane
-pub same_guess : (lane : ℕ) (start : Start) (notes : Notes) (sram : List ℕ) (clean : Bool) (own originals : List (ℕ × ℕ)) → clean ≡ is_clean lane notes → own ≡ own_of lane notes → originals ≡ notes.originals
-    → guess lane start (seen_word clean own originals sram) ≡ guess lane start (seen_of lane notes sram)
-same_guess lane start notes sram clean own originals e_clean e_own e_originals = rw (e_clean, e_own, e_originals) refl
+pub runs_match : {B : Type 0} (old : Matcher) (tree : Asking B) (result : B) (new : Matcher) → Runs ByMatch old tree result new → Matched old tree result new
+runs_match old tree result new r = by_match old old.same tree result new r

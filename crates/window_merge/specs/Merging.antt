@@ -141,12 +141,6 @@ pub record AreRunsAlone (w : Setting) (s : State) (runs : Runs) : Type 0 where
 
 -- ---- from one position of a run to the next
 
--- where a window had no cycle, this is what the lanes begin in the next one
-abbrev pub HasBegun : Moved → Begun → State → Type 0
-HasBegun (moved.Stopped why) lanes s = Unit {0}
-HasBegun (moved.Window n) lanes s = (n == 0) ≡ true → lanes ≡ begun s
-HasBegun moved.Cycle lanes s = Unit {0}
-
 -- it stopped, and nothing changed; or it went by a window; or by one cycle
 abbrev pub IsStep : Setting → Bool → Moved → State → State → List Mark → List Mark → ℕ → ℕ → Type 0
 IsStep w after_empty (moved.Stopped why) s t marks marks' steps steps' =

@@ -21,10 +21,10 @@ use Rattle.rp_machine.specs.Answers.{lines_of, pacing_of, inputs_of, outs_of, an
 use Rattle.rp_machine.specs.Cycle.{begun, wanted}
 use Rattle.window_merge.specs.declared.notes.Notes.{Notes}
 use Rattle.window_merge.specs.declared.start.Start.{Start}
-use Rattle.window_merge.specs.declared.start.Guesser.{Guesser}
+use Rattle.window_merge.specs.declared.start.Matcher.{Matcher}
 use Rattle.window_merge.specs.Window.{clash}
 use Rattle.window_merge.specs.Merging.{wants_of}
-use Rattle.window_merge.specs.Notes.{seen_word, seen_of}
+use Rattle.window_merge.specs.Notes.{seen_of}
 
 -- what a state answers but for SRAM
 abbrev pub start_of : State → Start
@@ -51,9 +51,9 @@ guess lane start seen ask.Pacing = start.pacing
 guess lane start seen ask.Inputs = start.inputs
 guess lane start seen (ask.Outs block) = if block == 0 then start.pio0 else start.pio1
 
--- what a look answers
-abbrev pub guessed : Guesser → Ask → ℕ
-guessed k = guess k.lane k.start.now (seen_word k.clean k.own.now k.originals.now k.machine.now.sram)
+-- what the start of a look answers
+abbrev pub guessed : Matcher → Ask → ℕ
+guessed k = guess k.lane k.start.now (seen_of k.lane k.notes.now k.machine.now.sram)
 
 -- ---- the six lanes
 

@@ -1,18 +1,18 @@
 //! A machine that goes by windows up to a cycle, on one thread.
 
-ghost use Rattle.std.specs.Prelude.{◌≡◌, ◌+◌, ◌-◌, ◌<◌, ◌≤◌, true};
+ghost use Rattle.std.specs.Prelude.{◌≡◌, ◌+◌, ◌-◌, ◌<◌, ◌≤◌};
 ghost use Rattle.outer_lane.specs.Setting.{setting_of};
 ghost use Rattle.rp_machine.specs.Cycle.{begun};
 ghost use Rattle.rp_machine.specs.Run.{states};
 ghost use Rattle.window_merge.specs.Window.{longest};
-ghost use Rattle.window_merge.specs.Merging.{HasBegun, IsRested};
+ghost use Rattle.window_merge.specs.Merging.{IsRested};
 ghost use Rattle.window_merge.specs.Jobs.{IsWhole};
 ghost use Rattle.window_merge.specs.Going.{IsGone, IsReached};
 
 use crate::here::window_within;
 use crate::lane_job::Crew;
 use crate::merge::longest;
-use crate::position::{Moved, cycle_after};
+use crate::position::Moved;
 use lane_look::{Device, Marks};
 use outer_lane::World;
 use rp_base::Why;
@@ -52,19 +52,20 @@ fn go_on<X: Device, L: Ledger>(
     requires to { machine.old.cycle < to }
     requires rested { IsRested machine.old.sio }
     requires crew { IsWhole crew.old }
-    requires begun { after_empty ≡ true → crew.old.begun ≡ begun machine.old }
+    requires begun { crew.old.begun ≡ begun machine.old }
     ensures gone { IsGone
         (setting_of world.now.script.now (X.meaning world.now.device.now) world.now.limit)
         after_empty to result machine.old machine.new steps.old steps.new }
     ensures rested { IsRested machine.new.sio }
     ensures crew { IsWhole crew.new }
-    ensures begun { HasBegun result crew.new.begun machine.new }
+    ensures begun { crew.new.begun ≡ begun machine.new }
 {
     if after_empty || machine.fabric.holds() {
-        return match cycle_after(machine, world, &crew.begun, after_empty, marks, steps) {
-            Some(why) => Moved::Stopped(why),
-            None => Moved::Cycle,
-        };
+        if let Some(why) = machine.cycle_of(world, &crew.begun, marks, steps) {
+            return Moved::Stopped(why);
+        }
+        machine.begin_into(world, &mut crew.begun);
+        return Moved::Cycle;
     }
     let at_most = longest_to(machine, world, to);
     let length = window_within(
@@ -112,6 +113,7 @@ pub fn advance_alone<X: Device, L: Ledger>(
 {
     let mut marks = Marks::new();
     let mut after_empty = false;
+    machine.begin_into(world, &mut crew.begun);
     'moves: loop {
         if machine.number() >= to {
             return None;

@@ -1,6 +1,6 @@
 //! A window on one thread: one pass of the machine's own cycles, in which each lane is answered as the start answers it.
 
-ghost use Rattle.std.specs.Prelude.{◌≡◌, ◌+◌, ◌≤◌, ◌==◌, false, true};
+ghost use Rattle.std.specs.Prelude.{◌≡◌, ◌+◌, ◌≤◌, false};
 ghost use Rattle.outer_lane.specs.Setting.{setting_of};
 ghost use Rattle.bus_fabric.specs.State.{has_hold};
 ghost use Rattle.rp_machine.specs.Cycle.{begun};
@@ -17,8 +17,8 @@ use rp_machine::begun::Begun;
 use rp_machine::{Machine, Steps};
 use std::sync::ledger::Ledger;
 
-/// Moves the machine by a window of at most so many cycles. Gives how many it has. Where it has none, what the lanes begin in the
-/// next cycle is left in `lanes`.
+/// Moves the machine by a window of at most so many cycles. Gives how many it has. `lanes` has what the lanes begin in the next
+/// cycle, before and after.
 pub(crate) fn window_within<X: Device, L: Ledger>(
     machine: &mut Machine,
     world: &World<'_, X>,
@@ -34,6 +34,7 @@ pub(crate) fn window_within<X: Device, L: Ledger>(
         machine.old }
     requires free { has_hold machine.old.fabric ≡ false }
     requires rested { IsRested machine.old.sio }
+    requires begun { lanes.old ≡ begun machine.old }
     ensures length { result ≡ window_within
         (setting_of world.now.script.now (X.meaning world.now.device.now) world.now.limit)
         machine.old at_most }
@@ -45,12 +46,11 @@ pub(crate) fn window_within<X: Device, L: Ledger>(
         (setting_of world.now.script.now (X.meaning world.now.device.now) world.now.limit)
         machine.old result }
     ensures steps { steps.new ≡ steps.old + result }
-    ensures begun { (result == 0) ≡ true → lanes.new ≡ begun machine.old }
+    ensures begun { lanes.new ≡ begun machine.new }
 {
     is_known(machine);
     is_numbered(machine, world, at_most);
     marks.clear();
-    machine.begin_into(world, lanes);
     if at_most == 0 {
         return 0;
     }
@@ -67,12 +67,13 @@ pub(crate) fn window_within<X: Device, L: Ledger>(
         }
         steps.tick();
     }
+    machine.begin_into(world, lanes);
     at_most
 }
 
 /// Moves the machine by a window: as far as its lanes, each alone from its state, would go the machine's way. Gives the
 /// window's length. The marks of its cycles are left in `marks`, each counts as one of the steps, `notes` is room for what it
-/// writes to SRAM, and `lanes` for what the lanes begin: where the window has no cycle, that of the next cycle is left there.
+/// writes to SRAM, and `lanes` has what the lanes begin in the next cycle, before and after.
 pub fn window<X: Device, L: Ledger>(
     machine: &mut Machine,
     world: &World<'_, X>,
@@ -84,6 +85,7 @@ pub fn window<X: Device, L: Ledger>(
     requires number { machine.old.cycle ≤ world.now.limit }
     requires free { has_hold machine.old.fabric ≡ false }
     requires rested { IsRested machine.old.sio }
+    requires begun { lanes.old ≡ begun machine.old }
     ensures length { result ≡ window_length
         (setting_of world.now.script.now (X.meaning world.now.device.now) world.now.limit)
         machine.old }
@@ -95,7 +97,7 @@ pub fn window<X: Device, L: Ledger>(
         (setting_of world.now.script.now (X.meaning world.now.device.now) world.now.limit)
         machine.old result }
     ensures steps { steps.new ≡ steps.old + result }
-    ensures begun { (result == 0) ≡ true → lanes.new ≡ begun machine.old }
+    ensures begun { lanes.new ≡ begun machine.new }
 {
     let longest = longest(machine, world);
     window_within(machine, world, notes, lanes, longest, marks, steps)

@@ -45,6 +45,6 @@ pub struct Crew {
     pub spare: [Option<LaneJob>; 6],
     /// Room for the notes of a window on one thread.
     pub notes: Notes,
-    /// Room for what the lanes begin in a cycle.
+    /// What the lanes begin in the next cycle, once a run has begun.
     pub begun: Begun,
 }

@@ -96,7 +96,7 @@ fn first_of(words: &[(u32, u32)], index: u32, word: u32) -> u32
 
 /// The word of an index, as a lane sees it.
 #[inline(always)]
-pub(crate) fn seen_word(
+fn seen_word(
     ram: &Ram,
     clean: bool,
     own: &[(u32, u32)],
@@ -210,6 +210,17 @@ impl Notes {
             && (lane == 2 || self.dma.is_empty())
     }
 
+    /// The word of an index, as a lane of that number sees it.
+    #[inline(always)]
+    pub(crate) fn seen(&self, ram: &Ram, lane: u8, index: u32) -> u32
+        requires { index < 67584 }
+        ensures { result ≡ seen_of lane self.now ram.now index }
+    {
+        let clean = self.is_clean(lane);
+        let own = self.own(lane);
+        seen_word(ram, clean, own, self.originals.words(), index)
+    }
+
     /// The word of a write as a lane of that number leaves it.
     #[inline(always)]
     fn own_word(&self, ram: &Ram, lane: u8, deed: &Deed) -> Option<(u32, u32)>
@@ -222,9 +233,7 @@ impl Notes {
                 lanes,
                 value,
             } => {
-                let clean = self.is_clean(lane);
-                let own = self.own(lane);
-                let word = seen_word(ram, clean, own, self.originals.words(), index);
+                let word = self.seen(ram, lane, index);
                 Some((index, with_lanes(lanes, value, word)))
             }
             _ => None,

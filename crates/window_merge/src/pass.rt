@@ -1,6 +1,6 @@
 //! The cycles of a window on one thread: each is the machine's own, and is kept where it goes as the lanes would go alone.
 
-ghost use Rattle.std.specs.Prelude.{◌≡◌, ◌+◌, ◌-◌, ◌^◌, ◌<◌, ◌++◌, ◌∷◌, [], if◌then◌else◌, is_some, IfSome, length};
+ghost use Rattle.std.specs.Prelude.{◌≡◌, ◌+◌, ◌-◌, ◌^◌, ◌<◌, ◌++◌, ◌∷◌, [], if◌then◌else◌, false, is_some, IfSome, length};
 ghost use Rattle.outer_lane.specs.Setting.{setting_of};
 ghost use Rattle.outer_lane.specs.Step.{marked};
 ghost use Rattle.rp_machine.specs.Cycle.{begun, wanted, next_by};
@@ -14,7 +14,7 @@ use crate::notes::Notes;
 use crate::start::{Start, begin_core0, begin_later, begin_outer};
 use crate::walk::ends_want;
 use lane_look::{Device, Marks};
-use m0_core::{Core, Doing};
+use m0_core::Core;
 use outer_lane::World;
 use rp_base::Master;
 use rp_machine::Machine;
@@ -77,12 +77,13 @@ pub(crate) fn try_first<X: Device>(
 }
 
 /// A later cycle of a window in which core 0 is alone: nothing is asked of the lanes at rest.
+#[inline(always)]
 fn try_alone<X: Device>(
     machine: &mut Machine,
     world: &World<'_, X>,
     start: &Start,
     notes: &mut Notes,
-    core0: &mut Doing,
+    lanes: &mut Begun,
     marks: &mut Marks,
 ) -> bool
     requires alone { IsAlone machine.old }
@@ -104,24 +105,24 @@ fn try_alone<X: Device>(
         else notes.old) }
 {
     let mut same = true;
-    begin_core0(machine, start, notes, core0, &mut same);
-    let outer = begin_outer(machine, world, start, notes, &mut same);
+    begin_core0(machine, start, notes, &mut lanes.core0, &mut same);
+    begin_outer(machine, world, start, notes, &mut lanes.outer, &mut same);
     if !same {
         return false;
     }
-    if machine.is_bus_free(core0) {
-        machine.step_alone_at_rest(world, core0, &outer, marks);
+    if machine.is_bus_free(&lanes.core0) {
+        machine.step_alone_at_rest(world, &lanes.core0, &lanes.outer, marks);
         return true;
     }
     let wanted = Wanted {
         master: Master::Core0,
-        want: want_of(core0),
+        want: want_of(&lanes.core0),
     };
     if ends_want(&wanted.want) {
         return false;
     }
     notes.note_core0(&machine.ram, &wanted.want);
-    machine.step_alone(world, core0, &outer, &wanted, marks);
+    machine.step_alone(world, &lanes.core0, &lanes.outer, &wanted, marks);
     true
 }
 
@@ -151,6 +152,7 @@ fn try_all<X: Device>(
     ensures notes { notes.new ≡ (if result then noted_by
         (wanted (begun_from start.now notes.old machine.old)) machine.old.sram notes.old
         else notes.old) }
+    ensures begun { lanes.new ≡ begun machine.old }
 {
     let mut same = true;
     begin_later(machine, world, start, notes, lanes, &mut same);
@@ -167,7 +169,8 @@ fn try_all<X: Device>(
 }
 
 /// A later cycle of a window, where each answer of the start is what the machine answers, no run alone ends and no two accesses
-/// name one port. Otherwise the machine, the notes and the marks stay.
+/// name one port. Otherwise the machine, the notes and the marks stay, and what the lanes begin is left in `lanes`.
+#[inline(always)]
 pub(crate) fn try_later<X: Device>(
     machine: &mut Machine,
     world: &World<'_, X>,
@@ -192,10 +195,14 @@ pub(crate) fn try_later<X: Device>(
     ensures notes { notes.new ≡ (if result then noted_by
         (wanted (begun_from start.now notes.old machine.old)) machine.old.sram notes.old
         else notes.old) }
+    ensures begun { result ≡ false → lanes.new ≡ begun machine.new }
 {
-    if machine.is_core0_alone() {
-        try_alone(machine, world, start, notes, &mut lanes.core0, marks)
-    } else {
-        try_all(machine, world, start, notes, lanes, marks)
+    if !machine.is_core0_alone() {
+        return try_all(machine, world, start, notes, lanes, marks);
     }
+    if try_alone(machine, world, start, notes, lanes, marks) {
+        return true;
+    }
+    machine.begin_into(world, lanes);
+    false
 }

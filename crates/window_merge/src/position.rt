@@ -1,9 +1,9 @@
 //! The positions at which a run stands between windows and single cycles.
 
-ghost use Rattle.std.specs.Prelude.{◌≡◌, ◌+◌, ◌≤◌, ◌∷◌, [], if◌then◌else◌, is_some, true};
+ghost use Rattle.std.specs.Prelude.{◌≡◌, ◌≤◌};
 ghost use Rattle.outer_lane.specs.Setting.{setting_of};
-ghost use Rattle.rp_machine.specs.Cycle.{begun, mark, next, stop};
-ghost use Rattle.window_merge.specs.Merging.{HasBegun, IsRested, IsStep};
+ghost use Rattle.rp_machine.specs.Cycle.{begun};
+ghost use Rattle.window_merge.specs.Merging.{IsRested, IsStep};
 ghost use Rattle.window_merge.specs.Jobs.{IsWhole};
 
 use crate::here::window;
@@ -11,7 +11,6 @@ use crate::lane_job::Crew;
 use lane_look::{Device, Marks};
 use outer_lane::World;
 use rp_base::Why;
-use rp_machine::begun::Begun;
 use rp_machine::{Machine, Steps};
 use std::sync::ledger::Ledger;
 
@@ -26,38 +25,9 @@ pub enum Moved {
     Cycle,
 }
 
-/// Does one cycle, or names the stop before it; behind a window without a cycle, by what the lanes begin in it.
-pub(crate) fn cycle_after<X: Device, L: Ledger>(
-    machine: &mut Machine,
-    world: &World<'_, X>,
-    lanes: &Begun,
-    after_empty: bool,
-    marks: &mut Marks,
-    steps: &mut Steps<L>,
-) -> Option<Why>
-    requires number { machine.old.cycle ≤ world.now.limit }
-    requires begun { after_empty ≡ true → lanes.now ≡ begun machine.old }
-    ensures cause { result ≡ stop
-        (setting_of world.now.script.now (X.meaning world.now.device.now) world.now.limit)
-        machine.old }
-    ensures state { machine.new ≡ (if is_some result then machine.old else next
-        (setting_of world.now.script.now (X.meaning world.now.device.now) world.now.limit)
-        machine.old) }
-    ensures marks { marks.new ≡ (if is_some result then marks.old else mark
-        (setting_of world.now.script.now (X.meaning world.now.device.now) world.now.limit)
-        machine.old ∷ []) }
-    ensures steps { steps.new ≡ (if is_some result then steps.old else steps.old + 1) }
-{
-    if after_empty {
-        machine.cycle_of(world, lanes, marks, steps)
-    } else {
-        machine.cycle(world, marks, steps)
-    }
-}
-
 /// Moves the machine to the next position of a run: by a window where no access lasts and the last step was not a window
-/// without a cycle, and else by one cycle. The marks of its cycles are left in `marks`, and each counts as one of the steps. A window
-/// without a cycle leaves in the crew what the lanes begin in the next one, which goes by it.
+/// without a cycle, and else by one cycle. The marks of its cycles are left in `marks`, and each counts as one of the steps. The crew
+/// has what the lanes begin in the next cycle, before and after, so that they begin once in each.
 pub fn advance<X: Device, L: Ledger>(
     machine: &mut Machine,
     world: &World<'_, X>,
@@ -69,19 +39,20 @@ pub fn advance<X: Device, L: Ledger>(
     requires number { machine.old.cycle ≤ world.now.limit }
     requires rested { IsRested machine.old.sio }
     requires crew { IsWhole crew.old }
-    requires begun { after_empty ≡ true → crew.old.begun ≡ begun machine.old }
+    requires begun { crew.old.begun ≡ begun machine.old }
     ensures moved { IsStep
         (setting_of world.now.script.now (X.meaning world.now.device.now) world.now.limit)
         after_empty result machine.old machine.new marks.old marks.new steps.old steps.new }
     ensures rested { IsRested machine.new.sio }
     ensures crew { IsWhole crew.new }
-    ensures begun { HasBegun result crew.new.begun machine.new }
+    ensures begun { crew.new.begun ≡ begun machine.new }
 {
     if after_empty || machine.fabric.holds() {
-        return match cycle_after(machine, world, &crew.begun, after_empty, marks, steps) {
-            Some(why) => Moved::Stopped(why),
-            None => Moved::Cycle,
-        };
+        if let Some(why) = machine.cycle_of(world, &crew.begun, marks, steps) {
+            return Moved::Stopped(why);
+        }
+        machine.begin_into(world, &mut crew.begun);
+        return Moved::Cycle;
     }
     let length = window(
         machine,

@@ -1,4 +1,4 @@
-//! What the start of a window answers each lane, while the machine goes on; and the looks that answer so.
+//! What the start of a window answers each lane, while the machine goes on; and looks that compare it with what the machine answers.
 
 ghost use Rattle.std.specs.Prelude.{◌≡◌, ◌&&◌, not};
 ghost use Rattle.lane_look.specs.Asking.{answered};
@@ -7,10 +7,11 @@ ghost use Rattle.lane_look.specs.Alone.{differs};
 ghost use Rattle.m0_core.specs.Fetch.{asks};
 ghost use Rattle.rp_machine.specs.Answers.{answer_of};
 ghost use Rattle.window_merge.specs.Notes.{seen_of};
-ghost use Rattle.window_merge.specs.Start.{guess, begun_from, differs_core0, differs_outer, differs_from};
+ghost use Rattle.rp_machine.specs.Cycle.{begun};
+ghost use Rattle.window_merge.specs.Start.{guess, differs_core0, differs_outer, differs_from};
 
 use crate::copies::half_of;
-use crate::notes::{Notes, seen_word};
+use crate::notes::Notes;
 use lane_look::{Ask, Device, Lane, Look};
 use m0_core::{Core, Doing};
 use outer_lane::{SeenOutputs, World};
@@ -54,50 +55,38 @@ impl Start {
     }
 }
 
-/// Answers a lane as the start of the window would, and keeps whether each answer is what the machine answers.
+/// Answers a lane as the machine does, and keeps whether the start of the window would have answered each question so.
 #[derive(Drop)]
-pub(crate) struct Guesser<'a> {
+pub(crate) struct Matcher<'a> {
     machine: &'a Machine,
     lane: u8,
     start: &'a Start,
-    /// No other lane wrote in this window, so that the lane sees the machine's SRAM.
-    clean: bool,
-    /// What the lane wrote.
-    own: &'a [(u32, u32)],
-    /// The words that were written, as they were before.
-    originals: &'a [(u32, u32)],
+    notes: &'a Notes,
     same: bool,
 }
 
-impl Guesser<'_> {
-    ghost use Rattle.std.specs.Prelude.{◌≡◌, ◌&&◌, nat_eq};
+impl Matcher<'_> {
+    ghost use Rattle.std.specs.Prelude.{◌≡◌, nat_eq};
     ghost use Rattle.rp_base.specs.Map.{place_of};
     ghost use Rattle.rp_machine.specs.Answers.{answer_of};
-    ghost use Rattle.window_merge.specs.Notes.{seen_word};
+    ghost use Rattle.window_merge.specs.Notes.{seen_of};
     ghost use Rattle.window_merge.specs.Start.{word_by, guessed};
 
-    /// The word of SRAM that holds an address, 0 where there is none.
+    /// The word of SRAM that holds an address as the lane sees it, 0 where there is none.
     fn word(&self, address: u32) -> u32
-        ensures { result ≡ word_by
-            (seen_word self.now.clean self.now.own.now self.now.originals.now
+        ensures { result ≡ word_by (seen_of self.now.lane self.now.notes.now
             self.now.machine.now.sram) (place_of address) }
     {
         let machine: &Machine = self.machine;
         match place(address) {
-            Spot::Ram { index, .. } => seen_word(
-                &machine.ram,
-                self.clean,
-                self.own,
-                self.originals,
-                index,
-            ),
+            Spot::Ram { index, .. } => self.notes.seen(&machine.ram, self.lane, index),
             Spot::Reg { .. } | Spot::Sio { .. } | Spot::Ppb { .. } | Spot::Outside => 0,
         }
     }
 
-    /// The answer to a question.
+    /// What the start answers.
     #[inline(always)]
-    fn answer(&self, ask: Ask) -> u128
+    fn guess(&self, ask: Ask) -> u128
         ensures { result ≡ guessed self.now ask }
     {
         match ask {
@@ -122,42 +111,38 @@ impl Guesser<'_> {
         }
     }
 
-    /// The answer to a question, which is compared with what the machine answers.
+    /// The start answers as the machine does. Where no other lane wrote, the lane sees the machine's SRAM.
     #[inline(always)]
-    fn compare(&mut self, ask: Ask) -> u128
-        ensures answer { result ≡ guessed self.old ask }
-        ensures same { self.new ≡ record self.old {
-          same = self.old.same && nat_eq
-              (answer_of self.old.lane self.old.machine.now ask) result;
-        } }
+    fn matches(&self, ask: Ask, answer: u128) -> bool
+        requires { answer ≡ answer_of self.now.lane self.now.machine.now ask }
+        ensures { result ≡ nat_eq (guessed self.now ask) answer }
     {
-        let answer = self.answer(ask);
-        let here = self.machine.answer(self.lane, ask) == answer;
-        self.same = self.same && here;
-        answer
-    }
-}
-
-impl Look for Guesser<'_> {
-    ghost use Rattle.std.specs.Prelude.{◌≡◌, ◌&&◌, nat_eq};
-    ghost use Rattle.rp_machine.specs.Answers.{answer_of};
-    ghost use Rattle.window_merge.specs.Start.{guessed};
-
-    ghost answers = { λ old ask answer new. (answer ≡ guessed old ask) × (new ≡ record old {
-      same = old.same && nat_eq (answer_of old.lane old.machine.now ask) answer;
-    }) };
-
-    #[inline(always)]
-    fn ask(&mut self, ask: Ask) -> u128 {
         match ask {
-            Ask::Half(_) | Ask::Word(_) if self.clean => self.machine.answer(self.lane, ask),
-            _ => self.compare(ask),
+            Ask::Half(_) | Ask::Word(_) if self.notes.is_clean(self.lane) => true,
+            _ => self.guess(ask) == answer,
         }
     }
 }
 
-/// Begins the cycle of a lane of that number as the start answers, and compares each answer with the machine's: `same` stays where
-/// each is.
+impl Look for Matcher<'_> {
+    ghost use Rattle.std.specs.Prelude.{◌≡◌, ◌&&◌, nat_eq};
+    ghost use Rattle.rp_machine.specs.Answers.{answer_of};
+    ghost use Rattle.window_merge.specs.Start.{guessed};
+
+    ghost answers = { λ old ask answer new. (answer ≡ answer_of old.lane old.machine.now ask)
+        × (new ≡ record old { same = old.same && nat_eq (guessed old ask) answer }) };
+
+    #[inline(always)]
+    fn ask(&mut self, ask: Ask) -> u128 {
+        let answer = self.machine.answer(self.lane, ask);
+        if !self.matches(ask, answer) {
+            self.same = false;
+        }
+        answer
+    }
+}
+
+/// Begins the cycle of a lane of that number, and compares each answer with that of the start: `same` stays where each is.
 #[inline(always)]
 fn begin_by<E, S: Lane<E>>(
     lane: &S,
@@ -168,21 +153,18 @@ fn begin_by<E, S: Lane<E>>(
     notes: &Notes,
     same: &mut bool,
 ) -> S::Begun
-    ensures begun { result ≡ answered
-        (guess number start.now (seen_of number notes.now machine.now.sram))
+    ensures begun { result ≡ answered (answer_of number machine.now)
         (S.asks env.now lane.now machine.now.cycle) }
     ensures same { same.new ≡ (same.old && not (differs
         (answer_of number machine.now)
         (asked (guess number start.now (seen_of number notes.now machine.now.sram))
         (S.asks env.now lane.now machine.now.cycle)))) }
 {
-    let mut look = Guesser {
+    let mut look = Matcher {
         machine,
         lane: number,
         start,
-        clean: notes.is_clean(number),
-        own: notes.own(number),
-        originals: notes.originals.words(),
+        notes,
         same: *same,
     };
     let begun = lane.begin(env, machine.at, &mut look);
@@ -201,21 +183,18 @@ fn begin_core(
     begun: &mut Doing,
     same: &mut bool,
 )
-    ensures begun { begun.new ≡ answered
-        (guess number start.now (seen_of number notes.now machine.now.sram))
+    ensures begun { begun.new ≡ answered (answer_of number machine.now)
         (asks core.now machine.now.cycle) }
     ensures same { same.new ≡ (same.old && not (differs
         (answer_of number machine.now)
         (asked (guess number start.now (seen_of number notes.now machine.now.sram))
         (asks core.now machine.now.cycle)))) }
 {
-    let mut look = Guesser {
+    let mut look = Matcher {
         machine,
         lane: number,
         start,
-        clean: notes.is_clean(number),
-        own: notes.own(number),
-        originals: notes.originals.words(),
+        notes,
         same: *same,
     };
     core.begin_into(machine.at, &mut look, begun);
@@ -224,6 +203,7 @@ fn begin_core(
 
 /// Begins the cycle of core 0 so.
 #[inline(always)]
+#[tactic(auto, unfolding(rp_machine::specs::Cycle::begun))]
 pub(crate) fn begin_core0(
     machine: &Machine,
     start: &Start,
@@ -231,7 +211,7 @@ pub(crate) fn begin_core0(
     begun: &mut Doing,
     same: &mut bool,
 )
-    ensures begun { begun.new ≡ (begun_from start.now notes.now machine.now).core0 }
+    ensures begun { begun.new ≡ (begun machine.now).core0 }
     ensures same { same.new ≡ (same.old && not (differs_core0 start.now notes.now machine.now)) }
 {
     begin_core(&machine.core0, 0, machine, start, notes, begun, same);
@@ -239,45 +219,48 @@ pub(crate) fn begin_core0(
 
 /// Begins the cycle of the peripherals so.
 #[inline(always)]
+#[tactic(auto, unfolding(rp_machine::specs::Cycle::begun))]
 pub(crate) fn begin_outer<X: Device>(
     machine: &Machine,
     world: &World<'_, X>,
     start: &Start,
     notes: &Notes,
+    begun: &mut SeenOutputs,
     same: &mut bool,
-) -> SeenOutputs
-    ensures begun { result ≡ (begun_from start.now notes.now machine.now).outer }
+)
+    ensures begun { begun.new ≡ (begun machine.now).outer }
     ensures same { same.new ≡ (same.old && not (differs_outer start.now notes.now machine.now)) }
 {
-    begin_by(&machine.outer, world, 5, machine, start, notes, same)
+    *begun = begin_by(&machine.outer, world, 5, machine, start, notes, same);
 }
 
-/// Begins the cycle of all lanes as the start answers, in the place of what they began before, and compares each answer with the
-/// machine's: `same` stays where each is.
+/// Begins the cycle of all lanes, in the place of what they began before, and compares each answer with that of the start: `same`
+/// stays where each is.
 #[inline(always)]
+#[tactic(auto, unfolding(rp_machine::specs::Cycle::begun))]
 pub(crate) fn begin_later<X: Device>(
     machine: &Machine,
     world: &World<'_, X>,
     start: &Start,
     notes: &Notes,
-    begun: &mut Begun,
+    lanes: &mut Begun,
     same: &mut bool,
 )
-    ensures begun { begun.new ≡ begun_from start.now notes.now machine.now }
+    ensures begun { lanes.new ≡ begun machine.now }
     ensures same { same.new ≡ (same.old && not (differs_from start.now notes.now machine.now)) }
 {
-    begin_core0(machine, start, notes, &mut begun.core0, same);
+    begin_core0(machine, start, notes, &mut lanes.core0, same);
     begin_core(
         &machine.core1,
         1,
         machine,
         start,
         notes,
-        &mut begun.core1,
+        &mut lanes.core1,
         same,
     );
-    begun.dma = begin_by(&machine.dma, &(), 2, machine, start, notes, same);
-    begun.pio0 = begin_by(&machine.pio0, &(), 3, machine, start, notes, same);
-    begun.pio1 = begin_by(&machine.pio1, &(), 4, machine, start, notes, same);
-    begun.outer = begin_outer(machine, world, start, notes, same);
+    lanes.dma = begin_by(&machine.dma, &(), 2, machine, start, notes, same);
+    lanes.pio0 = begin_by(&machine.pio0, &(), 3, machine, start, notes, same);
+    lanes.pio1 = begin_by(&machine.pio1, &(), 4, machine, start, notes, same);
+    begin_outer(machine, world, start, notes, &mut lanes.outer, same);
 }

@@ -94,7 +94,7 @@ fn step<X: Device, T: Tape, L: Ledger>(
     requires number { machine.old.cycle ≤ world.now.limit }
     requires rested { IsRested machine.old.sio }
     requires crew { IsWhole crew.old }
-    requires begun { counts.old.after_empty ≡ true → crew.old.begun ≡ begun machine.old }
+    requires begun { crew.old.begun ≡ begun machine.old }
     requires windows { counts.old.windows
         ≤ machine.old.cycle + (if counts.old.after_empty then 1 else 0) }
     requires cycles { counts.old.cycles ≤ machine.old.cycle }
@@ -114,8 +114,7 @@ fn step<X: Device, T: Tape, L: Ledger>(
     ensures steps { steps.new + machine.old.cycle ≡ steps.old + machine.new.cycle }
     ensures rested { IsRested machine.new.sio }
     ensures crew { IsWhole crew.new }
-    ensures begun { counts.new.after_empty ≡ true → stop_in result ≡ None
-        → crew.new.begun ≡ begun machine.new }
+    ensures begun { crew.new.begun ≡ begun machine.new }
 {
     is_bounded(world);
     let cycle = machine.number();
@@ -173,6 +172,7 @@ pub fn run_alone<X: Device, T: Tape, L: Ledger>(
         after_empty: false,
     };
     let mut marks = Marks::new();
+    machine.begin_into(world, &mut crew.begun);
     'steps: loop {
         match step(machine, world, crew, &mut counts, &mut marks, tape, steps) {
             Ok(None) => continue 'steps,

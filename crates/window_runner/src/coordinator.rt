@@ -232,6 +232,7 @@ fn window<'w, X: Device, G: Gate, H: Wait, L: Ledger>(
         return length;
     }
     let Sets { notes, begun, .. } = &mut *lead.sets;
+    machine.begin_into(desk.world, begun);
     let length = window_here(machine, desk.world, notes, begun, marks, steps);
     lead.after_short = length < SHORT;
     length

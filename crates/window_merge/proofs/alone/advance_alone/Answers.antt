@@ -6,7 +6,7 @@ use Rattle.window_merge.proofs.alone.advance_alone.Goals as goal
 pub moves-init : goal.moves-init
 moves-init g c =
     let w = setting_of c.args.world.now.script.now (g.X.Device.meaning c.args.world.now.device.now) c.args.world.now.limit in
-    (way_first w c.args.machine.now c.args.to _ c.requires.to c.requires.number, c.requires.rested, c.requires.crew, λ e. absurd (cc e))
+    (way_first w c.args.machine.now c.args.to _ c.requires.to c.requires.number, c.requires.rested, c.requires.crew, c.begin_into.ensures)
 
 pub returns-in-Stopped-clause-state : goal.returns-in-Stopped-clause-state
 returns-in-Stopped-clause-state g c =
@@ -43,5 +43,5 @@ moves-preserved g c =
           c.moves.invariant.0 (omega (arith, below, number)) h.0 h.1 h.2,
       c.in-Cycle.ensures.rested,
       c.in-Cycle.ensures.crew,
-      λ e. absurd (cc e),
+      c.in-Cycle.ensures.begun,
     )

@@ -1,4 +1,4 @@
-use Rattle.std.proofs.Common.{◌≡◌, true}
+use Rattle.std.proofs.Common.{◌≡◌}
 use Rattle.outer_lane.specs.Setting.{setting_of}
 use Rattle.rp_machine.specs.Cycle.{begun}
 use Rattle.window_merge.specs.Merging.{IsRested}
@@ -10,7 +10,7 @@ abbrev pub invariant-moves : goal.invariant-moves
 invariant-moves g l =
     let w = setting_of l.world.script.now (g.X.Device.meaning l.world.device.now) l.world.limit in
     OnWay w l.initial.machine l.to l.machine l.initial.steps l.steps × IsRested l.machine.sio × IsWhole l.crew
-    × (l.after_empty ≡ true → l.crew.begun ≡ begun l.machine)
+    × (l.crew.begun ≡ begun l.machine)
 
 abbrev pub decreases-moves : goal.decreases-moves
 decreases-moves g l = steps_left l.to l.machine l.after_empty

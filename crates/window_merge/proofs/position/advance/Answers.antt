@@ -4,14 +4,13 @@ use Rattle.rp_machine.specs.State.{State}
 use Rattle.rp_machine.specs.Cycle.{stop}
 use Rattle.window_merge.specs.Merging.{IsRested}
 use Rattle.window_merge.proofs.Passing.{unstopped_whole, no_cycle}
-use Rattle.window_merge.proofs.EmptyWindow.{begun_behind}
 use Rattle.window_merge.proofs.Resting.{rested_cycle, rested_states}
 use Rattle.window_merge.proofs.position.advance.Goals as goal
 
-pub returns-in-None-clause-rested : goal.returns-in-None-clause-rested
-returns-in-None-clause-rested g c =
+pub returns-clause-rested : goal.returns-clause-rested
+returns-clause-rested g c =
     let w = setting_of c.args.world.now.script.now (g.X.Device.meaning c.args.world.now.device.now) c.args.world.now.limit in
-    rested_cycle w c.args.machine.now c.cycle_after.new.machine _ c.requires.rested c.cycle_after.ensures.state
+    rested_cycle w c.args.machine.now c.cycle_of.new.self _ c.requires.rested c.cycle_of.ensures.state
 
 pub returns-then-length-gt0-clause-moved : goal.returns-then-length-gt0-clause-moved
 returns-then-length-gt0-clause-moved g c =
@@ -52,16 +51,3 @@ returns-in-None-stop_of-clause-rested g c =
     let w = setting_of c.args.world.now.script.now (g.X.Device.meaning c.args.world.now.device.now) c.args.world.now.limit in
     let family : State → Type 0 = λ s. IsRested s.sio in
     subst family (sym c.window-length.ensures.state) (rested_states w c.args.machine.now c.window-length.result c.requires.rested)
-
--- a window without a cycle left what the lanes begin in the next one
-pub stop_of-requires-after_bounds : goal.stop_of-requires-after_bounds
-stop_of-requires-after_bounds g c κs within =
-    let w = setting_of c.args.world.now.script.now (g.X.Device.meaning c.args.world.now.device.now) c.args.world.now.limit in
-    let none = c.if-length-gt0.false in
-    begun_behind w c.args.machine.now c.window-length.new.machine c.window-length.result _ c.window-length.ensures.state (omega (arith, none)) c.window-length.ensures.begun
-
-pub returns-in-None-stop_of-clause-begun : goal.returns-in-None-stop_of-clause-begun
-returns-in-None-stop_of-clause-begun g c =
-    let w = setting_of c.args.world.now.script.now (g.X.Device.meaning c.args.world.now.device.now) c.args.world.now.limit in
-    let none = c.if-length-gt0.false in
-    λ e. begun_behind w c.args.machine.now c.window-length.new.machine c.window-length.result _ c.window-length.ensures.state (omega (arith, none)) c.window-length.ensures.begun
