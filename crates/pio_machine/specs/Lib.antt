@@ -7,6 +7,7 @@ pub mod Start
 pub mod Flags
 pub mod Jump
 pub mod Input
+pub mod Out
 pub mod Output
 pub mod Queue
 pub mod Move

@@ -20,15 +20,30 @@ impl Machine1 {
         self.end(delay, outcome);
     }
 
-    /// Tries a word, the one at PC or the one that waits.
+    /// Tries a word by its operation.
     #[inline(never)]
     #[tactic(auto, unfolding(crate::specs::Cycle::after_try, crate::specs::Cycle::written_by_try))]
-    fn attempt(&mut self, word: u16, number: u8, seen: &Seen, done: &mut Done)
+    fn attempt_other(&mut self, word: u16, number: u8, seen: &Seen, done: &mut Done)
         requires { number < 4 }
         ensures machine { self.new ≡ after_try word number seen.now self.old }
         ensures done { done.new ≡ written_by_try word number seen.now self.old done.old }
     {
         self.attempt_op(word, decode_word(word), number, seen, done);
+    }
+
+    /// Tries a word, the one at PC or the one that waits.
+    #[inline(always)]
+    #[tactic(auto, using(crate::proofs::Outs::after_out_word, crate::proofs::Outs::written_with_out_word))]
+    fn attempt(&mut self, word: u16, number: u8, seen: &Seen, done: &mut Done)
+        requires { number < 4 }
+        ensures machine { self.new ≡ after_try word number seen.now self.old }
+        ensures done { done.new ≡ written_by_try word number seen.now self.old done.old }
+    {
+        if word / 8192 == 3 && word / 32 % 8 == 0 {
+            self.attempt_out(word, done);
+        } else {
+            self.attempt_other(word, number, seen, done);
+        }
     }
 
     /// The machine ticks in this cycle.
@@ -45,7 +60,9 @@ impl Machine1 {
         requires { ticks self.old ≡ true }
         ensures { self.new ≡ advanced self.old }
     {
-        self.acc = self.acc + self.divider() - 256;
+        if self.clkdiv != 0x0001_0000 {
+            self.acc = self.acc + self.divider() - 256;
+        }
     }
 
     /// The divider goes on in a cycle that is no tick.

@@ -14,6 +14,7 @@ pub mod laws;
 pub mod machine;
 mod moves;
 mod operation;
+mod out;
 mod pins;
 mod queue;
 mod shifting;
