@@ -5,5 +5,6 @@ pub mod Goes
 pub mod Once
 pub mod Outs
 pub mod Refills
+pub mod Ready
 pub mod Stream
 pub mod Sides

@@ -1,6 +1,7 @@
 pub mod Fields
 pub mod Bits
 pub mod Pins
+pub mod Ready
 pub mod Ending
 pub mod Progress
 pub mod Start

@@ -14,7 +14,7 @@ use pio_words::OutDestination;
 
 /// The count that bits 4:0 of an OUT say.
 #[inline(always)]
-fn count_of(word: u16) -> u8
+pub(crate) fn count_of(word: u16) -> u8
     ensures value { result ≡ count_at (word % 32) }
     ensures small { result ≤ 32 }
 {
@@ -53,7 +53,7 @@ impl Machine1 {
 
     /// Loads the OSR, where a word waits, before the word completes.
     #[inline(never)]
-    fn load_and_complete(&mut self, word: u16, done: &mut Done)
+    pub(crate) fn load_and_complete(&mut self, word: u16, done: &mut Done)
         ensures machine { self.new ≡ completed_by word (loaded self.old) }
         ensures done { done.new ≡ with_side word (loaded self.old) done.old }
     {
@@ -63,7 +63,7 @@ impl Machine1 {
 
     /// An OUT stalls.
     #[inline(never)]
-    fn out_starved(&mut self, word: u16, done: &mut Done)
+    pub(crate) fn out_starved(&mut self, word: u16, done: &mut Done)
         ensures machine { self.new ≡ starved self.old.tx self.old }
         ensures done { done.new ≡ with_side word (starved self.old.tx self.old) done.old }
     {
