@@ -18,8 +18,8 @@ pub(crate) fn count_of(word: u16) -> u8
     ensures value { result ≡ count_at (word % 32) }
     ensures small { result ≤ 32 }
 {
-    let low = (word % 32) as u8;
-    if low == 0 { 32 } else { low }
+    let low = u32::from(word) % 32;
+    (if low == 0 { 32 } else { low }) as u8
 }
 
 impl Machine1 {

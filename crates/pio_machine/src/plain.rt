@@ -39,7 +39,7 @@ impl Machine1 {
         requires { settings.now ≡ settings_of self.now }
         ensures { result ≡ out_stalls self.now }
     {
-        settings.limit <= u16::from(self.osr_count)
+        settings.limit <= u32::from(self.osr_count)
     }
 
     /// The word at PC is followed by the next one.

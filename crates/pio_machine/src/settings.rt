@@ -12,7 +12,7 @@ pub struct Settings {
     /// The pins that OUT writes, pin 0 in bit 0.
     pub out_mask: u32,
     /// Under autopull the OSR is spent from this count on, 1 to 32; without it 256, which no count reaches.
-    pub limit: u16,
+    pub limit: u32,
     /// WRAP_TOP.
     pub top: u8,
     /// WRAP_BOTTOM.
@@ -22,11 +22,11 @@ pub struct Settings {
 }
 
 /// The count of bits shifted out from which on the OSR is loaded.
-fn limit(machine: &Machine1) -> u16
+fn limit(machine: &Machine1) -> u32
     ensures { result ≡ limit machine.now }
 {
     if machine.autopull() {
-        u16::from(machine.pull_threshold())
+        u32::from(machine.pull_threshold())
     } else {
         256
     }
