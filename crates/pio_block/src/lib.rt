@@ -4,6 +4,7 @@
 
 pub mod block;
 pub mod inputs;
+mod kept;
 mod lane;
 pub mod laws;
 mod machine;

@@ -1,16 +1,17 @@
 //! The four machines of a block.
 
-use crate::machine::{clear_stalls, control, is_running, send, take, write_register};
-use pio_machine::{Done, Machine1, Seen, tick};
+use crate::kept::Kept;
+use crate::machine::is_running;
+use pio_machine::{Done, Machine1, Seen};
 use std::marker::Model;
 
 /// Four machines, seen as their list from number 0 on.
 #[derive(Drop)]
 pub(crate) struct Machines {
-    first: Machine1,
-    second: Machine1,
-    third: Machine1,
-    fourth: Machine1,
+    first: Kept,
+    second: Kept,
+    third: Kept,
+    fourth: Kept,
 }
 
 impl Model for Machines {
@@ -38,10 +39,10 @@ impl Machines {
         ensures { result ≡ replicate 4 at_reset }
     {
         Machines {
-            first: Machine1::new(),
-            second: Machine1::new(),
-            third: Machine1::new(),
-            fourth: Machine1::new(),
+            first: Kept::new(),
+            second: Kept::new(),
+            third: Kept::new(),
+            fourth: Kept::new(),
         }
     }
 
@@ -51,10 +52,10 @@ impl Machines {
         ensures { result.now ≡ machine_of number self.now }
     {
         match number {
-            0 => &self.first,
-            1 => &self.second,
-            2 => &self.third,
-            _ => &self.fourth,
+            0 => self.first.machine(),
+            1 => self.second.machine(),
+            2 => self.third.machine(),
+            _ => self.fourth.machine(),
         }
     }
 
@@ -62,10 +63,10 @@ impl Machines {
     pub(crate) fn is_busy(&self) -> bool
         ensures { result ≡ list_any is_running self.now }
     {
-        is_running(&self.first)
-            || is_running(&self.second)
-            || is_running(&self.third)
-            || is_running(&self.fourth)
+        is_running(self.first.machine())
+            || is_running(self.second.machine())
+            || is_running(self.third.machine())
+            || is_running(self.fourth.machine())
     }
 
     /// A cycle of all machines.
@@ -74,30 +75,30 @@ impl Machines {
         ensures machines { self.new ≡ all_stepped seen.now self.old }
         ensures done { done.new ≡ written_from 0 seen.now self.old done.old }
     {
-        tick(&mut self.first, 0, seen, done);
-        tick(&mut self.second, 1, seen, done);
-        tick(&mut self.third, 2, seen, done);
-        tick(&mut self.fourth, 3, seen, done);
+        self.first.tick(0, seen, done);
+        self.second.tick(1, seen, done);
+        self.third.tick(2, seen, done);
+        self.fourth.tick(3, seen, done);
     }
 
     /// A write of CTRL.
     pub(crate) fn control(&mut self, word: u32)
         ensures { self.new ≡ each (controlled word) self.old }
     {
-        control(&mut self.first, 0, word);
-        control(&mut self.second, 1, word);
-        control(&mut self.third, 2, word);
-        control(&mut self.fourth, 3, word);
+        self.first.control(0, word);
+        self.second.control(1, word);
+        self.third.control(2, word);
+        self.fourth.control(3, word);
     }
 
     /// A write of FDEBUG.
     pub(crate) fn clear_stalls(&mut self, word: u32)
         ensures { self.new ≡ each (with_stalls_cleared word) self.old }
     {
-        clear_stalls(&mut self.first, 0, word);
-        clear_stalls(&mut self.second, 1, word);
-        clear_stalls(&mut self.third, 2, word);
-        clear_stalls(&mut self.fourth, 3, word);
+        self.first.clear_stalls(0, word);
+        self.second.clear_stalls(1, word);
+        self.third.clear_stalls(2, word);
+        self.fourth.clear_stalls(3, word);
     }
 
     /// A write of TXF.
@@ -106,10 +107,10 @@ impl Machines {
         ensures { self.new ≡ changed number (with_sent word) self.old }
     {
         match number {
-            0 => send(&mut self.first, word),
-            1 => send(&mut self.second, word),
-            2 => send(&mut self.third, word),
-            _ => send(&mut self.fourth, word),
+            0 => self.first.send(word),
+            1 => self.second.send(word),
+            2 => self.third.send(word),
+            _ => self.fourth.send(word),
         }
     }
 
@@ -119,10 +120,10 @@ impl Machines {
         ensures { self.new ≡ changed number with_taken self.old }
     {
         match number {
-            0 => take(&mut self.first),
-            1 => take(&mut self.second),
-            2 => take(&mut self.third),
-            _ => take(&mut self.fourth),
+            0 => self.first.take(),
+            1 => self.second.take(),
+            2 => self.third.take(),
+            _ => self.fourth.take(),
         }
     }
 
@@ -132,10 +133,10 @@ impl Machines {
         ensures { self.new ≡ changed number (register_written offset word) self.old }
     {
         match number {
-            0 => write_register(&mut self.first, offset, word),
-            1 => write_register(&mut self.second, offset, word),
-            2 => write_register(&mut self.third, offset, word),
-            _ => write_register(&mut self.fourth, offset, word),
+            0 => self.first.write_register(offset, word),
+            1 => self.second.write_register(offset, word),
+            2 => self.third.write_register(offset, word),
+            _ => self.fourth.write_register(offset, word),
         }
     }
 

@@ -13,7 +13,7 @@ use Rattle.pio_machine.proofs.Goes.{Goes, goes, next_goes, stays, goes-refill, g
 -- ---- a cycle
 
 goes-passed : (ticked : Bool) (m : Machine1) → Goes m (passed ticked m)
-goes-passed true m = next_goes (goes m _ refl refl refl refl refl refl) (goes-refill (record m { delay = m.delay - 1 }))
+goes-passed true m = next_goes (goes m _ refl refl refl refl refl refl refl refl) (goes-refill (record m { delay = m.delay - 1 }))
 goes-passed false m = stays m
 
 goes-word : (word : Option ℕ) (ticked : Bool) (number : ℕ) (seen : Seen) (m : Machine1) → Goes m (after_word word ticked number seen m)
@@ -44,7 +44,7 @@ enabled-kept : (b : Bool) (m : Machine1) (a : ℕ) → (if b then record m { acc
 enabled-kept true m a = refl
 enabled-kept false m a = refl
 
-clkdiv-kept : (b : Bool) (m : Machine1) (a : ℕ) → (if b then record m { acc = a } else m).clkdiv ≡ m.clkdiv
+pub clkdiv-kept : (b : Bool) (m : Machine1) (a : ℕ) → (if b then record m { acc = a } else m).clkdiv ≡ m.clkdiv
 clkdiv-kept true m a = refl
 clkdiv-kept false m a = refl
 

@@ -31,11 +31,13 @@ use Rattle.pio_machine.specs.Move.{mov_value, with_moved}
 use Rattle.pio_machine.specs.Operation.{tried, loads_osr, stepped_past, stepped, ended}
 use Rattle.pio_machine.specs.Cycle.{worked, after_op, after_try}
 
--- the enable, CLKDIV, SHIFTCTRL and the divider stay; TX loses words at most, and RX grows to its depth at most
+-- the enable, the registers and the divider stay; TX loses words at most, and RX grows to its depth at most
 pub record Goes (m next : Machine1) : Type 0 where
   pub enabled : next.enabled ≡ m.enabled
   pub clkdiv : next.clkdiv ≡ m.clkdiv
+  pub execctrl : next.execctrl ≡ m.execctrl
   pub shiftctrl : next.shiftctrl ≡ m.shiftctrl
+  pub pinctrl : next.pinctrl ≡ m.pinctrl
   pub acc : next.acc ≡ m.acc
   pub tx : length next.tx ≤ length m.tx
   pub rx : length next.rx ≤ max (length m.rx) (rx_depth m)
@@ -46,9 +48,9 @@ same_length xs ys h = omega (arith, ap (λ zs. length zs) h)
 below_both : (xs ys : List ℕ) (d : ℕ) → ys ≡ xs → length ys ≤ max (length xs) d
 below_both xs ys d h = omega (arith, ap (λ zs. length zs) h)
 
-pub goes : (m next : Machine1) → next.enabled ≡ m.enabled → next.clkdiv ≡ m.clkdiv → next.shiftctrl ≡ m.shiftctrl → next.acc ≡ m.acc → next.tx ≡ m.tx → next.rx ≡ m.rx → Goes m next
-goes m next e c s a t r =
-    record { enabled = e; clkdiv = c; shiftctrl = s; acc = a; tx = same_length m.tx next.tx t; rx = below_both m.rx next.rx (rx_depth m) r }
+pub goes : (m next : Machine1) → next.enabled ≡ m.enabled → next.clkdiv ≡ m.clkdiv → next.execctrl ≡ m.execctrl → next.shiftctrl ≡ m.shiftctrl → next.pinctrl ≡ m.pinctrl → next.acc ≡ m.acc → next.tx ≡ m.tx → next.rx ≡ m.rx → Goes m next
+goes m next e c x s p a t r =
+    record { enabled = e; clkdiv = c; execctrl = x; shiftctrl = s; pinctrl = p; acc = a; tx = same_length m.tx next.tx t; rx = below_both m.rx next.rx (rx_depth m) r }
 
 both_below : (a b c d e : ℕ) → c ≤ max b e → b ≤ max a d → e ≡ d → c ≤ max a d
 both_below a b c d e h k s = omega arith
@@ -64,14 +66,16 @@ next_goes {a} {b} {c} g h =
     record {
       enabled = h.enabled ∙ g.enabled;
       clkdiv = h.clkdiv ∙ g.clkdiv;
+      execctrl = h.execctrl ∙ g.execctrl;
       shiftctrl = h.shiftctrl ∙ g.shiftctrl;
+      pinctrl = h.pinctrl ∙ g.pinctrl;
       acc = h.acc ∙ g.acc;
       tx = through (length a.tx) (length b.tx) (length c.tx) h.tx g.tx;
       rx = both_below (length a.rx) (length b.rx) (length c.rx) (rx_depth a) (rx_depth b) h.rx g.rx (same_depth a b g.shiftctrl);
     }
 
 pub stays : (m : Machine1) → Goes m m
-stays m = goes m m refl refl refl refl refl refl
+stays m = goes m m refl refl refl refl refl refl refl refl
 
 -- ---- the FIFOs
 
@@ -81,7 +85,7 @@ shorter w rest ws h = omega (arith, ap (λ zs. length zs) h)
 goes-load : (ws : List ℕ) (m : Machine1) → m.tx ≡ ws → Goes m (loaded_from ws m)
 goes-load [] m h = stays m
 goes-load (w ∷ rest) m h =
-    record { enabled = refl; clkdiv = refl; shiftctrl = refl; acc = refl; tx = shorter w rest m.tx h; rx = below_both m.rx m.rx (rx_depth m) refl }
+    record { enabled = refl; clkdiv = refl; execctrl = refl; shiftctrl = refl; pinctrl = refl; acc = refl; tx = shorter w rest m.tx h; rx = below_both m.rx m.rx (rx_depth m) refl }
 
 goes-refill-by : (b c : Bool) (m : Machine1) → Goes m (if b then (if c then loaded m else m) else m)
 goes-refill-by true true m = goes-load m.tx m refl
@@ -103,35 +107,37 @@ goes-push m h =
     record {
       enabled = refl;
       clkdiv = refl;
+      execctrl = refl;
       shiftctrl = refl;
+      pinctrl = refl;
       acc = refl;
       tx = same_length m.tx m.tx refl;
       rx = has_place (rx_depth m) (length m.rx) (length (m.rx ++ m.isr ∷ [])) h (grown m.rx m.isr);
     }
 
 goes-keep : (w : Option Waiting) (p : Progress) (m : Machine1) → Goes m (kept_in w p m)
-goes-keep None p m = goes m _ refl refl refl refl refl refl
-goes-keep (Some w) p m = goes m _ refl refl refl refl refl refl
+goes-keep None p m = goes m _ refl refl refl refl refl refl refl refl
+goes-keep (Some w) p m = goes m _ refl refl refl refl refl refl refl refl
 
 -- ---- the operations
 
 goes-jmp : (condition : JmpCondition) (m : Machine1) → Goes m (after_jmp condition m)
 goes-jmp jump.Always m = stays m
 goes-jmp jump.XZero m = stays m
-goes-jmp jump.XDecrement m = goes m _ refl refl refl refl refl refl
+goes-jmp jump.XDecrement m = goes m _ refl refl refl refl refl refl refl refl
 goes-jmp jump.YZero m = stays m
-goes-jmp jump.YDecrement m = goes m _ refl refl refl refl refl refl
+goes-jmp jump.YDecrement m = goes m _ refl refl refl refl refl refl refl refl
 goes-jmp jump.XNotY m = stays m
 goes-jmp jump.Pin m = stays m
 goes-jmp jump.OsrNotEmpty m = stays m
 
 goes-shift : (before : Bool) (value count : ℕ) (m : Machine1) → Goes m (if before then m else shifted_in value count m)
 goes-shift true v c m = stays m
-goes-shift false v c m = goes m _ refl refl refl refl refl refl
+goes-shift false v c m = goes m _ refl refl refl refl refl refl refl refl
 
 goes-autopush : (pushes full : Bool) (m : Machine1) → is_rx_full m ≡ full
     → Goes m (if pushes then (if full then stalled (with_rx_stall (with_shifted m)) else completed (pushed m)) else completed m).machine
-goes-autopush true true m h = next_goes (goes-keep m.waiting _ m) (goes _ _ refl refl refl refl refl refl)
+goes-autopush true true m h = next_goes (goes-keep m.waiting _ m) (goes _ _ refl refl refl refl refl refl refl refl)
 goes-autopush true false m h = goes-push m h
 goes-autopush false full m h = stays m
 
@@ -141,22 +147,22 @@ goes-in source count seen m =
     next_goes (goes-shift (progress_of m).shifted _ _ m) (goes-autopush _ _ (shifted_once source count seen m) refl)
 
 goes-starve : (ws : List ℕ) (m : Machine1) → m.tx ≡ ws → Goes m (starved ws m)
-goes-starve [] m h = goes m _ refl refl refl refl refl refl
+goes-starve [] m h = goes m _ refl refl refl refl refl refl refl refl
 goes-starve (w ∷ rest) m h = goes-load m.tx m refl
 
 goes-put : (destination : OutDestination) (value count : ℕ) (m : Machine1) → Goes m (with_out destination value count m)
 goes-put out.Pins v c m = stays m
-goes-put out.X v c m = goes m _ refl refl refl refl refl refl
-goes-put out.Y v c m = goes m _ refl refl refl refl refl refl
+goes-put out.X v c m = goes m _ refl refl refl refl refl refl refl refl
+goes-put out.Y v c m = goes m _ refl refl refl refl refl refl refl refl
 goes-put out.Null v c m = stays m
 goes-put out.Pindirs v c m = stays m
 goes-put out.Pc v c m = stays m
-goes-put out.Isr v c m = goes m _ refl refl refl refl refl refl
+goes-put out.Isr v c m = goes m _ refl refl refl refl refl refl refl refl
 goes-put out.Exec v c m = stays m
 
 goes-out-done : (destination : OutDestination) (count : ℕ) (m : Machine1) → Goes m (out_done destination count m).machine
 goes-out-done destination count m =
-    next_goes (next_goes (goes m (shifted_out count m) refl refl refl refl refl refl) (goes-put destination (out_value count m) count (shifted_out count m)))
+    next_goes (next_goes (goes m (shifted_out count m) refl refl refl refl refl refl refl refl) (goes-put destination (out_value count m) count (shifted_out count m)))
     (goes-refill (with_out destination (out_value count m) count (shifted_out count m)))
 
 goes-out-by : (b : Bool) (destination : OutDestination) (count : ℕ) (m : Machine1)
@@ -170,8 +176,8 @@ goes-out destination count m = goes-out-by (out_stalls m) destination _ m
 
 goes-push-now : (full block : Bool) (m : Machine1) → is_rx_full m ≡ full
     → Goes m (if full then (if block then stalled (with_rx_stall m) else completed (with_isr_cleared (with_rx_stall m))) else completed (pushed m)).machine
-goes-push-now true true m h = goes m _ refl refl refl refl refl refl
-goes-push-now true false m h = goes m _ refl refl refl refl refl refl
+goes-push-now true true m h = goes m _ refl refl refl refl refl refl refl refl
+goes-push-now true false m h = goes m _ refl refl refl refl refl refl refl refl
 goes-push-now false block m h = goes-push m h
 
 goes-push-by : (b block : Bool) (m : Machine1) → Goes m (if b then completed m else try_push_now block m).machine
@@ -183,8 +189,8 @@ unfolding try_push
 goes-try-push if_full block m = goes-push-by (if_full && nat_lt m.isr_count (push_threshold m)) block m
 
 goes-pull-from : (ws : List ℕ) (block : Bool) (m : Machine1) → m.tx ≡ ws → Goes m (pulled_from ws block m).machine
-goes-pull-from [] true m h = goes m _ refl refl refl refl refl refl
-goes-pull-from [] false m h = goes m _ refl refl refl refl refl refl
+goes-pull-from [] true m h = goes m _ refl refl refl refl refl refl refl refl
+goes-pull-from [] false m h = goes m _ refl refl refl refl refl refl refl refl
 goes-pull-from (w ∷ rest) block m h = goes-load m.tx m refl
 
 goes-pull-by : (b block : Bool) (m : Machine1) → Goes m (if b then completed m else pulled_from m.tx block m).machine
@@ -197,12 +203,12 @@ goes-pull if_empty block m = goes-pull-by (is_pull_void if_empty m) block m
 
 goes-mov : (destination : MovDestination) (value : ℕ) (m : Machine1) → Goes m (with_moved destination value m)
 goes-mov moved.Pins v m = stays m
-goes-mov moved.X v m = goes m _ refl refl refl refl refl refl
-goes-mov moved.Y v m = goes m _ refl refl refl refl refl refl
+goes-mov moved.X v m = goes m _ refl refl refl refl refl refl refl refl
+goes-mov moved.Y v m = goes m _ refl refl refl refl refl refl refl refl
 goes-mov moved.Exec v m = stays m
 goes-mov moved.Pc v m = stays m
-goes-mov moved.Isr v m = goes m _ refl refl refl refl refl refl
-goes-mov moved.Osr v m = goes m _ refl refl refl refl refl refl
+goes-mov moved.Isr v m = goes m _ refl refl refl refl refl refl refl refl
+goes-mov moved.Osr v m = goes m _ refl refl refl refl refl refl refl refl
 
 goes-irq : (waits : Bool) (m : Machine1) → Goes m (if waits then with_raised m else m)
 goes-irq true m = goes-keep m.waiting _ m
@@ -210,8 +216,8 @@ goes-irq false m = stays m
 
 goes-set : (destination : SetDestination) (value : ℕ) (m : Machine1) → Goes m (after_set destination value m)
 goes-set set.Pins v m = stays m
-goes-set set.X v m = goes m _ refl refl refl refl refl refl
-goes-set set.Y v m = goes m _ refl refl refl refl refl refl
+goes-set set.X v m = goes m _ refl refl refl refl refl refl refl refl
+goes-set set.Y v m = goes m _ refl refl refl refl refl refl refl refl
 goes-set set.Pindirs v m = stays m
 
 goes-op : (op : PioOp) (number : ℕ) (seen : Seen) (m : Machine1) → Goes m (tried op number seen m).machine
@@ -233,15 +239,15 @@ goes-autopull-by true m = stays m
 goes-autopull-by false m = goes-refill m
 
 goes-past : (w : Option Waiting) (m : Machine1) → Goes m (stepped_past w m)
-goes-past None m = goes m _ refl refl refl refl refl refl
-goes-past (Some w) m = goes m _ refl refl refl refl refl refl
+goes-past None m = goes m _ refl refl refl refl refl refl refl refl
+goes-past (Some w) m = goes m _ refl refl refl refl refl refl refl refl
 
 goes-end : (delay : ℕ) (e : Ending) (m : Machine1) → Goes m (ended delay e m)
 unfolding ended
 goes-end delay Stalled m = stays m
-goes-end delay Completed m = next_goes (goes-past m.waiting m) (goes (stepped m) _ refl refl refl refl refl refl)
-goes-end delay (Jumped address) m = goes m _ refl refl refl refl refl refl
-goes-end delay (Executes word) m = next_goes (goes-past m.waiting m) (goes (stepped m) _ refl refl refl refl refl refl)
+goes-end delay Completed m = next_goes (goes-past m.waiting m) (goes (stepped m) _ refl refl refl refl refl refl refl refl)
+goes-end delay (Jumped address) m = goes m _ refl refl refl refl refl refl refl refl
+goes-end delay (Executes word) m = next_goes (goes-past m.waiting m) (goes (stepped m) _ refl refl refl refl refl refl refl refl)
 
 goes-worked : (op : PioOp) (number : ℕ) (seen : Seen) (m : Machine1) → Goes m (worked op number seen m)
 goes-worked op number seen m = next_goes (goes-op op number seen m) (goes-autopull-by (loads_osr op) (tried op number seen m).machine)

@@ -3,6 +3,8 @@ pub mod Comparisons
 pub mod Drives
 pub mod Goes
 pub mod Once
+pub mod Outs
 pub mod Refills
+pub mod Ready
 pub mod Stream
 pub mod Sides

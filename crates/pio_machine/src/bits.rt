@@ -74,5 +74,5 @@ pub(crate) fn entered(right: bool, count: u8, value: u32, word: u32) -> u32
 pub(crate) fn counted(before: u8, count: u8) -> u8
     ensures { result ≡ counted before count }
 {
-    (u16::from(before) + u16::from(count)).min(32) as u8
+    (u32::from(before) + u32::from(count)).min(32) as u8
 }

@@ -2,8 +2,10 @@
 
 ghost use Rattle.std.specs.Prelude.{◌≡◌, ◌<◌, true, false, Some, None};
 ghost use Rattle.pio_machine.specs.Cycle.{after_op, written_with_side, after_try, written_by_try, ticks, advanced, delayed, after_cycle, written_in_cycle};
+ghost use Rattle.pio_machine.specs.Ready.{settings_of};
 
 use crate::machine::{Done, Machine1, Seen, Waiting};
+use crate::settings::Settings;
 use pio_words::{PioOp, decode_word};
 
 impl Machine1 {
@@ -20,15 +22,30 @@ impl Machine1 {
         self.end(delay, outcome);
     }
 
-    /// Tries a word, the one at PC or the one that waits.
+    /// Tries a word by its operation.
     #[inline(never)]
     #[tactic(auto, unfolding(crate::specs::Cycle::after_try, crate::specs::Cycle::written_by_try))]
-    fn attempt(&mut self, word: u16, number: u8, seen: &Seen, done: &mut Done)
+    pub(crate) fn attempt_other(&mut self, word: u16, number: u8, seen: &Seen, done: &mut Done)
         requires { number < 4 }
         ensures machine { self.new ≡ after_try word number seen.now self.old }
         ensures done { done.new ≡ written_by_try word number seen.now self.old done.old }
     {
         self.attempt_op(word, decode_word(word), number, seen, done);
+    }
+
+    /// Tries a word, the one at PC or the one that waits.
+    #[inline(always)]
+    #[tactic(auto, using(crate::proofs::Outs::after_out_word, crate::proofs::Outs::written_with_out_word))]
+    fn attempt(&mut self, word: u16, number: u8, seen: &Seen, done: &mut Done)
+        requires { number < 4 }
+        ensures machine { self.new ≡ after_try word number seen.now self.old }
+        ensures done { done.new ≡ written_by_try word number seen.now self.old done.old }
+    {
+        if word / 8192 == 3 && word / 32 % 8 == 0 {
+            self.attempt_out(word, done);
+        } else {
+            self.attempt_other(word, number, seen, done);
+        }
     }
 
     /// The machine ticks in this cycle.
@@ -45,7 +62,9 @@ impl Machine1 {
         requires { ticks self.old ≡ true }
         ensures { self.new ≡ advanced self.old }
     {
-        self.acc = self.acc + self.divider() - 256;
+        if self.clkdiv != 0x0001_0000 {
+            self.acc = self.acc + self.divider() - 256;
+        }
     }
 
     /// The divider goes on in a cycle that is no tick.
@@ -88,7 +107,7 @@ impl Machine1 {
     }
 
     /// A tick in which no word waits.
-    #[inline(always)]
+    #[inline(never)]
     #[tactic(auto, unfolding(crate::specs::Cycle::after_cycle, crate::specs::Cycle::written_in_cycle, crate::specs::Cycle::word_tried))]
     fn tick_at_pc(&mut self, number: u8, seen: &Seen, done: &mut Done)
         requires number { number < 4 }
@@ -107,7 +126,7 @@ impl Machine1 {
 
     /// A tick of the delay passes.
     #[inline(always)]
-    fn pass_delay(&mut self)
+    pub(crate) fn pass_delay(&mut self)
         ensures { self.new ≡ delayed self.old }
     {
         self.delay = self.delay.saturating_sub(1);
@@ -115,20 +134,43 @@ impl Machine1 {
     }
 }
 
+/// One cycle of the machine of that number, 0 to 3, whose registers say this. It adds to what the machines before it have
+/// written in this cycle, and wins over them.
+#[inline(always)]
+#[tactic(auto, unfolding(crate::specs::Cycle::after_cycle, crate::specs::Cycle::written_in_cycle, crate::specs::Cycle::word_tried), using(crate::proofs::Ready::settings_kept))]
+pub fn tick_by(
+    machine: &mut Machine1,
+    settings: &Settings,
+    number: u8,
+    seen: &Seen,
+    done: &mut Done,
+)
+    requires number { number < 4 }
+    requires settings { settings.now ≡ settings_of machine.old }
+    ensures machine { machine.new ≡ after_cycle number seen.now machine.old }
+    ensures done { done.new ≡ written_in_cycle number seen.now machine.old done.old }
+    ensures settings { settings_of machine.new ≡ settings_of machine.old }
+{
+    if let Some(waiting) = machine.waiting {
+        machine.cycle_waiting(waiting, number, seen, done);
+    } else if machine.ticks() {
+        if settings.plain {
+            machine.tick_plain(settings, number, seen, done);
+        } else {
+            machine.tick_at_pc(number, seen, done);
+        }
+    } else {
+        machine.count_down();
+    }
+}
+
 /// One cycle of the machine of that number, 0 to 3, which adds to what the machines before it have written in this cycle,
 /// and wins over them.
-#[tactic(auto, unfolding(crate::specs::Cycle::after_cycle, crate::specs::Cycle::written_in_cycle, crate::specs::Cycle::word_tried))]
-#[inline(always)]
 pub fn tick(machine: &mut Machine1, number: u8, seen: &Seen, done: &mut Done)
     requires { number < 4 }
     ensures machine { machine.new ≡ after_cycle number seen.now machine.old }
     ensures done { done.new ≡ written_in_cycle number seen.now machine.old done.old }
 {
-    if let Some(waiting) = machine.waiting {
-        machine.cycle_waiting(waiting, number, seen, done);
-    } else if machine.ticks() {
-        machine.tick_at_pc(number, seen, done);
-    } else {
-        machine.count_down();
-    }
+    let settings = Settings::of(machine);
+    tick_by(machine, &settings, number, seen, done);
 }

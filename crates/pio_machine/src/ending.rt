@@ -19,7 +19,7 @@ impl Machine1 {
     }
 
     /// The word at PC is followed by the next one, and a waiting one is gone.
-    fn step(&mut self)
+    pub(crate) fn step(&mut self)
         ensures { self.new ≡ stepped self.old }
     {
         if self.waiting.is_some() {

@@ -14,10 +14,13 @@ pub mod laws;
 pub mod machine;
 mod moves;
 mod operation;
+mod out;
 mod pins;
+mod plain;
 mod queue;
+pub mod settings;
 mod shifting;
 
-pub use cycle::tick;
+pub use cycle::{tick, tick_by};
 pub use fifo::Fifo;
 pub use machine::{Done, Machine1, Progress, Seen, Waiting};

@@ -26,7 +26,7 @@ fn loads_osr(op: PioOp) -> bool
 }
 
 /// The five bits of a word for side-set and delay.
-fn side_field(word: u16) -> u8
+pub(crate) fn side_field(word: u16) -> u8
     ensures value { result ≡ side_field word }
     ensures small { result < 32 }
 {
@@ -35,7 +35,7 @@ fn side_field(word: u16) -> u8
 
 /// Two words of pins have 32 bits.
 #[inline(always)]
-fn have_32_bits(levels: u32, enables: u32)
+pub(crate) fn have_32_bits(levels: u32, enables: u32)
     ensures levels { levels < 2 ^ 32 }
     ensures enables { enables < 2 ^ 32 }
 {
@@ -91,7 +91,7 @@ impl Machine1 {
 
     /// No bit of a word is for side-set.
     #[inline(always)]
-    fn has_no_side(&self) -> bool
+    pub(crate) fn has_no_side(&self) -> bool
         ensures { result ≡ true → side_count self.now ≡ 0 }
     {
         self.pinctrl < 0x2000_0000

@@ -25,7 +25,7 @@ impl Machine1 {
 }
 
 /// So many pins from a base on.
-fn pins_from(base: u32, count: u8) -> u32
+pub(crate) fn pins_from(base: u32, count: u8) -> u32
     requires { count ≤ 32 }
     ensures { result ≡ pins_from base count }
 {
@@ -40,14 +40,23 @@ fn overlaid(mask: u32, bits: u32, word: u32) -> u32
 }
 
 impl Done {
+    /// Writes the levels of so many pins from a base on, where this is their mask.
+    #[inline(always)]
+    pub(crate) fn write_levels_by(&mut self, mask: u32, base: u32, count: u8, value: u32)
+        requires { mask ≡ pins_from base count }
+        ensures { self.new ≡ with_levels base count value self.old }
+    {
+        let _ = count;
+        self.levels = overlaid(mask, value.rotate_left(base), self.levels);
+        self.level_mask |= mask;
+    }
+
     /// Writes the levels of so many pins from a base on.
     pub(crate) fn write_levels(&mut self, base: u32, count: u8, value: u32)
         requires { count ≤ 32 }
         ensures { self.new ≡ with_levels base count value self.old }
     {
-        let mask = pins_from(base, count);
-        self.levels = overlaid(mask, value.rotate_left(base), self.levels);
-        self.level_mask |= mask;
+        self.write_levels_by(pins_from(base, count), base, count, value);
     }
 
     /// Writes the enables of so many pins from a base on.

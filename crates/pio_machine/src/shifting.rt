@@ -70,7 +70,7 @@ impl Machine1 {
 
     /// Bits leave the OSR.
     #[inline(always)]
-    fn shift_out(&mut self, count: u8) -> u32
+    pub(crate) fn shift_out(&mut self, count: u8) -> u32
         requires { count ≤ 32 }
         ensures value { result ≡ out_value count self.old }
         ensures machine { self.new ≡ shifted_out count self.old }
@@ -113,14 +113,14 @@ impl Machine1 {
     }
 
     /// Under autopull an OUT of a spent OSR stalls.
-    fn out_stalls(&self) -> bool
+    pub(crate) fn out_stalls(&self) -> bool
         ensures { result ≡ out_stalls self.now }
     {
         self.autopull() && self.is_spent()
     }
 
     /// An OUT that stalls loads the OSR, or tells that no word waits.
-    fn starve(&mut self)
+    pub(crate) fn starve(&mut self)
         ensures { self.new ≡ starved self.old.tx self.old }
     {
         match self.tx.pull() {

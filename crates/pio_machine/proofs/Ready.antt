@@ -1,0 +1,27 @@
+-- No cycle changes what the registers say.
+use Rattle.std.proofs.Common.{◌≡◌, ◌∙◌, ℕ, Bool, true, false, if◌then◌else◌, refl}
+use Rattle.pio_machine.specs.declared.machine.Machine1.{Machine1}
+use Rattle.pio_machine.specs.declared.machine.Seen.{Seen}
+use Rattle.pio_machine.specs.Cycle.{divided, after_cycle}
+use Rattle.pio_machine.specs.Ready.{settings_of}
+use Rattle.pio_machine.proofs.Clock.{goes-cycle, clkdiv-kept, shiftctrl-kept}
+
+execctrl-kept : (b : Bool) (m : Machine1) (a : ℕ) → (if b then record m { acc = a } else m).execctrl ≡ m.execctrl
+execctrl-kept true m a = refl
+execctrl-kept false m a = refl
+
+pinctrl-kept : (b : Bool) (m : Machine1) (a : ℕ) → (if b then record m { acc = a } else m).pinctrl ≡ m.pinctrl
+pinctrl-kept true m a = refl
+pinctrl-kept false m a = refl
+
+same_settings : (m next : Machine1) → next.clkdiv ≡ m.clkdiv → next.execctrl ≡ m.execctrl → next.shiftctrl ≡ m.shiftctrl → next.pinctrl ≡ m.pinctrl → settings_of next ≡ settings_of m
+same_settings m next c e s p = rw c (rw e (rw s (rw p refl)))
+
+pub settings_kept : (number : ℕ) (seen : Seen) (m : Machine1) → settings_of (after_cycle number seen m) ≡ settings_of m
+settings_kept number seen m =
+    let g = goes-cycle number seen m in
+    same_settings m (after_cycle number seen m)
+    (g.clkdiv ∙ clkdiv-kept m.enabled m (divided m))
+    (g.execctrl ∙ execctrl-kept m.enabled m (divided m))
+    (g.shiftctrl ∙ shiftctrl-kept m.enabled m (divided m))
+    (g.pinctrl ∙ pinctrl-kept m.enabled m (divided m))

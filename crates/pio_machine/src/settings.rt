@@ -1,0 +1,48 @@
+//! What the registers of a machine say, ready to be used.
+
+ghost use Rattle.std.specs.Prelude.{◌≡◌};
+ghost use Rattle.pio_machine.specs.Ready.{limit, settings_of};
+
+use crate::machine::Machine1;
+use crate::pins::pins_from;
+
+/// What the registers of a machine say.
+#[derive(Clone, Copy)]
+pub struct Settings {
+    /// The pins that OUT writes, pin 0 in bit 0.
+    pub out_mask: u32,
+    /// Under autopull the OSR is spent from this count on, 1 to 32; without it 256, which no count reaches.
+    pub limit: u32,
+    /// WRAP_TOP.
+    pub top: u8,
+    /// WRAP_BOTTOM.
+    pub bottom: u8,
+    /// The machine ticks in each cycle, and no bit of a word is for side-set.
+    pub plain: bool,
+}
+
+/// The count of bits shifted out from which on the OSR is loaded.
+fn limit(machine: &Machine1) -> u32
+    ensures { result ≡ limit machine.now }
+{
+    if machine.autopull() {
+        u32::from(machine.pull_threshold())
+    } else {
+        256
+    }
+}
+
+impl Settings {
+    /// What the registers of this machine say.
+    pub fn of(machine: &Machine1) -> Settings
+        ensures { result ≡ settings_of machine.now }
+    {
+        Settings {
+            out_mask: pins_from(machine.out_base(), machine.out_count()),
+            limit: limit(machine),
+            top: machine.wrap_top(),
+            bottom: machine.wrap_bottom(),
+            plain: machine.clkdiv == 0x0001_0000 && machine.pinctrl < 0x2000_0000,
+        }
+    }
+}
