@@ -123,6 +123,7 @@ impl Engine {
 
 impl Engine {
     /// What the engine asks in a cycle, and what it has begun then.
+    #[inline(never)]
     #[tactic(auto, unfolding(crate::specs::Asks::asks))]
     pub(crate) fn ask<K: Look>(&self, look: &mut K) -> BegunTransfer
         ensures { Runs K.answers look.old (asks self.now) result look.new }

@@ -69,7 +69,7 @@ fn are_idle_timers(timers: &[PacingTimer; 4]) -> bool
 
 /// Which timers give a credit.
 #[tactic(auto, using(crate::proofs::Four::four))]
-fn given_by(timers: &[PacingTimer; 4]) -> [bool; 4]
+pub(crate) fn given_by(timers: &[PacingTimer; 4]) -> [bool; 4]
     ensures { result ≡ given_by timers.now }
 {
     [
@@ -82,7 +82,7 @@ fn given_by(timers: &[PacingTimer; 4]) -> [bool; 4]
 
 /// Some timer gives a credit.
 #[inline(always)]
-fn some_given(given: &[bool; 4]) -> bool
+pub(crate) fn some_given(given: &[bool; 4]) -> bool
     ensures { result ≡ list_any (λ b. b) given.now }
 {
     given.iter().any(|gives| *gives)
@@ -102,7 +102,7 @@ fn step_all(timers: &mut [PacingTimer; 4])
 
 /// The access is none.
 #[inline(always)]
-fn is_nothing(access: &Access) -> bool
+pub(crate) fn is_nothing(access: &Access) -> bool
     ensures { result ≡ true → access.now ≡ Access.Nothing }
 {
     match *access {
@@ -284,7 +284,7 @@ impl Engine {
 
     /// The pacing timers have their cycle.
     #[inline(always)]
-    fn advance_timers(&mut self)
+    pub(crate) fn advance_timers(&mut self)
         ensures { self.new ≡ with_stepped_timers self.old }
     {
         step_all(&mut self.timers);
@@ -327,6 +327,7 @@ impl Engine {
     }
 
     /// The cycle, where this was begun and these turns were given.
+    #[inline(never)]
     #[tactic(auto, unfolding(crate::specs::Cycle::next))]
     pub(crate) fn finish(&mut self, begun: &BegunTransfer, turns: &[Turn; 2])
         ensures { self.new ≡ next self.old begun.now turns.now }
@@ -355,6 +356,7 @@ impl Engine {
     }
 
     /// Nothing can happen by itself, and both interrupt lines are low.
+    #[inline(never)]
     pub(crate) fn is_still(&self) -> bool
         ensures { result ≡ is_still self.now }
     {
