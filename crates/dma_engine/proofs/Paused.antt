@@ -11,13 +11,14 @@ use Rattle.dma_engine.specs.declared.channel.Channel.{Channel}
 use Rattle.dma_engine.specs.declared.begun.BegunTransfer.{BegunTransfer}
 use Rattle.dma_engine.specs.declared.begun.Access.TheVariants as access
 use Rattle.dma_engine.specs.declared.waiting.WaitingWrite.{WaitingWrite}
+use Rattle.dma_engine.specs.declared.timer.PacingTimer.{PacingTimer}
 use Rattle.dma_engine.specs.declared.pace.Pace.{Pace}
 use Rattle.dma_engine.specs.declared.pace.Pace.TheVariants as pace
 use Rattle.dma_engine.specs.State.{Engine, idle_channel, channel_at}
 use Rattle.dma_engine.specs.Control.{treq_of}
 use Rattle.dma_engine.specs.Asks.{waits_for_counts, write_begun, next_request, asks_read, asks, idle_begun}
 use Rattle.dma_engine.specs.Choice.{pace_of, is_ready_by, is_ready, is_candidate}
-use Rattle.dma_engine.specs.Timer.{gives, given_by, with_stepped_timers}
+use Rattle.dma_engine.specs.Timer.{gives, stepped, given_by, with_stepped_timers}
 use Rattle.dma_engine.specs.Cycle.{uses_credits, is_over, next}
 use Rattle.dma_engine.specs.Paused.{lacks_credit, is_paused_channel, is_paused}
 use Rattle.dma_engine.proofs.Finishing.{other_of}
@@ -145,18 +146,39 @@ asks-paused s h =
 
 -- ---- its cycle
 
+either_none : (first rest others : Bool) → (first || rest) ≡ false → (rest ≡ false → others ≡ false) → (first || others) ≡ false
+either_none true rest others h f = h
+either_none false rest others h f = f h
+
+none_given : (ts : List PacingTimer) → list_any gives ts ≡ false → list_any (λ b. b) (given_by ts) ≡ false
+none_given [] h = refl
+none_given (t ∷ ts) h = either_none (gives t) (list_any gives ts) (list_any (λ b. b) (given_by ts)) h (none_given ts)
+
 -- where nothing was begun and no timer gives a credit the timers step alone
-pub next-paused : (s new : Engine) (begun : BegunTransfer) (turns : List Turn) (given : List Bool) → is_paused s ≡ true →
-    begun.read ≡ access.Nothing → begun.write ≡ access.Nothing → given ≡ given_by s.timers →
-    list_any (λ b. b) given ≡ false → new ≡ with_stepped_timers s → new ≡ next s begun turns
-next-paused s new begun turns given h read write is none last =
+next-paused : (s new : Engine) (begun : BegunTransfer) (turns : List Turn) → is_paused s ≡ true →
+    begun.read ≡ access.Nothing → begun.write ≡ access.Nothing → list_any gives s.timers ≡ false →
+    new ≡ with_stepped_timers s → new ≡ next s begun turns
+next-paused s new begun turns h read write none last =
     let p : Pauses s = pauses s h in
-    finished_without s s new begun turns given p.held is none
+    finished_without s s new begun turns (given_by s.timers) p.held refl (none_given s.timers none)
     (sym (nothing_moves s begun turns read write (λ k low. not_candidate s begun.counts k p) (λ k low. not_over s k p))) last
 
--- and the engine stays paused
-pub stays_paused : (s : Engine) → is_paused s ≡ true → is_paused (with_stepped_timers s) ≡ true
-unfolding is_paused
-stays_paused s h = h
+-- the same of an engine that was opened
+pub next-passed : (e s : Engine) (begun : BegunTransfer) (turns : List Turn) (timers : List PacingTimer) → e ≡ s →
+    is_paused s ≡ true → begun.read ≡ access.Nothing → begun.write ≡ access.Nothing → list_any gives e.timers ≡ false →
+    timers ≡ map stepped e.timers → record e { timers = timers } ≡ next s begun turns
+next-passed e s begun turns timers is h read write none last =
+    next-paused s (record e { timers = timers }) begun turns h read write
+    (sym (ap (λ (x : Engine). list_any gives x.timers) is) ∙ none)
+    (ap (λ ts. record e { timers = ts }) last ∙ ap with_stepped_timers is)
 
-pub ruleset paused = (asks-paused, next-paused, stays_paused)
+-- and the engine stays paused
+stays_paused : (s : Engine) (timers : List PacingTimer) → is_paused s ≡ true → is_paused (record s { timers = timers }) ≡ true
+unfolding is_paused
+stays_paused s timers h = h
+
+pub stays_passed : (e s : Engine) (timers : List PacingTimer) → e ≡ s → is_paused s ≡ true → is_paused (record e { timers = timers }) ≡ true
+stays_passed e s timers is h =
+    ap (λ (x : Engine). is_paused (record x { timers = timers })) is ∙ stays_paused s timers h
+
+pub ruleset paused = (asks-paused)

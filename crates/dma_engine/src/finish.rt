@@ -69,7 +69,7 @@ fn are_idle_timers(timers: &[PacingTimer; 4]) -> bool
 
 /// Which timers give a credit.
 #[tactic(auto, using(crate::proofs::Four::four))]
-pub(crate) fn given_by(timers: &[PacingTimer; 4]) -> [bool; 4]
+fn given_by(timers: &[PacingTimer; 4]) -> [bool; 4]
     ensures { result ≡ given_by timers.now }
 {
     [
@@ -82,7 +82,7 @@ pub(crate) fn given_by(timers: &[PacingTimer; 4]) -> [bool; 4]
 
 /// Some timer gives a credit.
 #[inline(always)]
-pub(crate) fn some_given(given: &[bool; 4]) -> bool
+fn some_given(given: &[bool; 4]) -> bool
     ensures { result ≡ list_any (λ b. b) given.now }
 {
     given.iter().any(|gives| *gives)
@@ -284,7 +284,7 @@ impl Engine {
 
     /// The pacing timers have their cycle.
     #[inline(always)]
-    pub(crate) fn advance_timers(&mut self)
+    fn advance_timers(&mut self)
         ensures { self.new ≡ with_stepped_timers self.old }
     {
         step_all(&mut self.timers);

@@ -1,16 +1,18 @@
 //! An engine in which nothing moves until a pacing timer gives a credit.
 
-ghost use Rattle.std.specs.Prelude.{◌≡◌, false, true};
-ghost use Rattle.std.specs.List.{list_all};
+ghost use Rattle.std.specs.Prelude.{◌≡◌, false, true, map};
+ghost use Rattle.std.specs.List.{list_all, list_any};
 ghost use Rattle.dma_engine.specs.declared.begun.Access.TheVariants as Access;
 ghost use Rattle.dma_engine.specs.Cycle.{next};
+ghost use Rattle.dma_engine.specs.Timer.{gives, stepped};
 ghost use Rattle.dma_engine.specs.Paused.{lacks_credit, is_paused_channel, is_paused};
 
 use crate::begun::BegunTransfer;
 use crate::channel::Channel;
 use crate::engine::Engine;
-use crate::finish::{given_by, is_nothing, some_given};
+use crate::finish::is_nothing;
 use crate::pace::{pace_of, uses_credits};
+use crate::timer::PacingTimer;
 use lane_look::Turn;
 
 /// Every channel is idle or lacks a credit.
@@ -18,6 +20,24 @@ fn are_paused(channels: &[Channel; 12]) -> bool
     ensures { result ≡ list_all is_paused_channel channels.now }
 {
     channels.iter().all(|channel| channel.is_paused())
+}
+
+/// A cycle of the timers, where none gives a credit; elsewhere false.
+#[inline(always)]
+#[tactic(auto, using(crate::proofs::Four::four))]
+fn pass_all(timers: &mut [PacingTimer; 4]) -> bool
+    ensures after { result ≡ true → timers.new ≡ map stepped timers.old }
+    ensures none { result ≡ true → list_any gives timers.old ≡ false }
+    ensures before { result ≡ false → timers.new ≡ timers.old }
+{
+    if timers[0].gives() || timers[1].gives() || timers[2].gives() || timers[3].gives() {
+        return false;
+    }
+    timers[0].pass();
+    timers[1].pass();
+    timers[2].pass();
+    timers[3].pass();
+    true
 }
 
 impl Channel {
@@ -61,11 +81,6 @@ impl Engine {
         if !is_nothing(&begun.read) || !is_nothing(&begun.write) {
             return false;
         }
-        let given = given_by(&self.timers);
-        if some_given(&given) {
-            return false;
-        }
-        self.advance_timers();
-        true
+        pass_all(&mut self.timers)
     }
 }
