@@ -11,4 +11,5 @@ pub mod Passing
 pub mod Paused
 pub mod Ring
 pub mod Search
+pub mod StaysChosen
 pub mod TimersAtRest
