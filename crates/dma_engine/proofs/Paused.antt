@@ -1,6 +1,6 @@
 -- A paused engine asks nothing, and only its timers step until one gives a credit.
 use Rattle.std.proofs.Common.{◌≡◌, ℕ, zero, suc, ◌<◌, Bool, true, false, not, ◌&&◌, ◌||◌, cond, List, [], ◌∷◌, length, nat_eq, nat_lt, refl, ap, sym, ◌∙◌, arith, get_or, Option, Some, None}
-use Rattle.std.specs.Prelude.{is_none, map}
+use Rattle.std.specs.Prelude.{is_none, is_some, map}
 use Rattle.std.specs.List.{list_all, list_any}
 use Rattle.std.proofs.lemmas.Grind.{common_steps}
 use Rattle.std.proofs.lemmas.Bool.Decides.{nat_tests}
@@ -16,7 +16,7 @@ use Rattle.dma_engine.specs.declared.pace.Pace.{Pace}
 use Rattle.dma_engine.specs.declared.pace.Pace.TheVariants as pace
 use Rattle.dma_engine.specs.State.{Engine, idle_channel, channel_at}
 use Rattle.dma_engine.specs.Control.{treq_of}
-use Rattle.dma_engine.specs.Asks.{waits_for_counts, write_begun, next_request, asks_read, asks, idle_begun}
+use Rattle.dma_engine.specs.Asks.{waits_for_counts, write_begun, next_request, asks_read, asks, begun_with, idle_begun}
 use Rattle.dma_engine.specs.Choice.{pace_of, is_ready_by, is_ready, is_candidate}
 use Rattle.dma_engine.specs.Timer.{gives, stepped, given_by, with_stepped_timers}
 use Rattle.dma_engine.specs.Cycle.{uses_credits, is_over, next}
@@ -116,6 +116,18 @@ none_waits : (cs : List Channel) → list_all is_paused_channel cs ≡ true → 
 none_waits [] h = refl
 none_waits (c ∷ cs) h =
     rw (not_waiting c (both_left (is_paused_channel c) _ h)) (none_waits cs (both_right (is_paused_channel c) _ h))
+
+-- ---- what an engine begins in which no channel is chosen and no write waits
+
+none_since : (r : Bool) (o : Option ℕ) → not r ≡ is_some o → r ≡ true → o ≡ None
+none_since true None h e = refl
+none_since true (Some n) h e = absurd (cc)
+none_since false o h e = absurd (cc)
+
+pub begins_nothing : (s : Engine) (counts : ℕ) (r : Bool) → not r ≡ is_some s.chosen → r ≡ true →
+    nat_eq (length s.waiting) 0 ≡ true → asks_read counts s ≡ Ready (begun_with counts access.Nothing access.Nothing)
+unfolding asks_read write_begun next_request
+begins_nothing s counts r h i e = rw (none_since r s.chosen h i, empty_is s.waiting e) refl
 
 -- ---- what it asks
 

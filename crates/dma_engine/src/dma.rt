@@ -15,6 +15,8 @@ pub struct Dma {
     pub(crate) at_rest: bool,
     /// Nothing moves until a register is written or a pacing timer gives a credit.
     pub(crate) paused: bool,
+    /// Whether it rests or is paused was found since a register was written.
+    pub(crate) found: bool,
 }
 
 impl Model for Dma {
@@ -47,6 +49,7 @@ impl Dma {
             engine: Engine::new(false),
             at_rest: false,
             paused: false,
+            found: false,
         }
     }
 
@@ -66,6 +69,7 @@ impl Dma {
     {
         self.at_rest = false;
         self.paused = false;
+        self.found = false;
         self.engine.effect(offset, write)
     }
 
@@ -82,6 +86,7 @@ impl Dma {
     {
         self.at_rest = false;
         self.paused = false;
+        self.found = false;
         self.engine.set_held(held);
     }
 

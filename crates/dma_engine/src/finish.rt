@@ -284,7 +284,7 @@ impl Engine {
         ensures { self.new ≡ next self.old begun.now turns.now }
     {
         let credited = self.credited(given);
-        self.transfer(begun, turns);
+        let _ = self.transfer(begun, turns);
         self.step_timers(&credited);
     }
 
@@ -344,34 +344,36 @@ impl Engine {
         self.take_choice(choice);
     }
 
-    /// The transfers have their cycle. In most cycles nothing was begun, and no sequence ends or can go on.
+    /// The transfers have their cycle. In most cycles nothing was begun, and no sequence ends or can go on: false then.
     #[inline(always)]
     #[tactic(auto, using(crate::proofs::Idle::nothing_moves))]
-    fn transfer(&mut self, begun: &BegunTransfer, turns: &[Turn; 2])
+    fn transfer(&mut self, begun: &BegunTransfer, turns: &[Turn; 2]) -> bool
         ensures { self.new ≡ after_transfers self.old begun.now turns.now }
     {
         if is_nothing(&begun.read) && is_nothing(&begun.write) && !self.has_work(begun.counts) {
-            return;
+            return false;
         }
         self.move_on(begun, turns);
+        true
     }
 
-    /// The cycle, where this was begun and these turns were given.
+    /// The cycle, where this was begun and these turns were given; false where only timers stepped.
     #[inline(never)]
     #[tactic(auto, unfolding(crate::specs::Cycle::next))]
-    pub(crate) fn finish(&mut self, begun: &BegunTransfer, turns: &[Turn; 2])
+    pub(crate) fn finish(&mut self, begun: &BegunTransfer, turns: &[Turn; 2]) -> bool
         ensures { self.new ≡ next self.old begun.now turns.now }
     {
         if self.held {
-            return;
+            return false;
         }
         let given = given_by(&self.timers);
         if some_given(&given) {
             self.finish_with_credits(begun, turns, &given);
-            return;
+            return true;
         }
-        self.transfer(begun, turns);
+        let moved = self.transfer(begun, turns);
         self.advance_timers();
+        moved
     }
 
     /// Nothing can happen by itself.

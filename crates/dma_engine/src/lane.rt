@@ -46,14 +46,18 @@ impl Lane<()> for Dma {
         if self.at_rest || (self.paused && self.engine.pass(begun, &turns)) {
             return;
         }
-        self.engine.finish(begun, &turns);
-        self.at_rest = self.engine.is_still();
-        self.paused = self.engine.is_paused();
+        self.paused = false;
+        if self.engine.finish(begun, &turns) || !self.found {
+            self.at_rest = self.engine.is_still();
+            self.paused = self.engine.is_paused();
+            self.found = true;
+        }
     }
 
     fn copy_from(&mut self, other: &Dma) {
         self.at_rest = false;
         self.paused = false;
+        self.found = false;
         self.engine.copy_from(&other.engine);
     }
 
