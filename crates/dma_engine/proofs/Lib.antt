@@ -7,6 +7,9 @@ pub mod Four
 pub mod Idle
 pub mod InTurn
 pub mod Packing
+pub mod Passing
+pub mod Paused
 pub mod Ring
 pub mod Search
+pub mod StaysChosen
 pub mod TimersAtRest

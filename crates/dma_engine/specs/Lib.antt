@@ -6,6 +6,7 @@ pub mod Control
 pub mod Cycle
 pub mod Laws
 pub mod Pace
+pub mod Paused
 pub mod Rest
 pub mod State
 pub mod Timer

@@ -1,10 +1,12 @@
 //! What the engine asks in a cycle.
 
-ghost use Rattle.std.specs.Prelude.{◌≡◌, ◌%◌, ◌^◌};
+ghost use Rattle.std.specs.Prelude.{◌≡◌, ◌%◌, ◌^◌, true};
 ghost use Rattle.std.specs.List.{list_any};
 ghost use Rattle.rp_base.specs.Map.{place_of};
 ghost use Rattle.lane_look.specs.Asking.{Runs};
-ghost use Rattle.dma_engine.specs.Asks.{may_be_device, elsewhere, write_for, write_begun, next_request, asks_for, asks_read, waits_for_counts, asks};
+ghost use Rattle.lane_look.specs.Asking.Asking.{Ready};
+ghost use Rattle.dma_engine.specs.declared.begun.Access.TheVariants as Access;
+ghost use Rattle.dma_engine.specs.Asks.{may_be_device, elsewhere, write_for, write_begun, next_request, asks_for, asks_read, begun_with, waits_for_counts, asks};
 
 use crate::begun::{Access, BegunTransfer};
 use crate::channel::Channel;
@@ -104,9 +106,19 @@ impl Engine {
         }
     }
 
-    /// The read and the write, where these are the counts.
+    /// No channel is chosen and no write waits, so that nothing is begun.
+    #[inline(always)]
+    fn begins_nothing(&self, counts: u128) -> bool
+        ensures { result ≡ true
+            → asks_read counts self.now ≡ Ready (begun_with counts Access.Nothing Access.Nothing) }
+    {
+        self.chosen.is_none() && self.waiting.is_empty()
+    }
+
+    /// The read and the write, where these are the counts and some access is begun.
+    #[inline(never)]
     #[tactic(auto, unfolding(crate::specs::Asks::asks_read))]
-    pub(crate) fn begin<K: Look>(&self, counts: u128, look: &mut K) -> BegunTransfer
+    fn begin_access<K: Look>(&self, counts: u128, look: &mut K) -> BegunTransfer
         ensures { Runs K.answers look.old (asks_read counts self.now) result look.new }
     {
         let write = self.begin_write();
@@ -119,10 +131,26 @@ impl Engine {
             },
         }
     }
+
+    /// The read and the write, where these are the counts.
+    #[inline(always)]
+    fn begin<K: Look>(&self, counts: u128, look: &mut K) -> BegunTransfer
+        ensures { Runs K.answers look.old (asks_read counts self.now) result look.new }
+    {
+        if self.begins_nothing(counts) {
+            return BegunTransfer {
+                read: Access::Nothing,
+                write: Access::Nothing,
+                counts,
+            };
+        }
+        self.begin_access(counts, look)
+    }
 }
 
 impl Engine {
     /// What the engine asks in a cycle, and what it has begun then.
+    #[inline(never)]
     #[tactic(auto, unfolding(crate::specs::Asks::asks))]
     pub(crate) fn ask<K: Look>(&self, look: &mut K) -> BegunTransfer
         ensures { Runs K.answers look.old (asks self.now) result look.new }

@@ -13,22 +13,30 @@ pub struct Dma {
     pub(crate) engine: Engine,
     /// Nothing happens until a register is written, and both interrupt lines are low.
     pub(crate) at_rest: bool,
+    /// Nothing moves until a register is written or a pacing timer gives a credit.
+    pub(crate) paused: bool,
+    /// Whether it rests or is paused was found since a register was written.
+    pub(crate) found: bool,
 }
 
 impl Model for Dma {
     ghost use Rattle.std.specs.Prelude.{◌≡◌, ◌||◌, not, true};
     ghost use Rattle.dma_engine.specs.State.{Engine as State};
     ghost use Rattle.dma_engine.specs.Rest.{is_still};
+    ghost use Rattle.dma_engine.specs.Paused.{is_paused};
 
     ghost Value = { State };
 
     ghost view = { λ d. d.engine };
 
-    ghost invariant = { λ d. (not d.at_rest || is_still d.engine) ≡ true };
+    ghost invariant = { λ d. ((not d.at_rest || is_still d.engine) ≡ true)
+        × ((not d.paused || is_paused d.engine) ≡ true) };
 }
 
 impl Dma {
     ghost use Rattle.std.specs.Prelude.{Decides, false, true, ◌∷◌, []};
+    ghost use Rattle.lane_look.specs.Asking.Asking.{Ready};
+    ghost use Rattle.dma_engine.specs.Asks.{asks, idle_begun};
     ghost use Rattle.dma_engine.specs.Rest.{StaysAtRest};
     ghost use Rattle.dma_engine.specs.State.{reset_state, with_hold};
     ghost use Rattle.dma_engine.specs.Words.{word_of, is_allowed, effect_of, is_silent, lines_of};
@@ -40,6 +48,8 @@ impl Dma {
         Dma {
             engine: Engine::new(false),
             at_rest: false,
+            paused: false,
+            found: false,
         }
     }
 
@@ -58,6 +68,8 @@ impl Dma {
         ensures allowed { result ≡ is_allowed self.old offset }
     {
         self.at_rest = false;
+        self.paused = false;
+        self.found = false;
         self.engine.effect(offset, write)
     }
 
@@ -73,6 +85,8 @@ impl Dma {
         ensures { self.new ≡ with_hold held self.old }
     {
         self.at_rest = false;
+        self.paused = false;
+        self.found = false;
         self.engine.set_held(held);
     }
 
@@ -84,6 +98,15 @@ impl Dma {
         ensures lines { result ≡ true → lines_of self.now ≡ false ∷ false ∷ [] }
     {
         self.at_rest
+    }
+
+    /// The engine is at rest or paused, so that it asks nothing.
+    #[inline(always)]
+    #[tactic(auto, using(crate::proofs::AtRest::at_rest, crate::proofs::Paused::paused))]
+    pub(crate) fn asks_nothing(&self) -> bool
+        ensures { result ≡ true → asks self.now ≡ Ready idle_begun }
+    {
+        self.at_rest || self.paused
     }
 
     /// Both are in the same state.

@@ -1,16 +1,16 @@
 //! How a cycle ends: sequences end, the read and the write are done or wait, the next channel is chosen, and the pacing
 //! timers give their credits.
 
-ghost use Rattle.std.specs.Prelude.{◌≡◌, ◌<◌, ℕ, false, true, length, map, slice_index_or, Some};
+ghost use Rattle.std.specs.Prelude.{◌≡◌, ◌<◌, ℕ, false, true, length, map, slice_index_or, is_none, Some};
 ghost use Rattle.std.specs.List.{list_all, list_any};
 ghost use Rattle.lane_look.specs.declared.lane.Turn.{Turn};
 ghost use Rattle.dma_engine.specs.Control.{treq_of};
-ghost use Rattle.dma_engine.specs.Choice.{pace_of, is_candidate};
+ghost use Rattle.dma_engine.specs.Choice.{pace_of, is_candidate, choice_of};
 ghost use Rattle.dma_engine.specs.declared.begun.Access.TheVariants as Access;
 ghost use Rattle.dma_engine.specs.State.{channel_at};
 ghost use Rattle.dma_engine.specs.Timer.{gives, stepped, given_by, is_given, gets_credit, more_credits, credited, with_credit, with_stepped_timers, after_timers};
 ghost use Rattle.dma_engine.specs.Rest.{is_idle_channel, is_idle_timer, is_at_rest, is_still};
-ghost use Rattle.dma_engine.specs.Cycle.{want_of, word_of, word_read, with_data, with_read, is_written, after_write, credits_left, counted, after_choice, is_over, after_transfers, next};
+ghost use Rattle.dma_engine.specs.Cycle.{want_of, word_of, word_read, with_data, with_read, after_read, is_written, after_write, credits_left, counted, after_choice, is_over, after_transfers, next};
 ghost use Rattle.dma_engine.specs.Channel.{in_turn};
 
 use crate::begun::{Access, BegunTransfer};
@@ -102,7 +102,7 @@ fn step_all(timers: &mut [PacingTimer; 4])
 
 /// The access is none.
 #[inline(always)]
-fn is_nothing(access: &Access) -> bool
+pub(crate) fn is_nothing(access: &Access) -> bool
     ensures { result ≡ true → access.now ≡ Access.Nothing }
 {
     match *access {
@@ -181,6 +181,15 @@ impl Engine {
         }
     }
 
+    /// The read is done where it gave a word.
+    fn end_reading(&mut self, read: Option<u32>)
+        ensures { self.new ≡ after_read read self.old }
+    {
+        if let Some(word) = read {
+            self.end_read(word);
+        }
+    }
+
     /// The first write leaves where it is done.
     fn end_write(&mut self, done: bool)
         ensures { self.new ≡ after_write done self.old }
@@ -230,6 +239,16 @@ impl Engine {
         credited
     }
 
+    /// A channel can be chosen, or is over.
+    #[inline(never)]
+    fn moves(&self, counts: u128, number: u8) -> bool
+        requires { number < 12 }
+        ensures choice { result ≡ false → is_candidate false counts self.now number ≡ false }
+        ensures ends { result ≡ false → is_over self.now number ≡ false }
+    {
+        self.is_candidate(counts, number) || self.is_over(number)
+    }
+
     /// Some channel can be chosen, or is over.
     #[inline(always)]
     fn has_work(&self, counts: u128) -> bool
@@ -239,7 +258,7 @@ impl Engine {
     {
         for number in 0..CHANNELS {
             if self.channels[number as usize].busy {
-                if self.is_candidate(counts, number) || self.is_over(number) {
+                if self.moves(counts, number) {
                     return true;
                 }
             }
@@ -265,7 +284,7 @@ impl Engine {
         ensures { self.new ≡ next self.old begun.now turns.now }
     {
         let credited = self.credited(given);
-        self.move_on(begun, turns);
+        let _ = self.transfer(begun, turns);
         self.step_timers(&credited);
     }
 
@@ -299,48 +318,62 @@ impl Engine {
         self.take_credits(credited);
     }
 
+    /// The choice of a cycle with that read; any where a channel is chosen that was not read.
+    #[inline(always)]
+    fn choice_after(&self, read: Option<u32>, counts: u128) -> Option<u8>
+        ensures none { is_none self.now.chosen ≡ true → result ≡ choice_of counts self.now }
+        ensures read { is_none read ≡ false → result ≡ choice_of counts self.now }
+    {
+        if self.chosen.is_some() && read.is_none() {
+            return None;
+        }
+        self.choice(counts)
+    }
+
     /// The transfers have their cycle.
     #[inline(never)]
     #[tactic(auto, unfolding(crate::specs::Cycle::after_transfers))]
     fn move_on(&mut self, begun: &BegunTransfer, turns: &[Turn; 2])
         ensures { self.new ≡ after_transfers self.old begun.now turns.now }
     {
-        let choice = self.choice(begun.counts);
+        let read = word_read(&begun.read, turns[0]);
+        let choice = self.choice_after(read, begun.counts);
         self.end_sequences();
-        if let Some(word) = word_read(&begun.read, turns[0]) {
-            self.end_read(word);
-        }
+        self.end_reading(read);
         self.end_write(is_written(&begun.write, turns[1]));
         self.take_choice(choice);
     }
 
-    /// The transfers have their cycle. In most cycles nothing was begun, and no sequence ends or can go on.
+    /// The transfers have their cycle. In most cycles nothing was begun, and no sequence ends or can go on: false then.
     #[inline(always)]
     #[tactic(auto, using(crate::proofs::Idle::nothing_moves))]
-    fn transfer(&mut self, begun: &BegunTransfer, turns: &[Turn; 2])
+    fn transfer(&mut self, begun: &BegunTransfer, turns: &[Turn; 2]) -> bool
         ensures { self.new ≡ after_transfers self.old begun.now turns.now }
     {
         if is_nothing(&begun.read) && is_nothing(&begun.write) && !self.has_work(begun.counts) {
-            return;
+            return false;
         }
         self.move_on(begun, turns);
+        true
     }
 
-    /// The cycle, where this was begun and these turns were given.
+    /// The cycle, where this was begun and these turns were given; false where only timers stepped.
+    #[inline(never)]
     #[tactic(auto, unfolding(crate::specs::Cycle::next))]
-    pub(crate) fn finish(&mut self, begun: &BegunTransfer, turns: &[Turn; 2])
+    pub(crate) fn finish(&mut self, begun: &BegunTransfer, turns: &[Turn; 2]) -> bool
         ensures { self.new ≡ next self.old begun.now turns.now }
     {
         if self.held {
-            return;
+            return false;
         }
         let given = given_by(&self.timers);
         if some_given(&given) {
             self.finish_with_credits(begun, turns, &given);
-            return;
+            return true;
         }
-        self.transfer(begun, turns);
+        let moved = self.transfer(begun, turns);
         self.advance_timers();
+        moved
     }
 
     /// Nothing can happen by itself.
@@ -355,6 +388,7 @@ impl Engine {
     }
 
     /// Nothing can happen by itself, and both interrupt lines are low.
+    #[inline(never)]
     pub(crate) fn is_still(&self) -> bool
         ensures { result ≡ is_still self.now }
     {

@@ -25,9 +25,9 @@ impl Lane<()> for Dma {
 
     ghost marked = { λ _ s begun turns. None };
 
-    #[tactic(auto, using(crate::proofs::AtRest::at_rest))]
+    #[inline(always)]
     fn begin<K: Look>(&self, _env: &(), _cycle: u64, look: &mut K) -> BegunTransfer {
-        if self.at_rest {
+        if self.asks_nothing() {
             return BegunTransfer {
                 read: Access::Nothing,
                 write: Access::Nothing,
@@ -41,16 +41,23 @@ impl Lane<()> for Dma {
         [want(&begun.read), want(&begun.write)]
     }
 
-    #[tactic(auto, using(crate::proofs::AtRest::at_rest))]
+    #[tactic(auto, using(crate::proofs::AtRest::at_rest, crate::proofs::Paused::paused))]
     fn finish(&mut self, _env: &(), begun: &BegunTransfer, turns: [Turn; 2], _marks: &mut Marks) {
-        if !self.at_rest {
-            self.engine.finish(begun, &turns);
+        if self.at_rest || (self.paused && self.engine.pass(begun, &turns)) {
+            return;
+        }
+        self.paused = false;
+        if self.engine.finish(begun, &turns) || !self.found {
             self.at_rest = self.engine.is_still();
+            self.paused = self.engine.is_paused();
+            self.found = true;
         }
     }
 
     fn copy_from(&mut self, other: &Dma) {
         self.at_rest = false;
+        self.paused = false;
+        self.found = false;
         self.engine.copy_from(&other.engine);
     }
 

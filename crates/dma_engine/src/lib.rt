@@ -18,6 +18,7 @@ mod lane;
 pub mod laws;
 pub mod line;
 pub mod pace;
+mod pause;
 pub mod registers;
 pub mod timer;
 mod transfer;

@@ -1,6 +1,6 @@
 //! A pacing timer.
 
-ghost use Rattle.std.specs.Prelude.{◌≡◌, ◌≤◌};
+ghost use Rattle.std.specs.Prelude.{◌≡◌, ◌≤◌, false};
 ghost use Rattle.dma_engine.specs.Timer.{runs, step_of, gives, accumulated, stepped};
 
 /// One pacing timer (RP2040 Datasheet, 2.5.7, TIMER0): it gives a credit in X of each Y cycles.
@@ -63,6 +63,18 @@ impl PacingTimer {
     {
         if self.runs() {
             self.accumulator = self.accumulated();
+        }
+    }
+
+    /// A cycle of a timer that gives no credit in it.
+    #[inline(always)]
+    #[tactic(auto, using(crate::proofs::Passing::passing))]
+    pub(crate) fn pass(&mut self)
+        requires { gives self.old ≡ false }
+        ensures { self.new ≡ stepped self.old }
+    {
+        if self.runs() {
+            self.accumulator += self.step();
         }
     }
 }

@@ -1,0 +1,86 @@
+//! An engine in which nothing moves until a pacing timer gives a credit.
+
+ghost use Rattle.std.specs.Prelude.{◌≡◌, false, true, map};
+ghost use Rattle.std.specs.List.{list_all, list_any};
+ghost use Rattle.dma_engine.specs.declared.begun.Access.TheVariants as Access;
+ghost use Rattle.dma_engine.specs.Cycle.{next};
+ghost use Rattle.dma_engine.specs.Timer.{gives, stepped};
+ghost use Rattle.dma_engine.specs.Paused.{lacks_credit, is_paused_channel, is_paused};
+
+use crate::begun::BegunTransfer;
+use crate::channel::Channel;
+use crate::engine::Engine;
+use crate::finish::is_nothing;
+use crate::pace::{pace_of, uses_credits};
+use crate::timer::PacingTimer;
+use lane_look::Turn;
+
+/// Every channel is idle or lacks a credit.
+fn are_paused(channels: &[Channel; 12]) -> bool
+    ensures { result ≡ list_all is_paused_channel channels.now }
+{
+    channels.iter().all(|channel| channel.is_paused())
+}
+
+/// A cycle of the timers, where none gives a credit; elsewhere false.
+#[inline(always)]
+#[tactic(auto, using(crate::proofs::Four::four))]
+fn pass_all(timers: &mut [PacingTimer; 4]) -> bool
+    ensures after { result ≡ true → timers.new ≡ map stepped timers.old }
+    ensures none { result ≡ true → list_any gives timers.old ≡ false }
+    ensures before { result ≡ false → timers.new ≡ timers.old }
+{
+    if timers[0].gives() || timers[1].gives() || timers[2].gives() || timers[3].gives() {
+        return false;
+    }
+    timers[0].pass();
+    timers[1].pass();
+    timers[2].pass();
+    timers[3].pass();
+    true
+}
+
+impl Channel {
+    /// The channel is paced by a timer, and has no credit.
+    fn lacks_credit(&self) -> bool
+        ensures { result ≡ lacks_credit self.now }
+    {
+        let treq = self.treq();
+        uses_credits(pace_of(treq)) && treq >= 0x3b && self.credits == 0
+    }
+
+    /// The channel is idle, or has transfers left for which it lacks a credit.
+    fn is_paused(&self) -> bool
+        ensures { result ≡ is_paused_channel self.now }
+    {
+        !self.busy || (self.count != 0 && self.lacks_credit())
+    }
+}
+
+impl Engine {
+    /// No channel is chosen, no write waits, and every channel is idle or lacks a credit.
+    #[inline(never)]
+    #[tactic(auto, unfolding(crate::specs::Paused::is_paused))]
+    pub(crate) fn is_paused(&self) -> bool
+        ensures { result ≡ is_paused self.now }
+    {
+        if self.held || self.chosen.is_some() || !self.waiting.is_empty() {
+            return false;
+        }
+        are_paused(&self.channels)
+    }
+
+    /// The cycle of a paused engine, where nothing was begun and no timer gives a credit; elsewhere false.
+    #[inline(always)]
+    pub(crate) fn pass(&mut self, begun: &BegunTransfer, turns: &[Turn; 2]) -> bool
+        requires { is_paused self.old ≡ true }
+        ensures after { result ≡ true → self.new ≡ next self.old begun.now turns.now }
+        ensures before { result ≡ false → self.new ≡ self.old }
+        ensures paused { is_paused self.new ≡ true }
+    {
+        if !is_nothing(&begun.read) || !is_nothing(&begun.write) {
+            return false;
+        }
+        pass_all(&mut self.timers)
+    }
+}
