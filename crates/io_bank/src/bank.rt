@@ -376,6 +376,9 @@ fn are_same_in(set: u32, on: u32, first: [u32; 2], second: [u32; 2]) -> bool
     ensures enables { result ≡ true
         → bit_and (slice_index first 1) set ≡ bit_and (slice_index second 1) set }
 {
+    if set == 0 {
+        return true;
+    }
     let shown = set & on;
     first[0] & shown == second[0] & shown && first[1] & set == second[1] & set
 }

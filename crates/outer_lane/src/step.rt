@@ -364,9 +364,48 @@ impl Outer {
         [first, second]
     }
 
+    /// UART 0 sends on, and UART 1 does not run; else nothing. Whether it was. The lines of both are high.
+    #[inline(always)]
+    fn sends_on(&mut self) -> bool
+        requires line0 { receive_level 0 self.old.pads ≡ true }
+        requires line1 { receive_level 1 self.old.pads ≡ true }
+        ensures on { result ≡ true → self.new ≡ record self.old {
+          uart0 = uart_after true self.old.uart0;
+          uart1 = uart_after true self.old.uart1;
+        } }
+        ensures off { result ≡ false → self.new ≡ self.old }
+        ensures byte0 { result ≡ true → byte_of self.old.uart0 ≡ None }
+        ensures byte1 { result ≡ true → byte_of self.old.uart1 ≡ None }
+    {
+        if self.uart0.held || !(self.uart1.held || self.uart1.block.is_stopped()) {
+            return false;
+        }
+        self.uart0.block.sends_on()
+    }
+
     /// A cycle by these, in which not all is at rest.
     #[inline(never)]
     fn step_busy(&mut self, wires: &Wires, seen: &SeenOutputs, drives: Drives) -> Mark
+        ensures state { self.new ≡ next_driven wires.now seen.now drives self.old }
+        ensures mark { result ≡ marked_driven wires.now seen.now drives self.old }
+    {
+        if self.is_calm_by(wires, seen, drives)
+            && self.ticks.is_between(seen.cycle)
+            && self.sends_on()
+        {
+            self.irq = wires.irq;
+            self.step_time(seen.cycle);
+            return Mark {
+                uart: [None, None],
+                pads: self.pads.pads(),
+            };
+        }
+        self.step_other(wires, seen, drives)
+    }
+
+    /// The same, whatever the UARTs do.
+    #[inline(never)]
+    fn step_other(&mut self, wires: &Wires, seen: &SeenOutputs, drives: Drives) -> Mark
         ensures state { self.new ≡ next_driven wires.now seen.now drives self.old }
         ensures mark { result ≡ marked_driven wires.now seen.now drives self.old }
     {

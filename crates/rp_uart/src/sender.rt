@@ -54,18 +54,14 @@ impl Uart {
         ensures byte { result ≡ true → ended_byte self.old.sender self.old ≡ None }
         ensures output { result ≡ true → output_of self.new ≡ output_of self.old }
     {
-        let Sender::Frame(frame) = self.sender else {
+        let Sender::Frame(frame) = &mut self.sender else {
             return false;
         };
         let (over, elapsed) = self.divisor.pass(frame.elapsed);
         if over {
             return false;
         }
-        self.sender = Sender::Frame(Sending {
-            byte: frame.byte,
-            bit: frame.bit,
-            elapsed,
-        });
+        frame.elapsed = elapsed;
         true
     }
 
