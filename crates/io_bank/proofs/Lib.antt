@@ -2,3 +2,4 @@ pub mod Bits
 pub mod Comparisons
 pub mod Routed
 pub mod AtRest
+pub mod Same

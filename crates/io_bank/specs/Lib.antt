@@ -6,3 +6,4 @@ pub mod Routes
 pub mod State
 pub mod Step
 pub mod Words
+pub mod Driven

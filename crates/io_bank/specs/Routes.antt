@@ -53,6 +53,9 @@ routed_part r outs i =
 abbrev pub chosen : ℕ → ℕ → ℕ → ℕ
 chosen outside inside set = bit_xor outside (bit_and (bit_xor outside inside) set)
 
+abbrev pub routed_driven : Routes → Outs → ℕ
+routed_driven r outs = bit_and (routed_override r.enable (routed_part r outs 1)) r.drives
+
 abbrev pub routed_levels : Routes → Outs → ℕ → ℕ → ℕ
 routed_levels r outs driven high =
     bit_and

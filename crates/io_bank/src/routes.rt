@@ -1,7 +1,7 @@
 //! What the control words of all pins say, as sets of pins, by which a step treats all pins at once.
 
 ghost use Rattle.std.specs.Prelude.{◌≡◌, ◌<◌};
-ghost use Rattle.io_bank.specs.Routes.{override_of, routes_of, routed_override, routed_mix, routed_levels, routed_inputs};
+ghost use Rattle.io_bank.specs.Routes.{override_of, routes_of, routed_override, routed_mix, routed_driven, routed_levels, routed_inputs};
 
 use crate::outputs::Outs;
 use crate::sets::{PINS, pins_with};
@@ -98,6 +98,15 @@ impl Routes {
             outs.pio0[0],
             outs.pio1[0],
         ));
+        let outside = self.pulls ^ ((self.pulls ^ high) & driven);
+        (outside ^ ((outside ^ level) & self.driven(outs))) & PINS
+    }
+
+    /// The pads that the chip drives.
+    #[inline]
+    pub(crate) fn driven(&self, outs: &Outs) -> u32
+        ensures { result ≡ routed_driven self.now outs.now }
+    {
         let enable = self.enable.apply(self.mixed(
             outs.uart[1],
             outs.pwm[1],
@@ -105,8 +114,7 @@ impl Routes {
             outs.pio0[1],
             outs.pio1[1],
         ));
-        let outside = self.pulls ^ ((self.pulls ^ high) & driven);
-        (outside ^ ((outside ^ level) & (enable & self.drives))) & PINS
+        enable & self.drives
     }
 
     /// The inputs at levels of the pads.

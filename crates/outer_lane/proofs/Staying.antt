@@ -3,7 +3,8 @@ use Rattle.std.proofs.Common.{◌≡◌, ◌<◌, ℕ, ◌-◌, ◌^◌, List, [
 use Rattle.io_bank.specs.declared.outputs.Outs.{Outs}
 use Rattle.io_bank.specs.State.{Bank}
 use Rattle.io_bank.specs.Edges.{edges_of}
-use Rattle.io_bank.specs.Levels.{by_sets, uart_outputs, receive_level}
+use Rattle.io_bank.specs.Levels.{by_sets, levels_of, uart_outputs, receive_level}
+use Rattle.io_bank.specs.Driven.{driven_of}
 use Rattle.io_bank.specs.Step.{after_step, with_edges, with_levels}
 use Rattle.lane_look.specs.declared.device.Wires.{Wires}
 use Rattle.lane_look.specs.declared.marks.Mark.{Mark}
@@ -13,7 +14,7 @@ use Rattle.pin_script.specs.Levels.{drive_at}
 use Rattle.rp_uart.specs.Step.{output_of}
 use Rattle.outer_lane.specs.declared.drivers.Drivers.{Drivers}
 use Rattle.outer_lane.specs.declared.world.SeenOutputs.{SeenOutputs}
-use Rattle.outer_lane.specs.Rest.{IsLaneAtRest, outs_by, pads_after, pads_driven, next_driven, marked_driven}
+use Rattle.outer_lane.specs.Rest.{IsLaneAtRest, IsCalm, outs_by, pads_after, pads_driven, next_driven, marked_driven}
 use Rattle.outer_lane.specs.State.{OuterState}
 use Rattle.outer_lane.specs.Step.{outs_of, outside_of, levels_by, pads_by, next_by, marked_by, uart_after, byte_of, timer_after}
 use Rattle.outer_lane.proofs.Sets.{levels_same}
@@ -54,6 +55,35 @@ pads_stay wires seen drives s d rest pio0 pio1 pwm driven high =
     ∙ ap (λ (n : ℕ). after_step (outs_by s.sio d) (by_sets n drives.high) s.pads) driven
     ∙ ap (λ (n : ℕ). after_step (outs_by s.sio d) (by_sets d.driven n) s.pads) high
     ∙ rest.0
+
+-- ---- all is calm
+
+abbrev pub by_pio : Outs → List ℕ → List ℕ → Outs
+by_pio outs a b = record outs { pio0 = a; pio1 = b }
+
+-- the pads have the same levels by the outputs of PIO that are seen, where the chip drives these
+abbrev pub SameSeen : SeenOutputs → Drivers → ℕ → Bank → Type 0
+SameSeen seen d on b =
+    (outs : Outs) → (driven high : ℕ) →
+    on ≡ driven_of (by_pio outs (d.pio0_levels ∷ d.pio0_enables ∷ []) (d.pio1_levels ∷ d.pio1_enables ∷ [])) b →
+    levels_of (by_pio outs (d.pio0_levels ∷ d.pio0_enables ∷ []) (d.pio1_levels ∷ d.pio1_enables ∷ [])) (by_sets driven high) b
+    ≡ levels_of (by_pio outs seen.pio0 seen.pio1) (by_sets driven high) b
+
+pub calm_stay : (wires : Wires) (seen : SeenOutputs) (drives : Drives) (s : OuterState) (d : Drivers) (on : ℕ) →
+    IsCalm s.sio d on s.pads s.uart0 s.uart1 → SameSeen seen d on s.pads → wires.pwm ≡ d.pwm →
+    drives.driven ≡ d.driven → drives.high ≡ d.high → pads_driven wires seen drives s ≡ s.pads
+unfolding pads_driven pads_after
+calm_stay wires seen drives s d on calm same pwm driven high =
+    let seen_outs : Outs = by_pio (outs_by s.sio d) seen.pio0 seen.pio1 in
+    let outs : outs_of wires seen s ≡ seen_outs =
+    parts-go s.sio seen.pio0 seen.pio1 (wires.pwm ∷ (2 ^ 30 - 1) ∷ []) (uart_outputs (output_of s.uart0.block) (output_of s.uart1.block))
+    seen.pio0 seen.pio1 (d.pwm ∷ (2 ^ 30 - 1) ∷ []) (d.uart_levels ∷ d.uart_enables ∷ [])
+    refl refl (ap (λ (n : ℕ). n ∷ (2 ^ 30 - 1) ∷ []) pwm) calm.1.0 in
+    ap (λ (o : Outs). after_step o (by_sets drives.driven drives.high) s.pads) outs
+    ∙ ap (λ (n : ℕ). after_step seen_outs (by_sets n drives.high) s.pads) driven
+    ∙ ap (λ (n : ℕ). after_step seen_outs (by_sets d.driven n) s.pads) high
+    ∙ ap (λ (n : ℕ). with_levels n (with_edges (edges_of s.pads) s.pads)) (sym (same (outs_by s.sio d) d.driven d.high calm.0.1))
+    ∙ calm.0.0
 
 -- ---- any cycle, part by part
 

@@ -1,5 +1,5 @@
 -- What the pads are stepped by, in words, and when a step by these changes nothing. Nothing of it is told outside.
-use Rattle.std.specs.Prelude.{◌≡◌, ℕ, ◌-◌, ◌^◌, Bool, false, ◌&&◌, ◌==◌, List, [], ◌∷◌, None}
+use Rattle.std.specs.Prelude.{◌≡◌, ℕ, ◌-◌, ◌^◌, Bool, true, false, ◌&&◌, ◌==◌, List, [], ◌∷◌, None}
 use Rattle.rp_base.specs.declared.resettable.Resettable.{Resettable}
 use Rattle.lane_look.specs.declared.marks.Mark.{Mark}
 use Rattle.lane_look.specs.declared.device.Wires.{Wires}
@@ -9,6 +9,7 @@ use Rattle.rp_uart.specs.Step as uart
 use Rattle.io_bank.specs.declared.outputs.Outs.{Outs}
 use Rattle.io_bank.specs.State.{Bank}
 use Rattle.io_bank.specs.Levels.{by_sets, receive_level, uart_outputs}
+use Rattle.io_bank.specs.Driven.{driven_of}
 use Rattle.io_bank.specs.Step as pads
 use Rattle.outer_lane.specs.declared.drivers.Drivers.{Drivers}
 use Rattle.outer_lane.specs.declared.world.SeenOutputs.{SeenOutputs}
@@ -67,6 +68,14 @@ AreUartsAtRest d b uart0 uart1 =
     (uart_outputs (uart.output_of uart0.block) (uart.output_of uart1.block) ≡ d.uart_levels ∷ d.uart_enables ∷ [])
     × ((uart_after (receive_level 0 b) uart0 ≡ uart0) × ((byte_of uart0 ≡ None)
     × ((uart_after (receive_level 1 b) uart1 ≡ uart1) × (byte_of uart1 ≡ None))))
+
+-- a step by these changes nothing of the pads, of which the chip drives some, among these are the outputs of the UARTs, and the
+-- line of each is high
+abbrev pub IsCalm : List ℕ → Drivers → ℕ → Bank → Resettable SerialPort → Resettable SerialPort → Type 0
+IsCalm sio d driven b uart0 uart1 =
+    ((pads_after sio d b ≡ b) × (driven ≡ driven_of (outs_by sio d) b))
+    × ((uart_outputs (uart.output_of uart0.block) (uart.output_of uart1.block) ≡ d.uart_levels ∷ d.uart_enables ∷ [])
+    × ((receive_level 0 b ≡ true) × (receive_level 1 b ≡ true)))
 
 -- a cycle by these changes nothing of the pads and the UARTs
 abbrev pub IsLaneAtRest : List ℕ → Drivers → Bank → Resettable SerialPort → Resettable SerialPort → Type 0

@@ -73,6 +73,16 @@ impl Drivers {
             && self.high == drives.high
     }
 
+    /// Each word but those of the PIO blocks and the UARTs is what is driven.
+    #[inline(always)]
+    pub(crate) fn is_else_driven_by(&self, wires: &Wires, drives: Drives) -> bool
+        ensures pwm { result ≡ true → wires.now.pwm ≡ self.now.pwm }
+        ensures driven { result ≡ true → drives.driven ≡ self.now.driven }
+        ensures high { result ≡ true → drives.high ≡ self.now.high }
+    {
+        self.pwm == wires.pwm && self.driven == drives.driven && self.high == drives.high
+    }
+
     /// The outputs of all parts, where SIO puts these out.
     #[inline(always)]
     pub(crate) fn outs(&self, sio: [u32; 2]) -> Outs

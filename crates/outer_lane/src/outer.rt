@@ -39,13 +39,16 @@ pub struct Outer {
     pub(crate) pads_at_rest: bool,
     // beside that both UARTs are at rest, and put out what is among these
     pub(crate) at_rest: bool,
+    // the pads are at rest, the UARTs put out what is among these and hear high lines; these pads are driven by the chip
+    pub(crate) calm: bool,
+    pub(crate) driven: u32,
     pub(crate) drivers: Drivers,
 }
 
 impl Model for Outer {
     ghost use Rattle.std.specs.Prelude.{◌≡◌, true};
     ghost use Rattle.outer_lane.specs.State.{OuterState};
-    ghost use Rattle.outer_lane.specs.Rest.{IsAtRest, IsLaneAtRest};
+    ghost use Rattle.outer_lane.specs.Rest.{IsAtRest, IsLaneAtRest, IsCalm};
 
     ghost Value = { OuterState };
 
@@ -59,9 +62,11 @@ impl Model for Outer {
       sio = o.sio;
     } };
 
-    // a step of pads at rest changes nothing, and no line of them is high; the lane is at rest where the UARTs are too
+    // a step of pads at rest changes nothing, and no line of them is high; the lane is at rest where the UARTs are too, and
+    // calm where they hear nothing and put out what they did
     ghost invariant = { λ o. (o.pads_at_rest ≡ true → IsAtRest o.sio o.drivers o.pads)
-        × (o.at_rest ≡ true → IsLaneAtRest o.sio o.drivers o.pads o.uart0 o.uart1) };
+        × ((o.at_rest ≡ true → IsLaneAtRest o.sio o.drivers o.pads o.uart0 o.uart1)
+        × (o.calm ≡ true → IsCalm o.sio o.drivers o.driven o.pads o.uart0 o.uart1)) };
 }
 
 impl Outer {
@@ -86,6 +91,8 @@ impl Outer {
             ticks: Ticks::new(),
             pads_at_rest: false,
             at_rest: false,
+            calm: false,
+            driven: 0,
             drivers: Drivers::NONE,
         }
     }
@@ -97,6 +104,7 @@ impl Outer {
     {
         self.pads_at_rest = false;
         self.at_rest = false;
+        self.calm = false;
         self.timer.set_held(has_bit(bits, TIMER));
         self.uart0.set_held(has_bit(bits, UART0));
         self.uart1.set_held(has_bit(bits, UART1));
@@ -112,6 +120,7 @@ impl Outer {
         if self.sio != outs {
             self.pads_at_rest = false;
             self.at_rest = false;
+            self.calm = false;
             self.sio = outs;
         }
     }
@@ -221,6 +230,8 @@ impl Outer {
         self.ticks.copy_from(&other.ticks);
         self.pads_at_rest = other.pads_at_rest;
         self.at_rest = other.at_rest;
+        self.calm = other.calm;
+        self.driven = other.driven;
         self.drivers = other.drivers;
     }
 }

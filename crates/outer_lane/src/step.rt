@@ -63,6 +63,38 @@ pub(crate) fn step_uart(uart: &mut Resettable<Uart>, pads: &IoBank, number: u8) 
     }
 }
 
+/// A UART whose line is high steps unless it is held; the byte whose frame ended. Where its output changes, `calm` is false
+/// from then on.
+#[inline(always)]
+fn step_high(uart: &mut Resettable<Uart>, calm: &mut bool) -> Option<u8>
+    ensures after { uart.new ≡ uart_after true uart.old }
+    ensures byte { result ≡ byte_of uart.old }
+    ensures was { calm.new ≡ true → calm.old ≡ true }
+    ensures output { calm.new ≡ true → output_of uart.new.block ≡ output_of uart.old.block }
+{
+    if uart.held || uart.block.is_stopped() || uart.block.sends_on() {
+        return None;
+    }
+    step_any_high(uart, calm)
+}
+
+/// The same of a UART that is not held, whatever it does.
+#[inline(never)]
+fn step_any_high(uart: &mut Resettable<Uart>, calm: &mut bool) -> Option<u8>
+    requires { uart.old.held ≡ false }
+    ensures after { uart.new ≡ uart_after true uart.old }
+    ensures byte { result ≡ byte_of uart.old }
+    ensures was { calm.new ≡ true → calm.old ≡ true }
+    ensures output { calm.new ≡ true → output_of uart.new.block ≡ output_of uart.old.block }
+{
+    let before = uart.block.out();
+    let byte = uart.block.step(true);
+    if uart.block.out() != before {
+        *calm = false;
+    }
+    byte
+}
+
 /// UART 0 or 1 is held, or a cycle changes nothing of it.
 #[inline(always)]
 fn is_uart_at_rest(uart: &Resettable<Uart>, pads: &IoBank, number: u8) -> bool
@@ -87,6 +119,21 @@ fn are_uarts_at_rest(
         && drivers.uart_enables == enables
         && is_uart_at_rest(uart0, pads, 0)
         && is_uart_at_rest(uart1, pads, 1)
+}
+
+/// The outputs of the UARTs are among what the pads were stepped by, and the line of each is high.
+#[inline(never)]
+fn are_uarts_calm(drivers: &Drivers, pads: &IoBank, uart0: &Uart, uart1: &Uart) -> bool
+    ensures outputs { result ≡ true → uart_outputs (output_of uart0.now) (output_of uart1.now)
+        ≡ drivers.now.uart_levels ∷ drivers.now.uart_enables ∷ [] }
+    ensures line0 { result ≡ true → receive_level 0 pads.now ≡ true }
+    ensures line1 { result ≡ true → receive_level 1 pads.now ≡ true }
+{
+    let [levels, enables] = uart_outputs(uart0.out(), uart1.out());
+    drivers.uart_levels == levels
+        && drivers.uart_enables == enables
+        && pads.receive_level(0)
+        && pads.receive_level(1)
 }
 
 /// The timer steps unless it is held.
@@ -152,6 +199,7 @@ impl Outer {
     {
         self.pads.step_to(levels);
         self.at_rest = false;
+        self.calm = false;
         self.pads_at_rest = are_pads_at_rest(&self.pads);
         self.drivers = drivers;
     }
@@ -172,6 +220,7 @@ impl Outer {
         let levels = self.pads.levels(&outs, drivers.driven, drivers.high);
         if self.pads_at_rest && levels == self.pads.pads() {
             self.at_rest = stays_at_rest(self.at_rest, &self.drivers, &drivers);
+            self.calm = false;
             self.drivers = drivers;
         } else {
             self.step_changed(drivers, levels);
@@ -191,15 +240,43 @@ impl Outer {
         if self.at_rest {
             return [None, None];
         }
+        self.calm = false;
         [
             step_uart(&mut self.uart0, &self.pads, 0),
             step_uart(&mut self.uart1, &self.pads, 1),
         ]
     }
 
-    /// Keeps in mind that all is at rest, where it is.
+    /// Keeps in mind that all is at rest or calm, where it is.
     #[inline(always)]
     fn settle(&mut self)
+        ensures { self.new ≡ self.old }
+    {
+        if self.pads_at_rest {
+            self.settle_calm();
+            self.settle_rest();
+        }
+    }
+
+    /// Keeps in mind that all is calm, where the pads are at rest.
+    #[inline(always)]
+    fn settle_calm(&mut self)
+        ensures { self.new ≡ self.old }
+    {
+        if self.pads_at_rest && !self.calm {
+            self.driven = self.pads.driven(&self.drivers.outs(self.sio));
+            self.calm = are_uarts_calm(
+                &self.drivers,
+                &self.pads,
+                &self.uart0.block,
+                &self.uart1.block,
+            );
+        }
+    }
+
+    /// Keeps in mind that all is at rest, where the pads are.
+    #[inline(always)]
+    fn settle_rest(&mut self)
         ensures { self.new ≡ self.old }
     {
         if self.pads_at_rest
@@ -224,6 +301,119 @@ impl Outer {
         ensures byte1 { result ≡ true → byte_of self.now.uart1 ≡ None }
     {
         self.at_rest && self.drivers.is_driven_by(wires, seen, drives)
+    }
+
+    /// A cycle by these does not change the pads, and the UARTs hear high lines in it.
+    #[inline(always)]
+    fn is_calm_by(&self, wires: &Wires, seen: &SeenOutputs, drives: Drives) -> bool
+        ensures pads { result ≡ true
+            → pads_driven wires.now seen.now drives self.now ≡ self.now.pads }
+        ensures line0 { result ≡ true → receive_level 0 self.now.pads ≡ true }
+        ensures line1 { result ≡ true → receive_level 1 self.now.pads ≡ true }
+    {
+        if self.calm && self.drivers.is_else_driven_by(wires, drives) {
+            return self.pads.is_seen_same(
+                self.driven,
+                [self.drivers.pio0_levels, self.drivers.pio0_enables],
+                [self.drivers.pio1_levels, self.drivers.pio1_enables],
+                seen.pio0,
+                seen.pio1,
+            );
+        }
+        false
+    }
+
+    /// Such a cycle.
+    #[inline(always)]
+    fn step_calm(&mut self, irq: u32, cycle: u64) -> Mark
+        requires line0 { receive_level 0 self.old.pads ≡ true }
+        requires line1 { receive_level 1 self.old.pads ≡ true }
+        ensures state { self.new ≡ record self.old {
+          timer = timer_after cycle self.old.timer;
+          uart0 = uart_after true self.old.uart0;
+          uart1 = uart_after true self.old.uart1;
+          irq = irq;
+        } }
+        ensures mark { result ≡ record {
+          uart = byte_of self.old.uart0 ∷ byte_of self.old.uart1 ∷ [];
+          pads = self.old.pads.current;
+        } }
+    {
+        let uart = self.step_high_uarts();
+        self.irq = irq;
+        self.step_time(cycle);
+        Mark {
+            uart,
+            pads: self.pads.pads(),
+        }
+    }
+
+    /// The UARTs step, where the line of each is high; the bytes whose frames ended.
+    #[inline(always)]
+    fn step_high_uarts(&mut self) -> [Option<u8>; 2]
+        requires line0 { receive_level 0 self.old.pads ≡ true }
+        requires line1 { receive_level 1 self.old.pads ≡ true }
+        ensures bytes { result ≡ byte_of self.old.uart0 ∷ byte_of self.old.uart1 ∷ [] }
+        ensures after { self.new ≡ record self.old {
+          uart0 = uart_after true self.old.uart0;
+          uart1 = uart_after true self.old.uart1;
+        } }
+    {
+        let first = step_high(&mut self.uart0, &mut self.calm);
+        let second = step_high(&mut self.uart1, &mut self.calm);
+        [first, second]
+    }
+
+    /// UART 0 sends on, and UART 1 does not run; else nothing. Whether it was. The lines of both are high.
+    #[inline(always)]
+    fn sends_on(&mut self) -> bool
+        requires line0 { receive_level 0 self.old.pads ≡ true }
+        requires line1 { receive_level 1 self.old.pads ≡ true }
+        ensures on { result ≡ true → self.new ≡ record self.old {
+          uart0 = uart_after true self.old.uart0;
+          uart1 = uart_after true self.old.uart1;
+        } }
+        ensures off { result ≡ false → self.new ≡ self.old }
+        ensures byte0 { result ≡ true → byte_of self.old.uart0 ≡ None }
+        ensures byte1 { result ≡ true → byte_of self.old.uart1 ≡ None }
+    {
+        if self.uart0.held || !(self.uart1.held || self.uart1.block.is_stopped()) {
+            return false;
+        }
+        self.uart0.block.sends_on()
+    }
+
+    /// A cycle by these, in which not all is at rest.
+    #[inline(never)]
+    fn step_busy(&mut self, wires: &Wires, seen: &SeenOutputs, drives: Drives) -> Mark
+        ensures state { self.new ≡ next_driven wires.now seen.now drives self.old }
+        ensures mark { result ≡ marked_driven wires.now seen.now drives self.old }
+    {
+        if self.is_calm_by(wires, seen, drives)
+            && self.ticks.is_between(seen.cycle)
+            && self.sends_on()
+        {
+            self.irq = wires.irq;
+            self.step_time(seen.cycle);
+            return Mark {
+                uart: [None, None],
+                pads: self.pads.pads(),
+            };
+        }
+        self.step_other(wires, seen, drives)
+    }
+
+    /// The same, whatever the UARTs do.
+    #[inline(never)]
+    fn step_other(&mut self, wires: &Wires, seen: &SeenOutputs, drives: Drives) -> Mark
+        ensures state { self.new ≡ next_driven wires.now seen.now drives self.old }
+        ensures mark { result ≡ marked_driven wires.now seen.now drives self.old }
+    {
+        if self.is_calm_by(wires, seen, drives) {
+            self.step_calm(wires.irq, seen.cycle)
+        } else {
+            self.step_any(*wires, seen, drives)
+        }
     }
 
     /// The timer steps.
@@ -289,7 +479,7 @@ impl Outer {
         if self.stays_by(wires, seen, drives) {
             self.step_still(wires.irq, seen.cycle)
         } else {
-            self.step_any(*wires, seen, drives)
+            self.step_busy(wires, seen, drives)
         }
     }
 

@@ -1,11 +1,12 @@
 //! The words of the register blocks.
 
-ghost use Rattle.std.specs.Prelude.{◌≡◌, ◌+◌};
+ghost use Rattle.std.specs.Prelude.{◌≡◌, ◌+◌, true};
 ghost use Rattle.rp_base.specs.Held.{unless_held};
 ghost use Rattle.rp_base.specs.Resettable.{unless_held_becomes};
 ghost use Rattle.io_bank.specs.declared.registers.TheConstants.{PADS_BANK0};
 ghost use Rattle.io_bank.specs.Words.{effect_of};
-ghost use Rattle.outer_lane.specs.Words.{bank_accessed};
+ghost use Rattle.rp_uart.specs.Step.{output_of};
+ghost use Rattle.outer_lane.specs.Words.{bank_accessed, uart_accessed};
 
 use crate::outer::Outer;
 use crate::step::step_device;
@@ -16,6 +17,7 @@ use io_bank::{IoBank, Outs};
 use lane_look::Device;
 use rp_base::map::Block;
 use rp_base::{Registers, Resettable};
+use rp_uart::Uart;
 
 /// The last offset of PADS_BANK0.
 const LAST_PAD: u16 = PAD_GPIO29 - PADS_BANK0;
@@ -144,16 +146,44 @@ impl Outer {
     pub fn effect(&mut self, block: Block, offset: u16, write: Option<u32>)
         ensures { self.new ≡ outer_accessed block offset write self.old }
     {
-        self.pads_at_rest = false;
-        self.at_rest = false;
         match block {
-            Block::IoBank0 => access_bank(&mut self.pads, offset, write),
-            Block::PadsBank0 => access_pads(&mut self.pads, offset, write),
-            Block::Uart0 => access(&mut self.uart0, offset, write),
-            Block::Uart1 => access(&mut self.uart1, offset, write),
+            Block::IoBank0 => {
+                self.pads_at_rest = false;
+                self.at_rest = false;
+                self.calm = false;
+                access_bank(&mut self.pads, offset, write);
+            }
+            Block::PadsBank0 => {
+                self.pads_at_rest = false;
+                self.at_rest = false;
+                self.calm = false;
+                access_pads(&mut self.pads, offset, write);
+            }
+            Block::Uart0 => {
+                self.at_rest = false;
+                access_uart(&mut self.uart0, &mut self.calm, offset, write);
+            }
+            Block::Uart1 => {
+                self.at_rest = false;
+                access_uart(&mut self.uart1, &mut self.calm, offset, write);
+            }
             Block::Timer => access(&mut self.timer, offset, write),
             _ => {}
         }
+    }
+}
+
+/// An access to a UART. Where its output changes, `calm` is false from then on.
+#[tactic(auto, unfolding(crate::specs::Words::uart_accessed))]
+fn access_uart(uart: &mut Resettable<Uart>, calm: &mut bool, offset: u16, write: Option<u32>)
+    ensures after { uart.new ≡ uart_accessed offset write uart.old }
+    ensures was { calm.new ≡ true → calm.old ≡ true }
+    ensures output { calm.new ≡ true → output_of uart.new.block ≡ output_of uart.old.block }
+{
+    let before = uart.block.out();
+    access(uart, offset, write);
+    if uart.block.out() != before {
+        *calm = false;
     }
 }
 

@@ -1,6 +1,7 @@
 //! Sending.
 
 ghost use Rattle.std.specs.Prelude.{◌≡◌, ◌<◌, true, false, Some, None, if◌then◌else◌};
+ghost use Rattle.rp_uart.specs.Step.{output_of};
 ghost use Rattle.rp_uart.specs.Sender.{next_frame, is_last_bit, after_bit, after_frame, after_sending, ended_byte, frame_byte};
 
 use crate::interrupts::TRANSMIT;
@@ -51,19 +52,16 @@ impl Uart {
         ensures on { result ≡ true → self.new ≡ after_sending self.old }
         ensures off { result ≡ false → self.new ≡ self.old }
         ensures byte { result ≡ true → ended_byte self.old.sender self.old ≡ None }
+        ensures output { result ≡ true → output_of self.new ≡ output_of self.old }
     {
-        let Sender::Frame(frame) = self.sender else {
+        let Sender::Frame(frame) = &mut self.sender else {
             return false;
         };
         let (over, elapsed) = self.divisor.pass(frame.elapsed);
         if over {
             return false;
         }
-        self.sender = Sender::Frame(Sending {
-            byte: frame.byte,
-            bit: frame.bit,
-            elapsed,
-        });
+        frame.elapsed = elapsed;
         true
     }
 

@@ -169,6 +169,19 @@ impl Uart {
         self.run(line)
     }
 
+    /// A cycle with a high line, in which a frame is sent of which no bit ends, and nothing is received; else nothing. Whether
+    /// it was.
+    #[inline(always)]
+    #[tactic(auto, using(crate::proofs::GoesOn::goes_on))]
+    pub fn sends_on(&mut self) -> bool
+        ensures on { result ≡ true → self.new ≡ after_step true self.old }
+        ensures off { result ≡ false → self.new ≡ self.old }
+        ensures byte { result ≡ true → sent_byte self.old ≡ None }
+        ensures output { result ≡ true → output_of self.new ≡ output_of self.old }
+    {
+        !self.is_stopped() && self.hears_nothing(true) && self.goes_on()
+    }
+
     /// One cycle of a UART that has a divisor.
     #[inline(never)]
     #[tactic(auto, using(crate::proofs::GoesOn::goes_on))]

@@ -1,4 +1,4 @@
-use Rattle.std.proofs.Common.{sym, ap, ◌∙◌}
+use Rattle.std.proofs.Common.{◌≡◌, true, false, sym, ap, ◌∙◌}
 use Rattle.io_bank.specs.State.{Bank}
 use Rattle.outer_lane.specs.contracts.outer.Outer.{the_view}
 use Rattle.outer_lane.proofs.Rest.{left_pads, levels_left, same_levels, lane_by}
@@ -24,9 +24,12 @@ invariant_of-self c =
     same_levels i.sio i.drivers c.args.drivers i.pads c.levels-levels.result rest (rw c.outs-outs.ensures at c.levels-levels.ensures)
     (c.if-levels-pads.true ∙ c.pads-then-self-2.ensures) in (
       (λ _. (same, rest.1)),
-      (λ rest. lane_by i.sio i.drivers c.args.drivers i.pads i.uart0 i.uart1
-          (c.self.invariant.1 (c.stays_at_rest-self-inside.ensures.rest rest)) same (c.stays_at_rest-self-inside.ensures.levels rest)
-          (c.stays_at_rest-self-inside.ensures.enables rest)),
+      (
+        (λ rest. lane_by i.sio i.drivers c.args.drivers i.pads i.uart0 i.uart1
+            (c.self.invariant.1.0 (c.stays_at_rest-self-inside.ensures.rest rest)) same (c.stays_at_rest-self-inside.ensures.levels rest)
+            (c.stays_at_rest-self-inside.ensures.enables rest)),
+        (λ h. absurd (let g : false ≡ true = h in cc)),
+      ),
     )
 
 pub returns-then-levels-pads-clause-levels : goal.returns-then-levels-pads-clause-levels

@@ -1,0 +1,12 @@
+-- The pads that the chip drives (RP2040 Datasheet, 2.19.4, Pads).
+use Rattle.std.specs.Prelude.{ℕ, Bool, not, ◌&&◌}
+use Rattle.io_bank.specs.declared.outputs.Outs.{Outs}
+use Rattle.io_bank.specs.Pins.{pins_where}
+use Rattle.io_bank.specs.State.{Bank}
+use Rattle.io_bank.specs.Levels.{enable_to, is_output_disabled, control_of, pad_of}
+
+abbrev pub is_driven : Outs → ℕ → ℕ → ℕ → Bool
+is_driven outs control pad pin = enable_to outs control pin && not (is_output_disabled pad)
+
+abbrev pub driven_of : Outs → Bank → ℕ
+driven_of outs s = pins_where (λ pin. is_driven outs (control_of s pin) (pad_of s pin) pin)
