@@ -151,17 +151,17 @@ impl Core {
 
     /// A beat of a plain instruction is over, as most are; false where the work is other, and then nothing changes.
     #[inline(always)]
-    #[tactic(auto, using(crate::proofs::Plain::single_after, crate::proofs::Plain::plain_after))]
+    #[tactic(auto, using(crate::proofs::Plain::single_after, crate::proofs::Plain::single_plain, crate::proofs::Plain::plain_after))]
     pub(crate) fn pass_plain(&mut self, work: &Work) -> bool
         ensures { self.new ≡ (if result then after_inner work.now self.old else self.old) }
     {
         match work {
+            Work::Instruction(op) if is_single(op) => {
+                self.end_plain(op);
+                true
+            }
             Work::Instruction(op) if is_plain(op) => {
-                if is_single(op) {
-                    self.end_plain(op);
-                } else {
-                    self.pass_instruction(op);
-                }
+                self.pass_instruction(op);
                 true
             }
             _ => false,
