@@ -57,7 +57,7 @@ fn tell_of_sio(sio: &Sio, outer: &mut Outer, core1: &mut Core)
 }
 
 impl Machine {
-    ghost use Rattle.std.specs.Prelude.{◌≡◌, ◌+◌, ◌-◌, ◌^◌, ◌<◌, ◌≤◌, ◌∷◌, ◌++◌, if◌then◌else◌, is_some, [], length};
+    ghost use Rattle.std.specs.Prelude.{◌≡◌, ◌+◌, ◌-◌, ◌^◌, ◌<◌, ◌≤◌, ◌∷◌, ◌++◌, if◌then◌else◌, is_some, None, [], length};
     ghost use Rattle.std.specs.List.{All};
     ghost use Rattle.outer_lane.specs.Setting.{setting_of};
     ghost use Rattle.outer_lane.specs.Step.{marked};
@@ -485,6 +485,34 @@ impl Machine {
             return Some(Why::Limit);
         }
         self.cycle_from(world, lanes, marks, steps)
+    }
+
+    /// Does one cycle of which this is what the lanes begin, where nothing stops before it, counts it and leaves its mark alone in the
+    /// marks.
+    #[tactic(auto, unfolding(crate::specs::Cycle::stop, crate::specs::Cycle::next, crate::specs::Cycle::mark))]
+    pub fn cycle_on<X: Device, L: Ledger>(
+        &mut self,
+        world: &World<'_, X>,
+        lanes: &Begun,
+        marks: &mut Marks,
+        steps: &mut Steps<L>,
+    )
+        requires number { self.old.cycle ≤ world.now.limit }
+        requires begun { lanes.now ≡ begun self.old }
+        requires unstopped { stop
+            (setting_of world.now.script.now (X.meaning world.now.device.now) world.now.limit)
+            self.old ≡ None }
+        ensures state { self.new ≡ next
+            (setting_of world.now.script.now (X.meaning world.now.device.now) world.now.limit)
+            self.old }
+        ensures marks { marks.new ≡ mark
+            (setting_of world.now.script.now (X.meaning world.now.device.now) world.now.limit)
+            self.old ∷ [] }
+        ensures steps { steps.new ≡ steps.old + 1 }
+    {
+        marks.clear();
+        steps.tick();
+        self.step(world, lanes, &all_wanted(lanes), marks);
     }
 
     /// Does one cycle, counts it and leaves its mark alone in the marks; or changes nothing and names the stop.

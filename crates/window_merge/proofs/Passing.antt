@@ -1,5 +1,5 @@
 -- A window in one pass: in each cycle the lanes begin what their runs alone begin, and the pass ends where the window closes.
-use Rattle.std.proofs.Common.{◌≡◌, ◌≢◌, ℕ, zero, suc, ◌+◌, ◌*◌, ◌<◌, ◌≤◌, ◌||◌, ◌&&◌, ◌⊎◌, Bool, true, false, not, if◌then◌else◌, inl, inr, List, [], ◌∷◌, ◌++◌, length, None, nat_eq, refl, ap, sym, ◌∙◌, subst, append-nil, add-one, arith}
+use Rattle.std.proofs.Common.{◌≡◌, ◌≢◌, ℕ, zero, suc, ◌+◌, ◌*◌, ◌<◌, ◌≤◌, ◌==◌, ◌||◌, ◌&&◌, ◌⊎◌, Bool, true, false, not, if◌then◌else◌, inl, inr, List, [], ◌∷◌, ◌++◌, length, None, nat_eq, refl, ap, sym, ◌∙◌, subst, append-nil, add-one, arith}
 use Rattle.std.specs.Prelude.{slice_index}
 use Rattle.std.proofs.lemmas.Bool.Decides.{eqb_tells}
 use Rattle.lane_look.specs.Asking.{answered}
@@ -734,3 +734,7 @@ pub no_cycle : (w : Setting) (s t : State) (n : ℕ) → t ≡ states w s n → 
 unfolding states
 no_cycle w s t zero e le = e
 no_cycle w s t (suc n) e le = absurd (omega (arith, le))
+
+pub unstopped_behind : (w : Setting) (s t : State) (n : ℕ) → t ≡ states w s n → stop w s ≡ None → (n == 0) ≡ true → stop w t ≡ None
+unstopped_behind w s t zero e none is_zero = ap (stop w) (no_cycle w s t zero e (omega arith)) ∙ none
+unstopped_behind w s t (suc n) e none is_zero = absurd (cc is_zero)

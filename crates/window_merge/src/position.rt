@@ -1,8 +1,8 @@
 //! The positions at which a run stands between windows and single cycles.
 
-ghost use Rattle.std.specs.Prelude.{◌≡◌, ◌≤◌};
+ghost use Rattle.std.specs.Prelude.{◌≡◌, ◌≤◌, None, true};
 ghost use Rattle.outer_lane.specs.Setting.{setting_of};
-ghost use Rattle.rp_machine.specs.Cycle.{begun};
+ghost use Rattle.rp_machine.specs.Cycle.{begun, stop};
 ghost use Rattle.window_merge.specs.Merging.{IsRested, IsStep};
 ghost use Rattle.window_merge.specs.Jobs.{IsWhole};
 
@@ -25,9 +25,9 @@ pub enum Moved {
     Cycle,
 }
 
-/// Moves the machine to the next position of a run: by a window where no access lasts and the last step was not a window
-/// without a cycle, and else by one cycle. The marks of its cycles are left in `marks`, and each counts as one of the steps. The crew
-/// has what the lanes begin in the next cycle, before and after, so that they begin once in each.
+/// Moves the machine to the next position of a run: by a window where no access lasts and the last step was not a window without a
+/// cycle, behind which nothing stops, and else by one cycle. The marks of its cycles are left in `marks`, and each counts as one of the
+/// steps. The crew has what the lanes begin in the next cycle, before and after, so that they begin once in each.
 pub fn advance<X: Device, L: Ledger>(
     machine: &mut Machine,
     world: &World<'_, X>,
@@ -40,6 +40,9 @@ pub fn advance<X: Device, L: Ledger>(
     requires rested { IsRested machine.old.sio }
     requires crew { IsWhole crew.old }
     requires begun { crew.old.begun ≡ begun machine.old }
+    requires unstopped { after_empty ≡ true → stop
+        (setting_of world.now.script.now (X.meaning world.now.device.now) world.now.limit)
+        machine.old ≡ None }
     ensures moved { IsStep
         (setting_of world.now.script.now (X.meaning world.now.device.now) world.now.limit)
         after_empty result machine.old machine.new marks.old marks.new steps.old steps.new }
@@ -47,7 +50,12 @@ pub fn advance<X: Device, L: Ledger>(
     ensures crew { IsWhole crew.new }
     ensures begun { crew.new.begun ≡ begun machine.new }
 {
-    if after_empty || machine.fabric.holds() {
+    if after_empty {
+        machine.cycle_on(world, &crew.begun, marks, steps);
+        machine.begin_into(world, &mut crew.begun);
+        return Moved::Cycle;
+    }
+    if machine.fabric.holds() {
         if let Some(why) = machine.cycle_of(world, &crew.begun, marks, steps) {
             return Moved::Stopped(why);
         }

@@ -95,6 +95,9 @@ fn step<X: Device, T: Tape, L: Ledger>(
     requires rested { IsRested machine.old.sio }
     requires crew { IsWhole crew.old }
     requires begun { crew.old.begun ≡ begun machine.old }
+    requires unstopped { counts.old.after_empty ≡ true → stop
+        (setting_of world.now.script.now (X.meaning world.now.device.now) world.now.limit)
+        machine.old ≡ None }
     requires windows { counts.old.windows
         ≤ machine.old.cycle + (if counts.old.after_empty then 1 else 0) }
     requires cycles { counts.old.cycles ≤ machine.old.cycle }
@@ -115,6 +118,9 @@ fn step<X: Device, T: Tape, L: Ledger>(
     ensures rested { IsRested machine.new.sio }
     ensures crew { IsWhole crew.new }
     ensures begun { crew.new.begun ≡ begun machine.new }
+    ensures unstopped { counts.new.after_empty ≡ true → stop_in result ≡ None → stop
+        (setting_of world.now.script.now (X.meaning world.now.device.now) world.now.limit)
+        machine.new ≡ None }
 {
     is_bounded(world);
     let cycle = machine.number();

@@ -1,4 +1,4 @@
-use Rattle.std.proofs.Common.{ap, sym, ◌∙◌, subst, rules, arith}
+use Rattle.std.proofs.Common.{false, ap, sym, ◌∙◌, subst, rules, arith}
 use Rattle.outer_lane.specs.Setting.{setting_of}
 use Rattle.rp_machine.specs.State.{State}
 use Rattle.rp_machine.specs.Cycle.{stop}
@@ -7,8 +7,13 @@ use Rattle.window_merge.proofs.Passing.{unstopped_whole, no_cycle}
 use Rattle.window_merge.proofs.Resting.{rested_cycle, rested_states}
 use Rattle.window_merge.proofs.position.advance.Goals as goal
 
-pub returns-clause-rested : goal.returns-clause-rested
-returns-clause-rested g c =
+pub returns-then-after_empty-clause-rested : goal.returns-then-after_empty-clause-rested
+returns-then-after_empty-clause-rested g c =
+    let w = setting_of c.args.world.now.script.now (g.X.Device.meaning c.args.world.now.device.now) c.args.world.now.limit in
+    rested_cycle w c.args.machine.now c.cycle_on.new.self false c.requires.rested c.cycle_on.ensures.state
+
+pub returns-then-holds-clause-rested : goal.returns-then-holds-clause-rested
+returns-then-holds-clause-rested g c =
     let w = setting_of c.args.world.now.script.now (g.X.Device.meaning c.args.world.now.device.now) c.args.world.now.limit in
     rested_cycle w c.args.machine.now c.cycle_of.new.self _ c.requires.rested c.cycle_of.ensures.state
 
