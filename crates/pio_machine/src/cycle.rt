@@ -1,7 +1,7 @@
 //! A cycle of a machine.
 
 ghost use Rattle.std.specs.Prelude.{◌≡◌, ◌<◌, true, false, Some, None};
-ghost use Rattle.pio_machine.specs.Cycle.{after_op, written_with_side, after_try, written_by_try, ticks, advanced, delayed, after_cycle, written_in_cycle};
+ghost use Rattle.pio_machine.specs.Cycle.{ticks, advanced, delayed, after_cycle, written_in_cycle};
 ghost use Rattle.pio_machine.specs.Ready.{settings_of};
 
 use crate::machine::{Done, Machine1, Seen, Waiting};

@@ -1,7 +1,7 @@
 //! A try of an operation, and its side-set.
 
 ghost use Rattle.std.specs.Prelude.{◌≡◌, ◌<◌, ◌≤◌, ◌^◌, true};
-ghost use Rattle.pio_machine.specs.Operation.{tried, written, loads_osr, with_autopull, side_field, delay_of, side_value, has_side, side_pins, with_side};
+ghost use Rattle.pio_machine.specs.Operation.{tried, written, loads_osr, side_field, delay_of, side_value, has_side, side_pins, with_side};
 ghost use Rattle.pio_machine.specs.Fields.{side_count};
 ghost use Rattle.pio_machine.specs.Tie.{stands_for};
 
