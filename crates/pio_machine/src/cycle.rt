@@ -90,17 +90,21 @@ impl Machine1 {
             let word = seen.memory[(self.pc % 32) as usize];
             self.attempt_word(word, settings, number, seen, done);
         } else {
-            self.pass_delay();
+            self.pass_delay(settings);
         }
     }
 
     /// A tick of the delay passes.
     #[inline(always)]
-    pub(crate) fn pass_delay(&mut self)
+    #[tactic(auto, unfolding(crate::specs::Queue::refilled))]
+    pub(crate) fn pass_delay(&mut self, settings: &Settings)
+        requires { settings.now ≡ settings_of self.old }
         ensures { self.new ≡ delayed self.old }
     {
         self.delay = self.delay.saturating_sub(1);
-        self.refill();
+        if self.is_out(settings) {
+            self.load();
+        }
     }
 }
 

@@ -146,7 +146,7 @@ impl Machine1 {
             let word = seen.memory[(self.pc % 32) as usize];
             self.attempt_plain(word, settings, number, seen, done);
         } else {
-            self.pass_delay();
+            self.pass_delay(settings);
         }
     }
 }
