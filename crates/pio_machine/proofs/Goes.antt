@@ -82,7 +82,7 @@ stays m = goes m m refl refl refl refl refl refl refl refl
 shorter : (w : ℕ) (rest : List ℕ) (ws : List ℕ) → ws ≡ w ∷ rest → length rest ≤ length ws
 shorter w rest ws h = omega (arith, ap (λ zs. length zs) h)
 
-goes-load : (ws : List ℕ) (m : Machine1) → m.tx ≡ ws → Goes m (loaded_from ws m)
+pub goes-load : (ws : List ℕ) (m : Machine1) → m.tx ≡ ws → Goes m (loaded_from ws m)
 goes-load [] m h = stays m
 goes-load (w ∷ rest) m h =
     record { enabled = refl; clkdiv = refl; execctrl = refl; shiftctrl = refl; pinctrl = refl; acc = refl; tx = shorter w rest m.tx h; rx = below_both m.rx m.rx (rx_depth m) refl }
@@ -220,7 +220,7 @@ goes-set set.X v m = goes m _ refl refl refl refl refl refl refl refl
 goes-set set.Y v m = goes m _ refl refl refl refl refl refl refl refl
 goes-set set.Pindirs v m = stays m
 
-goes-op : (op : PioOp) (number : ℕ) (seen : Seen) (m : Machine1) → Goes m (tried op number seen m).machine
+pub goes-op : (op : PioOp) (number : ℕ) (seen : Seen) (m : Machine1) → Goes m (tried op number seen m).machine
 goes-op (Jmp condition address) number seen m = goes-jmp condition m
 goes-op (Wait polarity source) number seen m = stays m
 goes-op (In source count) number seen m = goes-in source count seen m
@@ -249,7 +249,7 @@ goes-end delay Completed m = next_goes (goes-past m.waiting m) (goes (stepped m)
 goes-end delay (Jumped address) m = goes m _ refl refl refl refl refl refl refl refl
 goes-end delay (Executes word) m = next_goes (goes-past m.waiting m) (goes (stepped m) _ refl refl refl refl refl refl refl refl)
 
-goes-worked : (op : PioOp) (number : ℕ) (seen : Seen) (m : Machine1) → Goes m (worked op number seen m)
+pub goes-worked : (op : PioOp) (number : ℕ) (seen : Seen) (m : Machine1) → Goes m (worked op number seen m)
 goes-worked op number seen m = next_goes (goes-op op number seen m) (goes-autopull-by (loads_osr op) (tried op number seen m).machine)
 
 goes-after-op : (word : ℕ) (op : PioOp) (number : ℕ) (seen : Seen) (m : Machine1) → Goes m (after_op word op number seen m)

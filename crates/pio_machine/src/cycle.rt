@@ -1,53 +1,13 @@
 //! A cycle of a machine.
 
 ghost use Rattle.std.specs.Prelude.{◌≡◌, ◌<◌, true, false, Some, None};
-ghost use Rattle.pio_machine.specs.Cycle.{after_op, written_with_side, after_try, written_by_try, ticks, advanced, delayed, after_cycle, written_in_cycle};
+ghost use Rattle.pio_machine.specs.Cycle.{ticks, advanced, delayed, after_cycle, written_in_cycle};
 ghost use Rattle.pio_machine.specs.Ready.{settings_of};
 
 use crate::machine::{Done, Machine1, Seen, Waiting};
 use crate::settings::Settings;
-use pio_words::{PioOp, decode_word};
 
 impl Machine1 {
-    /// Tries an operation with its word's side-set and delay.
-    fn attempt_op(&mut self, word: u16, op: PioOp, number: u8, seen: &Seen, done: &mut Done)
-        requires { number < 4 }
-        ensures machine { self.new ≡ after_op word op number seen.now self.old }
-        ensures done { done.new ≡ written_with_side word op number seen.now self.old done.old }
-    {
-        let outcome = self.perform(op, number, seen, done);
-        self.refill_after(op);
-        self.set_side(word, done);
-        let delay = self.delay_of(word);
-        self.end(delay, outcome);
-    }
-
-    /// Tries a word by its operation.
-    #[inline(never)]
-    #[tactic(auto, unfolding(crate::specs::Cycle::after_try, crate::specs::Cycle::written_by_try))]
-    pub(crate) fn attempt_other(&mut self, word: u16, number: u8, seen: &Seen, done: &mut Done)
-        requires { number < 4 }
-        ensures machine { self.new ≡ after_try word number seen.now self.old }
-        ensures done { done.new ≡ written_by_try word number seen.now self.old done.old }
-    {
-        self.attempt_op(word, decode_word(word), number, seen, done);
-    }
-
-    /// Tries a word, the one at PC or the one that waits.
-    #[inline(always)]
-    #[tactic(auto, using(crate::proofs::Outs::after_out_word, crate::proofs::Outs::written_with_out_word))]
-    fn attempt(&mut self, word: u16, number: u8, seen: &Seen, done: &mut Done)
-        requires { number < 4 }
-        ensures machine { self.new ≡ after_try word number seen.now self.old }
-        ensures done { done.new ≡ written_by_try word number seen.now self.old done.old }
-    {
-        if word / 8192 == 3 && word / 32 % 8 == 0 {
-            self.attempt_out(word, done);
-        } else {
-            self.attempt_other(word, number, seen, done);
-        }
-    }
-
     /// The machine ticks in this cycle.
     #[inline(always)]
     fn ticks(&self) -> bool
@@ -92,9 +52,17 @@ impl Machine1 {
 
     /// A cycle in which a word waits.
     #[inline(never)]
-    #[tactic(auto, unfolding(crate::specs::Cycle::after_cycle, crate::specs::Cycle::written_in_cycle, crate::specs::Cycle::word_tried))]
-    fn cycle_waiting(&mut self, waiting: Waiting, number: u8, seen: &Seen, done: &mut Done)
+    #[tactic(auto, unfolding(crate::specs::Cycle::after_cycle, crate::specs::Cycle::written_in_cycle, crate::specs::Cycle::word_tried), using(crate::proofs::Ready::settings_advanced))]
+    fn cycle_waiting(
+        &mut self,
+        waiting: Waiting,
+        settings: &Settings,
+        number: u8,
+        seen: &Seen,
+        done: &mut Done,
+    )
         requires number { number < 4 }
+        requires settings { settings.now ≡ settings_of self.old }
         requires waiting { self.old.waiting ≡ Some waiting }
         ensures machine { self.new ≡ after_cycle number seen.now self.old }
         ensures done { done.new ≡ written_in_cycle number seen.now self.old done.old }
@@ -102,15 +70,16 @@ impl Machine1 {
         let tried = waiting.forced || self.ticks();
         self.advance();
         if tried {
-            self.attempt(waiting.word, number, seen, done);
+            self.attempt_word(waiting.word, settings, number, seen, done);
         }
     }
 
     /// A tick in which no word waits.
     #[inline(never)]
-    #[tactic(auto, unfolding(crate::specs::Cycle::after_cycle, crate::specs::Cycle::written_in_cycle, crate::specs::Cycle::word_tried))]
-    fn tick_at_pc(&mut self, number: u8, seen: &Seen, done: &mut Done)
+    #[tactic(auto, unfolding(crate::specs::Cycle::after_cycle, crate::specs::Cycle::written_in_cycle, crate::specs::Cycle::word_tried), using(crate::proofs::Ready::settings_advanced))]
+    fn tick_at_pc(&mut self, settings: &Settings, number: u8, seen: &Seen, done: &mut Done)
         requires number { number < 4 }
+        requires settings { settings.now ≡ settings_of self.old }
         requires ticks { ticks self.old ≡ true }
         requires waiting { self.old.waiting ≡ None }
         ensures machine { self.new ≡ after_cycle number seen.now self.old }
@@ -118,19 +87,24 @@ impl Machine1 {
     {
         self.begin_period();
         if self.delay == 0 {
-            self.attempt(seen.memory[(self.pc % 32) as usize], number, seen, done);
+            let word = seen.memory[(self.pc % 32) as usize];
+            self.attempt_word(word, settings, number, seen, done);
         } else {
-            self.pass_delay();
+            self.pass_delay(settings);
         }
     }
 
     /// A tick of the delay passes.
     #[inline(always)]
-    pub(crate) fn pass_delay(&mut self)
+    #[tactic(auto, unfolding(crate::specs::Queue::refilled))]
+    pub(crate) fn pass_delay(&mut self, settings: &Settings)
+        requires { settings.now ≡ settings_of self.old }
         ensures { self.new ≡ delayed self.old }
     {
         self.delay = self.delay.saturating_sub(1);
-        self.refill();
+        if self.is_out(settings) {
+            self.load();
+        }
     }
 }
 
@@ -152,12 +126,12 @@ pub fn tick_by(
     ensures settings { settings_of machine.new ≡ settings_of machine.old }
 {
     if let Some(waiting) = machine.waiting {
-        machine.cycle_waiting(waiting, number, seen, done);
+        machine.cycle_waiting(waiting, settings, number, seen, done);
     } else if machine.ticks() {
         if settings.plain {
             machine.tick_plain(settings, number, seen, done);
         } else {
-            machine.tick_at_pc(number, seen, done);
+            machine.tick_at_pc(settings, number, seen, done);
         }
     } else {
         machine.count_down();

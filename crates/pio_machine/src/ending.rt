@@ -1,36 +1,44 @@
 //! How a try of a word ends.
 
-ghost use Rattle.std.specs.Prelude.{◌≡◌};
-ghost use Rattle.pio_machine.specs.Operation.{next_address, stepped, jumped, ended};
+ghost use Rattle.std.specs.Prelude.{◌≡◌, None};
+ghost use Rattle.pio_machine.specs.Operation.{stepped, jumped, ended};
+ghost use Rattle.pio_machine.specs.Ready.{settings_of};
 ghost use Rattle.pio_machine.specs.Tie.{stands_for};
 
 use crate::machine::{Machine1, Outcome, Waiting};
+use crate::settings::Settings;
 
 impl Machine1 {
-    /// The address after PC.
-    fn next_address(&self) -> u8
-        ensures { result ≡ next_address self.now }
+    /// The word at PC is followed by the next one.
+    #[inline(always)]
+    pub(crate) fn step_at_pc(&mut self, settings: &Settings)
+        requires settings { settings.now ≡ settings_of self.old }
+        requires waiting { self.old.waiting ≡ None }
+        ensures { self.new ≡ stepped self.old }
     {
-        if self.pc == self.wrap_top() {
-            self.wrap_bottom()
+        let next = if self.pc == settings.top {
+            settings.bottom
         } else {
             (self.pc % 32 + 1) % 32
-        }
+        };
+        self.set_pc(next);
     }
 
     /// The word at PC is followed by the next one, and a waiting one is gone.
-    pub(crate) fn step(&mut self)
+    #[inline(always)]
+    pub(crate) fn step_by(&mut self, settings: &Settings)
+        requires { settings.now ≡ settings_of self.old }
         ensures { self.new ≡ stepped self.old }
     {
         if self.waiting.is_some() {
             self.waiting = None;
         } else {
-            self.set_pc(self.next_address());
+            self.step_at_pc(settings);
         }
     }
 
     /// Jumps.
-    fn jump(&mut self, address: u8)
+    pub(crate) fn jump(&mut self, address: u8)
         ensures { self.new ≡ jumped address self.old }
     {
         self.set_pc(address);
@@ -38,14 +46,16 @@ impl Machine1 {
     }
 
     /// Ends a try of the word at PC, or of the one that waits.
+    #[inline(always)]
     #[tactic(auto, unfolding(crate::specs::Operation::ended))]
-    pub(crate) fn end(&mut self, delay: u8, outcome: Outcome)
+    pub(crate) fn end_by(&mut self, delay: u8, outcome: Outcome, settings: &Settings)
+        requires { settings.now ≡ settings_of self.old }
         ensures { self.new ≡ ended delay (stands_for outcome) self.old }
     {
         match outcome {
             Outcome::Stalled => {}
             Outcome::Completed => {
-                self.step();
+                self.step_by(settings);
                 self.delay = delay;
             }
             Outcome::Jumped(address) => {
@@ -53,7 +63,7 @@ impl Machine1 {
                 self.delay = delay;
             }
             Outcome::Executes(word) => {
-                self.step();
+                self.step_by(settings);
                 self.waiting = Some(Waiting::executed(word));
             }
         }

@@ -3,6 +3,7 @@
 //! machine's record, in which a FIFO is a list.
 #![tactic(auto)]
 
+mod attempt;
 mod bits;
 mod cycle;
 mod ending;

@@ -1,7 +1,7 @@
 //! A try of an operation, and its side-set.
 
 ghost use Rattle.std.specs.Prelude.{◌≡◌, ◌<◌, ◌≤◌, ◌^◌, true};
-ghost use Rattle.pio_machine.specs.Operation.{tried, written, loads_osr, with_autopull, side_field, delay_of, side_value, has_side, side_pins, with_side};
+ghost use Rattle.pio_machine.specs.Operation.{tried, written, loads_osr, side_field, delay_of, side_value, has_side, side_pins, with_side};
 ghost use Rattle.pio_machine.specs.Fields.{side_count};
 ghost use Rattle.pio_machine.specs.Tie.{stands_for};
 
@@ -12,7 +12,7 @@ use pio_words::{MovDestination, PioOp};
 use rp_base::bits::has_bit;
 
 /// The operation loads the OSR itself.
-fn loads_osr(op: PioOp) -> bool
+pub(crate) fn loads_osr(op: PioOp) -> bool
     ensures { result ≡ loads_osr op }
 {
     match op {
@@ -44,6 +44,7 @@ pub(crate) fn have_32_bits(levels: u32, enables: u32)
 
 impl Machine1 {
     /// A try of an operation by the machine of this number.
+    #[inline(always)]
     pub(crate) fn perform(&mut self, op: PioOp, number: u8, seen: &Seen, done: &mut Done) -> Outcome
         requires { number < 4 }
         ensures machine { self.new ≡ (tried op number seen.now self.old).machine }
@@ -80,18 +81,9 @@ impl Machine1 {
         }
     }
 
-    /// Autopull after an operation that does not load the OSR itself.
-    pub(crate) fn refill_after(&mut self, op: PioOp)
-        ensures { self.new ≡ with_autopull op self.old }
-    {
-        if !loads_osr(op) {
-            self.refill();
-        }
-    }
-
     /// No bit of a word is for side-set.
     #[inline(always)]
-    pub(crate) fn has_no_side(&self) -> bool
+    fn has_no_side(&self) -> bool
         ensures { result ≡ true → side_count self.now ≡ 0 }
     {
         self.pinctrl < 0x2000_0000

@@ -3,7 +3,7 @@
 ghost use Rattle.std.specs.Prelude.{◌≡◌, ◌<◌, ◌≤◌, ◌%◌, ◌/◌, true, None};
 ghost use Rattle.pio_words.specs.Operation.{count_at};
 ghost use Rattle.pio_machine.specs.Fields.{side_count};
-ghost use Rattle.pio_machine.specs.Operation.{stepped, with_side};
+ghost use Rattle.pio_machine.specs.Operation.{with_side};
 ghost use Rattle.pio_machine.specs.Output.{out_stalls, out_value, out_done, out_pins};
 ghost use Rattle.pio_machine.specs.Out.{after_out, written_with_out, completed_by};
 ghost use Rattle.pio_machine.specs.Cycle.{ticks, advanced, after_try, written_by_try, after_cycle, written_in_cycle};
@@ -18,7 +18,7 @@ use pio_words::OutDestination;
 impl Machine1 {
     /// No bit of a word is for side-set.
     #[inline(always)]
-    fn sets_no_side(&self, settings: &Settings)
+    pub(crate) fn sets_no_side(&self, settings: &Settings)
         requires settings { settings.now ≡ settings_of self.now }
         requires plain { settings.now.plain ≡ true }
         ensures { side_count self.now ≡ 0 }
@@ -35,26 +35,11 @@ impl Machine1 {
 
     /// Under autopull the OSR is spent.
     #[inline(always)]
-    fn is_out(&self, settings: &Settings) -> bool
+    pub(crate) fn is_out(&self, settings: &Settings) -> bool
         requires { settings.now ≡ settings_of self.now }
         ensures { result ≡ out_stalls self.now }
     {
         settings.limit <= u32::from(self.osr_count)
-    }
-
-    /// The word at PC is followed by the next one.
-    #[inline(always)]
-    fn step_at_pc(&mut self, settings: &Settings)
-        requires settings { settings.now ≡ settings_of self.old }
-        requires waiting { self.old.waiting ≡ None }
-        ensures { self.new ≡ stepped self.old }
-    {
-        let next = if self.pc == settings.top {
-            settings.bottom
-        } else {
-            (self.pc % 32 + 1) % 32
-        };
-        self.set_pc(next);
     }
 
     /// The word at PC completes, and sets a delay.
@@ -90,7 +75,7 @@ impl Machine1 {
         let value = self.shift_out(count);
         done.write_levels_by(settings.out_mask, self.out_base(), self.out_count(), value);
         if self.is_out(settings) {
-            self.load_and_complete(word, done);
+            self.load_and_complete(word, settings, done);
         } else {
             self.complete_plain(word, settings, done);
         }
@@ -134,7 +119,7 @@ impl Machine1 {
         if word / 8192 == 3 && word / 32 % 8 == 0 {
             self.attempt_out_plain(word, settings, done);
         } else {
-            self.attempt_other(word, number, seen, done);
+            self.attempt_word(word, settings, number, seen, done);
         }
     }
 
@@ -161,7 +146,7 @@ impl Machine1 {
             let word = seen.memory[(self.pc % 32) as usize];
             self.attempt_plain(word, settings, number, seen, done);
         } else {
-            self.pass_delay();
+            self.pass_delay(settings);
         }
     }
 }

@@ -26,19 +26,7 @@ impl Machine1 {
         self.pull_threshold() <= self.osr_count
     }
 
-    /// Autopull: loads a spent OSR, where a word waits.
-    #[tactic(auto, unfolding(crate::specs::Queue::refilled))]
-    pub(crate) fn refill(&mut self)
-        ensures { self.new ≡ refilled self.old }
-    {
-        if self.autopull() {
-            if self.is_spent() {
-                self.load();
-            }
-        }
-    }
-
-    /// Autopull, where these are its settings.
+    /// Autopull, by its settings: loads a spent OSR, where a word waits.
     #[inline(always)]
     #[tactic(auto, unfolding(crate::specs::Queue::refilled))]
     pub(crate) fn refill_by(&mut self, autopull: bool, threshold: u8)

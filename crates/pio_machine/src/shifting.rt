@@ -1,6 +1,6 @@
 //! IN, OUT and SET.
 
-ghost use Rattle.std.specs.Prelude.{◌≡◌, ◌≤◌, min};
+ghost use Rattle.std.specs.Prelude.{◌≡◌, ◌≤◌};
 ghost use Rattle.pio_machine.specs.Input.{in_value, shifted_in, shifted_once, autopushed, try_in};
 ghost use Rattle.pio_machine.specs.Output.{out_value, shifted_out, with_out, ending_of_out, out_stalls, starved, out_done, try_out, out_pins, written_by_out, after_set, written_by_set};
 ghost use Rattle.pio_machine.specs.Tie.{stands_for};
