@@ -1,5 +1,5 @@
 -- A channel that alone can be chosen is the choice.
-use Rattle.std.proofs.Common.{◌≡◌, ℕ, ◌<◌, ◌≤◌, ◌⊎◌, inl, inr, Bool, true, false, refl, ap, sym, arith, Option, Some, None}
+use Rattle.std.proofs.Common.{◌≡◌, ℕ, ◌<◌, inl, inr, Bool, true, false, refl, ap, arith, Option, Some, None}
 use Rattle.dma_engine.specs.State.{Engine}
 use Rattle.dma_engine.specs.Choice.{is_candidate, choice_of}
 use Rattle.dma_engine.specs.Laws.{IsChoice}

@@ -1,4 +1,3 @@
-use Rattle.std.proofs.Common.{sym, ◌∙◌}
 use Rattle.dma_engine.proofs.Only.{only_choice}
 use Rattle.dma_engine.proofs.engine.Engine.choice.Goals as goal
 
