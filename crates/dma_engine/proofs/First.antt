@@ -81,11 +81,11 @@ none_at_all : (test : ℕ → Bool) (last : ℕ) → ((j : ℕ) → j < 12 → t
 none_at_all test last h m low =
     subst (λ k. test k ≡ false) (turn_of last m low) (h (turns_before last m) (turns_below last m))
 
-contrary : {A : Type 0} (b : Bool) → b ≡ true → b ≡ false → A
+pub contrary : {A : Type 0} (b : Bool) → b ≡ true → b ≡ false → A
 contrary true h i = absurd (cc)
 contrary false h i = absurd (cc)
 
-below_or_not : (a b : ℕ) → (a ≤ b) ⊎ (b < a)
+pub below_or_not : (a b : ℕ) → (a ≤ b) ⊎ (b < a)
 below_or_not a b = grind arith
 
 none_before : (test : ℕ → Bool) (last n m : ℕ) → PassesAt test (last + 1) 12 n → m < 12 → test m ≡ true →

@@ -6,6 +6,7 @@ pub mod First
 pub mod Four
 pub mod Idle
 pub mod InTurn
+pub mod Only
 pub mod Packing
 pub mod Passing
 pub mod Paused

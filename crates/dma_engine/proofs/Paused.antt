@@ -1,5 +1,5 @@
 -- A paused engine asks nothing, and only its timers step until one gives a credit.
-use Rattle.std.proofs.Common.{◌≡◌, ℕ, zero, suc, ◌<◌, Bool, true, false, not, ◌&&◌, ◌||◌, cond, List, [], ◌∷◌, length, nat_eq, nat_lt, refl, ap, sym, ◌∙◌, arith, get_or, Option, Some, None}
+use Rattle.std.proofs.Common.{◌≡◌, ℕ, zero, suc, Bool, true, false, not, ◌&&◌, ◌||◌, cond, List, [], ◌∷◌, length, nat_eq, nat_lt, refl, ap, sym, ◌∙◌, arith, get_or, Option, Some, None}
 use Rattle.std.specs.Prelude.{is_none, is_some, map}
 use Rattle.std.specs.List.{list_all, list_any}
 use Rattle.std.proofs.lemmas.Grind.{common_steps}

@@ -58,7 +58,7 @@ high_of : (counts : ℕ) (s : Engine) (n : ℕ) → is_candidate false counts s 
     is_candidate true counts s n ≡ is_high (channel_at n s)
 high_of counts s n h = with_high (channel_at n s).busy _ (is_high (channel_at n s)) (is_ready counts (channel_at n s) s) h
 
-not_of : (counts : ℕ) (s : Engine) (n : ℕ) → is_candidate false counts s n ≡ false → is_candidate true counts s n ≡ false
+pub not_of : (counts : ℕ) (s : Engine) (n : ℕ) → is_candidate false counts s n ≡ false → is_candidate true counts s n ≡ false
 not_of counts s n h = without_high (channel_at n s).busy _ (is_high (channel_at n s)) (is_ready counts (channel_at n s) s) h
 
 -- ---- no candidate

@@ -28,10 +28,10 @@ both_not : (a b : Bool) → b ≡ false → (a && b) ≡ false
 both_not true b h = h
 both_not false b h = refl
 
-idle_timer : (t : PacingTimer) → is_idle_timer t ≡ true → stepped t ≡ t
+pub idle_timer : (t : PacingTimer) → is_idle_timer t ≡ true → stepped t ≡ t
 idle_timer t h = rw (not_is _ h) refl
 
-gives_none : (t : PacingTimer) → is_idle_timer t ≡ true → gives t ≡ false
+pub gives_none : (t : PacingTimer) → is_idle_timer t ≡ true → gives t ≡ false
 gives_none t h = rw (not_is _ h) refl
 
 idle_timers : (ts : List PacingTimer) → list_all is_idle_timer ts ≡ true → map stepped ts ≡ ts

@@ -116,7 +116,6 @@ impl Engine {
     }
 
     /// The read and the write, where these are the counts and some access is begun.
-    #[inline(never)]
     #[tactic(auto, unfolding(crate::specs::Asks::asks_read))]
     fn begin_access<K: Look>(&self, counts: u128, look: &mut K) -> BegunTransfer
         ensures { Runs K.answers look.old (asks_read counts self.now) result look.new }

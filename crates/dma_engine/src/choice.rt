@@ -1,6 +1,6 @@
 //! Which channel is chosen for the next transfer.
 
-ghost use Rattle.std.specs.Prelude.{◌≡◌, ◌<◌, ◌≤◌, ℕ, false, Some};
+ghost use Rattle.std.specs.Prelude.{◌≡◌, ◌<◌, ◌≤◌, ℕ, false, true, None, Some};
 ghost use Rattle.dma_engine.specs.State.{channel_at};
 ghost use Rattle.dma_engine.specs.Control.{is_high};
 ghost use Rattle.dma_engine.specs.Pace.{count_at};
@@ -101,14 +101,34 @@ impl Engine {
         self.channels[number as usize].is_high()
     }
 
-    /// Some channel can be chosen.
-    fn has_candidate(&self, counts: u128) -> bool
-        ensures { result ≡ false
+    /// The first channel by number that can be chosen.
+    fn first_candidate(&self, counts: u128) -> Option<u8>
+        ensures none { result ≡ None
             → (k : ℕ) → k < 12 → is_candidate false counts self.now k ≡ false }
+        ensures number { (n : ℕ) → result ≡ Some n → n < 12 }
+        ensures some { (n : ℕ) → result ≡ Some n → is_candidate false counts self.now n ≡ true }
+        ensures first { (n : ℕ) → result ≡ Some n
+            → (k : ℕ) → k < n → is_candidate false counts self.now k ≡ false }
     {
         for number in 0..CHANNELS {
             if self.channels[number as usize].busy {
                 if self.is_candidate(counts, number) {
+                    return Some(number);
+                }
+            }
+        }
+        None
+    }
+
+    /// Some channel of a higher number can be chosen.
+    fn has_later_candidate(&self, counts: u128, number: u8) -> bool
+        requires { number < 12 }
+        ensures { result ≡ false → (k : ℕ) → number < k → k < 12
+            → is_candidate false counts self.now k ≡ false }
+    {
+        for later in number + 1..CHANNELS {
+            if self.channels[later as usize].busy {
+                if self.is_candidate(counts, later) {
                     return true;
                 }
             }
@@ -117,15 +137,20 @@ impl Engine {
     }
 
     /// The choice: of the channels that can be chosen, the next one of high priority after the one that was chosen last, or
-    /// else the next one of all. In most cycles no channel can be chosen.
+    /// else the next one of all. In most cycles no channel can be chosen, or one alone.
     #[tactic(auto, using(crate::proofs::Search::no_choice))]
     pub(crate) fn choice(&self, counts: u128) -> Option<u8>
         ensures { result ≡ choice_of counts self.now }
     {
-        if self.has_candidate(counts) {
-            self.choice_in_turn(counts)
-        } else {
-            None
+        match self.first_candidate(counts) {
+            None => None,
+            Some(number) => {
+                if self.has_later_candidate(counts, number) {
+                    self.choice_in_turn(counts)
+                } else {
+                    Some(number)
+                }
+            }
         }
     }
 

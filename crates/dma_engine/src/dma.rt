@@ -3,7 +3,9 @@
 ghost use Rattle.std.specs.Prelude.{◌≡◌};
 ghost use Rattle.dma_engine.specs.Words.{word_of, is_allowed, effect_of};
 
+use crate::begun::BegunTransfer;
 use crate::engine::Engine;
+use lane_look::Turn;
 use rp_base::Registers;
 use std::marker::Model;
 
@@ -37,6 +39,7 @@ impl Dma {
     ghost use Rattle.std.specs.Prelude.{Decides, false, true, ◌∷◌, []};
     ghost use Rattle.lane_look.specs.Asking.Asking.{Ready};
     ghost use Rattle.dma_engine.specs.Asks.{asks, idle_begun};
+    ghost use Rattle.dma_engine.specs.Cycle.{next};
     ghost use Rattle.dma_engine.specs.Rest.{StaysAtRest};
     ghost use Rattle.dma_engine.specs.State.{reset_state, with_hold};
     ghost use Rattle.dma_engine.specs.Words.{word_of, is_allowed, effect_of, is_silent, lines_of};
@@ -107,6 +110,22 @@ impl Dma {
         ensures { result ≡ true → asks self.now ≡ Ready idle_begun }
     {
         self.at_rest || self.paused
+    }
+
+    /// The cycle, where this was begun and these turns were given. Whether the engine rests or is paused is found again where
+    /// something moved, or a register was written.
+    #[inline(never)]
+    #[tactic(auto, using(crate::proofs::AtRest::at_rest))]
+    pub(crate) fn move_on(&mut self, begun: &BegunTransfer, turns: [Turn; 2])
+        ensures { self.new ≡ next self.old begun.now turns }
+    {
+        self.at_rest = false;
+        self.paused = false;
+        if self.engine.finish(begun, &turns) || !self.found {
+            self.at_rest = self.engine.is_still();
+            self.paused = self.engine.is_paused();
+            self.found = true;
+        }
     }
 
     /// Both are in the same state.

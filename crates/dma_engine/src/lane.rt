@@ -46,12 +46,7 @@ impl Lane<()> for Dma {
         if self.at_rest || (self.paused && self.engine.pass(begun, &turns)) {
             return;
         }
-        self.paused = false;
-        if self.engine.finish(begun, &turns) || !self.found {
-            self.at_rest = self.engine.is_still();
-            self.paused = self.engine.is_paused();
-            self.found = true;
-        }
+        self.move_on(begun, turns);
     }
 
     fn copy_from(&mut self, other: &Dma) {
