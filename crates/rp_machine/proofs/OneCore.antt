@@ -29,7 +29,8 @@ use Rattle.rp_machine.specs.Deeds.{asked_of, turn_of, deed_of, cause_of}
 use Rattle.rp_machine.specs.Cycle.{begun, wanted, wanted_by, first_cause, cause_in, asked, granted, turns, turn_for, deeds, with_turns, with_grants, after_deed, after_deeds, stepped, next_by, next, mark}
 use Rattle.rp_machine.specs.BusRest.{is_nothing, core1_at_rest}
 use Rattle.rp_machine.proofs.BusRest.{both, nothing, is_false}
-use Rattle.rp_machine.specs.Alone.{IsAlone, asked_alone, beside, stepped_alone, alone_at_rest, alone_next}
+use Rattle.rp_machine.specs.declared.wanted.Wanted.{Wanted}
+use Rattle.rp_machine.specs.Alone.{IsAlone, asked_alone, beside, stepped_alone, alone_at_rest, alone_next, first_next, is_first_alone}
 
 -- ---- what the parts at rest begin
 
@@ -172,3 +173,18 @@ rest_alone w b seen x s h =
 pub nothing_stops : (w : Setting) (seen : SeenOutputs) (x : Want) (s : State) → x ≡ want.Nothing → None ≡ cause_of w seen s (wanted_by master.Core0 x)
 unfolding cause_of
 nothing_stops w seen x s h = rw h refl
+
+-- ---- a cycle in which the first master alone wants something
+
+first_four : (w : Setting) (b : Begun) (x0 x1 x2 x3 : Wanted) (s : State) → x1.want ≡ want.Nothing → x2.want ≡ want.Nothing → x3.want ≡ want.Nothing
+    → next_by w b (x0 ∷ x1 ∷ x2 ∷ x3 ∷ []) s ≡ first_next w b x0 s
+unfolding next_by stepped granted asked asked_of turns turn_of deeds deed_of after_deeds after_deed first_next core1_at_rest
+first_four w b x0 x1 x2 x3 s e1 e2 e3 = rw (e1, e2, e3) refl
+
+pub first_alone : (w : Setting) (b : Begun) (x0 x1 x2 x3 : Wanted) (s : State) → is_first_alone (x0 ∷ x1 ∷ x2 ∷ x3 ∷ []) ≡ true
+    → next_by w b (x0 ∷ x1 ∷ x2 ∷ x3 ∷ []) s ≡ first_next w b x0 s
+first_alone w b x0 x1 x2 x3 s h =
+    let a = both (is_nothing x1.want) _ h in
+    let c = both (is_nothing x2.want) _ a.1 in
+    let d = both (is_nothing x3.want) _ c.1 in
+    first_four w b x0 x1 x2 x3 s (nothing x1.want a.0) (nothing x2.want c.0) (nothing x3.want d.0)

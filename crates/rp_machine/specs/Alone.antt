@@ -1,6 +1,7 @@
 -- A cycle in which core 0 alone is at work: core 1 sleeps, and the DMA engine and both PIO blocks are at rest. Nothing is asked of
 -- the parts at rest, and they stay as they are.
 use Rattle.std.specs.Prelude.{◌≡◌, ℕ, ◌+◌, Bool, true, List, [], ◌∷◌, Option, None}
+use Rattle.std.specs.List.{list_all}
 use Rattle.rp_base.specs.declared.Master.TheVariants as master
 use Rattle.lane_look.specs.declared.lane.Want.{Want}
 use Rattle.lane_look.specs.declared.lane.Want.TheVariants as want
@@ -14,12 +15,13 @@ use Rattle.bus_fabric.specs.Grant.{is_done, after_grant}
 use Rattle.outer_lane.specs.Setting.{Setting}
 use Rattle.outer_lane.specs.declared.world.SeenOutputs.{SeenOutputs}
 use Rattle.outer_lane.specs.Step as outer
+use Rattle.rp_machine.specs.declared.begun.Begun.{Begun}
 use Rattle.rp_machine.specs.declared.deed.Deed.{Deed}
 use Rattle.rp_machine.specs.declared.wanted.Wanted.{Wanted}
 use Rattle.rp_machine.specs.State.{State}
 use Rattle.rp_machine.specs.Deeds.{asked_of, turn_of, deed_of}
-use Rattle.rp_machine.specs.Cycle.{begun, next, wanted_by, after_deed, stored, ended}
-use Rattle.rp_machine.specs.BusRest.{core1_at_rest}
+use Rattle.rp_machine.specs.Cycle.{begun, next, wanted_by, with_turns, after_deed, stored, ended}
+use Rattle.rp_machine.specs.BusRest.{wants_nothing, core1_at_rest}
 
 pub record IsAlone (s : State) : Type 0 where
   pub asleep : s.core1.asleep ≡ true
@@ -66,6 +68,19 @@ alone_next w b seen x s =
     record (ended (with_store (deed_alone w seen x s)
     (core1_at_rest (after_deed w master.Core0 (deed_alone w seen x s)
     (stepped_alone w b seen (turn_alone w seen x s) (with_grant x s)))))) { cycle = s.cycle + 1 }
+
+-- the state after a cycle in which the lanes have begun this, the first master wants that, and the others want nothing
+unfoldable pub first_next : Setting → Begun → Wanted → State → State
+first_next w b x s =
+    record (ended (with_store (deed_alone w b.outer x.want s)
+    (core1_at_rest (after_deed w master.Core0 (deed_alone w b.outer x.want s)
+    (with_turns w b (turn_of w b.outer x.want (granted_alone x.want s) x.master x.want s ∷ turn.Nothing ∷ turn.Nothing ∷ turn.Nothing ∷ [])
+    (with_grant x.want s)))))) { cycle = s.cycle + 1 }
+
+-- the masters behind the first one want nothing
+abbrev pub is_first_alone : List Wanted → Bool
+is_first_alone [] = true
+is_first_alone (x ∷ xs) = list_all wants_nothing xs
 
 -- the same where core 0 wants nothing, and no access lasts
 unfoldable pub alone_at_rest : Setting → Doing → SeenOutputs → State → State

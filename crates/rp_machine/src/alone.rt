@@ -23,7 +23,7 @@ const APB: u8 = 6;
 
 /// Whether the access of core 0 is done, where no other master asks for one.
 #[inline(always)]
-fn grant_alone(fabric: &mut Fabric, asked: Option<(u8, bool)>) -> bool
+pub(crate) fn grant_alone(fabric: &mut Fabric, asked: Option<(u8, bool)>) -> bool
     requires { HasPort asked }
     ensures done { result ≡ is_done (asked_alone asked) fabric.old Master.Core0 }
     ensures after { fabric.new ≡ after_grant (asked_alone asked) fabric.old }

@@ -5,8 +5,10 @@ ghost use Rattle.bus_fabric.specs.Masters.{HavePorts};
 ghost use Rattle.sio_block.specs.Launcher.{offers_of};
 ghost use Rattle.rp_machine.specs.Cycle.{asked, pins_of, with_pins, with_offer};
 ghost use Rattle.rp_machine.specs.BusRest.{wants_nothing};
+ghost use Rattle.rp_machine.specs.Alone.{is_first_alone};
 
 use crate::access::asked_of;
+use crate::alone::grant_alone;
 use crate::begun::Begun;
 use crate::deed::Deed;
 use crate::machine::Machine;
@@ -46,6 +48,15 @@ pub(crate) fn wants_nothing(wanted: &Wanted) -> bool
     }
 }
 
+/// No master behind the first one wants anything.
+#[inline(always)]
+fn wants_alone(wants: &[Wanted; 4]) -> bool
+    ensures { result ≡ is_first_alone wants.now }
+{
+    let [_, core1, read, write] = wants;
+    wants_nothing(core1) && wants_nothing(read) && wants_nothing(write)
+}
+
 /// Tells the pads and core 1 what SIO has for them.
 #[inline(always)]
 fn tell_of_sio(sio: &Sio, outer: &mut Outer, core1: &mut Core)
@@ -57,12 +68,13 @@ fn tell_of_sio(sio: &Sio, outer: &mut Outer, core1: &mut Core)
 }
 
 impl Machine {
-    ghost use Rattle.std.specs.Prelude.{◌≡◌, ◌+◌, ◌-◌, ◌^◌, ◌<◌, ◌≤◌, ◌∷◌, ◌++◌, if◌then◌else◌, is_some, None, [], length};
+    ghost use Rattle.std.specs.Prelude.{◌≡◌, ◌+◌, ◌-◌, ◌^◌, ◌<◌, ◌≤◌, ◌∷◌, ◌++◌, if◌then◌else◌, is_some, true, None, [], length};
     ghost use Rattle.std.specs.List.{All};
     ghost use Rattle.outer_lane.specs.Setting.{setting_of};
     ghost use Rattle.outer_lane.specs.Step.{marked};
     ghost use Rattle.rp_machine.specs.Deeds.{StoresInSram};
     ghost use Rattle.rp_machine.specs.BusRest.{is_bus_at_rest, core1_at_rest, rest_next};
+    ghost use Rattle.rp_machine.specs.Alone.{is_first_alone, first_next};
     ghost use Rattle.rp_machine.specs.Cycle.{begun, wanted, cause_in, stop, turns, deeds, with_turns, signalled, pins_of, with_sio, sio_accessed, after_deed, after_launcher, after_core1, stored, ended, after_deeds, next_by, next, mark};
 
     /// The first cause of a master to stop before a cycle in which this was begun and wanted.
@@ -339,6 +351,68 @@ impl Machine {
         self.at = at + 1;
     }
 
+    /// One cycle in which this was begun, core 0 wants that, and no other master wants anything.
+    #[inline(always)]
+    #[tactic(auto, unfolding(crate::specs::Alone::first_next))]
+    fn step_for_core0<X: Device>(
+        &mut self,
+        world: &World<'_, X>,
+        begun: &Begun,
+        wanted: &Wanted,
+        marks: &mut Marks,
+    )
+        requires number { self.old.cycle < 2 ^ 64 - 1 }
+        requires marks { length marks.old < 256 }
+        ensures state { self.new ≡ first_next
+            (setting_of world.now.script.now (X.meaning world.now.device.now) world.now.limit)
+            begun.now wanted.now self.old }
+        ensures marks { marks.new ≡ marks.old ++ marked
+            (setting_of world.now.script.now (X.meaning world.now.device.now) world.now.limit)
+            self.old.outer begun.now.outer ∷ [] }
+    {
+        let at = self.at;
+        let mut fabric = self.fabric;
+        let granted = grant_alone(&mut fabric, asked_of(&wanted.want));
+        let turn = self.turn_of(world, &begun.outer, &wanted.want, granted, wanted);
+        let deed = self.deed_of(world, &begun.outer, granted, &wanted.want);
+        self.fabric = fabric;
+        self.step_lanes(
+            world,
+            begun,
+            [turn, Turn::Nothing, Turn::Nothing, Turn::Nothing],
+            marks,
+        );
+        self.do_deed(world, Master::Core0, &deed);
+        self.rest_core1();
+        self.store(&deed);
+        self.end();
+        self.at = at + 1;
+    }
+
+    /// One cycle in which this was begun and wanted, by core 0 alone.
+    #[inline(always)]
+    #[tactic(auto, using(crate::proofs::OneCore::first_alone))]
+    fn step_first<X: Device>(
+        &mut self,
+        world: &World<'_, X>,
+        begun: &Begun,
+        wants: &[Wanted; 4],
+        marks: &mut Marks,
+    )
+        requires number { self.old.cycle < 2 ^ 64 - 1 }
+        requires marks { length marks.old < 256 }
+        requires alone { is_first_alone wants.now ≡ true }
+        ensures state { self.new ≡ next_by
+            (setting_of world.now.script.now (X.meaning world.now.device.now) world.now.limit)
+            begun.now wants.now self.old }
+        ensures marks { marks.new ≡ marks.old ++ marked
+            (setting_of world.now.script.now (X.meaning world.now.device.now) world.now.limit)
+            self.old.outer begun.now.outer ∷ [] }
+    {
+        let [core0, _, _, _] = wants;
+        self.step_for_core0(world, begun, core0, marks);
+    }
+
     /// One cycle in which this was begun and wanted. Its mark goes to the end of the marks.
     #[tactic(auto, unfolding(crate::specs::Cycle::next_by, crate::specs::Cycle::stepped, crate::specs::Cycle::granted))]
     pub fn step<X: Device>(
@@ -359,6 +433,10 @@ impl Machine {
     {
         if self.is_bus_at_rest(wants) {
             self.step_at_rest(world, begun, marks);
+            return;
+        }
+        if wants_alone(wants) {
+            self.step_first(world, begun, wants, marks);
             return;
         }
         let at = self.at;
