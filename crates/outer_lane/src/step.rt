@@ -394,7 +394,6 @@ impl Outer {
             && self.sends_on()
         {
             self.irq = wires.irq;
-            self.step_time(seen.cycle);
             return Mark {
                 uart: [None, None],
                 pads: self.pads.pads(),
