@@ -6,6 +6,7 @@ use Rattle.lane_look.specs.declared.device.Wires.{Wires}
 use Rattle.pin_script.specs.declared.script.Drives.{Drives}
 use Rattle.rp_uart.specs.State.{SerialPort}
 use Rattle.rp_uart.specs.Step as uart
+use Rattle.rp_uart.specs.Lasting.{Lasts}
 use Rattle.io_bank.specs.declared.outputs.Outs.{Outs}
 use Rattle.io_bank.specs.State.{Bank}
 use Rattle.io_bank.specs.Levels.{by_sets, receive_level, uart_outputs}
@@ -76,6 +77,11 @@ IsCalm sio d driven b uart0 uart1 =
     ((pads_after sio d b ≡ b) × (driven ≡ driven_of (outs_by sio d) b))
     × ((uart_outputs (uart.output_of uart0.block) (uart.output_of uart1.block) ≡ d.uart_levels ∷ d.uart_enables ∷ [])
     × ((receive_level 0 b ≡ true) × (receive_level 1 b ≡ true)))
+
+-- in so many cycles with a high line no bit ends that UART 0 sends, and UART 1 is at rest in one of them
+abbrev pub SendsOn : ℕ → Resettable SerialPort → Resettable SerialPort → Type 0
+SendsOn count uart0 uart1 =
+    (uart0.held ≡ false) × (Lasts count uart0.block × ((uart_after true uart1 ≡ uart1) × (byte_of uart1 ≡ None)))
 
 -- a cycle by these changes nothing of the pads and the UARTs
 abbrev pub IsLaneAtRest : List ℕ → Drivers → Bank → Resettable SerialPort → Resettable SerialPort → Type 0

@@ -42,13 +42,15 @@ pub struct Outer {
     // the pads are at rest, the UARTs put out what is among these and hear high lines; these pads are driven by the chip
     pub(crate) calm: bool,
     pub(crate) driven: u32,
+    // where it is calm, in so many cycles no bit ends that UART 0 sends, and UART 1 is at rest
+    pub(crate) left: u32,
     pub(crate) drivers: Drivers,
 }
 
 impl Model for Outer {
-    ghost use Rattle.std.specs.Prelude.{◌≡◌, true};
+    ghost use Rattle.std.specs.Prelude.{◌≡◌, ◌<◌, true};
     ghost use Rattle.outer_lane.specs.State.{OuterState};
-    ghost use Rattle.outer_lane.specs.Rest.{IsAtRest, IsLaneAtRest, IsCalm};
+    ghost use Rattle.outer_lane.specs.Rest.{IsAtRest, IsLaneAtRest, IsCalm, SendsOn};
 
     ghost Value = { OuterState };
 
@@ -66,7 +68,8 @@ impl Model for Outer {
     // calm where they hear nothing and put out what they did
     ghost invariant = { λ o. (o.pads_at_rest ≡ true → IsAtRest o.sio o.drivers o.pads)
         × ((o.at_rest ≡ true → IsLaneAtRest o.sio o.drivers o.pads o.uart0 o.uart1)
-        × (o.calm ≡ true → IsCalm o.sio o.drivers o.driven o.pads o.uart0 o.uart1)) };
+        × ((o.calm ≡ true → IsCalm o.sio o.drivers o.driven o.pads o.uart0 o.uart1)
+        × (o.calm ≡ true → 0 < o.left → SendsOn o.left o.uart0 o.uart1))) };
 }
 
 impl Outer {
@@ -93,6 +96,7 @@ impl Outer {
             at_rest: false,
             calm: false,
             driven: 0,
+            left: 0,
             drivers: Drivers::NONE,
         }
     }
@@ -232,6 +236,7 @@ impl Outer {
         self.at_rest = other.at_rest;
         self.calm = other.calm;
         self.driven = other.driven;
+        self.left = other.left;
         self.drivers = other.drivers;
     }
 }

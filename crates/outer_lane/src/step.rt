@@ -104,6 +104,14 @@ fn is_uart_at_rest(uart: &Resettable<Uart>, pads: &IoBank, number: u8) -> bool
     uart.held || uart.block.is_at_rest(pads.receive_level(number))
 }
 
+/// A UART is held, or a cycle with a high line changes nothing of it.
+fn rests_high(uart: &Resettable<Uart>) -> bool
+    ensures same { result ≡ true → uart_after true uart.now ≡ uart.now }
+    ensures silent { result ≡ true → byte_of uart.now ≡ None }
+{
+    uart.held || uart.block.is_at_rest(true)
+}
+
 /// Both UARTs are at rest, and put out what the pads are stepped by.
 #[inline(never)]
 fn are_uarts_at_rest(
@@ -264,6 +272,7 @@ impl Outer {
         ensures { self.new ≡ self.old }
     {
         if self.pads_at_rest && !self.calm {
+            self.left = 0;
             self.driven = self.pads.driven(&self.drivers.outs(self.sio));
             self.calm = are_uarts_calm(
                 &self.drivers,
@@ -340,6 +349,7 @@ impl Outer {
         } }
     {
         let uart = self.step_high_uarts();
+        self.look_ahead();
         self.irq = irq;
         self.step_time(cycle);
         Mark {
@@ -359,12 +369,14 @@ impl Outer {
           uart1 = uart_after true self.old.uart1;
         } }
     {
+        self.left = 0;
         let first = step_high(&mut self.uart0, &mut self.calm);
         let second = step_high(&mut self.uart1, &mut self.calm);
         [first, second]
     }
 
-    /// UART 0 sends on, and UART 1 does not run; else nothing. Whether it was. The lines of both are high.
+    /// UART 0 sends on beside a UART 1 that is at rest, where that is known; else nothing. Whether it was. The lines of both
+    /// are high.
     #[inline(always)]
     fn sends_on(&mut self) -> bool
         requires line0 { receive_level 0 self.old.pads ≡ true }
@@ -377,10 +389,21 @@ impl Outer {
         ensures byte0 { result ≡ true → byte_of self.old.uart0 ≡ None }
         ensures byte1 { result ≡ true → byte_of self.old.uart1 ≡ None }
     {
-        if self.uart0.held || !(self.uart1.held || self.uart1.block.is_stopped()) {
-            return false;
+        if self.calm && 0 < self.left {
+            self.uart0.block.send_on(self.left);
+            self.left -= 1;
+            return true;
         }
-        self.uart0.block.sends_on()
+        false
+    }
+
+    /// Keeps in mind for how many cycles UART 0 sends on beside a UART 1 that is at rest.
+    fn look_ahead(&mut self)
+        ensures { self.new ≡ self.old }
+    {
+        if !self.uart0.held && rests_high(&self.uart1) {
+            self.left = self.uart0.block.left();
+        }
     }
 
     /// A cycle by these, in which not all is at rest.

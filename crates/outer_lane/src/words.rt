@@ -161,10 +161,12 @@ impl Outer {
             }
             Block::Uart0 => {
                 self.at_rest = false;
+                self.left = 0;
                 access_uart(&mut self.uart0, &mut self.calm, offset, write);
             }
             Block::Uart1 => {
                 self.at_rest = false;
+                self.left = 0;
                 access_uart(&mut self.uart1, &mut self.calm, offset, write);
             }
             Block::Timer => access(&mut self.timer, offset, write),
