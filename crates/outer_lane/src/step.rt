@@ -263,6 +263,7 @@ impl Outer {
         if self.pads_at_rest {
             self.settle_calm();
             self.settle_rest();
+            self.look_ahead();
         }
     }
 
@@ -398,7 +399,7 @@ impl Outer {
     }
 
     /// Keeps in mind for how many cycles UART 0 sends on beside a UART 1 that is at rest.
-    fn look_ahead(&mut self)
+    pub(crate) fn look_ahead(&mut self)
         ensures { self.new ≡ self.old }
     {
         if !self.uart0.held && rests_high(&self.uart1) {
