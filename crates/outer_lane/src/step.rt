@@ -14,7 +14,7 @@ use crate::outside::outside;
 use crate::world::SeenOutputs;
 use arrayvec::ArrayVec;
 use io_bank::{IoBank, Outs, uart_outputs};
-use lane_look::{Device, Mark, Wires};
+use lane_look::{Device, Mark, Marks, Wires};
 use pin_script::{Drives, Script};
 use rp_base::Resettable;
 use rp_timer::Timer;
@@ -154,7 +154,7 @@ pub(crate) fn step_timer(timer: &mut Resettable<Timer>, cycle: u64)
 }
 
 impl Outer {
-    ghost use Rattle.std.specs.Prelude.{◌≡◌, ◌<◌, ℕ, true, ◌∷◌, [], None};
+    ghost use Rattle.std.specs.Prelude.{◌≡◌, ◌<◌, ℕ, true, ◌∷◌, ◌++◌, [], length, None};
     ghost use Rattle.io_bank.specs.Levels.{by_sets, levels_of, receive_level};
     ghost use Rattle.outer_lane.specs.Rest.{outs_by, pads_after, pads_driven, next_driven, marked_driven};
     ghost use Rattle.outer_lane.specs.Step.{outs_of, outside_of, uart_after, byte_of, timer_after, next_by, marked_by};
@@ -409,33 +409,40 @@ impl Outer {
 
     /// A cycle by these, in which not all is at rest.
     #[inline(never)]
-    fn step_busy(&mut self, wires: &Wires, seen: &SeenOutputs, drives: Drives) -> Mark
+    fn step_busy(&mut self, wires: &Wires, seen: &SeenOutputs, drives: Drives, marks: &mut Marks)
+        requires { length marks.old < 256 }
         ensures state { self.new ≡ next_driven wires.now seen.now drives self.old }
-        ensures mark { result ≡ marked_driven wires.now seen.now drives self.old }
+        ensures marks { marks.new
+            ≡ marks.old ++ marked_driven wires.now seen.now drives self.old ∷ [] }
     {
         if self.is_calm_by(wires, seen, drives)
             && self.ticks.is_between(seen.cycle)
             && self.sends_on()
         {
             self.irq = wires.irq;
-            return Mark {
+            marks.push(Mark {
                 uart: [None, None],
                 pads: self.pads.pads(),
-            };
+            });
+            return;
         }
-        self.step_other(wires, seen, drives)
+        self.step_other(wires, seen, drives, marks);
     }
 
     /// The same, whatever the UARTs do.
     #[inline(never)]
-    fn step_other(&mut self, wires: &Wires, seen: &SeenOutputs, drives: Drives) -> Mark
+    fn step_other(&mut self, wires: &Wires, seen: &SeenOutputs, drives: Drives, marks: &mut Marks)
+        requires { length marks.old < 256 }
         ensures state { self.new ≡ next_driven wires.now seen.now drives self.old }
-        ensures mark { result ≡ marked_driven wires.now seen.now drives self.old }
+        ensures marks { marks.new
+            ≡ marks.old ++ marked_driven wires.now seen.now drives self.old ∷ [] }
     {
         if self.is_calm_by(wires, seen, drives) {
-            self.step_calm(wires.irq, seen.cycle)
+            let mark = self.step_calm(wires.irq, seen.cycle);
+            marks.push(mark);
         } else {
-            self.step_any(*wires, seen, drives)
+            let mark = self.step_any(*wires, seen, drives);
+            marks.push(mark);
         }
     }
 
@@ -462,19 +469,21 @@ impl Outer {
 
     /// A cycle in which nothing changes but the timer, and the lines of the device.
     #[inline(always)]
-    fn step_still(&mut self, irq: u32, cycle: u64) -> Mark
+    fn step_still(&mut self, irq: u32, cycle: u64, marks: &mut Marks)
+        requires { length marks.old < 256 }
         ensures state { self.new ≡ record self.old {
           timer = timer_after cycle self.old.timer;
           irq = irq;
         } }
-        ensures mark { result ≡ record { uart = None ∷ None ∷ []; pads = self.old.pads.current } }
+        ensures marks { marks.new ≡ marks.old
+            ++ record { uart = None ∷ None ∷ []; pads = self.old.pads.current } ∷ [] }
     {
         self.irq = irq;
         self.step_time(cycle);
-        Mark {
+        marks.push(Mark {
             uart: [None, None],
             pads: self.pads.pads(),
-        }
+        });
     }
 
     /// A cycle by these, whatever changes.
@@ -495,25 +504,35 @@ impl Outer {
 
     /// A cycle by these.
     #[inline(always)]
-    fn step_all(&mut self, wires: &Wires, seen: &SeenOutputs, drives: Drives) -> Mark
+    fn step_all(&mut self, wires: &Wires, seen: &SeenOutputs, drives: Drives, marks: &mut Marks)
+        requires { length marks.old < 256 }
         ensures state { self.new ≡ next_driven wires.now seen.now drives self.old }
-        ensures mark { result ≡ marked_driven wires.now seen.now drives self.old }
+        ensures marks { marks.new
+            ≡ marks.old ++ marked_driven wires.now seen.now drives self.old ∷ [] }
     {
         if self.stays_by(wires, seen, drives) {
-            self.step_still(wires.irq, seen.cycle)
+            self.step_still(wires.irq, seen.cycle, marks);
         } else {
-            self.step_busy(wires, seen, drives)
+            self.step_busy(wires, seen, drives, marks);
         }
     }
 
     /// All but the device steps, by what the device drives; the mark that the cycle leaves.
     #[inline(always)]
-    pub(crate) fn step_by(&mut self, script: &Script, wires: &Wires, seen: &SeenOutputs) -> Mark
+    pub(crate) fn step_by(
+        &mut self,
+        script: &Script,
+        wires: &Wires,
+        seen: &SeenOutputs,
+        marks: &mut Marks,
+    )
+        requires { length marks.old < 256 }
         ensures state { self.new ≡ next_by script.now wires.now seen.now self.old }
-        ensures mark { result ≡ marked_by script.now wires.now seen.now self.old }
+        ensures marks { marks.new
+            ≡ marks.old ++ marked_by script.now wires.now seen.now self.old ∷ [] }
     {
         let drives = self.drives(script, wires, seen.cycle);
-        self.step_all(wires, seen, drives)
+        self.step_all(wires, seen, drives, marks);
     }
 
     /// The outputs of all parts, where the device drives these.
