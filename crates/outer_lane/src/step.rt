@@ -274,7 +274,9 @@ impl Outer {
     {
         if self.pads_at_rest && !self.calm {
             self.left = 0;
-            self.driven = self.pads.driven(&self.drivers.outs(self.sio));
+            let outs = self.drivers.outs(self.sio);
+            self.shown0 = self.pads.shown(6, &outs);
+            self.shown1 = self.pads.shown(7, &outs);
             self.calm = are_uarts_calm(
                 &self.drivers,
                 &self.pads,
@@ -323,7 +325,8 @@ impl Outer {
     {
         if self.calm && self.drivers.is_else_driven_by(wires, drives) {
             return self.pads.is_seen_same(
-                self.driven,
+                self.shown0,
+                self.shown1,
                 [self.drivers.pio0_levels, self.drivers.pio0_enables],
                 [self.drivers.pio1_levels, self.drivers.pio1_enables],
                 seen.pio0,
