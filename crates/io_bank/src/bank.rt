@@ -312,7 +312,8 @@ impl IoBank {
             shown0 ≡ shown_of 6 (record outs { pio0 = pio0; pio1 = pio1 }) self.now →
             shown1 ≡ shown_of 7 (record outs { pio0 = pio0; pio1 = pio1 }) self.now →
             levels_of (record outs { pio0 = pio0; pio1 = pio1 }) (by_sets driven high) self.now
-            ≡ levels_of (record outs { pio0 = next0; pio1 = next1 }) (by_sets driven high) self.now }
+            ≡ levels_of (record outs { pio0 = next0; pio1 = next1 })
+            (by_sets driven high) self.now }
     {
         are_same_in(shown0, pio0, next0) && are_same_in(shown1, pio1, next1)
     }
