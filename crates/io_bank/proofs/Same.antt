@@ -3,13 +3,12 @@ use Rattle.std.proofs.Common.{◌≡◌, ◌∙◌, ◌<◌, ℕ, List, [], ◌�
 use Rattle.std.specs.Prelude.{bit_and, slice_index}
 use Rattle.rp_base.specs.Word.{has_bit}
 use Rattle.io_bank.specs.declared.outputs.Outs.{Outs}
-use Rattle.io_bank.specs.Pins.{field, overridden}
+use Rattle.io_bank.specs.Pins.{overridden}
 use Rattle.io_bank.specs.State.{Bank}
-use Rattle.io_bank.specs.Levels.{levels_of, by_sets, control_of, pad_of, pad_level, level_to, level_outside, function_of, out_override, enable_override, is_output_disabled, peripheral}
-use Rattle.io_bank.specs.Driven.{is_driven, driven_of}
-use Rattle.io_bank.specs.Routes.{routes_of, pins_with}
+use Rattle.io_bank.specs.Levels.{levels_of, by_sets, control_of, pad_of, pad_level, level_to, level_outside, function_of, out_override, enable_override, is_output_disabled, peripheral, pins_of}
+use Rattle.io_bank.specs.Driven.{is_driven, driven_of, shown_of}
 use Rattle.io_bank.proofs.Bits.{has_and, bits_below-at, bits_below-same}
-use Rattle.io_bank.proofs.Routed.{and_true, pio0-is, pio1-is}
+use Rattle.io_bank.proofs.Routed.{and_true}
 
 members-same : (a b m i : ℕ) → bit_and a m ≡ bit_and b m → has_bit m i ≡ true → has_bit a i ≡ has_bit b i
 members-same a b m i e h =
@@ -20,12 +19,9 @@ members-same a b m i e h =
 shown-at : (set on i : ℕ) → has_bit set i ≡ true → has_bit on i ≡ true → has_bit (bit_and set on) i ≡ true
 shown-at set on i p q = has_and set on i ∙ ap (λ x. x && has_bit on i) p ∙ q
 
-function-at : (controls : List ℕ) (f i : ℕ) → i < 30 → has_bit (pins_with controls 0 5 f) i ≡ eqb (function_of (slice_index controls i)) f
-function-at controls f i lt = bits_below-at (λ pin. eqb (field (slice_index controls pin) 0 5) f) 30 i lt
-
 -- ---- what a pin gets of the parts
 
-abbrev with_blocks : Outs → List ℕ → List ℕ → Outs
+abbrev pub with_blocks : Outs → List ℕ → List ℕ → Outs
 with_blocks outs a c = record outs { pio0 = a; pio1 = c }
 
 abbrev signal : Outs → ℕ → ℕ → ℕ → Bool
@@ -63,23 +59,22 @@ pub record SameIn (set on : ℕ) (a b : List ℕ) : Type 0 where
   pub levels : bit_and (slice_index a 0) (bit_and set on) ≡ bit_and (slice_index b 0) (bit_and set on)
   pub enables : bit_and (slice_index a 1) set ≡ bit_and (slice_index b 1) set
 
-pad-same : (s : Bank) (outs : Outs) (a b c d : List ℕ) (on driven high i : ℕ) → i < 30 →
-    on ≡ driven_of (with_blocks outs a c) s →
-    SameIn (routes_of s.controls s.pads).pio0 on a b → SameIn (routes_of s.controls s.pads).pio1 on c d →
+pad-same : (s : Bank) (outs : Outs) (a b c d : List ℕ) (driven high i : ℕ) → i < 30 →
+    SameIn (pins_of 6 s) (driven_of (with_blocks outs a c) s) a b → SameIn (pins_of 7 s) (driven_of (with_blocks outs a c) s) c d →
     pad_level (with_blocks outs a c) (by_sets driven high i) (control_of s i) (pad_of s i) i
     ≡ pad_level (with_blocks outs b d) (by_sets driven high i) (control_of s i) (pad_of s i) i
-pad-same s outs a b c d on driven high i lt is e f =
+pad-same s outs a b c d driven high i lt e f =
     let control = control_of s i in
     let pad = pad_of s i in
-    let set0 = (routes_of s.controls s.pads).pio0 in
-    let set1 = (routes_of s.controls s.pads).pio1 in
+    let set0 = pins_of 6 s in
+    let set1 = pins_of 7 s in
+    let on = driven_of (with_blocks outs a c) s in
     let in0 : has_bit set0 i ≡ eqb (function_of control) 6 =
-    ap (λ n. has_bit n i) (pio0-is s.controls s.pads) ∙ function-at s.controls 6 i lt in
+    bits_below-at (λ pin. eqb (function_of (control_of s pin)) 6) 30 i lt in
     let in1 : has_bit set1 i ≡ eqb (function_of control) 7 =
-    ap (λ n. has_bit n i) (pio1-is s.controls s.pads) ∙ function-at s.controls 7 i lt in
+    bits_below-at (λ pin. eqb (function_of (control_of s pin)) 7) 30 i lt in
     let in_on : has_bit on i ≡ is_driven (with_blocks outs a c) control pad i =
-    ap (λ n. has_bit n i) is
-    ∙ bits_below-at (λ pin. is_driven (with_blocks outs a c) (control_of s pin) (pad_of s pin) pin) 30 i lt in
+    bits_below-at (λ pin. is_driven (with_blocks outs a c) (control_of s pin) (pad_of s pin) pin) 30 i lt in
     pad-go (is_driven (with_blocks outs a c) control pad i) (is_driven (with_blocks outs b d) control pad i)
     (level_to (with_blocks outs a c) control i) (level_to (with_blocks outs b d) control i)
     (level_outside (by_sets driven high i) pad)
@@ -94,13 +89,25 @@ pad-same s outs a b c d on driven high i lt is e f =
     (λ g. members-same (slice_index c 0) (slice_index d 0) (bit_and set1 on) i f.levels
     (shown-at set1 on i (in1 ∙ g) (in_on ∙ t)))))
 
-pub same_levels : (s : Bank) (outs : Outs) (a b c d : List ℕ) (on driven high : ℕ) →
-    on ≡ driven_of (record outs { pio0 = a; pio1 = c }) s →
-    SameIn (routes_of s.controls s.pads).pio0 on a b → SameIn (routes_of s.controls s.pads).pio1 on c d →
-    levels_of (record outs { pio0 = a; pio1 = c }) (by_sets driven high) s
-    ≡ levels_of (record outs { pio0 = b; pio1 = d }) (by_sets driven high) s
-same_levels s outs a b c d on driven high is e f =
+same_levels : (s : Bank) (outs : Outs) (a b c d : List ℕ) (driven high : ℕ) →
+    SameIn (pins_of 6 s) (driven_of (with_blocks outs a c) s) a b → SameIn (pins_of 7 s) (driven_of (with_blocks outs a c) s) c d →
+    levels_of (with_blocks outs a c) (by_sets driven high) s ≡ levels_of (with_blocks outs b d) (by_sets driven high) s
+same_levels s outs a b c d driven high e f =
     bits_below-same
     (λ pin. pad_level (with_blocks outs a c) (by_sets driven high pin) (control_of s pin) (pad_of s pin) pin)
     (λ pin. pad_level (with_blocks outs b d) (by_sets driven high pin) (control_of s pin) (pad_of s pin) pin)
-    30 (λ i lt. pad-same s outs a b c d on driven high i lt is e f)
+    30 (λ i lt. pad-same s outs a b c d driven high i lt e f)
+
+abbrev pub SameAt : List ℕ → ℕ → List ℕ → List ℕ → Type 0
+SameAt shown i a b = bit_and (slice_index a i) (slice_index shown i) ≡ bit_and (slice_index b i) (slice_index shown i)
+
+in_shown : (set on : ℕ) (shown a b : List ℕ) → shown ≡ bit_and set on ∷ set ∷ [] → SameAt shown 0 a b → SameAt shown 1 a b → SameIn set on a b
+in_shown set on shown a b is e f = record { levels = rw is at e; enables = rw is at f }
+
+pub seen_same : (s : Bank) (outs : Outs) (shown0 shown1 a b c d : List ℕ) (driven high : ℕ) →
+    SameAt shown0 0 a b → SameAt shown0 1 a b → SameAt shown1 0 c d → SameAt shown1 1 c d →
+    shown0 ≡ shown_of 6 (with_blocks outs a c) s → shown1 ≡ shown_of 7 (with_blocks outs a c) s →
+    levels_of (with_blocks outs a c) (by_sets driven high) s ≡ levels_of (with_blocks outs b d) (by_sets driven high) s
+seen_same s outs shown0 shown1 a b c d driven high e0 e1 f0 f1 is0 is1 =
+    let on = driven_of (with_blocks outs a c) s in
+    same_levels s outs a b c d driven high (in_shown (pins_of 6 s) on shown0 a b is0 e0 e1) (in_shown (pins_of 7 s) on shown1 c d is1 f0 f1)

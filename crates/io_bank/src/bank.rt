@@ -1,9 +1,9 @@
 //! The pads: their state, their cycle and their readers.
 
-ghost use Rattle.std.specs.Prelude.{◌≡◌, ◌<◌, ◌∷◌, ◌&&◌, [], ℕ, true, Decides, IfSome, not, bit_and, slice_index};
+ghost use Rattle.std.specs.Prelude.{◌≡◌, ◌<◌, ◌+◌, ◌*◌, ◌^◌, ◌∷◌, ◌&&◌, [], ℕ, true, Decides, IfSome, not, bit_and, slice_index};
 ghost use Rattle.io_bank.specs.declared.outputs.Outs.{Outs};
 ghost use Rattle.io_bank.specs.State.{at_reset, after_held, with_bank_held, with_pads_held};
-ghost use Rattle.io_bank.specs.Driven.{driven_of};
+ghost use Rattle.io_bank.specs.Driven.{driven_of, shown_of};
 ghost use Rattle.io_bank.specs.Levels.{levels_of, by_list, by_sets, inputs_of, pins_of, is_used, first_in, receive_pin, receive_level};
 ghost use Rattle.io_bank.specs.Edges.{edges_of};
 ghost use Rattle.io_bank.specs.Step.{after_step, is_at_rest, with_edges, with_levels};
@@ -282,31 +282,40 @@ impl IoBank {
     }
 
     /// The pads that the chip drives.
-    #[inline(always)]
-    pub fn driven(&self, outs: &Outs) -> u32
+    fn driven(&self, outs: &Outs) -> u32
         ensures { result ≡ driven_of outs.now self.now }
     {
         self.routes.driven(outs)
     }
 
-    /// Where the chip drives these pads, they have the same levels by the second pair of outputs of each PIO block as by the
-    /// first one: the enables are the same at the pins that have its function, and so are the levels at those that are driven.
+    /// Where the pads show what the part with a function puts out: the pins of its levels, and those of its enables.
+    pub fn shown(&self, function: u8, outs: &Outs) -> [u32; 2]
+        ensures { result ≡ shown_of function outs.now self.now }
+    {
+        let pins = self.pins_of(function);
+        [pins & self.driven(outs), pins]
+    }
+
+    /// The pads have the same levels by the second pair of outputs of each PIO block as by the first one, since the pairs are
+    /// the same where they are shown.
     #[inline(always)]
     pub fn is_seen_same(
         &self,
-        on: u32,
+        shown0: [u32; 2],
+        shown1: [u32; 2],
         pio0: [u32; 2],
         pio1: [u32; 2],
         next0: [u32; 2],
         next1: [u32; 2],
     ) -> bool
         ensures { result ≡ true → (outs : Outs) → (driven high : ℕ) →
-            on ≡ driven_of (record outs { pio0 = pio0; pio1 = pio1 }) self.now →
+            shown0 ≡ shown_of 6 (record outs { pio0 = pio0; pio1 = pio1 }) self.now →
+            shown1 ≡ shown_of 7 (record outs { pio0 = pio0; pio1 = pio1 }) self.now →
             levels_of (record outs { pio0 = pio0; pio1 = pio1 }) (by_sets driven high) self.now
-            ≡ levels_of (record outs { pio0 = next0; pio1 = next1 }) (by_sets driven high) self.now }
+            ≡ levels_of (record outs { pio0 = next0; pio1 = next1 })
+            (by_sets driven high) self.now }
     {
-        are_same_in(self.routes.pio0, on, pio0, next0)
-            && are_same_in(self.routes.pio1, on, pio1, next1)
+        are_same_in(shown0, pio0, next0) && are_same_in(shown1, pio1, next1)
     }
 
     /// The pin from which UART 0 or 1 receives, the lowest of its RX pins that has function 2. RX is pin 1, 13, 17 or 29
@@ -368,19 +377,24 @@ impl IoBank {
     }
 }
 
-/// Two pairs of levels and enables have the same enables in a set, and the same levels where it meets another one.
+/// Two pairs of sets have the same members in a third pair.
 #[inline(always)]
-fn are_same_in(set: u32, on: u32, first: [u32; 2], second: [u32; 2]) -> bool
-    ensures levels { result ≡ true → bit_and (slice_index first 0) (bit_and set on)
-        ≡ bit_and (slice_index second 0) (bit_and set on) }
-    ensures enables { result ≡ true
-        → bit_and (slice_index first 1) set ≡ bit_and (slice_index second 1) set }
+fn are_same_in(shown: [u32; 2], first: [u32; 2], second: [u32; 2]) -> bool
+    ensures levels { result ≡ true → bit_and (slice_index first 0) (slice_index shown 0)
+        ≡ bit_and (slice_index second 0) (slice_index shown 0) }
+    ensures enables { result ≡ true → bit_and (slice_index first 1) (slice_index shown 1)
+        ≡ bit_and (slice_index second 1) (slice_index shown 1) }
 {
-    if set == 0 {
-        return true;
-    }
-    let shown = set & on;
-    first[0] & shown == second[0] & shown && first[1] & set == second[1] & set
+    joined(first[0] & shown[0], first[1] & shown[1])
+        == joined(second[0] & shown[0], second[1] & shown[1])
+}
+
+/// Two words as one number.
+#[inline(always)]
+fn joined(low: u32, high: u32) -> u64
+    ensures { result ≡ low + high * 2 ^ 32 }
+{
+    u64::from(low) | (u64::from(high) << 32)
 }
 
 /// The first of four pins that is in a set.

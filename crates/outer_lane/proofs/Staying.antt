@@ -1,16 +1,19 @@
 -- A cycle in which all is at rest, and any other one, by what drives the pads from outside.
-use Rattle.std.proofs.Common.{◌≡◌, ◌<◌, ℕ, ◌-◌, ◌^◌, List, [], ◌∷◌, length, Option, refl, sym, ap, ◌∙◌, arith}
+use Rattle.std.proofs.Common.{Bool, true, ◌≡◌, ◌<◌, ℕ, ◌-◌, ◌^◌, List, [], ◌∷◌, length, Option, refl, sym, ap, ◌∙◌, arith}
 use Rattle.io_bank.specs.declared.outputs.Outs.{Outs}
 use Rattle.io_bank.specs.State.{Bank}
 use Rattle.io_bank.specs.Edges.{edges_of}
 use Rattle.io_bank.specs.Levels.{by_sets, levels_of, uart_outputs, receive_level}
-use Rattle.io_bank.specs.Driven.{driven_of}
+use Rattle.io_bank.specs.Driven.{shown_of}
 use Rattle.io_bank.specs.Step.{after_step, with_edges, with_levels}
 use Rattle.lane_look.specs.declared.device.Wires.{Wires}
 use Rattle.lane_look.specs.declared.marks.Mark.{Mark}
 use Rattle.pin_script.specs.declared.entry.Entry.{Entry}
 use Rattle.pin_script.specs.declared.script.Drives.{Drives}
 use Rattle.pin_script.specs.Levels.{drive_at}
+use Rattle.rp_base.specs.declared.resettable.Resettable.{Resettable}
+use Rattle.rp_timer.specs.State.{TimerState}
+use Rattle.rp_uart.specs.State.{SerialPort}
 use Rattle.rp_uart.specs.Step.{output_of}
 use Rattle.outer_lane.specs.declared.drivers.Drivers.{Drivers}
 use Rattle.outer_lane.specs.declared.world.SeenOutputs.{SeenOutputs}
@@ -61,19 +64,20 @@ pads_stay wires seen drives s d rest pio0 pio1 pwm driven high =
 abbrev pub by_pio : Outs → List ℕ → List ℕ → Outs
 by_pio outs a b = record outs { pio0 = a; pio1 = b }
 
--- the pads have the same levels by the outputs of PIO that are seen, where the chip drives these
-abbrev pub SameSeen : SeenOutputs → Drivers → ℕ → Bank → Type 0
-SameSeen seen d on b =
+-- the pads have the same levels by the outputs of PIO that are seen, where they show so much
+abbrev pub SameSeen : SeenOutputs → Drivers → List ℕ → List ℕ → Bank → Type 0
+SameSeen seen d shown0 shown1 b =
     (outs : Outs) → (driven high : ℕ) →
-    on ≡ driven_of (by_pio outs (d.pio0_levels ∷ d.pio0_enables ∷ []) (d.pio1_levels ∷ d.pio1_enables ∷ [])) b →
+    shown0 ≡ shown_of 6 (by_pio outs (d.pio0_levels ∷ d.pio0_enables ∷ []) (d.pio1_levels ∷ d.pio1_enables ∷ [])) b →
+    shown1 ≡ shown_of 7 (by_pio outs (d.pio0_levels ∷ d.pio0_enables ∷ []) (d.pio1_levels ∷ d.pio1_enables ∷ [])) b →
     levels_of (by_pio outs (d.pio0_levels ∷ d.pio0_enables ∷ []) (d.pio1_levels ∷ d.pio1_enables ∷ [])) (by_sets driven high) b
     ≡ levels_of (by_pio outs seen.pio0 seen.pio1) (by_sets driven high) b
 
-pub calm_stay : (wires : Wires) (seen : SeenOutputs) (drives : Drives) (s : OuterState) (d : Drivers) (on : ℕ) →
-    IsCalm s.sio d on s.pads s.uart0 s.uart1 → SameSeen seen d on s.pads → wires.pwm ≡ d.pwm →
+pub calm_stay : (wires : Wires) (seen : SeenOutputs) (drives : Drives) (s : OuterState) (d : Drivers) (shown0 shown1 : List ℕ) →
+    IsCalm s.sio d shown0 shown1 s.pads s.uart0 s.uart1 → SameSeen seen d shown0 shown1 s.pads → wires.pwm ≡ d.pwm →
     drives.driven ≡ d.driven → drives.high ≡ d.high → pads_driven wires seen drives s ≡ s.pads
 unfolding pads_driven pads_after
-calm_stay wires seen drives s d on calm same pwm driven high =
+calm_stay wires seen drives s d shown0 shown1 calm same pwm driven high =
     let seen_outs : Outs = by_pio (outs_by s.sio d) seen.pio0 seen.pio1 in
     let outs : outs_of wires seen s ≡ seen_outs =
     parts-go s.sio seen.pio0 seen.pio1 (wires.pwm ∷ (2 ^ 30 - 1) ∷ []) (uart_outputs (output_of s.uart0.block) (output_of s.uart1.block))
@@ -82,8 +86,26 @@ calm_stay wires seen drives s d on calm same pwm driven high =
     ap (λ (o : Outs). after_step o (by_sets drives.driven drives.high) s.pads) outs
     ∙ ap (λ (n : ℕ). after_step seen_outs (by_sets n drives.high) s.pads) driven
     ∙ ap (λ (n : ℕ). after_step seen_outs (by_sets d.driven n) s.pads) high
-    ∙ ap (λ (n : ℕ). with_levels n (with_edges (edges_of s.pads) s.pads)) (sym (same (outs_by s.sio d) d.driven d.high calm.0.1))
+    ∙ ap (λ (n : ℕ). with_levels n (with_edges (edges_of s.pads) s.pads)) (sym (same (outs_by s.sio d) d.driven d.high calm.0.1.0 calm.0.1.1))
     ∙ calm.0.0
+
+abbrev parts_by : OuterState → Resettable TimerState → Resettable SerialPort → Resettable SerialPort → Bank → ℕ → OuterState
+parts_by s timer uart0 uart1 pads irq = record s { timer = timer; uart0 = uart0; uart1 = uart1; pads = pads; irq = irq }
+
+pub calm_next : (wires : Wires) (seen : SeenOutputs) (drives : Drives) (s a : OuterState) →
+    a ≡ record s { uart0 = uart_after true s.uart0; uart1 = uart_after true s.uart1 } →
+    s ≡ record s { timer = timer_after seen.cycle s.timer } → pads_driven wires seen drives s ≡ s.pads →
+    receive_level 0 s.pads ≡ true → receive_level 1 s.pads ≡ true →
+    record a { irq = wires.irq } ≡ next_driven wires seen drives s
+calm_next wires seen drives s a e timer pads line0 line1 =
+    let ended = timer_after seen.cycle s.timer in
+    let first = uart_after (receive_level 0 s.pads) s.uart0 in
+    let second = uart_after (receive_level 1 s.pads) s.uart1 in
+    ap (λ (x : OuterState). record x { irq = wires.irq }) e
+    ∙ ap (λ (x : OuterState). parts_by s x.timer (uart_after true s.uart0) (uart_after true s.uart1) s.pads wires.irq) timer
+    ∙ ap (λ (b : Bool). parts_by s ended (uart_after b s.uart0) (uart_after true s.uart1) s.pads wires.irq) (sym line0)
+    ∙ ap (λ (b : Bool). parts_by s ended first (uart_after b s.uart1) s.pads wires.irq) (sym line1)
+    ∙ ap (λ (p : Bank). parts_by s ended first second p wires.irq) (sym pads)
 
 -- ---- any cycle, part by part
 

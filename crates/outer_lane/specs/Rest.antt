@@ -6,10 +6,11 @@ use Rattle.lane_look.specs.declared.device.Wires.{Wires}
 use Rattle.pin_script.specs.declared.script.Drives.{Drives}
 use Rattle.rp_uart.specs.State.{SerialPort}
 use Rattle.rp_uart.specs.Step as uart
+use Rattle.rp_uart.specs.Lasting.{Lasts}
 use Rattle.io_bank.specs.declared.outputs.Outs.{Outs}
 use Rattle.io_bank.specs.State.{Bank}
 use Rattle.io_bank.specs.Levels.{by_sets, receive_level, uart_outputs}
-use Rattle.io_bank.specs.Driven.{driven_of}
+use Rattle.io_bank.specs.Driven.{shown_of}
 use Rattle.io_bank.specs.Step as pads
 use Rattle.outer_lane.specs.declared.drivers.Drivers.{Drivers}
 use Rattle.outer_lane.specs.declared.world.SeenOutputs.{SeenOutputs}
@@ -69,13 +70,18 @@ AreUartsAtRest d b uart0 uart1 =
     × ((uart_after (receive_level 0 b) uart0 ≡ uart0) × ((byte_of uart0 ≡ None)
     × ((uart_after (receive_level 1 b) uart1 ≡ uart1) × (byte_of uart1 ≡ None))))
 
--- a step by these changes nothing of the pads, of which the chip drives some, among these are the outputs of the UARTs, and the
--- line of each is high
-abbrev pub IsCalm : List ℕ → Drivers → ℕ → Bank → Resettable SerialPort → Resettable SerialPort → Type 0
-IsCalm sio d driven b uart0 uart1 =
-    ((pads_after sio d b ≡ b) × (driven ≡ driven_of (outs_by sio d) b))
+-- a step by these changes nothing of the pads, which show so much of each PIO block, among these are the outputs of the UARTs,
+-- and the line of each is high
+abbrev pub IsCalm : List ℕ → Drivers → List ℕ → List ℕ → Bank → Resettable SerialPort → Resettable SerialPort → Type 0
+IsCalm sio d shown0 shown1 b uart0 uart1 =
+    ((pads_after sio d b ≡ b) × ((shown0 ≡ shown_of 6 (outs_by sio d) b) × (shown1 ≡ shown_of 7 (outs_by sio d) b)))
     × ((uart_outputs (uart.output_of uart0.block) (uart.output_of uart1.block) ≡ d.uart_levels ∷ d.uart_enables ∷ [])
     × ((receive_level 0 b ≡ true) × (receive_level 1 b ≡ true)))
+
+-- in so many cycles with a high line no bit ends that UART 0 sends, and UART 1 is at rest in one of them
+abbrev pub SendsOn : ℕ → Resettable SerialPort → Resettable SerialPort → Type 0
+SendsOn count uart0 uart1 =
+    (uart0.held ≡ false) × (Lasts count uart0.block × ((uart_after true uart1 ≡ uart1) × (byte_of uart1 ≡ None)))
 
 -- a cycle by these changes nothing of the pads and the UARTs
 abbrev pub IsLaneAtRest : List ℕ → Drivers → Bank → Resettable SerialPort → Resettable SerialPort → Type 0

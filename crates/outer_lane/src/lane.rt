@@ -89,11 +89,9 @@ impl<X: Device> Lane<World<'_, X>> for Outer {
             let wires = env
                 .device
                 .step(self.device.as_mut_slice(), begun.cycle, levels);
-            let mark = self.step_by(env.script, &wires, begun);
-            marks.push(mark);
+            self.step_by(env.script, &wires, begun, marks);
         } else {
-            let mark = self.step_by(env.script, &Wires::default(), begun);
-            marks.push(mark);
+            self.step_by(env.script, &Wires::default(), begun, marks);
         }
     }
 

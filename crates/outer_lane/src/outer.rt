@@ -39,16 +39,19 @@ pub struct Outer {
     pub(crate) pads_at_rest: bool,
     // beside that both UARTs are at rest, and put out what is among these
     pub(crate) at_rest: bool,
-    // the pads are at rest, the UARTs put out what is among these and hear high lines; these pads are driven by the chip
+    // the pads are at rest, the UARTs put out what is among these and hear high lines; of each PIO block the pads show these
     pub(crate) calm: bool,
-    pub(crate) driven: u32,
+    pub(crate) shown0: [u32; 2],
+    pub(crate) shown1: [u32; 2],
+    // where it is calm, in so many cycles no bit ends that UART 0 sends, and UART 1 is at rest
+    pub(crate) left: u32,
     pub(crate) drivers: Drivers,
 }
 
 impl Model for Outer {
-    ghost use Rattle.std.specs.Prelude.{◌≡◌, true};
+    ghost use Rattle.std.specs.Prelude.{◌≡◌, ◌<◌, true};
     ghost use Rattle.outer_lane.specs.State.{OuterState};
-    ghost use Rattle.outer_lane.specs.Rest.{IsAtRest, IsLaneAtRest, IsCalm};
+    ghost use Rattle.outer_lane.specs.Rest.{IsAtRest, IsLaneAtRest, IsCalm, SendsOn};
 
     ghost Value = { OuterState };
 
@@ -66,7 +69,8 @@ impl Model for Outer {
     // calm where they hear nothing and put out what they did
     ghost invariant = { λ o. (o.pads_at_rest ≡ true → IsAtRest o.sio o.drivers o.pads)
         × ((o.at_rest ≡ true → IsLaneAtRest o.sio o.drivers o.pads o.uart0 o.uart1)
-        × (o.calm ≡ true → IsCalm o.sio o.drivers o.driven o.pads o.uart0 o.uart1)) };
+        × ((o.calm ≡ true → IsCalm o.sio o.drivers o.shown0 o.shown1 o.pads o.uart0 o.uart1)
+        × (o.calm ≡ true → 0 < o.left → SendsOn o.left o.uart0 o.uart1))) };
 }
 
 impl Outer {
@@ -92,7 +96,9 @@ impl Outer {
             pads_at_rest: false,
             at_rest: false,
             calm: false,
-            driven: 0,
+            shown0: [0, 0],
+            shown1: [0, 0],
+            left: 0,
             drivers: Drivers::NONE,
         }
     }
@@ -231,7 +237,9 @@ impl Outer {
         self.pads_at_rest = other.pads_at_rest;
         self.at_rest = other.at_rest;
         self.calm = other.calm;
-        self.driven = other.driven;
+        self.shown0 = other.shown0;
+        self.shown1 = other.shown1;
+        self.left = other.left;
         self.drivers = other.drivers;
     }
 }

@@ -14,7 +14,7 @@ use crate::outside::outside;
 use crate::world::SeenOutputs;
 use arrayvec::ArrayVec;
 use io_bank::{IoBank, Outs, uart_outputs};
-use lane_look::{Device, Mark, Wires};
+use lane_look::{Device, Mark, Marks, Wires};
 use pin_script::{Drives, Script};
 use rp_base::Resettable;
 use rp_timer::Timer;
@@ -104,6 +104,14 @@ fn is_uart_at_rest(uart: &Resettable<Uart>, pads: &IoBank, number: u8) -> bool
     uart.held || uart.block.is_at_rest(pads.receive_level(number))
 }
 
+/// A UART is held, or a cycle with a high line changes nothing of it.
+fn rests_high(uart: &Resettable<Uart>) -> bool
+    ensures same { result ≡ true → uart_after true uart.now ≡ uart.now }
+    ensures silent { result ≡ true → byte_of uart.now ≡ None }
+{
+    uart.held || uart.block.is_at_rest(true)
+}
+
 /// Both UARTs are at rest, and put out what the pads are stepped by.
 #[inline(never)]
 fn are_uarts_at_rest(
@@ -146,7 +154,7 @@ pub(crate) fn step_timer(timer: &mut Resettable<Timer>, cycle: u64)
 }
 
 impl Outer {
-    ghost use Rattle.std.specs.Prelude.{◌≡◌, ◌<◌, ℕ, true, ◌∷◌, [], None};
+    ghost use Rattle.std.specs.Prelude.{◌≡◌, ◌<◌, ℕ, true, ◌∷◌, ◌++◌, [], length, None};
     ghost use Rattle.io_bank.specs.Levels.{by_sets, levels_of, receive_level};
     ghost use Rattle.outer_lane.specs.Rest.{outs_by, pads_after, pads_driven, next_driven, marked_driven};
     ghost use Rattle.outer_lane.specs.Step.{outs_of, outside_of, uart_after, byte_of, timer_after, next_by, marked_by};
@@ -255,6 +263,7 @@ impl Outer {
         if self.pads_at_rest {
             self.settle_calm();
             self.settle_rest();
+            self.look_ahead();
         }
     }
 
@@ -264,7 +273,10 @@ impl Outer {
         ensures { self.new ≡ self.old }
     {
         if self.pads_at_rest && !self.calm {
-            self.driven = self.pads.driven(&self.drivers.outs(self.sio));
+            self.left = 0;
+            let outs = self.drivers.outs(self.sio);
+            self.shown0 = self.pads.shown(6, &outs);
+            self.shown1 = self.pads.shown(7, &outs);
             self.calm = are_uarts_calm(
                 &self.drivers,
                 &self.pads,
@@ -313,7 +325,8 @@ impl Outer {
     {
         if self.calm && self.drivers.is_else_driven_by(wires, drives) {
             return self.pads.is_seen_same(
-                self.driven,
+                self.shown0,
+                self.shown1,
                 [self.drivers.pio0_levels, self.drivers.pio0_enables],
                 [self.drivers.pio1_levels, self.drivers.pio1_enables],
                 seen.pio0,
@@ -340,6 +353,7 @@ impl Outer {
         } }
     {
         let uart = self.step_high_uarts();
+        self.look_ahead();
         self.irq = irq;
         self.step_time(cycle);
         Mark {
@@ -359,12 +373,14 @@ impl Outer {
           uart1 = uart_after true self.old.uart1;
         } }
     {
+        self.left = 0;
         let first = step_high(&mut self.uart0, &mut self.calm);
         let second = step_high(&mut self.uart1, &mut self.calm);
         [first, second]
     }
 
-    /// UART 0 sends on, and UART 1 does not run; else nothing. Whether it was. The lines of both are high.
+    /// UART 0 sends on beside a UART 1 that is at rest, where that is known; else nothing. Whether it was. The lines of both
+    /// are high.
     #[inline(always)]
     fn sends_on(&mut self) -> bool
         requires line0 { receive_level 0 self.old.pads ≡ true }
@@ -377,42 +393,59 @@ impl Outer {
         ensures byte0 { result ≡ true → byte_of self.old.uart0 ≡ None }
         ensures byte1 { result ≡ true → byte_of self.old.uart1 ≡ None }
     {
-        if self.uart0.held || !(self.uart1.held || self.uart1.block.is_stopped()) {
-            return false;
+        if self.calm && 0 < self.left {
+            self.uart0.block.send_on(self.left);
+            self.left -= 1;
+            return true;
         }
-        self.uart0.block.sends_on()
+        false
+    }
+
+    /// Keeps in mind for how many cycles UART 0 sends on beside a UART 1 that is at rest.
+    pub(crate) fn look_ahead(&mut self)
+        ensures { self.new ≡ self.old }
+    {
+        if !self.uart0.held && rests_high(&self.uart1) {
+            self.left = self.uart0.block.left();
+        }
     }
 
     /// A cycle by these, in which not all is at rest.
     #[inline(never)]
-    fn step_busy(&mut self, wires: &Wires, seen: &SeenOutputs, drives: Drives) -> Mark
+    fn step_busy(&mut self, wires: &Wires, seen: &SeenOutputs, drives: Drives, marks: &mut Marks)
+        requires { length marks.old < 256 }
         ensures state { self.new ≡ next_driven wires.now seen.now drives self.old }
-        ensures mark { result ≡ marked_driven wires.now seen.now drives self.old }
+        ensures marks { marks.new
+            ≡ marks.old ++ marked_driven wires.now seen.now drives self.old ∷ [] }
     {
         if self.is_calm_by(wires, seen, drives)
             && self.ticks.is_between(seen.cycle)
             && self.sends_on()
         {
             self.irq = wires.irq;
-            self.step_time(seen.cycle);
-            return Mark {
+            marks.push(Mark {
                 uart: [None, None],
                 pads: self.pads.pads(),
-            };
+            });
+            return;
         }
-        self.step_other(wires, seen, drives)
+        self.step_other(wires, seen, drives, marks);
     }
 
     /// The same, whatever the UARTs do.
     #[inline(never)]
-    fn step_other(&mut self, wires: &Wires, seen: &SeenOutputs, drives: Drives) -> Mark
+    fn step_other(&mut self, wires: &Wires, seen: &SeenOutputs, drives: Drives, marks: &mut Marks)
+        requires { length marks.old < 256 }
         ensures state { self.new ≡ next_driven wires.now seen.now drives self.old }
-        ensures mark { result ≡ marked_driven wires.now seen.now drives self.old }
+        ensures marks { marks.new
+            ≡ marks.old ++ marked_driven wires.now seen.now drives self.old ∷ [] }
     {
         if self.is_calm_by(wires, seen, drives) {
-            self.step_calm(wires.irq, seen.cycle)
+            let mark = self.step_calm(wires.irq, seen.cycle);
+            marks.push(mark);
         } else {
-            self.step_any(*wires, seen, drives)
+            let mark = self.step_any(*wires, seen, drives);
+            marks.push(mark);
         }
     }
 
@@ -439,19 +472,21 @@ impl Outer {
 
     /// A cycle in which nothing changes but the timer, and the lines of the device.
     #[inline(always)]
-    fn step_still(&mut self, irq: u32, cycle: u64) -> Mark
+    fn step_still(&mut self, irq: u32, cycle: u64, marks: &mut Marks)
+        requires { length marks.old < 256 }
         ensures state { self.new ≡ record self.old {
           timer = timer_after cycle self.old.timer;
           irq = irq;
         } }
-        ensures mark { result ≡ record { uart = None ∷ None ∷ []; pads = self.old.pads.current } }
+        ensures marks { marks.new ≡ marks.old
+            ++ record { uart = None ∷ None ∷ []; pads = self.old.pads.current } ∷ [] }
     {
         self.irq = irq;
         self.step_time(cycle);
-        Mark {
+        marks.push(Mark {
             uart: [None, None],
             pads: self.pads.pads(),
-        }
+        });
     }
 
     /// A cycle by these, whatever changes.
@@ -472,25 +507,35 @@ impl Outer {
 
     /// A cycle by these.
     #[inline(always)]
-    fn step_all(&mut self, wires: &Wires, seen: &SeenOutputs, drives: Drives) -> Mark
+    fn step_all(&mut self, wires: &Wires, seen: &SeenOutputs, drives: Drives, marks: &mut Marks)
+        requires { length marks.old < 256 }
         ensures state { self.new ≡ next_driven wires.now seen.now drives self.old }
-        ensures mark { result ≡ marked_driven wires.now seen.now drives self.old }
+        ensures marks { marks.new
+            ≡ marks.old ++ marked_driven wires.now seen.now drives self.old ∷ [] }
     {
         if self.stays_by(wires, seen, drives) {
-            self.step_still(wires.irq, seen.cycle)
+            self.step_still(wires.irq, seen.cycle, marks);
         } else {
-            self.step_busy(wires, seen, drives)
+            self.step_busy(wires, seen, drives, marks);
         }
     }
 
     /// All but the device steps, by what the device drives; the mark that the cycle leaves.
     #[inline(always)]
-    pub(crate) fn step_by(&mut self, script: &Script, wires: &Wires, seen: &SeenOutputs) -> Mark
+    pub(crate) fn step_by(
+        &mut self,
+        script: &Script,
+        wires: &Wires,
+        seen: &SeenOutputs,
+        marks: &mut Marks,
+    )
+        requires { length marks.old < 256 }
         ensures state { self.new ≡ next_by script.now wires.now seen.now self.old }
-        ensures mark { result ≡ marked_by script.now wires.now seen.now self.old }
+        ensures marks { marks.new
+            ≡ marks.old ++ marked_by script.now wires.now seen.now self.old ∷ [] }
     {
         let drives = self.drives(script, wires, seen.cycle);
-        self.step_all(wires, seen, drives)
+        self.step_all(wires, seen, drives, marks);
     }
 
     /// The outputs of all parts, where the device drives these.

@@ -161,11 +161,15 @@ impl Outer {
             }
             Block::Uart0 => {
                 self.at_rest = false;
+                self.left = 0;
                 access_uart(&mut self.uart0, &mut self.calm, offset, write);
+                self.look_ahead();
             }
             Block::Uart1 => {
                 self.at_rest = false;
+                self.left = 0;
                 access_uart(&mut self.uart1, &mut self.calm, offset, write);
+                self.look_ahead();
             }
             Block::Timer => access(&mut self.timer, offset, write),
             _ => {}

@@ -6,3 +6,4 @@ pub mod Sender
 pub mod State
 pub mod Step
 pub mod Words
+pub mod Lasting

@@ -1,6 +1,6 @@
 //! The registers that say how a UART runs.
 
-ghost use Rattle.std.specs.Prelude.{◌≡◌, ◌<◌, ◌^◌};
+ghost use Rattle.std.specs.Prelude.{◌≡◌, ◌<◌, ◌+◌, ◌*◌, ◌^◌};
 ghost use Rattle.rp_uart.specs.Sender.{bit_time, is_over, elapsed_after};
 
 /// UARTIBRD and UARTFBRD: a bit lasts 64 times the divisor, in quarters of a cycle (DDI 0183, 3.3.5 and 3.3.6).
@@ -41,6 +41,20 @@ impl Divisor {
         ensures bound { result < 2 ^ 23 }
     {
         64 * u32::from(self.integer) + u32::from(self.fraction)
+    }
+
+    /// In so many cycles a bit does not end of which so many quarters of a cycle have passed.
+    pub(crate) fn left(&self, elapsed: u32) -> u32
+        requires { 0 < self.now.integer }
+        ensures time { 0 < result → elapsed + 4 * result < bit_time self.now }
+        ensures bound { 0 < result → elapsed + 4 * result < 2 ^ 32 }
+    {
+        let last = self.bit_time() - 1;
+        if elapsed < last {
+            (last - elapsed) / 4
+        } else {
+            0
+        }
     }
 
     /// One more cycle of a bit of which so many quarters of a cycle have passed: whether the bit is over, and how much of it,

@@ -1,7 +1,8 @@
 //! Sending.
 
-ghost use Rattle.std.specs.Prelude.{◌≡◌, ◌<◌, true, false, Some, None, if◌then◌else◌};
+ghost use Rattle.std.specs.Prelude.{◌≡◌, ◌<◌, ◌-◌, true, false, Some, None, if◌then◌else◌};
 ghost use Rattle.rp_uart.specs.Step.{output_of};
+ghost use Rattle.rp_uart.specs.Lasting.{BitLasts};
 ghost use Rattle.rp_uart.specs.Sender.{next_frame, is_last_bit, after_bit, after_frame, after_sending, ended_byte, frame_byte};
 
 use crate::interrupts::TRANSMIT;
@@ -63,6 +64,33 @@ impl Uart {
         }
         frame.elapsed = elapsed;
         true
+    }
+
+    /// The same, where the bit lasts for so many cycles.
+    #[inline(always)]
+    #[tactic(auto, unfolding(crate::specs::Sender::after_sending))]
+    pub(crate) fn lengthen(&mut self, left: u32)
+        requires some { 0 < left }
+        requires lasts { BitLasts left self.old.sender self.old.divisor }
+        ensures after { self.new ≡ after_sending self.old }
+        ensures lasts { BitLasts (left - 1) self.new.sender self.new.divisor }
+        ensures byte { ended_byte self.old.sender self.old ≡ None }
+        ensures output { output_of self.new ≡ output_of self.old }
+    {
+        if let Sender::Frame(frame) = &mut self.sender {
+            frame.elapsed += 4;
+        }
+    }
+
+    /// For how many cycles no bit of a frame that is sent ends.
+    pub(crate) fn bit_left(&self) -> u32
+        requires { 0 < self.now.divisor.integer }
+        ensures { 0 < result → BitLasts result self.now.sender self.now.divisor }
+    {
+        match self.sender {
+            Sender::Idle => 0,
+            Sender::Frame(frame) => self.divisor.left(frame.elapsed),
+        }
     }
 
     /// The cycle of a frame.

@@ -1,10 +1,11 @@
 //! A UART: its state, its cycle and its readers.
 
-ghost use Rattle.std.specs.Prelude.{◌≡◌, true, false, not, None, Decides};
+ghost use Rattle.std.specs.Prelude.{◌≡◌, ◌<◌, ◌-◌, true, false, not, None, Decides};
 ghost use Rattle.rp_uart.specs.declared.receiver.Receiver.TheVariants.{Idle};
 ghost use Rattle.rp_uart.specs.State.{at_reset};
 ghost use Rattle.rp_uart.specs.Interrupts.{is_line_high};
 ghost use Rattle.rp_uart.specs.Sender.{is_idle};
+ghost use Rattle.rp_uart.specs.Lasting.{Lasts};
 ghost use Rattle.rp_uart.specs.Step.{is_running, is_at_rest, has_nothing_to_do, output_of, heard_of, after_step, sent_byte, pacing_of};
 
 use crate::control::{Control, Divisor, DmaControl};
@@ -180,6 +181,30 @@ impl Uart {
         ensures output { result ≡ true → output_of self.new ≡ output_of self.old }
     {
         !self.is_stopped() && self.hears_nothing(true) && self.goes_on()
+    }
+
+    /// In so many cycles with a high line no bit of a frame that is sent ends, and nothing is received.
+    pub fn left(&self) -> u32
+        ensures { 0 < result → Lasts result self.now }
+    {
+        if self.is_stopped() || !self.hears_nothing(true) {
+            return 0;
+        }
+        self.bit_left()
+    }
+
+    /// The first of so many such cycles.
+    #[inline(always)]
+    #[tactic(auto, using(crate::proofs::GoesOn::goes_on))]
+    pub fn send_on(&mut self, left: u32)
+        requires some { 0 < left }
+        requires lasts { Lasts left self.old }
+        ensures after { self.new ≡ after_step true self.old }
+        ensures lasts { Lasts (left - 1) self.new }
+        ensures byte { sent_byte self.old ≡ None }
+        ensures output { output_of self.new ≡ output_of self.old }
+    {
+        self.lengthen(left);
     }
 
     /// One cycle of a UART that has a divisor.

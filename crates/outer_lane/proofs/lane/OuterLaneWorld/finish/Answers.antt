@@ -26,7 +26,7 @@ returns-then-len-words-clause-state g c =
     refilled i.device c.step-wires.new.state kept ∙ c.step-wires.ensures.state
     ∙ ap (λ (xs : List ℕ). d.after_step xs cycle c.pads-levels.result) c.as_mut_slice.ensures.value
     ∙ ap (λ (n : ℕ). d.after_step i.device cycle n) c.pads-levels.ensures in
-    c.step_by-mark.ensures.state
+    c.step_by.ensures.state
     ∙ next_fits w c.args.begun.now i _ _ fits drives (ap (λ (xs : List ℕ). record i { device = xs }) words)
     ∙ ap (λ s. next w s c.args.begun.now) c.self.view_is
 
@@ -50,10 +50,9 @@ returns-then-len-words-clause-marks g c =
     refilled i.device c.step-wires.new.state kept ∙ c.step-wires.ensures.state
     ∙ ap (λ (xs : List ℕ). d.after_step xs cycle c.pads-levels.result) c.as_mut_slice.ensures.value
     ∙ ap (λ (n : ℕ). d.after_step i.device cycle n) c.pads-levels.ensures in
-    c.push.ensures
+    c.step_by.ensures.marks
     ∙ ap (λ m. c.args.marks.now ++ m ∷ [])
-    (c.step_by-mark.ensures.mark
-    ∙ marked_fits w c.args.begun.now i _ _ fits drives (ap (λ (xs : List ℕ). record i { device = xs }) words)
+    (marked_fits w c.args.begun.now i _ _ fits drives (ap (λ (xs : List ℕ). record i { device = xs }) words)
     ∙ ap (λ s. marked w s c.args.begun.now) c.self.view_is)
 
 pub returns-else-len-words-clause-state : goal.returns-else-len-words-clause-state
@@ -65,7 +64,7 @@ returns-else-len-words-clause-state g c =
     let b = c.words.ensures.number in
     let t = c.if-len-words.false in
     let unfit : (length i.device == d.count) ≡ false = grind (arith, nat_tests, a, b, t) in
-    c.step_by-mark-else-len-words.ensures.state
+    c.step_by-else-len-words.ensures.state
     ∙ next_none w c.args.begun.now i _ _ unfit (no_wires_by c.default.result c.default.ensures) (sym c.self.view_is)
     ∙ ap (λ s. next w s c.args.begun.now) c.self.view_is
 
@@ -78,8 +77,7 @@ returns-else-len-words-clause-marks g c =
     let b = c.words.ensures.number in
     let t = c.if-len-words.false in
     let unfit : (length i.device == d.count) ≡ false = grind (arith, nat_tests, a, b, t) in
-    c.push-else-len-words.ensures
+    c.step_by-else-len-words.ensures.marks
     ∙ ap (λ m. c.args.marks.now ++ m ∷ [])
-    (c.step_by-mark-else-len-words.ensures.mark
-    ∙ marked_none w c.args.begun.now i _ _ unfit (no_wires_by c.default.result c.default.ensures) (sym c.self.view_is)
+    (marked_none w c.args.begun.now i _ _ unfit (no_wires_by c.default.result c.default.ensures) (sym c.self.view_is)
     ∙ ap (λ s. marked w s c.args.begun.now) c.self.view_is)

@@ -1,4 +1,4 @@
-use Rattle.std.proofs.Common.{ap, ◌∙◌}
+use Rattle.std.proofs.Common.{[], ◌∷◌, ◌++◌, ap, ◌∙◌}
 use Rattle.outer_lane.specs.Step.{next_by, marked_by}
 use Rattle.outer_lane.proofs.Staying.{driven_next, driven_marked}
 use Rattle.outer_lane.proofs.outer.Outer.step_by.Goals as goal
@@ -10,9 +10,10 @@ returns-clause-state c =
     ∙ driven_next c.args.script.now c.args.wires.now c.args.seen.now d.result d.new.self d.ensures.drives
     ∙ ap (next_by c.args.script.now c.args.wires.now c.args.seen.now) d.ensures.kept
 
-pub returns-clause-mark : goal.returns-clause-mark
-returns-clause-mark c =
+pub returns-clause-marks : goal.returns-clause-marks
+returns-clause-marks c =
     let d = c.drives-drives in
-    c.step_all.ensures.mark
-    ∙ driven_marked c.args.script.now c.args.wires.now c.args.seen.now d.result d.new.self d.ensures.drives
-    ∙ ap (marked_by c.args.script.now c.args.wires.now c.args.seen.now) d.ensures.kept
+    c.step_all.ensures.marks
+    ∙ ap (λ m. c.args.marks.now ++ m ∷ [])
+    (driven_marked c.args.script.now c.args.wires.now c.args.seen.now d.result d.new.self d.ensures.drives
+    ∙ ap (marked_by c.args.script.now c.args.wires.now c.args.seen.now) d.ensures.kept)

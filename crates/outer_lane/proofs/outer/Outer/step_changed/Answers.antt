@@ -16,7 +16,10 @@ invariant_of-self c =
           (done_pads i.sio c.args.drivers i.pads c.step_to.new.self after)
           (c.are_pads_at_rest-self-inside.ensures.rests at_rest) (c.are_pads_at_rest-self-inside.ensures.core0 at_rest)
           (c.are_pads_at_rest-self-inside.ensures.core1 at_rest)),
-      ((λ h. absurd (let g : false ≡ true = h in cc)), (λ h. absurd (let g : false ≡ true = h in cc))),
+      (
+        (λ h. absurd (let g : false ≡ true = h in cc)),
+        ((λ h. absurd (let g : false ≡ true = h in cc)), (λ h n. absurd (let g : false ≡ true = h in cc))),
+      ),
     )
 
 pub returns : goal.returns

@@ -28,7 +28,7 @@ invariant_of-self c =
         (λ rest. lane_by i.sio i.drivers c.args.drivers i.pads i.uart0 i.uart1
             (c.self.invariant.1.0 (c.stays_at_rest-self-inside.ensures.rest rest)) same (c.stays_at_rest-self-inside.ensures.levels rest)
             (c.stays_at_rest-self-inside.ensures.enables rest)),
-        (λ h. absurd (let g : false ≡ true = h in cc)),
+        ((λ h. absurd (let g : false ≡ true = h in cc)), (λ h n. absurd (let g : false ≡ true = h in cc))),
       ),
     )
 
