@@ -1,5 +1,6 @@
 -- A cycle in which core 0 alone is at work is the one that the definition says.
-use Rattle.std.proofs.Common.{◌≡◌, ◌≢◌, ◌+◌, ℕ, ◌&&◌, Bool, true, false, not, List, [], ◌∷◌, ◌++◌, Option, Some, None, refl, sym, ap, ◌∙◌}
+use Rattle.std.proofs.Common.{◌≡◌, ◌≢◌, ◌+◌, ℕ, ◌&&◌, Bool, true, false, not, List, [], ◌∷◌, ◌++◌, length, Option, Some, None, refl, sym, ap, arith, ◌∙◌}
+use Rattle.std.specs.Prelude.{slice_index_or}
 use Rattle.rp_base.specs.declared.Master.TheVariants as master
 use Rattle.rp_base.specs.declared.Why.{Why}
 use Rattle.lane_look.specs.declared.marks.Mark.{Mark}
@@ -181,10 +182,19 @@ first_four : (w : Setting) (b : Begun) (x0 x1 x2 x3 : Wanted) (s : State) → x1
 unfolding next_by stepped granted asked asked_of turns turn_of deeds deed_of after_deeds after_deed first_next core1_at_rest
 first_four w b x0 x1 x2 x3 s e1 e2 e3 = rw (e1, e2, e3) refl
 
-pub first_alone : (w : Setting) (b : Begun) (x0 x1 x2 x3 : Wanted) (s : State) → is_first_alone (x0 ∷ x1 ∷ x2 ∷ x3 ∷ []) ≡ true
+first_alone : (w : Setting) (b : Begun) (x0 x1 x2 x3 : Wanted) (s : State) → is_first_alone (x0 ∷ x1 ∷ x2 ∷ x3 ∷ []) ≡ true
     → next_by w b (x0 ∷ x1 ∷ x2 ∷ x3 ∷ []) s ≡ first_next w b x0 s
 first_alone w b x0 x1 x2 x3 s h =
     let a = both (is_nothing x1.want) _ h in
     let c = both (is_nothing x2.want) _ a.1 in
     let d = both (is_nothing x3.want) _ c.1 in
     first_four w b x0 x1 x2 x3 s (nothing x1.want a.0) (nothing x2.want c.0) (nothing x3.want d.0)
+
+pub first_list : (w : Setting) (b : Begun) (xs : List Wanted) (none : Wanted) (s t : State) → length xs ≡ 4 → is_first_alone xs ≡ true
+    → t ≡ first_next w b (slice_index_or xs 0 none) s → t ≡ next_by w b xs s
+first_list w b (x0 ∷ x1 ∷ x2 ∷ x3 ∷ []) none s t l h e = e ∙ sym (first_alone w b x0 x1 x2 x3 s h)
+first_list w b [] none s t l h e = absurd (omega (arith, l))
+first_list w b (x0 ∷ []) none s t l h e = absurd (omega (arith, l))
+first_list w b (x0 ∷ x1 ∷ []) none s t l h e = absurd (omega (arith, l))
+first_list w b (x0 ∷ x1 ∷ x2 ∷ []) none s t l h e = absurd (omega (arith, l))
+first_list w b (x0 ∷ x1 ∷ x2 ∷ x3 ∷ x4 ∷ xs) none s t l h e = absurd (omega (arith, l))

@@ -391,7 +391,6 @@ impl Machine {
 
     /// One cycle in which this was begun and wanted, by core 0 alone.
     #[inline(always)]
-    #[tactic(auto, using(crate::proofs::OneCore::first_alone))]
     fn step_first<X: Device>(
         &mut self,
         world: &World<'_, X>,
