@@ -1,6 +1,6 @@
 //! One cycle of the machine.
 
-ghost use Rattle.std.specs.Prelude.{◌≡◌};
+ghost use Rattle.std.specs.Prelude.{◌≡◌, ◌<◌, ◌^◌};
 ghost use Rattle.bus_fabric.specs.Masters.{HavePorts};
 ghost use Rattle.sio_block.specs.Launcher.{offers_of};
 ghost use Rattle.rp_machine.specs.Cycle.{asked, pins_of, with_pins, with_offer};
@@ -55,6 +55,13 @@ fn wants_alone(wants: &[Wanted; 4]) -> bool
 {
     let [_, core1, read, write] = wants;
     wants_nothing(core1) && wants_nothing(read) && wants_nothing(write)
+}
+
+/// The limit is a number of 64 bits: its type keeps it.
+fn is_bounded<X: Device>(world: &World<'_, X>)
+    ensures { world.now.limit < 2 ^ 64 }
+{
+    let _limit = world.limit;
 }
 
 /// Tells the pads and core 1 what SIO has for them.
@@ -587,6 +594,7 @@ impl Machine {
             self.old ∷ [] }
         ensures steps { steps.new ≡ steps.old + 1 }
     {
+        is_bounded(world);
         marks.clear();
         steps.tick();
         self.step(world, lanes, &all_wanted(lanes), marks);
