@@ -115,6 +115,23 @@ same_begun start n s e =
       agree (answer_of 5 s) (guess 5 start (seen_of 5 n s.sram)) (outer.asks s.outer s.cycle) a5.0,
     ) refl
 
+twice : (c : Bool) → not (not c) ≡ c
+twice true = refl
+twice false = refl
+
+-- the same where each lane may be at work
+pub begun_all : (start : Start) (n : Notes) (s : State) (b : Begun) (same : Bool) → same ≡ not (differs_from start n s) → same ≡ true → b ≡ begun s → b ≡ begun_from start n s
+begun_all start n s b same e is_true e_b = e_b ∙ same_begun start n s (is_not (differs_from start n s) (sym e ∙ is_true))
+
+pub goes_all : (start : Start) (n : Notes) (s : State) (b : Begun) (same ends meets : Bool) → same ≡ not (differs_from start n s) → same ≡ true → b ≡ begun s
+    → ends ≡ ends_wanted (wanted b) → meets ≡ clash (wants_of b) → not (ends || meets) ≡ goes_on start n s
+goes_all start n s b same ends meets e is_true e_b e_ends e_meets =
+    let there = begun_from start n s in
+    let agrees : differs_from start n s ≡ false = is_not (differs_from start n s) (sym e ∙ is_true) in
+    ap (λ (x : Bool). not (x || meets)) e_ends ∙ ap (λ (y : Bool). not (ends_wanted (wanted b) || y)) e_meets
+    ∙ ap goes_by (begun_all start n s b same e is_true e_b)
+    ∙ sym (ap (λ (d : Bool). not (d || not (goes_by there))) agrees ∙ twice (goes_by there))
+
 pub begun_alone : (start : Start) (n : Notes) (s : State) (same : Bool) → IsAlone s → same ≡ not (differs_alone start n s) → same ≡ true → begun s ≡ begun_from start n s
 begun_alone start n s same h e is_true = same_begun start n s (rest_differs start n s h ∙ is_not (differs_alone start n s) (sym e ∙ is_true))
 

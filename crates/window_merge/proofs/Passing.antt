@@ -36,7 +36,7 @@ use Rattle.window_merge.specs.declared.notes.Notes.{Notes}
 use Rattle.window_merge.specs.declared.start.Start.{Start}
 use Rattle.window_merge.specs.Notes.{is_none, seen_of, seen_word, is_clean, write_of, original_word, own_word, with_word, no_notes, noted, noted_by, HasRoom}
 use Rattle.window_merge.specs.Start.{start_of, guess, begun_from, differs_from, ends_wanted, goes_by, goes_first, goes_on}
-use Rattle.window_merge.proofs.Agree.{both_false, differ_of}
+use Rattle.window_merge.proofs.Agree.{both_false, differ_of, same_number}
 use Rattle.window_merge.proofs.Calm.{IsCalm, calm_sram}
 use Rattle.window_merge.proofs.Copying.{answered_same, asked_same}
 use Rattle.window_merge.proofs.Meeting.{least_meets, short_window}
@@ -736,5 +736,6 @@ no_cycle w s t zero e le = e
 no_cycle w s t (suc n) e le = absurd (omega (arith, le))
 
 pub unstopped_behind : (w : Setting) (s t : State) (n : ℕ) → t ≡ states w s n → stop w s ≡ None → (n == 0) ≡ true → stop w t ≡ None
-unstopped_behind w s t zero e none is_zero = ap (stop w) (no_cycle w s t zero e (omega arith)) ∙ none
-unstopped_behind w s t (suc n) e none is_zero = absurd (cc is_zero)
+unstopped_behind w s t n e none is_zero =
+    let zero : n ≡ 0 = same_number n 0 is_zero in
+    ap (stop w) (no_cycle w s t n e (omega (arith, zero))) ∙ none

@@ -208,13 +208,13 @@ pub(crate) fn begin_core0(
     machine: &Machine,
     start: &Start,
     notes: &Notes,
-    begun: &mut Doing,
+    core0: &mut Doing,
     same: &mut bool,
 )
-    ensures begun { begun.new ≡ (begun machine.now).core0 }
+    ensures begun { core0.new ≡ (begun machine.now).core0 }
     ensures same { same.new ≡ (same.old && not (differs_core0 start.now notes.now machine.now)) }
 {
-    begin_core(&machine.core0, 0, machine, start, notes, begun, same);
+    begin_core(&machine.core0, 0, machine, start, notes, core0, same);
 }
 
 /// Begins the cycle of the peripherals so.
@@ -225,13 +225,13 @@ pub(crate) fn begin_outer<X: Device>(
     world: &World<'_, X>,
     start: &Start,
     notes: &Notes,
-    begun: &mut SeenOutputs,
+    seen: &mut SeenOutputs,
     same: &mut bool,
 )
-    ensures begun { begun.new ≡ (begun machine.now).outer }
+    ensures begun { seen.new ≡ (begun machine.now).outer }
     ensures same { same.new ≡ (same.old && not (differs_outer start.now notes.now machine.now)) }
 {
-    *begun = begin_by(&machine.outer, world, 5, machine, start, notes, same);
+    *seen = begin_by(&machine.outer, world, 5, machine, start, notes, same);
 }
 
 /// Begins the cycle of all lanes, in the place of what they began before, and compares each answer with that of the start: `same`

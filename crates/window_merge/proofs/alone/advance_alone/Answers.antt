@@ -6,7 +6,7 @@ use Rattle.window_merge.proofs.alone.advance_alone.Goals as goal
 pub moves-init : goal.moves-init
 moves-init g c =
     let w = setting_of c.args.world.now.script.now (g.X.Device.meaning c.args.world.now.device.now) c.args.world.now.limit in
-    (way_first w c.args.machine.now c.args.to _ c.requires.to c.requires.number, c.requires.rested, c.requires.crew, c.begin_into.ensures)
+    (way_first w c.args.machine.now c.args.to _ c.requires.to c.requires.number, c.requires.rested, record { jobs = c.requires.crew.jobs; spare = c.requires.crew.spare }, c.begin_into.ensures)
 
 pub returns-in-Stopped-clause-state : goal.returns-in-Stopped-clause-state
 returns-in-Stopped-clause-state g c =

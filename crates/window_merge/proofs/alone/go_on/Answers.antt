@@ -8,8 +8,8 @@ use Rattle.window_merge.proofs.Passing.{no_cycle}
 use Rattle.window_merge.proofs.Resting.{rested_cycle, rested_states}
 use Rattle.window_merge.proofs.alone.go_on.Goals as goal
 
-pub returns-clause-rested : goal.returns-clause-rested
-returns-clause-rested g c =
+pub returns-then-after_empty-clause-rested : goal.returns-then-after_empty-clause-rested
+returns-then-after_empty-clause-rested g c =
     let w = setting_of c.args.world.now.script.now (g.X.Device.meaning c.args.world.now.device.now) c.args.world.now.limit in
     rested_cycle w c.args.machine.now c.cycle_of.new.self _ c.requires.rested c.cycle_of.ensures.state
 
@@ -29,8 +29,8 @@ returns-then-length-gt0-clause-gone g c =
     let number = c.window_within-length.ensures.number in
     (c.if-after_empty.false, c.window_within-length.ensures.state, number, omega (arith, few, within, number), c.window_within-length.ensures.steps)
 
-pub returns-in-None-stop_of-clause-gone : goal.returns-in-None-stop_of-clause-gone
-returns-in-None-stop_of-clause-gone g c =
+pub returns-in-None-clause-gone : goal.returns-in-None-clause-gone
+returns-in-None-clause-gone g c =
     let w = setting_of c.args.world.now.script.now (g.X.Device.meaning c.args.world.now.device.now) c.args.world.now.limit in
     let few = short_window w c.args.machine.now c.longest_to-at_most.result c.window_within-length.result c.window_within-length.ensures.length in
     let within = c.longest_to-at_most.ensures.within in
@@ -49,8 +49,8 @@ returns-in-Some-stop_of-clause-rested g c =
     let family : State → Type 0 = λ s. IsRested s.sio in
     subst family (sym c.window_within-length.ensures.state) (rested_states w c.args.machine.now c.window_within-length.result c.requires.rested)
 
-pub returns-in-None-stop_of-clause-rested : goal.returns-in-None-stop_of-clause-rested
-returns-in-None-stop_of-clause-rested g c =
+pub returns-in-None-clause-rested : goal.returns-in-None-clause-rested
+returns-in-None-clause-rested g c =
     let w = setting_of c.args.world.now.script.now (g.X.Device.meaning c.args.world.now.device.now) c.args.world.now.limit in
     let family : State → Type 0 = λ s. IsRested s.sio in
     subst family (sym c.window_within-length.ensures.state) (rested_states w c.args.machine.now c.window_within-length.result c.requires.rested)

@@ -1,8 +1,10 @@
-use Rattle.std.proofs.Common.{◌≡◌, true, false, refl, ap, sym, ◌∙◌, subst}
+use Rattle.std.proofs.Common.{◌≡◌, true, false, [], ◌∷◌, ◌++◌, refl, ap, sym, ◌∙◌, subst}
 use Rattle.lane_look.specs.declared.lane.Want.TheVariants as want
 use Rattle.lane_look.specs.Alone.{ends_want}
 use Rattle.m0_core.specs.Cycle as core
 use Rattle.outer_lane.specs.Setting.{setting_of}
+use Rattle.outer_lane.specs.declared.world.SeenOutputs.{SeenOutputs}
+use Rattle.outer_lane.specs.Step.{marked}
 use Rattle.rp_machine.specs.declared.begun.Begun.{Begun}
 use Rattle.rp_machine.specs.State.{State}
 use Rattle.rp_machine.proofs.OneCore.{rest_by}
@@ -36,9 +38,9 @@ returns-then-is_bus_free-clause-state g c =
     let e0 = c.begin_core0.ensures.begun ∙ ap (λ (b : Begun). b.core0) here in
     let goes = goes_alone c.args.start.now c.args.notes.now c.args.machine.now true false c.requires.alone (sym c.if-not-same.false ∙ same)
     (sym (ap ends_want (sym (ap core.want_of e0) ∙ free.0))) in
-    next_alone w c.args.start.now c.args.notes.now c.args.machine.now c.step_alone_at_rest.new.self c.begin_core0.new.begun c.begin_outer.new.begun (core.want_of c.begin_core0.new.begun) c.requires.alone (sym goes)
+    next_alone w c.args.start.now c.args.notes.now c.args.machine.now c.step_alone_at_rest.new.self c.begin_core0.new.core0 c.begin_outer.new.seen (core.want_of c.begin_core0.new.core0) c.requires.alone (sym goes)
     e0 (c.begin_outer.ensures.begun ∙ ap (λ (b : Begun). b.outer) here) refl
-    (c.step_alone_at_rest.ensures.state ∙ rest_by w c.begin_core0.new.begun c.begin_outer.new.begun (core.want_of c.begin_core0.new.begun) c.args.machine.now free.0 free.1)
+    (c.step_alone_at_rest.ensures.state ∙ rest_by w c.begin_core0.new.core0 c.begin_outer.new.seen (core.want_of c.begin_core0.new.core0) c.args.machine.now free.0 free.1)
 
 pub returns-then-is_bus_free-clause-notes : goal.returns-then-is_bus_free-clause-notes
 returns-then-is_bus_free-clause-notes g c =
@@ -76,7 +78,7 @@ returns-clause-state g c =
     let e_want = c.want_of.ensures ∙ ap core.want_of e0 in
     let goes = goes_alone c.args.start.now c.args.notes.now c.args.machine.now true false c.requires.alone (sym c.if-not-same.false ∙ same)
     (sym c.if-ends_want.false ∙ c.ends_want.ensures ∙ ap ends_want e_want) in
-    next_alone w c.args.start.now c.args.notes.now c.args.machine.now c.step_alone.new.self c.begin_core0.new.begun c.begin_outer.new.begun c.want_of.result c.requires.alone (sym goes)
+    next_alone w c.args.start.now c.args.notes.now c.args.machine.now c.step_alone.new.self c.begin_core0.new.core0 c.begin_outer.new.seen c.want_of.result c.requires.alone (sym goes)
     e0 (c.begin_outer.ensures.begun ∙ ap (λ (b : Begun). b.outer) here) c.want_of.ensures c.step_alone.ensures.state
 
 pub returns-clause-notes : goal.returns-clause-notes
@@ -87,3 +89,19 @@ returns-clause-notes g c =
     let e_want = c.want_of.ensures ∙ ap core.want_of e0 in
     let family : State → Type 0 = λ s. c.note_core0.new.self ≡ noted c.want_of.result want.Nothing want.Nothing s.sram c.args.notes.now in
     noted_alone c.args.start.now c.args.notes.now c.args.machine.now c.want_of.result c.note_core0.new.self c.requires.alone e_want (subst family c.machine.view_is c.note_core0.ensures)
+
+pub returns-then-is_bus_free-clause-marks : goal.returns-then-is_bus_free-clause-marks
+returns-then-is_bus_free-clause-marks g c =
+    let w = setting_of c.args.world.now.script.now (g.X.Device.meaning c.args.world.now.device.now) c.args.world.now.limit in
+    let same = same_alone c.args.start.now c.args.notes.now c.args.machine.now _ _ c.begin_core0.ensures.same c.begin_outer.ensures.same in
+    let here = begun_alone c.args.start.now c.args.notes.now c.args.machine.now _ c.requires.alone same c.if-not-same.false in
+    c.step_alone_at_rest.ensures.marks
+    ∙ ap (λ (o : SeenOutputs). c.args.marks.now ++ marked w c.args.machine.now.outer o ∷ []) (c.begin_outer.ensures.begun ∙ ap (λ (b : Begun). b.outer) here)
+
+pub returns-clause-marks : goal.returns-clause-marks
+returns-clause-marks g c =
+    let w = setting_of c.args.world.now.script.now (g.X.Device.meaning c.args.world.now.device.now) c.args.world.now.limit in
+    let same = same_alone c.args.start.now c.args.notes.now c.args.machine.now _ _ c.begin_core0.ensures.same c.begin_outer.ensures.same in
+    let here = begun_alone c.args.start.now c.args.notes.now c.args.machine.now _ c.requires.alone same c.if-not-same.false in
+    c.step_alone.ensures.marks
+    ∙ ap (λ (o : SeenOutputs). c.args.marks.now ++ marked w c.args.machine.now.outer o ∷ []) (c.begin_outer.ensures.begun ∙ ap (λ (b : Begun). b.outer) here)

@@ -31,13 +31,13 @@ returns-in-Some-stop_of-clause-moved g c =
     let same = no_cycle w c.args.machine.now c.window-length.new.machine c.window-length.result h.state (omega (arith, none)) in
     (ap (stop w) (sym same) ∙ sym c.in-Some-stop_of.ensures, same, let steps = h.steps in omega (arith, steps, none))
 
-pub returns-in-None-stop_of-clause-moved : goal.returns-in-None-stop_of-clause-moved
-returns-in-None-stop_of-clause-moved g c =
+pub returns-in-None-clause-moved : goal.returns-in-None-clause-moved
+returns-in-None-clause-moved g c =
     let w = setting_of c.args.world.now.script.now (g.X.Device.meaning c.args.world.now.device.now) c.args.world.now.limit in
     let h = c.window-length.ensures in
     let none = c.if-length-gt0.false in
     let same = no_cycle w c.args.machine.now c.window-length.new.machine c.window-length.result h.state (omega (arith, none)) in
-    (ap (stop w) (sym same) ∙ sym c.in-None-stop_of.ensures, search rules, h.length, h.state, h.marks, h.steps, h.number)
+    (ap (stop w) (sym same) ∙ sym c.in-None.ensures, search rules, h.length, h.state, h.marks, h.steps, h.number)
 
 pub returns-then-length-gt0-clause-rested : goal.returns-then-length-gt0-clause-rested
 returns-then-length-gt0-clause-rested g c =
@@ -51,8 +51,8 @@ returns-in-Some-stop_of-clause-rested g c =
     let family : State → Type 0 = λ s. IsRested s.sio in
     subst family (sym c.window-length.ensures.state) (rested_states w c.args.machine.now c.window-length.result c.requires.rested)
 
-pub returns-in-None-stop_of-clause-rested : goal.returns-in-None-stop_of-clause-rested
-returns-in-None-stop_of-clause-rested g c =
+pub returns-in-None-clause-rested : goal.returns-in-None-clause-rested
+returns-in-None-clause-rested g c =
     let w = setting_of c.args.world.now.script.now (g.X.Device.meaning c.args.world.now.device.now) c.args.world.now.limit in
     let family : State → Type 0 = λ s. IsRested s.sio in
     subst family (sym c.window-length.ensures.state) (rested_states w c.args.machine.now c.window-length.result c.requires.rested)
