@@ -20,8 +20,6 @@ use Rattle.rp_machine.specs.Sram.{half_of, ram_word}
 use Rattle.rp_machine.specs.Answers.{block_lines, lines_of, answer_of}
 use Rattle.window_merge.specs.Lanes.{around, stored_by}
 use Rattle.window_merge.specs.Patch.{sram_after}
-
-use Rattle.window_merge.specs.declared.start.Start.{Start}
 use Rattle.window_merge.specs.declared.start.Matcher.{Matcher}
 use Rattle.window_merge.specs.Start.{start_of, word_by, guess, guessed}
 use Rattle.window_merge.proofs.Agree.{all_same, itself, not_equal}

@@ -17,7 +17,7 @@ use Rattle.sio_block.specs.Launcher.{offers_of}
 use Rattle.rp_machine.specs.declared.begun.Begun.{Begun}
 use Rattle.rp_machine.specs.State.{State}
 use Rattle.rp_machine.specs.Answers.{answer_of}
-use Rattle.rp_machine.specs.Cycle.{begun, pins_of, stop, next, mark}
+use Rattle.rp_machine.specs.Cycle.{pins_of, stop, next, mark}
 use Rattle.rp_machine.specs.Run.{states}
 use Rattle.window_merge.specs.declared.runs.Runs.{Runs}
 use Rattle.window_merge.specs.declared.runs.Indices.{Indices}

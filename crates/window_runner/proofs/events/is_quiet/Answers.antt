@@ -1,4 +1,3 @@
-use Rattle.std.proofs.Common.{Decides}
 use Rattle.std.proofs.lemmas.Bool.Decides.{Decides-and}
 use Rattle.rp_base.proofs.Exact.{numbers, lists, options, told}
 use Rattle.window_runner.proofs.events.is_quiet.Goals as goal
