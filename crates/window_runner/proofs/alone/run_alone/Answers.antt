@@ -8,7 +8,7 @@ use Rattle.window_runner.proofs.alone.run_alone.Goals as goal
 pub steps-init : goal.steps-init
 steps-init g c =
     let w = setting_of c.args.world.now.script.now (g.X.Device.meaning c.args.world.now.device.now) c.args.world.now.limit in
-    (running_first w c.args.machine.now _ c.requires.number, taken_nothing _ _ _ _ g.met.T.Tape.takes_none, c.requires.rested, c.requires.crew, c.begin_into.ensures, λ e. absurd (cc e))
+    (running_first w c.args.machine.now _ c.requires.number, taken_nothing _ _ _ _ g.met.T.Tape.takes_none, c.requires.rested, record { jobs = c.requires.crew.jobs; spare = c.requires.crew.spare }, c.begin_into.ensures, λ e. absurd (cc e))
 
 pub steps-smaller : goal.steps-smaller
 steps-smaller g c =
