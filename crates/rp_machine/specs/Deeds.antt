@@ -87,6 +87,12 @@ abbrev pub asked_at : Request → Option ℕ → Option (ℕ × Bool)
 asked_at request None = None
 asked_at request (Some port) = Some (port, is_some request.write)
 
+-- the spot of a want's access; outside where it is none
+abbrev pub spot_of : Want → Spot
+spot_of (want.Ram request) = place_of request.address
+spot_of (want.Outward request) = place_of request.address
+spot_of _ = spot.Outside
+
 -- the port that a want asks for, and whether to write
 unfoldable pub asked_of : Want → Option (ℕ × Bool)
 asked_of (want.Ram request) = asked_at request (port_at (place_of request.address))

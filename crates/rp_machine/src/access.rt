@@ -3,7 +3,7 @@
 ghost use Rattle.std.specs.Prelude.{◌≡◌};
 ghost use Rattle.rp_base.specs.Map.{place_of, IsWithin};
 ghost use Rattle.bus_fabric.specs.Masters.{HasPort};
-ghost use Rattle.rp_machine.specs.Deeds.{port_at, asked_at, asked_of, is_done_at, is_lock, is_same_word, reads_at, is_core1, is_late, turn_at, stored_at, StoresInSram};
+ghost use Rattle.rp_machine.specs.Deeds.{port_at, asked_at, spot_of, asked_of, is_done_at, is_lock, is_same_word, reads_at, is_core1, is_late, turn_at, stored_at, StoresInSram};
 
 use crate::deed::Deed;
 use crate::machine::Machine;
@@ -35,17 +35,40 @@ fn asked_at(request: &Request, spot: &Spot) -> Option<(u8, bool)>
     }
 }
 
-/// The port that a want asks for, and whether to write.
+/// The spot of a want's access; outside where it is none.
+#[inline(always)]
+pub(crate) fn spot_of(want: &Want) -> Spot
+    ensures value { result ≡ spot_of want.now }
+    ensures within { IsWithin result }
+{
+    match want {
+        Want::Ram(request) | Want::Outward(request) => place(request.address),
+        Want::Nothing | Want::Signal | Want::Stopped(_) => Spot::Outside,
+    }
+}
+
+/// The port that a want asks for whose access has this spot, and whether to write.
 #[inline(always)]
 #[tactic(auto, unfolding(crate::specs::Deeds::asked_of))]
-pub fn asked_of(want: &Want) -> Option<(u8, bool)>
+pub(crate) fn asked_by(want: &Want, spot: &Spot) -> Option<(u8, bool)>
+    requires spot { spot.now ≡ spot_of want.now }
+    requires within { IsWithin spot.now }
     ensures port { HasPort result }
     ensures value { result ≡ asked_of want.now }
 {
     match want {
-        Want::Ram(request) | Want::Outward(request) => asked_at(request, &place(request.address)),
+        Want::Ram(request) | Want::Outward(request) => asked_at(request, spot),
         Want::Nothing | Want::Signal | Want::Stopped(_) => None,
     }
+}
+
+/// The port that a want asks for, and whether to write.
+#[inline(always)]
+pub fn asked_of(want: &Want) -> Option<(u8, bool)>
+    ensures port { HasPort result }
+    ensures value { result ≡ asked_of want.now }
+{
+    asked_by(want, &spot_of(want))
 }
 
 /// An access to this spot is done, where its port, if it has one, is granted.
@@ -132,10 +155,10 @@ fn stored_at(request: &Request, spot: &Spot) -> Deed
 }
 
 impl Machine {
-    ghost use Rattle.std.specs.Prelude.{◌≡◌, ◌≤◌};
+    ghost use Rattle.std.specs.Prelude.{◌≡◌, ◌≤◌, unwrap_or};
     ghost use Rattle.rp_base.specs.Map.{place_of};
     ghost use Rattle.outer_lane.specs.Setting.{setting_of};
-    ghost use Rattle.rp_machine.specs.Deeds.{sio_word, word_for, is_allowed_at, is_open, outside_unless, cause_by, cause_of, told_at, turn_of, accessed_at, deed_of, StoresInSram};
+    ghost use Rattle.rp_machine.specs.Deeds.{spot_of, sio_word, word_for, is_allowed_at, is_open, outside_unless, cause_by, cause_of, told_at, turn_of, accessed_at, deed_of, StoresInSram};
 
     /// A word of SIO as a master reads it.
     fn sio_word(&self, master: Master, offset: u16) -> Option<u32>
@@ -244,6 +267,93 @@ impl Machine {
         } else {
             self.word_for(world, seen, master, address, spot)
                 .unwrap_or(0)
+        }
+    }
+
+    /// What an access that is not to SRAM comes to, whose word is this.
+    #[inline(always)]
+    #[tactic(auto, unfolding(crate::specs::Deeds::word_for))]
+    fn deed_at<X: Device>(
+        &self,
+        world: &World<'_, X>,
+        seen: &SeenOutputs,
+        master: Master,
+        request: &Request,
+        spot: &Spot,
+        word: u32,
+    ) -> Deed
+        requires { word ≡ unwrap_or (word_for
+            (setting_of world.now.script.now (X.meaning world.now.device.now) world.now.limit)
+            seen.now master request.now.address spot.now self.now) 0 }
+        ensures within { StoresInSram result }
+        ensures value { result ≡ accessed_at
+            (setting_of world.now.script.now (X.meaning world.now.device.now) world.now.limit)
+            seen.now request.now spot.now self.now }
+    {
+        match *spot {
+            Spot::Reg {
+                block,
+                offset,
+                alias,
+            } => Deed::Register {
+                block,
+                offset,
+                write: plain_write(request, alias, word),
+            },
+            Spot::Sio { offset } => Deed::SingleCycle {
+                offset,
+                write: word_written(request),
+            },
+            Spot::Outside => Deed::Device {
+                address: request.address,
+                write: word_written(request),
+            },
+            Spot::Ram { .. } | Spot::Ppb { .. } => Deed::Nothing,
+        }
+    }
+
+    /// What the bus gives core 0 for its want, whose access has this spot, and what the want comes to. The word of an access is read
+    /// once.
+    #[inline(always)]
+    #[tactic(auto, unfolding(crate::specs::Deeds::turn_of, crate::specs::Deeds::deed_of))]
+    pub(crate) fn served<X: Device>(
+        &self,
+        world: &World<'_, X>,
+        seen: &SeenOutputs,
+        granted: bool,
+        wanted: &Wanted,
+        spot: &Spot,
+    ) -> (Turn, Deed)
+        requires spot { spot.now ≡ spot_of wanted.now.want }
+        requires within { IsWithin spot.now }
+        ensures turn { result.0 ≡ turn_of
+            (setting_of world.now.script.now (X.meaning world.now.device.now) world.now.limit)
+            seen.now wanted.now.want granted wanted.now.master wanted.now.want self.now }
+        ensures deed { result.1 ≡ deed_of
+            (setting_of world.now.script.now (X.meaning world.now.device.now) world.now.limit)
+            seen.now granted wanted.now.want self.now }
+        ensures stores { StoresInSram result.1 }
+    {
+        match &wanted.want {
+            Want::Ram(request) if granted => (Turn::Done(0), stored_at(request, spot)),
+            Want::Outward(request) if is_done_at(spot, granted) => {
+                let address = request.address;
+                let word = self
+                    .word_for(world, seen, wanted.master, address, spot)
+                    .unwrap_or(0);
+                let told = if is_late(&wanted.want, wanted.master, spot) {
+                    0
+                } else {
+                    word
+                };
+                (
+                    Turn::Done(told),
+                    self.deed_at(world, seen, wanted.master, request, spot, word),
+                )
+            }
+            Want::Ram(_) | Want::Outward(_) => (Turn::Wait, Deed::Nothing),
+            Want::Signal => (Turn::Nothing, Deed::Signal),
+            Want::Nothing | Want::Stopped(_) => (Turn::Nothing, Deed::Nothing),
         }
     }
 

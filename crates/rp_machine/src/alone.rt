@@ -5,9 +5,8 @@ ghost use Rattle.bus_fabric.specs.Masters.{HasPort};
 ghost use Rattle.bus_fabric.specs.Grant.{is_done, after_grant};
 ghost use Rattle.rp_machine.specs.Alone.{asked_alone};
 
-use crate::access::asked_of;
+use crate::access::{asked_by, spot_of};
 use crate::begun::{begin_core, begin_lane};
-use crate::cycle::wants_nothing;
 use crate::machine::Machine;
 use crate::steps::Steps;
 use crate::wanted::{Wanted, want_of};
@@ -42,12 +41,11 @@ pub(crate) fn grant_alone(fabric: &mut Fabric, asked: Option<(u8, bool)>) -> boo
 }
 
 impl Machine {
-    ghost use Rattle.std.specs.Prelude.{◌≡◌, ◌+◌, ◌-◌, ◌^◌, ◌<◌, ◌≤◌, ◌∷◌, ◌++◌, if◌then◌else◌, is_some, [], length, true, false, Decides, ◌&&◌, not};
+    ghost use Rattle.std.specs.Prelude.{◌≡◌, ◌+◌, ◌-◌, ◌^◌, ◌<◌, ◌≤◌, ◌∷◌, ◌++◌, if◌then◌else◌, is_some, [], length, true, false, Decides};
     ghost use Rattle.outer_lane.specs.Setting.{setting_of};
     ghost use Rattle.outer_lane.specs.Step.{marked};
     ghost use Rattle.rp_machine.specs.Cycle.{begun, wanted, cause_in, next, mark};
     ghost use Rattle.rp_machine.specs.Alone.{IsAlone, alone_at_rest, alone_next};
-    ghost use Rattle.rp_machine.specs.BusRest.{is_nothing};
     ghost use Rattle.bus_fabric.specs.State.{has_hold};
     ghost use Rattle.lane_look.specs.declared.lane.Want.TheVariants.{Nothing};
     ghost use Rattle.m0_core.specs.Cycle.{want_of};
@@ -80,14 +78,6 @@ impl Machine {
         ensures { result ≡ (begun self.now).outer }
     {
         begin_lane(self, 5, &self.outer, world)
-    }
-
-    /// The master wants nothing, and no access lasts.
-    #[inline(always)]
-    fn is_bus_at_rest_alone(&self, wanted: &Wanted) -> bool
-        ensures { result ≡ (is_nothing wanted.now.want && not (has_hold self.now.fabric)) }
-    {
-        wants_nothing(wanted) && !self.fabric.holds()
     }
 
     /// Core 0, which has begun this, wants nothing, and no access lasts.
@@ -146,15 +136,11 @@ impl Machine {
             (setting_of world.now.script.now (X.meaning world.now.device.now) world.now.limit)
             self.old.outer outer.now ∷ [] }
     {
-        if self.is_bus_at_rest_alone(wanted) {
-            self.step_alone_at_rest(world, core0, outer, marks);
-            return;
-        }
         let at = self.at;
+        let spot = spot_of(&wanted.want);
         let mut fabric = self.fabric;
-        let granted = grant_alone(&mut fabric, asked_of(&wanted.want));
-        let turn = self.turn_of(world, outer, &wanted.want, granted, wanted);
-        let deed = self.deed_of(world, outer, granted, &wanted.want);
+        let granted = grant_alone(&mut fabric, asked_by(&wanted.want, &spot));
+        let (turn, deed) = self.served(world, outer, granted, wanted, &spot);
         self.fabric = fabric;
         self.core0.finish(&(), core0, [turn, Turn::Nothing], marks);
         self.outer.finish(world, outer, [Turn::Nothing; 2], marks);

@@ -4,16 +4,14 @@ ghost use Rattle.std.specs.Prelude.{◌≡◌, ◌<◌, ◌^◌};
 ghost use Rattle.bus_fabric.specs.Masters.{HavePorts};
 ghost use Rattle.sio_block.specs.Launcher.{offers_of};
 ghost use Rattle.rp_machine.specs.Cycle.{asked, pins_of, with_pins, with_offer};
-ghost use Rattle.rp_machine.specs.BusRest.{wants_nothing};
-ghost use Rattle.rp_machine.specs.Alone.{is_first_alone};
 
-use crate::access::asked_of;
+use crate::access::{asked_by, asked_of, spot_of};
 use crate::alone::grant_alone;
 use crate::begun::Begun;
 use crate::deed::Deed;
 use crate::machine::Machine;
 use crate::steps::Steps;
-use crate::wanted::{Wanted, all_wanted};
+use crate::wanted::{Wanted, all_wanted, core0_wanted, is_core0_first};
 use lane_look::{Device, Lane, Marks, Turn, Want};
 use m0_core::Core;
 use outer_lane::{Outer, World};
@@ -37,28 +35,8 @@ fn asked(wants: &[Wanted; 4]) -> [Option<(u8, bool)>; 4]
     ]
 }
 
-/// A master wants nothing.
-#[inline(always)]
-pub(crate) fn wants_nothing(wanted: &Wanted) -> bool
-    ensures { result ≡ wants_nothing wanted.now }
-{
-    match wanted.want {
-        Want::Nothing => true,
-        Want::Ram(_) | Want::Outward(_) | Want::Signal | Want::Stopped(_) => false,
-    }
-}
-
-/// No master behind the first one wants anything.
-#[inline(always)]
-fn wants_alone(wants: &[Wanted; 4]) -> bool
-    ensures { result ≡ is_first_alone wants.now }
-{
-    let [_, core1, read, write] = wants;
-    wants_nothing(core1) && wants_nothing(read) && wants_nothing(write)
-}
-
 /// The limit is a number of 64 bits: its type keeps it.
-fn is_bounded<X: Device>(world: &World<'_, X>)
+pub fn is_bounded<X: Device>(world: &World<'_, X>)
     ensures { world.now.limit < 2 ^ 64 }
 {
     let _limit = world.limit;
@@ -80,24 +58,19 @@ impl Machine {
     ghost use Rattle.outer_lane.specs.Setting.{setting_of};
     ghost use Rattle.outer_lane.specs.Step.{marked};
     ghost use Rattle.rp_machine.specs.Deeds.{StoresInSram};
-    ghost use Rattle.rp_machine.specs.BusRest.{is_bus_at_rest, core1_at_rest, rest_next};
-    ghost use Rattle.rp_machine.specs.Alone.{is_first_alone, first_next};
+    ghost use Rattle.rp_machine.specs.BusRest.{core1_at_rest, rest_next};
+    ghost use Rattle.rp_machine.specs.Alone.{first_next};
     ghost use Rattle.rp_machine.specs.Cycle.{begun, wanted, cause_in, stop, turns, deeds, with_turns, signalled, pins_of, with_sio, sio_accessed, after_deed, after_launcher, after_core1, stored, ended, after_deeds, next_by, next, mark};
 
-    /// The first cause of a master to stop before a cycle in which this was begun and wanted.
+    /// The first cause of a master to stop before a cycle in which this was begun, whoever wants anything.
     #[inline(never)]
     #[tactic(auto, unfolding(crate::specs::Cycle::cause_in))]
-    fn cause_in<X: Device>(
-        &self,
-        world: &World<'_, X>,
-        begun: &Begun,
-        wants: &[Wanted; 4],
-    ) -> Option<Why>
+    fn cause_in<X: Device>(&self, world: &World<'_, X>, begun: &Begun) -> Option<Why>
         ensures { result ≡ cause_in
             (setting_of world.now.script.now (X.meaning world.now.device.now) world.now.limit)
-            begun.now wants.now self.now }
+            begun.now (wanted begun.now) self.now }
     {
-        let [core0, core1, read, write] = wants;
+        let [core0, core1, read, write] = &all_wanted(begun);
         let seen = &begun.outer;
         if let Some(why) = self.cause_of(world, seen, core0) {
             return Some(why);
@@ -109,6 +82,20 @@ impl Machine {
             return Some(why);
         }
         self.cause_of(world, seen, write)
+    }
+
+    /// The first cause of a master to stop before a cycle in which this was begun. In most, core 0 alone wants anything.
+    #[inline(always)]
+    fn cause<X: Device>(&self, world: &World<'_, X>, begun: &Begun) -> Option<Why>
+        ensures { result ≡ cause_in
+            (setting_of world.now.script.now (X.meaning world.now.device.now) world.now.limit)
+            begun.now (wanted begun.now) self.now }
+    {
+        if is_core0_first(begun) {
+            self.cause_of(world, &begun.outer, &core0_wanted(begun))
+        } else {
+            self.cause_in(world, begun)
+        }
     }
 
     /// What the bus gives each master, by what is granted.
@@ -313,20 +300,6 @@ impl Machine {
         self.end();
     }
 
-    /// No master wants anything, and no access lasts.
-    #[inline(always)]
-    fn is_bus_at_rest(&self, wants: &[Wanted; 4]) -> bool
-        ensures value { result ≡ is_bus_at_rest wants.now self.now }
-        ensures four { length wants.now ≡ 4 }
-    {
-        let [core0, core1, read, write] = wants;
-        wants_nothing(core0)
-            && wants_nothing(core1)
-            && wants_nothing(read)
-            && wants_nothing(write)
-            && !self.fabric.holds()
-    }
-
     /// The turn of the launcher while core 1 sleeps.
     #[inline(always)]
     #[tactic(auto, unfolding(crate::specs::BusRest::core1_at_rest))]
@@ -359,7 +332,7 @@ impl Machine {
     }
 
     /// One cycle in which this was begun, core 0 wants that, and no other master wants anything.
-    #[inline(always)]
+    #[inline(never)]
     #[tactic(auto, unfolding(crate::specs::Alone::first_next))]
     fn step_for_core0<X: Device>(
         &mut self,
@@ -378,10 +351,10 @@ impl Machine {
             self.old.outer begun.now.outer ∷ [] }
     {
         let at = self.at;
+        let spot = spot_of(&wanted.want);
         let mut fabric = self.fabric;
-        let granted = grant_alone(&mut fabric, asked_of(&wanted.want));
-        let turn = self.turn_of(world, &begun.outer, &wanted.want, granted, wanted);
-        let deed = self.deed_of(world, &begun.outer, granted, &wanted.want);
+        let granted = grant_alone(&mut fabric, asked_by(&wanted.want, &spot));
+        let (turn, deed) = self.served(world, &begun.outer, granted, wanted, &spot);
         self.fabric = fabric;
         self.step_lanes(
             world,
@@ -396,64 +369,58 @@ impl Machine {
         self.at = at + 1;
     }
 
-    /// One cycle in which this was begun and wanted, by core 0 alone.
-    #[inline(always)]
-    fn step_first<X: Device>(
-        &mut self,
-        world: &World<'_, X>,
-        begun: &Begun,
-        wants: &[Wanted; 4],
-        marks: &mut Marks,
-    )
-        requires number { self.old.cycle < 2 ^ 64 - 1 }
-        requires marks { length marks.old < 256 }
-        requires alone { is_first_alone wants.now ≡ true }
-        ensures state { self.new ≡ next_by
-            (setting_of world.now.script.now (X.meaning world.now.device.now) world.now.limit)
-            begun.now wants.now self.old }
-        ensures marks { marks.new ≡ marks.old ++ marked
-            (setting_of world.now.script.now (X.meaning world.now.device.now) world.now.limit)
-            self.old.outer begun.now.outer ∷ [] }
-    {
-        let [core0, _, _, _] = wants;
-        self.step_for_core0(world, begun, core0, marks);
-    }
-
-    /// One cycle in which this was begun and wanted. Its mark goes to the end of the marks.
+    /// One cycle in which this was begun, whoever wants anything.
+    #[inline(never)]
     #[tactic(auto, unfolding(crate::specs::Cycle::next_by, crate::specs::Cycle::stepped, crate::specs::Cycle::granted))]
-    pub fn step<X: Device>(
+    fn step_for_all<X: Device>(
         &mut self,
         world: &World<'_, X>,
         begun: &Begun,
-        wants: &[Wanted; 4],
         marks: &mut Marks,
     )
         requires number { self.old.cycle < 2 ^ 64 - 1 }
         requires marks { length marks.old < 256 }
         ensures state { self.new ≡ next_by
             (setting_of world.now.script.now (X.meaning world.now.device.now) world.now.limit)
-            begun.now wants.now self.old }
+            begun.now (wanted begun.now) self.old }
         ensures marks { marks.new ≡ marks.old ++ marked
             (setting_of world.now.script.now (X.meaning world.now.device.now) world.now.limit)
             self.old.outer begun.now.outer ∷ [] }
     {
-        if self.is_bus_at_rest(wants) {
-            self.step_at_rest(world, begun, marks);
-            return;
-        }
-        if wants_alone(wants) {
-            self.step_first(world, begun, wants, marks);
-            return;
-        }
         let at = self.at;
+        let wants = all_wanted(begun);
         let mut fabric = self.fabric;
-        let granted = fabric.grant(&asked(wants));
-        let turns = self.turns(world, begun, wants, granted);
-        let deeds = self.deeds(world, begun, wants, granted);
+        let granted = fabric.grant(&asked(&wants));
+        let turns = self.turns(world, begun, &wants, granted);
+        let deeds = self.deeds(world, begun, &wants, granted);
         self.fabric = fabric;
         self.step_lanes(world, begun, turns, marks);
         self.do_deeds(world, &deeds);
         self.at = at + 1;
+    }
+
+    /// One cycle in which this was begun. Its mark goes to the end of the marks. In most, no master behind core 0 wants anything, and in
+    /// many core 0 does not either, which costs a few tests.
+    pub fn step<X: Device>(&mut self, world: &World<'_, X>, begun: &Begun, marks: &mut Marks)
+        requires number { self.old.cycle < 2 ^ 64 - 1 }
+        requires marks { length marks.old < 256 }
+        ensures state { self.new ≡ next_by
+            (setting_of world.now.script.now (X.meaning world.now.device.now) world.now.limit)
+            begun.now (wanted begun.now) self.old }
+        ensures marks { marks.new ≡ marks.old ++ marked
+            (setting_of world.now.script.now (X.meaning world.now.device.now) world.now.limit)
+            self.old.outer begun.now.outer ∷ [] }
+    {
+        if !is_core0_first(begun) {
+            self.step_for_all(world, begun, marks);
+            return;
+        }
+        if self.is_bus_free(&begun.core0) {
+            self.step_at_rest(world, begun, marks);
+            return;
+        }
+        let wanted = core0_wanted(begun);
+        self.step_for_core0(world, begun, &wanted, marks);
     }
 
     /// One cycle below the limit, in which the lanes have begun this.
@@ -478,13 +445,12 @@ impl Machine {
             self.old ∷ []) }
         ensures steps { steps.new ≡ (if is_some result then steps.old else steps.old + 1) }
     {
-        let wants = all_wanted(lanes);
-        if let Some(why) = self.cause_in(world, lanes, &wants) {
+        if let Some(why) = self.cause(world, lanes) {
             return Some(why);
         }
         marks.clear();
         steps.tick();
-        self.step(world, lanes, &wants, marks);
+        self.step(world, lanes, marks);
         None
     }
 
@@ -524,7 +490,7 @@ impl Machine {
         if self.at == world.limit {
             return Some(Why::Limit);
         }
-        self.cause_in(world, lanes, &all_wanted(lanes))
+        self.cause(world, lanes)
     }
 
     /// The cause for which the next cycle does not happen, if there is one.
@@ -539,7 +505,7 @@ impl Machine {
         }
         let mut named = Begun::nothing();
         self.begin_into(world, &mut named);
-        self.cause_in(world, &named, &all_wanted(&named))
+        self.cause(world, &named)
     }
 
     /// Does one cycle of which this is what the lanes begin, counts it and leaves its mark alone in the marks; or changes nothing
@@ -597,7 +563,7 @@ impl Machine {
         is_bounded(world);
         marks.clear();
         steps.tick();
-        self.step(world, lanes, &all_wanted(lanes), marks);
+        self.step(world, lanes, marks);
     }
 
     /// Does one cycle, counts it and leaves its mark alone in the marks; or changes nothing and names the stop.

@@ -2,7 +2,11 @@
 
 ghost use Rattle.std.specs.Prelude.{◌≡◌};
 ghost use Rattle.m0_core.specs.Cycle.{want_of};
-ghost use Rattle.rp_machine.specs.Cycle.{wanted};
+ghost use Rattle.std.specs.List.{list_all};
+ghost use Rattle.rp_base.specs.declared.Master.TheVariants.{Core0};
+ghost use Rattle.rp_machine.specs.Alone.{is_first_alone};
+ghost use Rattle.rp_machine.specs.BusRest.{is_nothing, wants_nothing};
+ghost use Rattle.rp_machine.specs.Cycle.{wanted_by, wanted};
 
 use crate::begun::Begun;
 use dma_engine::Dma;
@@ -26,6 +30,47 @@ pub fn want_of(begun: &Doing) -> Want
 {
     let [want, _] = <Core as Lane<()>>::wants(begun);
     want
+}
+
+/// Core 0, and what it wants.
+#[inline(always)]
+pub(crate) fn core0_wanted(begun: &Begun) -> Wanted
+    ensures { result ≡ wanted_by Core0 (want_of begun.now.core0) }
+{
+    Wanted {
+        master: Master::Core0,
+        want: want_of(&begun.core0),
+    }
+}
+
+/// The want is none.
+#[inline(always)]
+fn is_nothing(want: &Want) -> bool
+    ensures { result ≡ is_nothing want.now }
+{
+    match want {
+        Want::Nothing => true,
+        Want::Ram(_) | Want::Outward(_) | Want::Signal | Want::Stopped(_) => false,
+    }
+}
+
+/// No master behind core 0 wants anything in a cycle in which this was begun.
+#[inline(always)]
+#[tactic(auto, unfolding(crate::specs::Cycle::wanted))]
+pub(crate) fn is_core0_first(begun: &Begun) -> bool
+    ensures { result ≡ is_first_alone (wanted begun.now) }
+{
+    let [read, write] = <Dma as Lane<()>>::wants(&begun.dma);
+    begun.core1.wants_nothing() && is_nothing(&read) && is_nothing(&write)
+}
+
+/// No master wants anything in a cycle in which this was begun.
+#[inline(always)]
+#[tactic(auto, unfolding(crate::specs::Cycle::wanted))]
+pub fn wants_nothing(begun: &Begun) -> bool
+    ensures { result ≡ list_all wants_nothing (wanted begun.now) }
+{
+    begun.core0.wants_nothing() && is_core0_first(begun)
 }
 
 /// What the four masters want in a cycle in which this was begun, in their order.

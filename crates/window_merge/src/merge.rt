@@ -97,7 +97,7 @@ fn try_cycle<X: Device>(
     let wants = all_wanted(&begun);
     let fits = same && !clash(&begun, &wants);
     if fits {
-        machine.step(world, &begun, &wants, marks);
+        machine.step(world, &begun, marks);
     }
     fits
 }

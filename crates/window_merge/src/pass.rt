@@ -7,19 +7,19 @@ ghost use Rattle.rp_machine.specs.Cycle.{begun, wanted, next_by};
 ghost use Rattle.rp_machine.specs.Alone.{IsAlone};
 ghost use Rattle.window_merge.specs.Lanes.{is_launching};
 ghost use Rattle.window_merge.specs.Notes.{no_notes, noted_by, HasRoom};
-ghost use Rattle.window_merge.specs.Start.{start_of, begun_from, ends_wanted, goes_first, goes_on};
+ghost use Rattle.window_merge.specs.Start.{start_of, begun_from, ends_wanted, goes_by, goes_first, goes_on};
 
 use crate::merge::clash;
 use crate::notes::Notes;
 use crate::start::{Start, begin_core0, begin_later, begin_outer};
 use crate::walk::ends_want;
 use lane_look::{Device, Marks};
-use m0_core::Core;
+use m0_core::{Act, Core, Doing};
 use outer_lane::World;
 use rp_base::Master;
 use rp_machine::Machine;
 use rp_machine::begun::Begun;
-use rp_machine::wanted::{Wanted, all_wanted, want_of};
+use rp_machine::wanted::{Wanted, all_wanted, want_of, wants_nothing};
 
 /// Core 1 has a word of its launcher to take.
 pub(crate) fn is_launching(core: &Core) -> bool
@@ -38,6 +38,58 @@ fn ends_wanted(wants: &[Wanted; 4]) -> bool
         || ends_want(&core1.want)
         || ends_want(&read.want)
         || ends_want(&write.want)
+}
+
+/// The run alone of a core ends before a cycle in which it has begun this.
+#[inline(always)]
+fn ends_core(begun: &Doing) -> bool
+    ensures { result ≡ ends_want (want_of begun.now) }
+{
+    match begun.act {
+        Act::Outward(..) | Act::Stopped(_) => true,
+        Act::Inner(_) => !begun.wants_nothing(),
+        Act::Asleep | Act::Fault | Act::Private(..) | Act::Read(..) | Act::Write(..) => false,
+    }
+}
+
+/// No run alone ends before a cycle in which this was begun, and no two of its accesses name one port, whoever wants anything.
+#[inline(never)]
+fn goes_by_wants(lanes: &Begun) -> bool
+    ensures { result ≡ goes_by lanes.now }
+{
+    let wants = all_wanted(lanes);
+    !ends_wanted(&wants) && !clash(lanes, &wants)
+}
+
+/// The same. Mostly no master wants anything, or a core has an access outside SRAM.
+#[inline(always)]
+fn goes_by(lanes: &Begun) -> bool
+    ensures { result ≡ goes_by lanes.now }
+{
+    if ends_core(&lanes.core0) || ends_core(&lanes.core1) {
+        return false;
+    }
+    wants_nothing(lanes) || goes_by_wants(lanes)
+}
+
+/// Notes what the masters write in a cycle in which this was begun, before they do.
+#[inline(never)]
+fn note_wants(notes: &mut Notes, machine: &Machine, lanes: &Begun)
+    requires { HasRoom notes.old 3 }
+    ensures { notes.new ≡ noted_by (wanted lanes.now) machine.now.sram notes.old }
+{
+    notes.note(&machine.ram, &all_wanted(lanes));
+}
+
+/// The same. Mostly no master wants anything.
+#[inline(always)]
+fn note(notes: &mut Notes, machine: &Machine, lanes: &Begun)
+    requires { HasRoom notes.old 3 }
+    ensures { notes.new ≡ noted_by (wanted lanes.now) machine.now.sram notes.old }
+{
+    if !wants_nothing(lanes) {
+        note_wants(notes, machine, lanes);
+    }
 }
 
 /// The first cycle of a window, in which the lanes begin this, where no run alone ends and no two accesses name one port. Gives what
@@ -65,14 +117,13 @@ pub(crate) fn try_first<X: Device>(
     ensures notes { IfSome result (λ _. notes.new ≡ noted_by (wanted (begun machine.old))
         machine.old.sram no_notes) }
 {
-    let wants = all_wanted(lanes);
-    if ends_wanted(&wants) || clash(lanes, &wants) {
+    if !goes_by(lanes) {
         return None;
     }
     let start = Start::of(machine);
     notes.clear();
-    notes.note(&machine.ram, &wants);
-    machine.step(world, lanes, &wants, marks);
+    note(notes, machine, lanes);
+    machine.step(world, lanes, marks);
     Some(start)
 }
 
@@ -159,12 +210,11 @@ fn try_all<X: Device>(
     if !same {
         return false;
     }
-    let wants = all_wanted(lanes);
-    if ends_wanted(&wants) || clash(lanes, &wants) {
+    if !goes_by(lanes) {
         return false;
     }
-    notes.note(&machine.ram, &wants);
-    machine.step(world, lanes, &wants, marks);
+    note(notes, machine, lanes);
+    machine.step(world, lanes, marks);
     true
 }
 

@@ -15,7 +15,7 @@ use crate::events::tell_marks;
 use lane_look::{Device, Marks};
 use outer_lane::World;
 use rp_base::Why;
-use rp_machine::{Machine, Steps};
+use rp_machine::{Machine, Steps, is_bounded};
 use std::sync::ledger::Ledger;
 use trace_text::tape::Tape;
 use trace_text::writer::SinkFault;
@@ -57,6 +57,7 @@ pub(crate) fn count_window(counts: &mut Counts, length: u16)
 }
 
 /// Tells the events of a step that found no stop.
+#[inline(always)]
 pub(crate) fn tell_step<T: Tape>(
     cycle: u64,
     before: u32,
@@ -72,13 +73,6 @@ pub(crate) fn tell_step<T: Tape>(
         Ok(()) => Ok(None),
         Err(fault) => Err(fault),
     }
-}
-
-/// The limit is a number of 64 bits: its type keeps it.
-pub(crate) fn is_bounded<X: Device>(world: &World<'_, X>)
-    ensures { world.now.limit < 2 ^ 64 }
-{
-    let _limit = world.limit;
 }
 
 /// Goes to the next position of a run and tells the events on the way, or finds a stop and changes nothing.

@@ -14,14 +14,14 @@ ghost use Rattle.window_runner.specs.Told.{all_shown, step_events, run_shown};
 ghost use Rattle.window_runner.specs.Alone.{IsRan, IsOnRun, position_at, stop_in};
 ghost use Rattle.window_runner.specs.Seated.{IsSeatAt, IsReady};
 
-use crate::alone::{Counts, Ran, count_window, is_bounded, tell_step};
+use crate::alone::{Counts, Ran, count_window, tell_step};
 use crate::piece::{Found, Piece};
 use crate::sets::{Sets, give_back_all, has_report, no_pieces, pieces_of, settle_all};
 use crate::worker::pass;
 use lane_look::{Device, Marks};
 use outer_lane::World;
 use rp_base::Why;
-use rp_machine::{Machine, Steps};
+use rp_machine::{Machine, Steps, is_bounded};
 use rp_ports::gate::Gate;
 use std::sync::Wait;
 use std::sync::ledger::Ledger;

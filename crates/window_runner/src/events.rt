@@ -64,7 +64,7 @@ fn tell_change<T: Tape>(
     }
 }
 
-/// Tells of the pins whose levels changed in a cycle.
+/// Tells of the pins whose levels changed in a cycle, from the lowest to the highest of them.
 fn tell_changes<T: Tape>(cycle: u64, before: u32, after: u32, tape: &mut T) -> Result<(), SinkFault>
     ensures { Tells T.took T.missed tape.old tape.new (T.faults tape.old) (T.faults tape.new)
         (all_shown (changes_of cycle before after)) result }
@@ -73,7 +73,10 @@ fn tell_changes<T: Tape>(cycle: u64, before: u32, after: u32, tape: &mut T) -> R
     if changed == 0 {
         return Ok(());
     }
-    for pin in 0..30u8 {
+    for pin in changed.trailing_zeros() as u8..30 {
+        if changed >> pin == 0 {
+            return Ok(());
+        }
         match tell_change(cycle, changed, after, pin, tape) {
             Ok(()) => {}
             Err(fault) => return Err(fault),
@@ -91,8 +94,20 @@ fn is_quiet(before: u32, mark: &Mark) -> bool
     silent & (before == mark.pads)
 }
 
-/// Tells the events of a cycle that left this mark, where the pads had these levels before. Most cycles have none, which costs one
-/// test.
+/// Tells the events of a cycle that left this mark, where the pads had these levels before.
+#[inline(never)]
+fn tell_events<T: Tape>(cycle: u64, before: u32, mark: &Mark, tape: &mut T) -> Result<(), SinkFault>
+    ensures { Tells T.took T.missed tape.old tape.new (T.faults tape.old) (T.faults tape.new)
+        (all_shown (events_of cycle before mark.now)) result }
+{
+    match tell_bytes(cycle, &mark.uart, tape) {
+        Ok(()) => tell_changes(cycle, before, mark.pads, tape),
+        Err(fault) => Err(fault),
+    }
+}
+
+/// The same. Most cycles have no event, which costs one test.
+#[inline(always)]
 fn tell_cycle<T: Tape>(cycle: u64, before: u32, mark: &Mark, tape: &mut T) -> Result<(), SinkFault>
     ensures { Tells T.took T.missed tape.old tape.new (T.faults tape.old) (T.faults tape.new)
         (all_shown (events_of cycle before mark.now)) result }
@@ -100,10 +115,7 @@ fn tell_cycle<T: Tape>(cycle: u64, before: u32, mark: &Mark, tape: &mut T) -> Re
     if is_quiet(before, mark) {
         return Ok(());
     }
-    match tell_bytes(cycle, &mark.uart, tape) {
-        Ok(()) => tell_changes(cycle, before, mark.pads, tape),
-        Err(fault) => Err(fault),
-    }
+    tell_events(cycle, before, mark, tape)
 }
 
 /// Tells the events of cycles, from that number on, that left these marks, where the pads had these levels before them. It takes no
@@ -112,6 +124,7 @@ fn tell_cycle<T: Tape>(cycle: u64, before: u32, mark: &Mark, tape: &mut T) -> Re
 /// # Errors
 ///
 /// The tape failed at an event, and its count of faults rose. It has the events before that one.
+#[inline(always)]
 pub fn tell_marks<T: Tape>(
     cycle: u64,
     before: u32,
