@@ -1,20 +1,70 @@
 -- Outputs of the PIO blocks by which the pads have the same levels.
-use Rattle.std.proofs.Common.{◌≡◌, ◌∙◌, ◌<◌, ℕ, List, [], ◌∷◌, Bool, true, false, not, ◌&&◌, eqb, cond, refl, sym, ap}
-use Rattle.std.specs.Prelude.{bit_and, slice_index}
+use Rattle.std.proofs.Common.{◌≡◌, ◌∙◌, ◌<◌, ◌+◌, ◌*◌, ◌^◌, ◌==◌, ℕ, List, [], ◌∷◌, Bool, true, false, not, ◌&&◌, eqb, cond, refl, sym, ap, subst, arith}
+use Rattle.std.specs.Prelude.{Decides, bit_and, slice_index}
+use Rattle.std.specs.Int.{bit_at}
+use Rattle.std.proofs.lemmas.Bool.Decides.{Decides-eqb, Decides-like}
+use Rattle.std.proofs.lemmas.Nat.{and_le_r}
+use Rattle.std.proofs.lemmas.Nat.Bits.{bit_at-lt, same_from_bits}
 use Rattle.rp_base.specs.Word.{has_bit}
 use Rattle.io_bank.specs.declared.outputs.Outs.{Outs}
 use Rattle.io_bank.specs.Pins.{overridden}
 use Rattle.io_bank.specs.State.{Bank}
 use Rattle.io_bank.specs.Levels.{levels_of, by_sets, control_of, pad_of, pad_level, level_to, level_outside, function_of, out_override, enable_override, is_output_disabled, peripheral, pins_of}
-use Rattle.io_bank.specs.Driven.{is_driven, driven_of, shown_of}
-use Rattle.io_bank.proofs.Bits.{has_and, bits_below-at, bits_below-same}
+use Rattle.io_bank.specs.Driven.{is_driven, driven_of, shown_of, IsSameAt, AreSameIn}
+use Rattle.io_bank.proofs.Bits.{same_bit, has_and, bits_below-at, bits_below-same}
 use Rattle.io_bank.proofs.Routed.{and_true}
 
-members-same : (a b m i : ℕ) → bit_and a m ≡ bit_and b m → has_bit m i ≡ true → has_bit a i ≡ has_bit b i
-members-same a b m i e h =
+-- ---- words at the pins of a set
+
+and-same : (x y m : Bool) → (m ≡ true → x ≡ y) → (x && m) ≡ (y && m)
+and-same x y true h = ap (λ t. t && true) (h refl)
+and-same true true false h = refl
+and-same true false false h = refl
+and-same false true false h = refl
+and-same false false false h = refl
+
+same-bits : (m a b : ℕ) → IsSameAt m a b → bit_and a m ≡ bit_and b m
+same-bits m a b same =
+    same_from_bits (bit_and a m) (bit_and b m)
+    (λ i. same_bit (bit_at (bit_and a m) i) (bit_at (bit_and b m) i) (bit_at-lt (bit_and a m) i) (bit_at-lt (bit_and b m) i)
+    (has_and a m i ∙ and-same (has_bit a i) (has_bit b i) (has_bit m i) (same i) ∙ sym (has_and b m i)))
+
+members-same : (m a b : ℕ) → bit_and a m ≡ bit_and b m → IsSameAt m a b
+members-same m a b e i h =
     let left : has_bit (bit_and a m) i ≡ has_bit a i = has_and a m i ∙ ap (λ x. has_bit a i && x) h ∙ and_true (has_bit a i) in
     let right : has_bit (bit_and b m) i ≡ has_bit b i = has_and b m i ∙ ap (λ x. has_bit b i && x) h ∙ and_true (has_bit b i) in
     sym left ∙ ap (λ n. has_bit n i) e ∙ right
+
+low-same : (a b c d : ℕ) → a < 2 ^ 32 → c < 2 ^ 32 → a + b * 2 ^ 32 ≡ c + d * 2 ^ 32 → a ≡ c
+low-same a b c d p q e = omega arith
+
+high-same : (a b c d : ℕ) → a < 2 ^ 32 → c < 2 ^ 32 → a + b * 2 ^ 32 ≡ c + d * 2 ^ 32 → b ≡ d
+high-same a b c d p q e = omega arith
+
+and-lt : (a m : ℕ) → m < 2 ^ 32 → bit_and a m < 2 ^ 32
+and-lt a m h = let le = and_le_r a m in omega arith
+
+-- two pairs of words as two numbers, each pair cut to two sets
+abbrev pub cut_to : List ℕ → List ℕ → ℕ
+cut_to shown a = bit_and (slice_index a 0) (slice_index shown 0) + bit_and (slice_index a 1) (slice_index shown 1) * 2 ^ 32
+
+pub same_in : (shown a b : List ℕ) (first second : ℕ) → slice_index shown 0 < 2 ^ 32 →
+    first ≡ cut_to shown a → second ≡ cut_to shown b → Decides (first == second) (AreSameIn shown a b)
+same_in shown a b first second p is0 is1 =
+    let low = and-lt (slice_index a 0) (slice_index shown 0) p in
+    let other = and-lt (slice_index b 0) (slice_index shown 0) p in
+    Decides-like (first == second)
+    (λ e. let same : cut_to shown a ≡ cut_to shown b = sym is0 ∙ e ∙ is1 in (
+      members-same (slice_index shown 0) (slice_index a 0) (slice_index b 0) (low-same _ _ _ _ low other same),
+      members-same (slice_index shown 1) (slice_index a 1) (slice_index b 1) (high-same _ _ _ _ low other same),
+    ))
+    (λ same. is0
+    ∙ ap (λ n. n + bit_and (slice_index a 1) (slice_index shown 1) * 2 ^ 32)
+    (same-bits (slice_index shown 0) (slice_index a 0) (slice_index b 0) same.0)
+    ∙ ap (λ n. bit_and (slice_index b 0) (slice_index shown 0) + n * 2 ^ 32)
+    (same-bits (slice_index shown 1) (slice_index a 1) (slice_index b 1) same.1)
+    ∙ sym is1)
+    (Decides-eqb first second)
 
 shown-at : (set on i : ℕ) → has_bit set i ≡ true → has_bit on i ≡ true → has_bit (bit_and set on) i ≡ true
 shown-at set on i p q = has_and set on i ∙ ap (λ x. x && has_bit on i) p ∙ q
@@ -54,13 +104,8 @@ pad-go false false p q r e h = refl
 pad-go true false p q r e h = absurd (let g : true ≡ false = e in cc)
 pad-go false true p q r e h = absurd (let g : false ≡ true = e in cc)
 
--- the same enables in a set, and the same levels where it meets another one
-pub record SameIn (set on : ℕ) (a b : List ℕ) : Type 0 where
-  pub levels : bit_and (slice_index a 0) (bit_and set on) ≡ bit_and (slice_index b 0) (bit_and set on)
-  pub enables : bit_and (slice_index a 1) set ≡ bit_and (slice_index b 1) set
-
 pad-same : (s : Bank) (outs : Outs) (a b c d : List ℕ) (driven high i : ℕ) → i < 30 →
-    SameIn (pins_of 6 s) (driven_of (with_blocks outs a c) s) a b → SameIn (pins_of 7 s) (driven_of (with_blocks outs a c) s) c d →
+    AreSameIn (shown_of 6 (with_blocks outs a c) s) a b → AreSameIn (shown_of 7 (with_blocks outs a c) s) c d →
     pad_level (with_blocks outs a c) (by_sets driven high i) (control_of s i) (pad_of s i) i
     ≡ pad_level (with_blocks outs b d) (by_sets driven high i) (control_of s i) (pad_of s i) i
 pad-same s outs a b c d driven high i lt e f =
@@ -80,17 +125,14 @@ pad-same s outs a b c d driven high i lt e f =
     (level_outside (by_sets driven high i) pad)
     (ap (λ t. overridden (enable_override control) t && not (is_output_disabled pad))
     (signal-same outs a b c d control 1 i
-    (λ g. members-same (slice_index a 1) (slice_index b 1) set0 i e.enables (in0 ∙ g))
-    (λ g. members-same (slice_index c 1) (slice_index d 1) set1 i f.enables (in1 ∙ g))))
+    (λ g. e.1 i (in0 ∙ g)) (λ g. f.1 i (in1 ∙ g))))
     (λ t. ap (overridden (out_override control))
     (signal-same outs a b c d control 0 i
-    (λ g. members-same (slice_index a 0) (slice_index b 0) (bit_and set0 on) i e.levels
-    (shown-at set0 on i (in0 ∙ g) (in_on ∙ t)))
-    (λ g. members-same (slice_index c 0) (slice_index d 0) (bit_and set1 on) i f.levels
-    (shown-at set1 on i (in1 ∙ g) (in_on ∙ t)))))
+    (λ g. e.0 i (shown-at set0 on i (in0 ∙ g) (in_on ∙ t)))
+    (λ g. f.0 i (shown-at set1 on i (in1 ∙ g) (in_on ∙ t)))))
 
 same_levels : (s : Bank) (outs : Outs) (a b c d : List ℕ) (driven high : ℕ) →
-    SameIn (pins_of 6 s) (driven_of (with_blocks outs a c) s) a b → SameIn (pins_of 7 s) (driven_of (with_blocks outs a c) s) c d →
+    AreSameIn (shown_of 6 (with_blocks outs a c) s) a b → AreSameIn (shown_of 7 (with_blocks outs a c) s) c d →
     levels_of (with_blocks outs a c) (by_sets driven high) s ≡ levels_of (with_blocks outs b d) (by_sets driven high) s
 same_levels s outs a b c d driven high e f =
     bits_below-same
@@ -98,16 +140,10 @@ same_levels s outs a b c d driven high e f =
     (λ pin. pad_level (with_blocks outs b d) (by_sets driven high pin) (control_of s pin) (pad_of s pin) pin)
     30 (λ i lt. pad-same s outs a b c d driven high i lt e f)
 
-abbrev pub SameAt : List ℕ → ℕ → List ℕ → List ℕ → Type 0
-SameAt shown i a b = bit_and (slice_index a i) (slice_index shown i) ≡ bit_and (slice_index b i) (slice_index shown i)
-
-in_shown : (set on : ℕ) (shown a b : List ℕ) → shown ≡ bit_and set on ∷ set ∷ [] → SameAt shown 0 a b → SameAt shown 1 a b → SameIn set on a b
-in_shown set on shown a b is e f = record { levels = rw is at e; enables = rw is at f }
-
 pub seen_same : (s : Bank) (outs : Outs) (shown0 shown1 a b c d : List ℕ) (driven high : ℕ) →
-    SameAt shown0 0 a b → SameAt shown0 1 a b → SameAt shown1 0 c d → SameAt shown1 1 c d →
+    AreSameIn shown0 a b × AreSameIn shown1 c d →
     shown0 ≡ shown_of 6 (with_blocks outs a c) s → shown1 ≡ shown_of 7 (with_blocks outs a c) s →
     levels_of (with_blocks outs a c) (by_sets driven high) s ≡ levels_of (with_blocks outs b d) (by_sets driven high) s
-seen_same s outs shown0 shown1 a b c d driven high e0 e1 f0 f1 is0 is1 =
-    let on = driven_of (with_blocks outs a c) s in
-    same_levels s outs a b c d driven high (in_shown (pins_of 6 s) on shown0 a b is0 e0 e1) (in_shown (pins_of 7 s) on shown1 c d is1 f0 f1)
+seen_same s outs shown0 shown1 a b c d driven high same is0 is1 =
+    same_levels s outs a b c d driven high
+    (subst (λ xs. AreSameIn xs a b) is0 same.0) (subst (λ xs. AreSameIn xs c d) is1 same.1)

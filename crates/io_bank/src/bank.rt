@@ -1,9 +1,9 @@
 //! The pads: their state, their cycle and their readers.
 
-ghost use Rattle.std.specs.Prelude.{◌≡◌, ◌<◌, ◌+◌, ◌*◌, ◌^◌, ◌∷◌, ◌&&◌, [], ℕ, true, Decides, IfSome, not, bit_and, slice_index};
+ghost use Rattle.std.specs.Prelude.{◌≡◌, ◌<◌, ◌+◌, ◌*◌, ◌^◌, ◌∷◌, ◌&&◌, [], ℕ, true, Decides, IfSome, not, slice_index};
 ghost use Rattle.io_bank.specs.declared.outputs.Outs.{Outs};
 ghost use Rattle.io_bank.specs.State.{at_reset, after_held, with_bank_held, with_pads_held};
-ghost use Rattle.io_bank.specs.Driven.{driven_of, shown_of};
+ghost use Rattle.io_bank.specs.Driven.{driven_of, shown_of, AreSameIn};
 ghost use Rattle.io_bank.specs.Levels.{levels_of, by_list, by_sets, inputs_of, pins_of, is_used, first_in, receive_pin, receive_level};
 ghost use Rattle.io_bank.specs.Edges.{edges_of};
 ghost use Rattle.io_bank.specs.Step.{after_step, is_at_rest, with_edges, with_levels};
@@ -296,8 +296,8 @@ impl IoBank {
         [pins & self.driven(outs), pins]
     }
 
-    /// The pads have the same levels by the second pair of outputs of each PIO block as by the first one, since the pairs are
-    /// the same where they are shown.
+    /// Of each PIO block two pairs of outputs, levels and enables, are the same at the pins of two sets. Where these are the sets
+    /// that `shown` gives, the pads have the same levels by the second pairs as by the first ones.
     #[inline(always)]
     pub fn is_seen_same(
         &self,
@@ -308,7 +308,8 @@ impl IoBank {
         next0: [u32; 2],
         next1: [u32; 2],
     ) -> bool
-        ensures { result ≡ true → (outs : Outs) → (driven high : ℕ) →
+        ensures value { Decides result ((AreSameIn shown0 pio0 next0) × (AreSameIn shown1 pio1 next1)) }
+        ensures levels { result ≡ true → (outs : Outs) → (driven high : ℕ) →
             shown0 ≡ shown_of 6 (record outs { pio0 = pio0; pio1 = pio1 }) self.now →
             shown1 ≡ shown_of 7 (record outs { pio0 = pio0; pio1 = pio1 }) self.now →
             levels_of (record outs { pio0 = pio0; pio1 = pio1 }) (by_sets driven high) self.now
@@ -377,13 +378,10 @@ impl IoBank {
     }
 }
 
-/// Two pairs of sets have the same members in a third pair.
+/// Two pairs of outputs are the same at the pins of two sets.
 #[inline(always)]
 fn are_same_in(shown: [u32; 2], first: [u32; 2], second: [u32; 2]) -> bool
-    ensures levels { result ≡ true → bit_and (slice_index first 0) (slice_index shown 0)
-        ≡ bit_and (slice_index second 0) (slice_index shown 0) }
-    ensures enables { result ≡ true → bit_and (slice_index first 1) (slice_index shown 1)
-        ≡ bit_and (slice_index second 1) (slice_index shown 1) }
+    ensures { Decides result (AreSameIn shown first second) }
 {
     joined(first[0] & shown[0], first[1] & shown[1])
         == joined(second[0] & shown[0], second[1] & shown[1])

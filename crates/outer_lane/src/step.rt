@@ -72,7 +72,12 @@ fn step_high(uart: &mut Resettable<Uart>, calm: &mut bool) -> Option<u8>
     ensures was { calm.new ≡ true → calm.old ≡ true }
     ensures output { calm.new ≡ true → output_of uart.new.block ≡ output_of uart.old.block }
 {
-    if uart.held || uart.block.is_stopped() || uart.block.sends_on() {
+    if uart.held || uart.block.is_stopped() {
+        return None;
+    }
+    let left = uart.block.left();
+    if 0 < left {
+        uart.block.send_on(left);
         return None;
     }
     step_any_high(uart, calm)
@@ -336,9 +341,41 @@ impl Outer {
         false
     }
 
-    /// Such a cycle.
+    /// A cycle that does not change the pads, and in which the UARTs hear high lines.
     #[inline(always)]
-    fn step_calm(&mut self, irq: u32, cycle: u64) -> Mark
+    #[tactic(auto, using(crate::proofs::NoTick::no_tick))]
+    fn step_calm(&mut self, irq: u32, cycle: u64, marks: &mut Marks)
+        requires room { length marks.old < 256 }
+        requires line0 { receive_level 0 self.old.pads ≡ true }
+        requires line1 { receive_level 1 self.old.pads ≡ true }
+        ensures state { self.new ≡ record self.old {
+          timer = timer_after cycle self.old.timer;
+          uart0 = uart_after true self.old.uart0;
+          uart1 = uart_after true self.old.uart1;
+          irq = irq;
+        } }
+        ensures marks { marks.new ≡ marks.old ++ record {
+          uart = byte_of self.old.uart0 ∷ byte_of self.old.uart1 ∷ [];
+          pads = self.old.pads.current;
+        } ∷ [] }
+    {
+        if self.ticks.is_between(cycle) && self.calm && 0 < self.left {
+            self.uart0.block.send_on(self.left);
+            self.left -= 1;
+            self.irq = irq;
+            marks.push(Mark {
+                uart: [None, None],
+                pads: self.pads.pads(),
+            });
+            return;
+        }
+        let mark = self.step_any_calm(irq, cycle);
+        marks.push(mark);
+    }
+
+    /// The same, whatever the UARTs and the timer do.
+    #[inline(never)]
+    fn step_any_calm(&mut self, irq: u32, cycle: u64) -> Mark
         requires line0 { receive_level 0 self.old.pads ≡ true }
         requires line1 { receive_level 1 self.old.pads ≡ true }
         ensures state { self.new ≡ record self.old {
@@ -379,28 +416,6 @@ impl Outer {
         [first, second]
     }
 
-    /// UART 0 sends on beside a UART 1 that is at rest, where that is known; else nothing. Whether it was. The lines of both
-    /// are high.
-    #[inline(always)]
-    fn sends_on(&mut self) -> bool
-        requires line0 { receive_level 0 self.old.pads ≡ true }
-        requires line1 { receive_level 1 self.old.pads ≡ true }
-        ensures on { result ≡ true → self.new ≡ record self.old {
-          uart0 = uart_after true self.old.uart0;
-          uart1 = uart_after true self.old.uart1;
-        } }
-        ensures off { result ≡ false → self.new ≡ self.old }
-        ensures byte0 { result ≡ true → byte_of self.old.uart0 ≡ None }
-        ensures byte1 { result ≡ true → byte_of self.old.uart1 ≡ None }
-    {
-        if self.calm && 0 < self.left {
-            self.uart0.block.send_on(self.left);
-            self.left -= 1;
-            return true;
-        }
-        false
-    }
-
     /// Keeps in mind for how many cycles UART 0 sends on beside a UART 1 that is at rest.
     pub(crate) fn look_ahead(&mut self)
         ensures { self.new ≡ self.old }
@@ -418,33 +433,10 @@ impl Outer {
         ensures marks { marks.new
             ≡ marks.old ++ marked_driven wires.now seen.now drives self.old ∷ [] }
     {
-        if self.is_calm_by(wires, seen, drives)
-            && self.ticks.is_between(seen.cycle)
-            && self.sends_on()
-        {
-            self.irq = wires.irq;
-            marks.push(Mark {
-                uart: [None, None],
-                pads: self.pads.pads(),
-            });
-            return;
-        }
-        self.step_other(wires, seen, drives, marks);
-    }
-
-    /// The same, whatever the UARTs do.
-    #[inline(never)]
-    fn step_other(&mut self, wires: &Wires, seen: &SeenOutputs, drives: Drives, marks: &mut Marks)
-        requires { length marks.old < 256 }
-        ensures state { self.new ≡ next_driven wires.now seen.now drives self.old }
-        ensures marks { marks.new
-            ≡ marks.old ++ marked_driven wires.now seen.now drives self.old ∷ [] }
-    {
         if self.is_calm_by(wires, seen, drives) {
-            let mark = self.step_calm(wires.irq, seen.cycle);
-            marks.push(mark);
+            self.step_calm(wires.irq, seen.cycle, marks);
         } else {
-            let mark = self.step_any(*wires, seen, drives);
+            let mark = self.step_changing(*wires, seen, drives);
             marks.push(mark);
         }
     }
@@ -492,7 +484,7 @@ impl Outer {
     /// A cycle by these, whatever changes.
     #[inline(never)]
     #[tactic(auto, unfolding(crate::specs::Rest::pads_after))]
-    fn step_any(&mut self, wires: Wires, seen: &SeenOutputs, drives: Drives) -> Mark
+    fn step_changing(&mut self, wires: Wires, seen: &SeenOutputs, drives: Drives) -> Mark
         ensures state { self.new ≡ next_driven wires seen.now drives self.old }
         ensures mark { result ≡ marked_driven wires seen.now drives self.old }
     {

@@ -1,6 +1,6 @@
 //! The registers that say how a UART runs.
 
-ghost use Rattle.std.specs.Prelude.{◌≡◌, ◌<◌, ◌+◌, ◌*◌, ◌^◌};
+ghost use Rattle.std.specs.Prelude.{◌≡◌, ◌<◌, ◌≤◌, ◌+◌, ◌*◌, ◌^◌, ℕ};
 ghost use Rattle.rp_uart.specs.Sender.{bit_time, is_over, elapsed_after};
 
 /// UARTIBRD and UARTFBRD: a bit lasts 64 times the divisor, in quarters of a cycle (DDI 0183, 3.3.5 and 3.3.6).
@@ -43,11 +43,13 @@ impl Divisor {
         64 * u32::from(self.integer) + u32::from(self.fraction)
     }
 
-    /// In so many cycles a bit does not end of which so many quarters of a cycle have passed.
+    /// In so many cycles, and in no more, a bit does not end of which so many quarters of a cycle have passed; 0 where it ends in
+    /// the next one.
+    #[inline(always)]
     pub(crate) fn left(&self, elapsed: u32) -> u32
         requires { 0 < self.now.integer }
-        ensures time { 0 < result → elapsed + 4 * result < bit_time self.now }
-        ensures bound { 0 < result → elapsed + 4 * result < 2 ^ 32 }
+        ensures lasts { 0 < result → elapsed + 4 * result < bit_time self.now }
+        ensures most { (more : ℕ) → elapsed + 4 * more < bit_time self.now → more ≤ result }
     {
         let last = self.bit_time() - 1;
         if elapsed < last {
@@ -55,6 +57,15 @@ impl Divisor {
         } else {
             0
         }
+    }
+
+    /// A bit that lasts for so many cycles more has passed by then for a time that can be counted.
+    #[inline(always)]
+    pub(crate) fn fits(&self, elapsed: u32, left: u32)
+        requires { elapsed + 4 * left < bit_time self.now }
+        ensures { elapsed + 4 * left < 2 ^ 32 }
+    {
+        let _ = self.bit_time();
     }
 
     /// One more cycle of a bit of which so many quarters of a cycle have passed: whether the bit is over, and how much of it,

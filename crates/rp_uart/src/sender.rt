@@ -1,6 +1,6 @@
 //! Sending.
 
-ghost use Rattle.std.specs.Prelude.{◌≡◌, ◌<◌, ◌-◌, true, false, Some, None, if◌then◌else◌};
+ghost use Rattle.std.specs.Prelude.{◌≡◌, ◌<◌, ◌≤◌, ◌-◌, ℕ, true, false, Some, None, if◌then◌else◌};
 ghost use Rattle.rp_uart.specs.Step.{output_of};
 ghost use Rattle.rp_uart.specs.Lasting.{BitLasts};
 ghost use Rattle.rp_uart.specs.Sender.{next_frame, is_last_bit, after_bit, after_frame, after_sending, ended_byte, frame_byte};
@@ -66,7 +66,7 @@ impl Uart {
         true
     }
 
-    /// The same, where the bit lasts for so many cycles.
+    /// The sender's cycle, where a frame is sent of which the bit lasts for so many cycles.
     #[inline(always)]
     #[tactic(auto, unfolding(crate::specs::Sender::after_sending))]
     pub(crate) fn lengthen(&mut self, left: u32)
@@ -78,14 +78,17 @@ impl Uart {
         ensures output { output_of self.new ≡ output_of self.old }
     {
         if let Sender::Frame(frame) = &mut self.sender {
+            self.divisor.fits(frame.elapsed, left);
             frame.elapsed += 4;
         }
     }
 
-    /// For how many cycles no bit of a frame that is sent ends.
+    /// For how many cycles no bit of a frame that is sent ends; 0 where none is sent.
+    #[inline(always)]
     pub(crate) fn bit_left(&self) -> u32
         requires { 0 < self.now.divisor.integer }
-        ensures { 0 < result → BitLasts result self.now.sender self.now.divisor }
+        ensures lasts { 0 < result → BitLasts result self.now.sender self.now.divisor }
+        ensures most { (more : ℕ) → BitLasts more self.now.sender self.now.divisor → more ≤ result }
     {
         match self.sender {
             Sender::Idle => 0,

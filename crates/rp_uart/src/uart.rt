@@ -1,6 +1,6 @@
 //! A UART: its state, its cycle and its readers.
 
-ghost use Rattle.std.specs.Prelude.{◌≡◌, ◌<◌, ◌-◌, true, false, not, None, Decides};
+ghost use Rattle.std.specs.Prelude.{◌≡◌, ◌<◌, ◌≤◌, ◌-◌, ℕ, true, false, not, None, Decides};
 ghost use Rattle.rp_uart.specs.declared.receiver.Receiver.TheVariants.{Idle};
 ghost use Rattle.rp_uart.specs.State.{at_reset};
 ghost use Rattle.rp_uart.specs.Interrupts.{is_line_high};
@@ -170,22 +170,12 @@ impl Uart {
         self.run(line)
     }
 
-    /// A cycle with a high line, in which a frame is sent of which no bit ends, and nothing is received; else nothing. Whether
-    /// it was.
+    /// In so many cycles with a high line, and in no more, no bit of a frame that is sent ends and nothing is received; 0 where no
+    /// frame is sent, where its bit ends in the next cycle, and where something may be received or told.
     #[inline(always)]
-    #[tactic(auto, using(crate::proofs::GoesOn::goes_on))]
-    pub fn sends_on(&mut self) -> bool
-        ensures on { result ≡ true → self.new ≡ after_step true self.old }
-        ensures off { result ≡ false → self.new ≡ self.old }
-        ensures byte { result ≡ true → sent_byte self.old ≡ None }
-        ensures output { result ≡ true → output_of self.new ≡ output_of self.old }
-    {
-        !self.is_stopped() && self.hears_nothing(true) && self.goes_on()
-    }
-
-    /// In so many cycles with a high line no bit of a frame that is sent ends, and nothing is received.
     pub fn left(&self) -> u32
-        ensures { 0 < result → Lasts result self.now }
+        ensures lasts { 0 < result → Lasts result self.now }
+        ensures most { (more : ℕ) → Lasts more self.now → more ≤ result }
     {
         if self.is_stopped() || !self.hears_nothing(true) {
             return 0;
@@ -316,10 +306,8 @@ impl Uart {
     /// The line is high, the receiver hears it and waits for a low one, and no byte waits to be told.
     #[inline(always)]
     fn hears_nothing(&self, line: bool) -> bool
-        ensures receiver { result ≡ true → self.now.receiver ≡ Idle }
-        ensures waited { result ≡ true → self.now.waited ≡ None }
-        ensures line { result ≡ true → line ≡ true }
-        ensures loopback { result ≡ true → self.now.control.loopback ≡ false }
+        ensures { Decides result ((self.now.receiver ≡ Idle) × ((self.now.waited ≡ None)
+            × ((line ≡ true) × (self.now.control.loopback ≡ false)))) }
     {
         matches!(self.receiver, Receiver::Idle)
             && self.waited.is_none()

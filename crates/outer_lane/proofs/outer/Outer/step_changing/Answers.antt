@@ -1,7 +1,7 @@
 use Rattle.std.proofs.Common.{ap, ◌∙◌}
 use Rattle.outer_lane.specs.contracts.outer.Outer.{the_view}
 use Rattle.outer_lane.proofs.Staying.{ended, any_next, any_marked}
-use Rattle.outer_lane.proofs.outer.Outer.step_any.Goals as goal
+use Rattle.outer_lane.proofs.outer.Outer.step_changing.Goals as goal
 
 pub returns-clause-state : goal.returns-clause-state
 returns-clause-state c =
