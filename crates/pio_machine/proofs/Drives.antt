@@ -240,7 +240,7 @@ writes-side-by true true pin base count value low h = writes-enables pin base co
 writes-side-by true false pin base count value low h = writes-levels pin base count value low h
 writes-side-by false pindir pin base count value low h = same pin
 
-pub writes-side : (pin : ℕ) → pin < 32 → (word : ℕ) (m : Machine1) → Writes pin (with_side word m)
+writes-side : (pin : ℕ) → pin < 32 → (word : ℕ) (m : Machine1) → Writes pin (with_side word m)
 unfolding with_side
 writes-side pin low word m =
     writes-side-by (has_side word m) (side_pindir m) pin (side_base m) (side_pins m) (side_value word m) low (side_fits-by (side_enable m) (m.pinctrl / 2 ^ 29 % 2 ^ 3))
@@ -255,7 +255,7 @@ writes-word : (pin : ℕ) → pin < 32 → (word : Option ℕ) (number : ℕ) (s
 writes-word pin low None number seen m = same pin
 writes-word pin low (Some word) number seen m = writes-try pin low word number seen m
 
-pub writes-cycle : (pin : ℕ) → pin < 32 → (number : ℕ) (seen : Seen) (m : Machine1) → Writes pin (written_in_cycle number seen m)
+writes-cycle : (pin : ℕ) → pin < 32 → (number : ℕ) (seen : Seen) (m : Machine1) → Writes pin (written_in_cycle number seen m)
 unfolding written_in_cycle
 writes-cycle pin low number seen m = writes-word pin low (word_tried seen m) number seen (advanced m)
 

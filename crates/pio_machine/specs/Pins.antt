@@ -29,12 +29,15 @@ pins_from base count = rotate_left w32 (2 ^ count - 1) base
 abbrev pub overlaid : ℕ → ℕ → ℕ → ℕ
 overlaid mask bits word = bit_or (bit_and word (bit_not w32 mask)) (bit_and bits mask)
 
--- what is written last to a pin wins
-abbrev pub with_levels : ℕ → ℕ → ℕ → Done → Done
-with_levels base count value d = record d {
-  levels = overlaid (pins_from base count) (rotate_left w32 value base) d.levels;
-  level_mask = bit_or d.level_mask (pins_from base count);
+-- what is written last to a pin wins; the pins of a mask have the bits of a value, whose bit 0 is for the base
+abbrev pub with_masked_levels : ℕ → ℕ → ℕ → Done → Done
+with_masked_levels mask base value d = record d {
+  levels = overlaid mask (rotate_left w32 value base) d.levels;
+  level_mask = bit_or d.level_mask mask;
 }
+
+abbrev pub with_levels : ℕ → ℕ → ℕ → Done → Done
+with_levels base count value d = with_masked_levels (pins_from base count) base value d
 
 abbrev pub with_enables : ℕ → ℕ → ℕ → Done → Done
 with_enables base count value d = record d {

@@ -1,17 +1,21 @@
 -- What the registers of a machine say, ready to be used.
-use Rattle.std.specs.Prelude.{ℕ, Bool, ◌&&◌, ◌==◌, nat_lt, if◌then◌else◌}
+use Rattle.std.specs.Prelude.{ℕ, Bool, ◌&&◌, ◌==◌, if◌then◌else◌}
 use Rattle.pio_machine.specs.declared.machine.Machine1.{Machine1}
 use Rattle.pio_machine.specs.declared.settings.Settings.{Settings}
-use Rattle.pio_machine.specs.Fields.{autopull, pull_threshold, out_base, out_count, wrap_top, wrap_bottom}
+use Rattle.pio_machine.specs.Fields.{divider, autopull, pull_threshold, side_count, out_base, out_count, wrap_top, wrap_bottom}
 use Rattle.pio_machine.specs.Pins.{pins_from}
 
 -- under autopull the OSR is spent from this count on; without it from none that a count reaches
 abbrev pub limit : Machine1 → ℕ
 limit m = if autopull m then pull_threshold m else 256
 
--- the machine ticks in each cycle, and no bit of a word is for side-set
+-- no bit of a word is for side-set (SIDESET_COUNT is 0)
+abbrev pub has_no_side : Machine1 → Bool
+has_no_side m = side_count m == 0
+
+-- the clock divider is 1, which is 256 of 256ths, so that the machine ticks in each cycle, and no bit of a word is for side-set
 abbrev pub is_plain : Machine1 → Bool
-is_plain m = (m.clkdiv == 0x00010000) && nat_lt m.pinctrl 0x20000000
+is_plain m = (divider m == 256) && has_no_side m
 
 abbrev pub settings_of : Machine1 → Settings
 settings_of m =
@@ -20,5 +24,6 @@ settings_of m =
       limit = limit m;
       top = wrap_top m;
       bottom = wrap_bottom m;
+      no_side = has_no_side m;
       plain = is_plain m;
     }

@@ -1,6 +1,7 @@
 //! A try of a word by its operation.
 
-ghost use Rattle.std.specs.Prelude.{◌≡◌, ◌<◌};
+ghost use Rattle.std.specs.Prelude.{◌≡◌, ◌<◌, ◌/◌, ◌%◌, true};
+ghost use Rattle.pio_machine.specs.Fields.{side_count};
 ghost use Rattle.pio_machine.specs.Operation.{delay_of, with_autopull, with_side};
 ghost use Rattle.pio_machine.specs.Cycle.{after_op, written_with_side, after_try, written_by_try};
 ghost use Rattle.pio_machine.specs.Ready.{settings_of};
@@ -13,17 +14,22 @@ use pio_words::{PioOp, decode_word};
 impl Machine1 {
     /// Autopull after an operation that does not load the OSR itself.
     #[inline(always)]
-    #[tactic(auto, unfolding(crate::specs::Queue::refilled))]
     fn refill_for(&mut self, op: PioOp, settings: &Settings)
         requires { settings.now ≡ settings_of self.old }
         ensures { self.new ≡ with_autopull op self.old }
     {
         if !loads_osr(op) {
-            if self.is_out(settings) {
-                self.load();
-            }
+            self.refill(settings);
         }
     }
+
+    /// No bit of a word is for side-set.
+    #[inline(always)]
+    fn sets_no_side(&self, settings: &Settings)
+        requires settings { settings.now ≡ settings_of self.now }
+        requires side { settings.now.no_side ≡ true }
+        ensures { side_count self.now ≡ 0 }
+    {}
 
     /// The side-set of a word, and its delay.
     #[inline(never)]
@@ -43,7 +49,7 @@ impl Machine1 {
         ensures delay { result ≡ delay_of word self.now }
         ensures done { done.new ≡ with_side word self.now done.old }
     {
-        if settings.plain {
+        if settings.no_side {
             self.sets_no_side(settings);
             have_32_bits(done.levels, done.enables);
             side_field(word)
@@ -69,7 +75,7 @@ impl Machine1 {
         ensures machine { self.new ≡ after_op word op number seen.now self.old }
         ensures done { done.new ≡ written_with_side word op number seen.now self.old done.old }
     {
-        let outcome = self.perform(op, number, seen, done);
+        let outcome = self.perform(op, settings, number, seen, done);
         self.refill_for(op, settings);
         let delay = self.side_by(word, settings, done);
         self.end_by(delay, outcome, settings);
@@ -78,7 +84,7 @@ impl Machine1 {
     /// A try of a word.
     #[inline(never)]
     #[tactic(auto, unfolding(crate::specs::Cycle::after_try, crate::specs::Cycle::written_by_try))]
-    pub(crate) fn attempt_word(
+    fn attempt_word(
         &mut self,
         word: u16,
         settings: &Settings,
@@ -92,5 +98,28 @@ impl Machine1 {
         ensures done { done.new ≡ written_by_try word number seen.now self.old done.old }
     {
         self.attempt_op(word, decode_word(word), settings, number, seen, done);
+    }
+
+    /// A try of a word, where an OUT to pins goes a shorter way.
+    #[inline(always)]
+    #[tactic(auto, using(crate::proofs::Outs::after_out_word, crate::proofs::Outs::written_with_out_word))]
+    pub(crate) fn attempt(
+        &mut self,
+        word: u16,
+        settings: &Settings,
+        number: u8,
+        seen: &Seen,
+        done: &mut Done,
+    )
+        requires number { number < 4 }
+        requires settings { settings.now ≡ settings_of self.old }
+        ensures machine { self.new ≡ after_try word number seen.now self.old }
+        ensures done { done.new ≡ written_by_try word number seen.now self.old done.old }
+    {
+        if word / 8192 == 3 && word / 32 % 8 == 0 {
+            self.attempt_out(word, settings, done);
+        } else {
+            self.attempt_word(word, settings, number, seen, done);
+        }
     }
 }

@@ -22,9 +22,7 @@ impl Machine1 {
         requires { ticks self.old ≡ true }
         ensures { self.new ≡ advanced self.old }
     {
-        if self.clkdiv != 0x0001_0000 {
-            self.acc = self.acc + self.divider() - 256;
-        }
+        self.acc = self.acc + self.divider() - 256;
     }
 
     /// The divider goes on in a cycle that is no tick.
@@ -70,7 +68,7 @@ impl Machine1 {
         let tried = waiting.forced || self.ticks();
         self.advance();
         if tried {
-            self.attempt_word(waiting.word, settings, number, seen, done);
+            self.attempt(waiting.word, settings, number, seen, done);
         }
     }
 
@@ -88,7 +86,7 @@ impl Machine1 {
         self.begin_period();
         if self.delay == 0 {
             let word = seen.memory[(self.pc % 32) as usize];
-            self.attempt_word(word, settings, number, seen, done);
+            self.attempt(word, settings, number, seen, done);
         } else {
             self.pass_delay(settings);
         }
@@ -96,15 +94,12 @@ impl Machine1 {
 
     /// A tick of the delay passes.
     #[inline(always)]
-    #[tactic(auto, unfolding(crate::specs::Queue::refilled))]
     pub(crate) fn pass_delay(&mut self, settings: &Settings)
         requires { settings.now ≡ settings_of self.old }
         ensures { self.new ≡ delayed self.old }
     {
         self.delay = self.delay.saturating_sub(1);
-        if self.is_out(settings) {
-            self.load();
-        }
+        self.refill(settings);
     }
 }
 

@@ -11,7 +11,7 @@ use crate::settings::Settings;
 impl Machine1 {
     /// The word at PC is followed by the next one.
     #[inline(always)]
-    pub(crate) fn step_at_pc(&mut self, settings: &Settings)
+    fn step_at_pc(&mut self, settings: &Settings)
         requires settings { settings.now ≡ settings_of self.old }
         requires waiting { self.old.waiting ≡ None }
         ensures { self.new ≡ stepped self.old }
@@ -38,7 +38,7 @@ impl Machine1 {
     }
 
     /// Jumps.
-    pub(crate) fn jump(&mut self, address: u8)
+    fn jump(&mut self, address: u8)
         ensures { self.new ≡ jumped address self.old }
     {
         self.set_pc(address);

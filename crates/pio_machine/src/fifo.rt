@@ -21,7 +21,7 @@ impl Fifo {
     ghost use Rattle.std.specs.Prelude.{◌≡◌, ◌<◌, ◌≤◌, ◌++◌, ◌∷◌, [], length, slice_index, Decides, MatchOption};
 
     /// No words.
-    pub fn new() -> Fifo
+    pub(crate) fn new() -> Fifo
         ensures { result ≡ [] }
     {
         Fifo {
@@ -76,14 +76,14 @@ impl Fifo {
     }
 
     /// Both have the same words.
-    pub fn is_same(&self, other: &Fifo) -> bool
+    pub(crate) fn is_same(&self, other: &Fifo) -> bool
         ensures { Decides result (self.now ≡ other.now) }
     {
         self.words.as_slice() == other.words.as_slice()
     }
 
     /// Takes the words of another FIFO in place of its own.
-    pub fn copy_from(&mut self, other: &Fifo)
+    pub(crate) fn copy_from(&mut self, other: &Fifo)
         ensures { self.new ≡ other.now }
     {
         self.words.clear();

@@ -118,7 +118,7 @@ pub(crate) enum Outcome {
 
 impl Progress {
     /// That of a word that was not tried yet.
-    pub fn new() -> Progress
+    fn new() -> Progress
         ensures { result ≡ untried }
     {
         Progress {

@@ -1,13 +1,14 @@
 //! A try of an operation, and its side-set.
 
-ghost use Rattle.std.specs.Prelude.{◌≡◌, ◌<◌, ◌≤◌, ◌^◌, true};
+ghost use Rattle.std.specs.Prelude.{◌≡◌, ◌<◌, ◌≤◌, ◌^◌};
 ghost use Rattle.pio_machine.specs.Operation.{tried, written, loads_osr, side_field, delay_of, side_value, has_side, side_pins, with_side};
-ghost use Rattle.pio_machine.specs.Fields.{side_count};
+ghost use Rattle.pio_machine.specs.Ready.{settings_of};
 ghost use Rattle.pio_machine.specs.Tie.{stands_for};
 
 use crate::flags::flag_of;
 use crate::machine::{Done, Machine1, Outcome, Seen};
 use crate::moves::outcome_of_mov;
+use crate::settings::Settings;
 use pio_words::{MovDestination, PioOp};
 use rp_base::bits::has_bit;
 
@@ -45,8 +46,16 @@ pub(crate) fn have_32_bits(levels: u32, enables: u32)
 impl Machine1 {
     /// A try of an operation by the machine of this number.
     #[inline(always)]
-    pub(crate) fn perform(&mut self, op: PioOp, number: u8, seen: &Seen, done: &mut Done) -> Outcome
-        requires { number < 4 }
+    pub(crate) fn perform(
+        &mut self,
+        op: PioOp,
+        settings: &Settings,
+        number: u8,
+        seen: &Seen,
+        done: &mut Done,
+    ) -> Outcome
+        requires number { number < 4 }
+        requires settings { settings.now ≡ settings_of self.old }
         ensures machine { self.new ≡ (tried op number seen.now self.old).machine }
         ensures ending { stands_for result ≡ (tried op number seen.now self.old).ending }
         ensures done { done.new ≡ written op number seen.now self.old done.old }
@@ -55,7 +64,7 @@ impl Machine1 {
             PioOp::Jmp { condition, address } => self.jmp(condition, address, seen),
             PioOp::Wait { polarity, source } => self.wait(polarity, source, number, seen, done),
             PioOp::In { source, count } => self.try_in(source, count, seen),
-            PioOp::Out { destination, count } => self.try_out(destination, count, done),
+            PioOp::Out { destination, count } => self.try_out(destination, count, settings, done),
             PioOp::Push { if_full, block } => self.try_push(if_full, block),
             PioOp::Pull { if_empty, block } => self.try_pull(if_empty, block),
             PioOp::Mov {
@@ -81,21 +90,10 @@ impl Machine1 {
         }
     }
 
-    /// No bit of a word is for side-set.
-    #[inline(always)]
-    fn has_no_side(&self) -> bool
-        ensures { result ≡ true → side_count self.now ≡ 0 }
-    {
-        self.pinctrl < 0x2000_0000
-    }
-
     /// The delay that a word asks for.
     pub(crate) fn delay_of(&self, word: u16) -> u8
         ensures { result ≡ delay_of word self.now }
     {
-        if self.has_no_side() {
-            return side_field(word);
-        }
         side_field(word) % (1 << (5 - self.side_count()))
     }
 
@@ -123,14 +121,10 @@ impl Machine1 {
     }
 
     /// The side-set of a word.
-    #[tactic(auto, unfolding(crate::specs::Operation::with_side), using(crate::proofs::Sides::side_none))]
+    #[tactic(auto, unfolding(crate::specs::Operation::with_side))]
     pub(crate) fn set_side(&self, word: u16, done: &mut Done)
         ensures { done.new ≡ with_side word self.now done.old }
     {
-        if self.has_no_side() {
-            have_32_bits(done.levels, done.enables);
-            return;
-        }
         if self.has_side(word) {
             let value = u32::from(self.side_value(word));
             if self.side_pindir() {

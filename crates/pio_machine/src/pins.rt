@@ -1,7 +1,7 @@
 //! The pins as a machine sees and writes them.
 
 ghost use Rattle.std.specs.Prelude.{◌≡◌, ◌≤◌};
-ghost use Rattle.pio_machine.specs.Pins.{input_word, mapped_inputs, pins_from, overlaid, with_levels, with_enables};
+ghost use Rattle.pio_machine.specs.Pins.{input_word, mapped_inputs, pins_from, overlaid, with_masked_levels, with_levels, with_enables};
 
 use crate::bits::low_mask;
 use crate::machine::{Done, Machine1, Seen};
@@ -40,13 +40,11 @@ fn overlaid(mask: u32, bits: u32, word: u32) -> u32
 }
 
 impl Done {
-    /// Writes the levels of so many pins from a base on, where this is their mask.
+    /// Writes the levels of the pins of a mask, from a base on.
     #[inline(always)]
-    pub(crate) fn write_levels_by(&mut self, mask: u32, base: u32, count: u8, value: u32)
-        requires { mask ≡ pins_from base count }
-        ensures { self.new ≡ with_levels base count value self.old }
+    pub(crate) fn write_levels_by(&mut self, mask: u32, base: u32, value: u32)
+        ensures { self.new ≡ with_masked_levels mask base value self.old }
     {
-        let _ = count;
         self.levels = overlaid(mask, value.rotate_left(base), self.levels);
         self.level_mask |= mask;
     }
@@ -56,7 +54,7 @@ impl Done {
         requires { count ≤ 32 }
         ensures { self.new ≡ with_levels base count value self.old }
     {
-        self.write_levels_by(pins_from(base, count), base, count, value);
+        self.write_levels_by(pins_from(base, count), base, value);
     }
 
     /// Writes the enables of so many pins from a base on.

@@ -1,11 +1,14 @@
 //! PUSH, PULL and autopull.
 
 ghost use Rattle.std.specs.Prelude.{◌≡◌, false};
-ghost use Rattle.pio_machine.specs.Queue.{loaded, is_spent, refilled, is_pull_void, pulled_from, try_pull, pushed, with_isr_cleared, try_push_now, try_push};
-ghost use Rattle.pio_machine.specs.Fields.{autopull as autopull_of, pull_threshold, is_rx_full};
+ghost use Rattle.pio_machine.specs.Queue.{loaded, refilled, is_pull_void, pulled_from, try_pull, pushed, with_isr_cleared, try_push_now, try_push};
+ghost use Rattle.pio_machine.specs.Fields.{is_rx_full};
+ghost use Rattle.pio_machine.specs.Output.{out_stalls};
+ghost use Rattle.pio_machine.specs.Ready.{settings_of};
 ghost use Rattle.pio_machine.specs.Tie.{stands_for};
 
 use crate::machine::{Machine1, Outcome};
+use crate::settings::Settings;
 
 impl Machine1 {
     /// Loads the OSR, where a word waits.
@@ -19,25 +22,24 @@ impl Machine1 {
         }
     }
 
-    /// The OSR is to be loaded again.
-    pub(crate) fn is_spent(&self) -> bool
-        ensures { result ≡ is_spent self.now }
+    /// Under autopull the OSR is spent: it is to be loaded again, and an OUT stalls.
+    #[inline(always)]
+    pub(crate) fn is_autopull_due(&self, settings: &Settings) -> bool
+        requires { settings.now ≡ settings_of self.now }
+        ensures { result ≡ out_stalls self.now }
     {
-        self.pull_threshold() <= self.osr_count
+        settings.limit <= u32::from(self.osr_count)
     }
 
-    /// Autopull, by its settings: loads a spent OSR, where a word waits.
+    /// Autopull: loads a spent OSR, where a word waits.
     #[inline(always)]
     #[tactic(auto, unfolding(crate::specs::Queue::refilled))]
-    pub(crate) fn refill_by(&mut self, autopull: bool, threshold: u8)
-        requires autopull { autopull ≡ autopull_of self.old }
-        requires threshold { threshold ≡ pull_threshold self.old }
+    pub(crate) fn refill(&mut self, settings: &Settings)
+        requires { settings.now ≡ settings_of self.old }
         ensures { self.new ≡ refilled self.old }
     {
-        if autopull {
-            if threshold <= self.osr_count {
-                self.load();
-            }
+        if self.is_autopull_due(settings) {
+            self.load();
         }
     }
 

@@ -1,7 +1,7 @@
 //! What the registers of a machine say, ready to be used.
 
 ghost use Rattle.std.specs.Prelude.{◌≡◌};
-ghost use Rattle.pio_machine.specs.Ready.{limit, settings_of};
+ghost use Rattle.pio_machine.specs.Ready.{limit, has_no_side, settings_of};
 
 use crate::machine::Machine1;
 use crate::pins::pins_from;
@@ -10,15 +10,17 @@ use crate::pins::pins_from;
 #[derive(Clone, Copy)]
 pub struct Settings {
     /// The pins that OUT writes, pin 0 in bit 0.
-    pub out_mask: u32,
+    pub(crate) out_mask: u32,
     /// Under autopull the OSR is spent from this count on, 1 to 32; without it 256, which no count reaches.
-    pub limit: u32,
+    pub(crate) limit: u32,
     /// WRAP_TOP.
-    pub top: u8,
+    pub(crate) top: u8,
     /// WRAP_BOTTOM.
-    pub bottom: u8,
-    /// The machine ticks in each cycle, and no bit of a word is for side-set.
-    pub plain: bool,
+    pub(crate) bottom: u8,
+    /// No bit of a word is for side-set.
+    pub(crate) no_side: bool,
+    /// The clock divider is 1, so that the machine ticks in each cycle, and no bit of a word is for side-set.
+    pub(crate) plain: bool,
 }
 
 /// The count of bits shifted out from which on the OSR is loaded.
@@ -32,17 +34,26 @@ fn limit(machine: &Machine1) -> u32
     }
 }
 
+/// No bit of a word is for side-set.
+fn has_no_side(machine: &Machine1) -> bool
+    ensures { result ≡ has_no_side machine.now }
+{
+    machine.side_count() == 0
+}
+
 impl Settings {
     /// What the registers of this machine say.
     pub fn of(machine: &Machine1) -> Settings
         ensures { result ≡ settings_of machine.now }
     {
+        let no_side = has_no_side(machine);
         Settings {
             out_mask: pins_from(machine.out_base(), machine.out_count()),
             limit: limit(machine),
             top: machine.wrap_top(),
             bottom: machine.wrap_bottom(),
-            plain: machine.clkdiv == 0x0001_0000 && machine.pinctrl < 0x2000_0000,
+            no_side,
+            plain: machine.divider() == 256 && no_side,
         }
     }
 }

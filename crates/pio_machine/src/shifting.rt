@@ -2,11 +2,13 @@
 
 ghost use Rattle.std.specs.Prelude.{◌≡◌, ◌≤◌};
 ghost use Rattle.pio_machine.specs.Input.{in_value, shifted_in, shifted_once, autopushed, try_in};
-ghost use Rattle.pio_machine.specs.Output.{out_value, shifted_out, with_out, ending_of_out, out_stalls, starved, out_done, try_out, out_pins, written_by_out, after_set, written_by_set};
+ghost use Rattle.pio_machine.specs.Output.{out_value, shifted_out, with_out, ending_of_out, starved, out_done, try_out, out_pins, written_by_out, after_set, written_by_set};
+ghost use Rattle.pio_machine.specs.Ready.{settings_of};
 ghost use Rattle.pio_machine.specs.Tie.{stands_for};
 
 use crate::bits::{counted, entered, remaining, taken};
 use crate::machine::{Done, Machine1, Outcome, Seen};
+use crate::settings::Settings;
 use pio_words::{InSource, OutDestination, SetDestination};
 
 impl Machine1 {
@@ -88,7 +90,8 @@ impl Machine1 {
 
     /// A register takes the bits that left the OSR.
     fn put_out(&mut self, destination: OutDestination, value: u32, count: u8)
-        ensures { self.new ≡ with_out destination value count self.old }
+        ensures machine { self.new ≡ with_out destination value count self.old }
+        ensures settings { settings_of self.new ≡ settings_of self.old }
     {
         match destination {
             OutDestination::X => self.x = value,
@@ -112,16 +115,10 @@ impl Machine1 {
         }
     }
 
-    /// Under autopull an OUT of a spent OSR stalls.
-    pub(crate) fn out_stalls(&self) -> bool
-        ensures { result ≡ out_stalls self.now }
-    {
-        self.autopull() && self.is_spent()
-    }
-
     /// An OUT that stalls loads the OSR, or tells that no word waits.
     pub(crate) fn starve(&mut self)
-        ensures { self.new ≡ starved self.old.tx self.old }
+        ensures machine { self.new ≡ starved self.old.tx self.old }
+        ensures settings { settings_of self.new ≡ settings_of self.old }
     {
         match self.tx.pull() {
             Some(word) => {
@@ -133,20 +130,25 @@ impl Machine1 {
     }
 
     /// An OUT that does not stall.
-    fn out_now(&mut self, destination: OutDestination, count: u8, done: &mut Done) -> Outcome
-        requires { count ≤ 32 }
+    fn out_now(
+        &mut self,
+        destination: OutDestination,
+        count: u8,
+        settings: &Settings,
+        done: &mut Done,
+    ) -> Outcome
+        requires count { count ≤ 32 }
+        requires settings { settings.now ≡ settings_of self.old }
         ensures machine { self.new ≡ (out_done destination count self.old).machine }
         ensures ending { stands_for result ≡ (out_done destination count self.old).ending }
         ensures done { done.new ≡ out_pins destination (out_value count self.old) self.old
             done.old }
     {
-        let autopull = self.autopull();
-        let threshold = self.pull_threshold();
         let value = self.shift_out(count);
         self.out_pins(destination, value, done);
         self.put_out(destination, value, count);
         let outcome = outcome_of_out(destination, value);
-        self.refill_by(autopull, threshold);
+        self.refill(settings);
         outcome
     }
 
@@ -156,17 +158,19 @@ impl Machine1 {
         &mut self,
         destination: OutDestination,
         count: u8,
+        settings: &Settings,
         done: &mut Done,
     ) -> Outcome
+        requires { settings.now ≡ settings_of self.old }
         ensures machine { self.new ≡ (try_out destination count self.old).machine }
         ensures ending { stands_for result ≡ (try_out destination count self.old).ending }
         ensures done { done.new ≡ written_by_out destination count self.old done.old }
     {
-        if self.out_stalls() {
+        if self.is_autopull_due(settings) {
             self.starve();
             return Outcome::Stalled;
         }
-        self.out_now(destination, count.min(32), done)
+        self.out_now(destination, count.min(32), settings, done)
     }
 
     /// SET of a register.
