@@ -1,42 +1,22 @@
--- A timer that gives no credit adds its step up.
-use Rattle.std.proofs.Common.{◌≡◌, ℕ, ◌+◌, ◌<◌, Bool, true, false, ◌&&◌, List, [], ◌∷◌, length, get_or, refl, ap, sym, ◌∙◌, arith}
-use Rattle.std.specs.Prelude.{nat_le, map, slice_set}
-use Rattle.std.specs.List.{list_any}
+-- A timer that gives no credit adds its step up, which is 0 where it stands still.
+use Rattle.std.proofs.Common.{◌≡◌, ◌+◌, ◌<◌, Bool, true, false, ◌&&◌, cond, refl, ap, sym, arith}
+use Rattle.std.specs.Prelude.{nat_le, min}
 use Rattle.std.proofs.lemmas.Bool.Decides.{nat_tests}
 use Rattle.dma_engine.specs.declared.timer.PacingTimer.{PacingTimer}
-use Rattle.dma_engine.specs.Rest.{is_idle_timer}
-use Rattle.dma_engine.proofs.TimersAtRest.{idle_timer, gives_none}
 use Rattle.dma_engine.specs.Timer.{runs, step_of, sum_of, gives, accumulated, stepped}
 
-below_by : (r : Bool) (y sum : ℕ) → r ≡ true → (r && nat_le y sum) ≡ false → nat_le y sum ≡ false
-below_by true y sum e h = h
-below_by false y sum e h = absurd (cc)
+no_step : (t : PacingTimer) → runs t ≡ false → sum_of t ≡ t.accumulator
+no_step t h = grind (arith, nat_tests, h)
 
--- the sum stays below Y
-pub sum-below : (t : PacingTimer) → runs t ≡ true → gives t ≡ false → sum_of t < t.y
-sum-below t r h =
-    let not_le : nat_le t.y (sum_of t) ≡ false = below_by (runs t) t.y (sum_of t) r h in grind (arith, nat_tests, not_le)
+pub sum-bound : (t : PacingTimer) → t.y < 65536 → t.accumulator < 65536 → gives t ≡ false → t.accumulator + step_of t < 65536
+sum-bound t y a h = grind (arith, nat_tests, h)
 
-pub sum-added : (t : PacingTimer) → runs t ≡ true → gives t ≡ false → accumulated t ≡ t.accumulator + step_of t
-sum-added t r h = rw (below_by (runs t) t.y (sum_of t) r h) refl
+added_by : (t : PacingTimer) (r : Bool) → runs t ≡ r → (r && nat_le t.y (sum_of t)) ≡ false →
+    cond r (record t { accumulator = accumulated t }) t ≡ record t { accumulator = sum_of t }
+added_by t true e h = rw h refl
+added_by t false e h = sym (ap (λ a. record t { accumulator = a }) (no_step t e))
 
--- ---- the first timer alone
+pub sum-added : (t : PacingTimer) → gives t ≡ false → stepped t ≡ record t { accumulator = t.accumulator + step_of t }
+sum-added t h = added_by t (runs t) refl h
 
-pub first_steps : (ts : List PacingTimer) (d t : PacingTimer) → length ts ≡ 4 → is_idle_timer (get_or ts 1 d) ≡ true →
-    is_idle_timer (get_or ts 2 d) ≡ true → is_idle_timer (get_or ts 3 d) ≡ true → t ≡ stepped (get_or ts 0 d) →
-    slice_set ts 0 t ≡ map stepped ts
-first_steps (a ∷ b ∷ c ∷ e ∷ []) d t l h i j is =
-    ap (λ x. x ∷ b ∷ c ∷ e ∷ []) is ∙ ap (λ x. stepped a ∷ x ∷ c ∷ e ∷ []) (sym (idle_timer b h))
-    ∙ ap (λ x. stepped a ∷ stepped b ∷ x ∷ e ∷ []) (sym (idle_timer c i))
-    ∙ ap (λ x. stepped a ∷ stepped b ∷ stepped c ∷ x ∷ []) (sym (idle_timer e j))
-first_steps _ d t l h i j is = absurd (omega arith)
-
-pub first_gives : (ts : List PacingTimer) (d : PacingTimer) → length ts ≡ 4 → is_idle_timer (get_or ts 1 d) ≡ true →
-    is_idle_timer (get_or ts 2 d) ≡ true → is_idle_timer (get_or ts 3 d) ≡ true → gives (get_or ts 0 d) ≡ false →
-    list_any gives ts ≡ false
-first_gives (a ∷ b ∷ c ∷ e ∷ []) d l h i j is = rw (is, gives_none b h, gives_none c i, gives_none e j) refl
-first_gives _ d l h i j is = absurd (omega arith)
-
-pub ruleset first_alone = (first_steps, first_gives)
-
-pub ruleset passing = (sum-below, sum-added)
+pub ruleset passing = (sum-bound, sum-added)

@@ -28,10 +28,10 @@ both_not : (a b : Bool) → b ≡ false → (a && b) ≡ false
 both_not true b h = h
 both_not false b h = refl
 
-pub idle_timer : (t : PacingTimer) → is_idle_timer t ≡ true → stepped t ≡ t
+idle_timer : (t : PacingTimer) → is_idle_timer t ≡ true → stepped t ≡ t
 idle_timer t h = rw (not_is _ h) refl
 
-pub gives_none : (t : PacingTimer) → is_idle_timer t ≡ true → gives t ≡ false
+gives_none : (t : PacingTimer) → is_idle_timer t ≡ true → gives t ≡ false
 gives_none t h = rw (not_is _ h) refl
 
 idle_timers : (ts : List PacingTimer) → list_all is_idle_timer ts ≡ true → map stepped ts ≡ ts
@@ -52,7 +52,7 @@ is_given-none given pace.Always h = refl
 is_given-none given pace.Never h = refl
 
 -- no channel gets a credit
-pub gets_no_credit : (s : Engine) → list_all is_idle_timer s.timers ≡ true → (n : ℕ) → gets_credit s n ≡ false
+gets_no_credit : (s : Engine) → list_all is_idle_timer s.timers ≡ true → (n : ℕ) → gets_credit s n ≡ false
 gets_no_credit s h n =
     both_not (channel_at n s).busy _
     (is_given-none (given_by s.timers) (pace_of (treq_of (channel_at n s))) (λ k. none_given s.timers k h))
@@ -65,12 +65,8 @@ after_timers-at_rest s e h i =
     in_turn-all_failing (gets_credit s) with_credit 12 (with_stepped_timers e) (λ k low. gets_no_credit s h k)
     ∙ ap (λ ts. record e { timers = ts }) (idle_timers e.timers i)
 
--- the same of an engine that was opened
-pub all_idle : {s e : Engine} → e ≡ s → list_all is_idle_timer e.timers ≡ true → list_all is_idle_timer s.timers ≡ true
-all_idle is h = sym (ap (λ (x : Engine). list_all is_idle_timer x.timers) is) ∙ h
-
 -- in a list of falsehoods there is no truth
-pub none_in : (l : List Bool) → list_any (λ b. b) l ≡ false → (k : ℕ) → get_or l k false ≡ false
+none_in : (l : List Bool) → list_any (λ b. b) l ≡ false → (k : ℕ) → get_or l k false ≡ false
 none_in [] h k = refl
 none_in (true ∷ l) h k = absurd (cc)
 none_in (false ∷ l) h zero = refl

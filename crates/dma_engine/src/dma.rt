@@ -17,8 +17,6 @@ pub struct Dma {
     pub(crate) at_rest: bool,
     /// Nothing moves until a register is written or a pacing timer gives a credit.
     pub(crate) paused: bool,
-    /// Whether it rests or is paused was found since a register was written.
-    pub(crate) found: bool,
 }
 
 impl Model for Dma {
@@ -45,14 +43,17 @@ impl Dma {
     ghost use Rattle.dma_engine.specs.Words.{word_of, is_allowed, effect_of, is_silent, lines_of};
 
     /// The engine in its reset state: no channel is busy, and every register is 0.
+    #[tactic(auto, using(crate::proofs::AtRest::not_or))]
     pub fn new() -> Dma
         ensures { result ≡ reset_state false }
     {
+        let engine = Engine::new(false);
+        let at_rest = engine.is_still();
+        let paused = engine.is_paused();
         Dma {
-            engine: Engine::new(false),
-            at_rest: false,
-            paused: false,
-            found: false,
+            engine,
+            at_rest,
+            paused,
         }
     }
 
@@ -66,14 +67,15 @@ impl Dma {
 
     /// Does what a read, or a write of this word, does to the engine; nothing where it is held. False exactly where there
     /// is no such word, and nothing is changed then.
+    #[tactic(auto, using(crate::proofs::AtRest::not_or))]
     pub fn effect(&mut self, offset: u16, write: Option<u32>) -> bool
         ensures after { self.new ≡ effect_of offset write self.old }
         ensures allowed { result ≡ is_allowed self.old offset }
     {
-        self.at_rest = false;
-        self.paused = false;
-        self.found = false;
-        self.engine.effect(offset, write)
+        let allowed = self.engine.effect(offset, write);
+        self.at_rest = self.engine.is_still();
+        self.paused = self.engine.is_paused();
+        allowed
     }
 
     /// A read or a write is allowed: there is such a word.
@@ -84,13 +86,13 @@ impl Dma {
     }
 
     /// Sets the copy of the engine's bit of RESETS. A bit that is set puts the engine in its reset state, and holds it.
+    #[tactic(auto, using(crate::proofs::AtRest::not_or))]
     pub fn set_held(&mut self, held: bool)
         ensures { self.new ≡ with_hold held self.old }
     {
-        self.at_rest = false;
-        self.paused = false;
-        self.found = false;
         self.engine.set_held(held);
+        self.at_rest = self.engine.is_still();
+        self.paused = self.engine.is_paused();
     }
 
     /// The engine is at rest: until a register is written it asks nothing, wants nothing and stays as it is, and both
@@ -113,7 +115,7 @@ impl Dma {
     }
 
     /// The cycle, where this was begun and these turns were given. Whether the engine rests or is paused is found again where
-    /// something moved, or a register was written.
+    /// something moved; where only timers stepped it does neither, as before.
     #[inline(never)]
     #[tactic(auto, using(crate::proofs::AtRest::at_rest))]
     pub(crate) fn move_on(&mut self, begun: &BegunTransfer, turns: [Turn; 2])
@@ -121,10 +123,9 @@ impl Dma {
     {
         self.at_rest = false;
         self.paused = false;
-        if self.engine.finish(begun, &turns) || !self.found {
+        if self.engine.finish(begun, &turns) {
             self.at_rest = self.engine.is_still();
             self.paused = self.engine.is_paused();
-            self.found = true;
         }
     }
 

@@ -50,10 +50,9 @@ impl Lane<()> for Dma {
     }
 
     fn copy_from(&mut self, other: &Dma) {
-        self.at_rest = false;
-        self.paused = false;
-        self.found = false;
         self.engine.copy_from(&other.engine);
+        self.at_rest = other.at_rest;
+        self.paused = other.paused;
     }
 
     ghost few = { Prim.search rules };

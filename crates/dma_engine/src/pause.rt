@@ -4,8 +4,6 @@ ghost use Rattle.std.specs.Prelude.{◌≡◌, false, true, map};
 ghost use Rattle.std.specs.List.{list_all, list_any};
 ghost use Rattle.dma_engine.specs.declared.begun.Access.TheVariants as Access;
 ghost use Rattle.dma_engine.specs.Cycle.{next};
-ghost use Rattle.dma_engine.specs.Rest.{is_idle_timer};
-ghost use Rattle.dma_engine.specs.State.{timer_at};
 ghost use Rattle.dma_engine.specs.Timer.{gives, stepped};
 ghost use Rattle.dma_engine.specs.Paused.{lacks_credit, is_paused_channel, is_paused};
 
@@ -24,34 +22,6 @@ fn are_paused(channels: &[Channel; 12]) -> bool
     channels.iter().all(|channel| channel.is_paused())
 }
 
-/// All timers but the first stand still.
-#[inline(always)]
-fn others_stand(timers: &[PacingTimer; 4]) -> bool
-    ensures second { result ≡ true → is_idle_timer (timer_at 1 timers.now) ≡ true }
-    ensures third { result ≡ true → is_idle_timer (timer_at 2 timers.now) ≡ true }
-    ensures fourth { result ≡ true → is_idle_timer (timer_at 3 timers.now) ≡ true }
-{
-    (timers[1].x == 0) & (timers[2].x == 0) & (timers[3].x == 0)
-}
-
-/// A cycle of the timers, where the first alone runs and gives no credit; elsewhere false.
-#[inline(always)]
-#[tactic(auto, using(crate::proofs::Passing::first_alone))]
-fn pass_first(timers: &mut [PacingTimer; 4]) -> bool
-    requires second { is_idle_timer (timer_at 1 timers.old) ≡ true }
-    requires third { is_idle_timer (timer_at 2 timers.old) ≡ true }
-    requires fourth { is_idle_timer (timer_at 3 timers.old) ≡ true }
-    ensures after { result ≡ true → timers.new ≡ map stepped timers.old }
-    ensures none { result ≡ true → list_any gives timers.old ≡ false }
-    ensures before { result ≡ false → timers.new ≡ timers.old }
-{
-    if timers[0].gives() {
-        return false;
-    }
-    timers[0].pass();
-    true
-}
-
 /// A cycle of the timers, where none gives a credit; elsewhere false.
 #[inline(always)]
 #[tactic(auto, using(crate::proofs::Four::four))]
@@ -60,9 +30,6 @@ fn pass_all(timers: &mut [PacingTimer; 4]) -> bool
     ensures none { result ≡ true → list_any gives timers.old ≡ false }
     ensures before { result ≡ false → timers.new ≡ timers.old }
 {
-    if others_stand(timers) {
-        return pass_first(timers);
-    }
     if timers[0].gives() || timers[1].gives() || timers[2].gives() || timers[3].gives() {
         return false;
     }

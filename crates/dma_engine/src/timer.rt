@@ -41,7 +41,7 @@ impl PacingTimer {
     pub(crate) fn gives(&self) -> bool
         ensures { result ≡ gives self.now }
     {
-        self.runs() && self.y - self.step() <= self.accumulator
+        self.x != 0 && self.y - self.step() <= self.accumulator && self.y != 0
     }
 
     /// What the accumulator comes to.
@@ -73,7 +73,7 @@ impl PacingTimer {
         requires { gives self.old ≡ false }
         ensures { self.new ≡ stepped self.old }
     {
-        if self.runs() {
+        if self.x != 0 {
             self.accumulator += self.step();
         }
     }

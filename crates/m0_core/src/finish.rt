@@ -52,12 +52,10 @@ impl Doing {
     pub fn wants_nothing(&self) -> bool
         ensures { Decides result (want_of self.now ≡ Nothing) }
     {
-        if let Act::Inner(work) = &self.act {
-            return !signals(work);
-        }
         match &self.act {
+            Act::Inner(work) => !signals(work),
             Act::Asleep | Act::Fault | Act::Private(..) => true,
-            _ => false,
+            Act::Stopped(_) | Act::Read(..) | Act::Write(..) | Act::Outward(..) => false,
         }
     }
 }
