@@ -11,7 +11,7 @@ use Rattle.bus_fabric.specs.declared.Hold.{Hold}
 use Rattle.bus_fabric.specs.Masters.{masters, Access, asks_on}
 use Rattle.bus_fabric.specs.State.{Crossbar, has_hold, last_on, served}
 use Rattle.bus_fabric.specs.Grant.{apb, is_high, wins, is_free, winner_after, winner_on, hold_of, hold_after, last_from, is_done, done_of, after_grant}
-use Rattle.bus_fabric.specs.Alone.{nobody, only, done_alone}
+use Rattle.bus_fabric.specs.Alone.{nobody, only, at_most_core0, done_alone}
 use Rattle.bus_fabric.proofs.Arbitration.{arbitrated}
 use Rattle.bus_fabric.proofs.Fairness.{winner_by, done_is}
 
@@ -150,3 +150,58 @@ alone-done Core0 a s ne = ap (λ b. b ∷ false ∷ false ∷ false ∷ []) (don
 alone-done Core1 a s ne = ap (λ b. false ∷ b ∷ false ∷ false ∷ []) (done_there Core1 a s ne)
 alone-done DmaRead a s ne = ap (λ b. false ∷ false ∷ b ∷ false ∷ []) (done_there DmaRead a s ne)
 alone-done DmaWrite a s ne = ap (λ b. false ∷ false ∷ false ∷ b ∷ []) (done_there DmaWrite a s ne)
+
+-- ---- no master but core 0 may ask, and an access may last
+
+found_first : (test : Master → Bool) → test Core0 ≡ true → find test masters ≡ Some Core0
+found_first test h = rw h refl
+
+core0_wins : (last : Master) (a : Access) (s : Crossbar) → is_free s.hold a.0 ≡ true → winner_after last (only Core0 a) s a.0 ≡ Some Core0
+core0_wins last a s free =
+    ap (λ b. cond b (find (wins (is_high s.priority) last (asks_on (only Core0 a) a.0)) masters) None) free
+    ∙ found_first (wins (is_high s.priority) last (asks_on (only Core0 a) a.0)) (wins_there last Core0 a s)
+
+none_on : (last : Master) (a : Access) (s : Crossbar) (port : ℕ) → is_free s.hold a.0 ≡ false → winner_after last (only Core0 a) s port ≡ None
+none_on last a s port held =
+    elim (eqb_tells a.0 port) [
+      | inl same ↦ ap (λ k. winner_after last (only Core0 a) s k) (sym same.1) ∙ ap (λ b. cond b (find (wins (is_high s.priority) last (asks_on (only Core0 a) a.0)) masters) None) held
+      | inr other ↦ no_winner last (only Core0 a) s port (λ n. none_elsewhere Core0 a port n other.0)
+    ]
+
+last_from-core0 : (a : Access) (s : Crossbar) (first p : ℕ) (ms : List Master) → is_free s.hold a.0 ≡ true → a.0 ≡ first + p →
+    last_from (only Core0 a) s first ms ≡ slice_set ms p Core0
+last_from-core0 a s first zero [] free is = refl
+last_from-core0 a s first (suc p) [] free is = refl
+last_from-core0 a s first zero (x ∷ ms) free is =
+    let here : a.0 ≡ first = omega arith in
+    ap (λ port. unwrap_or (winner_after x (only Core0 a) s port) x ∷ last_from (only Core0 a) s (suc first) ms) (sym here)
+    ∙ ap (λ w. unwrap_or w x ∷ last_from (only Core0 a) s (suc first) ms) (core0_wins x a s free)
+    ∙ ap (λ l. Core0 ∷ l) (last_from-none (only Core0 a) s (suc first) ms
+    (λ last port low. none_at last Core0 a s port (let away : a.0 ≢ port = omega arith in away)))
+last_from-core0 a s first (suc p) (x ∷ ms) free is =
+    ap (λ w. unwrap_or w x ∷ last_from (only Core0 a) s (suc first) ms)
+    (none_at x Core0 a s first (let away : a.0 ≢ first = omega arith in away))
+    ∙ ap (λ l. x ∷ l) (last_from-core0 a s (suc first) p ms free (omega arith))
+
+-- nobody asks: the hold alone goes on
+pub after_none : (access : Option Access) (hold : Option Hold) (s : Crossbar) → access ≡ None → hold ≡ hold_after (at_most_core0 access) s s.hold →
+    record s { hold = hold } ≡ after_grant (at_most_core0 access) s
+after_none access hold s none is =
+    rw (is, none) (sym (ap (λ l. record s { hold = hold_after nobody s s.hold; last = l })
+    (last_from-none nobody s 0 s.last (λ last port low. no_winner last nobody s port (nobody_on port)))))
+
+-- core 0 has the port that it asks for
+pub after_won : (access : Option Access) (port : ℕ) (writes : Bool) (hold : Option Hold) (s : Crossbar) → access ≡ Some (port, writes) →
+    hold ≡ hold_after (at_most_core0 access) s s.hold → is_free s.hold port ≡ true →
+    record s { hold = hold; last = slice_set s.last port Core0 } ≡ after_grant (at_most_core0 access) s
+after_won access port writes hold s asks is free =
+    rw (is, asks) (sym (ap (λ l. record s { hold = hold_after (only Core0 (port, writes)) s s.hold; last = l })
+    (last_from-core0 (port, writes) s 0 port s.last free (omega arith))))
+
+-- the port is held
+pub after_held : (access : Option Access) (port : ℕ) (writes : Bool) (hold : Option Hold) (s : Crossbar) → access ≡ Some (port, writes) →
+    hold ≡ hold_after (at_most_core0 access) s s.hold → is_free s.hold port ≡ false →
+    record s { hold = hold } ≡ after_grant (at_most_core0 access) s
+after_held access port writes hold s asks is held =
+    rw (is, asks) (sym (ap (λ l. record s { hold = hold_after (only Core0 (port, writes)) s s.hold; last = l })
+    (last_from-none (only Core0 (port, writes)) s 0 s.last (λ last port' low. none_on last (port, writes) s port' held))))

@@ -15,6 +15,10 @@ only Core1 a = None ∷ Some a ∷ None ∷ None ∷ []
 only DmaRead a = None ∷ None ∷ Some a ∷ None ∷ []
 only DmaWrite a = None ∷ None ∷ None ∷ Some a ∷ []
 
+-- and where no master but core 0 may ask
+abbrev pub at_most_core0 : Option Access → List (Option Access)
+at_most_core0 access = access ∷ None ∷ None ∷ None ∷ []
+
 -- the access of that master alone is done
 abbrev pub done_alone : Master → List Bool
 done_alone m = map (λ n. number_of n == number_of m) masters

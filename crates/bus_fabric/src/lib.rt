@@ -6,6 +6,7 @@ ghost use Rattle.bus_fabric.specs.Masters.{number_of, distance, asks_on, access_
 ghost use Rattle.bus_fabric.specs.Winners.{remembered};
 ghost use Rattle.bus_fabric.specs.Grant.{beats, is_high, is_last, is_master, cycles_left, hold_of, kept_holder, shortened};
 
+mod core0;
 pub mod laws;
 pub mod registers;
 mod words;
