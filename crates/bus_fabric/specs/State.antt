@@ -1,6 +1,6 @@
 -- What the bus fabric keeps from cycle to cycle (RP2040 Datasheet, 2.1.1.1 "Bus Priority", 2.1.3 "APB Bridge" and 2.1.5 "List
 -- of Registers", BUS_PRIORITY).
-use Rattle.std.specs.Prelude.{ℕ, Bool, is_some, bit_and, List, replicate, slice_set, slice_index_or, Option, Some, None}
+use Rattle.std.specs.Prelude.{ℕ, Bool, is_some, bit_and, List, replicate, slice_index_or, Option, Some, None}
 use Rattle.rp_base.specs.declared.Master.{Master}
 use Rattle.rp_base.specs.declared.Master.TheVariants.{DmaWrite}
 use Rattle.bus_fabric.specs.declared.Hold.{Hold}
@@ -30,7 +30,3 @@ with_priority bits s = record s { priority = bit_and bits 0x1111 }
 -- the master that a port remembers
 abbrev pub last_on : ℕ → Crossbar → Master
 last_on port s = slice_index_or s.last port DmaWrite
-
--- a port remembers another master
-abbrev pub served : ℕ → Master → Crossbar → Crossbar
-served port m s = record s { last = slice_set s.last port m }

@@ -58,7 +58,7 @@ impl Model for Fabric {
 impl Fabric {
     ghost use Rattle.std.specs.Prelude.{◌≡◌, ◌<◌, map, length};
     ghost use Rattle.bus_fabric.specs.Masters.{masters, HavePorts};
-    ghost use Rattle.bus_fabric.specs.State.{at_reset, has_hold, holder_of, with_priority, served};
+    ghost use Rattle.bus_fabric.specs.State.{at_reset, has_hold, holder_of, with_priority};
     ghost use Rattle.bus_fabric.specs.Grant.{is_free, is_served, is_done, done_of, hold_after, last_from, after_grant};
     ghost use Rattle.bus_fabric.specs.Winners.{wins_free, winner_free, loses_to, has_won};
 
@@ -97,15 +97,6 @@ impl Fabric {
         self.hold = self.hold_after(asked);
         self.last = last;
         done
-    }
-
-    /// A port, 0 to 7, has served a master: it remembers that one, and nothing else changes.
-    #[inline(always)]
-    pub fn served(&mut self, port: u8, master: Master)
-        requires { port < 8 }
-        ensures { self.new ≡ served port master self.old }
-    {
-        self.last[port as usize] = master;
     }
 
     /// A port has a hold.

@@ -124,10 +124,9 @@ fn turns(rt: HostRuntime) {
     for (asked, done) in TURNS {
         assert!(rt; grants(&mut fabric, &asked, &done, false));
     }
-    fabric.served(0, Master::Core1);
-    fabric.served(3, Master::Core0);
+    assert!(rt; fabric.grant_core0(R0));
     let asked = [R0, R0, R3, W0];
-    assert!(rt; grants(&mut fabric, &asked, &[false, false, true, true], false));
+    assert!(rt; grants(&mut fabric, &asked, &[false, true, true, false], false));
 }
 
 #[test]

@@ -1,5 +1,5 @@
 -- A cycle in which core 0 alone is at work is the one that the definition says.
-use Rattle.std.proofs.Common.{◌≡◌, ◌≢◌, ◌+◌, ℕ, ◌&&◌, Bool, true, false, not, List, [], ◌∷◌, ◌++◌, length, Option, Some, None, refl, sym, ap, arith, ◌∙◌}
+use Rattle.std.proofs.Common.{◌≡◌, ◌+◌, ℕ, ◌&&◌, Bool, true, false, not, List, [], ◌∷◌, ◌++◌, length, Option, Some, None, refl, sym, ap, arith, ◌∙◌}
 use Rattle.std.specs.Prelude.{slice_index_or}
 use Rattle.rp_base.specs.declared.Master.TheVariants as master
 use Rattle.rp_base.specs.declared.Why.{Why}
@@ -18,9 +18,9 @@ use Rattle.dma_engine.specs.Cycle as dma
 use Rattle.pio_block.specs.State.{Block as Pio}
 use Rattle.pio_block.specs.declared.inputs.Inputs.{Inputs}
 use Rattle.pio_block.specs.Cycle as pio
-use Rattle.bus_fabric.specs.State.{Crossbar, has_hold, served}
+use Rattle.bus_fabric.specs.State.{has_hold}
 use Rattle.bus_fabric.specs.Grant.{after_grant}
-use Rattle.bus_fabric.proofs.Alone.{nobody-after, alone-after}
+use Rattle.bus_fabric.proofs.Alone.{nobody-after}
 use Rattle.outer_lane.specs.Setting.{Setting}
 use Rattle.outer_lane.specs.declared.world.SeenOutputs.{SeenOutputs}
 use Rattle.outer_lane.specs.Step.{marked}
@@ -31,7 +31,7 @@ use Rattle.rp_machine.specs.Cycle.{begun, wanted, wanted_by, first_cause, cause_
 use Rattle.rp_machine.specs.BusRest.{is_nothing, core1_at_rest}
 use Rattle.rp_machine.proofs.BusRest.{both, nothing, is_false}
 use Rattle.rp_machine.specs.declared.wanted.Wanted.{Wanted}
-use Rattle.rp_machine.specs.Alone.{IsAlone, asked_alone, beside, stepped_alone, alone_at_rest, alone_next, first_next, is_first_alone}
+use Rattle.rp_machine.specs.Alone.{IsAlone, beside, stepped_alone, alone_at_rest, alone_next, first_next, is_first_alone}
 
 -- ---- what the parts at rest begin
 
@@ -147,16 +147,6 @@ pub marks_are : (w : Setting) (s : State) {seen : SeenOutputs} {before after : L
 unfolding mark
 marks_are w s {seen} {before} {after} clear outer e =
     e ∙ ap (λ ms. ms ++ marked w s.outer seen ∷ []) clear ∙ ap (λ o. marked w s.outer o ∷ []) outer
-
--- ---- the fabric
-
-pub none_granted : (access : Option (ℕ × Bool)) (s : Crossbar) {holds : Bool} → access ≡ None → has_hold s ≡ holds → holds ≡ false
-    → s ≡ after_grant (asked_alone access) s
-none_granted access s is e h = rw is (sym (nobody-after s (e ∙ h)))
-
-pub one_granted : (access : Option (ℕ × Bool)) (port : ℕ) (writes : Bool) (s : Crossbar) {holds : Bool} → access ≡ Some (port, writes)
-    → port ≢ 6 → has_hold s ≡ holds → holds ≡ false → served port master.Core0 s ≡ after_grant (asked_alone access) s
-one_granted access port writes s is apart e h = rw is (sym (alone-after master.Core0 (port, writes) s (e ∙ h) apart))
 
 -- ---- a cycle in which core 0 wants nothing, and no access lasts
 

@@ -1,6 +1,6 @@
 -- A cycle in which core 0 alone is at work: core 1 sleeps, and the DMA engine and both PIO blocks are at rest. Nothing is asked of
 -- the parts at rest, and they stay as they are.
-use Rattle.std.specs.Prelude.{◌≡◌, ℕ, ◌+◌, Bool, true, List, [], ◌∷◌, Option, None}
+use Rattle.std.specs.Prelude.{◌≡◌, ℕ, ◌+◌, Bool, true, List, [], ◌∷◌}
 use Rattle.std.specs.List.{list_all}
 use Rattle.rp_base.specs.declared.Master.TheVariants as master
 use Rattle.lane_look.specs.declared.lane.Want.{Want}
@@ -11,6 +11,7 @@ use Rattle.m0_core.specs.declared.doing.Doing.{Doing}
 use Rattle.m0_core.specs.Cycle as core
 use Rattle.dma_engine.specs.Rest.{StaysAtRest}
 use Rattle.pio_block.specs.Cycle.{Rests}
+use Rattle.bus_fabric.specs.Alone.{at_most_core0}
 use Rattle.bus_fabric.specs.Grant.{is_done, after_grant}
 use Rattle.outer_lane.specs.Setting.{Setting}
 use Rattle.outer_lane.specs.declared.world.SeenOutputs.{SeenOutputs}
@@ -35,12 +36,9 @@ beside x =
     wanted_by master.Core0 x ∷ wanted_by master.Core1 want.Nothing ∷ wanted_by master.DmaRead want.Nothing
     ∷ wanted_by master.DmaWrite want.Nothing ∷ []
 
--- what that asks of the fabric, and whether it is granted
-abbrev pub asked_alone : Option (ℕ × Bool) → List (Option (ℕ × Bool))
-asked_alone access = access ∷ None ∷ None ∷ None ∷ []
-
+-- whether what that asks of the fabric is granted
 abbrev pub granted_alone : Want → State → Bool
-granted_alone x s = is_done (asked_alone (asked_of x)) s.fabric master.Core0
+granted_alone x s = is_done (at_most_core0 (asked_of x)) s.fabric master.Core0
 
 -- what core 0 is told, and what its want comes to
 abbrev pub turn_alone : Setting → SeenOutputs → Want → State → Turn
@@ -57,7 +55,7 @@ stepped_alone w b seen told s = record s {
 }
 
 abbrev pub with_grant : Want → State → State
-with_grant x s = record s { fabric = after_grant (asked_alone (asked_of x)) s.fabric }
+with_grant x s = record s { fabric = after_grant (at_most_core0 (asked_of x)) s.fabric }
 
 abbrev pub with_store : Deed → State → State
 with_store d s = record s { sram = stored d s.sram }

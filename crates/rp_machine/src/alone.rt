@@ -1,44 +1,15 @@
 //! A cycle in which core 0 alone is at work: each part at rest costs a test.
 
-ghost use Rattle.std.specs.Prelude.{◌≡◌};
-ghost use Rattle.bus_fabric.specs.Masters.{HasPort};
-ghost use Rattle.bus_fabric.specs.Grant.{is_done, after_grant};
-ghost use Rattle.rp_machine.specs.Alone.{asked_alone};
-
 use crate::access::{asked_by, spot_of};
 use crate::begun::{begin_core, begin_lane};
 use crate::machine::Machine;
 use crate::steps::Steps;
 use crate::wanted::{Wanted, want_of};
-use bus_fabric::Fabric;
 use lane_look::{Device, Lane, Marks, Turn};
 use m0_core::Doing;
 use outer_lane::{SeenOutputs, World};
 use rp_base::{Master, Why};
 use std::sync::ledger::Ledger;
-
-/// The port of APB, on which an access lasts.
-const APB: u8 = 6;
-
-/// Whether the access of core 0 is done, where no other master asks for one.
-#[inline(always)]
-pub(crate) fn grant_alone(fabric: &mut Fabric, asked: Option<(u8, bool)>) -> bool
-    requires { HasPort asked }
-    ensures done { result ≡ is_done (asked_alone asked) fabric.old Master.Core0 }
-    ensures after { fabric.new ≡ after_grant (asked_alone asked) fabric.old }
-{
-    match asked {
-        None if !fabric.holds() => false,
-        Some((port, _)) if port != APB && !fabric.holds() => {
-            fabric.served(port, Master::Core0);
-            true
-        }
-        _ => {
-            let [done, _, _, _] = fabric.grant(&[asked, None, None, None]);
-            done
-        }
-    }
-}
 
 impl Machine {
     ghost use Rattle.std.specs.Prelude.{◌≡◌, ◌+◌, ◌-◌, ◌^◌, ◌<◌, ◌≤◌, ◌∷◌, ◌++◌, if◌then◌else◌, is_some, [], length, true, false, Decides};
@@ -139,7 +110,7 @@ impl Machine {
         let at = self.at;
         let spot = spot_of(&wanted.want);
         let mut fabric = self.fabric;
-        let granted = grant_alone(&mut fabric, asked_by(&wanted.want, &spot));
+        let granted = fabric.grant_core0(asked_by(&wanted.want, &spot));
         let (turn, deed) = self.served(world, outer, granted, wanted, &spot);
         self.fabric = fabric;
         self.core0.finish(&(), core0, [turn, Turn::Nothing], marks);

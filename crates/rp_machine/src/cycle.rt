@@ -6,7 +6,6 @@ ghost use Rattle.sio_block.specs.Launcher.{offers_of};
 ghost use Rattle.rp_machine.specs.Cycle.{asked, pins_of, with_pins, with_offer};
 
 use crate::access::{asked_by, asked_of, spot_of};
-use crate::alone::grant_alone;
 use crate::begun::Begun;
 use crate::deed::Deed;
 use crate::machine::Machine;
@@ -353,7 +352,7 @@ impl Machine {
         let at = self.at;
         let spot = spot_of(&wanted.want);
         let mut fabric = self.fabric;
-        let granted = grant_alone(&mut fabric, asked_by(&wanted.want, &spot));
+        let granted = fabric.grant_core0(asked_by(&wanted.want, &spot));
         let (turn, deed) = self.served(world, &begun.outer, granted, wanted, &spot);
         self.fabric = fabric;
         self.step_lanes(

@@ -1,6 +1,8 @@
 //! The cycles of a window on one thread: each is the machine's own, and is kept where it goes as the lanes would go alone.
 
 ghost use Rattle.std.specs.Prelude.{◌≡◌, ◌+◌, ◌-◌, ◌^◌, ◌<◌, ◌++◌, ◌∷◌, [], if◌then◌else◌, false, is_some, IfSome, length};
+ghost use Rattle.lane_look.specs.Alone.{ends_want};
+ghost use Rattle.m0_core.specs.Cycle.{want_of};
 ghost use Rattle.outer_lane.specs.Setting.{setting_of};
 ghost use Rattle.outer_lane.specs.Step.{marked};
 ghost use Rattle.rp_machine.specs.Cycle.{begun, wanted, next_by};
