@@ -36,6 +36,7 @@ pub struct DmaControl {
 
 impl Divisor {
     /// How long a bit lasts, in quarters of a cycle.
+    #[inline(always)]
     pub(crate) fn bit_time(&self) -> u32
         ensures value { result ≡ bit_time self.now }
         ensures bound { result < 2 ^ 23 }
