@@ -1,6 +1,6 @@
 -- The words of IO_BANK0, and from 1000 on those of PADS_BANK0, by their offsets: what they read as and what a write does
 -- (RP2040 Datasheet, 2.19.6.1, IO - User Bank, and 2.19.6.3, Pad Control - User Bank).
-use Rattle.std.specs.Prelude.{ℕ, ◌+◌, ◌-◌, ◌*◌, ◌/◌, ◌%◌, ◌^◌, Bool, not, ◌&&◌, ◌||◌, ◌==◌, nat_lt, nat_le, if◌then◌else◌, Option, Some, None, bit_and, slice_set}
+use Rattle.std.specs.Prelude.{ℕ, ◌+◌, ◌-◌, ◌*◌, ◌/◌, ◌%◌, ◌^◌, Bool, ◌&&◌, ◌||◌, ◌==◌, nat_lt, nat_le, if◌then◌else◌, Option, Some, None, bit_and, slice_set}
 use Rattle.rp_base.specs.Word.{bit_number}
 use Rattle.rp_base.specs.Held.{unless_held, after_access}
 use Rattle.io_bank.specs.declared.outputs.Outs.{Outs}

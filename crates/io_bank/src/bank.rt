@@ -308,7 +308,8 @@ impl IoBank {
         next0: [u32; 2],
         next1: [u32; 2],
     ) -> bool
-        ensures value { Decides result ((AreSameIn shown0 pio0 next0) × (AreSameIn shown1 pio1 next1)) }
+        ensures value { Decides result ((AreSameIn shown0 pio0 next0)
+            × (AreSameIn shown1 pio1 next1)) }
         ensures levels { result ≡ true → (outs : Outs) → (driven high : ℕ) →
             shown0 ≡ shown_of 6 (record outs { pio0 = pio0; pio1 = pio1 }) self.now →
             shown1 ≡ shown_of 7 (record outs { pio0 = pio0; pio1 = pio1 }) self.now →

@@ -1,5 +1,5 @@
 -- A cycle in which all is at rest, and any other one, by what drives the pads from outside.
-use Rattle.std.proofs.Common.{Bool, true, ◌≡◌, ◌<◌, ℕ, ◌-◌, ◌^◌, List, [], ◌∷◌, length, Option, refl, sym, ap, ◌∙◌, arith}
+use Rattle.std.proofs.Common.{◌≡◌, ◌<◌, ℕ, ◌-◌, ◌^◌, List, [], ◌∷◌, length, Option, refl, sym, ap, ◌∙◌, arith}
 use Rattle.io_bank.specs.declared.outputs.Outs.{Outs}
 use Rattle.io_bank.specs.State.{Bank}
 use Rattle.io_bank.specs.Edges.{edges_of}
@@ -11,9 +11,6 @@ use Rattle.lane_look.specs.declared.marks.Mark.{Mark}
 use Rattle.pin_script.specs.declared.entry.Entry.{Entry}
 use Rattle.pin_script.specs.declared.script.Drives.{Drives}
 use Rattle.pin_script.specs.Levels.{drive_at}
-use Rattle.rp_base.specs.declared.resettable.Resettable.{Resettable}
-use Rattle.rp_timer.specs.State.{TimerState}
-use Rattle.rp_uart.specs.State.{SerialPort}
 use Rattle.rp_uart.specs.Step.{output_of}
 use Rattle.outer_lane.specs.declared.drivers.Drivers.{Drivers}
 use Rattle.outer_lane.specs.declared.world.SeenOutputs.{SeenOutputs}
@@ -88,24 +85,6 @@ calm_stay wires seen drives s d shown0 shown1 calm same pwm driven high =
     ∙ ap (λ (n : ℕ). after_step seen_outs (by_sets d.driven n) s.pads) high
     ∙ ap (λ (n : ℕ). with_levels n (with_edges (edges_of s.pads) s.pads)) (sym (same (outs_by s.sio d) d.driven d.high calm.0.1.0 calm.0.1.1))
     ∙ calm.0.0
-
-abbrev parts_by : OuterState → Resettable TimerState → Resettable SerialPort → Resettable SerialPort → Bank → ℕ → OuterState
-parts_by s timer uart0 uart1 pads irq = record s { timer = timer; uart0 = uart0; uart1 = uart1; pads = pads; irq = irq }
-
-pub calm_next : (wires : Wires) (seen : SeenOutputs) (drives : Drives) (s a : OuterState) →
-    a ≡ record s { uart0 = uart_after true s.uart0; uart1 = uart_after true s.uart1 } →
-    s ≡ record s { timer = timer_after seen.cycle s.timer } → pads_driven wires seen drives s ≡ s.pads →
-    receive_level 0 s.pads ≡ true → receive_level 1 s.pads ≡ true →
-    record a { irq = wires.irq } ≡ next_driven wires seen drives s
-calm_next wires seen drives s a e timer pads line0 line1 =
-    let ended = timer_after seen.cycle s.timer in
-    let first = uart_after (receive_level 0 s.pads) s.uart0 in
-    let second = uart_after (receive_level 1 s.pads) s.uart1 in
-    ap (λ (x : OuterState). record x { irq = wires.irq }) e
-    ∙ ap (λ (x : OuterState). parts_by s x.timer (uart_after true s.uart0) (uart_after true s.uart1) s.pads wires.irq) timer
-    ∙ ap (λ (b : Bool). parts_by s ended (uart_after b s.uart0) (uart_after true s.uart1) s.pads wires.irq) (sym line0)
-    ∙ ap (λ (b : Bool). parts_by s ended first (uart_after b s.uart1) s.pads wires.irq) (sym line1)
-    ∙ ap (λ (p : Bank). parts_by s ended first second p wires.irq) (sym pads)
 
 -- ---- any cycle, part by part
 

@@ -1,6 +1,5 @@
 -- A cycle in which a frame goes on and nothing is received.
 use Rattle.std.proofs.Common.{◌≡◌, ◌∙◌, ℕ, Bool, true, false, cond, Option, None, refl, sym, ap}
-use Rattle.rp_uart.specs.declared.receiver.Receiver.{Receiver}
 use Rattle.rp_uart.specs.declared.receiver.Receiver.TheVariants as receivers
 use Rattle.rp_uart.specs.Receiver.{after_receiving}
 use Rattle.rp_uart.specs.Sender.{after_sending, ended_byte}

@@ -36,6 +36,7 @@ pub struct DmaControl {
 
 impl Divisor {
     /// How long a bit lasts, in quarters of a cycle.
+    #[inline(always)]
     pub(crate) fn bit_time(&self) -> u32
         ensures value { result ≡ bit_time self.now }
         ensures bound { result < 2 ^ 23 }
@@ -59,7 +60,7 @@ impl Divisor {
         }
     }
 
-    /// A bit that lasts for so many cycles more has passed by then for a time that can be counted.
+    /// Where a bit lasts for so many cycles more, what has passed of it by then fits 32 bits. It costs nothing.
     #[inline(always)]
     pub(crate) fn fits(&self, elapsed: u32, left: u32)
         requires { elapsed + 4 * left < bit_time self.now }
