@@ -1,5 +1,5 @@
 -- An engine at rest asks nothing and stays as it is.
-use Rattle.std.proofs.Common.{◌≡◌, ℕ, zero, suc, ◌+◌, ◌%◌, Bool, true, false, not, ◌&&◌, ◌||◌, cond, List, [], ◌∷◌, length, drop, nat_eq, nat_lt, refl, ap, ◌∙◌, arith, get_or, Option, Some, None}
+use Rattle.std.proofs.Common.{◌≡◌, ℕ, zero, suc, ◌+◌, ◌%◌, Bool, true, false, not, ◌&&◌, ◌||◌, cond, List, [], ◌∷◌, length, drop, nat_eq, nat_lt, refl, ap, ◌∙◌, arith, get_or, Option, Some, None, ◌⊎◌, inl, inr}
 use Rattle.std.specs.Prelude.{is_none, bit_and, bit_or}
 use Rattle.std.specs.Int.Bits.{and_zero_l}
 use Rattle.std.specs.List.{list_all, list_any}
@@ -201,6 +201,13 @@ silent_lines s h =
 pub told : (flag still : Bool) → (not flag || still) ≡ true → flag ≡ true → still ≡ true
 told true still h e = h
 told false still h e = absurd (cc)
+
+-- and one of two
+pub either_told : (a b still pauses : Bool) → (not a || still) ≡ true → (not b || pauses) ≡ true → (a || b) ≡ true →
+    (still ≡ true) ⊎ (pauses ≡ true)
+either_told true b still pauses h i e = inl h
+either_told false true still pauses h i e = inr i
+either_told false false still pauses h i e = absurd (cc)
 
 rests_of : (s : Engine) → is_still s ≡ true → is_at_rest s ≡ true
 rests_of s h = both_left (is_at_rest s) _ h

@@ -74,6 +74,7 @@ impl Channel {
 
 impl Engine {
     /// Some channel may be paced by a FIFO.
+    #[inline(always)]
     pub(crate) fn waits_for_counts(&self) -> bool
         ensures { result ≡ list_any waits_for_counts self.now.channels }
     {

@@ -111,19 +111,19 @@ impl Dma {
     pub(crate) fn asks_nothing(&self) -> bool
         ensures { result ≡ true → asks self.now ≡ Ready idle_begun }
     {
-        self.at_rest || self.paused
+        self.at_rest | self.paused
     }
 
     /// The cycle, where this was begun and these turns were given. Whether the engine rests or is paused is found again where
     /// something moved; where only timers stepped it does neither, as before.
     #[inline(never)]
     #[tactic(auto, using(crate::proofs::AtRest::at_rest))]
-    pub(crate) fn move_on(&mut self, begun: &BegunTransfer, turns: [Turn; 2])
-        ensures { self.new ≡ next self.old begun.now turns }
+    pub(crate) fn move_on(&mut self, begun: &BegunTransfer, turns: &[Turn; 2])
+        ensures { self.new ≡ next self.old begun.now turns.now }
     {
         self.at_rest = false;
         self.paused = false;
-        if self.engine.finish(begun, &turns) {
+        if self.engine.finish(begun, turns) {
             self.at_rest = self.engine.is_still();
             self.paused = self.engine.is_paused();
         }

@@ -358,7 +358,7 @@ impl Engine {
     }
 
     /// The cycle, where this was begun and these turns were given; false where only timers stepped.
-    #[inline(never)]
+    #[inline(always)]
     #[tactic(auto, unfolding(crate::specs::Cycle::next))]
     pub(crate) fn finish(&mut self, begun: &BegunTransfer, turns: &[Turn; 2]) -> bool
         ensures { self.new ≡ next self.old begun.now turns.now }
@@ -388,7 +388,7 @@ impl Engine {
     }
 
     /// Nothing can happen by itself, and both interrupt lines are low.
-    #[inline(never)]
+    #[inline(always)]
     pub(crate) fn is_still(&self) -> bool
         ensures { result ≡ is_still self.now }
     {

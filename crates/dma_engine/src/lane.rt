@@ -46,7 +46,7 @@ impl Lane<()> for Dma {
         if self.at_rest || (self.paused && self.engine.pass(begun, &turns)) {
             return;
         }
-        self.move_on(begun, turns);
+        self.move_on(begun, &turns);
     }
 
     fn copy_from(&mut self, other: &Dma) {

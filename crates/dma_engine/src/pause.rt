@@ -30,13 +30,22 @@ fn pass_all(timers: &mut [PacingTimer; 4]) -> bool
     ensures none { result ≡ true → list_any gives timers.old ≡ false }
     ensures before { result ≡ false → timers.new ≡ timers.old }
 {
-    if timers[0].gives() || timers[1].gives() || timers[2].gives() || timers[3].gives() {
+    let Some(first) = timers[0].passed() else {
         return false;
-    }
-    timers[0].pass();
-    timers[1].pass();
-    timers[2].pass();
-    timers[3].pass();
+    };
+    let Some(second) = timers[1].passed() else {
+        return false;
+    };
+    let Some(third) = timers[2].passed() else {
+        return false;
+    };
+    let Some(fourth) = timers[3].passed() else {
+        return false;
+    };
+    timers[0].pass(first);
+    timers[1].pass(second);
+    timers[2].pass(third);
+    timers[3].pass(fourth);
     true
 }
 
