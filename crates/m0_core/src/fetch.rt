@@ -11,7 +11,7 @@ ghost use Rattle.m0_core.specs.Fetch.{is_ram, is_locked, asks_fault, is_callable
 
 use crate::doing::{Act, Doing, Work};
 use crate::exceptions::RETURN_BEATS;
-use crate::kinds::{is_breakpoint, is_call, is_plain, is_undefined};
+use crate::kinds::{is_branch, is_breakpoint, is_call, is_plain, is_undefined};
 use crate::processor::Core;
 use crate::returns::{is_misfit, value_at};
 use lane_look::{Ask, Look};
@@ -306,12 +306,13 @@ impl Core {
         }
     }
 
-    /// The next beat of what is in progress.
+    /// The next beat of what is in progress. All beats of a branch by an offset are inside the core.
     #[inline(always)]
     fn begin_work<K: Look>(&self, work: Work, look: &mut K, act: &mut Act)
         ensures { Runs K.answers look.old (asks_work work self.now) act.new look.new }
     {
         match work {
+            Work::Instruction(op) if is_branch(&op) => *act = Act::Inner(work),
             Work::Instruction(_) | Work::Entry(_) => self.begin_beat(work, look, act),
             Work::Return(value) => self.begin_return(value, look, act),
         }

@@ -99,7 +99,8 @@ fn returning(value: Option<u32>) -> Option<Work>
 
 impl Core {
     /// The beat is not over.
-    fn wait(&mut self, work: &Work)
+    #[inline(always)]
+    pub(crate) fn wait(&mut self, work: &Work)
         ensures { self.new ≡ waiting work.now self.old }
     {
         self.work = Some(*work);

@@ -101,7 +101,7 @@ pub(crate) fn is_single(op: &Op) -> bool
 
 /// A branch by an offset.
 #[inline(always)]
-fn is_branch(op: &Op) -> bool
+pub(crate) fn is_branch(op: &Op) -> bool
     ensures { result ≡ is_branch op.now }
 {
     matches!(op, Op::BCond { .. } | Op::B { .. } | Op::Bl { .. })

@@ -45,6 +45,11 @@ impl Lane<()> for Core {
                 return;
             }
         }
+        if let (Act::Outward(work, _), Turn::Wait) = (&begun.act, &turns[0]) {
+            self.wait(work);
+            self.close(begun.lines, begun.cycle);
+            return;
+        }
         self.finish_any(begun, &turns);
     }
 
