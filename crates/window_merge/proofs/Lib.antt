@@ -16,6 +16,7 @@ pub mod Passing
 pub mod Patching
 pub mod Ports
 pub mod Positions
+pub mod Quiet
 pub mod Reading
 pub mod Replaying
 pub mod Reported
