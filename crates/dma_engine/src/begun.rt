@@ -1,5 +1,8 @@
 //! What the engine has begun in a cycle.
 
+ghost use Rattle.std.specs.Prelude.{◌≡◌};
+ghost use Rattle.dma_engine.specs.Asks.{idle_begun};
+
 use rp_base::{Request, Why};
 
 /// What the engine does by one of its two ports in a cycle.
@@ -26,4 +29,18 @@ pub struct BegunTransfer {
     pub write: Access,
     /// The counts by which channels are paced, six bits each; 0 where no channel waits for them.
     pub counts: u128,
+}
+
+impl BegunTransfer {
+    /// What an engine at rest begins: room for what is begun.
+    #[inline(always)]
+    pub fn nothing() -> BegunTransfer
+        ensures { result ≡ idle_begun }
+    {
+        BegunTransfer {
+            read: Access::Nothing,
+            write: Access::Nothing,
+            counts: 0,
+        }
+    }
 }

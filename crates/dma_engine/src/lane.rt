@@ -7,6 +7,25 @@ use crate::dma::Dma;
 use crate::finish::want;
 use lane_look::{Lane, Look, Marks, Turn, Want};
 
+impl Dma {
+    ghost use Rattle.lane_look.specs.Asking.{Runs};
+    ghost use Rattle.dma_engine.specs.Asks.{asks};
+
+    /// Asks, and begins a cycle in the place of what was begun before.
+    #[inline(always)]
+    pub fn begin_into<K: Look>(&self, look: &mut K, begun: &mut BegunTransfer)
+        ensures { Runs K.answers look.old (asks self.now) begun.new look.new }
+    {
+        if self.asks_nothing() {
+            begun.read = Access::Nothing;
+            begun.write = Access::Nothing;
+            begun.counts = 0;
+        } else {
+            *begun = self.engine.ask(look);
+        }
+    }
+}
+
 impl Lane<()> for Dma {
     ghost use Rattle.std.proofs.Common.{rules};
     ghost use Rattle.dma_engine.specs.Asks.{asks};
@@ -27,14 +46,9 @@ impl Lane<()> for Dma {
 
     #[inline(always)]
     fn begin<K: Look>(&self, _env: &(), _cycle: u64, look: &mut K) -> BegunTransfer {
-        if self.asks_nothing() {
-            return BegunTransfer {
-                read: Access::Nothing,
-                write: Access::Nothing,
-                counts: 0,
-            };
-        }
-        self.engine.ask(look)
+        let mut begun = BegunTransfer::nothing();
+        self.begin_into(look, &mut begun);
+        begun
     }
 
     fn wants(begun: &BegunTransfer) -> [Want; 2] {

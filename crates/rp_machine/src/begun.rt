@@ -2,12 +2,13 @@
 
 ghost use Rattle.std.specs.Prelude.{◌≡◌};
 ghost use Rattle.lane_look.specs.Asking.{answered};
+ghost use Rattle.dma_engine.specs.Asks as dma;
 ghost use Rattle.m0_core.specs.Fetch.{asks};
 ghost use Rattle.rp_machine.specs.Answers.{answer_of};
 
 use crate::look::MachineLook;
 use crate::machine::Machine;
-use dma_engine::{Access, BegunTransfer};
+use dma_engine::BegunTransfer;
 use lane_look::{Device, Lane};
 use m0_core::{Core, Doing};
 use outer_lane::{SeenOutputs, World};
@@ -61,6 +62,15 @@ pub(crate) fn begin_core(machine: &Machine, number: u8, core: &Core, begun: &mut
     core.begin_into(machine.at, &mut look, begun);
 }
 
+/// What the DMA engine begins, in the place of what it began before.
+#[inline(always)]
+fn begin_dma(machine: &Machine, begun: &mut BegunTransfer)
+    ensures { begun.new ≡ answered (answer_of 2 machine.now) (dma.asks machine.now.dma) }
+{
+    let mut look = MachineLook { lane: 2, machine };
+    machine.dma.begin_into(&mut look, begun);
+}
+
 impl Begun {
     ghost use Rattle.std.specs.Prelude.{◌≡◌, ◌∷◌, [], None};
     ghost use Rattle.dma_engine.specs.declared.begun.Access.TheVariants.{Nothing};
@@ -81,11 +91,7 @@ impl Begun {
         Begun {
             core0: Doing::nothing(),
             core1: Doing::nothing(),
-            dma: BegunTransfer {
-                read: Access::Nothing,
-                write: Access::Nothing,
-                counts: 0,
-            },
+            dma: BegunTransfer::nothing(),
             pio0: None,
             pio1: None,
             outer: SeenOutputs {
@@ -107,7 +113,7 @@ impl Machine {
     pub fn begin_into<X: Device>(&self, world: &World<'_, X>, lanes: &mut Begun)
         ensures { lanes.new ≡ begun self.now }
     {
-        lanes.dma = begin_lane(self, 2, &self.dma, &());
+        begin_dma(self, &mut lanes.dma);
         lanes.pio0 = begin_lane(self, 3, &self.pio0, &());
         lanes.pio1 = begin_lane(self, 4, &self.pio1, &());
         lanes.outer = begin_lane(self, 5, &self.outer, world);

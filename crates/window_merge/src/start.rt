@@ -4,6 +4,7 @@ ghost use Rattle.std.specs.Prelude.{◌≡◌, ◌&&◌, not};
 ghost use Rattle.lane_look.specs.Asking.{answered};
 ghost use Rattle.lane_look.specs.Replay.{asked};
 ghost use Rattle.lane_look.specs.Alone.{differs};
+ghost use Rattle.dma_engine.specs.Asks as dma;
 ghost use Rattle.m0_core.specs.Fetch.{asks};
 ghost use Rattle.rp_machine.specs.Answers.{answer_of};
 ghost use Rattle.window_merge.specs.Notes.{seen_of};
@@ -12,6 +13,7 @@ ghost use Rattle.window_merge.specs.Start.{guess, differs_core0, differs_outer, 
 
 use crate::copies::half_of;
 use crate::notes::Notes;
+use dma_engine::BegunTransfer;
 use lane_look::{Ask, Device, Lane, Look};
 use m0_core::{Core, Doing};
 use outer_lane::{SeenOutputs, World};
@@ -201,6 +203,32 @@ fn begin_core(
     *same = look.same;
 }
 
+/// Begins the cycle of the DMA engine so, in the place of what it began before.
+#[inline(always)]
+fn begin_dma(
+    machine: &Machine,
+    start: &Start,
+    notes: &Notes,
+    begun: &mut BegunTransfer,
+    same: &mut bool,
+)
+    ensures begun { begun.new ≡ answered (answer_of 2 machine.now) (dma.asks machine.now.dma) }
+    ensures same { same.new ≡ (same.old && not (differs
+        (answer_of 2 machine.now)
+        (asked (guess 2 start.now (seen_of 2 notes.now machine.now.sram))
+        (dma.asks machine.now.dma)))) }
+{
+    let mut look = Matcher {
+        machine,
+        lane: 2,
+        start,
+        notes,
+        same: *same,
+    };
+    machine.dma.begin_into(&mut look, begun);
+    *same = look.same;
+}
+
 /// Begins the cycle of core 0 so.
 #[inline(always)]
 #[tactic(auto, unfolding(rp_machine::specs::Cycle::begun))]
@@ -259,7 +287,7 @@ pub(crate) fn begin_later<X: Device>(
         &mut lanes.core1,
         same,
     );
-    lanes.dma = begin_by(&machine.dma, &(), 2, machine, start, notes, same);
+    begin_dma(machine, start, notes, &mut lanes.dma, same);
     lanes.pio0 = begin_by(&machine.pio0, &(), 3, machine, start, notes, same);
     lanes.pio1 = begin_by(&machine.pio1, &(), 4, machine, start, notes, same);
     begin_outer(machine, world, start, notes, &mut lanes.outer, same);
