@@ -84,10 +84,10 @@ impl Machine {
             + sio_lines(&self.sio, core)
     }
 
-    /// The interrupt lines of a core.
+    /// The interrupt lines of core 0 or 1, line 0 in bit 0 (RP2040 Datasheet, 2.3.2, Interrupts).
     #[inline(always)]
     #[tactic(auto, unfolding(crate::specs::Answers::lines_of))]
-    pub(crate) fn lines(&self, core: u8) -> u32
+    pub fn lines(&self, core: u8) -> u32
         ensures { result ≡ lines_of core self.now }
     {
         self.outer.lines(core) | self.block_lines(core)

@@ -8,6 +8,7 @@ pub mod Going
 pub mod InSram
 pub mod Keeping
 pub mod Lanes
+pub mod Lines
 pub mod Logs
 pub mod Meeting
 pub mod Noting

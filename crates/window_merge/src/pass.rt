@@ -122,7 +122,7 @@ pub(crate) fn try_first<X: Device>(
     if !goes_by(lanes) {
         return None;
     }
-    let start = Start::of(machine);
+    let start = Start::of(machine, lanes);
     notes.clear();
     note(notes, machine, lanes);
     machine.step(world, lanes, marks);

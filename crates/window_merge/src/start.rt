@@ -6,7 +6,7 @@ ghost use Rattle.lane_look.specs.Replay.{asked};
 ghost use Rattle.lane_look.specs.Alone.{differs};
 ghost use Rattle.dma_engine.specs.Asks as dma;
 ghost use Rattle.m0_core.specs.Fetch.{asks};
-ghost use Rattle.rp_machine.specs.Answers.{answer_of};
+ghost use Rattle.rp_machine.specs.Answers.{answer_of, lines_of};
 ghost use Rattle.window_merge.specs.Notes.{seen_of};
 ghost use Rattle.rp_machine.specs.Cycle.{begun};
 ghost use Rattle.window_merge.specs.Start.{guess, differs_core0, differs_outer, differs_from};
@@ -15,7 +15,7 @@ use crate::copies::half_of;
 use crate::notes::Notes;
 use dma_engine::BegunTransfer;
 use lane_look::{Ask, Device, Lane, Look};
-use m0_core::{Core, Doing};
+use m0_core::{Act, Core, Doing};
 use outer_lane::{SeenOutputs, World};
 use rp_base::map::{Spot, place};
 use rp_machine::Machine;
@@ -38,17 +38,33 @@ pub(crate) struct Start {
     pio1: u128,
 }
 
+/// The interrupt lines of a core of that number, which begins this: it was told them, but where it is asleep.
+#[inline(always)]
+fn lines_told(machine: &Machine, number: u8, core: &Core, doing: &Doing) -> u128
+    requires { doing.now ≡ answered (answer_of number machine.now)
+        (asks core.now machine.now.cycle) }
+    ensures { result ≡ lines_of number machine.now }
+{
+    let lines = machine.lines(number);
+    match doing.act {
+        Act::Asleep => u128::from(lines),
+        _ => u128::from(doing.lines),
+    }
+}
+
 impl Start {
     ghost use Rattle.std.specs.Prelude.{◌≡◌};
     ghost use Rattle.window_merge.specs.Start.{start_of};
 
-    /// What a machine answers now.
-    pub(crate) fn of(machine: &Machine) -> Start
+    /// What a machine answers now, whose lanes begin this.
+    #[inline(always)]
+    pub(crate) fn of(machine: &Machine, lanes: &Begun) -> Start
+        requires { lanes.now ≡ begun machine.now }
         ensures { result ≡ start_of machine.now }
     {
         Start {
-            lines0: machine.answer(0, Ask::Lines),
-            lines1: machine.answer(1, Ask::Lines),
+            lines0: lines_told(machine, 0, &machine.core0, &lanes.core0),
+            lines1: lines_told(machine, 1, &machine.core1, &lanes.core1),
             pacing: machine.answer(2, Ask::Pacing),
             inputs: machine.answer(3, Ask::Inputs),
             pio0: machine.answer(5, Ask::Outs(0)),
