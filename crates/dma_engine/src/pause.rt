@@ -68,7 +68,7 @@ impl Channel {
 
 impl Engine {
     /// No channel is chosen, no write waits, and every channel is idle or lacks a credit.
-    #[inline(never)]
+    #[inline(always)]
     #[tactic(auto, unfolding(crate::specs::Paused::is_paused))]
     pub(crate) fn is_paused(&self) -> bool
         ensures { result ≡ is_paused self.now }
