@@ -19,6 +19,7 @@ use std::sync::ledger::Ledger;
 
 /// Moves the machine by a window of at most so many cycles. Gives how many it has. `lanes` has what the lanes begin in the next
 /// cycle, before and after.
+#[inline(never)]
 pub(crate) fn window_within<X: Device, L: Ledger>(
     machine: &mut Machine,
     world: &World<'_, X>,
