@@ -1,6 +1,6 @@
 -- Where no port has a hold, a cycle in which nobody asks does nothing; and what a cycle leaves in which core 0 alone may ask.
 use Rattle.std.proofs.Common.{◌≡◌, ◌≢◌, ℕ, zero, suc, ◌+◌, ◌≤◌, ◌==◌, Bool, true, false, cond, inl, inr, List, [], ◌∷◌, Option, Some, None, refl, sym, ap, ◌∙◌, arith}
-use Rattle.std.specs.Prelude.{slice_set, unwrap_or, is_some}
+use Rattle.std.specs.Prelude.{slice_set, unwrap_or, is_none, is_some}
 use Rattle.std.specs.List.{find}
 use Rattle.std.proofs.lemmas.Bool.{eq-eqb}
 use Rattle.std.proofs.lemmas.Bool.Decides.{eqb_tells}
@@ -12,6 +12,7 @@ use Rattle.bus_fabric.specs.State.{Crossbar, has_hold, last_on}
 use Rattle.bus_fabric.specs.Grant.{apb, is_high, wins, is_free, winner_after, winner_on, hold_of, hold_after, last_from, after_grant}
 use Rattle.bus_fabric.specs.Alone.{nobody, at_most_core0}
 use Rattle.bus_fabric.proofs.Arbitration.{arbitrated}
+use Rattle.bus_fabric.proofs.Fairness.{other_port}
 
 -- ---- ports without a winner
 
@@ -138,3 +139,15 @@ pub after_held : (access : Option Access) (port : ℕ) (writes : Bool) (hold : O
 after_held access port writes hold s asks is held =
     rw (is, asks) (sym (ap (λ l. record s { hold = hold_after (core0 (port, writes)) s s.hold; last = l })
     (last_from-none (core0 (port, writes)) s 0 s.last (λ last port' low. none_on last (port, writes) s port' held))))
+
+-- the same where no access lasts, on a port on which none does
+pub after_short : (access : Option Access) (port : ℕ) (writes : Bool) (s : Crossbar) → access ≡ Some (port, writes) → has_hold s ≡ false → port ≢ apb →
+    record s { last = slice_set s.last port Core0 } ≡ after_grant (at_most_core0 access) s
+after_short access port writes s asks free ne =
+    let a : Access = (port, writes) in
+    rw asks (
+      ap (λ h. record s { hold = h; last = slice_set s.last port Core0 })
+      (sym (hold_stays (core0 a) s s.hold free (none_at (last_on apb s) a s apb ne)))
+      ∙ sym (ap (λ l. record s { hold = hold_after (core0 a) s s.hold; last = l })
+      (last_from-core0 a s 0 port s.last (other_port (is_none s.hold) port ne) (omega arith)))
+    )

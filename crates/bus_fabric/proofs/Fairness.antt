@@ -38,7 +38,7 @@ find_one test DmaWrite is only =
     let e2 : test DmaRead ≡ false = off (test DmaRead) (λ h. let e = only DmaRead h in cc) in
     rw e0 (rw e1 (rw e2 (rw is refl)))
 
-other_port : (hold : Bool) (port : ℕ) → port ≢ apb → (not (port == apb) || hold) ≡ true
+pub other_port : (hold : Bool) (port : ℕ) → port ≢ apb → (not (port == apb) || hold) ≡ true
 other_port hold port ne = elim (eqb_tells port apb) [ inl same ↦ absurd (ne same.1) | inr other ↦ rw other.0 refl ]
 
 pub winner_by : (last : Master) (asked : List (Option Access)) (s : Crossbar) (port : ℕ) (m : Master) → port ≢ apb →

@@ -27,10 +27,9 @@ impl Fabric {
         }
     }
 
-    /// One cycle in which core 0 asks for this port, 0 to 7, and whether it writes, or for nothing, and no other master asks: what
-    /// `grant` does. Whether its access is done.
-    #[inline(always)]
-    pub fn grant_core0(&mut self, asked: Option<(u8, bool)>) -> bool
+    /// The same where an access lasts or begins to last.
+    #[inline(never)]
+    fn grant_slowly(&mut self, asked: Option<(u8, bool)>) -> bool
         requires { HasPort asked }
         ensures done { result ≡ is_done (at_most_core0 asked) self.old Core0 }
         ensures after { self.new ≡ after_grant (at_most_core0 asked) self.old }
@@ -51,5 +50,22 @@ impl Fabric {
             self.last[port as usize] = Master::Core0;
         }
         done
+    }
+
+    /// One cycle in which core 0 asks for this port, 0 to 7, and whether it writes, or for nothing, and no other master asks: what
+    /// `grant` does. Whether its access is done.
+    #[inline(always)]
+    pub fn grant_core0(&mut self, asked: Option<(u8, bool)>) -> bool
+        requires { HasPort asked }
+        ensures done { result ≡ is_done (at_most_core0 asked) self.old Core0 }
+        ensures after { self.new ≡ after_grant (at_most_core0 asked) self.old }
+    {
+        match asked {
+            Some((port, _)) if port != APB && self.hold.is_none() => {
+                self.last[port as usize] = Master::Core0;
+                true
+            }
+            _ => self.grant_slowly(asked),
+        }
     }
 }

@@ -1,23 +1,11 @@
-use Rattle.std.proofs.Common.{ap, sym, slice_set, ◌∙◌}
+use Rattle.std.proofs.Common.{not, sym, ap, slice_set, ◌∙◌}
 use Rattle.rp_base.specs.declared.Master.TheVariants.{Core0}
-use Rattle.bus_fabric.specs.State.{Crossbar}
-use Rattle.bus_fabric.specs.Grant.{is_free}
-use Rattle.bus_fabric.proofs.Alone.{after_none, after_won, after_held}
+use Rattle.bus_fabric.specs.State.{Crossbar, has_hold}
+use Rattle.bus_fabric.proofs.Alone.{after_short}
 use Rattle.bus_fabric.proofs.Fabric.grant_core0.Goals as goal
 
-pub returns-in_default-clause-after : goal.returns-in_default-clause-after
-returns-in_default-clause-after c =
-    ap (λ (s : Crossbar). record s { hold = c.hold_of_core0-hold.result }) c.self.view_is
-    ∙ after_none c.args.asked c.hold_of_core0-hold.result c.args.self.now c.in_default.is c.hold_of_core0-hold.ensures
-
-pub returns-then-free-clause-after : goal.returns-then-free-clause-after
-returns-then-free-clause-after c =
-    ap (λ (s : Crossbar). record s { hold = c.hold_of_core0-hold.result; last = slice_set s.last c.in-Some.port Core0 }) c.self.view_is
-    ∙ after_won c.args.asked c.in-Some.port _ c.hold_of_core0-hold.result c.args.self.now c.in-Some.is c.hold_of_core0-hold.ensures
-    (sym c.is_free-free.ensures ∙ c.if-free.true)
-
-pub returns-else-free-clause-after : goal.returns-else-free-clause-after
-returns-else-free-clause-after c =
-    ap (λ (s : Crossbar). record s { hold = c.hold_of_core0-hold.result }) c.self.view_is
-    ∙ after_held c.args.asked c.in-Some.port _ c.hold_of_core0-hold.result c.args.self.now c.in-Some.is c.hold_of_core0-hold.ensures
-    (sym c.is_free-free.ensures ∙ c.if-free.false)
+pub returns-in-Some-clause-after : goal.returns-in-Some-clause-after
+returns-in-Some-clause-after c =
+    let free = sym (ap has_hold c.self.view_is) ∙ (c.is_none.ensures ∙ ap not c.if-is_none.true) in
+    ap (λ (s : Crossbar). record s { last = slice_set s.last c.in-Some.port Core0 }) c.self.view_is
+    ∙ after_short c.args.asked c.in-Some.port _ c.args.self.now c.in-Some.is free c.if-port-ne-APB.true
