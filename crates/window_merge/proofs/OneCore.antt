@@ -123,13 +123,12 @@ twice false = refl
 pub begun_all : (start : Start) (n : Notes) (s : State) (b : Begun) (same : Bool) → same ≡ not (differs_from start n s) → same ≡ true → b ≡ begun s → b ≡ begun_from start n s
 begun_all start n s b same e is_true e_b = e_b ∙ same_begun start n s (is_not (differs_from start n s) (sym e ∙ is_true))
 
-pub goes_all : (start : Start) (n : Notes) (s : State) (b : Begun) (same ends meets : Bool) → same ≡ not (differs_from start n s) → same ≡ true → b ≡ begun s
-    → ends ≡ ends_wanted (wanted b) → meets ≡ clash (wants_of b) → not (ends || meets) ≡ goes_on start n s
-goes_all start n s b same ends meets e is_true e_b e_ends e_meets =
+pub goes_all : (start : Start) (n : Notes) (s : State) (b : Begun) (same goes : Bool) → same ≡ not (differs_from start n s) → same ≡ true → b ≡ begun s
+    → goes ≡ goes_by b → goes ≡ goes_on start n s
+goes_all start n s b same goes e is_true e_b e_goes =
     let there = begun_from start n s in
     let agrees : differs_from start n s ≡ false = is_not (differs_from start n s) (sym e ∙ is_true) in
-    ap (λ (x : Bool). not (x || meets)) e_ends ∙ ap (λ (y : Bool). not (ends_wanted (wanted b) || y)) e_meets
-    ∙ ap goes_by (begun_all start n s b same e is_true e_b)
+    e_goes ∙ ap goes_by (begun_all start n s b same e is_true e_b)
     ∙ sym (ap (λ (d : Bool). not (d || not (goes_by there))) agrees ∙ twice (goes_by there))
 
 pub begun_alone : (start : Start) (n : Notes) (s : State) (same : Bool) → IsAlone s → same ≡ not (differs_alone start n s) → same ≡ true → begun s ≡ begun_from start n s
