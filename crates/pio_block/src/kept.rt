@@ -2,26 +2,28 @@
 
 use crate::machine::{clear_stalls, control, send, take, write_register};
 use pio_machine::settings::Settings;
-use pio_machine::{Done, Machine1, Seen, tick_by};
+use pio_machine::{Done, Machine1, Seen, is_steady, tick_by, tick_steady};
 use std::marker::Model;
 
-/// A machine, seen as its state. Beside it stands what its registers say.
+/// A machine, seen as its state. Beside it stand what its registers say, and whether it is known to be steady.
 #[derive(Drop)]
 pub(crate) struct Kept {
     machine: Machine1,
     settings: Settings,
+    steady: bool,
 }
 
 impl Model for Kept {
-    ghost use Rattle.std.specs.Prelude.{◌≡◌};
+    ghost use Rattle.std.specs.Prelude.{◌≡◌, true};
     ghost use Rattle.pio_machine.specs.declared.machine.Machine1.{Machine1};
-    ghost use Rattle.pio_machine.specs.Ready.{settings_of};
+    ghost use Rattle.pio_machine.specs.Ready.{settings_of, IsSteady};
 
     ghost Value = { Machine1 };
 
     ghost view = { λ k. k.machine };
 
-    ghost invariant = { λ k. k.settings ≡ settings_of k.machine };
+    ghost invariant = { λ k. (k.settings ≡ settings_of k.machine)
+        × (k.steady ≡ true → IsSteady k.machine) };
 }
 
 impl Kept {
@@ -30,6 +32,7 @@ impl Kept {
     ghost use Rattle.pio_machine.specs.Operation.{with_pc};
     ghost use Rattle.pio_machine.specs.Cycle.{after_cycle, written_in_cycle};
     ghost use Rattle.pio_block.specs.Control.{controlled};
+    ghost use Rattle.pio_block.specs.Words.{room_left};
     ghost use Rattle.pio_block.specs.Queues.{with_stalls_cleared, with_sent, with_taken};
     ghost use Rattle.pio_block.specs.Registers.{register_written};
 
@@ -39,7 +42,11 @@ impl Kept {
     {
         let machine = Machine1::new();
         let settings = Settings::of(&machine);
-        Kept { machine, settings }
+        Kept {
+            machine,
+            settings,
+            steady: false,
+        }
     }
 
     /// The machine.
@@ -50,6 +57,15 @@ impl Kept {
         &self.machine
     }
 
+    /// The room left in the TX FIFO.
+    pub(crate) fn room_left(&self) -> u8
+        ensures { result ≡ room_left self.now }
+    {
+        self.settings
+            .tx_depth
+            .saturating_sub(self.machine.tx.level())
+    }
+
     /// A cycle of the machine of that number.
     #[inline(always)]
     pub(crate) fn tick(&mut self, number: u8, seen: &Seen, done: &mut Done)
@@ -57,7 +73,14 @@ impl Kept {
         ensures machine { self.new ≡ after_cycle number seen.now self.old }
         ensures done { done.new ≡ written_in_cycle number seen.now self.old done.old }
     {
-        tick_by(&mut self.machine, &self.settings, number, seen, done);
+        if self.steady {
+            if !tick_steady(&mut self.machine, &self.settings, number, seen, done) {
+                self.steady = false;
+            }
+        } else {
+            tick_by(&mut self.machine, &self.settings, number, seen, done);
+            self.steady = is_steady(&self.machine, &self.settings);
+        }
     }
 
     /// A write of CTRL, to the machine of that number.
@@ -67,6 +90,7 @@ impl Kept {
     {
         control(&mut self.machine, number, word);
         self.settings = Settings::of(&self.machine);
+        self.steady = false;
     }
 
     /// A write of FDEBUG, to the machine of that number.
@@ -97,6 +121,7 @@ impl Kept {
     {
         write_register(&mut self.machine, offset, word);
         self.settings = Settings::of(&self.machine);
+        self.steady = false;
     }
 
     /// Sets the program counter.
@@ -119,5 +144,6 @@ impl Kept {
     {
         self.machine.copy_from(&other.machine);
         self.settings = other.settings;
+        self.steady = other.steady;
     }
 }

@@ -1,6 +1,7 @@
 //! What the system does to one machine.
 
 ghost use Rattle.std.specs.Prelude.{◌≡◌, ◌<◌, length, slice_index};
+ghost use Rattle.pio_machine.specs.Ready.{IsSteady};
 ghost use Rattle.pio_block.specs.State.{is_running, is_written};
 ghost use Rattle.pio_block.specs.Control.{restarted_if, with_divider_restarted, controlled};
 ghost use Rattle.pio_block.specs.Queues.{with_stalls_cleared, with_sent, with_taken};
@@ -65,7 +66,8 @@ pub(crate) fn clear_stalls(machine: &mut Machine1, number: u32, word: u32)
 
 /// A write of TXF.
 pub(crate) fn send(machine: &mut Machine1, word: u32)
-    ensures { machine.new ≡ with_sent word machine.old }
+    ensures machine { machine.new ≡ with_sent word machine.old }
+    ensures steady { IsSteady machine.old → IsSteady machine.new }
 {
     if !machine.is_tx_full() {
         machine.tx.push(word);

@@ -29,6 +29,7 @@ impl Machines {
     ghost use Rattle.pio_machine.specs.Start.{at_reset};
     ghost use Rattle.pio_block.specs.State.{machine_of, changed, each, is_running};
     ghost use Rattle.pio_block.specs.Control.{controlled};
+    ghost use Rattle.pio_block.specs.Words.{pacing_of};
     ghost use Rattle.pio_block.specs.Queues.{with_stalls_cleared, with_sent, with_taken};
     ghost use Rattle.pio_block.specs.Registers.{register_written};
     ghost use Rattle.pio_machine.specs.Operation.{with_pc};
@@ -79,6 +80,23 @@ impl Machines {
         self.second.tick(1, seen, done);
         self.third.tick(2, seen, done);
         self.fourth.tick(3, seen, done);
+    }
+
+    /// The room left in the TX FIFOs, then the words of the RX FIFOs.
+    #[tactic(auto, unfolding(crate::specs::Words::pacing_of))]
+    pub(crate) fn pacing(&self) -> [u8; 8]
+        ensures { result ≡ pacing_of self.now }
+    {
+        [
+            self.first.room_left(),
+            self.second.room_left(),
+            self.third.room_left(),
+            self.fourth.room_left(),
+            self.first.machine().rx.level(),
+            self.second.machine().rx.level(),
+            self.third.machine().rx.level(),
+            self.fourth.machine().rx.level(),
+        ]
     }
 
     /// A write of CTRL.

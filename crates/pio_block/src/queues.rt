@@ -4,7 +4,7 @@ ghost use Rattle.std.specs.Prelude.{◌≡◌, ◌≤◌, ◌+◌, ◌*◌};
 ghost use Rattle.rp_base.specs.Word.{bit_number};
 ghost use Rattle.pio_block.specs.Control.{ctrl_of};
 ghost use Rattle.pio_block.specs.Queues.{bits_of, is_tx_empty, is_rx_empty, fstat_of, flevel_of, levels_of};
-ghost use Rattle.pio_block.specs.Words.{has_room, has_words, room_left, words_held, pacing_of};
+ghost use Rattle.pio_block.specs.Words.{has_room, has_words};
 ghost use Rattle.pio_machine.specs.Fields.{is_tx_full, is_rx_full};
 
 use crate::machines::Machines;
@@ -29,13 +29,6 @@ fn levels(machine: &Machine1) -> u32
     ensures small { result ≤ 0x88 }
 {
     u32::from(machine.tx.level()) + u32::from(machine.rx.level()) * 16
-}
-
-/// The room left in the TX FIFO.
-fn room_left(machine: &Machine1) -> u8
-    ensures { result ≡ room_left machine.now }
-{
-    machine.tx_depth().saturating_sub(machine.tx.level())
 }
 
 /// A bit of each machine, machine 0 in bit 0.
@@ -181,22 +174,5 @@ impl Machines {
             + levels(self.at(1)) * 0x100
             + levels(self.at(2)) * 0x1_0000
             + levels(self.at(3)) * 0x100_0000
-    }
-
-    /// The room left in the TX FIFOs, then the words of the RX FIFOs.
-    #[tactic(auto, unfolding(crate::specs::Words::pacing_of))]
-    pub(crate) fn pacing(&self) -> [u8; 8]
-        ensures { result ≡ pacing_of self.now }
-    {
-        [
-            room_left(self.at(0)),
-            room_left(self.at(1)),
-            room_left(self.at(2)),
-            room_left(self.at(3)),
-            self.at(0).rx.level(),
-            self.at(1).rx.level(),
-            self.at(2).rx.level(),
-            self.at(3).rx.level(),
-        ]
     }
 }

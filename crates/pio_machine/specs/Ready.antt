@@ -1,9 +1,10 @@
 -- What the registers of a machine say, ready to be used.
-use Rattle.std.specs.Prelude.{ℕ, Bool, ◌&&◌, ◌==◌, if◌then◌else◌}
+use Rattle.std.specs.Prelude.{◌≡◌, ℕ, Bool, true, ◌&&◌, ◌==◌, if◌then◌else◌, None}
 use Rattle.pio_machine.specs.declared.machine.Machine1.{Machine1}
 use Rattle.pio_machine.specs.declared.settings.Settings.{Settings}
-use Rattle.pio_machine.specs.Fields.{divider, autopull, pull_threshold, side_count, out_base, out_count, wrap_top, wrap_bottom}
+use Rattle.pio_machine.specs.Fields.{divider, autopull, pull_threshold, side_count, out_base, out_count, wrap_top, wrap_bottom, tx_depth}
 use Rattle.pio_machine.specs.Pins.{pins_from}
+use Rattle.pio_machine.specs.Cycle.{ticks}
 
 -- under autopull the OSR is spent from this count on; without it from none that a count reaches
 abbrev pub limit : Machine1 → ℕ
@@ -24,6 +25,11 @@ settings_of m =
       limit = limit m;
       top = wrap_top m;
       bottom = wrap_bottom m;
+      tx_depth = tx_depth m;
       no_side = has_no_side m;
       plain = is_plain m;
     }
+
+-- a plain machine that ticks, and in which no word waits
+abbrev pub IsSteady : Machine1 → Type 0
+IsSteady m = (ticks m ≡ true) × (is_plain m ≡ true) × (m.waiting ≡ None)

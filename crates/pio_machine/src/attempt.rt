@@ -1,6 +1,6 @@
 //! A try of a word by its operation.
 
-ghost use Rattle.std.specs.Prelude.{◌≡◌, ◌<◌, ◌/◌, ◌%◌, true};
+ghost use Rattle.std.specs.Prelude.{◌≡◌, ◌<◌, true};
 ghost use Rattle.pio_machine.specs.Fields.{side_count};
 ghost use Rattle.pio_machine.specs.Operation.{delay_of, with_autopull, with_side};
 ghost use Rattle.pio_machine.specs.Cycle.{after_op, written_with_side, after_try, written_by_try};
@@ -31,6 +31,20 @@ impl Machine1 {
         ensures { side_count self.now ≡ 0 }
     {}
 
+    /// The delay of a word, where no bit is for side-set.
+    #[inline(always)]
+    #[tactic(auto, using(crate::proofs::Sides::side_none))]
+    pub(crate) fn delay_alone(&self, word: u16, settings: &Settings, done: &Done) -> u8
+        requires settings { settings.now ≡ settings_of self.now }
+        requires side { settings.now.no_side ≡ true }
+        ensures delay { result ≡ delay_of word self.now }
+        ensures done { with_side word self.now done.now ≡ done.now }
+    {
+        self.sets_no_side(settings);
+        have_32_bits(done.levels, done.enables);
+        side_field(word)
+    }
+
     /// The side-set of a word, and its delay.
     #[inline(never)]
     fn side_and_delay(&self, word: u16, done: &mut Done) -> u8
@@ -43,16 +57,13 @@ impl Machine1 {
 
     /// The side-set of a word, where it has any, and its delay.
     #[inline(always)]
-    #[tactic(auto, using(crate::proofs::Sides::side_none))]
     pub(crate) fn side_by(&self, word: u16, settings: &Settings, done: &mut Done) -> u8
         requires { settings.now ≡ settings_of self.now }
         ensures delay { result ≡ delay_of word self.now }
         ensures done { done.new ≡ with_side word self.now done.old }
     {
         if settings.no_side {
-            self.sets_no_side(settings);
-            have_32_bits(done.levels, done.enables);
-            side_field(word)
+            self.delay_alone(word, settings, done)
         } else {
             self.side_and_delay(word, done)
         }
@@ -84,7 +95,7 @@ impl Machine1 {
     /// A try of a word.
     #[inline(never)]
     #[tactic(auto, unfolding(crate::specs::Cycle::after_try, crate::specs::Cycle::written_by_try))]
-    fn attempt_word(
+    pub(crate) fn attempt_word(
         &mut self,
         word: u16,
         settings: &Settings,
@@ -98,28 +109,5 @@ impl Machine1 {
         ensures done { done.new ≡ written_by_try word number seen.now self.old done.old }
     {
         self.attempt_op(word, decode_word(word), settings, number, seen, done);
-    }
-
-    /// A try of a word, where an OUT to pins goes a shorter way.
-    #[inline(always)]
-    #[tactic(auto, using(crate::proofs::Outs::after_out_word, crate::proofs::Outs::written_with_out_word))]
-    pub(crate) fn attempt(
-        &mut self,
-        word: u16,
-        settings: &Settings,
-        number: u8,
-        seen: &Seen,
-        done: &mut Done,
-    )
-        requires number { number < 4 }
-        requires settings { settings.now ≡ settings_of self.old }
-        ensures machine { self.new ≡ after_try word number seen.now self.old }
-        ensures done { done.new ≡ written_by_try word number seen.now self.old done.old }
-    {
-        if word / 8192 == 3 && word / 32 % 8 == 0 {
-            self.attempt_out(word, settings, done);
-        } else {
-            self.attempt_word(word, settings, number, seen, done);
-        }
     }
 }

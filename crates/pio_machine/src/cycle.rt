@@ -10,7 +10,7 @@ use crate::settings::Settings;
 impl Machine1 {
     /// The machine ticks in this cycle.
     #[inline(always)]
-    fn ticks(&self) -> bool
+    pub(crate) fn ticks(&self) -> bool
         ensures { result ≡ ticks self.now }
     {
         self.enabled && self.acc < 256
@@ -68,7 +68,7 @@ impl Machine1 {
         let tried = waiting.forced || self.ticks();
         self.advance();
         if tried {
-            self.attempt(waiting.word, settings, number, seen, done);
+            self.attempt_word(waiting.word, settings, number, seen, done);
         }
     }
 
@@ -86,7 +86,7 @@ impl Machine1 {
         self.begin_period();
         if self.delay == 0 {
             let word = seen.memory[(self.pc % 32) as usize];
-            self.attempt(word, settings, number, seen, done);
+            self.attempt_word(word, settings, number, seen, done);
         } else {
             self.pass_delay(settings);
         }
@@ -106,7 +106,7 @@ impl Machine1 {
 /// One cycle of the machine of that number, 0 to 3, whose registers say this. It adds to what the machines before it have
 /// written in this cycle, and wins over them.
 #[inline(always)]
-#[tactic(auto, unfolding(crate::specs::Cycle::after_cycle, crate::specs::Cycle::written_in_cycle, crate::specs::Cycle::word_tried), using(crate::proofs::Ready::settings_kept))]
+#[tactic(auto, unfolding(crate::specs::Cycle::after_cycle, crate::specs::Cycle::written_in_cycle, crate::specs::Cycle::word_tried), using(crate::proofs::Ready::settings_kept, crate::proofs::Ready::settings_advanced))]
 pub fn tick_by(
     machine: &mut Machine1,
     settings: &Settings,
@@ -123,11 +123,7 @@ pub fn tick_by(
     if let Some(waiting) = machine.waiting {
         machine.cycle_waiting(waiting, settings, number, seen, done);
     } else if machine.ticks() {
-        if settings.plain {
-            machine.tick_plain(settings, number, seen, done);
-        } else {
-            machine.tick_at_pc(settings, number, seen, done);
-        }
+        machine.tick_at_pc(settings, number, seen, done);
     } else {
         machine.count_down();
     }

@@ -1,7 +1,7 @@
 //! How a try of a word ends.
 
 ghost use Rattle.std.specs.Prelude.{◌≡◌, None};
-ghost use Rattle.pio_machine.specs.Operation.{stepped, jumped, ended};
+ghost use Rattle.pio_machine.specs.Operation.{stepped, with_delay, jumped, ended};
 ghost use Rattle.pio_machine.specs.Ready.{settings_of};
 ghost use Rattle.pio_machine.specs.Tie.{stands_for};
 
@@ -11,7 +11,7 @@ use crate::settings::Settings;
 impl Machine1 {
     /// The word at PC is followed by the next one.
     #[inline(always)]
-    fn step_at_pc(&mut self, settings: &Settings)
+    pub(crate) fn step_at_pc(&mut self, settings: &Settings)
         requires settings { settings.now ≡ settings_of self.old }
         requires waiting { self.old.waiting ≡ None }
         ensures { self.new ≡ stepped self.old }
@@ -26,7 +26,7 @@ impl Machine1 {
 
     /// The word at PC is followed by the next one, and a waiting one is gone.
     #[inline(always)]
-    pub(crate) fn step_by(&mut self, settings: &Settings)
+    fn step_by(&mut self, settings: &Settings)
         requires { settings.now ≡ settings_of self.old }
         ensures { self.new ≡ stepped self.old }
     {
@@ -35,6 +35,16 @@ impl Machine1 {
         } else {
             self.step_at_pc(settings);
         }
+    }
+
+    /// The word completes, and sets a delay.
+    #[inline(always)]
+    pub(crate) fn complete(&mut self, delay: u8, settings: &Settings)
+        requires { settings.now ≡ settings_of self.old }
+        ensures { self.new ≡ with_delay delay (stepped self.old) }
+    {
+        self.step_by(settings);
+        self.delay = delay;
     }
 
     /// Jumps.
@@ -54,10 +64,7 @@ impl Machine1 {
     {
         match outcome {
             Outcome::Stalled => {}
-            Outcome::Completed => {
-                self.step_by(settings);
-                self.delay = delay;
-            }
+            Outcome::Completed => self.complete(delay, settings),
             Outcome::Jumped(address) => {
                 self.jump(address);
                 self.delay = delay;

@@ -17,11 +17,12 @@ mod moves;
 mod operation;
 mod out;
 mod pins;
-mod plain;
 mod queue;
 pub mod settings;
 mod shifting;
+mod steady;
 
 pub use cycle::{tick, tick_by};
 pub use fifo::Fifo;
 pub use machine::{Done, Machine1, Progress, Seen, Waiting};
+pub use steady::{is_steady, tick_steady};

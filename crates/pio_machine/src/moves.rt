@@ -1,7 +1,7 @@
 //! MOV.
 
 ghost use Rattle.std.specs.Prelude.{◌≡◌};
-ghost use Rattle.pio_machine.specs.Move.{status, mov_source, mov_changed, mov_value, with_moved, ending_of_mov, written_by_mov};
+ghost use Rattle.pio_machine.specs.Move.{status, mov_source, mov_changed, mov_value, with_moved, try_mov, ending_of_mov, written_by_mov};
 ghost use Rattle.pio_machine.specs.Tie.{stands_for};
 
 use crate::machine::{Done, Machine1, Outcome, Seen};
@@ -40,7 +40,7 @@ impl Machine1 {
 
     /// What MOV moves.
     #[tactic(auto, unfolding(crate::specs::Move::mov_value))]
-    pub(crate) fn mov_value(&self, operation: MovOperation, source: MovSource, seen: &Seen) -> u32
+    fn mov_value(&self, operation: MovOperation, source: MovSource, seen: &Seen) -> u32
         ensures { result ≡ mov_value operation source seen.now self.now }
     {
         let word = self.mov_source(source, seen);
@@ -52,7 +52,7 @@ impl Machine1 {
     }
 
     /// MOV to a register.
-    pub(crate) fn move_to(&mut self, destination: MovDestination, value: u32)
+    fn move_to(&mut self, destination: MovDestination, value: u32)
         ensures { self.new ≡ with_moved destination value self.old }
     {
         match destination {
@@ -71,17 +71,42 @@ impl Machine1 {
     }
 
     /// MOV to pins.
-    pub(crate) fn move_to_pins(&self, destination: MovDestination, value: u32, done: &mut Done)
+    fn move_to_pins(&self, destination: MovDestination, value: u32, done: &mut Done)
         ensures { done.new ≡ written_by_mov destination value self.now done.old }
     {
         if destination == MovDestination::Pins {
             done.write_levels(self.out_base(), self.out_count(), value);
         }
     }
+
+    /// A try of MOV.
+    pub(crate) fn try_mov(
+        &mut self,
+        destination: MovDestination,
+        operation: MovOperation,
+        source: MovSource,
+        seen: &Seen,
+        done: &mut Done,
+    ) -> Outcome
+        ensures machine { self.new
+            ≡ (try_mov destination (mov_value operation source seen.now self.old)
+            self.old).machine }
+        ensures ending { stands_for result
+            ≡ (try_mov destination (mov_value operation source seen.now self.old)
+            self.old).ending }
+        ensures done { done.new
+            ≡ written_by_mov destination (mov_value operation source seen.now self.old) self.old
+            done.old }
+    {
+        let value = self.mov_value(operation, source, seen);
+        self.move_to_pins(destination, value, done);
+        self.move_to(destination, value);
+        outcome_of_mov(destination, value)
+    }
 }
 
 /// How MOV ends.
-pub(crate) fn outcome_of_mov(destination: MovDestination, value: u32) -> Outcome
+fn outcome_of_mov(destination: MovDestination, value: u32) -> Outcome
     ensures { stands_for result ≡ ending_of_mov destination value }
 {
     match destination {

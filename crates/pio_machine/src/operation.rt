@@ -7,7 +7,6 @@ ghost use Rattle.pio_machine.specs.Tie.{stands_for};
 
 use crate::flags::flag_of;
 use crate::machine::{Done, Machine1, Outcome, Seen};
-use crate::moves::outcome_of_mov;
 use crate::settings::Settings;
 use pio_words::{MovDestination, PioOp};
 use rp_base::bits::has_bit;
@@ -71,12 +70,7 @@ impl Machine1 {
                 destination,
                 operation,
                 source,
-            } => {
-                let value = self.mov_value(operation, source, seen);
-                self.move_to_pins(destination, value, done);
-                self.move_to(destination, value);
-                outcome_of_mov(destination, value)
-            }
+            } => self.try_mov(destination, operation, source, seen, done),
             PioOp::Irq { clear, wait, index } => {
                 let flag = flag_of(index, number);
                 self.irq(clear, wait, flag, seen, done)

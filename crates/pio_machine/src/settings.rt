@@ -17,6 +17,8 @@ pub struct Settings {
     pub(crate) top: u8,
     /// WRAP_BOTTOM.
     pub(crate) bottom: u8,
+    /// How many words the TX FIFO holds.
+    pub tx_depth: u8,
     /// No bit of a word is for side-set.
     pub(crate) no_side: bool,
     /// The clock divider is 1, so that the machine ticks in each cycle, and no bit of a word is for side-set.
@@ -52,6 +54,7 @@ impl Settings {
             limit: limit(machine),
             top: machine.wrap_top(),
             bottom: machine.wrap_bottom(),
+            tx_depth: machine.tx_depth(),
             no_side,
             plain: machine.divider() == 256 && no_side,
         }
