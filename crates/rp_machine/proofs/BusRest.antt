@@ -28,7 +28,7 @@ nothing want.Signal h = absurd (cc h)
 nothing (want.Stopped cause) h = absurd (cc h)
 
 -- where no want is left, the bus is at rest in the cycle
-rest_four : (w : Setting) (b : Begun) (x0 x1 x2 x3 : Wanted) (s : State)
+pub rest_four : (w : Setting) (b : Begun) (x0 x1 x2 x3 : Wanted) (s : State)
     → x0.want ≡ want.Nothing → x1.want ≡ want.Nothing → x2.want ≡ want.Nothing → x3.want ≡ want.Nothing
     → has_hold s.fabric ≡ false
     → next_by w b (x0 ∷ x1 ∷ x2 ∷ x3 ∷ []) s ≡ rest_next w b s

@@ -1,6 +1,5 @@
 -- A cycle in which core 0 alone is at work is the one that the definition says.
 use Rattle.std.proofs.Common.{◌≡◌, ◌+◌, ℕ, ◌&&◌, Bool, true, false, not, List, [], ◌∷◌, ◌++◌, length, Option, Some, None, refl, sym, ap, arith, ◌∙◌}
-use Rattle.std.specs.Prelude.{slice_index_or}
 use Rattle.rp_base.specs.declared.Master.TheVariants as master
 use Rattle.rp_base.specs.declared.Why.{Why}
 use Rattle.lane_look.specs.declared.marks.Mark.{Mark}
@@ -28,8 +27,8 @@ use Rattle.rp_machine.specs.declared.begun.Begun.{Begun}
 use Rattle.rp_machine.specs.State.{State}
 use Rattle.rp_machine.specs.Deeds.{asked_of, turn_of, deed_of, cause_of}
 use Rattle.rp_machine.specs.Cycle.{begun, wanted, wanted_by, first_cause, cause_in, asked, granted, turns, turn_for, deeds, with_turns, with_grants, after_deed, after_deeds, stepped, next_by, next, mark}
-use Rattle.rp_machine.specs.BusRest.{is_nothing, core1_at_rest}
-use Rattle.rp_machine.proofs.BusRest.{both, nothing, is_false}
+use Rattle.rp_machine.specs.BusRest.{is_nothing, core1_at_rest, rest_next}
+use Rattle.rp_machine.proofs.BusRest.{both, nothing, rest_four}
 use Rattle.rp_machine.specs.declared.wanted.Wanted.{Wanted}
 use Rattle.rp_machine.specs.Alone.{IsAlone, beside, stepped_alone, alone_at_rest, alone_next, first_next, is_first_alone}
 
@@ -155,12 +154,6 @@ pub rest_by : (w : Setting) (b : Doing) (seen : SeenOutputs) (x : Want) (s : Sta
 unfolding alone_next alone_at_rest turn_of deed_of asked_of after_deed
 rest_by w b seen x s e free = rw (e, nobody-after s.fabric free) refl
 
-pub rest_alone : (w : Setting) (b : Doing) (seen : SeenOutputs) (x : Want) (s : State) → (is_nothing x && not (has_hold s.fabric)) ≡ true
-    → alone_at_rest w b seen s ≡ alone_next w b seen x s
-rest_alone w b seen x s h =
-    let parts = both (is_nothing x) _ h in
-    rest_by w b seen x s (nothing x parts.0) (is_false (has_hold s.fabric) parts.1)
-
 pub nothing_stops : (w : Setting) (seen : SeenOutputs) (x : Want) (s : State) → x ≡ want.Nothing → None ≡ cause_of w seen s (wanted_by master.Core0 x)
 unfolding cause_of
 nothing_stops w seen x s h = rw h refl
@@ -172,19 +165,42 @@ first_four : (w : Setting) (b : Begun) (x0 x1 x2 x3 : Wanted) (s : State) → x1
 unfolding next_by stepped granted asked asked_of turns turn_of deeds deed_of after_deeds after_deed first_next core1_at_rest
 first_four w b x0 x1 x2 x3 s e1 e2 e3 = rw (e1, e2, e3) refl
 
-first_alone : (w : Setting) (b : Begun) (x0 x1 x2 x3 : Wanted) (s : State) → is_first_alone (x0 ∷ x1 ∷ x2 ∷ x3 ∷ []) ≡ true
-    → next_by w b (x0 ∷ x1 ∷ x2 ∷ x3 ∷ []) s ≡ first_next w b x0 s
-first_alone w b x0 x1 x2 x3 s h =
-    let a = both (is_nothing x1.want) _ h in
-    let c = both (is_nothing x2.want) _ a.1 in
-    let d = both (is_nothing x3.want) _ c.1 in
-    first_four w b x0 x1 x2 x3 s (nothing x1.want a.0) (nothing x2.want c.0) (nothing x3.want d.0)
+-- ---- where no master behind core 0 wants anything
 
-pub first_list : (w : Setting) (b : Begun) (xs : List Wanted) (none : Wanted) (s t : State) → length xs ≡ 4 → is_first_alone xs ≡ true
-    → t ≡ first_next w b (slice_index_or xs 0 none) s → t ≡ next_by w b xs s
-first_list w b (x0 ∷ x1 ∷ x2 ∷ x3 ∷ []) none s t l h e = e ∙ sym (first_alone w b x0 x1 x2 x3 s h)
-first_list w b [] none s t l h e = absurd (omega (arith, l))
-first_list w b (x0 ∷ []) none s t l h e = absurd (omega (arith, l))
-first_list w b (x0 ∷ x1 ∷ []) none s t l h e = absurd (omega (arith, l))
-first_list w b (x0 ∷ x1 ∷ x2 ∷ []) none s t l h e = absurd (omega (arith, l))
-first_list w b (x0 ∷ x1 ∷ x2 ∷ x3 ∷ x4 ∷ xs) none s t l h e = absurd (omega (arith, l))
+record Behind (b : Begun) : Type 0 where
+  core1 : core.want_of b.core1 ≡ want.Nothing
+  read : dma.want_of b.dma.read ≡ want.Nothing
+  write : dma.want_of b.dma.write ≡ want.Nothing
+
+behind : (b : Begun) → is_first_alone (wanted b) ≡ true → Behind b
+unfolding wanted
+behind b h =
+    let a = both (is_nothing (core.want_of b.core1)) _ h in
+    let c = both (is_nothing (dma.want_of b.dma.read)) _ a.1 in
+    let d = both (is_nothing (dma.want_of b.dma.write)) _ c.1 in
+    record {
+      core1 = nothing (core.want_of b.core1) a.0;
+      read = nothing (dma.want_of b.dma.read) c.0;
+      write = nothing (dma.want_of b.dma.write) d.0;
+    }
+
+pub cause_first : (w : Setting) (b : Begun) (s : State) → is_first_alone (wanted b) ≡ true
+    → cause_of w b.outer s (wanted_by master.Core0 (core.want_of b.core0)) ≡ cause_in w b (wanted b) s
+unfolding wanted cause_in cause_of
+cause_first w b s h =
+    let none = behind b h in
+    rw (none.core1, none.read, none.write) (sym (alone_first (cause_of w b.outer s (wanted_by master.Core0 (core.want_of b.core0)))))
+
+pub next_first : (w : Setting) (b : Begun) (s : State) → is_first_alone (wanted b) ≡ true
+    → first_next w b (wanted_by master.Core0 (core.want_of b.core0)) s ≡ next_by w b (wanted b) s
+unfolding wanted
+next_first w b s h =
+    let none = behind b h in
+    sym (first_four w b _ _ _ _ s none.core1 none.read none.write)
+
+pub next_at_rest : (w : Setting) (b : Begun) (s : State) → is_first_alone (wanted b) ≡ true → core.want_of b.core0 ≡ want.Nothing → has_hold s.fabric ≡ false
+    → rest_next w b s ≡ next_by w b (wanted b) s
+unfolding wanted
+next_at_rest w b s h e free =
+    let none = behind b h in
+    sym (rest_four w b _ _ _ _ s e none.core1 none.read none.write free)
