@@ -1,5 +1,5 @@
 -- A core that is not asleep begins with its interrupt lines.
-use Rattle.std.proofs.Common.{◌≡◌, ℕ, ◌<◌, ◌^◌, ◌%◌, Bool, true, false, refl, sym, ap, ◌∙◌, arith}
+use Rattle.std.proofs.Common.{◌≡◌, ℕ, ◌<◌, ◌^◌, ◌%◌, Bool, true, false, if◌then◌else◌, refl, sym, ap, ◌∙◌, arith}
 use Rattle.lane_look.specs.declared.lane.Ask.{Ask}
 use Rattle.lane_look.specs.declared.lane.Ask.TheVariants.{Lines}
 use Rattle.lane_look.specs.Asking.{Asking, answered}
@@ -8,7 +8,11 @@ use Rattle.m0_core.specs.declared.doing.Act.{Act}
 use Rattle.m0_core.specs.declared.doing.Act.TheVariants.{Asleep}
 use Rattle.m0_core.specs.declared.doing.Doing.{Doing}
 use Rattle.m0_core.specs.State.{State as Core}
-use Rattle.m0_core.specs.Fetch.{asks, asks_awake, carried}
+use Rattle.rp_machine.specs.declared.begun.Begun.{Begun}
+use Rattle.rp_machine.specs.State.{State}
+use Rattle.rp_machine.specs.Answers.{answer_of}
+use Rattle.rp_machine.specs.Cycle.{begun}
+use Rattle.m0_core.specs.Fetch.{asks, asks_awake, carried, ends_with}
 
 carried_lines : (f : Ask → ℕ) (lines cycle : ℕ) (tree : Asking Act) → (answered f (carried lines cycle tree)).lines ≡ lines
 unfolding carried
@@ -24,7 +28,9 @@ small n lt = omega (arith, lt)
 
 awake_lines : (f : Ask → ℕ) (c : Core) (cycle : ℕ) → c.asleep ≡ false → f Lines < 2 ^ 32 → (answered f (asks c cycle)).lines ≡ f Lines
 unfolding asks
-awake_lines f c cycle e lt = rw e (carried_lines f (f Lines % 2 ^ 32) cycle (asks_awake c) ∙ small (f Lines) lt)
+awake_lines f c cycle e lt =
+    ap (λ (b : Bool). (answered f (if b then Ready (ends_with 0 cycle Asleep) else Question Lines (λ lines. carried (lines % 2 ^ 32) cycle (asks_awake c)))).lines) e
+    ∙ (carried_lines f (f Lines % 2 ^ 32) cycle (asks_awake c) ∙ small (f Lines) lt)
 
 by_sleep : (f : Ask → ℕ) (c : Core) (cycle : ℕ) (asleep : Bool) → c.asleep ≡ asleep → f Lines < 2 ^ 32 → ((answered f (asks c cycle)).act ≡ Asleep → ⊥)
     → (answered f (asks c cycle)).lines ≡ f Lines
@@ -36,3 +42,13 @@ pub told_lines : (f : Ask → ℕ) (c : Core) (cycle : ℕ) (doing : Doing) → 
 told_lines f c cycle doing is lt awake =
     ap (λ (d : Doing). d.lines) is
     ∙ by_sleep f c cycle c.asleep refl lt (λ asleep. awake (ap (λ (d : Doing). d.act) is ∙ asleep))
+
+-- ---- what the lanes of a machine begin
+
+pub begun_core0 : (s : State) (b : Begun) → b ≡ begun s → b.core0 ≡ answered (answer_of 0 s) (asks s.core0 s.cycle)
+unfolding begun
+begun_core0 s b is = ap (λ (x : Begun). x.core0) is
+
+pub begun_core1 : (s : State) (b : Begun) → b ≡ begun s → b.core1 ≡ answered (answer_of 1 s) (asks s.core1 s.cycle)
+unfolding begun
+begun_core1 s b is = ap (λ (x : Begun). x.core1) is

@@ -66,8 +66,5 @@ pub core1_ends : (b : Begun) (ends : Bool) → ends ≡ ends_want (core.want_of 
 unfolding wanted
 core1_ends b ends e is_true =
     let h : ends_want (core.want_of b.core1) ≡ true = sym e ∙ is_true in
-    let all : ends_wanted (wanted b) ≡ true = rw h (second (ends_want (core.want_of b.core0)) _) in
+    let all : ends_wanted (wanted b) ≡ true = rw h (second (ends_want (core.want_of b.core0)) (ends_want (dma.want_of b.dma.read) || (ends_want (dma.want_of b.dma.write) || false))) in
     ap (λ (x : Bool). not (x || clash (wants_of b))) (sym all)
-
-pub goes_by_both : (b : Begun) (ends meets : Bool) → ends ≡ ends_wanted (wanted b) → meets ≡ clash (wants_of b) → not (ends || meets) ≡ goes_by b
-goes_by_both b ends meets e m = ap (λ (x : Bool). not (x || meets)) e ∙ ap (λ (y : Bool). not (ends_wanted (wanted b) || y)) m
