@@ -146,8 +146,8 @@ pub after_short : (access : Option Access) (port : ℕ) (writes : Bool) (s : Cro
 after_short access port writes s asks free ne =
     let a : Access = (port, writes) in
     rw asks (
-      ap (λ h. record s { hold = h; last = slice_set s.last port Core0 })
-      (sym (hold_stays (core0 a) s s.hold free (none_at (last_on apb s) a s apb ne)))
-      ∙ sym (ap (λ l. record s { hold = hold_after (core0 a) s s.hold; last = l })
-      (last_from-core0 a s 0 port s.last (other_port (is_none s.hold) port ne) (omega arith)))
+    ap (λ h. record s { hold = h; last = slice_set s.last port Core0 })
+    (sym (hold_stays (core0 a) s s.hold free (none_at (last_on apb s) a s apb ne)))
+    ∙ sym (ap (λ l. record s { hold = hold_after (core0 a) s s.hold; last = l })
+    (last_from-core0 a s 0 port s.last (other_port (is_none s.hold) port ne) (omega arith)))
     )

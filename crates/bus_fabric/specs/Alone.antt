@@ -1,5 +1,5 @@
 -- A cycle in which nobody asks, and one in which core 0 alone may.
-use Rattle.std.specs.Prelude.{List, [], ◌∷◌, Option, Some, None}
+use Rattle.std.specs.Prelude.{List, [], ◌∷◌, Option, None}
 use Rattle.bus_fabric.specs.Masters.{Access}
 
 -- what the masters ask for where nobody asks

@@ -1,5 +1,5 @@
 -- A cycle in which core 0 alone is at work is the one that the definition says.
-use Rattle.std.proofs.Common.{◌≡◌, ◌+◌, ℕ, ◌&&◌, Bool, true, false, not, List, [], ◌∷◌, ◌++◌, length, Option, Some, None, refl, sym, ap, arith, ◌∙◌}
+use Rattle.std.proofs.Common.{◌≡◌, ◌+◌, ℕ, true, false, not, List, [], ◌∷◌, ◌++◌, Option, Some, None, refl, sym, ap, ◌∙◌}
 use Rattle.rp_base.specs.declared.Master.TheVariants as master
 use Rattle.rp_base.specs.declared.Why.{Why}
 use Rattle.lane_look.specs.declared.marks.Mark.{Mark}
@@ -18,7 +18,6 @@ use Rattle.pio_block.specs.State.{Block as Pio}
 use Rattle.pio_block.specs.declared.inputs.Inputs.{Inputs}
 use Rattle.pio_block.specs.Cycle as pio
 use Rattle.bus_fabric.specs.State.{has_hold}
-use Rattle.bus_fabric.specs.Grant.{after_grant}
 use Rattle.bus_fabric.proofs.Alone.{nobody-after}
 use Rattle.outer_lane.specs.Setting.{Setting}
 use Rattle.outer_lane.specs.declared.world.SeenOutputs.{SeenOutputs}

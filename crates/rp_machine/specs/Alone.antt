@@ -1,6 +1,6 @@
 -- A cycle in which core 0 alone is at work: core 1 sleeps, and the DMA engine and both PIO blocks are at rest. Nothing is asked of
 -- the parts at rest, and they stay as they are.
-use Rattle.std.specs.Prelude.{◌≡◌, ℕ, ◌+◌, Bool, true, List, [], ◌∷◌}
+use Rattle.std.specs.Prelude.{◌≡◌, ◌+◌, Bool, true, List, [], ◌∷◌}
 use Rattle.std.specs.List.{list_all}
 use Rattle.rp_base.specs.declared.Master.TheVariants as master
 use Rattle.lane_look.specs.declared.lane.Want.{Want}

@@ -371,12 +371,7 @@ impl Machine {
     /// One cycle in which this was begun, whoever wants anything.
     #[inline(never)]
     #[tactic(auto, unfolding(crate::specs::Cycle::next_by, crate::specs::Cycle::stepped, crate::specs::Cycle::granted))]
-    fn step_for_all<X: Device>(
-        &mut self,
-        world: &World<'_, X>,
-        begun: &Begun,
-        marks: &mut Marks,
-    )
+    fn step_for_all<X: Device>(&mut self, world: &World<'_, X>, begun: &Begun, marks: &mut Marks)
         requires number { self.old.cycle < 2 ^ 64 - 1 }
         requires marks { length marks.old < 256 }
         ensures state { self.new ≡ next_by

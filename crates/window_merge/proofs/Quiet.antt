@@ -1,6 +1,6 @@
 -- A cycle in which no master wants anything is one of the window, and nothing is noted of it; one before which the run of a core ends
 -- is not.
-use Rattle.std.proofs.Common.{◌≡◌, ◌||◌, ◌&&◌, not, Bool, true, false, List, [], ◌∷◌, refl, sym, ap, ◌∙◌}
+use Rattle.std.proofs.Common.{◌≡◌, ◌||◌, not, Bool, true, false, List, refl, sym, ap, ◌∙◌}
 use Rattle.std.specs.Prelude.{ℕ}
 use Rattle.std.specs.List.{list_all}
 use Rattle.lane_look.specs.Alone.{ends_want}

@@ -1,7 +1,11 @@
 -- The events of a cycle, part by part.
-use Rattle.std.proofs.Common.{◌≡◌, ℕ, suc, ◌+◌, ◌-◌, ◌<◌, ◌≤◌, List, [], ◌∷◌, ◌++◌, length, drop, map, Bool, true, false, Option, Some, None, bit_xor, get_or, slice_get, refl, sym, ap, subst, ◌∙◌, arith}
+use Rattle.std.proofs.Common.{◌≡◌, ℕ, suc, ◌+◌, ◌-◌, ◌<◌, ◌≤◌, List, [], ◌∷◌, ◌++◌, length, drop, map, Bool, true, false, zero, inl, inr, ◌*◌, ◌/◌, ◌^◌, ◌==◌, bit_at, Option, Some, None, bit_xor, get_or, slice_get, refl, sym, ap, subst, ◌∙◌, arith}
 use Rattle.std.specs.Int.Bits.{xor_self}
 use Rattle.std.specs.List.{filter, range_with_len}
+use Rattle.std.proofs.Math.Nat.{lt-div-mul-add}
+use Rattle.std.proofs.lemmas.Bool.Decides.{leb_tells}
+use Rattle.std.proofs.lemmas.Nat.{pow_pos}
+use Rattle.std.proofs.lemmas.Nat.Bits.{bit_at_above}
 use Rattle.std.proofs.lemmas.List.{drop_more, drop_all}
 use Rattle.std.proofs.lemmas.Option.{slice_get_within, get_or_from_slice_get}
 use Rattle.rp_base.specs.Word.{has_bit}
@@ -94,6 +98,41 @@ from_step cycle changed after pin lt =
 -- no pin is left
 pub from_end : (cycle changed after pin : ℕ) → 30 ≤ pin → shown_from cycle changed after pin (30 - pin) ≡ []
 from_end cycle changed after pin le = let last : 30 - pin ≡ 0 = omega (arith, le) in ap (λ n. shown_from cycle changed after pin n) last ∙ from_none cycle changed after pin
+
+-- a pin below the lowest that changed is told nothing of
+unchanged : (cycle changed after pin : ℕ) → bit_at changed pin ≡ 0 → all_shown (change_of cycle changed after pin) ≡ []
+unchanged cycle changed after pin low = no_change cycle changed after pin pin refl (ap (λ b. b == 1) low)
+
+passed_over : (cycle changed after pin : ℕ) → bit_at changed pin ≡ 0
+    → shown_from cycle changed after pin (30 - pin) ≡ shown_from cycle changed after (pin + 1) (30 - (pin + 1))
+passed_over cycle changed after pin low = elim (leb_tells 30 pin) [
+  | inl high ↦ from_end cycle changed after pin high.1 ∙ sym (from_end cycle changed after (pin + 1) (let le = high.1 in omega (arith, le)))
+  | inr low' ↦ from_step cycle changed after pin low'.1 ∙ ap (λ (xs : List Shown). xs ++ shown_from cycle changed after (pin + 1) (30 - (pin + 1))) (unchanged cycle changed after pin low)
+]
+
+pub from_lowest : (cycle changed after pin : ℕ) → ((i : ℕ) → i < pin → bit_at changed i ≡ 0)
+    → shown_from cycle changed after 0 30 ≡ shown_from cycle changed after pin (30 - pin)
+from_lowest cycle changed after zero low = refl
+from_lowest cycle changed after (suc pin) low =
+    from_lowest cycle changed after pin (λ i lt. low i (omega (arith, lt)))
+    ∙ passed_over cycle changed after pin (low pin (omega arith))
+    ∙ ap (λ n. shown_from cycle changed after n (30 - n)) (let next : pin + 1 ≡ suc pin = omega arith in next)
+
+-- no pin from one on has changed
+none_from : (cycle changed after pin n : ℕ) → ((i : ℕ) → pin ≤ i → bit_at changed i ≡ 0) → shown_from cycle changed after pin n ≡ []
+none_from cycle changed after pin zero low = from_none cycle changed after pin
+none_from cycle changed after pin (suc n) low =
+    from_on cycle changed after pin n
+    ∙ ap (λ (xs : List Shown). xs ++ shown_from cycle changed after (pin + 1) n) (unchanged cycle changed after pin (low pin (omega arith)))
+    ∙ none_from cycle changed after (pin + 1) n (λ i le. low i (omega (arith, le)))
+
+below : (n k : ℕ) → n / 2 ^ k ≡ 0 → n < 2 ^ k
+below n k e = subst (λ (m : ℕ). n < m) (ap (λ (q : ℕ). q * 2 ^ k + 2 ^ k) e) (lt-div-mul-add {n} {2 ^ k} (pow_pos k))
+
+pub none_left : (cycle changed after pin k : ℕ) → k ≡ pin → changed / 2 ^ k ≡ 0 → shown_from cycle changed after pin (30 - pin) ≡ []
+none_left cycle changed after pin k same e =
+    none_from cycle changed after pin (30 - pin)
+    (λ i le. bit_at_above changed k i (below changed k e) (let high : k ≤ i = omega (arith, same, le) in high))
 
 -- bytes first, then changes
 pub events_both : (cycle before : ℕ) (mark : Mark) → all_shown (bytes_of cycle 0 mark.uart) ++ all_shown (changes_of cycle before mark.pads) ≡ all_shown (events_of cycle before mark)

@@ -1,8 +1,7 @@
-use Rattle.std.proofs.Common.{◌≡◌, true, false, List, [], ◌∷◌, ◌++◌, refl, ap, sym, ◌∙◌, subst}
+use Rattle.std.proofs.Common.{true, false, [], ◌∷◌, ◌++◌, ap, sym, ◌∙◌}
 use Rattle.outer_lane.specs.Setting.{setting_of}
 use Rattle.outer_lane.specs.Step.{marked}
 use Rattle.rp_machine.specs.declared.begun.Begun.{Begun}
-use Rattle.rp_machine.specs.State.{State}
 use Rattle.rp_machine.specs.Cycle.{wanted, next_by}
 use Rattle.window_merge.specs.Notes.{noted_by}
 use Rattle.window_merge.proofs.OneCore.{begun_all, goes_all}

@@ -1,4 +1,5 @@
-use Rattle.window_runner.proofs.CycleEvents.{from_first, from_step, from_end, no_changes}
+use Rattle.std.proofs.Common.{◌∙◌}
+use Rattle.window_runner.proofs.CycleEvents.{from_first, from_lowest, from_step, from_end, none_left, no_changes}
 use Rattle.window_runner.proofs.Telling.{taken_nothing, taken_same, taken_more, taken_part, taken_all, tells_none}
 use Rattle.window_runner.proofs.events.tell_changes.Goals as goal
 
@@ -8,7 +9,8 @@ returns-then-changed-eq0 g c =
 
 pub loop-pin-init : goal.loop-pin-init
 loop-pin-init g c =
-    taken_same _ _ _ _ _ _ _ _ (taken_nothing _ _ _ _ g.met.T.Tape.takes_none) (from_first c.args.cycle c.args.before c.args.after)
+    taken_same _ _ _ _ _ _ _ _ (taken_nothing _ _ _ _ g.met.T.Tape.takes_none)
+    (from_first c.args.cycle c.args.before c.args.after ∙ from_lowest c.args.cycle _ c.args.after _ ?)
 
 pub returns-in-Err : goal.returns-in-Err
 returns-in-Err g c =
