@@ -1,11 +1,13 @@
 -- The events of a cycle, part by part.
-use Rattle.std.proofs.Common.{◌≡◌, ℕ, suc, ◌+◌, ◌-◌, ◌<◌, ◌≤◌, List, [], ◌∷◌, ◌++◌, length, drop, map, Bool, true, false, zero, inl, inr, ◌*◌, ◌/◌, ◌^◌, ◌==◌, bit_at, Option, Some, None, bit_xor, get_or, slice_get, refl, sym, ap, subst, ◌∙◌, arith}
+use Rattle.std.proofs.Common.{◌≡◌, ℕ, suc, ◌+◌, ◌-◌, ◌<◌, ◌≤◌, List, [], ◌∷◌, ◌++◌, length, drop, map, Bool, true, false, w32, zero, inl, inr, ◌*◌, ◌/◌, ◌^◌, ◌==◌, Option, Some, None, bit_xor, get_or, slice_get, refl, sym, ap, subst, ◌∙◌, arith}
+use Rattle.std.specs.Int.{bit_at}
 use Rattle.std.specs.Int.Bits.{xor_self}
 use Rattle.std.specs.List.{filter, range_with_len}
 use Rattle.std.proofs.Math.Nat.{lt-div-mul-add}
 use Rattle.std.proofs.lemmas.Bool.Decides.{leb_tells}
-use Rattle.std.proofs.lemmas.Nat.{pow_pos}
-use Rattle.std.proofs.lemmas.Nat.Bits.{bit_at_above}
+use Rattle.std.specs.Int.Count.{count_trailing_zeros}
+use Rattle.std.proofs.lemmas.Nat.{pow_pos, xor_lt}
+use Rattle.std.proofs.lemmas.Nat.Bits.{bit_at_above, bit_at-trailing_zeros}
 use Rattle.std.proofs.lemmas.List.{drop_more, drop_all}
 use Rattle.std.proofs.lemmas.Option.{slice_get_within, get_or_from_slice_get}
 use Rattle.rp_base.specs.Word.{has_bit}
@@ -118,6 +120,20 @@ from_lowest cycle changed after (suc pin) low =
     ∙ passed_over cycle changed after pin (low pin (omega arith))
     ∙ ap (λ n. shown_from cycle changed after n (30 - n)) (let next : pin + 1 ≡ suc pin = omega arith in next)
 
+-- the pins from the lowest that changed on
+positive : (n : ℕ) → (n ≡ 0 → ⊥) → 0 < n
+positive zero h = absurd (h refl)
+positive (suc n) h = omega arith
+
+pub lowest_first : (cycle before after : ℕ) → before < 2 ^ 32 → after < 2 ^ 32 → (bit_xor before after ≡ 0 → ⊥)
+    → all_shown (changes_of cycle before after)
+    ≡ shown_from cycle (bit_xor before after) after (count_trailing_zeros 32 (bit_xor before after)) (30 - count_trailing_zeros 32 (bit_xor before after))
+lowest_first cycle before after b a some =
+    let changed = bit_xor before after in
+    from_first cycle before after
+    ∙ from_lowest cycle changed after (count_trailing_zeros 32 changed)
+    (bit_at-trailing_zeros w32 changed (positive changed some) (xor_lt 32 before after b a)).2
+
 -- no pin from one on has changed
 none_from : (cycle changed after pin n : ℕ) → ((i : ℕ) → pin ≤ i → bit_at changed i ≡ 0) → shown_from cycle changed after pin n ≡ []
 none_from cycle changed after pin zero low = from_none cycle changed after pin
@@ -126,8 +142,11 @@ none_from cycle changed after pin (suc n) low =
     ∙ ap (λ (xs : List Shown). xs ++ shown_from cycle changed after (pin + 1) n) (unchanged cycle changed after pin (low pin (omega arith)))
     ∙ none_from cycle changed after (pin + 1) n (λ i le. low i (omega (arith, le)))
 
+nothing_more : (m : ℕ) → 0 * m + m ≡ m
+nothing_more m = omega arith
+
 below : (n k : ℕ) → n / 2 ^ k ≡ 0 → n < 2 ^ k
-below n k e = subst (λ (m : ℕ). n < m) (ap (λ (q : ℕ). q * 2 ^ k + 2 ^ k) e) (lt-div-mul-add {n} {2 ^ k} (pow_pos k))
+below n k e = subst (λ (m : ℕ). n < m) (ap (λ (q : ℕ). q * 2 ^ k + 2 ^ k) e ∙ nothing_more (2 ^ k)) (lt-div-mul-add {a = n} {b = 2 ^ k} (pow_pos k))
 
 pub none_left : (cycle changed after pin k : ℕ) → k ≡ pin → changed / 2 ^ k ≡ 0 → shown_from cycle changed after pin (30 - pin) ≡ []
 none_left cycle changed after pin k same e =
