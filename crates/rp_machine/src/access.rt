@@ -3,7 +3,7 @@
 ghost use Rattle.std.specs.Prelude.{◌≡◌};
 ghost use Rattle.rp_base.specs.Map.{place_of, IsWithin};
 ghost use Rattle.bus_fabric.specs.Masters.{HasPort};
-ghost use Rattle.rp_machine.specs.Deeds.{port_at, asked_at, spot_of, asked_of, is_done_at, is_lock, is_same_word, reads_at, is_core1, is_late, turn_at, stored_at, StoresInSram};
+ghost use Rattle.rp_machine.specs.Deeds.{port_at, asked_at, spot_of, asked_of, is_done_at, is_lock, is_same_word, reads_at, is_core1, is_late, stored_at, StoresInSram};
 
 use crate::deed::Deed;
 use crate::machine::Machine;
@@ -131,13 +131,6 @@ fn is_late(rival: &Want, master: Master, spot: &Spot) -> bool
     is_core1(master) && is_lock(spot) && reads_at(rival, spot)
 }
 
-#[inline(always)]
-fn turn_at(done: bool, word: u32) -> Turn
-    ensures { result ≡ turn_at done word }
-{
-    if done { Turn::Done(word) } else { Turn::Wait }
-}
-
 /// The write to SRAM of a request to a spot, if it is one.
 fn stored_at(request: &Request, spot: &Spot) -> Deed
     requires { IsWithin spot.now }
@@ -158,7 +151,7 @@ impl Machine {
     ghost use Rattle.std.specs.Prelude.{◌≡◌, ◌≤◌, unwrap_or};
     ghost use Rattle.rp_base.specs.Map.{place_of};
     ghost use Rattle.outer_lane.specs.Setting.{setting_of};
-    ghost use Rattle.rp_machine.specs.Deeds.{spot_of, sio_word, word_for, is_allowed_at, is_open, outside_unless, cause_by, cause_of, told_at, turn_of, accessed_at, deed_of, StoresInSram};
+    ghost use Rattle.rp_machine.specs.Deeds.{spot_of, sio_word, word_for, is_allowed_at, is_open, outside_unless, cause_by, cause_of, turn_of, accessed_at, deed_of, StoresInSram};
 
     /// A word of SIO as a master reads it.
     fn sio_word(&self, master: Master, offset: u16) -> Option<u32>
@@ -247,29 +240,6 @@ impl Machine {
         }
     }
 
-    /// The word that an access has, where core 0 wants `rival`.
-    #[inline(never)]
-    fn told_at<X: Device>(
-        &self,
-        world: &World<'_, X>,
-        seen: &SeenOutputs,
-        rival: &Want,
-        master: Master,
-        address: u32,
-        spot: &Spot,
-    ) -> u32
-        ensures { result ≡ told_at
-            (setting_of world.now.script.now (X.meaning world.now.device.now) world.now.limit)
-            seen.now rival.now master address spot.now self.now }
-    {
-        if is_late(rival, master, spot) {
-            0
-        } else {
-            self.word_for(world, seen, master, address, spot)
-                .unwrap_or(0)
-        }
-    }
-
     /// What an access that is not to SRAM comes to, whose word is this.
     #[inline(always)]
     #[tactic(auto, unfolding(crate::specs::Deeds::word_for))]
@@ -312,14 +282,15 @@ impl Machine {
         }
     }
 
-    /// What the bus gives core 0 for its want, whose access has this spot, and what the want comes to. The word of an access is read
-    /// once.
+    /// What the bus gives a master for its want, whose access has this spot, where core 0 wants `rival`, and what the want comes to.
+    /// The word of an access is read once.
     #[inline(always)]
     #[tactic(auto, unfolding(crate::specs::Deeds::turn_of, crate::specs::Deeds::deed_of))]
-    pub(crate) fn served<X: Device>(
+    pub(crate) fn served_at<X: Device>(
         &self,
         world: &World<'_, X>,
         seen: &SeenOutputs,
+        rival: &Want,
         granted: bool,
         wanted: &Wanted,
         spot: &Spot,
@@ -328,7 +299,7 @@ impl Machine {
         requires within { IsWithin spot.now }
         ensures turn { result.0 ≡ turn_of
             (setting_of world.now.script.now (X.meaning world.now.device.now) world.now.limit)
-            seen.now wanted.now.want granted wanted.now.master wanted.now.want self.now }
+            seen.now rival.now granted wanted.now.master wanted.now.want self.now }
         ensures deed { result.1 ≡ deed_of
             (setting_of world.now.script.now (X.meaning world.now.device.now) world.now.limit)
             seen.now granted wanted.now.want self.now }
@@ -341,7 +312,7 @@ impl Machine {
                 let word = self
                     .word_for(world, seen, wanted.master, address, spot)
                     .unwrap_or(0);
-                let told = if is_late(&wanted.want, wanted.master, spot) {
+                let told = if is_late(rival, wanted.master, spot) {
                     0
                 } else {
                     word
@@ -357,100 +328,24 @@ impl Machine {
         }
     }
 
-    /// What the bus gives a master for its want, where core 0 wants `rival`.
+    /// The same, wherever the access goes.
     #[inline(always)]
-    #[tactic(auto, unfolding(crate::specs::Deeds::turn_of))]
-    pub(crate) fn turn_of<X: Device>(
+    pub(crate) fn served<X: Device>(
         &self,
         world: &World<'_, X>,
         seen: &SeenOutputs,
         rival: &Want,
         granted: bool,
         wanted: &Wanted,
-    ) -> Turn
-        ensures { result ≡ turn_of
+    ) -> (Turn, Deed)
+        ensures turn { result.0 ≡ turn_of
             (setting_of world.now.script.now (X.meaning world.now.device.now) world.now.limit)
             seen.now rival.now granted wanted.now.master wanted.now.want self.now }
-    {
-        match &wanted.want {
-            Want::Ram(_) => turn_at(granted, 0),
-            Want::Outward(request) => {
-                let spot = place(request.address);
-                turn_at(
-                    is_done_at(&spot, granted),
-                    self.told_at(world, seen, rival, wanted.master, request.address, &spot),
-                )
-            }
-            Want::Nothing | Want::Signal | Want::Stopped(_) => Turn::Nothing,
-        }
-    }
-
-    /// The access to a word of a register block, of SIO or of the device that a request to a spot comes to.
-    #[inline(never)]
-    fn accessed_at<X: Device>(
-        &self,
-        world: &World<'_, X>,
-        seen: &SeenOutputs,
-        request: &Request,
-        spot: &Spot,
-    ) -> Deed
-        ensures within { StoresInSram result }
-        ensures value { result ≡ accessed_at
+        ensures deed { result.1 ≡ deed_of
             (setting_of world.now.script.now (X.meaning world.now.device.now) world.now.limit)
-            seen.now request.now spot.now self.now }
+            seen.now granted wanted.now.want self.now }
+        ensures stores { StoresInSram result.1 }
     {
-        match *spot {
-            Spot::Reg {
-                block,
-                offset,
-                alias,
-            } => {
-                let word = self.block_word(world, seen, block, offset).unwrap_or(0);
-                Deed::Register {
-                    block,
-                    offset,
-                    write: plain_write(request, alias, word),
-                }
-            }
-            Spot::Sio { offset } => Deed::SingleCycle {
-                offset,
-                write: word_written(request),
-            },
-            Spot::Outside => Deed::Device {
-                address: request.address,
-                write: word_written(request),
-            },
-            Spot::Ram { .. } | Spot::Ppb { .. } => Deed::Nothing,
-        }
-    }
-
-    /// What a want comes to.
-    #[inline(always)]
-    #[tactic(auto, unfolding(crate::specs::Deeds::deed_of))]
-    pub(crate) fn deed_of<X: Device>(
-        &self,
-        world: &World<'_, X>,
-        seen: &SeenOutputs,
-        granted: bool,
-        want: &Want,
-    ) -> Deed
-        ensures value { result ≡ deed_of
-            (setting_of world.now.script.now (X.meaning world.now.device.now) world.now.limit)
-            seen.now granted want.now self.now }
-        ensures within { StoresInSram result }
-    {
-        match want {
-            Want::Ram(request) if granted => stored_at(request, &place(request.address)),
-            Want::Outward(request) => {
-                let spot = place(request.address);
-                if is_done_at(&spot, granted) {
-                    self.accessed_at(world, seen, request, &spot)
-                } else {
-                    Deed::Nothing
-                }
-            }
-            Want::Signal => Deed::Signal,
-            Want::Nothing | Want::Ram(_) | Want::Stopped(_) => Deed::Nothing,
-        }
+        self.served_at(world, seen, rival, granted, wanted, &spot_of(&wanted.want))
     }
 }

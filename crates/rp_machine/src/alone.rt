@@ -111,7 +111,7 @@ impl Machine {
         let spot = spot_of(&wanted.want);
         let mut fabric = self.fabric;
         let granted = fabric.grant_core0(asked_by(&wanted.want, &spot));
-        let (turn, deed) = self.served(world, outer, granted, wanted, &spot);
+        let (turn, deed) = self.served_at(world, outer, &wanted.want, granted, wanted, &spot);
         self.fabric = fabric;
         self.core0.finish(&(), core0, [turn, Turn::Nothing], marks);
         self.outer.finish(world, outer, [Turn::Nothing; 2], marks);

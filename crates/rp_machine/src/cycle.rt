@@ -97,55 +97,32 @@ impl Machine {
         }
     }
 
-    /// What the bus gives each master, by what is granted.
+    /// What the bus gives each master, by what is granted, and what the wants come to.
     #[inline(always)]
-    #[tactic(auto, unfolding(crate::specs::Cycle::turns))]
-    fn turns<X: Device>(
+    #[tactic(auto, unfolding(crate::specs::Cycle::turns, crate::specs::Cycle::deeds))]
+    fn all_served<X: Device>(
         &self,
         world: &World<'_, X>,
         begun: &Begun,
         wants: &[Wanted; 4],
         granted: [bool; 4],
-    ) -> [Turn; 4]
-        ensures { result ≡ turns
+    ) -> ([Turn; 4], [Deed; 4])
+        ensures turns { result.0 ≡ turns
             (setting_of world.now.script.now (X.meaning world.now.device.now) world.now.limit)
             begun.now wants.now self.now granted }
+        ensures deeds { result.1 ≡ deeds
+            (setting_of world.now.script.now (X.meaning world.now.device.now) world.now.limit)
+            begun.now wants.now self.now granted }
+        ensures within { All StoresInSram result.1 }
     {
         let [core0, core1, read, write] = wants;
         let [grant0, grant1, grant2, grant3] = granted;
-        let seen = &begun.outer;
-        [
-            self.turn_of(world, seen, &core0.want, grant0, core0),
-            self.turn_of(world, seen, &core0.want, grant1, core1),
-            self.turn_of(world, seen, &core0.want, grant2, read),
-            self.turn_of(world, seen, &core0.want, grant3, write),
-        ]
-    }
-
-    /// What the wants come to, by what is granted.
-    #[inline(always)]
-    #[tactic(auto, unfolding(crate::specs::Cycle::deeds))]
-    fn deeds<X: Device>(
-        &self,
-        world: &World<'_, X>,
-        begun: &Begun,
-        wants: &[Wanted; 4],
-        granted: [bool; 4],
-    ) -> [Deed; 4]
-        ensures value { result ≡ deeds
-            (setting_of world.now.script.now (X.meaning world.now.device.now) world.now.limit)
-            begun.now wants.now self.now granted }
-        ensures within { All StoresInSram result }
-    {
-        let [core0, core1, read, write] = wants;
-        let [grant0, grant1, grant2, grant3] = granted;
-        let seen = &begun.outer;
-        [
-            self.deed_of(world, seen, grant0, &core0.want),
-            self.deed_of(world, seen, grant1, &core1.want),
-            self.deed_of(world, seen, grant2, &read.want),
-            self.deed_of(world, seen, grant3, &write.want),
-        ]
+        let rival = &core0.want;
+        let (turn0, deed0) = self.served(world, &begun.outer, rival, grant0, core0);
+        let (turn1, deed1) = self.served(world, &begun.outer, rival, grant1, core1);
+        let (turn2, deed2) = self.served(world, &begun.outer, rival, grant2, read);
+        let (turn3, deed3) = self.served(world, &begun.outer, rival, grant3, write);
+        ([turn0, turn1, turn2, turn3], [deed0, deed1, deed2, deed3])
     }
 
     /// The lanes step by these turns.
@@ -353,7 +330,14 @@ impl Machine {
         let spot = spot_of(&wanted.want);
         let mut fabric = self.fabric;
         let granted = fabric.grant_core0(asked_by(&wanted.want, &spot));
-        let (turn, deed) = self.served(world, &begun.outer, granted, wanted, &spot);
+        let (turn, deed) = self.served_at(
+            world,
+            &begun.outer,
+            &wanted.want,
+            granted,
+            wanted,
+            &spot,
+        );
         self.fabric = fabric;
         self.step_lanes(
             world,
@@ -385,8 +369,7 @@ impl Machine {
         let wants = all_wanted(begun);
         let mut fabric = self.fabric;
         let granted = fabric.grant(&asked(&wants));
-        let turns = self.turns(world, begun, &wants, granted);
-        let deeds = self.deeds(world, begun, &wants, granted);
+        let (turns, deeds) = self.all_served(world, begun, &wants, granted);
         self.fabric = fabric;
         self.step_lanes(world, begun, turns, marks);
         self.do_deeds(world, &deeds);

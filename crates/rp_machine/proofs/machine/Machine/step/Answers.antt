@@ -1,4 +1,4 @@
-use Rattle.std.proofs.Common.{sym, ap, not, true, false, ◌∙◌}
+use Rattle.std.proofs.Common.{sym, ap, ◌∙◌}
 use Rattle.outer_lane.specs.Setting.{setting_of}
 use Rattle.rp_machine.specs.declared.wanted.Wanted.{Wanted}
 use Rattle.rp_machine.specs.Alone.{first_next}
