@@ -312,7 +312,7 @@ const SEEN: [Deed; 15] = [
     Deed::Reads(N_CHANNELS, 0),
     Deed::Hold(false),
     Deed::Reads(INTE0, 0),
-    Deed::Idle(false),
+    Deed::Idle(true),
     Deed::Cycle(0, 0),
     Deed::Idle(true),
 ];
