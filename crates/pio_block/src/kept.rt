@@ -5,7 +5,7 @@ use pio_machine::settings::Settings;
 use pio_machine::{Done, Machine1, Seen, is_steady, tick_by, tick_steady};
 use std::marker::Model;
 
-/// A machine, seen as its state. Beside it stand what its registers say, and whether it is known to be steady.
+/// A machine, seen as its state. Beside it stand what its registers say, and whether it is steady.
 #[derive(Drop)]
 pub(crate) struct Kept {
     machine: Machine1,
@@ -14,7 +14,7 @@ pub(crate) struct Kept {
 }
 
 impl Model for Kept {
-    ghost use Rattle.std.specs.Prelude.{◌≡◌, true};
+    ghost use Rattle.std.specs.Prelude.{◌≡◌, Decides};
     ghost use Rattle.pio_machine.specs.declared.machine.Machine1.{Machine1};
     ghost use Rattle.pio_machine.specs.Ready.{settings_of, IsSteady};
 
@@ -23,7 +23,7 @@ impl Model for Kept {
     ghost view = { λ k. k.machine };
 
     ghost invariant = { λ k. (k.settings ≡ settings_of k.machine)
-        × (k.steady ≡ true → IsSteady k.machine) };
+        × Decides k.steady (IsSteady k.machine) };
 }
 
 impl Kept {
@@ -42,10 +42,11 @@ impl Kept {
     {
         let machine = Machine1::new();
         let settings = Settings::of(&machine);
+        let steady = is_steady(&machine, &settings);
         Kept {
             machine,
             settings,
-            steady: false,
+            steady,
         }
     }
 
@@ -90,7 +91,7 @@ impl Kept {
     {
         control(&mut self.machine, number, word);
         self.settings = Settings::of(&self.machine);
-        self.steady = false;
+        self.steady = is_steady(&self.machine, &self.settings);
     }
 
     /// A write of FDEBUG, to the machine of that number.
@@ -121,7 +122,7 @@ impl Kept {
     {
         write_register(&mut self.machine, offset, word);
         self.settings = Settings::of(&self.machine);
-        self.steady = false;
+        self.steady = is_steady(&self.machine, &self.settings);
     }
 
     /// Sets the program counter.

@@ -1,6 +1,6 @@
 //! What the system does to one machine.
 
-ghost use Rattle.std.specs.Prelude.{◌≡◌, ◌<◌, length, slice_index};
+ghost use Rattle.std.specs.Prelude.{◌≡◌, ◌<◌, Bool, Decides};
 ghost use Rattle.pio_machine.specs.Ready.{IsSteady};
 ghost use Rattle.pio_block.specs.State.{is_running, is_written};
 ghost use Rattle.pio_block.specs.Control.{restarted_if, with_divider_restarted, controlled};
@@ -67,7 +67,8 @@ pub(crate) fn clear_stalls(machine: &mut Machine1, number: u32, word: u32)
 /// A write of TXF.
 pub(crate) fn send(machine: &mut Machine1, word: u32)
     ensures machine { machine.new ≡ with_sent word machine.old }
-    ensures steady { IsSteady machine.old → IsSteady machine.new }
+    ensures steady { (b : Bool) → Decides b (IsSteady machine.old)
+        → Decides b (IsSteady machine.new) }
 {
     if !machine.is_tx_full() {
         machine.tx.push(word);

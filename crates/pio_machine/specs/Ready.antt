@@ -1,4 +1,4 @@
--- What the registers of a machine say, ready to be used.
+-- What the registers of a machine say, ready to be used (RP2040 Datasheet, 3.5.1 to 3.5.6 and 3.7).
 use Rattle.std.specs.Prelude.{◌≡◌, ℕ, Bool, true, ◌&&◌, ◌==◌, if◌then◌else◌, None}
 use Rattle.pio_machine.specs.declared.machine.Machine1.{Machine1}
 use Rattle.pio_machine.specs.declared.settings.Settings.{Settings}
@@ -30,6 +30,6 @@ settings_of m =
       plain = is_plain m;
     }
 
--- a plain machine that ticks, and in which no word waits
+-- a plain machine that ticks, and in which no word waits that was written to INSTR or given by OUT EXEC or MOV EXEC (3.5.7)
 abbrev pub IsSteady : Machine1 → Type 0
 IsSteady m = (ticks m ≡ true) × (is_plain m ≡ true) × (m.waiting ≡ None)

@@ -1,6 +1,6 @@
 //! A tick of a steady machine: it ticks in each cycle, no word waits, and no bit of a word is for side-set.
 
-ghost use Rattle.std.specs.Prelude.{◌≡◌, ◌<◌, true};
+ghost use Rattle.std.specs.Prelude.{◌≡◌, ◌<◌, true, Decides};
 ghost use Rattle.pio_machine.specs.Cycle.{advanced, after_try, written_by_try, after_cycle, written_in_cycle};
 ghost use Rattle.pio_machine.specs.Ready.{settings_of, IsSteady};
 
@@ -89,7 +89,7 @@ pub fn tick_steady(
     ensures machine { machine.new ≡ after_cycle number seen.now machine.old }
     ensures done { done.new ≡ written_in_cycle number seen.now machine.old done.old }
     ensures settings { settings_of machine.new ≡ settings_of machine.old }
-    ensures steady { result ≡ true → IsSteady machine.new }
+    ensures steady { Decides result (IsSteady machine.new) }
 {
     let stays = machine.tick_steadily(settings, number, seen, done);
     stays || is_steady(machine, settings)
@@ -99,7 +99,7 @@ pub fn tick_steady(
 #[inline(always)]
 pub fn is_steady(machine: &Machine1, settings: &Settings) -> bool
     requires { settings.now ≡ settings_of machine.now }
-    ensures { result ≡ true → IsSteady machine.now }
+    ensures { Decides result (IsSteady machine.now) }
 {
     machine.ticks() && settings.plain && machine.waiting.is_none()
 }
