@@ -3,7 +3,7 @@
 ghost use Rattle.rp_base.specs.declared.Master.TheVariants.{Core0};
 ghost use Rattle.bus_fabric.specs.Alone.{at_most_core0};
 
-use crate::{APB, Fabric, Hold, is_last, shortened};
+use crate::{APB, Fabric, Hold, cycles_left, is_last, shortened};
 use rp_base::Master;
 
 impl Fabric {
@@ -17,9 +17,9 @@ impl Fabric {
         ensures { result ≡ hold_after (at_most_core0 asked) self.now self.now.hold }
     {
         match (self.hold, asked) {
-            (None, Some((APB, write))) => Some(Hold {
+            (None, Some((APB, _))) => Some(Hold {
                 holder: Some(Master::Core0),
-                left: if write { 3 } else { 2 },
+                left: cycles_left(asked),
             }),
             (None, _) => None,
             (Some(hold), _) if is_last(&hold) => None,
@@ -29,7 +29,7 @@ impl Fabric {
 
     /// The same where an access lasts or begins to last.
     #[inline(never)]
-    fn grant_slowly(&mut self, asked: Option<(u8, bool)>) -> bool
+    fn grant_lasting(&mut self, asked: Option<(u8, bool)>) -> bool
         requires { HasPort asked }
         ensures done { result ≡ is_done (at_most_core0 asked) self.old Core0 }
         ensures after { self.new ≡ after_grant (at_most_core0 asked) self.old }
@@ -52,8 +52,8 @@ impl Fabric {
         done
     }
 
-    /// One cycle in which core 0 asks for this port, 0 to 7, and whether it writes, or for nothing, and no other master asks: what
-    /// `grant` does. Whether its access is done.
+    /// One cycle in which core 0 asks for this port, 0 to 7, and whether it writes, or for nothing, and no other master asks:
+    /// what `grant` does. Whether its access is done.
     #[inline(always)]
     pub fn grant_core0(&mut self, asked: Option<(u8, bool)>) -> bool
         requires { HasPort asked }
@@ -65,7 +65,7 @@ impl Fabric {
                 self.last[port as usize] = Master::Core0;
                 true
             }
-            _ => self.grant_slowly(asked),
+            _ => self.grant_lasting(asked),
         }
     }
 }

@@ -1,9 +1,8 @@
 use Rattle.std.proofs.Common.{ap, sym, slice_set, ◌∙◌}
 use Rattle.rp_base.specs.declared.Master.TheVariants.{Core0}
 use Rattle.bus_fabric.specs.State.{Crossbar}
-use Rattle.bus_fabric.specs.Grant.{is_free}
 use Rattle.bus_fabric.proofs.Alone.{after_none, after_won, after_held}
-use Rattle.bus_fabric.proofs.Fabric.grant_slowly.Goals as goal
+use Rattle.bus_fabric.proofs.Fabric.grant_lasting.Goals as goal
 
 pub returns-in_default-clause-after : goal.returns-in_default-clause-after
 returns-in_default-clause-after c =
