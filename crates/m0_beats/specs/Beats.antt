@@ -1,7 +1,7 @@
 -- The beats of an instruction: its cycles inside the core and its accesses (ARM Cortex-M0+ Technical Reference Manual, 3.3,
 -- Instruction set summary, with the single-cycle port for the addresses that begin with hexadecimal D). The number N of
 -- registers in the timing of LDM, STM, PUSH and POP counts LR and PC.
-use Rattle.std.specs.Prelude.{◌≡◌, ℕ, ◌+◌, ◌-◌, ◌*◌, ◌/◌, ◌%◌, ◌^◌, Bool, false, not, ◌==◌, nat_le, if◌then◌else◌, List, [], ◌∷◌, ◌++◌, length, Option, Some, None, replicate, map, filter}
+use Rattle.std.specs.Prelude.{◌≡◌, ℕ, ◌+◌, ◌-◌, ◌*◌, ◌/◌, ◌%◌, ◌^◌, Bool, true, false, not, ◌==◌, nat_le, if◌then◌else◌, List, [], ◌∷◌, ◌++◌, length, Option, Some, None, replicate, map, filter}
 use Rattle.std.specs.List.{list_any}
 use Rattle.rp_base.specs.Word.{has_bit}
 use Rattle.rp_base.specs.declared.Size.{Size}
@@ -107,6 +107,12 @@ beats_of_action (act.StoreMany n list) s = Inner ∷ writes (register_of s n) (r
 beats_of_action (act.Push list) s = Inner ∷ writes (push_address list s) (registers_of list) s
 beats_of_action (act.Pop list) s = pop_beats list s
 beats_of_action _ s = inner 1
+
+-- a load or a store of one register, which has one access and no beat behind it
+abbrev pub is_one_access : Action → Bool
+is_one_access (act.Load t size sign x y) = true
+is_one_access (act.Store t size x y) = true
+is_one_access _ = false
 
 unfoldable pub beats_of : Op → Regs → List Beat
 beats_of op s = beats_of_action (action_of op) s

@@ -1,12 +1,13 @@
 //! How many beats an instruction has, by the timing table (ARM Cortex-M0+ Technical Reference Manual, 3.3).
 
-ghost use Rattle.std.specs.Prelude.{◌≡◌, ◌≤◌, length};
-ghost use Rattle.m0_beats.specs.Beats.{registers_of, beats_of};
+ghost use Rattle.std.specs.Prelude.{◌≡◌, ◌+◌, ◌-◌, ◌^◌, ◌<◌, ◌≤◌, true, nat_lt, length};
+ghost use Rattle.m0_beats.specs.Beats.{registers_of, is_one_access, beats_of};
 ghost use Rattle.m0_beats.specs.Shapes.{beats_of_shape};
 
 use crate::effects::is_listed;
 use crate::registers::Regs;
-use crate::table::{Shape, shape_of};
+use crate::rows::{Action, classify};
+use crate::table::{Shape, action_shape, shape_of};
 use rp_base::op::Op;
 
 /// How many beats the instruction has: the length of the list that `beats` gives.
@@ -15,6 +16,30 @@ pub fn beat_count(op: &Op, regs: &Regs) -> usize
     ensures { result ≡ length (beats_of op.now regs.now) }
 {
     shape_count(&shape_of(op, regs), regs)
+}
+
+/// A load or a store of one register.
+#[inline(always)]
+fn is_one_access(action: &Action) -> bool
+    ensures { result ≡ is_one_access action.now }
+{
+    matches!(action, Action::Load(..) | Action::Store(..))
+}
+
+/// Where so many beats of an instruction are done, and one more, it has another one. The second beat of a load or a store of one
+/// register is its last, whatever the address.
+#[inline(always)]
+#[tactic(auto, unfolding(crate::specs::Beats::beats_of))]
+pub fn has_more(op: &Op, regs: &Regs, done: usize) -> bool
+    ensures value { result ≡ nat_lt (done + 1) (length (beats_of op.now regs.now)) }
+    ensures room { result ≡ true → done < 2 ^ 64 - 1 }
+{
+    let action = classify(op);
+    if 0 < done && is_one_access(&action) {
+        return false;
+    }
+    let count = shape_count(&action_shape(&action, regs), regs);
+    count > 1 && done < count - 1
 }
 
 /// How many beats a row of the table has.

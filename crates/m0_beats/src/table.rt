@@ -42,7 +42,7 @@ pub fn shape_of(op: &Op, regs: &Regs) -> Shape
 
 /// The beats of an action: the rows of the table.
 #[inline(always)]
-fn action_shape(action: &Action, regs: &Regs) -> Shape
+pub(crate) fn action_shape(action: &Action, regs: &Regs) -> Shape
     ensures { beats_of_shape result regs.now ≡ beats_of_action action.now regs.now }
 {
     match *action {

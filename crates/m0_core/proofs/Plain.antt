@@ -17,7 +17,7 @@ use Rattle.m0_nvic.specs.Changes.{pended}
 use Rattle.lane_look.specs.Asking.Asking.{Ready}
 use Rattle.m0_core.specs.declared.doing.Act.TheVariants as act
 use Rattle.m0_core.specs.declared.doing.Work.TheVariants as works
-use Rattle.m0_core.specs.Kinds.{awaits_event, awaits_interrupt, is_breakpoint, is_call, is_undefined, is_branch, is_plain, is_single}
+use Rattle.m0_core.specs.Kinds.{awaits_event, awaits_interrupt, is_breakpoint, is_call, is_undefined, is_branch, is_plain, is_single, is_one_access}
 use Rattle.m0_core.specs.Fetch.{asks_beat, asks_decoded, asks_fault, beat_of, in_beat, is_callable, is_faulty, stopped}
 use Rattle.m0_core.specs.Cycle.{returning, ended, after_inner, passed, passed_instruction, passed_of, is_paused_op, waiting}
 use Rattle.m0_core.specs.State.{State}
@@ -343,12 +343,51 @@ same_end o s call wait value p q r =
     (ap (λ e. record s { regs = effect_of o s.regs s.read; event = e; work = None; beats_done = 0; read = [] })
     (and-true s.event))
 
-pub plain_ended : (o : Op) (s : State) → is_plain o ≡ true →
+plain_ended : (o : Op) (s : State) → is_plain o ≡ true →
     ended o s ≡ record s { regs = effect_of o s.regs s.read; work = None; beats_done = 0; read = [] }
 unfolding ended
 plain_ended o s h =
     let q = inner_only o h in
     same_end o s (is_call o) (awaits_event o) (return_of o s.regs s.read) q.0 q.1.0 (q.1.1.1 s.regs s.read)
+
+access_only : (o : Op) → is_one_access o ≡ true →
+    (is_call o ≡ false) × ((awaits_event o ≡ false) × ((awaits_interrupt o ≡ false) × ((g : Regs) (read : List ℕ) → return_of o g read ≡ None)))
+unfolding return_of
+access_only (op.LdrLit t i) h = (refl, (refl, (refl, λ g read. refl)))
+access_only (op.StrReg m n t) h = (refl, (refl, (refl, λ g read. refl)))
+access_only (op.StrhReg m n t) h = (refl, (refl, (refl, λ g read. refl)))
+access_only (op.StrbReg m n t) h = (refl, (refl, (refl, λ g read. refl)))
+access_only (op.LdrsbReg m n t) h = (refl, (refl, (refl, λ g read. refl)))
+access_only (op.LdrReg m n t) h = (refl, (refl, (refl, λ g read. refl)))
+access_only (op.LdrhReg m n t) h = (refl, (refl, (refl, λ g read. refl)))
+access_only (op.LdrbReg m n t) h = (refl, (refl, (refl, λ g read. refl)))
+access_only (op.LdrshReg m n t) h = (refl, (refl, (refl, λ g read. refl)))
+access_only (op.StrImm i n t) h = (refl, (refl, (refl, λ g read. refl)))
+access_only (op.LdrImm i n t) h = (refl, (refl, (refl, λ g read. refl)))
+access_only (op.StrbImm i n t) h = (refl, (refl, (refl, λ g read. refl)))
+access_only (op.LdrbImm i n t) h = (refl, (refl, (refl, λ g read. refl)))
+access_only (op.StrhImm i n t) h = (refl, (refl, (refl, λ g read. refl)))
+access_only (op.LdrhImm i n t) h = (refl, (refl, (refl, λ g read. refl)))
+access_only (op.StrSp t i) h = (refl, (refl, (refl, λ g read. refl)))
+access_only (op.LdrSp t i) h = (refl, (refl, (refl, λ g read. refl)))
+access_only _ h = absurd (cc h)
+
+-- so has a load or a store of one register
+access_ended : (o : Op) (s : State) → is_one_access o ≡ true →
+    ended o s ≡ record s { regs = effect_of o s.regs s.read; work = None; beats_done = 0; read = [] }
+unfolding ended
+access_ended o s h =
+    let q = access_only o h in
+    same_end o s (is_call o) (awaits_event o) (return_of o s.regs s.read) q.0 q.1.0 (q.1.1.1 s.regs s.read)
+
+ended_by : (o : Op) (s : State) (plain : Bool) → is_plain o ≡ plain → (plain || is_one_access o) ≡ true →
+    ended o s ≡ record s { regs = effect_of o s.regs s.read; work = None; beats_done = 0; read = [] }
+ended_by o s true p h = plain_ended o s p
+ended_by o s false p h = access_ended o s h
+
+pub plainly_ended : (o : Op) (s : State) → (is_plain o || is_one_access o) ≡ true →
+    ended o s ≡ record s { regs = effect_of o s.regs s.read; work = None; beats_done = 0; read = [] }
+plainly_ended o s h = ended_by o s (is_plain o) refl h
 
 -- a plain instruction that is no branch has one beat, and is done at its end
 one_beat : (o : Op) → is_single o ≡ true → (g : Regs) → (beats_of o g ≡ inner 1) × (awaits_interrupt o ≡ false)
@@ -461,9 +500,15 @@ single_after o s h =
     ap (λ paused. cond paused (waiting (works.Instruction o) s) (passed (works.Instruction o) None s)) (goes_on o s inner.1.0 one.1)
     ∙ passes o s (length (beats_of o s.regs)) (ap length one.0)
 
--- a plain instruction does not last
-pub plain_after : (o : Op) (s : State) → is_plain o ≡ true → after_inner (works.Instruction o) s ≡ passed_instruction o s
+-- a plain instruction does not last, nor does a load or a store of one register
+awaits_nothing : (o : Op) (plain : Bool) → is_plain o ≡ plain → (plain || is_one_access o) ≡ true → (awaits_event o ≡ false) × (awaits_interrupt o ≡ false)
+awaits_nothing o true p h =
+    let inner = inner_only o p in (inner.1.0, inner.1.1.0)
+awaits_nothing o false p h =
+    let access = access_only o h in (access.1.0, access.1.1.0)
+
+pub plainly_after : (o : Op) (s : State) → (is_plain o || is_one_access o) ≡ true → after_inner (works.Instruction o) s ≡ passed_instruction o s
 unfolding after_inner passed
-plain_after o s h =
-    let inner = inner_only o h in
-    ap (λ paused. cond paused (waiting (works.Instruction o) s) (passed (works.Instruction o) None s)) (goes_on o s inner.1.0 inner.1.1.0)
+plainly_after o s h =
+    let none = awaits_nothing o (is_plain o) refl h in
+    ap (λ paused. cond paused (waiting (works.Instruction o) s) (passed (works.Instruction o) None s)) (goes_on o s none.0 none.1)

@@ -4,6 +4,7 @@ ghost use Rattle.std.specs.Prelude.{◌≡◌};
 ghost use Rattle.m0_core.specs.declared.doing.Act.TheVariants.{Asleep};
 ghost use Rattle.m0_core.specs.Fetch.{ends_with};
 
+use crate::placed::Placed;
 use rp_base::op::Op;
 use rp_base::{Request, Why};
 
@@ -30,11 +31,11 @@ pub enum Act {
     /// A beat inside the core.
     Inner(Work),
     /// A read of SRAM, whose word is this at the start of the cycle.
-    Read(Work, Request, u32),
+    Read(Work, Placed, u32),
     /// A write to SRAM.
-    Write(Work, Request),
+    Write(Work, Placed),
     /// An access that is neither to SRAM nor to the private bus.
-    Outward(Work, Request),
+    Outward(Work, Placed),
     /// An access to the word of the private bus at that offset.
     Private(Work, Request, u16),
 }

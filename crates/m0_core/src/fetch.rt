@@ -12,6 +12,7 @@ ghost use Rattle.m0_core.specs.Fetch.{is_ram, is_locked, asks_fault, is_callable
 use crate::doing::{Act, Doing, Work};
 use crate::exceptions::RETURN_BEATS;
 use crate::kinds::{is_branch, is_breakpoint, is_call, is_plain, is_undefined};
+use crate::placed::Placed;
 use crate::processor::Core;
 use crate::returns::{is_misfit, value_at};
 use lane_look::{Ask, Look};
@@ -51,15 +52,16 @@ fn word_of(answer: u128) -> u32
 
 /// An access to SRAM; a read asks for its word.
 #[inline(always)]
-fn begin_ram<K: Look>(work: Work, request: Request, look: &mut K, act: &mut Act)
-    ensures { Runs K.answers look.old (in_ram work request request.write) act.new look.new }
+fn begin_ram<K: Look>(work: &Work, access: Placed, look: &mut K, act: &mut Act)
+    ensures { Runs K.answers look.old (in_ram work.now access access.write) act.new look.new }
 {
+    let request = *access.request();
     match request.write {
         None => {
             let answer = look.ask(Ask::Word(request.address));
-            *act = Act::Read(work, request, word_of(answer));
+            *act = Act::Read(*work, access, word_of(answer));
         }
-        Some(_) => *act = Act::Write(work, request),
+        Some(_) => *act = Act::Write(*work, access),
     }
 }
 
@@ -84,11 +86,11 @@ impl Core {
     }
 
     /// An access to the private bus, or the stop at it.
-    fn begin_private(&self, work: Work, request: Request, offset: u16, act: &mut Act)
-        ensures { Ready act.new ≡ in_private work request offset self.now }
+    fn begin_private(&self, work: &Work, request: Request, offset: u16, act: &mut Act)
+        ensures { Ready act.new ≡ in_private work.now request offset self.now }
     {
         if self.nvic.allows(offset, word_written(&request)) {
-            *act = Act::Private(work, request, offset);
+            *act = Act::Private(*work, request, offset);
         } else {
             *act = self.outside(request.address);
         }
@@ -96,15 +98,16 @@ impl Core {
 
     /// An access, by the spot that it goes to.
     #[inline(always)]
-    fn begin_access<K: Look>(&self, work: Work, request: Request, look: &mut K, act: &mut Act)
-        ensures { Runs K.answers look.old (at_spot work request self.now (place_of request.address))
-            act.new look.new }
+    fn begin_access<K: Look>(&self, work: &Work, request: Request, look: &mut K, act: &mut Act)
+        ensures { Runs K.answers look.old
+            (at_spot work.now request self.now (place_of request.address)) act.new look.new }
     {
-        match place(request.address) {
-            Spot::Ram { .. } => begin_ram(work, request, look, act),
+        let access = Placed::new(request);
+        match *access.spot() {
+            Spot::Ram { .. } => begin_ram(work, access, look, act),
             Spot::Ppb { offset } => self.begin_private(work, request, offset, act),
             Spot::Reg { .. } | Spot::Sio { .. } | Spot::Outside => {
-                *act = Act::Outward(work, request);
+                *act = Act::Outward(*work, access);
             }
         }
     }
@@ -112,11 +115,11 @@ impl Core {
     /// A beat.
     #[inline(always)]
     #[tactic(auto, unfolding(crate::specs::Fetch::asks_beat))]
-    fn begin_beat<K: Look>(&self, work: Work, look: &mut K, act: &mut Act)
-        ensures { Runs K.answers look.old (asks_beat work self.now) act.new look.new }
+    fn begin_beat<K: Look>(&self, work: &Work, look: &mut K, act: &mut Act)
+        ensures { Runs K.answers look.old (asks_beat work.now self.now) act.new look.new }
     {
-        match self.beat_of_work(&work) {
-            Beat::Inner => *act = Act::Inner(work),
+        match self.beat_of_work(work) {
+            Beat::Inner => *act = Act::Inner(*work),
             Beat::Access(request) => self.begin_access(work, request, look, act),
         }
     }
@@ -180,7 +183,7 @@ impl Core {
         } else if self.locks_last(value) {
             *act = Act::Stopped(Why::Lockup(self.number()));
         } else {
-            self.begin_beat(Work::Return(value), look, act);
+            self.begin_beat(&Work::Return(value), look, act);
         }
     }
 
@@ -195,7 +198,7 @@ impl Core {
         let work = Work::Instruction(op);
         match shape_beat(shape, &self.regs, self.beats_done).unwrap_or(Beat::Inner) {
             Beat::Inner => *act = Act::Inner(work),
-            Beat::Access(request) => self.begin_access(work, request, look, act),
+            Beat::Access(request) => self.begin_access(&work, request, look, act),
         }
     }
 
@@ -291,7 +294,7 @@ impl Core {
         ensures { Runs K.answers look.old (asks_beat (Work.Entry number) self.now) act.new
             look.new }
     {
-        self.begin_beat(Work::Entry(number), look, act);
+        self.begin_beat(&Work::Entry(number), look, act);
     }
 
     /// The entry to an exception, or the next instruction.
@@ -308,13 +311,13 @@ impl Core {
 
     /// The next beat of what is in progress. All beats of a branch by an offset are inside the core.
     #[inline(always)]
-    fn begin_work<K: Look>(&self, work: Work, look: &mut K, act: &mut Act)
-        ensures { Runs K.answers look.old (asks_work work self.now) act.new look.new }
+    fn begin_work<K: Look>(&self, work: &Work, look: &mut K, act: &mut Act)
+        ensures { Runs K.answers look.old (asks_work work.now self.now) act.new look.new }
     {
         match work {
-            Work::Instruction(op) if is_branch(&op) => *act = Act::Inner(work),
+            Work::Instruction(op) if is_branch(op) => *act = Act::Inner(*work),
             Work::Instruction(_) | Work::Entry(_) => self.begin_beat(work, look, act),
-            Work::Return(value) => self.begin_return(value, look, act),
+            Work::Return(value) => self.begin_return(*value, look, act),
         }
     }
 
@@ -324,7 +327,7 @@ impl Core {
     fn begin_awake<K: Look>(&self, look: &mut K, act: &mut Act)
         ensures { Runs K.answers look.old (asks_awake self.now) act.new look.new }
     {
-        match self.work {
+        match &self.work {
             None => self.begin_boundary(look, act),
             Some(work) => self.begin_work(work, look, act),
         }

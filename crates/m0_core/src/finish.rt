@@ -1,17 +1,18 @@
 //! What a core wants in a cycle, and how the cycle ends.
 
-ghost use Rattle.std.specs.Prelude.{◌≡◌, ◌<◌, ℕ, Decides, if◌then◌else◌, length, true, Some, slice_get};
+ghost use Rattle.std.specs.Prelude.{◌≡◌, ◌<◌, ◌||◌, Decides, if◌then◌else◌, true, Some, slice_get};
 ghost use Rattle.lane_look.specs.declared.lane.Want.TheVariants.{Nothing};
-ghost use Rattle.m0_core.specs.Kinds.{is_plain};
-ghost use Rattle.m0_beats.specs.Beats.{beats_of};
-ghost use Rattle.m0_core.specs.Cycle.{signals, want_of, with_value, waiting, followed, with_read, returning, called, ended, passed_instruction, passed_entry, passed_return, passed_work, passed, is_paused_op, is_paused, after_inner, faulted, word_of, done_word, after_access, value_of, after_outward, after_private, after, closed, is_idle, next};
+ghost use Rattle.m0_core.specs.Kinds.{is_plain, is_one_access};
+ghost use Rattle.m0_core.specs.Cycle.{signals, want_of, waiting, followed, with_read, returning, called, ended, passed_instruction, passed_entry, passed_return, passed_work, passed, is_paused_op, is_paused, after_inner, faulted, done_word, after_access, value_of, after_outward, after_private, after, closed, is_idle, next};
 
 use crate::doing::{Act, Doing, Work};
 use crate::exceptions::{ENTRY_BEATS, RETURN_BEATS};
-use crate::kinds::{awaits_event, awaits_interrupt, is_call, is_plain, is_signal, is_single};
+use crate::kinds::{
+    awaits_event, awaits_interrupt, is_call, is_one_access, is_plain, is_signal, is_single,
+};
 use crate::processor::Core;
 use lane_look::{Turn, Want};
-use m0_beats::{beat_count, effect, exception_return};
+use m0_beats::{effect, exception_return, has_more};
 use m0_nvic::numbers::{HARDFAULT, SVCALL};
 use rp_base::Request;
 use rp_base::access::lanes;
@@ -41,8 +42,8 @@ pub(crate) fn want(begun: &Doing) -> Want
                 Want::Nothing
             }
         }
-        Act::Read(_, request, _) | Act::Write(_, request) => Want::Ram(request),
-        Act::Outward(_, request) => Want::Outward(request),
+        Act::Read(_, access, _) | Act::Write(_, access) => Want::Ram(*access.request()),
+        Act::Outward(_, access) => Want::Outward(*access.request()),
     }
 }
 
@@ -135,11 +136,12 @@ impl Core {
         }
     }
 
-    /// The last beat of a plain instruction is over: it begins no return, is no call and waits for nothing.
+    /// The last beat of a plain instruction, or of a load or a store of one register, is over: it begins no return, is no call
+    /// and waits for nothing.
     #[inline(always)]
-    #[tactic(auto, using(crate::proofs::Plain::plain_ended))]
+    #[tactic(auto, using(crate::proofs::Plain::plainly_ended))]
     fn end_plain(&mut self, op: &Op)
-        requires { is_plain op.now ≡ true }
+        requires { (is_plain op.now || is_one_access op.now) ≡ true }
         ensures { self.new ≡ ended op.now self.old }
     {
         effect(op, &mut self.regs, self.read.as_slice());
@@ -148,9 +150,10 @@ impl Core {
         self.read.clear();
     }
 
-    /// A beat of a plain instruction is over, as most are; false where the work is other, and then nothing changes.
+    /// An inner beat of a plain instruction, or of a load or a store of one register, is over, as most are; false where the work
+    /// is other, and then nothing changes.
     #[inline(always)]
-    #[tactic(auto, using(crate::proofs::Plain::single_after, crate::proofs::Plain::single_plain, crate::proofs::Plain::plain_after))]
+    #[tactic(auto, using(crate::proofs::Plain::single_after, crate::proofs::Plain::single_plain, crate::proofs::Plain::plainly_after))]
     pub(crate) fn pass_plain(&mut self, work: &Work) -> bool
         ensures { self.new ≡ (if result then after_inner work.now self.old else self.old) }
     {
@@ -159,7 +162,7 @@ impl Core {
                 self.end_plain(op);
                 true
             }
-            Work::Instruction(op) if is_plain(op) => {
+            Work::Instruction(op) if is_plain(op) || is_one_access(op) => {
                 self.pass_instruction(op);
                 true
             }
@@ -185,7 +188,7 @@ impl Core {
     fn end(&mut self, op: &Op)
         ensures { self.new ≡ ended op.now self.old }
     {
-        if is_plain(op) {
+        if is_plain(op) || is_one_access(op) {
             self.end_plain(op);
             return;
         }
@@ -204,8 +207,7 @@ impl Core {
     fn pass_instruction(&mut self, op: &Op)
         ensures { self.new ≡ passed_instruction op.now self.old }
     {
-        let count = beat_count(op, &self.regs);
-        if count > 1 && self.beats_done < count - 1 {
+        if has_more(op, &self.regs, self.beats_done) {
             self.work = Some(Work::Instruction(*op));
             self.beats_done += 1;
         } else {
@@ -349,12 +351,13 @@ impl Core {
             Act::Asleep | Act::Stopped(_) => {}
             Act::Fault => self.fault(),
             Act::Inner(work) => self.after_inner(work),
-            Act::Read(work, request, told) => {
+            Act::Read(work, access, told) => {
+                let request = access.request();
                 let value = lanes(request.size, request.address, *told);
                 self.after_access(word, work, Some(value));
             }
             Act::Write(work, _) => self.after_access(word, work, None),
-            Act::Outward(work, request) => self.after_outward(word, work, request),
+            Act::Outward(work, access) => self.after_outward(word, work, access.request()),
             Act::Private(work, request, offset) => self.after_private(work, request, *offset),
         }
     }

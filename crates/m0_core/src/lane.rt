@@ -45,7 +45,9 @@ impl Lane<()> for Core {
                 return;
             }
         }
-        if let (Act::Outward(work, _), Turn::Wait) = (&begun.act, &turns[0]) {
+        if let (Act::Outward(work, _) | Act::Write(work, _) | Act::Read(work, _, _), Turn::Wait) = (
+            &begun.act, &turns[0],
+        ) {
             self.wait(work);
             self.close(begun.lines, begun.cycle);
             return;

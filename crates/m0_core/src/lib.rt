@@ -13,9 +13,11 @@ mod finish;
 mod kinds;
 mod lane;
 pub mod laws;
+pub mod placed;
 mod private;
 pub mod processor;
 mod returns;
 
 pub use doing::{Act, Doing, Work};
+pub use placed::Placed;
 pub use processor::Core;

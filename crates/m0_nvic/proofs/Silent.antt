@@ -1,5 +1,5 @@
 -- Where no interrupt line is high, and none was in the cycle before, the lines change nothing.
-use Rattle.std.proofs.Common.{◌≡◌, ◌-◌, ◌^◌, Bool, true, false, ◌||◌, refl, ap, sym, ◌∙◌}
+use Rattle.std.proofs.Common.{◌≡◌, ◌-◌, ◌^◌, refl, ap, sym, ◌∙◌}
 use Rattle.std.specs.Prelude.{bit_and}
 use Rattle.std.proofs.Math.Bool.{or-false}
 use Rattle.std.specs.Int.Bits.{and_zero_l, or_zero_r}
