@@ -1,5 +1,5 @@
 -- An engine at rest asks nothing and stays as it is.
-use Rattle.std.proofs.Common.{◌≡◌, ℕ, zero, suc, ◌+◌, ◌%◌, Bool, true, false, not, ◌&&◌, ◌||◌, cond, List, [], ◌∷◌, length, drop, nat_eq, nat_lt, refl, ap, ◌∙◌, arith, get_or, Option, Some, None, ◌⊎◌, inl, inr}
+use Rattle.std.proofs.Common.{◌≡◌, ℕ, zero, suc, ◌+◌, ◌%◌, Bool, true, false, not, ◌&&◌, ◌||◌, cond, List, [], ◌∷◌, length, drop, nat_eq, nat_lt, refl, ap, sym, ◌∙◌, arith, get_or, Option, Some, None, ◌⊎◌, inl, inr}
 use Rattle.std.specs.Prelude.{is_none, bit_and, bit_or}
 use Rattle.std.specs.Int.Bits.{and_zero_l}
 use Rattle.std.specs.List.{list_all, list_any}
@@ -196,17 +196,11 @@ silent_lines s h =
     (silent s.line_0.enable s.line_0.force s.raised r f0)
     ∙ ap (λ b. false ∷ b ∷ []) (silent s.line_1.enable s.line_1.force s.raised r f1)
 
--- ---- a flag that tells of rest
+-- ---- one of two flags tells of rest, the other of a pause
 
-pub told : (flag still : Bool) → (not flag || still) ≡ true → flag ≡ true → still ≡ true
-told true still h e = h
-told false still h e = absurd (cc)
-
--- and one of two
-pub either_told : (a b still pauses : Bool) → (not a || still) ≡ true → (not b || pauses) ≡ true → (a || b) ≡ true →
-    (still ≡ true) ⊎ (pauses ≡ true)
-either_told true b still pauses h i e = inl h
-either_told false true still pauses h i e = inr i
+pub either_told : (a b still pauses : Bool) → a ≡ still → b ≡ pauses → (a || b) ≡ true → (still ≡ true) ⊎ (pauses ≡ true)
+either_told true b still pauses h i e = inl (sym h)
+either_told false true still pauses h i e = inr (sym i)
 either_told false false still pauses h i e = absurd (cc)
 
 rests_of : (s : Engine) → is_still s ≡ true → is_at_rest s ≡ true
@@ -224,8 +218,4 @@ stays_still s h = stays_at_rest s (rests_of s h)
 pub lines-still : (s : Engine) → is_still s ≡ true → lines_of s ≡ false ∷ false ∷ []
 lines-still s h = silent_lines s (both_right (is_at_rest s) _ h)
 
-pub not_or : (still : Bool) → (not still || still) ≡ true
-not_or true = refl
-not_or false = refl
-
-pub ruleset at_rest = (next-still, asks-still, stays_still, lines-still, told, not_or)
+pub ruleset at_rest = (next-still, asks-still, stays_still, lines-still)

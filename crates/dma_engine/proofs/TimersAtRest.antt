@@ -1,6 +1,6 @@
--- Timers that are all at rest change nothing.
-use Rattle.std.proofs.Common.{◌≡◌, ℕ, zero, suc, Bool, true, false, not, ◌&&◌, List, [], ◌∷◌, refl, ap, sym, ◌∙◌, get_or}
-use Rattle.std.specs.Prelude.{map}
+-- Timers that are all at rest change nothing, and a step of the timers keeps which of them run.
+use Rattle.std.proofs.Common.{◌≡◌, ℕ, zero, suc, Bool, true, false, not, ◌&&◌, cond, List, [], ◌∷◌, length, nat_eq, refl, ap, sym, ◌∙◌, get_or}
+use Rattle.std.specs.Prelude.{is_none, map}
 use Rattle.std.specs.List.{list_all, list_any}
 use Rattle.dma_engine.specs.declared.pace.Pace.{Pace}
 use Rattle.dma_engine.specs.declared.pace.Pace.TheVariants as pace
@@ -8,8 +8,10 @@ use Rattle.dma_engine.specs.declared.timer.PacingTimer.{PacingTimer}
 use Rattle.dma_engine.specs.State.{Engine, channel_at}
 use Rattle.dma_engine.specs.Control.{treq_of}
 use Rattle.dma_engine.specs.Choice.{pace_of}
-use Rattle.dma_engine.specs.Timer.{gives, stepped, given_by, is_given, gets_credit, with_credit, with_stepped_timers, after_timers}
-use Rattle.dma_engine.specs.Rest.{is_idle_timer}
+use Rattle.dma_engine.specs.Timer.{runs, accumulated, gives, stepped, given_by, is_given, gets_credit, with_credit, with_stepped_timers, after_timers}
+use Rattle.dma_engine.specs.Rest.{is_idle_channel, is_idle_timer, is_at_rest, is_still}
+use Rattle.dma_engine.specs.Paused.{is_paused}
+use Rattle.dma_engine.specs.Words.{is_silent}
 use Rattle.dma_engine.proofs.InTurn.{in_turn-all_failing}
 
 pub both_left : (a b : Bool) → (a && b) ≡ true → a ≡ true
@@ -79,3 +81,43 @@ gets_none s given is h n =
     both_not (channel_at n s).busy _
     (is_given-none (given_by s.timers) (pace_of (treq_of (channel_at n s)))
     (λ k. none_in (given_by s.timers) (sym (ap (list_any (λ b. b)) is) ∙ h) k))
+
+-- ---- a step keeps whether a timer runs
+
+either_way : (f : PacingTimer → Bool) (b : Bool) (x y : PacingTimer) (r : Bool) → f x ≡ r → f y ≡ r → f (cond b x y) ≡ r
+either_way f true x y r h i = h
+either_way f false x y r h i = i
+
+runs_on : (t : PacingTimer) → is_idle_timer (stepped t) ≡ is_idle_timer t
+runs_on t = either_way is_idle_timer (runs t) (record t { accumulator = accumulated t }) t (is_idle_timer t) refl refl
+
+run_on : (ts : List PacingTimer) → list_all is_idle_timer (map stepped ts) ≡ list_all is_idle_timer ts
+run_on [] = refl
+run_on (t ∷ ts) =
+    ap (λ b. b && list_all is_idle_timer (map stepped ts)) (runs_on t) ∙ ap (λ b. is_idle_timer t && b) (run_on ts)
+
+still_timers : (s : Engine) → is_at_rest (with_stepped_timers s) ≡ is_at_rest s
+unfolding is_at_rest
+still_timers s =
+    ap (λ b. is_none s.chosen && (nat_eq (length s.waiting) 0 && (list_all is_idle_channel s.channels && b))) (run_on s.timers)
+
+paused_timers : (s : Engine) → is_paused (with_stepped_timers s) ≡ is_paused s
+unfolding is_paused
+paused_timers s = refl
+
+-- so the engine rests, or is paused, as before
+pub still-stepped : (s new : Engine) → new ≡ with_stepped_timers s → is_still new ≡ is_still s
+still-stepped s new h = ap is_still h ∙ ap (λ b. b && is_silent s) (still_timers s)
+
+pub paused-stepped : (s new : Engine) → new ≡ with_stepped_timers s → is_paused new ≡ is_paused s
+paused-stepped s new h = ap is_paused h ∙ paused_timers s
+
+-- the same of an engine that was opened, whose timers stepped or did not
+pub still-passed : (e s : Engine) (timers : List PacingTimer) (r : Bool) → e ≡ s → (r ≡ true → timers ≡ map stepped e.timers) →
+    (r ≡ false → timers ≡ e.timers) → is_still (record e { timers = timers }) ≡ is_still s
+still-passed e s timers true is after before =
+    ap (λ ts. is_still (record e { timers = ts })) (after refl) ∙ still-stepped e (with_stepped_timers e) refl ∙ ap is_still is
+still-passed e s timers false is after before =
+    ap (λ ts. is_still (record e { timers = ts })) (before refl) ∙ ap is_still is
+
+pub ruleset stepping = (still-stepped, paused-stepped)

@@ -13,14 +13,14 @@ use std::marker::Model;
 #[derive(Drop)]
 pub struct Dma {
     pub(crate) engine: Engine,
-    /// Nothing happens until a register is written, and both interrupt lines are low.
+    /// `is_still` of the engine: nothing is at work, and no interrupt is raised or forced.
     pub(crate) at_rest: bool,
-    /// Nothing moves until a register is written or a pacing timer gives a credit.
+    /// `is_paused` of the engine: nothing moves until a register is written or a pacing timer gives a credit.
     pub(crate) paused: bool,
 }
 
 impl Model for Dma {
-    ghost use Rattle.std.specs.Prelude.{◌≡◌, ◌||◌, not, true};
+    ghost use Rattle.std.specs.Prelude.{◌≡◌};
     ghost use Rattle.dma_engine.specs.State.{Engine as State};
     ghost use Rattle.dma_engine.specs.Rest.{is_still};
     ghost use Rattle.dma_engine.specs.Paused.{is_paused};
@@ -29,8 +29,7 @@ impl Model for Dma {
 
     ghost view = { λ d. d.engine };
 
-    ghost invariant = { λ d. ((not d.at_rest || is_still d.engine) ≡ true)
-        × ((not d.paused || is_paused d.engine) ≡ true) };
+    ghost invariant = { λ d. (d.at_rest ≡ is_still d.engine) × (d.paused ≡ is_paused d.engine) };
 }
 
 impl Dma {
@@ -38,12 +37,11 @@ impl Dma {
     ghost use Rattle.lane_look.specs.Asking.Asking.{Ready};
     ghost use Rattle.dma_engine.specs.Asks.{asks, idle_begun};
     ghost use Rattle.dma_engine.specs.Cycle.{next};
-    ghost use Rattle.dma_engine.specs.Rest.{StaysAtRest};
+    ghost use Rattle.dma_engine.specs.Rest.{is_still, StaysAtRest};
     ghost use Rattle.dma_engine.specs.State.{reset_state, with_hold};
     ghost use Rattle.dma_engine.specs.Words.{word_of, is_allowed, effect_of, is_silent, lines_of};
 
     /// The engine in its reset state: no channel is busy, and every register is 0.
-    #[tactic(auto, using(crate::proofs::AtRest::not_or))]
     pub fn new() -> Dma
         ensures { result ≡ reset_state false }
     {
@@ -67,7 +65,6 @@ impl Dma {
 
     /// Does what a read, or a write of this word, does to the engine; nothing where it is held. False exactly where there
     /// is no such word, and nothing is changed then.
-    #[tactic(auto, using(crate::proofs::AtRest::not_or))]
     pub fn effect(&mut self, offset: u16, write: Option<u32>) -> bool
         ensures after { self.new ≡ effect_of offset write self.old }
         ensures allowed { result ≡ is_allowed self.old offset }
@@ -86,7 +83,6 @@ impl Dma {
     }
 
     /// Sets the copy of the engine's bit of RESETS. A bit that is set puts the engine in its reset state, and holds it.
-    #[tactic(auto, using(crate::proofs::AtRest::not_or))]
     pub fn set_held(&mut self, held: bool)
         ensures { self.new ≡ with_hold held self.old }
     {
@@ -95,10 +91,11 @@ impl Dma {
         self.paused = self.engine.is_paused();
     }
 
-    /// The engine is at rest: until a register is written it asks nothing, wants nothing and stays as it is, and both
-    /// interrupt lines are low.
+    /// The engine is at rest: no channel is busy or chosen, no write waits, no timer runs, and no interrupt is raised or forced.
+    /// Until a register is written it then asks nothing, wants nothing and stays as it is, and both interrupt lines are low.
     #[inline(always)]
     pub fn is_at_rest(&self) -> bool
+        ensures value { result ≡ is_still self.now }
         ensures rests { result ≡ true → StaysAtRest self.now }
         ensures lines { result ≡ true → lines_of self.now ≡ false ∷ false ∷ [] }
     {
@@ -115,14 +112,11 @@ impl Dma {
     }
 
     /// The cycle, where this was begun and these turns were given. Whether the engine rests or is paused is found again where
-    /// something moved; where only timers stepped it does neither, as before.
+    /// something moved; where only timers stepped both are as before.
     #[inline(never)]
-    #[tactic(auto, using(crate::proofs::AtRest::at_rest))]
     pub(crate) fn move_on(&mut self, begun: &BegunTransfer, turns: &[Turn; 2])
         ensures { self.new ≡ next self.old begun.now turns.now }
     {
-        self.at_rest = false;
-        self.paused = false;
         if self.engine.finish(begun, turns) {
             self.at_rest = self.engine.is_still();
             self.paused = self.engine.is_paused();

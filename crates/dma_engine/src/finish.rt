@@ -8,8 +8,9 @@ ghost use Rattle.dma_engine.specs.Control.{treq_of};
 ghost use Rattle.dma_engine.specs.Choice.{pace_of, is_candidate, choice_of};
 ghost use Rattle.dma_engine.specs.declared.begun.Access.TheVariants as Access;
 ghost use Rattle.dma_engine.specs.State.{channel_at};
-ghost use Rattle.dma_engine.specs.Timer.{gives, stepped, given_by, is_given, gets_credit, more_credits, credited, with_credit, with_stepped_timers, after_timers};
+ghost use Rattle.dma_engine.specs.Timer.{gives, stepped, given_by, is_given, gets_credit, credited, with_credit, with_stepped_timers, after_timers};
 ghost use Rattle.dma_engine.specs.Rest.{is_idle_channel, is_idle_timer, is_at_rest, is_still};
+ghost use Rattle.dma_engine.specs.Paused.{is_paused};
 ghost use Rattle.dma_engine.specs.Cycle.{want_of, word_of, word_read, with_data, with_read, after_read, is_written, after_write, credits_left, counted, after_choice, is_over, after_transfers, next};
 ghost use Rattle.dma_engine.specs.Channel.{in_turn};
 
@@ -348,7 +349,8 @@ impl Engine {
     #[inline(always)]
     #[tactic(auto, using(crate::proofs::Idle::nothing_moves))]
     fn transfer(&mut self, begun: &BegunTransfer, turns: &[Turn; 2]) -> bool
-        ensures { self.new ≡ after_transfers self.old begun.now turns.now }
+        ensures after { self.new ≡ after_transfers self.old begun.now turns.now }
+        ensures stays { result ≡ false → self.new ≡ self.old }
     {
         if is_nothing(&begun.read) && is_nothing(&begun.write) && !self.has_work(begun.counts) {
             return false;
@@ -357,11 +359,14 @@ impl Engine {
         true
     }
 
-    /// The cycle, where this was begun and these turns were given; false where only timers stepped.
+    /// The cycle, where this was begun and these turns were given; false where only timers stepped, so that the engine rests or
+    /// is paused as before.
     #[inline(always)]
-    #[tactic(auto, unfolding(crate::specs::Cycle::next))]
+    #[tactic(auto, unfolding(crate::specs::Cycle::next), using(crate::proofs::TimersAtRest::stepping))]
     pub(crate) fn finish(&mut self, begun: &BegunTransfer, turns: &[Turn; 2]) -> bool
-        ensures { self.new ≡ next self.old begun.now turns.now }
+        ensures after { self.new ≡ next self.old begun.now turns.now }
+        ensures still { result ≡ false → is_still self.new ≡ is_still self.old }
+        ensures paused { result ≡ false → is_paused self.new ≡ is_paused self.old }
     {
         if self.held {
             return false;

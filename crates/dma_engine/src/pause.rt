@@ -2,10 +2,10 @@
 
 ghost use Rattle.std.specs.Prelude.{◌≡◌, false, true, map};
 ghost use Rattle.std.specs.List.{list_all, list_any};
-ghost use Rattle.dma_engine.specs.declared.begun.Access.TheVariants as Access;
 ghost use Rattle.dma_engine.specs.Cycle.{next};
 ghost use Rattle.dma_engine.specs.Timer.{gives, stepped};
 ghost use Rattle.dma_engine.specs.Paused.{lacks_credit, is_paused_channel, is_paused};
+ghost use Rattle.dma_engine.specs.Rest.{is_still};
 
 use crate::begun::BegunTransfer;
 use crate::channel::Channel;
@@ -67,7 +67,7 @@ impl Channel {
 }
 
 impl Engine {
-    /// No channel is chosen, no write waits, and every channel is idle or lacks a credit.
+    /// The engine is not held, no channel is chosen, no write waits, and every channel is idle or lacks a credit.
     #[inline(always)]
     #[tactic(auto, unfolding(crate::specs::Paused::is_paused))]
     pub(crate) fn is_paused(&self) -> bool
@@ -85,6 +85,7 @@ impl Engine {
         requires { is_paused self.old ≡ true }
         ensures after { result ≡ true → self.new ≡ next self.old begun.now turns.now }
         ensures before { result ≡ false → self.new ≡ self.old }
+        ensures still { is_still self.new ≡ is_still self.old }
         ensures paused { is_paused self.new ≡ true }
     {
         if !is_nothing(&begun.read) || !is_nothing(&begun.write) {
