@@ -1,6 +1,6 @@
 pub mod Agreeing
 pub mod Copies
-pub mod Counts
+pub mod Packed
 pub mod Effects
 pub mod HeldDma
 pub mod HeldLanes

@@ -1,6 +1,6 @@
 -- A cycle in which core 0 alone is at work: core 1 sleeps, and the DMA engine and both PIO blocks are at rest. Nothing is asked of
 -- the parts at rest, and they stay as they are.
-use Rattle.std.specs.Prelude.{◌≡◌, ◌+◌, Bool, true, List, [], ◌∷◌}
+use Rattle.std.specs.Prelude.{◌≡◌, ◌+◌, ◌&&◌, Bool, true, List, [], ◌∷◌}
 use Rattle.std.specs.List.{list_all}
 use Rattle.rp_base.specs.declared.Master.TheVariants as master
 use Rattle.lane_look.specs.declared.lane.Want.{Want}
@@ -9,8 +9,9 @@ use Rattle.lane_look.specs.declared.lane.Turn.{Turn}
 use Rattle.lane_look.specs.declared.lane.Turn.TheVariants as turn
 use Rattle.m0_core.specs.declared.doing.Doing.{Doing}
 use Rattle.m0_core.specs.Cycle as core
-use Rattle.dma_engine.specs.Rest.{StaysAtRest}
+use Rattle.dma_engine.specs.Rest.{is_still, StaysAtRest}
 use Rattle.pio_block.specs.Cycle.{Rests}
+use Rattle.pio_block.specs.Words.{is_at_rest}
 use Rattle.bus_fabric.specs.Alone.{at_most_core0}
 use Rattle.bus_fabric.specs.Grant.{is_done, after_grant}
 use Rattle.outer_lane.specs.Setting.{Setting}
@@ -24,6 +25,11 @@ use Rattle.rp_machine.specs.Deeds.{asked_of, turn_of, deed_of}
 use Rattle.rp_machine.specs.Cycle.{begun, next, wanted_by, with_turns, after_deed, stored, ended}
 use Rattle.rp_machine.specs.BusRest.{wants_nothing, core1_at_rest}
 
+-- core 1 sleeps, and the DMA engine and both PIO blocks are at rest
+abbrev pub is_core0_alone : State → Bool
+is_core0_alone s = s.core1.asleep && (is_still s.dma && (is_at_rest s.pio0 && is_at_rest s.pio1))
+
+-- what follows in a machine: nothing is asked of them, and they stay as they are
 pub record IsAlone (s : State) : Type 0 where
   pub asleep : s.core1.asleep ≡ true
   pub dma : StaysAtRest s.dma

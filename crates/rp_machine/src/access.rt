@@ -1,7 +1,7 @@
 //! What the wants of the masters come to: causes to stop, requests to the fabric, turns and deeds.
 
 ghost use Rattle.std.specs.Prelude.{◌≡◌};
-ghost use Rattle.rp_base.specs.Map.{place_of, IsWithin};
+ghost use Rattle.rp_base.specs.Map.{IsWithin};
 ghost use Rattle.bus_fabric.specs.Masters.{HasPort};
 ghost use Rattle.rp_machine.specs.Deeds.{port_at, asked_at, spot_of, asked_of, is_done_at, is_lock, is_same_word, reads_at, is_core1, is_late, stored_at, StoresInSram};
 
@@ -10,6 +10,7 @@ use crate::machine::Machine;
 use crate::registers::plain_write;
 use crate::wanted::Wanted;
 use lane_look::{Device, Turn, Want};
+use m0_core::{Act, Doing, Placed};
 use outer_lane::{SeenOutputs, World};
 use rp_base::access::{lanes_at, replicated, word_written};
 use rp_base::map::{Spot, place, port};
@@ -148,10 +149,12 @@ fn stored_at(request: &Request, spot: &Spot) -> Deed
 }
 
 impl Machine {
-    ghost use Rattle.std.specs.Prelude.{◌≡◌, ◌≤◌, unwrap_or};
-    ghost use Rattle.rp_base.specs.Map.{place_of};
+    ghost use Rattle.std.specs.Prelude.{◌≡◌, unwrap_or};
     ghost use Rattle.outer_lane.specs.Setting.{setting_of};
-    ghost use Rattle.rp_machine.specs.Deeds.{spot_of, sio_word, word_for, is_allowed_at, is_open, outside_unless, cause_by, cause_of, turn_of, accessed_at, deed_of, StoresInSram};
+    ghost use Rattle.rp_base.specs.declared.Master.TheVariants.{Core0};
+    ghost use Rattle.m0_core.specs.Cycle.{want_of};
+    ghost use Rattle.rp_machine.specs.Cycle.{wanted_by};
+    ghost use Rattle.rp_machine.specs.Deeds.{spot_of, sio_word, word_for, is_allowed_at, cause_by, cause_of, turn_of, accessed_at, deed_of, StoresInSram};
 
     /// A word of SIO as a master reads it.
     fn sio_word(&self, master: Master, offset: u16) -> Option<u32>
@@ -207,16 +210,41 @@ impl Machine {
         world: &World<'_, X>,
         seen: &SeenOutputs,
         master: Master,
-        request: &Request,
+        access: &Placed,
     ) -> Option<Why>
         ensures { result ≡ cause_by
             (setting_of world.now.script.now (X.meaning world.now.device.now) world.now.limit)
-            seen.now master (Want.Outward request.now) self.now }
+            seen.now master (Want.Outward access.now) self.now }
     {
-        let spot = place(request.address);
-        match self.word_for(world, seen, master, request.address, &spot) {
-            Some(word) if self.is_allowed_at(request, &spot, word) => None,
+        let request = access.request();
+        match self.word_for(world, seen, master, request.address, access.spot()) {
+            Some(word) if self.is_allowed_at(request, access.spot(), word) => None,
             _ => Some(Why::Outside(master, request.address)),
+        }
+    }
+
+    /// The cause for which a cycle does not happen in which core 0 has begun this.
+    #[inline(always)]
+    #[tactic(auto, unfolding(crate::specs::Deeds::cause_of))]
+    pub(crate) fn cause_of_core0<X: Device>(
+        &self,
+        world: &World<'_, X>,
+        seen: &SeenOutputs,
+        core0: &Doing,
+    ) -> Option<Why>
+        ensures { result ≡ cause_of
+            (setting_of world.now.script.now (X.meaning world.now.device.now) world.now.limit)
+            seen.now self.now (wanted_by Core0 (want_of core0.now)) }
+    {
+        match &core0.act {
+            Act::Outward(_, access) => self.cause_at(world, seen, Master::Core0, access),
+            Act::Stopped(cause) => Some(*cause),
+            Act::Asleep
+            | Act::Fault
+            | Act::Inner(_)
+            | Act::Read(..)
+            | Act::Write(..)
+            | Act::Private(..) => None,
         }
     }
 
@@ -234,7 +262,9 @@ impl Machine {
             seen.now self.now wanted.now }
     {
         match &wanted.want {
-            Want::Outward(request) => self.cause_at(world, seen, wanted.master, request),
+            Want::Outward(request) => {
+                self.cause_at(world, seen, wanted.master, &Placed::new(*request))
+            }
             Want::Stopped(cause) => Some(*cause),
             Want::Nothing | Want::Ram(_) | Want::Signal => None,
         }

@@ -1,10 +1,10 @@
 //! A cycle in which core 0 alone is at work: each part at rest costs a test.
 
-use crate::access::{asked_by, spot_of};
+use crate::access::asked_by;
 use crate::begun::{begin_core, begin_lane};
 use crate::machine::Machine;
 use crate::steps::Steps;
-use crate::wanted::{Wanted, want_of};
+use crate::wanted::{core0_wanted, spot_begun};
 use lane_look::{Device, Lane, Marks, Turn};
 use m0_core::Doing;
 use outer_lane::{SeenOutputs, World};
@@ -12,20 +12,20 @@ use rp_base::{Master, Why};
 use std::sync::ledger::Ledger;
 
 impl Machine {
-    ghost use Rattle.std.specs.Prelude.{◌≡◌, ◌+◌, ◌-◌, ◌^◌, ◌<◌, ◌≤◌, ◌∷◌, ◌++◌, if◌then◌else◌, is_some, [], length, true, false, Decides};
+    ghost use Rattle.std.specs.Prelude.{◌≡◌, ◌+◌, ◌-◌, ◌^◌, ◌<◌, ◌∷◌, ◌++◌, if◌then◌else◌, is_some, [], length, true, false, Decides};
     ghost use Rattle.outer_lane.specs.Setting.{setting_of};
     ghost use Rattle.outer_lane.specs.Step.{marked};
     ghost use Rattle.rp_machine.specs.Cycle.{begun, wanted, cause_in, next, mark};
-    ghost use Rattle.rp_machine.specs.Alone.{IsAlone, alone_at_rest, alone_next};
+    ghost use Rattle.rp_machine.specs.Alone.{is_core0_alone, IsAlone, alone_at_rest, alone_next};
     ghost use Rattle.bus_fabric.specs.State.{has_hold};
     ghost use Rattle.lane_look.specs.declared.lane.Want.TheVariants.{Nothing};
     ghost use Rattle.m0_core.specs.Cycle.{want_of};
 
-    /// Core 1 sleeps, and the DMA engine and both PIO blocks are at rest. False says nothing: a part that has been at work
-    /// may still stand as if it were.
+    /// Core 1 sleeps, and the DMA engine and both PIO blocks are at rest.
     #[inline(always)]
     pub fn is_core0_alone(&self) -> bool
-        ensures { result ≡ true → IsAlone self.now }
+        ensures value { result ≡ is_core0_alone self.now }
+        ensures alone { result ≡ true → IsAlone self.now }
     {
         self.core1.is_asleep()
             && self.dma.is_at_rest()
@@ -87,31 +87,30 @@ impl Machine {
         self.at = at + 1;
     }
 
-    /// One cycle in which core 0, which is alone, has begun this and wants that.
+    /// One cycle in which core 0, which is alone, has begun this.
     #[tactic(auto, unfolding(crate::specs::Alone::alone_next))]
     pub fn step_alone<X: Device>(
         &mut self,
         world: &World<'_, X>,
         core0: &Doing,
         outer: &SeenOutputs,
-        wanted: &Wanted,
         marks: &mut Marks,
     )
         requires number { self.old.cycle < 2 ^ 64 - 1 }
         requires marks { length marks.old < 256 }
-        requires master { wanted.now.master ≡ Master.Core0 }
         ensures state { self.new ≡ alone_next
             (setting_of world.now.script.now (X.meaning world.now.device.now) world.now.limit)
-            core0.now outer.now wanted.now.want self.old }
+            core0.now outer.now (want_of core0.now) self.old }
         ensures marks { marks.new ≡ marks.old ++ marked
             (setting_of world.now.script.now (X.meaning world.now.device.now) world.now.limit)
             self.old.outer outer.now ∷ [] }
     {
         let at = self.at;
-        let spot = spot_of(&wanted.want);
+        let wanted = core0_wanted(core0);
+        let spot = spot_begun(core0);
         let mut fabric = self.fabric;
         let granted = fabric.grant_core0(asked_by(&wanted.want, &spot));
-        let (turn, deed) = self.served_at(world, outer, &wanted.want, granted, wanted, &spot);
+        let (turn, deed) = self.served_at(world, outer, &wanted.want, granted, &wanted, &spot);
         self.fabric = fabric;
         self.core0.finish(&(), core0, [turn, Turn::Nothing], marks);
         self.outer.finish(world, outer, [Turn::Nothing; 2], marks);
@@ -153,16 +152,12 @@ impl Machine {
             self.step_alone_at_rest(world, &core0, &outer, marks);
             return None;
         }
-        let wanted = Wanted {
-            master: Master::Core0,
-            want: want_of(&core0),
-        };
-        match self.cause_of(world, &outer, &wanted) {
+        match self.cause_of_core0(world, &outer, &core0) {
             Some(why) => Some(why),
             None => {
                 marks.clear();
                 steps.tick();
-                self.step_alone(world, &core0, &outer, &wanted, marks);
+                self.step_alone(world, &core0, &outer, marks);
                 None
             }
         }

@@ -5,13 +5,13 @@ ghost use Rattle.bus_fabric.specs.Masters.{HavePorts};
 ghost use Rattle.sio_block.specs.Launcher.{offers_of};
 ghost use Rattle.rp_machine.specs.Cycle.{asked, pins_of, with_pins, with_offer};
 
-use crate::access::{asked_by, asked_of, spot_of};
+use crate::access::{asked_by, asked_of};
 use crate::begun::Begun;
 use crate::deed::Deed;
 use crate::machine::Machine;
 use crate::steps::Steps;
-use crate::wanted::{Wanted, all_wanted, core0_wanted, is_core0_first};
-use lane_look::{Device, Lane, Marks, Turn, Want};
+use crate::wanted::{Wanted, all_wanted, core0_wanted, is_core0_first, spot_begun};
+use lane_look::{Device, Lane, Marks, Turn};
 use m0_core::Core;
 use outer_lane::{Outer, World};
 use rp_base::{Master, Why};
@@ -56,10 +56,12 @@ impl Machine {
     ghost use Rattle.std.specs.List.{All};
     ghost use Rattle.outer_lane.specs.Setting.{setting_of};
     ghost use Rattle.outer_lane.specs.Step.{marked};
+    ghost use Rattle.rp_base.specs.declared.Master.TheVariants.{Core0};
+    ghost use Rattle.m0_core.specs.Cycle.{want_of};
     ghost use Rattle.rp_machine.specs.Deeds.{StoresInSram};
     ghost use Rattle.rp_machine.specs.BusRest.{core1_at_rest, rest_next};
     ghost use Rattle.rp_machine.specs.Alone.{first_next};
-    ghost use Rattle.rp_machine.specs.Cycle.{begun, wanted, cause_in, stop, turns, deeds, with_turns, signalled, pins_of, with_sio, sio_accessed, after_deed, after_launcher, after_core1, stored, ended, after_deeds, next_by, next, mark};
+    ghost use Rattle.rp_machine.specs.Cycle.{begun, wanted_by, wanted, cause_in, stop, turns, deeds, with_turns, signalled, pins_of, with_sio, sio_accessed, after_deed, after_launcher, after_core1, stored, ended, after_deeds, next_by, next, mark};
 
     /// The first cause of a master to stop before a cycle in which this was begun, whoever wants anything.
     #[inline(never)]
@@ -91,7 +93,7 @@ impl Machine {
             begun.now (wanted begun.now) self.now }
     {
         if is_core0_first(begun) {
-            self.cause_of(world, &begun.outer, &core0_wanted(begun))
+            self.cause_of_core0(world, &begun.outer, &begun.core0)
         } else {
             self.cause_in(world, begun)
         }
@@ -287,10 +289,15 @@ impl Machine {
         }
     }
 
-    /// One cycle in which nobody wants anything, and no access lasts.
-    #[inline(always)]
+    /// One cycle in which this was begun, nobody wants anything, and no access lasts: only the lanes, SIO and the number change.
+    #[inline(never)]
     #[tactic(auto, unfolding(crate::specs::BusRest::rest_next))]
-    fn step_at_rest<X: Device>(&mut self, world: &World<'_, X>, begun: &Begun, marks: &mut Marks)
+    pub fn step_at_rest<X: Device>(
+        &mut self,
+        world: &World<'_, X>,
+        begun: &Begun,
+        marks: &mut Marks,
+    )
         requires number { self.old.cycle < 2 ^ 64 - 1 }
         requires marks { length marks.old < 256 }
         ensures state { self.new ≡ rest_next
@@ -307,27 +314,22 @@ impl Machine {
         self.at = at + 1;
     }
 
-    /// One cycle in which this was begun, core 0 wants that, and no other master wants anything.
+    /// One cycle in which this was begun, and no master but core 0 wants anything.
     #[inline(never)]
     #[tactic(auto, unfolding(crate::specs::Alone::first_next))]
-    fn step_for_core0<X: Device>(
-        &mut self,
-        world: &World<'_, X>,
-        begun: &Begun,
-        wanted: &Wanted,
-        marks: &mut Marks,
-    )
+    fn step_for_core0<X: Device>(&mut self, world: &World<'_, X>, begun: &Begun, marks: &mut Marks)
         requires number { self.old.cycle < 2 ^ 64 - 1 }
         requires marks { length marks.old < 256 }
         ensures state { self.new ≡ first_next
             (setting_of world.now.script.now (X.meaning world.now.device.now) world.now.limit)
-            begun.now wanted.now self.old }
+            begun.now (wanted_by Core0 (want_of begun.now.core0)) self.old }
         ensures marks { marks.new ≡ marks.old ++ marked
             (setting_of world.now.script.now (X.meaning world.now.device.now) world.now.limit)
             self.old.outer begun.now.outer ∷ [] }
     {
         let at = self.at;
-        let spot = spot_of(&wanted.want);
+        let wanted = core0_wanted(&begun.core0);
+        let spot = spot_begun(&begun.core0);
         let mut fabric = self.fabric;
         let granted = fabric.grant_core0(asked_by(&wanted.want, &spot));
         let (turn, deed) = self.served_at(
@@ -335,7 +337,7 @@ impl Machine {
             &begun.outer,
             &wanted.want,
             granted,
-            wanted,
+            &wanted,
             &spot,
         );
         self.fabric = fabric;
@@ -396,8 +398,7 @@ impl Machine {
             self.step_at_rest(world, begun, marks);
             return;
         }
-        let wanted = core0_wanted(begun);
-        self.step_for_core0(world, begun, &wanted, marks);
+        self.step_for_core0(world, begun, marks);
     }
 
     /// One cycle below the limit, in which the lanes have begun this.

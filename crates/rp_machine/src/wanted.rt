@@ -4,15 +4,18 @@ ghost use Rattle.std.specs.Prelude.{◌≡◌};
 ghost use Rattle.m0_core.specs.Cycle.{want_of};
 ghost use Rattle.std.specs.List.{list_all};
 ghost use Rattle.rp_base.specs.declared.Master.TheVariants.{Core0};
+ghost use Rattle.rp_base.specs.Map.{IsWithin};
 ghost use Rattle.rp_machine.specs.Alone.{is_first_alone};
 ghost use Rattle.rp_machine.specs.BusRest.{is_nothing, wants_nothing};
 ghost use Rattle.rp_machine.specs.Cycle.{wanted_by, wanted};
+ghost use Rattle.rp_machine.specs.Deeds.{spot_of};
 
 use crate::begun::Begun;
 use dma_engine::Dma;
 use lane_look::{Lane, Want};
-use m0_core::{Core, Doing};
+use m0_core::{Act, Core, Doing};
 use rp_base::Master;
+use rp_base::map::Spot;
 
 /// A master, and what it wants in a cycle.
 #[derive(Clone, Copy)]
@@ -32,14 +35,28 @@ pub fn want_of(begun: &Doing) -> Want
     want
 }
 
+/// The spot of the access to SRAM or outwards that a core names, as it was found when it began; outside where it names none.
+#[inline(always)]
+pub(crate) fn spot_begun(begun: &Doing) -> Spot
+    ensures value { result ≡ spot_of (want_of begun.now) }
+    ensures within { IsWithin result }
+{
+    match &begun.act {
+        Act::Read(_, access, _) | Act::Write(_, access) | Act::Outward(_, access) => *access.spot(),
+        Act::Asleep | Act::Stopped(_) | Act::Fault | Act::Inner(_) | Act::Private(..) => {
+            Spot::Outside
+        }
+    }
+}
+
 /// Core 0, and what it wants.
 #[inline(always)]
-pub(crate) fn core0_wanted(begun: &Begun) -> Wanted
-    ensures { result ≡ wanted_by Core0 (want_of begun.now.core0) }
+pub(crate) fn core0_wanted(core0: &Doing) -> Wanted
+    ensures { result ≡ wanted_by Core0 (want_of core0.now) }
 {
     Wanted {
         master: Master::Core0,
-        want: want_of(&begun.core0),
+        want: want_of(core0),
     }
 }
 

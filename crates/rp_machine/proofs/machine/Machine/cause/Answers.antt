@@ -1,12 +1,10 @@
-use Rattle.std.proofs.Common.{sym, ap, ◌∙◌}
+use Rattle.std.proofs.Common.{sym, ◌∙◌}
 use Rattle.outer_lane.specs.Setting.{setting_of}
-use Rattle.rp_machine.specs.declared.wanted.Wanted.{Wanted}
-use Rattle.rp_machine.specs.Deeds.{cause_of}
 use Rattle.rp_machine.proofs.OneCore.{cause_first}
 use Rattle.rp_machine.proofs.machine.Machine.cause.Goals as goal
 
 pub returns-then-is_core0_first : goal.returns-then-is_core0_first
 returns-then-is_core0_first g c =
     let w = setting_of c.args.world.now.script.now (g.X.Device.meaning c.args.world.now.device.now) c.args.world.now.limit in
-    c.cause_of.ensures ∙ ap (λ (x : Wanted). cause_of w c.args.begun.now.outer c.args.self.now x) c.core0_wanted.ensures
+    c.cause_of_core0.ensures
     ∙ cause_first w c.args.begun.now c.args.self.now (sym c.is_core0_first.ensures ∙ c.if-is_core0_first.true)

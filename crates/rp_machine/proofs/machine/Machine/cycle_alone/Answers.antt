@@ -5,16 +5,16 @@ use Rattle.rp_machine.proofs.machine.Machine.cycle_alone.Goals as goal
 pub returns-in-Some-clause-cause : goal.returns-in-Some-clause-cause
 returns-in-Some-clause-cause g c =
     sym c.in-Some.is
-    ∙ cause_is _ c.requires.alone c.begin_core0.ensures c.begin_outer-outer.ensures c.want_of.ensures c.cause_of.ensures
+    ∙ cause_is _ c.requires.alone c.begin_core0.ensures c.begin_outer-outer.ensures refl c.cause_of_core0.ensures
 
 pub returns-in-None-clause-cause : goal.returns-in-None-clause-cause
 returns-in-None-clause-cause g c =
     sym c.in-None.is
-    ∙ cause_is _ c.requires.alone c.begin_core0.ensures c.begin_outer-outer.ensures c.want_of.ensures c.cause_of.ensures
+    ∙ cause_is _ c.requires.alone c.begin_core0.ensures c.begin_outer-outer.ensures refl c.cause_of_core0.ensures
 
 pub returns-in-None-clause-state : goal.returns-in-None-clause-state
 returns-in-None-clause-state g c =
-    next_is _ c.requires.alone c.begin_core0.ensures c.begin_outer-outer.ensures c.want_of.ensures c.step_alone.ensures.state
+    next_is _ c.requires.alone c.begin_core0.ensures c.begin_outer-outer.ensures refl c.step_alone.ensures.state
 
 pub returns-in-None-clause-marks : goal.returns-in-None-clause-marks
 returns-in-None-clause-marks g c =

@@ -1,7 +1,5 @@
-use Rattle.std.proofs.Common.{sym, ap, ◌∙◌}
+use Rattle.std.proofs.Common.{sym, ◌∙◌}
 use Rattle.outer_lane.specs.Setting.{setting_of}
-use Rattle.rp_machine.specs.declared.wanted.Wanted.{Wanted}
-use Rattle.rp_machine.specs.Alone.{first_next}
 use Rattle.rp_machine.proofs.OneCore.{next_first, next_at_rest}
 use Rattle.rp_machine.proofs.machine.Machine.step.Goals as goal
 
@@ -15,5 +13,5 @@ returns-then-is_bus_free-clause-state g c =
 pub returns-clause-state : goal.returns-clause-state
 returns-clause-state g c =
     let w = setting_of c.args.world.now.script.now (g.X.Device.meaning c.args.world.now.device.now) c.args.world.now.limit in
-    c.step_for_core0.ensures.state ∙ ap (λ (x : Wanted). first_next w c.args.begun.now x c.args.self.now) c.core0_wanted-wanted.ensures
+    c.step_for_core0.ensures.state
     ∙ next_first w c.args.begun.now c.args.self.now (sym c.is_core0_first.ensures ∙ c.if-not-is_core0_first.false)
