@@ -22,6 +22,7 @@ pub mod Reading
 pub mod Replaying
 pub mod Reported
 pub mod Resting
+pub mod Showing
 pub mod Starting
 pub mod Telling
 pub mod Told

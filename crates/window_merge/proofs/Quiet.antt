@@ -6,12 +6,15 @@ use Rattle.std.specs.List.{list_all}
 use Rattle.lane_look.specs.Alone.{ends_want}
 use Rattle.lane_look.specs.declared.lane.Want.TheVariants as want
 use Rattle.m0_core.specs.Cycle as core
+use Rattle.bus_fabric.specs.State.{has_hold}
 use Rattle.dma_engine.specs.Cycle as dma
+use Rattle.outer_lane.specs.Setting.{Setting}
 use Rattle.rp_machine.specs.declared.begun.Begun.{Begun}
-use Rattle.rp_machine.specs.BusRest.{is_nothing, wants_nothing}
-use Rattle.rp_machine.specs.Cycle.{wanted}
+use Rattle.rp_machine.specs.BusRest.{is_nothing, wants_nothing, rest_next}
+use Rattle.rp_machine.specs.Cycle.{wanted, next_by}
+use Rattle.rp_machine.specs.State.{State}
 use Rattle.rp_machine.specs.Deeds.{asked_of}
-use Rattle.rp_machine.proofs.BusRest.{both, nothing}
+use Rattle.rp_machine.proofs.BusRest.{both, nothing, rest_by}
 use Rattle.window_merge.specs.declared.notes.Notes.{Notes}
 use Rattle.window_merge.specs.Merging.{wants_of}
 use Rattle.window_merge.specs.Notes.{noted_by}
@@ -49,6 +52,11 @@ unfolding wanted
 nothing_noted b sram n h =
     let none = no_wants b h in
     rw (none.core0, none.core1, none.write) refl
+
+-- so the machine's cycle changes the lanes, SIO and the number alone, where no access lasts
+pub quiet_next : (w : Setting) (b : Begun) (s : State) → list_all wants_nothing (wanted b) ≡ true → has_hold s.fabric ≡ false → rest_next w b s ≡ next_by w b (wanted b) s
+unfolding wanted
+quiet_next w b s h free = sym (rest_by w b (wanted b) s refl h free)
 
 -- ---- a run that ends
 

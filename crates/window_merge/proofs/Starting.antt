@@ -17,7 +17,7 @@ use Rattle.lane_look.specs.Alone.{all_stored, begun_alone, alone, differs}
 use Rattle.outer_lane.specs.Lines.{outer_lines}
 use Rattle.rp_machine.specs.State.{State}
 use Rattle.rp_machine.specs.Sram.{half_of, ram_word}
-use Rattle.rp_machine.specs.Answers.{block_lines, lines_of, answer_of}
+use Rattle.rp_machine.specs.Answers.{block_lines, lines_of, counts_of, packed, pacing_of, answer_of}
 use Rattle.window_merge.specs.Lanes.{around, stored_by}
 use Rattle.window_merge.specs.Patch.{sram_after}
 use Rattle.window_merge.specs.declared.start.Matcher.{Matcher}
@@ -62,12 +62,16 @@ pub lines5 : (s : State) → HasLines 5 s
 unfolding lines_of block_lines outer_lines
 lines5 s = refl
 
+counts_packed : (s : State) → packed (counts_of s) ≡ pacing_of s
+unfolding pacing_of
+counts_packed s = refl
+
 pub guess_is : (lane : ℕ) (s : State) (seen : ℕ → ℕ) (sees : List ℕ) (question : Ask) → HasLines lane s → ((i : ℕ) → i < 67584 → seen i ≡ slice_index sees i)
     → guess lane (start_of s) seen question ≡ answer_of lane (record s { sram = sees }) question
 guess_is lane s seen sees ask.Lines lines sight = lines ∙ lines_over lane s sees
 guess_is lane s seen sees (ask.Half address) lines sight = ap (λ word. half_of word address) (word_at seen sees (place_of address) (has_bank address) sight)
 guess_is lane s seen sees (ask.Word address) lines sight = word_at seen sees (place_of address) (has_bank address) sight
-guess_is lane s seen sees ask.Pacing lines sight = pacing_over s sees
+guess_is lane s seen sees ask.Pacing lines sight = counts_packed s ∙ pacing_over s sees
 guess_is lane s seen sees ask.Inputs lines sight = inputs_over s sees
 guess_is lane s seen sees (ask.Outs block) lines sight = outs_same block s ∙ outs_over block s sees
 

@@ -1,6 +1,6 @@
 -- What the state at the start of a window answers each lane, while the machine goes on: what is not in SRAM is kept, and SRAM is
 -- as the lane sees it. The project's own.
-use Rattle.std.specs.Prelude.{ℕ, ◌==◌, ◌||◌, not, Bool, false, if◌then◌else◌, List, [], ◌∷◌}
+use Rattle.std.specs.Prelude.{ℕ, ◌==◌, ◌||◌, ◌&&◌, not, Bool, false, if◌then◌else◌, List, [], ◌∷◌}
 use Rattle.rp_base.specs.declared.map.Spot.{Spot}
 use Rattle.rp_base.specs.declared.map.Spot.TheVariants as spot
 use Rattle.rp_base.specs.Map.{place_of}
@@ -9,6 +9,7 @@ use Rattle.lane_look.specs.declared.lane.Ask.{Ask}
 use Rattle.lane_look.specs.declared.lane.Ask.TheVariants as ask
 use Rattle.lane_look.specs.Replay.{asked}
 use Rattle.lane_look.specs.Alone.{differs, ends_want}
+use Rattle.io_bank.specs.Levels.{is_used}
 use Rattle.m0_core.specs.Fetch as core_asks
 use Rattle.dma_engine.specs.Asks as dma_asks
 use Rattle.pio_block.specs.Cycle as pio
@@ -17,7 +18,7 @@ use Rattle.rp_machine.specs.declared.begun.Begun.{Begun}
 use Rattle.rp_machine.specs.declared.wanted.Wanted.{Wanted}
 use Rattle.rp_machine.specs.State.{State}
 use Rattle.rp_machine.specs.Sram.{half_of}
-use Rattle.rp_machine.specs.Answers.{lines_of, pacing_of, inputs_of, outs_of, answer_of}
+use Rattle.rp_machine.specs.Answers.{lines_of, counts_of, packed, inputs_of, outs_of, answer_of}
 use Rattle.rp_machine.specs.Cycle.{begun, wanted}
 use Rattle.window_merge.specs.declared.notes.Notes.{Notes}
 use Rattle.window_merge.specs.declared.start.Start.{Start}
@@ -31,7 +32,7 @@ abbrev pub start_of : State → Start
 start_of s = record {
   lines0 = lines_of 0 s;
   lines1 = lines_of 1 s;
-  pacing = pacing_of s;
+  counts = counts_of s;
   inputs = inputs_of s;
   pio0 = outs_of 0 s;
   pio1 = outs_of 1 s;
@@ -47,7 +48,7 @@ abbrev pub guess : ℕ → Start → (ℕ → ℕ) → Ask → ℕ
 guess lane start seen ask.Lines = if lane == 0 then start.lines0 else start.lines1
 guess lane start seen (ask.Half address) = half_of (word_by seen (place_of address)) address
 guess lane start seen (ask.Word address) = word_by seen (place_of address)
-guess lane start seen ask.Pacing = start.pacing
+guess lane start seen ask.Pacing = packed start.counts
 guess lane start seen ask.Inputs = start.inputs
 guess lane start seen (ask.Outs block) = if block == 0 then start.pio0 else start.pio1
 
@@ -74,6 +75,10 @@ differs_core0 start n s = differs (answer_of 0 s) (asked (guess 0 start (seen_of
 
 abbrev pub differs_outer : Start → Notes → State → Bool
 differs_outer start n s = differs (answer_of 5 s) (asked (guess 5 start (seen_of 5 n s.sram)) (outer.asks s.outer s.cycle))
+
+-- a pin has the function of PIO block 0, which puts out something else than at the start: an answer to the peripherals is not
+abbrev pub shows_other : Start → State → Bool
+shows_other start s = is_used 6 s.outer.pads && not (outs_of 0 s == start.pio0)
 
 -- some answer to a lane is not
 abbrev pub differs_from : Start → Notes → State → Bool

@@ -1,6 +1,7 @@
 //! The cycles of a window on one thread: each is the machine's own, and is kept where it goes as the lanes would go alone.
 
 ghost use Rattle.std.specs.Prelude.{◌≡◌, ◌+◌, ◌-◌, ◌^◌, ◌<◌, ◌++◌, ◌∷◌, [], if◌then◌else◌, false, is_some, IfSome, length};
+ghost use Rattle.bus_fabric.specs.State.{has_hold};
 ghost use Rattle.lane_look.specs.Alone.{ends_want};
 ghost use Rattle.m0_core.specs.Cycle.{want_of};
 ghost use Rattle.outer_lane.specs.Setting.{setting_of};
@@ -18,7 +19,6 @@ use crate::walk::ends_want;
 use lane_look::{Device, Marks};
 use m0_core::{Act, Core, Doing};
 use outer_lane::World;
-use rp_base::Master;
 use rp_machine::Machine;
 use rp_machine::begun::Begun;
 use rp_machine::wanted::{Wanted, all_wanted, want_of, wants_nothing};
@@ -94,8 +94,9 @@ fn note(notes: &mut Notes, machine: &Machine, lanes: &Begun)
     }
 }
 
-/// The first cycle of a window, in which the lanes begin this, where no run alone ends and no two accesses name one port. Gives what
-/// the start answers. Otherwise the machine and the marks stay.
+/// The first cycle of a window, on whose fabric no access lasts and in which the lanes begin this, where no run alone ends and no
+/// two accesses name one port. Gives what the start answers. Otherwise the machine and the marks stay.
+#[inline(always)]
 pub(crate) fn try_first<X: Device>(
     machine: &mut Machine,
     world: &World<'_, X>,
@@ -105,6 +106,7 @@ pub(crate) fn try_first<X: Device>(
 ) -> Option<Start>
     requires number { machine.old.cycle < 2 ^ 64 - 1 }
     requires marks { length marks.old < 256 }
+    requires free { has_hold machine.old.fabric ≡ false }
     requires begun { lanes.now ≡ begun machine.old }
     ensures goes { is_some result ≡ goes_first machine.old }
     ensures start { IfSome result (λ start. start ≡ start_of machine.old) }
@@ -119,12 +121,18 @@ pub(crate) fn try_first<X: Device>(
     ensures notes { IfSome result (λ _. notes.new ≡ noted_by (wanted (begun machine.old))
         machine.old.sram no_notes) }
 {
+    if wants_nothing(lanes) {
+        let start = Start::of(machine, lanes);
+        notes.clear();
+        machine.step_at_rest(world, lanes, marks);
+        return Some(start);
+    }
     if !goes_by(lanes) {
         return None;
     }
     let start = Start::of(machine, lanes);
     notes.clear();
-    note(notes, machine, lanes);
+    note_wants(notes, machine, lanes);
     machine.step(world, lanes, marks);
     Some(start)
 }
@@ -167,15 +175,12 @@ fn try_alone<X: Device>(
         machine.step_alone_at_rest(world, &lanes.core0, &lanes.outer, marks);
         return true;
     }
-    let wanted = Wanted {
-        master: Master::Core0,
-        want: want_of(&lanes.core0),
-    };
-    if ends_want(&wanted.want) {
+    let want = want_of(&lanes.core0);
+    if ends_want(&want) {
         return false;
     }
-    notes.note_core0(&machine.ram, &wanted.want);
-    machine.step_alone(world, &lanes.core0, &lanes.outer, &wanted, marks);
+    notes.note_core0(&machine.ram, &want);
+    machine.step_alone(world, &lanes.core0, &lanes.outer, marks);
     true
 }
 
@@ -221,7 +226,8 @@ fn try_all<X: Device>(
 }
 
 /// A later cycle of a window, where each answer of the start is what the machine answers, no run alone ends and no two accesses
-/// name one port. Otherwise the machine, the notes and the marks stay, and what the lanes begin is left in `lanes`.
+/// name one port. Otherwise the machine, the notes and the marks stay, and what the lanes begin is left in `lanes`. Most windows
+/// of a machine whose PIO drives pins end here at once, since a pin shows something else.
 #[inline(always)]
 pub(crate) fn try_later<X: Device>(
     machine: &mut Machine,
@@ -250,6 +256,10 @@ pub(crate) fn try_later<X: Device>(
     ensures begun { result ≡ false → lanes.new ≡ begun machine.new }
 {
     if !machine.is_core0_alone() {
+        if start.shows_other(machine) {
+            machine.begin_into(world, lanes);
+            return false;
+        }
         return try_all(machine, world, start, notes, lanes, marks);
     }
     if try_alone(machine, world, start, notes, lanes, marks) {

@@ -1,6 +1,6 @@
 //! What the start of a window answers each lane, while the machine goes on; and looks that compare it with what the machine answers.
 
-ghost use Rattle.std.specs.Prelude.{◌≡◌, ◌&&◌, not};
+ghost use Rattle.std.specs.Prelude.{◌≡◌, ◌<◌, ◌^◌, ◌&&◌, not};
 ghost use Rattle.lane_look.specs.Asking.{answered};
 ghost use Rattle.lane_look.specs.Replay.{asked};
 ghost use Rattle.lane_look.specs.Alone.{differs};
@@ -18,8 +18,8 @@ use lane_look::{Ask, Device, Lane, Look};
 use m0_core::{Act, Core, Doing};
 use outer_lane::{SeenOutputs, World};
 use rp_base::map::{Spot, place};
-use rp_machine::Machine;
 use rp_machine::begun::Begun;
+use rp_machine::{Counts, Machine};
 
 /// What the state at the start of a window answers, but for words of SRAM.
 #[derive(Clone, Copy)]
@@ -29,13 +29,20 @@ pub(crate) struct Start {
     /// The interrupt lines of core 1.
     lines1: u128,
     /// The counts that pace DMA channels.
-    pacing: u128,
+    counts: Counts,
     /// The input words.
     inputs: u128,
     /// What PIO block 0 puts out.
     pio0: u128,
     /// What PIO block 1 puts out.
     pio1: u128,
+}
+
+/// The interrupt lines of a core fill a word: their type keeps it.
+fn fill_a_word(machine: &Machine, number: u8)
+    ensures { lines_of number machine.now < 2 ^ 32 }
+{
+    let _lines = machine.lines(number);
 }
 
 /// The interrupt lines of a core of that number, which begins this: it was told them, but where it is asleep.
@@ -45,19 +52,19 @@ fn lines_told(machine: &Machine, number: u8, core: &Core, doing: &Doing) -> u128
         (asks core.now machine.now.cycle) }
     ensures { result ≡ lines_of number machine.now }
 {
-    let lines = machine.lines(number);
+    fill_a_word(machine, number);
     match doing.act {
-        Act::Asleep => u128::from(lines),
+        Act::Asleep => u128::from(machine.lines(number)),
         _ => u128::from(doing.lines),
     }
 }
 
 impl Start {
     ghost use Rattle.std.specs.Prelude.{◌≡◌};
-    ghost use Rattle.window_merge.specs.Start.{start_of};
+    ghost use Rattle.window_merge.specs.Start.{start_of, shows_other};
 
     /// What a machine answers now, whose lanes begin this.
-    #[inline(always)]
+    #[inline(never)]
     pub(crate) fn of(machine: &Machine, lanes: &Begun) -> Start
         requires { lanes.now ≡ begun machine.now }
         ensures { result ≡ start_of machine.now }
@@ -65,11 +72,19 @@ impl Start {
         Start {
             lines0: lines_told(machine, 0, &machine.core0, &lanes.core0),
             lines1: lines_told(machine, 1, &machine.core1, &lanes.core1),
-            pacing: machine.answer(2, Ask::Pacing),
+            counts: machine.counts(),
             inputs: machine.answer(3, Ask::Inputs),
             pio0: machine.answer(5, Ask::Outs(0)),
             pio1: machine.answer(5, Ask::Outs(1)),
         }
+    }
+
+    /// A pin has the function of PIO block 0, which puts out something else now: the peripherals are answered otherwise.
+    #[inline(always)]
+    pub(crate) fn shows_other(&self, machine: &Machine) -> bool
+        ensures { result ≡ shows_other self.now machine.now }
+    {
+        machine.outer.pads.uses(6) && machine.answer(5, Ask::Outs(0)) != self.pio0
     }
 }
 
@@ -117,7 +132,7 @@ impl Matcher<'_> {
             }
             Ask::Half(address) => u128::from(half_of(self.word(address), address)),
             Ask::Word(address) => u128::from(self.word(address)),
-            Ask::Pacing => self.start.pacing,
+            Ask::Pacing => self.start.counts.packed(),
             Ask::Inputs => self.start.inputs,
             Ask::Outs(block) => {
                 if block == 0 {

@@ -56,7 +56,7 @@ returns-then-ends_want-clause-goes g c =
     let same = same_alone c.args.start.now c.args.notes.now c.args.machine.now _ _ c.begin_core0.ensures.same c.begin_outer.ensures.same in
     let here = begun_alone c.args.start.now c.args.notes.now c.args.machine.now _ c.requires.alone same c.if-not-same.false in
     let e0 = c.begin_core0.ensures.begun ∙ ap (λ (b : Begun). b.core0) here in
-    let e_want = c.want_of.ensures ∙ ap core.want_of e0 in
+    let e_want = c.want_of-want.ensures ∙ ap core.want_of e0 in
     goes_alone c.args.start.now c.args.notes.now c.args.machine.now true true c.requires.alone (sym c.if-not-same.false ∙ same)
     (sym c.if-ends_want.true ∙ c.ends_want.ensures ∙ ap ends_want e_want)
 
@@ -65,7 +65,7 @@ returns-clause-goes g c =
     let same = same_alone c.args.start.now c.args.notes.now c.args.machine.now _ _ c.begin_core0.ensures.same c.begin_outer.ensures.same in
     let here = begun_alone c.args.start.now c.args.notes.now c.args.machine.now _ c.requires.alone same c.if-not-same.false in
     let e0 = c.begin_core0.ensures.begun ∙ ap (λ (b : Begun). b.core0) here in
-    let e_want = c.want_of.ensures ∙ ap core.want_of e0 in
+    let e_want = c.want_of-want.ensures ∙ ap core.want_of e0 in
     goes_alone c.args.start.now c.args.notes.now c.args.machine.now true false c.requires.alone (sym c.if-not-same.false ∙ same)
     (sym c.if-ends_want.false ∙ c.ends_want.ensures ∙ ap ends_want e_want)
 
@@ -75,20 +75,20 @@ returns-clause-state g c =
     let same = same_alone c.args.start.now c.args.notes.now c.args.machine.now _ _ c.begin_core0.ensures.same c.begin_outer.ensures.same in
     let here = begun_alone c.args.start.now c.args.notes.now c.args.machine.now _ c.requires.alone same c.if-not-same.false in
     let e0 = c.begin_core0.ensures.begun ∙ ap (λ (b : Begun). b.core0) here in
-    let e_want = c.want_of.ensures ∙ ap core.want_of e0 in
+    let e_want = c.want_of-want.ensures ∙ ap core.want_of e0 in
     let goes = goes_alone c.args.start.now c.args.notes.now c.args.machine.now true false c.requires.alone (sym c.if-not-same.false ∙ same)
     (sym c.if-ends_want.false ∙ c.ends_want.ensures ∙ ap ends_want e_want) in
-    next_alone w c.args.start.now c.args.notes.now c.args.machine.now c.step_alone.new.self c.begin_core0.new.core0 c.begin_outer.new.seen c.want_of.result c.requires.alone (sym goes)
-    e0 (c.begin_outer.ensures.begun ∙ ap (λ (b : Begun). b.outer) here) c.want_of.ensures c.step_alone.ensures.state
+    next_alone w c.args.start.now c.args.notes.now c.args.machine.now c.step_alone.new.self c.begin_core0.new.core0 c.begin_outer.new.seen (core.want_of c.begin_core0.new.core0) c.requires.alone (sym goes)
+    e0 (c.begin_outer.ensures.begun ∙ ap (λ (b : Begun). b.outer) here) refl c.step_alone.ensures.state
 
 pub returns-clause-notes : goal.returns-clause-notes
 returns-clause-notes g c =
     let same = same_alone c.args.start.now c.args.notes.now c.args.machine.now _ _ c.begin_core0.ensures.same c.begin_outer.ensures.same in
     let here = begun_alone c.args.start.now c.args.notes.now c.args.machine.now _ c.requires.alone same c.if-not-same.false in
     let e0 = c.begin_core0.ensures.begun ∙ ap (λ (b : Begun). b.core0) here in
-    let e_want = c.want_of.ensures ∙ ap core.want_of e0 in
-    let family : State → Type 0 = λ s. c.note_core0.new.self ≡ noted c.want_of.result want.Nothing want.Nothing s.sram c.args.notes.now in
-    noted_alone c.args.start.now c.args.notes.now c.args.machine.now c.want_of.result c.note_core0.new.self c.requires.alone e_want (subst family c.machine.view_is c.note_core0.ensures)
+    let e_want = c.want_of-want.ensures ∙ ap core.want_of e0 in
+    let family : State → Type 0 = λ s. c.note_core0.new.self ≡ noted c.want_of-want.result want.Nothing want.Nothing s.sram c.args.notes.now in
+    noted_alone c.args.start.now c.args.notes.now c.args.machine.now c.want_of-want.result c.note_core0.new.self c.requires.alone e_want (subst family c.machine.view_is c.note_core0.ensures)
 
 pub returns-then-is_bus_free-clause-marks : goal.returns-then-is_bus_free-clause-marks
 returns-then-is_bus_free-clause-marks g c =
