@@ -1,6 +1,8 @@
 //! Outside vectors: programs worked by hand, and the manual's timing and results.
 
-use m0_beats::{Beat, Regs, beat_at, beat_count, beats, effect, exception_return, is_unaligned};
+use m0_beats::{
+    Beat, Regs, beat_at, beat_count, beats, effect, exception_return, has_more, is_unaligned,
+};
 use rp_base::op::Op;
 use rp_base::{Request, Size};
 
@@ -194,6 +196,8 @@ const COUNTS: [(Op, usize); 18] = [
 fn takes(op: &Op, count: usize) -> bool {
     beats(op, &AMID).len() == count
         && beat_count(op, &AMID) == count
+        && !has_more(op, &AMID, count.wrapping_sub(1))
+        && (count < 2 || has_more(op, &AMID, count - 2))
         && beat_at(op, &AMID, count.wrapping_sub(1)).is_some()
         && beat_at(op, &AMID, count).is_none()
 }
