@@ -2,12 +2,12 @@
 
 ghost use Rattle.std.specs.Prelude.{◌≡◌, ◌+◌, ◌-◌, ◌^◌, ◌<◌, ◌≤◌, true, nat_lt, length};
 ghost use Rattle.m0_beats.specs.Beats.{registers_of, is_one_access, beats_of};
+ghost use Rattle.m0_beats.specs.Rows.{action_of};
 ghost use Rattle.m0_beats.specs.Shapes.{beats_of_shape};
 
 use crate::effects::is_listed;
 use crate::registers::Regs;
-use crate::rows::{Action, classify};
-use crate::table::{Shape, action_shape, shape_of};
+use crate::table::{Shape, shape_of};
 use rp_base::op::Op;
 
 /// How many beats the instruction has: the length of the list that `beats` gives.
@@ -20,25 +20,54 @@ pub fn beat_count(op: &Op, regs: &Regs) -> usize
 
 /// A load or a store of one register.
 #[inline(always)]
-fn is_one_access(action: &Action) -> bool
-    ensures { result ≡ is_one_access action.now }
+pub fn is_one_access(op: &Op) -> bool
+    ensures { result ≡ is_one_access (action_of op.now) }
 {
-    matches!(action, Action::Load(..) | Action::Store(..))
+    matches!(
+        op,
+        Op::LdrLit { .. }
+            | Op::StrReg { .. }
+            | Op::StrhReg { .. }
+            | Op::StrbReg { .. }
+            | Op::LdrsbReg { .. }
+            | Op::LdrReg { .. }
+            | Op::LdrhReg { .. }
+            | Op::LdrbReg { .. }
+            | Op::LdrshReg { .. }
+            | Op::StrImm { .. }
+            | Op::LdrImm { .. }
+            | Op::StrbImm { .. }
+            | Op::LdrbImm { .. }
+            | Op::StrhImm { .. }
+            | Op::LdrhImm { .. }
+            | Op::StrSp { .. }
+            | Op::LdrSp { .. }
+    )
 }
 
 /// Where so many beats of an instruction are done, and one more, it has another one. The second beat of a load or a store of one
-/// register is its last, whatever the address.
+/// register is its last, whatever the address; and of a branch by an offset no row is looked up.
 #[inline(always)]
 #[tactic(auto, unfolding(crate::specs::Beats::beats_of))]
 pub fn has_more(op: &Op, regs: &Regs, done: usize) -> bool
     ensures value { result ≡ nat_lt (done + 1) (length (beats_of op.now regs.now)) }
     ensures room { result ≡ true → done < 2 ^ 64 - 1 }
 {
-    let action = classify(op);
-    if 0 < done && is_one_access(&action) {
-        return false;
+    match *op {
+        Op::B { .. } => done == 0,
+        Op::BCond { c, .. } => done == 0 && regs.condition_holds(c),
+        _ if 0 < done && is_one_access(op) => false,
+        _ => has_more_by_row(op, regs, done),
     }
-    let count = shape_count(&action_shape(&action, regs), regs);
+}
+
+/// The same, by the row of the table.
+#[inline(never)]
+fn has_more_by_row(op: &Op, regs: &Regs, done: usize) -> bool
+    ensures value { result ≡ nat_lt (done + 1) (length (beats_of op.now regs.now)) }
+    ensures room { result ≡ true → done < 2 ^ 64 - 1 }
+{
+    let count = beat_count(op, regs);
     count > 1 && done < count - 1
 }
 

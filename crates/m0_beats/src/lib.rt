@@ -13,7 +13,7 @@ pub mod special;
 pub mod table;
 pub mod timing;
 
-pub use cycles::{beat_count, has_more};
+pub use cycles::{beat_count, has_more, is_one_access};
 pub use effects::effect;
 pub use faults::{exception_return, is_unaligned, shape_is_unaligned};
 pub use one_beat::{beat_at, shape_beat};
