@@ -7,7 +7,7 @@ use Rattle.m0_core.specs.contracts.doing.WorkPartialEq.TheImpl as work
 use Rattle.rp_base.specs.contracts.op.Op as the_op
 use Rattle.m0_core.specs.contracts.doing.Work as the_work
 
-exact_op : IsExact op.eq-value.it
+pub exact_op : IsExact op.eq-value.it
 exact_op = enums the_op.enum _ (
   three numbers numbers numbers,
   (

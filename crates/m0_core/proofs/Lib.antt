@@ -7,5 +7,7 @@ mod Waits
 mod Walk
 pub mod Carrying
 pub mod Comparisons
+pub mod Kept
+pub mod OneAccess
 pub mod Plain
 pub mod Shapes

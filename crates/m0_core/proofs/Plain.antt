@@ -483,6 +483,12 @@ both false b h = absurd (cc)
 pub single_plain : (o : Op) → is_single o ≡ true → is_plain o ≡ true
 single_plain o h = (both (is_plain o) _ h).0
 
+pub branch_plain : (o : Op) → is_branch o ≡ true → is_plain o ≡ true
+branch_plain (op.BCond c i) h = refl
+branch_plain (op.B i) h = refl
+branch_plain (op.Bl q i j) h = refl
+branch_plain _ h = absurd (cc h)
+
 goes_on : (o : Op) (s : State) → awaits_event o ≡ false → awaits_interrupt o ≡ false → is_paused_op o s ≡ false
 goes_on o s p q = rw (p, q) (and-false (s.beats_done == 1))
 

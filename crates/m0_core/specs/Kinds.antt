@@ -1,7 +1,9 @@
 -- The instructions that a core treats by themselves (ARMv6-M Architecture Reference Manual, A6.7).
 use Rattle.std.specs.Prelude.{Bool, true, false, not, ◌&&◌}
 use Rattle.rp_base.specs.declared.op.Op.{Op}
-use Rattle.rp_base.specs.declared.op.Op.TheVariants.{Bkpt, Sev, Wfe, Wfi, Svc, Udf, Undefined, LslImm, LsrImm, AsrImm, AddReg, SubReg, AddImm3, SubImm3, MovImm, CmpImm, AddImm8, SubImm8, And, Eor, LslReg, LsrReg, AsrReg, Adc, Sbc, Ror, Tst, Rsb, Cmp, Cmn, Orr, Mul, Bic, Mvn, CmpHigh, SubSpImm, Sxth, Sxtb, Uxth, Uxtb, Rev, Rev16, Revsh, BCond, B, Bl, LdrLit, StrReg, StrhReg, StrbReg, LdrsbReg, LdrReg, LdrhReg, LdrbReg, LdrshReg, StrImm, LdrImm, StrbImm, LdrbImm, StrhImm, LdrhImm, StrSp, LdrSp}
+use Rattle.rp_base.specs.declared.op.Op.TheVariants.{Bkpt, Sev, Wfe, Wfi, Svc, Udf, Undefined, LslImm, LsrImm, AsrImm, AddReg, SubReg, AddImm3, SubImm3, MovImm, CmpImm, AddImm8, SubImm8, And, Eor, LslReg, LsrReg, AsrReg, Adc, Sbc, Ror, Tst, Rsb, Cmp, Cmn, Orr, Mul, Bic, Mvn, CmpHigh, SubSpImm, Sxth, Sxtb, Uxth, Uxtb, Rev, Rev16, Revsh, BCond, B, Bl}
+use Rattle.m0_beats.specs.Rows.{action_of}
+use Rattle.m0_beats.specs.Beats as beats
 
 abbrev pub is_breakpoint : Op → Bool
 is_breakpoint (Bkpt i) = true
@@ -88,21 +90,4 @@ is_single o = is_plain o && not (is_branch o)
 
 -- a load or a store of one register
 abbrev pub is_one_access : Op → Bool
-is_one_access (LdrLit t i) = true
-is_one_access (StrReg m n t) = true
-is_one_access (StrhReg m n t) = true
-is_one_access (StrbReg m n t) = true
-is_one_access (LdrsbReg m n t) = true
-is_one_access (LdrReg m n t) = true
-is_one_access (LdrhReg m n t) = true
-is_one_access (LdrbReg m n t) = true
-is_one_access (LdrshReg m n t) = true
-is_one_access (StrImm i n t) = true
-is_one_access (LdrImm i n t) = true
-is_one_access (StrbImm i n t) = true
-is_one_access (LdrbImm i n t) = true
-is_one_access (StrhImm i n t) = true
-is_one_access (LdrhImm i n t) = true
-is_one_access (StrSp t i) = true
-is_one_access (LdrSp t i) = true
-is_one_access _ = false
+is_one_access o = beats.is_one_access (action_of o)

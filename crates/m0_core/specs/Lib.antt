@@ -4,6 +4,7 @@ pub mod Entry
 pub mod ExceptionLaws
 pub mod Fetch
 pub mod Handlers
+pub mod Kept
 pub mod Kinds
 pub mod Laws
 pub mod Private

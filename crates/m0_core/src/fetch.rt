@@ -1,13 +1,15 @@
 //! What a core asks in a cycle.
 
-ghost use Rattle.std.specs.Prelude.{◌≡◌, ◌%◌, ◌^◌};
+ghost use Rattle.std.specs.Prelude.{◌≡◌, ◌%◌, ◌^◌, Some, true};
+ghost use Rattle.m0_core.specs.Kinds.{is_one_access};
 ghost use Rattle.rp_base.specs.Map.{place_of};
 ghost use Rattle.lane_look.specs.Asking.{Runs};
+ghost use Rattle.lane_look.specs.declared.lane.Ask.TheVariants.{Lines};
 ghost use Rattle.lane_look.specs.Asking.Asking.{Ready};
 ghost use Rattle.rp_base.specs.Access.{master_of};
 ghost use Rattle.m0_beats.specs.Beats.{beats_of};
 ghost use Rattle.m0_beats.specs.Shapes.{beats_of_shape};
-ghost use Rattle.m0_core.specs.Fetch.{is_ram, is_locked, asks_fault, is_callable, is_faulty, beat_of, beat_of_work, in_ram, in_private, at_spot, asks_beat, locks_last, asks_return, asks_decoded, asks_second, asks_first, taken_of, asks_boundary, asks_work, asks_awake, asks};
+ghost use Rattle.m0_core.specs.Fetch.{is_ram, is_locked, asks_fault, is_callable, is_faulty, beat_of, beat_of_work, in_ram, in_private, at_spot, in_beat, asks_beat, locks_last, asks_return, asks_decoded, asks_second, asks_first, taken_of, asks_boundary, asks_work, asks_awake, asks};
 
 use crate::doing::{Act, Doing, Work};
 use crate::exceptions::RETURN_BEATS;
@@ -16,7 +18,7 @@ use crate::placed::Placed;
 use crate::processor::Core;
 use crate::returns::{is_misfit, value_at};
 use lane_look::{Ask, Look};
-use m0_beats::{Beat, Shape, beat_at, shape_beat, shape_is_unaligned, shape_of};
+use m0_beats::{Beat, Shape, beat_at, is_one_access, shape_beat, shape_is_unaligned, shape_of};
 use m0_nvic::numbers::SVCALL;
 use rp_base::access::{master_of, word_written};
 use rp_base::map::{Spot, place};
@@ -52,16 +54,16 @@ fn word_of(answer: u128) -> u32
 
 /// An access to SRAM; a read asks for its word.
 #[inline(always)]
-fn begin_ram<K: Look>(work: &Work, access: Placed, look: &mut K, act: &mut Act)
-    ensures { Runs K.answers look.old (in_ram work.now access access.write) act.new look.new }
+fn begin_ram<K: Look>(work: &Work, access: &Placed, look: &mut K, act: &mut Act)
+    ensures { Runs K.answers look.old (in_ram work.now access.now access.now.write) act.new look.new }
 {
     let request = *access.request();
     match request.write {
         None => {
             let answer = look.ask(Ask::Word(request.address));
-            *act = Act::Read(*work, access, word_of(answer));
+            *act = Act::Read(*work, *access, word_of(answer));
         }
-        Some(_) => *act = Act::Write(*work, access),
+        Some(_) => *act = Act::Write(*work, *access),
     }
 }
 
@@ -103,25 +105,42 @@ impl Core {
             (at_spot work.now request self.now (place_of request.address)) act.new look.new }
     {
         let access = Placed::new(request);
+        self.begin_placed(work, &access, look, act);
+    }
+
+    /// An access, by the spot that it goes to.
+    #[inline(always)]
+    fn begin_placed<K: Look>(&self, work: &Work, access: &Placed, look: &mut K, act: &mut Act)
+        ensures { Runs K.answers look.old
+            (at_spot work.now access.now self.now (place_of access.now.address)) act.new look.new }
+    {
         match *access.spot() {
             Spot::Ram { .. } => begin_ram(work, access, look, act),
-            Spot::Ppb { offset } => self.begin_private(work, request, offset, act),
+            Spot::Ppb { offset } => self.begin_private(work, *access.request(), offset, act),
             Spot::Reg { .. } | Spot::Sio { .. } | Spot::Outside => {
-                *act = Act::Outward(*work, access);
+                *act = Act::Outward(*work, *access);
             }
         }
     }
 
-    /// A beat.
+    /// A beat, which is inside the core or an access.
+    #[inline(always)]
+    fn begin_as<K: Look>(&self, work: &Work, beat: Beat, look: &mut K, act: &mut Act)
+        ensures { Runs K.answers look.old (in_beat work.now self.now beat) act.new look.new }
+    {
+        match beat {
+            Beat::Inner => *act = Act::Inner(*work),
+            Beat::Access(request) => self.begin_access(work, request, look, act),
+        }
+    }
+
+    /// The beat that is next.
     #[inline(always)]
     #[tactic(auto, unfolding(crate::specs::Fetch::asks_beat))]
     fn begin_beat<K: Look>(&self, work: &Work, look: &mut K, act: &mut Act)
         ensures { Runs K.answers look.old (asks_beat work.now self.now) act.new look.new }
     {
-        match self.beat_of_work(work) {
-            Beat::Inner => *act = Act::Inner(*work),
-            Beat::Access(request) => self.begin_access(work, request, look, act),
-        }
+        self.begin_as(work, self.beat_of_work(work), look, act);
     }
 
     /// The execution priority is -1 or lower.
@@ -195,11 +214,8 @@ impl Core {
         ensures { Runs K.answers look.old (asks_beat (Work.Instruction op) self.now) act.new
             look.new }
     {
-        let work = Work::Instruction(op);
-        match shape_beat(shape, &self.regs, self.beats_done).unwrap_or(Beat::Inner) {
-            Beat::Inner => *act = Act::Inner(work),
-            Beat::Access(request) => self.begin_access(&work, request, look, act),
-        }
+        let beat = shape_beat(shape, &self.regs, self.beats_done).unwrap_or(Beat::Inner);
+        self.begin_as(&Work::Instruction(op), beat, look, act);
     }
 
     /// The first beat of an instruction, or the stop at it. Most instructions are plain, which costs one test.
@@ -215,12 +231,31 @@ impl Core {
         self.begin_other(op, look, act);
     }
 
+    /// The same of a load or a store of one register, which faults without T and where its access is unaligned.
+    #[inline(always)]
+    #[tactic(auto, using(crate::proofs::OneAccess::asking, crate::proofs::Shapes::unaligned))]
+    fn begin_one_access<K: Look>(&self, op: Op, look: &mut K, act: &mut Act)
+        requires { is_one_access op ≡ true }
+        ensures { Runs K.answers look.old (asks_decoded op self.now) act.new look.new }
+    {
+        let shape = shape_of(&op, &self.regs);
+        if !self.regs.t || shape_is_unaligned(&shape, &self.regs) {
+            *act = self.begin_fault();
+        } else {
+            self.begin_shape(op, &shape, look, act);
+        }
+    }
+
     /// The same of an instruction that may stop, fault or access.
     #[inline(never)]
     #[tactic(auto, unfolding(crate::specs::Fetch::asks_decoded))]
     fn begin_other<K: Look>(&self, op: Op, look: &mut K, act: &mut Act)
         ensures { Runs K.answers look.old (asks_decoded op self.now) act.new look.new }
     {
+        if is_one_access(&op) {
+            self.begin_one_access(op, look, act);
+            return;
+        }
         if is_breakpoint(&op) {
             *act = Act::Stopped(Why::Bkpt(self.number()));
             return;
@@ -312,10 +347,12 @@ impl Core {
     /// The next beat of what is in progress. All beats of a branch by an offset are inside the core.
     #[inline(always)]
     fn begin_work<K: Look>(&self, work: &Work, look: &mut K, act: &mut Act)
+        requires { self.now.work ≡ Some work.now }
         ensures { Runs K.answers look.old (asks_work work.now self.now) act.new look.new }
     {
         match work {
             Work::Instruction(op) if is_branch(op) => *act = Act::Inner(*work),
+            Work::Instruction(_) if self.is_held => self.begin_placed(work, &self.held, look, act),
             Work::Instruction(_) | Work::Entry(_) => self.begin_beat(work, look, act),
             Work::Return(value) => self.begin_return(*value, look, act),
         }
@@ -345,6 +382,24 @@ impl Core {
             begun.lines = 0;
         } else {
             begun.lines = word_of(look.ask(Ask::Lines));
+            self.begin_awake(look, &mut begun.act);
+        }
+    }
+
+    /// What the core begins in a cycle, in the place of what it began before, as `begin_into`, where the look would answer these
+    /// interrupt lines (line 0 in bit 0), which were found before: it is not asked for them.
+    #[inline(always)]
+    #[tactic(auto, unfolding(crate::specs::Fetch::asks), using(crate::proofs::Carrying::carrying))]
+    pub fn begin_told<K: Look>(&self, cycle: u64, lines: u32, look: &mut K, begun: &mut Doing)
+        requires { K.answers look.old Lines lines look.old }
+        ensures { Runs K.answers look.old (asks self.now cycle) begun.new look.new }
+    {
+        begun.cycle = cycle;
+        if self.is_asleep() {
+            begun.act = Act::Asleep;
+            begun.lines = 0;
+        } else {
+            begun.lines = lines;
             self.begin_awake(look, &mut begun.act);
         }
     }

@@ -8,11 +8,12 @@ ghost use Rattle.m0_core.specs.Cycle.{signals, want_of, waiting, followed, with_
 use crate::doing::{Act, Doing, Work};
 use crate::exceptions::{ENTRY_BEATS, RETURN_BEATS};
 use crate::kinds::{
-    awaits_event, awaits_interrupt, is_call, is_one_access, is_plain, is_signal, is_single,
+    awaits_event, awaits_interrupt, is_branch, is_call, is_plain, is_signal, is_single,
 };
+use crate::placed::Placed;
 use crate::processor::Core;
 use lane_look::{Turn, Want};
-use m0_beats::{effect, exception_return, has_more};
+use m0_beats::{Beat, effect, exception_return, has_more, is_one_access, shape_beat, shape_of};
 use m0_nvic::numbers::{HARDFAULT, SVCALL};
 use rp_base::Request;
 use rp_base::access::lanes;
@@ -98,13 +99,42 @@ fn returning(value: Option<u32>) -> Option<Work>
     }
 }
 
+/// Both are the same instruction.
+#[inline(always)]
+fn is_instruction(work: &Work, other: &Work) -> bool
+    ensures { result ≡ true → work.now ≡ other.now }
+{
+    match work {
+        Work::Instruction(op) => match other {
+            Work::Instruction(same) => *op == *same,
+            Work::Entry(_) | Work::Return(_) => false,
+        },
+        Work::Entry(_) | Work::Return(_) => false,
+    }
+}
+
 impl Core {
+    /// The instruction in progress is this.
+    #[inline(always)]
+    fn is_at(&self, work: &Work) -> bool
+        ensures { result ≡ true → self.now.work ≡ Some work.now }
+    {
+        match &self.work {
+            None => false,
+            Some(present) => is_instruction(present, work),
+        }
+    }
+
     /// The beat is not over.
     #[inline(always)]
+    #[tactic(auto, using(crate::proofs::Kept::at_work))]
     pub(crate) fn wait(&mut self, work: &Work)
         ensures { self.new ≡ waiting work.now self.old }
     {
-        self.work = Some(*work);
+        if !self.is_at(work) {
+            self.work = Some(*work);
+            self.is_held = false;
+        }
     }
 
     /// Another beat follows.
@@ -114,6 +144,7 @@ impl Core {
     {
         self.work = Some(work);
         self.beats_done += 1;
+        self.is_held = false;
     }
 
     /// Keeps a value that was read.
@@ -153,7 +184,7 @@ impl Core {
     /// An inner beat of a plain instruction, or of a load or a store of one register, is over, as most are; false where the work
     /// is other, and then nothing changes.
     #[inline(always)]
-    #[tactic(auto, using(crate::proofs::Plain::single_after, crate::proofs::Plain::single_plain, crate::proofs::Plain::plainly_after))]
+    #[tactic(auto, using(crate::proofs::Plain::single_after, crate::proofs::Plain::single_plain, crate::proofs::Plain::branch_plain, crate::proofs::Plain::plainly_after))]
     pub(crate) fn pass_plain(&mut self, work: &Work) -> bool
         ensures { self.new ≡ (if result then after_inner work.now self.old else self.old) }
     {
@@ -162,8 +193,12 @@ impl Core {
                 self.end_plain(op);
                 true
             }
-            Work::Instruction(op) if is_plain(op) || is_one_access(op) => {
+            Work::Instruction(op) if is_branch(op) => {
                 self.pass_instruction(op);
+                true
+            }
+            Work::Instruction(op) if is_one_access(op) => {
+                self.pass_access(op);
                 true
             }
             _ => false,
@@ -188,16 +223,17 @@ impl Core {
     fn end(&mut self, op: &Op)
         ensures { self.new ≡ ended op.now self.old }
     {
-        if is_plain(op) || is_one_access(op) {
+        if is_plain(op) {
             self.end_plain(op);
             return;
         }
+        self.call(op);
         let value = exception_return(op, &self.regs, self.read.as_slice());
         effect(op, &mut self.regs, self.read.as_slice());
-        self.call(op);
         self.event = self.event && !awaits_event(op);
         self.work = returning(value);
         self.beats_done = 0;
+        self.is_held = false;
         self.read.clear();
     }
 
@@ -210,8 +246,43 @@ impl Core {
         if has_more(op, &self.regs, self.beats_done) {
             self.work = Some(Work::Instruction(*op));
             self.beats_done += 1;
+            self.is_held = false;
         } else {
             self.end(op);
+        }
+    }
+
+    /// The first beat of a load or a store of one register is over. Where its access comes now, the core keeps it.
+    #[inline(never)]
+    #[tactic(auto, unfolding(crate::specs::Cycle::passed_instruction))]
+    fn pass_first(&mut self, op: &Op)
+        requires one_access { is_one_access op.now ≡ true }
+        requires first { self.old.beats_done ≡ 0 }
+        ensures { self.new ≡ passed_instruction op.now self.old }
+    {
+        match shape_beat(&shape_of(op, &self.regs), &self.regs, 1) {
+            None => self.end_plain(op),
+            Some(Beat::Inner) => self.follow(Work::Instruction(*op)),
+            Some(Beat::Access(request)) => {
+                self.work = Some(Work::Instruction(*op));
+                self.beats_done = 1;
+                self.is_held = true;
+                self.held = Placed::new(request);
+            }
+        }
+    }
+
+    /// A beat of a load or a store of one register is over. No beat comes behind the second.
+    #[inline(always)]
+    #[tactic(auto, using(crate::proofs::OneAccess::second_over))]
+    fn pass_access(&mut self, op: &Op)
+        requires { is_one_access op.now ≡ true }
+        ensures { self.new ≡ passed_instruction op.now self.old }
+    {
+        if self.beats_done == 0 {
+            self.pass_first(op);
+        } else {
+            self.end_plain(op);
         }
     }
 
@@ -245,6 +316,7 @@ impl Core {
         ensures { self.new ≡ passed_work work.now self.old }
     {
         match work {
+            Work::Instruction(op) if is_one_access(op) => self.pass_access(op),
             Work::Instruction(op) => self.pass_instruction(op),
             Work::Entry(number) => {
                 self.take_first(*number);

@@ -1,7 +1,7 @@
 //! The instructions that a core treats by themselves.
 
 ghost use Rattle.std.specs.Prelude.{◌≡◌};
-ghost use Rattle.m0_core.specs.Kinds.{is_breakpoint, is_signal, awaits_event, awaits_interrupt, is_call, is_undefined, is_plain, is_branch, is_single, is_one_access};
+ghost use Rattle.m0_core.specs.Kinds.{is_breakpoint, is_signal, awaits_event, awaits_interrupt, is_call, is_undefined, is_plain, is_branch, is_single};
 
 use rp_base::op::Op;
 
@@ -114,31 +114,4 @@ pub(crate) fn is_plain(op: &Op) -> bool
     ensures { result ≡ is_plain op.now }
 {
     is_single(op) || is_branch(op)
-}
-
-/// A load or a store of one register: its end begins no return, is no call and waits for nothing, as that of a plain instruction.
-#[inline(always)]
-pub(crate) fn is_one_access(op: &Op) -> bool
-    ensures { result ≡ is_one_access op.now }
-{
-    matches!(
-        op,
-        Op::LdrLit { .. }
-            | Op::StrReg { .. }
-            | Op::StrhReg { .. }
-            | Op::StrbReg { .. }
-            | Op::LdrsbReg { .. }
-            | Op::LdrReg { .. }
-            | Op::LdrhReg { .. }
-            | Op::LdrbReg { .. }
-            | Op::LdrshReg { .. }
-            | Op::StrImm { .. }
-            | Op::LdrImm { .. }
-            | Op::StrbImm { .. }
-            | Op::LdrbImm { .. }
-            | Op::StrhImm { .. }
-            | Op::LdrhImm { .. }
-            | Op::StrSp { .. }
-            | Op::LdrSp { .. }
-    )
 }

@@ -4,10 +4,12 @@ ghost use Rattle.std.specs.Prelude.{◌≡◌};
 ghost use Rattle.m0_core.specs.Start.{clear_registers, with_vectors};
 
 use crate::doing::Work;
+use crate::placed::Placed;
 use arrayvec::ArrayVec;
 use m0_beats::Regs;
 use m0_nvic::Nvic;
 use m0_nvic::registers::VTOR;
+use rp_base::{Request, Size};
 use std::marker::Model;
 
 /// One core of the RP2040 (ARMv6-M Architecture Reference Manual, B1), between two cycles.
@@ -22,10 +24,15 @@ pub struct Core {
     pub(crate) work: Option<Work>,
     pub(crate) beats_done: usize,
     pub(crate) read: ArrayVec<u32, 16>,
+    /// The access of the beat that is next was found, where something is in progress.
+    pub(crate) is_held: bool,
+    /// That access, where it was found.
+    pub(crate) held: Placed,
 }
 
 impl Model for Core {
     ghost use Rattle.m0_core.specs.State.{State};
+    ghost use Rattle.m0_core.specs.Kept.{IsKept};
 
     ghost Value = { State };
 
@@ -40,6 +47,8 @@ impl Model for Core {
       beats_done = c.beats_done;
       read = c.read.items;
     } };
+
+    ghost invariant = { λ c. IsKept c.work c.is_held c.held c.regs c.beats_done };
 }
 
 /// Registers and flags that are 0, but for MSP, LR, PC and T.
@@ -91,6 +100,12 @@ impl Core {
             work: None,
             beats_done: 0,
             read: ArrayVec::new(),
+            is_held: false,
+            held: Placed::new(Request {
+                address: 0,
+                size: Size::Word,
+                write: None,
+            }),
         }
     }
 
@@ -181,6 +196,7 @@ impl Core {
         self.offer = other.offer;
         self.work = other.work;
         self.beats_done = other.beats_done;
+        self.is_held = false;
         self.read.clear();
         let _ = self.read.try_extend_from_slice(other.read.as_slice());
     }
