@@ -186,7 +186,7 @@ zero_is : (n : ℕ) → nat_eq n 0 ≡ true → n ≡ 0
 zero_is zero h = refl
 zero_is (suc n) h = absurd (grind (arith, nat_tests, common_steps))
 
-silent_lines : (s : Engine) → is_silent s ≡ true → lines_of s ≡ false ∷ false ∷ []
+pub silent_lines : (s : Engine) → is_silent s ≡ true → lines_of s ≡ false ∷ false ∷ []
 silent_lines s h =
     let both : (nat_eq s.raised 0 && nat_eq s.line_0.force 0) ≡ true = both_left _ (nat_eq s.line_1.force 0) h in
     let r : s.raised ≡ 0 = zero_is s.raised (both_left _ (nat_eq s.line_0.force 0) both) in

@@ -1,6 +1,7 @@
 pub mod AtRest
 pub mod Comparisons
 pub mod Counting
+pub mod Counts
 pub mod Finishing
 pub mod First
 pub mod Four

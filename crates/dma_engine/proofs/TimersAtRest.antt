@@ -112,6 +112,9 @@ still-stepped s new h = ap is_still h ∙ ap (λ b. b && is_silent s) (still_tim
 pub paused-stepped : (s new : Engine) → new ≡ with_stepped_timers s → is_paused new ≡ is_paused s
 paused-stepped s new h = ap is_paused h ∙ paused_timers s
 
+pub silent-stepped : (s new : Engine) → new ≡ with_stepped_timers s → is_silent new ≡ is_silent s
+silent-stepped s new h = ap is_silent h
+
 -- the same of an engine that was opened, whose timers stepped or did not
 pub still-passed : (e s : Engine) (timers : List PacingTimer) (r : Bool) → e ≡ s → (r ≡ true → timers ≡ map stepped e.timers) →
     (r ≡ false → timers ≡ e.timers) → is_still (record e { timers = timers }) ≡ is_still s
@@ -120,4 +123,4 @@ still-passed e s timers true is after before =
 still-passed e s timers false is after before =
     ap (λ ts. is_still (record e { timers = ts })) (before refl) ∙ ap is_still is
 
-pub ruleset stepping = (still-stepped, paused-stepped)
+pub ruleset stepping = (still-stepped, paused-stepped, silent-stepped)

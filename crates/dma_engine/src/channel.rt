@@ -41,7 +41,7 @@ impl Channel {
     };
 
     /// EN.
-    fn is_enabled(&self) -> bool
+    pub(crate) fn is_enabled(&self) -> bool
         ensures { result ≡ is_enabled self.now }
     {
         self.ctrl & 1 == 1

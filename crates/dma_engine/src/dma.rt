@@ -17,26 +17,36 @@ pub struct Dma {
     pub(crate) at_rest: bool,
     /// `is_paused` of the engine: nothing moves until a register is written or a pacing timer gives a credit.
     pub(crate) paused: bool,
+    /// False only where `may_ask_counts` of the engine is false: cycles leave it.
+    pub(crate) counts: bool,
+    /// `is_silent` of the engine: no interrupt is raised or forced.
+    pub(crate) silent: bool,
 }
 
 impl Model for Dma {
-    ghost use Rattle.std.specs.Prelude.{◌≡◌};
+    ghost use Rattle.std.specs.Prelude.{◌≡◌, false};
     ghost use Rattle.dma_engine.specs.State.{Engine as State};
     ghost use Rattle.dma_engine.specs.Rest.{is_still};
     ghost use Rattle.dma_engine.specs.Paused.{is_paused};
+    ghost use Rattle.dma_engine.specs.Asks.{may_ask_counts};
+    ghost use Rattle.dma_engine.specs.Words.{is_silent};
 
     ghost Value = { State };
 
     ghost view = { λ d. d.engine };
 
-    ghost invariant = { λ d. (d.at_rest ≡ is_still d.engine) × (d.paused ≡ is_paused d.engine) };
+    ghost invariant = { λ d. (d.at_rest ≡ is_still d.engine) × (d.paused ≡ is_paused d.engine)
+        × (d.counts ≡ false → may_ask_counts d.engine ≡ false) × (d.silent ≡ is_silent d.engine) };
 }
 
 impl Dma {
-    ghost use Rattle.std.specs.Prelude.{Decides, false, true, ◌∷◌, []};
+    ghost use Rattle.std.specs.Prelude.{List, Decides, ◌||◌, false, true, ◌∷◌, []};
+    ghost use Rattle.lane_look.specs.declared.lane.Turn.{Turn};
+    ghost use Rattle.dma_engine.specs.declared.begun.BegunTransfer.{BegunTransfer};
     ghost use Rattle.lane_look.specs.Asking.Asking.{Ready};
-    ghost use Rattle.dma_engine.specs.Asks.{asks, idle_begun};
+    ghost use Rattle.dma_engine.specs.Asks.{asks, idle_begun, may_ask_counts, AsksNoCounts};
     ghost use Rattle.dma_engine.specs.Cycle.{next};
+    ghost use Rattle.dma_engine.specs.Paused.{is_paused};
     ghost use Rattle.dma_engine.specs.Rest.{is_still, StaysAtRest};
     ghost use Rattle.dma_engine.specs.State.{reset_state, with_hold};
     ghost use Rattle.dma_engine.specs.Words.{word_of, is_allowed, effect_of, is_silent, lines_of};
@@ -48,10 +58,14 @@ impl Dma {
         let engine = Engine::new(false);
         let at_rest = engine.is_still();
         let paused = engine.is_paused();
+        let counts = engine.may_ask_counts();
+        let silent = engine.is_silent();
         Dma {
             engine,
             at_rest,
             paused,
+            counts,
+            silent,
         }
     }
 
@@ -72,6 +86,8 @@ impl Dma {
         let allowed = self.engine.effect(offset, write);
         self.at_rest = self.engine.is_still();
         self.paused = self.engine.is_paused();
+        self.counts = self.engine.may_ask_counts();
+        self.silent = self.engine.is_silent();
         allowed
     }
 
@@ -89,6 +105,8 @@ impl Dma {
         self.engine.set_held(held);
         self.at_rest = self.engine.is_still();
         self.paused = self.engine.is_paused();
+        self.counts = self.engine.may_ask_counts();
+        self.silent = self.engine.is_silent();
     }
 
     /// The engine is at rest: no channel is busy or chosen, no write waits, no timer runs, and no interrupt is raised or forced.
@@ -102,24 +120,41 @@ impl Dma {
         self.at_rest
     }
 
+    /// False only where no channel may be paced by a FIFO now, or in a later cycle before a register is written: none that is busy
+    /// or enabled has a data request (TREQ_SEL) other than that of a pacing timer or the permanent one (RP2040 Datasheet, 2.5.3.1 and
+    /// 2.5.7, CH0_CTRL_TRIG). The engine does not ask for the counts until then. It may be true longer than a channel may wait.
+    #[inline(always)]
+    #[tactic(auto, using(crate::proofs::Counts::counts_told))]
+    pub fn may_ask_counts(&self) -> bool
+        ensures value { result ≡ false → may_ask_counts self.now ≡ false }
+        ensures asks { result ≡ false → AsksNoCounts (asks self.now) }
+        ensures later { result ≡ false → (begun : BegunTransfer) → (turns : List Turn)
+            → may_ask_counts (next self.now begun turns) ≡ false }
+    {
+        self.counts
+    }
+
     /// The engine is at rest or paused, so that it asks nothing.
     #[inline(always)]
     #[tactic(auto, using(crate::proofs::AtRest::at_rest, crate::proofs::Paused::paused))]
     pub(crate) fn asks_nothing(&self) -> bool
-        ensures { result ≡ true → asks self.now ≡ Ready idle_begun }
+        ensures value { result ≡ (is_still self.now || is_paused self.now) }
+        ensures asks { result ≡ true → asks self.now ≡ Ready idle_begun }
     {
         self.at_rest | self.paused
     }
 
     /// The cycle, where this was begun and these turns were given. Whether the engine rests or is paused is found again where
-    /// something moved; where only timers stepped both are as before.
+    /// something moved, and whether it is silent; where only timers stepped all three are as before.
     #[inline(never)]
+    #[tactic(auto, using(crate::proofs::Counts::counts))]
     pub(crate) fn move_on(&mut self, begun: &BegunTransfer, turns: &[Turn; 2])
         ensures { self.new ≡ next self.old begun.now turns.now }
     {
         if self.engine.finish(begun, turns) {
             self.at_rest = self.engine.is_still();
             self.paused = self.engine.is_paused();
+            self.silent = self.engine.is_silent();
         }
     }
 
@@ -136,7 +171,7 @@ impl Dma {
         ensures value { result ≡ is_silent self.now }
         ensures lines { result ≡ true → lines_of self.now ≡ false ∷ false ∷ [] }
     {
-        self.engine.is_silent()
+        self.silent
     }
 
     /// The two interrupt lines, DMA_IRQ_0 and DMA_IRQ_1: some bit of INTS0, and some bit of INTS1.

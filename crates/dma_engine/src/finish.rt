@@ -11,6 +11,7 @@ ghost use Rattle.dma_engine.specs.State.{channel_at};
 ghost use Rattle.dma_engine.specs.Timer.{gives, stepped, given_by, is_given, gets_credit, credited, with_credit, with_stepped_timers, after_timers};
 ghost use Rattle.dma_engine.specs.Rest.{is_idle_channel, is_idle_timer, is_at_rest, is_still};
 ghost use Rattle.dma_engine.specs.Paused.{is_paused};
+ghost use Rattle.dma_engine.specs.Words.{is_silent};
 ghost use Rattle.dma_engine.specs.Cycle.{want_of, word_of, word_read, with_data, with_read, after_read, is_written, after_write, credits_left, counted, after_choice, is_over, after_transfers, next};
 ghost use Rattle.dma_engine.specs.Channel.{in_turn};
 
@@ -367,6 +368,7 @@ impl Engine {
         ensures after { self.new ≡ next self.old begun.now turns.now }
         ensures still { result ≡ false → is_still self.new ≡ is_still self.old }
         ensures paused { result ≡ false → is_paused self.new ≡ is_paused self.old }
+        ensures silent { result ≡ false → is_silent self.new ≡ is_silent self.old }
     {
         if self.held {
             return false;

@@ -55,7 +55,8 @@ impl Lane<()> for Dma {
         [want(&begun.read), want(&begun.write)]
     }
 
-    #[tactic(auto, using(crate::proofs::AtRest::at_rest, crate::proofs::Paused::paused))]
+    #[inline(always)]
+    #[tactic(auto, using(crate::proofs::AtRest::at_rest, crate::proofs::Paused::paused, crate::proofs::Counts::counts))]
     fn finish(&mut self, _env: &(), begun: &BegunTransfer, turns: [Turn; 2], _marks: &mut Marks) {
         if self.at_rest || (self.paused && self.engine.pass(begun, &turns)) {
             return;
@@ -67,6 +68,8 @@ impl Lane<()> for Dma {
         self.engine.copy_from(&other.engine);
         self.at_rest = other.at_rest;
         self.paused = other.paused;
+        self.counts = other.counts;
+        self.silent = other.silent;
     }
 
     ghost few = { Prim.search rules };

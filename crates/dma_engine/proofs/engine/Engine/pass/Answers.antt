@@ -1,3 +1,5 @@
+use Rattle.std.proofs.Common.{ap}
+use Rattle.dma_engine.specs.Words.{is_silent}
 use Rattle.dma_engine.proofs.Paused.{next-passed, stays_passed}
 use Rattle.dma_engine.proofs.TimersAtRest.{still-passed}
 use Rattle.dma_engine.proofs.engine.Engine.pass.Goals as goal
@@ -15,3 +17,6 @@ returns-clause-still c =
 
 pub returns-clause-paused : goal.returns-clause-paused
 returns-clause-paused c = stays_passed _ c.args.self.now c.pass_all.new.timers c.self.view_is c.requires
+
+pub returns-clause-silent : goal.returns-clause-silent
+returns-clause-silent c = ap is_silent c.self.view_is
