@@ -1,5 +1,6 @@
 pub mod AtRest
 pub mod Depths
+pub mod Enabled
 pub mod Held
 pub mod Highest
 pub mod Masks

@@ -132,12 +132,15 @@ impl PioBlock {
         self.silent
     }
 
-    /// A cycle in which the block steps.
+    /// A cycle in which the block steps. Where its first machine is enabled, it was and is busy.
+    #[tactic(auto, using(crate::proofs::Enabled::not_at_rest))]
     pub(crate) fn step(&mut self, inputs: Inputs)
         ensures { self.new ≡ after_cycle inputs.now inputs.second self.old }
     {
         self.state.step(inputs);
-        self.at_rest = self.silent && !self.state.is_busy();
+        if !self.state.is_first_enabled() {
+            self.at_rest = self.silent && !self.state.is_busy();
+        }
     }
 
     /// A machine is enabled, or a written word waits.

@@ -1,7 +1,9 @@
 //! What the system does to one machine.
 
 ghost use Rattle.std.specs.Prelude.{◌≡◌, ◌<◌, Bool, Decides};
-ghost use Rattle.pio_machine.specs.Ready.{IsSteady};
+ghost use Rattle.pio_machine.specs.declared.again.LastOut.{LastOut};
+ghost use Rattle.pio_machine.specs.Ready.{settings_of, IsSteady};
+ghost use Rattle.pio_machine.specs.Again.{Lasts};
 ghost use Rattle.pio_block.specs.State.{is_running, is_written};
 ghost use Rattle.pio_block.specs.Control.{restarted_if, with_divider_restarted, controlled};
 ghost use Rattle.pio_block.specs.Queues.{with_stalls_cleared, with_sent, with_taken};
@@ -69,6 +71,8 @@ pub(crate) fn send(machine: &mut Machine1, word: u32)
     ensures machine { machine.new ≡ with_sent word machine.old }
     ensures steady { (b : Bool) → Decides b (IsSteady machine.old)
         → Decides b (IsSteady machine.new) }
+    ensures settings { settings_of machine.new ≡ settings_of machine.old }
+    ensures last { (o : LastOut) → Lasts o machine.old → Lasts o machine.new }
 {
     if !machine.is_tx_full() {
         machine.tx.push(word);

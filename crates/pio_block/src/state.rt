@@ -113,6 +113,14 @@ impl State {
         self.machines.is_busy()
     }
 
+    /// The first machine is enabled.
+    #[inline(always)]
+    pub(crate) fn is_first_enabled(&self) -> bool
+        ensures { result ≡ (machine_of 0 self.now.machines).enabled }
+    {
+        self.machines.is_first_enabled()
+    }
+
     /// Sets a program counter.
     pub(crate) fn set_counter(&mut self, machine: u8, address: u8)
         requires { machine < 4 }
@@ -146,10 +154,12 @@ impl State {
     }
 
     /// A cycle of the block.
-    #[tactic(auto, unfolding(crate::specs::Cycle::after_cycle, crate::specs::Cycle::joined))]
+    #[tactic(auto, unfolding(crate::specs::Cycle::after_cycle, crate::specs::Cycle::joined), using(crate::proofs::Enabled::stays_enabled))]
     pub(crate) fn step(&mut self, inputs: Inputs)
         ensures after { self.new ≡ after_cycle inputs.now inputs.second self.old }
         ensures silent { is_silent self.new ≡ is_silent self.old }
+        ensures first { (machine_of 0 self.new.machines).enabled
+            ≡ (machine_of 0 self.old.machines).enabled }
     {
         let done = self.step_machines(inputs);
         self.join(&done);

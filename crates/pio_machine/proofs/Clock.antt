@@ -40,7 +40,7 @@ divided-low m h = ap (λ b. if b then m.acc + divider m - 256 else m.acc - 256) 
 divided-high : (m : Machine1) → nat_lt m.acc 256 ≡ false → divided m ≡ m.acc - 256
 divided-high m h = ap (λ b. if b then m.acc + divider m - 256 else m.acc - 256) h
 
-enabled-kept : (b : Bool) (m : Machine1) (a : ℕ) → (if b then record m { acc = a } else m).enabled ≡ m.enabled
+pub enabled-kept : (b : Bool) (m : Machine1) (a : ℕ) → (if b then record m { acc = a } else m).enabled ≡ m.enabled
 enabled-kept true m a = refl
 enabled-kept false m a = refl
 

@@ -18,7 +18,7 @@ pinctrl-kept : (b : Bool) (m : Machine1) (a : ℕ) → (if b then record m { acc
 pinctrl-kept true m a = refl
 pinctrl-kept false m a = refl
 
-same_settings : (m next : Machine1) → next.clkdiv ≡ m.clkdiv → next.execctrl ≡ m.execctrl → next.shiftctrl ≡ m.shiftctrl → next.pinctrl ≡ m.pinctrl → settings_of next ≡ settings_of m
+pub same_settings : (m next : Machine1) → next.clkdiv ≡ m.clkdiv → next.execctrl ≡ m.execctrl → next.shiftctrl ≡ m.shiftctrl → next.pinctrl ≡ m.pinctrl → settings_of next ≡ settings_of m
 same_settings m next c e s p = rw c (rw e (rw s (rw p refl)))
 
 pub settings_kept : (number : ℕ) (seen : Seen) (m : Machine1) → settings_of (after_cycle number seen m) ≡ settings_of m

@@ -2,6 +2,7 @@ pub mod Fields
 pub mod Bits
 pub mod Pins
 pub mod Ready
+pub mod Again
 pub mod Ending
 pub mod Progress
 pub mod Start

@@ -27,7 +27,7 @@ fn shifted_left(word: u32, count: u8) -> u32
     if count < 32 { word << count } else { 0 }
 }
 
-fn shifted_right(word: u32, count: u8) -> u32
+pub(crate) fn shifted_right(word: u32, count: u8) -> u32
     requires { count ≤ 32 }
     ensures { result ≡ word / 2 ^ count }
 {

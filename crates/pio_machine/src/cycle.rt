@@ -73,7 +73,7 @@ impl Machine1 {
     }
 
     /// A tick in which no word waits.
-    #[inline(never)]
+    #[inline(always)]
     #[tactic(auto, unfolding(crate::specs::Cycle::after_cycle, crate::specs::Cycle::written_in_cycle, crate::specs::Cycle::word_tried), using(crate::proofs::Ready::settings_advanced))]
     fn tick_at_pc(&mut self, settings: &Settings, number: u8, seen: &Seen, done: &mut Done)
         requires number { number < 4 }

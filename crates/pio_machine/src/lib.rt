@@ -3,6 +3,7 @@
 //! machine's record, in which a FIFO is a list.
 #![tactic(auto)]
 
+mod again;
 mod attempt;
 mod bits;
 mod cycle;
@@ -22,7 +23,8 @@ pub mod settings;
 mod shifting;
 mod steady;
 
+pub use again::{LastOut, is_again, is_idle, is_shift, tick_again, tick_shift};
 pub use cycle::{tick, tick_by};
 pub use fifo::Fifo;
 pub use machine::{Done, Machine1, Progress, Seen, Waiting};
-pub use steady::{is_steady, tick_steady};
+pub use steady::{is_delayed, is_steady, tick_delayed, tick_steady};

@@ -14,7 +14,7 @@ use pio_words::OutDestination;
 
 /// The count that bits 4:0 of an OUT say.
 #[inline(always)]
-fn count_of(word: u16) -> u8
+pub(crate) fn count_of(word: u16) -> u8
     ensures value { result ≡ count_at (word % 32) }
     ensures small { result ≤ 32 }
 {

@@ -1,0 +1,14 @@
+use Rattle.pio_machine.proofs.Repeats.{stays_after}
+use Rattle.pio_machine.proofs.again.tick_again.Goals as goal
+
+pub returns-clause-settings : goal.returns-clause-settings
+returns-clause-settings c =
+    (stays_after c.args.last.now c.args.seen.now c.args.machine.now c.out_at_limit.new.self c.requires.last c.requires.again c.out_at_limit.ensures.machine).settings
+
+pub returns-clause-steady : goal.returns-clause-steady
+returns-clause-steady c =
+    (stays_after c.args.last.now c.args.seen.now c.args.machine.now c.out_at_limit.new.self c.requires.last c.requires.again c.out_at_limit.ensures.machine).steady
+
+pub returns-clause-last : goal.returns-clause-last
+returns-clause-last c =
+    (stays_after c.args.last.now c.args.seen.now c.args.machine.now c.out_at_limit.new.self c.requires.last c.requires.again c.out_at_limit.ensures.machine).last
