@@ -7,6 +7,7 @@ pub mod HeldLanes
 pub mod Joining
 pub mod Kept
 pub mod OneCore
+pub mod Opening
 pub mod Placing
 pub mod BusRest
 pub mod Runs

@@ -27,10 +27,14 @@ abbrev pub sio_lines : ℕ → SioState → ℕ
 sio_lines core s =
     if core == 0 then bit_number (line_of s.core0) * 2 ^ 15 else bit_number (line_of s.core1) * 2 ^ 16
 
-unfoldable pub block_lines : ℕ → State → ℕ
-block_lines core s =
+-- those of PIO and the DMA engine go to both cores
+abbrev pub shared_lines : State → ℕ
+shared_lines s =
     pair_number (pio.lines_of s.pio0) * 2 ^ 7 + pair_number (pio.lines_of s.pio1) * 2 ^ 9
-    + pair_number (dma.lines_of s.dma) * 2 ^ 11 + sio_lines core s.sio
+    + pair_number (dma.lines_of s.dma) * 2 ^ 11
+
+unfoldable pub block_lines : ℕ → State → ℕ
+block_lines core s = shared_lines s + sio_lines core s.sio
 
 unfoldable pub lines_of : ℕ → State → ℕ
 lines_of core s = bit_or (outer_lines core s.outer) (block_lines core s)

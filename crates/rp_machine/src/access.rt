@@ -3,6 +3,7 @@
 ghost use Rattle.std.specs.Prelude.{◌≡◌};
 ghost use Rattle.rp_base.specs.Map.{IsWithin};
 ghost use Rattle.bus_fabric.specs.Masters.{HasPort};
+ghost use Rattle.m0_core.specs.Cycle.{want_of};
 ghost use Rattle.rp_machine.specs.Deeds.{port_at, asked_at, spot_of, asked_of, is_done_at, is_lock, is_same_word, reads_at, is_core1, is_late, stored_at, StoresInSram};
 
 use crate::deed::Deed;
@@ -13,7 +14,7 @@ use lane_look::{Device, Turn, Want};
 use m0_core::{Act, Doing, Placed};
 use outer_lane::{SeenOutputs, World};
 use rp_base::access::{lanes_at, replicated, word_written};
-use rp_base::map::{Spot, place, port};
+use rp_base::map::{Block, Spot, place, port};
 use rp_base::{Master, Request, Why};
 use sio_block::registers::SPINLOCK0;
 
@@ -60,6 +61,21 @@ pub(crate) fn asked_by(want: &Want, spot: &Spot) -> Option<(u8, bool)>
     match want {
         Want::Ram(request) | Want::Outward(request) => asked_at(request, spot),
         Want::Nothing | Want::Signal | Want::Stopped(_) => None,
+    }
+}
+
+/// The port that a core asks for which has begun this, and whether to write.
+#[inline(always)]
+#[tactic(auto, unfolding(crate::specs::Deeds::asked_of))]
+pub(crate) fn asked_begun(begun: &Doing) -> Option<(u8, bool)>
+    ensures port { HasPort result }
+    ensures value { result ≡ asked_of (want_of begun.now) }
+{
+    match &begun.act {
+        Act::Read(_, access, _) | Act::Write(_, access) | Act::Outward(_, access) => {
+            asked_at(access.request(), access.spot())
+        }
+        Act::Asleep | Act::Stopped(_) | Act::Fault | Act::Inner(_) | Act::Private(..) => None,
     }
 }
 
@@ -153,8 +169,12 @@ impl Machine {
     ghost use Rattle.outer_lane.specs.Setting.{setting_of};
     ghost use Rattle.rp_base.specs.declared.Master.TheVariants.{Core0};
     ghost use Rattle.m0_core.specs.Cycle.{want_of};
+    ghost use Rattle.lane_look.specs.declared.lane.Turn.TheVariants as turn;
+    ghost use Rattle.rp_base.specs.Map.{place_of};
+    ghost use Rattle.rp_base.specs.declared.map.Spot.TheVariants as spot;
+    ghost use Rattle.rp_machine.specs.Registers.{block_word};
     ghost use Rattle.rp_machine.specs.Cycle.{wanted_by};
-    ghost use Rattle.rp_machine.specs.Deeds.{spot_of, sio_word, word_for, is_allowed_at, cause_by, cause_of, turn_of, accessed_at, deed_of, StoresInSram};
+    ghost use Rattle.rp_machine.specs.Deeds.{spot_of, sio_word, word_for, is_open, cause_by, cause_of, turn_of, accessed_at, deed_of, StoresInSram};
 
     /// A word of SIO as a master reads it.
     fn sio_word(&self, master: Master, offset: u16) -> Option<u32>
@@ -189,17 +209,56 @@ impl Machine {
         }
     }
 
-    /// An access to the word of a spot, which reads so, is allowed.
-    fn is_allowed_at(&self, request: &Request, spot: &Spot, word: u32) -> bool
-        ensures { result ≡ is_allowed_at request.now spot.now word }
+    /// An access to this word of a register block finds it and is allowed. Of an access to PIO by its plain addresses (alias 0) the
+    /// word is not read.
+    #[inline(always)]
+    fn is_open_word<X: Device>(
+        &self,
+        world: &World<'_, X>,
+        seen: &SeenOutputs,
+        request: &Request,
+        block: Block,
+        offset: u16,
+        alias: u8,
+    ) -> bool
+        ensures { result ≡ is_open request.now (spot.Reg block offset alias) (block_word
+            (setting_of world.now.script.now (X.meaning world.now.device.now) world.now.limit)
+            seen.now block offset self.now) }
+    {
+        match block {
+            Block::Pio0 if alias == 0 => self.pio0.allows(offset, word_written(request)),
+            Block::Pio1 if alias == 0 => self.pio1.allows(offset, word_written(request)),
+            _ => match self.block_word(world, seen, block, offset) {
+                Some(word) => self.block_allows(block, offset, plain_write(request, alias, word)),
+                None => false,
+            },
+        }
+    }
+
+    /// The access of a master to this spot, which is not in SRAM, finds a word and is allowed.
+    #[inline(always)]
+    #[tactic(auto, unfolding(crate::specs::Deeds::word_for))]
+    fn is_open<X: Device>(
+        &self,
+        world: &World<'_, X>,
+        seen: &SeenOutputs,
+        master: Master,
+        request: &Request,
+        spot: &Spot,
+    ) -> bool
+        ensures { result ≡ is_open request.now spot.now (word_for
+            (setting_of world.now.script.now (X.meaning world.now.device.now) world.now.limit)
+            seen.now master request.now.address spot.now self.now) }
     {
         match *spot {
             Spot::Reg {
                 block,
                 offset,
                 alias,
-            } => self.block_allows(block, offset, plain_write(request, alias, word)),
-            Spot::Ram { .. } | Spot::Sio { .. } | Spot::Ppb { .. } | Spot::Outside => true,
+            } => self.is_open_word(world, seen, request, block, offset, alias),
+            Spot::Sio { offset } => self.sio_word(master, offset).is_some(),
+            Spot::Outside => self.outer.owned_word(world, request.address).is_some(),
+            Spot::Ram { .. } | Spot::Ppb { .. } => false,
         }
     }
 
@@ -217,10 +276,10 @@ impl Machine {
             seen.now master (Want.Outward access.now) self.now }
     {
         let request = access.request();
-        match self.word_for(world, seen, master, request.address, access.spot()) {
-            Some(word) if self.is_allowed_at(request, access.spot(), word) => None,
-            _ => Some(Why::Outside(master, request.address)),
+        if self.is_open(world, seen, master, request, access.spot()) {
+            return None;
         }
+        Some(Why::Outside(master, request.address))
     }
 
     /// The cause for which a cycle does not happen in which core 0 has begun this.
@@ -312,11 +371,71 @@ impl Machine {
         }
     }
 
+    /// What an access of core 0 is told that is not to SRAM and is done, and what it comes to. Its word is read once.
+    #[inline(always)]
+    fn done_for_core0<X: Device>(
+        &self,
+        world: &World<'_, X>,
+        seen: &SeenOutputs,
+        access: &Placed,
+    ) -> (Turn, Deed)
+        ensures turn { result.0 ≡ turn.Done (unwrap_or (word_for
+            (setting_of world.now.script.now (X.meaning world.now.device.now) world.now.limit)
+            seen.now Core0 access.now.address (place_of access.now.address) self.now) 0) }
+        ensures deed { result.1 ≡ accessed_at
+            (setting_of world.now.script.now (X.meaning world.now.device.now) world.now.limit)
+            seen.now access.now (place_of access.now.address) self.now }
+        ensures stores { StoresInSram result.1 }
+    {
+        let (request, spot) = (access.request(), access.spot());
+        let word = self
+            .word_for(world, seen, Master::Core0, request.address, spot)
+            .unwrap_or(0);
+        (
+            Turn::Done(word),
+            self.deed_at(world, seen, Master::Core0, request, spot, word),
+        )
+    }
+
+    /// What the bus gives core 0, which has begun this, and what its want comes to.
+    #[inline(always)]
+    #[tactic(auto, unfolding(crate::specs::Deeds::turn_of, crate::specs::Deeds::deed_of))]
+    pub(crate) fn served_core0<X: Device>(
+        &self,
+        world: &World<'_, X>,
+        seen: &SeenOutputs,
+        core0: &Doing,
+        granted: bool,
+    ) -> (Turn, Deed)
+        ensures turn { result.0 ≡ turn_of
+            (setting_of world.now.script.now (X.meaning world.now.device.now) world.now.limit)
+            seen.now (want_of core0.now) granted Core0 (want_of core0.now) self.now }
+        ensures deed { result.1 ≡ deed_of
+            (setting_of world.now.script.now (X.meaning world.now.device.now) world.now.limit)
+            seen.now granted (want_of core0.now) self.now }
+        ensures stores { StoresInSram result.1 }
+    {
+        match &core0.act {
+            Act::Read(_, access, _) | Act::Write(_, access) if granted => (
+                Turn::Done(0),
+                stored_at(access.request(), access.spot()),
+            ),
+            Act::Outward(_, access) if is_done_at(access.spot(), granted) => {
+                self.done_for_core0(world, seen, access)
+            }
+            Act::Read(..) | Act::Write(..) | Act::Outward(..) => (Turn::Wait, Deed::Nothing),
+            Act::Inner(_) if !core0.wants_nothing() => (Turn::Nothing, Deed::Signal),
+            Act::Inner(_) | Act::Asleep | Act::Stopped(_) | Act::Fault | Act::Private(..) => {
+                (Turn::Nothing, Deed::Nothing)
+            }
+        }
+    }
+
     /// What the bus gives a master for its want, whose access has this spot, where core 0 wants `rival`, and what the want comes to.
     /// The word of an access is read once.
     #[inline(always)]
     #[tactic(auto, unfolding(crate::specs::Deeds::turn_of, crate::specs::Deeds::deed_of))]
-    pub(crate) fn served_at<X: Device>(
+    pub(crate) fn served<X: Device>(
         &self,
         world: &World<'_, X>,
         seen: &SeenOutputs,
@@ -356,26 +475,5 @@ impl Machine {
             Want::Signal => (Turn::Nothing, Deed::Signal),
             Want::Nothing | Want::Stopped(_) => (Turn::Nothing, Deed::Nothing),
         }
-    }
-
-    /// The same, wherever the access goes.
-    #[inline(always)]
-    pub(crate) fn served<X: Device>(
-        &self,
-        world: &World<'_, X>,
-        seen: &SeenOutputs,
-        rival: &Want,
-        granted: bool,
-        wanted: &Wanted,
-    ) -> (Turn, Deed)
-        ensures turn { result.0 ≡ turn_of
-            (setting_of world.now.script.now (X.meaning world.now.device.now) world.now.limit)
-            seen.now rival.now granted wanted.now.master wanted.now.want self.now }
-        ensures deed { result.1 ≡ deed_of
-            (setting_of world.now.script.now (X.meaning world.now.device.now) world.now.limit)
-            seen.now granted wanted.now.want self.now }
-        ensures stores { StoresInSram result.1 }
-    {
-        self.served_at(world, seen, rival, granted, wanted, &spot_of(&wanted.want))
     }
 }

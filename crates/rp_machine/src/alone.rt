@@ -1,10 +1,9 @@
 //! A cycle in which core 0 alone is at work: each part at rest costs a test.
 
-use crate::access::asked_by;
+use crate::access::asked_begun;
 use crate::begun::{begin_core, begin_lane};
 use crate::machine::Machine;
 use crate::steps::Steps;
-use crate::wanted::{core0_wanted, spot_begun};
 use lane_look::{Device, Lane, Marks, Turn};
 use m0_core::Doing;
 use outer_lane::{SeenOutputs, World};
@@ -39,7 +38,7 @@ impl Machine {
     fn begin_core0(&self, core0: &mut Doing)
         ensures { core0.new ≡ (begun self.now).core0 }
     {
-        begin_core(self, 0, &self.core0, core0);
+        begin_core(self, 0, self.lines(0), &self.core0, core0);
     }
 
     /// What the peripherals begin.
@@ -106,11 +105,9 @@ impl Machine {
             self.old.outer outer.now ∷ [] }
     {
         let at = self.at;
-        let wanted = core0_wanted(core0);
-        let spot = spot_begun(core0);
         let mut fabric = self.fabric;
-        let granted = fabric.grant_core0(asked_by(&wanted.want, &spot));
-        let (turn, deed) = self.served_at(world, outer, &wanted.want, granted, &wanted, &spot);
+        let granted = fabric.grant_core0(asked_begun(core0));
+        let (turn, deed) = self.served_core0(world, outer, core0, granted);
         self.fabric = fabric;
         self.core0.finish(&(), core0, [turn, Turn::Nothing], marks);
         self.outer.finish(world, outer, [Turn::Nothing; 2], marks);

@@ -89,34 +89,47 @@ impl Counts {
 }
 
 impl Machine {
-    ghost use Rattle.std.specs.Prelude.{◌≡◌, ◌<◌, ◌^◌};
-    ghost use Rattle.rp_machine.specs.Answers.{block_lines, lines_of, counts_of, pacing_of, inputs_of, outs_of};
+    ghost use Rattle.std.specs.Prelude.{◌≡◌, ◌<◌, ◌^◌, ◌∷◌, []};
+    ghost use Rattle.rp_machine.specs.Answers.{shared_lines, lines_of, counts_of, pacing_of, inputs_of, outs_of};
 
-    /// The interrupt lines of a core that come from PIO, the DMA engine and SIO.
+    /// The interrupt lines that come from PIO and the DMA engine, the same to both cores. Most often none of them can be high,
+    /// which costs a few tests.
     #[inline(always)]
-    #[tactic(auto, unfolding(crate::specs::Answers::block_lines))]
-    fn block_lines(&self, core: u8) -> u32
-        ensures { result ≡ block_lines core self.now }
+    fn shared_lines(&self) -> u32
+        ensures value { result ≡ shared_lines self.now }
+        ensures small { result < 2 ^ 13 }
     {
         if self.pio0.is_at_rest() && self.pio1.is_at_rest() && self.dma.is_at_rest() {
-            return sio_lines(&self.sio, core);
+            return 0;
         }
         if self.pio0.is_silent() && self.pio1.is_silent() && self.dma.is_silent() {
-            return sio_lines(&self.sio, core);
+            return 0;
         }
         pair_number(self.pio0.lines()) * 0x80
             + pair_number(self.pio1.lines()) * 0x200
             + pair_number(self.dma.lines()) * 0x800
-            + sio_lines(&self.sio, core)
     }
 
     /// The interrupt lines of core 0 or 1, line 0 in bit 0 (RP2040 Datasheet, 2.3.2, Interrupts).
     #[inline(always)]
-    #[tactic(auto, unfolding(crate::specs::Answers::lines_of))]
+    #[tactic(auto, unfolding(crate::specs::Answers::lines_of, crate::specs::Answers::block_lines))]
     pub fn lines(&self, core: u8) -> u32
         ensures { result ≡ lines_of core self.now }
     {
-        self.outer.lines(core) | self.block_lines(core)
+        self.outer.lines(core) | (self.shared_lines() + sio_lines(&self.sio, core))
+    }
+
+    /// The interrupt lines of core 0, and of core 1: what they share is found once.
+    #[inline(always)]
+    #[tactic(auto, unfolding(crate::specs::Answers::lines_of, crate::specs::Answers::block_lines))]
+    pub(crate) fn both_lines(&self) -> [u32; 2]
+        ensures { result ≡ lines_of 0 self.now ∷ lines_of 1 self.now ∷ [] }
+    {
+        let shared = self.shared_lines();
+        [
+            self.outer.lines(0) | (shared + sio_lines(&self.sio, 0)),
+            self.outer.lines(1) | (shared + sio_lines(&self.sio, 1)),
+        ]
     }
 
     /// The counts that pace DMA channels.

@@ -4,7 +4,7 @@ ghost use Rattle.std.specs.Prelude.{◌≡◌};
 ghost use Rattle.lane_look.specs.Asking.{answered};
 ghost use Rattle.dma_engine.specs.Asks as dma;
 ghost use Rattle.m0_core.specs.Fetch.{asks};
-ghost use Rattle.rp_machine.specs.Answers.{answer_of};
+ghost use Rattle.rp_machine.specs.Answers.{answer_of, lines_of};
 
 use crate::look::MachineLook;
 use crate::machine::Machine;
@@ -49,9 +49,10 @@ pub(crate) fn begin_lane<E, S: Lane<E>>(
     lane.begin(env, machine.at, &mut look)
 }
 
-/// What a core, by its number, begins, in the place of what it began before.
+/// What a core, by its number, begins, whose interrupt lines are these, in the place of what it began before.
 #[inline(always)]
-pub(crate) fn begin_core(machine: &Machine, number: u8, core: &Core, begun: &mut Doing)
+pub(crate) fn begin_core(machine: &Machine, number: u8, lines: u32, core: &Core, begun: &mut Doing)
+    requires { lines ≡ lines_of number machine.now }
     ensures { begun.new ≡ answered (answer_of number machine.now)
         (asks core.now machine.now.cycle) }
 {
@@ -59,7 +60,7 @@ pub(crate) fn begin_core(machine: &Machine, number: u8, core: &Core, begun: &mut
         lane: number,
         machine,
     };
-    core.begin_into(machine.at, &mut look, begun);
+    core.begin_told(machine.at, lines, &mut look, begun);
 }
 
 /// What the DMA engine begins, in the place of what it began before.
@@ -117,8 +118,9 @@ impl Machine {
         lanes.pio0 = begin_lane(self, 3, &self.pio0, &());
         lanes.pio1 = begin_lane(self, 4, &self.pio1, &());
         lanes.outer = begin_lane(self, 5, &self.outer, world);
-        begin_core(self, 0, &self.core0, &mut lanes.core0);
-        begin_core(self, 1, &self.core1, &mut lanes.core1);
+        let [lines0, lines1] = self.both_lines();
+        begin_core(self, 0, lines0, &self.core0, &mut lanes.core0);
+        begin_core(self, 1, lines1, &self.core1, &mut lanes.core1);
     }
 
     /// What the lanes begin, by the state at the start of the cycle.

@@ -1,36 +1,60 @@
 //! One cycle of the machine.
 
-ghost use Rattle.std.specs.Prelude.{◌≡◌, ◌<◌, ◌^◌};
+ghost use Rattle.std.specs.Prelude.{◌≡◌, ◌<◌, ◌^◌, map};
+ghost use Rattle.std.specs.List.{All};
+ghost use Rattle.rp_base.specs.Map.{IsWithin};
 ghost use Rattle.bus_fabric.specs.Masters.{HavePorts};
 ghost use Rattle.sio_block.specs.Launcher.{offers_of};
-ghost use Rattle.rp_machine.specs.Cycle.{asked, pins_of, with_pins, with_offer};
+ghost use Rattle.rp_machine.specs.Cycle.{asked, wanted, pins_of, with_pins, with_offer};
+ghost use Rattle.rp_machine.specs.Deeds.{spot_of};
 
-use crate::access::{asked_by, asked_of};
+use crate::access::{asked_begun, asked_by, spot_of};
 use crate::begun::Begun;
 use crate::deed::Deed;
 use crate::machine::Machine;
 use crate::steps::Steps;
-use crate::wanted::{Wanted, all_wanted, core0_wanted, is_core0_first, spot_begun};
+use crate::wanted::{Wanted, all_wanted, is_core0_first, spot_begun};
 use lane_look::{Device, Lane, Marks, Turn};
 use m0_core::Core;
 use outer_lane::{Outer, World};
+use rp_base::map::Spot;
 use rp_base::{Master, Why};
 use sio_block::Sio;
 use std::sync::ledger::Ledger;
 
-/// What the masters ask of the fabric.
+/// The spots of the masters' accesses in a cycle in which this was begun: those of the cores were found when they began.
+#[inline(always)]
+#[tactic(auto, unfolding(crate::specs::Cycle::wanted))]
+fn spots_begun(begun: &Begun, wants: &[Wanted; 4]) -> [Spot; 4]
+    requires { wants.now ≡ wanted begun.now }
+    ensures value { result ≡ map (λ x. spot_of x.want) wants.now }
+    ensures within { All IsWithin result }
+{
+    let [_, _, read, write] = wants;
+    [
+        spot_begun(&begun.core0),
+        spot_begun(&begun.core1),
+        spot_of(&read.want),
+        spot_of(&write.want),
+    ]
+}
+
+/// What the masters ask of the fabric, whose accesses have these spots.
 #[inline(always)]
 #[tactic(auto, unfolding(crate::specs::Cycle::asked))]
-fn asked(wants: &[Wanted; 4]) -> [Option<(u8, bool)>; 4]
+fn asked(wants: &[Wanted; 4], spots: &[Spot; 4]) -> [Option<(u8, bool)>; 4]
+    requires spots { spots.now ≡ map (λ x. spot_of x.want) wants.now }
+    requires within { All IsWithin spots.now }
     ensures ports { HavePorts result }
     ensures value { result ≡ asked wants.now }
 {
     let [core0, core1, read, write] = wants;
+    let [spot0, spot1, spot2, spot3] = spots;
     [
-        asked_of(&core0.want),
-        asked_of(&core1.want),
-        asked_of(&read.want),
-        asked_of(&write.want),
+        asked_by(&core0.want, spot0),
+        asked_by(&core1.want, spot1),
+        asked_by(&read.want, spot2),
+        asked_by(&write.want, spot3),
     ]
 }
 
@@ -52,13 +76,14 @@ fn tell_of_sio(sio: &Sio, outer: &mut Outer, core1: &mut Core)
 }
 
 impl Machine {
-    ghost use Rattle.std.specs.Prelude.{◌≡◌, ◌+◌, ◌-◌, ◌^◌, ◌<◌, ◌≤◌, ◌∷◌, ◌++◌, if◌then◌else◌, is_some, true, None, [], length};
+    ghost use Rattle.std.specs.Prelude.{◌≡◌, ◌+◌, ◌-◌, ◌^◌, ◌<◌, ◌≤◌, ◌∷◌, ◌++◌, if◌then◌else◌, is_some, true, None, [], length, map};
     ghost use Rattle.std.specs.List.{All};
     ghost use Rattle.outer_lane.specs.Setting.{setting_of};
     ghost use Rattle.outer_lane.specs.Step.{marked};
     ghost use Rattle.rp_base.specs.declared.Master.TheVariants.{Core0};
     ghost use Rattle.m0_core.specs.Cycle.{want_of};
-    ghost use Rattle.rp_machine.specs.Deeds.{StoresInSram};
+    ghost use Rattle.rp_base.specs.Map.{IsWithin};
+    ghost use Rattle.rp_machine.specs.Deeds.{spot_of, StoresInSram};
     ghost use Rattle.rp_machine.specs.BusRest.{core1_at_rest, rest_next};
     ghost use Rattle.rp_machine.specs.Alone.{first_next};
     ghost use Rattle.rp_machine.specs.Cycle.{begun, wanted_by, wanted, cause_in, stop, turns, deeds, with_turns, signalled, pins_of, with_sio, sio_accessed, after_deed, after_launcher, after_core1, stored, ended, after_deeds, next_by, next, mark};
@@ -99,7 +124,7 @@ impl Machine {
         }
     }
 
-    /// What the bus gives each master, by what is granted, and what the wants come to.
+    /// What the bus gives each master, whose accesses have these spots, by what is granted, and what the wants come to.
     #[inline(always)]
     #[tactic(auto, unfolding(crate::specs::Cycle::turns, crate::specs::Cycle::deeds))]
     fn all_served<X: Device>(
@@ -107,8 +132,11 @@ impl Machine {
         world: &World<'_, X>,
         begun: &Begun,
         wants: &[Wanted; 4],
+        spots: &[Spot; 4],
         granted: [bool; 4],
     ) -> ([Turn; 4], [Deed; 4])
+        requires spots { spots.now ≡ map (λ x. spot_of x.want) wants.now }
+        requires within { All IsWithin spots.now }
         ensures turns { result.0 ≡ turns
             (setting_of world.now.script.now (X.meaning world.now.device.now) world.now.limit)
             begun.now wants.now self.now granted }
@@ -119,11 +147,12 @@ impl Machine {
     {
         let [core0, core1, read, write] = wants;
         let [grant0, grant1, grant2, grant3] = granted;
-        let rival = &core0.want;
-        let (turn0, deed0) = self.served(world, &begun.outer, rival, grant0, core0);
-        let (turn1, deed1) = self.served(world, &begun.outer, rival, grant1, core1);
-        let (turn2, deed2) = self.served(world, &begun.outer, rival, grant2, read);
-        let (turn3, deed3) = self.served(world, &begun.outer, rival, grant3, write);
+        let [spot0, spot1, spot2, spot3] = spots;
+        let (seen, rival) = (&begun.outer, &core0.want);
+        let (turn0, deed0) = self.served(world, seen, rival, grant0, core0, spot0);
+        let (turn1, deed1) = self.served(world, seen, rival, grant1, core1, spot1);
+        let (turn2, deed2) = self.served(world, seen, rival, grant2, read, spot2);
+        let (turn3, deed3) = self.served(world, seen, rival, grant3, write, spot3);
         ([turn0, turn1, turn2, turn3], [deed0, deed1, deed2, deed3])
     }
 
@@ -328,18 +357,9 @@ impl Machine {
             self.old.outer begun.now.outer ∷ [] }
     {
         let at = self.at;
-        let wanted = core0_wanted(&begun.core0);
-        let spot = spot_begun(&begun.core0);
         let mut fabric = self.fabric;
-        let granted = fabric.grant_core0(asked_by(&wanted.want, &spot));
-        let (turn, deed) = self.served_at(
-            world,
-            &begun.outer,
-            &wanted.want,
-            granted,
-            &wanted,
-            &spot,
-        );
+        let granted = fabric.grant_core0(asked_begun(&begun.core0));
+        let (turn, deed) = self.served_core0(world, &begun.outer, &begun.core0, granted);
         self.fabric = fabric;
         self.step_lanes(
             world,
@@ -369,9 +389,10 @@ impl Machine {
     {
         let at = self.at;
         let wants = all_wanted(begun);
+        let spots = spots_begun(begun, &wants);
         let mut fabric = self.fabric;
-        let granted = fabric.grant(&asked(&wants));
-        let (turns, deeds) = self.all_served(world, begun, &wants, granted);
+        let granted = fabric.grant(&asked(&wants, &spots));
+        let (turns, deeds) = self.all_served(world, begun, &wants, &spots, granted);
         self.fabric = fabric;
         self.step_lanes(world, begun, turns, marks);
         self.do_deeds(world, &deeds);

@@ -57,7 +57,15 @@ pub(crate) struct MachineLook<'a> {
 
 impl Machine {
     ghost use Rattle.std.specs.Prelude.{◌≡◌};
-    ghost use Rattle.rp_machine.specs.Answers.{answer_of};
+    ghost use Rattle.rp_machine.specs.Answers.{answer_of, lines_of};
+
+    /// The interrupt lines of a core that asks for them, and was not told before.
+    #[inline(never)]
+    fn lines_asked(&self, core: u8) -> u32
+        ensures { result ≡ lines_of core self.now }
+    {
+        self.lines(core)
+    }
 
     /// What the state answers a lane, by its number: 0 and 1 are the cores, 2 is the DMA engine, 3 and 4 are the PIO blocks,
     /// and 5 has the peripherals.
@@ -66,7 +74,7 @@ impl Machine {
         ensures { result ≡ answer_of lane self.now ask }
     {
         match ask {
-            Ask::Lines => u128::from(self.lines(lane)),
+            Ask::Lines => u128::from(self.lines_asked(lane)),
             Ask::Half(address) => u128::from(half_at(word_in(&self.ram, address), address)),
             Ask::Word(address) => u128::from(word_in(&self.ram, address)),
             Ask::Pacing => self.pacing(),

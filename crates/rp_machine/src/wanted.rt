@@ -3,11 +3,10 @@
 ghost use Rattle.std.specs.Prelude.{◌≡◌};
 ghost use Rattle.m0_core.specs.Cycle.{want_of};
 ghost use Rattle.std.specs.List.{list_all};
-ghost use Rattle.rp_base.specs.declared.Master.TheVariants.{Core0};
 ghost use Rattle.rp_base.specs.Map.{IsWithin};
 ghost use Rattle.rp_machine.specs.Alone.{is_first_alone};
 ghost use Rattle.rp_machine.specs.BusRest.{is_nothing, wants_nothing};
-ghost use Rattle.rp_machine.specs.Cycle.{wanted_by, wanted};
+ghost use Rattle.rp_machine.specs.Cycle.{wanted};
 ghost use Rattle.rp_machine.specs.Deeds.{spot_of};
 
 use crate::begun::Begun;
@@ -46,17 +45,6 @@ pub(crate) fn spot_begun(begun: &Doing) -> Spot
         Act::Asleep | Act::Stopped(_) | Act::Fault | Act::Inner(_) | Act::Private(..) => {
             Spot::Outside
         }
-    }
-}
-
-/// Core 0, and what it wants.
-#[inline(always)]
-pub(crate) fn core0_wanted(core0: &Doing) -> Wanted
-    ensures { result ≡ wanted_by Core0 (want_of core0.now) }
-{
-    Wanted {
-        master: Master::Core0,
-        want: want_of(core0),
     }
 }
 
