@@ -4,6 +4,7 @@ pub mod Banks
 pub mod Calm
 pub mod Comparing
 pub mod Copying
+pub mod Countless
 pub mod Going
 pub mod InSram
 pub mod Keeping

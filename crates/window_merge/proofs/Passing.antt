@@ -1,5 +1,5 @@
 -- A window in one pass: in each cycle the lanes begin what their runs alone begin, and the pass ends where the window closes.
-use Rattle.std.proofs.Common.{◌≡◌, ◌≢◌, ℕ, zero, suc, ◌+◌, ◌*◌, ◌<◌, ◌≤◌, ◌==◌, ◌||◌, ◌&&◌, ◌⊎◌, Bool, true, false, not, if◌then◌else◌, inl, inr, List, [], ◌∷◌, ◌++◌, length, None, nat_eq, refl, ap, sym, ◌∙◌, subst, append-nil, add-one, arith}
+use Rattle.std.proofs.Common.{◌≡◌, ◌≢◌, ℕ, zero, suc, ◌+◌, ◌*◌, ◌<◌, ◌≤◌, ◌==◌, ◌||◌, ◌&&◌, ◌⊎◌, Bool, true, false, not, if◌then◌else◌, inl, inr, List, [], ◌∷◌, ◌++◌, length, None, nat_eq, refl, ap, sym, ◌∙◌, subst, add-one, arith}
 use Rattle.std.specs.Prelude.{slice_index}
 use Rattle.std.proofs.lemmas.Bool.Decides.{eqb_tells}
 use Rattle.lane_look.specs.Asking.{answered}
@@ -16,6 +16,7 @@ use Rattle.m0_core.specs.Cycle as core
 use Rattle.dma_engine.specs.State.{Engine}
 use Rattle.dma_engine.specs.declared.begun.BegunTransfer.{BegunTransfer}
 use Rattle.dma_engine.specs.Asks as dma_asks
+use Rattle.dma_engine.specs.Asks.{is_pacing, may_ask_counts}
 use Rattle.dma_engine.specs.Cycle as dma
 use Rattle.pio_block.specs.Cycle as pio
 use Rattle.outer_lane.specs.Setting.{Setting}
@@ -35,15 +36,16 @@ use Rattle.window_merge.specs.Patch.{patched, sram_after}
 use Rattle.window_merge.specs.declared.notes.Notes.{Notes}
 use Rattle.window_merge.specs.declared.start.Start.{Start}
 use Rattle.window_merge.specs.Notes.{is_none, seen_of, seen_word, is_clean, write_of, original_word, own_word, with_word, no_notes, noted, noted_by, HasRoom}
-use Rattle.window_merge.specs.Start.{start_of, guess, begun_from, differs_from, ends_wanted, goes_by, goes_first, goes_on}
+use Rattle.window_merge.specs.Start.{start_of, IsStart, guess, begun_from, differs_from, ends_wanted, goes_by, goes_first, goes_on}
 use Rattle.window_merge.proofs.Agree.{both_false, differ_of, same_number}
 use Rattle.window_merge.proofs.Calm.{IsCalm, calm_sram}
 use Rattle.window_merge.proofs.Copying.{answered_same, asked_same}
+use Rattle.window_merge.proofs.Countless.{Alike, alike_but, core_countless, dma_countless, outer_countless, pio_countless}
 use Rattle.window_merge.proofs.Meeting.{least_meets, short_window}
 use Rattle.window_merge.proofs.Lanes.{LaneStands, lane_first, below_least, ends_is, no_cycles}
 use Rattle.window_merge.proofs.Noting.{Restores, undoes_on, own_on, still, sight, no_word, with_word-length, in_sram, after_want}
 use Rattle.window_merge.proofs.Reading.{read_only}
-use Rattle.window_merge.proofs.Starting.{HasLines, lines0, lines1, lines2, lines3, lines4, lines5, guess_is, around_over, stored_sram, differs_never}
+use Rattle.window_merge.proofs.Starting.{HasLines, lines0, lines1, lines2, lines3, lines4, lines5, counts_told, guess_but, guess_is, around_over, stored_sram, differs_never}
 use Rattle.window_merge.proofs.Windows.{Lengths, AreLengths, AreOn, Stands, AreTold, Tries, all_told, stands_first, fitted, stands_next, closes_within, run_within, full_within, they_end, runs_on, short, first_ends}
 
 -- ---- the whole runs alone
@@ -312,7 +314,7 @@ pub record HasFew (k : ℕ) (notes : Notes) : Type 0 where
 
 -- after k cycles
 pub record Follows (s : State) (k : ℕ) (now : State) (start : Start) (notes : Notes) : Type 0 where
-  pub is_start : start ≡ start_of s
+  pub is_start : IsStart start s
   pub long : length s.sram ≡ 67584
   pub restores : Restores notes.originals now.sram s.sram
   pub core0 : patched notes.core0 s.sram ≡ sram_alone core_lane 0 s.core0 s k
@@ -324,7 +326,7 @@ pub record Follows (s : State) (k : ℕ) (now : State) (start : Start) (notes : 
   pub clean : notes.core0 ≡ [] → notes.core1 ≡ [] → notes.dma ≡ [] → s.sram ≡ now.sram
   pub few : HasFew k notes
 
-pub follows_first : (s : State) (start : Start) → start ≡ start_of s → length s.sram ≡ 67584 → Follows s 0 s start no_notes
+pub follows_first : (s : State) (start : Start) → IsStart start s → length s.sram ≡ 67584 → Follows s 0 s start no_notes
 unfolding patched alone
 follows_first s start e long = record {
   is_start = e;
@@ -387,54 +389,69 @@ sees_start m lane before s k now start notes f stores_none i lt =
     f.clean (no_word notes.core0 p.0) (no_word notes.core1 q.0) (no_word notes.dma q.1)) f.restores refl f.long lt
     ∙ ap (λ (t : State). slice_index t.sram i) (sym (still_around m lane before s k stores_none))
 
--- what the start answers is what the run alone is answered
-answers_alone : {S B : Type 0} (m : Meaning (Unit {0}) S B) (lane : ℕ) (before : S) (s : State) (k : ℕ) (start : Start) (seen : ℕ → ℕ) → start ≡ start_of s → HasLines lane s
+-- what the start answers is what the run alone is answered, but for the counts
+answers_alone : {S B : Type 0} (m : Meaning (Unit {0}) S B) (lane : ℕ) (before : S) (s : State) (k : ℕ) (start : Start) (seen : ℕ → ℕ) → IsStart start s → HasLines lane s
+    → Sees seen (sram_alone m lane before s k) → (question : Ask) → is_pacing question ≡ false
+    → guess lane start seen question ≡ answer_of lane (alone m (around lane) tt before s.cycle s k).around question
+answers_alone m lane before s k start seen e lines sees question other =
+    guess_but lane start s seen question e other
+    ∙ guess_is lane s seen (sram_alone m lane before s k) question lines sees
+    ∙ ap (λ (t : State). answer_of lane t question) (sym (around_over m lane before s k))
+
+-- and those too where they were found
+answers_found : {S B : Type 0} (m : Meaning (Unit {0}) S B) (lane : ℕ) (before : S) (s : State) (k : ℕ) (start : Start) (seen : ℕ → ℕ) → start ≡ start_of s → HasLines lane s
     → Sees seen (sram_alone m lane before s k) → (question : Ask) → guess lane start seen question ≡ answer_of lane (alone m (around lane) tt before s.cycle s k).around question
-answers_alone m lane before s k start seen e lines sees question =
+answers_found m lane before s k start seen e lines sees question =
     ap (λ (x : Start). guess lane x seen question) e
     ∙ guess_is lane s seen (sram_alone m lane before s k) question lines sees
     ∙ ap (λ (t : State). answer_of lane t question) (sym (around_over m lane before s k))
 
--- of each lane
+-- each lane begins and asks the same
 record AnswerAlone (w : Setting) (s : State) (k : ℕ) (now : State) (start : Start) (notes : Notes) : Type 0 where
-  core0 : (question : Ask) → guess 0 start (seen_of 0 notes now.sram) question ≡ answer_of 0 (alone core_lane (around 0) tt s.core0 s.cycle s k).around question
-  core1 : (question : Ask) → guess 1 start (seen_of 1 notes now.sram) question ≡ answer_of 1 (alone core_lane (around 1) tt s.core1 s.cycle s k).around question
-  dma : (question : Ask) → guess 2 start (seen_of 2 notes now.sram) question ≡ answer_of 2 (alone dma_lane (around 2) tt s.dma s.cycle s k).around question
-  pio0 : (question : Ask) → guess 3 start (seen_of 3 notes now.sram) question ≡ answer_of 3 (alone pio_lane (around 3) tt s.pio0 s.cycle s k).around question
-  pio1 : (question : Ask) → guess 4 start (seen_of 4 notes now.sram) question ≡ answer_of 4 (alone pio_lane (around 4) tt s.pio1 s.cycle s k).around question
-  outer : (question : Ask) → guess 5 start (seen_of 5 notes now.sram) question ≡ answer_of 5 (alone (peripheral_lane w) (around 5) tt s.outer s.cycle s k).around question
+  core0 : Alike (guess 0 start (seen_of 0 notes now.sram)) (answer_of 0 (alone core_lane (around 0) tt s.core0 s.cycle s k).around) (core_asks.asks now.core0 now.cycle)
+  core1 : Alike (guess 1 start (seen_of 1 notes now.sram)) (answer_of 1 (alone core_lane (around 1) tt s.core1 s.cycle s k).around) (core_asks.asks now.core1 now.cycle)
+  dma : Alike (guess 2 start (seen_of 2 notes now.sram)) (answer_of 2 (alone dma_lane (around 2) tt s.dma s.cycle s k).around) (dma_asks.asks now.dma)
+  pio0 : Alike (guess 3 start (seen_of 3 notes now.sram)) (answer_of 3 (alone pio_lane (around 3) tt s.pio0 s.cycle s k).around) (pio.asks now.pio0)
+  pio1 : Alike (guess 4 start (seen_of 4 notes now.sram)) (answer_of 4 (alone pio_lane (around 4) tt s.pio1 s.cycle s k).around) (pio.asks now.pio1)
+  outer : Alike (guess 5 start (seen_of 5 notes now.sram)) (answer_of 5 (alone (peripheral_lane w) (around 5) tt s.outer s.cycle s k).around) (outer.asks now.outer now.cycle)
 
-all_alone : (w : Setting) (s : State) (k : ℕ) (now : State) (start : Start) (notes : Notes) → Follows s k now start notes → AnswerAlone w s k now start notes
-all_alone w s k now start notes f = record {
-  core0 = answers_alone core_lane 0 s.core0 s k start (seen_of 0 notes now.sram) f.is_start (lines0 s) (sees0 s k now start notes f);
-  core1 = answers_alone core_lane 1 s.core1 s k start (seen_of 1 notes now.sram) f.is_start (lines1 s) (sees1 s k now start notes f);
-  dma = answers_alone dma_lane 2 s.dma s k start (seen_of 2 notes now.sram) f.is_start (lines2 s) (sees2 s k now start notes f);
-  pio0 = answers_alone pio_lane 3 s.pio0 s k start (seen_of 3 notes now.sram) f.is_start (lines3 s) (sees_start pio_lane 3 s.pio0 s k now start notes f (λ t did. refl));
-  pio1 = answers_alone pio_lane 4 s.pio1 s k start (seen_of 4 notes now.sram) f.is_start (lines4 s) (sees_start pio_lane 4 s.pio1 s k now start notes f (λ t did. refl));
-  outer = answers_alone (peripheral_lane w) 5 s.outer s k start (seen_of 5 notes now.sram) f.is_start (lines5 s) (sees_start (peripheral_lane w) 5 s.outer s k now start notes f (λ t did. refl));
+-- the counts were found, or the DMA engine does not ask for them
+dma_alone : (s : State) (k : ℕ) (now : State) (start : Start) (notes : Notes) → Follows s k now start notes → now.dma ≡ (alone dma_lane (around 2) tt s.dma s.cycle s k).state
+    → Alike (guess 2 start (seen_of 2 notes now.sram)) (answer_of 2 (alone dma_lane (around 2) tt s.dma s.cycle s k).around) (dma_asks.asks now.dma)
+dma_alone s k now start notes f e = elim (true_or_false (may_ask_counts s.dma)) [
+  | inl may ↦
+      let same = answers_found dma_lane 2 s.dma s k start (seen_of 2 notes now.sram) (counts_told start s f.is_start may) (lines2 s) (sees2 s k now start notes f) in
+      record { begun = answered_same _ _ (dma_asks.asks now.dma) same; talk = asked_same _ _ (dma_asks.asks now.dma) same }
+  | inr none ↦
+      alike_but _ _ (dma_asks.asks now.dma) (answers_alone dma_lane 2 s.dma s k start (seen_of 2 notes now.sram) f.is_start (lines2 s) (sees2 s k now start notes f))
+      (dma_countless s k now.dma e none)
+]
+
+all_alone : (w : Setting) (s : State) (k : ℕ) (now : State) (rests : Rests) (marks : List Mark) (start : Start) (notes : Notes) → Stands w s (whole w s) k now rests marks → Follows s k now start notes
+    → AnswerAlone w s k now start notes
+all_alone w s k now rests marks start notes t f = record {
+  core0 = alike_but _ _ (core_asks.asks now.core0 now.cycle) (answers_alone core_lane 0 s.core0 s k start (seen_of 0 notes now.sram) f.is_start (lines0 s) (sees0 s k now start notes f)) (core_countless now.core0 now.cycle);
+  core1 = alike_but _ _ (core_asks.asks now.core1 now.cycle) (answers_alone core_lane 1 s.core1 s k start (seen_of 1 notes now.sram) f.is_start (lines1 s) (sees1 s k now start notes f)) (core_countless now.core1 now.cycle);
+  dma = dma_alone s k now start notes f t.dma.is_alone;
+  pio0 = alike_but _ _ (pio.asks now.pio0) (answers_alone pio_lane 3 s.pio0 s k start (seen_of 3 notes now.sram) f.is_start (lines3 s) (sees_start pio_lane 3 s.pio0 s k now start notes f (λ t did. refl))) (pio_countless now.pio0);
+  pio1 = alike_but _ _ (pio.asks now.pio1) (answers_alone pio_lane 4 s.pio1 s k start (seen_of 4 notes now.sram) f.is_start (lines4 s) (sees_start pio_lane 4 s.pio1 s k now start notes f (λ t did. refl))) (pio_countless now.pio1);
+  outer = alike_but _ _ (outer.asks now.outer now.cycle) (answers_alone (peripheral_lane w) 5 s.outer s k start (seen_of 5 notes now.sram) f.is_start (lines5 s) (sees_start (peripheral_lane w) 5 s.outer s k now start notes f (λ t did. refl))) (outer_countless now.outer now.cycle);
 }
 
 begins_later : (w : Setting) (s : State) (k : ℕ) (now : State) (start : Start) (notes : Notes) → AnswerAlone w s k now start notes → Begins w s k now (begun_from start notes now)
-begins_later w s k now start notes a = record {
-  core0 = answered_same _ _ (core_asks.asks now.core0 now.cycle) a.core0;
-  core1 = answered_same _ _ (core_asks.asks now.core1 now.cycle) a.core1;
-  dma = answered_same _ _ (dma_asks.asks now.dma) a.dma;
-  pio0 = answered_same _ _ (pio.asks now.pio0) a.pio0;
-  pio1 = answered_same _ _ (pio.asks now.pio1) a.pio1;
-  outer = answered_same _ _ (outer.asks now.outer now.cycle) a.outer;
-}
+begins_later w s k now start notes a = record { core0 = a.core0.begun; core1 = a.core1.begun; dma = a.dma.begun; pio0 = a.pio0.begun; pio1 = a.pio1.begun; outer = a.outer.begun }
 
 -- the logs of the whole runs would tell the same answers
 differs_later : (w : Setting) (s : State) (k : ℕ) (now : State) (rests : Rests) (start : Start) (notes : Notes) → AnswerAlone w s k now start notes → AreTold w s (whole w s) k now rests
     → differs_by rests now ≡ differs_from start notes now
 differs_later w s k now rests start notes a t =
     rw (
-      t.core0.talk_here ∙ sym t.core0.asked_here ∙ sym (asked_same _ _ (core_asks.asks now.core0 now.cycle) a.core0),
-      t.core1.talk_here ∙ sym t.core1.asked_here ∙ sym (asked_same _ _ (core_asks.asks now.core1 now.cycle) a.core1),
-      t.dma.talk_here ∙ sym t.dma.asked_here ∙ sym (asked_same _ _ (dma_asks.asks now.dma) a.dma),
-      t.pio0.talk_here ∙ sym t.pio0.asked_here ∙ sym (asked_same _ _ (pio.asks now.pio0) a.pio0),
-      t.pio1.talk_here ∙ sym t.pio1.asked_here ∙ sym (asked_same _ _ (pio.asks now.pio1) a.pio1),
-      t.outer.talk_here ∙ sym t.outer.asked_here ∙ sym (asked_same _ _ (outer.asks now.outer now.cycle) a.outer),
+      t.core0.talk_here ∙ sym t.core0.asked_here ∙ sym a.core0.talk,
+      t.core1.talk_here ∙ sym t.core1.asked_here ∙ sym a.core1.talk,
+      t.dma.talk_here ∙ sym t.dma.asked_here ∙ sym a.dma.talk,
+      t.pio0.talk_here ∙ sym t.pio0.asked_here ∙ sym a.pio0.talk,
+      t.pio1.talk_here ∙ sym t.pio1.asked_here ∙ sym a.pio1.talk,
+      t.outer.talk_here ∙ sym t.outer.asked_here ∙ sym a.outer.talk,
     ) refl
 
 -- in the first cycle nothing differs
@@ -586,7 +603,7 @@ stands_here : (w : Setting) (s : State) (marks : List Mark) → First s marks �
 stands_here w s marks h = stands_at_start w s marks h.free h.knows h.none
 
 pub passes_first : (w : Setting) (s : State) (start : Start) (marks : List Mark) (goes : Bool) (now' : State) (notes' : Notes) (marks' : List Mark) → First s marks → is_launching s.core1 ≡ false → 0 < longest w s
-    → goes ≡ goes_first s → goes ≡ true → start ≡ start_of s
+    → goes ≡ goes_first s → goes ≡ true → IsStart start s
     → now' ≡ (if goes then next_by w (begun s) (wanted (begun s)) s else s)
     → marks' ≡ marks ++ (if goes then outer.marked w s.outer (begun s).outer ∷ [] else [])
     → notes' ≡ noted_by (wanted (begun s)) s.sram no_notes
@@ -634,7 +651,7 @@ pub passes_later : (w : Setting) (s : State) (k : ℕ) (now : State) (start : St
     → notes' ≡ (if goes then noted_by (wanted (begun_from start notes now)) now.sram notes else notes)
     → Passes w s (k + 1) now' start notes' marks'
 passes_later w s k now start notes marks goes now' notes' marks' p calm lt e_goes is_true e_now e_marks e_notes =
-    let a = all_alone w s k now start notes p.follows in
+    let a = all_alone w s k now p.rests marks start notes p.stands p.follows in
     let b = begun_from start notes now in
     let h = begins_later w s k now start notes a in
     let g = gone_on w s k now p.rests marks b (differs_from start notes now) goes now' marks' p.stands h (differs_later w s k now p.rests start notes a) calm lt e_goes is_true e_now e_marks in
@@ -650,7 +667,7 @@ pub closed_later : (w : Setting) (s : State) (k : ℕ) (now : State) (start : St
     → Passes w s k now start notes marks → is_launching s.core1 ≡ false → bound ≤ longest w s → k < bound
     → goes ≡ goes_on start notes now → goes ≡ false → k ≡ window_within w s bound
 closed_later w s k now start notes marks goes bound p calm short lt e_goes is_false =
-    let a = all_alone w s k now start notes p.follows in
+    let a = all_alone w s k now p.rests marks start notes p.stands p.follows in
     closed w s k now p.rests marks (begun_from start notes now) (differs_from start notes now) goes bound p.stands (begins_later w s k now start notes a) (differs_later w s k now p.rests start notes a) calm short lt e_goes is_false
 
 pub closed_full : (w : Setting) (s : State) (k : ℕ) (now : State) (start : Start) (notes : Notes) (marks : List Mark) (bound : ℕ) → Passes w s k now start notes marks → k ≡ bound → k ≡ window_within w s bound
@@ -670,10 +687,6 @@ no_states w s = refl
 pub no_marks : (w : Setting) (s : State) (marks : List Mark) → marks ≡ [] → marks ≡ marks_in w s 0
 unfolding marks_in
 no_marks w s marks e = e
-
-pub still_none : (w : Setting) (s : State) (marks marks' : List Mark) → marks ≡ [] → marks' ≡ marks ++ [] → marks' ≡ marks_in w s 0
-unfolding marks_in
-still_none w s marks marks' none e = e ∙ append-nil marks ∙ none
 
 -- ---- a window that has a cycle begins where nothing stops
 

@@ -1,6 +1,6 @@
 -- What the state at the start of a window answers each lane, while the machine goes on: what is not in SRAM is kept, and SRAM is
 -- as the lane sees it. The project's own.
-use Rattle.std.specs.Prelude.{ℕ, ◌==◌, ◌||◌, ◌&&◌, not, Bool, false, if◌then◌else◌, List, [], ◌∷◌}
+use Rattle.std.specs.Prelude.{◌≡◌, ℕ, ◌==◌, ◌||◌, ◌&&◌, not, Bool, true, false, if◌then◌else◌, List, [], ◌∷◌}
 use Rattle.rp_base.specs.declared.map.Spot.{Spot}
 use Rattle.rp_base.specs.declared.map.Spot.TheVariants as spot
 use Rattle.rp_base.specs.Map.{place_of}
@@ -12,8 +12,10 @@ use Rattle.lane_look.specs.Alone.{differs, ends_want}
 use Rattle.io_bank.specs.Levels.{is_used}
 use Rattle.m0_core.specs.Fetch as core_asks
 use Rattle.dma_engine.specs.Asks as dma_asks
+use Rattle.dma_engine.specs.Asks.{may_ask_counts}
 use Rattle.pio_block.specs.Cycle as pio
 use Rattle.outer_lane.specs.Step as outer
+use Rattle.rp_machine.specs.declared.answers.Counts.{Counts}
 use Rattle.rp_machine.specs.declared.begun.Begun.{Begun}
 use Rattle.rp_machine.specs.declared.wanted.Wanted.{Wanted}
 use Rattle.rp_machine.specs.State.{State}
@@ -37,6 +39,14 @@ start_of s = record {
   pio0 = outs_of 0 s;
   pio1 = outs_of 1 s;
 }
+
+abbrev pub with_counts : Counts → Start → Start
+with_counts counts start = record start { counts = counts }
+
+-- that is kept, but for the counts that pace DMA channels where the DMA engine cannot come to ask for them: no other lane does
+pub record IsStart (start : Start) (s : State) : Type 0 where
+  pub same : start ≡ with_counts start.counts (start_of s)
+  pub counts : may_ask_counts s.dma ≡ true → start.counts ≡ counts_of s
 
 -- the word of a spot; 0 where it is not in SRAM
 abbrev pub word_by : (ℕ → ℕ) → Spot → ℕ
@@ -76,9 +86,10 @@ differs_core0 start n s = differs (answer_of 0 s) (asked (guess 0 start (seen_of
 abbrev pub differs_outer : Start → Notes → State → Bool
 differs_outer start n s = differs (answer_of 5 s) (asked (guess 5 start (seen_of 5 n s.sram)) (outer.asks s.outer s.cycle))
 
--- a pin has the function of PIO block 0, which puts out something else than at the start: an answer to the peripherals is not
+-- a pin has the function of a PIO block, which puts out something else than at the start: an answer to the peripherals is not
 abbrev pub shows_other : Start → State → Bool
-shows_other start s = is_used 6 s.outer.pads && not (outs_of 0 s == start.pio0)
+shows_other start s =
+    (is_used 6 s.outer.pads && not (outs_of 0 s == start.pio0)) || (is_used 7 s.outer.pads && not (outs_of 1 s == start.pio1))
 
 -- some answer to a lane is not
 abbrev pub differs_from : Start → Notes → State → Bool

@@ -1,16 +1,18 @@
 //! The cycles of a window on one thread: each is the machine's own, and is kept where it goes as the lanes would go alone.
 
-ghost use Rattle.std.specs.Prelude.{◌≡◌, ◌+◌, ◌-◌, ◌^◌, ◌<◌, ◌++◌, ◌∷◌, [], if◌then◌else◌, false, is_some, IfSome, length};
+ghost use Rattle.std.specs.Prelude.{◌≡◌, ◌+◌, ◌-◌, ◌^◌, ◌<◌, ◌++◌, ◌∷◌, [], if◌then◌else◌, false, length};
 ghost use Rattle.bus_fabric.specs.State.{has_hold};
 ghost use Rattle.lane_look.specs.Alone.{ends_want};
 ghost use Rattle.m0_core.specs.Cycle.{want_of};
 ghost use Rattle.outer_lane.specs.Setting.{setting_of};
 ghost use Rattle.outer_lane.specs.Step.{marked};
 ghost use Rattle.rp_machine.specs.Cycle.{begun, wanted, next_by};
+ghost use Rattle.std.specs.List.{list_all};
+ghost use Rattle.rp_machine.specs.BusRest.{wants_nothing};
 ghost use Rattle.rp_machine.specs.Alone.{IsAlone};
 ghost use Rattle.window_merge.specs.Lanes.{is_launching};
 ghost use Rattle.window_merge.specs.Notes.{no_notes, noted_by, HasRoom};
-ghost use Rattle.window_merge.specs.Start.{start_of, begun_from, ends_wanted, goes_by, goes_first, goes_on};
+ghost use Rattle.window_merge.specs.Start.{begun_from, ends_wanted, goes_by, goes_on};
 
 use crate::merge::clash;
 use crate::notes::Notes;
@@ -63,15 +65,24 @@ fn goes_by_wants(lanes: &Begun) -> bool
     !ends_wanted(&wants) && !clash(lanes, &wants)
 }
 
-/// The same. Mostly no master wants anything, or a core has an access outside SRAM.
+/// The same. Where somebody wants anything, mostly a core has an access outside SRAM.
 #[inline(always)]
-fn goes_by(lanes: &Begun) -> bool
+fn goes_by_cores(lanes: &Begun) -> bool
     ensures { result ≡ goes_by lanes.now }
 {
     if ends_core(&lanes.core0) || ends_core(&lanes.core1) {
         return false;
     }
-    wants_nothing(lanes) || goes_by_wants(lanes)
+    goes_by_wants(lanes)
+}
+
+/// The same, where it is known whether any master wants anything: mostly none does.
+#[inline(always)]
+pub(crate) fn goes_by_quiet(lanes: &Begun, quiet: bool) -> bool
+    requires { quiet ≡ list_all wants_nothing (wanted lanes.now) }
+    ensures { result ≡ goes_by lanes.now }
+{
+    quiet || goes_by_cores(lanes)
 }
 
 /// Notes what the masters write in a cycle in which this was begun, before they do.
@@ -83,58 +94,49 @@ fn note_wants(notes: &mut Notes, machine: &Machine, lanes: &Begun)
     notes.note(&machine.ram, &all_wanted(lanes));
 }
 
-/// The same. Mostly no master wants anything.
+/// The same, where it is known whether any master wants anything: mostly none does.
 #[inline(always)]
-fn note(notes: &mut Notes, machine: &Machine, lanes: &Begun)
-    requires { HasRoom notes.old 3 }
+fn note(notes: &mut Notes, machine: &Machine, lanes: &Begun, quiet: bool)
+    requires room { HasRoom notes.old 3 }
+    requires quiet { quiet ≡ list_all wants_nothing (wanted lanes.now) }
     ensures { notes.new ≡ noted_by (wanted lanes.now) machine.now.sram notes.old }
 {
-    if !wants_nothing(lanes) {
+    if !quiet {
         note_wants(notes, machine, lanes);
     }
 }
 
-/// The first cycle of a window, on whose fabric no access lasts and in which the lanes begin this, where no run alone ends and no
-/// two accesses name one port. Gives what the start answers. Otherwise the machine and the marks stay.
+/// The first cycle of a window, on whose fabric no access lasts and in which the lanes begin this: whether nobody wants anything
+/// then is known.
 #[inline(always)]
-pub(crate) fn try_first<X: Device>(
+pub(crate) fn do_first<X: Device>(
     machine: &mut Machine,
     world: &World<'_, X>,
     lanes: &Begun,
+    quiet: bool,
     notes: &mut Notes,
     marks: &mut Marks,
-) -> Option<Start>
+)
     requires number { machine.old.cycle < 2 ^ 64 - 1 }
     requires marks { length marks.old < 256 }
     requires free { has_hold machine.old.fabric ≡ false }
     requires begun { lanes.now ≡ begun machine.old }
-    ensures goes { is_some result ≡ goes_first machine.old }
-    ensures start { IfSome result (λ start. start ≡ start_of machine.old) }
-    ensures state { machine.new ≡ (if is_some result then next_by
+    requires quiet { quiet ≡ list_all wants_nothing (wanted lanes.now) }
+    ensures state { machine.new ≡ next_by
         (setting_of world.now.script.now (X.meaning world.now.device.now) world.now.limit)
-        (begun machine.old) (wanted (begun machine.old)) machine.old
-        else machine.old) }
-    ensures marks { marks.new ≡ marks.old ++ (if is_some result then marked
+        (begun machine.old) (wanted (begun machine.old)) machine.old }
+    ensures marks { marks.new ≡ marks.old ++ marked
         (setting_of world.now.script.now (X.meaning world.now.device.now) world.now.limit)
-        machine.old.outer (begun machine.old).outer ∷ []
-        else []) }
-    ensures notes { IfSome result (λ _. notes.new ≡ noted_by (wanted (begun machine.old))
-        machine.old.sram no_notes) }
+        machine.old.outer (begun machine.old).outer ∷ [] }
+    ensures notes { notes.new ≡ noted_by (wanted (begun machine.old)) machine.old.sram no_notes }
 {
-    if wants_nothing(lanes) {
-        let start = Start::of(machine, lanes);
-        notes.clear();
-        machine.step_at_rest(world, lanes, marks);
-        return Some(start);
-    }
-    if !goes_by(lanes) {
-        return None;
-    }
-    let start = Start::of(machine, lanes);
     notes.clear();
+    if quiet {
+        machine.step_at_rest(world, lanes, marks);
+        return;
+    }
     note_wants(notes, machine, lanes);
     machine.step(world, lanes, marks);
-    Some(start)
 }
 
 /// A later cycle of a window in which core 0 is alone: nothing is asked of the lanes at rest.
@@ -217,10 +219,11 @@ fn try_all<X: Device>(
     if !same {
         return false;
     }
-    if !goes_by(lanes) {
+    let quiet = wants_nothing(lanes);
+    if !goes_by_quiet(lanes, quiet) {
         return false;
     }
-    note(notes, machine, lanes);
+    note(notes, machine, lanes, quiet);
     machine.step(world, lanes, marks);
     true
 }

@@ -1,12 +1,13 @@
 //! What the start of a window answers each lane, while the machine goes on; and looks that compare it with what the machine answers.
 
-ghost use Rattle.std.specs.Prelude.{◌≡◌, ◌<◌, ◌^◌, ◌&&◌, not};
+ghost use Rattle.std.specs.Prelude.{◌≡◌, ◌<◌, ◌^◌, ◌&&◌, not, true};
 ghost use Rattle.lane_look.specs.Asking.{answered};
 ghost use Rattle.lane_look.specs.Replay.{asked};
 ghost use Rattle.lane_look.specs.Alone.{differs};
 ghost use Rattle.dma_engine.specs.Asks as dma;
+ghost use Rattle.dma_engine.specs.Asks.{may_ask_counts};
 ghost use Rattle.m0_core.specs.Fetch.{asks};
-ghost use Rattle.rp_machine.specs.Answers.{answer_of, lines_of};
+ghost use Rattle.rp_machine.specs.Answers.{answer_of, counts_of, lines_of};
 ghost use Rattle.window_merge.specs.Notes.{seen_of};
 ghost use Rattle.rp_machine.specs.Cycle.{begun};
 ghost use Rattle.window_merge.specs.Start.{guess, differs_core0, differs_outer, differs_from};
@@ -28,7 +29,7 @@ pub(crate) struct Start {
     lines0: u128,
     /// The interrupt lines of core 1.
     lines1: u128,
-    /// The counts that pace DMA channels.
+    /// The counts that pace DMA channels, where the DMA engine may come to ask for them.
     counts: Counts,
     /// The input words.
     inputs: u128,
@@ -59,32 +60,50 @@ fn lines_told(machine: &Machine, number: u8, core: &Core, doing: &Doing) -> u128
     }
 }
 
+/// The counts that pace DMA channels, where the DMA engine may come to ask for them; elsewhere none are found.
+#[inline(always)]
+fn counts_told(machine: &Machine) -> Counts
+    ensures { may_ask_counts machine.now.dma ≡ true → result ≡ counts_of machine.now }
+{
+    if machine.dma.may_ask_counts() {
+        return machine.counts();
+    }
+    Counts {
+        pio0: [0; 8],
+        pio1: [0; 8],
+        uarts: [0; 4],
+    }
+}
+
 impl Start {
     ghost use Rattle.std.specs.Prelude.{◌≡◌};
-    ghost use Rattle.window_merge.specs.Start.{start_of, shows_other};
+    ghost use Rattle.window_merge.specs.Start.{IsStart, shows_other};
 
-    /// What a machine answers now, whose lanes begin this.
+    /// What a machine answers now, whose lanes begin this. The counts are found only where the DMA engine may come to ask for
+    /// them.
     #[inline(never)]
     pub(crate) fn of(machine: &Machine, lanes: &Begun) -> Start
         requires { lanes.now ≡ begun machine.now }
-        ensures { result ≡ start_of machine.now }
+        ensures { IsStart result machine.now }
     {
         Start {
             lines0: lines_told(machine, 0, &machine.core0, &lanes.core0),
             lines1: lines_told(machine, 1, &machine.core1, &lanes.core1),
-            counts: machine.counts(),
+            counts: counts_told(machine),
             inputs: machine.answer(3, Ask::Inputs),
             pio0: machine.answer(5, Ask::Outs(0)),
             pio1: machine.answer(5, Ask::Outs(1)),
         }
     }
 
-    /// A pin has the function of PIO block 0, which puts out something else now: the peripherals are answered otherwise.
+    /// A pin has the function of a PIO block, which puts out something else now: the peripherals are answered otherwise.
     #[inline(always)]
     pub(crate) fn shows_other(&self, machine: &Machine) -> bool
         ensures { result ≡ shows_other self.now machine.now }
     {
-        machine.outer.pads.uses(6) && machine.answer(5, Ask::Outs(0)) != self.pio0
+        let pads = &machine.outer.pads;
+        (pads.uses(6) && machine.answer(5, Ask::Outs(0)) != self.pio0)
+            || (pads.uses(7) && machine.answer(5, Ask::Outs(1)) != self.pio1)
     }
 }
 

@@ -7,15 +7,15 @@ use Rattle.window_merge.specs.Notes.{noted_by}
 use Rattle.window_merge.proofs.OneCore.{begun_all, goes_all}
 use Rattle.window_merge.proofs.pass.try_all.Goals as goal
 
-pub returns-then-not-goes_by-clause-goes : goal.returns-then-not-goes_by-clause-goes
-returns-then-not-goes_by-clause-goes g c =
-    sym c.if-not-goes_by.true
-    ∙ goes_all c.args.start.now c.args.notes.now c.args.machine.now c.begin_later.new.lanes _ _ c.begin_later.ensures.same c.if-not-same.false c.begin_later.ensures.begun c.goes_by.ensures
+pub returns-then-not-goes_by_quiet-clause-goes : goal.returns-then-not-goes_by_quiet-clause-goes
+returns-then-not-goes_by_quiet-clause-goes g c =
+    sym c.if-not-goes_by_quiet.true
+    ∙ goes_all c.args.start.now c.args.notes.now c.args.machine.now c.begin_later.new.lanes _ _ c.begin_later.ensures.same c.if-not-same.false c.begin_later.ensures.begun c.goes_by_quiet.ensures
 
 pub returns-clause-goes : goal.returns-clause-goes
 returns-clause-goes g c =
-    sym c.if-not-goes_by.false
-    ∙ goes_all c.args.start.now c.args.notes.now c.args.machine.now c.begin_later.new.lanes _ _ c.begin_later.ensures.same c.if-not-same.false c.begin_later.ensures.begun c.goes_by.ensures
+    sym c.if-not-goes_by_quiet.false
+    ∙ goes_all c.args.start.now c.args.notes.now c.args.machine.now c.begin_later.new.lanes _ _ c.begin_later.ensures.same c.if-not-same.false c.begin_later.ensures.begun c.goes_by_quiet.ensures
 
 pub returns-clause-state : goal.returns-clause-state
 returns-clause-state g c =
