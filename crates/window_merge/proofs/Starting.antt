@@ -24,7 +24,7 @@ use Rattle.window_merge.specs.Lanes.{around, stored_by}
 use Rattle.window_merge.specs.Patch.{sram_after}
 use Rattle.window_merge.specs.declared.start.Matcher.{Matcher}
 use Rattle.window_merge.specs.declared.start.Start.{Start}
-use Rattle.window_merge.specs.Start.{start_of, with_counts, IsStart, word_by, guess, guessed}
+use Rattle.window_merge.specs.Start.{start_of, with_counts, IsStart, word_by, guess, guessed, matched}
 use Rattle.window_merge.proofs.Agree.{all_same, itself, not_equal}
 use Rattle.window_merge.proofs.Banks.{HasBank, has_bank}
 use Rattle.window_merge.proofs.Copying.{outs_same}
@@ -130,9 +130,6 @@ differs_never {B} f (Question question next) = rw (itself (f question)) (differs
 
 -- ---- the look
 
-abbrev pub ByMatch : Matcher → Ask → ℕ → Matcher → Type 0
-ByMatch old question answer new = (answer ≡ answer_of old.lane old.machine.now question) × (new ≡ record old { same = old.same && nat_eq (guessed old question) answer })
-
 abbrev with_same : Matcher → Bool → Matcher
 with_same k same = record k { same = same }
 
@@ -157,7 +154,7 @@ still_same {B} same f g question next = elim (eqb_tells (g question) (f question
       ∙ ap (λ (b : Bool). same && not (not b || there)) (sym (not_equal (f question) (g question) (λ e. h.1 (sym e))))
 ]
 
-by_match : {B : Type 0} (k : Matcher) (same : Bool) (tree : Asking B) (result : B) (new : Matcher) → Runs ByMatch (with_same k same) tree result new → Matched (with_same k same) tree result new
+by_match : {B : Type 0} (k : Matcher) (same : Bool) (tree : Asking B) (result : B) (new : Matcher) → Runs matched (with_same k same) tree result new → Matched (with_same k same) tree result new
 by_match k same (Ready begun) result new r = record {
   begun = r.1;
   is_same = ap (λ (x : Matcher). x.same) r.0 ∙ sym (and-true same);
@@ -167,13 +164,13 @@ by_match {B} k same (Question question next) result new r =
     let g = guessed k in
     let here = same && nat_eq (g question) (f question) in
     let e_mid : r.1 ≡ with_same k here = r.2.1 ∙ ap (λ (y : ℕ). with_same k (same && nat_eq (g question) y)) r.2.0 in
-    let mid : Runs ByMatch (with_same k here) (next r.0) result new = subst (λ (x : Matcher). Runs ByMatch x (next r.0) result new) e_mid r.3 in
-    let there : Runs ByMatch (with_same k here) (next (f question)) result new = subst (λ (y : ℕ). Runs ByMatch (with_same k here) (next y) result new) r.2.0 mid in
+    let mid : Runs matched (with_same k here) (next r.0) result new = subst (λ (x : Matcher). Runs matched x (next r.0) result new) e_mid r.3 in
+    let there : Runs matched (with_same k here) (next (f question)) result new = subst (λ (y : ℕ). Runs matched (with_same k here) (next y) result new) r.2.0 mid in
     let rest = by_match k here (next (f question)) result new there in
     record {
       begun = rest.begun;
       is_same = rest.is_same ∙ still_same same f g question next;
     }
 
-pub runs_match : {B : Type 0} (old : Matcher) (tree : Asking B) (result : B) (new : Matcher) → Runs ByMatch old tree result new → Matched old tree result new
+pub runs_match : {B : Type 0} (old : Matcher) (tree : Asking B) (result : B) (new : Matcher) → Runs matched old tree result new → Matched old tree result new
 runs_match old tree result new r = by_match old old.same tree result new r

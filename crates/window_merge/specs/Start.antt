@@ -1,6 +1,6 @@
 -- What the state at the start of a window answers each lane, while the machine goes on: what is not in SRAM is kept, and SRAM is
 -- as the lane sees it. The project's own.
-use Rattle.std.specs.Prelude.{◌≡◌, ℕ, ◌==◌, ◌||◌, ◌&&◌, not, Bool, true, false, if◌then◌else◌, List, [], ◌∷◌}
+use Rattle.std.specs.Prelude.{◌≡◌, nat_eq, ℕ, ◌==◌, ◌||◌, ◌&&◌, not, Bool, true, false, if◌then◌else◌, List, [], ◌∷◌}
 use Rattle.rp_base.specs.declared.map.Spot.{Spot}
 use Rattle.rp_base.specs.declared.map.Spot.TheVariants as spot
 use Rattle.rp_base.specs.Map.{place_of}
@@ -65,6 +65,12 @@ guess lane start seen (ask.Outs block) = if block == 0 then start.pio0 else star
 -- what the start of a look answers
 abbrev pub guessed : Matcher → Ask → ℕ
 guessed k = guess k.lane k.start.now (seen_of k.lane k.notes.now k.machine.now.sram)
+
+-- what a look answers, which keeps whether the start would have answered the same
+abbrev pub matched : Matcher → Ask → ℕ → Matcher → Type 0
+matched old question answer new =
+    (answer ≡ answer_of old.lane old.machine.now question)
+    × (new ≡ record old { same = old.same && nat_eq (guessed old question) answer })
 
 -- ---- the six lanes
 

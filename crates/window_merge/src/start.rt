@@ -1,7 +1,7 @@
 //! What the start of a window answers each lane, while the machine goes on; and looks that compare it with what the machine answers.
 
 ghost use Rattle.std.specs.Prelude.{◌≡◌, ◌<◌, ◌^◌, ◌&&◌, not, true};
-ghost use Rattle.lane_look.specs.Asking.{answered};
+ghost use Rattle.lane_look.specs.Asking.{Runs, answered};
 ghost use Rattle.lane_look.specs.Replay.{asked};
 ghost use Rattle.lane_look.specs.Alone.{differs};
 ghost use Rattle.dma_engine.specs.Asks as dma;
@@ -10,7 +10,7 @@ ghost use Rattle.m0_core.specs.Fetch.{asks};
 ghost use Rattle.rp_machine.specs.Answers.{answer_of, counts_of, lines_of};
 ghost use Rattle.window_merge.specs.Notes.{seen_of};
 ghost use Rattle.rp_machine.specs.Cycle.{begun};
-ghost use Rattle.window_merge.specs.Start.{guess, differs_core0, differs_outer, differs_from};
+ghost use Rattle.window_merge.specs.Start.{guess, matched, differs_core0, differs_outer, differs_from};
 
 use crate::copies::half_of;
 use crate::notes::Notes;
@@ -177,12 +177,9 @@ impl Matcher<'_> {
 }
 
 impl Look for Matcher<'_> {
-    ghost use Rattle.std.specs.Prelude.{◌≡◌, ◌&&◌, nat_eq};
-    ghost use Rattle.rp_machine.specs.Answers.{answer_of};
-    ghost use Rattle.window_merge.specs.Start.{guessed};
+    ghost use Rattle.window_merge.specs.Start.{matched};
 
-    ghost answers = { λ old ask answer new. (answer ≡ answer_of old.lane old.machine.now ask)
-        × (new ≡ record old { same = old.same && nat_eq (guessed old ask) answer }) };
+    ghost answers = { matched };
 
     #[inline(always)]
     fn ask(&mut self, ask: Ask) -> u128 {
@@ -224,6 +221,28 @@ fn begin_by<E, S: Lane<E>>(
     begun
 }
 
+/// Begins the cycle of a core by a look that it asks for its interrupt lines.
+#[inline(never)]
+fn begin_asked(core: &Core, cycle: u64, look: &mut Matcher<'_>, begun: &mut Doing)
+    ensures { Runs matched look.old (asks core.now cycle) begun.new look.new }
+{
+    core.begin_into(cycle, look, begun);
+}
+
+/// Begins the cycle of a core by a look. Most often the start of the window would have answered it the interrupt lines that it has
+/// now, and it is told them.
+#[inline(always)]
+fn begin_matched(core: &Core, cycle: u64, lines: u32, look: &mut Matcher<'_>, begun: &mut Doing)
+    requires { lines ≡ lines_of look.old.lane look.old.machine.now }
+    ensures { Runs matched look.old (asks core.now cycle) begun.new look.new }
+{
+    if look.guess(Ask::Lines) == u128::from(lines) {
+        core.begin_told(cycle, lines, look, begun);
+    } else {
+        begin_asked(core, cycle, look, begun);
+    }
+}
+
 /// Begins the cycle of a core of that number so, in the place of what it began before.
 #[inline(always)]
 fn begin_core(
@@ -249,7 +268,7 @@ fn begin_core(
         notes,
         same: *same,
     };
-    core.begin_into(machine.at, &mut look, begun);
+    begin_matched(core, machine.at, machine.lines(number), &mut look, begun);
     *same = look.same;
 }
 
