@@ -4,7 +4,7 @@ ghost use Rattle.std.specs.Prelude.{◌≡◌, ◌+◌, ◌≤◌, ◌^◌, fals
 ghost use Rattle.outer_lane.specs.Setting.{setting_of};
 ghost use Rattle.bus_fabric.specs.State.{has_hold};
 ghost use Rattle.trace_text.specs.Tape.{Tells};
-ghost use Rattle.rp_machine.specs.Cycle.{stop};
+ghost use Rattle.rp_machine.specs.Cycle.{begun, stop};
 ghost use Rattle.rp_machine.specs.Run.{last_state, states, unless_stopped};
 ghost use Rattle.turn_board.specs.Answers.{EachLane};
 ghost use Rattle.window_merge.specs.Window.{next_position, window_length};
@@ -117,6 +117,7 @@ fn gather<'w, X: Device, G: Gate, H: Wait>(
     requires few { lead.old.opened + 6 ≤ 2 ^ 62 }
     ensures ready { IsReady desk.now.board.now (λ w. w.now ≡ desk.now.world.now) lead.new.opened
         lead.new.kept lead.new.master lead.new.seat lead.new.sets.value.spare }
+    ensures begun { lead.new.sets.value.begun ≡ lead.old.sets.value.begun }
     ensures found { EachLane (λ lane found. IfSome found.report (IsTrueIn
         (setting_of desk.now.world.now.script.now (X.meaning desk.now.world.now.device.now)
         desk.now.world.now.limit))) result }
@@ -143,6 +144,7 @@ fn found_in<'w, X: Device, G: Gate, H: Wait>(
         lead.old.kept lead.old.master lead.old.seat lead.old.sets.value.spare }
     ensures ready { IsReady desk.now.board.now (λ w. w.now ≡ desk.now.world.now) lead.new.opened
         lead.new.kept lead.new.master lead.new.seat lead.new.sets.value.spare }
+    ensures begun { lead.new.sets.value.begun ≡ lead.old.sets.value.begun }
     ensures found { EachLane (λ lane found. IfSome found.report (IsTrueIn
         (setting_of desk.now.world.now.script.now (X.meaning desk.now.world.now.device.now)
         desk.now.world.now.limit))) result }
@@ -195,7 +197,7 @@ fn merge_found<X: Device, L: Ledger>(
 }
 
 /// Moves the machine by a window whose lanes are run by all who draw tickets, and gives its length. Where no lane has a report the
-/// window is made here, as on one thread.
+/// window is made here, as on one thread: what the lanes begin is known.
 fn window<'w, X: Device, G: Gate, H: Wait, L: Ledger>(
     desk: &Desk<'_, 'w, X, G, H>,
     lead: &mut Lead<'w, X>,
@@ -208,6 +210,7 @@ fn window<'w, X: Device, G: Gate, H: Wait, L: Ledger>(
     requires rested { IsRested machine.old.sio }
     requires ready { IsReady desk.now.board.now (λ w. w.now ≡ desk.now.world.now) lead.old.opened
         lead.old.kept lead.old.master lead.old.seat lead.old.sets.value.spare }
+    requires begun { lead.old.sets.value.begun ≡ begun machine.old }
     ensures length { result ≡ window_length
         (setting_of desk.now.world.now.script.now (X.meaning desk.now.world.now.device.now)
         desk.now.world.now.limit)
@@ -232,7 +235,6 @@ fn window<'w, X: Device, G: Gate, H: Wait, L: Ledger>(
         return length;
     }
     let Sets { notes, begun, .. } = &mut *lead.sets;
-    machine.begin_into(desk.world, begun);
     let length = window_here(machine, desk.world, notes, begun, marks, steps);
     lead.after_short = length < SHORT;
     length
@@ -266,7 +268,8 @@ fn go<'w, X: Device, G: Gate, H: Wait, L: Ledger>(
             None => Moved::Cycle,
         };
     }
-    if let Some(why) = machine.stop(desk.world) {
+    machine.begin_into(desk.world, &mut lead.sets.begun);
+    if let Some(why) = machine.stop_of(desk.world, &lead.sets.begun) {
         return Moved::Stopped(why);
     }
     Moved::Window(window(desk, lead, machine, marks, steps))
