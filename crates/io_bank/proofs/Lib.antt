@@ -1,5 +1,6 @@
+pub mod AtRest
 pub mod Bits
 pub mod Comparisons
 pub mod Routed
-pub mod AtRest
+pub mod Rows
 pub mod Same

@@ -1,25 +1,15 @@
--- The words of IO_BANK0, and from 1000 on those of PADS_BANK0, by their offsets: what they read as and what a write does
--- (RP2040 Datasheet, 2.19.6.1, IO - User Bank, and 2.19.6.3, Pad Control - User Bank).
-use Rattle.std.specs.Prelude.{ℕ, ◌+◌, ◌-◌, ◌*◌, ◌/◌, ◌%◌, ◌^◌, Bool, ◌&&◌, ◌||◌, ◌==◌, nat_lt, nat_le, if◌then◌else◌, Option, Some, None, bit_and, slice_set}
+-- The registers of IO_BANK0, and from 1000 on those of PADS_BANK0, by their offsets (RP2040 Datasheet, 2.19.6.1, IO - User Bank,
+-- and 2.19.6.3, Pad Control - User Bank).
+use Rattle.std.specs.Prelude.{ℕ, ◌+◌, ◌*◌, ◌%◌, ◌^◌, Bool, nat_lt, if◌then◌else◌, List, [], ◌∷◌, ◌++◌, Option, bit_and, slice_set}
+use Rattle.rp_base.specs.Rows.{Row, read_only, read_write, seen_only, repeated, has_row, effect_at, IsListed}
+use Rattle.rp_base.specs.Rows as rows
 use Rattle.rp_base.specs.Word.{bit_number}
 use Rattle.rp_base.specs.Held.{unless_held, after_access}
 use Rattle.io_bank.specs.declared.outputs.Outs.{Outs}
-use Rattle.io_bank.specs.declared.events.Events.{Events}
 use Rattle.io_bank.specs.declared.events.Interrupts.{Interrupts}
-use Rattle.io_bank.specs.declared.registers.TheConstants.{GPIO0_STATUS, INTR0, PROC0_INTE0, PROC0_INTF0, PROC0_INTS0, PROC1_INTE0, PROC1_INTF0, IO_BANK0_END, PADS_BANK0, VOLTAGE_SELECT, PAD_GPIO0, PAD_GPIO29}
 use Rattle.io_bank.specs.State.{Bank}
 use Rattle.io_bank.specs.Levels.{control_of, pad_of, level_from, enable_from, level_to, enable_to, level_sensed, input_of}
 use Rattle.io_bank.specs.Interrupts.{event_word, with_word, raw_of, shown, cleared}
-
--- STATUS and CTRL of each pin, the interrupt words, VOLTAGE_SELECT and the pads
-abbrev pub is_word : ℕ → Bool
-is_word offset = offset % 4 == 0 && (nat_lt offset IO_BANK0_END || (nat_le PADS_BANK0 offset && nat_le offset PAD_GPIO29))
-
--- the block of a word is held in reset
-abbrev pub is_held : Bank → ℕ → Bool
-is_held s offset = if nat_lt offset PADS_BANK0 then s.bank_held else s.pads_held
-
--- ---- what is read
 
 -- OUTFROMPERI, OUTTOPAD, OEFROMPERI, OETOPAD, INFROMPAD and INTOPERI; the last two are of the level now
 abbrev pub status_of : Bank → Outs → ℕ → ℕ
@@ -31,40 +21,15 @@ status_of s outs pin =
     + bit_number (level_sensed s s.current pin) * 2 ^ 17
     + bit_number (input_of s s.current pin) * 2 ^ 19
 
-abbrev pub pin_word : Bank → Outs → ℕ → ℕ
-pin_word s outs offset = if offset % 8 == GPIO0_STATUS then status_of s outs (offset / 8) else control_of s (offset / 8)
+-- CTRL keeps FUNCSEL and the overrides
+abbrev pub with_control : ℕ → ℕ → Bank → Bank
+with_control pin w s = record s { controls = slice_set s.controls pin (bit_and w 0x3331F) }
 
--- INTR, and for each core INTE, INTF and INTS, by the offset of the first of its four words
-abbrev pub events_at : Bank → ℕ → Events
-events_at s first =
-    if first == INTR0 then raw_of s else
-    if first == PROC0_INTE0 then s.core0.enable else
-    if first == PROC0_INTF0 then s.core0.force else
-    if first == PROC0_INTS0 then shown (raw_of s) s.core0 else
-    if first == PROC1_INTE0 then s.core1.enable else
-    if first == PROC1_INTF0 then s.core1.force else shown (raw_of s) s.core1
-
-abbrev pub pad_word : Bank → ℕ → ℕ
-pad_word s offset = if offset == VOLTAGE_SELECT then s.voltage else pad_of s ((offset - PAD_GPIO0) / 4)
-
-abbrev pub word_at : Bank → Outs → ℕ → ℕ
-word_at s outs offset =
-    if nat_lt offset INTR0 then pin_word s outs offset else
-    if nat_lt offset PADS_BANK0 then event_word (events_at s (offset - offset % 16)) (offset % 16 / 4) else pad_word s offset
-
--- None where there is no word
-abbrev pub listed_word : Bank → Outs → ℕ → Option ℕ
-listed_word s outs offset = if is_word offset then Some (word_at s outs offset) else None
-
-abbrev pub word_of : Bank → Outs → ℕ → Option ℕ
-word_of s outs offset = unless_held (is_held s offset) (listed_word s outs offset)
-
--- ---- what a write does
-
--- CTRL keeps FUNCSEL and the overrides; STATUS is read-only
-abbrev pub pin_written : ℕ → ℕ → Bank → Bank
-pin_written offset w s =
-    if offset % 8 == GPIO0_STATUS then s else record s { controls = slice_set s.controls (offset / 8) (bit_and w 0x3331F) }
+abbrev pub pin_rows : List (Row Outs Bank)
+pin_rows =
+    repeated 30 8 (λ pin. seen_only 0x000 "GPIOn_STATUS" (λ outs s. status_of s outs pin))
+    ∷ repeated 30 8 (λ pin. read_write 0x004 "GPIOn_CTRL" (λ s. control_of s pin) (with_control pin))
+    ∷ []
 
 abbrev pub with_enable : ℕ → ℕ → Interrupts → Interrupts
 with_enable number w i = record i { enable = with_word number w i.enable }
@@ -72,30 +37,50 @@ with_enable number w i = record i { enable = with_word number w i.enable }
 abbrev pub with_force : ℕ → ℕ → Interrupts → Interrupts
 with_force number w i = record i { force = with_word number w i.force }
 
--- a 1 written to INTR clears an edge; INTS is read-only
-abbrev pub events_written : ℕ → ℕ → ℕ → Bank → Bank
-events_written first number w s =
-    if first == INTR0 then record s { latched = cleared number w s.latched s.fresh } else
-    if first == PROC0_INTE0 then record s { core0 = with_enable number w s.core0 } else
-    if first == PROC0_INTF0 then record s { core0 = with_force number w s.core0 } else
-    if first == PROC1_INTE0 then record s { core1 = with_enable number w s.core1 } else
-    if first == PROC1_INTF0 then record s { core1 = with_force number w s.core1 } else s
+-- a 1 written to INTR clears an edge
+abbrev pub event_rows : {V : Type 0} → List (Row V Bank)
+event_rows =
+    repeated 4 4 (λ n. read_write 0x0f0 "INTRn" (λ s. event_word (raw_of s) n) (λ w s. record s { latched = cleared n w s.latched s.fresh }))
+    ∷ repeated 4 4 (λ n. read_write 0x100 "PROC0_INTEn" (λ s. event_word s.core0.enable n) (λ w s. record s { core0 = with_enable n w s.core0 }))
+    ∷ repeated 4 4 (λ n. read_write 0x110 "PROC0_INTFn" (λ s. event_word s.core0.force n) (λ w s. record s { core0 = with_force n w s.core0 }))
+    ∷ repeated 4 4 (λ n. read_only 0x120 "PROC0_INTSn" (λ s. event_word (shown (raw_of s) s.core0) n))
+    ∷ repeated 4 4 (λ n. read_write 0x130 "PROC1_INTEn" (λ s. event_word s.core1.enable n) (λ w s. record s { core1 = with_enable n w s.core1 }))
+    ∷ repeated 4 4 (λ n. read_write 0x140 "PROC1_INTFn" (λ s. event_word s.core1.force n) (λ w s. record s { core1 = with_force n w s.core1 }))
+    ∷ repeated 4 4 (λ n. read_only 0x150 "PROC1_INTSn" (λ s. event_word (shown (raw_of s) s.core1) n))
+    ∷ []
 
 -- a pad keeps eight bits
-abbrev pub pad_written : ℕ → ℕ → Bank → Bank
-pad_written offset w s =
-    if offset == VOLTAGE_SELECT then record s { voltage = w }
-    else record s { pads = slice_set s.pads ((offset - PAD_GPIO0) / 4) (w % 2 ^ 8) }
+abbrev pub with_pad : ℕ → ℕ → Bank → Bank
+with_pad pin w s = record s { pads = slice_set s.pads pin (w % 2 ^ 8) }
 
-abbrev pub after_write : ℕ → ℕ → Bank → Bank
-after_write offset w s =
-    if nat_lt offset INTR0 then pin_written offset w s else
-    if nat_lt offset PADS_BANK0 then events_written (offset - offset % 16) (offset % 16 / 4) w s else pad_written offset w s
+abbrev pub pad_rows : {V : Type 0} → List (Row V Bank)
+pad_rows =
+    read_write 0x1000 "VOLTAGE_SELECT" (λ s. s.voltage) (λ w s. record s { voltage = w })
+    ∷ repeated 30 4 (λ pin. read_write 0x1004 "GPIOn" (λ s. pad_of s pin) (with_pad pin))
+    ∷ []
 
--- a read does nothing
+-- those that wake from the dormant state are left out
+abbrev pub bank_rows : List (Row Outs Bank)
+bank_rows = pin_rows ++ event_rows ++ pad_rows
+
+abbrev pub is_word : ℕ → Bool
+is_word offset = has_row bank_rows offset
+
+-- the block of a word is held in reset
+abbrev pub is_held : Bank → ℕ → Bool
+is_held s offset = if nat_lt offset 0x1000 then s.bank_held else s.pads_held
+
+-- what a word reads as; None where there is none
+abbrev pub word_of : Bank → Outs → ℕ → Option ℕ
+word_of s outs offset = unless_held (is_held s offset) (rows.word_at bank_rows outs offset s)
+
 abbrev pub after_any : ℕ → Option ℕ → Bank → Bank
-after_any offset None s = s
-after_any offset (Some w) s = after_write offset w s
+after_any offset write s = effect_at bank_rows offset write s
 
+-- what a read or a write does
 abbrev pub effect_of : ℕ → Option ℕ → Bank → Bank
 effect_of offset write s = after_access (is_word offset) (is_held s offset) s (after_any offset write s)
+
+-- each register is what stands at its offset, and nothing stands at any other
+abbrev pub EachRegisterIsAtItsOffset : Type 0
+EachRegisterIsAtItsOffset = IsListed bank_rows

@@ -1,16 +1,16 @@
-//! The words of IO_BANK0 and, from 1000 on, of PADS_BANK0, by their offsets.
+//! The registers of IO_BANK0 and, from 1000 on, of PADS_BANK0, by their offsets.
 
-ghost use Rattle.std.specs.Prelude.{◌≡◌, ◌<◌, ◌≤◌, ◌%◌, ◌+◌, ◌*◌, true};
+ghost use Rattle.std.specs.Prelude.{◌≡◌, ◌<◌, ◌≤◌, ◌%◌, Some, true, ⊤};
+ghost use Rattle.rp_base.specs.Rows.{Each, is_at, word_at, effect_at};
 ghost use Rattle.io_bank.specs.Levels.{level_sensed};
-ghost use Rattle.io_bank.specs.Words.{is_word, is_held, status_of, pin_word, events_at, pad_word, word_at, listed_word, word_of, pin_written, events_written, pad_written, after_write, effect_of};
-ghost use Rattle.io_bank.specs.declared.registers.TheConstants.{INTR0, PADS_BANK0, PAD_GPIO29};
+ghost use Rattle.io_bank.specs.Words.{status_of, pin_rows, event_rows, pad_rows, bank_rows, is_word, is_held, word_of, effect_of, EachRegisterIsAtItsOffset};
 
 use crate::bank::IoBank;
 use crate::events::Events;
 use crate::outputs::Outs;
 use crate::registers::{
-    GPIO0_STATUS, INTR0, IO_BANK0_END, PAD_GPIO0, PAD_GPIO29, PADS_BANK0, PROC0_INTE0, PROC0_INTF0,
-    PROC0_INTS0, PROC1_INTE0, PROC1_INTF0, VOLTAGE_SELECT,
+    GPIO0_CTRL, GPIO0_STATUS, INTR0, IO_BANK0_END, PAD_GPIO0, PAD_GPIO29, PADS_BANK0, PROC0_INTE0,
+    PROC0_INTF0, PROC0_INTS0, PROC1_INTE0, PROC1_INTF0, PROC1_INTS0, VOLTAGE_SELECT,
 };
 use crate::routes::Routes;
 use crate::sets::overridden;
@@ -18,8 +18,6 @@ use rp_base::bits::{bit_number, has_bit};
 use rp_base::{Registers, unless_held};
 
 impl IoBank {
-    ghost use Rattle.io_bank.specs.declared.registers.TheConstants.{INTR0, PADS_BANK0, PAD_GPIO29};
-
     /// The word at an offset, where the parts put out `outs` at the start of the cycle; a held block reads 0. None exactly
     /// where there is no such word.
     pub fn read(&self, offset: u16, outs: &Outs) -> Option<u32>
@@ -62,55 +60,43 @@ impl IoBank {
     }
 
     /// The word at an offset, where its block is not held.
+    #[tactic(auto, using(crate::proofs::Rows::words))]
     fn listed(&self, offset: u16, outs: &Outs) -> Option<u32>
-        ensures { result ≡ listed_word self.now outs.now offset }
-    {
-        if is_word(offset) {
-            Some(self.word_at(offset, outs))
-        } else {
-            None
-        }
-    }
-
-    /// A word of a block that is not held.
-    fn word_at(&self, offset: u16, outs: &Outs) -> u32
-        requires { is_word offset ≡ true }
-        ensures { result ≡ word_at self.now outs.now offset }
+        ensures { result ≡ word_at bank_rows outs.now offset self.now }
     {
         if offset < INTR0 {
             self.pin_word(offset, outs)
         } else if offset < PADS_BANK0 {
-            self.events_at(offset - offset % 16)
-                .word(u32::from(offset % 16 / 4))
+            self.event_word(offset)
         } else {
             self.pad_word(offset)
         }
     }
 
     /// A write of a word of a block that is not held.
+    #[tactic(auto, using(crate::proofs::Rows::writes))]
     fn write(&mut self, offset: u16, word: u32)
-        requires { is_word offset ≡ true }
-        ensures { self.new ≡ after_write offset word self.old }
+        ensures { self.new ≡ effect_at bank_rows offset (Some word) self.old }
     {
         if offset < INTR0 {
             self.write_pin(offset, word);
         } else if offset < PADS_BANK0 {
-            self.write_events(offset - offset % 16, u32::from(offset % 16 / 4), word);
+            self.write_event(offset, word);
         } else {
             self.write_pad(offset, word);
         }
     }
 
     /// STATUS or CTRL of a pin.
-    fn pin_word(&self, offset: u16, outs: &Outs) -> u32
-        requires { offset < INTR0 }
-        ensures { result ≡ pin_word self.now outs.now offset }
+    fn pin_word(&self, offset: u16, outs: &Outs) -> Option<u32>
+        requires { offset < 0x0f0 }
+        ensures { result ≡ word_at pin_rows outs.now offset self.now }
     {
         let pin = offset / 8;
-        if offset % 8 == GPIO0_STATUS {
-            self.status(outs, pin)
-        } else {
-            self.controls[pin as usize]
+        match offset % 8 {
+            GPIO0_STATUS => Some(self.status(outs, pin)),
+            GPIO0_CTRL => Some(self.controls[pin as usize]),
+            _ => None,
         }
     }
 
@@ -142,35 +128,44 @@ impl IoBank {
 
     /// A write of CTRL; STATUS is read-only.
     fn write_pin(&mut self, offset: u16, word: u32)
-        requires { offset < INTR0 }
-        ensures { self.new ≡ pin_written offset word self.old }
+        requires { offset < 0x0f0 }
+        ensures { self.new ≡ effect_at pin_rows offset (Some word) self.old }
     {
-        if offset % 8 != GPIO0_STATUS {
+        if offset % 8 == GPIO0_CTRL {
             self.controls[(offset / 8) as usize] = word & 0x3_331f;
             self.routes = Routes::of(&self.controls, &self.pads);
         }
     }
 
-    /// INTR, and for each core INTE, INTF and INTS, by the offset of the first of its four words.
-    fn events_at(&self, first: u16) -> Events
-        ensures { result ≡ events_at self.now first }
+    /// A word of INTR, and for each core of INTE, INTF and INTS.
+    fn event_word(&self, offset: u16) -> Option<u32>
+        ensures { result ≡ word_at (event_rows {V = ⊤}) tt offset self.now }
     {
-        match first {
-            INTR0 => self.raw(),
-            PROC0_INTE0 => self.core0.enable,
-            PROC0_INTF0 => self.core0.force,
-            PROC0_INTS0 => self.core0.shown(&self.raw()),
-            PROC1_INTE0 => self.core1.enable,
-            PROC1_INTF0 => self.core1.force,
-            _ => self.core1.shown(&self.raw()),
+        if offset % 4 != 0 {
+            return None;
+        }
+        let number = u32::from(offset % 16 / 4);
+        match offset - offset % 16 {
+            INTR0 => Some(self.raw().word(number)),
+            PROC0_INTE0 => Some(self.core0.enable.word(number)),
+            PROC0_INTF0 => Some(self.core0.force.word(number)),
+            PROC0_INTS0 => Some(self.core0.shown(&self.raw()).word(number)),
+            PROC1_INTE0 => Some(self.core1.enable.word(number)),
+            PROC1_INTF0 => Some(self.core1.force.word(number)),
+            PROC1_INTS0 => Some(self.core1.shown(&self.raw()).word(number)),
+            _ => None,
         }
     }
 
-    /// A write of the word of that number of INTR, INTE or INTF; INTS is read-only.
-    fn write_events(&mut self, first: u16, number: u32, word: u32)
-        ensures { self.new ≡ events_written first number word self.old }
+    /// A write of a word of INTR, INTE or INTF; INTS is read-only.
+    fn write_event(&mut self, offset: u16, word: u32)
+        ensures { self.new ≡ effect_at (event_rows {V = ⊤}) offset (Some word) self.old }
     {
-        match first {
+        if offset % 4 != 0 {
+            return;
+        }
+        let number = u32::from(offset % 16 / 4);
+        match offset - offset % 16 {
             INTR0 => self.latched = self.latched.cleared(number, word, self.fresh),
             PROC0_INTE0 => self.core0.enable = self.core0.enable.with_word(number, word),
             PROC0_INTF0 => self.core0.force = self.core0.force.with_word(number, word),
@@ -181,29 +176,25 @@ impl IoBank {
     }
 
     /// VOLTAGE_SELECT or the register of a pad.
-    fn pad_word(&self, offset: u16) -> u32
-        requires low { PADS_BANK0 ≤ offset }
-        requires high { offset ≤ PAD_GPIO29 }
-        requires whole { offset % 4 ≡ 0 }
-        ensures { result ≡ pad_word self.now offset }
+    fn pad_word(&self, offset: u16) -> Option<u32>
+        ensures { result ≡ word_at (pad_rows {V = ⊤}) tt offset self.now }
     {
         if offset == VOLTAGE_SELECT {
-            self.voltage
+            Some(self.voltage)
+        } else if is_pad(offset) {
+            Some(self.pads[((offset - PAD_GPIO0) / 4) as usize])
         } else {
-            self.pads[((offset - PAD_GPIO0) / 4) as usize]
+            None
         }
     }
 
     /// A write of VOLTAGE_SELECT or of a pad's register, which keeps eight bits.
     fn write_pad(&mut self, offset: u16, word: u32)
-        requires low { PADS_BANK0 ≤ offset }
-        requires high { offset ≤ PAD_GPIO29 }
-        requires whole { offset % 4 ≡ 0 }
-        ensures { self.new ≡ pad_written offset word self.old }
+        ensures { self.new ≡ effect_at (pad_rows {V = ⊤}) offset (Some word) self.old }
     {
         if offset == VOLTAGE_SELECT {
             self.voltage = word;
-        } else {
+        } else if is_pad(offset) {
             self.pads[((offset - PAD_GPIO0) / 4) as usize] = word & 0xff;
             self.routes = Routes::of(&self.controls, &self.pads);
         }
@@ -231,8 +222,21 @@ impl Registers<Outs> for IoBank {
 }
 
 /// The offset of a word.
+#[tactic(auto, using(crate::proofs::Rows::words_there))]
 fn is_word(offset: u16) -> bool
     ensures { result ≡ is_word offset }
 {
     offset % 4 == 0 && (offset < IO_BANK0_END || (PADS_BANK0 <= offset && offset <= PAD_GPIO29))
 }
+
+/// The offset of a pad's register.
+fn is_pad(offset: u16) -> bool
+    ensures { result ≡ is_at (Each 0x1004 30 4) offset }
+{
+    offset % 4 == 0 && PAD_GPIO0 <= offset && offset <= PAD_GPIO29
+}
+
+/// At the offset of each register stands that register, and nothing at any other.
+pub fn each_register_is_at_its_offset()
+    ensures { EachRegisterIsAtItsOffset }
+{}

@@ -14,7 +14,6 @@ use Rattle.rp_uart.specs.State.{SerialPort}
 use Rattle.rp_uart.specs.Words as uart
 use Rattle.rp_timer.specs.State.{TimerState}
 use Rattle.rp_timer.specs.Words as timer
-use Rattle.rp_timer.specs.Changes as timer_changes
 use Rattle.outer_lane.specs.declared.world.SeenOutputs.{SeenOutputs}
 use Rattle.outer_lane.specs.Setting.{Setting}
 use Rattle.outer_lane.specs.State.{OuterState}
@@ -54,7 +53,7 @@ abbrev pub uart_accessed : ℕ → Option ℕ → Resettable SerialPort → Rese
 uart_accessed offset write u = unless_held_becomes u (uart.effect_of offset write u.block)
 
 abbrev pub timer_accessed : ℕ → Option ℕ → Resettable TimerState → Resettable TimerState
-timer_accessed offset write t = unless_held_becomes t (timer_changes.effect_of offset write t.block)
+timer_accessed offset write t = unless_held_becomes t (timer.effect_of offset write t.block)
 
 abbrev pub bank_accessed : ℕ → Option ℕ → Bank → Bank
 bank_accessed offset write b = if nat_lt offset PADS_BANK0 then bank.effect_of offset write b else b

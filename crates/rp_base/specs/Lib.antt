@@ -2,4 +2,5 @@ pub mod Access
 pub mod Held
 pub mod Map
 pub mod Resettable
+pub mod Rows
 pub mod Word

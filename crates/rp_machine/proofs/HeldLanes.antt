@@ -1,5 +1,5 @@
 -- The PIO blocks and the peripherals keep their bits of RESETS in a cycle and in an access, and core 1 what its launcher has.
-use Rattle.std.proofs.Common.{◌≡◌, ◌+◌, ◌-◌, ◌/◌, ◌%◌, ◌^◌, ◌==◌, nat_lt, ℕ, Bool, true, false, if◌then◌else◌, Option, Some, None, List, [], ◌∷◌, refl}
+use Rattle.std.proofs.Common.{◌≡◌, ◌+◌, ◌-◌, ◌/◌, ◌%◌, ◌^◌, ◌==◌, nat_lt, ℕ, Bool, true, false, if◌then◌else◌, Option, Some, None, List, [], ◌∷◌, refl, rules}
 use Rattle.rp_base.specs.declared.Request.{Request}
 use Rattle.rp_base.specs.declared.op.Op.{Op}
 use Rattle.rp_base.specs.declared.map.Block.{Block}
@@ -13,9 +13,9 @@ use Rattle.pio_block.specs.Control.{control_written}
 use Rattle.pio_block.specs.Queues.{debug_written, sent, taken}
 use Rattle.pio_block.specs.Cycle as pio
 use Rattle.pio_block.specs.Words as words
-use Rattle.io_bank.specs.declared.registers.TheConstants.{GPIO0_STATUS, INTR0, PROC0_INTE0, PROC0_INTF0, PROC1_INTE0, PROC1_INTF0, PADS_BANK0, VOLTAGE_SELECT, PAD_GPIO0}
+use Rattle.rp_base.proofs.Rows.{keeps}
+use Rattle.io_bank.specs.declared.registers.TheConstants.{PADS_BANK0}
 use Rattle.io_bank.specs.State.{Bank, after_held}
-use Rattle.io_bank.specs.Interrupts.{cleared}
 use Rattle.io_bank.specs.Words as bank
 use Rattle.outer_lane.specs.Setting.{Setting}
 use Rattle.outer_lane.specs.declared.world.SeenOutputs.{SeenOutputs}
@@ -163,46 +163,8 @@ bank_way b false x y h k = k
 same_bank : (b : Bank) → SameBank b b
 same_bank b = record { bank = refl; pads = refl }
 
-five : (a b c d f : Bool) (o t u v w x b' : Bank) → SameBank o t → SameBank o u → SameBank o v → SameBank o w → SameBank o x → SameBank o b'
-    → SameBank o (if a then t else if b then u else if c then v else if d then w else if f then x else b')
-five true b c d f o t u v w x y ht hu hv hw hx hy = ht
-five false true c d f o t u v w x y ht hu hv hw hx hy = hu
-five false false true d f o t u v w x y ht hu hv hw hx hy = hv
-five false false false true f o t u v w x y ht hu hv hw hx hy = hw
-five false false false false true o t u v w x y ht hu hv hw hx hy = hx
-five false false false false false o t u v w x y ht hu hv hw hx hy = hy
-
-events_same : (first number w : ℕ) (b : Bank) → SameBank b (bank.events_written first number w b)
-events_same first number w b =
-    five (first == INTR0) (first == PROC0_INTE0) (first == PROC0_INTF0) (first == PROC1_INTE0) (first == PROC1_INTF0) b
-    (record b { latched = cleared number w b.latched b.fresh }) (record b { core0 = bank.with_enable number w b.core0 })
-    (record b { core0 = bank.with_force number w b.core0 }) (record b { core1 = bank.with_enable number w b.core1 })
-    (record b { core1 = bank.with_force number w b.core1 }) b
-    (record { bank = refl; pads = refl }) (record { bank = refl; pads = refl }) (record { bank = refl; pads = refl })
-    (record { bank = refl; pads = refl }) (record { bank = refl; pads = refl }) (same_bank b)
-
-pin_same : (offset w : ℕ) (b : Bank) → SameBank b (bank.pin_written offset w b)
-pin_same offset w b =
-    bank_way b (offset % 8 == GPIO0_STATUS) b (record b { controls = slice_set b.controls (offset / 8) (bit_and w 0x3331F) }) (same_bank b)
-    (record { bank = refl; pads = refl })
-
-pad_same : (offset w : ℕ) (b : Bank) → SameBank b (bank.pad_written offset w b)
-pad_same offset w b =
-    bank_way b (offset == VOLTAGE_SELECT) (record b { voltage = w })
-    (record b { pads = slice_set b.pads ((offset - PAD_GPIO0) / 4) (w % 2 ^ 8) }) (record { bank = refl; pads = refl })
-    (record { bank = refl; pads = refl })
-
-written_same : (offset w : ℕ) (b : Bank) → SameBank b (bank.after_write offset w b)
-written_same offset w b =
-    bank_way b (nat_lt offset INTR0) (bank.pin_written offset w b)
-    (if nat_lt offset PADS_BANK0 then bank.events_written (offset - offset % 16) (offset % 16 / 4) w b else bank.pad_written offset w b)
-    (pin_same offset w b)
-    (bank_way b (nat_lt offset PADS_BANK0) (bank.events_written (offset - offset % 16) (offset % 16 / 4) w b) (bank.pad_written offset w b)
-    (events_same (offset - offset % 16) (offset % 16 / 4) w b) (pad_same offset w b))
-
 any_same : (offset : ℕ) (write : Option ℕ) (b : Bank) → SameBank b (bank.after_any offset write b)
-any_same offset None b = same_bank b
-any_same offset (Some w) b = written_same offset w b
+any_same offset write b = keeps (SameBank b) bank.bank_rows offset write b (same_bank b) (search rules)
 
 effect_same : (offset : ℕ) (write : Option ℕ) (b : Bank) → SameBank b (bank.effect_of offset write b)
 effect_same offset write b =

@@ -1,10 +1,8 @@
 -- Laws of the timer: what its cycles come to.
 use Rattle.std.specs.Prelude.{◌≡◌, ℕ, zero, suc, ◌+◌, ◌-◌, ◌*◌, ◌/◌, ◌%◌, ◌^◌, ◌<◌, Bool, true, false, not, ◌&&◌, ◌||◌, ◌==◌, Option, Some, None, slice_index}
 use Rattle.rp_base.specs.Word.{has_bit}
-use Rattle.rp_timer.specs.declared.registers.TheConstants.{TIMEHR, TIMELR}
 use Rattle.rp_timer.specs.State.{TimerState, low_of, high_of}
-use Rattle.rp_timer.specs.Words.{word_of}
-use Rattle.rp_timer.specs.Changes.{effect_of}
+use Rattle.rp_timer.specs.Words.{word_of, effect_of, offset_of}
 use Rattle.rp_timer.specs.Step.{is_tick, risen, after_step}
 
 -- ---- the time
@@ -24,11 +22,11 @@ TimeCountsMicroseconds =
 
 -- a cycle in which TIMELR is read: the low word is that of the state at its start, and the high word is latched after the step
 abbrev pub after_low_read : ℕ → TimerState → TimerState
-after_low_read cycle s = effect_of TIMELR None (after_step cycle s)
+after_low_read cycle s = effect_of (offset_of "TIMELR") None (after_step cycle s)
 
 -- what TIMEHR reads as so many cycles after the one in which TIMELR was read
 abbrev pub high_after : ℕ → ℕ → TimerState → Option ℕ
-high_after cycle n s = word_of TIMEHR (after_cycles (cycle + 1) n (after_low_read cycle s))
+high_after cycle n s = word_of (offset_of "TIMEHR") (after_cycles (cycle + 1) n (after_low_read cycle s))
 
 -- the low word comes to its end in a cycle, and the high word rises
 abbrev pub carries : ℕ → TimerState → Bool
@@ -36,7 +34,7 @@ carries cycle s = (is_tick cycle && not s.paused) && low_of s.time == 2 ^ 32 - 1
 
 -- TIMELR, and TIMEHR any number of cycles after it, are the two words of one time
 pub record ReadsAsOne (cycle n : ℕ) (s : TimerState) : Type 0 where
-  pub low : word_of TIMELR s ≡ Some (low_of s.time)
+  pub low : word_of (offset_of "TIMELR") s ≡ Some (low_of s.time)
   pub high : high_after cycle n s ≡ Some (high_of s.time)
   pub whole : high_of s.time * 2 ^ 32 + low_of s.time ≡ s.time
 
@@ -46,7 +44,7 @@ TheTimeReadsAsOne =
 
 -- a read of TIMELR in the cycle of a carry: the low word is the last one, and the high word the next one
 pub record ReadsTorn (cycle n : ℕ) (s : TimerState) : Type 0 where
-  pub low : word_of TIMELR s ≡ Some (2 ^ 32 - 1)
+  pub low : word_of (offset_of "TIMELR") s ≡ Some (2 ^ 32 - 1)
   pub high : high_after cycle n s ≡ Some ((high_of s.time + 1) % 2 ^ 32)
 
 abbrev pub ACarryTearsTheRead : Type 0

@@ -1,4 +1,3 @@
-pub mod Changes
 pub mod Laws
 pub mod State
 pub mod Step

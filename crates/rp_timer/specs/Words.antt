@@ -1,41 +1,52 @@
--- The words of the timer by their offsets after 40054000, as they are read (RP2040 Datasheet, 4.6.5, List of Registers).
-use Rattle.std.specs.Prelude.{ℕ, ◌-◌, ◌/◌, ◌%◌, Bool, ◌||◌, ◌&&◌, ◌==◌, nat_le, nat_lt, if◌then◌else◌, Option, Some, None, slice_index, is_some}
-use Rattle.rp_base.specs.Word.{bit_number}
-use Rattle.rp_timer.specs.declared.registers.TheConstants.{TIMEHW, TIMELW, TIMEHR, TIMELR, ALARM0, ALARM3, ARMED, TIMERAWH, TIMERAWL, DBGPAUSE, PAUSE, INTR, INTE, INTF, INTS}
+-- The registers of the timer (RP2040 Datasheet, 4.6.5, List of Registers), by their offsets after 40054000.
+use Prim.Native.String.{String}
+use Rattle.std.specs.Prelude.{ℕ, ◌+◌, ◌*◌, ◌%◌, ◌^◌, Bool, List, [], ◌∷◌, Option, bit_or, slice_index, slice_set, ⊤}
+use Rattle.rp_base.specs.Rows.{Row, read_only, write_only, read_write, read_acts, repeated, word_at, has_row, effect_at, offset_in, IsListed, IsHeld}
+use Rattle.rp_base.specs.Word.{bit_number, has_bit, minus}
 use Rattle.rp_timer.specs.State.{TimerState, low_of, high_of, lines_of}
 
--- TIMEHW and TIMELW are written only; TIMEHR, TIMELR, RAWH and RAWL
-abbrev pub time_word : ℕ → TimerState → Option ℕ
-time_word offset s =
-    if offset == TIMEHW || offset == TIMELW then Some 0 else
-    if offset == TIMEHR then Some s.high else
-    if offset == TIMERAWH then Some (high_of s.time) else
-    if offset == TIMELR || offset == TIMERAWL then Some (low_of s.time) else None
+-- a write of an alarm arms it
+abbrev pub with_alarm : ℕ → ℕ → TimerState → TimerState
+with_alarm n w s = record s { alarms = slice_set s.alarms n w; armed = bit_or s.armed (2 ^ n) }
 
--- ALARM0 to ALARM3
-abbrev pub is_alarm : ℕ → Bool
-is_alarm offset = nat_le ALARM0 offset && (nat_le offset ALARM3 && offset % 4 == 0)
+-- TIMEHW sets the time, its low word to what was written to TIMELW; a read of TIMELR latches the high word for TIMEHR; a 1 written
+-- to ARMED disarms, and one to INTR clears
+abbrev pub timer_rows : List (Row ⊤ TimerState)
+timer_rows =
+    write_only 0x00 "TIMEHW" (λ w s. record s { time = w * 2 ^ 32 + s.low })
+    ∷ write_only 0x04 "TIMELW" (λ w s. record s { low = w })
+    ∷ read_only 0x08 "TIMEHR" (λ s. s.high)
+    ∷ read_acts 0x0c "TIMELR" (λ s. low_of s.time) (λ s. record s { high = high_of s.time })
+    ∷ repeated 4 4 (λ n. read_write 0x10 "ALARMn" (λ s. slice_index s.alarms n) (with_alarm n))
+    ∷ read_write 0x20 "ARMED" (λ s. s.armed) (λ w s. record s { armed = minus s.armed w })
+    ∷ read_only 0x24 "TIMERAWH" (λ s. high_of s.time)
+    ∷ read_only 0x28 "TIMERAWL" (λ s. low_of s.time)
+    ∷ read_write 0x2c "DBGPAUSE" (λ s. s.debug_pause) (λ w s. record s { debug_pause = w })
+    ∷ read_write 0x30 "PAUSE" (λ s. bit_number s.paused) (λ w s. record s { paused = has_bit w 0 })
+    ∷ read_write 0x34 "INTR" (λ s. s.raised) (λ w s. record s { raised = minus s.raised w })
+    ∷ read_write 0x38 "INTE" (λ s. s.enabled) (λ w s. record s { enabled = w % 2 ^ 4 })
+    ∷ read_write 0x3c "INTF" (λ s. s.forced) (λ w s. record s { forced = w % 2 ^ 4 })
+    ∷ read_only 0x40 "INTS" (λ s. lines_of s)
+    ∷ []
 
-abbrev pub alarm_number : ℕ → ℕ
-alarm_number offset = (offset - ALARM0) / 4
-
-abbrev pub alarm_word : ℕ → TimerState → Option ℕ
-alarm_word offset s = if is_alarm offset then Some (slice_index s.alarms (alarm_number offset)) else None
-
--- ARMED, DBGPAUSE, PAUSE, INTR, INTE, INTF and INTS
-abbrev pub control_word : ℕ → TimerState → Option ℕ
-control_word offset s =
-    if offset == ARMED then Some s.armed else
-    if offset == DBGPAUSE then Some s.debug_pause else
-    if offset == PAUSE then Some (bit_number s.paused) else
-    if offset == INTR then Some s.raised else
-    if offset == INTE then Some s.enabled else
-    if offset == INTF then Some s.forced else
-    if offset == INTS then Some (lines_of s) else time_word offset s
-
--- what a word reads as; None where there is none
+-- what a word reads as, that there is one, and what an access does
 abbrev pub word_of : ℕ → TimerState → Option ℕ
-word_of offset s = if nat_le ALARM0 offset && nat_lt offset ARMED then alarm_word offset s else control_word offset s
+word_of offset s = word_at timer_rows tt offset s
 
 abbrev pub is_word : ℕ → TimerState → Bool
-is_word offset s = is_some (word_of offset s)
+is_word offset s = has_row timer_rows offset
+
+abbrev pub effect_of : ℕ → Option ℕ → TimerState → TimerState
+effect_of offset write s = effect_at timer_rows offset write s
+
+-- the offset of a register by its name
+abbrev pub offset_of : String → ℕ
+offset_of name = offset_in timer_rows name
+
+-- each register is what stands at its offset, and nothing stands at any other
+abbrev pub EachRegisterIsAtItsOffset : Type 0
+EachRegisterIsAtItsOffset = IsListed timer_rows
+
+-- a timer that is held reads as 0, and stays as it is
+abbrev pub ATimerThatIsHeldIsStill : Type 0
+ATimerThatIsHeldIsStill = IsHeld timer_rows

@@ -1,6 +1,7 @@
 //! The laws of the timer, each the contract of a function without arguments.
 
 ghost use Rattle.rp_timer.specs.Laws.{TimeCountsMicroseconds, TheTimeReadsAsOne, ACarryTearsTheRead, AnAlarmGoesOffOnce};
+ghost use Rattle.rp_timer.specs.Words.{EachRegisterIsAtItsOffset, ATimerThatIsHeldIsStill};
 
 /// A timer that is not paused counts the microseconds that end, of 125 cycles each.
 pub fn time_counts_microseconds()
@@ -21,4 +22,14 @@ pub fn a_carry_tears_the_read()
 /// An armed alarm sets its interrupt when the low word of the time passes its word, and is armed until then.
 pub fn an_alarm_goes_off_once()
     ensures { AnAlarmGoesOffOnce }
+{}
+
+/// At the offset of each register stands that register, and nothing at any other.
+pub fn each_register_is_at_its_offset()
+    ensures { EachRegisterIsAtItsOffset }
+{}
+
+/// A timer that RESETS holds reads as 0 at each register, and no access changes it.
+pub fn a_timer_that_is_held_is_still()
+    ensures { ATimerThatIsHeldIsStill }
 {}

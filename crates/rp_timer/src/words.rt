@@ -1,12 +1,11 @@
 //! The registers, by their offsets.
 
-ghost use Rattle.std.specs.Prelude.{◌≡◌, ◌<◌, true};
-ghost use Rattle.rp_timer.specs.Words.{time_word, is_alarm, alarm_number, alarm_word, word_of, is_word};
-ghost use Rattle.rp_timer.specs.Changes.{after_read, control_written, after_write, effect_of};
+ghost use Rattle.std.specs.Prelude.{◌≡◌, ◌<◌, Some, None};
+ghost use Rattle.rp_timer.specs.Words.{with_alarm, word_of, is_word, effect_of};
 
 use crate::registers::{
-    ALARM0, ALARM3, ARMED, DBGPAUSE, INTE, INTF, INTR, INTS, PAUSE, TIMEHR, TIMEHW, TIMELR, TIMELW,
-    TIMERAWH, TIMERAWL,
+    ALARM0, ALARM1, ALARM2, ALARM3, ARMED, DBGPAUSE, INTE, INTF, INTR, INTS, PAUSE, TIMEHR, TIMEHW,
+    TIMELR, TIMELW, TIMERAWH, TIMERAWL,
 };
 use crate::timer::{Timer, high_of, low_of};
 use rp_base::Registers;
@@ -17,7 +16,14 @@ impl Timer {
         ensures { result ≡ word_of offset self.now }
     {
         match offset {
-            ALARM0..=ALARM3 => self.read_alarm(offset),
+            TIMEHW | TIMELW => Some(0),
+            TIMEHR => Some(self.high),
+            TIMERAWH => Some(high_of(self.time)),
+            TIMELR | TIMERAWL => Some(low_of(self.time)),
+            ALARM0 => Some(self.alarms[0]),
+            ALARM1 => Some(self.alarms[1]),
+            ALARM2 => Some(self.alarms[2]),
+            ALARM3 => Some(self.alarms[3]),
             ARMED => Some(self.armed),
             DBGPAUSE => Some(self.debug_pause),
             PAUSE => Some(u32::from(self.paused)),
@@ -25,31 +31,7 @@ impl Timer {
             INTE => Some(self.enabled),
             INTF => Some(self.forced),
             INTS => Some(self.lines()),
-            _ => self.read_time(offset),
-        }
-    }
-
-    /// The words of the time.
-    fn read_time(&self, offset: u16) -> Option<u32>
-        ensures { result ≡ time_word offset self.now }
-    {
-        match offset {
-            TIMEHW | TIMELW => Some(0),
-            TIMEHR => Some(self.high),
-            TIMERAWH => Some(high_of(self.time)),
-            TIMELR | TIMERAWL => Some(low_of(self.time)),
             _ => None,
-        }
-    }
-
-    /// ALARM0 to ALARM3.
-    fn read_alarm(&self, offset: u16) -> Option<u32>
-        ensures { result ≡ alarm_word offset self.now }
-    {
-        if is_alarm(offset) {
-            Some(self.alarms[alarm_number(offset)])
-        } else {
-            None
         }
     }
 
@@ -77,7 +59,7 @@ impl Timer {
 
     /// What a read does.
     fn after_read(&mut self, offset: u16)
-        ensures { self.new ≡ after_read offset self.old }
+        ensures { self.new ≡ effect_of offset None self.old }
     {
         if offset == TIMELR {
             self.high = high_of(self.time);
@@ -86,24 +68,15 @@ impl Timer {
 
     /// A write of a word.
     fn write(&mut self, offset: u16, word: u32)
-        ensures { self.new ≡ after_write offset word self.old }
-    {
-        if is_alarm(offset) {
-            let number = alarm_number(offset);
-            self.alarms[number] = word;
-            self.armed |= 1 << number;
-        } else {
-            self.write_control(offset, word);
-        }
-    }
-
-    /// A write of a word that is no alarm.
-    fn write_control(&mut self, offset: u16, word: u32)
-        ensures { self.new ≡ control_written offset word self.old }
+        ensures { self.new ≡ effect_of offset (Some word) self.old }
     {
         match offset {
             TIMEHW => self.time = u64::from(word) * 0x1_0000_0000 + u64::from(self.low),
             TIMELW => self.low = word,
+            ALARM0 => self.arm(0, word),
+            ALARM1 => self.arm(1, word),
+            ALARM2 => self.arm(2, word),
+            ALARM3 => self.arm(3, word),
             ARMED => self.armed &= !word,
             DBGPAUSE => self.debug_pause = word,
             PAUSE => self.paused = word & 1 == 1,
@@ -112,6 +85,15 @@ impl Timer {
             INTF => self.forced = word & 0xf,
             _ => {}
         }
+    }
+
+    /// A write of an alarm.
+    fn arm(&mut self, number: usize, word: u32)
+        requires { number < 4 }
+        ensures { self.new ≡ with_alarm number word self.old }
+    {
+        self.alarms[number] = word;
+        self.armed |= 1 << number;
     }
 }
 
@@ -133,20 +115,4 @@ impl Registers<()> for Timer {
     fn effect(&mut self, offset: u16, write: Option<u32>) -> bool {
         self.effect(offset, write)
     }
-}
-
-/// The offset of an alarm.
-fn is_alarm(offset: u16) -> bool
-    ensures { result ≡ is_alarm offset }
-{
-    ALARM0 <= offset && offset <= ALARM3 && offset % 4 == 0
-}
-
-/// The number of the alarm at an offset.
-fn alarm_number(offset: u16) -> usize
-    requires { is_alarm offset ≡ true }
-    ensures value { result ≡ alarm_number offset }
-    ensures range { result < 4 }
-{
-    (offset as usize - ALARM0 as usize) / 4
 }

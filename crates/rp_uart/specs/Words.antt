@@ -1,6 +1,7 @@
 -- The registers by their offsets, what they read as and what an access does (RP2040 Datasheet, 4.2, list of registers;
 -- PrimeCell UART PL011 Technical Reference Manual, DDI 0183, 3.3, register descriptions).
-use Rattle.std.specs.Prelude.{ℕ, ◌+◌, ◌*◌, ◌/◌, ◌%◌, ◌^◌, ◌==◌, Bool, true, false, ◌||◌, nat_lt, nat_le, if◌then◌else◌, [], ◌∷◌, ◌++◌, length, drop, Option, Some, None, slice_get, is_some, bit_and}
+use Rattle.std.specs.Prelude.{ℕ, ◌+◌, ◌*◌, ◌/◌, ◌%◌, ◌^◌, ◌==◌, Bool, true, false, ◌||◌, nat_lt, nat_le, if◌then◌else◌, List, [], ◌∷◌, ◌++◌, length, drop, Option, Some, None, slice_get, bit_and, ⊤}
+use Rattle.rp_base.specs.Rows.{Row, read_only, write_only, read_write, register, word_at, has_row, effect_at, IsListed}
 use Rattle.rp_base.specs.Word.{has_bit, bit_number}
 use Rattle.rp_uart.specs.declared.control.Control.{Control}
 use Rattle.rp_uart.specs.declared.control.Divisor.{Divisor}
@@ -10,7 +11,6 @@ use Rattle.rp_uart.specs.declared.frame.WordLength.{WordLength}
 use Rattle.rp_uart.specs.declared.frame.WordLength.TheVariants.{Five, Six, Seven, Eight}
 use Rattle.rp_uart.specs.declared.receiver.Errors.{Errors}
 use Rattle.rp_uart.specs.declared.receiver.Received.{Received}
-use Rattle.rp_uart.specs.declared.registers.TheConstants.{DR, RSR, FR, IBRD, FBRD, LCR_H, CR, IFLS, IMSC, RIS, MIS, ICR, DMACR}
 use Rattle.rp_uart.specs.declared.sender.Sender.{Sender}
 use Rattle.rp_uart.specs.declared.sender.Sender.TheVariants as senders
 use Rattle.rp_uart.specs.Interrupts.{depth_of, error_bits, masked, cleared, settled}
@@ -59,17 +59,6 @@ flags_of s =
     + bit_number (nat_le (depth_of s) (length s.to_send)) * 2 ^ 5 + bit_number (length s.received == 0) * 2 ^ 4
     + bit_number (is_busy s) * 2 ^ 3
 
-abbrev pub byte_word : SerialPort → ℕ → Option ℕ
-byte_word s offset =
-    if offset == DR then Some (received_word (slice_get s.received 0)) else
-    if offset == RSR then Some (error_bits (status_of s)) else
-    if offset == FR then Some (flags_of s) else None
-
-abbrev pub byte_written : ℕ → ℕ → SerialPort → SerialPort
-byte_written offset w s =
-    if offset == DR then after_giving (w % 2 ^ 8) s else
-    if offset == RSR then without_errors s else s
-
 -- ---- UARTIBRD, UARTFBRD, UARTLCR_H and UARTCR
 
 abbrev pub code_of : WordLength → ℕ
@@ -110,24 +99,16 @@ control_from w = record {
   receive = has_bit w 9;
 }
 
-abbrev pub line_word : SerialPort → ℕ → Option ℕ
-line_word s offset =
-    if offset == IBRD then Some s.divisor.integer else
-    if offset == FBRD then Some s.divisor.fraction else
-    if offset == LCR_H then Some (line_control_of s.line) else
-    if offset == CR then Some (control_of s.control) else None
-
 abbrev pub with_divisor : Divisor → SerialPort → SerialPort
 with_divisor divisor s = record s { divisor = divisor }
 
-abbrev pub line_written : ℕ → ℕ → SerialPort → SerialPort
-line_written offset w s =
-    if offset == IBRD then with_divisor (record s.divisor { integer = w % 2 ^ 16 }) s else
-    if offset == FBRD then with_divisor (record s.divisor { fraction = w % 2 ^ 6 }) s else
-    if offset == LCR_H then record s { line = line_control_from w } else
-    if offset == CR then record s { control = control_from w } else s
+abbrev pub with_integer : ℕ → SerialPort → SerialPort
+with_integer w s = with_divisor (record s.divisor { integer = w % 2 ^ 16 }) s
 
--- ---- UARTIFLS, UARTIMSC, UARTRIS, UARTMIS, UARTICR and UARTDMACR
+abbrev pub with_fraction : ℕ → SerialPort → SerialPort
+with_fraction w s = with_divisor (record s.divisor { fraction = w % 2 ^ 6 }) s
+
+-- ---- UARTDMACR
 
 abbrev pub dma_control_of : DmaControl → ℕ
 dma_control_of d = bit_number d.receive + bit_number d.transmit * 2
@@ -135,46 +116,40 @@ dma_control_of d = bit_number d.receive + bit_number d.transmit * 2
 abbrev pub dma_control_from : ℕ → DmaControl
 dma_control_from w = record { receive = has_bit w 0; transmit = has_bit w 1 }
 
-abbrev pub interrupt_word : SerialPort → ℕ → Option ℕ
-interrupt_word s offset =
-    if offset == IFLS then Some s.levels else
-    if offset == IMSC then Some s.mask else
-    if offset == RIS then Some s.raw else
-    if offset == MIS then Some (masked s) else
-    if offset == ICR then Some 0 else
-    if offset == DMACR then Some (dma_control_of s.dma) else None
+-- ---- all registers
 
 -- UARTICR clears the interrupts whose bits are 1
-abbrev pub interrupt_written : ℕ → ℕ → SerialPort → SerialPort
-interrupt_written offset w s =
-    if offset == IFLS then record s { levels = w % 2 ^ 6 } else
-    if offset == IMSC then record s { mask = bit_and w 0x7F0 } else
-    if offset == ICR then cleared w s else
-    if offset == DMACR then record s { dma = dma_control_from w } else s
-
--- ---- all words
+abbrev pub uart_rows : List (Row ⊤ SerialPort)
+uart_rows =
+    register 0x00 "UARTDR" (λ seen s. received_word (slice_get s.received 0)) (λ s. after_taking (slice_get s.received 0) s) (λ w s. after_giving (w % 2 ^ 8) s)
+    ∷ read_write 0x04 "UARTRSR" (λ s. error_bits (status_of s)) (λ w s. without_errors s)
+    ∷ read_only 0x18 "UARTFR" (λ s. flags_of s)
+    ∷ read_write 0x24 "UARTIBRD" (λ s. s.divisor.integer) (λ w s. with_integer w s)
+    ∷ read_write 0x28 "UARTFBRD" (λ s. s.divisor.fraction) (λ w s. with_fraction w s)
+    ∷ read_write 0x2c "UARTLCR_H" (λ s. line_control_of s.line) (λ w s. record s { line = line_control_from w })
+    ∷ read_write 0x30 "UARTCR" (λ s. control_of s.control) (λ w s. record s { control = control_from w })
+    ∷ read_write 0x34 "UARTIFLS" (λ s. s.levels) (λ w s. record s { levels = w % 2 ^ 6 })
+    ∷ read_write 0x38 "UARTIMSC" (λ s. s.mask) (λ w s. record s { mask = bit_and w 0x7F0 })
+    ∷ read_only 0x3c "UARTRIS" (λ s. s.raw)
+    ∷ read_only 0x40 "UARTMIS" (λ s. masked s)
+    ∷ write_only 0x44 "UARTICR" (λ w s. cleared w s)
+    ∷ read_write 0x48 "UARTDMACR" (λ s. dma_control_of s.dma) (λ w s. record s { dma = dma_control_from w })
+    ∷ []
 
 -- what a word reads as; None where there is none
 abbrev pub word_of : SerialPort → ℕ → Option ℕ
-word_of s offset =
-    if nat_lt offset IBRD then byte_word s offset else
-    if nat_lt offset IFLS then line_word s offset else interrupt_word s offset
+word_of s offset = word_at uart_rows tt offset s
 
 abbrev pub is_allowed : SerialPort → ℕ → Bool
-is_allowed s offset = is_some (word_of s offset)
-
-abbrev pub after_write : ℕ → ℕ → SerialPort → SerialPort
-after_write offset w s =
-    if nat_lt offset IBRD then byte_written offset w s else
-    if nat_lt offset IFLS then line_written offset w s else interrupt_written offset w s
-
-abbrev pub after_read : ℕ → SerialPort → SerialPort
-after_read offset s = if offset == DR then after_taking (slice_get s.received 0) s else s
+is_allowed s offset = has_row uart_rows offset
 
 abbrev pub after_access : ℕ → Option ℕ → SerialPort → SerialPort
-after_access offset None s = after_read offset s
-after_access offset (Some w) s = after_write offset w s
+after_access offset write s = effect_at uart_rows offset write s
 
 -- what a read or a write does; nothing where there is no such word
 unfoldable pub effect_of : ℕ → Option ℕ → SerialPort → SerialPort
 effect_of offset write s = if is_allowed s offset then settled (after_access offset write s) else s
+
+-- each register is what stands at its offset, and nothing stands at any other
+abbrev pub EachRegisterIsAtItsOffset : Type 0
+EachRegisterIsAtItsOffset = IsListed uart_rows

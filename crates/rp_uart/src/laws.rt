@@ -1,6 +1,7 @@
 //! The laws of frames, each the contract of a function without arguments.
 
 ghost use Rattle.rp_uart.specs.Laws.{WhatIsSentIsHeard, AFrameTakesItsTime, TheByteComesBack};
+ghost use Rattle.rp_uart.specs.Words.{EachRegisterIsAtItsOffset};
 
 /// A receiver that samples each bit of a frame, as a sender with the same parity and number of data bits sends it, hears the
 /// data bits of its byte, and no error.
@@ -17,4 +18,9 @@ pub fn a_frame_takes_its_time()
 /// A UART at rest with LBE that is given a byte to send has it in its receive FIFO, without an error, once its frame is over.
 pub fn the_byte_comes_back()
     ensures { TheByteComesBack }
+{}
+
+/// At the offset of each register stands that register, and nothing at any other.
+pub fn each_register_is_at_its_offset()
+    ensures { EachRegisterIsAtItsOffset }
 {}

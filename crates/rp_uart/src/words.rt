@@ -1,7 +1,7 @@
 //! The registers, by their offsets.
 
-ghost use Rattle.std.specs.Prelude.{◌≡◌, ◌≤◌, slice_get};
-ghost use Rattle.rp_uart.specs.Words.{received_word, status_of, after_taking, after_giving, is_busy, flags_of, byte_word, byte_written, code_of, width_of_code, line_control_of, line_control_from, control_of, control_from, line_word, line_written, dma_control_of, dma_control_from, interrupt_word, interrupt_written, word_of, is_allowed, after_write, after_read, effect_of};
+ghost use Rattle.std.specs.Prelude.{◌≡◌, ◌≤◌, Some, None, slice_get};
+ghost use Rattle.rp_uart.specs.Words.{received_word, status_of, after_taking, after_giving, without_errors, is_busy, flags_of, code_of, width_of_code, line_control_of, line_control_from, control_of, control_from, dma_control_of, dma_control_from, word_of, is_allowed, after_access, effect_of};
 
 use crate::control::{Control, DmaControl};
 use crate::frame::{LineControl, WordLength};
@@ -17,12 +17,21 @@ impl Uart {
     pub fn read(&self, offset: u16) -> Option<u32>
         ensures { result ≡ word_of self.now offset }
     {
-        if offset < IBRD {
-            self.read_byte(offset)
-        } else if offset < IFLS {
-            self.read_line(offset)
-        } else {
-            self.read_interrupts(offset)
+        match offset {
+            DR => Some(self.first_word()),
+            RSR => Some(self.status().bits()),
+            FR => Some(self.flags()),
+            IBRD => Some(u32::from(self.divisor.integer)),
+            FBRD => Some(u32::from(self.divisor.fraction)),
+            LCR_H => Some(self.line.word()),
+            CR => Some(self.control.word()),
+            IFLS => Some(u32::from(self.levels)),
+            IMSC => Some(self.mask),
+            RIS => Some(self.raw),
+            MIS => Some(self.raw & self.mask),
+            ICR => Some(0),
+            DMACR => Some(self.dma.word()),
+            _ => None,
         }
     }
 
@@ -53,20 +62,34 @@ impl Uart {
 
     /// A write of a word.
     fn write(&mut self, offset: u16, word: u32)
-        ensures { self.new ≡ after_write offset word self.old }
+        ensures { self.new ≡ after_access offset (Some word) self.old }
     {
-        if offset < IBRD {
-            self.write_byte(offset, word);
-        } else if offset < IFLS {
-            self.write_line(offset, word);
-        } else {
-            self.write_interrupts(offset, word);
+        match offset {
+            DR => self.give_byte((word & 0xff) as u8),
+            RSR => self.clear_errors(),
+            IBRD => self.divisor.integer = (word & 0xffff) as u16,
+            FBRD => self.divisor.fraction = (word & 0x3f) as u8,
+            LCR_H => self.line = LineControl::from_word(word),
+            CR => self.control = Control::from_word(word),
+            IFLS => self.levels = (word & 0x3f) as u8,
+            IMSC => self.mask = word & 0x7f0,
+            ICR => self.clear(word),
+            DMACR => self.dma = DmaControl::from_word(word),
+            _ => {}
         }
+    }
+
+    /// A write of UARTECR.
+    fn clear_errors(&mut self)
+        ensures { self.new ≡ without_errors self.old }
+    {
+        self.last = Errors::none();
+        self.overrun = false;
     }
 
     /// What a read does: UARTDR gives its oldest byte away.
     fn after_read(&mut self, offset: u16)
-        ensures { self.new ≡ after_read offset self.old }
+        ensures { self.new ≡ after_access offset None self.old }
     {
         if offset == DR {
             self.take_byte();
@@ -93,18 +116,6 @@ impl Uart {
     {
         if self.to_send.len() < self.depth() {
             self.to_send.push(byte);
-        }
-    }
-
-    /// UARTDR, UARTRSR and UARTFR.
-    fn read_byte(&self, offset: u16) -> Option<u32>
-        ensures { result ≡ byte_word self.now offset }
-    {
-        match offset {
-            DR => Some(self.first_word()),
-            RSR => Some(self.status().bits()),
-            FR => Some(self.flags()),
-            _ => None,
         }
     }
 
@@ -147,74 +158,6 @@ impl Uart {
         ensures { result ≡ is_busy self.now }
     {
         !self.to_send.is_empty() || matches!(self.sender, Sender::Frame(_))
-    }
-
-    /// A write of UARTDR or UARTECR.
-    fn write_byte(&mut self, offset: u16, word: u32)
-        ensures { self.new ≡ byte_written offset word self.old }
-    {
-        match offset {
-            DR => self.give_byte((word & 0xff) as u8),
-            RSR => {
-                self.last = Errors::none();
-                self.overrun = false;
-            }
-            _ => {}
-        }
-    }
-
-    /// UARTIBRD, UARTFBRD, UARTLCR_H and UARTCR.
-    fn read_line(&self, offset: u16) -> Option<u32>
-        ensures { result ≡ line_word self.now offset }
-    {
-        match offset {
-            IBRD => Some(u32::from(self.divisor.integer)),
-            FBRD => Some(u32::from(self.divisor.fraction)),
-            LCR_H => Some(self.line.word()),
-            CR => Some(self.control.word()),
-            _ => None,
-        }
-    }
-
-    /// A write of UARTIBRD, UARTFBRD, UARTLCR_H or UARTCR.
-    fn write_line(&mut self, offset: u16, word: u32)
-        ensures { self.new ≡ line_written offset word self.old }
-    {
-        match offset {
-            IBRD => self.divisor.integer = (word & 0xffff) as u16,
-            FBRD => self.divisor.fraction = (word & 0x3f) as u8,
-            LCR_H => self.line = LineControl::from_word(word),
-            CR => self.control = Control::from_word(word),
-            _ => {}
-        }
-    }
-
-    /// UARTIFLS, UARTIMSC, UARTRIS, UARTMIS, UARTICR and UARTDMACR.
-    fn read_interrupts(&self, offset: u16) -> Option<u32>
-        ensures { result ≡ interrupt_word self.now offset }
-    {
-        match offset {
-            IFLS => Some(u32::from(self.levels)),
-            IMSC => Some(self.mask),
-            RIS => Some(self.raw),
-            MIS => Some(self.raw & self.mask),
-            ICR => Some(0),
-            DMACR => Some(self.dma.word()),
-            _ => None,
-        }
-    }
-
-    /// A write of UARTIFLS, UARTIMSC, UARTICR or UARTDMACR.
-    fn write_interrupts(&mut self, offset: u16, word: u32)
-        ensures { self.new ≡ interrupt_written offset word self.old }
-    {
-        match offset {
-            IFLS => self.levels = (word & 0x3f) as u8,
-            IMSC => self.mask = word & 0x7f0,
-            ICR => self.clear(word),
-            DMACR => self.dma = DmaControl::from_word(word),
-            _ => {}
-        }
     }
 }
 

@@ -1,11 +1,12 @@
 -- The levels that a cycle marks are those of the pads after it: what is done in the cycle leaves them.
-use Rattle.std.proofs.Common.{◌≡◌, ◌+◌, ◌-◌, ◌==◌, ◌/◌, ◌%◌, ◌^◌, ℕ, Bool, true, false, nat_lt, if◌then◌else◌, List, [], ◌∷◌, Option, Some, None, refl, ◌∙◌}
+use Rattle.std.proofs.Common.{◌≡◌, ◌+◌, ◌-◌, ◌==◌, ◌/◌, ◌%◌, ◌^◌, ℕ, Bool, true, false, nat_lt, if◌then◌else◌, List, [], ◌∷◌, Option, Some, None, refl, ◌∙◌, rules}
 use Rattle.rp_base.specs.declared.Master.{Master}
 use Rattle.rp_base.specs.declared.Master.TheVariants as master
 use Rattle.rp_base.specs.declared.map.Block.{Block}
 use Rattle.rp_base.specs.declared.map.Block.TheVariants as block
 use Rattle.bus_fabric.specs.Masters.{masters}
-use Rattle.io_bank.specs.declared.registers.TheConstants.{GPIO0_STATUS, INTR0, PROC0_INTE0, PROC0_INTF0, PROC1_INTE0, PROC1_INTF0, PADS_BANK0, VOLTAGE_SELECT}
+use Rattle.rp_base.proofs.Rows.{keeps}
+use Rattle.io_bank.specs.declared.registers.TheConstants.{PADS_BANK0}
 use Rattle.io_bank.specs.State.{Bank, with_bank_held, with_pads_held, after_held}
 use Rattle.io_bank.specs.Words as bank
 use Rattle.outer_lane.specs.Setting.{Setting}
@@ -49,27 +50,8 @@ pads_same false b = refl
 held_same : (first second : Bool) (b : Bank) → current (after_held first second b) ≡ current b
 held_same first second b = pads_same second (with_bank_held first b) ∙ bank_same first b
 
-pin_same : (offset w : ℕ) (b : Bank) → current (bank.pin_written offset w b) ≡ current b
-pin_same offset w b = either current (offset % 8 == GPIO0_STATUS) _ _ b refl refl
-
-events_same : (first number w : ℕ) (b : Bank) → current (bank.events_written first number w b) ≡ current b
-events_same first number w b =
-    either current (first == INTR0) _ _ b refl
-    (either current (first == PROC0_INTE0) _ _ b refl
-    (either current (first == PROC0_INTF0) _ _ b refl
-    (either current (first == PROC1_INTE0) _ _ b refl (either current (first == PROC1_INTF0) _ _ b refl refl))))
-
-pad_same : (offset w : ℕ) (b : Bank) → current (bank.pad_written offset w b) ≡ current b
-pad_same offset w b = either current (offset == VOLTAGE_SELECT) _ _ b refl refl
-
-written_same : (offset w : ℕ) (b : Bank) → current (bank.after_write offset w b) ≡ current b
-written_same offset w b =
-    either current (nat_lt offset INTR0) _ _ b (pin_same offset w b)
-    (either current (nat_lt offset PADS_BANK0) _ _ b (events_same (offset - offset % 16) (offset % 16 / 4) w b) (pad_same offset w b))
-
 any_same : (offset : ℕ) (write : Option ℕ) (b : Bank) → current (bank.after_any offset write b) ≡ current b
-any_same offset None b = refl
-any_same offset (Some w) b = written_same offset w b
+any_same offset write b = keeps (λ c. current c ≡ current b) bank.bank_rows offset write b refl (search rules)
 
 effect_same : (offset : ℕ) (write : Option ℕ) (b : Bank) → current (bank.effect_of offset write b) ≡ current b
 effect_same offset write b =
