@@ -1,7 +1,7 @@
 -- BUSCTRL: the words of the fabric by their offsets, what they read as and what a write does (RP2040 Datasheet, 2.1.5, List of
 -- Registers). No bit of RESETS holds them.
 use Rattle.std.specs.Prelude.{ℕ, Bool, ◌==◌, if◌then◌else◌, Option, Some, None, is_some}
-use Rattle.bus_fabric.specs.declared.registers.TheConstants.{BUS_PRIORITY, BUS_PRIORITY_ACK}
+use Rattle.bus_fabric.specs.Offsets.{BUS_PRIORITY, BUS_PRIORITY_ACK}
 use Rattle.bus_fabric.specs.State.{Crossbar, with_priority}
 
 -- BUS_PRIORITY, and BUS_PRIORITY_ACK, which reads 1; None where there is no such word

@@ -5,6 +5,7 @@ pub mod Choice
 pub mod Control
 pub mod Cycle
 pub mod Laws
+pub mod Offsets
 pub mod Pace
 pub mod Paused
 pub mod Rest

@@ -4,7 +4,7 @@ use Rattle.std.specs.Prelude.{ℕ, ◌+◌, ◌-◌, ◌*◌, ◌/◌, ◌%◌, 
 use Rattle.rp_base.specs.Word.{has_bit, bit_number}
 use Rattle.rp_base.specs.Held.{unless_held, after_access}
 use Rattle.dma_engine.specs.declared.channel.Channel.{Channel}
-use Rattle.dma_engine.specs.declared.registers.TheConstants.{INTR, INTE0, INTF0, INTS0, INTE1, INTF1, INTS1, TIMER0, MULTI_CHAN_TRIGGER, CHAN_ABORT, N_CHANNELS}
+use Rattle.dma_engine.specs.Offsets.{INTR, INTE0, INTF0, INTS0, INTE1, INTF1, INTS1, TIMER0, MULTI_CHAN_TRIGGER, CHAN_ABORT, N_CHANNELS}
 use Rattle.dma_engine.specs.declared.registers.Register.{Register}
 use Rattle.dma_engine.specs.declared.registers.Register.TheVariants.{ReadAddress, WriteAddress, Count, Control}
 use Rattle.dma_engine.specs.declared.timer.PacingTimer.{PacingTimer}

@@ -1,9 +1,10 @@
+pub mod Driven
 pub mod Edges
 pub mod Interrupts
 pub mod Levels
+pub mod Offsets
 pub mod Pins
 pub mod Routes
 pub mod State
 pub mod Step
 pub mod Words
-pub mod Driven

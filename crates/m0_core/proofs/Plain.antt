@@ -12,7 +12,7 @@ use Rattle.m0_beats.specs.declared.timing.Beat.TheVariants.{Inner}
 use Rattle.m0_beats.specs.Beats.{beats_of, inner, is_unaligned_beat, is_unaligned_of}
 use Rattle.m0_beats.specs.Conditions.{condition_holds}
 use Rattle.m0_beats.specs.Effects.{effect_of, return_of}
-use Rattle.m0_nvic.specs.declared.numbers.TheConstants.{SVCALL}
+use Rattle.m0_nvic.specs.Exceptions.{SVCALL}
 use Rattle.m0_nvic.specs.Changes.{pended}
 use Rattle.lane_look.specs.Asking.Asking.{Ready}
 use Rattle.m0_core.specs.declared.doing.Act.TheVariants as act

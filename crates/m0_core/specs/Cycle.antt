@@ -6,7 +6,7 @@ use Rattle.rp_base.specs.declared.Request.{Request}
 use Rattle.rp_base.specs.declared.op.Op.{Op}
 use Rattle.m0_beats.specs.Beats.{beats_of}
 use Rattle.m0_beats.specs.Effects.{effect_of, return_of}
-use Rattle.m0_nvic.specs.declared.numbers.TheConstants.{HARDFAULT, SVCALL}
+use Rattle.m0_nvic.specs.Exceptions.{HARDFAULT, SVCALL}
 use Rattle.m0_nvic.specs.State.{Exceptions}
 use Rattle.m0_nvic.specs.Changes.{pended}
 use Rattle.m0_nvic.specs.Priority.{wakes_of}
@@ -20,7 +20,7 @@ use Rattle.m0_core.specs.declared.doing.Act.TheVariants as act
 use Rattle.m0_core.specs.declared.doing.Work.{Work}
 use Rattle.m0_core.specs.declared.doing.Work.TheVariants as works
 use Rattle.m0_core.specs.declared.doing.Doing.{Doing}
-use Rattle.m0_core.specs.declared.exceptions.TheConstants.{ENTRY_BEATS, RETURN_BEATS}
+use Rattle.m0_core.specs.ExcReturn.{ENTRY_BEATS, RETURN_BEATS}
 use Rattle.m0_core.specs.Kinds.{is_signal, awaits_event, awaits_interrupt, is_call}
 use Rattle.m0_core.specs.Entry.{taken_first, entry_ended}
 use Rattle.m0_core.specs.Return.{return_ended}

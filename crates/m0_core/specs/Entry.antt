@@ -10,7 +10,7 @@ use Rattle.m0_beats.specs.Beats.{access}
 use Rattle.m0_beats.specs.Registers.{is_thread, sp_of, with_sp, xpsr_of}
 use Rattle.m0_nvic.specs.State.{Exceptions}
 use Rattle.m0_nvic.specs.Changes.{entered}
-use Rattle.m0_core.specs.declared.exceptions.TheConstants.{TO_HANDLER, TO_MAIN, TO_PROCESS}
+use Rattle.m0_core.specs.ExcReturn.{TO_HANDLER, TO_MAIN, TO_PROCESS}
 use Rattle.m0_core.specs.State.{State}
 
 -- the frame is below the active stack and a multiple of 8

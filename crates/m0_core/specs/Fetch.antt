@@ -15,7 +15,7 @@ use Rattle.thumb_rows.specs.Rows.{begins_long, operation_of}
 use Rattle.m0_beats.specs.declared.timing.Beat.{Beat}
 use Rattle.m0_beats.specs.declared.timing.Beat.TheVariants.{Inner, Access}
 use Rattle.m0_beats.specs.Beats.{beats_of, is_unaligned_of}
-use Rattle.m0_nvic.specs.declared.numbers.TheConstants.{SVCALL}
+use Rattle.m0_nvic.specs.Exceptions.{SVCALL}
 use Rattle.m0_nvic.specs.Priority.{best_of, priority_of, comes_before, rank_of}
 use Rattle.m0_nvic.specs.Words.{is_allowed}
 use Rattle.lane_look.specs.declared.lane.Ask.TheVariants.{Lines, Half, Word}
@@ -26,7 +26,7 @@ use Rattle.m0_core.specs.declared.doing.Act.TheVariants as act
 use Rattle.m0_core.specs.declared.doing.Work.{Work}
 use Rattle.m0_core.specs.declared.doing.Work.TheVariants as works
 use Rattle.m0_core.specs.declared.doing.Doing.{Doing}
-use Rattle.m0_core.specs.declared.exceptions.TheConstants.{RETURN_BEATS}
+use Rattle.m0_core.specs.ExcReturn.{RETURN_BEATS}
 use Rattle.m0_core.specs.Kinds.{is_breakpoint, is_call, is_undefined}
 use Rattle.m0_core.specs.Entry.{entry_beat}
 use Rattle.m0_core.specs.Return.{return_beat, is_bad, is_misfit}

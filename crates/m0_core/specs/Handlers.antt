@@ -7,7 +7,7 @@ use Rattle.m0_beats.specs.declared.registers.Regs.{Regs}
 use Rattle.m0_beats.specs.declared.timing.Beat.{Beat}
 use Rattle.m0_beats.specs.declared.timing.Beat.TheVariants.{Inner, Access}
 use Rattle.m0_beats.specs.Registers.{is_thread, sp_of}
-use Rattle.m0_nvic.specs.declared.numbers.TheConstants.{INTERRUPT_0}
+use Rattle.m0_nvic.specs.Exceptions.{INTERRUPT_0}
 use Rattle.m0_nvic.specs.State.{Exceptions}
 use Rattle.m0_nvic.specs.Numbers.{numbers_from, is_member}
 use Rattle.m0_nvic.specs.Changes.{entered, left}
@@ -18,7 +18,7 @@ use Rattle.lane_look.specs.declared.lane.Want.{Want}
 use Rattle.lane_look.specs.declared.lane.Want.TheVariants as want
 use Rattle.m0_core.specs.declared.doing.Work.{Work}
 use Rattle.m0_core.specs.declared.doing.Work.TheVariants as works
-use Rattle.m0_core.specs.declared.exceptions.TheConstants.{ENTRY_BEATS, RETURN_BEATS}
+use Rattle.m0_core.specs.ExcReturn.{ENTRY_BEATS, RETURN_BEATS}
 use Rattle.m0_core.specs.Entry.{entry_frame, vector_address, entry_beat, with_entry}
 use Rattle.m0_core.specs.Return.{return_frame, return_beat, is_bad, is_misfit, with_return}
 use Rattle.m0_core.specs.Fetch.{is_ram, taken_of}

@@ -2,7 +2,7 @@
 -- and B3.4.1, level-sensitive and pulse interrupts; RP2040 Datasheet, 4.7.2, Tick Generation).
 use Rattle.std.specs.Prelude.{ℕ, ◌+◌, ◌-◌, ◌%◌, Bool, true, false, ◌||◌, ◌&&◌, ◌==◌, if◌then◌else◌, bit_and}
 use Rattle.rp_base.specs.Word.{has_bit}
-use Rattle.m0_nvic.specs.declared.numbers.TheConstants.{SYSTICK}
+use Rattle.m0_nvic.specs.Exceptions.{SYSTICK}
 use Rattle.m0_nvic.specs.declared.systick.SysTick.{SysTick}
 use Rattle.m0_nvic.specs.State.{Exceptions}
 use Rattle.m0_nvic.specs.Numbers.{minus, of_interrupts}

@@ -2,7 +2,7 @@
 -- leaves (B3.4.1).
 use Rattle.std.specs.Prelude.{◌≡◌, ℕ, ◌+◌, ◌^◌, ◌<◌, Bool, true, false, ◌⊎◌, ℤ, pos, int_lt, List, [], ◌∷◌, length}
 use Rattle.rp_base.specs.Word.{has_bit}
-use Rattle.m0_nvic.specs.declared.numbers.TheConstants.{INTERRUPT_0}
+use Rattle.m0_nvic.specs.Exceptions.{INTERRUPT_0}
 use Rattle.m0_nvic.specs.State.{Exceptions}
 use Rattle.m0_nvic.specs.Numbers.{is_member}
 use Rattle.m0_nvic.specs.Priority.{rank_of, priority_of}

@@ -1,7 +1,9 @@
 pub mod Changes
 pub mod Cycle
+pub mod Exceptions
 pub mod Laws
 pub mod Numbers
+pub mod Offsets
 pub mod Priority
 pub mod State
 pub mod Words

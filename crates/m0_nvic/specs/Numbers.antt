@@ -2,7 +2,7 @@
 -- and B3.4, the NVIC registers with one bit for each interrupt).
 use Rattle.std.specs.Prelude.{ℕ, zero, suc, ◌+◌, ◌-◌, ◌*◌, ◌/◌, ◌%◌, ◌^◌, Bool, ◌&&◌, nat_lt, List, [], ◌∷◌, bit_and, filter}
 use Rattle.rp_base.specs.Word.{has_bit}
-use Rattle.m0_nvic.specs.declared.numbers.TheConstants.{NUMBERS}
+use Rattle.m0_nvic.specs.Exceptions.{NUMBERS}
 
 -- there are 48 exception numbers: 16 of the system and 32 interrupts
 abbrev pub is_number : ℕ → Bool

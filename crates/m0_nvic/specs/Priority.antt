@@ -2,7 +2,7 @@
 use Rattle.std.specs.Prelude.{◌≡◌, ℕ, Bool, true, false, ◌||◌, ◌&&◌, ◌==◌, nat_lt, ℤ, pos, negsuc, int_lt, if◌then◌else◌, List, [], ◌∷◌, Option, Some, None, bit_and, slice_index}
 use Rattle.std.specs.Int.{int_min}
 use Rattle.std.specs.Ordering.{int_eq}
-use Rattle.m0_nvic.specs.declared.numbers.TheConstants.{NMI, HARDFAULT}
+use Rattle.m0_nvic.specs.Exceptions.{NMI, HARDFAULT}
 use Rattle.m0_nvic.specs.State.{Exceptions}
 use Rattle.m0_nvic.specs.Numbers.{members, is_member}
 

@@ -1,7 +1,7 @@
 -- The exceptions of a core as sets (ARMv6-M Architecture Reference Manual, B1.5.2 and B3.4): an exception has a number,
 -- Reset 1, NMI 2, HardFault 3, SVCall 11, PendSV 14, SysTick 15, and 16 + n for interrupt n.
 use Rattle.std.specs.Prelude.{ℕ, ◌+◌, ◌^◌, Bool, false, List, replicate}
-use Rattle.m0_nvic.specs.declared.numbers.TheConstants.{NMI, HARDFAULT, SVCALL, PENDSV, SYSTICK}
+use Rattle.m0_nvic.specs.Exceptions.{NMI, HARDFAULT, SVCALL, PENDSV, SYSTICK}
 use Rattle.m0_nvic.specs.declared.systick.SysTick.{SysTick}
 
 -- a set of exceptions is a number whose bit n tells whether exception n is in it

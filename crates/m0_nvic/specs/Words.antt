@@ -3,8 +3,8 @@
 use Rattle.std.specs.Prelude.{ℕ, ◌+◌, ◌-◌, ◌*◌, ◌/◌, ◌%◌, ◌^◌, Bool, false, not, ◌&&◌, ◌==◌, nat_lt, nat_le, if◌then◌else◌, List, Option, Some, None, bit_and, bit_or, slice_index, slice_set, is_some}
 use Rattle.rp_base.specs.Word.{has_bit, bit_number}
 use Rattle.rp_base.specs.Word.{byte_of}
-use Rattle.m0_nvic.specs.declared.numbers.TheConstants.{NMI, SVCALL, PENDSV, SYSTICK, INTERRUPT_0}
-use Rattle.m0_nvic.specs.declared.registers.TheConstants.{SYST_CSR, SYST_RVR, SYST_CVR, SYST_CALIB, NVIC_ISER, NVIC_ICER, NVIC_ISPR, NVIC_ICPR, NVIC_IPR0, NVIC_IPR7, CPUID, ICSR, VTOR, AIRCR, SCR, CCR, SHPR2, SHPR3}
+use Rattle.m0_nvic.specs.Exceptions.{NMI, SVCALL, PENDSV, SYSTICK, INTERRUPT_0}
+use Rattle.m0_nvic.specs.Offsets.{SYST_CSR, SYST_RVR, SYST_CVR, SYST_CALIB, NVIC_ISER, NVIC_ICER, NVIC_ISPR, NVIC_ICPR, NVIC_IPR0, NVIC_IPR7, CPUID, ICSR, VTOR, AIRCR, SCR, CCR, SHPR2, SHPR3}
 use Rattle.m0_nvic.specs.declared.systick.SysTick.{SysTick}
 use Rattle.m0_nvic.specs.State.{Exceptions}
 use Rattle.m0_nvic.specs.Numbers.{is_member, minus, interrupts, of_interrupts}

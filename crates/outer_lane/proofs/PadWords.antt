@@ -3,7 +3,7 @@ use Rattle.std.proofs.Common.{◌≡◌, ℕ, ◌+◌, ◌-◌, ◌<◌, true, f
 use Rattle.std.specs.Prelude.{nat_lt}
 use Rattle.rp_base.proofs.Rows.{none_above}
 use Rattle.std.proofs.lemmas.Bool.Decides.{nat_tests}
-use Rattle.io_bank.specs.declared.registers.TheConstants.{PADS_BANK0, PAD_GPIO29}
+use Rattle.io_bank.specs.Offsets.{PADS_BANK0, PAD_GPIO29}
 use Rattle.io_bank.specs.Words.{is_word, bank_rows}
 
 above : (offset : ℕ) → PAD_GPIO29 - PADS_BANK0 < offset → nat_lt (PADS_BANK0 + offset) 0x1079 ≡ false

@@ -2,7 +2,7 @@
 -- 2.19, GPIO, 4.2, UART, and 4.6, Timer; the device is the project's own).
 use Rattle.std.specs.Prelude.{ℕ, List, [], ◌∷◌, replicate}
 use Rattle.rp_base.specs.Word.{has_bit}
-use Rattle.rp_base.specs.declared.resets.TheConstants.{IO_BANK0, PADS_BANK0, TIMER, UART0, UART1}
+use Rattle.rp_base.specs.ResetBits.{IO_BANK0, PADS_BANK0, TIMER, UART0, UART1}
 use Rattle.rp_base.specs.declared.resettable.Resettable.{Resettable}
 use Rattle.rp_base.specs.Resettable.{let_go, with_held}
 use Rattle.lane_look.specs.Device.{DeviceMeaning}

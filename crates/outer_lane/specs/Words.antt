@@ -7,7 +7,7 @@ use Rattle.rp_base.specs.declared.resettable.Resettable.{Resettable}
 use Rattle.rp_base.specs.Held.{unless_held}
 use Rattle.rp_base.specs.Resettable.{unless_held_becomes}
 use Rattle.io_bank.specs.declared.outputs.Outs.{Outs}
-use Rattle.io_bank.specs.declared.registers.TheConstants.{PADS_BANK0}
+use Rattle.io_bank.specs.Offsets.{PADS_BANK0}
 use Rattle.io_bank.specs.State.{Bank}
 use Rattle.io_bank.specs.Words as bank
 use Rattle.rp_uart.specs.State.{SerialPort}

@@ -3,7 +3,7 @@
 ghost use Rattle.std.specs.Prelude.{◌≡◌, ◌+◌, true};
 ghost use Rattle.rp_base.specs.Held.{unless_held};
 ghost use Rattle.rp_base.specs.Resettable.{unless_held_becomes};
-ghost use Rattle.io_bank.specs.declared.registers.TheConstants.{PADS_BANK0};
+ghost use Rattle.io_bank.specs.Offsets.{PADS_BANK0};
 ghost use Rattle.io_bank.specs.Words.{effect_of};
 ghost use Rattle.rp_uart.specs.Step.{output_of};
 ghost use Rattle.outer_lane.specs.Words.{bank_accessed, uart_accessed};
@@ -24,7 +24,7 @@ const LAST_PAD: u16 = PAD_GPIO29 - PADS_BANK0;
 
 impl Outer {
     ghost use Rattle.std.specs.Prelude.{◌≡◌, ◌+◌};
-    ghost use Rattle.io_bank.specs.declared.registers.TheConstants.{PADS_BANK0};
+    ghost use Rattle.io_bank.specs.Offsets.{PADS_BANK0};
     ghost use Rattle.outer_lane.specs.Setting.{setting_of};
     ghost use Rattle.outer_lane.specs.Step.{wires_of};
     ghost use Rattle.outer_lane.specs.Words.{outs_now, pads_word, bank_word, outer_word, outer_allowed, outer_accessed};

@@ -9,7 +9,7 @@ use Rattle.pio_machine.specs.Start as machine
 use Rattle.pio_machine.specs.Clock.{IsWithin}
 use Rattle.pio_machine.specs.Cycle as cycle
 use Rattle.pio_machine.proofs.Clock.{a_cycle_keeps_the_fifos_within}
-use Rattle.pio_block.specs.declared.registers.TheConstants.{CTRL, FDEBUG, TXF0, RXF0, IRQ, IRQ_FORCE, INPUT_SYNC_BYPASS, INSTR_MEM0, SM0_CLKDIV, INTR, IRQ0_INTE, IRQ0_INTF, IRQ1_INTE, IRQ1_INTF, SM_CLKDIV, SM_EXECCTRL, SM_SHIFTCTRL, SM_INSTR, SM_PINCTRL}
+use Rattle.pio_block.specs.Offsets.{CTRL, FDEBUG, TXF0, RXF0, IRQ, IRQ_FORCE, INPUT_SYNC_BYPASS, INSTR_MEM0, SM0_CLKDIV, INTR, IRQ0_INTE, IRQ0_INTF, IRQ1_INTE, IRQ1_INTF, SM_CLKDIV, SM_EXECCTRL, SM_SHIFTCTRL, SM_INSTR, SM_PINCTRL}
 use Rattle.pio_block.specs.State.{Block, at_reset, with_held, changed, each_from}
 use Rattle.pio_block.specs.Control.{restarted_if, with_divider_restarted, with_enable, controlled, control_written}
 use Rattle.pio_block.specs.Queues.{with_stalls_cleared, debug_written, with_sent, sent, with_rx, with_taken, taken}

@@ -1,9 +1,10 @@
-pub mod State
+pub mod Bounds
 pub mod Control
+pub mod Cycle
+pub mod Laws
+pub mod Offsets
 pub mod Queues
 pub mod Registers
-pub mod Words
+pub mod State
 pub mod Told
-pub mod Cycle
-pub mod Bounds
-pub mod Laws
+pub mod Words

@@ -4,7 +4,7 @@ use Rattle.std.specs.Prelude.{ℕ, ◌*◌, ◌/◌, ◌%◌, ◌^◌, ◌==◌,
 use Rattle.rp_base.specs.Word.{bit_number}
 use Rattle.pio_machine.specs.declared.machine.Machine1.{Machine1}
 use Rattle.pio_machine.specs.Progress.{forced}
-use Rattle.pio_block.specs.declared.registers.TheConstants.{SM_CLKDIV, SM_EXECCTRL, SM_SHIFTCTRL, SM_ADDR, SM_INSTR, SM_PINCTRL}
+use Rattle.pio_block.specs.Offsets.{SM_CLKDIV, SM_EXECCTRL, SM_SHIFTCTRL, SM_ADDR, SM_INSTR, SM_PINCTRL}
 use Rattle.pio_block.specs.State.{is_written}
 
 -- EXEC_STALLED tells that a word that was written to INSTR waits

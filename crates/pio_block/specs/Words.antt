@@ -5,7 +5,7 @@ use Rattle.rp_base.specs.Held.{unless_held, after_access}
 use Rattle.pio_machine.specs.Fields.{is_tx_full, tx_depth}
 use Rattle.pio_machine.specs.declared.machine.Machine1.{Machine1}
 use Rattle.pio_machine.specs.Operation.{with_pc}
-use Rattle.pio_block.specs.declared.registers.TheConstants.{CTRL, FSTAT, FDEBUG, TXF0, RXF0, IRQ, IRQ_FORCE, INPUT_SYNC_BYPASS, DBG_PADOUT, DBG_PADOE, INSTR_MEM0, SM0_CLKDIV, INTR, IRQ0_INTE, IRQ0_INTF, IRQ0_INTS, IRQ1_INTE, IRQ1_INTF, END, SM_BYTES, SM_EXECCTRL}
+use Rattle.pio_block.specs.Offsets.{CTRL, FSTAT, FDEBUG, TXF0, RXF0, IRQ, IRQ_FORCE, INPUT_SYNC_BYPASS, DBG_PADOUT, DBG_PADOE, INSTR_MEM0, SM0_CLKDIV, INTR, IRQ0_INTE, IRQ0_INTF, IRQ0_INTS, IRQ1_INTE, IRQ1_INTF, END, SM_BYTES, SM_EXECCTRL}
 use Rattle.pio_block.specs.State.{Block, machine_of, changed, with_machines, without, is_busy}
 use Rattle.pio_block.specs.Control.{ctrl_of, control_written}
 use Rattle.pio_block.specs.Queues.{bits_of, fstat_of, fdebug_of, flevel_of, is_rx_empty, first_of, debug_written, sent, taken}

@@ -1,7 +1,7 @@
 //! The words of a block by their offsets.
 
 ghost use Rattle.std.specs.Prelude.{◌≡◌, ◌<◌, ◌≤◌, ◌+◌, ◌*◌, ◌^◌};
-ghost use Rattle.pio_block.specs.declared.registers.TheConstants.{SM0_CLKDIV, INTR};
+ghost use Rattle.pio_block.specs.Offsets.{SM0_CLKDIV, INTR};
 ghost use Rattle.pio_block.specs.Words.{fifo_number, is_rxf, register_number, register_offset, is_word, sets_left_out, is_allowed};
 
 use crate::machine::register;
@@ -19,7 +19,7 @@ const PINS: u32 = 0x3fff_ffff;
 
 impl State {
     ghost use Rattle.std.specs.Prelude.{◌≡◌, ◌<◌, ◌≤◌, ◌∷◌, [], Bool, true, false};
-    ghost use Rattle.pio_block.specs.declared.registers.TheConstants.{INSTR_MEM0, SM0_CLKDIV, INTR};
+    ghost use Rattle.pio_block.specs.Offsets.{INSTR_MEM0, SM0_CLKDIV, INTR};
     ghost use Rattle.pio_block.specs.Control.{control_written};
     ghost use Rattle.pio_block.specs.Queues.{fdebug_of, debug_written, sent, taken, first_of, is_rx_empty};
     ghost use Rattle.pio_block.specs.Words.{control_word, after_control, fifo_word, after_fifo, fifo_number, is_rxf, pin_word, after_pin, after_memory, register_number, register_offset, machine_word, after_machine, intr_of, ints_of, ints0_of, ints1_of, interrupt_word, after_interrupt, value_of, listed_word, word_of, after_write, after_read, after_any, effect_of, is_allowed, is_silent, is_at_rest, lines_of};

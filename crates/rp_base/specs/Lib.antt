@@ -1,6 +1,7 @@
 pub mod Access
 pub mod Held
 pub mod Map
+pub mod ResetBits
 pub mod Resettable
 pub mod Rows
 pub mod Word

@@ -1,7 +1,7 @@
 -- What each part of a cycle leaves of the copies that lanes keep: they agree as before.
 use Rattle.std.proofs.Common.{◌≡◌, ◌<◌, ◌^◌, ℕ, false, List, Option, refl, arith, ◌∙◌}
 use Rattle.rp_base.specs.Word.{has_bit}
-use Rattle.rp_base.specs.declared.resets.TheConstants.{DMA, IO_BANK0, PADS_BANK0, PIO0, PIO1}
+use Rattle.rp_base.specs.ResetBits.{DMA, IO_BANK0, PADS_BANK0, PIO0, PIO1}
 use Rattle.rp_base.specs.declared.map.Block.{Block}
 use Rattle.lane_look.specs.declared.lane.Turn.{Turn}
 use Rattle.m0_core.specs.State.{State as Core}

@@ -14,7 +14,7 @@ use Rattle.sio_block.specs.declared.Launch.{Launch}
 use Rattle.sio_block.specs.Launcher.{launch_of, after_turn}
 use Rattle.rp_machine.specs.declared.deed.Deed.{Deed}
 use Rattle.rp_machine.specs.declared.deed.Deed.TheVariants as deed
-use Rattle.rp_machine.specs.declared.registers.TheConstants.{RESET, WDSEL}
+use Rattle.rp_machine.specs.Offsets.{RESET, WDSEL}
 use Rattle.rp_machine.specs.State.{State}
 use Rattle.rp_machine.specs.Registers.{with_reset, resets_written, block_accessed}
 use Rattle.rp_machine.specs.Cycle.{begun, wanted, with_event, with_sio, sio_accessed, after_deed, started_by, after_launcher, after_master, after_masters, with_stores, ended, after_deeds, with_turns, stepped, next_by, next}

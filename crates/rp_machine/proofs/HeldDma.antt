@@ -6,7 +6,7 @@ use Rattle.lane_look.specs.declared.lane.Turn.{Turn}
 use Rattle.dma_engine.specs.declared.channel.Channel.{Channel}
 use Rattle.dma_engine.specs.declared.begun.BegunTransfer.{BegunTransfer}
 use Rattle.dma_engine.specs.State.{Engine, channel_at, with_hold}
-use Rattle.dma_engine.specs.declared.registers.TheConstants.{INTR, INTE0, INTF0, INTS0, INTE1, INTF1, INTS1}
+use Rattle.dma_engine.specs.Offsets.{INTR, INTE0, INTF0, INTS0, INTE1, INTF1, INTS1}
 use Rattle.dma_engine.specs.declared.line.InterruptLine.{InterruptLine}
 use Rattle.dma_engine.specs.Control.{is_quiet}
 use Rattle.dma_engine.specs.Channel.{triggered, aborted, idle, with_channels, changed, with_trigger, with_abort, with_raised, with_report, with_chain, with_end_of, with_end, in_turn}

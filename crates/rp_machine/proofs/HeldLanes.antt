@@ -7,14 +7,14 @@ use Rattle.rp_base.specs.declared.map.Block.TheVariants as block
 use Rattle.lane_look.specs.declared.lane.Turn.{Turn}
 use Rattle.pio_block.specs.declared.inputs.Inputs.{Inputs}
 use Rattle.std.specs.Prelude.{bit_and, bit_or, slice_set}
-use Rattle.pio_block.specs.declared.registers.TheConstants.{IRQ, IRQ_FORCE, INPUT_SYNC_BYPASS, IRQ0_INTE, IRQ0_INTF, IRQ1_INTE, IRQ1_INTF}
+use Rattle.pio_block.specs.Offsets.{IRQ, IRQ_FORCE, INPUT_SYNC_BYPASS, IRQ0_INTE, IRQ0_INTF, IRQ1_INTE, IRQ1_INTF}
 use Rattle.pio_block.specs.State.{Block as Pio, without, with_held}
 use Rattle.pio_block.specs.Control.{control_written}
 use Rattle.pio_block.specs.Queues.{debug_written, sent, taken}
 use Rattle.pio_block.specs.Cycle as pio
 use Rattle.pio_block.specs.Words as words
 use Rattle.rp_base.proofs.Rows.{keeps}
-use Rattle.io_bank.specs.declared.registers.TheConstants.{PADS_BANK0}
+use Rattle.io_bank.specs.Offsets.{PADS_BANK0}
 use Rattle.io_bank.specs.State.{Bank, after_held}
 use Rattle.io_bank.specs.Words as bank
 use Rattle.outer_lane.specs.Setting.{Setting}

@@ -14,7 +14,7 @@ use Rattle.sio_block.specs.Launcher.{launch_of, after_turn}
 use Rattle.outer_lane.specs.Setting.{Setting}
 use Rattle.rp_machine.specs.declared.deed.Deed.{Deed}
 use Rattle.rp_machine.specs.declared.deed.Deed.TheVariants as deed
-use Rattle.rp_machine.specs.declared.registers.TheConstants.{RESET, WDSEL}
+use Rattle.rp_machine.specs.Offsets.{RESET, WDSEL}
 use Rattle.rp_machine.specs.State.{State}
 use Rattle.rp_machine.specs.Registers.{with_reset, resets_written, block_accessed}
 use Rattle.bus_fabric.specs.Masters.{masters}

@@ -6,7 +6,7 @@ use Rattle.lane_look.specs.Device.{DeviceMeaning}
 use Rattle.uf2_image.specs.declared.parts.Image.{Image}
 use Rattle.pio_words.specs.declared.side.SideConfig.{SideConfig}
 use Rattle.pio_asm.specs.declared.program.Program.{Program}
-use Rattle.pio_block.specs.declared.registers.TheConstants.{INSTR_MEM0, SM0_CLKDIV, SM_BYTES, SM_EXECCTRL, SM_PINCTRL}
+use Rattle.pio_block.specs.Offsets.{INSTR_MEM0, SM0_CLKDIV, SM_BYTES, SM_EXECCTRL, SM_PINCTRL}
 use Rattle.pio_block.specs.State.{Block as Pio}
 use Rattle.pio_block.specs.Words.{effect_of, counter_set}
 use Rattle.rp_machine.specs.declared.load.PioLoad.{PioLoad}

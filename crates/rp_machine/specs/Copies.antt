@@ -2,7 +2,7 @@
 -- the levels and enables that SIO puts out (2.3.1.2), and whether the launcher has a word for core 1 (2.8.2).
 use Rattle.std.specs.Prelude.{◌≡◌, ◌<◌, ◌^◌, ℕ, Bool, List, [], ◌∷◌, slice_index}
 use Rattle.rp_base.specs.Word.{has_bit}
-use Rattle.rp_base.specs.declared.resets.TheConstants.{DMA, IO_BANK0, PADS_BANK0, PIO0, PIO1, TIMER, UART0, UART1}
+use Rattle.rp_base.specs.ResetBits.{DMA, IO_BANK0, PADS_BANK0, PIO0, PIO1, TIMER, UART0, UART1}
 use Rattle.m0_core.specs.State.{State as Core}
 use Rattle.dma_engine.specs.State.{Engine}
 use Rattle.pio_block.specs.State.{Block as Pio}

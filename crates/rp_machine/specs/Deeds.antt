@@ -19,7 +19,7 @@ use Rattle.outer_lane.specs.declared.world.SeenOutputs.{SeenOutputs}
 use Rattle.outer_lane.specs.Setting.{Setting}
 use Rattle.outer_lane.specs.Device.{owned_word}
 use Rattle.io_bank.specs.Levels.{inputs_of}
-use Rattle.sio_block.specs.declared.registers.TheConstants.{SPINLOCK0}
+use Rattle.sio_block.specs.Offsets.{SPINLOCK0}
 use Rattle.sio_block.specs.Words as sio
 use Rattle.rp_machine.specs.declared.deed.Deed.{Deed}
 use Rattle.rp_machine.specs.declared.deed.Deed.TheVariants as deed

@@ -1,13 +1,14 @@
 pub mod Alone
 pub mod Answers
 pub mod Boot
+pub mod BusRest
 pub mod Copies
 pub mod Cycle
 pub mod Deeds
 pub mod Events
 pub mod Laws
 pub mod Loading
-pub mod BusRest
+pub mod Offsets
 pub mod Readers
 pub mod Registers
 pub mod Rest

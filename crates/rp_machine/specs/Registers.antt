@@ -6,7 +6,7 @@ use Rattle.rp_base.specs.declared.map.Block.{Block}
 use Rattle.rp_base.specs.declared.map.Block.TheVariants as block
 use Rattle.rp_base.specs.Access.{replicated}
 use Rattle.rp_base.specs.Word.{has_bit}
-use Rattle.rp_base.specs.declared.resets.TheConstants.{DMA, PIO0, PIO1}
+use Rattle.rp_base.specs.ResetBits.{DMA, PIO0, PIO1}
 use Rattle.bus_fabric.specs.Words as busctrl
 use Rattle.dma_engine.specs.State.{with_hold}
 use Rattle.dma_engine.specs.Words as dma
@@ -16,7 +16,7 @@ use Rattle.outer_lane.specs.declared.world.SeenOutputs.{SeenOutputs}
 use Rattle.outer_lane.specs.Setting.{Setting}
 use Rattle.outer_lane.specs.State.{outer_reset}
 use Rattle.outer_lane.specs.Words.{outer_word, outer_accessed}
-use Rattle.rp_machine.specs.declared.registers.TheConstants.{RESET, WDSEL, RESET_DONE}
+use Rattle.rp_machine.specs.Offsets.{RESET, WDSEL, RESET_DONE}
 use Rattle.rp_machine.specs.State.{State}
 
 -- ---- RESETS: RESET has a bit for each of 25 blocks, WDSEL is kept, and RESET_DONE is the complement of RESET

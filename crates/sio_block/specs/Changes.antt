@@ -1,7 +1,7 @@
 -- What a read and a write do to the block (RP2040 Datasheet, 2.3.1.7, List of Registers). An access to an offset that is no
 -- word changes nothing.
 use Rattle.std.specs.Prelude.{ℕ, nat_lt, if◌then◌else◌, Option, Some, None}
-use Rattle.sio_block.specs.declared.registers.TheConstants.{FIFO_ST, SPINLOCK0}
+use Rattle.sio_block.specs.Offsets.{FIFO_ST, SPINLOCK0}
 use Rattle.sio_block.specs.Pins.{pins_written}
 use Rattle.sio_block.specs.Side.{with_mailbox, side_written, mailbox_written, side_read}
 use Rattle.sio_block.specs.Locks.{lock_read, lock_written}

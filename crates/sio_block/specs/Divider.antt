@@ -4,7 +4,7 @@ use Rattle.std.specs.Prelude.{ℕ, ◌+◌, ◌-◌, ◌*◌, ◌^◌, Bool, tru
 use Rattle.std.specs.Int.{cast_signed, w32}
 use Rattle.std.specs.Int.RustNames.{int_div, int_rem}
 use Rattle.rp_base.specs.Word.{word_of, bit_number, is_negative_word}
-use Rattle.sio_block.specs.declared.registers.TheConstants.{DIV_UDIVIDEND, DIV_UDIVISOR, DIV_SDIVIDEND, DIV_SDIVISOR, DIV_QUOTIENT, DIV_REMAINDER, DIV_CSR}
+use Rattle.sio_block.specs.Offsets.{DIV_UDIVIDEND, DIV_UDIVISOR, DIV_SDIVIDEND, DIV_SDIVISOR, DIV_QUOTIENT, DIV_REMAINDER, DIV_CSR}
 use Rattle.sio_block.specs.declared.divider.Divider.{Divider}
 
 -- at reset no division is going on

@@ -2,7 +2,7 @@
 use Rattle.std.specs.Prelude.{◌≡◌, ℕ, zero, suc, ◌+◌, ◌*◌, ◌^◌, ◌<◌, ◌≤◌, Bool, true, false, ◌||◌, ◌==◌, ℤ, ◌+ℤ◌, ◌*ℤ◌, unsigned_abs, List, [], ◌∷◌, ◌++◌, Some, None, option_to_list}
 use Rattle.rp_base.specs.Word as word
 use Rattle.rp_base.specs.Word.{has_bit}
-use Rattle.sio_block.specs.declared.registers.TheConstants.{DIV_UDIVIDEND, DIV_UDIVISOR, DIV_SDIVIDEND, DIV_SDIVISOR, SPINLOCK0}
+use Rattle.sio_block.specs.Offsets.{DIV_UDIVIDEND, DIV_UDIVISOR, DIV_SDIVIDEND, DIV_SDIVISOR, SPINLOCK0}
 use Rattle.sio_block.specs.declared.Launch.{Launch}
 use Rattle.sio_block.specs.declared.divider.Divider.{Divider}
 use Rattle.sio_block.specs.Divider.{number_of, quotient_of, remainder_of, csr_of, divider_written, divider_ended}

@@ -5,6 +5,7 @@ pub mod Launcher
 pub mod Laws
 pub mod Locks
 pub mod Mailbox
+pub mod Offsets
 pub mod Pins
 pub mod Side
 pub mod State

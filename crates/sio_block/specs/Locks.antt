@@ -1,7 +1,7 @@
 -- The 32 spinlocks (RP2040 Datasheet, 2.3.1.3, Hardware Spinlocks, and 2.3.1.7): a set of the numbers of those that are taken,
 -- as a word whose bit n is that of lock n.
 use Rattle.std.specs.Prelude.{ℕ, ◌-◌, ◌/◌, ◌%◌, ◌^◌, Bool, not, ◌&&◌, ◌==◌, nat_le, if◌then◌else◌, Option, Some, None, bit_or}
-use Rattle.sio_block.specs.declared.registers.TheConstants.{SPINLOCK0, SPINLOCK31}
+use Rattle.sio_block.specs.Offsets.{SPINLOCK0, SPINLOCK31}
 use Rattle.sio_block.specs.declared.locks.Locks.{Locks}
 use Rattle.rp_base.specs.Word.{has_bit, minus}
 

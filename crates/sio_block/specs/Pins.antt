@@ -1,7 +1,7 @@
 -- The pins that software drives (RP2040 Datasheet, 2.3.1.2, GPIO Control, and 2.3.1.7): GPIO_OUT and GPIO_OE have 30 bits, one
 -- for each pin. After each of the two come its SET, CLR and XOR words, which are written only and read as 0.
 use Rattle.std.specs.Prelude.{ℕ, ◌+◌, ◌%◌, ◌^◌, Bool, ◌||◌, ◌==◌, if◌then◌else◌, Option, Some, None, bit_or, bit_xor}
-use Rattle.sio_block.specs.declared.registers.TheConstants.{GPIO_OUT, GPIO_OE}
+use Rattle.sio_block.specs.Offsets.{GPIO_OUT, GPIO_OE}
 use Rattle.sio_block.specs.declared.pins.Pins.{Pins}
 use Rattle.rp_base.specs.Word.{minus}
 

@@ -2,7 +2,7 @@
 -- and 2.3.1.7). A core reads from its own mailbox and writes into the other core's.
 use Rattle.std.specs.Prelude.{ℕ, ◌+◌, ◌*◌, Bool, false, not, ◌||◌, ◌&&◌, ◌==◌, if◌then◌else◌, Option, Some}
 use Rattle.rp_base.specs.Word.{has_bit, bit_number}
-use Rattle.sio_block.specs.declared.registers.TheConstants.{FIFO_ST, FIFO_WR, FIFO_RD}
+use Rattle.sio_block.specs.Offsets.{FIFO_ST, FIFO_WR, FIFO_RD}
 use Rattle.sio_block.specs.declared.side.Side.{Side}
 use Rattle.sio_block.specs.Mailbox.{Mailbox, empty, had_word, had_room, has_word, has_room, front_of, taken_from, put_into, mailbox_ended}
 use Rattle.sio_block.specs.Divider.{divider_at_reset, divider_word, divider_written, divider_read, divider_ended}

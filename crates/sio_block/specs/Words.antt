@@ -1,6 +1,6 @@
 -- The words of the block by their offsets after D0000000, as a core reads them (RP2040 Datasheet, 2.3.1.7, List of Registers).
 use Rattle.std.specs.Prelude.{ℕ, ◌==◌, nat_lt, if◌then◌else◌, Option, Some}
-use Rattle.sio_block.specs.declared.registers.TheConstants.{CPUID, GPIO_IN, FIFO_ST, SPINLOCK_ST, SPINLOCK0}
+use Rattle.sio_block.specs.Offsets.{CPUID, GPIO_IN, FIFO_ST, SPINLOCK_ST, SPINLOCK0}
 use Rattle.sio_block.specs.Pins.{pins_word}
 use Rattle.sio_block.specs.Side.{side_word}
 use Rattle.sio_block.specs.Locks.{lock_word}

@@ -6,7 +6,7 @@ use Rattle.rp_base.specs.declared.map.Block.{Block}
 use Rattle.rp_base.specs.declared.map.Block.TheVariants as block
 use Rattle.bus_fabric.specs.Masters.{masters}
 use Rattle.rp_base.proofs.Rows.{keeps}
-use Rattle.io_bank.specs.declared.registers.TheConstants.{PADS_BANK0}
+use Rattle.io_bank.specs.Offsets.{PADS_BANK0}
 use Rattle.io_bank.specs.State.{Bank, with_bank_held, with_pads_held, after_held}
 use Rattle.io_bank.specs.Words as bank
 use Rattle.outer_lane.specs.Setting.{Setting}
@@ -20,7 +20,7 @@ use Rattle.sio_block.specs.declared.Launch.{Launch}
 use Rattle.sio_block.specs.Launcher.{launch_of, after_turn}
 use Rattle.rp_machine.specs.declared.deed.Deed.{Deed}
 use Rattle.rp_machine.specs.declared.deed.Deed.TheVariants as deed
-use Rattle.rp_machine.specs.declared.registers.TheConstants.{RESET, WDSEL}
+use Rattle.rp_machine.specs.Offsets.{RESET, WDSEL}
 use Rattle.rp_machine.specs.State.{State}
 use Rattle.rp_machine.specs.Registers.{with_reset, resets_written, block_accessed}
 use Rattle.rp_machine.specs.Cycle.{begun, wanted, granted, with_sio, sio_accessed, after_deed, started_by, after_launcher, after_master, after_masters, ended, deeds, after_deeds, with_turns, stepped, next_by, next, mark}
