@@ -1,3 +1,4 @@
+pub mod InterruptLaws
 pub mod Laws
 pub mod State
 pub mod Step

@@ -2,6 +2,7 @@
 
 ghost use Rattle.rp_timer.specs.Laws.{TimeCountsMicroseconds, TheTimeReadsAsOne, ACarryTearsTheRead, AnAlarmGoesOffOnce};
 ghost use Rattle.rp_timer.specs.Words.{EachRegisterIsAtItsOffset, ATimerThatIsHeldIsStill};
+ghost use Rattle.rp_timer.specs.InterruptLaws.{WhatIsEnabledOrForcedIsShown};
 
 /// A timer that is not paused counts the microseconds that end, of 125 cycles each.
 pub fn time_counts_microseconds()
@@ -32,4 +33,9 @@ pub fn each_register_is_at_its_offset()
 /// A timer that RESETS holds reads as 0 at each register, and no access changes it.
 pub fn a_timer_that_is_held_is_still()
     ensures { ATimerThatIsHeldIsStill }
+{}
+
+/// INTS is INTR where INTE enables it, and INTF whatever is enabled.
+pub fn what_is_enabled_or_forced_is_shown()
+    ensures { WhatIsEnabledOrForcedIsShown }
 {}
