@@ -1,6 +1,7 @@
 pub mod Driven
 pub mod Edges
 pub mod Interrupts
+pub mod Laws
 pub mod Levels
 pub mod Offsets
 pub mod Pins

@@ -5,6 +5,7 @@
 
 pub mod bank;
 pub mod events;
+pub mod laws;
 pub mod outputs;
 pub mod registers;
 pub mod routes;
