@@ -9,11 +9,11 @@ use Rattle.bus_fabric.specs.Laws.{steps_from, IsDistance, ArbitrationLaw}
 
 -- ---- truth values
 
-and_left : (a b : Bool) → (a && b) ≡ true → a ≡ true
+pub and_left : (a b : Bool) → (a && b) ≡ true → a ≡ true
 and_left true b h = refl
 and_left false b h = h
 
-and_right : (a b : Bool) → (a && b) ≡ true → b ≡ true
+pub and_right : (a b : Bool) → (a && b) ≡ true → b ≡ true
 and_right true b h = h
 and_right false b h = cc
 
@@ -174,7 +174,7 @@ or_right : (a b : Bool) → b ≡ true → (a || b) ≡ true
 or_right true b h = refl
 or_right false b h = h
 
-or_cases : (a b : Bool) → (a || b) ≡ true → (a ≡ true) ⊎ (b ≡ true)
+pub or_cases : (a b : Bool) → (a || b) ≡ true → (a ≡ true) ⊎ (b ≡ true)
 or_cases true b h = inl refl
 or_cases false b h = inr h
 
@@ -224,7 +224,7 @@ nearer DmaWrite Core1 ne = refl
 nearer DmaWrite DmaRead ne = refl
 nearer DmaWrite DmaWrite ne = absurd (ne refl)
 
-of_equals : (h k : Bool) (i j : ℕ) → h ≡ k → nat_lt i j ≡ true →
+pub of_equals : (h k : Bool) (i j : ℕ) → h ≡ k → nat_lt i j ≡ true →
     (nat_lt (cond h 0 1) (cond k 0 1) || (cond h 0 1 == cond k 0 1 && nat_lt i j)) ≡ true
 of_equals true true i j same lt = lt
 of_equals false false i j same lt = lt

@@ -23,7 +23,7 @@ off true h = absurd (h refl)
 off false h = refl
 
 -- the one master that passes a test is found
-find_one : (test : Master → Bool) (m : Master) → test m ≡ true → ((n : Master) → test n ≡ true → n ≡ m) → find test masters ≡ Some m
+pub find_one : (test : Master → Bool) (m : Master) → test m ≡ true → ((n : Master) → test n ≡ true → n ≡ m) → find test masters ≡ Some m
 find_one test Core0 is only = rw is refl
 find_one test Core1 is only =
     let e0 : test Core0 ≡ false = off (test Core0) (λ h. let e = only Core0 h in cc) in

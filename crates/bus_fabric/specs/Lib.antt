@@ -4,5 +4,6 @@ pub mod Laws
 pub mod Masters
 pub mod Offsets
 pub mod State
+pub mod WaitLaws
 pub mod Winners
 pub mod Words

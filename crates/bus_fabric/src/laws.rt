@@ -1,5 +1,6 @@
 //! The laws of arbitration, each the contract of a function without arguments.
 ghost use Rattle.bus_fabric.specs.Laws.{RoundLaw, ArbitrationLaw, FairnessLaw};
+ghost use Rattle.bus_fabric.specs.WaitLaws.{ApbLaw, WaitLaw};
 
 /// The distance of a master is from 1 to 4, and so many steps in the round arrive at it.
 pub fn goes_round()
@@ -16,4 +17,15 @@ pub fn arbitrates()
 /// the next cycle, where another one of its priority waits then.
 pub fn takes_turns()
     ensures { FairnessLaw }
+{}
+
+/// An access on APB for which no other master asks at first is done in its third cycle where it reads, in its fourth where it
+/// writes, and in none before.
+pub fn an_apb_access_takes_its_cycles()
+    ensures { ApbLaw }
+{}
+
+/// Of four wins of a port in a row, at each of which a master asks and none of another priority does, one is its own.
+pub fn an_equal_waits_three_wins()
+    ensures { WaitLaw }
 {}
