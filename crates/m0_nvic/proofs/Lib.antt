@@ -3,4 +3,5 @@ pub mod Held
 pub mod InForce
 pub mod Least
 pub mod Members
+mod Period
 pub mod Silent

@@ -6,4 +6,5 @@ pub mod Numbers
 pub mod Offsets
 pub mod Priority
 pub mod State
+pub mod TimerLaws
 pub mod Words

@@ -1,6 +1,7 @@
 //! The laws of the exceptions, each the contract of a function without arguments.
 
 ghost use Rattle.m0_nvic.specs.Laws.{ThePriorityIsTheLeast, AHeldLinePendsAgain};
+ghost use Rattle.m0_nvic.specs.TimerLaws.{TheTimerHasItsPeriod};
 
 /// The execution priority is the least of the active exceptions' priorities and of that of PRIMASK, which is 0 where it is
 /// set; it is 256 where there is neither.
@@ -13,4 +14,10 @@ pub fn the_priority_is_the_least()
 /// in which the interrupt ceases to be active.
 pub fn a_held_line_pends_again()
     ensures { AHeldLinePendsAgain }
+{}
+
+/// From a reload value of n the system timer counts down to 0 and is n again after n + 1 counts; the count to 0 alone asks for its
+/// exception.
+pub fn the_timer_has_its_period()
+    ensures { TheTimerHasItsPeriod }
 {}
