@@ -1,5 +1,6 @@
 pub mod AtRest
 pub mod Comparisons
+pub mod Copying
 pub mod Counting
 pub mod Counts
 pub mod Finishing

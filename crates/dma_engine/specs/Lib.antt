@@ -4,6 +4,7 @@ pub mod Channel
 pub mod Choice
 pub mod Control
 pub mod Cycle
+pub mod InterruptLaws
 pub mod Laws
 pub mod Offsets
 pub mod Pace
@@ -11,5 +12,6 @@ pub mod Paused
 pub mod Rest
 pub mod State
 pub mod Timer
+pub mod TransferLaws
 pub mod Transfer
 pub mod Words

@@ -2,6 +2,8 @@
 
 ghost use Rattle.dma_engine.specs.Laws.{TheChoiceComesFirst};
 ghost use Rattle.dma_engine.specs.Pace.{CountsAreTakenAsPacked};
+ghost use Rattle.dma_engine.specs.TransferLaws.{ACopyIsExact, ARingKeepsItsHighBits, AnAbortRaisesNothing};
+ghost use Rattle.dma_engine.specs.InterruptLaws.{WhatIsEnabledOrForcedIsShown};
 
 /// Counts of at most 63 that are packed into one answer are taken from it as they were.
 pub fn counts_are_taken_as_packed()
@@ -13,4 +15,25 @@ pub fn counts_are_taken_as_packed()
 /// channel can be chosen.
 pub fn the_choice_comes_first()
     ensures { TheChoiceComesFirst }
+{}
+
+/// A channel that alone copies n words writes each to its place in order, ends in the cycle after the last one, and raises its
+/// interrupt once.
+pub fn a_copy_is_exact()
+    ensures { ACopyIsExact }
+{}
+
+/// In a ring the bits of an address above it stay.
+pub fn a_ring_keeps_its_high_bits()
+    ensures { ARingKeepsItsHighBits }
+{}
+
+/// A sequence that is aborted while nothing is in flight writes nothing and raises nothing.
+pub fn an_abort_raises_nothing()
+    ensures { AnAbortRaisesNothing }
+{}
+
+/// INTS of a line is INTR where its INTE enables it, and its INTF whatever is enabled.
+pub fn what_is_enabled_or_forced_is_shown()
+    ensures { WhatIsEnabledOrForcedIsShown }
 {}
