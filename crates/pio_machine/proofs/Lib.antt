@@ -8,4 +8,5 @@ pub mod Outs
 pub mod Refills
 pub mod Ready
 pub mod Stream
+pub mod Tries
 pub mod Sides

@@ -20,3 +20,4 @@ pub mod Once
 pub mod Clock
 pub mod Drives
 pub mod Stream
+pub mod WordLaws

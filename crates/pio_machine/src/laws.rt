@@ -4,6 +4,7 @@ ghost use Rattle.pio_machine.specs.Once.{AnInShiftsOnce, AnIrqRaisesOnce};
 ghost use Rattle.pio_machine.specs.Drives.{TheLaterMachineDecides, TheSideSetDecides};
 ghost use Rattle.pio_machine.specs.Stream.{TheBitsOutAreThoseSent};
 ghost use Rattle.pio_machine.specs.Clock.{AMachineTicksByItsDivider, ACycleKeepsTheFifosWithin};
+ghost use Rattle.pio_machine.specs.WordLaws.{AWordBeginsUntried, AWrittenWordComesNext, TheBitsInStandAtTheirEnd, AStallKeepsTheRest};
 
 /// An IN that completes has shifted its bits exactly once since it was first tried, however often it stalled.
 pub fn an_in_shifts_once()
@@ -39,4 +40,25 @@ pub fn the_later_machine_decides()
 /// Within a machine the side-set decides, and a pin that it does not write has what the operation wrote.
 pub fn the_side_set_decides()
     ensures { TheSideSetDecides }
+{}
+
+/// At reset, at a restart, after the word at PC has completed, after a jump and for a word that is given or written, nothing was
+/// raised and nothing shifted; and after such a word the one at PC goes on from where it was.
+pub fn a_word_begins_untried()
+    ensures { AWordBeginsUntried }
+{}
+
+/// A word that was written to INSTR is the one that is tried in the next cycle, whether the machine is enabled or not.
+pub fn a_written_word_comes_next()
+    ensures { AWrittenWordComesNext }
+{}
+
+/// The bits that an IN shifts stand at the end of the ISR where they enter, and those of before next to them.
+pub fn the_bits_in_stand_at_their_end()
+    ensures { TheBitsInStandAtTheirEnd }
+{}
+
+/// A try that stalls leaves PC, the delay, X, Y and the RX FIFO as they were.
+pub fn a_stall_keeps_the_rest()
+    ensures { AStallKeepsTheRest }
 {}

@@ -1,0 +1,229 @@
+-- A word from its first try to its last.
+use Rattle.std.proofs.Common.{◌≡◌, ◌∙◌, ap, sym, ℕ, ◌+◌, ◌-◌, ◌*◌, ◌/◌, ◌%◌, ◌^◌, ◌<◌, ◌≤◌, Bool, true, false, ◌&&◌, if◌then◌else◌, nat_lt, List, [], ◌∷◌, Option, Some, None, refl, arith}
+use Rattle.std.proofs.Common.{subst, add_comm}
+use Rattle.std.proofs.lemmas.Nat.{pow-add, pow_pos, mod-pow-add, mod-mul-add, div-mul-add}
+use Rattle.std.proofs.Math.Nat.{mod-lt, mul_comm, mul-div-le, lt_of_mul-lt-mul_left}
+use Rattle.pio_words.specs.declared.op.PioOp.{PioOp}
+use Rattle.pio_words.specs.declared.op.PioOp.TheVariants.{Jmp, Wait, In, Out, Push, Pull, Mov, Irq, Set, Reserved}
+use Rattle.pio_words.specs.declared.op.InSource.{InSource}
+use Rattle.pio_words.specs.declared.op.OutDestination.{OutDestination}
+use Rattle.pio_words.specs.declared.op.OutDestination.TheVariants as out
+use Rattle.pio_words.specs.declared.op.MovDestination.{MovDestination}
+use Rattle.pio_words.specs.declared.op.MovDestination.TheVariants as moved
+use Rattle.pio_machine.specs.declared.machine.Machine1.{Machine1}
+use Rattle.pio_machine.specs.declared.machine.Seen.{Seen}
+use Rattle.pio_machine.specs.declared.machine.Waiting.{Waiting}
+use Rattle.pio_machine.specs.declared.machine.Progress.{Progress}
+use Rattle.pio_machine.specs.Bits.{entered}
+use Rattle.pio_machine.specs.Ending.Ending.{Stalled, Completed, Jumped}
+use Rattle.pio_machine.specs.Fields.{is_rx_full, push_threshold}
+use Rattle.pio_machine.specs.Flags.{flag_of, waits_for_clear}
+use Rattle.pio_machine.specs.Progress.{untried, progress_in, progress_of, kept_in, with_shifted, with_raised}
+use Rattle.pio_machine.specs.Jump.{is_taken}
+use Rattle.pio_machine.specs.Input.{shifted_in, shifted_once, try_in}
+use Rattle.pio_machine.specs.Queue.{Try, completed, stalled, loaded_from, refilled, with_rx_stall, is_pull_void, pulled_from, try_pull, pushed, with_isr_cleared, try_push_now, try_push}
+use Rattle.pio_machine.specs.Output.{out_value, out_stalls, starved, out_done, ending_of_out, try_out}
+use Rattle.pio_machine.specs.Move.{mov_value, ending_of_mov}
+use Rattle.pio_machine.specs.Operation.{tried, loads_osr, delay_of, stepped_past, ended}
+use Rattle.pio_machine.specs.Cycle.{worked, word_tried, after_op}
+use Rattle.pio_machine.specs.WordLaws.{IsUntried, AWordBeginsUntried, AWrittenWordComesNext, TheBitsInStandAtTheirEnd, IsKept, AStallKeepsTheRest}
+use Rattle.pio_machine.proofs.Refills.{refilled-keeps, ended-stalled}
+
+-- ---- a word begins untried
+
+is_untried : (m : Machine1) → progress_of m ≡ untried → IsUntried m
+is_untried m h = record { raised = ap (λ p. p.raised) h; shifted = ap (λ p. p.shifted) h }
+
+past_none : (w : Option Waiting) (delay : ℕ) (m : Machine1) → m.waiting ≡ w → w ≡ None →
+    progress_of (record (stepped_past w m) { delay = delay }) ≡ untried
+past_none None delay m h i = ap (λ x. progress_in x (record (stepped_past None m) { delay = delay })) h
+past_none (Some w) delay m h i = cc
+
+past_some : (w : Option Waiting) (v : Waiting) (delay : ℕ) (m : Machine1) → w ≡ Some v →
+    progress_of (record (stepped_past w m) { delay = delay }) ≡ m.progress
+past_some None v delay m h = cc
+past_some (Some w) v delay m h = refl
+
+pub begins_untried : AWordBeginsUntried
+unfolding ended
+begins_untried m = record {
+  at_reset = record { raised = refl; shifted = refl };
+  restarts = record { raised = refl; shifted = refl };
+  completes = λ delay h. is_untried (ended delay Completed m) (past_none m.waiting delay m refl h);
+  jumps = λ delay address. record { raised = refl; shifted = refl };
+  executes = λ delay word. record { raised = refl; shifted = refl };
+  written = λ word. record { raised = refl; shifted = refl };
+  resumes = λ delay w h. past_some m.waiting w delay m h;
+}
+
+pub comes_next : AWrittenWordComesNext
+unfolding word_tried
+comes_next m seen word = refl
+
+-- ---- a stall
+
+stays : (m : Machine1) → IsKept m m
+stays m = record { pc = refl; delay = refl; x = refl; y = refl; rx = refl }
+
+then_kept : {a b c : Machine1} → IsKept a b → IsKept b c → IsKept a c
+then_kept h k = record { pc = k.pc ∙ h.pc; delay = k.delay ∙ h.delay; x = k.x ∙ h.x; y = k.y ∙ h.y; rx = k.rx ∙ h.rx }
+
+kept : (m t : Machine1) → t.pc ≡ m.pc → t.delay ≡ m.delay → t.x ≡ m.x → t.y ≡ m.y → t.rx ≡ m.rx → IsKept m t
+kept m t a b c d e = record { pc = a; delay = b; x = c; y = d; rx = e }
+
+kept-refill : (m : Machine1) → IsKept m (refilled m)
+kept-refill m =
+    kept m (refilled m) (refilled-keeps (λ x. x.pc) (λ x w r. refl) m) (refilled-keeps (λ x. x.delay) (λ x w r. refl) m)
+    (refilled-keeps (λ x. x.x) (λ x w r. refl) m) (refilled-keeps (λ x. x.y) (λ x w r. refl) m) (refilled-keeps (λ x. x.rx) (λ x w r. refl) m)
+
+kept-load : (ws : List ℕ) (m : Machine1) → IsKept m (loaded_from ws m)
+kept-load [] m = stays m
+kept-load (w ∷ rest) m = kept m _ refl refl refl refl refl
+
+kept-keep : (w : Option Waiting) (p : Progress) (m : Machine1) → IsKept m (kept_in w p m)
+kept-keep None p m = kept m _ refl refl refl refl refl
+kept-keep (Some w) p m = kept m _ refl refl refl refl refl
+
+-- what a try leaves where it stalls
+abbrev StallsKept : Machine1 → Try → Type 0
+StallsKept m t = t.ending ≡ Stalled → IsKept m t.machine
+
+kept-jmp : (taken : Bool) (address : ℕ) (m t : Machine1) → StallsKept m (record { machine = t; ending = if taken then Jumped (address % 32) else Completed })
+kept-jmp true address m t h = absurd (cc)
+kept-jmp false address m t h = absurd (cc)
+
+kept-shift : (before : Bool) (value count : ℕ) (m : Machine1) → IsKept m (if before then m else shifted_in value count m)
+kept-shift true v c m = stays m
+kept-shift false v c m = kept m _ refl refl refl refl refl
+
+kept-autopush : (pushes full : Bool) (m : Machine1) →
+    StallsKept m (if pushes then (if full then stalled (with_rx_stall (with_shifted m)) else completed (pushed m)) else completed m)
+kept-autopush true true m h = then_kept (kept-keep m.waiting _ m) (kept _ _ refl refl refl refl refl)
+kept-autopush true false m h = absurd (cc)
+kept-autopush false full m h = absurd (cc)
+
+kept-in : (source : InSource) (count : ℕ) (seen : Seen) (m : Machine1) → StallsKept m (try_in source count seen m)
+unfolding try_in
+kept-in source count seen m h =
+    then_kept (kept-shift (progress_of m).shifted _ _ m) (kept-autopush _ _ (shifted_once source count seen m) h)
+
+kept-starve : (ws : List ℕ) (m : Machine1) → IsKept m (starved ws m)
+kept-starve [] m = kept m _ refl refl refl refl refl
+kept-starve (w ∷ rest) m = kept-load m.tx m
+
+ends_out : (destination : OutDestination) (value : ℕ) → ending_of_out destination value ≡ Stalled → ⊥
+ends_out out.Pins v h = cc
+ends_out out.X v h = cc
+ends_out out.Y v h = cc
+ends_out out.Null v h = cc
+ends_out out.Pindirs v h = cc
+ends_out out.Pc v h = cc
+ends_out out.Isr v h = cc
+ends_out out.Exec v h = cc
+
+kept-out-by : (b : Bool) (destination : OutDestination) (count : ℕ) (m : Machine1) →
+    StallsKept m (if b then stalled (starved m.tx m) else out_done destination count m)
+kept-out-by true destination count m h = kept-starve m.tx m
+kept-out-by false destination count m h = absurd (ends_out destination (out_value count m) h)
+
+kept-out : (destination : OutDestination) (count : ℕ) (m : Machine1) → StallsKept m (try_out destination count m)
+unfolding try_out
+kept-out destination count m h = kept-out-by (out_stalls m) destination _ m h
+
+kept-push-now : (full block : Bool) (m : Machine1) →
+    StallsKept m (if full then (if block then stalled (with_rx_stall m) else completed (with_isr_cleared (with_rx_stall m))) else completed (pushed m))
+kept-push-now true true m h = kept m _ refl refl refl refl refl
+kept-push-now true false m h = absurd (cc)
+kept-push-now false block m h = absurd (cc)
+
+kept-push-by : (b block : Bool) (m : Machine1) → StallsKept m (if b then completed m else try_push_now block m)
+kept-push-by true block m h = stays m
+kept-push-by false block m h = kept-push-now (is_rx_full m) block m h
+
+kept-push : (if_full block : Bool) (m : Machine1) → StallsKept m (try_push if_full block m)
+unfolding try_push
+kept-push if_full block m h = kept-push-by (if_full && nat_lt m.isr_count (push_threshold m)) block m h
+
+kept-pull-from : (ws : List ℕ) (block : Bool) (m : Machine1) → StallsKept m (pulled_from ws block m)
+kept-pull-from [] true m h = kept m _ refl refl refl refl refl
+kept-pull-from [] false m h = absurd (cc)
+kept-pull-from (w ∷ rest) block m h = absurd (cc)
+
+kept-pull-by : (b block : Bool) (m : Machine1) → StallsKept m (if b then completed m else pulled_from m.tx block m)
+kept-pull-by true block m h = stays m
+kept-pull-by false block m h = kept-pull-from m.tx block m h
+
+kept-pull : (if_empty block : Bool) (m : Machine1) → StallsKept m (try_pull if_empty block m)
+unfolding try_pull
+kept-pull if_empty block m h = kept-pull-by (is_pull_void if_empty m) block m h
+
+ends_mov : (destination : MovDestination) (value : ℕ) → ending_of_mov destination value ≡ Stalled → ⊥
+ends_mov moved.Pins v h = cc
+ends_mov moved.X v h = cc
+ends_mov moved.Y v h = cc
+ends_mov moved.Exec v h = cc
+ends_mov moved.Pc v h = cc
+ends_mov moved.Isr v h = cc
+ends_mov moved.Osr v h = cc
+
+kept-irq : (waits : Bool) (m : Machine1) → IsKept m (if waits then with_raised m else m)
+kept-irq true m = kept-keep m.waiting _ m
+kept-irq false m = stays m
+
+kept-op : (op : PioOp) (number : ℕ) (seen : Seen) (m : Machine1) → StallsKept m (tried op number seen m)
+kept-op (Jmp condition address) number seen m h = kept-jmp (is_taken condition seen m) address m _ h
+kept-op (Wait polarity source) number seen m h = stays m
+kept-op (In source count) number seen m h = kept-in source count seen m h
+kept-op (Out destination count) number seen m h = kept-out destination count m h
+kept-op (Push if_full block) number seen m h = kept-push if_full block m h
+kept-op (Pull if_empty block) number seen m h = kept-pull if_empty block m h
+kept-op (Mov destination operation source) number seen m h = absurd (ends_mov destination (mov_value operation source seen m) h)
+kept-op (Irq clear wait index) number seen m h = kept-irq (waits_for_clear clear wait (flag_of index number) seen m) m
+kept-op (Set destination value) number seen m h = absurd (cc)
+kept-op Reserved number seen m h = absurd (cc)
+
+kept-autopull : (loads : Bool) (m : Machine1) → IsKept m (if loads then m else refilled m)
+kept-autopull true m = stays m
+kept-autopull false m = kept-refill m
+
+same_kept : (m t u : Machine1) → u ≡ t → IsKept m t → IsKept m u
+same_kept m t u e h = kept m u (ap (λ x. x.pc) e ∙ h.pc) (ap (λ x. x.delay) e ∙ h.delay) (ap (λ x. x.x) e ∙ h.x) (ap (λ x. x.y) e ∙ h.y) (ap (λ x. x.rx) e ∙ h.rx)
+
+pub stall_keeps : AStallKeepsTheRest
+stall_keeps word op number seen m h =
+    same_kept m (worked op number seen m) (after_op word op number seen m)
+    (ended-stalled (delay_of word (worked op number seen m)) (tried op number seen m).ending (worked op number seen m) h)
+    (then_kept (kept-op op number seen m h) (kept-autopull (loads_osr op) (tried op number seen m).machine))
+
+-- ---- the bits of an IN
+
+-- so many bits behind others, in a word of 32 bits
+joined : (a b j k : ℕ) → j + k ≡ 32 → b < 2 ^ k → (a * 2 ^ k + b) % 2 ^ 32 ≡ a % 2 ^ j * 2 ^ k + b
+joined a b j k whole low =
+    ap (λ n. (a * 2 ^ k + b) % 2 ^ n) (sym whole) ∙ mod-pow-add (a * 2 ^ k + b) j k
+    ∙ ap (λ x. x % 2 ^ j * 2 ^ k + (a * 2 ^ k + b) % 2 ^ k) (div-mul-add a (2 ^ k) b low)
+    ∙ ap (λ x. a % 2 ^ j * 2 ^ k + x) (mod-mul-add a (2 ^ k) b low)
+
+fits : (w j k : ℕ) → j + k ≡ 32 → w < 2 ^ 32 → w / 2 ^ k < 2 ^ j
+fits w j k whole small =
+    let all : 2 ^ k * 2 ^ j ≡ 2 ^ 32 = mul_comm (2 ^ k) (2 ^ j) ∙ sym (pow-add 2 j k) ∙ ap (λ n. 2 ^ n) whole in
+    let below : 2 ^ k * (w / 2 ^ k) ≤ w = mul-div-le w (2 ^ k) in
+    lt_of_mul-lt-mul_left (2 ^ k) (subst (λ x. 2 ^ k * (w / 2 ^ k) < x) (sym all) (omega (arith, below, small)))
+
+pub bits_in : TheBitsInStandAtTheirEnd
+bits_in count value word few many small =
+    let there : (32 - count) + count ≡ 32 = omega arith in
+    let back : count + (32 - count) ≡ 32 = omega arith in
+    let v = value % 2 ^ count in
+    let within : v < 2 ^ count = mod-lt value (pow_pos count) in
+    let rest = word / 2 ^ count in
+    let under : rest < 2 ^ (32 - count) = fits word (32 - count) count there small in
+    let left : entered false count value word ≡ word % 2 ^ (32 - count) * 2 ^ count + v = joined word v (32 - count) count there within in
+    let right : entered true count value word ≡ v * 2 ^ (32 - count) + rest =
+    ap (λ x. x % 2 ^ 32) (add_comm rest (value * 2 ^ (32 - count))) ∙ joined value rest count (32 - count) back under in
+    record {
+      low = ap (λ x. x % 2 ^ count) left ∙ mod-mul-add (word % 2 ^ (32 - count)) (2 ^ count) v within;
+      above = ap (λ x. x / 2 ^ count) left ∙ div-mul-add (word % 2 ^ (32 - count)) (2 ^ count) v within;
+      high = ap (λ x. x / 2 ^ (32 - count)) right ∙ div-mul-add v (2 ^ (32 - count)) rest under;
+      below = ap (λ x. x % 2 ^ (32 - count)) right ∙ mod-mul-add v (2 ^ (32 - count)) rest under;
+    }
