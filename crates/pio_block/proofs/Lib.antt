@@ -4,3 +4,4 @@ pub mod Enabled
 pub mod Held
 pub mod Highest
 pub mod Masks
+mod Instr

@@ -1,6 +1,8 @@
 pub mod Bounds
 pub mod Control
 pub mod Cycle
+pub mod InstrLaws
+pub mod InterruptLaws
 pub mod Laws
 pub mod Offsets
 pub mod Queues

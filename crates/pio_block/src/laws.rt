@@ -1,6 +1,8 @@
 //! The laws of a block, each the contract of a function without arguments.
 
 ghost use Rattle.pio_block.specs.Laws.{TheHighestMachineDecides, AHeldBlockStays, NoFifoHoldsTooMuch};
+ghost use Rattle.pio_block.specs.InstrLaws.{AWrittenWordComesNext};
+ghost use Rattle.pio_block.specs.InterruptLaws.{WhatIsEnabledOrForcedIsShown};
 
 /// Of each pin the highest machine that wrote it in a cycle decides, and a pin that no machine wrote stays.
 pub fn the_highest_machine_decides()
@@ -16,4 +18,14 @@ pub fn a_held_block_stays()
 /// of its words, holds by RESETS, and the program counter that is set where a program is loaded before a run.
 pub fn no_fifo_holds_too_much()
     ensures { NoFifoHoldsTooMuch }
+{}
+
+/// INTS of a line is INTR where its INTE enables it, and its INTF whatever is enabled.
+pub fn what_is_enabled_or_forced_is_shown()
+    ensures { WhatIsEnabledOrForcedIsShown }
+{}
+
+/// The low half of what is written to INSTR of a machine is the word that it tries in the next cycle, enabled or not.
+pub fn a_written_word_comes_next()
+    ensures { AWrittenWordComesNext }
 {}
