@@ -5,3 +5,5 @@ pub mod Placing
 pub mod Ranges
 pub mod Spread
 pub mod Steps
+pub mod Written
+pub mod Writable

@@ -90,7 +90,7 @@ is_loaded-cons e es a h =
     list_any-append (λ pair. eqb pair.0 a) (pairs e) (loaded es)
     ∙ ap (λ x. x || is_loaded es a) (row_has_long a (target_of e) (size_of e) (payload_of e) (length_payload e h))
 
-apart_rows : (t n s m : ℕ) → 0 < n → 0 < m → ((a : ℕ) → t ≤ a → a < t + n → (leb s a && ltb a (s + m)) ≡ false) → ((t < s) × (t + n ≤ s)) ⊎ ((s < t) × (s + m ≤ t))
+pub apart_rows : (t n s m : ℕ) → 0 < n → 0 < m → ((a : ℕ) → t ≤ a → a < t + n → (leb s a && ltb a (s + m)) ≡ false) → ((t < s) × (t + n ≤ s)) ⊎ ((s < t) × (s + m ≤ t))
 apart_rows t n s m p q none = elim (cases_lt s t) [
   | inl below ↦ inr (below, before s m t below (none t (omega arith) (omega arith)))
   | inr above ↦ elim (cases_lt s (t + n)) [

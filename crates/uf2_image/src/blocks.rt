@@ -27,7 +27,7 @@ const FLASH_START: u32 = 0x1000_0000;
 /// The first address behind flash.
 const FLASH_END: u32 = 0x1400_0000;
 /// The family of the RP2040.
-const RP2040_FAMILY: u32 = 0xE48B_FF56;
+pub const RP2040_FAMILY: u32 = 0xE48B_FF56;
 
 /// One block of 512 bytes, which contracts see as a list of bytes.
 #[derive(Drop)]

@@ -1,6 +1,7 @@
 //! UF2 images (Microsoft, "USB Flashing Format (UF2)"): what a file loads into the SRAM of an RP2040.
 //!
-//! `read_image` gives the image of a file, or the first fault of the file; `numbered::generated` the image of a number.
+//! `read_image` gives the image of a file, or the first fault of the file; `write_image` the file of an image;
+//! `numbered::generated` the image of a number.
 #![tactic(auto)]
 
 ghost use Rattle.std.specs.Prelude.{◌≡◌, ◌≢◌, ◌≤◌, length, MatchResult, IfOk};
@@ -8,10 +9,12 @@ ghost use Rattle.uf2_image.specs.Uf2.{image_of, FitsSram};
 
 mod blocks;
 pub mod fault;
+pub mod laws;
 pub mod numbered;
 mod order;
 pub mod parts;
 mod reading;
+mod writing;
 
 use blocks::BLOCK_SIZE;
 pub use fault::ImageFault;
@@ -19,6 +22,7 @@ use order::image_of_blocks;
 pub use parts::{Image, Part, PartBytes, PartList};
 use reading::read_blocks;
 use std::alloc::Global;
+pub use writing::write_image;
 
 /// The image of a UF2 file of at most 16 MiB.
 ///

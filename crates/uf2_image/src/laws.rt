@@ -1,0 +1,13 @@
+//! The laws of images and their files, each the contract of a function without arguments.
+
+ghost use Rattle.uf2_image.specs.Writing.{WhatIsReadCanBeWritten, WhatIsWrittenIsRead};
+
+/// The file of an image holds that image.
+pub fn what_is_written_is_read()
+    ensures { WhatIsWrittenIsRead }
+{}
+
+/// Each image that a file of at most 16 MiB holds can be written.
+pub fn what_is_read_can_be_written()
+    ensures { WhatIsReadCanBeWritten }
+{}
