@@ -1,13 +1,13 @@
 -- The forms of the encodings: what the fields of a word are, whose operands fit.
-use Rattle.std.proofs.Common.{◌≡◌, ◌≢◌, ℕ, zero, suc, ◌+◌, ◌^◌, ◌*◌, ◌/◌, ◌%◌, ◌<◌, ◌≤◌, Bool, true, false, not, ◌&&◌, ◌||◌, cond, Option, Some, None, refl, sym, ap, ◌∙◌, subst, arith, rules, ltb, eqb}
+use Rattle.std.proofs.Common.{◌≡◌, ◌≢◌, ℕ, zero, suc, ◌+◌, ◌^◌, ◌*◌, ◌/◌, ◌%◌, ◌<◌, Bool, true, false, not, ◌&&◌, ◌||◌, Option, Some, None, refl, sym, ap, ◌∙◌, subst, arith, ltb, eqb}
 use Rattle.std.specs.Prelude.{bit_and}
 use Rattle.std.proofs.lemmas.Bool.{eq-eqb, ne_eqb, ltb-true, eqb-false}
 use Rattle.std.proofs.lemmas.Nat.{and_block, and_le_r}
 use Rattle.rp_base.specs.declared.op.Op.{Op}
-use Rattle.rp_base.specs.declared.op.Op.TheVariants.{Push, Pop, Stm, Ldm, BCond, Bl, Msr, Mrs}
+use Rattle.rp_base.specs.declared.op.Op.TheVariants.{BCond, Bl, Msr, Mrs}
 use Rattle.rp_base.specs.Word.{bit_number}
-use Rattle.thumb_rows.specs.Rows.{begins_long, field, is_set, operation_of}
-use Rattle.thumb_rows.proofs.LeftOut.{row_Push, row_Pop, row_Stm, row_Ldm, row_BCond, row_Bl, row_Msr, row_Mrs}
+use Rattle.thumb_rows.specs.Rows.{operation_of}
+use Rattle.thumb_rows.proofs.LeftOut.{row_BCond, row_Bl, row_Msr, row_Mrs}
 use Rattle.thumb_words.specs.declared.halfwords.Code.{Code}
 use Rattle.thumb_words.specs.Codes.{coded, IsCodeOf}
 
