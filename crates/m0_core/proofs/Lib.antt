@@ -1,3 +1,5 @@
+mod Events
+mod GoingOn
 mod GivenBack
 mod Handlers
 mod ReadCount

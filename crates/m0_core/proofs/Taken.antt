@@ -239,7 +239,7 @@ taken_after g cycle s unlocked enabled =
     fault_taken f (priority_of f s.regs.primask) (bit_and f.pending f.enabled) (best_of f) (least_of-is f (bit_and f.pending f.enabled))
     (bit_both f.pending f.enabled 3 pending on) (ap (λ p. int_lt p (pos 0)) same ∙ unlocked)
 
-fault_leaves : (g : Given) (cycle : ℕ) (s : State) → s.asleep ≡ false → is_locked s ≡ false → OnlyPendsHardFault cycle g s (closed (lines_in g) cycle (faulted s))
+pub fault_leaves : (g : Given) (cycle : ℕ) (s : State) → s.asleep ≡ false → is_locked s ≡ false → OnlyPendsHardFault cycle g s (closed (lines_in g) cycle (faulted s))
 unfolding closed faulted
 fault_leaves g cycle s awake unlocked = record {
   awake = awake;

@@ -1,6 +1,7 @@
 -- An instruction takes its beats: what the cycles of a core come to, instruction by instruction (ARMv6-M Architecture Reference
 -- Manual, A6.7, Operation, for registers and flags, and B1.5.8, ExceptionReturn, for what BX and POP begin; ARM Cortex-M0+
 -- Technical Reference Manual, 3.3, for the number of cycles).
+use Rattle.std.specs.List.{list_any}
 use Rattle.std.specs.Prelude.{◌≡◌, ℕ, ◌+◌, ◌%◌, ◌^◌, ◌<◌, ◌≤◌, Bool, true, false, ◌||◌, List, [], ◌∷◌, ◌++◌, length, map, if◌then◌else◌, Option, Some, None, option_to_list}
 use Rattle.rp_base.specs.declared.Request.{Request}
 use Rattle.rp_base.specs.declared.map.Spot.{Spot}
@@ -254,3 +255,34 @@ AnAccessLastsUntilItIsDone =
     (s : State) (begun : Doing)
     → is_access (want_of begun) ≡ true
     → LastsOn s begun (next s begun (turn.Wait ∷ turn.Nothing ∷ []))
+
+-- ---- an instruction without an access to the private bus stops in none of its cycles
+
+abbrev pub is_private_spot : Spot → Bool
+is_private_spot (spot.Ppb offset) = true
+is_private_spot _ = false
+
+abbrev pub is_private : Beat → Bool
+is_private Inner = false
+is_private (Access request) = is_private_spot (place_of request.address)
+
+abbrev pub AnInstructionGoesOn : Type 0
+AnInstructionGoesOn =
+    (op : Op) (s : State) (cycle : ℕ) (g : Given) (gs : List Given)
+    → IsAtBoundary s
+    → IsFetched g.answers s.regs.pc op
+    → IsPlain op s
+    → list_any is_private (beats_of op s.regs) ≡ false
+    → length (g ∷ gs) ≤ length (beats_of op s.regs)
+    → GoesOn cycle (g ∷ gs) s
+
+-- so where none of its beats is on the private bus an instruction takes its beats
+abbrev pub AnInstructionOffThePrivateBusTakesItsBeats : Type 0
+AnInstructionOffThePrivateBusTakesItsBeats =
+    (op : Op) (s : State) (cycle : ℕ) (g : Given) (gs : List Given)
+    → IsAtBoundary s
+    → IsFetched g.answers s.regs.pc op
+    → IsPlain op s
+    → list_any is_private (beats_of op s.regs) ≡ false
+    → length (g ∷ gs) ≤ length (beats_of op s.regs)
+    → TakesItsBeats op cycle (g ∷ gs) s

@@ -1,6 +1,7 @@
 pub mod Bounds
 pub mod Cycle
 pub mod Entry
+pub mod EventLaws
 pub mod ExcReturn
 pub mod ExceptionLaws
 pub mod Fetch

@@ -1,6 +1,7 @@
 //! The laws of the core, each the contract of a function without arguments.
 
-ghost use Rattle.m0_core.specs.Laws.{AnInstructionTakesItsBeats, AnAccessLastsUntilItIsDone};
+ghost use Rattle.m0_core.specs.Laws.{AnInstructionGoesOn, AnInstructionOffThePrivateBusTakesItsBeats, AnInstructionTakesItsBeats, AnAccessLastsUntilItIsDone};
+ghost use Rattle.m0_core.specs.EventLaws.{AWfeMovesOnAtAnEvent, ACoreStopsAtItsCauses, AReturnFaults};
 ghost use Rattle.m0_core.specs.ExceptionLaws.{WhatIsTakenIsTheLeast, AFaultPendsHardFaultAlone, AWfiMovesOnWhereAnExceptionWakes};
 ghost use Rattle.m0_core.specs.Handlers.{AnEntryTakesItsBeats, AReturnTakesItsBeats, AReturnGivesBackWhatAnEntryFound};
 ghost use Rattle.m0_core.specs.Waiting.{AnInstructionTakesItsBeatsAndWaits};
@@ -54,4 +55,31 @@ pub fn a_return_takes_its_beats()
 /// all are.
 pub fn a_return_gives_back_what_an_entry_found()
     ensures { AReturnGivesBackWhatAnEntryFound }
+{}
+
+/// An instruction without an access to the private bus stops in none of its cycles.
+pub fn an_instruction_goes_on()
+    ensures { AnInstructionGoesOn }
+{}
+
+/// So it takes its beats, whatever the interrupt lines and the system timer do.
+pub fn an_instruction_off_the_private_bus_takes_its_beats()
+    ensures { AnInstructionOffThePrivateBusTakesItsBeats }
+{}
+
+/// The second beat of WFE is the last one where the event register is set or an exception wakes at its start, and clears the
+/// register; elsewhere it lasts on.
+pub fn a_wfe_moves_on_at_an_event()
+    ensures { AWfeMovesOnAtAnEvent }
+{}
+
+/// At a boundary a core stops at a BKPT, at a fault where the execution priority is -1 or lower, and at a fetch outside SRAM.
+pub fn a_core_stops_at_its_causes()
+    ensures { ACoreStopsAtItsCauses }
+{}
+
+/// A return with a bad value leaves HardFault pending alone, or locks the core up where the execution priority is -1 or lower; there
+/// its last beat locks the core up where the frame's exception number does not fit the mode.
+pub fn a_return_faults()
+    ensures { AReturnFaults }
 {}
