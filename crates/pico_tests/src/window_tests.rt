@@ -70,3 +70,35 @@ fn accesses_to_one_bank_end_a_window(rt: HostRuntime) -> Result<(), Fail> {
     assert!(rt; counts(&rt, alloc, &COPIES_THREE, THREE)?);
     Ok(())
 }
+
+/// Core 0 gives pin 0 to PIO0, a side-set of two pins from pin 30 to machine 0, and starts it.
+const SIDE_SETS: [u16; 18] = [
+    0x4804, 0x2106, 0x6001, 0x4804, 0x4a04, 0x6002, 0x4804, 0x2101, 0x6001, 0xe7fe, 0x4004, 0x4001,
+    0x00dc, 0x5020, 0x7800, 0x4000, 0x0000, 0x5020,
+];
+
+/// What the machine sets is not shown: the chip has pins 0 to 29. So it ends no window.
+#[test]
+fn pins_30_and_31_end_no_window(rt: HostRuntime) -> Result<(), Fail> {
+    let alloc = rt.alloc();
+    let mut held_files = Vec::new(alloc);
+    held_files.push(held(alloc, "a.uf2", &image(alloc, &SIDE_SETS)?)?)?;
+    let source = b".program p\n.side_set 2\nnop side 0\nnop side 1\n";
+    held_files.push(held(alloc, "p.pio", source)?)?;
+    let words = [
+        "run",
+        "a.uf2",
+        "--cycles",
+        "60",
+        "--pio",
+        "0:0:p.pio",
+        "--stats",
+    ];
+    let words = texts(alloc, &words)?;
+    let mut files = MemShelf::new(alloc, held_files, Vec::new(alloc));
+    let mut out = MemSink::new(alloc, Vec::new(alloc));
+    let status = run_words(&rt, alloc, &words, &mut files, &mut out);
+    assert_eq!(rt; status, 0);
+    assert!(rt; out.bytes.as_slice().ends_with(b"\nwindows 7 cycles 54\n"));
+    Ok(())
+}

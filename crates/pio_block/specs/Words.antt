@@ -180,8 +180,9 @@ pacing_of ms =
 abbrev pub register_list : Machine1 → List ℕ
 register_list m = m.pc ∷ m.x ∷ m.y ∷ m.isr ∷ m.osr ∷ []
 
+-- the levels and the enables of the 30 pins of the chip
 abbrev pub outs_of : Block → List ℕ
-outs_of s = s.levels ∷ s.enables ∷ []
+outs_of s = s.levels % 2 ^ 30 ∷ s.enables % 2 ^ 30 ∷ []
 
 abbrev pub lines_of : Block → List Bool
 lines_of s = not (ints0_of s == 0) ∷ not (ints1_of s == 0) ∷ []

@@ -108,7 +108,7 @@ impl PioBlock {
         self.silent = self.state.is_silent();
     }
 
-    /// What the machines have written to the pins: the levels, and the enables.
+    /// What the machines have written to pins 0 to 29: the levels, and the enables.
     pub fn outs(&self) -> [u32; 2]
         ensures { result ≡ outs_of self.now }
     {
@@ -132,15 +132,12 @@ impl PioBlock {
         self.silent
     }
 
-    /// A cycle in which the block steps. Where its first machine is enabled, it was and is busy.
-    #[tactic(auto, using(crate::proofs::Enabled::not_at_rest))]
+    /// A cycle in which the block steps.
     pub(crate) fn step(&mut self, inputs: Inputs)
         ensures { self.new ≡ after_cycle inputs.now inputs.second self.old }
     {
         self.state.step(inputs);
-        if !self.state.is_first_enabled() {
-            self.at_rest = self.silent && !self.state.is_busy();
-        }
+        self.at_rest = self.silent && !self.state.is_busy();
     }
 
     /// A machine is enabled, or a written word waits.

@@ -70,14 +70,6 @@ impl Machines {
             || is_running(self.fourth.machine())
     }
 
-    /// The first machine is enabled.
-    #[inline(always)]
-    pub(crate) fn is_first_enabled(&self) -> bool
-        ensures { result ≡ (machine_of 0 self.now).enabled }
-    {
-        self.first.machine().enabled
-    }
-
     /// A cycle of all machines.
     #[tactic(auto, unfolding(crate::specs::Cycle::all_stepped))]
     pub(crate) fn step(&mut self, seen: &Seen, done: &mut Done)

@@ -5,6 +5,7 @@ ghost use Rattle.pio_machine.specs.Pins.{overlaid};
 
 use crate::inputs::Inputs;
 use crate::machines::Machines;
+use crate::words::PINS;
 use pio_machine::{Done, Seen};
 use std::marker::Model;
 
@@ -113,14 +114,6 @@ impl State {
         self.machines.is_busy()
     }
 
-    /// The first machine is enabled.
-    #[inline(always)]
-    pub(crate) fn is_first_enabled(&self) -> bool
-        ensures { result ≡ (machine_of 0 self.now.machines).enabled }
-    {
-        self.machines.is_first_enabled()
-    }
-
     /// Sets a program counter.
     pub(crate) fn set_counter(&mut self, machine: u8, address: u8)
         requires { machine < 4 }
@@ -154,12 +147,10 @@ impl State {
     }
 
     /// A cycle of the block.
-    #[tactic(auto, unfolding(crate::specs::Cycle::after_cycle, crate::specs::Cycle::joined), using(crate::proofs::Enabled::stays_enabled))]
+    #[tactic(auto, unfolding(crate::specs::Cycle::after_cycle, crate::specs::Cycle::joined))]
     pub(crate) fn step(&mut self, inputs: Inputs)
         ensures after { self.new ≡ after_cycle inputs.now inputs.second self.old }
         ensures silent { is_silent self.new ≡ is_silent self.old }
-        ensures first { (machine_of 0 self.new.machines).enabled
-            ≡ (machine_of 0 self.old.machines).enabled }
     {
         let done = self.step_machines(inputs);
         self.join(&done);
@@ -187,11 +178,11 @@ impl State {
         ]
     }
 
-    /// The levels and the enables of the pins.
+    /// The levels and the enables of pins 0 to 29.
     pub(crate) fn outs(&self) -> [u32; 2]
         ensures { result ≡ outs_of self.now }
     {
-        [self.levels, self.enables]
+        [self.levels & PINS, self.enables & PINS]
     }
 
     /// Both are in the same state. The inputs of the last cycle are no part of it.

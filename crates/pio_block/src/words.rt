@@ -15,7 +15,7 @@ use rp_base::bits::has_bit;
 use rp_base::unless_held;
 
 /// The pins of the chip.
-const PINS: u32 = 0x3fff_ffff;
+pub(crate) const PINS: u32 = 0x3fff_ffff;
 
 impl State {
     ghost use Rattle.std.specs.Prelude.{◌≡◌, ◌<◌, ◌≤◌, ◌∷◌, [], Bool, true, false};
