@@ -1,6 +1,6 @@
 -- What the bus fabric keeps from cycle to cycle (RP2040 Datasheet, 2.1.1.1 "Bus Priority", 2.1.3 "APB Bridge" and 2.1.5 "List
 -- of Registers", BUS_PRIORITY).
-use Rattle.std.specs.Prelude.{ℕ, Bool, is_some, bit_and, List, replicate, slice_index_or, Option, Some, None}
+use Rattle.std.specs.Prelude.{ℕ, Bool, is_some, bit_and, List, replicate, slice_index_or, slice_set, Option, None}
 use Rattle.rp_base.specs.declared.Master.{Master}
 use Rattle.rp_base.specs.declared.Master.TheVariants.{DmaWrite}
 use Rattle.bus_fabric.specs.declared.Hold.{Hold}
@@ -19,10 +19,6 @@ at_reset = record { hold = None; priority = 0; last = replicate 8 DmaWrite }
 abbrev pub has_hold : Crossbar → Bool
 has_hold s = is_some s.hold
 
-abbrev pub holder_of : Option Hold → Option Master
-holder_of None = None
-holder_of (Some hold) = hold.holder
-
 -- BUS_PRIORITY keeps the bits of the four masters
 abbrev pub with_priority : ℕ → Crossbar → Crossbar
 with_priority bits s = record s { priority = bit_and bits 0x1111 }
@@ -30,3 +26,6 @@ with_priority bits s = record s { priority = bit_and bits 0x1111 }
 -- the master that a port remembers
 abbrev pub last_on : ℕ → Crossbar → Master
 last_on port s = slice_index_or s.last port DmaWrite
+
+abbrev pub with_last : ℕ → Master → Crossbar → Crossbar
+with_last port master s = record s { last = slice_set s.last port master }

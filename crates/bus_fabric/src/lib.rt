@@ -58,7 +58,7 @@ impl Model for Fabric {
 impl Fabric {
     ghost use Rattle.std.specs.Prelude.{◌≡◌, ◌<◌, map, length};
     ghost use Rattle.bus_fabric.specs.Masters.{masters, HavePorts};
-    ghost use Rattle.bus_fabric.specs.State.{at_reset, has_hold, holder_of, with_priority};
+    ghost use Rattle.bus_fabric.specs.State.{at_reset, has_hold, with_priority, with_last};
     ghost use Rattle.bus_fabric.specs.Grant.{is_free, is_served, is_done, done_of, hold_after, last_from, after_grant};
     ghost use Rattle.bus_fabric.specs.Winners.{wins_free, winner_free, loses_to, has_won};
 
@@ -108,11 +108,12 @@ impl Fabric {
         self.hold.is_some()
     }
 
-    /// The master that waits for the access that lasts, if there is one and it still asks for it.
-    pub fn holder(&self) -> Option<Master>
-        ensures { result ≡ holder_of self.now.hold }
+    /// A port, 0 to 7, remembers that it has served a master. Nothing else changes.
+    pub fn served(&mut self, port: u8, master: Master)
+        requires { port < 8 }
+        ensures { self.new ≡ with_last port master self.old }
     {
-        self.hold?.holder
+        self.last[port as usize] = master;
     }
 
     /// BUS_PRIORITY.

@@ -102,7 +102,6 @@ fn lasting(rt: HostRuntime) {
     for (asked, done, holds) in LASTING {
         assert!(rt; grants(&mut fabric, &asked, &done, holds));
     }
-    assert!(rt; fabric.holder() == Some(Master::Core1));
 }
 
 /// Four masters' requests in turn, and whose accesses are done: on a bank of SRAM, whose masters take turns.
@@ -127,6 +126,8 @@ fn turns(rt: HostRuntime) {
     assert!(rt; fabric.grant_core0(R0));
     let asked = [R0, R0, R3, W0];
     assert!(rt; grants(&mut fabric, &asked, &[false, true, true, false], false));
+    fabric.served(0, Master::DmaRead);
+    assert!(rt; grants(&mut fabric, &[R0, R0, R0, W0], &[false, false, false, true], false));
 }
 
 #[test]
