@@ -492,21 +492,6 @@ impl Machine {
         self.cause(world, lanes)
     }
 
-    /// The cause for which the next cycle does not happen, if there is one.
-    #[tactic(auto, unfolding(crate::specs::Cycle::stop))]
-    pub fn stop<X: Device>(&self, world: &World<'_, X>) -> Option<Why>
-        ensures { result ≡ stop
-            (setting_of world.now.script.now (X.meaning world.now.device.now) world.now.limit)
-            self.now }
-    {
-        if self.at == world.limit {
-            return Some(Why::Limit);
-        }
-        let mut named = Begun::nothing();
-        self.begin_into(world, &mut named);
-        self.cause(world, &named)
-    }
-
     /// Does one cycle of which this is what the lanes begin, counts it and leaves its mark alone in the marks; or changes nothing
     /// and names the stop.
     #[tactic(auto, unfolding(crate::specs::Cycle::stop))]
