@@ -127,7 +127,14 @@ fn turns(rt: HostRuntime) {
     let asked = [R0, R0, R3, W0];
     assert!(rt; grants(&mut fabric, &asked, &[false, true, true, false], false));
     fabric.served(0, Master::DmaRead);
-    assert!(rt; grants(&mut fabric, &[R0, R0, R0, W0], &[false, false, false, true], false));
+    assert!(rt;
+        grants(
+            &mut fabric,
+            &[R0, R0, R0, W0],
+            &[false, false, false, true],
+            false
+        )
+    );
 }
 
 #[test]
