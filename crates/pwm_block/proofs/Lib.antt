@@ -1,0 +1,7 @@
+mod Counting
+mod Held
+mod Periods
+mod Pins
+mod Rows
+mod Slices
+mod Wraps

@@ -1,0 +1,89 @@
+//! The block as a device.
+
+ghost use Rattle.std.specs.Prelude.{◌≡◌, length};
+ghost use Rattle.pwm_block.specs.Device.{pwm_device};
+ghost use Rattle.pwm_block.specs.State.{at_reset};
+ghost use Rattle.pwm_block.specs.Step.{after_step};
+ghost use Rattle.pwm_block.specs.Packing.{words_of, block_of};
+
+use crate::change::Change;
+use crate::packing::{Interrupts, LAST, PINS, SIGNS, WORDS, renew};
+use crate::words;
+use lane_look::{Device, Wires};
+
+/// The PWM block at 40050000 to 40053FFF (RP2040 Datasheet, 4.5). Its state is 68 words. Output A or B of slice n is that of pins 2n
+/// or 2n + 1 and of those 16 further by function 4, the input of slice n is the level of pin 2n + 1, and the interrupt line is 4.
+#[derive(Clone, Copy, Debug, PartialEq, Eq, Default)]
+pub struct Pwm;
+
+impl Pwm {
+    /// The block. Its state is in the words that each call is lent.
+    pub fn new() -> Pwm {
+        Pwm
+    }
+}
+
+impl Device for Pwm {
+    ghost meaning = { λ _. pwm_device };
+
+    fn words(&self) -> usize {
+        WORDS
+    }
+
+    fn start(&self, state: &mut [u32]) {
+        start(state);
+    }
+
+    fn owns(&self, address: u32) -> bool {
+        address / 0x4000 == 0x4005_0000 / 0x4000
+    }
+
+    fn read(&self, state: &mut [u32], address: u32) -> u32 {
+        words::read(state, address)
+    }
+
+    fn write(&self, state: &mut [u32], address: u32, value: u32) {
+        words::write(state, address, value);
+    }
+
+    #[inline(always)]
+    fn step(&self, state: &mut [u32], _cycle: u64, pads: u32) -> Wires {
+        let signs = state[SIGNS];
+        let wires = Wires {
+            mask: 0,
+            level: 0,
+            pwm: state[PINS],
+            irq: ((signs >> 8) & 1) << 4,
+        };
+        if signs & 0xff == 0 {
+            state[LAST] = pads;
+        } else {
+            step_slices(state, pads);
+        }
+        wires
+    }
+}
+
+/// The state at reset.
+fn start(state: &mut [u32])
+    requires { length state.old ≡ 68 }
+    ensures { state.new ≡ words_of at_reset }
+{
+    let none = Interrupts {
+        raised: 0,
+        enabled: 0,
+        forced: 0,
+    };
+    renew(state, &Change::Reset, 0, none);
+}
+
+/// A cycle of all slices.
+#[inline(never)]
+fn step_slices(state: &mut [u32], pads: u32)
+    requires { length state.old ≡ 68 }
+    ensures { state.new ≡ words_of (after_step pads (block_of state.old)) }
+{
+    let last = state[LAST];
+    let interrupts = Interrupts::load(state);
+    renew(state, &Change::Step { pads, last }, pads, interrupts);
+}
