@@ -1,0 +1,4 @@
+pub mod Words
+pub mod Device
+pub mod Laws
+pub mod Table
