@@ -4,6 +4,7 @@ ghost use Rattle.std.specs.Prelude.{◌≡◌};
 ghost use Rattle.rp_base.specs.Map.{IsWithin};
 ghost use Rattle.bus_fabric.specs.Masters.{HasPort};
 ghost use Rattle.m0_core.specs.Cycle.{want_of};
+ghost use Rattle.rp_machine.specs.Laws.{is_outer};
 ghost use Rattle.rp_machine.specs.Deeds.{port_at, asked_at, spot_of, asked_of, is_done_at, is_lock, is_same_word, reads_at, is_core1, is_late, stored_at, StoresInSram};
 
 use crate::deed::Deed;
@@ -148,6 +149,17 @@ fn is_late(rival: &Want, master: Master, spot: &Spot) -> bool
     is_core1(master) && is_lock(spot) && reads_at(rival, spot)
 }
 
+/// A block of the peripherals.
+#[inline(always)]
+fn is_outer(block: Block) -> bool
+    ensures { result ≡ is_outer block }
+{
+    match block {
+        Block::IoBank0 | Block::PadsBank0 | Block::Uart0 | Block::Uart1 | Block::Timer => true,
+        Block::Resets | Block::Busctrl | Block::Dma | Block::Pio0 | Block::Pio1 => false,
+    }
+}
+
 /// The write to SRAM of a request to a spot, if it is one.
 fn stored_at(request: &Request, spot: &Spot) -> Deed
     requires { IsWithin spot.now }
@@ -235,6 +247,27 @@ impl Machine {
         }
     }
 
+    /// The same; of an access to the peripherals no word is read.
+    #[inline(always)]
+    fn is_open_register<X: Device>(
+        &self,
+        world: &World<'_, X>,
+        seen: &SeenOutputs,
+        request: &Request,
+        block: Block,
+        offset: u16,
+        alias: u8,
+    ) -> bool
+        ensures { result ≡ is_open request.now (spot.Reg block offset alias) (block_word
+            (setting_of world.now.script.now (X.meaning world.now.device.now) world.now.limit)
+            seen.now block offset self.now) }
+    {
+        if is_outer(block) {
+            return self.outer.allows(block, offset, None);
+        }
+        self.is_open_word(world, seen, request, block, offset, alias)
+    }
+
     /// The access of a master to this spot, which is not in SRAM, finds a word and is allowed.
     #[inline(always)]
     #[tactic(auto, unfolding(crate::specs::Deeds::word_for))]
@@ -255,7 +288,7 @@ impl Machine {
                 block,
                 offset,
                 alias,
-            } => self.is_open_word(world, seen, request, block, offset, alias),
+            } => self.is_open_register(world, seen, request, block, offset, alias),
             Spot::Sio { offset } => self.sio_word(master, offset).is_some(),
             Spot::Outside => self.outer.owned_word(world, request.address).is_some(),
             Spot::Ram { .. } | Spot::Ppb { .. } => false,
