@@ -1,7 +1,14 @@
 pub mod Aiming
 pub mod Bits
+pub mod Button
 pub mod EdgeCounter
 pub mod Hearing
 pub mod HearingLaws
+pub mod Loop
+pub mod Part
+pub mod PartLaws
+pub mod Parts
 pub mod Probe
+pub mod Shift
+pub mod Wiring
 pub mod Ws2812

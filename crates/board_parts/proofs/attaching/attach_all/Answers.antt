@@ -1,0 +1,48 @@
+use Rattle.std.proofs.Common.{◌≡◌, List, map, true, sym, ap, subst, ◌∙◌, arith, rules}
+use Rattle.std.proofs.lemmas.Grind.{common_steps}
+use Rattle.lane_look.specs.Device.{DeviceMeaning}
+use Rattle.board_parts.specs.Parts.{all_placed, parts_device, words_of}
+use Rattle.board_parts.specs.Wiring.{counts_of, wired_in}
+use Rattle.board_parts.proofs.Placing.{all_attached, all_fit_first, fit_from, placed_placed, placed_words}
+use Rattle.board_parts.proofs.attaching.attach_all.Goals as goal
+
+pub loop-part-init : goal.loop-part-init
+loop-part-init g c =
+    let wirings = map wired_in c.args.wirings.now in
+    let all = all_fit_first (counts_of (map g.P.Part.meaning c.args.parts.items)) wirings c.requires.fit in (
+      first_of (search rules, grind (arith, common_steps)),
+      subst (λ (ps : List g.row.P.Denot). fit_from 0 (counts_of (map g.P.Part.meaning ps)) wirings ≡ true) (sym c.into_iter-part-iterator.ensures.into_iter_gives.0) all,
+      first_of (search rules, grind (arith, common_steps)),
+      first_of (search rules, grind (arith, common_steps)),
+    )
+
+pub new-requires-clause-placed : goal.new-requires-clause-placed
+new-requires-clause-placed g c =
+    let at = c.loop-part in
+    let wirings = map wired_in c.args.wirings.now in
+    let parts = map g.P.Part.meaning c.args.parts.items in
+    let same = all_attached _ at.index g.P.Part.meaning _ _ c.args.parts.items wirings (sym at.invariant.2 ∙ c.in-None.ensures.steps.0) at.invariant.0 c.into_iter-part-iterator.ensures.into_iter_gives.0 in
+    subst (λ ps. all_placed ps ≡ true) (sym same) (placed_placed parts wirings c.requires.fit)
+
+pub new-requires-clause-room : goal.new-requires-clause-room
+new-requires-clause-room g c =
+    let at = c.loop-part in
+    let wirings = map wired_in c.args.wirings.now in
+    let parts = map g.P.Part.meaning c.args.parts.items in
+    let same = all_attached _ at.index g.P.Part.meaning _ _ c.args.parts.items wirings (sym at.invariant.2 ∙ c.in-None.ensures.steps.0) at.invariant.0 c.into_iter-part-iterator.ensures.into_iter_gives.0 in
+    omega (arith, ap words_of same, placed_words parts wirings, c.requires.room)
+
+pub returns-clause-device : goal.returns-clause-device
+returns-clause-device g c =
+    let at = c.loop-part in
+    let wirings = map wired_in c.args.wirings.now in
+    let same = all_attached _ at.index g.P.Part.meaning _ _ c.args.parts.items wirings (sym at.invariant.2 ∙ c.in-None.ensures.steps.0) at.invariant.0 c.into_iter-part-iterator.ensures.into_iter_gives.0 in
+    c.new.ensures ∙ ap parts_device same
+
+pub returns-clause-words : goal.returns-clause-words
+returns-clause-words g c =
+    let at = c.loop-part in
+    let wirings = map wired_in c.args.wirings.now in
+    let parts = map g.P.Part.meaning c.args.parts.items in
+    let same = all_attached _ at.index g.P.Part.meaning _ _ c.args.parts.items wirings (sym at.invariant.2 ∙ c.in-None.ensures.steps.0) at.invariant.0 c.into_iter-part-iterator.ensures.into_iter_gives.0 in
+    omega (arith, ap (λ (d : DeviceMeaning). d.count) c.new.ensures, ap words_of same, placed_words parts wirings)

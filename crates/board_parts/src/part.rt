@@ -1,0 +1,81 @@
+//! What drives pins.
+
+ghost use Rattle.std.specs.Int.{bit_at};
+ghost use Rattle.std.specs.Prelude.{◌≡◌, ℕ, ◌<◌, ◌≤◌, List, true, length};
+ghost use Rattle.board_parts.specs.Part.{PartMeaning, are_pins, at_level};
+
+use arrayvec::ArrayVec;
+
+/// What a part drives in a cycle. Pin 0 is in bit 0.
+#[derive(Clone, Copy, Debug, PartialEq, Eq, Default)]
+pub struct Drive {
+    /// The pins that it drives.
+    pub mask: u32,
+    /// The levels of these pins. A bit outside the mask means nothing.
+    pub level: u32,
+}
+
+/// A part of a board: it is attached to pins, sees their levels in each cycle, and drives some of them. Whoever runs it holds its state, a
+/// slice of exactly `words()` words, and lends it to each call.
+pub trait Part: Drop {
+    /// The pins that it is attached to, in the part's own order.
+    ghost attached: { Self → List ℕ };
+
+    /// What it does. No call changes it.
+    ghost meaning: { Self → PartMeaning };
+
+    /// How many pins it has.
+    fn pins(&self) -> usize
+        ensures { result ≡ (meaning self.now).pins };
+
+    /// Attaches it to `pins()` different pins, each at most 29, in its own order.
+    fn attach(&mut self, pins: &[u8])
+        requires { are_pins (meaning self.old).pins pins.now ≡ true }
+        ensures same { meaning self.new ≡ meaning self.old }
+        ensures attached { attached self.new ≡ pins.now };
+
+    /// How many words of state it has.
+    fn words(&self) -> usize
+        ensures { result ≡ (meaning self.now).words };
+
+    /// Leaves the state at the start of a run.
+    fn start(&self, state: &mut [u32])
+        requires { length state.old ≡ (meaning self.now).words }
+        ensures { state.new ≡ (meaning self.now).first (attached self.now) };
+
+    /// One cycle of a part that is attached, by the cycle's number and the levels of all pins at its start, pin 0 in bit 0.
+    fn step(&self, state: &mut [u32], cycle: u64, pads: u32) -> Drive
+        requires state { length state.old ≡ (meaning self.now).words }
+        requires placed { are_pins (meaning self.now).pins (attached self.now) ≡ true }
+        ensures drive { result ≡ (meaning self.now).drives (attached self.now) state.old cycle pads }
+        ensures state { state.new ≡ (meaning self.now).after_step (attached self.now) state.old cycle pads };
+}
+
+/// Keeps these pins, and no others.
+pub(crate) fn keep<const N: usize>(pins: &[u8], kept: &mut ArrayVec<u8, N>)
+    requires { length pins.now ≤ N }
+    ensures { kept.new.items ≡ pins.now }
+{
+    kept.clear();
+    let _fits = kept.try_extend_from_slice(pins);
+}
+
+/// The level of a pin, 0 or 1.
+pub(crate) fn level_of(pin: u8, pads: u32) -> u32
+    requires { pin < 32 }
+    ensures level { result ≡ bit_at pads pin }
+    ensures bit { result < 2 }
+{
+    pads >> pin & 1
+}
+
+/// Drives a pin at a level.
+pub(crate) fn at_level(pin: u8, level: u32) -> Drive
+    requires pin { pin < 32 }
+    requires level { level < 2 }
+    ensures { result ≡ at_level pin level }
+{
+    let mask = 1 << pin;
+    let level = if level == 0 { 0 } else { mask };
+    Drive { mask, level }
+}
