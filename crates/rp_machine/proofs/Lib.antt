@@ -6,6 +6,7 @@ pub mod HeldDma
 pub mod HeldLanes
 pub mod Joining
 pub mod Kept
+pub mod Numbered
 pub mod OneCore
 pub mod Opening
 pub mod Placing

@@ -7,6 +7,7 @@ pub mod Cycle
 pub mod Deeds
 pub mod Events
 pub mod Laws
+pub mod LineLaws
 pub mod Loading
 pub mod Offsets
 pub mod Readers

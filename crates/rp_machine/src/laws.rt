@@ -3,6 +3,7 @@
 ghost use Rattle.rp_machine.specs.Laws.{RunsFollowEachOther, SramChangesByTheWritesAlone, EffectsComeAfterTheSteps, SioIsKnown};
 ghost use Rattle.rp_machine.specs.BusRest.{CyclesAtRestChangeTheLanesAlone};
 ghost use Rattle.rp_machine.specs.Alone.{OneCoreGoesAlone};
+ghost use Rattle.rp_machine.specs.LineLaws.{EachLineHasItsNumber, OneCoreGetsALock};
 
 /// A run of some cycles and then of others is one of all of them: it ends in the same state and has the same events.
 pub fn runs_follow_each_other()
@@ -39,4 +40,15 @@ pub fn one_core_goes_alone()
 /// launcher has a word.
 pub fn sio_is_known()
     ensures { SioIsKnown }
+{}
+
+/// Each line stands at its interrupt number of the core that it goes to: TIMER 0 to 3, PIO0 7 and 8, PIO1 9 and 10, DMA 11 and 12,
+/// IO_BANK0 13, SIO 15 of core 0 and 16 of core 1, UART0 20, UART1 21; the device's come to any of the 32.
+pub fn each_line_has_its_number()
+    ensures { EachLineHasItsNumber }
+{}
+
+/// Of two cores that read one free spinlock in one cycle core 0 gets its bit and core 1 reads 0; alone each gets it.
+pub fn one_core_gets_a_lock()
+    ensures { OneCoreGetsALock }
 {}
