@@ -55,12 +55,12 @@ cycle_same {S} m lane cycle rest state state' over round e_state e_round e =
 -- ---- all cycles
 
 -- after k cycles the replay of the report stands where the run alone stands
-record IsLevel {S B : Type 0} (m : Meaning (Unit {0}) S B) (lane : ℕ) (s : State) (report : Report S) (k : ℕ) : Type 0 where
-  same_state : (replay_of m tt report k).state ≡ (alone m (around lane) tt report.before report.start s k).state
-  same_around : overlaid m lane report s k ≡ (alone m (around lane) tt report.before report.start s k).around
-  same_talk : (replay_of m tt report k).talk ≡ (alone m (around lane) tt report.before report.start s k).talk
+pub record IsLevel {S B : Type 0} (m : Meaning (Unit {0}) S B) (lane : ℕ) (s : State) (report : Report S) (k : ℕ) : Type 0 where
+  pub same_state : (replay_of m tt report k).state ≡ (alone m (around lane) tt report.before report.start s k).state
+  pub same_around : overlaid m lane report s k ≡ (alone m (around lane) tt report.before report.start s k).around
+  pub same_talk : (replay_of m tt report k).talk ≡ (alone m (around lane) tt report.before report.start s k).talk
 
-level_next : {S B : Type 0} (m : Meaning (Unit {0}) S B) (lane : ℕ) (s : State) (report : Report S) (k : ℕ) → IsLevel m lane s report k
+pub level_next : {S B : Type 0} (m : Meaning (Unit {0}) S B) (lane : ℕ) (s : State) (report : Report S) (k : ℕ) → IsLevel m lane s report k
     → differs (answer_of lane (overlaid m lane report s k)) (talk_in m report k) ≡ false → IsLevel m lane s report (suc k)
 unfolding replayed alone overlaid
 level_next {S} {B} m lane s report k h e =
@@ -78,7 +78,7 @@ level_next {S} {B} m lane s report k h e =
           ∙ ap (λ (es : List Entry). es ++ asked (answer_of lane a.around) (m.asks tt a.state cycle)) h.same_talk;
     }
 
-level_first : {S B : Type 0} (m : Meaning (Unit {0}) S B) (lane : ℕ) (s : State) (report : Report S) → IsLevel m lane s report 0
+pub level_first : {S B : Type 0} (m : Meaning (Unit {0}) S B) (lane : ℕ) (s : State) (report : Report S) → IsLevel m lane s report 0
 unfolding replayed alone overlaid
 level_first m lane s report = record { same_state = refl; same_around = refl; same_talk = refl }
 

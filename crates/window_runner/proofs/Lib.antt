@@ -1,3 +1,4 @@
+pub mod Accepted
 pub mod Accepting
 pub mod Along
 pub mod CycleEvents

@@ -1,3 +1,4 @@
+pub mod AcceptLaws
 pub mod Alone
 pub mod Laws
 pub mod Merge

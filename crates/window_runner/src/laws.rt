@@ -2,6 +2,7 @@
 
 ghost use Rattle.window_runner.specs.Laws.{TheEventsAreThoseOfCycles, TheMarksTellTheEvents, WindowsAreFew};
 ghost use Rattle.window_runner.specs.Orders.{AnyOrder, EachCameOnce, AWindowPasses};
+ghost use Rattle.window_runner.specs.AcceptLaws.{WhatIsAcceptedIsTheRunAlone};
 
 /// Whatever the seats do in whatever order, and whatever true reports come or do not come: the machine after m commits is
 /// the state at which the run tries its window m, counted from 0, or at which it stops where it does not try that many.
@@ -32,4 +33,9 @@ pub fn the_marks_tell_the_events()
 /// A run tries at most as many windows as it has cycles.
 pub fn windows_are_few()
     ensures { WindowsAreFew }
+{}
+
+/// A true report is accepted for a state exactly where it is the run alone of its lane there.
+pub fn what_is_accepted_is_the_run_alone()
+    ensures { WhatIsAcceptedIsTheRunAlone }
 {}
