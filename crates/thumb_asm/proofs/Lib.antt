@@ -1,0 +1,11 @@
+pub mod Decoded
+pub mod FirstThat
+pub mod LinesOf
+pub mod Lists
+pub mod NameLaws
+pub mod Numbers
+pub mod Parts
+pub mod Scanning
+pub mod Sizes
+pub mod SourceSteps
+pub mod Whole

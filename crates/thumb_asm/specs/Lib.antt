@@ -1,0 +1,10 @@
+pub mod Forms
+pub mod FormOps
+pub mod Laws
+pub mod Lines
+pub mod Names
+pub mod Operands
+pub mod Placed
+pub mod Source
+pub mod Tokens
+pub mod Words

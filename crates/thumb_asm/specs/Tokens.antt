@@ -1,0 +1,59 @@
+-- The tokens of a line (the project's own). `;` begins a comment; spaces, tabs and CRs stand between tokens.
+use Rattle.std.specs.Prelude.{ℕ, ◌+◌, Bool, false, ◌==◌, ◌&&◌, ◌||◌, nat_lt, if◌then◌else◌, List, [], ◌∷◌, ◌++◌, take, Option, None, Some, is_some, slice_range, position}
+use Rattle.std.specs.Option.{option_map_or}
+use Rattle.thumb_asm.specs.declared.token.Token.{Token}
+use Rattle.thumb_asm.specs.declared.token.Token.TheVariants.{Comma, Colon, Hash, OpenBracket, CloseBracket, OpenBrace, CloseBrace, Bang, Plus, Minus}
+use Rattle.thumb_asm.specs.Words.{is_between, is_digit, word_token}
+
+-- the part of a line before its comment
+unfoldable pub code_part : List ℕ → List ℕ
+code_part line = option_map_or (λ end. take end line) (position (λ c. c == 59) line) line
+
+-- letters, digits and `_` go on with a word
+abbrev pub is_word_char : ℕ → Bool
+is_word_char c = is_between 97 122 c || is_between 65 90 c || is_digit c || c == 95
+
+-- the signs `,` `:` `#` `[` `]` `{` `}` `!` `+` `-`
+abbrev pub sign_of : ℕ → Option Token
+sign_of c =
+    if c == 44 then Some Comma
+    else if c == 58 then Some Colon
+    else if c == 35 then Some Hash
+    else if c == 91 then Some OpenBracket
+    else if c == 93 then Some CloseBracket
+    else if c == 123 then Some OpenBrace
+    else if c == 125 then Some CloseBrace
+    else if c == 33 then Some Bang
+    else if c == 43 then Some Plus
+    else if c == 45 then Some Minus
+    else None
+
+-- what may stand before a comment: also space, tab, CR and `.`
+abbrev pub is_allowed : ℕ → Bool
+is_allowed c = is_word_char c || is_some (sign_of c) || c == 32 || c == 9 || c == 13 || c == 46
+
+abbrev pub begins_with_digit : List ℕ → Bool
+begins_with_digit [] = false
+begins_with_digit (c ∷ cs) = is_digit c
+
+-- `.` begins a word, and `-` does where a digit follows it
+abbrev pub begins_word : ℕ → List ℕ → Bool
+begins_word c after = c == 46 || (c == 45 && begins_with_digit after)
+
+-- the word of a line between two places, if there is one
+abbrev pub word_tokens : List ℕ → ℕ → ℕ → List Token
+word_tokens line start end = if nat_lt start end then word_token start (slice_range line start end) ∷ [] else []
+
+abbrev pub sign_tokens : ℕ → List Token
+sign_tokens c = option_map_or (λ sign. sign ∷ []) (sign_of c) []
+
+-- the tokens of a line from this place on, where a word may have begun at `start`
+unfoldable pub tokens_from : List ℕ → ℕ → ℕ → List ℕ → List Token
+tokens_from line start at [] = word_tokens line start at
+tokens_from line start at (c ∷ cs) =
+    if is_word_char c then tokens_from line start (at + 1) cs
+    else if begins_word c cs then word_tokens line start at ++ tokens_from line at (at + 1) cs
+    else word_tokens line start at ++ (sign_tokens c ++ tokens_from line (at + 1) (at + 1) cs)
+
+unfoldable pub tokens_of : List ℕ → List Token
+tokens_of line = tokens_from line 0 0 line
