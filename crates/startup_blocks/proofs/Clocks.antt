@@ -1,5 +1,5 @@
 -- Where CLOCKS has words.
-use Rattle.std.proofs.Common.{◌≡◌, ℕ, ◌%◌, Bool, true, false, refl, ap}
+use Rattle.std.proofs.Common.{◌≡◌, ℕ, ◌%◌, Bool, false, refl, ap}
 use Rattle.std.specs.Prelude.{◌==◌, ◌&&◌, nat_lt}
 use Rattle.rp_base.specs.Rows.{has_row}
 use Rattle.rp_base.proofs.Rows.{told}

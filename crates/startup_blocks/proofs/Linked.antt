@@ -1,10 +1,10 @@
 -- An image with the table of routines.
-use Rattle.std.proofs.Common.{◌≡◌, ◌≤◌, ◌<◌, ◌⊎◌, inl, inr, ℕ, zero, suc, ◌+◌, Bool, true, false, cond, not, ◌&&◌, ◌||◌, List, [], ◌∷◌, ◌++◌, length, take, drop, Option, Some, None, refl, sym, ap, subst, ◌∙◌, arith, append_assoc, ltb, leb}
+use Rattle.std.proofs.Common.{◌≡◌, ◌≤◌, ◌<◌, ◌⊎◌, inl, inr, ℕ, zero, suc, ◌+◌, Bool, true, false, cond, not, ◌&&◌, List, [], ◌∷◌, ◌++◌, length, take, drop, Option, Some, None, refl, sym, ap, subst, ◌∙◌, arith, append_assoc, ltb, leb}
 use Rattle.std.specs.List.{find, position, position_or_len, range_with_len, AllByRecursion}
 use Rattle.std.proofs.lemmas.Bool.{or_parts, ltb-false}
 use Rattle.uf2_image.specs.declared.parts.Part.{Part}
 use Rattle.uf2_image.specs.declared.parts.Image.{Image}
-use Rattle.uf2_image.specs.Uf2.{insert_part, FitsSram, LieFrom}
+use Rattle.uf2_image.specs.Uf2.{insert_part, FitsSram}
 use Rattle.uf2_image.specs.Reading.{AreApart}
 use Rattle.uf2_image.proofs.Placing.{LieFrom-insert_part}
 use Rattle.uf2_image.proofs.Spread.{apart_rows}

@@ -1,11 +1,10 @@
 -- Nothing that start-up code waits for lasts.
-use Rattle.std.proofs.Common.{◌≡◌, ◌<◌, ℕ, ◌+◌, ◌*◌, ◌/◌, ◌%◌, ◌^◌, true, List, length, Some, refl, ap, ◌∙◌, arith}
-use Rattle.std.specs.Prelude.{slice_index, slice_set}
+use Rattle.std.proofs.Common.{◌≡◌, ℕ, ◌+◌, ◌*◌, ◌/◌, ◌%◌, ◌^◌, true, Some, refl, ap, ◌∙◌, arith}
+use Rattle.std.specs.Prelude.{slice_index}
 use Rattle.std.proofs.lemmas.Bool.{eq-eqb, eqb-true}
 use Rattle.std.proofs.lemmas.List.{get_or-set_same}
 use Rattle.rp_base.specs.Word.{has_bit}
-use Rattle.startup_blocks.specs.Words.{word_of, read_at, written}
-use Rattle.startup_blocks.specs.Laws.{NeverWaits, SelectsAtOnce, OscillatorAndPllsAreReady, ClocksAreSelectedAtOnce, TheTickRunsAtOnce}
+use Rattle.startup_blocks.specs.Laws.{OscillatorAndPllsAreReady, ClocksAreSelectedAtOnce, TheTickRunsAtOnce}
 
 locked : (x : ℕ) → has_bit (0x80000000 + x % 2 ^ 9) 31 ≡ true
 locked x = eq-eqb ((0x80000000 + x % 512) / 2147483648 % 2) 1 (omega arith)

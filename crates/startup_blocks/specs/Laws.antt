@@ -1,5 +1,5 @@
 -- Laws of the start-up registers: no wait of a usual start-up lasts.
-use Rattle.std.specs.Prelude.{◌≡◌, ℕ, ◌%◌, ◌^◌, ◌<◌, Bool, true, List, length, Some}
+use Rattle.std.specs.Prelude.{◌≡◌, ℕ, ◌%◌, ◌^◌, true, List, length, Some}
 use Rattle.rp_base.specs.Word.{has_bit}
 use Rattle.startup_blocks.specs.Words.{word_of, read_at, written}
 

@@ -1,6 +1,6 @@
 -- A table of routines for images, in SRAM bank 4: memset and memcpy (their meaning is that of ISO C, 7.24.6.1 and 7.24.2.1, but what they
 -- leave in R0 to R3 is the table's own; ARMv6-M Architecture Reference Manual, A6.7, for the instructions).
-use Rattle.std.specs.Prelude.{◌≡◌, ◌≤◌, ◌<◌, ℕ, ◌+◌, nat_le, nat_lt, ◌&&◌, Bool, List, [], ◌∷◌, ◌++◌, length, Option, Some, None, Result, Ok, Err}
+use Rattle.std.specs.Prelude.{◌<◌, ℕ, ◌+◌, nat_le, nat_lt, ◌&&◌, Bool, List, [], ◌∷◌, ◌++◌, length, Option, Some, None, Result, Ok, Err}
 use Rattle.std.specs.List.{find, flat_map, list_any, range_with_len, AllByRecursion}
 use Rattle.byteorder.specs.Endian.{little_bytes}
 use Rattle.uf2_image.specs.declared.parts.Part.{Part}

@@ -1,7 +1,6 @@
 use Rattle.std.proofs.Common.{◌≡◌, ◌++◌, ◌∷◌, [], take, drop, arith}
 use Rattle.std.proofs.lemmas.Grind.{common_steps}
-use Rattle.uf2_image.specs.declared.parts.Image.{Image}
-use Rattle.startup_blocks.specs.Table.{table, with_table}
+use Rattle.startup_blocks.specs.Table.{table}
 use Rattle.startup_blocks.proofs.Linked.{put_image, put_fits}
 use Rattle.startup_blocks.proofs.linking.put.Goals as goal
 
