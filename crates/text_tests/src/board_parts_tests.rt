@@ -4,7 +4,10 @@ use arrayvec::ArrayVec;
 use board_parts::aimed::{Aimed, hear_all};
 use board_parts::change::PinChange;
 use board_parts::edge_counter::EdgeCounter;
-use board_parts::laws::{hears_in_turn, hears_its_own_pin};
+use board_parts::laws::{
+    a_loop_shows_its_first_pin, eight_clocks_fill_the_register, hears_in_turn, hears_its_own_pin,
+    no_parts_add_nothing, pressed_in_the_second_half, the_earlier_part_drives,
+};
 use board_parts::probe::Probe;
 use board_parts::ws2812::Ws2812;
 use std::test::Fail;
@@ -103,4 +106,9 @@ fn boxed_probes_hear_their_own_pins(rt: HostRuntime) -> Result<(), Fail> {
 fn laws() {
     hears_in_turn();
     hears_its_own_pin();
+    no_parts_add_nothing();
+    the_earlier_part_drives();
+    pressed_in_the_second_half();
+    eight_clocks_fill_the_register();
+    a_loop_shows_its_first_pin();
 }
