@@ -60,15 +60,14 @@ fn count_words<P: Part>(list: &[P]) -> usize
     }
 }
 
-impl<P: Part + Sync> Row<P> {
+impl<P: Part> Row<P> {
     /// These parts, in this order. Each is attached.
     pub fn new(list: Vec<P>) -> Row<P>
         requires placed { all_placed (map (λ p. placed_at (P.attached p) (P.meaning p))
             list.items) ≡ true }
         requires room { words_of (map (λ p. placed_at (P.attached p) (P.meaning p))
             list.items) ≤ 128 }
-        ensures { ⟦<Row<P> as Device>⟧.meaning result
-            ≡ parts_device (map (λ p. placed_at (P.attached p) (P.meaning p)) list.items) }
+        ensures { result.list ≡ list }
     {
         let count = count_words(&list);
         Row { list, count }

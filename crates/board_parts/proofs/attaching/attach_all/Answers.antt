@@ -1,6 +1,5 @@
 use Rattle.std.proofs.Common.{◌≡◌, List, map, true, sym, ap, subst, ◌∙◌, arith, rules}
 use Rattle.std.proofs.lemmas.Grind.{common_steps}
-use Rattle.lane_look.specs.Device.{DeviceMeaning}
 use Rattle.board_parts.specs.Parts.{all_placed, parts_device, words_of}
 use Rattle.board_parts.specs.Wiring.{counts_of, wired_in}
 use Rattle.board_parts.proofs.Placing.{all_attached, all_fit_first, fit_from, placed_placed, placed_words}
@@ -37,7 +36,7 @@ returns-clause-device g c =
     let at = c.loop-part in
     let wirings = map wired_in c.args.wirings.now in
     let same = all_attached _ at.index g.P.Part.meaning _ _ c.args.parts.items wirings (sym at.invariant.2 ∙ c.in-None.ensures.steps.0) at.invariant.0 c.into_iter-part-iterator.ensures.into_iter_gives.0 in
-    c.new.ensures ∙ ap parts_device same
+    rw c.new.ensures (ap parts_device same)
 
 pub returns-clause-words : goal.returns-clause-words
 returns-clause-words g c =
@@ -45,4 +44,4 @@ returns-clause-words g c =
     let wirings = map wired_in c.args.wirings.now in
     let parts = map g.P.Part.meaning c.args.parts.items in
     let same = all_attached _ at.index g.P.Part.meaning _ _ c.args.parts.items wirings (sym at.invariant.2 ∙ c.in-None.ensures.steps.0) at.invariant.0 c.into_iter-part-iterator.ensures.into_iter_gives.0 in
-    omega (arith, ap (λ (d : DeviceMeaning). d.count) c.new.ensures, ap words_of same, placed_words parts wirings)
+    rw c.new.ensures (omega (arith, ap words_of same, placed_words parts wirings))
