@@ -1,26 +1,20 @@
 -- The limit of a run that the words ask for.
-use Rattle.std.proofs.Common.{◌≡◌, arith, ℕ, ◌≤◌, nat_le, Bool, true, false, ◌&&◌, if◌then◌else◌, List, [], ◌∷◌, Option, Some, None, option_map, refl, subst}
+use Rattle.std.proofs.Common.{◌≡◌, arith, ℕ, ◌-◌, ◌^◌, ◌≤◌, nat_le, Bool, true, false, ◌&&◌, if◌then◌else◌, List, [], ◌∷◌, Option, Some, None, IfSome, subst}
 use Rattle.std.specs.Option.{option_and_then}
 use Rattle.std.specs.Prelude.{codes}
 use Rattle.std.specs.Str.{bytes_eq}
 use Rattle.std.proofs.lemmas.Option.{none-some, cond_some}
 use Rattle.std.proofs.lemmas.Bool.{leb-true}
-use Rattle.pio_words.specs.declared.side.SideConfig.{SideConfig}
-use Rattle.board_parts.specs.declared.target.Target.{Target}
 use Rattle.command_words.specs.Line.{line_in}
+use Rattle.command_words.specs.Lists.{given}
 use Rattle.command_words.specs.Numbers.{within, number_within, number_of}
 use Rattle.command_words.specs.Options.{Setting, settings_of, is_normal, value_for, number_or_zero}
-use Rattle.command_words.specs.Entries.{Entry}
-use Rattle.command_words.specs.Words.{Run, Command, IsLimited, IsRead, workers_of, cycles_in, workers_in, run_with, run_reading, disassemble, dis_reading, generate, gen_reading, written, reading}
+use Rattle.command_words.specs.Entries.{entries_of}
+use Rattle.command_words.specs.Targets.{targets_of}
+use Rattle.command_words.specs.Dis.{words_of, side_of}
+use Rattle.command_words.specs.Words.{Run, Command, IsLimited, IsRead, workers_of, cycles_in, workers_in, list_in, run_reading, dis_reading, gen_reading, written, reading}
 use Rattle.command_words.specs.Words.Command.{RunImage, DebugImage, Disassemble, Assemble, Generate}
-
-abbrev IsRunLimited : Option Run → Type 0
-IsRunLimited None = Unit {0}
-IsRunLimited (Some run) = (run.cycles ≤ 1000000000) × (run.workers ≤ 8)
-
-abbrev AreLimited : Option Command → Type 0
-AreLimited None = Unit {0}
-AreLimited (Some command) = IsLimited command
+use Rattle.command_words.proofs.Given.{given_all}
 
 second : (a b : Bool) → (a && b) ≡ true → b ≡ true
 second true b e = e
@@ -33,7 +27,7 @@ within_high low high (Some n) k e =
     let le : n ≤ high = leb-true n high (second (nat_le low n) (nat_le n high) h.0) in
     rw h.1 at le
 
-cycles_high : (value : Option (List ℕ)) (k : ℕ) → option_and_then (number_within 1 1000000000) value ≡ Some k → k ≤ 1000000000
+cycles_high : (value : Option (List ℕ)) (k : ℕ) → given value (number_within 1 1000000000) ≡ Some k → k ≤ 1000000000
 cycles_high None k e = absurd (none-some k e)
 cycles_high (Some word) k e = within_high 1 1000000000 (number_of word) k e
 
@@ -41,74 +35,61 @@ zero_high : (high : ℕ) (value : Option (List ℕ)) (k : ℕ) → number_or_zer
 zero_high high None k e = let least : 0 ≡ k = cc e in omega arith
 zero_high high (Some word) k e = within_high 0 high (number_of word) k e
 
-with_limited : (image : List ℕ) (cycles workers : Option ℕ) (script : Option (List ℕ)) (pio : Option (List Entry)) (probes : Option (List Target)) (stats : Bool) → ((k : ℕ) → cycles ≡ Some k → k ≤ 1000000000) → ((k : ℕ) → workers ≡ Some k → k ≤ 8) → IsRunLimited (run_with image cycles workers script pio probes stats)
-with_limited image None workers script pio probes stats h w = tt
-with_limited image (Some n) None script pio probes stats h w = tt
-with_limited image (Some n) (Some k) script None probes stats h w = tt
-with_limited image (Some n) (Some k) script (Some entries) None stats h w = tt
-with_limited image (Some n) (Some k) script (Some entries) (Some targets) stats h w = (h n refl, w k refl)
+abbrev AreRunLimits : Run → Type 0
+AreRunLimits run = (run.cycles ≤ 1000000000) × (run.workers ≤ 8)
 
-run_limited : (probes : ℕ) (image : List ℕ) (settings : List Setting) → IsRunLimited (run_reading probes image settings)
+run_limited : (probes : ℕ) (image : List ℕ) (settings : List Setting) → IfSome (run_reading probes image settings) AreRunLimits
 unfolding run_reading
 run_limited probes image settings =
-    with_limited image (cycles_in settings) (workers_in settings) _ _ _ _ (λ k e. cycles_high (value_for (codes "--cycles") settings) k e) (λ k e. zero_high 8 (value_for (codes "--workers") settings) k e)
+    given_all AreRunLimits (cycles_in settings) _ (λ n cycles.
+    given_all AreRunLimits (list_in entries_of (value_for (codes "--pio") settings)) _ (λ pio _.
+    given_all AreRunLimits (list_in (targets_of probes) (value_for (codes "--probe") settings)) _ (λ targets _.
+    given_all AreRunLimits (workers_in settings) _ (λ k workers.
+    let limits : (n ≤ 1000000000) × (k ≤ 8) =
+    (cycles_high (value_for (codes "--cycles") settings) n cycles, zero_high 8 (value_for (codes "--workers") settings) k workers) in
+    limits))))
 
-as_run : (run : Option Run) → IsRunLimited run → AreLimited (option_map RunImage run)
-as_run None h = tt
-as_run (Some run) h = h
-
-as_debug : (run : Option Run) → IsRunLimited run → AreLimited (option_map DebugImage run)
-as_debug None h = tt
-as_debug (Some run) h = h
-
-disassembled : (words : Option (List ℕ)) (side : Option SideConfig) → AreLimited (disassemble words side)
-disassembled None side = tt
-disassembled (Some words) None = tt
-disassembled (Some words) (Some side) = tt
-
-dis_limited : (hex : List ℕ) (settings : List Setting) → AreLimited (dis_reading hex settings)
+dis_limited : (hex : List ℕ) (settings : List Setting) → IfSome (dis_reading hex settings) IsLimited
 unfolding dis_reading
-dis_limited hex settings = disassembled _ _
+dis_limited hex settings = given_all IsLimited (words_of hex) _ (λ words _. given_all IsLimited (side_of settings) _ (λ side _. tt {0}))
 
-generated : (number cycles workers : Option ℕ) (stats : Bool) → ((k : ℕ) → cycles ≡ Some k → k ≤ 1000000000) → ((k : ℕ) → workers ≡ Some k → k ≤ 8) → AreLimited (generate number cycles workers stats)
-generated None cycles workers stats h w = tt
-generated (Some number) None workers stats h w = tt
-generated (Some number) (Some n) None stats h w = tt
-generated (Some number) (Some n) (Some k) stats h w = (h n refl, w k refl)
-
-gen_limited : (number : List ℕ) (settings : List Setting) → AreLimited (gen_reading number settings)
+gen_limited : (number : List ℕ) (settings : List Setting) → IfSome (gen_reading number settings) IsLimited
 unfolding gen_reading
 gen_limited number settings =
-    generated _ (cycles_in settings) (workers_in settings) _ (λ k e. cycles_high (value_for (codes "--cycles") settings) k e) (λ k e. zero_high 8 (value_for (codes "--workers") settings) k e)
+    given_all IsLimited (number_within 0 (2 ^ 64 - 1) number) _ (λ m _. given_all IsLimited (cycles_in settings) _ (λ n cycles.
+    given_all IsLimited (workers_in settings) _ (λ k workers.
+    let limits : (n ≤ 1000000000) × (k ≤ 8) =
+    (cycles_high (value_for (codes "--cycles") settings) n cycles, zero_high 8 (value_for (codes "--workers") settings) k workers) in
+    limits)))
 
-either : (b : Bool) (x y : Option Command) → AreLimited x → AreLimited y → AreLimited (if b then x else y)
+either : (b : Bool) (x y : Option Command) → IfSome x IsLimited → IfSome y IsLimited → IfSome (if b then x else y) IsLimited
 either true x y h k = h
 either false x y h k = k
 
-written_limited : (probes : ℕ) (words : List (List ℕ)) → AreLimited (written probes words)
+-- what holds of a value that is there
+of_some : {X : Type 0} (P : X → Type 0) (o : Option X) (x : X) → IfSome o P → o ≡ Some x → P x
+of_some {X} P o x h e = subst (λ (o : Option X). IfSome o P) e h
+
+written_limited : (probes : ℕ) (words : List (List ℕ)) → IfSome (written probes words) IsLimited
 unfolding written
 written_limited probes [] = tt
 written_limited probes (command ∷ []) = tt
 written_limited probes (command ∷ argument ∷ options) =
-    either (bytes_eq command (codes "run")) _ _ (as_run (run_reading probes argument (settings_of options)) (run_limited probes argument (settings_of options)))
-    (either (bytes_eq command (codes "debug")) _ _ (as_debug (run_reading probes argument (settings_of options)) (run_limited probes argument (settings_of options)))
-    (either (bytes_eq command (codes "dis")) _ _ (dis_limited argument (settings_of options))
-    (either (bytes_eq command (codes "asm")) _ _ tt (either (bytes_eq command (codes "gen")) _ _ (gen_limited argument (settings_of options)) tt))))
+    let s = settings_of options in
+    let run = run_limited probes argument s in
+    either (bytes_eq command (codes "run")) _ _ (given_all IsLimited (run_reading probes argument s) _ (λ r e. of_some AreRunLimits _ r run e))
+    (either (bytes_eq command (codes "debug")) _ _ (given_all IsLimited (run_reading probes argument s) _ (λ r e. of_some AreRunLimits _ r run e))
+    (either (bytes_eq command (codes "dis")) _ _ (dis_limited argument s)
+    (either (bytes_eq command (codes "asm")) _ _ tt (either (bytes_eq command (codes "gen")) _ _ (gen_limited argument s) tt))))
 
-line_limited : (probes : ℕ) (line : Option (List (List ℕ))) → AreLimited (option_and_then (written probes) line)
-line_limited probes None = tt
-line_limited probes (Some line) = written_limited probes line
-
-read_limited : (probes : ℕ) (words : List (List ℕ)) → AreLimited (reading probes words)
+read_limited : (probes : ℕ) (words : List (List ℕ)) → IfSome (reading probes words) IsLimited
 unfolding reading
-read_limited probes words = either (is_normal words) _ _ (written_limited probes words) (line_limited probes (line_in words))
+read_limited probes words =
+    either (is_normal words) _ _ (written_limited probes words) (given_all IsLimited (line_in words) _ (λ line _. written_limited probes line))
 
 -- the command that is read has limits
-pub command_limited : (probes : ℕ) (words : List (List ℕ)) (command : Command) → reading probes words ≡ Some command → IsLimited command
-command_limited probes words command e = subst (λ (c : Option Command). AreLimited c) e (read_limited probes words)
-
 pub read_command_limited : (probes : ℕ) (command : Command) → IsRead probes command → IsLimited command
-read_command_limited probes command h = command_limited probes h.0 command h.1
+read_command_limited probes command h = of_some IsLimited (reading probes h.0) command (read_limited probes h.0) h.1
 
 -- and at most 8 workers
 pub workers_within : (command : Command) → IsLimited command → workers_of command ≤ 8

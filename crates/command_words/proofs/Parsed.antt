@@ -1,32 +1,35 @@
 -- What a parse by the table gives.
-use Rattle.std.proofs.Common.{◌≡◌, Bool, true, false, not, ◌&&◌, List, [], ◌∷◌, Option, Some, None, option_map, refl, ap, ap₂, sym, ◌∙◌}
+use Rattle.std.proofs.Common.{◌≡◌, ℕ, ◌+◌, ◌<◌, Bool, true, false, not, ◌&&◌, List, [], ◌∷◌, map, drop, length, get_or, drop-cons, add-one, Bor, Option, Some, None, option_map, refl, ap, ap₂, sym, ◌∙◌}
+use mathlib.Core.Path.{fun_ext}
 use Rattle.std.proofs.lemmas.Option.{none-some}
-use Rattle.std.specs.Prelude.{Box, codes, unwrap_or}
+use Rattle.std.specs.Prelude.{Box, unwrap_or, if◌then◌else◌}
+use Rattle.std.specs.List.{fold}
+use Rattle.std.specs.Str.{bytes_eq}
 use Rattle.std.specs.Box.{box_value}
 use Rattle.std.specs.Option.{option_and_then}
 use Rattle.clap.specs.Matches.{first_value}
-use Rattle.clap.specs.Walk.{Row, Rule, Text, rows_of, rule_of}
+use Rattle.clap.specs.Walk.{Row, Rule, Text, rows_of}
 use Rattle.clap.specs.declared.parser.matches.Found.{Found}
 use Rattle.clap.proofs.WalkLemmas.{first_value-rows}
-use Rattle.clap.specs.Built.{AddsArg, AddsSubcommand}
-use Rattle.clap.specs.Simple.{App, app_of, is_simple, subcommand_of, subcommand_rows, with_rule, with_subcommand}
+use Rattle.clap.specs.Built.{AddsSubcommand}
+use Rattle.clap.specs.Simple.{App, app_of, is_simple, subcommand_of, subcommand_rows, new_app, with_rule, with_subcommand}
 use Rattle.clap.specs.Kinds.{IsAmong, Kinds}
 use Rattle.clap.specs.Faults.{fault_of, is_simple_and_free}
-use Rattle.clap.specs.declared.builder.arg.Arg.{Arg}
 use Rattle.clap.specs.declared.builder.command.Command.{Command}
 use Rattle.clap.specs.declared.error.kind.ErrorKind.{ErrorKind}
 use Rattle.clap.specs.declared.parser.matches.SubCommand.{SubCommand}
 use Rattle.clap.specs.declared.parser.matches.ArgMatches.TheViews.{out-SubCommand}
 use Rattle.clap.proofs.OnLiterals.{clap_on_literals}
-use Rattle.command_words.specs.Table.{table}
+use Rattle.command_words.specs.Table.{Row as OptionRow, commands, options}
+use Rattle.command_words.specs.Apps.{argument, rule_for, with_row, app_for, with_command, table}
 use Rattle.command_words.specs.Line.{line_in, line_of, line_found, without_fault}
 
 pub table_is_simple : is_simple table ≡ true
-unfolding table clap_on_literals
+unfolding table commands options clap_on_literals
 table_is_simple = refl
 
 pub table_is_free : is_simple_and_free table ≡ true
-unfolding table clap_on_literals
+unfolding table commands options clap_on_literals
 table_is_free = refl
 
 pub at_ok : (words : List Text) (found : Option (Text × List Row)) → fault_of table words ≡ [] → subcommand_of table words ≡ found
@@ -57,18 +60,7 @@ one_met Z (Some b) name rows n r = ap Some (ap₂ (λ (x : Text) (y : List Row).
 
 -- what the getters give is what stands in the rows
 pub same_line : (found : Found) (command : Text) → line_of command (first_value found) ≡ line_found (command, rows_of found)
-same_line found command =
-    rw (
-      first_value-rows found (codes "argument"),
-      first_value-rows found (codes "cycles"),
-      first_value-rows found (codes "script"),
-      first_value-rows found (codes "pio"),
-      first_value-rows found (codes "probe"),
-      first_value-rows found (codes "workers"),
-      first_value-rows found (codes "side"),
-      first_value-rows found (codes "opt"),
-      first_value-rows found (codes "stats"),
-    ) refl
+same_line found command = ap (line_of command) (fun_ext (first_value-rows found))
 
 -- a plain command has no global argument
 pub local_of : (a b g r : Bool) → (a && (b && (not g && r))) ≡ true → g ≡ false
@@ -77,13 +69,34 @@ local_of true true true r e = sym e
 local_of true false true r e = sym e
 local_of false b true r e = sym e
 
--- a command with one more argument
-pub adds : (old : Command) (arg : Arg) (new : Command) (app : App) (rule : Rule) → app_of old ≡ app → rule_of arg ≡ rule → arg.global ≡ false
-    → AddsArg old arg new → app_of new ≡ with_rule app rule
-adds old arg new app rule is rules local h = h.shape local ∙ ap₂ with_rule is rules
-
 -- a command with one more subcommand
 pub adds_sub : (old sub new : Command) (app below : App) → app_of old ≡ app → app_of sub ≡ below → below.top.is_plain ≡ true
     → AddsSubcommand old sub new → app_of new ≡ with_subcommand app below.top
 adds_sub old sub new app below is under plain h =
     h.shape (local_of _ _ _ _ (ap (λ (a : App). a.top.is_plain) under ∙ plain)) ∙ ap₂ with_subcommand is (ap (λ (a : App). a.top) under)
+
+-- ---- the table, command by command
+
+-- a command keeps its settings over its options
+plain_row : (b : Bool) (app : App) (rule : Rule) → (if b then with_rule app rule else app).top.is_plain ≡ app.top.is_plain
+plain_row true app rule = refl
+plain_row false app rule = refl
+
+plain_rows : (word : Text) (app : App) (rows : List OptionRow) → (fold (with_row word) app rows).top.is_plain ≡ app.top.is_plain
+plain_rows word app [] = refl
+plain_rows word app (row ∷ rows) =
+    plain_rows word (with_row word app row) rows ∙ plain_row (bytes_eq row.command word) app (rule_for row.way row.name)
+
+abbrev pub texts_of : List (Bor Text) → List Text
+texts_of = map (λ (word : Bor Text). word.now)
+
+pub next_word : (items : List (Bor Text)) (i : ℕ) (d : Bor Text) → i < length items
+    → texts_of (drop i items) ≡ (get_or items i d).now ∷ texts_of (drop (i + 1) items)
+next_word items i d lt = rw (add-one, drop-cons items i d) refl
+
+-- one more command, before others
+pub command_added : (word : Text) (words : List Text) (old sub new : Command) (whole : App) → app_of sub ≡ app_for word → AddsSubcommand old sub new
+    → fold with_command (app_of old) (word ∷ words) ≡ whole → fold with_command (app_of new) words ≡ whole
+command_added word words old sub new whole is added rest =
+    ap (λ (app : App). fold with_command app words)
+    (adds_sub old sub new (app_of old) (app_for word) refl is (plain_rows word (with_rule (new_app word) argument) options) added) ∙ rest

@@ -3,6 +3,7 @@ use Rattle.std.specs.Prelude.{ℕ, ◌+◌, ◌*◌, ◌%◌, nat_le, ◌==◌, 
 use Rattle.hex.specs.Hex.{decode_of}
 use Rattle.hex.specs.declared.error.FromHexError.{FromHexError}
 use Rattle.pio_words.specs.declared.side.SideConfig.{SideConfig}
+use Rattle.command_words.specs.Lists.{given}
 use Rattle.command_words.specs.Options.{Setting, number_for}
 
 -- two bytes are a word, the high one first
@@ -20,13 +21,8 @@ unfoldable pub words_of : List ℕ → Option (List ℕ)
 words_of hex =
     if nat_le 4 (length hex) && nat_le (length hex) 128 && (length hex % 4 == 0) then halves_of (decode_of hex) else None
 
--- the count of side-set bits and whether they are optional, at most five bits together
-abbrev pub config_of : Option ℕ → Option ℕ → Option SideConfig
-config_of (Some count) (Some opt) =
-    if nat_le (count + opt) 5 then Some (record { count = count; opt = opt == 1; pindirs = false }) else None
-config_of (Some count) None = None
-config_of None opt = None
-
--- `--side S` and `--opt T`, both 0 where they are not given
+-- `--side S` and `--opt T`, both 0 where they are not given, at most five bits together
 unfoldable pub side_of : List Setting → Option SideConfig
-side_of settings = config_of (number_for (codes "--side") 5 settings) (number_for (codes "--opt") 1 settings)
+side_of settings =
+    given (number_for (codes "--side") 5 settings) (λ count. given (number_for (codes "--opt") 1 settings) (λ opt.
+    if nat_le (count + opt) 5 then Some (record { count = count; opt = opt == 1; pindirs = false }) else None))

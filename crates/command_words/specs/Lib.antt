@@ -7,5 +7,8 @@ pub mod Targets
 pub mod Words
 pub mod Line
 pub mod Table
+pub mod Apps
+pub mod Lists
+pub mod Rows
 pub mod Meant
 pub mod Refusals

@@ -1,40 +1,22 @@
 -- The options behind a command's argument: each a name with its value or a name alone, in any order and each at most once (the
 -- project's own).
-use Rattle.std.specs.Prelude.{ℕ, Bool, true, false, not, ◌&&◌, ◌||◌, if◌then◌else◌, List, [], ◌∷◌, Option, Some, None, codes}
+use Rattle.std.specs.Prelude.{ℕ, Bool, true, false, not, ◌&&◌, if◌then◌else◌, List, [], ◌∷◌, find, Option, Some, None, is_some}
+use Rattle.std.specs.Option.{option_and_then}
 use Rattle.std.specs.List.{list_any}
 use Rattle.std.specs.Str.{bytes_eq}
 use Rattle.command_words.specs.Numbers.{begins_with, number_within}
+use Rattle.command_words.specs.Table.{Way, Needed, Valued, Alone, Row, commands, options, dashed, stands_alone}
 
--- the commands, by their words
 abbrev pub is_command : List ℕ → Bool
-is_command command =
-    bytes_eq command (codes "run") || bytes_eq command (codes "debug") || bytes_eq command (codes "dis") || bytes_eq command (codes "asm")
-    || bytes_eq command (codes "gen")
+is_command word = list_any (bytes_eq word) commands
 
--- the names of the options that a run and the debugger on it have
-abbrev pub is_run_option : List ℕ → Bool
-is_run_option name = bytes_eq name (codes "--cycles") || bytes_eq name (codes "--script") || bytes_eq name (codes "--pio")
-
--- the names of the options with a value that a run on its own has beside these
-abbrev pub is_own_option : List ℕ → Bool
-is_own_option name = bytes_eq name (codes "--probe") || bytes_eq name (codes "--workers")
-
--- the names of the options that a command has with a value
-abbrev pub is_option : List ℕ → List ℕ → Bool
-is_option command name =
-    if bytes_eq command (codes "run") then is_run_option name || is_own_option name
-    else if bytes_eq command (codes "debug") then is_run_option name
-    else if bytes_eq command (codes "dis") then bytes_eq name (codes "--side") || bytes_eq name (codes "--opt")
-    else if bytes_eq command (codes "gen") then bytes_eq name (codes "--cycles") || bytes_eq name (codes "--workers") else false
+-- the word is the name of an option
+abbrev pub names : List ℕ → Row → Bool
+names word row = bytes_eq word (dashed row.name)
 
 -- the names that stand alone: no value follows them
 abbrev pub is_alone : List ℕ → Bool
-is_alone name = bytes_eq name (codes "--stats")
-
--- the names that a command has and that stand alone
-abbrev pub is_flag : List ℕ → List ℕ → Bool
-is_flag command name =
-    (bytes_eq command (codes "run") || bytes_eq command (codes "gen")) && is_alone name
+is_alone word = list_any (λ row. stands_alone row.way && names word row) options
 
 -- an option as it is written: its name, and its value where it has one
 abbrev pub Setting : Type 0
@@ -48,37 +30,46 @@ settings_of (name ∷ value ∷ words) =
     if is_alone name then (name, None) ∷ settings_of (value ∷ words)
     else (name, Some value) ∷ settings_of words
 
--- the option of this name is among them
+-- the option of this name among them
+abbrev pub setting_for : List ℕ → List Setting → Option Setting
+setting_for name settings = find (λ s. bytes_eq s.0 name) settings
+
 abbrev pub is_given : List ℕ → List Setting → Bool
-is_given name settings = list_any (λ s. bytes_eq s.0 name) settings
+is_given name settings = is_some (setting_for name settings)
 
--- the value of the option of this name
+-- its value
 abbrev pub value_for : List ℕ → List Setting → Option (List ℕ)
-value_for name [] = None
-value_for name (s ∷ settings) = if bytes_eq s.0 name then s.1 else value_for name settings
+value_for name settings = option_and_then (λ s. s.1) (setting_for name settings)
 
--- the command has an option with this name and value, and the value does not begin with a dash; without a value, the name is one that
--- stands alone
-abbrev pub is_of : List ℕ → List ℕ → Option (List ℕ) → Bool
-is_of command name None = is_flag command name
-is_of command name (Some value) = is_option command name && not (begins_with 45 value)
+-- what may follow an option: a value that does not begin with a dash, or nothing
+abbrev pub fits : Way → Option (List ℕ) → Bool
+fits Needed None = false
+fits Valued None = false
+fits Alone None = true
+fits Needed (Some value) = not (begins_with 45 value)
+fits Valued (Some value) = not (begins_with 45 value)
+fits Alone (Some value) = false
 
--- an option may stand before others: it is one of the command, and its name does not come again
-unfoldable pub may_lead : List ℕ → Setting → List Setting → Bool
-may_lead command s settings = is_of command s.0 s.1 && not (is_given s.0 settings)
+-- the option is that of a row
+abbrev pub suits : List ℕ → Setting → Row → Bool
+suits command s row = bytes_eq row.command command && names s.0 row && fits row.way s.1
+
+-- the command has the option
+abbrev pub is_of : List ℕ → Setting → Bool
+is_of command s = list_any (suits command s) options
 
 -- these are options of the command, each name at most once
 abbrev pub are_options : List ℕ → List Setting → Bool
 are_options command [] = true
-are_options command (s ∷ settings) = may_lead command s settings && are_options command settings
+are_options command (s ∷ settings) = is_of command s && not (is_given s.0 settings) && are_options command settings
 
--- The words are in normal form: a command, its one argument, and then its options, each the pair of a name and a value, but
--- `--stats` alone, and each name at most once; neither the argument nor a value begins with a dash.
+-- The words are in normal form: a command, its one argument, and then its options, each the pair of a name and a value, or a name
+-- that stands alone, and each name at most once; neither the argument nor a value begins with a dash.
 unfoldable pub is_normal : List (List ℕ) → Bool
 is_normal [] = false
 is_normal (command ∷ []) = false
-is_normal (command ∷ argument ∷ options) =
-    is_command command && not (begins_with 45 argument) && are_options command (settings_of options)
+is_normal (command ∷ argument ∷ words) =
+    is_command command && not (begins_with 45 argument) && are_options command (settings_of words)
 
 -- a number from 0 to high, 0 where there is none
 abbrev pub number_or_zero : ℕ → Option (List ℕ) → Option ℕ

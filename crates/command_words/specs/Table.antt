@@ -1,63 +1,49 @@
--- The commands of a command line, as the crate `clap` sees them: one command with a subcommand for each. Each has one argument, and
--- options with a value each or without one. The table is the project's own.
-use Rattle.std.specs.Prelude.{true, Some, codes}
-use Rattle.clap.specs.Walk.{Rule, Text}
-use Rattle.clap.specs.declared.builder.action.ArgAction.TheVariants.{SetTrue}
-use Rattle.clap.specs.Simple.{App, new_app, new_rule, on_top, with_rule, with_subcommand}
+-- The commands of a command line and their options, row by row: the project's own. The normal form, the commands that `clap` is given
+-- and the way back from what it finds are made of these rows.
+use Rattle.std.specs.Prelude.{ℕ, Bool, true, false, List, [], ◌∷◌, ◌++◌, codes}
+use Prim.Native.String.{String}
 
--- the argument of a command, which must be given
-abbrev pub argument : Rule
-argument = record (new_rule (codes "argument")) { required = true }
+-- how an option is written: with a value, where it must be given or may be, or alone
+pub data Way : Type 0 where
+  Needed : Way
+  Valued : Way
+  Alone : Way
 
--- the option `--name`
-abbrev pub option : Text → Rule
-option name = record (new_rule name) { long = Some name }
+abbrev pub stands_alone : Way → Bool
+stands_alone Alone = true
+stands_alone Needed = false
+stands_alone Valued = false
 
--- an option that must be given
-abbrev pub needed : Text → Rule
-needed name = record (option name) { required = true }
+-- an option of a command, by its name without the dashes
+pub record Row : Type 0 where
+  pub command : List ℕ
+  pub name : List ℕ
+  pub way : Way
 
--- the option `--name` without a value: `clap` gives it the text `true` where it is among the words, and else `false`
-abbrev pub flag : Text → Rule
-flag name = record (option name) { action = Some SetTrue }
+abbrev pub row : String → String → Way → Row
+row command name way = record { command = codes command; name = codes name; way = way }
 
--- a command with its argument
-abbrev pub command : Text → App
-command name = with_rule (new_app name) argument
+unfoldable pub commands : List (List ℕ)
+commands = codes "run" ∷ codes "debug" ∷ codes "asm" ∷ codes "dis" ∷ codes "gen" ∷ []
 
--- the options of a command that runs an image: `--cycles N [--script FILE] [--pio LIST]`
-abbrev pub with_run : App → App
-with_run app = with_rule (with_rule (with_rule app (needed (codes "cycles"))) (option (codes "script"))) (option (codes "pio"))
+unfoldable pub options : List Row
+options =
+    row "run" "cycles" Needed
+    ∷ row "run" "script" Valued
+    ∷ row "run" "pio" Valued
+    ∷ row "run" "probe" Valued
+    ∷ row "run" "workers" Valued
+    ∷ row "run" "stats" Alone
+    ∷ row "debug" "cycles" Needed
+    ∷ row "debug" "script" Valued
+    ∷ row "debug" "pio" Valued
+    ∷ row "dis" "side" Valued
+    ∷ row "dis" "opt" Valued
+    ∷ row "gen" "cycles" Needed
+    ∷ row "gen" "workers" Valued
+    ∷ row "gen" "stats" Alone
+    ∷ []
 
--- the options that tell how a run is done and shown: `[--workers K] [--stats]`
-abbrev pub with_way : App → App
-with_way app = with_rule (with_rule app (option (codes "workers"))) (flag (codes "stats"))
-
--- `run <image> --cycles N [--script FILE] [--pio LIST] [--probe LIST] [--workers K] [--stats]`
-abbrev pub run : App
-run = with_way (with_rule (with_run (command (codes "run"))) (option (codes "probe")))
-
--- `debug <image> --cycles N [--script FILE] [--pio LIST]`
-abbrev pub debug : App
-debug = with_run (command (codes "debug"))
-
--- `asm <file>`
-abbrev pub asm : App
-asm = command (codes "asm")
-
--- `dis <hex> [--side S] [--opt T]`
-abbrev pub dis : App
-dis = with_rule (with_rule (command (codes "dis")) (option (codes "side"))) (option (codes "opt"))
-
--- `gen <number> --cycles N [--workers K] [--stats]`
-abbrev pub generate : App
-generate = with_way (with_rule (command (codes "gen")) (needed (codes "cycles")))
-
--- the first word is no program's name
-abbrev pub top : App
-top = on_top (λ s. record s { no_binary_name = true }) (new_app (codes "pico"))
-
-unfoldable pub table : App
-table =
-    with_subcommand (with_subcommand (with_subcommand (with_subcommand (with_subcommand top run.top) debug.top) asm.top) dis.top)
-    generate.top
+-- the name of an option as it is written
+abbrev pub dashed : List ℕ → List ℕ
+dashed name = codes "--" ++ name

@@ -3,11 +3,11 @@
 -- `asm <file>` or `gen <number> --cycles N [--workers K] [--stats]`. Where probes are spoken of as a number, it is how many are
 -- handed in. The project's own.
 use Rattle.std.specs.Prelude.{◌≡◌, ℕ, Bool, ◌≤◌, ◌-◌, ◌^◌, if◌then◌else◌, List, [], ◌∷◌, Option, Some, None, codes}
-use Rattle.std.specs.Option.{option_and_then, option_map}
 use Rattle.std.specs.Str.{bytes_eq}
 use Rattle.pio_words.specs.declared.side.SideConfig.{SideConfig}
 use Rattle.board_parts.specs.declared.target.Target.{Target}
 use Rattle.command_words.specs.Line.{line_in}
+use Rattle.command_words.specs.Lists.{given}
 use Rattle.command_words.specs.Numbers.{number_within}
 use Rattle.command_words.specs.Options.{Setting, settings_of, is_given, value_for, is_normal, number_for}
 use Rattle.command_words.specs.Entries.{Entry, entries_of}
@@ -36,7 +36,7 @@ pub data Command : Type 0 where
 
 -- the limit of cycles, 1 to 1,000,000,000, which must be given
 abbrev pub cycles_in : List Setting → Option ℕ
-cycles_in settings = option_and_then (number_within 1 1000000000) (value_for (codes "--cycles") settings)
+cycles_in settings = given (value_for (codes "--cycles") settings) (number_within 1 1000000000)
 
 -- the number of workers, 0 to 8, and 0 where it is not given
 abbrev pub workers_in : List Setting → Option ℕ
@@ -46,58 +46,35 @@ workers_in settings = number_for (codes "--workers") 8 settings
 abbrev pub stats_in : List Setting → Bool
 stats_in settings = is_given (codes "--stats") settings
 
--- the entries of `--pio`, none where it is not given
-abbrev pub entries_or_none : Option (List ℕ) → Option (List Entry)
-entries_or_none None = Some []
-entries_or_none (Some list) = entries_of list
-
-abbrev pub pio_in : List Setting → Option (List Entry)
-pio_in settings = entries_or_none (value_for (codes "--pio") settings)
-
-abbrev pub script_in : List Setting → Option (List ℕ)
-script_in settings = value_for (codes "--script") settings
-
--- the targets of `--probe`, none where it is not given
-abbrev pub targets_or_none : ℕ → Option (List ℕ) → Option (List Target)
-targets_or_none probes None = Some []
-targets_or_none probes (Some list) = targets_of probes list
-
-abbrev pub probes_in : ℕ → List Setting → Option (List Target)
-probes_in probes settings = targets_or_none probes (value_for (codes "--probe") settings)
-
-abbrev pub run_with : List ℕ → Option ℕ → Option ℕ → Option (List ℕ) → Option (List Entry) → Option (List Target) → Bool → Option Run
-run_with image None workers script pio probes stats = None
-run_with image (Some n) None script pio probes stats = None
-run_with image (Some n) (Some k) script None probes stats = None
-run_with image (Some n) (Some k) script (Some entries) None stats = None
-run_with image (Some n) (Some k) script (Some entries) (Some targets) stats =
-    Some (record { image = image; cycles = n; script = script; pio = entries; probes = targets; workers = k; stats = stats })
+-- a list that an option gives, and the empty list where it is not given
+abbrev pub list_in : {X : Type 0} → (List ℕ → Option (List X)) → Option (List ℕ) → Option (List X)
+list_in read None = Some []
+list_in read (Some list) = read list
 
 -- `<image> --cycles N [--script FILE] [--pio LIST] [--probe LIST] [--workers K] [--stats]`
 unfoldable pub run_reading : ℕ → List ℕ → List Setting → Option Run
 run_reading probes image settings =
-    run_with image (cycles_in settings) (workers_in settings) (script_in settings) (pio_in settings) (probes_in probes settings)
-    (stats_in settings)
-
-abbrev pub disassemble : Option (List ℕ) → Option SideConfig → Option Command
-disassemble (Some words) (Some side) = Some (Disassemble words side)
-disassemble (Some words) None = None
-disassemble None side = None
+    given (cycles_in settings) (λ cycles. given (list_in entries_of (value_for (codes "--pio") settings)) (λ pio.
+    given (list_in (targets_of probes) (value_for (codes "--probe") settings)) (λ targets.
+    given (workers_in settings) (λ workers. Some (record {
+      image = image;
+      cycles = cycles;
+      script = value_for (codes "--script") settings;
+      pio = pio;
+      probes = targets;
+      workers = workers;
+      stats = stats_in settings;
+    })))))
 
 -- `dis <hex> [--side S] [--opt T]`
 unfoldable pub dis_reading : List ℕ → List Setting → Option Command
-dis_reading hex settings = disassemble (words_of hex) (side_of settings)
-
-abbrev pub generate : Option ℕ → Option ℕ → Option ℕ → Bool → Option Command
-generate (Some number) (Some cycles) (Some workers) stats = Some (Generate number cycles workers stats)
-generate (Some number) (Some cycles) None stats = None
-generate (Some number) None workers stats = None
-generate None cycles workers stats = None
+dis_reading hex settings = given (words_of hex) (λ words. given (side_of settings) (λ side. Some (Disassemble words side)))
 
 -- `gen <number> --cycles N [--workers K] [--stats]`, the number below 2 ^ 64
 unfoldable pub gen_reading : List ℕ → List Setting → Option Command
 gen_reading number settings =
-    generate (number_within 0 (2 ^ 64 - 1) number) (cycles_in settings) (workers_in settings) (stats_in settings)
+    given (number_within 0 (2 ^ 64 - 1) number) (λ number. given (cycles_in settings) (λ cycles.
+    given (workers_in settings) (λ workers. Some (Generate number cycles workers (stats_in settings)))))
 
 -- what a command, its argument and its options ask for
 unfoldable pub written : ℕ → List (List ℕ) → Option Command
@@ -105,8 +82,8 @@ written probes [] = None
 written probes (command ∷ []) = None
 written probes (command ∷ argument ∷ options) =
     let settings = settings_of options in
-    if bytes_eq command (codes "run") then option_map RunImage (run_reading probes argument settings)
-    else if bytes_eq command (codes "debug") then option_map DebugImage (run_reading probes argument settings)
+    if bytes_eq command (codes "run") then given (run_reading probes argument settings) (λ run. Some (RunImage run))
+    else if bytes_eq command (codes "debug") then given (run_reading probes argument settings) (λ run. Some (DebugImage run))
     else if bytes_eq command (codes "dis") then dis_reading argument settings
     else if bytes_eq command (codes "asm") then Some (Assemble argument)
     else if bytes_eq command (codes "gen") then gen_reading argument settings else None
@@ -114,7 +91,7 @@ written probes (command ∷ argument ∷ options) =
 -- The reading of the words, or none where they are refused. Words in normal form are read as they are written. All others are read as
 -- `clap` reads them.
 unfoldable pub reading : ℕ → List (List ℕ) → Option Command
-reading probes words = if is_normal words then written probes words else option_and_then (written probes) (line_in words)
+reading probes words = if is_normal words then written probes words else given (line_in words) (written probes)
 
 -- a run that is asked for has at most 1,000,000,000 cycles and 8 workers
 abbrev pub IsLimited : Command → Type 0

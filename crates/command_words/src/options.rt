@@ -3,59 +3,46 @@
 
 ghost use Rattle.std.specs.Prelude.{◌≡◌, ◌≤◌, [], map, IfSome, MatchOption};
 ghost use Rattle.std.specs.Option.{option_map};
+ghost use Rattle.std.specs.Str.{bytes_eq};
 ghost use Rattle.std.specs.String.{string_bytes};
 ghost use Rattle.command_words.specs.Numbers.{begins_with};
-ghost use Rattle.command_words.specs.Options.{is_command, is_run_option, is_own_option, is_option, is_alone, is_flag, settings_of, is_given, value_for, is_of, may_lead, are_options, is_normal, number_for};
+ghost use Rattle.command_words.specs.Table.{dashed};
+ghost use Rattle.command_words.specs.Rows.{way_in};
+ghost use Rattle.command_words.specs.Options.{is_command, is_alone, settings_of, is_given, value_for, fits, is_of, are_options, is_normal, number_for};
 ghost use Rattle.command_words.specs.Read.{IsFirst};
 
 use crate::number::number_within;
+use crate::rows::{Way, commands, options};
 
 /// Whether a word is a command.
 fn is_command(word: &str) -> bool
     ensures { result ≡ is_command word.now }
 {
-    word == "run" || word == "debug" || word == "dis" || word == "asm" || word == "gen"
-}
-
-/// Whether a run and the debugger on it have an option of this name.
-fn is_run_option(name: &str) -> bool
-    ensures { result ≡ is_run_option name.now }
-{
-    name == "--cycles" || name == "--script" || name == "--pio"
-}
-
-/// Whether a run on its own has an option of this name with a value beside these.
-fn is_own_option(name: &str) -> bool
-    ensures { result ≡ is_own_option name.now }
-{
-    name == "--probe" || name == "--workers"
-}
-
-/// Whether a command has an option of this name with a value.
-fn is_option(command: &str, name: &str) -> bool
-    ensures { result ≡ is_option command.now name.now }
-{
-    match command {
-        "run" => is_run_option(name) || is_own_option(name),
-        "debug" => is_run_option(name),
-        "dis" => name == "--side" || name == "--opt",
-        "gen" => name == "--cycles" || name == "--workers",
-        _ => false,
+    for command in commands() {
+        if word == *command {
+            return true;
+        }
     }
+    false
+}
+
+/// Whether a word is the option of this name.
+fn names(word: &str, name: &str) -> bool
+    ensures { result ≡ bytes_eq word.now (dashed name.now) }
+{
+    word.strip_prefix("--") == Some(name)
 }
 
 /// Whether an option of this name stands alone: the word behind it is not its value.
-fn is_alone(name: &str) -> bool
-    ensures { result ≡ is_alone name.now }
+fn is_alone(word: &str) -> bool
+    ensures { result ≡ is_alone word.now }
 {
-    name == "--stats"
-}
-
-/// Whether a command has this name as one that stands alone.
-fn is_flag(command: &str, name: &str) -> bool
-    ensures { result ≡ is_flag command.now name.now }
-{
-    (command == "run" || command == "gen") && is_alone(name)
+    for (_, name, way) in options() {
+        if *way == Way::Alone && names(word, name) {
+            return true;
+        }
+    }
+    false
 }
 
 /// Whether a word begins with a dash.
@@ -111,23 +98,27 @@ pub fn is_given(name: &str, options: &[String]) -> bool
     false
 }
 
-/// Whether a command has an option with this name and value, and the value does not begin with a dash.
-fn is_of(command: &str, name: &str, value: Option<&str>) -> bool
-    ensures { result ≡ is_of command.now name.now (option_map (λ text. text.now) value.entry) }
+/// Whether this may follow an option: a value that does not begin with a dash, or nothing.
+fn fits(way: Way, value: Option<&str>) -> bool
+    ensures { result ≡ fits (way_in way) (option_map (λ text. text.now) value.entry) }
 {
-    match value {
-        None => is_flag(command, name),
-        Some(value) => is_option(command, name) && !is_dashed(value),
+    match (way, value) {
+        (Way::Alone, None) => true,
+        (Way::Needed | Way::Valued, Some(value)) => !is_dashed(value),
+        _ => false,
     }
 }
 
-/// Whether an option may stand before these: it is one of the command, and its name does not come again.
-#[tactic(auto, unfolding(crate::specs::Options::may_lead))]
-fn may_lead(command: &str, name: &str, value: Option<&str>, options: &[String]) -> bool
-    ensures { result ≡ may_lead command.now (name.now, option_map (λ text. text.now) value.entry)
-        (settings_of (map string_bytes options.now)) }
+/// Whether a command has the option.
+fn is_of(command: &str, word: &str, value: Option<&str>) -> bool
+    ensures { result ≡ is_of command.now (word.now, option_map (λ text. text.now) value.entry) }
 {
-    is_of(command, name, value) && !is_given(name, options)
+    for (of, name, way) in options() {
+        if *of == command && names(word, name) && fits(*way, value) {
+            return true;
+        }
+    }
+    false
 }
 
 /// Whether the words are options of a command, each at most once.
@@ -136,7 +127,7 @@ fn are_options(command: &str, options: &[String]) -> bool
 {
     let mut left = options;
     while let Some((name, value, rest)) = first_setting(left) {
-        if !may_lead(command, name, value, rest) {
+        if !is_of(command, name, value) || is_given(name, rest) {
             return false;
         }
         left = rest;

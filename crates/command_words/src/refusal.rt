@@ -43,16 +43,6 @@ fn then_number(number: u64, out: &mut ArrayVec<u8, FAULT>)
     push_number(number, out);
 }
 
-/// Appends an address after a space.
-fn then_address(address: u32, out: &mut ArrayVec<u8, FAULT>)
-    requires { array_vec_len out.old + 9 ≤ FAULT }
-    ensures text { out.new.items ≡ out.old.items ++ then_address address }
-    ensures short { array_vec_len out.new ≤ array_vec_len out.old + 9 }
-{
-    push_text(b" ", out);
-    push_word(address, out);
-}
-
 /// Appends a short text and a number.
 fn push_one(text: &[u8], number: u64, out: &mut ArrayVec<u8, FAULT>)
     requires room { array_vec_len out.old + 43 ≤ FAULT }
@@ -76,6 +66,19 @@ fn push_two(text: &[u8], first: u64, second: u64, out: &mut ArrayVec<u8, FAULT>)
     then_number(second, out);
 }
 
+/// Appends a short text, a number and an address.
+fn push_at(text: &[u8], number: u32, address: u32, out: &mut ArrayVec<u8, FAULT>)
+    requires room { array_vec_len out.old + 52 ≤ FAULT }
+    requires small { length text.now ≤ 22 }
+    ensures text { out.new.items ≡ out.old.items ++ text.now ++ then_number number
+        ++ then_address address }
+    ensures short { array_vec_len out.new ≤ array_vec_len out.old + 52 }
+{
+    push_one(text, u64::from(number), out);
+    push_text(b" ", out);
+    push_word(address, out);
+}
+
 /// Appends an image fault's number, its name and its numbers.
 #[tactic(auto, unfolding(crate::specs::Refusals::fault_words))]
 fn push_fault(fault: &ImageFault, out: &mut ArrayVec<u8, FAULT>)
@@ -85,63 +88,21 @@ fn push_fault(fault: &ImageFault, out: &mut ArrayVec<u8, FAULT>)
 {
     match *fault {
         ImageFault::Empty => push_text(b"1 Empty", out),
-        ImageFault::Ragged(length) => {
-            push_text(b"2 Ragged", out);
-            then_number(length, out);
-        }
-        ImageFault::Magic(block) => {
-            push_text(b"3 Magic", out);
-            then_number(u64::from(block), out);
-        }
+        ImageFault::Ragged(length) => push_one(b"2 Ragged", length, out),
+        ImageFault::Magic(block) => push_one(b"3 Magic", u64::from(block), out),
         ImageFault::Payload(block, size) => {
-            push_text(b"4 Payload", out);
-            then_number(u64::from(block), out);
-            then_number(u64::from(size), out);
+            push_two(b"4 Payload", u64::from(block), u64::from(size), out);
         }
-        ImageFault::Count(block) => {
-            push_text(b"5 Count", out);
-            then_number(u64::from(block), out);
-        }
-        ImageFault::Number(block) => {
-            push_text(b"6 Number", out);
-            then_number(u64::from(block), out);
-        }
-        ImageFault::Repeat(block) => {
-            push_text(b"7 Repeat", out);
-            then_number(u64::from(block), out);
-        }
-        ImageFault::Flash(block, target) => {
-            push_text(b"8 Flash", out);
-            then_number(u64::from(block), out);
-            then_address(target, out);
-        }
-        ImageFault::Address(block, target) => {
-            push_text(b"9 Address", out);
-            then_number(u64::from(block), out);
-            then_address(target, out);
-        }
-        ImageFault::Overlap(block) => {
-            push_text(b"10 Overlap", out);
-            then_number(u64::from(block), out);
-        }
-        ImageFault::Missing(number) => {
-            push_text(b"11 Missing", out);
-            then_number(u64::from(number), out);
-        }
+        ImageFault::Count(block) => push_one(b"5 Count", u64::from(block), out),
+        ImageFault::Number(block) => push_one(b"6 Number", u64::from(block), out),
+        ImageFault::Repeat(block) => push_one(b"7 Repeat", u64::from(block), out),
+        ImageFault::Flash(block, target) => push_at(b"8 Flash", block, target, out),
+        ImageFault::Address(block, target) => push_at(b"9 Address", block, target, out),
+        ImageFault::Overlap(block) => push_one(b"10 Overlap", u64::from(block), out),
+        ImageFault::Missing(number) => push_one(b"11 Missing", u64::from(number), out),
         ImageFault::Nothing => push_text(b"12 Nothing", out),
         ImageFault::Memory => push_text(b"13 Memory", out),
     }
-}
-
-/// The line of an image fault.
-fn image_fault_line(fault: &ImageFault) -> ArrayVec<u8, FAULT>
-    ensures { result.items ≡ image_line fault.now }
-{
-    let mut line = ArrayVec::new();
-    push_text(b"error image ", &mut line);
-    push_fault(fault, &mut line);
-    push_text(b"\n", &mut line);
-    line
 }
 
 /// Appends a script fault's number, its name and its line.
@@ -162,17 +123,6 @@ fn push_script_fault(fault: &ScriptFault, out: &mut ArrayVec<u8, FAULT>)
         ScriptFault::Divisor(line) => push_one(b"8 Divisor", u64::from(line), out),
         ScriptFault::Bytes(line) => push_one(b"9 Bytes", u64::from(line), out),
     }
-}
-
-/// The line of a script fault.
-fn script_fault_line(fault: &ScriptFault) -> ArrayVec<u8, FAULT>
-    ensures { result.items ≡ script_line fault.now }
-{
-    let mut line = ArrayVec::new();
-    push_text(b"error script ", &mut line);
-    push_script_fault(fault, &mut line);
-    push_text(b"\n", &mut line);
-    line
 }
 
 /// Appends a PIO fault's number and its name, then its line and column, or its line.
@@ -198,25 +148,41 @@ fn push_pio_fault(fault: &PioFault, out: &mut ArrayVec<u8, FAULT>)
     }
 }
 
-/// The line of a PIO fault.
-fn pio_fault_line(fault: &PioFault) -> ArrayVec<u8, FAULT>
-    ensures { result.items ≡ pio_line fault.now }
+/// The line of an error, by its kind and what is said of it.
+fn error_line(alloc: Global, kind: &[u8], words: &[u8]) -> Result<Vec<u8>, AllocError>
+    ensures { IfOk result (λ line. line.items ≡ kind.now ++ words.now ++ codes "\n") }
 {
-    let mut line = ArrayVec::new();
-    push_text(b"error pio ", &mut line);
-    push_pio_fault(fault, &mut line);
-    push_text(b"\n", &mut line);
-    line
-}
-
-/// The line of a file that could not be loaded.
-fn file_line(alloc: Global, name: &str) -> Result<Vec<u8>, AllocError>
-    ensures { IfOk result (λ line. line.items ≡ codes "error file " ++ name.now ++ codes "\n") }
-{
-    let mut line = Vec::from_slice(alloc, b"error file ")?;
-    line.extend_from_slice(name.as_bytes())?;
+    let mut line = Vec::from_slice(alloc, kind)?;
+    line.extend_from_slice(words)?;
     line.extend_from_slice(b"\n")?;
     Ok(line)
+}
+
+/// The line of an image's fault.
+fn image_fault_line(alloc: Global, fault: &ImageFault) -> Result<Vec<u8>, AllocError>
+    ensures { IfOk result (λ line. line.items ≡ image_line fault.now) }
+{
+    let mut words = ArrayVec::new();
+    push_fault(fault, &mut words);
+    error_line(alloc, b"error image ", &words)
+}
+
+/// The line of a script's fault.
+fn script_fault_line(alloc: Global, fault: &ScriptFault) -> Result<Vec<u8>, AllocError>
+    ensures { IfOk result (λ line. line.items ≡ script_line fault.now) }
+{
+    let mut words = ArrayVec::new();
+    push_script_fault(fault, &mut words);
+    error_line(alloc, b"error script ", &words)
+}
+
+/// The line of a PIO fault.
+fn pio_fault_line(alloc: Global, fault: &PioFault) -> Result<Vec<u8>, AllocError>
+    ensures { IfOk result (λ line. line.items ≡ pio_line fault.now) }
+{
+    let mut words = ArrayVec::new();
+    push_pio_fault(fault, &mut words);
+    error_line(alloc, b"error pio ", &words)
 }
 
 /// The line of a file that is longer than its limit.
@@ -239,11 +205,11 @@ pub fn refusal_line(alloc: Global, refusal: &Refusal) -> Result<Vec<u8>, AllocEr
 {
     match refusal {
         Refusal::Words => Vec::from_slice(alloc, b"error words\n"),
-        Refusal::File(name) => file_line(alloc, name.as_str()),
+        Refusal::File(name) => error_line(alloc, b"error file ", name.as_bytes()),
         Refusal::Large(name, length) => large_line(alloc, name.as_str(), *length),
-        Refusal::Image(fault) => Vec::from_slice(alloc, &image_fault_line(fault)),
-        Refusal::Script(fault) => Vec::from_slice(alloc, &script_fault_line(fault)),
-        Refusal::Source(fault) => Vec::from_slice(alloc, &pio_fault_line(fault)),
+        Refusal::Image(fault) => image_fault_line(alloc, fault),
+        Refusal::Script(fault) => script_fault_line(alloc, fault),
+        Refusal::Source(fault) => pio_fault_line(alloc, fault),
     }
 }
 

@@ -3,8 +3,10 @@
 ghost use Rattle.std.specs.Prelude.{◌≡◌, false, IfOk};
 ghost use Rattle.clap.specs.Words.{app_of};
 ghost use Rattle.clap.specs.Walk.{rule_of};
-ghost use Rattle.command_words.specs.Table.{argument, needed, option, flag, run, debug, asm, dis, generate, table};
+ghost use Rattle.command_words.specs.Rows.{way_in};
+ghost use Rattle.command_words.specs.Apps.{argument, rule_for, app_for, table};
 
+use crate::rows::{Way, commands, options};
 use clap::{Arg, ArgAction, Command};
 use std::alloc::{AllocError, Global};
 
@@ -16,92 +18,39 @@ fn argument<'a>(alloc: Global) -> Arg<'a>
     Arg::new(alloc, "argument").required(true)
 }
 
-/// An option with a value.
-fn option<'a>(alloc: Global, name: &'a str) -> Arg<'a>
-    ensures rule { rule_of result ≡ option name.now }
+/// An option.
+fn option<'a>(alloc: Global, name: &'a str, way: Way) -> Arg<'a>
+    ensures rule { rule_of result ≡ rule_for (way_in way) name.now }
     ensures local { result.global ≡ false }
 {
-    Arg::new(alloc, name).long(name)
+    let option = Arg::new(alloc, name).long(name);
+    match way {
+        Way::Needed => option.required(true),
+        Way::Valued => option,
+        Way::Alone => option.action(ArgAction::SetTrue),
+    }
 }
 
-/// An option with a value that must be given.
-fn needed<'a>(alloc: Global, name: &'a str) -> Arg<'a>
-    ensures rule { rule_of result ≡ needed name.now }
-    ensures local { result.global ≡ false }
+/// A command with its argument and its options.
+fn command<'a>(alloc: Global, word: &'a str) -> Result<Command<'a>, AllocError>
+    ensures { IfOk result (λ command. app_of command ≡ app_for word.now) }
 {
-    Arg::new(alloc, name).long(name).required(true)
-}
-
-/// An option without a value.
-fn flag<'a>(alloc: Global, name: &'a str) -> Arg<'a>
-    ensures rule { rule_of result ≡ flag name.now }
-    ensures local { result.global ≡ false }
-{
-    Arg::new(alloc, name).long(name).action(ArgAction::SetTrue)
-}
-
-/// `run <image> --cycles N [--script FILE] [--pio LIST] [--probe LIST] [--workers K] [--stats]`.
-fn run<'a>(alloc: Global) -> Result<Command<'a>, AllocError>
-    ensures { IfOk result (λ command. app_of command ≡ run) }
-{
-    Command::new(alloc, "run")
-        .arg(argument(alloc))?
-        .arg(needed(alloc, "cycles"))?
-        .arg(option(alloc, "script"))?
-        .arg(option(alloc, "pio"))?
-        .arg(option(alloc, "probe"))?
-        .arg(option(alloc, "workers"))?
-        .arg(flag(alloc, "stats"))
-}
-
-/// `debug <image> --cycles N [--script FILE] [--pio LIST]`.
-fn debug<'a>(alloc: Global) -> Result<Command<'a>, AllocError>
-    ensures { IfOk result (λ command. app_of command ≡ debug) }
-{
-    Command::new(alloc, "debug")
-        .arg(argument(alloc))?
-        .arg(needed(alloc, "cycles"))?
-        .arg(option(alloc, "script"))?
-        .arg(option(alloc, "pio"))
-}
-
-/// `asm <file>`.
-fn asm<'a>(alloc: Global) -> Result<Command<'a>, AllocError>
-    ensures { IfOk result (λ command. app_of command ≡ asm) }
-{
-    Command::new(alloc, "asm").arg(argument(alloc))
-}
-
-/// `dis <hex> [--side S] [--opt T]`.
-fn dis<'a>(alloc: Global) -> Result<Command<'a>, AllocError>
-    ensures { IfOk result (λ command. app_of command ≡ dis) }
-{
-    Command::new(alloc, "dis")
-        .arg(argument(alloc))?
-        .arg(option(alloc, "side"))?
-        .arg(option(alloc, "opt"))
-}
-
-/// `gen <number> --cycles N [--workers K] [--stats]`.
-fn generate<'a>(alloc: Global) -> Result<Command<'a>, AllocError>
-    ensures { IfOk result (λ command. app_of command ≡ generate) }
-{
-    Command::new(alloc, "gen")
-        .arg(argument(alloc))?
-        .arg(needed(alloc, "cycles"))?
-        .arg(option(alloc, "workers"))?
-        .arg(flag(alloc, "stats"))
+    let mut command = Command::new(alloc, word).arg(argument(alloc))?;
+    for (of, name, way) in options() {
+        if *of == word {
+            command = command.arg(option(alloc, name, *way))?;
+        }
+    }
+    Ok(command)
 }
 
 /// The commands, each as a subcommand of one.
 pub fn table<'a>(alloc: Global) -> Result<Command<'a>, AllocError>
     ensures { IfOk result (λ command. app_of command ≡ table) }
 {
-    Command::new(alloc, "pico")
-        .no_binary_name(true)
-        .subcommand(run(alloc)?)?
-        .subcommand(debug(alloc)?)?
-        .subcommand(asm(alloc)?)?
-        .subcommand(dis(alloc)?)?
-        .subcommand(generate(alloc)?)
+    let mut table = Command::new(alloc, "pico").no_binary_name(true);
+    for word in commands() {
+        table = table.subcommand(command(alloc, word)?)?;
+    }
+    Ok(table)
 }

@@ -4,43 +4,44 @@ ghost use Rattle.std.specs.Prelude.{◌≡◌, ◌++◌, map, IfOk};
 ghost use Rattle.std.specs.Option.{option_map};
 ghost use Rattle.std.specs.String.{string_bytes};
 ghost use Rattle.clap.specs.Matches.{found_of, first_value};
-ghost use Rattle.command_words.specs.Line.{line_of, pair, alone};
+ghost use Rattle.command_words.specs.Rows.{way_in};
+ghost use Rattle.command_words.specs.Table.{dashed};
+ghost use Rattle.command_words.specs.Line.{line_of, option_words};
 
+use crate::rows::{Way, options};
 use clap::ArgMatches;
 use std::alloc::{AllocError, Global};
 
-/// Appends an option by its name with the dashes, and its value, where it was given.
-fn push_pair(
-    alloc: Global,
-    dashed: &str,
-    value: Option<&str>,
-    line: &mut Vec<String>,
-) -> Result<(), AllocError>
-    ensures { IfOk result (λ done. map string_bytes line.new.items
-        ≡ map string_bytes line.old.items ++ pair dashed.now
-        (option_map (λ text. text.now) value.entry)) }
+/// The name of an option as it is written.
+fn dashed(alloc: Global, name: &str) -> Result<String, AllocError>
+    ensures { IfOk result (λ word. string_bytes word ≡ dashed name.now) }
 {
-    if let Some(value) = value {
-        line.push(String::from_str(alloc, dashed)?)?;
-        line.push(String::from_str(alloc, value)?)?;
-    }
-    Ok(())
+    let mut word = String::from_str(alloc, "--")?;
+    word.push_str(name)?;
+    Ok(word)
 }
 
-/// Appends an option without a value by its name with the dashes, where `clap` has `true` for it.
-fn push_alone(
+/// Appends an option, where it was given: its name and its value, or its name alone, where `clap` has `true` for it.
+fn push_option(
     alloc: Global,
-    dashed: &str,
+    name: &str,
+    way: Way,
     value: Option<&str>,
     line: &mut Vec<String>,
 ) -> Result<(), AllocError>
-    ensures { IfOk result (λ done. map string_bytes line.new.items
-        ≡ map string_bytes line.old.items ++ alone dashed.now
-        (option_map (λ text. text.now) value.entry)) }
+    ensures { IfOk result (λ done. map string_bytes line.new.items ≡ map string_bytes line.old.items
+        ++ option_words (way_in way) name.now (option_map (λ text. text.now) value.entry)) }
 {
-    if let Some(value) = value {
-        if value == "true" {
-            line.push(String::from_str(alloc, dashed)?)?;
+    match (way, value) {
+        (_, None) => {}
+        (Way::Alone, Some(text)) => {
+            if text == "true" {
+                line.push(dashed(alloc, name)?)?;
+            }
+        }
+        (Way::Needed | Way::Valued, Some(text)) => {
+            line.push(dashed(alloc, name)?)?;
+            line.push(String::from_str(alloc, text)?)?;
         }
     }
     Ok(())
@@ -49,25 +50,22 @@ fn push_alone(
 /// The line of a command by its name and what was found.
 pub fn written(
     alloc: Global,
-    name: &str,
+    command: &str,
     found: &ArgMatches<'_>,
 ) -> Result<Option<Vec<String>>, AllocError>
     ensures { IfOk result (λ line. option_map (λ words. map string_bytes words.items) line
-        ≡ line_of name.now (first_value (found_of found.now))) }
+        ≡ line_of command.now (first_value (found_of found.now))) }
 {
     let Some(argument) = found.get_str("argument") else {
         return Ok(None);
     };
     let mut line = Vec::new(alloc);
-    line.push(String::from_str(alloc, name)?)?;
+    line.push(String::from_str(alloc, command)?)?;
     line.push(String::from_str(alloc, argument)?)?;
-    push_pair(alloc, "--cycles", found.get_str("cycles"), &mut line)?;
-    push_pair(alloc, "--script", found.get_str("script"), &mut line)?;
-    push_pair(alloc, "--pio", found.get_str("pio"), &mut line)?;
-    push_pair(alloc, "--probe", found.get_str("probe"), &mut line)?;
-    push_pair(alloc, "--workers", found.get_str("workers"), &mut line)?;
-    push_pair(alloc, "--side", found.get_str("side"), &mut line)?;
-    push_pair(alloc, "--opt", found.get_str("opt"), &mut line)?;
-    push_alone(alloc, "--stats", found.get_str("stats"), &mut line)?;
+    for (of, name, way) in options() {
+        if *of == command {
+            push_option(alloc, name, *way, found.get_str(name), &mut line)?;
+        }
+    }
     Ok(Some(line))
 }

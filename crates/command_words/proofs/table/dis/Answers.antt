@@ -1,9 +1,0 @@
-use Rattle.std.proofs.lemmas.Result.{IfOk-weaker}
-use Rattle.command_words.proofs.Parsed.{adds}
-use Rattle.command_words.proofs.table.dis.Goals as goal
-
-pub returns : goal.returns
-returns c =
-    let with_1 = adds _ _ _ _ _ c.new.ensures.app c.argument.ensures.rule c.argument.ensures.local c.in_ok-arg.ensures in
-    let with_2 = adds _ _ _ _ _ with_1 c.option.ensures.rule c.option.ensures.local c.in_ok-arg-2.ensures in
-    IfOk-weaker c.arg-3.result _ _ (λ r h. adds _ _ r _ _ with_2 c.option-2.ensures.rule c.option-2.ensures.local h) c.arg-3.ensures

@@ -1,0 +1,90 @@
+//! What the words ask for.
+
+ghost use Rattle.std.specs.Prelude.{◌≡◌};
+ghost use Rattle.command_words.specs.declared.reading.WordsFault.TheVariants.{Memory};
+
+use crate::entry::PioEntry;
+use board_parts::target::Target;
+use pio_words::SideConfig;
+use std::alloc::{AllocError, AllocFailed};
+
+/// The words of a run.
+#[derive(Drop)]
+pub struct RunWords {
+    /// The name of the image file.
+    pub image: String,
+    /// The limit of cycles, 1 to 1,000,000,000.
+    pub cycles: u64,
+    /// The name of the script file, where one is given.
+    pub script: Option<String>,
+    /// The programs for machines, in the order of the list; no machine stands twice.
+    pub pio: Vec<PioEntry>,
+    /// The probes that are aimed, in the order of the list; no probe stands twice.
+    pub probes: Vec<Target>,
+    /// How many workers run the lanes of its windows, 0 to 8.
+    pub workers: u8,
+    /// Whether the text ends with the line of the run's windows.
+    pub stats: bool,
+}
+
+/// The words of a run of a generated image.
+#[derive(Clone, Copy, Debug, PartialEq, Eq)]
+pub struct GenWords {
+    /// The number that the image is generated from.
+    pub number: u64,
+    /// The limit of cycles, 1 to 1,000,000,000.
+    pub cycles: u64,
+    /// How many workers run the lanes of its windows, 0 to 8.
+    pub workers: u8,
+    /// Whether the text ends with the line of the run's windows.
+    pub stats: bool,
+}
+
+/// What `dis` is asked for.
+#[derive(Drop)]
+pub struct DisWords {
+    /// The instruction words, 1 to 32.
+    pub words: Vec<u16>,
+    /// The side-set configuration, at most 5 bits.
+    pub side: SideConfig,
+}
+
+/// What the words ask for.
+#[derive(Drop)]
+pub enum Reading {
+    /// A run of an image.
+    Run(RunWords),
+    /// The debugger on a run of an image.
+    Debug(RunWords),
+    /// The source text of instruction words.
+    Dis(DisWords),
+    /// The listing of the source file of this name.
+    Asm(String),
+    /// A run of a generated image.
+    Gen(GenWords),
+}
+
+/// Why there is no reading.
+#[derive(Clone, Copy, Debug, PartialEq, Eq)]
+pub enum WordsFault {
+    /// The words are not a command.
+    Words,
+    /// There was no memory left.
+    Memory,
+}
+
+impl From<AllocError> for WordsFault {
+    ghost from_gives = { λ _ fault. fault ≡ Memory };
+
+    fn from(_error: AllocError) -> WordsFault {
+        WordsFault::Memory
+    }
+}
+
+impl<T: Drop> From<AllocFailed<T>> for WordsFault {
+    ghost from_gives = { λ _ fault. fault ≡ Memory };
+
+    fn from(_error: AllocFailed<T>) -> WordsFault {
+        WordsFault::Memory
+    }
+}
