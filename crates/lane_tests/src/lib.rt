@@ -26,6 +26,8 @@ mod pio_block_tests;
 #[cfg(test)]
 mod pio_machine_tests;
 #[cfg(test)]
+mod pwm_tests;
+#[cfg(test)]
 mod ram_banks_tests;
 #[cfg(test)]
 mod rp_base_tests;
