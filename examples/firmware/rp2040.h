@@ -5,7 +5,7 @@
 
 /* 2.19 GPIO: CTRL of a pin, and its functions */
 #define GPIO_CTRL(pin) WORD(0x40014004 + 8 * (pin))
-enum { FUNCTION_UART = 2, FUNCTION_SIO = 5, FUNCTION_PIO0 = 6 };
+enum { FUNCTION_UART = 2, FUNCTION_PWM = 4, FUNCTION_SIO = 5, FUNCTION_PIO0 = 6 };
 
 /* 2.3.1 SIO */
 #define GPIO_OUT_SET WORD(0xd0000014)
@@ -25,6 +25,14 @@ enum { FIFO_VALID = 1, FIFO_READY = 2 };
 #define UART0_LCR_H WORD(0x4003402c)
 #define UART0_CR WORD(0x40034030)
 enum { FR_TXFF = 1 << 5, FR_BUSY = 1 << 3, LCR_8_BITS = 3 << 5, LCR_FIFOS = 1 << 4, CR_ON = 0x301 };
+
+/* 4.5 PWM: CSR, CC and TOP of a slice; the interrupts */
+#define PWM_CSR(slice) WORD(0x40050000 + 20 * (slice))
+#define PWM_CC(slice) WORD(0x4005000c + 20 * (slice))
+#define PWM_TOP(slice) WORD(0x40050010 + 20 * (slice))
+#define PWM_INTR WORD(0x400500a4)
+#define PWM_INTE WORD(0x400500a8)
+enum { CSR_EN = 1, PWM_IRQ_WRAP = 4 };
 
 /* 4.6 Timer */
 #define TIMERAWL WORD(0x40054028)

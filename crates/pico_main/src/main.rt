@@ -12,8 +12,8 @@ use board_parts::edge_counter::EdgeCounter;
 use board_parts::probe::Probe;
 use board_parts::ws2812::Ws2812;
 use file_shelf::FileShelf;
-use lane_look::NoDevice;
 use pico_top::pico;
+use pwm_block::Pwm;
 use rp_machine::Steps;
 use rp_ports::gate::OpenGate;
 use std::alloc::{AllocError, Global};
@@ -41,8 +41,8 @@ fn words<R: Env + AllocGlobal>(rt: &R) -> Result<Vec<String>, AllocError> {
 }
 
 /// Does what the words say over the real files, standard input and standard output, with a counter of edges and a decoder of lights
-/// as probes 0 and 1, with no device and with a gate that does nothing, and answers the status. The cycles are counted by a ledger
-/// that nobody reads.
+/// as probes 0 and 1, with the PWM block as the device and with a gate that does nothing, and answers the status. The cycles are
+/// counted by a ledger that nobody reads.
 ///
 /// # Errors
 ///
@@ -66,7 +66,16 @@ fn serve<L: Ledger, R: Files + Input + Print + Threads + Wait + Sync>(
     let mut input = StdinSource::new(rt);
     let mut out = StdoutSink::new(rt);
     Ok(pico(
-        rt, alloc, words, &mut files, &mut input, &mut out, &OpenGate, probes, NoDevice, &mut steps,
+        rt,
+        alloc,
+        words,
+        &mut files,
+        &mut input,
+        &mut out,
+        &OpenGate,
+        probes,
+        Pwm::new(),
+        &mut steps,
     ))
 }
 
