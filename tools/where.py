@@ -1,0 +1,96 @@
+#!/usr/bin/env python3
+"""Names the function and the line of the source for the addresses in the lines of a run or of a session.
+
+    ./pico run examples/firmware/fault.uf2 --cycles 200000 | tools/where.py examples/firmware/fault.elf
+
+Each line is copied; below a line of registers stand the places of PC and LR, and below a stop outside that of its address, where it is
+one of the program. Lines of the source are there where the program was compiled with -g and addr2line (arm-none-eabi-addr2line,
+llvm-addr2line or addr2line) is installed; without it the function and the distance from its begin are told.
+"""
+import os
+import re
+import shutil
+import subprocess
+import sys
+
+sys.path.insert(0, os.path.dirname(os.path.abspath(__file__)))
+from elf32 import Elf  # noqa: E402
+from runs import CORE, STOP, Refused, main, parser, read_bytes, read_text, say, write  # noqa: E402
+
+TOOLS = ("arm-none-eabi-addr2line", "llvm-addr2line", "llvm-addr2line-14", "llvm-symbolizer", "addr2line")
+RETURNS = re.compile(r"fffffff[19d]|ffffffff")
+
+
+def addr2line():
+    """The command that tells lines, if one is installed."""
+    return next((found for name in TOOLS if (found := shutil.which(name))), None)
+
+
+def line_of(command, path, address):
+    """The file and line of an address by that command; None where it knows none."""
+    if command is None:
+        return None
+    done = subprocess.run([command, "-e", path, f"0x{address:x}"], capture_output=True, text=True, check=False)
+    for line in done.stdout.splitlines():
+        if re.search(r":[1-9]\d*", line):
+            file, number = re.match(r"(.*):(\d+)", line).groups()
+            return f"{os.path.basename(file)}:{number}"
+    return None
+
+
+def places(path, elf, command):
+    """A function that tells the place of an address in words; None outside the program's functions."""
+    known = {}
+
+    def place(address):
+        if address not in known:
+            function = elf.function_of(address)
+            line = line_of(command, path, address) if function else None
+            known[address] = function and f"{function[0]}+{function[1]}" + (f" {line}" if line else "")
+        return known[address]
+
+    return place
+
+
+def notes_of(line, place):
+    """What is said below a line."""
+    if (found := STOP.fullmatch(line)) and found[2]:
+        address = int(found[2], 16) & ~1
+        if where := place(address):
+            yield f"  {address:08x} is {where}"
+    elif (found := CORE.fullmatch(line)) and found[2] != "asleep":
+        words = found[2].split()
+        lr, pc = words[14], words[15]
+        if where := place(int(pc, 16) & ~1):
+            yield f"  pc {pc} is {where}"
+        else:
+            yield f"  pc {pc} is in no function of the program"
+        if RETURNS.fullmatch(lr):
+            yield f"  lr {lr} " + ("is the value at the start" if lr == "ffffffff" else "returns from an exception")
+        elif where := place(int(lr, 16) & ~1):
+            yield f"  lr {lr} is {where}"
+
+
+def tool():
+    words = parser(__doc__)
+    words.add_argument("elf", help="the ELF file of the program")
+    words.add_argument("run", nargs="?", help="the text of a run or a session; standard input where none is named")
+    given = words.parse_args()
+    elf = Elf(given.elf, read_bytes(given.elf))
+    if not elf.functions():
+        raise Refused(f"{given.elf} has no symbols: link it without -s, and do not strip it")
+    command = addr2line()
+    if command is None:
+        say("no addr2line is installed (Debian: binutils-arm-none-eabi), so lines of the source are not told")
+    place = places(given.elf, elf, command)
+    text = read_text(given.run)
+    if not text:
+        raise Refused("there are no lines of a run; does the command before the pipe print them?")
+    out = []
+    for line in text.splitlines():
+        out += [line, *notes_of(line, place)]
+    write(None, "\n".join(out) + "\n")
+
+
+if __name__ == "__main__":
+    main(tool)
