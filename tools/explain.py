@@ -1,0 +1,361 @@
+#!/usr/bin/env python3
+"""Runs the emulator's program with its words, and says what to do where it refuses them: tools/explain.py PROGRAM WORDS..
+
+./pico runs the program through this. What the program prints and its status are handed on as they are. Where the status is 2 to 12,
+standard error gets what docs/USAGE.md says of that line: for words the first that is not understood and the usage of the command; for
+a file why it cannot be read; for a fault in a source the line that has it. An ELF file in the place of an image is packed by
+tools/uf2.py into an image for this run alone.
+"""
+import difflib
+import os
+import re
+import signal
+import subprocess
+import sys
+import tempfile
+
+sys.path.insert(0, os.path.dirname(os.path.abspath(__file__)))
+from elf32 import MAGIC  # noqa: E402
+from runs import Refused, read_bytes, write  # noqa: E402
+from uf2 import image, parts_of  # noqa: E402
+
+TOP = os.path.dirname(os.path.dirname(os.path.abspath(__file__)))
+NUMBERS = {"--cycles": (1, 1_000_000_000), "--workers": (0, 8), "--side": (0, 5), "--opt": (0, 1)}
+ENTRY = {
+    "--pio": (r"[01]:[0-3]:.+", r"[01]:[0-3]", "B:M:FILE, with B the block (0, 1) and M the machine (0 to 3)"),
+    "--probe": (r"[01]=([0-9]|[12][0-9])", r"[01]", "I=PIN, with I the probe (0 counts edges, 1 decodes lights) and PIN 0 to 29"),
+}
+
+
+def say(text):
+    print(f"pico: {text}", file=sys.stderr)
+
+
+class Page:
+    """docs/USAGE.md: the forms of the commands, and its tables."""
+
+    def __init__(self):
+        try:
+            with open(f"{TOP}/docs/USAGE.md", encoding="utf-8") as file:
+                self.text = file.read()
+        except OSError:
+            self.text = ""
+        lines = re.findall(r"^pico (\w+) .*$", self.text.partition("\n## ")[0], re.M)
+        found = re.findall(r"^pico .*$", self.text.partition("\n## ")[0], re.M)
+        self.forms = dict(zip(lines, found))
+
+    def options(self, command):
+        """The options of a command: whether each has a value, and whether it must be there."""
+        options = {}
+        for word in re.findall(r"\[[^]]*\]|--\w+ [A-Z]\w*", self.forms[command].partition(">")[2]):
+            name, *value = word.strip("[]").split()
+            options[name] = (bool(value), word[0] != "[")
+        return options
+
+    def argument(self, command):
+        return re.search(r"<(\w+)>", self.forms[command])[1]
+
+    def fault(self, section, name):
+        """The cells of the row of a fault, as `2 Ragged`, behind its first one."""
+        part = self.text.partition(f"### Faults of {section}\n")[2].partition("\n#")[0]
+        for line in part.splitlines():
+            cells = [cell.strip() for cell in re.split(r"(?<!\\)\|", line)[1:-1]]
+            if cells and re.match(rf"`{name}\b", cells[0]):
+                return [cell.replace("`", "") for cell in cells[1:] if cell]
+        return []
+
+    def todo(self, status):
+        """What the table of statuses says of one."""
+        rows = re.findall(rf"^\| {status} \| .* \| (.*?) *\|$", self.text, re.M)
+        return rows[0] if rows else ""
+
+
+def near(word, known):
+    found = difflib.get_close_matches(word, known, 1)
+    return f"; did you mean {found[0]}?" if found else ""
+
+
+def number_fault(name, word, least, most):
+    """What is wrong with a number, if anything."""
+    if not re.fullmatch(r"0|[1-9][0-9]*", word):
+        return f"{name} {word}: a number is decimal digits alone, without a sign, a leading zero, a comma or a letter"
+    if not least <= int(word) <= most:
+        return f"{name} {word}: the number is {least} to {most}"
+    return None
+
+
+def list_fault(name, word):
+    """What is wrong with a list of entries, if anything."""
+    form, key, said = ENTRY[name]
+    keys = []
+    for entry in word.split(","):
+        if not re.fullmatch(form, entry):
+            return f"{name} {word}: {entry!r} is no entry {said}; entries are joined by commas"
+        keys.append(re.match(key, entry)[0])
+    twice = [key for key in keys if keys.count(key) > 1]
+    return f"{name} {word}: {twice[0]} is there twice" if twice else None
+
+
+def value_fault(name, word):
+    if name in NUMBERS:
+        return number_fault(name, word, *NUMBERS[name])
+    return list_fault(name, word) if name in ENTRY else None
+
+
+def argument_fault(command, word):
+    if command == "gen":
+        return number_fault("gen", word, 0, 2**64 - 1)
+    if command == "dis" and not re.fullmatch(r"([0-9a-fA-F]{4}){1,32}", word):
+        return f"dis {word}: the words of PIO are 1 to 32, each of four hexadecimal digits, without spaces"
+    return None
+
+
+def split(page, words):
+    """The arguments and the options of the words behind a command, in order, and the first fault that is met on the way."""
+    command, rest = words[0], list(words[1:])
+    options, arguments, given = page.options(command), [], {}
+    while rest:
+        word = rest.pop(0)
+        if word == "--":
+            arguments, rest = arguments + rest, []
+            continue
+        if not word.startswith("-") or word == "-":
+            arguments.append(word)
+            continue
+        name, is_joined, value = word.partition("=")
+        if name not in options:
+            others = [it for it in page.forms if name in page.options(it)]
+            what = f", but of {' and '.join(others)}" if others else near(name, options)
+            return arguments, given, f"{name} is no option of {command}{what}"
+        if name in given:
+            return arguments, given, f"{name} is there twice"
+        if options[name][0] and not is_joined:
+            if not rest or rest[0].startswith("-"):
+                return arguments, given, f"{name} needs a value behind it"
+            value = rest.pop(0)
+        elif is_joined and not options[name][0]:
+            return arguments, given, f"{name} stands without a value"
+        given[name] = value
+        if fault := value_fault(name, value):
+            return arguments, given, fault
+    return arguments, given, None
+
+
+def words_fault(page, words):
+    """The first thing that is wrong with the words."""
+    command = words[0] if words else ""
+    if command not in page.forms:
+        what = "no command" if command.startswith("-") or not command else f"no command {command}"
+        if command.endswith((".uf2", ".elf", ".bin")):
+            return f"the command comes first: pico run {command} --cycles N"
+        return f"there is {what}{near(command, page.forms)}"
+    if "--help" in words or "-h" in words:
+        return f"this is the usage of {command}; ./pico help prints the whole page"
+    arguments, given, fault = split(page, words)
+    if fault:
+        return fault
+    if not arguments:
+        return f"{command} needs <{page.argument(command)}> behind it"
+    if len(arguments) > 1:
+        return f"{arguments[1]} is one word too many: {command} takes one <{page.argument(command)}>"
+    if fault := argument_fault(command, arguments[0]):
+        return fault
+    for name, (_, is_needed) in page.options(command).items():
+        if is_needed and name not in given:
+            return f"{command} needs {name}: how many cycles of 8 ns it may run, 125000 for a millisecond"
+    if int(given.get("--side", 0)) + int(given.get("--opt", 0)) > 5:
+        return "--side and --opt are at most 5 together"
+    return "the words are not in a form that is understood"
+
+
+def told_words(page, words):
+    say(words_fault(page, words))
+    forms = [page.forms[words[0]]] if words and words[0] in page.forms else page.forms.values()
+    for form in forms:
+        say(f"usage: {form}")
+
+
+def told_file(words, name):
+    """Why a file cannot be read, and which word names it."""
+    why = "it is a folder" if os.path.isdir(name) else None
+    try:
+        with open(name, "rb"):
+            pass
+    except OSError as error:
+        why = why or error.strerror
+    entries = [f"--pio {entry}" for word in words for entry in word.split(",") if re.fullmatch(rf"[01]:[0-3]:{re.escape(name)}", entry)]
+    named = f", which {entries[0]} names," if entries else ""
+    say(f"{name}{named} cannot be read: {why or 'reading it failed'}")
+    if not os.path.exists(name) and not os.path.isabs(name):
+        if os.path.exists(f"{TOP}/{name}"):
+            say(f"it is looked for in {os.getcwd()}; it is there in {TOP}")
+        else:
+            say(f"it is looked for in {os.getcwd()}")
+
+
+def told_large(name, length):
+    say(f"{name} has {length} bytes; an image has at most 16 MiB, a script 4 MiB, a PIO source 1 MiB")
+
+
+def told_image(page, words, number, name):
+    path = image_of(page, words)
+    said = page.fault("an image", f"{number} {name}")
+    say(f"{path or 'the image'} is refused: " + (": ".join(said) or f"fault {number} {name}"))
+    try:
+        data = read_bytes(path) if path else b""
+    except (OSError, Refused):
+        return
+    if data[:1] == b":":
+        say(f"{path} looks like an Intel HEX file: give the ELF file in its place")
+    elif data and number in ("2", "3") and data[:4] != b"UF2\n":
+        say(f"if it is a raw binary for SRAM, this makes an image of it: {TOP}/tools/uf2.py {path} {os.path.splitext(path)[0]}.uf2 20000000")
+
+
+def shown_line(path, number, column=None):
+    """Shows a line of a source, with a mark below the column."""
+    try:
+        with open(path, encoding="utf-8", errors="replace") as file:
+            line = file.read().split("\n")[number - 1]
+    except (OSError, IndexError):
+        return
+    say(f"{path}:{number}: {line[:120]}")
+    if column is not None and 0 < column <= 120:
+        say(" " * (len(f"{path}:{number}: ") + column - 1) + "^")
+
+
+def pio_files(words):
+    """The files of PIO sources that the words name, in order."""
+    if words[0] == "asm":
+        return words[1:2]
+    lists = [word.removeprefix("--pio=") for before, word in zip(words, words[1:]) if before == "--pio" or word.startswith("--pio=")]
+    return [entry.split(":", 2)[2] for text in lists for entry in text.split(",") if entry.count(":") >= 2]
+
+
+def pio_file(program, words, line):
+    """The file that has the fault: the first that is refused by itself, or the one that finds no room."""
+    files = pio_files(words)
+    if len(files) == 1:
+        return files[0]
+    long = []
+    for path in files:
+        done = subprocess.run([program, "asm", path], capture_output=True, text=True, errors="replace", stdin=subprocess.DEVNULL, check=False)
+        if done.returncode == 5 and done.stdout.strip() == line:
+            return path
+        if found := re.match(r"program \S+ (\d+) ", done.stdout):
+            if line == f"error pio 12 NoRoom {found[1]}":
+                long.append(path)
+    return long[-1] if long else None
+
+
+def told_pio(page, program, words, line):
+    _, _, number, name, *more = line.split()
+    path = pio_file(program, words, line)
+    said = page.fault("a PIO source", f"{number} {name}")
+    say(f"{path or 'a file of --pio'} is refused: " + (": ".join(said) or f"fault {number} {name}"))
+    if path and more and name != "NoRoom":
+        shown_line(path, int(more[0]), int(more[1]) if len(more) > 1 else None)
+
+
+def told_script(page, words, number, name, line):
+    lists = [word.removeprefix("--script=") for before, word in zip(words, words[1:]) if before == "--script" or word.startswith("--script=")]
+    path = lists[0] if lists else "the script"
+    said = page.fault("a script", f"{number} {name}")
+    say(f"{path} is refused: " + (": ".join(said) or f"fault {number} {name}"))
+    shown_line(path, int(line))
+
+
+def explain(page, program, words, status, line):
+    """Says on standard error what to do about a status and the line that was printed for it."""
+    parts = line.split()
+    if status == 2:
+        told_words(page, words)
+    elif line.startswith("error file "):
+        told_file(words, line.removeprefix("error file "))
+    elif line.startswith("error large "):
+        told_large(line.removeprefix("error large ").rpartition(" ")[0], parts[-1])
+    elif line.startswith("error image "):
+        told_image(page, words, parts[2], parts[3])
+    elif line.startswith("error pio "):
+        told_pio(page, program, words, line)
+    elif line.startswith("error script "):
+        told_script(page, words, *parts[2:5])
+    elif todo := page.todo(status):
+        say(f"status {status}: {todo}")
+    else:
+        say(f"status {status}: docs/USAGE.md tells what it means")
+
+
+def image_of(page, words):
+    """The word that names the image of a run or a session."""
+    if not words or words[0] not in ("run", "debug") or words[0] not in page.forms:
+        return None
+    arguments, _, _ = split(page, words)
+    return arguments[0] if arguments else None
+
+
+def packed(page, words, folder):
+    """The words with an image in the place of an ELF file."""
+    path = image_of(page, words)
+    if path is None or not os.path.isfile(path):
+        return words
+    with open(path, "rb") as file:
+        if file.read(4) != MAGIC:
+            return words
+    made = f"{folder}/{os.path.splitext(os.path.basename(path))[0]}.uf2"
+    write(made, image(parts_of(path, read_bytes(path))))
+    say(f"{path} is an ELF file; this run has the image that tools/uf2.py makes of it")
+    at = words.index(path, 1)
+    return [*words[:at], made, *words[at + 1:]]
+
+
+def handed_on(pipe):
+    """Hands on what the program prints; its last bytes, and the error where standard output takes no more."""
+    last = b""
+    while data := os.read(pipe.fileno(), 1 << 16):
+        last = (last + data)[-1 << 13:]
+        while data:
+            try:
+                data = data[os.write(1, data):]
+            except OSError as error:
+                pipe.close()
+                return last, error
+    return last, None
+
+
+def run(page, program, words):
+    """Runs the program, and answers its status."""
+    process = subprocess.Popen([program, *words], stdout=subprocess.PIPE)
+    for number in (signal.SIGTERM, signal.SIGHUP, signal.SIGINT):
+        signal.signal(number, lambda got, _: process.send_signal(got))
+    last, error = handed_on(process.stdout)
+    status = process.wait()
+    if error is not None:
+        gone = "its reader has gone" if isinstance(error, BrokenPipeError) else error.strerror
+        say(f"status 7: {page.todo(7) or 'standard output could not be written'}: {gone}")
+        return 7
+    if status < 0:
+        return 128 - status
+    if 2 <= status <= 12:
+        lines = [line for line in last.decode(errors="replace").splitlines() if line.startswith("error ")]
+        explain(page, program, words, status, lines[-1] if lines else "")
+    return status
+
+
+def main():
+    if len(sys.argv) < 2 or sys.argv[1] in ("--help", "-h"):
+        print(__doc__, end="")
+        return 0 if len(sys.argv) > 1 else 2
+    page, program, words = Page(), sys.argv[1], sys.argv[2:]
+    with tempfile.TemporaryDirectory(prefix="pico-") as folder:
+        try:
+            return run(page, program, packed(page, words, folder))
+        except Refused as refused:
+            say(refused)
+            return 4
+        except OSError as error:
+            say(f"{error.filename or program}: {error.strerror}")
+            return 125
+
+
+if __name__ == "__main__":
+    sys.exit(main())
