@@ -1,11 +1,12 @@
 #!/usr/bin/env python3
 """Names the function and the line of the source for the addresses in the lines of a run or of a session.
 
-    ./pico run examples/firmware/fault.uf2 --cycles 200000 | tools/where.py examples/firmware/fault.elf
+    ./pico run examples/firmware/fault.uf2 --cycles 200000 | tools/where.py fault.elf
 
 Each line is copied; below a line of registers stand the places of PC and LR, and below a stop outside that of its address, where it is
 one of the program. Lines of the source are there where the program was compiled with -g and addr2line (arm-none-eabi-addr2line,
-llvm-addr2line or addr2line) is installed; without it the function and the distance from its begin are told.
+llvm-addr2line or addr2line) is installed; without it the function and the distance from its begin are told. In the place of the ELF
+file its listing can stand (arm-none-eabi-objdump -dlS), which needs no addr2line.
 """
 import os
 import re
@@ -14,7 +15,7 @@ import subprocess
 import sys
 
 sys.path.insert(0, os.path.dirname(os.path.abspath(__file__)))
-from elf32 import Elf  # noqa: E402
+from elf32 import MAGIC, Elf  # noqa: E402
 from runs import CORE, STOP, Refused, main, parser, read_bytes, read_text, say, write  # noqa: E402
 
 TOOLS = ("arm-none-eabi-addr2line", "llvm-addr2line", "llvm-addr2line-14", "llvm-symbolizer", "addr2line")
@@ -36,6 +37,24 @@ def line_of(command, path, address):
             file, number = re.match(r"(.*):(\d+)", line).groups()
             return f"{os.path.basename(file)}:{number}"
     return None
+
+
+def listed(path, text):
+    """A function that tells the place of an address by a listing; None for an address that is not there."""
+    known, function, begin, line, source = {}, None, 0, "", ""
+    for row in text.splitlines():
+        if found := re.fullmatch(r"([0-9a-f]{8}) <([^>]+)>:", row):
+            begin, function, line, source = int(found[1], 16), found[2], "", ""
+        elif found := re.fullmatch(r"(\S+):(\d+)(?: \(discriminator \d+\))?", row):
+            line, source = f" {os.path.basename(found[1])}:{found[2]}", ""
+        elif found := re.match(r"([0-9a-f]{8}):\t", row):
+            address = int(found[1], 16)
+            known[address] = f"{function}+{address - begin}{line}" + (f": {source}" if source else "")
+        elif row.strip() and not row.endswith("():"):
+            source = row.strip()
+    if not known:
+        raise Refused(f"{path} is neither an ELF file nor a listing of objdump -dlS")
+    return known.get
 
 
 def places(path, elf, command):
@@ -71,18 +90,28 @@ def notes_of(line, place):
             yield f"  lr {lr} is {where}"
 
 
-def tool():
-    words = parser(__doc__)
-    words.add_argument("elf", help="the ELF file of the program")
-    words.add_argument("run", nargs="?", help="the text of a run or a session; standard input where none is named")
-    given = words.parse_args()
-    elf = Elf(given.elf, read_bytes(given.elf))
+def place_in(path):
+    """A function that tells the place of an address by the ELF file or the listing."""
+    data = read_bytes(path)
+    if data[:4] != MAGIC:
+        if b"\0" in data:
+            raise Refused(f"{path} is no ELF file")
+        return listed(path, data.decode(errors="replace"))
+    elf = Elf(path, data)
     if not elf.functions():
-        raise Refused(f"{given.elf} has no symbols: link it without -s, and do not strip it")
+        raise Refused(f"{path} has no symbols: link it without -s, and do not strip it")
     command = addr2line()
     if command is None:
         say("no addr2line is installed (Debian: binutils-arm-none-eabi), so lines of the source are not told")
-    place = places(given.elf, elf, command)
+    return places(path, elf, command)
+
+
+def tool():
+    words = parser(__doc__)
+    words.add_argument("elf", help="the ELF file of the program, or its listing")
+    words.add_argument("run", nargs="?", help="the text of a run or a session; standard input where none is named")
+    given = words.parse_args()
+    place = place_in(given.elf)
     text = read_text(given.run)
     if not text:
         raise Refused("there are no lines of a run; does the command before the pipe print them?")

@@ -1,14 +1,23 @@
 #!/bin/sh
-# Builds each example of this folder to an image beside it: examples/firmware/build.sh
-# It needs arm-none-eabi-gcc (Debian: gcc-arm-none-eabi) and python3. The images are kept in the repository, so that they run without it.
+# Builds each example of this folder to an image beside it: examples/firmware/build.sh [NAME.c..]
+# It needs arm-none-eabi-gcc (Debian: gcc-arm-none-eabi) and python3. The images are kept in the repository, so that they run without it,
+# and so is the listing of fault.c, by which tools/where.py names lines of C in the debugger's tour.
 set -e
 cd "$(dirname "$0")"
+if ! command -v arm-none-eabi-gcc >/dev/null; then
+    echo "build.sh: arm-none-eabi-gcc is not on the PATH (Debian: apt-get install gcc-arm-none-eabi)" >&2
+    exit 1
+fi
 work=$(mktemp -d)
-for source in ${*:-*.c}; do
+trap 'rm -r "$work"' EXIT
+[ $# = 0 ] && set -- *.c
+for source; do
     name=${source%.c}
-    arm-none-eabi-gcc -mcpu=cortex-m0plus -mthumb -Os -Wall -ffreestanding -fno-tree-loop-distribute-patterns -nostdlib \
-        -T sram.ld -o "$work/$name.elf" start.s "$name.c"
-    arm-none-eabi-objcopy -O binary "$work/$name.elf" "$work/$name.bin"
-    python3 ../../tools/uf2.py "$work/$name.bin" "$name.uf2"
+    # -nostartfiles: the start is start.s, and libgcc is linked, so that n / 10 has its routine
+    arm-none-eabi-gcc -mcpu=cortex-m0plus -mthumb -g -Os -Wall -ffreestanding -fno-tree-loop-distribute-patterns -nostartfiles \
+        -fdebug-prefix-map="$PWD=." -T sram.ld -o "$work/$name.elf" start.s "$name.c"
+    python3 ../../tools/uf2.py "$work/$name.elf" "$name.uf2"
+    if [ "$name" = fault ]; then
+        arm-none-eabi-objdump -dlS "$work/$name.elf" | sed "s#^$work/##; s#^[./]*\([a-z]*[.][cs]:\)#\1#; s/[[:space:]]*\$//" >"$name.lst"
+    fi
 done
-rm -r "$work"
