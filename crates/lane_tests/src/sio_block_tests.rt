@@ -22,7 +22,7 @@ enum Deed {
     Cycle,
     /// What the launcher gives in this cycle.
     Launcher(Option<Launch>),
-    /// The launcher has something to do, or not.
+    /// The launcher has something to do in this cycle, or not.
     Offers(bool),
     /// The interrupt lines.
     Lines(bool, bool),
@@ -41,21 +41,29 @@ fn word_at(sio: &Sio, core: u8, offset: u16) -> Option<u32> {
     }
 }
 
-/// What is done.
-fn acts(sio: &mut Sio, deed: &Deed) -> bool {
+/// What is done, in a cycle that begins so.
+fn acts(start: &mut Sio, sio: &mut Sio, deed: &Deed) -> bool {
     match *deed {
         Deed::Write(core, offset, word) => {
             if core < 2 {
-                sio.effect(core, offset, Some(word));
+                let found = start.finds(core, offset, Some(word));
+                sio.effect_where(found, core, offset, Some(word));
             }
         }
         Deed::Take(core, offset) => {
             if core < 2 {
-                sio.effect(core, offset, None);
+                let found = start.finds(core, offset, None);
+                sio.effect_where(found, core, offset, None);
             }
         }
-        Deed::Cycle => sio.end_cycle(),
-        Deed::Launcher(launch) => return sio.launcher() == launch,
+        Deed::Cycle => {
+            sio.end_cycle();
+            start.copy_from(sio);
+        }
+        Deed::Launcher(launch) => {
+            let given = if start.offers() { sio.launcher() } else { None };
+            return given == launch;
+        }
         Deed::Copy => {
             let mut copy = Sio::new();
             copy.copy_from(sio);
@@ -66,12 +74,12 @@ fn acts(sio: &mut Sio, deed: &Deed) -> bool {
     true
 }
 
-/// What is seen.
-fn shows(sio: &Sio, deed: &Deed) -> bool {
+/// What is seen, in a cycle that begins so.
+fn shows(start: &Sio, sio: &Sio, deed: &Deed) -> bool {
     match *deed {
         Deed::Reads(core, offset, word) => word_at(sio, core, offset) == Some(word),
         Deed::Missing(core, offset) => word_at(sio, core, offset).is_none(),
-        Deed::Offers(offers) => sio.offers() == offers,
+        Deed::Offers(offers) => start.offers() == offers,
         Deed::Lines(first, second) => sio.line(0) == first && sio.line(1) == second,
         Deed::Outs(levels, enables) => sio.outs() == [levels, enables],
         _ => true,
@@ -80,8 +88,10 @@ fn shows(sio: &Sio, deed: &Deed) -> bool {
 
 /// The first of these that is not so.
 fn wrong_deed(sio: &mut Sio, deeds: &[Deed]) -> Option<usize> {
+    let mut start = Sio::new();
+    start.copy_from(sio);
     for (index, deed) in deeds.iter().enumerate() {
-        if !acts(sio, deed) || !shows(sio, deed) {
+        if !acts(&mut start, sio, deed) || !shows(&start, sio, deed) {
             return Some(index);
         }
     }

@@ -11,8 +11,6 @@ use Rattle.pin_script.specs.declared.fault.ScriptFault.{ScriptFault}
 use Rattle.pio_asm.specs.Assembly.{ArePrograms}
 use Rattle.pio_asm.specs.declared.program.Program.{Program}
 use Rattle.rp_machine.specs.State.{State, first_state}
-use Rattle.window_merge.specs.Merging.{IsRested}
-use Rattle.window_merge.proofs.Resting.{start_rested}
 use Rattle.rp_machine.specs.Boot.{start, with_loads, with_load, block_loaded}
 use Rattle.rp_machine.specs.declared.load.PioLoad.{PioLoad}
 use Rattle.command_words.specs.Words.{Run}
@@ -159,7 +157,7 @@ boots_opens aims (ForRun stats) files failed device script limit image ps loads 
     let v : Setting = setting_in device started in
     let here : Said (run_text stats w aims first) (Exactly (run_cycles w first)) ≡ Said (run_text started.stats v aims started.machine) (Exactly (run_cycles v started.machine)) = rw (same, h.1, h.2, h.3) refl in (
       refl,
-      (omega (arith, at), subst (λ (m : State). IsRested m.sio) (sym h.0) (start_rested device image loads)),
+      omega (arith, at),
       λ e walk. said_words files ps (programs_of loads) (λ programs. run_text stats w aims (start device image (loads_of ps programs))) (λ programs. Exactly (run_cycles w (start device image (loads_of ps programs)))) (run_text started.stats v aims started.machine) (Exactly (run_cycles v started.machine)) e (have_words ps loads placed) here walk,
     )
 boots_opens aims (ForRun stats) files failed device script limit image ps loads (Ok (Text text)) placed h = absurd h

@@ -19,7 +19,6 @@ use Rattle.rp_machine.specs.Boot.{AreLoads}
 use Rattle.command_words.specs.Entries.{Entry}
 use Rattle.reverse_debug.specs.Session.{first_of, OpensAt}
 use Rattle.rp_machine.specs.State.{State}
-use Rattle.window_merge.specs.Merging.{IsRested}
 use Rattle.pico_top.specs.declared.open.Started.{Started}
 use Rattle.pico_top.specs.declared.open.Debugging.{Debugging}
 use Rattle.pico_top.specs.declared.open.Purpose.{Purpose}
@@ -54,10 +53,9 @@ opened_dialogue device aims (Session debugging) =
     Hear input_limit quits (session_told (setting_by device debugging) (first_of debugging.session))
 opened_dialogue device aims (Text text) = Say text.items (Exactly 0)
 
--- a machine has not passed its limit, and its mailboxes are as a cycle's end leaves them; and a session was opened at its first
--- state
+-- a machine has not passed its limit; and a session was opened at its first state
 abbrev pub IsReady : Opened → Type 0
-IsReady (Machine started) = (started.machine.cycle ≤ started.limit) × IsRested started.machine.sio
+IsReady (Machine started) = started.machine.cycle ≤ started.limit
 IsReady (Session debugging) = OpensAt (first_of debugging.session) debugging.limit debugging.session
 IsReady (Text text) = Unit {0}
 

@@ -7,7 +7,6 @@ ghost use Rattle.lane_look.specs.Device.{DeviceMeaning};
 ghost use Rattle.rp_ports.specs.Shelf.{Files};
 ghost use Rattle.uf2_image.specs.Uf2.{FitsSram};
 ghost use Rattle.rp_machine.specs.Boot.{AreLoads, start};
-ghost use Rattle.window_merge.specs.Merging.{IsRested};
 ghost use Rattle.board_parts.specs.Hearing.{Aim};
 ghost use Rattle.command_words.specs.Words.{IsLimited};
 ghost use Rattle.command_words.specs.Words.Command.{Assemble, Disassemble, Generate};
@@ -174,7 +173,6 @@ fn begin(
     limit: u64,
 ) -> Result<Opened, Unopened>
     requires start { machine.cycle ≡ 0 }
-    requires rested { IsRested machine.sio }
     requires limit { limit ≤ 1000000000 }
     ensures { Boots purpose machine script limit result }
 {

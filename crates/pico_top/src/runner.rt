@@ -4,7 +4,6 @@ ghost use Rattle.std.specs.Prelude.{◌≡◌, ◌+◌, ◌≤◌, IfOk, IfSome}
 ghost use Rattle.outer_lane.specs.Setting.{setting_of};
 ghost use Rattle.trace_text.specs.Tape.{Tells};
 ghost use Rattle.rp_machine.specs.Run.{last_state};
-ghost use Rattle.window_merge.specs.Merging.{IsRested};
 ghost use Rattle.window_runner.specs.Told.{run_shown};
 ghost use Rattle.window_runner.specs.Alone.{IsRan, IsOnRun};
 ghost use Rattle.window_runner.specs.Windows.{answered, OnMemory};
@@ -51,7 +50,6 @@ fn run_by_one<X: Device, T: Tape, L: Ledger>(
     steps: &mut Steps<L>,
 ) -> Result<Ran, RunFault>
     requires number { machine.old.cycle ≤ world.now.limit }
-    requires rested { IsRested machine.old.sio }
     ensures told { IfSome (answered result) (Tells T.took T.missed tape.old tape.new
         (T.faults tape.old) (T.faults tape.new) (run_shown
         (setting_of world.now.script.now (X.meaning world.now.device.now) world.now.limit)
@@ -86,7 +84,6 @@ fn run_told<X: Device, O: Sink, L: Ledger>(
     steps: &mut Steps<L>,
 ) -> Result<Ran, RunFault>
     requires number { machine.old.cycle ≤ world.now.limit }
-    requires rested { IsRested machine.old.sio }
     ensures told { RunsTo
         (setting_of world.now.script.now (X.meaning world.now.device.now) world.now.limit)
         machine.old machine.new
@@ -115,7 +112,6 @@ fn run_told_by<X: Device, O: Sink, G: Gate, L: Ledger, R: Threads + Wait + Sync>
 ) -> Result<Ran, RunFault>
     requires workers { workers.now.count ≤ 8 }
     requires number { machine.old.cycle ≤ world.now.limit }
-    requires rested { IsRested machine.old.sio }
     ensures told { RunsTo
         (setting_of world.now.script.now (X.meaning world.now.device.now) world.now.limit)
         machine.old machine.new
@@ -153,7 +149,6 @@ pub fn run_to_stop<X: Device, O: Sink, L: Ledger>(
     steps: &mut Steps<L>,
 ) -> Result<Ran, RunFault>
     requires number { machine.old.cycle ≤ world.now.limit }
-    requires rested { IsRested machine.old.sio }
     ensures { RunsTo
         (setting_of world.now.script.now (X.meaning world.now.device.now) world.now.limit)
         machine.old machine.new
@@ -185,7 +180,6 @@ pub fn run_to_stop_by<X: Device, O: Sink, G: Gate, L: Ledger, R: Threads + Wait 
 ) -> Result<Ran, RunFault>
     requires workers { workers.now.count ≤ 8 }
     requires number { machine.old.cycle ≤ world.now.limit }
-    requires rested { IsRested machine.old.sio }
     ensures { RunsTo
         (setting_of world.now.script.now (X.meaning world.now.device.now) world.now.limit)
         machine.old machine.new

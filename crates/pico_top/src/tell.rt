@@ -7,7 +7,6 @@ ghost use Rattle.command_words.specs.Meant.{meant};
 ghost use Rattle.board_parts.specs.Hearing.{Aim, aim_of, seen};
 ghost use Rattle.outer_lane.specs.Setting.{Setting};
 ghost use Rattle.rp_machine.specs.State.{State};
-ghost use Rattle.window_merge.specs.Merging.{IsRested};
 ghost use Rattle.pico_top.specs.RunText.{core_lines, counts_text, probe_lines, run_cycles, run_text};
 ghost use Rattle.pico_top.specs.Answer.{Puts, RunsOut};
 ghost use Rattle.pico_top.specs.Running.{RunsTo};
@@ -95,7 +94,6 @@ fn run_into<X: Device, O: Sink, L: Ledger>(
     steps: &mut Steps<L>,
 ) -> u8
     requires number { started.machine.cycle ≤ started.limit }
-    requires rested { IsRested started.machine.sio }
     ensures { (left : Option (List ℕ)) (lost : ℕ)
         → Tells (Say (run_text started.stats (setting_in (X.meaning device.now) started)
         (seen probes.old (λ a. aim_of a.index a.pin
@@ -132,7 +130,6 @@ fn run_into_by<X: Device, O: Sink, G: Gate, L: Ledger, R: Threads + Wait + Sync>
 ) -> u8
     requires workers { workers.now.count ≤ 8 }
     requires number { started.machine.cycle ≤ started.limit }
-    requires rested { IsRested started.machine.sio }
     ensures { (left : Option (List ℕ)) (lost : ℕ)
         → Tells (Say (run_text started.stats (setting_in (X.meaning device.now) started)
         (seen probes.old (λ a. aim_of a.index a.pin

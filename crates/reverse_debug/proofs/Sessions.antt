@@ -9,12 +9,10 @@ use Rattle.rp_machine.specs.State.{State}
 use Rattle.rp_machine.specs.Cycle.{stop}
 use Rattle.rp_machine.specs.Run.{states}
 use Rattle.snap_ring.specs.Ring.{Snapshots, spacing_of, is_kept, is_due, kept_with, state_at, restored, IsGreatest, IsNearest}
-use Rattle.window_merge.specs.Merging.{IsRested}
 use Rattle.reverse_debug.specs.Reply.{last_cycle}
 use Rattle.reverse_debug.specs.Advance.{Advances}
 use Rattle.reverse_debug.specs.Session.{Standing, first_of, IsAlong, StandsFor, OpensAt, StaysFor, GoesOn, Lands}
 use Rattle.reverse_debug.proofs.Paths.{Path, path_join, path_in_last, last_within, none_first}
-use Rattle.reverse_debug.proofs.Windows.{rested_on}
 use Rattle.reverse_debug.proofs.Rings.{next_multiple, multiple_below, restored_cycle, restored_any, spacing_stays, kept_still, kept_now, one_of_run, one_below, found_still}
 
 -- ---- what holds of a session that stands for a run
@@ -32,9 +30,6 @@ now_in_last w first s k =
     let here : s.now.cycle ≤ s.reached = k.here in
     let reached : s.reached ≤ last_cycle w first = k.reached in
     omega arith
-
-now_rested : (w : Setting) (first : State) (s : Standing) → IsAlong w first s → 0 < s.now.cycle → IsRested s.now.sio
-now_rested w first s k some = let begins : first.cycle ≡ 0 = k.begins in rested_on w first s.now s.now.cycle k.now (omega arith)
 
 some_spacing : (limit : ℕ) → 0 < spacing_of limit
 some_spacing limit = omega arith
@@ -243,10 +238,6 @@ some_near w old target k none = let none_at : target < 0 = none 0 (first_kept w 
 
 pub part_low : (w : Setting) (v old : Standing) → v ≡ old → StandsFor w old → v.now.cycle ≤ w.limit
 part_low w v old e k = subst (λ (x : Standing). x.now.cycle ≤ w.limit) (sym e) (now_low w (first_of old) old k)
-
--- behind a cycle the mailboxes are as a cycle leaves them
-pub part_rested : (w : Setting) (v old : Standing) → v ≡ old → StandsFor w old → 0 < v.now.cycle → IsRested v.now.sio
-part_rested w v old e k = subst (λ (x : Standing). 0 < x.now.cycle → IsRested x.now.sio) (sym e) (now_rested w (first_of old) old k)
 
 pub part_spacing : (w : Setting) (v old : Standing) → v ≡ old → StandsFor w old → 0 < v.ring.spacing
 part_spacing w v old e k = subst (λ (x : Standing). 0 < x.ring.spacing) (sym e) (spacing_some w (first_of old) old k)

@@ -8,31 +8,8 @@ use Rattle.rp_machine.specs.Cycle.{stop, next}
 use Rattle.rp_machine.specs.Run.{states, unless_stopped}
 use Rattle.rp_machine.proofs.Runs.{states_here, states_on}
 use Rattle.window_merge.specs.Going.{IsReached}
-use Rattle.window_merge.specs.Merging.{IsRested}
-use Rattle.window_merge.proofs.Resting.{rested_next, rested_states}
 use Rattle.reverse_debug.specs.Advance.{Advances}
 use Rattle.reverse_debug.proofs.Paths.{Path, none_first, path_here, path_on, path_join}
-
--- ---- behind a cycle the mailboxes are as a cycle leaves them
-
-ended : (cause : Option Why) (s t : State) → s.cycle < (unless_stopped cause s t).cycle → IsRested t.sio → IsRested (unless_stopped cause s t).sio
-ended None s t lt h = h
-ended (Some why) s t lt h = absurd (omega arith)
-
-rested_after : (w : Setting) (s : State) (n : ℕ) → s.cycle < (states w s n).cycle → IsRested (states w s n).sio
-unfolding states
-rested_after w s zero lt = absurd (omega arith)
-rested_after w s (suc n) lt = ended (stop w s) s (states w (next w s) n) lt (rested_states w (next w s) n (rested_next w s))
-
-pub rested_on : (w : Setting) (s t : State) (n : ℕ) → t ≡ states w s n → s.cycle < t.cycle → IsRested t.sio
-rested_on w s t n e lt = subst (λ (x : State). IsRested x.sio) (sym e) (rested_after w s n (subst (λ (x : State). s.cycle < x.cycle) e lt))
-
--- also where the machine was rested before
-pub rested_begun : (w : Setting) (s t : State) (begun : ℕ) → (0 < s.cycle → IsRested s.sio) → begun ≡ max s.cycle 1 → Advances w s begun t None → IsRested t.sio
-rested_begun w s t begun h is a = elim (cases_lt 0 s.cycle) [
-  | inl some ↦ subst (λ (x : State). IsRested x.sio) (sym a.state) (rested_states w s (t.cycle - s.cycle) (h some))
-  | inr none ↦ let there : t.cycle ≡ begun = a.there in rested_on w s t (t.cycle - s.cycle) a.state (omega arith)
-]
 
 -- ---- each state of a run is as many cycles on as its number says
 
@@ -59,14 +36,3 @@ advanced_to w s t to (Some why) e r low =
     let p = path_to w s t (to - s.cycle) e in
     let lt = r.0 in
     record { state = p.is; forward = p.forward; low = low; within = omega arith; there = tt; stopped = (r.1, lt) }
-
--- first to one cycle, and from there to another
-pub advanced_on : (w : Setting) (s t u : State) (first to : ℕ) (why : Option Why) → Advances w s first t None → Advances w t to u why → Advances w s to u why
-advanced_on w s t u first to why a b =
-    let p = path_join w s t u (record { is = a.state; forward = a.forward }) (record { is = b.state; forward = b.forward }) in
-    record { state = p.is; forward = p.forward; low = b.low; within = b.within; there = b.there; stopped = b.stopped }
-
-pub stopped_before : (w : Setting) (s t : State) (first to : ℕ) (why : Why) → first ≤ to → Advances w s first t (Some why) → Advances w s to t (Some why)
-stopped_before w s t first to why le a =
-    let lt : t.cycle < first = a.stopped.1 in
-    record { state = a.state; forward = a.forward; low = a.low; within = omega arith; there = tt; stopped = (a.stopped.0, omega arith) }

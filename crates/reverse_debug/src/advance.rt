@@ -2,7 +2,6 @@
 
 ghost use Rattle.std.specs.Prelude.{◌≤◌, ◌<◌, ◌≡◌, ℕ};
 ghost use Rattle.outer_lane.specs.Setting.{setting_of};
-ghost use Rattle.window_merge.specs.Merging.{IsRested};
 ghost use Rattle.window_merge.specs.Jobs.{IsWhole};
 ghost use Rattle.reverse_debug.specs.Advance.{Advances, CountsMove};
 
@@ -13,11 +12,12 @@ use std::sync::ledger::Ledger;
 use window_merge::{Crew, advance_alone};
 
 /// Steps a machine up to a cycle. None where it stands there, also where it would stop there; else the cause of the stop below
-/// that cycle at which it stands.
+/// that cycle at which it stands. The marks of its last cycle are left.
 pub(crate) fn advance<X: Device, L: Ledger>(
     machine: &mut Machine,
     world: &World<'_, X>,
     to: u64,
+    marks: &mut Marks,
     steps: &mut Steps<L>,
 ) -> Option<Why>
     requires low { machine.old.cycle ≤ world.now.limit }
@@ -27,9 +27,8 @@ pub(crate) fn advance<X: Device, L: Ledger>(
         machine.old to machine.new result }
     ensures steps { CountsMove machine.old machine.new steps.old steps.new }
 {
-    let mut marks = Marks::new();
     'cycles: while machine.number() < to {
-        match machine.cycle(world, &mut marks, steps) {
+        match machine.cycle(world, marks, steps) {
             Some(why) => return Some(why),
             None => continue 'cycles,
         }
@@ -38,8 +37,7 @@ pub(crate) fn advance<X: Device, L: Ledger>(
 }
 
 /// Moves a machine up to a cycle by windows. None where it stands there, also where it would stop there; else the cause of the
-/// stop below that cycle at which it stands. Windows ask that SIO's mailboxes are as a cycle leaves them, so that the first cycle
-/// of a run is stepped by itself.
+/// stop below that cycle at which it stands.
 pub(crate) fn advance_far<X: Device, L: Ledger>(
     machine: &mut Machine,
     world: &World<'_, X>,
@@ -49,7 +47,6 @@ pub(crate) fn advance_far<X: Device, L: Ledger>(
 ) -> Option<Why>
     requires low { machine.old.cycle ≤ world.now.limit }
     requires ahead { machine.old.cycle < to }
-    requires rested { 0 < machine.old.cycle → IsRested machine.old.sio }
     requires crew { IsWhole crew.old }
     ensures way { Advances
         (setting_of world.now.script.now (X.meaning world.now.device.now) world.now.limit)
@@ -57,9 +54,5 @@ pub(crate) fn advance_far<X: Device, L: Ledger>(
     ensures steps { CountsMove machine.old machine.new steps.old steps.new }
     ensures crew { IsWhole crew.new }
 {
-    let begun = machine.number().max(1);
-    match advance(machine, world, begun, steps) {
-        Some(why) => Some(why),
-        None => advance_alone(machine, world, crew, to, steps),
-    }
+    advance_alone(machine, world, crew, to, steps)
 }

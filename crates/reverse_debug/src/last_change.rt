@@ -7,7 +7,7 @@ ghost use Rattle.reverse_debug.specs.Reply.{last_cycle, last_write};
 
 use crate::advance::advance;
 use crate::reply::word_at;
-use lane_look::Device;
+use lane_look::{Device, Marks};
 use rp_machine::{Machine, Steps, World};
 use std::sync::ledger::Ledger;
 
@@ -42,10 +42,11 @@ pub(crate) fn last_change<X: Device, L: Ledger>(
     ensures steps { steps.new ≡ steps.old + to }
 {
     let mut last = None;
+    let mut marks = Marks::new();
     'cycles: while machine.number() < to {
         let cycle = machine.number();
         let before = word_at(machine, address);
-        match advance(machine, world, cycle + 1, steps) {
+        match advance(machine, world, cycle + 1, &mut marks, steps) {
             Some(_) => return last,
             None => {
                 last = later(last, cycle, word_at(machine, address) != before);

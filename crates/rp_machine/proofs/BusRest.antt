@@ -7,13 +7,13 @@ use Rattle.bus_fabric.specs.State.{has_hold}
 use Rattle.bus_fabric.proofs.Alone.{nobody-after}
 use Rattle.sio_block.specs.declared.Launch.{Launch}
 use Rattle.sio_block.specs.State.{SioState}
-use Rattle.sio_block.specs.Launcher.{launch_of, after_turn}
+use Rattle.sio_block.specs.Launcher.{offers_of, launch_of, after_turn}
 use Rattle.outer_lane.specs.Setting.{Setting}
 use Rattle.rp_machine.specs.declared.begun.Begun.{Begun}
 use Rattle.rp_machine.specs.declared.wanted.Wanted.{Wanted}
 use Rattle.rp_machine.specs.State.{State}
 use Rattle.rp_machine.specs.Deeds.{asked_of, turn_of, deed_of}
-use Rattle.rp_machine.specs.Cycle.{begun, wanted, asked, granted, turns, deeds, with_turns, with_sio, started_by, after_deed, after_launcher, ended, after_deeds, stepped, next_by, next}
+use Rattle.rp_machine.specs.Cycle.{begun, wanted, asked, granted, turns, deeds, with_turns, with_sio, started_by, after_deed, after_launcher, launched_where, ended, after_deeds, stepped, next_by, next}
 use Rattle.rp_machine.specs.BusRest.{is_nothing, wants_nothing, is_bus_at_rest, no_turns, core1_at_rest, rest_next, CyclesAtRestChangeTheLanesAlone}
 
 pub both : (a b : Bool) → (a && b) ≡ true → (a ≡ true) × (b ≡ true)
@@ -32,7 +32,7 @@ pub rest_four : (w : Setting) (b : Begun) (x0 x1 x2 x3 : Wanted) (s : State)
     → x0.want ≡ want.Nothing → x1.want ≡ want.Nothing → x2.want ≡ want.Nothing → x3.want ≡ want.Nothing
     → has_hold s.fabric ≡ false
     → next_by w b (x0 ∷ x1 ∷ x2 ∷ x3 ∷ []) s ≡ rest_next w b s
-unfolding next_by stepped granted asked asked_of turns turn_of deeds deed_of after_deeds after_deed rest_next core1_at_rest
+unfolding next_by stepped granted asked asked_of turns turn_of deeds deed_of after_deeds after_deed rest_next core1_at_rest with_turns
 rest_four w b x0 x1 x2 x3 s e0 e1 e2 e3 free = rw (e0, e1, e2, e3, nobody-after s.fabric free) refl
 
 pub rest_by : (w : Setting) (b : Begun) (xs : List Wanted) (s : State)
@@ -83,16 +83,17 @@ unfolding after_launcher
 launcher_leaves s =
     follows s _ _ (sio_leaves (after_turn s.sio) s) (start_leaves (launch_of s.sio) (with_sio (after_turn s.sio) s))
 
-core1_leaves_by : (asleep : Bool) (s : State) → Leaves s (if asleep then after_launcher s else s)
-core1_leaves_by true s = launcher_leaves s
-core1_leaves_by false s = record { sram = refl; fabric = refl; resets = refl }
+core1_leaves_by : (asleep offered : Bool) (s : State) → Leaves s (if asleep then launched_where offered s else s)
+core1_leaves_by true true s = launcher_leaves s
+core1_leaves_by true false s = record { sram = refl; fabric = refl; resets = refl }
+core1_leaves_by false offered s = record { sram = refl; fabric = refl; resets = refl }
 
 rest_leaves : (w : Setting) (b : Begun) (s : State) → Leaves s (rest_next w b s)
 unfolding rest_next core1_at_rest ended with_turns
 rest_leaves w b s =
     let stepped_lanes = with_turns w b no_turns s in
-    let here = core1_leaves_by stepped_lanes.core1.asleep stepped_lanes in
-    let there = sio_leaves _ (core1_at_rest stepped_lanes) in
+    let here = core1_leaves_by stepped_lanes.core1.asleep (offers_of s.sio) stepped_lanes in
+    let there = sio_leaves _ (core1_at_rest (offers_of s.sio) stepped_lanes) in
     record { sram = there.sram ∙ here.sram; fabric = there.fabric ∙ here.fabric; resets = there.resets ∙ here.resets }
 
 pub cycles_at_rest : CyclesAtRestChangeTheLanesAlone

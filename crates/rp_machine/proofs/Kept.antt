@@ -10,7 +10,7 @@ use Rattle.rp_base.specs.declared.map.Block.TheVariants as block
 use Rattle.ram_banks.specs.Lanes.{with_lanes}
 use Rattle.sio_block.specs.declared.Launch.{Launch}
 use Rattle.sio_block.specs.State.{SioState}
-use Rattle.sio_block.specs.Launcher.{launch_of, after_turn}
+use Rattle.sio_block.specs.Launcher.{offers_of, launch_of, after_turn}
 use Rattle.outer_lane.specs.Setting.{Setting}
 use Rattle.rp_machine.specs.declared.deed.Deed.{Deed}
 use Rattle.rp_machine.specs.declared.deed.Deed.TheVariants as deed
@@ -18,7 +18,7 @@ use Rattle.rp_machine.specs.Offsets.{RESET, WDSEL}
 use Rattle.rp_machine.specs.State.{State}
 use Rattle.rp_machine.specs.Registers.{with_reset, resets_written, block_accessed}
 use Rattle.bus_fabric.specs.Masters.{masters}
-use Rattle.rp_machine.specs.Cycle.{begun, wanted, with_event, with_sio, sio_accessed, after_deed, started_by, after_launcher, after_master, after_masters, stored, all_stored, ended, after_deeds, with_turns, stepped, next_by, next}
+use Rattle.rp_machine.specs.Cycle.{begun, wanted, with_event, with_sio, found_by, sio_accessed, after_deed, started_by, after_launcher, after_master, after_masters, stored, all_stored, ended, after_deeds, with_turns, stepped, next_by, next}
 use Rattle.rp_machine.specs.Laws.{deeds_in, word_with, word_after, SramChangesByTheWritesAlone}
 
 pub record Keeps (s t : State) : Type 0 where
@@ -63,20 +63,20 @@ sio_keeps : (sio : SioState) (s : State) → Keeps s (with_sio sio s)
 unfolding with_sio
 sio_keeps sio s = record { sram = refl; core0 = refl }
 
-access_keeps : (m : Master) (offset : ℕ) (write : Option ℕ) (s : State) → Keeps s (sio_accessed m offset write s)
-access_keeps master.Core0 offset write s = sio_keeps _ s
-access_keeps master.Core1 offset write s = sio_keeps _ s
-access_keeps master.DmaRead offset write s = same s
-access_keeps master.DmaWrite offset write s = same s
+access_keeps : (found : Bool) (m : Master) (offset : ℕ) (write : Option ℕ) (s : State) → Keeps s (sio_accessed found m offset write s)
+access_keeps found master.Core0 offset write s = sio_keeps _ s
+access_keeps found master.Core1 offset write s = sio_keeps _ s
+access_keeps found master.DmaRead offset write s = same s
+access_keeps found master.DmaWrite offset write s = same s
 
-deed_keeps : (w : Setting) (m : Master) (d : Deed) (s : State) → Keeps s (after_deed w m d s)
+deed_keeps : (w : Setting) (found : Bool) (m : Master) (d : Deed) (s : State) → Keeps s (after_deed w found m d s)
 unfolding after_deed
-deed_keeps w m deed.Nothing s = same s
-deed_keeps w m deed.Signal s = record { sram = refl; core0 = refl }
-deed_keeps w m (deed.Store index lanes value) s = same s
-deed_keeps w m (deed.Register b offset write) s = block_keeps b offset write s
-deed_keeps w m (deed.SingleCycle offset write) s = access_keeps m offset write s
-deed_keeps w m (deed.Device address write) s = record { sram = refl; core0 = refl }
+deed_keeps w found m deed.Nothing s = same s
+deed_keeps w found m deed.Signal s = record { sram = refl; core0 = refl }
+deed_keeps w found m (deed.Store index lanes value) s = same s
+deed_keeps w found m (deed.Register b offset write) s = block_keeps b offset write s
+deed_keeps w found m (deed.SingleCycle offset write) s = access_keeps found m offset write s
+deed_keeps w found m (deed.Device address write) s = record { sram = refl; core0 = refl }
 
 start_keeps : (l : Option Launch) (s : State) → Keeps s (started_by l s)
 start_keeps None s = same s
@@ -86,17 +86,19 @@ launcher_keeps : (s : State) → Keeps s (after_launcher s)
 unfolding after_launcher
 launcher_keeps s = then_keeps s _ _ (sio_keeps (after_turn s.sio) s) (start_keeps (launch_of s.sio) (with_sio (after_turn s.sio) s))
 
-master_keeps : (w : Setting) (m : Master) (d : Deed) (s : State) → Keeps s (after_master w m d s)
-master_keeps w master.Core0 d s = deed_keeps w master.Core0 d s
-master_keeps w master.Core1 d s = either_keeps s.core1.asleep _ _ _ (launcher_keeps s) (deed_keeps w master.Core1 d s)
-master_keeps w master.DmaRead d s = deed_keeps w master.DmaRead d s
-master_keeps w master.DmaWrite d s = deed_keeps w master.DmaWrite d s
+master_keeps : (w : Setting) (start : SioState) (m : Master) (d : Deed) (s : State) → Keeps s (after_master w start m d s)
+master_keeps w start master.Core0 d s = deed_keeps w (found_by master.Core0 d start) master.Core0 d s
+master_keeps w start master.Core1 d s =
+    either_keeps s.core1.asleep _ _ _ (either_keeps (offers_of start) _ _ _ (launcher_keeps s) (same s))
+    (deed_keeps w (found_by master.Core1 d start) master.Core1 d s)
+master_keeps w start master.DmaRead d s = deed_keeps w (found_by master.DmaRead d start) master.DmaRead d s
+master_keeps w start master.DmaWrite d s = deed_keeps w (found_by master.DmaWrite d start) master.DmaWrite d s
 
-masters_keep : (w : Setting) (ms : List Master) (ds : List Deed) (s : State) → Keeps s (after_masters w ms ds s)
-masters_keep w [] ds s = same s
-masters_keep w (m ∷ ms) [] s = same s
-masters_keep w (m ∷ ms) (d ∷ ds) s =
-    then_keeps s _ _ (master_keeps w m d s) (masters_keep w ms ds (after_master w m d s))
+masters_keep : (w : Setting) (start : SioState) (ms : List Master) (ds : List Deed) (s : State) → Keeps s (after_masters w start ms ds s)
+masters_keep w start [] ds s = same s
+masters_keep w start (m ∷ ms) [] s = same s
+masters_keep w start (m ∷ ms) (d ∷ ds) s =
+    then_keeps s _ _ (master_keeps w start m d s) (masters_keep w start ms ds (after_master w start m d s))
 
 -- ---- SRAM word by word
 
@@ -132,11 +134,11 @@ all_stored_at (d ∷ ds) sram index lt =
 
 deeds_sram : (w : Setting) (ds : List Deed) (s : State) → (after_deeds w ds s).sram ≡ all_stored ds s.sram
 unfolding after_deeds ended with_sio
-deeds_sram w ds s = ap (all_stored ds) (masters_keep w masters ds s).sram
+deeds_sram w ds s = ap (all_stored ds) (masters_keep w s.sio masters ds s).sram
 
 pub deeds_core0 : (w : Setting) (ds : List Deed) (s : State) → with_event (after_deeds w ds s).core0 ≡ with_event s.core0
 unfolding after_deeds ended with_sio
-deeds_core0 w ds s = (masters_keep w masters ds s).core0
+deeds_core0 w ds s = (masters_keep w s.sio masters ds s).core0
 
 pub sram_by_writes : SramChangesByTheWritesAlone
 unfolding next next_by stepped with_turns

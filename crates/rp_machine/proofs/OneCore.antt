@@ -161,7 +161,7 @@ nothing_stops w seen x s h = rw h refl
 
 first_four : (w : Setting) (b : Begun) (x0 x1 x2 x3 : Wanted) (s : State) → x1.want ≡ want.Nothing → x2.want ≡ want.Nothing → x3.want ≡ want.Nothing
     → next_by w b (x0 ∷ x1 ∷ x2 ∷ x3 ∷ []) s ≡ first_next w b x0 s
-unfolding next_by stepped granted asked asked_of turns turn_of deeds deed_of after_deeds after_deed first_next core1_at_rest
+unfolding next_by stepped granted asked asked_of turns turn_of deeds deed_of after_deeds after_deed first_next core1_at_rest with_turns
 first_four w b x0 x1 x2 x3 s e1 e2 e3 = rw (e1, e2, e3) refl
 
 -- ---- where no master behind core 0 wants anything

@@ -14,6 +14,7 @@ use Rattle.pio_block.specs.Cycle.{Rests}
 use Rattle.pio_block.specs.Words.{is_at_rest}
 use Rattle.bus_fabric.specs.Alone.{at_most_core0}
 use Rattle.bus_fabric.specs.Grant.{is_done, after_grant}
+use Rattle.sio_block.specs.Launcher.{offers_of}
 use Rattle.outer_lane.specs.Setting.{Setting}
 use Rattle.outer_lane.specs.declared.world.SeenOutputs.{SeenOutputs}
 use Rattle.outer_lane.specs.Step as outer
@@ -22,7 +23,7 @@ use Rattle.rp_machine.specs.declared.deed.Deed.{Deed}
 use Rattle.rp_machine.specs.declared.wanted.Wanted.{Wanted}
 use Rattle.rp_machine.specs.State.{State}
 use Rattle.rp_machine.specs.Deeds.{asked_of, turn_of, deed_of}
-use Rattle.rp_machine.specs.Cycle.{begun, next, wanted_by, with_turns, after_deed, stored, ended}
+use Rattle.rp_machine.specs.Cycle.{begun, next, wanted_by, with_turns, found_by, after_deed, stored, ended}
 use Rattle.rp_machine.specs.BusRest.{wants_nothing, core1_at_rest}
 
 -- core 1 sleeps, and the DMA engine and both PIO blocks are at rest
@@ -70,14 +71,14 @@ with_store d s = record s { sram = stored d s.sram }
 unfoldable pub alone_next : Setting → Doing → SeenOutputs → Want → State → State
 alone_next w b seen x s =
     record (ended (with_store (deed_alone w seen x s)
-    (core1_at_rest (after_deed w master.Core0 (deed_alone w seen x s)
+    (core1_at_rest (offers_of s.sio) (after_deed w (found_by master.Core0 (deed_alone w seen x s) s.sio) master.Core0 (deed_alone w seen x s)
     (stepped_alone w b seen (turn_alone w seen x s) (with_grant x s)))))) { cycle = s.cycle + 1 }
 
 -- the state after a cycle in which the lanes have begun this, the first master wants that, and the others want nothing
 unfoldable pub first_next : Setting → Begun → Wanted → State → State
 first_next w b x s =
     record (ended (with_store (deed_alone w b.outer x.want s)
-    (core1_at_rest (after_deed w master.Core0 (deed_alone w b.outer x.want s)
+    (core1_at_rest (offers_of s.sio) (after_deed w (found_by master.Core0 (deed_alone w b.outer x.want s) s.sio) master.Core0 (deed_alone w b.outer x.want s)
     (with_turns w b (turn_of w b.outer x.want (granted_alone x.want s) x.master x.want s ∷ turn.Nothing ∷ turn.Nothing ∷ turn.Nothing ∷ [])
     (with_grant x.want s)))))) { cycle = s.cycle + 1 }
 
@@ -89,7 +90,7 @@ is_first_alone (x ∷ xs) = list_all wants_nothing xs
 -- the same where core 0 wants nothing, and no access lasts
 unfoldable pub alone_at_rest : Setting → Doing → SeenOutputs → State → State
 alone_at_rest w b seen s =
-    record (ended (core1_at_rest (stepped_alone w b seen turn.Nothing s))) { cycle = s.cycle + 1 }
+    record (ended (core1_at_rest (offers_of s.sio) (stepped_alone w b seen turn.Nothing s))) { cycle = s.cycle + 1 }
 
 -- a cycle of a machine in which core 0 alone is at work
 abbrev pub OneCoreGoesAlone : Type 0

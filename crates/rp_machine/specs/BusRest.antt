@@ -6,11 +6,12 @@ use Rattle.lane_look.specs.declared.lane.Want.TheVariants as want
 use Rattle.lane_look.specs.declared.lane.Turn.{Turn}
 use Rattle.lane_look.specs.declared.lane.Turn.TheVariants as turn
 use Rattle.bus_fabric.specs.State.{has_hold}
+use Rattle.sio_block.specs.Launcher.{offers_of}
 use Rattle.outer_lane.specs.Setting.{Setting}
 use Rattle.rp_machine.specs.declared.begun.Begun.{Begun}
 use Rattle.rp_machine.specs.declared.wanted.Wanted.{Wanted}
 use Rattle.rp_machine.specs.State.{State}
-use Rattle.rp_machine.specs.Cycle.{begun, wanted, with_turns, after_launcher, ended, next}
+use Rattle.rp_machine.specs.Cycle.{begun, wanted, with_turns, launched_where, ended, next}
 
 abbrev pub is_nothing : Want → Bool
 is_nothing want.Nothing = true
@@ -27,13 +28,13 @@ is_bus_at_rest xs s = list_all wants_nothing xs && not (has_hold s.fabric)
 abbrev pub no_turns : List Turn
 no_turns = turn.Nothing ∷ turn.Nothing ∷ turn.Nothing ∷ turn.Nothing ∷ []
 
--- the launcher has its turn while core 1 sleeps
-unfoldable pub core1_at_rest : State → State
-core1_at_rest s = if s.core1.asleep then after_launcher s else s
+-- the launcher has its turn while core 1 sleeps, where it had a word when the cycle began
+unfoldable pub core1_at_rest : Bool → State → State
+core1_at_rest offered s = if s.core1.asleep then launched_where offered s else s
 
 -- the lanes step, and SIO ends its cycle
 unfoldable pub rest_next : Setting → Begun → State → State
-rest_next w b s = record (ended (core1_at_rest (with_turns w b no_turns s))) { cycle = s.cycle + 1 }
+rest_next w b s = record (ended (core1_at_rest (offers_of s.sio) (with_turns w b no_turns s))) { cycle = s.cycle + 1 }
 
 -- where nobody wants anything and no access lasts, a cycle changes the lanes, SIO and the number alone: it is this one, so SRAM,
 -- the fabric and RESETS stay

@@ -157,18 +157,24 @@ with_sio sio s = record s {
   sio = sio;
 }
 
-abbrev pub sio_accessed : Master → ℕ → Option ℕ → State → State
-sio_accessed master.Core0 offset write s = with_sio (sio.effect_of 0 offset write s.sio) s
-sio_accessed master.Core1 offset write s = with_sio (sio.effect_of 1 offset write s.sio) s
-sio_accessed _ offset write s = s
+-- what an access to SIO finds there, by SIO as it is when the cycle begins
+abbrev pub found_by : Master → Deed → SioState → Bool
+found_by master.Core0 (deed.SingleCycle offset write) start = sio.finds 0 offset write start
+found_by master.Core1 (deed.SingleCycle offset write) start = sio.finds 1 offset write start
+found_by _ _ start = false
 
--- the deed of a master, but for a write to SRAM, which comes last
-unfoldable pub after_deed : Setting → Master → Deed → State → State
-after_deed w m deed.Signal s = signalled s
-after_deed w m (deed.Register block offset write) s = block_accessed block offset write s
-after_deed w m (deed.SingleCycle offset write) s = sio_accessed m offset write s
-after_deed w m (deed.Device address write) s = record s { outer = device_accessed w address write s.outer }
-after_deed w m _ s = s
+abbrev pub sio_accessed : Bool → Master → ℕ → Option ℕ → State → State
+sio_accessed found master.Core0 offset write s = with_sio (sio.effect_where found 0 offset write s.sio) s
+sio_accessed found master.Core1 offset write s = with_sio (sio.effect_where found 1 offset write s.sio) s
+sio_accessed found _ offset write s = s
+
+-- the deed of a master that has found this, but for a write to SRAM, which comes last
+unfoldable pub after_deed : Setting → Bool → Master → Deed → State → State
+after_deed w found m deed.Signal s = signalled s
+after_deed w found m (deed.Register block offset write) s = block_accessed block offset write s
+after_deed w found m (deed.SingleCycle offset write) s = sio_accessed found m offset write s
+after_deed w found m (deed.Device address write) s = record s { outer = device_accessed w address write s.outer }
+after_deed w found m _ s = s
 
 -- the launcher takes a word while core 1 sleeps, and starts it after the sixth (RP2040 Datasheet, 2.8.2)
 abbrev pub started_by : Option Launch → State → State
@@ -178,18 +184,24 @@ started_by (Some l) s = record s { core1 = started l.vtor l.sp l.entry s.core1 }
 unfoldable pub after_launcher : State → State
 after_launcher s = started_by (launch_of s.sio) (with_sio (after_turn s.sio) s)
 
--- while core 1 sleeps its launcher stands for it
-abbrev pub after_core1 : Setting → Deed → State → State
-after_core1 w d s = if s.core1.asleep then after_launcher s else after_deed w master.Core1 d s
+-- it does so where it had a word, and room for the answer, when the cycle began
+abbrev pub launched_where : Bool → State → State
+launched_where offered s = if offered then after_launcher s else s
 
-abbrev pub after_master : Setting → Master → Deed → State → State
-after_master w master.Core1 d s = after_core1 w d s
-after_master w m d s = after_deed w m d s
+-- while core 1 sleeps its launcher stands for it
+abbrev pub after_core1 : Setting → Bool → Bool → Deed → State → State
+after_core1 w offered found d s =
+    if s.core1.asleep then launched_where offered s else after_deed w found master.Core1 d s
+
+-- `start` is SIO as it is when the cycle begins
+abbrev pub after_master : Setting → SioState → Master → Deed → State → State
+after_master w start master.Core1 d s = after_core1 w (offers_of start) (found_by master.Core1 d start) d s
+after_master w start m d s = after_deed w (found_by m d start) m d s
 
 -- the deeds of the masters in their order
-abbrev pub after_masters : Setting → List Master → List Deed → State → State
-after_masters w (m ∷ ms) (d ∷ ds) s = after_masters w ms ds (after_master w m d s)
-after_masters w _ _ s = s
+abbrev pub after_masters : Setting → SioState → List Master → List Deed → State → State
+after_masters w start (m ∷ ms) (d ∷ ds) s = after_masters w start ms ds (after_master w start m d s)
+after_masters w start _ _ s = s
 
 abbrev pub stored : Deed → List ℕ → List ℕ
 stored (deed.Store index lanes value) sram = written sram index lanes value
@@ -208,7 +220,7 @@ unfoldable pub ended : State → State
 ended s = with_sio (sio_end.after_cycle s.sio) s
 
 unfoldable pub after_deeds : Setting → List Deed → State → State
-after_deeds w ds s = ended (with_stores ds (after_masters w masters ds s))
+after_deeds w ds s = ended (with_stores ds (after_masters w s.sio masters ds s))
 
 -- ---- the cycle
 

@@ -79,9 +79,10 @@ impl Machine {
             self.old.outer outer.now ∷ [] }
     {
         let at = self.at;
+        let offered = self.sio.offers();
         self.core0.finish(&(), core0, [Turn::Nothing; 2], marks);
         self.outer.finish(world, outer, [Turn::Nothing; 2], marks);
-        self.rest_core1();
+        self.rest_core1(offered);
         self.end();
         self.at = at + 1;
     }
@@ -108,11 +109,13 @@ impl Machine {
         let mut fabric = self.fabric;
         let granted = fabric.grant_core0(asked_begun(core0));
         let (turn, deed) = self.served_core0(world, outer, core0, granted);
+        let offered = self.sio.offers();
+        let found = self.found_by(Master::Core0, &deed);
         self.fabric = fabric;
         self.core0.finish(&(), core0, [turn, Turn::Nothing], marks);
         self.outer.finish(world, outer, [Turn::Nothing; 2], marks);
-        self.do_deed(world, Master::Core0, &deed);
-        self.rest_core1();
+        self.do_deed(world, found, Master::Core0, &deed);
+        self.rest_core1(offered);
         self.store(&deed);
         self.end();
         self.at = at + 1;

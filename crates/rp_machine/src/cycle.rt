@@ -86,7 +86,7 @@ impl Machine {
     ghost use Rattle.rp_machine.specs.Deeds.{spot_of, StoresInSram};
     ghost use Rattle.rp_machine.specs.BusRest.{core1_at_rest, rest_next};
     ghost use Rattle.rp_machine.specs.Alone.{first_next};
-    ghost use Rattle.rp_machine.specs.Cycle.{begun, wanted_by, wanted, cause_in, stop, turns, deeds, with_turns, signalled, pins_of, with_sio, sio_accessed, after_deed, after_launcher, after_core1, stored, ended, after_deeds, next_by, next, mark};
+    ghost use Rattle.rp_machine.specs.Cycle.{begun, wanted_by, wanted, cause_in, stop, turns, deeds, with_turns, signalled, pins_of, with_sio, found_by, sio_accessed, after_deed, after_launcher, after_core1, stored, ended, after_deeds, next_by, next, mark};
 
     /// The first cause of a master to stop before a cycle in which this was begun, whoever wants anything.
     #[inline(never)]
@@ -196,25 +196,43 @@ impl Machine {
         self.core1.signal();
     }
 
-    /// An access of a core to SIO.
+    /// What a master's deed finds of SIO, where nothing was done in the cycle yet.
+    #[inline(always)]
+    pub(crate) fn found_by(&self, master: Master, deed: &Deed) -> bool
+        ensures { result ≡ found_by master deed.now self.now.sio }
+    {
+        match (master, *deed) {
+            (Master::Core0, Deed::SingleCycle { offset, write }) => self.sio.finds(0, offset, write),
+            (Master::Core1, Deed::SingleCycle { offset, write }) => self.sio.finds(1, offset, write),
+            _ => false,
+        }
+    }
+
+    /// An access of a core to SIO that has found this.
     #[tactic(auto, unfolding(crate::specs::Cycle::with_sio))]
-    fn access_sio(&mut self, master: Master, offset: u16, write: Option<u32>)
-        ensures { self.new ≡ sio_accessed master offset write self.old }
+    fn access_sio(&mut self, found: bool, master: Master, offset: u16, write: Option<u32>)
+        ensures { self.new ≡ sio_accessed found master offset write self.old }
     {
         match master {
-            Master::Core0 => self.sio.effect(0, offset, write),
-            Master::Core1 => self.sio.effect(1, offset, write),
+            Master::Core0 => self.sio.effect_where(found, 0, offset, write),
+            Master::Core1 => self.sio.effect_where(found, 1, offset, write),
             Master::DmaRead | Master::DmaWrite => return,
         }
         tell_of_sio(&self.sio, &mut self.outer, &mut self.core1);
     }
 
-    /// The deed of a master, but for a write to SRAM, which comes last.
+    /// The deed of a master that has found this of SIO, but for a write to SRAM, which comes last.
     #[tactic(auto, unfolding(crate::specs::Cycle::after_deed))]
-    pub(crate) fn do_deed<X: Device>(&mut self, world: &World<'_, X>, master: Master, deed: &Deed)
+    pub(crate) fn do_deed<X: Device>(
+        &mut self,
+        world: &World<'_, X>,
+        found: bool,
+        master: Master,
+        deed: &Deed,
+    )
         ensures { self.new ≡ after_deed
             (setting_of world.now.script.now (X.meaning world.now.device.now) world.now.limit)
-            master deed.now self.old }
+            found master deed.now self.old }
     {
         match *deed {
             Deed::Signal => self.signal(),
@@ -223,7 +241,7 @@ impl Machine {
                 offset,
                 write,
             } => self.access_block(block, offset, write),
-            Deed::SingleCycle { offset, write } => self.access_sio(master, offset, write),
+            Deed::SingleCycle { offset, write } => self.access_sio(found, master, offset, write),
             Deed::Device { address, write } => self.outer.device_effect(world, address, write),
             Deed::Nothing | Deed::Store { .. } => {}
         }
@@ -245,17 +263,17 @@ impl Machine {
         }
     }
 
-    /// The deed of core 1, or the turn of its launcher while it sleeps.
+    /// The deed of core 1, or while it sleeps the turn of its launcher, where the start of the cycle offered it a word.
     #[inline(always)]
-    fn do_core1<X: Device>(&mut self, world: &World<'_, X>, deed: &Deed)
+    fn do_core1<X: Device>(&mut self, world: &World<'_, X>, offered: bool, found: bool, deed: &Deed)
         ensures { self.new ≡ after_core1
             (setting_of world.now.script.now (X.meaning world.now.device.now) world.now.limit)
-            deed.now self.old }
+            offered found deed.now self.old }
     {
-        if self.core1.is_asleep() {
+        if !self.core1.is_asleep() {
+            self.do_deed(world, found, Master::Core1, deed);
+        } else if offered {
             self.launch();
-        } else {
-            self.do_deed(world, Master::Core1, deed);
         }
     }
 
@@ -296,10 +314,13 @@ impl Machine {
             deeds.now self.old }
     {
         let [core0, core1, read, write] = deeds;
-        self.do_deed(world, Master::Core0, core0);
-        self.do_core1(world, core1);
-        self.do_deed(world, Master::DmaRead, read);
-        self.do_deed(world, Master::DmaWrite, write);
+        let offered = self.sio.offers();
+        let found0 = self.found_by(Master::Core0, core0);
+        let found1 = self.found_by(Master::Core1, core1);
+        self.do_deed(world, found0, Master::Core0, core0);
+        self.do_core1(world, offered, found1, core1);
+        self.do_deed(world, false, Master::DmaRead, read);
+        self.do_deed(world, false, Master::DmaWrite, write);
         self.store(core0);
         self.store(core1);
         self.store(read);
@@ -307,13 +328,13 @@ impl Machine {
         self.end();
     }
 
-    /// The turn of the launcher while core 1 sleeps.
+    /// The turn of the launcher while core 1 sleeps, where the start of the cycle offered it a word.
     #[inline(always)]
     #[tactic(auto, unfolding(crate::specs::BusRest::core1_at_rest))]
-    pub(crate) fn rest_core1(&mut self)
-        ensures { self.new ≡ core1_at_rest self.old }
+    pub(crate) fn rest_core1(&mut self, offered: bool)
+        ensures { self.new ≡ core1_at_rest offered self.old }
     {
-        if self.core1.is_asleep() {
+        if offered && self.core1.is_asleep() {
             self.launch();
         }
     }
@@ -337,8 +358,9 @@ impl Machine {
             self.old.outer begun.now.outer ∷ [] }
     {
         let at = self.at;
+        let offered = self.sio.offers();
         self.step_lanes(world, begun, [Turn::Nothing; 4], marks);
-        self.rest_core1();
+        self.rest_core1(offered);
         self.end();
         self.at = at + 1;
     }
@@ -360,6 +382,8 @@ impl Machine {
         let mut fabric = self.fabric;
         let granted = fabric.grant_core0(asked_begun(&begun.core0));
         let (turn, deed) = self.served_core0(world, &begun.outer, &begun.core0, granted);
+        let offered = self.sio.offers();
+        let found = self.found_by(Master::Core0, &deed);
         self.fabric = fabric;
         self.step_lanes(
             world,
@@ -367,8 +391,8 @@ impl Machine {
             [turn, Turn::Nothing, Turn::Nothing, Turn::Nothing],
             marks,
         );
-        self.do_deed(world, Master::Core0, &deed);
-        self.rest_core1();
+        self.do_deed(world, found, Master::Core0, &deed);
+        self.rest_core1(offered);
         self.store(&deed);
         self.end();
         self.at = at + 1;

@@ -1,7 +1,6 @@
 //! Windows of a program: a DMA copy whose second read and first write meet on one bank; and reports that are accepted or not.
 
 ghost use Rattle.std.specs.Prelude.{◌≡◌, ◌<◌};
-ghost use Rattle.window_merge.specs.Merging.{IsRested};
 ghost use Rattle.window_merge.specs.Jobs.{IsWhole};
 
 use arrayvec::ArrayVec;
@@ -15,7 +14,7 @@ use std::sync::ledger::{Blank, Ledger};
 use std::test::Fail;
 use uf2_image::read_image;
 use window_merge::jobs::run_by;
-use window_merge::{Crew, LaneJob, LaneReport, Moved, accept, advance, job};
+use window_merge::{Crew, LaneJob, LaneReport, LaneRun, Moved, accept, advance, job};
 
 /// ADR of the words, LDM, a store that begins the copy, and a loop; then the words of the channel, and what is copied.
 const COPY: [u8; 36] = [
@@ -59,7 +58,6 @@ fn lengths_of<X: Device, L: Ledger>(
     crew: &mut Crew,
     steps: &mut Steps<L>,
 ) -> Result<(ArrayVec<u16, 16>, u64), Fail>
-    requires rested { IsRested machine.old.sio }
     requires crew { IsWhole crew.old }
 {
     let mut marks = Marks::new();
@@ -158,8 +156,18 @@ fn report_of<X: Device>(
     Some(run_by(lane_job, world))
 }
 
+/// How many entries the log of a report has.
+fn entries_of(report: &LaneReport) -> u32 {
+    u32::from(match &report.run {
+        LaneRun::Core(report) => report.log.count(),
+        LaneRun::Dma(report) => report.log.count(),
+        LaneRun::Pio(report) => report.log.count(),
+        LaneRun::Outer(report) => report.log.count(),
+    })
+}
+
 /// What is said of a report that is not accepted.
-fn is_strange(machine: &Machine, report: &LaneReport, lane: u8, entry: Option<u16>) -> bool {
+fn is_strange(machine: &Machine, report: &LaneReport, lane: u8, entry: u32) -> bool {
     match accept(machine, report) {
         Ok(()) => false,
         Err(stranger) => stranger.lane == lane && stranger.entry == entry,
@@ -183,14 +191,14 @@ fn said_by<X: Device, L: Ledger>(
     }
     machine.ram.write(0, 0xf, 0);
     // the lines are the first entry of a core's log, and the halfword that it fetches is the second
-    if !is_strange(machine, core0, 0, Some(1)) || machine.number() > world.limit {
+    if !is_strange(machine, core0, 0, 1) || machine.number() > world.limit {
         return Some(2);
     }
     let _ = machine.cycle(world, &mut Marks::new(), steps);
-    if !is_strange(machine, core0, 0, None) {
+    if !is_strange(machine, core0, 0, entries_of(core0)) {
         return Some(3);
     }
-    if !is_strange(machine, outer, 5, None) {
+    if !is_strange(machine, outer, 5, entries_of(outer)) {
         return Some(4);
     }
     None

@@ -4,13 +4,13 @@
 -- again.
 use Rattle.std.specs.Prelude.{ℕ, ◌-◌, ◌^◌, Bool, true, ◌&&◌, ◌==◌, nat_lt, if◌then◌else◌, List, [], ◌∷◌, ◌++◌, length, slice_index, Option, Some, None}
 use Rattle.sio_block.specs.declared.Launch.{Launch}
-use Rattle.sio_block.specs.Mailbox.{had_word, had_room, front_of, taken_from, put_into}
+use Rattle.sio_block.specs.Mailbox.{has_word, has_room, front_of, taken_from, put_into}
 use Rattle.sio_block.specs.Side.{with_mailbox}
 use Rattle.sio_block.specs.State.{SioState}
 
--- the launcher takes a word in this cycle: there was one, and room for the answer, when the cycle began
+-- the launcher has a word to take, and room for the answer
 abbrev pub offers_of : SioState → Bool
-offers_of s = had_word s.core1.mailbox && had_room s.core0.mailbox
+offers_of s = has_word s.core1.mailbox && has_room s.core0.mailbox
 
 -- a word fits after those that were taken
 abbrev pub fits_after : List ℕ → ℕ → Bool

@@ -1,5 +1,5 @@
 -- Laws of the block: what the definitions come to for the software that uses it.
-use Rattle.std.specs.Prelude.{◌≡◌, ℕ, zero, suc, ◌+◌, ◌*◌, ◌^◌, ◌<◌, ◌≤◌, Bool, true, false, ◌||◌, ◌==◌, ℤ, ◌+ℤ◌, ◌*ℤ◌, unsigned_abs, List, [], ◌∷◌, ◌++◌, Some, None, option_to_list}
+use Rattle.std.specs.Prelude.{◌≡◌, ℕ, zero, suc, ◌+◌, ◌*◌, ◌^◌, ◌<◌, ◌≤◌, Bool, true, false, ◌||◌, ◌==◌, ℤ, ◌+ℤ◌, ◌*ℤ◌, unsigned_abs, List, [], ◌∷◌, ◌++◌, Option, Some, None, option_to_list}
 use Rattle.rp_base.specs.Word as word
 use Rattle.rp_base.specs.Word.{has_bit}
 use Rattle.sio_block.specs.Offsets.{DIV_UDIVIDEND, DIV_UDIVISOR, DIV_SDIVIDEND, DIV_SDIVISOR, SPINLOCK0}
@@ -9,28 +9,35 @@ use Rattle.sio_block.specs.Divider.{number_of, quotient_of, remainder_of, csr_of
 use Rattle.sio_block.specs.Launcher.{answer_to, taken_after, launch_after}
 use Rattle.sio_block.specs.State.{SioState}
 use Rattle.sio_block.specs.Words.{word_of}
-use Rattle.sio_block.specs.Changes.{effect_of}
+use Rattle.sio_block.specs.Changes.{finds, effect_where}
 
 -- ---- spinlocks
 
 abbrev pub lock_offset : ℕ → ℕ
 lock_offset n = SPINLOCK0 + 4 * n
 
+-- what a core's access does that found what the block at the start of the cycle has
+abbrev pub does_by : SioState → ℕ → ℕ → Option ℕ → SioState → SioState
+does_by start core offset write s = effect_where (finds core offset write start) core offset write s
+
+-- both cores have read a lock in one cycle
+abbrev pub both_read : ℕ → ℕ → ℕ → SioState → SioState
+both_read n first second s =
+    does_by s second (lock_offset n) None (does_by s first (lock_offset n) None s)
+
 -- of two cores that read a free lock in one cycle the first gets its bit, and the second finds it taken until it is written
 pub record HasOneOwner (s : SioState) (n inputs first second w : ℕ) : Type 0 where
   pub taken : word_of first (lock_offset n) inputs s ≡ Some (2 ^ n)
-  pub refused : word_of second (lock_offset n) inputs (effect_of first (lock_offset n) None s) ≡ Some 0
+  pub refused : word_of second (lock_offset n) inputs (does_by s first (lock_offset n) None s) ≡ Some 0
   pub freed :
-      word_of second (lock_offset n) inputs
-      (effect_of first (lock_offset n) (Some w) (effect_of second (lock_offset n) None (effect_of first (lock_offset n) None s)))
-      ≡ Some (2 ^ n)
+      let held = both_read n first second s in
+      word_of second (lock_offset n) inputs (does_by held first (lock_offset n) (Some w) held) ≡ Some (2 ^ n)
 
 abbrev pub ALockHasOneOwner : Type 0
 ALockHasOneOwner =
     (s : SioState) (n inputs first second w : ℕ)
     → n < 32
     → has_bit s.locks.taken n ≡ false
-    → has_bit s.locks.before n ≡ false
     → HasOneOwner s n inputs first second w
 
 -- ---- the divider

@@ -6,7 +6,7 @@ use Rattle.sio_block.specs.declared.locks.Locks.{Locks}
 use Rattle.rp_base.specs.Word.{has_bit, minus}
 
 abbrev pub locks_at_reset : Locks
-locks_at_reset = record { taken = 0; before = 0 }
+locks_at_reset = record { taken = 0 }
 
 -- SPINLOCK0 to SPINLOCK31
 abbrev pub is_lock : ℕ → Bool
@@ -22,17 +22,14 @@ lock_word offset l =
     then Some (if has_bit l.taken (lock_number offset) then 0 else 2 ^ lock_number offset)
     else None
 
--- a read takes a lock that was free when the cycle began, so a core that read 0 takes none that the other one frees in the
--- same cycle
-abbrev pub lock_read : ℕ → Locks → Locks
-lock_read offset l =
-    if is_lock offset && not (has_bit l.before (lock_number offset))
-    then record l { taken = bit_or l.taken (2 ^ lock_number offset) }
-    else l
+abbrev pub is_free : ℕ → Locks → Bool
+is_free offset l = is_lock offset && not (has_bit l.taken (lock_number offset))
+
+-- a read takes a lock, where `found` tells whether it was free
+abbrev pub lock_read : Bool → ℕ → Locks → Locks
+lock_read found offset l =
+    if found && is_lock offset then record l { taken = bit_or l.taken (2 ^ lock_number offset) } else l
 
 -- a write of any word frees a lock
 abbrev pub lock_written : ℕ → Locks → Locks
 lock_written offset l = if is_lock offset then record l { taken = minus l.taken (2 ^ lock_number offset) } else l
-
-abbrev pub locks_ended : Locks → Locks
-locks_ended l = record l { before = l.taken }

@@ -1,7 +1,7 @@
 //! The spinlocks.
 
 ghost use Rattle.std.specs.Prelude.{◌≡◌, ◌<◌, true};
-ghost use Rattle.sio_block.specs.Locks.{is_lock, lock_number, lock_word, lock_read, lock_written, locks_ended};
+ghost use Rattle.sio_block.specs.Locks.{is_lock, is_free, lock_number, lock_word, lock_read, lock_written};
 
 use crate::registers::{SPINLOCK0, SPINLOCK31};
 
@@ -10,8 +10,6 @@ use crate::registers::{SPINLOCK0, SPINLOCK31};
 pub struct Locks {
     /// Those that are taken.
     pub taken: u32,
-    /// Those that were taken when the cycle began.
-    pub before: u32,
 }
 
 impl Locks {
@@ -30,15 +28,19 @@ impl Locks {
         }
     }
 
-    /// A read takes a lock that was free when the cycle began.
-    pub(crate) fn after_read(&mut self, offset: u16)
-        ensures { self.new ≡ lock_read offset self.old }
+    /// A lock that is free is at the offset.
+    pub(crate) fn is_free(&self, offset: u16) -> bool
+        ensures { result ≡ is_free offset self.now }
     {
-        if is_lock(offset) {
-            let number = lock_number(offset);
-            if (self.before >> number) & 1 == 0 {
-                self.taken |= 1 << number;
-            }
+        is_lock(offset) && (self.taken >> lock_number(offset)) & 1 == 0
+    }
+
+    /// A read takes a lock that it found free.
+    pub(crate) fn after_read(&mut self, found: bool, offset: u16)
+        ensures { self.new ≡ lock_read found offset self.old }
+    {
+        if found && is_lock(offset) {
+            self.taken |= 1 << lock_number(offset);
         }
     }
 
@@ -49,13 +51,6 @@ impl Locks {
         if is_lock(offset) {
             self.taken &= !(1 << lock_number(offset));
         }
-    }
-
-    /// Ends a cycle.
-    pub(crate) fn end_cycle(&mut self)
-        ensures { self.new ≡ locks_ended self.old }
-    {
-        self.before = self.taken;
     }
 }
 

@@ -1,7 +1,7 @@
 //! The mailbox of a core.
 
-ghost use Rattle.std.specs.Prelude.{◌≡◌};
-ghost use Rattle.sio_block.specs.Mailbox.{empty, had_word, had_room, has_word, has_room, front_of, taken_from, put_into, mailbox_ended};
+ghost use Rattle.std.specs.Prelude.{◌≡◌, []};
+ghost use Rattle.sio_block.specs.Mailbox.{has_word, has_room, front_of, taken_from, put_into};
 
 use arrayvec::ArrayVec;
 use std::marker::Model;
@@ -9,46 +9,28 @@ use std::marker::Model;
 /// How many words a mailbox holds.
 const DEPTH: usize = 8;
 
-/// The words for a core, at most 8, and how many they were when the cycle began (RP2040 Datasheet, 2.3.1.4).
+/// The words for a core, at most 8 (RP2040 Datasheet, 2.3.1.4).
 #[derive(Drop)]
 pub struct Mailbox {
     words: ArrayVec<u32, 8>,
-    before: usize,
 }
 
 impl Model for Mailbox {
-    ghost use Rattle.sio_block.specs.Mailbox.{Mailbox};
+    ghost use Rattle.std.specs.Prelude.{ℕ, List};
 
-    ghost Value = { Mailbox };
+    ghost Value = { List ℕ };
 
-    ghost view = { λ m. record { words = m.words.items; before = m.before } };
+    ghost view = { λ m. m.words.items };
 }
 
 impl Mailbox {
     /// A mailbox without words.
     pub(crate) fn new() -> Mailbox
-        ensures { result ≡ empty }
+        ensures { result ≡ [] }
     {
         Mailbox {
             words: ArrayVec::new(),
-            before: 0,
         }
-    }
-
-    /// It had a word when the cycle began.
-    #[inline(always)]
-    pub(crate) fn had_word(&self) -> bool
-        ensures { result ≡ had_word self.now }
-    {
-        0 < self.before
-    }
-
-    /// It had room when the cycle began.
-    #[inline(always)]
-    pub(crate) fn had_room(&self) -> bool
-        ensures { result ≡ had_room self.now }
-    {
-        self.before < DEPTH
     }
 
     /// It has a word.
@@ -75,29 +57,22 @@ impl Mailbox {
         if words.len() > 0 { words[0] } else { 0 }
     }
 
-    /// Takes the oldest word, where there was one when the cycle began.
+    /// Takes the oldest word, where there is one.
     pub(crate) fn take(&mut self)
         ensures { self.new ≡ taken_from self.old }
     {
-        if 0 < self.before && 0 < self.words.len() {
+        if 0 < self.words.len() {
             self.words.remove(0);
         }
     }
 
-    /// Puts a word behind the others, where there was room when the cycle began.
+    /// Puts a word behind the others, where there is room.
     pub(crate) fn put(&mut self, word: u32)
         ensures { self.new ≡ put_into word self.old }
     {
-        if self.before < DEPTH && self.words.len() < DEPTH {
+        if self.words.len() < DEPTH {
             self.words.push(word);
         }
-    }
-
-    /// Ends a cycle.
-    pub(crate) fn end_cycle(&mut self)
-        ensures { self.new ≡ mailbox_ended self.old }
-    {
-        self.before = self.words.len();
     }
 
     /// Takes the words of another mailbox.
@@ -106,6 +81,5 @@ impl Mailbox {
     {
         self.words.clear();
         let _ = self.words.try_extend_from_slice(other.words.as_slice());
-        self.before = other.before;
     }
 }

@@ -62,32 +62,34 @@ impl Side {
         self.mailbox.has_word() || self.write_on_full || self.read_on_empty
     }
 
-    /// What a read of this core does.
-    pub(crate) fn after_read(&mut self, offset: u16)
-        ensures { self.new ≡ side_read offset self.old }
+    /// What a read of this core does, where `found` tells whether its mailbox had a word.
+    pub(crate) fn after_read(&mut self, found: bool, offset: u16)
+        ensures { self.new ≡ side_read found offset self.old }
     {
         if offset == FIFO_RD {
-            if !self.mailbox.had_word() {
+            if found {
+                self.mailbox.take();
+            } else {
                 self.read_on_empty = true;
             }
-            self.mailbox.take();
         } else {
             self.divider.after_read(offset);
         }
     }
 
-    /// A write of this core, where `other` is the other core's mailbox.
-    pub(crate) fn write(&mut self, offset: u16, word: u32, other: &mut Mailbox)
-        ensures own { self.new ≡ side_written offset word other.old self.old }
-        ensures other { other.new ≡ mailbox_written offset word other.old }
+    /// A write of this core, where `other` is the other core's mailbox, and `found` tells whether that had room.
+    pub(crate) fn write(&mut self, found: bool, offset: u16, word: u32, other: &mut Mailbox)
+        ensures own { self.new ≡ side_written found offset word self.old }
+        ensures other { other.new ≡ mailbox_written found offset word other.old }
     {
         match offset {
             FIFO_ST => self.write_status(word),
             FIFO_WR => {
-                if !other.had_room() {
+                if found {
+                    other.put(word);
+                } else {
                     self.write_on_full = true;
                 }
-                other.put(word);
             }
             _ => self.divider.write(offset, word),
         }
@@ -109,7 +111,6 @@ impl Side {
     pub(crate) fn end_cycle(&mut self)
         ensures { self.new ≡ side_ended self.old }
     {
-        self.mailbox.end_cycle();
         self.divider.end_cycle();
     }
 

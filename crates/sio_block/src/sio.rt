@@ -15,7 +15,8 @@ use arrayvec::ArrayVec;
 use std::marker::Model;
 
 /// The single-cycle IO block (RP2040 Datasheet, 2.3.1). A cycle is its reads, the effects of core 0, then those of core 1 or,
-/// while that core sleeps, `launcher`, and then `end_cycle`.
+/// while that core sleeps and `offers` was true at the start, `launcher`, and then `end_cycle`. What core 1's access finds is
+/// asked for at the start too, and handed to `effect_where`.
 #[derive(Drop)]
 pub struct Sio {
     pub(crate) pins: Pins,
@@ -55,10 +56,7 @@ impl Sio {
     {
         Sio {
             pins: Pins { out: 0, enable: 0 },
-            locks: Locks {
-                taken: 0,
-                before: 0,
-            },
+            locks: Locks { taken: 0 },
             core0: Side::new(),
             core1: Side::new(),
             launched: ArrayVec::new(),
@@ -67,8 +65,7 @@ impl Sio {
     }
 
     /// One turn of the launcher, which stands for core 1 while that core sleeps: it takes a word from the core's mailbox and
-    /// answers it, where there was a word, and room for the answer, when the cycle began. Some exactly where it took the
-    /// sixth word, which starts core 1.
+    /// answers it, where there is a word, and room for the answer. Some exactly where it took the sixth word, which starts core 1.
     pub fn launcher(&mut self) -> Option<Launch>
         ensures after { self.new ≡ after_turn self.old }
         ensures launch { result ≡ launch_of self.old }
@@ -76,15 +73,14 @@ impl Sio {
         if !self.offers() {
             return None;
         }
-        self.at_rest = false;
         let word = self.core1.mailbox.front();
         self.core1.mailbox.take();
         self.core0.mailbox.put(answer_to(&self.launched, word));
         take(&mut self.launched, word)
     }
 
-    /// Ends a cycle: what the mailboxes and locks have now is what the next cycle begins with, and divisions go on. The
-    /// results of a division appear at the end of the eighth cycle, that of the write among them.
+    /// Ends a cycle: divisions go on. The results of a division appear at the end of the eighth cycle, that of the write among
+    /// them.
     #[inline(always)]
     pub fn end_cycle(&mut self)
         ensures { self.new ≡ after_cycle self.old }
@@ -98,7 +94,6 @@ impl Sio {
     fn end_busy_cycle(&mut self)
         ensures { self.new ≡ after_cycle self.old }
     {
-        self.locks.end_cycle();
         self.core0.end_cycle();
         self.core1.end_cycle();
         self.at_rest = !self.core0.divider.is_busy() && !self.core1.divider.is_busy();
@@ -112,12 +107,12 @@ impl Sio {
         self.at_rest
     }
 
-    /// The launcher would take a word in this cycle.
+    /// The launcher has a word to take, and room for the answer.
     #[inline(always)]
     pub fn offers(&self) -> bool
         ensures { result ≡ offers_of self.now }
     {
-        self.core1.mailbox.had_word() && self.core0.mailbox.had_room()
+        self.core1.mailbox.has_word() && self.core0.mailbox.has_room()
     }
 
     /// The interrupt line of core 0 or 1: its mailbox has a word, or a flag of FIFO_ST is set.

@@ -32,9 +32,9 @@ use Rattle.rp_machine.specs.declared.deed.Deed.{Deed}
 use Rattle.rp_machine.specs.declared.deed.Deed.TheVariants as deed
 use Rattle.rp_machine.specs.State.{State}
 use Rattle.rp_machine.specs.Deeds.{port_at, asked_at, asked_of, turn_of, stored_at, deed_of}
-use Rattle.rp_machine.specs.Cycle.{wanted, asked, granted, turns, with_turns, deeds, with_sio, with_offer, with_pins, pins_of, after_deed, after_launcher, after_masters, stored, all_stored, with_stores, ended, after_deeds, with_grants, stepped, next_by}
+use Rattle.rp_machine.specs.Cycle.{wanted, asked, granted, turns, with_turns, deeds, with_sio, with_offer, with_pins, pins_of, found_by, after_deed, launched_where, after_masters, stored, all_stored, with_stores, ended, after_deeds, with_grants, stepped, next_by}
 use Rattle.window_merge.specs.Patch.{sram_after}
-use Rattle.window_merge.specs.Merging.{IsRested, Knows}
+use Rattle.rp_machine.specs.Laws.{KnowsSio}
 use Rattle.window_merge.proofs.Banks.{HasBank, has_bank}
 use Rattle.window_merge.proofs.InSram.{IsPlaced}
 use Rattle.window_merge.proofs.Keeping.{core_keeps, outer_keeps}
@@ -99,35 +99,22 @@ deed_calm w seen grant (want.Outward request) s calm = absurd (cc calm)
 deed_calm w seen grant want.Signal s calm = absurd (cc calm)
 deed_calm w seen grant (want.Stopped cause) s calm = absurd (cc calm)
 
-nothing_done : (w : Setting) (m : Master) (d : Deed) (s : State) → IsStore d → after_deed w m d s ≡ s
+nothing_done : (w : Setting) (found : Bool) (m : Master) (d : Deed) (s : State) → IsStore d → after_deed w found m d s ≡ s
 unfolding after_deed
-nothing_done w m deed.Nothing s h = refl
-nothing_done w m (deed.Store index lanes value) s h = refl
-nothing_done w m deed.Signal s h = absurd h
-nothing_done w m (deed.Register block offset write) s h = absurd h
-nothing_done w m (deed.SingleCycle offset write) s h = absurd h
-nothing_done w m (deed.Device address write) s h = absurd h
+nothing_done w found m deed.Nothing s h = refl
+nothing_done w found m (deed.Store index lanes value) s h = refl
+nothing_done w found m deed.Signal s h = absurd h
+nothing_done w found m (deed.Register block offset write) s h = absurd h
+nothing_done w found m (deed.SingleCycle offset write) s h = absurd h
+nothing_done w found m (deed.Device address write) s h = absurd h
 
 -- ---- SIO and what is known of it
 
-pub rested_after : (s : SioState) → IsRested (after_cycle s)
-rested_after s = record { first = refl; second = refl }
-
-offers_on : (s : SioState) → IsRested s → offers_of (after_cycle s) ≡ offers_of s
-offers_on s h = rw (h.first, h.second) refl
-
-told_nothing : (sio : SioState) (s : State) → sio ≡ s.sio → s.core1.offer ≡ offers_of s.sio → s.outer.sio ≡ pins_of s.sio → with_sio sio s ≡ s
-unfolding with_sio
-told_nothing sio s e offer pins = rw (e, ← offer, ← pins) refl
-
 -- the launcher has nothing to do
-launcher_rests : (s : State) → offers_of s.sio ≡ false → s.core1.offer ≡ offers_of s.sio → s.outer.sio ≡ pins_of s.sio → after_launcher s ≡ s
-unfolding after_launcher
-launcher_rests s none offer pins = rw none (told_nothing s.sio s refl offer pins)
-
-core1_rests_by : (asleep : Bool) (s : State) → (asleep && s.core1.offer) ≡ false → s.core1.offer ≡ offers_of s.sio → s.outer.sio ≡ pins_of s.sio → (if asleep then after_launcher s else s) ≡ s
-core1_rests_by true s none offer pins = launcher_rests s (sym offer ∙ none) offer pins
-core1_rests_by false s none offer pins = refl
+core1_rests_by : (asleep offered : Bool) (s : State) → (asleep && offered) ≡ false → (if asleep then launched_where offered s else s) ≡ s
+core1_rests_by true true s none = absurd (cc none)
+core1_rests_by true false s none = refl
+core1_rests_by false offered s none = refl
 
 -- ---- the cycle
 
@@ -144,7 +131,7 @@ pub record IsCalm (b : Begun) (s : State) : Type 0 where
   pub apart : Apart (asked_of (core.want_of b.core0)) (asked_of (core.want_of b.core1)) (asked_of (dma.want_of b.dma.read)) (asked_of (dma.want_of b.dma.write))
   pub free : has_hold s.fabric ≡ false
   pub launcher : (s.core1.asleep && s.core1.offer) ≡ false
-  pub knows : Knows s
+  pub knows : KnowsSio s
 
 -- the lanes have stepped as if each ran alone, and what is needed for the next cycle holds again
 pub record IsStepped (w : Setting) (b : Begun) (s t : State) : Type 0 where
@@ -158,7 +145,7 @@ pub record IsStepped (w : Setting) (b : Begun) (s t : State) : Type 0 where
   pub free : has_hold t.fabric ≡ false
   pub asleep : t.core1.asleep ≡ s.core1.asleep
   pub offer : t.core1.offer ≡ s.core1.offer
-  pub knows : Knows t
+  pub knows : KnowsSio t
 
 granted_calm : (b : Begun) (s : State) → IsCalm b s → granted (wanted b) s ≡
     is_some (asked_of (core.want_of b.core0)) ∷ is_some (asked_of (core.want_of b.core1)) ∷ is_some (asked_of (dma.want_of b.dma.read)) ∷ is_some (asked_of (dma.want_of b.dma.write)) ∷ []
@@ -188,11 +175,17 @@ turns_calm w b s h =
     ) refl
 
 -- the deeds of the masters but for what they store
-masters_calm : (w : Setting) (d0 d1 d2 d3 : Deed) (t : State) → IsStore d0 → IsStore d1 → IsStore d2 → IsStore d3
-    → (if t.core1.asleep then after_launcher t else t) ≡ t
-    → after_masters w (master.Core0 ∷ master.Core1 ∷ master.DmaRead ∷ master.DmaWrite ∷ []) (d0 ∷ d1 ∷ d2 ∷ d3 ∷ []) t ≡ t
-masters_calm w d0 d1 d2 d3 t h0 h1 h2 h3 rests =
-    rw (nothing_done w master.Core0 d0 t h0, nothing_done w master.Core1 d1 t h1, rests, nothing_done w master.DmaRead d2 t h2, nothing_done w master.DmaWrite d3 t h3) refl
+masters_calm : (w : Setting) (start : SioState) (d0 d1 d2 d3 : Deed) (t : State) → IsStore d0 → IsStore d1 → IsStore d2 → IsStore d3
+    → (if t.core1.asleep then launched_where (offers_of start) t else t) ≡ t
+    → after_masters w start (master.Core0 ∷ master.Core1 ∷ master.DmaRead ∷ master.DmaWrite ∷ []) (d0 ∷ d1 ∷ d2 ∷ d3 ∷ []) t ≡ t
+masters_calm w start d0 d1 d2 d3 t h0 h1 h2 h3 rests =
+    rw (
+      nothing_done w (found_by master.Core0 d0 start) master.Core0 d0 t h0,
+      nothing_done w (found_by master.Core1 d1 start) master.Core1 d1 t h1,
+      rests,
+      nothing_done w (found_by master.DmaRead d2 start) master.DmaRead d2 t h2,
+      nothing_done w (found_by master.DmaWrite d3 start) master.DmaWrite d3 t h3,
+    ) refl
 
 same_offer : (offer : Bool) (c : Core) → offer ≡ c.offer → with_offer offer c ≡ c
 same_offer offer c e = rw e refl
@@ -217,11 +210,12 @@ knows_on w b s =
     let k = core_keeps s.core1 b.core1 (turn_alone (core.want_of b.core1) ∷ turn.Nothing ∷ []) in
     record { asleep = k.asleep; offer = k.offer; pins = outer_keeps w s.outer b.outer; sio = refl }
 
-rests_on : (w : Setting) (b : Begun) (s : State) → IsCalm b s → (if (after_lanes w b s).core1.asleep then after_launcher (after_lanes w b s) else after_lanes w b s) ≡ after_lanes w b s
+rests_on : (w : Setting) (b : Begun) (s : State) → IsCalm b s
+    → (if (after_lanes w b s).core1.asleep then launched_where (offers_of (after_lanes w b s).sio) (after_lanes w b s) else after_lanes w b s) ≡ after_lanes w b s
 rests_on w b s h =
     let k = knows_on w b s in
-    core1_rests_by (after_lanes w b s).core1.asleep (after_lanes w b s) (rw (k.asleep, k.offer) h.launcher)
-    (k.offer ∙ h.knows.offer ∙ sym (ap offers_of k.sio)) (k.pins ∙ h.knows.pins ∙ sym (ap pins_of k.sio))
+    let offered : offers_of (after_lanes w b s).sio ≡ s.core1.offer = ap offers_of k.sio ∙ sym h.knows.offer in
+    core1_rests_by (after_lanes w b s).core1.asleep (offers_of (after_lanes w b s).sio) (after_lanes w b s) (rw (k.asleep, offered) h.launcher)
 
 abbrev calm_deeds : Setting → Begun → State → List Deed
 calm_deeds w b s =
@@ -239,7 +233,7 @@ done_calm : (w : Setting) (b : Begun) (s : State) → IsCalm b s → after_deeds
 unfolding after_deeds
 done_calm w b s h =
     ap (λ t. ended (with_stores (calm_deeds w b s) t))
-    (masters_calm w _ _ _ _ (after_lanes w b s)
+    (masters_calm w (after_lanes w b s).sio _ _ _ _ (after_lanes w b s)
     (deed_calm w b.outer _ (core.want_of b.core0) s h.calm0) (deed_calm w b.outer _ (core.want_of b.core1) s h.calm1)
     (deed_calm w b.outer _ (dma.want_of b.dma.read) s h.calm_read) (deed_calm w b.outer _ (dma.want_of b.dma.write) s h.calm_write)
     (rests_on w b s h))
@@ -260,7 +254,7 @@ unfolding ended with_sio
 core1_calm w b s h =
     let k = knows_on w b s in
     same_offer (offers_of (after_cycle (after_lanes w b s).sio)) (after_lanes w b s).core1
-    (ap (λ sio. offers_of (after_cycle sio)) k.sio ∙ offers_on s.sio h.knows.rested ∙ sym h.knows.offer ∙ sym k.offer)
+    (ap (λ sio. offers_of (after_cycle sio)) k.sio ∙ sym h.knows.offer ∙ sym k.offer)
 
 same_pins : (w : Setting) (b : Begun) (s : State) → IsCalm b s → (after_calm w b s).outer ≡ (after_lanes w b s).outer
 unfolding ended with_sio
@@ -268,9 +262,9 @@ same_pins w b s h =
     let k = knows_on w b s in
     pins_same (pins_of (after_lanes w b s).sio) (after_lanes w b s).outer (ap pins_of k.sio ∙ sym h.knows.pins ∙ sym k.pins)
 
-knows_calm : (w : Setting) (b : Begun) (s : State) → Knows (after_calm w b s)
+knows_calm : (w : Setting) (b : Begun) (s : State) → KnowsSio (after_calm w b s)
 unfolding ended with_sio
-knows_calm w b s = record { pins = refl; offer = refl; rested = rested_after (after_lanes w b s).sio }
+knows_calm w b s = record { pins = refl; offer = refl }
 
 free_calm : (w : Setting) (b : Begun) (s : State) → IsCalm b s → has_hold (after_calm w b s).fabric ≡ false
 unfolding ended with_sio with_turns

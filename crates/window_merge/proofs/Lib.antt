@@ -22,8 +22,8 @@ pub mod Quiet
 pub mod Reading
 pub mod Replaying
 pub mod Reported
-pub mod Resting
 pub mod Showing
+pub mod Sieving
 pub mod Starting
 pub mod Telling
 pub mod Told

@@ -31,7 +31,8 @@ use Rattle.rp_machine.specs.Cycle.{begun, wanted, stored, stop, next_by}
 use Rattle.rp_machine.specs.Run.{states}
 use Rattle.window_merge.specs.Lanes.{core_lane, dma_lane, pio_lane, peripheral_lane, around, is_launching, core1_bound, runs_of}
 use Rattle.window_merge.specs.Window.{longest, ends_in, differs_in, clash, clash_in, closes, window_length, window_within}
-use Rattle.window_merge.specs.Merging.{Rests, begun_by, left_by, differs_by, wants_of, fits, marks_in, Knows}
+use Rattle.rp_machine.specs.Laws.{KnowsSio}
+use Rattle.window_merge.specs.Merging.{Rests, begun_by, left_by, differs_by, wants_of, fits, marks_in}
 use Rattle.window_merge.specs.Patch.{patched, sram_after}
 use Rattle.window_merge.specs.declared.notes.Notes.{Notes}
 use Rattle.window_merge.specs.declared.start.Start.{Start}
@@ -73,7 +74,7 @@ whole_talks w s = record {
   outer = (alone (peripheral_lane w) (around 5) tt s.outer s.cycle s (whole w s).outer).talk;
 }
 
-stands_at_start : (w : Setting) (s : State) (marks : List Mark) → has_hold s.fabric ≡ false → Knows s → marks ≡ [] → Stands w s (whole w s) 0 s (whole_talks w s) marks
+stands_at_start : (w : Setting) (s : State) (marks : List Mark) → has_hold s.fabric ≡ false → KnowsSio s → marks ≡ [] → Stands w s (whole w s) 0 s (whole_talks w s) marks
 stands_at_start w s marks free knows e = stands_first w s (whole w s) (whole_talks w s) marks free knows
     (lane_first core_lane 0 s.core0 s (whole w s).core0 (whole_talks w s).core0 refl)
     (lane_first core_lane 1 s.core1 s (whole w s).core1 (whole_talks w s).core1 refl)
@@ -595,7 +596,7 @@ pub record Passes (w : Setting) (s : State) (k : ℕ) (now : State) (start : Sta
 -- what is known where the first cycle is tried
 pub record First (s : State) (marks : List Mark) : Type 0 where
   pub free : has_hold s.fabric ≡ false
-  pub knows : Knows s
+  pub knows : KnowsSio s
   pub none : marks ≡ []
   pub long : length s.sram ≡ 67584
 

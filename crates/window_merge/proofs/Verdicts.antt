@@ -1,6 +1,6 @@
 -- What a comparison of logs and lengths says of a report.
-use Rattle.std.proofs.Common.{◌≡◌, ℕ, Bool, true, false, ◌&&◌, List, Option, Some, None, refl, ap, sym, ◌∙◌, subst}
-use Rattle.std.specs.Prelude.{Result, Ok, Err, is_ok, is_none, IfErr}
+use Rattle.std.proofs.Common.{◌≡◌, ℕ, Bool, true, false, ◌&&◌, List, length, Option, Some, None, refl, ap, sym, ◌∙◌, subst}
+use Rattle.std.specs.Prelude.{Result, Ok, Err, is_ok, is_none, unwrap_or, IfErr}
 use Rattle.std.specs.Bool.{Decides}
 use Rattle.std.specs.List.{slice_get}
 use Rattle.lane_look.specs.declared.replay.Report.{Report}
@@ -18,7 +18,7 @@ use Rattle.window_merge.specs.declared.questions.Questions.{Questions}
 use Rattle.window_merge.specs.Lanes.{around, core_lane, dma_lane, pio_lane, peripheral_lane}
 use Rattle.window_merge.specs.Merging.{IsRunAlone}
 use Rattle.window_merge.specs.Jobs.{core_of, block_of, IsTrueRun, IsTrueIn, IsAloneBy, IsAlone, start_of, longest_by}
-use Rattle.window_merge.specs.Accept.{talk_alone, IsStrange, IsStrangeBy, IsStranger}
+use Rattle.window_merge.specs.Accept.{talk_alone, IsStrange, IsStrangeBy, log_of, IsStranger}
 use Rattle.window_merge.specs.Judged.{IsFirstOther, IsUnlike, IsUnlikeBy, Judges}
 use Rattle.window_merge.specs.Questions.{questions_of, asking_lane}
 use Rattle.window_merge.proofs.AskingAlone.{talk_same, length_asking}
@@ -132,10 +132,26 @@ strange_by w s lane (run.Dma report) entry h e u = one_strange dma_lane lane s.d
 strange_by w s lane (run.Pio report) entry h e u = one_strange pio_lane lane (block_of lane s) s report entry h e u
 strange_by w s lane (run.Outer report) entry h e u = one_strange (peripheral_lane w) lane s.outer s report entry h e u
 
-pub is_stranger : (w : Setting) (s : State) (report : LaneReport) (entry : Option ℕ) (stranger : Stranger) → stranger ≡ record { lane = report.lane; entry = entry }
+pub is_stranger : (w : Setting) (s : State) (report : LaneReport) (entry : Option ℕ) (stranger : Stranger)
+    → stranger ≡ record { lane = report.lane; entry = unwrap_or entry (length (log_of report.run)) }
     → IsTrueIn w report → start_of report.run ≡ s.cycle → IsUnlikeBy w s report.lane report.run entry → IsStranger w s report stranger
 is_stranger w s report entry stranger e h e_start u =
-    subst (λ (x : Stranger). IsStranger w s report x) (sym e) (record { lane = refl; entry = strange_by w s report.lane report.run entry h.replays e_start u })
+    subst (λ (x : Stranger). IsStranger w s report x) (sym e)
+    (record { lane = refl; first = entry; is_first = strange_by w s report.lane report.run entry h.replays e_start u; entry = refl })
+
+-- a report that begins elsewhere
+begins_elsewhere : (w : Setting) (s : State) (lane : ℕ) (r : LaneRun) → (start_of r ≡ s.cycle → ⊥) → IsStrangeBy w s lane r None
+begins_elsewhere w s lane (run.Core report) h = λ e before. absurd (h e)
+begins_elsewhere w s lane (run.Dma report) h = λ e before. absurd (h e)
+begins_elsewhere w s lane (run.Pio report) h = λ e before. absurd (h e)
+begins_elsewhere w s lane (run.Outer report) h = λ e before. absurd (h e)
+
+pub is_elsewhere : (w : Setting) (s : State) (report : LaneReport) (stranger : Stranger)
+    → stranger ≡ record { lane = report.lane; entry = length (log_of report.run) }
+    → (start_of report.run ≡ s.cycle → ⊥) → IsStranger w s report stranger
+is_elsewhere w s report stranger e h =
+    subst (λ (x : Stranger). IsStranger w s report x) (sym e)
+    (record { lane = refl; first = None; is_first = begins_elsewhere w s report.lane report.run h; entry = refl })
 
 -- ---- what comes of it
 

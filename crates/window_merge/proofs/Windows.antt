@@ -27,7 +27,8 @@ use Rattle.rp_machine.proofs.Joining.{runs_follow}
 use Rattle.window_merge.specs.Lanes.{core_lane, dma_lane, pio_lane, peripheral_lane, around, is_launching, core1_bound, runs_of}
 use Rattle.window_merge.specs.Window.{longest, ends_in, differs_in, clash, clash_in, share_port, closes, window_length, window_within}
 use Rattle.window_merge.specs.declared.runs.Runs.{Runs}
-use Rattle.window_merge.specs.Merging.{Rests, begun_by, left_by, differs_by, wants_of, fits, marks_in, Knows, AreRunsAlone, IsWithin, rests_at, end_at}
+use Rattle.rp_machine.specs.Laws.{KnowsSio}
+use Rattle.window_merge.specs.Merging.{Rests, begun_by, left_by, differs_by, wants_of, fits, marks_in, AreRunsAlone, IsWithin, rests_at, end_at}
 use Rattle.window_merge.proofs.Agree.{both_false, is_not, itself, not_equal, differ_of}
 use Rattle.window_merge.proofs.Calm.{IsCalm, IsStepped, calm_next}
 use Rattle.window_merge.proofs.Comparing.{clash_four}
@@ -67,7 +68,7 @@ pub record Stands (w : Setting) (s : State) (n : Lengths) (k : ℕ) (now : State
   pub is_states : now ≡ states w s k
   pub at : now.cycle ≡ s.cycle + k
   pub free : has_hold now.fabric ≡ false
-  pub knows : Knows now
+  pub knows : KnowsSio now
   pub asleep : now.core1.asleep ≡ s.core1.asleep
   pub offer : now.core1.offer ≡ s.core1.offer
   pub core0 : LaneStands core_lane 0 s.core0 s n.core0 k now.core0 rests.core0
@@ -322,7 +323,7 @@ below_next test k below here j lt = elim (eqb_tells j k) [
 -- ---- the loop
 
 pub stands_first : (w : Setting) (s : State) (n : Lengths) (rests : Rests) (marks : List Mark)
-    → has_hold s.fabric ≡ false → Knows s
+    → has_hold s.fabric ≡ false → KnowsSio s
     → LaneStands core_lane 0 s.core0 s n.core0 0 s.core0 rests.core0
     → LaneStands core_lane 1 s.core1 s n.core1 0 s.core1 rests.core1
     → LaneStands dma_lane 2 s.dma s n.dma 0 s.dma rests.dma
@@ -458,7 +459,7 @@ are_lengths w s runs h = record {
 }
 
 -- the loop begins with nothing used
-pub stands_at_first : (w : Setting) (s : State) (runs : Runs) (marks : List Mark) → has_hold s.fabric ≡ false → Knows s → AreRunsAlone w s runs → marks ≡ []
+pub stands_at_first : (w : Setting) (s : State) (runs : Runs) (marks : List Mark) → has_hold s.fabric ≡ false → KnowsSio s → AreRunsAlone w s runs → marks ≡ []
     → Stands w s (lengths_of runs) 0 s (rests_at runs (record { core0 = 0; core1 = 0; dma = 0; pio0 = 0; pio1 = 0; outer = 0 })) marks
 stands_at_first w s runs marks free knows h e = stands_first w s (lengths_of runs) (rests_at runs (record { core0 = 0; core1 = 0; dma = 0; pio0 = 0; pio1 = 0; outer = 0 })) marks free knows
     (lane_first core_lane 0 s.core0 s runs.core0.now.length runs.core0.now.log h.core0.same_log)

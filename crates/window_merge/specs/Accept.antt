@@ -1,5 +1,5 @@
 -- When a report is not the run alone of its lane from a state, and which entry of its log tells so. The project's own.
-use Rattle.std.specs.Prelude.{◌≡◌, ◌≢◌, ℕ, List, take, Option, Some, None}
+use Rattle.std.specs.Prelude.{◌≡◌, ◌≢◌, ℕ, List, take, length, Option, Some, None, unwrap_or}
 use Rattle.std.specs.List.{slice_get}
 use Rattle.lane_look.specs.declared.lane.Ask.{Ask}
 use Rattle.lane_look.specs.declared.replay.Report.{Report}
@@ -44,7 +44,15 @@ IsStrangeBy w s lane (run.Dma report) entry = IsStrange dma_lane lane s.dma s re
 IsStrangeBy w s lane (run.Pio report) entry = IsStrange pio_lane lane (block_of lane s) s report entry
 IsStrangeBy w s lane (run.Outer report) entry = IsStrange (peripheral_lane w) lane s.outer s report entry
 
--- a stranger names the lane, and that entry
+abbrev pub log_of : LaneRun → List Entry
+log_of (run.Core report) = report.log
+log_of (run.Dma report) = report.log
+log_of (run.Pio report) = report.log
+log_of (run.Outer report) = report.log
+
+-- a stranger names the lane, and that entry, or else the log's length
 pub record IsStranger (w : Setting) (s : State) (report : LaneReport) (stranger : Stranger) : Type 0 where
   pub lane : stranger.lane ≡ report.lane
-  pub entry : IsStrangeBy w s report.lane report.run stranger.entry
+  pub first : Option ℕ
+  pub is_first : IsStrangeBy w s report.lane report.run first
+  pub entry : stranger.entry ≡ unwrap_or first (length (log_of report.run))

@@ -10,6 +10,7 @@ pub mod Merging
 pub mod Notes
 pub mod Patch
 pub mod Questions
+pub mod Sieve
 pub mod Start
 pub mod Walks
 pub mod Window

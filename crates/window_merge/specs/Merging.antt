@@ -12,12 +12,10 @@ use Rattle.dma_engine.specs.Cycle as dma
 use Rattle.pio_block.specs.Cycle as pio
 use Rattle.outer_lane.specs.Setting.{Setting}
 use Rattle.outer_lane.specs.Step as outer
-use Rattle.sio_block.specs.State.{SioState}
-use Rattle.sio_block.specs.Launcher.{offers_of}
 use Rattle.rp_machine.specs.declared.begun.Begun.{Begun}
 use Rattle.rp_machine.specs.State.{State}
 use Rattle.rp_machine.specs.Answers.{answer_of}
-use Rattle.rp_machine.specs.Cycle.{pins_of, stop, next, mark}
+use Rattle.rp_machine.specs.Cycle.{stop, next, mark}
 use Rattle.rp_machine.specs.Run.{states}
 use Rattle.window_merge.specs.declared.runs.Runs.{Runs}
 use Rattle.window_merge.specs.declared.runs.Indices.{Indices}
@@ -87,17 +85,6 @@ fits rests s = not (differs_by rests s || clash (wants_of (begun_by rests s)))
 unfoldable pub marks_in : Setting → State → ℕ → List Mark
 marks_in w s zero = []
 marks_in w s (suc n) = marks_in w s n ++ mark w (states w s n) ∷ []
-
--- the mailboxes are as a cycle leaves them
-pub record IsRested (s : SioState) : Type 0 where
-  pub first : s.core0.mailbox.before ≡ length s.core0.mailbox.words
-  pub second : s.core1.mailbox.before ≡ length s.core1.mailbox.words
-
--- the pads know what SIO puts out, and core 1 whether its launcher has a word
-pub record Knows (s : State) : Type 0 where
-  pub pins : s.outer.sio ≡ pins_of s.sio
-  pub offer : s.core1.offer ≡ offers_of s.sio
-  pub rested : IsRested s.sio
 
 -- ---- the six reports, and how much of their logs is used
 

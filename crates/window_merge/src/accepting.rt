@@ -1,15 +1,15 @@
 //! A report of a lane is compared with the lane's run alone from a machine's state.
 
-ghost use Rattle.std.specs.Prelude.{◌≡◌, ◌+◌, ◌^◌, ◌<◌, ◌≤◌, ◌&&◌, Decides, is_none, is_ok, IfErr};
+ghost use Rattle.std.specs.Prelude.{◌≡◌, ◌+◌, ◌^◌, ◌<◌, ◌≤◌, ◌&&◌, Decides, length, unwrap_or, is_none, is_ok, IfErr};
 ghost use Rattle.lane_look.specs.Replay.{meaning};
 ghost use Rattle.outer_lane.specs.Setting.{Setting};
 ghost use Rattle.window_merge.specs.Lanes.{core_lane, dma_lane, pio_lane, peripheral_lane};
 ghost use Rattle.window_merge.specs.Merging.{IsRunAlone};
 ghost use Rattle.window_merge.specs.Jobs.{core_of, block_of, core_bound, IsTrueIn, IsAloneBy, IsAlone, start_of, length_of};
-ghost use Rattle.window_merge.specs.Accept.{IsStranger};
+ghost use Rattle.window_merge.specs.Accept.{log_of, IsStranger};
 ghost use Rattle.window_merge.specs.Judged.{IsUnlike, IsUnlikeBy, Judges};
 
-use crate::jobs::{length_of, longest_by, start_of};
+use crate::jobs::{length_of, log_of, longest_by, start_of};
 use crate::lane_job::LaneReport;
 use crate::lane_run::LaneRun;
 use crate::questions::questions_of;
@@ -26,9 +26,10 @@ use rp_machine::Machine;
 pub struct Stranger {
     /// The number of the lane.
     pub lane: u8,
-    /// The number, from 0, of the first entry of the report's log whose answer is another than in the lane's run alone. None
-    /// where the report begins at another cycle or in another state of the lane, and where nothing but its length is another.
-    pub entry: Option<u16>,
+    /// The number, from 0, of the first entry of the report's log whose answer is another than in the lane's run alone. The number of
+    /// all entries where the report begins at another cycle or in another state of the lane, and where nothing but its length is
+    /// another.
+    pub entry: u32,
 }
 
 /// What a comparison says of a report that begins where the lane stands.
@@ -182,6 +183,23 @@ fn judge_run(machine: &Machine, number: u8, run: &LaneRun, at_most: u16) -> Resu
     }
 }
 
+/// The stranger of a report that this entry tells, or that no entry tells.
+fn stranger_at(report: &LaneReport, entry: Option<u16>) -> Stranger
+    ensures { result ≡ record {
+      lane = report.now.lane;
+      entry = unwrap_or entry (length (log_of report.now.run));
+    } }
+{
+    let entry = match entry {
+        Some(index) => u32::from(index),
+        None => u32::from(log_of(&report.run).count()),
+    };
+    Stranger {
+        lane: report.lane,
+        entry,
+    }
+}
+
 /// Whether a report is its lane's run alone from a machine's state, under the limit of the report: it begins at the machine's
 /// cycle and in the lane's state, each answer is that of the state overlaid by the lane's own writes, and it has as many
 /// cycles. Nothing else of the report is looked at, since a true report has no other state after them, and no other marks.
@@ -189,21 +207,20 @@ fn judge_run(machine: &Machine, number: u8, run: &LaneRun, at_most: u16) -> Resu
 ///
 /// # Errors
 ///
-/// The report is a stranger, with the first entry of its log that tells, if one does.
+/// The report is a stranger, with the first entry of its log that tells, or the number of all its entries.
 pub fn accept(machine: &Machine, report: &LaneReport) -> Result<(), Stranger>
     ensures alone { (w : Setting) → IsTrueIn w report.now
         → Decides (is_ok result) (IsAlone w machine.now report.now) }
     ensures stranger { (w : Setting) → IsTrueIn w report.now
         → IfErr result (λ stranger. IsStranger w machine.now report.now stranger) }
 {
-    let lane = report.lane;
     let start = start_of(&report.run);
     let length = length_of(&report.run);
     if start != machine.at || length > 256 || u64::from(length) > u64::MAX - start {
-        return Err(Stranger { lane, entry: None });
+        return Err(stranger_at(report, None));
     }
-    match judge_run(machine, lane, &report.run, longest_by(report.limit, start)) {
+    match judge_run(machine, report.lane, &report.run, longest_by(report.limit, start)) {
         Ok(()) => Ok(()),
-        Err(entry) => Err(Stranger { lane, entry }),
+        Err(entry) => Err(stranger_at(report, entry)),
     }
 }

@@ -5,7 +5,6 @@ ghost use Rattle.outer_lane.specs.Setting.{setting_of};
 ghost use Rattle.rp_machine.specs.Cycle.{begun};
 ghost use Rattle.rp_machine.specs.Run.{states};
 ghost use Rattle.window_merge.specs.Window.{longest};
-ghost use Rattle.window_merge.specs.Merging.{IsRested};
 ghost use Rattle.window_merge.specs.Jobs.{IsWhole};
 ghost use Rattle.window_merge.specs.Going.{IsGone, IsReached};
 
@@ -50,13 +49,11 @@ fn go_on<X: Device, L: Ledger>(
 ) -> Moved
     requires number { machine.old.cycle ≤ world.now.limit }
     requires to { machine.old.cycle < to }
-    requires rested { IsRested machine.old.sio }
     requires crew { IsWhole crew.old }
     requires begun { crew.old.begun ≡ begun machine.old }
     ensures gone { IsGone
         (setting_of world.now.script.now (X.meaning world.now.device.now) world.now.limit)
         after_empty to result machine.old machine.new steps.old steps.new }
-    ensures rested { IsRested machine.new.sio }
     ensures crew { IsWhole crew.new }
     ensures begun { crew.new.begun ≡ begun machine.new }
 {
@@ -98,7 +95,6 @@ pub fn advance_alone<X: Device, L: Ledger>(
 ) -> Option<Why>
     requires number { machine.old.cycle ≤ world.now.limit }
     requires to { machine.old.cycle ≤ to }
-    requires rested { IsRested machine.old.sio }
     requires crew { IsWhole crew.old }
     ensures state { machine.new ≡ states
         (setting_of world.now.script.now (X.meaning world.now.device.now) world.now.limit)
@@ -108,7 +104,6 @@ pub fn advance_alone<X: Device, L: Ledger>(
         to result machine.new }
     ensures number { machine.new.cycle ≤ world.now.limit }
     ensures steps { steps.new + machine.old.cycle ≡ steps.old + machine.new.cycle }
-    ensures rested { IsRested machine.new.sio }
     ensures crew { IsWhole crew.new }
 {
     let mut marks = Marks::new();

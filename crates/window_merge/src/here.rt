@@ -10,7 +10,7 @@ ghost use Rattle.rp_machine.specs.Run.{states};
 ghost use Rattle.window_merge.specs.Lanes.{is_launching};
 ghost use Rattle.window_merge.specs.Start.{goes_first};
 ghost use Rattle.window_merge.specs.Window.{longest, window_length, window_within};
-ghost use Rattle.window_merge.specs.Merging.{marks_in, IsRested};
+ghost use Rattle.window_merge.specs.Merging.{marks_in};
 
 use crate::merge::{is_known, is_numbered, longest};
 use crate::notes::Notes;
@@ -43,7 +43,6 @@ fn go_within<X: Device, L: Ledger>(
         machine.old }
     requires marks { marks.old ≡ [] }
     requires free { has_hold machine.old.fabric ≡ false }
-    requires rested { IsRested machine.old.sio }
     requires launching { is_launching machine.old.core1 ≡ false }
     requires begun { lanes.old ≡ begun machine.old }
     requires quiet { quiet ≡ list_all wants_nothing (wanted lanes.old) }
@@ -93,7 +92,6 @@ pub(crate) fn window_within<X: Device, L: Ledger>(
         (setting_of world.now.script.now (X.meaning world.now.device.now) world.now.limit)
         machine.old }
     requires free { has_hold machine.old.fabric ≡ false }
-    requires rested { IsRested machine.old.sio }
     requires begun { lanes.old ≡ begun machine.old }
     ensures length { result ≡ window_within
         (setting_of world.now.script.now (X.meaning world.now.device.now) world.now.limit)
@@ -137,7 +135,6 @@ pub fn window<X: Device, L: Ledger>(
 ) -> u16
     requires number { machine.old.cycle ≤ world.now.limit }
     requires free { has_hold machine.old.fabric ≡ false }
-    requires rested { IsRested machine.old.sio }
     requires begun { lanes.old ≡ begun machine.old }
     ensures length { result ≡ window_length
         (setting_of world.now.script.now (X.meaning world.now.device.now) world.now.limit)

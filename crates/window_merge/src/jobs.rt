@@ -6,13 +6,14 @@ ghost use Rattle.outer_lane.specs.Setting.{setting_of};
 ghost use Rattle.rp_machine.specs.State.{State};
 ghost use Rattle.window_merge.specs.Kinds.{is_run_of};
 ghost use Rattle.window_merge.specs.Lanes.{core_lane, dma_lane, pio_lane, peripheral_lane};
+ghost use Rattle.window_merge.specs.Accept.{log_of};
 ghost use Rattle.window_merge.specs.Jobs.{core_bound, BeginsIn, HasWords, HasWordsIn, IsJobOf, IsJobFor, IsTrueRun, IsTrueIn, IsAlone, RanIn, Ran, longest_by, start_of, length_of};
 
 use crate::copies::Copies;
 use crate::lane_job::{LaneJob, LaneReport};
 use crate::lane_run::{LaneRun, LaneSet};
 use dma_engine::Dma;
-use lane_look::{Device, Lane, Report, run_alone};
+use lane_look::{Device, Lane, Log, Report, run_alone};
 use m0_core::Core;
 use outer_lane::{Outer, World};
 use pio_block::PioBlock;
@@ -230,6 +231,18 @@ pub(crate) fn length_of(run: &LaneRun) -> u16
         LaneRun::Dma(report) => report.length,
         LaneRun::Pio(report) => report.length,
         LaneRun::Outer(report) => report.length,
+    }
+}
+
+/// The log of a report.
+pub(crate) fn log_of(run: &LaneRun) -> &Log
+    ensures { result.now ≡ log_of run.now }
+{
+    match run {
+        LaneRun::Core(report) => &report.log,
+        LaneRun::Dma(report) => &report.log,
+        LaneRun::Pio(report) => &report.log,
+        LaneRun::Outer(report) => &report.log,
     }
 }
 

@@ -8,7 +8,7 @@ ghost use Rattle.sio_block.specs.Launcher.{offers_of};
 ghost use Rattle.rp_machine.specs.Cycle.{pins_of, wanted, next_by};
 ghost use Rattle.rp_machine.specs.Run.{states};
 ghost use Rattle.window_merge.specs.Window.{is_port_of, clash, longest, window_length};
-ghost use Rattle.window_merge.specs.Merging.{AreRunsAlone, IsWithin, rests_at, begun_by, left_by, wants_of, fits, marks_in, IsRested};
+ghost use Rattle.window_merge.specs.Merging.{AreRunsAlone, IsWithin, rests_at, begun_by, left_by, wants_of, fits, marks_in};
 
 use crate::compare::{Comparison, compare};
 use crate::runs::{Indices, Runs};
@@ -146,7 +146,6 @@ pub fn merge_runs<X: Device, L: Ledger>(
 ) -> u16
     requires number { machine.old.cycle ≤ world.now.limit }
     requires free { has_hold machine.old.fabric ≡ false }
-    requires rested { IsRested machine.old.sio }
     requires runs { AreRunsAlone
         (setting_of world.now.script.now (X.meaning world.now.device.now) world.now.limit)
         machine.old runs.now }

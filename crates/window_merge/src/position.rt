@@ -3,7 +3,7 @@
 ghost use Rattle.std.specs.Prelude.{◌≡◌, ◌≤◌, None, true};
 ghost use Rattle.outer_lane.specs.Setting.{setting_of};
 ghost use Rattle.rp_machine.specs.Cycle.{begun, stop};
-ghost use Rattle.window_merge.specs.Merging.{IsRested, IsStep};
+ghost use Rattle.window_merge.specs.Merging.{IsStep};
 ghost use Rattle.window_merge.specs.Jobs.{IsWhole};
 
 use crate::here::window;
@@ -37,7 +37,6 @@ pub fn advance<X: Device, L: Ledger>(
     steps: &mut Steps<L>,
 ) -> Moved
     requires number { machine.old.cycle ≤ world.now.limit }
-    requires rested { IsRested machine.old.sio }
     requires crew { IsWhole crew.old }
     requires begun { crew.old.begun ≡ begun machine.old }
     requires unstopped { after_empty ≡ true → stop
@@ -46,7 +45,6 @@ pub fn advance<X: Device, L: Ledger>(
     ensures moved { IsStep
         (setting_of world.now.script.now (X.meaning world.now.device.now) world.now.limit)
         after_empty result machine.old machine.new marks.old marks.new steps.old steps.new }
-    ensures rested { IsRested machine.new.sio }
     ensures crew { IsWhole crew.new }
     ensures begun { crew.new.begun ≡ begun machine.new }
 {

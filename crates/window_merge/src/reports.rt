@@ -6,7 +6,7 @@ ghost use Rattle.bus_fabric.specs.State.{has_hold};
 ghost use Rattle.rp_machine.specs.Run.{states};
 ghost use Rattle.window_merge.specs.declared.lane_run.LaneRun.TheVariants as run;
 ghost use Rattle.window_merge.specs.Window.{window_length};
-ghost use Rattle.window_merge.specs.Merging.{marks_in, IsRested};
+ghost use Rattle.window_merge.specs.Merging.{marks_in};
 ghost use Rattle.window_merge.specs.Jobs.{AreAlone};
 
 use crate::lane_job::LaneReport;
@@ -78,7 +78,6 @@ pub fn merge<X: Device, L: Ledger>(
 ) -> u16
     requires number { machine.old.cycle ≤ world.now.limit }
     requires free { has_hold machine.old.fabric ≡ false }
-    requires rested { IsRested machine.old.sio }
     requires reports { AreAlone
         (setting_of world.now.script.now (X.meaning world.now.device.now) world.now.limit)
         machine.old reports.old }

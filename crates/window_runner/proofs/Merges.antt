@@ -10,7 +10,8 @@ use Rattle.rp_machine.specs.Cycle.{wanted, next_by}
 use Rattle.rp_machine.specs.Run.{states}
 use Rattle.window_merge.specs.Lanes.{core_lane, dma_lane, pio_lane, peripheral_lane, runs_of}
 use Rattle.window_merge.specs.Window.{longest, ends_in, window_length}
-use Rattle.window_merge.specs.Merging.{Rests, begun_by, left_by, fits, Knows}
+use Rattle.rp_machine.specs.Laws.{KnowsSio}
+use Rattle.window_merge.specs.Merging.{Rests, begun_by, left_by, fits}
 use Rattle.window_merge.proofs.Agree.{both_false, not_false, is_not, differ_of}
 use Rattle.window_merge.proofs.Lanes.{lane_first, below_least}
 use Rattle.window_merge.proofs.Meeting.{least_meets}
@@ -63,7 +64,7 @@ on_of six k e =
 -- what the merge begins with
 pub record Starts (w : Setting) (s : State) (six : SixReports) : Type 0 where
   pub free : has_hold s.fabric ≡ false
-  pub knows : Knows s
+  pub knows : KnowsSio s
   pub alone : AreAlone w s six
 
 -- after k cycles none of which ends it, it stands where the window stands

@@ -17,13 +17,14 @@ use Rattle.outer_lane.specs.State.{OuterState}
 use Rattle.outer_lane.specs.Step as outer
 use Rattle.outer_lane.specs.Step.{is_fitting}
 use Rattle.sio_block.specs.declared.Launch.{Launch}
-use Rattle.sio_block.specs.Launcher.{launch_of, after_turn}
+use Rattle.sio_block.specs.State.{SioState}
+use Rattle.sio_block.specs.Launcher.{offers_of, launch_of, after_turn}
 use Rattle.rp_machine.specs.declared.deed.Deed.{Deed}
 use Rattle.rp_machine.specs.declared.deed.Deed.TheVariants as deed
 use Rattle.rp_machine.specs.Offsets.{RESET, WDSEL}
 use Rattle.rp_machine.specs.State.{State}
 use Rattle.rp_machine.specs.Registers.{with_reset, resets_written, block_accessed}
-use Rattle.rp_machine.specs.Cycle.{begun, wanted, granted, with_sio, sio_accessed, after_deed, started_by, after_launcher, after_master, after_masters, ended, deeds, after_deeds, with_turns, stepped, next_by, next, mark}
+use Rattle.rp_machine.specs.Cycle.{begun, wanted, granted, with_sio, found_by, sio_accessed, after_deed, started_by, after_launcher, after_master, after_masters, ended, deeds, after_deeds, with_turns, stepped, next_by, next, mark}
 
 -- the levels now
 abbrev pub levels : State → ℕ
@@ -110,21 +111,21 @@ block_same block.Uart0 offset write s = outer_same block.Uart0 offset write s.ou
 block_same block.Uart1 offset write s = outer_same block.Uart1 offset write s.outer
 block_same block.Timer offset write s = outer_same block.Timer offset write s.outer
 
-access_same : (m : Master) (offset : ℕ) (write : Option ℕ) (s : State) → levels (sio_accessed m offset write s) ≡ levels s
+access_same : (found : Bool) (m : Master) (offset : ℕ) (write : Option ℕ) (s : State) → levels (sio_accessed found m offset write s) ≡ levels s
 unfolding with_sio
-access_same master.Core0 offset write s = refl
-access_same master.Core1 offset write s = refl
-access_same master.DmaRead offset write s = refl
-access_same master.DmaWrite offset write s = refl
+access_same found master.Core0 offset write s = refl
+access_same found master.Core1 offset write s = refl
+access_same found master.DmaRead offset write s = refl
+access_same found master.DmaWrite offset write s = refl
 
-deed_same : (w : Setting) (m : Master) (d : Deed) (s : State) → levels (after_deed w m d s) ≡ levels s
+deed_same : (w : Setting) (found : Bool) (m : Master) (d : Deed) (s : State) → levels (after_deed w found m d s) ≡ levels s
 unfolding after_deed
-deed_same w m deed.Nothing s = refl
-deed_same w m deed.Signal s = refl
-deed_same w m (deed.Store index lanes value) s = refl
-deed_same w m (deed.Register b offset write) s = block_same b offset write s
-deed_same w m (deed.SingleCycle offset write) s = access_same m offset write s
-deed_same w m (deed.Device address write) s = device_same w address write s.outer
+deed_same w found m deed.Nothing s = refl
+deed_same w found m deed.Signal s = refl
+deed_same w found m (deed.Store index lanes value) s = refl
+deed_same w found m (deed.Register b offset write) s = block_same b offset write s
+deed_same w found m (deed.SingleCycle offset write) s = access_same found m offset write s
+deed_same w found m (deed.Device address write) s = device_same w address write s.outer
 
 start_same : (l : Option Launch) (s : State) → levels (started_by l s) ≡ levels s
 start_same None s = refl
@@ -134,20 +135,22 @@ launcher_same : (s : State) → levels (after_launcher s) ≡ levels s
 unfolding after_launcher with_sio
 launcher_same s = start_same (launch_of s.sio) (with_sio (after_turn s.sio) s)
 
-master_same : (w : Setting) (m : Master) (d : Deed) (s : State) → levels (after_master w m d s) ≡ levels s
-master_same w master.Core0 d s = deed_same w master.Core0 d s
-master_same w master.Core1 d s = either levels s.core1.asleep _ _ s (launcher_same s) (deed_same w master.Core1 d s)
-master_same w master.DmaRead d s = deed_same w master.DmaRead d s
-master_same w master.DmaWrite d s = deed_same w master.DmaWrite d s
+master_same : (w : Setting) (start : SioState) (m : Master) (d : Deed) (s : State) → levels (after_master w start m d s) ≡ levels s
+master_same w start master.Core0 d s = deed_same w (found_by master.Core0 d start) master.Core0 d s
+master_same w start master.Core1 d s =
+    either levels s.core1.asleep _ _ s (either levels (offers_of start) _ _ s (launcher_same s) refl)
+    (deed_same w (found_by master.Core1 d start) master.Core1 d s)
+master_same w start master.DmaRead d s = deed_same w (found_by master.DmaRead d start) master.DmaRead d s
+master_same w start master.DmaWrite d s = deed_same w (found_by master.DmaWrite d start) master.DmaWrite d s
 
-masters_same : (w : Setting) (ms : List Master) (ds : List Deed) (s : State) → levels (after_masters w ms ds s) ≡ levels s
-masters_same w [] ds s = refl
-masters_same w (m ∷ ms) [] s = refl
-masters_same w (m ∷ ms) (d ∷ ds) s = masters_same w ms ds (after_master w m d s) ∙ master_same w m d s
+masters_same : (w : Setting) (start : SioState) (ms : List Master) (ds : List Deed) (s : State) → levels (after_masters w start ms ds s) ≡ levels s
+masters_same w start [] ds s = refl
+masters_same w start (m ∷ ms) [] s = refl
+masters_same w start (m ∷ ms) (d ∷ ds) s = masters_same w start ms ds (after_master w start m d s) ∙ master_same w start m d s
 
 deeds_same : (w : Setting) (ds : List Deed) (s : State) → levels (after_deeds w ds s) ≡ levels s
 unfolding after_deeds ended with_sio
-deeds_same w ds s = masters_same w masters ds s
+deeds_same w ds s = masters_same w s.sio masters ds s
 
 -- ---- the cycle
 

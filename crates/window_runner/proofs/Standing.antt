@@ -11,32 +11,31 @@ use Rattle.rp_machine.specs.Run.{states, unless_stopped}
 use Rattle.rp_machine.proofs.Runs.{below_limit, next_cycle}
 use Rattle.rp_machine.proofs.Copies.{sio_known}
 use Rattle.window_merge.specs.Window.{Position, first_position, is_tried, by_window, by_cycle, next_position, positions, last_position, window_length}
-use Rattle.window_merge.specs.Merging.{Knows}
+use Rattle.rp_machine.specs.Laws.{KnowsSio}
 use Rattle.window_merge.proofs.Agree.{not_equal}
-use Rattle.window_merge.proofs.Resting.{rested_next}
 use Rattle.window_merge.proofs.Positions.{left_of, nearer, run_ends}
 use Rattle.window_runner.specs.Orders.{begins_window, window_start, onward}
 
 -- ---- the lanes know what SIO holds
 
-knows_next : (w : Setting) (s : State) → Knows (next w s)
-knows_next w s = let k = sio_known.after_a_cycle w s in record { pins = k.pins; offer = k.offer; rested = rested_next w s }
+knows_next : (w : Setting) (s : State) → KnowsSio (next w s)
+knows_next w s = sio_known.after_a_cycle w s
 
-unless_known : (cause : Option Why) (s t : State) → Knows s → Knows t → Knows (unless_stopped cause s t)
+unless_known : (cause : Option Why) (s t : State) → KnowsSio s → KnowsSio t → KnowsSio (unless_stopped cause s t)
 unless_known None s t a b = b
 unless_known (Some why) s t a b = a
 
-knows_states : (w : Setting) (s : State) (n : ℕ) → Knows s → Knows (states w s n)
+knows_states : (w : Setting) (s : State) (n : ℕ) → KnowsSio s → KnowsSio (states w s n)
 unfolding states
 knows_states w s zero h = h
 knows_states w s (suc n) h = unless_known (stop w s) s (states w (next w s) n) h (knows_states w (next w s) n (knows_next w s))
 
-knows_by : (w : Setting) (p : Position) (tried : Bool) → Knows p.state
-    → Knows (if tried then by_window w (window_length w p.state) p else by_cycle w p).state
+knows_by : (w : Setting) (p : Position) (tried : Bool) → KnowsSio p.state
+    → KnowsSio (if tried then by_window w (window_length w p.state) p else by_cycle w p).state
 knows_by w p true h = knows_states w p.state (window_length w p.state) h
 knows_by w p false h = knows_next w p.state
 
-knows_on : (w : Setting) (p : Position) → Knows p.state → Knows (next_position w p).state
+knows_on : (w : Setting) (p : Position) → KnowsSio p.state → KnowsSio (next_position w p).state
 unfolding next_position
 knows_on w p h = knows_by w p (is_tried p.after_empty p.state) h
 
@@ -111,14 +110,14 @@ pub record Standing (w : Setting) (s : State) (m k : ℕ) (p : Position) : Type 
   pub here : p ≡ at_step w s k
   pub counted : p.windows ≡ m
   pub within : p.state.cycle ≤ w.limit
-  pub knows : Knows p.state
+  pub knows : KnowsSio p.state
   -- no earlier position has a stop or more windows, and at none the window m was tried
   pub runs : (j : ℕ) → j < k → stop w (at_step w s j).state ≡ None
   pub few : (j : ℕ) → j < k → (at_step w s j).windows ≤ m
   pub not_yet : (j : ℕ) → j < k → begins_window w m (at_step w s j) ≡ false
   pub left : k + left_of w p ≤ 2 * (w.limit - s.cycle) + 1
 
-pub standing_first : (w : Setting) (s : State) → s.cycle ≤ w.limit → Knows s → Standing w s 0 0 (first_position s)
+pub standing_first : (w : Setting) (s : State) → s.cycle ≤ w.limit → KnowsSio s → Standing w s 0 0 (first_position s)
 unfolding positions
 standing_first w s le knows = record {
   here = refl;

@@ -12,7 +12,7 @@ use Rattle.turn_board.specs.Tickets as board
 use Rattle.turn_board.specs.Tickets.Event.{Draw as DrawOn, SeeOpen as SeeOpenOn, Finish as FinishOn, Open as OpenOn, Close as CloseOn, SeeDone as SeeDoneOn}
 use Rattle.turn_board.specs.Rule.{fresh}
 use Rattle.window_merge.specs.Window.{Position, first_position, is_tried, next_position, positions, last_position}
-use Rattle.window_merge.specs.Merging.{Knows}
+use Rattle.rp_machine.specs.Laws.{KnowsSio}
 use Rattle.window_runner.specs.Reports.{OneReport, IsTrueOrNone, SixReports, AreTaken}
 use Rattle.window_runner.specs.Merge.{merged, merged_length}
 
@@ -40,7 +40,7 @@ new_board seats = record {
 -- the run begins at a state that is not past the limit, whose lanes know what SIO holds, and that has a stop or no open hold
 pub record Begins (w : Setting) (s : State) : Type 0 where
   pub within : s.cycle ≤ w.limit
-  pub knows : Knows s
+  pub knows : KnowsSio s
   pub free : ((why : Why) × (stop w s ≡ Some why)) ⊎ (has_hold s.fabric ≡ false)
 
 abbrev pub beginning : State → ℕ → RunState

@@ -3,7 +3,6 @@ use Rattle.std.specs.Prelude.{◌≡◌, ℕ, ◌+◌, Option, Some, None, Resul
 use Rattle.outer_lane.specs.Setting.{Setting}
 use Rattle.rp_machine.specs.State.{State}
 use Rattle.rp_machine.specs.Run.{last_state}
-use Rattle.window_merge.specs.Merging.{IsRested}
 use Rattle.window_runner.specs.declared.alone.Ran.{Ran}
 use Rattle.trace_text.specs.declared.writer.SinkFault.{SinkFault}
 use Rattle.window_runner.specs.Alone.{IsRan, IsOnRun}
@@ -27,4 +26,3 @@ pub record Leaves (w : Setting) (s t : State) (before after : ℕ) (result : Res
   pub state : IfOk result (λ ran. t ≡ last_state w s)
   pub on_run : IsOnRun w s t
   pub steps : after + s.cycle ≡ before + t.cycle
-  pub rested : IsRested t.sio

@@ -6,7 +6,6 @@ ghost use Rattle.trace_text.specs.Tape.{Tells};
 ghost use Rattle.rp_machine.specs.Cycle.{begun, stop};
 ghost use Rattle.rp_machine.specs.Run.{last_state, unless_stopped};
 ghost use Rattle.window_merge.specs.Window.{next_position};
-ghost use Rattle.window_merge.specs.Merging.{IsRested};
 ghost use Rattle.window_merge.specs.Jobs.{IsWhole};
 ghost use Rattle.window_runner.specs.Told.{all_shown, events_by, step_events, run_shown};
 ghost use Rattle.window_runner.specs.Alone.{IsRan, IsOnRun, position_at, stop_in};
@@ -86,7 +85,6 @@ fn step<X: Device, T: Tape, L: Ledger>(
     steps: &mut Steps<L>,
 ) -> Result<Option<Why>, SinkFault>
     requires number { machine.old.cycle ≤ world.now.limit }
-    requires rested { IsRested machine.old.sio }
     requires crew { IsWhole crew.old }
     requires begun { crew.old.begun ≡ begun machine.old }
     requires unstopped { counts.old.after_empty ≡ true → stop
@@ -109,7 +107,6 @@ fn step<X: Device, T: Tape, L: Ledger>(
     ensures counted { counts.new.cycles + machine.old.cycle
         ≤ counts.old.cycles + machine.new.cycle }
     ensures steps { steps.new + machine.old.cycle ≡ steps.old + machine.new.cycle }
-    ensures rested { IsRested machine.new.sio }
     ensures crew { IsWhole crew.new }
     ensures begun { crew.new.begun ≡ begun machine.new }
     ensures unstopped { counts.new.after_empty ≡ true → stop_in result ≡ None → stop
@@ -147,7 +144,6 @@ pub fn run_alone<X: Device, T: Tape, L: Ledger>(
     steps: &mut Steps<L>,
 ) -> Result<Ran, SinkFault>
     requires number { machine.old.cycle ≤ world.now.limit }
-    requires rested { IsRested machine.old.sio }
     requires crew { IsWhole crew.old }
     ensures told { Tells T.took T.missed tape.old tape.new (T.faults tape.old) (T.faults tape.new)
         (run_shown
@@ -163,7 +159,6 @@ pub fn run_alone<X: Device, T: Tape, L: Ledger>(
         (setting_of world.now.script.now (X.meaning world.now.device.now) world.now.limit)
         machine.old machine.new }
     ensures steps { steps.new + machine.old.cycle ≡ steps.old + machine.new.cycle }
-    ensures rested { IsRested machine.new.sio }
     ensures crew { IsWhole crew.new }
 {
     let mut counts = Counts {

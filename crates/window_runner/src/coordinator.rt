@@ -8,7 +8,7 @@ ghost use Rattle.rp_machine.specs.Cycle.{begun, stop};
 ghost use Rattle.rp_machine.specs.Run.{last_state, states, unless_stopped};
 ghost use Rattle.turn_board.specs.Answers.{EachLane};
 ghost use Rattle.window_merge.specs.Window.{next_position, window_length};
-ghost use Rattle.window_merge.specs.Merging.{marks_in, IsRested, IsStep};
+ghost use Rattle.window_merge.specs.Merging.{marks_in, IsStep};
 ghost use Rattle.window_merge.specs.Jobs.{HasNumber, IsJobFor, IsTrueIn};
 ghost use Rattle.window_runner.specs.Told.{all_shown, step_events, run_shown};
 ghost use Rattle.window_runner.specs.Alone.{IsRan, IsOnRun, position_at, stop_in};
@@ -172,7 +172,6 @@ fn merge_found<X: Device, L: Ledger>(
 ) -> u16
     requires number { machine.old.cycle ≤ world.now.limit }
     requires free { has_hold machine.old.fabric ≡ false }
-    requires rested { IsRested machine.old.sio }
     requires found { EachLane (λ lane found. IfSome found.report (IsTrueIn
         (setting_of world.now.script.now (X.meaning world.now.device.now) world.now.limit)))
         found }
@@ -207,7 +206,6 @@ fn window<'w, X: Device, G: Gate, H: Wait, L: Ledger>(
 ) -> u16
     requires number { machine.old.cycle ≤ desk.now.world.now.limit }
     requires free { has_hold machine.old.fabric ≡ false }
-    requires rested { IsRested machine.old.sio }
     requires ready { IsReady desk.now.board.now (λ w. w.now ≡ desk.now.world.now) lead.old.opened
         lead.old.kept lead.old.master lead.old.seat lead.old.sets.value.spare }
     requires begun { lead.old.sets.value.begun ≡ begun machine.old }
@@ -251,14 +249,12 @@ fn go<'w, X: Device, G: Gate, H: Wait, L: Ledger>(
     steps: &mut Steps<L>,
 ) -> Moved
     requires number { machine.old.cycle ≤ desk.now.world.now.limit }
-    requires rested { IsRested machine.old.sio }
     requires ready { IsReady desk.now.board.now (λ w. w.now ≡ desk.now.world.now) lead.old.opened
         lead.old.kept lead.old.master lead.old.seat lead.old.sets.value.spare }
     ensures moved { IsStep
         (setting_of desk.now.world.now.script.now (X.meaning desk.now.world.now.device.now)
         desk.now.world.now.limit)
         after_empty result machine.old machine.new marks.old marks.new steps.old steps.new }
-    ensures rested { IsRested machine.new.sio }
     ensures ready { IsReady desk.now.board.now (λ w. w.now ≡ desk.now.world.now) lead.new.opened
         lead.new.kept lead.new.master lead.new.seat lead.new.sets.value.spare }
 {
@@ -286,7 +282,6 @@ fn step<'w, X: Device, G: Gate, H: Wait, T: Tape, L: Ledger>(
     steps: &mut Steps<L>,
 ) -> Result<Option<Why>, SinkFault>
     requires number { machine.old.cycle ≤ desk.now.world.now.limit }
-    requires rested { IsRested machine.old.sio }
     requires ready { IsReady desk.now.board.now (λ w. w.now ≡ desk.now.world.now) lead.old.opened
         lead.old.kept lead.old.master lead.old.seat lead.old.sets.value.spare }
     requires windows { counts.old.windows
@@ -309,7 +304,6 @@ fn step<'w, X: Device, G: Gate, H: Wait, T: Tape, L: Ledger>(
     ensures counted { counts.new.cycles + machine.old.cycle
         ≤ counts.old.cycles + machine.new.cycle }
     ensures steps { steps.new + machine.old.cycle ≡ steps.old + machine.new.cycle }
-    ensures rested { IsRested machine.new.sio }
     ensures ready { IsReady desk.now.board.now (λ w. w.now ≡ desk.now.world.now) lead.new.opened
         lead.new.kept lead.new.master lead.new.seat lead.new.sets.value.spare }
 {
@@ -339,7 +333,6 @@ pub(crate) fn run<'w, X: Device, G: Gate, H: Wait, T: Tape, L: Ledger>(
     steps: &mut Steps<L>,
 ) -> Result<Ran, SinkFault>
     requires number { machine.old.cycle ≤ desk.now.world.now.limit }
-    requires rested { IsRested machine.old.sio }
     requires ready { IsReady desk.now.board.now (λ w. w.now ≡ desk.now.world.now) lead.old.opened
         lead.old.kept lead.old.master lead.old.seat lead.old.sets.value.spare }
     ensures told { Tells T.took T.missed tape.old tape.new (T.faults tape.old) (T.faults tape.new)
@@ -360,7 +353,6 @@ pub(crate) fn run<'w, X: Device, G: Gate, H: Wait, T: Tape, L: Ledger>(
         desk.now.world.now.limit)
         machine.old machine.new }
     ensures steps { steps.new + machine.old.cycle ≡ steps.old + machine.new.cycle }
-    ensures rested { IsRested machine.new.sio }
     ensures ready { IsReady desk.now.board.now (λ w. w.now ≡ desk.now.world.now) lead.new.opened
         lead.new.kept lead.new.master lead.new.seat lead.new.sets.value.spare }
 {

@@ -5,7 +5,6 @@ ghost use Rattle.outer_lane.specs.Setting.{setting_of};
 ghost use Rattle.trace_text.specs.Tape.{Tells};
 ghost use Rattle.rp_machine.specs.Run.{last_state};
 ghost use Rattle.turn_board.specs.Tickets.{IsFree};
-ghost use Rattle.window_merge.specs.Merging.{IsRested};
 ghost use Rattle.window_runner.specs.Told.{run_shown};
 ghost use Rattle.window_runner.specs.Alone.{IsRan, IsOnRun};
 ghost use Rattle.window_runner.specs.Seated.{IsReady};
@@ -58,7 +57,6 @@ impl<'b, 'w, X: Device, G: Gate> Bench<'b, 'w, X, G> {
         steps: &mut Steps<L>,
     ) -> Result<Ran, SinkFault>
         requires number { machine.old.cycle ≤ self.world.now.limit }
-        requires rested { IsRested machine.old.sio }
         requires ready { IsReady self.board.now (λ w. w.now ≡ self.world.now) self.lead.opened
             self.lead.kept self.lead.master self.lead.seat self.lead.sets.value.spare }
         ensures told { Tells T.took T.missed tape.old tape.new (T.faults tape.old)
@@ -99,7 +97,6 @@ fn both<'b, 'w, X: Device, G: Gate, T: Tape, L: Ledger, R: Threads + Wait + Sync
     steps: &mut Steps<L>,
 ) -> Result<Ran, SinkFault>
     requires number { machine.old.cycle ≤ bench.world.now.limit }
-    requires rested { IsRested machine.old.sio }
     requires hall { All (λ seat. (seat.board ≡ hall.board.now)
         × (seat.made_for.now ≡ hall.world.now) × IsFree seat.state) hall.seats.items }
     requires ready { IsReady bench.board.now (λ w. w.now ≡ bench.world.now) bench.lead.opened
@@ -129,7 +126,6 @@ fn both<'b, 'w, X: Device, G: Gate, T: Tape, L: Ledger, R: Threads + Wait + Sync
         &mut || -> Result<Ran, SinkFault>
             requires is { IsSome bench }
             requires number { IfSome bench (λ b. machine.now.cycle ≤ b.world.now.limit) }
-            requires rested { IsRested machine.now.sio }
             requires ready { IfSome bench (λ b. IsReady b.board.now
                 (λ w. w.now ≡ b.world.now) b.lead.opened
                 b.lead.kept b.lead.master b.lead.seat b.lead.sets.value.spare) }
@@ -165,7 +161,6 @@ fn run_at<'w, X: Device, G: Gate, T: Tape, L: Ledger, R: Threads + Wait + Sync>(
     steps: &mut Steps<L>,
 ) -> Option<Result<Ran, SinkFault>>
     requires number { machine.old.cycle ≤ world.now.limit }
-    requires rested { IsRested machine.old.sio }
     requires workers { workers ≤ 8 }
     ensures told { IfSome result (Tells T.took T.missed tape.old tape.new (T.faults tape.old)
         (T.faults tape.new) (run_shown
@@ -236,7 +231,6 @@ pub fn run_windows<X: Device, G: Gate, T: Tape, L: Ledger, R: Threads + Wait + S
     steps: &mut Steps<L>,
 ) -> Result<Ran, RunFault>
     requires number { machine.old.cycle ≤ world.now.limit }
-    requires rested { IsRested machine.old.sio }
     requires workers { workers ≤ 8 }
     ensures told { IfSome (answered result) (Tells T.took T.missed tape.old tape.new
         (T.faults tape.old) (T.faults tape.new) (run_shown
@@ -252,7 +246,6 @@ pub fn run_windows<X: Device, G: Gate, T: Tape, L: Ledger, R: Threads + Wait + S
         (setting_of world.now.script.now (X.meaning world.now.device.now) world.now.limit)
         machine.old machine.new }
     ensures steps { steps.new + machine.old.cycle ≡ steps.old + machine.new.cycle }
-    ensures rested { IsRested machine.new.sio }
     ensures memory { OnMemory result ((machine.new ≡ machine.old) × (tape.new ≡ tape.old)) }
 {
     match run_at(rt, alloc, machine, world, workers, gate, tape, steps) {

@@ -8,7 +8,6 @@ pub loop-preserved : goal.loop-preserved
 loop-preserved g c =
     let w = setting_of c.args.world.now.script.now (g.X.Device.meaning c.args.world.now.device.now) c.args.world.now.limit in
     record {
-      rested = c.advance.ensures.rested;
       crew = c.advance.ensures.crew;
       begun = c.advance.ensures.begun;
       unstopped = λ e. elim c.match-advance.branch [

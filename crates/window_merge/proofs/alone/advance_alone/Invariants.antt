@@ -1,7 +1,6 @@
 use Rattle.std.proofs.Common.{◌≡◌}
 use Rattle.outer_lane.specs.Setting.{setting_of}
 use Rattle.rp_machine.specs.Cycle.{begun}
-use Rattle.window_merge.specs.Merging.{IsRested}
 use Rattle.window_merge.specs.Jobs.{IsWhole}
 use Rattle.window_merge.proofs.Going.{OnWay, steps_left}
 use Rattle.window_merge.proofs.alone.advance_alone.Given as goal
@@ -9,7 +8,7 @@ use Rattle.window_merge.proofs.alone.advance_alone.Given as goal
 abbrev pub invariant-moves : goal.invariant-moves
 invariant-moves g l =
     let w = setting_of l.world.script.now (g.X.Device.meaning l.world.device.now) l.world.limit in
-    OnWay w l.initial.machine l.to l.machine l.initial.steps l.steps × IsRested l.machine.sio × IsWhole l.crew
+    OnWay w l.initial.machine l.to l.machine l.initial.steps l.steps × IsWhole l.crew
     × (l.crew.begun ≡ begun l.machine)
 
 abbrev pub decreases-moves : goal.decreases-moves

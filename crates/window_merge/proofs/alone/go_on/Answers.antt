@@ -1,17 +1,9 @@
-use Rattle.std.proofs.Common.{ap, sym, ◌∙◌, subst, arith}
+use Rattle.std.proofs.Common.{ap, sym, ◌∙◌, arith}
 use Rattle.outer_lane.specs.Setting.{setting_of}
-use Rattle.rp_machine.specs.State.{State}
 use Rattle.rp_machine.specs.Cycle.{stop}
-use Rattle.window_merge.specs.Merging.{IsRested}
 use Rattle.window_merge.proofs.Meeting.{short_window}
 use Rattle.window_merge.proofs.Passing.{no_cycle}
-use Rattle.window_merge.proofs.Resting.{rested_cycle, rested_states}
 use Rattle.window_merge.proofs.alone.go_on.Goals as goal
-
-pub returns-then-after_empty-clause-rested : goal.returns-then-after_empty-clause-rested
-returns-then-after_empty-clause-rested g c =
-    let w = setting_of c.args.world.now.script.now (g.X.Device.meaning c.args.world.now.device.now) c.args.world.now.limit in
-    rested_cycle w c.args.machine.now c.cycle_of.new.self _ c.requires.rested c.cycle_of.ensures.state
 
 pub returns-in-Some-stop_of-clause-gone : goal.returns-in-Some-stop_of-clause-gone
 returns-in-Some-stop_of-clause-gone g c =
@@ -36,21 +28,3 @@ returns-in-None-clause-gone g c =
     let within = c.longest_to-at_most.ensures.within in
     let number = c.window_within-length.ensures.number in
     (c.if-after_empty.false, c.window_within-length.ensures.state, number, omega (arith, few, within, number), c.window_within-length.ensures.steps)
-
-pub returns-then-length-gt0-clause-rested : goal.returns-then-length-gt0-clause-rested
-returns-then-length-gt0-clause-rested g c =
-    let w = setting_of c.args.world.now.script.now (g.X.Device.meaning c.args.world.now.device.now) c.args.world.now.limit in
-    let family : State → Type 0 = λ s. IsRested s.sio in
-    subst family (sym c.window_within-length.ensures.state) (rested_states w c.args.machine.now c.window_within-length.result c.requires.rested)
-
-pub returns-in-Some-stop_of-clause-rested : goal.returns-in-Some-stop_of-clause-rested
-returns-in-Some-stop_of-clause-rested g c =
-    let w = setting_of c.args.world.now.script.now (g.X.Device.meaning c.args.world.now.device.now) c.args.world.now.limit in
-    let family : State → Type 0 = λ s. IsRested s.sio in
-    subst family (sym c.window_within-length.ensures.state) (rested_states w c.args.machine.now c.window_within-length.result c.requires.rested)
-
-pub returns-in-None-clause-rested : goal.returns-in-None-clause-rested
-returns-in-None-clause-rested g c =
-    let w = setting_of c.args.world.now.script.now (g.X.Device.meaning c.args.world.now.device.now) c.args.world.now.limit in
-    let family : State → Type 0 = λ s. IsRested s.sio in
-    subst family (sym c.window_within-length.ensures.state) (rested_states w c.args.machine.now c.window_within-length.result c.requires.rested)

@@ -7,7 +7,7 @@ use Rattle.window_merge.proofs.here.go_within.Goals as goal
 pub loop-k-init : goal.loop-k-init
 loop-k-init g c =
     let w = setting_of c.args.world.now.script.now (g.X.Device.meaning c.args.world.now.device.now) c.args.world.now.limit in
-    let first : First c.args.machine.now c.args.marks.now = record { free = c.requires.free; knows = record { pins = c.is_known.ensures.pins; offer = c.is_known.ensures.offer; rested = c.requires.rested }; none = c.requires.marks; long = c.is_known.ensures.sram } in
+    let first : First c.args.machine.now c.args.marks.now = record { free = c.requires.free; knows = record { pins = c.is_known.ensures.pins; offer = c.is_known.ensures.offer }; none = c.requires.marks; long = c.is_known.ensures.sram } in
     let some = c.requires.some in
     let short = c.requires.cycles in
     record {

@@ -2,7 +2,6 @@ use Rattle.std.proofs.Common.{◌≡◌, true}
 use Rattle.std.specs.Prelude.{None}
 use Rattle.outer_lane.specs.Setting.{setting_of}
 use Rattle.rp_machine.specs.Cycle.{begun, stop}
-use Rattle.window_merge.specs.Merging.{IsRested}
 use Rattle.window_merge.specs.Jobs.{IsWhole}
 use Rattle.window_merge.proofs.Positions.{left_of}
 use Rattle.window_runner.specs.Told.{run_shown}
@@ -17,7 +16,7 @@ invariant-steps g l =
     Running w l.initial.machine (position_at l.machine l.counts) l.initial.steps l.steps
     × TakenBefore g.T.Tape.took l.initial.tape l.tape (g.T.Tape.faults l.initial.tape) (g.T.Tape.faults l.tape)
     (run_shown w l.initial.machine) (run_shown w l.machine)
-    × IsRested l.machine.sio × IsWhole l.crew
+    × IsWhole l.crew
     × (l.crew.begun ≡ begun l.machine) × (l.counts.after_empty ≡ true → stop w l.machine ≡ None)
 
 abbrev pub decreases-steps : goal.decreases-steps

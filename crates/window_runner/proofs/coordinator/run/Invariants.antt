@@ -1,6 +1,5 @@
 use Rattle.std.proofs.Common.{◌≡◌}
 use Rattle.outer_lane.specs.Setting.{setting_of}
-use Rattle.window_merge.specs.Merging.{IsRested}
 use Rattle.window_runner.specs.Seated.{IsReady}
 use Rattle.window_merge.proofs.Positions.{left_of}
 use Rattle.window_runner.specs.Told.{run_shown}
@@ -15,7 +14,6 @@ invariant-steps g l =
     Running w l.initial.machine (position_at l.machine l.counts) l.initial.steps l.steps
     × TakenBefore g.T.Tape.took l.initial.tape l.tape (g.T.Tape.faults l.initial.tape) (g.T.Tape.faults l.tape)
     (run_shown w l.initial.machine) (run_shown w l.machine)
-    × IsRested l.machine.sio
     × IsReady l.desk.board.now (λ w. w.now ≡ l.desk.world.now) l.lead.opened l.lead.kept l.lead.master l.lead.seat l.lead.sets.value.spare
 
 abbrev pub decreases-steps : goal.decreases-steps

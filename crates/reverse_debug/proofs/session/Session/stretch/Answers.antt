@@ -1,12 +1,9 @@
 use Rattle.std.proofs.Common.{max, ap, ◌∙◌}
-use Rattle.reverse_debug.proofs.Sessions.{part_low, part_rested, part_stretched, part_sum}
+use Rattle.reverse_debug.proofs.Sessions.{part_low, part_stretched, part_sum}
 use Rattle.reverse_debug.proofs.session.Session.stretch.Goals as goal
 
 pub advance_far-why-requires-clause-low : goal.advance_far-why-requires-clause-low
 advance_far-why-requires-clause-low g c κs within = part_low _ _ _ c.self.view_is c.requires.stands
-
-pub advance_far-why-requires-clause-rested : goal.advance_far-why-requires-clause-rested
-advance_far-why-requires-clause-rested g c κs within = part_rested _ _ _ c.self.view_is c.requires.stands
 
 pub returns-clause-way : goal.returns-clause-way
 returns-clause-way g c =
