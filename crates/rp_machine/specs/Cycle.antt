@@ -1,7 +1,7 @@
 -- One cycle of the machine, on numbers without bound. In a cycle each part begins by the state at the start and names its
 -- accesses; the fabric decides which of them are done; each part steps; then the deeds of the masters come in their order,
 -- and last the writes to SRAM.
-use Rattle.std.specs.Prelude.{ℕ, ◌+◌, ◌==◌, Bool, true, if◌then◌else◌, List, [], ◌∷◌, map, Option, Some, None, slice_index_or}
+use Rattle.std.specs.Prelude.{ℕ, ◌+◌, ◌==◌, Bool, true, false, if◌then◌else◌, List, [], ◌∷◌, map, Option, Some, None, slice_index_or}
 use Rattle.rp_base.specs.declared.Master.{Master}
 use Rattle.rp_base.specs.declared.Master.TheVariants as master
 use Rattle.rp_base.specs.declared.Why.{Why}
