@@ -23,7 +23,6 @@ pub mod Reading
 pub mod Replaying
 pub mod Reported
 pub mod Showing
-pub mod Sieving
 pub mod Starting
 pub mod Telling
 pub mod Told

@@ -10,7 +10,6 @@ pub mod Merging
 pub mod Notes
 pub mod Patch
 pub mod Questions
-pub mod Sieve
 pub mod Start
 pub mod Walks
 pub mod Window

@@ -2,10 +2,9 @@
 
 ghost use Rattle.std.specs.Prelude.{◌≡◌, ◌<◌, ◌≤◌, length};
 ghost use Rattle.rp_machine.specs.Deeds.{StoresInSram};
-ghost use Rattle.window_merge.specs.Notes.{first_of, write_of, original_word};
+ghost use Rattle.window_merge.specs.Notes.{first_of, last_of, seen_word, write_of, original_word};
 
 use crate::patch::{last_of, with_lanes};
-use crate::sieve::Sieve;
 use lane_look::Want;
 use ram_banks::Ram;
 use rp_base::access::{lanes_at, replicated};
@@ -22,57 +21,37 @@ const ROOM: usize = 1024;
 #[derive(Drop)]
 pub(crate) struct Noted {
     list: Vec<(u32, u32)>,
-    sieve: Sieve,
 }
 
 impl Model for Noted {
     ghost use Rattle.std.specs.Prelude.{ℕ, List, ◌≤◌, length};
     ghost use Rattle.std.specs.Vec.{vec_capacity};
-    ghost use Rattle.window_merge.specs.Sieve.{Sifts};
 
     ghost Value = { List (ℕ × ℕ) };
 
     ghost view = { λ n. n.list.items };
 
-    ghost invariant = { λ n. (1024 ≤ vec_capacity n.list) × (length n.list.items ≤ 1024)
-        × Sifts n.sieve n.list.items };
+    ghost invariant = { λ n. (1024 ≤ vec_capacity n.list) × (length n.list.items ≤ 1024) };
 }
 
 impl Noted {
-    ghost use Rattle.std.specs.Prelude.{◌≡◌, ◌<◌, ℕ, [], length, unwrap_or, IfOk};
-    ghost use Rattle.window_merge.specs.Notes.{first_of, last_of, is_none, with_word};
+    ghost use Rattle.std.specs.Prelude.{◌≡◌, ◌<◌, [], length, IfOk};
+    ghost use Rattle.window_merge.specs.Notes.{is_none, with_word};
 
     /// None, and room for all of them.
     fn new(alloc: Global) -> Result<Noted, AllocError>
         ensures { IfOk result (λ noted. noted ≡ []) }
     {
         let list = Vec::with_capacity(alloc, ROOM)?;
-        let sieve = Sieve::new();
-        Ok(Noted { list, sieve })
+        Ok(Noted { list })
     }
 
-    /// The first word of an index; else this word.
+    /// The words.
     #[inline(always)]
-    fn first(&self, index: u32, word: u32) -> u32
-        ensures { result ≡ first_of self.now index word }
+    pub(crate) fn words(&self) -> &[(u32, u32)]
+        ensures { result.now ≡ self.now }
     {
-        if self.sieve.may_have(index) {
-            first_of(&self.list, index, word)
-        } else {
-            word
-        }
-    }
-
-    /// The last word of an index, if there is one.
-    #[inline(always)]
-    fn last(&self, index: u32) -> Option<u32>
-        ensures { (word : ℕ) → last_of self.now index word ≡ unwrap_or result word }
-    {
-        if self.sieve.may_have(index) {
-            last_of(&self.list, index)
-        } else {
-            None
-        }
+        &self.list
     }
 
     /// There is none.
@@ -87,10 +66,7 @@ impl Noted {
     fn clear(&mut self)
         ensures { self.new ≡ [] }
     {
-        if !self.list.is_empty() {
-            self.list.clear();
-            self.sieve = Sieve::new();
-        }
+        self.list.clear();
     }
 
     /// Adds a word at the end, if there is one.
@@ -101,7 +77,6 @@ impl Noted {
     {
         if let Some(word) = word {
             self.list.push_reserved(word);
-            self.sieve.mark(word.0);
         }
     }
 }
@@ -117,6 +92,26 @@ fn first_of(words: &[(u32, u32)], index: u32, word: u32) -> u32
         }
     }
     word
+}
+
+/// The word of an index, as a lane sees it.
+#[inline(always)]
+fn seen_word(
+    ram: &Ram,
+    clean: bool,
+    own: &[(u32, u32)],
+    originals: &[(u32, u32)],
+    index: u32,
+) -> u32
+    requires { index < 67584 }
+    ensures { result ≡ seen_word clean own.now originals.now ram.now index }
+{
+    let word = ram.read(index);
+    if clean {
+        word
+    } else {
+        last_of(own, index, first_of(originals, index, word))
+    }
 }
 
 /// The write to SRAM of a want, if it is one.
@@ -165,10 +160,10 @@ pub struct Notes {
 }
 
 impl Notes {
-    ghost use Rattle.std.specs.Prelude.{◌≡◌, ℕ, unwrap_or, IfOk};
+    ghost use Rattle.std.specs.Prelude.{◌≡◌, IfOk};
     ghost use Rattle.rp_machine.specs.Deeds.{StoresInSram};
     ghost use Rattle.lane_look.specs.declared.lane.Want.TheVariants as want;
-    ghost use Rattle.window_merge.specs.Notes.{last_of, own_of, is_clean, seen_of, own_word, no_notes, noted, noted_by, HasRoom};
+    ghost use Rattle.window_merge.specs.Notes.{own_of, is_clean, seen_of, own_word, no_notes, noted, noted_by, HasRoom};
 
     /// None, and room for those of 256 cycles.
     pub(crate) fn new(alloc: Global) -> Result<Notes, AllocError>
@@ -192,16 +187,16 @@ impl Notes {
         self.dma.clear();
     }
 
-    /// The word of an index that a lane of that number wrote last, if it wrote one.
+    /// What a lane of that number wrote.
     #[inline(always)]
-    fn own_last(&self, lane: u8, index: u32) -> Option<u32>
-        ensures { (word : ℕ) → last_of (own_of lane self.now) index word ≡ unwrap_or result word }
+    pub(crate) fn own(&self, lane: u8) -> &[(u32, u32)]
+        ensures { result.now ≡ own_of lane self.now }
     {
         match lane {
-            0 => self.core0.last(index),
-            1 => self.core1.last(index),
-            2 => self.dma.last(index),
-            _ => None,
+            0 => self.core0.words(),
+            1 => self.core1.words(),
+            2 => self.dma.words(),
+            _ => &[],
         }
     }
 
@@ -221,14 +216,9 @@ impl Notes {
         requires { index < 67584 }
         ensures { result ≡ seen_of lane self.now ram.now index }
     {
-        let word = ram.read(index);
-        if self.is_clean(lane) {
-            return word;
-        }
-        match self.own_last(lane, index) {
-            Some(own) => own,
-            None => self.originals.first(index, word),
-        }
+        let clean = self.is_clean(lane);
+        let own = self.own(lane);
+        seen_word(ram, clean, own, self.originals.words(), index)
     }
 
     /// The word of a write as a lane of that number leaves it.

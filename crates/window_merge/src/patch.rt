@@ -1,11 +1,9 @@
 //! The words of SRAM that a lane wrote, where SRAM itself is only read.
 
-ghost use Rattle.std.specs.Prelude.{◌≡◌, ◌<◌, ◌^◌, ℕ, length, Some, unwrap_or};
-ghost use Rattle.std.specs.List.{slice_get};
+ghost use Rattle.std.specs.Prelude.{◌≡◌, ◌<◌, ◌^◌};
 ghost use Rattle.ram_banks.specs.Lanes.{lane_byte, with_lanes};
 ghost use Rattle.window_merge.specs.Notes.{last_of};
 
-use crate::sieve::Sieve;
 use arrayvec::ArrayVec;
 use lane_look::Want;
 use ram_banks::Ram;
@@ -20,18 +18,14 @@ const ROOM: usize = 512;
 #[derive(Drop)]
 pub(crate) struct WordLog {
     list: ArrayVec<(u32, u32), 512>,
-    sieve: Sieve,
 }
 
 impl Model for WordLog {
     ghost use Rattle.std.specs.Prelude.{ℕ, List};
-    ghost use Rattle.window_merge.specs.Sieve.{Sifts};
 
     ghost Value = { List (ℕ × ℕ) };
 
     ghost view = { λ w. w.list.items };
-
-    ghost invariant = { λ w. Sifts w.sieve w.list.items };
 }
 
 /// The byte that a write leaves in a lane.
@@ -59,33 +53,22 @@ pub(crate) fn with_lanes(lanes: u8, value: u32, word: u32) -> u32
         + lane_byte(lanes, value, word, 0)
 }
 
-/// The index and the word at a place of a list.
-#[inline(always)]
-fn noted_at(words: &[(u32, u32)], at: usize) -> (u32, u32)
-    requires { at < length words.now }
-    ensures { slice_get words.now at ≡ Some result }
+/// The last word of an index; else this word.
+pub(crate) fn last_of(words: &[(u32, u32)], index: u32, word: u32) -> u32
+    ensures { result ≡ last_of words.now index word }
 {
-    words[at]
-}
-
-/// The last word of an index, if there is one.
-pub(crate) fn last_of(words: &[(u32, u32)], index: u32) -> Option<u32>
-    ensures { (word : ℕ) → last_of words.now index word ≡ unwrap_or result word }
-{
-    let mut at = words.len();
-    'words: while at > 0 {
-        at -= 1;
-        let (noted, word) = noted_at(words, at);
-        if noted == index {
-            return Some(word);
+    let mut last = word;
+    for noted in words {
+        let (at, later) = *noted;
+        if at == index {
+            last = later;
         }
-        continue 'words;
     }
-    None
+    last
 }
 
 impl WordLog {
-    ghost use Rattle.std.specs.Prelude.{◌≡◌, ◌+◌, ◌<◌, ◌≤◌, ◌++◌, ◌∷◌, ℕ, [], length, slice_index, unwrap_or};
+    ghost use Rattle.std.specs.Prelude.{◌≡◌, ◌+◌, ◌<◌, ◌≤◌, ◌++◌, ◌∷◌, [], length, slice_index};
     ghost use Rattle.ram_banks.specs.Sram.{written};
     ghost use Rattle.window_merge.specs.Patch.{patched, sram_after};
 
@@ -95,7 +78,6 @@ impl WordLog {
     {
         WordLog {
             list: ArrayVec::new(),
-            sieve: Sieve::new(),
         }
     }
 
@@ -105,18 +87,6 @@ impl WordLog {
         ensures { self.new ≡ self.old ++ (index, word) ∷ [] }
     {
         self.list.push((index, word));
-        self.sieve.mark(index);
-    }
-
-    /// The word of an index that was written last, if one was.
-    fn last(&self, index: u32) -> Option<u32>
-        ensures { (word : ℕ) → last_of self.now index word ≡ unwrap_or result word }
-    {
-        if self.sieve.may_have(index) {
-            last_of(self.list.as_slice(), index)
-        } else {
-            None
-        }
     }
 
     /// The word of an index: the one that was written last, or else that of SRAM.
@@ -124,10 +94,7 @@ impl WordLog {
         requires { index < 67584 }
         ensures { result ≡ slice_index (patched self.now ram.now) index }
     {
-        match self.last(index) {
-            Some(word) => word,
-            None => ram.read(index),
-        }
+        last_of(self.list.as_slice(), index, ram.read(index))
     }
 
     /// Writes some byte lanes of a word.

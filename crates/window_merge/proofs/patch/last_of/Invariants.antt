@@ -1,12 +1,6 @@
-use Rattle.std.proofs.Common.{◌≡◌, ◌≤◌, false, length, drop}
-use Rattle.window_merge.specs.Sieve.{has_index}
+use Rattle.std.proofs.Common.{◌≡◌, drop}
+use Rattle.window_merge.specs.Notes.{last_of}
 use Rattle.window_merge.proofs.patch.last_of.Given as goal
 
-abbrev pub invariant-words : goal.invariant-words
-invariant-words l = record {
-  within : l.at ≤ length l.words;
-  behind : has_index l.index (drop l.at l.words) ≡ false;
-}
-
-abbrev pub decreases-words : goal.decreases-words
-decreases-words l = l.at
+abbrev pub invariant-loop-noted : goal.invariant-loop-noted
+invariant-loop-noted l = last_of (drop l.noted-index l.words) l.index l.last ≡ last_of l.words l.index l.word
