@@ -202,8 +202,12 @@ impl Machine {
         ensures { result ≡ found_by master deed.now self.now.sio }
     {
         match (master, *deed) {
-            (Master::Core0, Deed::SingleCycle { offset, write }) => self.sio.finds(0, offset, write),
-            (Master::Core1, Deed::SingleCycle { offset, write }) => self.sio.finds(1, offset, write),
+            (Master::Core0, Deed::SingleCycle { offset, write }) => self
+                .sio
+                .finds(0, offset, write),
+            (Master::Core1, Deed::SingleCycle { offset, write }) => self
+                .sio
+                .finds(1, offset, write),
             _ => false,
         }
     }

@@ -89,9 +89,11 @@ impl Sio {
         } else if offset >= SPINLOCK0 {
             self.locks.write(offset);
         } else if core == 0 {
-            self.core0.write(found, offset, word, &mut self.core1.mailbox);
+            self.core0
+                .write(found, offset, word, &mut self.core1.mailbox);
         } else {
-            self.core1.write(found, offset, word, &mut self.core0.mailbox);
+            self.core1
+                .write(found, offset, word, &mut self.core0.mailbox);
         }
     }
 }

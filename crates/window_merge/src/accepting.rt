@@ -219,7 +219,12 @@ pub fn accept(machine: &Machine, report: &LaneReport) -> Result<(), Stranger>
     if start != machine.at || length > 256 || u64::from(length) > u64::MAX - start {
         return Err(stranger_at(report, None));
     }
-    match judge_run(machine, report.lane, &report.run, longest_by(report.limit, start)) {
+    match judge_run(
+        machine,
+        report.lane,
+        &report.run,
+        longest_by(report.limit, start),
+    ) {
         Ok(()) => Ok(()),
         Err(entry) => Err(stranger_at(report, entry)),
     }
