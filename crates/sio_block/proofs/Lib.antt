@@ -1,3 +1,4 @@
 mod Division
 mod Handshake
 mod Owner
+mod Post

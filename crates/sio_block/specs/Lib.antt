@@ -4,6 +4,7 @@ pub mod Divider
 pub mod Launcher
 pub mod Laws
 pub mod Locks
+pub mod MailLaws
 pub mod Mailbox
 pub mod Offsets
 pub mod Pins

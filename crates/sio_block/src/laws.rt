@@ -1,6 +1,7 @@
 //! The laws of the block, each the contract of a function without arguments.
 
 ghost use Rattle.sio_block.specs.Laws.{ALockHasOneOwner, ResultsAreTruncated, ADivisionTakesEightCycles, SixWordsStartCore1};
+ghost use Rattle.sio_block.specs.MailLaws.{WordsStayInOrder, TheLauncherAnswers};
 
 /// Of two cores that read a free spinlock in one cycle the first gets it, and the second finds it taken until it is written.
 pub fn a_lock_has_one_owner()
@@ -20,4 +21,15 @@ pub fn a_division_takes_eight_cycles()
 /// 0, 0, 1, a vector table, a stack pointer and an entry are echoed by the launcher, and start core 1 there.
 pub fn six_words_start_core_1()
     ensures { SixWordsStartCore1 }
+{}
+
+/// The words that a mailbox has and those that come into it, at most 8 at once, are read in their order; a word that comes into a
+/// full one is dropped.
+pub fn words_stay_in_order()
+    ensures { WordsStayInOrder }
+{}
+
+/// The launcher echoes each word that fits, and answers another one by its complement.
+pub fn the_launcher_answers()
+    ensures { TheLauncherAnswers }
 {}
