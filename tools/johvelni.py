@@ -1,0 +1,184 @@
+"""Runs and sessions of the emulator for tests in Python.
+
+    import johvelni
+    run = johvelni.run("firmware.elf", 20000)
+    assert run.uart[0] == b"hello\\n" and run.edges[25][0] == (21, 1)
+
+    with johvelni.Debug("firmware.elf", 200000) as session:
+        session.end()
+        print(session.lastwrite(0x20000098))
+
+The program is ./pico of this repository, or the one that the environment names as JOHVELNI. An image is a UF2 file; where the
+program is ./pico, it may be an ELF file.
+"""
+import os
+import re
+import subprocess
+import sys
+import tempfile
+from dataclasses import dataclass
+
+sys.path.insert(0, os.path.dirname(os.path.abspath(__file__)))
+from runs import NAMES, STOP, Run, read_run  # noqa: E402
+
+TOP = os.path.dirname(os.path.dirname(os.path.abspath(__file__)))
+
+
+class Refused(Exception):
+    """The program refused its words or its files, or a session its command; the text is its line."""
+
+
+@dataclass
+class Result:
+    """What a run gave."""
+
+    status: int        # the program's
+    text: str          # the whole text
+    error: str | None  # the line of a refusal
+    stop: str | None   # the line of the stop, None where the run was refused
+    cycle: int | None  # its cycle
+    registers: list    # of both cores: None for one that is asleep, else its registers by name (r0 to r12, sp, lr, pc, xpsr)
+    uart: list         # the bytes that UART 0 and UART 1 sent
+    edges: dict        # for each pin the changes of its level, as (cycle, level)
+    probes: list       # the lines of probes and of windows
+
+    def level(self, pin, cycle):
+        """The level of a pin once this cycle is done; pins are low at the start."""
+        levels = [level for at, level in self.edges[pin] if at <= cycle]
+        return levels[-1] if levels else 0
+
+
+def program():
+    """The program that is run."""
+    return os.environ.get("JOHVELNI", f"{TOP}/pico")
+
+
+def words_of(script, pio, probes, folder):
+    """The words for a script (a file, or a list of its lines or of (cycle, pin, level)), PIO sources and probes."""
+    words = []
+    if isinstance(script, (list, tuple)):
+        path = f"{folder}/script"
+        with open(path, "w", encoding="utf-8") as file:
+            for line in script:
+                file.write((line if isinstance(line, str) else " ".join(map(str, line))) + "\n")
+        script = path
+    if script is not None:
+        words += ["--script", script]
+    if pio:
+        words += ["--pio", pio if isinstance(pio, str) else ",".join(f"{block}:{machine}:{path}" for (block, machine), path in pio.items())]
+    if probes:
+        words += ["--probe", ",".join(f"{probe}={pin}" for probe, pin in probes.items())]
+    return words
+
+
+def result_of(status, text):
+    """The result of a run by its status and its text."""
+    errors = [line for line in text.splitlines() if line.startswith("error ")]
+    run = Run() if errors or status else read_run(text)
+    edges = {pin: run.edges(pin) for pin in range(30)}
+    return Result(status, text, errors[-1] if errors else None, run.stop, run.cycle, run.cores, [run.sent(0), run.sent(1)], edges, run.rest)
+
+
+def run(image, cycles, script=None, pio=None, probes=None, seconds=None):
+    """Runs an image for at most so many cycles. pio is {(block, machine): file}, probes {probe: pin}; seconds limits the time."""
+    with tempfile.TemporaryDirectory() as folder:
+        words = [program(), "run", os.fspath(image), "--cycles", str(cycles), *words_of(script, pio, probes, folder)]
+        done = subprocess.run(words, stdin=subprocess.DEVNULL, stdout=subprocess.PIPE, timeout=seconds, check=False)
+    return result_of(done.returncode, done.stdout.decode())
+
+
+class Debug:
+    """A session to and fro in a run. A move answers the cycle at which the session then stands, and `stop` has the line of the stop
+    where the move met it."""
+
+    def __init__(self, image, cycles, script=None, pio=None):
+        self.folder = tempfile.TemporaryDirectory()
+        words = [program(), "debug", os.fspath(image), "--cycles", str(cycles), *words_of(script, pio, None, self.folder.name)]
+        self.process = subprocess.Popen(words, stdin=subprocess.PIPE, stdout=subprocess.PIPE, text=True)
+        self.cycle, self.stop = 0, None
+
+    def __enter__(self):
+        return self
+
+    def __exit__(self, *_):
+        self.close()
+
+    def close(self):
+        """Ends the session."""
+        if self.process.poll() is None:
+            try:
+                self.process.stdin.write("quit\n")
+                self.process.stdin.close()
+            except OSError:
+                pass
+            self.process.wait()
+        self.process.stdout.close()
+        self.folder.cleanup()
+
+    def ask(self, command, lines=1):
+        """The lines with which the session answers a command."""
+        try:
+            self.process.stdin.write(command + "\n")
+            self.process.stdin.flush()
+        except OSError:
+            pass  # a session that was refused has ended; its line tells why
+        found = []
+        while len(found) < lines:
+            line = self.process.stdout.readline().rstrip("\n")
+            if not line or line.startswith("error ") or line == "bad command":
+                raise Refused(line or f"the session ended with status {self.process.wait()}")
+            found.append(line)
+        return found
+
+    def move(self, command):
+        (line,) = self.ask(command)
+        self.stop = None
+        if found := STOP.fullmatch(line):
+            self.stop, self.cycle = line, int(found[3])
+        elif line == "at start":
+            self.cycle = 0
+        else:
+            self.cycle = int(re.fullmatch(r"at (\d+)", line)[1])
+        return self.cycle
+
+    def step(self, count=1):
+        """Goes so many cycles on."""
+        return self.move(f"step {count}")
+
+    def back(self, count=1):
+        """Goes so many cycles back, or to the start."""
+        return self.move(f"back {count}")
+
+    def goto(self, cycle):
+        """Goes to the state before this cycle, or to the stop before it."""
+        return self.move(f"goto {cycle}")
+
+    def end(self):
+        """Goes to the stop of the run."""
+        return self.move("end")
+
+    def regs(self):
+        """The registers of both cores by name; None for a core that is asleep."""
+        words = [line.split()[1:] for line in self.ask("regs", 2)]
+        return [None if row == ["asleep"] else dict(zip(NAMES, (int(word, 16) for word in row))) for row in words]
+
+    def mem(self, address, count=1):
+        """1 to 16 words of SRAM."""
+        (line,) = self.ask(f"mem {address:08x} {count}")
+        return [int(word, 16) for word in line.split()[2:]]
+
+    def pins(self):
+        """The levels of the pads 0 to 29."""
+        (line,) = self.ask("pins")
+        return [int(digit) for digit in "".join(line.split()[1:])]
+
+    def pio(self, block, machine):
+        """PC, X, Y, ISR and OSR of a PIO machine, as the session writes them."""
+        (line,) = self.ask(f"pio {block} {machine}")
+        return line.split()[3:]
+
+    def lastwrite(self, address):
+        """The last cycle before this one that changed the word, None where there is none."""
+        (line,) = self.ask(f"lastwrite {address:08x}")
+        last = line.split()[-1]
+        return None if last == "none" else int(last)
