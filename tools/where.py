@@ -62,6 +62,8 @@ def places(path, elf, command):
     known = {}
 
     def place(address):
+        if not known and command is None:
+            say("no addr2line is installed (Debian: binutils-arm-none-eabi), so lines of the source are not told")
         if address not in known:
             function = elf.function_of(address)
             line = line_of(command, path, address) if function else None
@@ -100,10 +102,7 @@ def place_in(path):
     elf = Elf(path, data)
     if not elf.functions():
         raise Refused(f"{path} has no symbols: link it without -s, and do not strip it")
-    command = addr2line()
-    if command is None:
-        say("no addr2line is installed (Debian: binutils-arm-none-eabi), so lines of the source are not told")
-    return places(path, elf, command)
+    return places(path, elf, addr2line())
 
 
 def tool():
