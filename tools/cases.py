@@ -10,6 +10,8 @@ that it has to end with (0 where there is none). A case without a text fails; --
 
 Statuses: 0; 1 where a case fails; 2 where there is no case, or the words are wrong.
 """
+from __future__ import annotations
+
 import argparse
 import concurrent.futures
 import difflib

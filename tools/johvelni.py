@@ -11,6 +11,8 @@
 The program is ./pico of this repository, or the one that the environment names as JOHVELNI. An image is a UF2 file; where the
 program is ./pico, it may be an ELF file.
 """
+from __future__ import annotations
+
 import os
 import re
 import subprocess

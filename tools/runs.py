@@ -1,5 +1,7 @@
 """What the tools share: the lines of a run (docs/USAGE.md, "What it prints"), files that are written whole or not at all, and
 messages of one line in place of tracebacks. It is no tool itself."""
+from __future__ import annotations
+
 import argparse
 import os
 import re
