@@ -5,9 +5,7 @@ use Rattle.outer_lane.specs.Setting.{Setting, setting_of}
 use Rattle.rp_ports.specs.Shelf.{Files, Answers, failed_after}
 use Rattle.rp_ports.specs.declared.shelf.Loaded.TheVariants.{Done, Failed}
 use Rattle.uf2_image.specs.declared.parts.Image.{Image as Loaded}
-use Rattle.pin_script.specs.Script.{script_of}
 use Rattle.pin_script.specs.declared.entry.Entry.{Entry as ScriptEntry}
-use Rattle.pin_script.specs.declared.fault.ScriptFault.{ScriptFault}
 use Rattle.pio_asm.specs.Assembly.{ArePrograms}
 use Rattle.pio_asm.specs.declared.program.Program.{Program}
 use Rattle.rp_machine.specs.State.{State, first_state}
@@ -15,9 +13,8 @@ use Rattle.rp_machine.specs.Boot.{start, with_loads, with_load, block_loaded}
 use Rattle.rp_machine.specs.declared.load.PioLoad.{PioLoad}
 use Rattle.command_words.specs.Words.{Run}
 use Rattle.command_words.specs.declared.refusal.Refusal.{Refusal as Written}
-use Rattle.command_words.specs.declared.refusal.Refusal.TheVariants.{Words, File, Large, Image, Script, Source}
-use Rattle.command_words.specs.Refusals.{line_of, status_of}
-use Rattle.command_words.specs.Refusals.Refusal.{Lost, BadScript}
+use Rattle.command_words.specs.Refusals.{Refusal, line_of, status_of}
+use Rattle.command_words.specs.Refusals.Refusal.{Lost}
 use Rattle.command_words.specs.Meant.{meant}
 use Rattle.pico_top.specs.declared.open.Opened.{Opened}
 use Rattle.pico_top.specs.declared.open.Opened.TheVariants.{Machine, Session, Text}
@@ -26,50 +23,40 @@ use Rattle.pico_top.specs.declared.open.Purpose.TheVariants.{Run as ForRun, Debu
 use Rattle.reverse_debug.specs.Session.{first_of, OpensAt}
 use Rattle.pico_top.specs.declared.open.Unopened.{Unopened}
 use Rattle.pico_top.specs.declared.open.Unopened.TheVariants.{Refusing, Memory}
-use Rattle.pico_top.specs.RunText.{run_text, run_cycles}
 use Rattle.reverse_debug.specs.Debugger.{quits}
 use Rattle.pico_top.specs.Loads.{Placed, loads_of, plans_in}
-use Rattle.pico_top.specs.Dialogue.{Cost, Told, Dialogue, behind_script, with_script, input_limit, session_told, script_limit}
-use Rattle.pico_top.specs.Dialogue.Cost.{Exactly}
-use Rattle.pico_top.specs.Dialogue.Dialogue.{Load, JudgeScript, SayWords, Say, Hear, HearWords}
-use Rattle.pico_top.specs.Walk.{Ending, IsHeard, Walks, failed_names}
-use Rattle.pico_top.specs.Walk.Ending.{Said, Refused}
+use Rattle.pico_top.specs.Dialogue.{Reply, Dialogue, judge, run_reply, behind_script, input_limit, session_reply}
+use Rattle.pico_top.specs.Dialogue.Dialogue.{Load}
+use Rattle.pico_top.specs.Walk.{Ending, Walks, failed_names}
+use Rattle.pico_top.specs.Walk.Ending.{Refused}
 use Rattle.pico_top.specs.Answer.{Puts}
 use Rattle.board_parts.specs.Hearing.{Aim}
 use Rattle.uf2_image.specs.Code.{image_of_number}
 use Rattle.command_words.specs.Words.Command.{Generate}
-use Rattle.pico_top.specs.Opening.{EndsAs, Opens, OpensFor, LoadsAs, Passes, Refuses, ReadsScript, Boots, use_for, setting_in, setting_by, IsPlaced, ArePlaced, LoadsAll}
-use Rattle.pico_top.proofs.Walking.{runs_out}
+use Rattle.pico_top.specs.Opening.{EndsAs, Opens, OpensFor, LoadsAs, Passes, PutsRefusal, Judges, Boots, use_for, setting_in, setting_by, IsPlaced, ArePlaced, LoadsAll}
+use Rattle.pico_top.proofs.Walking.{runs_out, said_with, heard_with}
 
 -- a load failed
 pub load_lost : (files : Option Files) (failed failed' : List (List ℕ)) (name : List ℕ) (limit : ℕ) (unopened : Unopened) → failed' ≡ failed_after failed name Failed → EndsAs unopened (Refused (Lost name)) → LoadsAs files failed failed' name limit (Err unopened)
 load_lost files failed failed' name limit unopened names is next = (Refused (Lost name), (Failed, [], tt, refl), names, is)
 
--- ---- scripts
+-- ---- what is judged
 
--- the verdict of a script leads on, or the walk ends there
-script_judged : (files : Option Files) (failed : List (List ℕ)) (bytes : List ℕ) (result : Result (List ScriptEntry) Unopened) → ReadsScript bytes result → Passes files failed failed (λ next. JudgeScript (script_of bytes) next) result
-script_judged files failed bytes (Ok script) is = (refl, λ next e w. subst (λ (v : Result (List ScriptEntry) ScriptFault). Walks files (JudgeScript v next) e) (sym is) (inl w))
-script_judged files failed bytes (Err (Refusing (Script fault))) is = λ next.
-    (Refused (BadScript fault), subst (λ (v : Result (List ScriptEntry) ScriptFault). Walks files (JudgeScript v next) (Refused (BadScript fault))) (sym is) (inl refl), refl, refl)
-script_judged files failed bytes (Err Memory) is = λ next. runs_out files failed (JudgeScript (script_of bytes) next)
-script_judged files failed bytes (Err (Refusing Words)) is = absurd is
-script_judged files failed bytes (Err (Refusing (File name))) is = absurd is
-script_judged files failed bytes (Err (Refusing (Large name long))) is = absurd is
-script_judged files failed bytes (Err (Refusing (Image fault))) is = absurd is
-script_judged files failed bytes (Err (Refusing (Source fault))) is = absurd is
-
-pub no_script : (files : Option Files) (failed : List (List ℕ)) (result : Result (List ScriptEntry) Unopened) → ReadsScript [] result → Passes files failed failed (with_script None) result
-no_script files failed result is = script_judged files failed [] result is
+-- it leads on, or the walk ends there
+pub judge_passes : {A F : Type 0} (files : Option Files) (failed : List (List ℕ)) (verdict : Result A F) (refused : F → Refusal) (result : Result A Unopened) → ((fault : F) → failed ≡ failed_names failed (Refused (refused fault))) → Judges verdict refused result → Passes files failed failed (judge verdict refused) result
+judge_passes files failed verdict refused (Ok a) same is = (refl, λ next e w. rw is w)
+judge_passes files failed verdict refused (Err (Refusing refusal)) same is = λ next. (Refused (refused is.0), rw is.1 (inl refl), same is.0, ap Refused (sym is.2))
+judge_passes files failed verdict refused (Err Memory) same is = λ next. runs_out files failed (judge verdict refused next)
 
 -- a part behind a load that gave bytes
 behind_load : {X : Type 0} (files : Option Files) (failed failed' : List (List ℕ)) (name : List ℕ) (limit : ℕ) (bytes : List ℕ) (part : List ℕ → (X → Dialogue) → Dialogue) (result : Result X Unopened) → Answers files name limit Done bytes → failed' ≡ failed → Passes files failed failed (part bytes) result → Passes files failed failed' (λ next. Load name limit (λ b. part b next)) result
 behind_load files failed failed' name limit bytes part (Ok x) answers same h = (same, λ next e w. (Done, bytes, answers, h.1 next e w))
 behind_load files failed failed' name limit bytes part (Err unopened) answers same h = λ next. let s = h next in (s.0, (Done, bytes, answers, s.1), same ∙ s.2, s.3)
 
-pub script_read : (files : Option Files) (failed failed' : List (List ℕ)) (name : List ℕ) (bytes : List ℕ) (result : Result (List ScriptEntry) Unopened) → Answers files name script_limit Done bytes → failed' ≡ failed → ReadsScript bytes result → Passes files failed failed' (with_script (Some name)) result
-script_read files failed failed' name bytes result answers same is =
-    behind_load files failed failed' name script_limit bytes (λ b next. JudgeScript (script_of b) next) result answers same (script_judged files failed bytes result is)
+-- a file that is judged
+pub file_passes : {A F : Type 0} (files : Option Files) (failed failed' : List (List ℕ)) (name : List ℕ) (limit : ℕ) (bytes : List ℕ) (read : List ℕ → Result A F) (refused : F → Refusal) (result : Result A Unopened) → ((fault : F) → failed ≡ failed_names failed (Refused (refused fault))) → Answers files name limit Done bytes → failed' ≡ failed → Judges (read bytes) refused result → Passes files failed failed' (λ next. Load name limit (λ b. judge (read b) refused next)) result
+file_passes files failed failed' name limit bytes read refused result other answers same is =
+    behind_load files failed failed' name limit bytes (λ b. judge (read b) refused) result answers same (judge_passes files failed (read bytes) refused result other is)
 
 -- ---- parts of a walk, one behind another
 
@@ -119,20 +106,6 @@ pub start_cycle : (device : DeviceMeaning) (image : Loaded) (loads : List PioLoa
 unfolding start
 start_cycle device image loads = loads_cycle loads (first_state device image) ∙ first_cycle device image
 
--- a text that is said is one of its words
-said_words : (files : Option Files) (ps : List Placed) (programs : List Program) (text : List Program → List ℕ) (cost : List Program → Cost) (t : List ℕ) (k : Cost) (e : Ending) → ArePrograms (plans_in ps) programs → Said (text programs) (cost programs) ≡ Said t k → Walks files (Say t k) e → Walks files (SayWords (plans_in ps) text cost) e
-said_words files ps programs text cost t k e have is w = elim w [
-  | inl here ↦ inl (programs, have, here ∙ sym is)
-  | inr none ↦ inr none
-]
-
--- and so is what is heard
-heard_words : (files : Option Files) (ps : List Placed) (programs : List Program) (limit : ℕ) (last : List ℕ → Bool) (told : List Program → List (List ℕ) → Told) (t : List (List ℕ) → Told) (e : Ending) → ArePrograms (plans_in ps) programs → told programs ≡ t → Walks files (Hear limit last t) e → Walks files (HearWords (plans_in ps) limit last told) e
-heard_words files ps programs limit last told t e have is w = elim w [
-  | inl here ↦ inl (programs, have, subst (λ (x : List (List ℕ) → Told). IsHeard limit last x e) (sym is) here)
-  | inr none ↦ inr none
-]
-
 -- the machine booted, or memory ran out
 boots_opens : (aims : List Aim) (purpose : Purpose) (files : Option Files) (failed : List (List ℕ)) (device : DeviceMeaning) (script : List ScriptEntry) (limit : ℕ) (image : Loaded) (ps : List Placed) (loads : List PioLoad) (result : Result Opened Unopened) → ArePlaced ps loads → Boots purpose (start device image loads) script limit result → Opens files failed failed device aims (use_for aims purpose (setting_of script device limit) image ps) result
 boots_opens aims ForDebug files failed device script limit image ps loads (Ok (Session debugging)) placed h =
@@ -142,10 +115,10 @@ boots_opens aims ForDebug files failed device script limit image ps loads (Ok (S
     let same : own ≡ first = h.0.first ∙ ap (start device image) (sym (same_loads ps loads placed)) in
     let opens : OpensAt own limit debugging.session = subst (λ (s : State). OpensAt s limit debugging.session) (sym h.0.first) h.0 in
     let v : Setting = setting_by device debugging in
-    let here : session_told w first ≡ session_told v own = rw (sym same, sym h.1, sym h.2) refl in (
+    let here : session_reply w first ≡ session_reply v own = rw (sym same, sym h.1, sym h.2) refl in (
       refl,
       subst (λ n. OpensAt own n debugging.session) (sym h.2) opens,
-      λ e walk. heard_words files ps (programs_of loads) input_limit quits (λ programs. session_told w (start device image (loads_of ps programs))) (session_told v own) e (have_words ps loads placed) here walk,
+      λ e walk. heard_with files (plans_in ps) (programs_of loads) input_limit quits (λ programs. session_reply w (start device image (loads_of ps programs))) (session_reply v own) e (have_words ps loads placed) here walk,
     )
 boots_opens aims ForDebug files failed device script limit image ps loads (Ok (Machine started)) placed h = absurd h
 boots_opens aims (ForRun stats) files failed device script limit image ps loads (Ok (Session debugging)) placed h = absurd h
@@ -155,10 +128,10 @@ boots_opens aims (ForRun stats) files failed device script limit image ps loads 
     let same : started.machine ≡ first = h.0 ∙ ap (start device image) (sym (same_loads ps loads placed)) in
     let at : started.machine.cycle ≡ 0 = ap (λ (m : State). m.cycle) h.0 ∙ start_cycle device image loads in
     let v : Setting = setting_in device started in
-    let here : Said (run_text stats w aims first) (Exactly (run_cycles w first)) ≡ Said (run_text started.stats v aims started.machine) (Exactly (run_cycles v started.machine)) = rw (same, h.1, h.2, h.3) refl in (
+    let here : run_reply stats aims w first ≡ run_reply started.stats aims v started.machine = rw (same, h.1, h.2, h.3) refl in (
       refl,
       omega (arith, at),
-      λ e walk. said_words files ps (programs_of loads) (λ programs. run_text stats w aims (start device image (loads_of ps programs))) (λ programs. Exactly (run_cycles w (start device image (loads_of ps programs)))) (run_text started.stats v aims started.machine) (Exactly (run_cycles v started.machine)) e (have_words ps loads placed) here walk,
+      λ e walk. said_with files (plans_in ps) (programs_of loads) (λ programs. run_reply stats aims w (start device image (loads_of ps programs))) (run_reply started.stats aims v started.machine) e (have_words ps loads placed) here walk,
     )
 boots_opens aims (ForRun stats) files failed device script limit image ps loads (Ok (Text text)) placed h = absurd h
 boots_opens aims (ForRun stats) files failed device script limit image ps loads (Err (Refusing refusal)) placed h = absurd h
@@ -184,6 +157,6 @@ generated_opens files failed device number cycles workers stats image script res
     boots_opens aims (ForRun stats) files failed device [] cycles (image_of_number number) [] [] result tt plain
 
 -- the line of a refusal was put with its status
-pub refuses_by : (old new : Option (List ℕ)) (before now status : ℕ) (refusal : Written) (unopened : Unopened) (wanted : ℕ) (text : List ℕ) → unopened ≡ Refusing refusal → wanted ≡ status_of (meant refusal) → text ≡ line_of (meant refusal) → Puts old new before now status wanted text → Refuses old new before now status unopened
+pub refuses_by : (old new : Option (List ℕ)) (before now status : ℕ) (refusal : Written) (unopened : Unopened) (wanted : ℕ) (text : List ℕ) → unopened ≡ Refusing refusal → wanted ≡ status_of (meant refusal) → text ≡ line_of (meant refusal) → Puts old new before now status wanted text → PutsRefusal old new before now status unopened
 refuses_by old new before now status refusal unopened wanted text is w t puts =
     rw is (inl (subst (λ (x : ℕ). Puts old new before now status x (line_of (meant refusal))) w (subst (λ (x : List ℕ). Puts old new before now status wanted x) t puts)))

@@ -19,8 +19,7 @@ use Rattle.command_words.specs.Refusals.Refusal.{BadSource}
 use Rattle.pico_top.specs.declared.open.Unopened.{Unopened}
 use Rattle.pico_top.specs.declared.open.Unopened.TheVariants.{Refusing, Memory}
 use Rattle.pico_top.specs.Loads.{Placed, placed_as, taken_from, offset_of}
-use Rattle.pico_top.specs.Dialogue.{Dialogue, with_first, with_programs, source_limit}
-use Rattle.pico_top.specs.Dialogue.Dialogue.{JudgeSource, JudgeOffset}
+use Rattle.pico_top.specs.Dialogue.{Dialogue, judge, with_first, with_programs, source_limit}
 use Rattle.pico_top.specs.Walk.{Ending, Walks, failed_names}
 use Rattle.pico_top.specs.Walk.Ending.{Refused}
 use Rattle.pico_top.specs.Opening.{EndsUnopened, LoadsAs, IsPlaced, ArePlaced, LeadsOn, offset_part, AddsAt, source_part, AddsBehind, AddsAs, LoadsAll, taken_by}
@@ -84,7 +83,7 @@ load_added entry before loads plan program load done h is all fits parts at file
         before ++ p ∷ [],
         placed_push before loads p load h there,
         λ next e w.
-            subst (λ (v : Result ℕ PioFault). Walks files (JudgeOffset v (λ offset. next (before ++ placed_as entry plan offset ∷ []))) e) (sym verdict) (inl w),
+            subst (λ (v : Result ℕ PioFault). Walks files (judge v BadSource (λ offset. next (before ++ placed_as entry plan offset ∷ []))) e) (sym verdict) w,
       ),
     )
 
@@ -92,7 +91,7 @@ load_added entry before loads plan program load done h is all fits parts at file
 pub load_refused : (entry : Entry) (before : List Placed) (loads new : List PioLoad) (plan : Plan) (program : Program) (fault : PioFault) → ArePlaced before loads → IsProgram plan program → placed (taken_by 0 entry.block loads) program.origin (length program.words.items) ≡ Err fault → AddsAt entry before plan new (Err (Refusing (Source fault)))
 load_refused entry before loads new plan program fault h is at files failed next =
     let verdict : offset_of entry before plan ≡ Err fault = offset_same entry before loads plan program h is ∙ at in
-    (Refused (BadSource fault), subst (λ (v : Result ℕ PioFault). Walks files (JudgeOffset v (λ offset. next (before ++ placed_as entry plan offset ∷ []))) (Refused (BadSource fault))) (sym verdict) (inl refl), refl, refl)
+    (Refused (BadSource fault), subst (λ (v : Result ℕ PioFault). Walks files (judge v BadSource (λ offset. next (before ++ placed_as entry plan offset ∷ []))) (Refused (BadSource fault))) (sym verdict) (inl refl), refl, refl)
 
 -- memory ran out
 pub load_out : (entry : Entry) (before : List Placed) (new : List PioLoad) (plan : Plan) → AddsAt entry before plan new (Err Memory)
@@ -109,13 +108,13 @@ load_tried entry before loads new plan program load (Err unopened) ok err h is a
 
 -- what comes of a source by its verdict
 abbrev FirstAs : Entry → List Placed → List PioLoad → Result (List Plan) PioFault → Result (Unit {0}) Unopened → Type 0
-FirstAs entry before new verdict (Ok done) = (files : Option Files) → LeadsOn files new (λ next. JudgeSource verdict (with_first entry before next))
-FirstAs entry before new verdict (Err unopened) = (files : Option Files) (failed : List (List ℕ)) (next : List Placed → Dialogue) → EndsUnopened files failed failed (JudgeSource verdict (with_first entry before next)) unopened
+FirstAs entry before new verdict (Ok done) = (files : Option Files) → LeadsOn files new (λ next. judge verdict BadSource (with_first entry before next))
+FirstAs entry before new verdict (Err unopened) = (files : Option Files) (failed : List (List ℕ)) (next : List Placed → Dialogue) → EndsUnopened files failed failed (judge verdict BadSource (with_first entry before next)) unopened
 
 first_adds : (entry : Entry) (before : List Placed) (new : List PioLoad) (verdict : Result (List Plan) PioFault) (program : Program) (result : Result (Unit {0}) Unopened) → IsFirst (Some program) verdict → ((plan : Plan) → IsProgram plan program → AddsAt entry before plan new result) → FirstAs entry before new verdict result
 first_adds entry before new (Ok []) program result first adds = absurd (cc first)
-first_adds entry before new (Ok (plan ∷ plans)) program (Ok done) first adds = λ files. let l = adds plan first.0 files in (l.0, (l.1.0, l.1.1, λ next e w. inl (l.1.2 next e w)))
-first_adds entry before new (Ok (plan ∷ plans)) program (Err unopened) first adds = λ files failed next. let s = adds plan first.0 files failed next in (s.0, inl s.1, s.2, s.3)
+first_adds entry before new (Ok (plan ∷ plans)) program (Ok done) first adds = λ files. let l = adds plan first.0 files in (l.0, (l.1.0, l.1.1, λ next e w. l.1.2 next e w))
+first_adds entry before new (Ok (plan ∷ plans)) program (Err unopened) first adds = λ files failed next. let s = adds plan first.0 files failed next in (s.0, s.1, s.2, s.3)
 first_adds entry before new (Err fault) program result first adds = absurd first
 
 back : (entry : Entry) (before : List Placed) (new : List PioLoad) (bytes : List ℕ) (result : Result (Unit {0}) Unopened) → FirstAs entry before new (plans_of bytes) result → AddsBehind entry before bytes new result
@@ -126,8 +125,8 @@ pub source_adds : (entry : Entry) (before : List Placed) (new : List PioLoad) (b
 source_adds entry before new bytes found program result is first adds =
     back entry before new bytes result (first_adds entry before new (plans_of bytes) program result (subst (λ (x : Option Program). IsFirst x (plans_of bytes)) is first) adds)
 
-none_leads : (entry : Entry) (before : List Placed) (verdict : Result (List Plan) PioFault) (files : Option Files) (next : List Placed → Dialogue) (e : Ending) → IsFirst None verdict → Walks files (next before) e → Walks files (JudgeSource verdict (with_first entry before next)) e
-none_leads entry before (Ok []) files next e first w = inl w
+none_leads : (entry : Entry) (before : List Placed) (verdict : Result (List Plan) PioFault) (files : Option Files) (next : List Placed → Dialogue) (e : Ending) → IsFirst None verdict → Walks files (next before) e → Walks files (judge verdict BadSource (with_first entry before next)) e
+none_leads entry before (Ok []) files next e first w = w
 none_leads entry before (Ok (plan ∷ plans)) files next e first w = absurd first
 none_leads entry before (Err fault) files next e first w = absurd first
 
@@ -137,7 +136,7 @@ source_none entry before loads bytes found done h all is first files =
 
 pub source_bad : (entry : Entry) (before : List Placed) (new : List PioLoad) (bytes : List ℕ) (fault : PioFault) → plans_of bytes ≡ Err fault → AddsBehind entry before bytes new (Err (Refusing (Source fault)))
 source_bad entry before new bytes fault is files failed next =
-    (Refused (BadSource fault), subst (λ (v : Result (List Plan) PioFault). Walks files (JudgeSource v (with_first entry before next)) (Refused (BadSource fault))) (sym is) (inl refl), refl, refl)
+    (Refused (BadSource fault), subst (λ (v : Result (List Plan) PioFault). Walks files (judge v BadSource (with_first entry before next)) (Refused (BadSource fault))) (sym is) (inl refl), refl, refl)
 
 pub source_out : (entry : Entry) (before : List Placed) (new : List PioLoad) (bytes : List ℕ) → AddsBehind entry before bytes new (Err Memory)
 source_out entry before new bytes files failed next = runs_out files failed (source_part entry before bytes next)

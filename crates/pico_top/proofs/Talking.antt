@@ -1,5 +1,5 @@
 -- The talk of the debugger, and what a session tells.
-use Rattle.std.proofs.Common.{◌≡◌, ℕ, ◌+◌, ◌≤◌, List, ◌++◌, Option, Ok, Err, refl, ap, inl, inr, ◌∙◌, subst, arith}
+use Rattle.std.proofs.Common.{◌≡◌, ℕ, ◌+◌, ◌≤◌, List, [], ◌++◌, Option, Ok, Err, refl, ap, inl, inr, ◌∙◌, subst, arith}
 use Rattle.trace_text.specs.declared.writer.SinkFault.{SinkFault}
 use Rattle.trace_text.specs.Sent.{Sends}
 use Rattle.trace_text.proofs.Sending.{sends_then, sends_part}
@@ -11,12 +11,12 @@ use Rattle.reverse_debug.specs.declared.way.Way.TheVariants.{Closed, Ended, Brok
 use Rattle.reverse_debug.specs.Hear.{lines_heard, way_line, way_status, BearsOut, IsTaken}
 use Rattle.reverse_debug.specs.Talk.{text_from, cost_from, Hears}
 use Rattle.reverse_debug.specs.Debugger.{quits, talk_of}
-use Rattle.pico_top.specs.Dialogue.{input_limit, session_told}
+use Rattle.pico_top.specs.Dialogue.{hear, input_limit, session_reply}
 use Rattle.pico_top.specs.Dialogue.Cost.{AtMost}
-use Rattle.pico_top.specs.Dialogue.Dialogue.{Hear}
+use Rattle.pico_top.specs.Walk.{heard_as}
 use Rattle.pico_top.specs.Walk.Ending.{Heard}
 use Rattle.pico_top.specs.Answer.{Puts, IsCounted}
-use Rattle.pico_top.specs.Opening.{Tells}
+use Rattle.pico_top.specs.Opening.{Concludes}
 
 -- ---- what is told
 
@@ -35,16 +35,16 @@ counts_most most status wanted steps steps' forward within = record { whole = λ
 -- the hearing ended, and the line of its way was put
 pub tells_heard : (w : Setting) (f : State) (left left' : Option (List ℕ)) (lost lost' : ℕ) (old mid new : Option (List ℕ)) (before between now steps steps' status : ℕ) (way : Way) (cycle : ℕ) → cycle ≡ 0 →
     Hears (talk_of w f) cycle input_limit left left' lost lost' old mid before between steps steps' (Ok way) → Puts mid new between now status (way_status way) (way_line way) →
-    Tells (Hear input_limit quits (session_told w f)) left left' lost lost' old new before now steps steps' status
+    Concludes (hear input_limit quits (session_reply w f)) left left' lost lost' old new before now steps steps' status
 tells_heard w f left left' lost lost' old mid new before between now steps steps' status way cycle zero h₀ puts =
     let h : Hears (talk_of w f) 0 input_limit left left' lost lost' old mid before between steps steps' (Ok way) =
     subst (λ p. Hears (talk_of w f) p input_limit left left' lost lost' old mid before between steps steps' (Ok way)) zero h₀ in
     let lines = lines_heard quits h.way h.bytes in
     let last : Puts mid new between now status (way_status h.way) (way_line h.way) = subst (λ (x : Way). Puts mid new between now status (way_status x) (way_line x)) h.is puts in
     record {
-      ending = Heard h.bytes h.way (text_from (talk_of w f) 0 lines ++ way_line h.way) (AtMost (cost_from (talk_of w f) 0 lines));
-      walked = λ files. inl (h.bytes, h.way, h.within, h.may, refl);
-      told = tt;
+      ending = Heard h.bytes h.way (heard_as quits (session_reply w f) h.bytes h.way);
+      walked = λ files. inl ([], tt, (h.bytes, h.way, h.within, h.may, refl));
+      accepted = tt;
       takes = taken_so left left' lost lost' status h.bytes h.way h.taken;
       ends = (last.0, sends_then old mid new before between now (text_from (talk_of w f) 0 lines) (way_line h.way) last.0 h.sends.ok h.sends.count last.1, last.2);
       counted = counts_most (cost_from (talk_of w f) 0 lines) status (way_status h.way) steps steps' h.forward h.most;
@@ -56,16 +56,16 @@ cut_as old new before now text fault h = record { ok = tt; err = h.err; cause = 
 -- the sink failed at an answer
 pub tells_cut : (w : Setting) (f : State) (left left' : Option (List ℕ)) (lost lost' : ℕ) (old new : Option (List ℕ)) (before now steps steps' : ℕ) (fault : SinkFault) (cycle : ℕ) → cycle ≡ 0 →
     Hears (talk_of w f) cycle input_limit left left' lost lost' old new before now steps steps' (Err fault) →
-    Tells (Hear input_limit quits (session_told w f)) left left' lost lost' old new before now steps steps' 7
+    Concludes (hear input_limit quits (session_reply w f)) left left' lost lost' old new before now steps steps' 7
 tells_cut w f left left' lost lost' old new before now steps steps' fault cycle zero h₀ =
     let h : Hears (talk_of w f) 0 input_limit left left' lost lost' old new before now steps steps' (Err fault) =
     subst (λ p. Hears (talk_of w f) p input_limit left left' lost lost' old new before now steps steps' (Err fault)) zero h₀ in
     let lines = lines_heard quits h.way h.bytes in
     let part = sends_part {T = Unit {0}} old new before now (text_from (talk_of w f) 0 lines) (way_line h.way) fault (cut_as old new before now (text_from (talk_of w f) 0 lines) fault h.sends) in
     record {
-      ending = Heard h.bytes h.way (text_from (talk_of w f) 0 lines ++ way_line h.way) (AtMost (cost_from (talk_of w f) 0 lines));
-      walked = λ files. inl (h.bytes, h.way, h.within, h.may, refl);
-      told = tt;
+      ending = Heard h.bytes h.way (heard_as quits (session_reply w f) h.bytes h.way);
+      walked = λ files. inl ([], tt, (h.bytes, h.way, h.within, h.may, refl));
+      accepted = tt;
       takes = h.taken;
       ends = (Err fault, part, refl);
       counted = counts_most (cost_from (talk_of w f) 0 lines) 7 (way_status h.way) steps steps' h.forward h.most;

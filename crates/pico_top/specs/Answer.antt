@@ -2,15 +2,13 @@
 use Rattle.std.specs.Prelude.{◌≡◌, ◌⊎◌, ℕ, ◌+◌, ◌≤◌, List, Option, Result, Ok, Err, codes}
 use Rattle.trace_text.specs.Sent.{Sends}
 use Rattle.trace_text.specs.declared.writer.SinkFault.{SinkFault}
-use Rattle.lane_look.specs.Device.{DeviceMeaning}
-use Rattle.board_parts.specs.Probe.{ProbeMeaning}
 use Rattle.command_words.specs.Words.{Command}
 use Rattle.command_words.specs.Refusals.{line_of, status_of}
-use Rattle.pico_top.specs.Call.{Asked, read_from, Outside}
+use Rattle.pico_top.specs.Call.{Board, asked_by, Outside}
 use Rattle.reverse_debug.specs.Hear.{way_status, IsTaken}
-use Rattle.pico_top.specs.Dialogue.{Cost}
+use Rattle.pico_top.specs.Dialogue.{Cost, dialogue_from}
 use Rattle.pico_top.specs.Dialogue.Cost.{Exactly, AtMost}
-use Rattle.pico_top.specs.Walk.{Ending, WalksFrom, failed_names}
+use Rattle.pico_top.specs.Walk.{Ending, Walks, failed_names}
 use Rattle.pico_top.specs.Walk.Ending.{Said, Heard, Refused, NoMemory}
 
 -- ---- the status and the bytes
@@ -35,8 +33,8 @@ RunsOut old new before now status = Puts old new before now status 9 memory_line
 -- The cases of every return: the text of the ending was written with its status, or the sink failed at it; where memory ran out,
 -- also for the line of a refusal, it was the line that says so.
 abbrev pub Ends : Option (List ℕ) → Option (List ℕ) → ℕ → ℕ → ℕ → Ending → Type 0
-Ends old new before now status (Said text cost) = Puts old new before now status 0 text
-Ends old new before now status (Heard bytes way text cost) = Puts old new before now status (way_status way) text
+Ends old new before now status (Said reply) = Puts old new before now status 0 reply.text
+Ends old new before now status (Heard bytes way reply) = Puts old new before now status (way_status way) reply.text
 Ends old new before now status (Refused refusal) =
     Puts old new before now status (status_of refusal) (line_of refusal) ⊎ RunsOut old new before now status
 Ends old new before now status NoMemory = RunsOut old new before now status
@@ -59,8 +57,8 @@ pub record IsCounted (cost : Cost) (status wanted before after : ℕ) : Type 0 w
   pub within : after ≤ before + most cost
 
 abbrev pub Counts : Ending → ℕ → ℕ → ℕ → Type 0
-Counts (Said text cost) status before after = IsCounted cost status 0 before after
-Counts (Heard bytes way text cost) status before after = IsCounted cost status (way_status way) before after
+Counts (Said reply) status before after = IsCounted reply.cost status 0 before after
+Counts (Heard bytes way reply) status before after = IsCounted reply.cost status (way_status way) before after
 Counts (Refused refusal) status before after = after ≡ before
 Counts NoMemory status before after = after ≡ before
 
@@ -68,8 +66,8 @@ Counts NoMemory status before after = after ≡ before
 
 -- what was heard was taken, and nothing else
 abbrev pub Takes : Option (List ℕ) → Option (List ℕ) → ℕ → ℕ → ℕ → Ending → Type 0
-Takes old new before now status (Said text cost) = (new ≡ old) × (now ≡ before)
-Takes old new before now status (Heard bytes way text cost) = IsTaken old new before now status bytes way
+Takes old new before now status (Said reply) = (new ≡ old) × (now ≡ before)
+Takes old new before now status (Heard bytes way reply) = IsTaken old new before now status bytes way
 Takes old new before now status (Refused refusal) = (new ≡ old) × (now ≡ before)
 Takes old new before now status NoMemory = (new ≡ old) × (now ≡ before)
 
@@ -77,10 +75,9 @@ Takes old new before now status NoMemory = (new ≡ old) × (now ≡ before)
 
 -- A call with this status: a walk of the dialogue of what is asked for ended so, and what it took, wrote and counted goes with that
 -- ending. The files are as before.
-pub record ConversesFor (device : DeviceMeaning) (probes : List ProbeMeaning) (asked : Option Command) (before after : Outside) (status : ℕ)
-    : Type 0 where
+pub record ConversesFor (b : Board) (asked : Option Command) (before after : Outside) (status : ℕ) : Type 0 where
   pub ending : Ending
-  pub walked : WalksFrom before.files device probes asked ending
+  pub walked : Walks before.files (dialogue_from b asked) ending
   pub failed : after.failed ≡ failed_names before.failed ending
   pub kept : after.files ≡ before.files
   pub takes : Takes before.left after.left before.source_faults after.source_faults status ending
@@ -88,5 +85,5 @@ pub record ConversesFor (device : DeviceMeaning) (probes : List ProbeMeaning) (a
   pub counted : Counts ending status before.steps after.steps
 
 -- a call for words
-abbrev pub Converses : Asked → Outside → Outside → ℕ → Type 0
-Converses asked before after status = ConversesFor asked.device asked.probes (read_from asked) before after status
+abbrev pub Converses : Board → List (List ℕ) → Outside → Outside → ℕ → Type 0
+Converses b words before after status = ConversesFor b (asked_by b words) before after status

@@ -1,19 +1,24 @@
--- What a call is asked, and what it meets outside: the project's own.
+-- What a call is handed, and what it meets outside: the project's own.
 use Rattle.std.specs.Prelude.{ℕ, List, length, Option}
 use Rattle.lane_look.specs.Device.{DeviceMeaning}
 use Rattle.rp_ports.specs.Shelf.{Files}
+use Rattle.rp_ports.specs.declared.shelf.Shelf.{Ghosts as ShelfMeaning}
+use Rattle.rp_ports.specs.declared.source.Source.{Ghosts as SourceMeaning}
+use Rattle.rp_ports.specs.declared.sink.Sink.{Ghosts as SinkMeaning}
 use Rattle.board_parts.specs.Probe.{ProbeMeaning}
 use Rattle.command_words.specs.Words.{Command, reading}
 
--- the words of the command line, the probes that may be aimed, and the device at the pads
-pub record Asked : Type 0 where
-  pub words : List (List ℕ)
-  pub probes : List ProbeMeaning
+-- what is handed in for the board: the device at the pads, and the probes that may be aimed
+pub record Board : Type 0 where
   pub device : DeviceMeaning
+  pub probes : List ProbeMeaning
 
--- what the words ask for, or none where they are refused
-abbrev pub read_from : Asked → Option Command
-read_from asked = reading (length asked.probes) asked.words
+abbrev pub board : DeviceMeaning → List ProbeMeaning → Board
+board device probes = record { device = device; probes = probes }
+
+-- what words ask for, or none where they are refused
+abbrev pub asked_by : Board → List (List ℕ) → Option Command
+asked_by b words = reading (length b.probes) words
 
 -- the files of the shelf by name, where it tells them, and the names whose loads failed; the bytes that the source has left and
 -- those that the sink has written, where they tell them, and the count of faults of each; and the steps that were counted
@@ -25,3 +30,15 @@ pub record Outside : Type 0 where
   pub written : Option (List ℕ)
   pub sink_faults : ℕ
   pub steps : ℕ
+
+-- what a shelf, a source, a sink and a count of steps are now
+abbrev pub outside : {F I O : Type 0} → ShelfMeaning F → SourceMeaning I → SinkMeaning O → F → I → O → ℕ → Outside
+outside shelf source sink files input out steps = record {
+  files = shelf.files files;
+  failed = shelf.failed files;
+  left = source.left input;
+  source_faults = source.faults input;
+  written = sink.written out;
+  sink_faults = sink.faults out;
+  steps = steps;
+}

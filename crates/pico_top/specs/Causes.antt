@@ -1,44 +1,57 @@
--- Why a call answers each status: the project's own.
-use Rattle.std.specs.Prelude.{◌≡◌, ◌⊎◌, ℕ, List, IfSome}
+-- Why a call answers its status, and what it answers where its outside does not fail: the project's own.
+use Rattle.std.specs.Prelude.{◌≡◌, ◌⊎◌, ℕ, Bool, List, Option, None, Some, IfSome}
 use Rattle.rp_ports.specs.Fault.{Rose}
-use Rattle.uf2_image.specs.declared.fault.ImageFault.{ImageFault}
-use Rattle.pin_script.specs.declared.fault.ScriptFault.{ScriptFault}
-use Rattle.pio_parse.specs.declared.fault.PioFault.{PioFault}
+use Rattle.rp_ports.specs.Shelf.{Files}
+use Rattle.rp_ports.specs.Sink.{Appends}
+use Rattle.rp_ports.specs.Source.{Consumes}
+use Rattle.command_words.specs.Words.{Command}
 use Rattle.command_words.specs.Refusals.{Refusal, status_of}
-use Rattle.command_words.specs.Refusals.Refusal.{Lost, TooLarge, BadImage, BadScript, BadSource}
-use Rattle.pico_top.specs.Call.{Asked, read_from, Outside}
 use Rattle.reverse_debug.specs.declared.way.Way.{Way}
+use Rattle.reverse_debug.specs.declared.way.Way.TheVariants.{Closed, Ended, Broken, Full}
 use Rattle.reverse_debug.specs.Hear.{IsTaken}
-use Rattle.reverse_debug.specs.declared.way.Way.TheVariants.{Broken, Full}
-use Rattle.pico_top.specs.Dialogue.{Cost}
-use Rattle.pico_top.specs.Walk.{Verdict, WalksFrom, verdict_from, status_over, failed_names}
+use Rattle.pico_top.specs.Call.{Board, Outside}
+use Rattle.pico_top.specs.Dialogue.{Reply, dialogue_from}
+use Rattle.pico_top.specs.Answer.{ConversesFor, memory_line}
+use Rattle.pico_top.specs.Walk.{Ending, Verdict, Walks, verdict, status_over, failed_names}
 use Rattle.pico_top.specs.Walk.Verdict.{Refuses, Says, Hears}
-use Rattle.pico_top.specs.Walk.Ending.{Heard, Refused}
+use Rattle.pico_top.specs.Walk.Ending.{Said, Heard, Refused}
 
--- the walk of the call's dialogue ended in this refusal: every input before was accepted; the name of a load that failed joined
--- the failed ones, and no other name did
-abbrev pub IsRefused : Asked → Outside → Outside → Refusal → Type 0
-IsRefused asked before after refusal =
-    WalksFrom before.files asked.device asked.probes (read_from asked) (Refused refusal) × (after.failed ≡ failed_names before.failed (Refused refusal))
+-- ---- causes
 
--- the walk of the call's dialogue ended after these bytes were heard, which were taken from the source
-abbrev pub HasHeard : Asked → Outside → Outside → ℕ → List ℕ → Way → Type 0
-HasHeard asked before after status bytes way =
-    ((text : List ℕ) × (cost : Cost) × WalksFrom before.files asked.device asked.probes (read_from asked) (Heard bytes way text cost))
-    × IsTaken before.left after.left before.source_faults after.source_faults status bytes way
+-- the walk of the call's dialogue ended in this refusal, which has this status: every input before was accepted; the name of a load
+-- that failed joined the failed ones, and no other name did
+pub record IsRefused (b : Board) (asked : Option Command) (before after : Outside) (status : ℕ) : Type 0 where
+  pub refusal : Refusal
+  pub walked : Walks before.files (dialogue_from b asked) (Refused refusal)
+  pub failed : after.failed ≡ failed_names before.failed (Refused refusal)
+  pub own : status ≡ status_of refusal
 
--- 3 comes only where a load failed or a file was too large, 4 only where an image had a fault for its first one, 5 only where a
--- PIO source had one or its first program found no room, 6 only where a script had one, 8 only where a take failed, 10 only where
--- the limit of the bytes was reached and no last line was complete
-pub record HasCause (asked : Asked) (before after : Outside) (status : ℕ) : Type 0 where
-  pub file : status ≡ 3 →
-      ((name : List ℕ) × IsRefused asked before after (Lost name))
-      ⊎ ((name : List ℕ) × (long : ℕ) × IsRefused asked before after (TooLarge name long))
-  pub image : status ≡ 4 → (fault : ImageFault) × IsRefused asked before after (BadImage fault)
-  pub source : status ≡ 5 → (fault : PioFault) × IsRefused asked before after (BadSource fault)
-  pub script : status ≡ 6 → (fault : ScriptFault) × IsRefused asked before after (BadScript fault)
-  pub broken : status ≡ 8 → (bytes : List ℕ) × HasHeard asked before after status bytes Broken
-  pub full : status ≡ 10 → (bytes : List ℕ) × HasHeard asked before after status bytes Full
+-- the walk of the call's dialogue ended after bytes were heard, which were taken from the source, in this way
+pub record HasHeard (b : Board) (asked : Option Command) (before after : Outside) (status : ℕ) (way : Way) : Type 0 where
+  pub bytes : List ℕ
+  pub reply : Reply
+  pub walked : Walks before.files (dialogue_from b asked) (Heard bytes way reply)
+  pub taken : IsTaken before.left after.left before.source_faults after.source_faults status bytes way
+
+-- a status that no text has, and neither a failed sink or source, want of memory, nor a full input
+pub record IsOfRefusal (status : ℕ) : Type 0 where
+  pub text : status ≡ 0 → ⊥
+  pub sink : status ≡ 7 → ⊥
+  pub source : status ≡ 8 → ⊥
+  pub memory : status ≡ 9 → ⊥
+  pub full : status ≡ 10 → ⊥
+
+-- 2 comes only where the words are refused, 7 only where the sink's count of faults rose, 8 only where a take failed, 10 only where
+-- the limit of the bytes was reached and no last line was complete; and every other status but 0 and 9 only of the words, the file
+-- or the input at which the walk ended, as the refusal's own
+pub record HasCause (b : Board) (asked : Option Command) (before after : Outside) (status : ℕ) : Type 0 where
+  pub words : status ≡ 2 → asked ≡ None
+  pub refused : IsOfRefusal status → IsRefused b asked before after status
+  pub sink : status ≡ 7 → Rose before.sink_faults after.sink_faults
+  pub source : status ≡ 8 → HasHeard b asked before after status Broken
+  pub full : status ≡ 10 → HasHeard b asked before after status Full
+
+-- ---- completeness
 
 -- the status is this one, or one that may come in place of any: the sink failed, or memory ran out
 abbrev pub IsStatus : ℕ → ℕ → Type 0
@@ -52,7 +65,74 @@ Fulfils before after status Says = IsStatus status 0
 Fulfils before after status (Hears limit last) =
     IfSome before.left (λ bytes. (Rose before.source_faults after.source_faults → ⊥) → IsStatus status (status_over limit last bytes))
 
--- where the shelf tells its files and no load failed, the status is that of the dialogue over these files
-abbrev pub IsComplete : Asked → Outside → Outside → ℕ → Type 0
-IsComplete asked before after status =
-    IfSome before.files (λ files. after.failed ≡ before.failed → Fulfils before after status (verdict_from files asked.device asked.probes (read_from asked)))
+-- where the words are refused, the status is 2; where the shelf tells its files and no load failed, it is that of the dialogue over
+-- these files
+pub record IsComplete (b : Board) (asked : Option Command) (before after : Outside) (status : ℕ) : Type 0 where
+  pub refused : asked ≡ None → IsStatus status 2
+  pub fulfils : IfSome before.files (λ files. after.failed ≡ before.failed → Fulfils before after status (verdict files (dialogue_from b asked)))
+
+-- ---- the whole text
+
+-- the line that says that memory ran out was written alone, with its status
+abbrev pub HasRunOut : Outside → Outside → ℕ → Type 0
+HasRunOut before after status = (status ≡ 9) × Appends before.written after.written memory_line
+
+-- the whole text was written, with status 0
+pub record HasSaid (b : Board) (asked : Option Command) (before after : Outside) (status : ℕ) : Type 0 where
+  pub reply : Reply
+  pub walked : Walks before.files (dialogue_from b asked) (Said reply)
+  pub zero : status ≡ 0
+  pub written : Appends before.written after.written reply.text
+
+-- the answers to all that was heard were written, with status 0: up to a last line, or to the end of the input
+pub record HasAnswered (b : Board) (asked : Option Command) (before after : Outside) (status : ℕ) : Type 0 where
+  pub bytes : List ℕ
+  pub way : Way
+  pub reply : Reply
+  pub walked : Walks before.files (dialogue_from b asked) (Heard bytes way reply)
+  pub whole : (way ≡ Closed) ⊎ (way ≡ Ended)
+  pub taken : Consumes before.left after.left bytes
+  pub zero : status ≡ 0
+  pub written : Appends before.written after.written reply.text
+
+-- the shelf tells its files, no load failed, and the sink's count did not rise
+pub record DoesNotFail (files : Files) (before after : Outside) : Type 0 where
+  pub told : before.files ≡ Some files
+  pub loaded : after.failed ≡ before.failed
+  pub put : Rose before.sink_faults after.sink_faults → ⊥
+
+-- ---- the laws, of every call
+
+-- every status has its cause
+abbrev pub Causes : Type 0
+Causes =
+    (b : Board) (asked : Option Command) (before after : Outside) (status : ℕ)
+    → ConversesFor b asked before after status → HasCause b asked before after status
+
+-- the status of what is told is its own
+abbrev pub Completes : Type 0
+Completes =
+    (b : Board) (asked : Option Command) (before after : Outside) (status : ℕ)
+    → ConversesFor b asked before after status → IsComplete b asked before after status
+
+-- words and files that are accepted are answered with the whole text, where the outside does not fail, or memory runs out
+abbrev pub SaysAll : Type 0
+SaysAll =
+    (b : Board) (asked : Option Command) (before after : Outside) (status : ℕ) (files : Files)
+    → ConversesFor b asked before after status
+    → DoesNotFail files before after
+    → verdict files (dialogue_from b asked) ≡ Says
+    → HasSaid b asked before after status ⊎ HasRunOut before after status
+
+-- lines that are heard to their end are all answered, where the outside does not fail, or memory runs out
+abbrev pub AnswersAll : Type 0
+AnswersAll =
+    (b : Board) (asked : Option Command) (before after : Outside) (status : ℕ) (files : Files)
+    (limit : ℕ) (last : List ℕ → Bool) (bytes : List ℕ)
+    → ConversesFor b asked before after status
+    → DoesNotFail files before after
+    → verdict files (dialogue_from b asked) ≡ Hears limit last
+    → before.left ≡ Some bytes
+    → (Rose before.source_faults after.source_faults → ⊥)
+    → status_over limit last bytes ≡ 0
+    → HasAnswered b asked before after status ⊎ HasRunOut before after status

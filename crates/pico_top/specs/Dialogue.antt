@@ -1,6 +1,6 @@
 -- What a call does for its words: it loads files and judges each, one after another, and says a text, or hears lines and answers
 -- them. The project's own.
-use Rattle.std.specs.Prelude.{ℕ, Bool, List, [], ◌∷◌, ◌++◌, Option, None, Some, Result}
+use Rattle.std.specs.Prelude.{ℕ, Bool, List, [], ◌∷◌, ◌++◌, Option, None, Some, Result, Ok, Err}
 use Rattle.lane_look.specs.Device.{DeviceMeaning}
 use Rattle.board_parts.specs.Probe.{ProbeMeaning}
 use Rattle.board_parts.specs.Hearing.{Aim}
@@ -9,11 +9,8 @@ use Rattle.board_parts.specs.declared.target.Target.{Target}
 use Rattle.uf2_image.specs.Code.{image_of_number}
 use Rattle.uf2_image.specs.Uf2.{image_of}
 use Rattle.uf2_image.specs.declared.parts.Image.{Image}
-use Rattle.uf2_image.specs.declared.fault.ImageFault.{ImageFault}
 use Rattle.pin_script.specs.Script.{script_of}
 use Rattle.pin_script.specs.declared.entry.Entry.{Entry as ScriptEntry}
-use Rattle.pin_script.specs.declared.fault.ScriptFault.{ScriptFault}
-use Rattle.pio_parse.specs.declared.fault.PioFault.{PioFault}
 use Rattle.pio_asm.specs.Assembly.{Plan}
 use Rattle.pio_asm.specs.declared.program.Program.{Program}
 use Rattle.pio_disasm.specs.Text.{source_text}
@@ -22,10 +19,13 @@ use Rattle.outer_lane.specs.Setting.{Setting, setting_of}
 use Rattle.rp_machine.specs.State.{State}
 use Rattle.rp_machine.specs.Boot.{start}
 use Rattle.command_words.specs.Entries.{Entry}
+use Rattle.command_words.specs.Refusals.{Refusal}
+use Rattle.command_words.specs.Refusals.Refusal.{BadWords, BadImage, BadScript, BadSource}
 use Rattle.command_words.specs.Words.{Run, Command}
 use Rattle.command_words.specs.Words.Command.{RunImage, DebugImage, Disassemble, Assemble, Generate}
 use Rattle.reverse_debug.specs.Talk.{text_from, cost_from}
 use Rattle.reverse_debug.specs.Debugger.{quits, talk_of}
+use Rattle.pico_top.specs.Call.{Board}
 use Rattle.pico_top.specs.Loads.{Placed, placed_as, offset_of, loads_of, plans_in}
 use Rattle.pico_top.specs.RunText.{run_text, run_cycles}
 
@@ -35,28 +35,36 @@ pub data Cost : Type 0 where
   AtMost : (cycles : ℕ) → Cost
 
 -- a text and its cost
-pub record Told : Type 0 where
+pub record Reply : Type 0 where
   pub text : List ℕ
   pub cost : Cost
 
 -- Load: the file of this name is loaded, if it has at most so many bytes, and what is next goes on with its bytes.
--- JudgeImage, JudgeScript, JudgeSource, JudgeOffset: what is next goes on with the image, the script, the programs or the offset of
--- a program; where there is a fault instead, the dialogue ends with it.
--- SayWords: a text of programs is said, each with the words that stand with its lines.
--- Say: a text is said.
+-- Refuse: the dialogue ends with this refusal.
+-- Say: a text is said, which goes with some words of these programs (where it goes with no program, there are none).
 -- Hear: at most so many bytes are taken from the input, up to the first complete line that is a last one, and the lines before it
--- are answered.
--- HearWords: the same where what is told of the lines goes with programs, each with the words that stand with its lines.
+-- are answered; the answers go with some words of these programs.
 pub data Dialogue : Type 0 where
   Load : (name : List ℕ) → (limit : ℕ) → (next : List ℕ → Dialogue) → Dialogue
-  JudgeImage : (verdict : Result Image ImageFault) → (next : Image → Dialogue) → Dialogue
-  JudgeScript : (verdict : Result (List ScriptEntry) ScriptFault) → (next : List ScriptEntry → Dialogue) → Dialogue
-  JudgeSource : (verdict : Result (List Plan) PioFault) → (next : List Plan → Dialogue) → Dialogue
-  JudgeOffset : (verdict : Result ℕ PioFault) → (next : ℕ → Dialogue) → Dialogue
-  SayWords : (plans : List Plan) → (text : List Program → List ℕ) → (cost : List Program → Cost) → Dialogue
-  Say : (text : List ℕ) → (cost : Cost) → Dialogue
-  Hear : (limit : ℕ) → (last : List ℕ → Bool) → (told : List (List ℕ) → Told) → Dialogue
-  HearWords : (plans : List Plan) → (limit : ℕ) → (last : List ℕ → Bool) → (told : List Program → List (List ℕ) → Told) → Dialogue
+  Refuse : (refusal : Refusal) → Dialogue
+  Say : (plans : List Plan) → (reply : List Program → Reply) → Dialogue
+  Hear : (plans : List Plan) → (limit : ℕ) → (last : List ℕ → Bool) → (answers : List Program → List (List ℕ) → Reply) → Dialogue
+
+-- a text that goes with no program, and answers that go with none
+abbrev pub say : Reply → Dialogue
+say reply = Say [] (λ programs. reply)
+
+abbrev pub hear : ℕ → (List ℕ → Bool) → (List (List ℕ) → Reply) → Dialogue
+hear limit last answers = Hear [] limit last (λ programs. answers)
+
+-- what is judged leads on, or its fault is refused
+abbrev pub judge : {A F : Type 0} → Result A F → (F → Refusal) → (A → Dialogue) → Dialogue
+judge (Ok a) refused next = next a
+judge (Err fault) refused next = Refuse (refused fault)
+
+-- a text that costs no cycle
+abbrev pub plain : List ℕ → Reply
+plain text = record { text = text; cost = Exactly 0 }
 
 -- ---- the inputs
 
@@ -74,22 +82,22 @@ source_limit = 1048576
 
 -- an image file, and the image in it
 abbrev pub with_image : List ℕ → (Image → Dialogue) → Dialogue
-with_image name next = Load name image_limit (λ bytes. JudgeImage (image_of bytes) next)
+with_image name next = Load name image_limit (λ bytes. judge (image_of bytes) BadImage next)
 
 -- a script file, and the script in it; without one the script is that of an empty file
 abbrev pub with_script : Option (List ℕ) → (List ScriptEntry → Dialogue) → Dialogue
-with_script None next = JudgeScript (script_of []) next
-with_script (Some name) next = Load name script_limit (λ bytes. JudgeScript (script_of bytes) next)
+with_script None next = judge (script_of []) BadScript next
+with_script (Some name) next = Load name script_limit (λ bytes. judge (script_of bytes) BadScript next)
 
 -- a PIO source file, and the programs in it
 abbrev pub with_source : List ℕ → (List Plan → Dialogue) → Dialogue
-with_source name next = Load name source_limit (λ bytes. JudgeSource (plans_of bytes) next)
+with_source name next = Load name source_limit (λ bytes. judge (plans_of bytes) BadSource next)
 
 -- the first of some programs is placed behind others
 abbrev pub with_first : Entry → List Placed → (List Placed → Dialogue) → List Plan → Dialogue
 with_first entry others next [] = next others
 with_first entry others next (plan ∷ plans) =
-    JudgeOffset (offset_of entry others plan) (λ offset. next (others ++ placed_as entry plan offset ∷ []))
+    judge (offset_of entry others plan) BadSource (λ offset. next (others ++ placed_as entry plan offset ∷ []))
 
 -- the program of an entry: its file, its source, its offset
 abbrev pub with_program : Entry → List Placed → (List Placed → Dialogue) → Dialogue
@@ -102,24 +110,26 @@ with_programs (entry ∷ entries) placed next = with_program entry placed (λ mo
 
 -- ---- the dialogue of each command
 
--- the text of a run that these probes hear, whose cycles are counted; the counts of its windows stand in it where they are asked for
+-- the text of the run from a state, which these probes hear; the counts of its windows stand in it where they are asked for
+abbrev pub run_reply : Bool → List Aim → Setting → State → Reply
+run_reply stats aims w s = record { text = run_text stats w aims s; cost = Exactly (run_cycles w s) }
+
 abbrev pub say_run : Bool → List Aim → Setting → Image → List Placed → Dialogue
-say_run stats aims w image placed = SayWords (plans_in placed)
-    (λ programs. run_text stats w aims (start w.device image (loads_of placed programs)))
-    (λ programs. Exactly (run_cycles w (start w.device image (loads_of placed programs))))
+say_run stats aims w image placed =
+    Say (plans_in placed) (λ programs. run_reply stats aims w (start w.device image (loads_of placed programs)))
 
 -- an input has at most 1 MiB up to its last line
 abbrev pub input_limit : ℕ
 input_limit = 1048576
 
 -- what a session that begins in this state answers to lines; the cycles that it steps are counted
-abbrev pub session_told : Setting → State → List (List ℕ) → Told
-session_told w first lines = let t = talk_of w first in record { text = text_from t 0 lines; cost = AtMost (cost_from t 0 lines) }
+abbrev pub session_reply : Setting → State → List (List ℕ) → Reply
+session_reply w first lines = let t = talk_of w first in record { text = text_from t 0 lines; cost = AtMost (cost_from t 0 lines) }
 
 -- the debugger hears lines at the first state of a run
 abbrev pub hear_run : Setting → Image → List Placed → Dialogue
-hear_run w image placed = HearWords (plans_in placed) input_limit quits
-    (λ programs. session_told w (start w.device image (loads_of placed programs)))
+hear_run w image placed =
+    Hear (plans_in placed) input_limit quits (λ programs. session_reply w (start w.device image (loads_of placed programs)))
 
 -- what is done with a run: its text, or its debugger
 abbrev pub Use : Type 0
@@ -151,6 +161,11 @@ aims_in probes command = aims_of probes (targets_in command)
 abbrev pub dialogue_of : DeviceMeaning → List Aim → Command → Dialogue
 dialogue_of device aims (RunImage run) = with_image run.image (behind_image (say_run run.stats aims) device run)
 dialogue_of device aims (DebugImage run) = with_image run.image (behind_image hear_run device run)
-dialogue_of device aims (Disassemble words side) = Say (source_text side words) (Exactly 0)
-dialogue_of device aims (Assemble name) = with_source name (λ plans. SayWords plans listing (λ programs. Exactly 0))
+dialogue_of device aims (Disassemble words side) = say (plain (source_text side words))
+dialogue_of device aims (Assemble name) = with_source name (λ plans. Say plans (λ programs. plain (listing programs)))
 dialogue_of device aims (Generate number cycles workers stats) = say_run stats aims (setting_of [] device cycles) (image_of_number number) []
+
+-- the dialogue of what words ask for, or their refusal
+abbrev pub dialogue_from : Board → Option Command → Dialogue
+dialogue_from b None = Refuse BadWords
+dialogue_from b (Some command) = dialogue_of b.device (aims_in b.probes command) command

@@ -4,16 +4,15 @@ use Rattle.std.specs.Global.{Global}
 use Rattle.rp_ports.specs.Shelf.{Files, Answers}
 use Rattle.rp_ports.specs.declared.shelf.Loaded.TheVariants.{Done}
 use Rattle.command_words.specs.Words.{Command}
-use Rattle.command_words.specs.declared.refusal.Refusal.TheVariants.{Words, File, Large, Image as BadImage, Script, Source}
 use Rattle.command_words.specs.Meant.{meant}
-use Rattle.command_words.specs.Refusals.{line_of, status_of}
+use Rattle.command_words.specs.Refusals.{Refusal, line_of, status_of}
+use Rattle.command_words.specs.Refusals.Refusal.{BadSource}
 use Rattle.pico_top.specs.Answer.{Puts, RunsOut, Takes, Ends, Counts}
 use Rattle.lane_look.specs.Device.{DeviceMeaning}
 use Rattle.board_parts.specs.Hearing.{Aim}
 use Rattle.outer_lane.specs.Setting.{Setting, setting_of}
 use Rattle.rp_machine.specs.declared.load.PioLoad.{PioLoad}
 use Rattle.pio_asm.specs.Placing.{with_addresses}
-use Rattle.pin_script.specs.Script.{script_of}
 use Rattle.pin_script.specs.declared.entry.Entry.{Entry as ScriptEntry}
 use Rattle.rp_machine.specs.Boot.{AreLoads}
 use Rattle.command_words.specs.Entries.{Entry}
@@ -27,14 +26,12 @@ use Rattle.pico_top.specs.declared.open.Opened.{Opened}
 use Rattle.pico_top.specs.declared.open.Opened.TheVariants.{Machine, Session, Text}
 use Rattle.pico_top.specs.declared.open.Unopened.{Unopened}
 use Rattle.pico_top.specs.declared.open.Unopened.TheVariants.{Refusing, Memory}
-use Rattle.pico_top.specs.RunText.{run_text, run_cycles}
 use Rattle.pio_asm.specs.Assembly.{Plan, IsProgram}
 use Rattle.pio_asm.specs.Listing.{plans_of}
 use Rattle.reverse_debug.specs.Debugger.{quits}
 use Rattle.pico_top.specs.Loads.{Placed, placed_as, offset_of}
-use Rattle.pico_top.specs.Dialogue.{Use, Dialogue, dialogue_of, say_run, hear_run, input_limit, session_told, with_first, with_program, with_programs}
-use Rattle.pico_top.specs.Dialogue.Dialogue.{Load, JudgeSource, JudgeOffset, Say, Hear}
-use Rattle.pico_top.specs.Dialogue.Cost.{Exactly}
+use Rattle.pico_top.specs.Dialogue.{Use, Dialogue, judge, say, hear, plain, dialogue_of, run_reply, say_run, hear_run, input_limit, session_reply, with_first, with_program, with_programs}
+use Rattle.pico_top.specs.Dialogue.Dialogue.{Load}
 use Rattle.pico_top.specs.Walk.{Ending, Walks, failed_names}
 use Rattle.pico_top.specs.Walk.Ending.{Said, Heard, Refused, NoMemory}
 
@@ -47,11 +44,10 @@ setting_by device debugging = setting_of debugging.script device debugging.limit
 
 -- what is left of the dialogue when this is opened
 abbrev pub opened_dialogue : DeviceMeaning → List Aim → Opened → Dialogue
-opened_dialogue device aims (Machine started) =
-    Say (run_text started.stats (setting_in device started) aims started.machine) (Exactly (run_cycles (setting_in device started) started.machine))
+opened_dialogue device aims (Machine started) = say (run_reply started.stats aims (setting_in device started) started.machine)
 opened_dialogue device aims (Session debugging) =
-    Hear input_limit quits (session_told (setting_by device debugging) (first_of debugging.session))
-opened_dialogue device aims (Text text) = Say text.items (Exactly 0)
+    hear input_limit quits (session_reply (setting_by device debugging) (first_of debugging.session))
+opened_dialogue device aims (Text text) = say (plain text.items)
 
 -- a machine has not passed its limit; and a session was opened at its first state
 abbrev pub IsReady : Opened → Type 0
@@ -61,10 +57,9 @@ IsReady (Text text) = Unit {0}
 
 -- nothing is said or heard
 abbrev pub IsShort : Ending → Type 0
-IsShort (Said text cost) = ⊥
-IsShort (Heard bytes way text cost) = ⊥
-IsShort (Refused refusal) = Unit {0}
-IsShort NoMemory = Unit {0}
+IsShort (Said reply) = ⊥
+IsShort (Heard bytes way reply) = ⊥
+IsShort _ = Unit {0}
 
 -- the ending of a walk that opened nothing; memory may run out in place of a refusal
 abbrev pub EndsAs : Unopened → Ending → Type 0
@@ -97,16 +92,11 @@ Passes {X} files failed failed' part (Ok x) =
     (failed' ≡ failed) × ((next : X → Dialogue) (e : Ending) → Walks files (next x) e → Walks files (part next) e)
 Passes {X} files failed failed' part (Err unopened) = (next : X → Dialogue) → EndsUnopened files failed failed' (part next) unopened
 
--- the bytes' script, or its first fault
-abbrev pub ReadsScript : List ℕ → Result (List ScriptEntry) Unopened → Type 0
-ReadsScript bytes (Ok script) = script_of bytes ≡ Ok script
-ReadsScript bytes (Err (Refusing (Script fault))) = script_of bytes ≡ Err fault
-ReadsScript bytes (Err (Refusing Words)) = ⊥
-ReadsScript bytes (Err (Refusing (File name))) = ⊥
-ReadsScript bytes (Err (Refusing (Large name long))) = ⊥
-ReadsScript bytes (Err (Refusing (BadImage fault))) = ⊥
-ReadsScript bytes (Err (Refusing (Source fault))) = ⊥
-ReadsScript bytes (Err Memory) = Unit {0}
+-- what comes of judging: what is judged, the refusal of its fault, or want of memory
+abbrev pub Judges : {A F : Type 0} → Result A F → (F → Refusal) → Result A Unopened → Type 0
+Judges {A} {F} verdict refused (Ok a) = verdict ≡ Ok a
+Judges {A} {F} verdict refused (Err (Refusing refusal)) = (fault : F) × (verdict ≡ Err fault) × (meant refusal ≡ refused fault)
+Judges {A} {F} verdict refused (Err Memory) = Unit {0}
 
 -- a machine in its first state for a run, or a session there for the debugger, or memory ran out
 abbrev pub Boots : Purpose → State → List ScriptEntry → ℕ → Result Opened Unopened → Type 0
@@ -154,7 +144,7 @@ LeadsOn files loads part =
 
 -- the placing of a plan behind others
 abbrev pub offset_part : Entry → List Placed → Plan → (List Placed → Dialogue) → Dialogue
-offset_part entry before plan next = JudgeOffset (offset_of entry before plan) (λ offset. next (before ++ placed_as entry plan offset ∷ []))
+offset_part entry before plan next = judge (offset_of entry before plan) BadSource (λ offset. next (before ++ placed_as entry plan offset ∷ []))
 
 abbrev pub AddsAt : Entry → List Placed → Plan → List PioLoad → Result (Unit {0}) Unopened → Type 0
 AddsAt entry before plan loads (Ok done) = (files : Option Files) → LeadsOn files loads (offset_part entry before plan)
@@ -163,7 +153,7 @@ AddsAt entry before plan loads (Err unopened) =
 
 -- the judging of a source, and the placing of its first program
 abbrev pub source_part : Entry → List Placed → List ℕ → (List Placed → Dialogue) → Dialogue
-source_part entry before bytes next = JudgeSource (plans_of bytes) (with_first entry before next)
+source_part entry before bytes next = judge (plans_of bytes) BadSource (with_first entry before next)
 
 abbrev pub AddsBehind : Entry → List Placed → List ℕ → List PioLoad → Result (Unit {0}) Unopened → Type 0
 AddsBehind entry before bytes loads (Ok done) = (files : Option Files) → LeadsOn files loads (source_part entry before bytes)
@@ -186,24 +176,22 @@ LoadsAll files failed failed' entries (Err unopened) =
     (next : List Placed → Dialogue) → EndsUnopened files failed failed' (with_programs entries [] next) unopened
 
 -- the line of a refusal was put, or memory ran out
-abbrev pub Refuses : Option (List ℕ) → Option (List ℕ) → ℕ → ℕ → ℕ → Unopened → Type 0
-Refuses old new before now status (Refusing refusal) =
+abbrev pub PutsRefusal : Option (List ℕ) → Option (List ℕ) → ℕ → ℕ → ℕ → Unopened → Type 0
+PutsRefusal old new before now status (Refusing refusal) =
     Puts old new before now status (status_of (meant refusal)) (line_of (meant refusal)) ⊎ RunsOut old new before now status
-Refuses old new before now status Memory = RunsOut old new before now status
+PutsRefusal old new before now status Memory = RunsOut old new before now status
 
 -- no input is refused
-abbrev pub IsTold : Ending → Type 0
-IsTold (Said text cost) = Unit {0}
-IsTold (Heard bytes way text cost) = Unit {0}
-IsTold (Refused refusal) = ⊥
-IsTold NoMemory = Unit {0}
+abbrev pub RefusesNothing : Ending → Type 0
+RefusesNothing (Refused refusal) = ⊥
+RefusesNothing _ = Unit {0}
 
 -- what is left of a dialogue was told, or memory ran out before: a walk of it ended so, whatever the files, and what was taken,
 -- written and counted goes with that ending
-pub record Tells (d : Dialogue) (left left' : Option (List ℕ)) (lost lost' : ℕ) (old new : Option (List ℕ)) (before now : ℕ) (steps steps' : ℕ) (status : ℕ) : Type 0 where
+pub record Concludes (d : Dialogue) (left left' : Option (List ℕ)) (lost lost' : ℕ) (old new : Option (List ℕ)) (before now : ℕ) (steps steps' : ℕ) (status : ℕ) : Type 0 where
   pub ending : Ending
   pub walked : (files : Option Files) → Walks files d ending
-  pub told : IsTold ending
+  pub accepted : RefusesNothing ending
   pub takes : Takes left left' lost lost' status ending
   pub ends : Ends old new before now status ending
   pub counted : Counts ending status steps steps'

@@ -1,26 +1,23 @@
 -- The walks of a dialogue over a shelf of files, and where they end. The project's own.
-use Rattle.std.specs.Prelude.{◌≡◌, ◌⊎◌, ℕ, ◌≤◌, nat_le, Bool, not, ◌&&◌, if◌then◌else◌, List, ◌++◌, length, take, Option, Some, None, Ok, Err}
-use Rattle.lane_look.specs.Device.{DeviceMeaning}
-use Rattle.board_parts.specs.Probe.{ProbeMeaning}
+use Rattle.std.specs.Prelude.{◌≡◌, ◌⊎◌, ℕ, ◌≤◌, nat_le, Bool, not, ◌&&◌, if◌then◌else◌, List, ◌++◌, length, take, Option, Some, None}
 use Rattle.rp_ports.specs.Shelf.{Files, Answers, failed_after}
 use Rattle.rp_ports.specs.declared.shelf.Loaded.{Loaded}
 use Rattle.rp_ports.specs.declared.shelf.Loaded.TheVariants.{Done, Large, Failed, Memory}
 use Rattle.pio_asm.specs.Assembly.{ArePrograms}
 use Rattle.pio_asm.specs.declared.program.Program.{Program}
-use Rattle.command_words.specs.Words.{Command}
 use Rattle.command_words.specs.Refusals.{Refusal}
-use Rattle.command_words.specs.Refusals.Refusal.{BadWords, Lost, TooLarge, BadImage, BadScript, BadSource}
+use Rattle.command_words.specs.Refusals.Refusal.{Lost, TooLarge}
 use Rattle.reverse_debug.specs.Lines.{closes}
 use Rattle.reverse_debug.specs.declared.way.Way.{Way}
 use Rattle.reverse_debug.specs.Hear.{MayEnd, lines_heard, way_line}
-use Rattle.pico_top.specs.Dialogue.{Cost, Told, Dialogue, aims_in, dialogue_of}
-use Rattle.pico_top.specs.Dialogue.Dialogue.{Load, JudgeImage, JudgeScript, JudgeSource, JudgeOffset, SayWords, Say, Hear, HearWords}
+use Rattle.pico_top.specs.Dialogue.{Reply, Dialogue}
+use Rattle.pico_top.specs.Dialogue.Dialogue.{Load, Refuse, Say, Hear}
 
 -- how a walk ends: its text was said, these bytes were heard up to an end and this was told, an input was refused with every
 -- input before it accepted, or memory ran out
 pub data Ending : Type 0 where
-  Said : (text : List ℕ) → (cost : Cost) → Ending
-  Heard : (bytes : List ℕ) → (way : Way) → (text : List ℕ) → (cost : Cost) → Ending
+  Said : (reply : Reply) → Ending
+  Heard : (bytes : List ℕ) → (way : Way) → (reply : Reply) → Ending
   Refused : (refusal : Refusal) → Ending
   NoMemory : Ending
 
@@ -32,54 +29,32 @@ AfterLoad Failed name e on = e ≡ Refused (Lost name)
 AfterLoad Memory name e on = e ≡ NoMemory
 
 -- the answers to the lines that were heard, and the line of the way
-abbrev pub heard_as : (List ℕ → Bool) → (List (List ℕ) → Told) → List ℕ → Way → Ending
-heard_as last told bytes way =
-    let t = told (lines_heard last way bytes) in Heard bytes way (t.text ++ way_line way) t.cost
+abbrev pub heard_as : (List ℕ → Bool) → (List (List ℕ) → Reply) → List ℕ → Way → Reply
+heard_as last answers bytes way =
+    let r = answers (lines_heard last way bytes) in record { text = r.text ++ way_line way; cost = r.cost }
 
 -- so many bytes were heard, up to an end
-abbrev pub IsHeard : ℕ → (List ℕ → Bool) → (List (List ℕ) → Told) → Ending → Type 0
-IsHeard limit last told e =
+abbrev pub IsHeard : ℕ → (List ℕ → Bool) → (List (List ℕ) → Reply) → Ending → Type 0
+IsHeard limit last answers e =
     (bytes : List ℕ) × (way : Way) × (length bytes ≤ limit) × MayEnd limit (closes last bytes) (length bytes) way
-    × (e ≡ heard_as last told bytes way)
+    × (e ≡ Heard bytes way (heard_as last answers bytes way))
 
 -- A walk of the dialogue ends so: each load was answered by the shelf, each input was accepted or was the last one, and each
 -- program has the words that stand with its lines. Memory may run out at every step, and nothing is said then.
 abbrev pub Walks : Option Files → Dialogue → Ending → Type 0
 Walks files (Load name limit next) e =
     (answer : Loaded) × (bytes : List ℕ) × Answers files name limit answer bytes × AfterLoad answer name e (Walks files (next bytes) e)
-Walks files (JudgeImage (Ok image) next) e = Walks files (next image) e ⊎ (e ≡ NoMemory)
-Walks files (JudgeImage (Err fault) next) e = (e ≡ Refused (BadImage fault)) ⊎ (e ≡ NoMemory)
-Walks files (JudgeScript (Ok script) next) e = Walks files (next script) e ⊎ (e ≡ NoMemory)
-Walks files (JudgeScript (Err fault) next) e = (e ≡ Refused (BadScript fault)) ⊎ (e ≡ NoMemory)
-Walks files (JudgeSource (Ok plans) next) e = Walks files (next plans) e ⊎ (e ≡ NoMemory)
-Walks files (JudgeSource (Err fault) next) e = (e ≡ Refused (BadSource fault)) ⊎ (e ≡ NoMemory)
-Walks files (JudgeOffset (Ok offset) next) e = Walks files (next offset) e ⊎ (e ≡ NoMemory)
-Walks files (JudgeOffset (Err fault) next) e = (e ≡ Refused (BadSource fault)) ⊎ (e ≡ NoMemory)
-Walks files (SayWords plans text cost) e =
-    ((programs : List Program) × ArePrograms plans programs × (e ≡ Said (text programs) (cost programs))) ⊎ (e ≡ NoMemory)
-Walks files (Say text cost) e = (e ≡ Said text cost) ⊎ (e ≡ NoMemory)
-Walks files (Hear limit last told) e = IsHeard limit last told e ⊎ (e ≡ NoMemory)
-Walks files (HearWords plans limit last told) e =
-    ((programs : List Program) × ArePrograms plans programs × IsHeard limit last (told programs) e) ⊎ (e ≡ NoMemory)
-
--- a walk from the reading of the words, which are refused where they have none
-abbrev pub WalksFrom : Option Files → DeviceMeaning → List ProbeMeaning → Option Command → Ending → Type 0
-WalksFrom files device probes None e = e ≡ Refused BadWords
-WalksFrom files device probes (Some command) e = Walks files (dialogue_of device (aims_in probes command) command) e
+Walks files (Refuse refusal) e = (e ≡ Refused refusal) ⊎ (e ≡ NoMemory)
+Walks files (Say plans reply) e = ((programs : List Program) × ArePrograms plans programs × (e ≡ Said (reply programs))) ⊎ (e ≡ NoMemory)
+Walks files (Hear plans limit last answers) e =
+    ((programs : List Program) × ArePrograms plans programs × IsHeard limit last (answers programs) e) ⊎ (e ≡ NoMemory)
 
 -- the failed names of the shelf after a walk: one more where a load failed
 abbrev pub failed_names : List (List ℕ) → Ending → List (List ℕ)
-failed_names failed (Said text cost) = failed
-failed_names failed (Heard bytes way text cost) = failed
-failed_names failed (Refused BadWords) = failed
 failed_names failed (Refused (Lost name)) = failed_after failed name Failed
-failed_names failed (Refused (TooLarge name long)) = failed
-failed_names failed (Refused (BadImage fault)) = failed
-failed_names failed (Refused (BadScript fault)) = failed
-failed_names failed (Refused (BadSource fault)) = failed
-failed_names failed NoMemory = failed
+failed_names failed _ = failed
 
--- ---- the walk over files that are told
+-- ---- the walk over files that the shelf tells
 
 -- where a dialogue leads: to a refusal, to a text, or to the hearing of an input
 pub data Verdict : Type 0 where
@@ -95,22 +70,9 @@ on_held (Some bytes) name limit next = if nat_le (length bytes) limit then next 
 -- the verdict of a dialogue over these files: its first refusal, or none where every input is accepted
 abbrev pub verdict : Files → Dialogue → Verdict
 verdict files (Load name limit next) = on_held (files name) name limit (λ bytes. verdict files (next bytes))
-verdict files (JudgeImage (Ok image) next) = verdict files (next image)
-verdict files (JudgeImage (Err fault) next) = Refuses (BadImage fault)
-verdict files (JudgeScript (Ok script) next) = verdict files (next script)
-verdict files (JudgeScript (Err fault) next) = Refuses (BadScript fault)
-verdict files (JudgeSource (Ok plans) next) = verdict files (next plans)
-verdict files (JudgeSource (Err fault) next) = Refuses (BadSource fault)
-verdict files (JudgeOffset (Ok offset) next) = verdict files (next offset)
-verdict files (JudgeOffset (Err fault) next) = Refuses (BadSource fault)
-verdict files (SayWords plans text cost) = Says
-verdict files (Say text cost) = Says
-verdict files (Hear limit last told) = Hears limit last
-verdict files (HearWords plans limit last told) = Hears limit last
-
-abbrev pub verdict_from : Files → DeviceMeaning → List ProbeMeaning → Option Command → Verdict
-verdict_from files device probes None = Refuses BadWords
-verdict_from files device probes (Some command) = verdict files (dialogue_of device (aims_in probes command) command)
+verdict files (Refuse refusal) = Refuses refusal
+verdict files (Say plans reply) = Says
+verdict files (Hear plans limit last answers) = Hears limit last
 
 -- the status of hearing these bytes: 10 where the limit is reached before a last line is complete
 abbrev pub status_over : ℕ → (List ℕ → Bool) → List ℕ → ℕ

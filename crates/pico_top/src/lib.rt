@@ -2,6 +2,7 @@
 //! written.
 #![tactic(auto)]
 
+pub mod laws;
 mod open;
 mod probes;
 mod programs;
@@ -10,15 +11,15 @@ mod send;
 mod tell;
 mod teller;
 
-ghost use Rattle.std.specs.Prelude.{◌≡◌, ◌≤◌, List, None, Some, length, map};
+ghost use Rattle.std.specs.Prelude.{◌≡◌, ◌≤◌, List, Some, length, map};
 ghost use Rattle.std.specs.String.{string_bytes};
-ghost use Rattle.rp_ports.specs.Fault.{Rose};
 ghost use Rattle.board_parts.specs.Probe.{ProbeMeaning};
 ghost use Rattle.board_parts.specs.Hearing.{aim_of, seen};
-ghost use Rattle.command_words.specs.Words.{reading, workers_of, IsLimited, IsRead};
+ghost use Rattle.command_words.specs.Words.{workers_of, IsLimited, IsRead};
 ghost use Rattle.command_words.specs.Read.{command_in};
 ghost use Rattle.pico_top.specs.Answer.{Converses, ConversesFor};
-ghost use Rattle.pico_top.specs.Causes.{HasCause, IsComplete, IsStatus};
+ghost use Rattle.pico_top.specs.Call.{asked_by, board, outside};
+ghost use Rattle.pico_top.specs.Causes.{HasCause, IsComplete};
 ghost use Rattle.pico_top.specs.Dialogue.{aims_in, targets_in};
 
 use board_parts::aimed::Aimed;
@@ -78,25 +79,9 @@ fn serve_aimed<F: Shelf, I: Source, O: Sink, X: Device, L: Ledger>(
         → seen aimed.old (λ a. aim_of a.index a.pin
         (⟦<dyn Probe as Probe>⟧ a.probe.vtable) a.probe.value)
         ≡ aims_in probes (command_in reading.now)
-        → ConversesFor (X.meaning device.now) probes (Some (command_in reading.now))
-        record {
-          files = F.files files.old;
-          failed = F.failed files.old;
-          left = I.left input.old;
-          source_faults = I.faults input.old;
-          written = O.written out.old;
-          sink_faults = O.faults out.old;
-          steps = steps.old;
-        }
-        record {
-          files = F.files files.new;
-          failed = F.failed files.new;
-          left = I.left input.new;
-          source_faults = I.faults input.new;
-          written = O.written out.new;
-          sink_faults = O.faults out.new;
-          steps = steps.new;
-        }
+        → ConversesFor (board (X.meaning device.now) probes) (Some (command_in reading.now))
+        (outside ⟦<F as Shelf>⟧ ⟦<I as Source>⟧ ⟦<O as Sink>⟧ files.old input.old out.old steps.old)
+        (outside ⟦<F as Shelf>⟧ ⟦<I as Source>⟧ ⟦<O as Sink>⟧ files.new input.new out.new steps.new)
         result }
 {
     match open_reading(alloc, reading, files, device) {
@@ -132,30 +117,77 @@ where
         → seen aimed.old (λ a. aim_of a.index a.pin
         (⟦<dyn Probe as Probe>⟧ a.probe.vtable) a.probe.value)
         ≡ aims_in probes (command_in reading.now)
-        → ConversesFor (X.meaning device.now) probes (Some (command_in reading.now))
-        record {
-          files = F.files files.old;
-          failed = F.failed files.old;
-          left = I.left input.old;
-          source_faults = I.faults input.old;
-          written = O.written out.old;
-          sink_faults = O.faults out.old;
-          steps = steps.old;
-        }
-        record {
-          files = F.files files.new;
-          failed = F.failed files.new;
-          left = I.left input.new;
-          source_faults = I.faults input.new;
-          written = O.written out.new;
-          sink_faults = O.faults out.new;
-          steps = steps.new;
-        }
+        → ConversesFor (board (X.meaning device.now) probes) (Some (command_in reading.now))
+        (outside ⟦<F as Shelf>⟧ ⟦<I as Source>⟧ ⟦<O as Sink>⟧ files.old input.old out.old steps.old)
+        (outside ⟦<F as Shelf>⟧ ⟦<I as Source>⟧ ⟦<O as Sink>⟧ files.new input.new out.new steps.new)
         result }
 {
     match open_reading(alloc, reading, files, device) {
         Ok(opened) => tell_into_by(rt, alloc, workers, opened, aimed, device, input, out, steps),
         Err(unopened) => refuse(alloc, &unopened, out),
+    }
+}
+
+/// Aims the probes that a reading names, loads its files, and writes the text.
+fn serve<F: Shelf, I: Source, O: Sink, X: Device, L: Ledger>(
+    alloc: Global,
+    reading: &Reading,
+    files: &mut F,
+    input: &mut I,
+    out: &mut O,
+    probes: Vec<Box<dyn Probe>>,
+    device: &X,
+    steps: &mut Steps<L>,
+) -> u8
+    requires { IsLimited (command_in reading.now) }
+    ensures { ConversesFor (board (X.meaning device.now)
+        (map (λ p. (Probe-box p).meaning p.value) probes.items))
+        (Some (command_in reading.now))
+        (outside ⟦<F as Shelf>⟧ ⟦<I as Source>⟧ ⟦<O as Sink>⟧ files.old input.old out.old steps.old)
+        (outside ⟦<F as Shelf>⟧ ⟦<I as Source>⟧ ⟦<O as Sink>⟧ files.new input.new out.new steps.new)
+        result }
+{
+    match aim_all(alloc, probes, targets(reading)) {
+        Ok(mut aimed) => serve_aimed(alloc, reading, files, input, out, &mut aimed, device, steps),
+        Err(_) => refuse(alloc, &Unopened::Memory, out),
+    }
+}
+
+/// The same, where workers run the lanes of a run.
+fn serve_by<F, I, O, G, X, L, R>(
+    rt: &R,
+    alloc: Global,
+    workers: &Workers<'_, G>,
+    reading: &Reading,
+    files: &mut F,
+    input: &mut I,
+    out: &mut O,
+    probes: Vec<Box<dyn Probe>>,
+    device: &X,
+    steps: &mut Steps<L>,
+) -> u8
+where
+    F: Shelf,
+    I: Source,
+    O: Sink,
+    G: Gate,
+    X: Device,
+    L: Ledger,
+    R: Threads + Wait + Sync,
+    requires workers { workers.now.count ≤ 8 }
+    requires limited { IsLimited (command_in reading.now) }
+    ensures { ConversesFor (board (X.meaning device.now)
+        (map (λ p. (Probe-box p).meaning p.value) probes.items))
+        (Some (command_in reading.now))
+        (outside ⟦<F as Shelf>⟧ ⟦<I as Source>⟧ ⟦<O as Sink>⟧ files.old input.old out.old steps.old)
+        (outside ⟦<F as Shelf>⟧ ⟦<I as Source>⟧ ⟦<O as Sink>⟧ files.new input.new out.new steps.new)
+        result }
+{
+    match aim_all(alloc, probes, targets(reading)) {
+        Ok(mut aimed) => serve_aimed_by(
+            rt, alloc, workers, reading, files, input, out, &mut aimed, device, steps,
+        ),
+        Err(_) => refuse(alloc, &Unopened::Memory, out),
     }
 }
 
@@ -179,93 +211,36 @@ pub fn pico_alone<F: Shelf, I: Source, O: Sink, X: Device, L: Ledger>(
     // A walk of the reading's dialogue over the shelf ended, and its text was written whole with its status; or a part of it,
     // and the sink failed; or memory ran out, and the line that says so was written alone. The bytes that were heard were
     // taken from the source. So many steps were counted as that text costs.
-    ensures text { ConversesFor (X.meaning device)
-        (map (λ p. (⟦<dyn Probe as Probe>⟧ p.vtable).meaning p.value) probes.items)
+    ensures text { ConversesFor (board (X.meaning device)
+        (map (λ p. (Probe-box p).meaning p.value) probes.items))
         (Some (command_in reading.now))
-        record {
-          files = F.files files.old;
-          failed = F.failed files.old;
-          left = I.left input.old;
-          source_faults = I.faults input.old;
-          written = O.written out.old;
-          sink_faults = O.faults out.old;
-          steps = steps.old;
-        }
-        record {
-          files = F.files files.new;
-          failed = F.failed files.new;
-          left = I.left input.new;
-          source_faults = I.faults input.new;
-          written = O.written out.new;
-          sink_faults = O.faults out.new;
-          steps = steps.new;
-        }
+        (outside ⟦<F as Shelf>⟧ ⟦<I as Source>⟧ ⟦<O as Sink>⟧ files.old input.old out.old steps.old)
+        (outside ⟦<F as Shelf>⟧ ⟦<I as Source>⟧ ⟦<O as Sink>⟧ files.new input.new out.new steps.new)
         result }
-{
-    match aim_all(alloc, probes, targets(reading)) {
-        Ok(mut aimed) => serve_aimed(
-            alloc, reading, files, input, out, &mut aimed, &device, steps,
-        ),
-        Err(_) => refuse(alloc, &Unopened::Memory, out),
-    }
-}
 
-/// Aims the probes that a reading names, loads its files, and writes the text, where workers run the lanes of a run.
-fn serve_by<F, I, O, G, X, L, R>(
-    rt: &R,
-    alloc: Global,
-    workers: &Workers<'_, G>,
-    reading: &Reading,
-    files: &mut F,
-    input: &mut I,
-    out: &mut O,
-    probes: Vec<Box<dyn Probe>>,
-    device: &X,
-    steps: &mut Steps<L>,
-) -> u8
-where
-    F: Shelf,
-    I: Source,
-    O: Sink,
-    G: Gate,
-    X: Device,
-    L: Ledger,
-    R: Threads + Wait + Sync,
-    requires workers { workers.now.count ≤ 8 }
-    requires limited { IsLimited (command_in reading.now) }
-    ensures { ConversesFor (X.meaning device.now)
-        (map (λ p. (⟦<dyn Probe as Probe>⟧ p.vtable).meaning p.value) probes.items)
+    // Each status but 0 and 9 has its cause: the words, the file or the input that was refused, the sink or the source that failed,
+    // or the input that is too long.
+    ensures cause { HasCause (board (X.meaning device)
+        (map (λ p. (Probe-box p).meaning p.value) probes.items))
         (Some (command_in reading.now))
-        record {
-          files = F.files files.old;
-          failed = F.failed files.old;
-          left = I.left input.old;
-          source_faults = I.faults input.old;
-          written = O.written out.old;
-          sink_faults = O.faults out.old;
-          steps = steps.old;
-        }
-        record {
-          files = F.files files.new;
-          failed = F.failed files.new;
-          left = I.left input.new;
-          source_faults = I.faults input.new;
-          written = O.written out.new;
-          sink_faults = O.faults out.new;
-          steps = steps.new;
-        }
+        (outside ⟦<F as Shelf>⟧ ⟦<I as Source>⟧ ⟦<O as Sink>⟧ files.old input.old out.old steps.old)
+        (outside ⟦<F as Shelf>⟧ ⟦<I as Source>⟧ ⟦<O as Sink>⟧ files.new input.new out.new steps.new)
+        result }
+
+    // Refused words have status 2. Where the shelf tells its files and no load failed, the status is that of the dialogue over these
+    // files, and where it hears an input, over the bytes of the source, unless the sink failed or memory ran out.
+    ensures complete { IsComplete (board (X.meaning device)
+        (map (λ p. (Probe-box p).meaning p.value) probes.items))
+        (Some (command_in reading.now))
+        (outside ⟦<F as Shelf>⟧ ⟦<I as Source>⟧ ⟦<O as Sink>⟧ files.old input.old out.old steps.old)
+        (outside ⟦<F as Shelf>⟧ ⟦<I as Source>⟧ ⟦<O as Sink>⟧ files.new input.new out.new steps.new)
         result }
 {
-    match aim_all(alloc, probes, targets(reading)) {
-        Ok(mut aimed) => serve_aimed_by(
-            rt, alloc, workers, reading, files, input, out, &mut aimed, device, steps,
-        ),
-        Err(_) => refuse(alloc, &Unopened::Memory, out),
-    }
+    serve(alloc, reading, files, input, out, probes, &device, steps)
 }
 
 /// Does what a reading says, with as many workers as it names.
-fn serve<F, I, O, G, X, L, R>(
+fn serve_read<F, I, O, G, X, L, R>(
     rt: &R,
     alloc: Global,
     reading: &Reading,
@@ -286,27 +261,11 @@ where
     L: Ledger,
     R: Threads + Wait + Sync,
     requires { IsRead (length probes.items) (command_in reading.now) }
-    ensures { ConversesFor (X.meaning device)
-        (map (λ p. (⟦<dyn Probe as Probe>⟧ p.vtable).meaning p.value) probes.items)
+    ensures { ConversesFor (board (X.meaning device)
+        (map (λ p. (Probe-box p).meaning p.value) probes.items))
         (Some (command_in reading.now))
-        record {
-          files = F.files files.old;
-          failed = F.failed files.old;
-          left = I.left input.old;
-          source_faults = I.faults input.old;
-          written = O.written out.old;
-          sink_faults = O.faults out.old;
-          steps = steps.old;
-        }
-        record {
-          files = F.files files.new;
-          failed = F.failed files.new;
-          left = I.left input.new;
-          source_faults = I.faults input.new;
-          written = O.written out.new;
-          sink_faults = O.faults out.new;
-          steps = steps.new;
-        }
+        (outside ⟦<F as Shelf>⟧ ⟦<I as Source>⟧ ⟦<O as Sink>⟧ files.old input.old out.old steps.old)
+        (outside ⟦<F as Shelf>⟧ ⟦<I as Source>⟧ ⟦<O as Sink>⟧ files.new input.new out.new steps.new)
         result }
 {
     let count = count_of(reading);
@@ -340,33 +299,15 @@ where
     X: Device,
     L: Ledger,
     R: Threads + Wait + Sync,
-    ensures { Converses record {
-      words = map string_bytes words.now;
-      probes = map (λ p. (⟦<dyn Probe as Probe>⟧ p.vtable).meaning p.value) probes.items;
-      device = X.meaning device;
-    }
-        record {
-          files = F.files files.old;
-          failed = F.failed files.old;
-          left = I.left input.old;
-          source_faults = I.faults input.old;
-          written = O.written out.old;
-          sink_faults = O.faults out.old;
-          steps = steps.old;
-        }
-        record {
-          files = F.files files.new;
-          failed = F.failed files.new;
-          left = I.left input.new;
-          source_faults = I.faults input.new;
-          written = O.written out.new;
-          sink_faults = O.faults out.new;
-          steps = steps.new;
-        }
+    ensures { Converses (board (X.meaning device)
+        (map (λ p. (Probe-box p).meaning p.value) probes.items))
+        (map string_bytes words.now)
+        (outside ⟦<F as Shelf>⟧ ⟦<I as Source>⟧ ⟦<O as Sink>⟧ files.old input.old out.old steps.old)
+        (outside ⟦<F as Shelf>⟧ ⟦<I as Source>⟧ ⟦<O as Sink>⟧ files.new input.new out.new steps.new)
         result }
 {
     match read_words(alloc, words, probes.len()) {
-        Ok(reading) => serve(
+        Ok(reading) => serve_read(
             rt, alloc, &reading, files, input, out, gate, probes, device, steps,
         ),
         Err(WordsFault::Words) => refuse(alloc, &Unopened::Refusing(Refusal::Words), out),
@@ -412,91 +353,29 @@ where
     // A walk of the words' dialogue over the shelf ended, and its text was written whole with its status; or a part of it,
     // and the sink failed; or memory ran out, and the line that says so was written alone. The bytes that were heard were
     // taken from the source. So many steps were counted as that text costs.
-    ensures text { Converses record {
-      words = map string_bytes words.now;
-      probes = map (λ p. (⟦<dyn Probe as Probe>⟧ p.vtable).meaning p.value) probes.items;
-      device = X.meaning device;
-    }
-        record {
-          files = F.files files.old;
-          failed = F.failed files.old;
-          left = I.left input.old;
-          source_faults = I.faults input.old;
-          written = O.written out.old;
-          sink_faults = O.faults out.old;
-          steps = steps.old;
-        }
-        record {
-          files = F.files files.new;
-          failed = F.failed files.new;
-          left = I.left input.new;
-          source_faults = I.faults input.new;
-          written = O.written out.new;
-          sink_faults = O.faults out.new;
-          steps = steps.new;
-        }
+    ensures text { Converses (board (X.meaning device)
+        (map (λ p. (Probe-box p).meaning p.value) probes.items))
+        (map string_bytes words.now)
+        (outside ⟦<F as Shelf>⟧ ⟦<I as Source>⟧ ⟦<O as Sink>⟧ files.old input.old out.old steps.old)
+        (outside ⟦<F as Shelf>⟧ ⟦<I as Source>⟧ ⟦<O as Sink>⟧ files.new input.new out.new steps.new)
         result }
 
-    // Status 2 comes exactly where the words are refused.
-    ensures words { result ≡ 2 → reading (length probes.items) (map string_bytes words.now) ≡ None }
-    ensures refused { reading (length probes.items) (map string_bytes words.now) ≡ None
-        → IsStatus result 2 }
-
-    // Statuses 3 to 6 come only of the input at which the walk ended, 8 only where the source's count of faults rose, 10
-    // only where the limit of its bytes was reached.
-    ensures cause { HasCause record {
-      words = map string_bytes words.now;
-      probes = map (λ p. (⟦<dyn Probe as Probe>⟧ p.vtable).meaning p.value) probes.items;
-      device = X.meaning device;
-    }
-        record {
-          files = F.files files.old;
-          failed = F.failed files.old;
-          left = I.left input.old;
-          source_faults = I.faults input.old;
-          written = O.written out.old;
-          sink_faults = O.faults out.old;
-          steps = steps.old;
-        }
-        record {
-          files = F.files files.new;
-          failed = F.failed files.new;
-          left = I.left input.new;
-          source_faults = I.faults input.new;
-          written = O.written out.new;
-          sink_faults = O.faults out.new;
-          steps = steps.new;
-        }
+    // Each status but 0 and 9 has its cause: the words, the file or the input that was refused, the sink or the source that failed,
+    // or the input that is too long.
+    ensures cause { let b = board (X.meaning device)
+        (map (λ p. (Probe-box p).meaning p.value) probes.items)
+        in HasCause b (asked_by b (map string_bytes words.now))
+        (outside ⟦<F as Shelf>⟧ ⟦<I as Source>⟧ ⟦<O as Sink>⟧ files.old input.old out.old steps.old)
+        (outside ⟦<F as Shelf>⟧ ⟦<I as Source>⟧ ⟦<O as Sink>⟧ files.new input.new out.new steps.new)
         result }
 
-    // Status 7 comes only where the sink's count of faults rose.
-    ensures sink { result ≡ 7 → Rose (O.faults out.old) (O.faults out.new) }
-
-    // Where the shelf tells its files and no load failed, the status is that of the dialogue over these files, and where it
-    // hears an input, over the bytes of the source, unless the sink failed or memory ran out.
-    ensures complete { IsComplete record {
-      words = map string_bytes words.now;
-      probes = map (λ p. (⟦<dyn Probe as Probe>⟧ p.vtable).meaning p.value) probes.items;
-      device = X.meaning device;
-    }
-        record {
-          files = F.files files.old;
-          failed = F.failed files.old;
-          left = I.left input.old;
-          source_faults = I.faults input.old;
-          written = O.written out.old;
-          sink_faults = O.faults out.old;
-          steps = steps.old;
-        }
-        record {
-          files = F.files files.new;
-          failed = F.failed files.new;
-          left = I.left input.new;
-          source_faults = I.faults input.new;
-          written = O.written out.new;
-          sink_faults = O.faults out.new;
-          steps = steps.new;
-        }
+    // Refused words have status 2. Where the shelf tells its files and no load failed, the status is that of the dialogue over these
+    // files, and where it hears an input, over the bytes of the source, unless the sink failed or memory ran out.
+    ensures complete { let b = board (X.meaning device)
+        (map (λ p. (Probe-box p).meaning p.value) probes.items)
+        in IsComplete b (asked_by b (map string_bytes words.now))
+        (outside ⟦<F as Shelf>⟧ ⟦<I as Source>⟧ ⟦<O as Sink>⟧ files.old input.old out.old steps.old)
+        (outside ⟦<F as Shelf>⟧ ⟦<I as Source>⟧ ⟦<O as Sink>⟧ files.new input.new out.new steps.new)
         result }
 {
     converse(

@@ -5,14 +5,16 @@ ghost use Rattle.std.specs.Option.{option_map};
 ghost use Rattle.std.specs.String.{string_bytes};
 ghost use Rattle.lane_look.specs.Device.{DeviceMeaning};
 ghost use Rattle.rp_ports.specs.Shelf.{Files};
-ghost use Rattle.uf2_image.specs.Uf2.{FitsSram};
+ghost use Rattle.uf2_image.specs.Uf2.{FitsSram, image_of};
+ghost use Rattle.pin_script.specs.Script.{script_of};
 ghost use Rattle.rp_machine.specs.Boot.{AreLoads, start};
 ghost use Rattle.board_parts.specs.Hearing.{Aim};
+ghost use Rattle.command_words.specs.Refusals.Refusal.{BadImage, BadScript};
 ghost use Rattle.command_words.specs.Words.{IsLimited};
 ghost use Rattle.command_words.specs.Words.Command.{Assemble, Disassemble, Generate};
 ghost use Rattle.command_words.specs.Read.{run_in, command_in};
 ghost use Rattle.pico_top.specs.Dialogue.{behind_image, behind_script, with_image, with_script};
-ghost use Rattle.pico_top.specs.Opening.{Opens, OpensFor, LoadsAs, Passes, ReadsScript, Boots, use_for};
+ghost use Rattle.pico_top.specs.Opening.{Opens, OpensFor, LoadsAs, Passes, Judges, Boots, use_for};
 
 use crate::programs::open_programs;
 use command_words::refusal::Refusal;
@@ -120,6 +122,19 @@ pub fn load<F: Shelf>(
     }
 }
 
+/// The image of a file's bytes.
+fn image_in(alloc: Global, bytes: &[u8]) -> Result<Image, Unopened>
+    requires { length bytes.now ≤ IMAGE_LIMIT }
+    ensures image { Judges (image_of bytes.now) BadImage result }
+    ensures fits { IfOk result FitsSram }
+{
+    match read_image(alloc, bytes) {
+        Ok(image) => Ok(image),
+        Err(ImageFault::Memory) => Err(Unopened::Memory),
+        Err(fault) => Err(Unopened::Refusing(Refusal::Image(fault))),
+    }
+}
+
 /// Loads an image file and reads it.
 fn open_image<F: Shelf>(alloc: Global, name: &str, files: &mut F) -> Result<Image, Unopened>
     ensures kept { F.files files.new ≡ F.files files.old }
@@ -128,11 +143,7 @@ fn open_image<F: Shelf>(alloc: Global, name: &str, files: &mut F) -> Result<Imag
     ensures fits { IfOk result FitsSram }
 {
     match load(alloc, name, IMAGE_LIMIT, files) {
-        Ok(bytes) => match read_image(alloc, &bytes) {
-            Ok(image) => Ok(image),
-            Err(ImageFault::Memory) => Err(Unopened::Memory),
-            Err(fault) => Err(Unopened::Refusing(Refusal::Image(fault))),
-        },
+        Ok(bytes) => image_in(alloc, &bytes),
         Err(unopened) => Err(unopened),
     }
 }
@@ -140,7 +151,7 @@ fn open_image<F: Shelf>(alloc: Global, name: &str, files: &mut F) -> Result<Imag
 /// The script of a file's bytes.
 fn script_in(alloc: Global, bytes: &[u8]) -> Result<Script, Unopened>
     requires { length bytes.now ≤ SCRIPT_LIMIT }
-    ensures { ReadsScript bytes.now result }
+    ensures { Judges (script_of bytes.now) BadScript result }
 {
     match read_script(alloc, bytes) {
         Ok(script) => Ok(script),

@@ -7,16 +7,14 @@ ghost use Rattle.command_words.specs.Meant.{meant};
 ghost use Rattle.board_parts.specs.Hearing.{Aim, aim_of, seen};
 ghost use Rattle.outer_lane.specs.Setting.{Setting};
 ghost use Rattle.rp_machine.specs.State.{State};
-ghost use Rattle.pico_top.specs.RunText.{core_lines, counts_text, probe_lines, run_cycles, run_text};
+ghost use Rattle.pico_top.specs.RunText.{core_lines, counts_text, probe_lines};
 ghost use Rattle.pico_top.specs.Answer.{Puts, RunsOut};
 ghost use Rattle.pico_top.specs.Running.{RunsTo};
 ghost use Rattle.reverse_debug.specs.Debugger.{quits};
 ghost use Rattle.reverse_debug.specs.Hear.{way_line, way_status};
 ghost use Rattle.reverse_debug.specs.Session.{first_of, OpensAt};
-ghost use Rattle.pico_top.specs.Dialogue.{input_limit, session_told};
-ghost use Rattle.pico_top.specs.Dialogue.Cost.{Exactly};
-ghost use Rattle.pico_top.specs.Dialogue.Dialogue.{Hear, Say};
-ghost use Rattle.pico_top.specs.Opening.{setting_in, setting_by, opened_dialogue, IsReady, Refuses, Tells};
+ghost use Rattle.pico_top.specs.Dialogue.{hear, input_limit, run_reply, say, session_reply};
+ghost use Rattle.pico_top.specs.Opening.{setting_in, setting_by, opened_dialogue, IsReady, PutsRefusal, Concludes};
 
 use crate::open::{Debugging, Opened, Started, Unopened};
 use crate::runner::{Workers, run_to_stop, run_to_stop_by};
@@ -72,7 +70,7 @@ fn finish<O: Sink>(
         (⟦<dyn Probe as Probe>⟧ a.probe.vtable) a.probe.value))
         old (O.written out.old) lost (O.faults out.old) steps steps' came
         → (left : Option (List ℕ)) (faults : ℕ)
-        → Tells (Say (run_text stats w before s) (Exactly (run_cycles w s)))
+        → Concludes (say (run_reply stats before w s))
         left left faults faults old (O.written out.new) lost (O.faults out.new)
         steps steps' result }
 {
@@ -95,10 +93,9 @@ fn run_into<X: Device, O: Sink, L: Ledger>(
 ) -> u8
     requires number { started.machine.cycle ≤ started.limit }
     ensures { (left : Option (List ℕ)) (lost : ℕ)
-        → Tells (Say (run_text started.stats (setting_in (X.meaning device.now) started)
-        (seen probes.old (λ a. aim_of a.index a.pin
-        (⟦<dyn Probe as Probe>⟧ a.probe.vtable) a.probe.value)) started.machine)
-        (Exactly (run_cycles (setting_in (X.meaning device.now) started) started.machine)))
+        → Concludes (say (run_reply started.stats (seen probes.old (λ a. aim_of a.index a.pin
+        (⟦<dyn Probe as Probe>⟧ a.probe.vtable) a.probe.value))
+        (setting_in (X.meaning device.now) started) started.machine))
         left left lost lost (O.written out.old) (O.written out.new) (O.faults out.old)
         (O.faults out.new) steps.old steps.new result }
 {
@@ -131,10 +128,9 @@ fn run_into_by<X: Device, O: Sink, G: Gate, L: Ledger, R: Threads + Wait + Sync>
     requires workers { workers.now.count ≤ 8 }
     requires number { started.machine.cycle ≤ started.limit }
     ensures { (left : Option (List ℕ)) (lost : ℕ)
-        → Tells (Say (run_text started.stats (setting_in (X.meaning device.now) started)
-        (seen probes.old (λ a. aim_of a.index a.pin
-        (⟦<dyn Probe as Probe>⟧ a.probe.vtable) a.probe.value)) started.machine)
-        (Exactly (run_cycles (setting_in (X.meaning device.now) started) started.machine)))
+        → Concludes (say (run_reply started.stats (seen probes.old (λ a. aim_of a.index a.pin
+        (⟦<dyn Probe as Probe>⟧ a.probe.vtable) a.probe.value))
+        (setting_in (X.meaning device.now) started) started.machine))
         left left lost lost (O.written out.old) (O.written out.new) (O.faults out.old)
         (O.faults out.new) steps.old steps.new result }
 {
@@ -203,8 +199,8 @@ fn talk<I: Source, X: Device, O: Sink, L: Ledger>(
     steps: &mut Steps<L>,
 ) -> u8
     requires { OpensAt (first_of debugging.session) debugging.limit debugging.session }
-    ensures tells { Tells (Hear input_limit quits
-        (session_told (setting_by (X.meaning device.now) debugging) (first_of debugging.session)))
+    ensures tells { Concludes (hear input_limit quits
+        (session_reply (setting_by (X.meaning device.now) debugging) (first_of debugging.session)))
         (I.left input.old) (I.left input.new) (I.faults input.old) (I.faults input.new)
         (O.written writer.old.out.now) (O.written writer.new.out.now) (O.faults writer.old.out.now)
         (O.faults writer.new.out.now) steps.old steps.new result }
@@ -235,8 +231,8 @@ fn talk_into<I: Source, X: Device, O: Sink, L: Ledger>(
     steps: &mut Steps<L>,
 ) -> u8
     requires { OpensAt (first_of debugging.session) debugging.limit debugging.session }
-    ensures { Tells (Hear input_limit quits
-        (session_told (setting_by (X.meaning device.now) debugging) (first_of debugging.session)))
+    ensures { Concludes (hear input_limit quits
+        (session_reply (setting_by (X.meaning device.now) debugging) (first_of debugging.session)))
         (I.left input.old) (I.left input.new) (I.faults input.old) (I.faults input.new)
         (O.written out.old) (O.written out.new) (O.faults out.old)
         (O.faults out.new) steps.old steps.new result }
@@ -257,7 +253,7 @@ pub fn tell_into<I: Source, X: Device, O: Sink, L: Ledger>(
     steps: &mut Steps<L>,
 ) -> u8
     requires { IsReady opened }
-    ensures { Tells (opened_dialogue (X.meaning device.now)
+    ensures { Concludes (opened_dialogue (X.meaning device.now)
         (seen probes.old (λ a. aim_of a.index a.pin
         (⟦<dyn Probe as Probe>⟧ a.probe.vtable) a.probe.value)) opened)
         (I.left input.old) (I.left input.new) (I.faults input.old) (I.faults input.new)
@@ -292,7 +288,7 @@ where
     R: Threads + Wait + Sync,
     requires workers { workers.now.count ≤ 8 }
     requires is_ready { IsReady opened }
-    ensures { Tells (opened_dialogue (X.meaning device.now)
+    ensures { Concludes (opened_dialogue (X.meaning device.now)
         (seen probes.old (λ a. aim_of a.index a.pin
         (⟦<dyn Probe as Probe>⟧ a.probe.vtable) a.probe.value)) opened)
         (I.left input.old) (I.left input.new) (I.faults input.old) (I.faults input.new)
@@ -327,7 +323,7 @@ fn run_out<O: Sink>(out: &mut O) -> u8
 
 /// Puts the line of what is refused, or of want of memory.
 pub fn refuse<O: Sink>(alloc: Global, unopened: &Unopened, out: &mut O) -> u8
-    ensures { Refuses (O.written out.old) (O.written out.new) (O.faults out.old)
+    ensures { PutsRefusal (O.written out.old) (O.written out.new) (O.faults out.old)
         (O.faults out.new) result unopened.now }
 {
     match unopened {

@@ -1,8 +1,12 @@
-use Rattle.command_words.proofs.Limits.{read_command_limited, workers_within}
+use Rattle.std.proofs.Common.{map, refl, ap, ◌∙◌}
+use Rattle.board_parts.specs.Aiming.{aims_of}
+use Rattle.pico_top.proofs.Telling.{out_converses}
 use Rattle.pico_top.proofs.serve.Goals as goal
 
-pub serve_by-requires-clause-workers : goal.serve_by-requires-clause-workers
-serve_by-requires-clause-workers g c κs within = rw c.count_of-count.ensures (workers_within _ (read_command_limited _ _ c.requires))
+pub returns-in-Ok : goal.returns-in-Ok
+returns-in-Ok g c =
+    let probes = map (λ p. (goal.Probe-dyn g (p.vtable, p.value)).meaning p.value) c.args.probes.items in
+    c.serve_aimed.ensures probes (rw c.deref_mut.ensures.value (c.in-Ok.ensures ∙ ap (aims_of probes) c.targets.ensures))
 
-pub serve_by-requires-clause-limited : goal.serve_by-requires-clause-limited
-serve_by-requires-clause-limited g c κs within = read_command_limited _ _ c.requires
+pub returns-in-Err : goal.returns-in-Err
+returns-in-Err g c = out_converses _ _ _ _ _ refl refl refl refl c.refuse.ensures refl

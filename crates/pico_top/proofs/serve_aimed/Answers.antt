@@ -8,8 +8,8 @@ pub tell_into-requires-after_bounds : goal.tell_into-requires-after_bounds
 tell_into-requires-after_bounds g c κs within = (c.in-Ok.ensures.answer []).1
 
 pub returns-in-Ok : goal.returns-in-Ok
-returns-in-Ok g c probes aims = opened_converses _ _ _ _ _ _ _ _ aims c.in-Ok.ensures.answer c.in-Ok.ensures.kept c.tell_into.ensures
+returns-in-Ok g c probes aims = opened_converses _ _ _ _ _ _ _ aims c.in-Ok.ensures.answer c.in-Ok.ensures.kept c.tell_into.ensures
 
 pub returns-in-Err : goal.returns-in-Err
 returns-in-Err g c probes aims =
-    unopened_converses _ _ _ _ _ _ _ (c.in-Err.ensures.answer (aims_in probes (command_in c.args.reading.now))) c.in-Err.ensures.kept refl refl c.refuse.ensures refl
+    unopened_converses _ _ _ _ _ _ (c.in-Err.ensures.answer (aims_in probes (command_in c.args.reading.now))) c.in-Err.ensures.kept refl refl c.refuse.ensures refl

@@ -8,8 +8,8 @@ pub tell_into_by-requires-clause-is_ready : goal.tell_into_by-requires-clause-is
 tell_into_by-requires-clause-is_ready g c κs within = (c.in-Ok.ensures.answer []).1
 
 pub returns-in-Ok : goal.returns-in-Ok
-returns-in-Ok g c probes aims = opened_converses _ _ _ _ _ _ _ _ aims c.in-Ok.ensures.answer c.in-Ok.ensures.kept c.tell_into_by.ensures
+returns-in-Ok g c probes aims = opened_converses _ _ _ _ _ _ _ aims c.in-Ok.ensures.answer c.in-Ok.ensures.kept c.tell_into_by.ensures
 
 pub returns-in-Err : goal.returns-in-Err
 returns-in-Err g c probes aims =
-    unopened_converses _ _ _ _ _ _ _ (c.in-Err.ensures.answer (aims_in probes (command_in c.args.reading.now))) c.in-Err.ensures.kept refl refl c.refuse.ensures refl
+    unopened_converses _ _ _ _ _ _ (c.in-Err.ensures.answer (aims_in probes (command_in c.args.reading.now))) c.in-Err.ensures.kept refl refl c.refuse.ensures refl

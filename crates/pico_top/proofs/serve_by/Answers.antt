@@ -9,4 +9,4 @@ returns-in-Ok g c =
     c.serve_aimed_by.ensures probes (rw c.deref_mut.ensures.value (c.in-Ok.ensures ∙ ap (aims_of probes) c.targets.ensures))
 
 pub returns-in-Err : goal.returns-in-Err
-returns-in-Err g c = out_converses _ _ _ _ _ _ refl refl refl refl c.refuse.ensures refl
+returns-in-Err g c = out_converses _ _ _ _ _ refl refl refl refl c.refuse.ensures refl

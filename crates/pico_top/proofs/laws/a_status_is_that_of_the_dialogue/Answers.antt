@@ -1,0 +1,5 @@
+use Rattle.pico_top.proofs.Completing.{completes}
+use Rattle.pico_top.proofs.laws.a_status_is_that_of_the_dialogue.Goals as goal
+
+pub returns : goal.returns
+returns c = completes
