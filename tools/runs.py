@@ -85,6 +85,8 @@ def tell_end(run):
 def read_text(path):
     """The text of a file, or of standard input where no file is named."""
     if path in (None, "-"):
+        if sys.stdin is None:
+            raise Refused("standard input is closed")
         data = sys.stdin.buffer.read()
     else:
         data = read_bytes(path)
@@ -109,6 +111,8 @@ def write(path, data):
     """Writes a file whole or not at all; standard output where no file is named."""
     data = data.encode() if isinstance(data, str) else data
     if path in (None, "-"):
+        if sys.stdout is None:
+            raise Refused("standard output is closed")
         sys.stdout.buffer.write(data)
         sys.stdout.buffer.flush()
         return
@@ -144,7 +148,8 @@ def main(tool):
     """Runs a tool and ends with its status; each error is one line."""
     try:
         status = tool() or 0
-        sys.stdout.flush()
+        if sys.stdout is not None:
+            sys.stdout.flush()
     except Refused as refused:
         say(refused)
         status = refused.status
@@ -154,7 +159,7 @@ def main(tool):
         say("standard output was closed before the end")
         status = 1
     except OSError as error:
-        say(f"{error.filename}: {error.strerror}" if error.filename else error.strerror)
+        say(f"{error.filename or 'standard output'}: {error.strerror}")
         status = 1
     except KeyboardInterrupt:
         status = 130
