@@ -144,6 +144,8 @@ def tool():
     if not os.access(given.program, os.X_OK) or os.path.isdir(given.program):
         raise Refused(f"{given.program} is no program", 2)
     program = os.path.abspath(given.program)
+    if program == f"{TOP}/pico" and subprocess.run([f"{TOP}/.ci/program"], capture_output=True, check=False).returncode != 0:
+        raise Refused("the program is not built, or is older than a source: ./pico run examples/five.uf2 --cycles 10 builds it", 2)
     results = []
     with concurrent.futures.ThreadPoolExecutor(given.jobs) as pool:
         waiting = [pool.submit(tried, case, program, given.seconds, given.write) for case in cases]
