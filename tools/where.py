@@ -3,8 +3,8 @@
 
     ./pico run examples/firmware/fault.uf2 --cycles 200000 | tools/where.py fault.elf
 
-Each line is copied; below a line of registers stand the places of PC and LR, and below a stop outside that of its address, where it is
-one of the program. Lines of the source are there where the program was compiled with -g and addr2line (arm-none-eabi-addr2line,
+Each line is copied; below a line of registers stand the places of PC and LR, and below a stop outside that of its address: a function of
+the program, or the block of the RP2040's address map. Lines of the source are there where the program was compiled with -g and addr2line (arm-none-eabi-addr2line,
 llvm-addr2line or addr2line) is installed; without it the function and the distance from its begin are told. In the place of the ELF
 file its listing can stand (arm-none-eabi-objdump -dlS), which needs no addr2line.
 """
@@ -19,6 +19,14 @@ from elf32 import MAGIC, Elf  # noqa: E402
 from runs import CORE, STOP, Refused, main, parser, read_bytes, read_text, say, write  # noqa: E402
 
 TOOLS = ("arm-none-eabi-addr2line", "llvm-addr2line", "llvm-addr2line-14", "llvm-symbolizer", "addr2line")
+# RP2040 Datasheet, 2.2: the blocks from 40000000 on, each with 4000 bytes
+BLOCKS = """SYSINFO SYSCFG CLOCKS RESETS PSM IO_BANK0 IO_QSPI PADS_BANK0 PADS_QSPI XOSC PLL_SYS PLL_USB BUSCTRL UART0 UART1 SPI0 SPI1 I2C0 I2C1 ADC
+PWM TIMER WATCHDOG RTC ROSC VREG_AND_CHIP_RESET - TBMAN""".split()
+AREAS = [
+    (0x00000000, 0x00004000, "the boot ROM"), (0x10000000, 0x19000000, "flash"), (0x20000000, 0x22000000, "the area of SRAM"),
+    (0x50000000, 0x50100000, "DMA"), (0x50100000, 0x50200000, "USB"), (0x50200000, 0x50300000, "PIO0"), (0x50300000, 0x50400000, "PIO1"),
+    (0xD0000000, 0xD0001000, "SIO"), (0xE0000000, 0xE0100000, "the processor's own registers"),
+]
 RETURNS = re.compile(r"fffffff[19d]|ffffffff")
 
 
@@ -73,12 +81,22 @@ def places(path, elf, command):
     return place
 
 
+def area_of(address):
+    """The block or area of the address map, in words; None where there is none."""
+    number = (address - 0x40000000) // 0x4000
+    if 0 <= number < len(BLOCKS) and BLOCKS[number] != "-":
+        return BLOCKS[number]
+    return next((name for begin, end, name in AREAS if begin <= address < end), None)
+
+
 def notes_of(line, place):
     """What is said below a line."""
     if (found := STOP.fullmatch(line)) and found[2]:
-        address = int(found[2], 16) & ~1
-        if where := place(address):
+        address = int(found[2], 16)
+        if where := place(address & ~1):
             yield f"  {address:08x} is {where}"
+        elif area := area_of(address):
+            yield f"  {address:08x} is in {area}"
     elif (found := CORE.fullmatch(line)) and found[2] != "asleep":
         words = found[2].split()
         lr, pc = words[14], words[15]
