@@ -260,7 +260,7 @@ const BLINK: [Deed; 16] = [
 ];
 
 /// Two machines at once: of set pins, 3 and set pins, 0 the higher's stays; irq 2 and irq clear 2 leave the flag. Then
-/// wait 1 gpio 0 waits in INSTR; and set pins, 31 from pin 28 on, where the words of the outputs have 30 bits.
+/// wait 1 gpio 0 waits in INSTR; and set pins, 31 from pin 28 on, of which pins 30 and 31 show nothing.
 const FORCED: [Deed; 21] = [
     Deed::Write(SM0 + SM_INSTR, 0xe003),
     Deed::Write(SM1 + SM_INSTR, 0xe000),
@@ -281,7 +281,7 @@ const FORCED: [Deed; 21] = [
     Deed::Write(SM0 + SM_PINCTRL, 0x1400_0380),
     Deed::Write(SM0 + SM_INSTR, 0xe01f),
     Deed::Idle(false),
-    Deed::Cycle(0xf000_0001, 0),
+    Deed::Cycle(0x3000_0001, 0),
     Deed::Reads(DBG_PADOUT, 0x3000_0001),
 ];
 
