@@ -13,7 +13,8 @@ use Rattle.rp_base.proofs.Rows.{keeps}
 use Rattle.pwm_block.specs.State.{Slice, Block, slice_at_reset, is_enabled, shown_of}
 use Rattle.pwm_block.specs.Step.{numbered, set_of, acts, is_full, after_event, after_slice, has_wrap, input_of, after_step}
 use Rattle.pwm_block.specs.Outputs.{pins_of, line_of, enabled_of, wires_of}
-use Rattle.pwm_block.specs.Words.{with_csr, only, with_slices, pwm_rows, offset_of, aliased, read_at, write_at}
+use Rattle.pwm_block.specs.Words.{with_csr, only, with_slices, pwm_rows, offset_of, read_at, write_at}
+use Rattle.rp_base.specs.Alias.{aliased}
 use Rattle.pwm_block.specs.Packing.{slice_of, slice_words, slices_in, all_words, signs_of, interrupt_word, words_of, block_of}
 use Rattle.pwm_block.specs.Device.{pwm_device}
 use Rattle.pwm_block.specs.Laws.{IsWhole, DoAsTheBlock, TheWordsHoldTheBlock}

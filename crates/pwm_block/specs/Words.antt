@@ -1,5 +1,6 @@
 -- The registers of the PWM block (RP2040 Datasheet, 4.5.3, List of Registers), by their offsets after 40050000.
 use Rattle.std.specs.Prelude.{ℕ, ◌+◌, ◌*◌, ◌/◌, ◌%◌, ◌^◌, Bool, ◌==◌, if◌then◌else◌, List, [], ◌∷◌, ◌++◌, Option, Some, None, bit_or, bit_xor, ⊤}
+use Rattle.rp_base.specs.Alias.{aliased, or_zero}
 use Rattle.rp_base.specs.Rows.{Row, read_only, read_write, repeated, word_at, effect_at, IsListed}
 use Rattle.rp_base.specs.Word.{minus, bit_number, has_bit}
 use Rattle.pwm_block.specs.State.{Slice, Block, slice_at, is_enabled, shown_of}
@@ -73,20 +74,8 @@ is_pwm address = address / 2 ^ 14 == 0x40050000 / 2 ^ 14
 abbrev pub offset_of : ℕ → ℕ
 offset_of address = address % 2 ^ 12 / 4 * 4
 
--- what a word reads as; a place without a register reads as 0
-abbrev pub or_zero : Option ℕ → ℕ
-or_zero None = 0
-or_zero (Some w) = w
-
 abbrev pub read_at : ℕ → Block → ℕ
 read_at address b = or_zero (word_at pwm_rows tt (offset_of address) b)
-
--- what is written by an alias over a word: 1 is XOR, 2 sets bits, 3 clears bits
-abbrev pub aliased : ℕ → ℕ → ℕ → ℕ
-aliased alias word value =
-    if alias == 0 then value else
-    if alias == 1 then bit_xor word value else
-    if alias == 2 then bit_or word value else minus word value
 
 abbrev pub write_at : ℕ → ℕ → Block → Block
 write_at address value b =

@@ -3,7 +3,7 @@
 ghost use Rattle.std.specs.Prelude.{◌≡◌, ◌<◌, false, Some, length};
 ghost use Rattle.rp_base.specs.Rows.{word_at, effect_at};
 ghost use Rattle.pwm_block.specs.Changes.{by, wraps_by};
-ghost use Rattle.pwm_block.specs.Words.{slice_rows, block_rows, pwm_rows, offset_of, read_at, aliased, write_at, with_slices};
+ghost use Rattle.pwm_block.specs.Words.{slice_rows, block_rows, pwm_rows, offset_of, read_at, write_at, with_slices};
 ghost use Rattle.pwm_block.specs.Packing.{words_of, block_of};
 
 use crate::change::Change;
@@ -11,6 +11,7 @@ use crate::packing::{Interrupts, LAST, enabled, renew};
 use crate::registers::{
     CH0_CC, CH0_CSR, CH0_CTR, CH0_DIV, CH0_TOP, EN, INTE, INTF, INTR, INTS, SLICE,
 };
+use rp_base::alias::aliased;
 
 /// The word that has an address.
 pub(crate) fn read(state: &[u32], address: u32) -> u32
@@ -83,21 +84,8 @@ pub(crate) fn write(state: &mut [u32], address: u32, value: u32)
     ensures { state.new ≡ words_of (write_at address value (block_of state.old)) }
 {
     let before = read(state, address);
-    let word = aliased(address / 0x1000 % 4, before, value);
+    let word = aliased((address / 0x1000 % 4) as u8, before, value);
     write_word(state, offset(address), word);
-}
-
-/// What a write by an alias over a word comes to: 1 is XOR, 2 sets bits, 3 clears bits.
-fn aliased(alias: u32, word: u32, value: u32) -> u32
-    requires { alias < 4 }
-    ensures { result ≡ aliased alias word value }
-{
-    match alias {
-        0 => value,
-        1 => word ^ value,
-        2 => word | value,
-        _ => word & !value,
-    }
 }
 
 /// A write of a word at an offset.

@@ -1,4 +1,5 @@
 pub mod Access
+pub mod Alias
 pub mod Held
 pub mod Map
 pub mod ResetBits

@@ -3,6 +3,7 @@
 #![tactic(auto)]
 
 pub mod access;
+pub mod alias;
 pub mod bits;
 pub mod map;
 pub mod op;

@@ -5,6 +5,7 @@ use Rattle.rp_base.specs.declared.Request.{Request}
 use Rattle.rp_base.specs.declared.map.Block.{Block}
 use Rattle.rp_base.specs.declared.map.Block.TheVariants as block
 use Rattle.rp_base.specs.Access.{replicated}
+use Rattle.rp_base.specs.Alias.{aliased}
 use Rattle.rp_base.specs.Word.{has_bit}
 use Rattle.rp_base.specs.ResetBits.{DMA, PIO0, PIO1}
 use Rattle.bus_fabric.specs.Words as busctrl
@@ -75,13 +76,6 @@ block_accessed block.Pio1 offset write s = record s { pio1 = pio.effect_of offse
 block_accessed other offset write s = record s { outer = outer_accessed other offset write s.outer }
 
 -- ---- aliases: a write through one changes the word as it is at the start of the cycle
-
--- the plain write that it comes to: 1 is XOR, 2 sets bits, 3 clears bits
-abbrev pub aliased : ℕ → ℕ → ℕ → ℕ
-aliased alias word value =
-    if alias == 0 then value else
-    if alias == 1 then bit_xor word value else
-    if alias == 2 then bit_or word value else bit_and word (2 ^ 32 - 1 - value)
 
 -- the plain write of a request through an alias, where the word reads so at the start; a narrow write stands on all lanes
 abbrev pub plain_write : Request → Option ℕ → ℕ → ℕ → Option ℕ

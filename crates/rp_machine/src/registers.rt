@@ -1,12 +1,13 @@
 //! The words of the register blocks.
 
 ghost use Rattle.std.specs.Prelude.{◌≡◌, ◌^◌, ◌<◌};
-ghost use Rattle.rp_machine.specs.Registers.{aliased, plain_write};
+ghost use Rattle.rp_machine.specs.Registers.{plain_write};
 
 use crate::machine::Machine;
 use lane_look::Device;
 use outer_lane::{SeenOutputs, World};
 use rp_base::access::replicated;
+use rp_base::alias::aliased;
 use rp_base::bits::has_bit;
 use rp_base::map::Block;
 use rp_base::resets::{DMA, PIO0, PIO1};
@@ -23,18 +24,6 @@ pub const RESET_DONE: u16 = 0x8;
 
 /// The bits of RESET, one for each block.
 const ALL_BLOCKS: u32 = 0x01ff_ffff;
-
-/// What a write through an alias leaves of a word: 0 is plain, 1 XOR, 2 sets bits, 3 clears bits.
-fn aliased(alias: u8, word: u32, value: u32) -> u32
-    ensures { result ≡ aliased alias word value }
-{
-    match alias {
-        0 => value,
-        1 => word ^ value,
-        2 => word | value,
-        _ => word & !value,
-    }
-}
 
 /// The plain write that a request through an alias comes to, where the word reads so at the start; None for a read.
 pub(crate) fn plain_write(request: &Request, alias: u8, word: u32) -> Option<u32>

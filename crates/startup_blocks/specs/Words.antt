@@ -3,6 +3,7 @@
 -- a PLL and a glitchless multiplexer are ready at once.
 use Prim.Native.String.{String}
 use Rattle.std.specs.Prelude.{ℕ, ◌+◌, ◌*◌, ◌/◌, ◌%◌, ◌^◌, ◌==◌, Bool, false, if◌then◌else◌, List, [], ◌∷◌, Option, None, Some, bit_or, bit_xor, slice_index, slice_set, ⊤}
+use Rattle.rp_base.specs.Alias.{aliased, or_zero}
 use Rattle.rp_base.specs.Rows.{Row, read_only, read_write, word_at, has_row, effect_at, IsListed}
 use Rattle.rp_base.specs.Word.{minus}
 
@@ -114,20 +115,8 @@ written address w s = at_block s (λ rows. effect_at rows (offset_of address) (S
 
 -- ---- accesses (2.1.2, Atomic Register Access)
 
-abbrev pub or_zero : Option ℕ → ℕ
-or_zero None = 0
-or_zero (Some w) = w
-
 abbrev pub read_at : ℕ → List ℕ → ℕ
 read_at address s = or_zero (word_of address s)
-
--- what is written by an alias over what the word reads: 1 is XOR, 2 sets bits, 3 clears bits
-abbrev pub aliased : ℕ → ℕ → ℕ → ℕ
-aliased alias word value =
-    if alias == 0 then value
-    else if alias == 1 then bit_xor word value
-    else if alias == 2 then bit_or word value
-    else minus word value
 
 abbrev pub write_at : ℕ → ℕ → List ℕ → List ℕ
 write_at address value s = written address (aliased (address / 2 ^ 12 % 4) (read_at address s) value) s

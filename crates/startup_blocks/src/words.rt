@@ -2,7 +2,9 @@
 
 ghost use Rattle.std.specs.Prelude.{◌≡◌, ◌≤◌, ◌+◌, Some, length};
 ghost use Rattle.rp_base.specs.Rows.{word_at, has_row, effect_at};
-ghost use Rattle.startup_blocks.specs.Words.{clocks_rows, xosc_rows, pll_rows, watchdog_rows, word_of, is_word, written, aliased, read_at, write_at};
+ghost use Rattle.startup_blocks.specs.Words.{clocks_rows, xosc_rows, pll_rows, watchdog_rows, word_of, is_word, written, read_at, write_at};
+
+use rp_base::alias::aliased;
 
 /// How many words the state has.
 pub(crate) const WORDS: usize = 46;
@@ -255,23 +257,11 @@ pub(crate) fn read(state: &[u32], address: u32) -> u32
     word(state, address).unwrap_or(0)
 }
 
-/// What an alias writes over a word.
-fn aliased(alias: u32, word: u32, value: u32) -> u32
-    ensures { result ≡ aliased alias word value }
-{
-    match alias {
-        0 => value,
-        1 => word ^ value,
-        2 => word | value,
-        _ => word & !value,
-    }
-}
-
 /// Writes to an address, through its alias.
 pub(crate) fn write(state: &mut [u32], address: u32, value: u32)
     requires { length state.old ≡ 46 }
     ensures { state.new ≡ write_at address value state.old }
 {
-    let word = aliased(address / 0x1000 % 4, read(state, address), value);
+    let word = aliased((address / 0x1000 % 4) as u8, read(state, address), value);
     write_word(state, address, word);
 }
