@@ -55,8 +55,8 @@ def program():
     return os.environ.get("JOHVELNI", f"{TOP}/pico")
 
 
-def words_of(script, pio, probes, folder):
-    """The words for a script (a file, or a list of its lines or of (cycle, pin, level)), PIO sources and probes."""
+def words_of(folder, script=None, pio=None, probes=None, parts=None, table=False):
+    """The words for a script (a file, or a list of its lines or of (cycle, pin, level)), PIO sources, probes, parts and the table."""
     words = []
     if isinstance(script, (list, tuple)):
         path = f"{folder}/script"
@@ -70,7 +70,9 @@ def words_of(script, pio, probes, folder):
         words += ["--pio", pio if isinstance(pio, str) else ",".join(f"{block}:{machine}:{path}" for (block, machine), path in pio.items())]
     if probes:
         words += ["--probe", ",".join(f"{probe}={pin}" for probe, pin in probes.items())]
-    return words
+    if parts:
+        words += ["--part", ",".join(f"{part}={'+'.join(map(str, pins))}" for part, pins in parts.items())]
+    return words + ["--table"] * bool(table)
 
 
 def result_of(status, text):
@@ -81,10 +83,11 @@ def result_of(status, text):
     return Result(status, text, errors[-1] if errors else None, run.stop, run.cycle, run.cores, [run.sent(0), run.sent(1)], edges, run.rest)
 
 
-def run(image, cycles, script=None, pio=None, probes=None, seconds=None):
-    """Runs an image for at most so many cycles. pio is {(block, machine): file}, probes {probe: pin}; seconds limits the time."""
+def run(image, cycles, seconds=None, **more):
+    """Runs an image for at most so many cycles; seconds limits the time. More are script, pio as {(block, machine): file}, probes as
+    {probe: pin}, parts as {part: [pin, ..]}, and table=True for the table of routines."""
     with tempfile.TemporaryDirectory() as folder:
-        words = [program(), "run", os.fspath(image), "--cycles", str(cycles), *words_of(script, pio, probes, folder)]
+        words = [program(), "run", os.fspath(image), "--cycles", str(cycles), *words_of(folder, **more)]
         done = subprocess.run(words, stdin=subprocess.DEVNULL, stdout=subprocess.PIPE, timeout=seconds, check=False)
     return result_of(done.returncode, done.stdout.decode())
 
@@ -93,9 +96,10 @@ class Debug:
     """A session to and fro in a run. A move answers the cycle at which the session then stands, and `stop` has the line of the stop
     where the move met it."""
 
-    def __init__(self, image, cycles, script=None, pio=None):
+    def __init__(self, image, cycles, **more):
+        """More are script, pio, parts and table, as of a run."""
         self.folder = tempfile.TemporaryDirectory()
-        words = [program(), "debug", os.fspath(image), "--cycles", str(cycles), *words_of(script, pio, None, self.folder.name)]
+        words = [program(), "debug", os.fspath(image), "--cycles", str(cycles), *words_of(self.folder.name, **more)]
         self.process = subprocess.Popen(words, stdin=subprocess.PIPE, stdout=subprocess.PIPE, text=True)
         self.cycle, self.stop = 0, None
 

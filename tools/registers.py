@@ -1,54 +1,87 @@
 #!/usr/bin/env python3
-"""Prints docs/REGISTERS.md from the rows in crates/*/specs/Words.antt: tools/registers.py > docs/REGISTERS.md"""
+"""Prints docs/REGISTERS.md from the rows of registers in crates/*/specs/*.antt: tools/registers.py > docs/REGISTERS.md
+
+.ci/made compares the page.
+"""
 import glob
 import os
 import re
 import sys
+import textwrap
 
 sys.path.insert(0, os.path.dirname(os.path.abspath(__file__)))
 from runs import Refused, main, parser, write  # noqa: E402
 
 TOP = os.path.dirname(os.path.dirname(os.path.abspath(__file__)))
 KINDS = {
-    'read_write': 'RW', 'register': 'RW, a read acts', 'read_acts': 'RO, a read acts', 'read_only': 'RO', 'seen_only': 'RO', 'write_only': 'WO',
-    'kept': 'RW, a word of the state',
+    "read_write": "read, write", "register": "read (which acts), write", "read_acts": "read (which acts)", "read_only": "read",
+    "seen_only": "read", "write_only": "write", "kept": "read, write",
 }
-ROW = re.compile(rf'(?:repeated (\d+) (\d+) \(λ \w+\. )?({"|".join(KINDS)}) (0x[0-9a-f]+) "(\w+)" ?(.*)')
+HEAD = re.compile(r"^abbrev pub (\w+_rows) : .*List \(Row ", re.M)
+ROW = re.compile(rf'(?:repeated (\d+) (\d+) \(λ \w+\. )?({"|".join(KINDS)}) (0x[0-9a-f]+) "(\w+)"')
+PAGE = """# The registers
+
+Made by `tools/registers.py`; `.ci/made` compares it, and `.ci/made --write` makes it anew.
+
+The registers of the blocks whose definitions are written as rows, by their offsets (hexadecimal), with the accesses that are not
+ignored. What each reads as and what a write leaves stands in its row, in the file that is named. The other blocks have their registers
+in files `crates/*/specs/Words.antt` too, but not as rows.
+"""
+
+
+def wrapped(text):
+    return textwrap.fill(text, 130, break_long_words=False, break_on_hyphens=False)
+
+
+def comment(text):
+    return " ".join(line[3:] for line in text.splitlines() if line.startswith("-- ") and not line.startswith("-- ----"))
 
 
 def rows_of(part):
-    """The rows of a definition: count and stride where it is repeated, kind, offset, name and meaning."""
-    for row in part.split('\n    ∷ ')[:-1]:    # a row may go over several lines, and the last is []
-        found = ROW.search(' '.join(row.split()))
+    """The rows of a definition: count and stride where it is repeated, kind, offset and name."""
+    for row in part.split("\n    ∷ ")[:-1]:    # a row may go over several lines, and the last is []
+        found = ROW.search(" ".join(row.split()))
         if not found:
-            raise Refused(f'a row is in no form that this tool knows: {" ".join(row.split())[-60:]}')
+            raise Refused(f"a row is in no form that this tool knows: {' '.join(row.split())[-60:]}")
         yield found.groups()
 
 
+def table(name, head, part):
+    """The lines of a definition's table, below what the head of its section says of a place."""
+    yield f"\n### {name}\n"
+    said = [head] if re.search(r"at [0-9A-F]{8}", head) else []
+    said += [comment(part[:HEAD.search(part).start()])]
+    if text := ". ".join(it[0].upper() + it[1:] for it in said if it):
+        yield wrapped(text + ".") + "\n"
+    yield "| Offset | Name | Access |\n|---|---|---|"
+    for count, stride, kind, offset, register in rows_of(part[HEAD.search(part).end():]):
+        last = f" to {int(offset, 16) + (int(count) - 1) * int(stride):03x}, each {int(stride):x}" if count else ""
+        yield f"| {int(offset, 16):03x}{last} | {register} | {KINDS[kind]} |"
+
+
 def tables(path):
-    """The lines of the tables of a file."""
-    with open(path, encoding='utf-8') as file:
-        parts = re.split(r'\n\n', file.read())          # definitions stand apart by an empty line
-    for part in parts:
-        head = re.search(r'^abbrev pub (\w+_rows) : .*List \(Row ', part, re.M)
-        if not head or '0x' not in part:
-            continue
-        notes = ' '.join(line[3:] for line in part.split('\n') if line.startswith('-- '))
-        notes += '\n\n' if notes else ''
-        yield f'\n## {path.split("/")[1]}, {head[1]}\n\n{notes}| Offset | Name | | Reads, and what is written |\n|---|---|---|---|'
-        for count, stride, kind, offset, name, meaning in rows_of(part[head.end():]):
-            last = f' to {int(offset, 16) + (int(count) - 1) * int(stride):03x}, each {stride}' if count else ''
-            meaning = (meaning[:-1] if count else meaning).replace('|', '\\|').strip()
-            yield f'| {int(offset, 16):03x}{last} | {name} | {KINDS[kind]} | `{meaning}` |'
+    """The lines of a file: what it is, and its tables."""
+    with open(path, encoding="utf-8") as file:
+        text = file.read()
+    lines, head = [], ""
+    for part in text.split("\n\n"):    # definitions stand apart by an empty line
+        if found := re.match(r"-- ---- (.*)", part):
+            head = found[1]
+        if (found := HEAD.search(part)) and "0x" in part[found.end():]:
+            lines += table(found[1], head, part)
+    if lines:
+        about = comment(re.match(r"(?:--.*\n)*", text)[0])
+        yield f"\n## {path.split('/')[1]}\n\n`{path}`:\n{wrapped(about)}"
+    yield from lines
 
 
 def tool():
     parser(__doc__).parse_args()
     os.chdir(TOP)
-    lines = ['# The registers\n\nWritten by tools/registers.py from the rows in specs/.']
-    for path in sorted(glob.glob('crates/*/specs/*.antt')):
+    lines = [PAGE.rstrip("\n")]
+    for path in sorted(glob.glob("crates/*/specs/*.antt")):
         lines += tables(path)
-    write(None, '\n'.join(lines) + '\n')
+    write(None, "\n".join(lines) + "\n")
 
 
 if __name__ == "__main__":
