@@ -313,6 +313,10 @@ pub uart-is : (controls pads : List ℕ) → (routes_of controls pads).uart ≡ 
 unfolding routes_of
 uart-is controls pads = refl
 
+pub pwm-is : (controls pads : List ℕ) → (routes_of controls pads).pwm ≡ pins_with controls 0 5 4
+unfolding routes_of
+pwm-is controls pads = refl
+
 pub pio0-is : (controls pads : List ℕ) → (routes_of controls pads).pio0 ≡ pins_with controls 0 5 6
 unfolding routes_of
 pio0-is controls pads = refl

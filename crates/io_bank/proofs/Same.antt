@@ -1,4 +1,4 @@
--- Outputs of the PIO blocks by which the pads have the same levels.
+-- Outputs of the PIO blocks and of PWM by which the pads have the same levels.
 use Rattle.std.proofs.Common.{◌≡◌, ◌∙◌, ◌<◌, ◌+◌, ◌*◌, ◌^◌, ◌==◌, ℕ, List, [], ◌∷◌, Bool, true, false, not, ◌&&◌, eqb, cond, refl, sym, ap, subst, arith}
 use Rattle.std.specs.Prelude.{Decides, bit_and, slice_index}
 use Rattle.std.specs.Int.{bit_at}
@@ -147,3 +147,51 @@ pub seen_same : (s : Bank) (outs : Outs) (shown0 shown1 a b c d : List ℕ) (dri
 seen_same s outs shown0 shown1 a b c d driven high same is0 is1 =
     same_levels s outs a b c d driven high
     (subst (λ xs. AreSameIn xs a b) is0 same.0) (subst (λ xs. AreSameIn xs c d) is1 same.1)
+
+-- ---- the levels of PWM
+
+abbrev pub with_pwm : Outs → ℕ → ℕ → Outs
+with_pwm outs levels enables = record outs { pwm = levels ∷ enables ∷ [] }
+
+pick-pwm : (p : List ℕ → Bool) (c2 c4 : Bool) (u w x r : List ℕ) → (c4 ≡ true → p w ≡ p x) →
+    p (cond c2 u (cond c4 w r)) ≡ p (cond c2 u (cond c4 x r))
+pick-pwm p true c4 u w x r e = refl
+pick-pwm p false true u w x r e = e refl
+pick-pwm p false false u w x r e = refl
+
+pwm_signal-same : (outs : Outs) (a b enables control k i : ℕ) →
+    (eqb (function_of control) 4 ≡ true → has_bit (slice_index (a ∷ enables ∷ []) k) i ≡ has_bit (slice_index (b ∷ enables ∷ []) k) i) →
+    signal (with_pwm outs a enables) control k i ≡ signal (with_pwm outs b enables) control k i
+pwm_signal-same outs a b enables control k i e =
+    pick-pwm (λ xs. has_bit (slice_index xs k) i) (eqb (function_of control) 2) (eqb (function_of control) 4)
+    outs.uart (a ∷ enables ∷ []) (b ∷ enables ∷ [])
+    (cond (eqb (function_of control) 5) outs.sio
+    (cond (eqb (function_of control) 6) outs.pio0 (cond (eqb (function_of control) 7) outs.pio1 (0 ∷ 0 ∷ [])))) e
+
+pwm_pad-same : (s : Bank) (outs : Outs) (a b enables driven high i : ℕ) → i < 30 → IsSameAt (pins_of 4 s) a b →
+    pad_level (with_pwm outs a enables) (by_sets driven high i) (control_of s i) (pad_of s i) i
+    ≡ pad_level (with_pwm outs b enables) (by_sets driven high i) (control_of s i) (pad_of s i) i
+pwm_pad-same s outs a b enables driven high i lt same =
+    let control = control_of s i in
+    let pad = pad_of s i in
+    let in_set : has_bit (pins_of 4 s) i ≡ eqb (function_of control) 4 =
+    bits_below-at (λ pin. eqb (function_of (control_of s pin)) 4) 30 i lt in
+    pad-go (is_driven (with_pwm outs a enables) control pad i) (is_driven (with_pwm outs b enables) control pad i)
+    (level_to (with_pwm outs a enables) control i) (level_to (with_pwm outs b enables) control i)
+    (level_outside (by_sets driven high i) pad)
+    (ap (λ t. overridden (enable_override control) t && not (is_output_disabled pad))
+    (pwm_signal-same outs a b enables control 1 i (λ _. refl)))
+    (λ _. ap (overridden (out_override control)) (pwm_signal-same outs a b enables control 0 i (λ g. same i (in_set ∙ g))))
+
+pub pwm_levels-same : (s : Bank) (outs : Outs) (a b enables driven high : ℕ) → IsSameAt (pins_of 4 s) a b →
+    levels_of (with_pwm outs a enables) (by_sets driven high) s ≡ levels_of (with_pwm outs b enables) (by_sets driven high) s
+pwm_levels-same s outs a b enables driven high same =
+    bits_below-same
+    (λ pin. pad_level (with_pwm outs a enables) (by_sets driven high pin) (control_of s pin) (pad_of s pin) pin)
+    (λ pin. pad_level (with_pwm outs b enables) (by_sets driven high pin) (control_of s pin) (pad_of s pin) pin)
+    30 (λ i lt. pwm_pad-same s outs a b enables driven high i lt same)
+
+-- two words are the same at the pins of a set where they are, cut to it
+pub same_at : (m a b : ℕ) → Decides (bit_and a m == bit_and b m) (IsSameAt m a b)
+same_at m a b =
+    Decides-like (bit_and a m == bit_and b m) (members-same m a b) (same-bits m a b) (Decides-eqb (bit_and a m) (bit_and b m))

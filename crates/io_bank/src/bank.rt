@@ -3,7 +3,7 @@
 ghost use Rattle.std.specs.Prelude.{◌≡◌, ◌<◌, ◌+◌, ◌*◌, ◌^◌, ◌∷◌, ◌&&◌, [], ℕ, true, Decides, IfSome, not, slice_index};
 ghost use Rattle.io_bank.specs.declared.outputs.Outs.{Outs};
 ghost use Rattle.io_bank.specs.State.{at_reset, after_held, with_bank_held, with_pads_held};
-ghost use Rattle.io_bank.specs.Driven.{driven_of, shown_of, AreSameIn};
+ghost use Rattle.io_bank.specs.Driven.{driven_of, shown_of, IsSameAt, AreSameIn};
 ghost use Rattle.io_bank.specs.Levels.{levels_of, by_list, by_sets, inputs_of, pins_of, is_used, first_in, receive_pin, receive_level};
 ghost use Rattle.io_bank.specs.Edges.{edges_of};
 ghost use Rattle.io_bank.specs.Step.{after_step, is_at_rest, with_edges, with_levels};
@@ -318,6 +318,19 @@ impl IoBank {
             (by_sets driven high) self.now }
     {
         are_same_in(shown0, pio0, next0) && are_same_in(shown1, pio1, next1)
+    }
+
+    /// The levels that PWM puts out are the same at the pins of its function. The pads then have the same levels by the second ones
+    /// as by the first ones, whatever the other parts put out.
+    #[inline(always)]
+    pub fn is_pwm_same(&self, first: u32, next: u32) -> bool
+        ensures value { Decides result (IsSameAt (pins_of 4 self.now) first next) }
+        ensures levels { result ≡ true → (outs : Outs) → (enables driven high : ℕ) →
+            levels_of (record outs { pwm = first ∷ enables ∷ [] }) (by_sets driven high) self.now
+            ≡ levels_of (record outs { pwm = next ∷ enables ∷ [] })
+            (by_sets driven high) self.now }
+    {
+        first & self.routes.pwm == next & self.routes.pwm
     }
 
     /// The pin from which UART 0 or 1 receives, the lowest of its RX pins that has function 2. RX is pin 1, 13, 17 or 29

@@ -42,18 +42,29 @@ parts sio a b c d = record { sio = sio; pio0 = a; pio1 = b; pwm = c; uart = d }
 parts-go : (sio a b c d a' b' c' d' : List ℕ) → a ≡ a' → b ≡ b' → c ≡ c' → d ≡ d' → parts sio a b c d ≡ parts sio a' b' c' d'
 parts-go sio a b c d a' b' c' d' p q r s = rw (p, q, r, s) refl
 
+abbrev pub by_pwm : Outs → ℕ → ℕ → Outs
+by_pwm outs levels enables = record outs { pwm = levels ∷ enables ∷ [] }
+
+-- the pads have the same levels by the levels of PWM that are put out, whatever the other parts put out
+abbrev pub SamePwm : ℕ → ℕ → Bank → Type 0
+SamePwm first next b =
+    (outs : Outs) → (enables driven high : ℕ) →
+    levels_of (by_pwm outs first enables) (by_sets driven high) b ≡ levels_of (by_pwm outs next enables) (by_sets driven high) b
+
 pub pads_stay : (wires : Wires) (seen : SeenOutputs) (drives : Drives) (s : OuterState) (d : Drivers) → IsLaneAtRest s.sio d s.pads s.uart0 s.uart1 →
-    seen.pio0 ≡ d.pio0_levels ∷ d.pio0_enables ∷ [] → seen.pio1 ≡ d.pio1_levels ∷ d.pio1_enables ∷ [] → wires.pwm ≡ d.pwm →
+    seen.pio0 ≡ d.pio0_levels ∷ d.pio0_enables ∷ [] → seen.pio1 ≡ d.pio1_levels ∷ d.pio1_enables ∷ [] → SamePwm d.pwm wires.pwm s.pads →
     drives.driven ≡ d.driven → drives.high ≡ d.high → pads_driven wires seen drives s ≡ s.pads
 unfolding pads_driven pads_after
 pads_stay wires seen drives s d rest pio0 pio1 pwm driven high =
-    let outs : outs_of wires seen s ≡ outs_by s.sio d =
+    let pwm_outs : Outs = by_pwm (outs_by s.sio d) wires.pwm (2 ^ 30 - 1) in
+    let outs : outs_of wires seen s ≡ pwm_outs =
     parts-go s.sio seen.pio0 seen.pio1 (wires.pwm ∷ (2 ^ 30 - 1) ∷ []) (uart_outputs (output_of s.uart0.block) (output_of s.uart1.block))
-    (d.pio0_levels ∷ d.pio0_enables ∷ []) (d.pio1_levels ∷ d.pio1_enables ∷ []) (d.pwm ∷ (2 ^ 30 - 1) ∷ []) (d.uart_levels ∷ d.uart_enables ∷ [])
-    pio0 pio1 (ap (λ (n : ℕ). n ∷ (2 ^ 30 - 1) ∷ []) pwm) rest.1.0 in
+    (d.pio0_levels ∷ d.pio0_enables ∷ []) (d.pio1_levels ∷ d.pio1_enables ∷ []) (wires.pwm ∷ (2 ^ 30 - 1) ∷ []) (d.uart_levels ∷ d.uart_enables ∷ [])
+    pio0 pio1 refl rest.1.0 in
     ap (λ (o : Outs). after_step o (by_sets drives.driven drives.high) s.pads) outs
-    ∙ ap (λ (n : ℕ). after_step (outs_by s.sio d) (by_sets n drives.high) s.pads) driven
-    ∙ ap (λ (n : ℕ). after_step (outs_by s.sio d) (by_sets d.driven n) s.pads) high
+    ∙ ap (λ (n : ℕ). after_step pwm_outs (by_sets n drives.high) s.pads) driven
+    ∙ ap (λ (n : ℕ). after_step pwm_outs (by_sets d.driven n) s.pads) high
+    ∙ ap (λ (n : ℕ). with_levels n (with_edges (edges_of s.pads) s.pads)) (sym (pwm (outs_by s.sio d) (2 ^ 30 - 1) d.driven d.high))
     ∙ rest.0
 
 -- ---- all is calm
@@ -71,19 +82,22 @@ SameSeen seen d shown0 shown1 b =
     ≡ levels_of (by_pio outs seen.pio0 seen.pio1) (by_sets driven high) b
 
 pub calm_stay : (wires : Wires) (seen : SeenOutputs) (drives : Drives) (s : OuterState) (d : Drivers) (shown0 shown1 : List ℕ) →
-    IsCalm s.sio d shown0 shown1 s.pads s.uart0 s.uart1 → SameSeen seen d shown0 shown1 s.pads → wires.pwm ≡ d.pwm →
+    IsCalm s.sio d shown0 shown1 s.pads s.uart0 s.uart1 → SameSeen seen d shown0 shown1 s.pads → SamePwm d.pwm wires.pwm s.pads →
     drives.driven ≡ d.driven → drives.high ≡ d.high → pads_driven wires seen drives s ≡ s.pads
 unfolding pads_driven pads_after
 calm_stay wires seen drives s d shown0 shown1 calm same pwm driven high =
-    let seen_outs : Outs = by_pio (outs_by s.sio d) seen.pio0 seen.pio1 in
+    let pio_outs : Outs = by_pio (outs_by s.sio d) seen.pio0 seen.pio1 in
+    let seen_outs : Outs = by_pwm pio_outs wires.pwm (2 ^ 30 - 1) in
     let outs : outs_of wires seen s ≡ seen_outs =
     parts-go s.sio seen.pio0 seen.pio1 (wires.pwm ∷ (2 ^ 30 - 1) ∷ []) (uart_outputs (output_of s.uart0.block) (output_of s.uart1.block))
-    seen.pio0 seen.pio1 (d.pwm ∷ (2 ^ 30 - 1) ∷ []) (d.uart_levels ∷ d.uart_enables ∷ [])
-    refl refl (ap (λ (n : ℕ). n ∷ (2 ^ 30 - 1) ∷ []) pwm) calm.1.0 in
+    seen.pio0 seen.pio1 (wires.pwm ∷ (2 ^ 30 - 1) ∷ []) (d.uart_levels ∷ d.uart_enables ∷ [])
+    refl refl refl calm.1.0 in
+    let levels : levels_of (outs_by s.sio d) (by_sets d.driven d.high) s.pads ≡ levels_of seen_outs (by_sets d.driven d.high) s.pads =
+    same (outs_by s.sio d) d.driven d.high calm.0.1.0 calm.0.1.1 ∙ pwm pio_outs (2 ^ 30 - 1) d.driven d.high in
     ap (λ (o : Outs). after_step o (by_sets drives.driven drives.high) s.pads) outs
     ∙ ap (λ (n : ℕ). after_step seen_outs (by_sets n drives.high) s.pads) driven
     ∙ ap (λ (n : ℕ). after_step seen_outs (by_sets d.driven n) s.pads) high
-    ∙ ap (λ (n : ℕ). with_levels n (with_edges (edges_of s.pads) s.pads)) (sym (same (outs_by s.sio d) d.driven d.high calm.0.1.0 calm.0.1.1))
+    ∙ ap (λ (n : ℕ). with_levels n (with_edges (edges_of s.pads) s.pads)) (sym levels)
     ∙ calm.0.0
 
 -- ---- any cycle, part by part

@@ -5,7 +5,6 @@ ghost use Rattle.outer_lane.specs.Rest.{is_same, outs_by};
 
 use crate::world::SeenOutputs;
 use io_bank::Outs;
-use lane_look::Wires;
 use pin_script::Drives;
 
 /// All pins.
@@ -55,32 +54,29 @@ impl Drivers {
             && self.high == other.high
     }
 
-    /// Each word but those of the UARTs is what is seen and driven.
+    /// Each word but those of PWM and of the UARTs is what is seen and driven.
     #[inline(always)]
-    pub(crate) fn is_driven_by(&self, wires: &Wires, seen: &SeenOutputs, drives: Drives) -> bool
+    pub(crate) fn is_driven_by(&self, seen: &SeenOutputs, drives: Drives) -> bool
         ensures pio0 { result ≡ true
             → seen.now.pio0 ≡ self.now.pio0_levels ∷ self.now.pio0_enables ∷ [] }
         ensures pio1 { result ≡ true
             → seen.now.pio1 ≡ self.now.pio1_levels ∷ self.now.pio1_enables ∷ [] }
-        ensures pwm { result ≡ true → wires.now.pwm ≡ self.now.pwm }
         ensures driven { result ≡ true → drives.driven ≡ self.now.driven }
         ensures high { result ≡ true → drives.high ≡ self.now.high }
     {
         are_same(seen.pio0, [self.pio0_levels, self.pio0_enables])
             && are_same(seen.pio1, [self.pio1_levels, self.pio1_enables])
-            && self.pwm == wires.pwm
             && self.driven == drives.driven
             && self.high == drives.high
     }
 
-    /// Each word but those of the PIO blocks and the UARTs is what is driven.
+    /// Outside drives what is driven.
     #[inline(always)]
-    pub(crate) fn is_else_driven_by(&self, wires: &Wires, drives: Drives) -> bool
-        ensures pwm { result ≡ true → wires.now.pwm ≡ self.now.pwm }
+    pub(crate) fn is_else_driven_by(&self, drives: Drives) -> bool
         ensures driven { result ≡ true → drives.driven ≡ self.now.driven }
         ensures high { result ≡ true → drives.high ≡ self.now.high }
     {
-        self.pwm == wires.pwm && self.driven == drives.driven && self.high == drives.high
+        self.driven == drives.driven && self.high == drives.high
     }
 
     /// The outputs of all parts, where SIO puts these out.

@@ -317,7 +317,10 @@ impl Outer {
         ensures byte0 { result ≡ true → byte_of self.now.uart0 ≡ None }
         ensures byte1 { result ≡ true → byte_of self.now.uart1 ≡ None }
     {
-        self.at_rest && self.drivers.is_driven_by(wires, seen, drives)
+        if self.at_rest && self.pads.is_pwm_same(self.drivers.pwm, wires.pwm) {
+            return self.drivers.is_driven_by(seen, drives);
+        }
+        false
     }
 
     /// A cycle by these does not change the pads, and the UARTs hear high lines in it.
@@ -328,7 +331,10 @@ impl Outer {
         ensures line0 { result ≡ true → receive_level 0 self.now.pads ≡ true }
         ensures line1 { result ≡ true → receive_level 1 self.now.pads ≡ true }
     {
-        if self.calm && self.drivers.is_else_driven_by(wires, drives) {
+        if self.calm
+            && self.pads.is_pwm_same(self.drivers.pwm, wires.pwm)
+            && self.drivers.is_else_driven_by(drives)
+        {
             return self.pads.is_seen_same(
                 self.shown0,
                 self.shown1,
