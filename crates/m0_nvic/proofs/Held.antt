@@ -27,7 +27,7 @@ of_interrupts_at lines i =
     let f : 16 + i - 16 ≡ i = omega arith in
     sym (ap (λ n. bit_at n (16 + i)) e) ∙ bit_at_cat_high lines 16 0 (16 + i) (omega arith) (omega arith) ∙ ap (bit_at lines) f
 
-pow_fits : (k : ℕ) → k < 64 → 2 ^ k < 2 ^ 64
+pub pow_fits : (k : ℕ) → k < 64 → 2 ^ k < 2 ^ 64
 pow_fits k h = pow-lt h
 
 minus_less : (a b : ℕ) → a < 2 ^ 64 → minus a b < 2 ^ 64

@@ -1,15 +1,17 @@
 -- The least member of a set is a member that no member precedes.
-use Rattle.std.proofs.Common.{ap, sym, ◌≢◌, ◌^◌, ◌≡◌, ℕ, zero, suc, ◌+◌, ◌<◌, ◌≤◌, Bool, true, false, ◌||◌, ◌&&◌, nat_lt, ℤ, List, ◌∷◌, refl, subst, cond, inl, inr, ◌⊎◌, arith, Option, Some, None}
+use Rattle.std.proofs.Common.{ap, sym, ◌≢◌, ◌^◌, ◌≡◌, ℕ, zero, suc, ◌+◌, ◌-◌, ◌<◌, ◌≤◌, Bool, true, false, ◌||◌, ◌&&◌, ◌==◌, ◌∙◌, nat_lt, ℤ, List, ◌∷◌, refl, subst, cond, inl, inr, ◌⊎◌, arith, Option, Some, None}
 use Rattle.std.specs.Prelude.{filter, int_lt}
 use Rattle.std.specs.Ordering.{int_eq}
 use Rattle.std.proofs.lemmas.Grind.{common_steps}
 use Rattle.std.proofs.lemmas.Int.{ints}
-use Rattle.std.proofs.lemmas.Nat.Bits.{bit_at-pow_same, bit_at-pow_other}
+use Rattle.std.proofs.lemmas.Nat.{and_le_l}
+use Rattle.std.specs.Int.{bit_at, w64, trailing_zeros}
+use Rattle.std.proofs.lemmas.Nat.Bits.{bit_at-lt, bit_at-pow_same, bit_at-pow_other, bit_at-trailing_zeros}
 use Rattle.std.proofs.lemmas.Bool.Decides.{nat_tests, Decides-int_eq}
 use Rattle.rp_base.specs.Word.{has_bit}
 use Rattle.m0_nvic.specs.State.{Exceptions}
-use Rattle.m0_nvic.specs.Numbers.{numbers_from, numbers, is_member}
-use Rattle.m0_nvic.proofs.Members.{filter-member, filter-other}
+use Rattle.m0_nvic.specs.Numbers.{numbers_from, numbers, is_member, minus}
+use Rattle.m0_nvic.proofs.Held.{minus_at, pow_fits}
 use Rattle.m0_nvic.specs.Priority.{rank_of, precedes, nearer, least, least_of, IsLeast}
 
 -- the order of pairs of priority and number
@@ -49,6 +51,12 @@ IsLeastFrom s set a c (Some m) = IsLeastAt s set a c m
 -- a number is the first, or after it
 first_or_after : (a n : ℕ) → a ≤ n → (a ≡ n) ⊎ (a + 1 ≤ n)
 first_or_after a n h = grind arith
+
+filter-member : (p : ℕ → Bool) (x : ℕ) (xs : List ℕ) → p x ≡ true → filter p (x ∷ xs) ≡ x ∷ filter p xs
+filter-member p x xs e = grind (arith, common_steps)
+
+filter-other : (p : ℕ → Bool) (x : ℕ) (xs : List ℕ) → p x ≡ false → filter p (x ∷ xs) ≡ filter p xs
+filter-other p x xs e = grind (arith, common_steps)
 
 none-other : (set a c : ℕ) → has_bit set a ≡ false → ((n : ℕ) → a + 1 ≤ n → n < a + 1 + c → has_bit set n ≡ false) →
     (n : ℕ) → a ≤ n → n < a + suc c → has_bit set n ≡ false
@@ -178,27 +186,97 @@ only_one s set (Some m) None h i = contrary (is_member m set) h.0 (i m)
 only_one s set (Some m) (Some n) h i =
     ap Some (before-equal (rank_of s m) m (rank_of s n) n (i.1 m h.0) (h.1 n i.0))
 
-pow_same : (k : ℕ) → has_bit (2 ^ k) k ≡ true
-pow_same k = rw (bit_at-pow_same k) refl
-
-pow_other : (k n : ℕ) → n ≢ k → has_bit (2 ^ k) n ≡ true → ⊥
-pow_other k n ne h = contrary (has_bit (2 ^ k) n) h (rw (bit_at-pow_other k n ne) refl)
+-- ---- the least member, by a member and the others
 
 eq_or_ne : (n k : ℕ) → (n ≡ k) ⊎ (n ≢ k)
 eq_or_ne n k = grind arith
 
-bit-of_pow : (k n : ℕ) → has_bit (2 ^ k) n ≡ true → n ≡ k
-bit-of_pow k n h =
-    elim (eq_or_ne n k) [ inl same ↦ same | inr other ↦ absurd (pow_other k n other h) ]
+others-other : (set k n : ℕ) → k < 48 → n < 48 → n ≢ k → has_bit (minus set (2 ^ k)) n ≡ has_bit set n
+others-other set k n fits low ne =
+    let same : bit_at (minus set (2 ^ k)) n ≡ bit_at set n =
+    omega (arith, minus_at set (2 ^ k) n (pow_fits k (omega arith)) (omega arith), bit_at-pow_other k n ne, bit_at-lt set n) in
+    ap (λ b. b == 1) same
 
-one-least : (s : Exceptions) (k : ℕ) → k < 48 → IsLeast s (2 ^ k) (Some k)
-one-least s k h = (
-  is_member-true k (2 ^ k) h (pow_same k),
-  λ n member. subst (λ i. precedes s i k ≡ false) (sym (bit-of_pow k n (is_member-bit n (2 ^ k) member))) (precedes-self s k),
+others-none : (set k : ℕ) → k < 48 → bit_at (minus set (2 ^ k)) k ≡ 0
+others-none set k fits = omega (arith, minus_at set (2 ^ k) k (pow_fits k (omega arith)) (omega arith), bit_at-pow_same k)
+
+others-self : (set k : ℕ) → k < 48 → has_bit (minus set (2 ^ k)) k ≡ false
+others-self set k fits = ap (λ b. b == 1) (others-none set k fits)
+
+member-or : (set k n : ℕ) → k < 48 → is_member n set ≡ true → (n ≡ k) ⊎ (is_member n (minus set (2 ^ k)) ≡ true)
+member-or set k n fits h =
+    let low = is_member-within n set h in
+    elim (eq_or_ne n k) [
+      | inl same ↦ inl same
+      | inr other ↦ inr (is_member-true n (minus set (2 ^ k)) low (others-other set k n fits low other ∙ is_member-bit n set h))
+    ]
+
+member-back : (set k n : ℕ) → k < 48 → is_member n (minus set (2 ^ k)) ≡ true → is_member n set ≡ true
+member-back set k n fits h =
+    let low = is_member-within n (minus set (2 ^ k)) h in
+    let bit = is_member-bit n (minus set (2 ^ k)) h in
+    elim (eq_or_ne n k) [
+      | inl same ↦
+          contrary (has_bit (minus set (2 ^ k)) n) bit (subst (λ i. has_bit (minus set (2 ^ k)) i ≡ false) (sym same) (others-self set k fits))
+      | inr other ↦ is_member-true n set low (sym (others-other set k n fits low other) ∙ bit)
+    ]
+
+one-more_by : (s : Exceptions) (set k m : ℕ) (b : Bool) → precedes s m k ≡ b → k < 48 → has_bit set k ≡ true →
+    IsLeast s (minus set (2 ^ k)) (Some m) → IsLeast s set (cond b (Some m) (Some k))
+one-more_by s set k m true e fits here h = (
+  member-back set k m fits h.0,
+  λ n member. elim (member-or set k n fits member) [
+    | inl same ↦ subst (λ i. precedes s i m ≡ false) (sym same) (precedes-asym s m k e)
+    | inr other ↦ h.1 n other
+  ],
+)
+one-more_by s set k m false e fits here h = (
+  is_member-true k set fits here,
+  λ n member. elim (member-or set k n fits member) [
+    | inl same ↦ subst (λ i. precedes s i k ≡ false) (sym same) (precedes-self s k)
+    | inr other ↦ precedes-trans s n m k (h.1 n other) e
+  ],
 )
 
--- the least member of a set of one
-pub least_of-one : (s : Exceptions) (k set : ℕ) → k < 48 → set ≡ 2 ^ k → least_of s set ≡ Some k
-least_of-one s k set h e = rw e (only_one s (2 ^ k) (least_of s (2 ^ k)) (Some k) (least_of-is s (2 ^ k)) (one-least s k h))
+one-more : (s : Exceptions) (set k : ℕ) (o : Option ℕ) → k < 48 → has_bit set k ≡ true →
+    IsLeast s (minus set (2 ^ k)) o → IsLeast s set (nearer s k o)
+one-more s set k None fits here h = (
+  is_member-true k set fits here,
+  λ n member. elim (member-or set k n fits member) [
+    | inl same ↦ subst (λ i. precedes s i k ≡ false) (sym same) (precedes-self s k)
+    | inr other ↦ contrary (is_member n (minus set (2 ^ k))) other (h n)
+  ],
+)
+one-more s set k (Some m) fits here h = one-more_by s set k m (precedes s m k) refl fits here h
+
+pub least_of-lowest : (s : Exceptions) (set : ℕ) → 0 < set → set < 2 ^ 64 → trailing_zeros w64 set < 48 →
+    nearer s (trailing_zeros w64 set) (least_of s (minus set (2 ^ trailing_zeros w64 set))) ≡ least_of s set
+least_of-lowest s set some fits low =
+    let k : ℕ = trailing_zeros w64 set in
+    let here : has_bit set k ≡ true = ap (λ b. b == 1) (bit_at-trailing_zeros w64 set some fits).1 in
+    only_one s set (nearer s k (least_of s (minus set (2 ^ k)))) (least_of s set)
+    (one-more s set k (least_of s (minus set (2 ^ k))) low here (least_of-is s (minus set (2 ^ k)))) (least_of-is s set)
+
+below : (x y k : ℕ) → x ≤ y → bit_at x k ≡ 0 → bit_at y k ≡ 1 → x < y
+below x y k le low high =
+    elim (eq_or_ne x y) [
+      | inl same ↦ let e : bit_at x k ≡ bit_at y k = ap (λ n. bit_at n k) same in absurd (omega arith)
+      | inr other ↦ grind arith
+    ]
+
+pub others-less : (set : ℕ) → 0 < set → set < 2 ^ 64 → trailing_zeros w64 set < 48 → minus set (2 ^ trailing_zeros w64 set) < set
+others-less set some fits low =
+    let k : ℕ = trailing_zeros w64 set in
+    below (minus set (2 ^ k)) set k (and_le_l set (2 ^ 64 - 1 - 2 ^ k)) (others-none set k low) (bit_at-trailing_zeros w64 set some fits).1
+
+-- a set that has no number of an exception has no least member
+pub least_of-high : (s : Exceptions) (set : ℕ) → 0 < set → set < 2 ^ 64 → 48 ≤ trailing_zeros w64 set → None ≡ least_of s set
+least_of-high s set some fits high =
+    only_one s set None (least_of s set)
+    (λ n. is_member-false n set (λ low. ap (λ b. b == 1) ((bit_at-trailing_zeros w64 set some fits).2 n (omega arith)))) (least_of-is s set)
+
+pub least_of-empty : (s : Exceptions) → None ≡ least_of s 0
+unfolding least_of numbers
+least_of-empty s = refl
 
 pub ruleset least_laws = (least_of-is)

@@ -145,8 +145,7 @@ impl Nvic {
         self.vtor
     }
 
-    /// The least member of a set by priority, then by number.
-    #[tactic(auto, using(crate::proofs::Members::passing))]
+    /// The least member of a set by priority, then by number: the lowest number against the least of the others.
     fn least(&self, set: u64) -> Option<u8>
         ensures { result ≡ least_of self.now set }
     {
@@ -154,17 +153,11 @@ impl Nvic {
             return None;
         }
         let lowest = set.trailing_zeros() as u8;
-        if lowest < NUMBERS && set == bit(lowest) {
-            return Some(lowest);
+        if lowest >= NUMBERS {
+            return None;
         }
-        let mut best = None;
-        for passed in 0..NUMBERS {
-            let number = NUMBERS - 1 - passed;
-            if is_member(set, number) {
-                best = Some(self.nearer(number, best));
-            }
-        }
-        best
+        let others = self.least(set & !bit(lowest));
+        Some(self.nearer(lowest, others))
     }
 
     /// The one of two exceptions that comes first.
