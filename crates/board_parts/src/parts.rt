@@ -60,14 +60,15 @@ fn count_words<P: Part>(list: &[P]) -> usize
     }
 }
 
-impl<P: Part> Row<P> {
-    /// These parts, in this order. Each is attached.
+impl<P: Part + Sync> Row<P> {
+    /// These parts, in this order, as one device. Each is attached.
     pub fn new(list: Vec<P>) -> Row<P>
         requires placed { all_placed (map (λ p. placed_at (P.attached p) (P.meaning p))
             list.items) ≡ true }
         requires room { words_of (map (λ p. placed_at (P.attached p) (P.meaning p))
             list.items) ≤ 128 }
-        ensures { result.list ≡ list }
+        ensures { ⟦<Row<P> as Device>⟧.meaning result
+            ≡ parts_device (map (λ p. placed_at (P.attached p) (P.meaning p)) list.items) }
     {
         let count = count_words(&list);
         Row { list, count }

@@ -21,7 +21,7 @@ new-requires-clause-placed g c =
     let wirings = map wired_in c.args.wirings.now in
     let parts = map g.P.Part.meaning c.args.parts.items in
     let same = all_attached _ at.index g.P.Part.meaning _ _ c.args.parts.items wirings (sym at.invariant.2 ∙ c.in-None.ensures.steps.0) at.invariant.0 c.into_iter-part-iterator.ensures.into_iter_gives.0 in
-    subst (λ ps. all_placed ps ≡ true) (sym same) (placed_placed parts wirings c.requires.fit)
+    λ _ _. subst (λ ps. all_placed ps ≡ true) (sym same) (placed_placed parts wirings c.requires.fit)
 
 pub new-requires-clause-room : goal.new-requires-clause-room
 new-requires-clause-room g c =
@@ -36,7 +36,7 @@ returns-clause-device g c =
     let at = c.loop-part in
     let wirings = map wired_in c.args.wirings.now in
     let same = all_attached _ at.index g.P.Part.meaning _ _ c.args.parts.items wirings (sym at.invariant.2 ∙ c.in-None.ensures.steps.0) at.invariant.0 c.into_iter-part-iterator.ensures.into_iter_gives.0 in
-    rw c.new.ensures (ap parts_device same)
+    c.new.ensures ∙ ap parts_device same
 
 pub returns-clause-words : goal.returns-clause-words
 returns-clause-words g c =
@@ -44,4 +44,4 @@ returns-clause-words g c =
     let wirings = map wired_in c.args.wirings.now in
     let parts = map g.P.Part.meaning c.args.parts.items in
     let same = all_attached _ at.index g.P.Part.meaning _ _ c.args.parts.items wirings (sym at.invariant.2 ∙ c.in-None.ensures.steps.0) at.invariant.0 c.into_iter-part-iterator.ensures.into_iter_gives.0 in
-    rw c.new.ensures (omega (arith, ap words_of same, placed_words parts wirings))
+    omega (arith, ap (λ device. device.count) c.new.ensures, ap words_of same, placed_words parts wirings)
