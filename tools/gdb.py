@@ -1,0 +1,582 @@
+#!/usr/bin/env python3
+"""Lets GDB debug a run of the emulator, forwards and backwards.
+
+    gdb-multiarch firmware.elf -ex 'target remote | tools/gdb.py firmware.elf --cycles 200000'
+    tools/gdb.py firmware.elf --cycles 200000 --listen 3333        for an editor, which connects to localhost:3333
+
+The image is an ELF or a UF2 file. Both cores are threads. What works: registers, SRAM, breakpoints, write watchpoints, step, next,
+stepi, continue, finish, and their reverse forms; Ctrl-C. The run is replayed, so nothing can be written; SRAM alone can be read.
+`monitor help` lists the commands of the session that can be asked, as `monitor pins`.
+
+A stop of the run is a signal, and its line is shown: SIGTRAP for a BKPT, SIGSEGV outside of the machine, SIGABRT for a lockup; at the
+limit and at the start the history ends. An instruction is taken to begin where PC changes. A breakpoint is looked for cycle by cycle, so
+one that is ten million cycles away takes a minute or so; a watchpoint takes about the time of the run up to there.
+"""
+from __future__ import annotations
+
+import os
+import re
+import select
+import socket
+import sys
+
+sys.path.insert(0, os.path.dirname(os.path.abspath(__file__)))
+import johvelni  # noqa: E402
+from runs import NAMES, STOP, Refused, main, parser, say  # noqa: E402
+
+INPUT = 1_000_000           # bytes of commands after which a session begins anew; it hears at most 1 MiB
+CHUNK = 1_000_000           # cycles of a run between two looks for Ctrl-C
+LEAST, MOST = 64, 4096      # cycles that are looked at at once
+AT_WRITE = 16               # cycles after which a step over a write ends where no core begins an instruction
+READ_ONLY = "the run is replayed: nothing can be written"
+SRAM = [(0x20000000, 0x20042000), (0x21000000, 0x21040000)]
+PC = slice(141, 149)        # the digits of PC in a line of registers
+HELP = """pins, pio <block> <machine>, regs, mem <address> [count], lastwrite <address>: as a session answers them
+step [n], back [n], goto <cycle>, end: move; `maintenance flush register-cache` then shows the registers there
+reset: goes to cycle 0; cycle: where the run stands; info: what this target can do
+"""
+INFO = ("cycle {} of a run that is replayed: registers and memory cannot be written; reverse-stepi, reverse-step and reverse-continue "
+        "go back; watchpoints are those of writes\n")
+SIGNALS = {"bkpt": 5, "outside": 11, "lockup": 6}
+TYPES = {"sp": ' type="data_ptr"', "pc": ' type="code_ptr"'}
+XML = ('<?xml version="1.0"?><!DOCTYPE target SYSTEM "gdb-target.dtd"><target version="1.0"><architecture>arm</architecture>'
+       '<feature name="org.gnu.gdb.arm.m-profile">'
+       + "".join(f'<reg name="{name}" bitsize="32"{TYPES.get(name, "")}/>' for name in NAMES) + "</feature></target>")
+
+
+class Interrupted(Exception):
+    """GDB asked to stop the run."""
+
+
+class Link:
+    """Packets of GDB's remote protocol over two file descriptors."""
+
+    def __init__(self, source, sink):
+        self.source, self.sink = source, sink
+        self.buffer, self.last, self.is_acknowledged = b"", b"", True
+
+    def fill(self, seconds=None):
+        """Takes what has come; whether there was something."""
+        if not select.select([self.source], [], [], seconds)[0]:
+            return False
+        data = os.read(self.source, 1 << 16)
+        if not data:
+            raise EOFError
+        self.buffer += data
+        return True
+
+    def put(self, data):
+        while data:
+            data = data[os.write(self.sink, data):]
+
+    def packet(self):
+        """The text of the next packet."""
+        while True:
+            before, found, rest = self.buffer.partition(b"$")
+            if b"-" in before and self.is_acknowledged:
+                self.put(self.last)
+            body, ends, check = rest.partition(b"#")
+            if not ends or len(check) < 2:
+                self.buffer = found + rest
+                self.fill()
+                continue
+            self.buffer = check[2:]
+            is_good = re.fullmatch(rb"[0-9a-fA-F]{2}", check[:2]) is not None and sum(body) % 256 == int(check[:2], 16)
+            if self.is_acknowledged:
+                self.put(b"+" if is_good else b"-")
+            if is_good:
+                return body.decode("latin-1")
+
+    def send(self, text):
+        data = text.encode("latin-1")
+        self.last = b"$%s#%02x" % (data, sum(data) % 256)
+        self.put(self.last)
+
+    def look(self):
+        """Ends a run that GDB wants to be stopped."""
+        while self.fill(0):
+            pass
+        if b"\x03" in self.buffer:
+            self.buffer = self.buffer.replace(b"\x03", b"")
+            raise Interrupted
+
+
+class Session:
+    """A session of the debugger. It begins anew, at the same cycle, before its input is too long."""
+
+    def __init__(self, make):
+        self.make, self.debug, self.sent = make, None, 0
+        self.cycle, self.stop = 0, None
+        self.begin()
+
+    def begin(self):
+        self.close()
+        self.debug, self.sent = self.make(), 0
+        if self.cycle:
+            self.move(f"goto {self.cycle}")
+
+    def close(self):
+        if self.debug is not None:
+            self.debug.close()
+
+    def ask(self, command, lines=1):
+        if self.sent + len(command) + 1 > INPUT:
+            self.begin()
+        self.sent += len(command) + 1
+        return self.debug.ask(command, lines)
+
+    def move(self, command):
+        """Moves; `stop` is then the line of the stop that was met, `start`, or None."""
+        (line,) = self.ask(command)
+        self.stop = None
+        if found := STOP.fullmatch(line):
+            self.stop, self.cycle = line, int(found[3])
+        elif line == "at start":
+            self.stop, self.cycle = "start", 0
+        else:
+            self.cycle = int(line.removeprefix("at "))
+        return line
+
+    def goto(self, cycle):
+        if cycle != self.cycle:
+            self.move(f"goto {cycle}")
+
+    def registers(self):
+        """The lines of both cores; None for one that is asleep."""
+        return [None if line.endswith("asleep") else line for line in self.ask("regs", 2)]
+
+    def places(self):
+        """PC of both cores."""
+        return [place_of(line) for line in self.ask("regs", 2)]
+
+    def trace(self, count):
+        """The next cycles with PC of both cores in each, up to the stop."""
+        found, lines = [], self.ask("\n".join(["step", "regs"] * count), 3 * count)
+        self.stop = None
+        for where, first, second in zip(*[iter(lines)] * 3):
+            if STOP.fullmatch(where):
+                self.stop = where
+                break
+            self.cycle = int(where.removeprefix("at "))
+            found.append((self.cycle, [place_of(first), place_of(second)]))
+        return found
+
+    def last_write(self, address):
+        last = self.ask(f"lastwrite {address:08x}")[0].split()[-1]
+        return None if last == "none" else int(last)
+
+
+def place_of(line):
+    return None if line.endswith("asleep") else int(line[PC], 16)
+
+
+class Target:
+    """Moves of GDB over a session: by instructions, to breakpoints and to writes of watched words."""
+
+    def __init__(self, session, link):
+        self.session, self.link = session, link
+        self.breaks, self.watched = set(), {}
+        self.core = 0          # the one that the last stop is told of
+        self.written = None    # the cycle of a write that was told last, which is then the next one
+
+    def entered(self, before, places):
+        """The core that begins an instruction with a breakpoint, if one does."""
+        for core in (0, 1):
+            if places[core] != before[core] and places[core] in self.breaks:
+                return core
+        return None
+
+    def forward(self, is_end, most=None):
+        """Goes on to the first cycle that is an end, by PC of both cores before and in it; None where there was a stop before."""
+        before, count, begin = self.session.places(), LEAST, self.session.cycle
+        while most is None or self.session.cycle - begin < most:
+            self.link.look()
+            for cycle, places in self.session.trace(count):
+                if is_end(before, places):
+                    self.session.goto(cycle)
+                    self.session.stop = None
+                    return cycle
+                before = places
+            if self.session.stop:
+                return None
+            count = min(2 * count, MOST)
+        return self.session.cycle
+
+    def backward(self, is_end, below, least=0):
+        """The last cycle below one, and from the least on, that is an end; None where there is none."""
+        high, count = below, LEAST
+        while high > least:
+            self.link.look()
+            low = max(0, high - count)
+            self.session.goto(low)
+            rows = [(low, self.session.places()), *(self.session.trace(high - low))]
+            for (_, before), (cycle, places) in reversed(list(zip(rows, rows[1:]))):
+                if least <= cycle < below and is_end(before, places):
+                    return cycle
+            high, count = low, min(2 * count, MOST)
+        return None
+
+    def begun(self, core, below):
+        """The last cycle below one in which a core began an instruction; 0 where it was before all."""
+        return self.backward(lambda before, places: places[core] != before[core], below) or 0
+
+    def step(self, core, area=range(0)):
+        """One instruction of a core, or as many as lie in an area. A step from a write that was told ends once that is done: it
+        is GDB's own, which looks at the value then."""
+        self.core = core
+        if self.session.cycle == self.written:
+            self.forward(lambda before, places: places != before, AT_WRITE)
+            return ""
+        entered = []
+
+        def is_end(before, places):
+            if (found := self.entered(before, places)) is not None:
+                entered[:] = [found]
+                return True
+            return places[core] != before[core] and places[core] not in area
+
+        self.forward(is_end, None if area else MOST)
+        if self.session.stop is None and entered:
+            self.core = entered[0]
+            return "hwbreak:;"
+        return ""
+
+    def step_back(self, core):
+        """To the first cycle of the instruction before; from a write that was told to that of the one that writes."""
+        self.core = core
+        now = self.session.cycle
+        begun = self.begun(core, now + 1)
+        if now != self.written:
+            begun = self.begun(core, begun)
+        self.session.goto(begun)
+        self.session.stop = None if begun else "start"
+        return ""
+
+    def first_write(self, address, begin):
+        """The first cycle from this one on, and below the present one, that changes a word."""
+        last = self.session.last_write(address)
+        if last is None or last < begin:
+            return None
+        low = begin
+        while low < last:
+            middle = (low + last) // 2 + 1
+            self.session.goto(middle)
+            found = self.session.last_write(address)
+            if found is not None and found >= begin:
+                last = found
+            else:
+                low = middle
+        return last
+
+    def until_write(self, begin, end):
+        """The first write of a watched word between two cycles, with what is told of it."""
+        best = None
+        for address, told in self.watched.items():
+            self.session.goto(end)
+            found = self.first_write(address, begin)
+            if found is not None and (best is None or found < best[0]):
+                best = (found, f"watch:{told:x};")
+        return best
+
+    def go_on(self):
+        """Goes on to a breakpoint, a write of a watched word or the stop; what is told of it."""
+        session, count = self.session, LEAST
+        while session.stop is None or session.stop == "start":
+            self.link.look()
+            begin, hit = session.cycle, None
+            if self.breaks:
+                before = session.places()
+                for cycle, places in session.trace(min(count, MOST)):
+                    if (core := self.entered(before, places)) is not None:
+                        hit = (cycle, core)
+                        break
+                    before = places
+            else:
+                session.move(f"step {min(count * 16, CHUNK)}")
+            stop, end = session.stop, hit[0] if hit else session.cycle
+            if self.watched and (found := self.until_write(begin, end)):
+                return self.told_write(*found)
+            session.goto(end)
+            session.stop = None if hit else stop
+            if hit:
+                self.core = hit[1]
+                return "hwbreak:;"
+            count *= 2
+        return ""
+
+    def told_write(self, cycle, told):
+        """Goes to the state before a write. GDB takes a watchpoint of ARM to be told before the access, and steps over it."""
+        self.session.goto(cycle)
+        self.session.stop, self.written = None, cycle
+        return told
+
+    def go_back(self):
+        """Back to a breakpoint, a write of a watched word or the start; what is told of it."""
+        session, write, cores = self.session, None, []
+        now = session.cycle
+        for address, told in self.watched.items():
+            found = session.last_write(address)
+            if found is not None and (write is None or found > write[0]):
+                write = (found, f"watch:{told:x};")
+
+        def is_end(before, places):
+            if (core := self.entered(before, places)) is not None:
+                cores[:] = [core]
+            return core is not None
+
+        if self.breaks and (found := self.backward(is_end, now, write[0] + 1 if write else 0)):
+            self.core = cores[0]
+            session.goto(found)
+            session.stop = None
+            return "hwbreak:;"
+        if write:
+            return self.told_write(*write)
+        session.goto(0)
+        session.stop = "start"
+        return ""
+
+
+class Server:
+    """What is answered to GDB."""
+
+    def __init__(self, link, make):
+        self.link = link
+        self.session = Session(make)
+        self.target = Target(self.session, link)
+        self.core = 0               # whose registers GDB reads
+
+    def serve(self):
+        """Answers packets until GDB goes."""
+        try:
+            while True:
+                text = self.link.packet()
+                try:
+                    reply = self.answer(text)
+                except johvelni.Refused as refused:
+                    say(refused)
+                    reply = f"E.{refused}"
+                if reply is None:
+                    break
+                self.link.send(reply)
+                if text == "QStartNoAckMode":
+                    self.link.is_acknowledged = False
+                if text[0] == "D" or text.startswith("vKill"):
+                    break
+        except (EOFError, BrokenPipeError, ConnectionResetError):
+            pass
+        finally:
+            self.session.close()
+
+    def answer(self, text):
+        """The reply to a packet: empty for one that is not known, None where GDB is gone."""
+        fixed = {
+            "!": "OK", "?": "T05thread:1;", "qAttached": "1", "qC": f"QC{self.core + 1}", "qsThreadInfo": "l",
+            "QStartNoAckMode": "OK", "vCont?": "vCont;c;C;s;S;r", "D": "OK", "k": None, "qSymbol::": "OK",
+            "qSupported": "PacketSize=4000;QStartNoAckMode+;qXfer:features:read+;ReverseStep+;ReverseContinue+;hwbreak+",
+        }
+        name = "qSupported" if text.startswith("qSupported") else text
+        if name in fixed:
+            return fixed[name]
+        if text.startswith(("vKill", "D;", "T")):
+            return "OK"
+        if text.startswith(("G", "P", "M", "X")):
+            say(READ_ONLY)
+            return f"E.{READ_ONLY}"
+        for begin, call in self.calls().items():
+            if text.startswith(begin):
+                try:
+                    return call(text[len(begin):])
+                except ValueError:
+                    return "E.a packet that is not understood"
+        return ""
+
+    def calls(self):
+        return {
+            "qXfer:features:read:target.xml:": self.features, "qfThreadInfo": self.threads, "qThreadExtraInfo,": self.thread,
+            "qRcmd,": self.monitor, "H": self.choose, "g": self.all_registers, "p": self.register, "m": self.memory,
+            "Z": self.insert, "z": self.remove, "vCont;": self.resume, "bs": self.step_back, "bc": self.go_back, "s": self.step,
+            "c": self.go_on,
+        }
+
+    def features(self, rest):
+        begin, length = (int(word, 16) for word in rest.split(","))
+        return ("l" if begin + length >= len(XML) else "m") + XML[begin:begin + length]
+
+    def threads(self, _):
+        return "m1,2" if self.session.registers()[1] else "m1"
+
+    def thread(self, rest):
+        return f"core {int(rest, 16) - 1}".encode().hex()
+
+    def choose(self, rest):
+        """Hg and Hc with a thread; 0 and -1 are any."""
+        if rest[1:] not in ("0", "-1"):
+            self.core = (int(rest[1:], 16) - 1) & 1
+        return "OK"
+
+    def words(self):
+        line = self.session.registers()[self.core]
+        return ["00000000"] * 17 if line is None else line.split()[1:]
+
+    def all_registers(self, _):
+        return "".join(turned(word) for word in self.words())
+
+    def register(self, rest):
+        words = self.words()
+        number = int(rest, 16)
+        return turned(words[number]) if number < len(words) else "E.no such register"
+
+    def memory(self, rest):
+        begin, length = (int(word, 16) for word in rest.split(","))
+        area = next(((low, high) for low, high in SRAM if low <= begin < high), None)
+        if area is None:
+            return "E01"
+        end = min(begin + length, area[1])
+        data, at = "", begin & ~3
+        while at < end:
+            count = min(16, (end - at + 3) // 4)
+            try:
+                (line,) = self.session.ask(f"mem {at:08x} {count}")
+            except johvelni.Refused:
+                break
+            data += "".join(turned(word) for word in line.split()[2:])
+            at += 4 * count
+        return data[2 * (begin & 3):2 * (end - (begin & ~3))] or "E01"
+
+    def insert(self, rest):
+        return self.point(rest, True)
+
+    def remove(self, rest):
+        return self.point(rest, False)
+
+    def point(self, rest, is_there):
+        """A breakpoint (0, 1), or a watchpoint of writes (2), for each word that it covers; others are not known."""
+        kind, address, length = rest.split(";")[0].split(",")
+        begin, target = int(address, 16), self.target
+        if kind in ("0", "1"):
+            (target.breaks.add if is_there else target.breaks.discard)(begin & ~1)
+            return "OK"
+        if kind != "2":
+            return ""
+        if not any(low <= begin < high for low, high in SRAM[:1]):
+            return "E.writes are watched in SRAM alone, 20000000 to 20041fff"
+        for word in range(begin & ~3, begin + int(length, 16), 4):
+            if is_there:
+                target.watched[word] = begin
+            else:
+                target.watched.pop(word, None)
+        return "OK"
+
+    def resume(self, rest):
+        """vCont: the first action that steps counts, the others go along."""
+        for action in rest.split(";"):
+            what, _, thread = action.partition(":")
+            core = self.core if thread in ("", "0", "-1") else (int(thread, 16) - 1) & 1
+            if what[0] == "r":
+                begin, end = (int(word, 16) for word in what[1:].split(","))
+                return self.moved(lambda: self.target.step(core, range(begin, end)))
+            if what[0] in "sS":
+                return self.moved(lambda: self.target.step(core))
+        return self.go_on("")
+
+    def step(self, _):
+        return self.moved(lambda: self.target.step(self.core))
+
+    def step_back(self, _):
+        return self.moved(lambda: self.target.step_back(self.core))
+
+    def go_on(self, _):
+        return self.moved(self.target.go_on)
+
+    def go_back(self, _):
+        return self.moved(self.target.go_back)
+
+    def moved(self, move):
+        """Moves, and tells where it stopped and why."""
+        before, written, told = self.session.cycle, self.target.written, ""
+        if self.session.stop == "start":
+            self.session.stop = None
+        try:
+            told = move()
+        except Interrupted:
+            return f"T02thread:{self.target.core + 1};"
+        if self.target.written == written:
+            self.target.written = None
+        stop = self.session.stop
+        self.core = self.target.core
+        if stop == "start":
+            return "T05replaylog:begin;" + f"thread:{self.core + 1};"
+        if stop is None:
+            return f"T05{told}thread:{self.core + 1};"
+        kind = stop.split()[1]
+        if kind == "limit" or self.session.cycle == before:
+            return f"T05replaylog:end;thread:{self.core + 1};"
+        found = re.search(r"core([01])", stop)
+        self.core = self.target.core = int(found[1]) if found else 0
+        self.link.send("O" + f"{stop}\n".encode().hex())
+        return f"T{SIGNALS[kind]:02x}thread:{self.core + 1};"
+
+    def monitor(self, rest):
+        """What a command of the session answers, or one of the bridge's own."""
+        command = " ".join(bytes.fromhex(rest).decode("latin-1").split())
+        own = {"help": HELP, "info": INFO.format(self.session.cycle), "cycle": f"{self.session.cycle}\n", "halt": ""}
+        if command in own:
+            text = own[command]
+        elif command.split()[:1] == ["reset"]:
+            text = self.session.move("goto 0") + "\n"
+        elif command.split()[:1] and command.split()[0] in ("step", "back", "goto", "end"):
+            text = self.session.move(command) + "\n"
+        elif command == "quit":
+            text = "detach or kill ends the session\n"
+        else:
+            text = "\n".join(self.session.ask(command, 2 if command == "regs" else 1)) + "\n"
+        return text.encode().hex() or "OK"
+
+
+def turned(word):
+    """The bytes of a word, from the lowest."""
+    return word[6:8] + word[4:6] + word[2:4] + word[0:2]
+
+
+def listen(port, make):
+    """Serves one connection after another at a port of this machine."""
+    with socket.create_server(("localhost", port)) as server:
+        say(f"waiting at localhost:{server.getsockname()[1]}")
+        while True:
+            connection, _ = server.accept()
+            with connection:
+                connection.setsockopt(socket.IPPROTO_TCP, socket.TCP_NODELAY, 1)
+                Server(Link(connection.fileno(), connection.fileno()), make).serve()
+
+
+def tool():
+    words = parser(__doc__)
+    words.add_argument("image", help="an ELF or a UF2 file")
+    words.add_argument("--cycles", type=int, default=1_000_000, help="the limit of the run; 1000000 where none is given")
+    words.add_argument("--script", help="as of pico debug")
+    words.add_argument("--pio", help="as of pico debug")
+    words.add_argument("--part", help="as of pico debug")
+    words.add_argument("--table", action="store_true", help="as of pico debug")
+    words.add_argument("--listen", type=int, metavar="PORT", help="waits for GDB at a port of this machine, in place of a pipe")
+    given = words.parse_args()
+
+    def make():
+        parts = given.part and dict(entry.partition("=")[::2] for entry in given.part.split(","))
+        parts = parts and {part: pins.split("+") for part, pins in parts.items()}
+        debug = johvelni.Debug(given.image, given.cycles, script=given.script, pio=given.pio, parts=parts, table=given.table)
+        debug.ask("regs", 2)
+        return debug
+
+    try:
+        if given.listen is not None:
+            make().close()
+            listen(given.listen, make)
+        if sys.stdin is None or sys.stdout is None:
+            raise Refused("standard input or output is closed: GDB starts this by `target remote |`, or give --listen")
+        Server(Link(0, 1), make).serve()
+    except johvelni.Refused as refused:
+        raise Refused(f"the session was refused: {refused}") from None
+
+
+if __name__ == "__main__":
+    main(tool)
