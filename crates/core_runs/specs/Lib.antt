@@ -1,3 +1,4 @@
 pub mod Bytes
-pub mod Runs
 pub mod Instructions
+pub mod Programs
+pub mod Runs

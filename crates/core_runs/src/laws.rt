@@ -2,6 +2,7 @@
 
 ghost use Rattle.core_runs.specs.Runs.{ARunAloneChains, ARunAloneIsTheCoresOwn, ASilentCycleStaysSilent, StepsChain};
 ghost use Rattle.core_runs.specs.Instructions.{AnInstructionSteps};
+ghost use Rattle.core_runs.specs.Programs.{AHalfwordSteps, EachPlaceHasAByte, EachFourthPlaceHasAWord, CodeIsFetched, APutElsewhereKeepsCode};
 
 use m0_core::laws::an_instruction_off_the_private_bus_takes_its_beats;
 
@@ -32,3 +33,30 @@ pub fn an_instruction_steps()
 {
     an_instruction_off_the_private_bus_takes_its_beats();
 }
+
+/// The same by the halfword at PC: it is an operation whose beats, registers and memory are known.
+pub fn a_halfword_steps()
+    ensures { AHalfwordSteps }
+{
+    an_instruction_steps();
+}
+
+/// An access to a byte of SRAM reads the byte of its place in the list, or puts one there.
+pub fn each_place_has_a_byte()
+    ensures { EachPlaceHasAByte }
+{}
+
+/// An access to a word of SRAM reads the four bytes from its place on, or puts four there.
+pub fn each_fourth_place_has_a_word()
+    ensures { EachFourthPlaceHasAWord }
+{}
+
+/// Code that SRAM holds is fetched from there.
+pub fn code_is_fetched()
+    ensures { CodeIsFetched }
+{}
+
+/// Bytes that are put elsewhere leave the code.
+pub fn a_put_elsewhere_keeps_code()
+    ensures { APutElsewhereKeepsCode }
+{}
