@@ -1,18 +1,16 @@
 -- Bytes, words and halfwords of SRAM.
-use Rattle.std.proofs.Common.{◌≡◌, ℕ, zero, suc, ◌+◌, ◌-◌, ◌*◌, ◌/◌, ◌%◌, ◌^◌, ◌<◌, ◌≤◌, ◌⊎◌, inl, inr, Bool, true, false, cond, ◌&&◌, ◌==◌, List, [], ◌∷◌, ◌++◌, length, take, drop, get_or, slice_index, refl, sym, ap, ap₂, subst, ◌∙◌, arith, Option, Some, None, leb, le-leb, eqb-true, length-append, length-take-le, length-drop, get_or-take, get_or-drop, take_at, drop_at, drop-drop, take-take}
-use lib.Seq.{get_or-append-add, get_or-append_right, take-append-le, drop-append-le, drop-append-add}
+use Rattle.std.proofs.Common.{◌≡◌, ℕ, zero, suc, ◌+◌, ◌-◌, ◌*◌, ◌/◌, ◌%◌, ◌^◌, ◌<◌, ◌≤◌, ◌⊎◌, inl, inr, Bool, true, false, ◌==◌, List, [], ◌∷◌, ◌++◌, length, take, drop, get_or, slice_index, refl, sym, ap, ap₂, subst, ◌∙◌, arith, Some, le-leb, eqb-true, length-append, length-take-le, length-drop, get_or-take, get_or-drop, take_at, drop_at, drop-drop, take-take}
+use lib.Seq.{get_or-append-add, take-append-le, drop-append-le, drop-append-add}
 use Rattle.std.proofs.lemmas.List.{drop-take}
 use Rattle.std.proofs.lemmas.Bool.{lt-leb, cases_lt, eqb-false}
 use Rattle.rp_base.specs.declared.Size.TheVariants as sizes
-use Rattle.rp_base.specs.declared.map.Spot.{Spot}
 use Rattle.rp_base.specs.declared.map.Spot.TheVariants as spot
 use Rattle.rp_base.specs.Access.{lanes_of}
 use Rattle.rp_base.specs.Map.{place_of}
-use Rattle.rp_base.specs.Word.{joined}
 use Rattle.m0_core.specs.Fetch.{is_ram_spot}
 use Rattle.m0_core.specs.Laws.{half_at}
 use Rattle.core_runs.specs.Bytes.{put, Holds, IsSram, word_from, word_at, half_of, answer, bytes_of, stored_at}
-use Rattle.core_runs.specs.Programs.{IsInside, place, reading, writing, HasByte, EachPlaceHasAByte, HasWord, EachFourthPlaceHasAWord, CodeIsFetched, KeepsCode, APutElsewhereKeepsCode}
+use Rattle.core_runs.specs.Programs.{IsInside, place, writing, EachPlaceHasAByte, EachFourthPlaceHasAWord, CodeIsFetched, APutElsewhereKeepsCode}
 
 -- ---- places
 
@@ -200,11 +198,12 @@ put_bytes m at bytes i le old new = elim (cases_lt i at) [
   where
     back : (i at : ℕ) → at ≤ i → at + (i - at) ≡ i
     back i at h = omega (arith, h)
+
     far : (i at n : ℕ) → at ≤ i → n ≤ i - at → at + (n + (i - at - n)) ≡ i
     far i at n h k = omega (arith, h, k)
 
 -- what stands elsewhere
-put_below : (m : List ℕ) (at : ℕ) (bytes : List ℕ) (k n : ℕ) → at ≤ length m → k + n ≤ at → take n (drop k (put m at bytes)) ≡ take n (drop k m)
+pub put_below : (m : List ℕ) (at : ℕ) (bytes : List ℕ) (k n : ℕ) → at ≤ length m → k + n ≤ at → take n (drop k (put m at bytes)) ≡ take n (drop k m)
 put_below m at bytes k n le below =
     let rest = bytes ++ drop (at + length bytes) m in
     let front = length-take-le at m le in
@@ -215,7 +214,7 @@ put_below m at bytes k n le below =
     ∙ ap (take n) (drop-take k (at - k) m)
     ∙ take-take n (at - k) (drop k m) (omega (arith, below))
 
-put_above : (m : List ℕ) (at : ℕ) (bytes : List ℕ) (k : ℕ) → at ≤ length m → at + length bytes ≤ k → drop k (put m at bytes) ≡ drop k m
+pub put_above : (m : List ℕ) (at : ℕ) (bytes : List ℕ) (k : ℕ) → at ≤ length m → at + length bytes ≤ k → drop k (put m at bytes) ≡ drop k m
 put_above m at bytes k le above =
     let e = k - at - length bytes in
     let split : k ≡ at + (length bytes + e) = omega (arith, above) in

@@ -1,17 +1,17 @@
 -- Runs that are chained, and the core's own stepping.
-use Rattle.std.proofs.Common.{◌≡◌, ℕ, zero, suc, ◌+◌, ◌<◌, Bool, true, false, ◌||◌, List, [], ◌∷◌, ◌++◌, refl, sym, ap, ap₂, subst, ◌∙◌, arith, append_assoc, append-nil, true≢false}
+use Rattle.std.proofs.Common.{◌≡◌, ℕ, zero, suc, ◌+◌, ◌<◌, Bool, true, false, ◌||◌, List, [], ◌∷◌, refl, sym, ap, ap₂, ◌∙◌, arith, append_assoc, append-nil, true≢false}
 use Rattle.std.specs.List.{list_any}
 use Rattle.std.proofs.lemmas.Bool.{or_parts}
 use Rattle.lane_look.specs.declared.lane.Want.{Want}
 use Rattle.lane_look.specs.declared.lane.Want.TheVariants as want
 use Rattle.lane_look.specs.declared.lane.Turn.TheVariants as turn
-use Rattle.lane_look.specs.Replay.{turn_alone, after_begun}
-use Rattle.lane_look.specs.Alone.{Alone, alone, alone_cycle, all_stored, ends_at, ends_now, ends_want, begun_alone}
+use Rattle.lane_look.specs.Replay.{turn_alone}
+use Rattle.lane_look.specs.Alone.{Alone, alone, alone_cycle, ends_at, ends_now, ends_want}
 use Rattle.m0_core.specs.State.{State}
 use Rattle.m0_core.specs.Cycle.{next}
-use Rattle.m0_core.specs.Laws.{turn_of, begun_in, after_cycle, after_cycles, wanted_in, wants_in}
-use Rattle.core_runs.specs.Bytes.{answer, stored, around}
-use Rattle.core_runs.specs.Runs.{core_lane, run, ends_in, then, Chains, ARunAloneChains, given_by, givens, IsStepped, ARunAloneIsTheCoresOwn}
+use Rattle.m0_core.specs.Laws.{turn_of, begun_in, after_cycle, wanted_in, wants_in}
+use Rattle.core_runs.specs.Bytes.{stored, around}
+use Rattle.core_runs.specs.Runs.{core_lane, run, ends_in, then, ARunAloneChains, given_by, givens, IsStepped, ARunAloneIsTheCoresOwn}
 
 -- ---- n + k cycles
 

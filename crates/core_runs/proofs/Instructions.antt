@@ -1,5 +1,5 @@
 -- One instruction of a core that runs alone over SRAM, and steps that are chained.
-use Rattle.std.proofs.Common.{◌≡◌, ℕ, zero, suc, ◌+◌, ◌-◌, ◌<◌, ◌≤◌, ◌⊎◌, inl, inr, Bool, true, false, cond, not, ◌&&◌, ◌||◌, List, [], ◌∷◌, ◌++◌, map, length, refl, sym, ap, ap₂, subst, ◌∙◌, arith, true≢false, Option, Some, None, option_to_list, ltb, ltb-true, ltb-false}
+use Rattle.std.proofs.Common.{◌≡◌, ℕ, zero, suc, ◌+◌, ◌-◌, ◌<◌, ◌≤◌, Bool, true, false, cond, not, ◌&&◌, ◌||◌, List, [], ◌∷◌, ◌++◌, map, length, refl, sym, ap, ap₂, subst, ◌∙◌, arith, true≢false, Option, Some, None, option_to_list, ltb, ltb-true, ltb-false}
 use Rattle.std.specs.List.{list_any}
 use Rattle.std.proofs.lemmas.Bool.{or_parts}
 use Rattle.rp_base.specs.declared.Request.{Request}
@@ -7,10 +7,9 @@ use Rattle.rp_base.specs.declared.map.Spot.{Spot}
 use Rattle.rp_base.specs.declared.map.Spot.TheVariants as spot
 use Rattle.rp_base.specs.declared.op.Op.{Op}
 use Rattle.rp_base.specs.Map.{place_of}
-use Rattle.m0_beats.specs.declared.registers.Regs.{Regs}
 use Rattle.m0_beats.specs.declared.timing.Beat.{Beat}
 use Rattle.m0_beats.specs.declared.timing.Beat.TheVariants.{Inner, Access}
-use Rattle.m0_beats.specs.Beats.{beats_of, is_unaligned_of}
+use Rattle.m0_beats.specs.Beats.{beats_of}
 use Rattle.m0_beats.specs.Effects.{effect_of, return_of}
 use Rattle.m0_nvic.specs.State.{Exceptions}
 use Rattle.m0_nvic.specs.Cycle as nvic
@@ -22,9 +21,9 @@ use Rattle.m0_core.specs.State.{State}
 use Rattle.m0_core.specs.Kinds.{is_breakpoint, is_signal, is_undefined, is_call, awaits_event, awaits_interrupt}
 use Rattle.m0_core.specs.Fetch.{taken_of, is_faulty, is_callable, is_ram_spot}
 use Rattle.m0_core.specs.Cycle.{returning, called}
-use Rattle.m0_core.specs.Laws.{Given, after_cycle, after_cycles, wanted_in, wants_in, want_of_beat, want_at, reads_in, read_in, read_at, touched_at, touched_by, changed_by, exceptions_in, is_private, is_private_spot, IsAtBoundary, IsFetched, IsPlain, TakesItsBeats, AnInstructionOffThePrivateBusTakesItsBeats}
-use Rattle.core_runs.specs.Bytes.{answer, stored, stored_by, around}
-use Rattle.core_runs.specs.Runs.{run, ends_in, then, given_by, givens, IsSilent, IsReady, Leads, Steps, StepsChain}
+use Rattle.m0_core.specs.Laws.{after_cycle, after_cycles, wanted_in, wants_in, want_of_beat, want_at, reads_in, read_in, read_at, touched_at, touched_by, changed_by, exceptions_in, is_private, is_private_spot, IsAtBoundary, IsPlain, TakesItsBeats, AnInstructionOffThePrivateBusTakesItsBeats}
+use Rattle.core_runs.specs.Bytes.{stored, stored_by, around}
+use Rattle.core_runs.specs.Runs.{run, ends_in, given_by, givens, IsSilent, IsReady, Leads, StepsChain}
 use Rattle.core_runs.specs.Instructions.{is_elsewhere, after_beat, after_beats, value_at, value_of, values_of, is_ordinary, IsRunnable, AnInstructionSteps}
 use Rattle.core_runs.proofs.Silent.{a_silent_cycle_stays_silent}
 use Rattle.core_runs.proofs.Chains.{a_run_alone_chains, stepped}

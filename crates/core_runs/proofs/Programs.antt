@@ -1,5 +1,5 @@
 -- A program's instructions.
-use Rattle.std.proofs.Common.{◌≡◌, ℕ, ◌<◌, true, false, List, length, refl, sym, ap, subst, ◌∙◌, Some, None}
+use Rattle.std.proofs.Common.{◌≡◌, ℕ, ◌<◌, true, false, List, length, sym, ap, subst, ◌∙◌}
 use Rattle.std.specs.List.{list_any}
 use Rattle.rp_base.specs.declared.op.Op.{Op}
 use Rattle.thumb_rows.specs.Rows.{begins_long, operation_of}
@@ -12,7 +12,7 @@ use Rattle.m0_core.specs.Laws.{half_at, IsEncoded, IsFetched}
 use Rattle.core_runs.specs.Bytes.{answer}
 use Rattle.core_runs.specs.Runs.{Steps}
 use Rattle.core_runs.specs.Instructions.{is_elsewhere, after_beats, values_of, AnInstructionSteps}
-use Rattle.core_runs.specs.Programs.{IsStep, AHalfwordSteps}
+use Rattle.core_runs.specs.Programs.{AHalfwordSteps}
 
 pub fetched_short : (m : List ℕ) (pc h : ℕ) (op : Op) → is_ram pc ≡ true → half_at (answer m) pc ≡ h → begins_long h ≡ false → operation_of h 0 ≡ op → IsFetched (answer m) pc op
 fetched_short m pc h op ram half short decoded =

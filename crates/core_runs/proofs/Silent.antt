@@ -1,14 +1,13 @@
 -- Cycles in which every interrupt line is low.
-use Rattle.std.proofs.Common.{◌≡◌, ℕ, ◌+◌, ◌-◌, ◌*◌, ◌^◌, Bool, true, false, cond, List, [], ◌∷◌, refl, sym, ap, ◌∙◌, subst}
-use Rattle.std.specs.Prelude.{◌&&◌, ◌==◌, bit_and, bit_or, Option, Some, None, if◌then◌else◌, ℤ}
+use Rattle.std.proofs.Common.{◌≡◌, ℕ, ◌-◌, Bool, true, false, List, [], ◌∷◌, refl, ap, ◌∙◌}
+use Rattle.std.specs.Prelude.{◌&&◌, ◌==◌, bit_and, bit_or, Option, Some, None, if◌then◌else◌}
 use Rattle.std.specs.Int.Bits.{or_zero_r}
 use Rattle.m0_nvic.specs.declared.systick.SysTick.{SysTick}
 use Rattle.m0_nvic.specs.State.{Exceptions}
-use Rattle.m0_nvic.specs.Numbers.{minus, of_interrupts}
-use Rattle.m0_nvic.specs.Priority.{best_of, comes_before, least_of, least, nearer}
+use Rattle.m0_nvic.specs.Priority.{best_of, least_of, least, nearer}
 use Rattle.m0_nvic.specs.Numbers.{members}
 use Rattle.m0_nvic.specs.Cycle.{counts_in, count_of, timer_after, timer_pends, with_timer, after_timer, after_lines, after_cycle, with_none_arrived, risen}
-use Rattle.core_runs.specs.Runs.{IsSilent, StaysSilent, ASilentCycleStaysSilent}
+use Rattle.core_runs.specs.Runs.{ASilentCycleStaysSilent}
 
 and_false : (a b : Bool) → b ≡ false → (a && b) ≡ false
 and_false true b e = e

@@ -1,4 +1,5 @@
 pub mod Bytes
+pub mod Checksum
 pub mod Instructions
 pub mod Programs
 pub mod Runs

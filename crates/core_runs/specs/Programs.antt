@@ -1,16 +1,18 @@
 -- What the proof of a program in SRAM needs: its instructions as they stand there, and its accesses to bytes and words (ARMv6-M
 -- Architecture Reference Manual, A5.1, A3.3 and A6.7; RP2040 Datasheet, 2.6.2, SRAM).
 use Rattle.std.specs.List.{list_any}
-use Rattle.std.specs.Prelude.{◌≡◌, ℕ, ◌+◌, ◌-◌, ◌*◌, ◌%◌, ◌^◌, ◌<◌, ◌≤◌, ◌⊎◌, Bool, true, false, List, [], ◌∷◌, length, slice_index, Option, Some, None}
+use Rattle.std.specs.Prelude.{◌≡◌, ℕ, ◌+◌, ◌-◌, ◌*◌, ◌/◌, ◌%◌, ◌^◌, ◌<◌, ◌≤◌, ◌⊎◌, true, false, List, [], ◌∷◌, length, slice_index, Some, None}
 use Rattle.rp_base.specs.declared.Request.{Request}
 use Rattle.rp_base.specs.declared.Size.{Size}
 use Rattle.rp_base.specs.declared.Size.TheVariants as sizes
 use Rattle.rp_base.specs.declared.op.Op.{Op}
 use Rattle.rp_base.specs.Map.{place_of}
+use Rattle.rp_base.specs.Word.{has_bit}
 use Rattle.thumb_rows.specs.Rows.{begins_long, operation_of}
 use Rattle.m0_beats.specs.declared.registers.Regs.{Regs}
 use Rattle.m0_beats.specs.declared.timing.Beat.{Beat}
 use Rattle.m0_beats.specs.Beats.{beats_of, is_unaligned_beat}
+use Rattle.m0_beats.specs.Conditions.{is_exception_return}
 use Rattle.m0_beats.specs.Effects.{effect_of, return_of}
 use Rattle.m0_core.specs.Fetch.{is_ram, is_ram_spot}
 use Rattle.m0_core.specs.Laws.{half_at}
@@ -105,3 +107,19 @@ APutElsewhereKeepsCode =
     → k + length code ≤ 0x42000
     → (at + length bytes ≤ k) ⊎ (k + length code ≤ at)
     → KeepsCode m at bytes k code
+
+-- ---- a routine that is called
+
+-- a core in Thumb state at an address, whose R14 has bit 0 set and begins no exception return
+pub record IsCall (address : ℕ) (r : Regs) : Type 0 where
+  pub entry : r.pc ≡ address
+  pub thumb : r.t ≡ true
+  pub odd : has_bit r.lr 0 ≡ true
+  pub plain : is_exception_return r.ipsr r.lr ≡ false
+  pub registers : length r.r ≡ 13
+
+-- it is back at R14 without its bit 0, and these are R0 to R12; a count went from 0 to FFFFFFFF at last, which set N and cleared Z, C
+-- and V
+abbrev pub counted_out : Regs → List ℕ → Regs
+counted_out r registers =
+    record r { r = registers; pc = r.lr / 2 * 2; n = true; z = false; c = false; v = false }

@@ -1,13 +1,13 @@
 -- A core that runs alone over SRAM, each access of which is done at once and while every interrupt line is low: its runs are chained,
 -- and they are the cycles of the laws of one instruction. The project's own.
 use Rattle.std.specs.List.{list_any}
-use Rattle.std.specs.Prelude.{◌≡◌, ℕ, zero, suc, ◌+◌, ◌<◌, Bool, true, false, List, [], ◌∷◌, ◌++◌, Option, Some, None}
+use Rattle.std.specs.Prelude.{◌≡◌, ℕ, zero, suc, ◌+◌, ◌<◌, Bool, false, List, [], ◌∷◌, ◌++◌, None}
 use Rattle.m0_beats.specs.declared.registers.Regs.{Regs}
 use Rattle.m0_nvic.specs.State.{Exceptions}
 use Rattle.m0_nvic.specs.Priority.{best_of}
 use Rattle.m0_nvic.specs.Cycle as nvic
 use Rattle.lane_look.specs.Replay.{Meaning, meaning}
-use Rattle.lane_look.specs.Alone.{Surroundings, Alone, alone, all_stored, ends_at, ends_want}
+use Rattle.lane_look.specs.Alone.{Alone, alone, all_stored, ends_at, ends_want}
 use Rattle.m0_core.specs.declared.doing.Doing.{Doing}
 use Rattle.m0_core.specs.Fetch.{asks}
 use Rattle.m0_core.specs.Cycle.{wanted, next}

@@ -1,5 +1,6 @@
 //! The laws of a core that runs alone, each the contract of a function without arguments.
 
+ghost use Rattle.core_runs.specs.Checksum.{AChecksumAdds};
 ghost use Rattle.core_runs.specs.Runs.{ARunAloneChains, ARunAloneIsTheCoresOwn, ASilentCycleStaysSilent, StepsChain};
 ghost use Rattle.core_runs.specs.Instructions.{AnInstructionSteps};
 ghost use Rattle.core_runs.specs.Programs.{AHalfwordSteps, EachPlaceHasAByte, EachFourthPlaceHasAWord, CodeIsFetched, APutElsewhereKeepsCode};
@@ -60,3 +61,10 @@ pub fn code_is_fetched()
 pub fn a_put_elsewhere_keeps_code()
     ensures { APutElsewhereKeepsCode }
 {}
+
+/// A routine as an example: the sum of n words of SRAM takes 8n + 5 cycles wherever its code stands, and changes no byte.
+pub fn a_checksum_adds()
+    ensures { AChecksumAdds }
+{
+    a_halfword_steps();
+}

@@ -1,3 +1,6 @@
+mod Coded
+mod Memcpy
+mod Memset
 pub mod Clocks
 pub mod Linked
 pub mod Ready

@@ -1,4 +1,5 @@
 pub mod Words
 pub mod Device
 pub mod Laws
+pub mod Routines
 pub mod Table

@@ -2,10 +2,9 @@
 -- addresses of their blocks and their offsets after these. The state is a list of 46 words. No clock changes by them: an oscillator,
 -- a PLL and a glitchless multiplexer are ready at once.
 use Prim.Native.String.{String}
-use Rattle.std.specs.Prelude.{ℕ, ◌+◌, ◌*◌, ◌/◌, ◌%◌, ◌^◌, ◌==◌, Bool, false, if◌then◌else◌, List, [], ◌∷◌, Option, None, Some, bit_or, bit_xor, slice_index, slice_set, ⊤}
+use Rattle.std.specs.Prelude.{ℕ, ◌+◌, ◌*◌, ◌/◌, ◌%◌, ◌^◌, ◌==◌, Bool, false, if◌then◌else◌, List, [], ◌∷◌, Option, None, Some, slice_index, slice_set, ⊤}
 use Rattle.rp_base.specs.Alias.{aliased, or_zero}
 use Rattle.rp_base.specs.Rows.{Row, read_only, read_write, word_at, has_row, effect_at, IsListed}
-use Rattle.rp_base.specs.Word.{minus}
 
 -- a word that is kept as it is written, by its place in the state
 abbrev pub kept : ℕ → String → ℕ → Row ⊤ (List ℕ)
