@@ -1,5 +1,5 @@
 -- The sum of words, by induction on their number.
-use Rattle.std.proofs.Common.{◌≡◌, ℕ, zero, suc, ◌+◌, ◌-◌, ◌*◌, ◌/◌, ◌%◌, ◌^◌, ◌<◌, ◌≤◌, Bool, true, false, List, [], ◌∷◌, ◌++◌, length, slice_index, slice_set, refl, sym, ap, ap₂, subst, ◌∙◌, arith, Some, None, option_to_list}
+use Rattle.std.proofs.Common.{◌≡◌, ℕ, zero, suc, ◌+◌, ◌-◌, ◌*◌, ◌/◌, ◌%◌, ◌^◌, ◌<◌, ◌≤◌, Bool, true, false, List, [], ◌∷◌, ◌++◌, length, slice_index, slice_set, refl, sym, ap, ap₂, subst, ◌∙◌, arith, None, option_to_list}
 use Rattle.rp_base.specs.declared.Size.TheVariants as sizes
 use Rattle.rp_base.specs.declared.op.Op.TheVariants as op
 use Rattle.rp_base.specs.Word.{has_bit, is_negative_word, is_zero_word}
@@ -13,8 +13,8 @@ use Rattle.m0_beats.specs.Effects.{effect_of, return_of}
 use Rattle.m0_core.specs.Fetch.{is_ram}
 use Rattle.core_runs.specs.Bytes.{Holds, IsSram, word_from}
 use Rattle.core_runs.specs.Runs.{Steps}
-use Rattle.core_runs.specs.Programs.{AHalfwordSteps, IsInside, place, IsCall, counted_out}
-use Rattle.core_runs.specs.Checksum.{checksum, sum_of_words, word_after, IsSumming, AChecksumAdds}
+use Rattle.core_runs.specs.Programs.{AHalfwordSteps, IsInside, place, counted_out}
+use Rattle.core_runs.specs.Checksum.{checksum, sum_of_words, word_after, AChecksumAdds}
 use Rattle.core_runs.proofs.Bytes.{inside_ram, code_is_fetched, each_fourth_place_has_a_word}
 use Rattle.core_runs.proofs.Instructions.{steps_chain}
 use Rattle.core_runs.proofs.Opcodes.{IsCode, standing, signed, branch_to, two_beats, whole_word, subs_on, subs_off, bcc_on, bcc_off, b_step, bx_step}

@@ -1,6 +1,6 @@
 -- A routine as an example of what these laws are for: the sum of words. It stands in no table (ARMv6-M Architecture Reference Manual,
 -- A6.7, for its instructions).
-use Rattle.std.specs.Prelude.{◌≡◌, ℕ, zero, suc, ◌+◌, ◌-◌, ◌*◌, ◌%◌, ◌^◌, ◌<◌, ◌≤◌, List, [], ◌∷◌, length, slice_index, slice_set}
+use Rattle.std.specs.Prelude.{◌≡◌, ℕ, zero, suc, ◌+◌, ◌-◌, ◌*◌, ◌%◌, ◌^◌, ◌<◌, ◌≤◌, List, [], ◌∷◌, slice_index, slice_set}
 use Rattle.m0_beats.specs.declared.registers.Regs.{Regs}
 use Rattle.core_runs.specs.Bytes.{Holds, IsSram, word_from}
 use Rattle.core_runs.specs.Runs.{Steps}
