@@ -13,8 +13,12 @@ trap 'rm -r "$work"' EXIT
 [ $# = 0 ] && set -- *.c
 for source; do
     name=${source%.c}
+    # print.c has newlib's printf
+    more=
+    [ "$name" = print ] && more="--specs=nano.specs --specs=nosys.specs"
     # -nostartfiles: the start is start.s, and libgcc is linked, so that n / 10 has its routine
-    arm-none-eabi-gcc -mcpu=cortex-m0plus -mthumb -g -Os -Wall -ffreestanding -fno-tree-loop-distribute-patterns -nostartfiles \
+    # shellcheck disable=SC2086
+    arm-none-eabi-gcc -mcpu=cortex-m0plus -mthumb -g -Os -Wall -ffreestanding -fno-tree-loop-distribute-patterns -nostartfiles $more \
         -fdebug-prefix-map="$PWD=." -T sram.ld -o "$work/$name.elf" start.s "$name.c"
     python3 ../../tools/uf2.py "$work/$name.elf" "$name.uf2"
     if [ "$name" = fault ]; then
