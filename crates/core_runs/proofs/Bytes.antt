@@ -109,7 +109,7 @@ pub each_fourth_place_has_a_word : EachFourthPlaceHasAWord
 each_fourth_place_has_a_word m a value sram inside aligned =
     let le = inside.first in
     let at : 4 * ((a - 0x20000000) / 4) ≡ place a = omega (arith, le, aligned) in
-    let at' : 4 * ((a - 0x20000000) / 4) + a % 4 ≡ place a = omega (arith, le) in
+    let at' : 4 * ((a - 0x20000000) / 4) + 0 ≡ place a = omega (arith, at) in
     record {
       inside = inside_ram a inside;
       read = ap (λ p. Some (word_at m p % 2 ^ 32)) (is_at a inside).is ∙ ap (λ k. Some (word_from m k % 2 ^ 32)) at ∙ ap Some (word_small m (place a) sram);

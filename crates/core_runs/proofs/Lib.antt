@@ -1,8 +1,9 @@
 pub mod Bytes
-pub mod Checksum
 pub mod Chains
+pub mod Checksum
 pub mod Instructions
 pub mod Opcodes
 pub mod Programs
 pub mod Puts
 pub mod Silent
+pub mod Words

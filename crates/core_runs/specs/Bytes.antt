@@ -59,10 +59,16 @@ bytes_of sizes.Byte value = byte_of value 0 ∷ []
 bytes_of sizes.Half value = byte_of value 0 ∷ byte_of value 1 ∷ []
 bytes_of sizes.Word value = byte_of value 0 ∷ byte_of value 1 ∷ byte_of value 2 ∷ byte_of value 3 ∷ []
 
+-- where they begin in the word that holds the address, as in `lanes_at`
+abbrev pub begins_at : Size → ℕ → ℕ
+begins_at sizes.Byte address = address % 4
+begins_at sizes.Half address = 2 * (address / 2 % 2)
+begins_at sizes.Word address = 0
+
 -- what an access at a spot leaves
 abbrev pub stored_at : Request → Option ℕ → Spot → List ℕ → List ℕ
 stored_at request (Some value) (spot.Ram index bank) m =
-    put m (4 * index + request.address % 4) (bytes_of request.size value)
+    put m (4 * index + begins_at request.size request.address) (bytes_of request.size value)
 stored_at request _ _ m = m
 
 abbrev pub stored_by : Request → List ℕ → List ℕ

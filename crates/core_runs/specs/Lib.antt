@@ -3,3 +3,4 @@ pub mod Checksum
 pub mod Instructions
 pub mod Programs
 pub mod Runs
+pub mod Words

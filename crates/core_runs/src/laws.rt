@@ -4,6 +4,7 @@ ghost use Rattle.core_runs.specs.Checksum.{AChecksumAdds};
 ghost use Rattle.core_runs.specs.Runs.{ARunAloneChains, ARunAloneIsTheCoresOwn, ASilentCycleStaysSilent, StepsChain};
 ghost use Rattle.core_runs.specs.Instructions.{AnInstructionSteps};
 ghost use Rattle.core_runs.specs.Programs.{AHalfwordSteps, EachPlaceHasAByte, EachFourthPlaceHasAWord, CodeIsFetched, APutElsewhereKeepsCode};
+ghost use Rattle.core_runs.specs.Words.{ARunOverWordsIsThatOverTheirBytes, StepsHoldOverWords, TheBytesOfWordsAreSram};
 
 use m0_core::laws::an_instruction_off_the_private_bus_takes_its_beats;
 
@@ -15,6 +16,21 @@ pub fn a_run_alone_chains()
 /// Where a core wants nothing but accesses to SRAM its run alone is its own stepping, cycle by cycle.
 pub fn a_run_alone_is_the_cores_own()
     ensures { ARunAloneIsTheCoresOwn }
+{}
+
+/// A run alone over the words of SRAM, as the machine has them, is that over their bytes.
+pub fn a_run_over_words_is_that_over_their_bytes()
+    ensures { ARunOverWordsIsThatOverTheirBytes }
+{}
+
+/// So steps over the bytes are steps over the words.
+pub fn steps_hold_over_words()
+    ensures { StepsHoldOverWords }
+{}
+
+/// The bytes of the words of SRAM are SRAM as a list of bytes.
+pub fn the_bytes_of_words_are_sram()
+    ensures { TheBytesOfWordsAreSram }
 {}
 
 /// A cycle in which every interrupt line is low keeps what is pending, active and enabled: no exception comes where none was pending
