@@ -1,5 +1,5 @@
 -- A core runs alike over the words of SRAM and over their bytes.
-use Rattle.std.proofs.Common.{◌≡◌, ℕ, zero, suc, ◌+◌, ◌-◌, ◌*◌, ◌/◌, ◌%◌, ◌^◌, ◌<◌, ◌≤◌, Bool, true, false, cond, ◌&&◌, ◌||◌, ◌==◌, ◌⊎◌, inl, inr, List, [], ◌∷◌, ◌++◌, length, take, drop, set, get_or, slice_index, slice_set, refl, sym, ap, ap₂, subst, ◌∙◌, arith, Option, Some, None, leb, leb-true, append_assoc, get_or-drop, length-set}
+use Rattle.std.proofs.Common.{◌≡◌, ℕ, zero, suc, ◌+◌, ◌*◌, ◌/◌, ◌%◌, ◌^◌, ◌<◌, ◌≤◌, Bool, true, false, cond, ◌&&◌, ◌==◌, inl, inr, List, [], ◌∷◌, ◌++◌, length, take, drop, slice_index, slice_set, refl, sym, ap, ap₂, subst, ◌∙◌, arith, Option, Some, None, leb, leb-true, append_assoc, get_or-drop, length-set}
 use lib.Seq.{take-append-le, drop-append-le, take-append-add, drop-append-add, get_or-set_same, get_or-set_other}
 use Rattle.std.proofs.lemmas.Bool.Decides.{eqb_tells}
 use Rattle.rp_base.specs.declared.Request.{Request}
@@ -9,9 +9,8 @@ use Rattle.rp_base.specs.declared.map.Spot.{Spot}
 use Rattle.rp_base.specs.declared.map.Spot.TheVariants as spot
 use Rattle.rp_base.specs.Access.{lanes_at, replicated}
 use Rattle.rp_base.specs.Map.{place_of}
-use Rattle.rp_base.specs.Word.{byte_of, joined, has_bit}
+use Rattle.rp_base.specs.Word.{byte_of, joined}
 use Rattle.ram_banks.specs.Lanes.{with_lanes, lane_byte}
-use Rattle.ram_banks.specs.Sram.{written}
 use Rattle.ram_banks.proofs.Lanes.{byte_of-with_lanes, with_lanes_small}
 use Rattle.lane_look.specs.declared.lane.Ask.{Ask}
 use Rattle.lane_look.specs.declared.lane.Ask.TheVariants as ask
@@ -20,14 +19,14 @@ use Rattle.lane_look.specs.declared.lane.Want.TheVariants as want
 use Rattle.lane_look.specs.Asking.{Asking, answered}
 use Rattle.lane_look.specs.Asking.Asking.{Ready, Question}
 use Rattle.lane_look.specs.Replay.{Entry, asked, after_begun}
-use Rattle.lane_look.specs.Alone.{Alone, alone, alone_cycle, begun_alone, all_stored, ends_at, ends_now, ends_wants}
+use Rattle.lane_look.specs.Alone.{Alone, alone, alone_cycle, begun_alone, all_stored, ends_at, ends_wants}
 use Rattle.m0_core.specs.State.{State}
 use Rattle.m0_core.specs.declared.doing.Doing.{Doing}
 use Rattle.m0_core.specs.Fetch.{asks}
 use Rattle.m0_core.specs.Cycle.{wanted, want_of}
 use Rattle.core_runs.specs.Bytes.{put, word_from, word_at, half_of, answer, bytes_of, begins_at, stored_at, stored, around}
 use Rattle.core_runs.specs.Runs.{core_lane, run, ends_in, IsReady}
-use Rattle.core_runs.specs.Words.{AreWords, four_bytes, bytes_in, word_of, word_answer, stored_word_at, stored_word, around_words, RunsAlike, ARunOverWordsIsThatOverTheirBytes, StepsHoldOverWords, TheBytesOfWordsAreSram}
+use Rattle.core_runs.specs.Words.{AreWords, four_bytes, bytes_in, word_of, word_answer, stored_word_at, stored_word, around_words, ARunOverWordsIsThatOverTheirBytes, StepsHoldOverWords, TheBytesOfWordsAreSram}
 
 -- ---- what is read
 

@@ -1,5 +1,5 @@
--- A routine as an example of what these laws are for: the sum of words. It stands in no table (ARMv6-M Architecture Reference Manual,
--- A6.7, for its instructions).
+-- A routine as an example of what these laws are for: the sum of words. It stands in no table (ARMv6-M Architecture Reference
+-- Manual, A6.7, for its instructions).
 use Rattle.std.specs.Prelude.{◌≡◌, ℕ, zero, suc, ◌+◌, ◌-◌, ◌*◌, ◌%◌, ◌^◌, ◌<◌, ◌≤◌, List, [], ◌∷◌, slice_index, slice_set}
 use Rattle.m0_beats.specs.declared.registers.Regs.{Regs}
 use Rattle.core_runs.specs.Bytes.{Holds, IsSram, word_from}
@@ -40,5 +40,6 @@ AChecksumAdds =
     let n = slice_index r.r 2 in
     let sum = (slice_index r.r 3 + sum_of_words m a n) % 2 ^ 32 in
     Steps (8 * n + 5) r m
-    (counted_out r (slice_set (slice_set (slice_set r.r 3 sum) 2 (2 ^ 32 - 1)) 1 (word_after n (slice_index r.r 1) (word_from m a))))
+    (counted_out r
+    (slice_set (slice_set (slice_set r.r 3 sum) 2 (2 ^ 32 - 1)) 1 (word_after n (slice_index r.r 1) (word_from m a))))
     m

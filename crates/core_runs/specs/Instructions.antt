@@ -52,8 +52,8 @@ abbrev pub is_ordinary : Op → Bool
 is_ordinary op =
     not (is_undefined op || (is_breakpoint op || (is_call op || (is_signal op || (awaits_event op || awaits_interrupt op)))))
 
--- the instruction at PC in SRAM can be run there: it neither faults nor stops, its accesses are to SRAM, and it begins no exception
--- return
+-- the instruction at PC in SRAM can be run there: it neither faults nor stops, its accesses are to SRAM, and it begins no
+-- exception return
 pub record IsRunnable (op : Op) (r : Regs) (m : List ℕ) : Type 0 where
   pub fetched : IsFetched (answer m) r.pc op
   pub ordinary : is_ordinary op ≡ true

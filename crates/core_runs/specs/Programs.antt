@@ -22,8 +22,8 @@ use Rattle.core_runs.specs.Instructions.{is_elsewhere, after_beats, value_at, va
 
 -- ---- an instruction, by its halfword
 
--- the halfword h at PC is the operation op, of these beats, which are inside the core or go to SRAM; and it leaves these registers and
--- this memory
+-- the halfword h at PC is the operation op, of these beats, which are inside the core or go to SRAM; and it leaves these
+-- registers and this memory
 pub record IsStep (op : Op) (h : ℕ) (beats : List Beat) (r : Regs) (m : List ℕ) (r' : Regs) (m' : List ℕ) : Type 0 where
   pub code : is_ram r.pc ≡ true
   pub half : half_at (answer m) r.pc ≡ h
@@ -118,8 +118,8 @@ pub record IsCall (address : ℕ) (r : Regs) : Type 0 where
   pub plain : is_exception_return r.ipsr r.lr ≡ false
   pub registers : length r.r ≡ 13
 
--- it is back at R14 without its bit 0, and these are R0 to R12; a count went from 0 to FFFFFFFF at last, which set N and cleared Z, C
--- and V
+-- it is back at R14 without its bit 0, and these are R0 to R12; a count went from 0 to FFFFFFFF at last, which set N and
+-- cleared Z, C and V
 abbrev pub counted_out : Regs → List ℕ → Regs
 counted_out r registers =
     record r { r = registers; pc = r.lr / 2 * 2; n = true; z = false; c = false; v = false }

@@ -1,5 +1,5 @@
--- A core that runs alone over SRAM, each access of which is done at once and while every interrupt line is low: its runs are chained,
--- and they are the cycles of the laws of one instruction. The project's own.
+-- A core that runs alone over SRAM, each access of which is done at once and while every interrupt line is low: its runs are
+-- chained, and they are the cycles of the laws of one instruction. The project's own.
 use Rattle.std.specs.List.{list_any}
 use Rattle.std.specs.Prelude.{◌≡◌, ℕ, zero, suc, ◌+◌, ◌<◌, Bool, false, List, [], ◌∷◌, ◌++◌, None}
 use Rattle.m0_beats.specs.declared.registers.Regs.{Regs}

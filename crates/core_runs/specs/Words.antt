@@ -1,6 +1,6 @@
--- SRAM as the machine has it, a list of 67,584 words, and as the list of its bytes: a core runs alike over both (RP2040 Datasheet, 2.6.2,
--- SRAM; AMBA 3 AHB-Lite Protocol Specification, chapter 6, byte lanes).
-use Rattle.std.specs.Prelude.{◌≡◌, ℕ, ◌^◌, ◌<◌, false, List, [], ◌∷◌, ◌++◌, length, slice_index, Option, Some, None}
+-- SRAM as the machine has it, a list of 67,584 words, and as the list of its bytes: a core runs alike over both (RP2040
+-- Datasheet, 2.6.2, SRAM; AMBA 3 AHB-Lite Protocol Specification, chapter 6, byte lanes).
+use Rattle.std.specs.Prelude.{◌≡◌, ℕ, ◌^◌, ◌<◌, false, List, [], ◌∷◌, ◌++◌, length, slice_index, Option, Some}
 use Rattle.rp_base.specs.declared.Request.{Request}
 use Rattle.rp_base.specs.declared.map.Spot.{Spot}
 use Rattle.rp_base.specs.declared.map.Spot.TheVariants as spot
@@ -72,7 +72,8 @@ ARunOverWordsIsThatOverTheirBytes =
 -- ---- so what holds of runs over the bytes holds of the machine's words
 
 -- so many cycles over the words go on, and leave the core ready, with these registers and over words that have these bytes
-pub record LeadsOverWords (cycle n : ℕ) (s : State) (ws : List ℕ) (regs : Regs) (m : List ℕ) (r : Alone State (List ℕ)) : Type 0 where
+pub record LeadsOverWords (cycle n : ℕ) (s : State) (ws : List ℕ) (regs : Regs) (m : List ℕ) (r : Alone State (List ℕ))
+    : Type 0 where
   pub goes_on : (k : ℕ) → k < n → ends_at core_lane around_words tt s cycle ws k ≡ false
   pub ready : IsReady r.state
   pub registers : r.state.regs ≡ regs

@@ -33,8 +33,8 @@ pub fn the_bytes_of_words_are_sram()
     ensures { TheBytesOfWordsAreSram }
 {}
 
-/// A cycle in which every interrupt line is low keeps what is pending, active and enabled: no exception comes where none was pending
-/// and the system timer asks for none.
+/// A cycle in which every interrupt line is low keeps what is pending, active and enabled: no exception comes where none was
+/// pending and the system timer asks for none.
 pub fn a_silent_cycle_stays_silent()
     ensures { ASilentCycleStaysSilent }
 {}

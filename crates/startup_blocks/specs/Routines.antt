@@ -1,5 +1,5 @@
--- What the routines of the table leave that an image can be linked with (ISO C, 7.24.6.1, the memset function, and 7.24.2.1, the memcpy
--- function; the registers are the table's own).
+-- What the routines of the table leave that an image can be linked with (ISO C, 7.24.6.1, the memset function, and 7.24.2.1,
+-- the memcpy function; the registers are the table's own).
 use Rattle.std.specs.Prelude.{ℕ, zero, suc, ◌+◌, ◌-◌, ◌*◌, ◌%◌, ◌^◌, ◌<◌, ◌≤◌, ◌⊎◌, List, take, drop, replicate, slice_index, slice_set}
 use Rattle.m0_beats.specs.declared.registers.Regs.{Regs}
 use Rattle.core_runs.specs.Bytes.{put, Holds, IsSram}

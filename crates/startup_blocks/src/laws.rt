@@ -1,7 +1,7 @@
 //! The laws of the start-up registers and of the table's routines, each the contract of a function without arguments.
 //!
-//! A routine is run by a core alone over SRAM, each access of which is done at once, while every interrupt line is low, no exception
-//! that is enabled is pending, and the system timer asks for none.
+//! A routine is run by a core alone over SRAM, each access of which is done at once, while every interrupt line is low, no
+//! exception that is enabled is pending, and the system timer asks for none.
 
 ghost use Rattle.startup_blocks.specs.Laws.{ClocksAreSelectedAtOnce, OscillatorAndPllsAreReady, TheTickRunsAtOnce};
 ghost use Rattle.startup_blocks.specs.Routines.{MemcpyCopies, MemsetSets};
@@ -36,8 +36,8 @@ pub fn memset_sets()
     a_halfword_steps();
 }
 
-/// memcpy of n places takes 8n + 5 cycles: they hold what those of the source held, which do not overlap them, and all others what
-/// they held.
+/// memcpy of n places takes 8n + 5 cycles: they hold what those of the source held, which do not overlap them, and all others
+/// what they held.
 pub fn memcpy_copies()
     ensures { MemcpyCopies }
 {
