@@ -1,6 +1,7 @@
--- Each instruction of a source stands at its address.
-use Rattle.std.proofs.Common.{◌≡◌, ℕ, ◌+◌, ◌-◌, ◌*◌, ◌/◌, ◌%◌, ◌==◌, Bool, true, false, cond, nat_lt, List, [], ◌∷◌, ◌++◌, length, get_or, Option, Some, None, Result, Ok, Err, refl, sym, ap, subst, ◌∙◌, arith, length-append, append_assoc, append-nil}
+-- Each instruction of a source stands at its address, and the file of its image holds that image.
+use Rattle.std.proofs.Common.{◌≡◌, ◌≤◌, ◌<◌, ℕ, ◌+◌, ◌-◌, ◌*◌, ◌/◌, ◌%◌, ◌==◌, Bool, true, false, cond, nat_lt, List, [], ◌∷◌, ◌++◌, length, get_or, Option, Some, None, Result, Ok, Err, refl, sym, ap, subst, ◌∙◌, arith, length-append, append_assoc, append-nil}
 use Rattle.std.specs.Prelude.{is_none}
+use Rattle.std.proofs.lemmas.Bool.Decides.{nat_tests}
 use Rattle.std.specs.Option.{option_map_or}
 use Rattle.std.specs.Str.Lines.{lines}
 use Rattle.std.proofs.lemmas.List.{get_or-append-add, length-replicate}
@@ -9,6 +10,9 @@ use Rattle.rp_base.specs.declared.op.Op.{Op}
 use Rattle.rp_base.specs.declared.op.Op.TheVariants.{LdrLit, Adr, B, Bl, BCond}
 use Rattle.thumb_rows.specs.Rows.{operation_of}
 use Rattle.uf2_image.specs.declared.parts.Image.{Image}
+use Rattle.uf2_image.specs.Writing.{IsWritable}
+use Rattle.uf2_image.proofs.Written.{what_is_written_is_read}
+use Rattle.thumb_asm.proofs.Parts.{writable}
 use Rattle.thumb_words.specs.declared.halfwords.Code.{Code}
 use Rattle.thumb_words.specs.Codes.{DecodesTo, code_of, coded}
 use Rattle.thumb_words.proofs.Decode.{codes_decode}
@@ -17,10 +21,10 @@ use Rattle.thumb_asm.specs.declared.fault.ThumbFault.TheVariants.{Unknown, Twice
 use Rattle.thumb_asm.specs.declared.item.Item.{Item}
 use Rattle.thumb_asm.specs.declared.item.Item.TheVariants.{Empty, Instruction, OutOfRange, WrongRegister, Literal, Address, Branch, Call, BranchIf, Word, WordAt, Half, Space, Align}
 use Rattle.thumb_asm.specs.declared.statement.Statement.{Statement}
-use Rattle.thumb_asm.specs.Laws.{AreDecoded, InstructionsAreDecoded, IsDecoded, half_at}
-use Rattle.thumb_asm.specs.Lines.{first_that, has_other_char, is_misfit, statement_at}
+use Rattle.thumb_asm.specs.Laws.{AreDecoded, InstructionsAreDecoded, IsDecoded, WhatIsAssembledIsReadBack, half_at}
+use Rattle.thumb_asm.specs.Lines.{statement_at}
 use Rattle.thumb_asm.specs.Names.{Names}
-use Rattle.thumb_asm.specs.Placed.{bytes_at, call_by, code_bytes, half_bytes, is_misaligned, is_out_of_range, is_wrong_register, name_of, op_at, op_bytes, size_at}
+use Rattle.thumb_asm.specs.Placed.{bytes_at, code_bytes, half_bytes, is_misaligned, is_out_of_range, is_wrong_register, name_of, op_at, op_bytes, size_at}
 use Rattle.thumb_asm.specs.Source.{address_after, bytes_from, bytes_of, fault_at, image_of_bytes, image_of_source, image_with, is_twice, is_unknown, line_bytes, names_of, or_fault, target_of, unless_misfit, unless_other_char}
 use Rattle.thumb_asm.specs.Tokens.{code_part}
 
@@ -199,6 +203,37 @@ all_decoded names n address bytes (line ∷ rest) all h i =
       all_decoded names (n + 1) (address_after address (code_part line)) (bytes ++ line_bytes names address (code_part line)) rest all s.1 (line_exact names n address bytes (code_part line) s.0 i),
     )
 
+-- ---- the end of the bytes
+
+last_test : {X : Type 0} (u t r w m l : Bool) (a b c d e f : X) →
+    cond u (Some a) (cond t (Some b) (cond r (Some c) (cond w (Some d) (cond m (Some e) (cond l (Some f) None))))) ≡ None → l ≡ false
+last_test true t r w m l a b c d e f h = absurd cc
+last_test false true r w m l a b c d e f h = absurd cc
+last_test false false true w m l a b c d e f h = absurd cc
+last_test false false false true m l a b c d e f h = absurd cc
+last_test false false false false true l a b c d e f h = absurd cc
+last_test false false false false false true a b c d e f h = absurd cc
+last_test false false false false false false a b c d e f h = refl
+
+line_ends : (names : Names) (n address : ℕ) (code : List ℕ) → fault_at names n address code (statement_at code) ≡ None → address_after address code ≤ 0x2004_2000
+unfolding fault_at address_after
+line_ends names n address code h =
+    let s = statement_at code in
+    let target = target_of names code s.item in
+    let test = last_test (is_unknown names code (name_of s.item)) (is_twice names n code s.label) (is_out_of_range address target s.item) (is_wrong_register address target s.item)
+    (is_misaligned address target s.item) (nat_lt 0x2004_2000 (address + size_at address s.item))
+    (Unknown n) (Twice n) (Range n) (Register n) (AlignFault n) (TooLong n) h in
+    grind (arith, nat_tests)
+
+all_end : (names : Names) (n address : ℕ) (bytes : List ℕ) (rest : List (List ℕ)) (all : List ℕ) → bytes_from names n address bytes rest ≡ Ok all →
+    address ≡ 0x2000_0000 + length bytes → address ≤ 0x2004_2000 → length all ≤ 0x42000
+unfolding bytes_from
+all_end names n address bytes [] all h i j = let same : bytes ≡ all = cc in omega (arith, ap length same, i, j)
+all_end names n address bytes (line ∷ rest) all h i j =
+    let s = fine _ _ all h in
+    all_end names (n + 1) (address_after address (code_part line)) (bytes ++ line_bytes names address (code_part line)) rest all s.1
+    (line_exact names n address bytes (code_part line) s.0 i) (line_ends names n address (code_part line) s.0)
+
 past_char : (other : Option ℕ) (answer : Result Image ThumbFault) (image : Image) → unless_other_char other answer ≡ Ok image → answer ≡ Ok image
 past_char (Some n) answer image h = absurd cc
 past_char None answer image h = h
@@ -207,16 +242,28 @@ past_misfit : (misfit : Option ℕ) (answer : Result Image ThumbFault) (image : 
 past_misfit (Some n) answer image h = absurd cc
 past_misfit None answer image h = h
 
-of_some : (none : Bool) (fault : ThumbFault) (made image : Image) → cond none (Err fault) (Ok made) ≡ Ok image → image ≡ made
+of_some : (none : Bool) (fault : ThumbFault) (made image : Image) → cond none (Err fault) (Ok made) ≡ Ok image → (none ≡ false) × (image ≡ made)
 of_some true fault made image h = absurd cc
-of_some false fault made image h = let same : made ≡ image = cc in sym same
+of_some false fault made image h = let same : made ≡ image = cc in (refl, sym same)
 
-of_bytes : (answer : Result (List ℕ) ThumbFault) (image : Image) → image_of_bytes answer ≡ Ok image → (bytes : List ℕ) × (answer ≡ Ok bytes) × (image ≡ image_with bytes)
+of_bytes : (answer : Result (List ℕ) ThumbFault) (image : Image) → image_of_bytes answer ≡ Ok image →
+    (bytes : List ℕ) × (answer ≡ Ok bytes) × ((length bytes == 0) ≡ false) × (image ≡ image_with bytes)
 of_bytes (Err fault) image h = absurd cc
-of_bytes (Ok bytes) image h = (bytes, refl, of_some (length bytes == 0) _ (image_with bytes) image h)
+of_bytes (Ok bytes) image h = let made = of_some (length bytes == 0) _ (image_with bytes) image h in (bytes, refl, made.0, made.1)
+
+bytes_found : (text : List ℕ) (image : Image) → image_of_source text ≡ Ok image →
+    (bytes : List ℕ) × (bytes_of text ≡ Ok bytes) × ((length bytes == 0) ≡ false) × (image ≡ image_with bytes)
+unfolding image_of_source
+bytes_found text image h = of_bytes (bytes_of text) image (past_misfit _ _ image (past_char _ _ image h))
 
 pub decoded : InstructionsAreDecoded
-unfolding image_of_source
 decoded text image h =
-    let found = of_bytes (bytes_of text) image (past_misfit _ _ image (past_char _ _ image h)) in
-    (found.0, found.2, all_decoded (names_of text) 1 0x2000_0000 [] (lines text) found.0 found.1 refl)
+    let found = bytes_found text image h in
+    (found.0, found.3, all_decoded (names_of text) 1 0x2000_0000 [] (lines text) found.0 found.1 refl)
+
+pub read_back : WhatIsAssembledIsReadBack
+read_back text image h =
+    let found = bytes_found text image h in
+    let some : 0 < length found.0 = let none = found.2 in grind (arith, nat_tests) in
+    let can = subst IsWritable (sym found.3) (writable found.0 some (all_end (names_of text) 1 0x2000_0000 [] (lines text) found.0 found.1 refl (omega arith))) in
+    record { writable = can; read = what_is_written_is_read image can; entry = ap (λ image. image.entry) found.3 }

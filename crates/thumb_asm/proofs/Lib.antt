@@ -5,6 +5,8 @@ pub mod Lists
 pub mod NameLaws
 pub mod Numbers
 pub mod Parts
+pub mod ReadLines
+pub mod ReadTokens
 pub mod Scanning
 pub mod Sizes
 pub mod SourceSteps

@@ -5,7 +5,7 @@ use Rattle.std.specs.List.{range_with_len, AllByRecursion}
 use Rattle.std.proofs.lemmas.List.FromFn.{length-map-range_with_len, map-range_with_len_more}
 use Rattle.uf2_image.specs.declared.parts.Part.{Part}
 use Rattle.uf2_image.specs.Uf2.{LieFrom}
-use Rattle.uf2_image.specs.Writing.{IsSized, IsWritable, first_address}
+use Rattle.uf2_image.specs.Writing.{IsSized, IsWritable}
 use Rattle.thumb_asm.specs.Source.{image_with, part_at, parts_of}
 
 part_length : (bytes : List ℕ) (k : ℕ) → length (part_at bytes k).bytes ≡ min 256 (length bytes - 256 * k)

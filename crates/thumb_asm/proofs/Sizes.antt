@@ -1,5 +1,5 @@
 -- No line has more bytes than its size.
-use Rattle.std.proofs.Common.{◌≡◌, ◌≤◌, ℕ, ◌+◌, ◌-◌, ◌/◌, ◌%◌, nat_lt, if◌then◌else◌, Bool, true, false, List, [], ◌∷◌, ◌++◌, length, Some, None, arith, length-append, lit≤}
+use Rattle.std.proofs.Common.{◌≡◌, ◌≤◌, ℕ, ◌+◌, ◌-◌, ◌/◌, ◌%◌, nat_lt, if◌then◌else◌, Bool, true, false, List, [], ◌++◌, length, Some, None, arith, length-append, lit≤}
 use Rattle.std.specs.Option.{option_map_or}
 use Rattle.std.proofs.lemmas.List.{length-replicate}
 use Rattle.rp_base.specs.declared.op.Op.TheVariants.{LdrLit, Adr, B, Bl, BCond}
@@ -9,7 +9,7 @@ use Rattle.thumb_asm.specs.declared.item.Item.{Item}
 use Rattle.thumb_asm.specs.declared.item.Item.TheVariants.{Empty, Instruction, OutOfRange, WrongRegister, Literal, Address, Branch, Call, BranchIf, Word, WordAt, Half, Space, Align}
 use Rattle.thumb_asm.specs.Lines.{statement_at}
 use Rattle.thumb_asm.specs.Names.{Names}
-use Rattle.thumb_asm.specs.Placed.{bytes_at, call_by, code_bytes, half_bytes, op_bytes, padding, size_at}
+use Rattle.thumb_asm.specs.Placed.{bytes_at, call_by, code_bytes, half_bytes, op_bytes, size_at}
 use Rattle.thumb_asm.specs.Source.{address_after, line_bytes, target_of}
 
 short : (fits : Bool) (first : ℕ) → length (option_map_or code_bytes (coded fits (record { first = first; second = None })) []) ≤ 2

@@ -7,7 +7,7 @@ use Rattle.std.specs.Str.{bytes_eq}
 use Rattle.rp_base.specs.declared.op.Op.{Op}
 use Rattle.rp_base.specs.declared.op.Op.TheVariants.{LslImm, Cmp as CmpLow, CmpHigh, AddHigh, MovHigh, AddSp, Cpsie as CpsieOp, Cpsid as CpsidOp, Push as PushOp, Pop as PopOp, Stm as StmOp, Ldm as LdmOp, Msr as MsrOp, Mrs as MrsOp}
 use Rattle.thumb_asm.specs.declared.mnemonic.Mnemonic.{Mnemonic}
-use Rattle.thumb_asm.specs.declared.mnemonic.Mnemonic.TheVariants.{Cmp, Lsls, Lsrs, Asrs, Add, Mov, Sub, Ldr, Adr, Push, Pop, Stm, Ldm, Cpsie, Cpsid, B, Bl, Beq, Bne, Bcs, Bcc, Bmi, Bpl, Bvs, Bvc, Bhi, Bls, Bge, Blt, Bgt, Ble, Msr, Mrs, Str, Strh, Strb, Ldrh, Ldrb, Word as WordDirective, Half as HalfDirective, Space as SpaceDirective, Align as AlignDirective}
+use Rattle.thumb_asm.specs.declared.mnemonic.Mnemonic.TheVariants.{Cmp, Lsls, Lsrs, Asrs, Add, Mov, Sub, Ldr, Adr, Push, Pop, Stm, Ldm, Cpsie, Cpsid, B, Bl, Beq, Bne, Bcs, Bcc, Bmi, Bpl, Bvs, Bvc, Bhi, Bls, Bge, Blt, Bgt, Ble, Msr, Mrs, Str, Strh, Ldrh, Word as WordDirective, Half as HalfDirective, Space as SpaceDirective, Align as AlignDirective}
 use Rattle.thumb_asm.specs.declared.token.Span.{Span}
 use Rattle.thumb_asm.specs.declared.token.Number.{Number}
 use Rattle.thumb_asm.specs.declared.operands.RegisterList.{RegisterList}

@@ -1,6 +1,8 @@
 pub mod Forms
 pub mod FormOps
+pub mod Grammar
 pub mod Laws
+pub mod Lexical
 pub mod Lines
 pub mod Names
 pub mod Operands

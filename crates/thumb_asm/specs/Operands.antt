@@ -1,6 +1,6 @@
 -- The operands of an item, by their shape (ARMv6-M Architecture Reference Manual, A6.7, Assembler syntax; which of the shapes there are
 -- is the project's own).
-use Rattle.std.specs.Prelude.{ℕ, zero, suc, ◌+◌, ◌-◌, ◌^◌, Bool, true, false, ◌&&◌, nat_le, nat_lt, if◌then◌else◌, List, [], ◌∷◌, Option, None, Some, bit_or}
+use Rattle.std.specs.Prelude.{ℕ, zero, suc, ◌+◌, ◌-◌, ◌^◌, true, false, ◌&&◌, nat_le, nat_lt, if◌then◌else◌, List, [], ◌∷◌, Option, None, Some, bit_or}
 use Rattle.std.specs.Option.{option_map}
 use Rattle.thumb_asm.specs.declared.token.Token.{Token}
 use Rattle.thumb_asm.specs.declared.token.Token.TheVariants.{Name as NameToken, Register as RegisterToken, Number as NumberToken, Comma, Hash, OpenBracket, CloseBracket, OpenBrace, CloseBrace, Bang, Plus, Minus}

@@ -1,12 +1,11 @@
 -- The words of a line: mnemonics, registers, directives, numbers and names (ARMv6-M Architecture Reference Manual, A6.7 for the
 -- mnemonics, A2.3.1 for the registers; the directives, the forms of numbers and which words are no names are the project's own).
-use Rattle.std.specs.Prelude.{ℕ, ◌+◌, ◌-◌, ◌*◌, Bool, true, false, ◌==◌, ◌&&◌, ◌||◌, not, nat_le, if◌then◌else◌, List, [], ◌∷◌, length, take, drop, Option, None, Some, codes, find, option_and_then}
+use Rattle.std.specs.Prelude.{ℕ, ◌+◌, ◌-◌, ◌*◌, Bool, ◌==◌, ◌&&◌, nat_le, if◌then◌else◌, List, [], ◌∷◌, length, Option, None, Some, codes, find, option_and_then}
 use Rattle.std.specs.Option.{option_map_or}
 use Rattle.std.specs.Str.{bytes_eq}
 use Rattle.thumb_asm.specs.declared.mnemonic.Mnemonic.{Mnemonic}
 use Rattle.thumb_asm.specs.declared.mnemonic.Mnemonic.TheVariants.{Movs, Cmp, Adds, Subs, Lsls, Lsrs, Asrs, Ands, Eors, Adcs, Sbcs, Rors, Tst, Rsbs, Cmn, Orrs, Muls, Bics, Mvns, Add, Mov, Bx, Blx, Ldr, Adr, Str, Strh, Strb, Ldrsb, Ldrh, Ldrb, Ldrsh, Sub, Sxth, Sxtb, Uxth, Uxtb, Rev, Rev16, Revsh, Push, Pop, Stm, Ldm, Cpsie, Cpsid, Nop, Yield, Wfe, Wfi, Sev, Dsb, Dmb, Isb, Bkpt, Udf, Svc, B, Bl, Beq, Bne, Bcs, Bcc, Bmi, Bpl, Bvs, Bvc, Bhi, Bls, Bge, Blt, Bgt, Ble, Msr, Mrs, Word, Half, Space, Align}
 use Rattle.thumb_asm.specs.declared.token.Span.{Span}
-use Rattle.thumb_asm.specs.declared.token.Number.{Number}
 use Rattle.thumb_asm.specs.declared.token.Token.{Token}
 use Rattle.thumb_asm.specs.declared.token.Token.TheVariants.{Name, Register, Mnemonic as MnemonicToken, Number as NumberToken, Unfit}
 

@@ -1,4 +1,4 @@
-use Rattle.std.proofs.Common.{length, Ok, refl, sym, ap, ◌∙◌, arith}
+use Rattle.std.proofs.Common.{length, refl, sym, arith}
 use Rattle.std.proofs.lemmas.Bool.{eqb-true}
 use Rattle.std.proofs.lemmas.Result.{err_from_is_err_and}
 use Rattle.thumb_asm.proofs.Sizes.{bytes_fit}
