@@ -6,7 +6,7 @@ pub mod Paths
 pub mod Reading
 pub mod Rings
 pub mod Sessions
-pub mod Windows
+pub mod Stretches
 pub mod Writes
 pub mod LineLists
 pub mod TalkSessions

@@ -164,7 +164,7 @@ start_written w old new back now empty reply steps k land e lt none is =
 
 abbrev pub Obeys : Setting → Standing → Command → Standing → List ℕ → ℕ → ℕ → Type 0
 Obeys w old q new reply before after =
-    Does w old (answer w (first_of old) old.now.cycle q) (command_cost old.ring.spacing old.now.cycle (answer w (first_of old) old.now.cycle q).cycle q) new reply before after
+    Does w old (answer w (first_of old) old.now.cycle q) (command_cost w (first_of old) old.ring.spacing old.now.cycle q) new reply before after
 
 -- a number of a command is added to a cycle
 pub sum_fits : (w : Setting) (old : Standing) (q : Asked) (now n : ℕ) → StandsFor w old → Fits q → q ≡ code.Step n → now ≡ old.now.cycle → now + n < 2 ^ 64

@@ -103,18 +103,22 @@ pub last_within : (w : Setting) (s : State) → s.cycle ≤ w.limit → last_cyc
 unfolding last_state
 last_within w s le = let most = states_within w s (w.limit - s.cycle) in omega (arith, most)
 
--- no state on the way is beyond the last one
-pub path_in_last : (w : Setting) (s t : State) → Path w s t → t.cycle ≤ w.limit → t.cycle ≤ last_cycle w s
+last_forward : (w : Setting) (s : State) → s.cycle ≤ last_cycle w s
 unfolding last_state
-path_in_last w s t p le =
+last_forward w s = states_forward w s (w.limit - s.cycle)
+
+-- a state on the way has the same last state
+pub path_to_last : (w : Setting) (s t : State) → Path w s t → t.cycle ≤ w.limit → last_state w s ≡ last_state w t
+unfolding last_state
+path_to_last w s t p le =
     let a : s.cycle ≤ t.cycle = p.forward in
     let far : (t.cycle - s.cycle) + (w.limit - t.cycle) ≡ w.limit - s.cycle = omega arith in
-    let whole : states w s (w.limit - s.cycle) ≡ states w t (w.limit - t.cycle) =
     joined w s (t.cycle - s.cycle) (w.limit - t.cycle) (w.limit - s.cycle) far
     ∙ ap (λ (x : State). states w x (w.limit - t.cycle)) (sym p.is)
-    in
-    let on = states_forward w t (w.limit - t.cycle) in
-    subst (λ (x : State). t.cycle ≤ x.cycle) (sym whole) on
+
+-- no state on the way is beyond the last one
+pub path_in_last : (w : Setting) (s t : State) → Path w s t → t.cycle ≤ w.limit → t.cycle ≤ last_cycle w s
+path_in_last w s t p le = subst (λ (x : State). t.cycle ≤ x.cycle) (sym (path_to_last w s t p le)) (last_forward w t)
 
 -- ---- single cycles, up to a cycle
 

@@ -53,6 +53,13 @@ first_kept w first s k =
     let some : 0 < s.ring.spacing = spacing_some w first s k in
     k.multiples 0 (zero-mod s.ring.spacing) (omega arith) (omega arith)
 
+-- each stretch below the present cycle begins with one that is kept
+pub near_now : (w : Setting) (first : State) (s : Standing) → IsAlong w first s → (c : ℕ) → c < s.now.cycle → is_kept (c - c % s.ring.spacing) s.ring.kept ≡ true
+near_now w first s k c lt =
+    let here : s.now.cycle ≤ s.reached = k.here in
+    let all : s.now.cycle ≤ 64 * s.ring.spacing = now_in_spacings w first s k in
+    k.multiples (c - c % s.ring.spacing) (multiple_below c s.ring.spacing) (omega arith) (omega arith)
+
 pub path_of : (w : Setting) (first : State) (s : Standing) → IsAlong w first s → Path w first s.now
 path_of w first s k =
     let begins : first.cycle ≡ 0 = k.begins in

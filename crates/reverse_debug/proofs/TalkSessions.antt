@@ -1,12 +1,12 @@
 -- What a session says to a line, as a talk says it.
-use Rattle.std.proofs.Common.{◌≡◌, ℕ, ◌+◌, ◌≤◌, nat_lt, Bool, false, not, if◌then◌else◌, List, refl, sym, ap, subst, arith, ◌∙◌}
+use Rattle.std.proofs.Common.{◌≡◌, ℕ, ◌+◌, ◌≤◌, nat_lt, Bool, false, not, if◌then◌else◌, List, refl, ap, subst, arith, ◌∙◌}
 use Rattle.std.proofs.lemmas.Bool.Decides.{nat_tests}
 use Rattle.outer_lane.specs.Setting.{Setting}
 use Rattle.rp_machine.specs.State.{State}
 use Rattle.snap_ring.specs.Ring.{spacing_of}
 use Rattle.reverse_debug.specs.Command.{Command, is_quit, command_of}
 use Rattle.reverse_debug.specs.Command.Command.{Step, Back, Goto, End, Regs, Mem, Pins, Pio, LastWrite, Quit, Bad}
-use Rattle.reverse_debug.specs.Reply.{move_cost, command_cost, answer, heard, cost}
+use Rattle.reverse_debug.specs.Reply.{move_cost, command_cost, heard, cost}
 use Rattle.reverse_debug.specs.Session.{Standing, StandsFor}
 use Rattle.reverse_debug.proofs.Moves.{quits_exactly}
 use Rattle.reverse_debug.specs.Talk.{spent_on}
@@ -22,23 +22,22 @@ line_quits w f cycle line = quits_exactly w f cycle (command_of line)
 no_move : (d c : ℕ) → move_cost d c c ≡ 0
 no_move d c = let isnt : nat_lt c c ≡ false = grind (arith, nat_tests) in rw isnt (omega arith)
 
-order_spent : (d cycle target : ℕ) (q : Command) → (q ≡ Quit → target ≡ cycle) → command_cost d cycle target q ≡ (if is_quit q then 0 else command_cost d cycle target q)
-order_spent d cycle target (Step n) h = refl
-order_spent d cycle target (Back n) h = refl
-order_spent d cycle target (Goto to) h = refl
-order_spent d cycle target End h = refl
-order_spent d cycle target Regs h = refl
-order_spent d cycle target (Mem address count) h = refl
-order_spent d cycle target Pins h = refl
-order_spent d cycle target (Pio block machine) h = refl
-order_spent d cycle target (LastWrite address) h = refl
-order_spent d cycle target Quit h = subst (λ t. move_cost d cycle t ≡ 0) (sym (h refl)) (no_move d cycle)
-order_spent d cycle target Bad h = refl
+order_spent : (w : Setting) (f : State) (d cycle : ℕ) (q : Command) → command_cost w f d cycle q ≡ (if is_quit q then 0 else command_cost w f d cycle q)
+order_spent w f d cycle (Step n) = refl
+order_spent w f d cycle (Back n) = refl
+order_spent w f d cycle (Goto to) = refl
+order_spent w f d cycle End = refl
+order_spent w f d cycle Regs = refl
+order_spent w f d cycle (Mem address count) = refl
+order_spent w f d cycle Pins = refl
+order_spent w f d cycle (Pio block machine) = refl
+order_spent w f d cycle (LastWrite address) = refl
+order_spent w f d cycle Quit = no_move d cycle
+order_spent w f d cycle Bad = refl
 
 line_spent : (w : Setting) (f : State) (d cycle : ℕ) (line : List ℕ) → cost w f d cycle line ≡ (if quits line then 0 else cost w f d cycle line)
-unfolding cost heard
-line_spent w f d cycle line =
-    order_spent d cycle (answer w f cycle (command_of line)).cycle (command_of line) (λ e. ap (λ (q : Command). (answer w f cycle q).cycle) e)
+unfolding cost
+line_spent w f d cycle line = order_spent w f d cycle (command_of line)
 
 pub within_talk : (w : Setting) (f : State) (d cycle : ℕ) (line : List ℕ) (before after : ℕ) → d ≡ spacing_of w.limit → after ≤ before + cost w f d cycle line → after ≤ before + spent_on (talk_of w f) cycle line
 within_talk w f d cycle line before after e h =

@@ -1,37 +1,47 @@
 -- The last write, by a session that stands where it stood.
-use Rattle.std.proofs.Common.{◌≡◌, ℕ, ◌+◌, ◌≤◌, Option, sym, ap, subst, ◌∙◌}
+use Rattle.std.proofs.Common.{◌≡◌, ℕ, ◌+◌, ◌<◌, ◌≤◌, Option, Some, None, sym, ap, subst, arith, ◌∙◌}
 use Rattle.outer_lane.specs.Setting.{Setting}
 use Rattle.rp_machine.specs.State.{State}
-use Rattle.rp_machine.specs.Run.{states}
-use Rattle.snap_ring.specs.Ring.{state_at, restored}
-use Rattle.reverse_debug.specs.Reply.{last_cycle, last_write}
-use Rattle.reverse_debug.specs.Session.{Standing, first_of, StandsFor}
-use Rattle.reverse_debug.proofs.Sessions.{now_in_last}
+use Rattle.snap_ring.specs.Ring.{Snapshots}
+use Rattle.rp_base.specs.Alias.{or_zero}
+use Rattle.reverse_debug.specs.Reply.{last_cycle, last_write, search_cost}
+use Rattle.reverse_debug.specs.Session.{Standing, first_in, first_of, AreOf, StandsFor}
+use Rattle.reverse_debug.proofs.Rings.{restored_any}
+use Rattle.reverse_debug.proofs.Sessions.{first_kept, near_now, now_in_last, spacing_some}
 
--- v is what the parts of the session stand for, and s the machine that was set to the first state
-pub set_first : (v old : Standing) (s : State) → v ≡ old → s ≡ restored (state_at 0 v.ring.kept) v.now → s ≡ first_of old
-set_first v old s e is = is ∙ ap first_of e
+-- v is what the parts of the session stand for, and s any machine's state
+same_first : (w : Setting) (v old : Standing) (s : State) → v ≡ old → StandsFor w old → first_in v.ring s ≡ first_of old
+same_first w v old s e k = ap (λ (x : Standing). first_in x.ring s) e ∙ restored_any 0 old.ring.kept s old.now (first_kept w (first_of old) old k)
 
-pub first_begins : (w : Setting) (v old : Standing) (s : State) → v ≡ old → StandsFor w old → s ≡ restored (state_at 0 v.ring.kept) v.now → s.cycle ≡ 0
-first_begins w v old s e k is = ap (λ (x : State). x.cycle) (set_first v old s e is) ∙ k.begins
+pub kept_of : (w : Setting) (v old : Standing) (s : State) (now : ℕ) → v ≡ old → StandsFor w old → now ≡ old.now.cycle → AreOf w (first_in v.ring s) v.ring now
+kept_of w v old s now e k en =
+    subst (λ (x : Snapshots). AreOf w (first_in v.ring s) x now) (ap (λ (x : Standing). x.ring) (sym e))
+    (subst (λ (n : ℕ). AreOf w (first_in v.ring s) old.ring n) (sym en) (subst (λ (x : State). AreOf w x old.ring old.now.cycle) (sym (same_first w v old s e k))
+    (record {
+      begins = k.begins;
+      zero = first_kept w (first_of old) old k;
+      some = spacing_some w (first_of old) old k;
+      near = near_now w (first_of old) old k;
+      kept = k.kept;
+    })))
 
-pub first_reaches : (w : Setting) (v old : Standing) (s : State) (now : ℕ) → v ≡ old → StandsFor w old → s ≡ restored (state_at 0 v.ring.kept) v.now → now ≡ old.now.cycle → now ≤ last_cycle w s
-first_reaches w v old s now e k is en =
-    subst (λ n. n ≤ last_cycle w s) (sym en) (subst (λ (x : State). old.now.cycle ≤ last_cycle w x) (sym (set_first v old s e is)) (now_in_last w (first_of old) old k))
+pub reaches : (w : Setting) (v old : Standing) (s : State) (now : ℕ) → v ≡ old → StandsFor w old → now ≡ old.now.cycle → now ≤ last_cycle w (first_in v.ring s)
+reaches w v old s now e k en =
+    subst (λ n. n ≤ last_cycle w (first_in v.ring s)) (sym en)
+    (subst (λ (x : State). old.now.cycle ≤ last_cycle w x) (sym (same_first w v old s e k)) (now_in_last w (first_of old) old k))
 
-pub first_write : (w : Setting) (v old : Standing) (s : State) (address now : ℕ) (write : Option ℕ) → v ≡ old → s ≡ restored (state_at 0 v.ring.kept) v.now → now ≡ old.now.cycle → write ≡ last_write w s address now →
+pub same_write : (w : Setting) (v old : Standing) (s : State) (address now : ℕ) (write : Option ℕ) → v ≡ old → StandsFor w old → now ≡ old.now.cycle → write ≡ last_write w (first_in v.ring s) address now →
     write ≡ last_write w (first_of old) address old.now.cycle
-first_write w v old s address now write e is en h =
-    h ∙ ap (λ (x : State). last_write w x address now) (set_first v old s e is) ∙ ap (last_write w (first_of old) address) en
+same_write w v old s address now write e k en h =
+    h ∙ ap (λ (x : State). last_write w x address now) (same_first w v old s e k) ∙ ap (last_write w (first_of old) address) en
 
-pub back_again : (w : Setting) (v old : Standing) (s t : State) (now : ℕ) → v ≡ old → StandsFor w old → s ≡ restored (state_at 0 v.ring.kept) v.now → now ≡ old.now.cycle → t ≡ states w s now →
-    record { now = t; ring = v.ring; limit = v.limit; reached = v.reached } ≡ old
-back_again w v old s t now e k is en h =
-    let there : t ≡ old.now =
-    h ∙ ap (λ (x : State). states w x now) (set_first v old s e is) ∙ ap (states w (first_of old)) en ∙ sym k.now
-    in
-    let here : t ≡ v.now = there ∙ ap (λ (x : Standing). x.now) (sym e) in
-    ap (λ (x : State). record { now = x; ring = v.ring; limit = v.limit; reached = v.reached }) here ∙ e
+-- v is what the parts of the session stand for
+pub search_near : (v old : Standing) (now before after : ℕ) (found : Option ℕ) → v ≡ old → now ≡ old.now.cycle → after + or_zero found < before + now + v.ring.spacing → after + or_zero found < before + old.now.cycle + old.ring.spacing
+search_near v old now before after found e en h =
+    subst (λ n. after + or_zero found < before + n + old.ring.spacing) en
+    (subst (λ (x : Standing). after + or_zero found < before + now + x.ring.spacing) e h)
 
-pub counted_write : (old : Standing) (now before after : ℕ) → now ≡ old.now.cycle → after ≡ before + now → after ≡ before + old.now.cycle
-counted_write old now before after en h = h ∙ ap (λ n. before + n) en
+-- what is found is no later than the cycle from which it is searched
+pub search_within : (d cycle before after : ℕ) (found last : Option ℕ) → found ≡ last → after + or_zero found < before + cycle + d → after ≤ before + search_cost d cycle last
+search_within d cycle before after None last e h = subst (λ (l : Option ℕ). after ≤ before + search_cost d cycle l) e (omega (arith, h))
+search_within d cycle before after (Some x) last e h = subst (λ (l : Option ℕ). after ≤ before + search_cost d cycle l) e (omega (arith, h))

@@ -5,6 +5,7 @@ pub mod Reply
 pub mod Session
 pub mod Debugger
 pub mod Hear
+pub mod LastChange
 pub mod Lines
 pub mod Talk
 pub mod Way

@@ -2,6 +2,7 @@
 -- reply, which shows a part of the run's state at the cycle reached.
 use Rattle.std.specs.Prelude.{ℕ, zero, suc, ◌+◌, ◌-◌, Bool, true, false, not, ◌==◌, nat_lt, if◌then◌else◌, List, [], ◌∷◌, ◌++◌, drop, flat_map, Option, Some, None, codes, decimal}
 use Rattle.std.specs.List.{range_with_len}
+use Rattle.rp_base.specs.Alias.{or_zero}
 use Rattle.rp_base.specs.Word.{has_bit}
 use Rattle.rp_base.specs.declared.Why.{Why}
 use Rattle.rp_base.specs.Map.{place_of}
@@ -32,10 +33,6 @@ stop_line None cycle = []
 stop_line (Some why) cycle = stop_text why cycle
 
 -- the word of SRAM at an address
-abbrev pub or_zero : Option ℕ → ℕ
-or_zero None = 0
-or_zero (Some word) = word
-
 abbrev pub word_at : State → ℕ → ℕ
 word_at s address = or_zero (ram_word s.sram (place_of address))
 
@@ -122,9 +119,13 @@ heard w s cycle line = answer w s cycle (command_of line)
 abbrev pub move_cost : ℕ → ℕ → ℕ → ℕ
 move_cost spacing cycle target = if nat_lt target cycle then spacing - 1 else target - cycle
 
-abbrev pub command_cost : ℕ → ℕ → ℕ → Command → ℕ
-command_cost spacing cycle target (LastWrite address) = cycle + spacing - 1
-command_cost spacing cycle target _ = move_cost spacing cycle target
+-- for a search: back to the cycle that is found, or to the start, and less than a spacing more
+abbrev pub search_cost : ℕ → ℕ → Option ℕ → ℕ
+search_cost spacing cycle found = cycle - or_zero found + spacing - 1
+
+abbrev pub command_cost : Setting → State → ℕ → ℕ → Command → ℕ
+command_cost w s spacing cycle (LastWrite address) = search_cost spacing cycle (last_write w s address cycle)
+command_cost w s spacing cycle command = move_cost spacing cycle (answer w s cycle command).cycle
 
 unfoldable pub cost : Setting → State → ℕ → ℕ → List ℕ → ℕ
-cost w s spacing cycle line = command_cost spacing cycle (heard w s cycle line).cycle (command_of line)
+cost w s spacing cycle line = command_cost w s spacing cycle (command_of line)

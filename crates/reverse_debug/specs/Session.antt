@@ -1,5 +1,5 @@
 -- A session that stands at a cycle of a run, with states of the run that are kept (the project's own).
-use Rattle.std.specs.Prelude.{◌≡◌, ◌≤◌, ◌<◌, ℕ, ◌+◌, ◌*◌, ◌%◌, max, true, List, Option, IfSome, Some}
+use Rattle.std.specs.Prelude.{◌≡◌, ◌≤◌, ◌<◌, ℕ, ◌+◌, ◌-◌, ◌*◌, ◌%◌, max, true, List, Option, IfSome, Some}
 use Rattle.rp_base.specs.declared.Why.{Why}
 use Rattle.outer_lane.specs.Setting.{Setting}
 use Rattle.rp_machine.specs.State.{State}
@@ -19,8 +19,19 @@ pub record Standing : Type 0 where
   pub reached : ℕ
 
 -- the first state of the run is the one that is kept of cycle 0
+abbrev pub first_in : Snapshots → State → State
+first_in ring own = restored (state_at 0 ring.kept) own
+
 abbrev pub first_of : Standing → State
-first_of session = restored (state_at 0 session.ring.kept) session.now
+first_of session = first_in session.ring session.now
+
+-- what is kept is states of the run from a first state, and that one is kept; below a cycle each stretch begins with one
+pub record AreOf (w : Setting) (first : State) (ring : Snapshots) (to : ℕ) : Type 0 where
+  pub begins : first.cycle ≡ 0
+  pub zero : is_kept 0 ring.kept ≡ true
+  pub some : 0 < ring.spacing
+  pub near : (cycle : ℕ) → cycle < to → is_kept (cycle - cycle % ring.spacing) ring.kept ≡ true
+  pub kept : (cycle : ℕ) (own : State) → is_kept cycle ring.kept ≡ true → restored (state_at cycle ring.kept) own ≡ states w first cycle
 
 -- The present state, and each that is kept, are those of the run from a first state. Kept are, of the cycles up to the greatest one
 -- reached, all multiples of the spacing below 64 spacings.

@@ -1,15 +1,13 @@
 //! How a machine goes forward.
 
-ghost use Rattle.std.specs.Prelude.{◌≤◌, ◌<◌, ◌≡◌, ℕ};
+ghost use Rattle.std.specs.Prelude.{◌≤◌};
 ghost use Rattle.outer_lane.specs.Setting.{setting_of};
-ghost use Rattle.window_merge.specs.Jobs.{IsWhole};
 ghost use Rattle.reverse_debug.specs.Advance.{Advances, CountsMove};
 
 use lane_look::{Device, Marks};
 use rp_base::Why;
 use rp_machine::{Machine, Steps, World};
 use std::sync::ledger::Ledger;
-use window_merge::{Crew, advance_alone};
 
 /// Steps a machine up to a cycle. None where it stands there, also where it would stop there; else the cause of the stop below
 /// that cycle at which it stands. The marks of its last cycle are left.
@@ -34,25 +32,4 @@ pub(crate) fn advance<X: Device, L: Ledger>(
         }
     }
     None
-}
-
-/// Moves a machine up to a cycle by windows. None where it stands there, also where it would stop there; else the cause of the
-/// stop below that cycle at which it stands.
-pub(crate) fn advance_far<X: Device, L: Ledger>(
-    machine: &mut Machine,
-    world: &World<'_, X>,
-    crew: &mut Crew,
-    to: u64,
-    steps: &mut Steps<L>,
-) -> Option<Why>
-    requires low { machine.old.cycle ≤ world.now.limit }
-    requires ahead { machine.old.cycle < to }
-    requires crew { IsWhole crew.old }
-    ensures way { Advances
-        (setting_of world.now.script.now (X.meaning world.now.device.now) world.now.limit)
-        machine.old to machine.new result }
-    ensures steps { CountsMove machine.old machine.new steps.old steps.new }
-    ensures crew { IsWhole crew.new }
-{
-    advance_alone(machine, world, crew, to, steps)
 }

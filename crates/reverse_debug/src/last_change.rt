@@ -1,14 +1,18 @@
 //! The last cycle that changed a word.
 
-ghost use Rattle.std.specs.Prelude.{◌≡◌, ◌≤◌, ◌+◌, Some, if◌then◌else◌};
+ghost use Rattle.std.specs.Prelude.{◌≡◌, ◌≤◌, ◌<◌, ◌+◌, ◌-◌, Some, if◌then◌else◌};
 ghost use Rattle.outer_lane.specs.Setting.{setting_of};
-ghost use Rattle.rp_machine.specs.Run.{states};
+ghost use Rattle.rp_base.specs.Alias.{or_zero};
+ghost use Rattle.reverse_debug.specs.Advance.{CountsMove};
+ghost use Rattle.reverse_debug.specs.LastChange.{last_change};
 ghost use Rattle.reverse_debug.specs.Reply.{last_cycle, last_write};
+ghost use Rattle.reverse_debug.specs.Session.{AreOf, first_in};
 
 use crate::advance::advance;
 use crate::reply::word_at;
 use lane_look::{Device, Marks};
 use rp_machine::{Machine, Steps, World};
+use snap_ring::Ring;
 use std::sync::ledger::Ledger;
 
 /// A cycle that changed a word is later than the last one.
@@ -18,28 +22,24 @@ fn later(last: Option<u64>, cycle: u64, changed: bool) -> Option<u64>
     if changed { Some(cycle) } else { last }
 }
 
-/// Steps a machine from its first state up to a cycle, and names the last of these cycles that changed the word of SRAM at an
-/// address.
-pub(crate) fn last_change<X: Device, L: Ledger>(
+/// Steps a machine up to a cycle, and names the last of these cycles that changed the word of SRAM at an address.
+fn last_change<X: Device, L: Ledger>(
     machine: &mut Machine,
     world: &World<'_, X>,
     address: u32,
     to: u64,
     steps: &mut Steps<L>,
 ) -> Option<u64>
-    requires start { machine.old.cycle ≡ 0 }
+    requires low { machine.old.cycle ≤ world.now.limit }
+    requires ahead { machine.old.cycle ≤ to }
     requires to { to ≤ last_cycle
         (setting_of world.now.script.now (X.meaning world.now.device.now) world.now.limit)
         machine.old }
-    ensures state { machine.new
-        ≡ states
-        (setting_of world.now.script.now (X.meaning world.now.device.now) world.now.limit)
-        machine.old to }
     ensures write { result
-        ≡ last_write
+        ≡ last_change
         (setting_of world.now.script.now (X.meaning world.now.device.now) world.now.limit)
-        machine.old address to }
-    ensures steps { steps.new ≡ steps.old + to }
+        machine.old address (to - machine.old.cycle) }
+    ensures steps { steps.new + machine.old.cycle ≡ steps.old + to }
 {
     let mut last = None;
     let mut marks = Marks::new();
@@ -55,4 +55,44 @@ pub(crate) fn last_change<X: Device, L: Ledger>(
         }
     }
     last
+}
+
+/// The last cycle below another one that changed the word of SRAM at an address. The stretches between the states that are kept are
+/// searched from behind, so that a change that is near is found soon. The machine is set to states of the run.
+pub(crate) fn last_write<X: Device, L: Ledger>(
+    ring: &Ring,
+    machine: &mut Machine,
+    world: &World<'_, X>,
+    address: u32,
+    to: u64,
+    steps: &mut Steps<L>,
+) -> Option<u64>
+    requires kept { AreOf
+        (setting_of world.now.script.now (X.meaning world.now.device.now) world.now.limit)
+        (first_in ring.now machine.old) ring.now to }
+    requires to { to ≤ last_cycle
+        (setting_of world.now.script.now (X.meaning world.now.device.now) world.now.limit)
+        (first_in ring.now machine.old) }
+    ensures write { result
+        ≡ last_write
+        (setting_of world.now.script.now (X.meaning world.now.device.now) world.now.limit)
+        (first_in ring.now machine.old) address to }
+    ensures forward { steps.old ≤ steps.new }
+    ensures steps { steps.new + or_zero result < steps.old + to + ring.now.spacing }
+{
+    let mut end = to;
+    'stretches: while 0 < end {
+        let Some(start) = ring.nearest(end - 1) else {
+            return None;
+        };
+        ring.restore(start, machine);
+        match last_change(machine, world, address, end, steps) {
+            Some(cycle) => return Some(cycle),
+            None => {
+                end = start;
+                continue 'stretches;
+            }
+        }
+    }
+    None
 }

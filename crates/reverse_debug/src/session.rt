@@ -2,12 +2,12 @@
 
 ghost use Rattle.std.specs.Prelude.{◌≡◌, ◌≤◌, ◌<◌, ◌+◌, ◌-◌, ◌%◌, ◌^◌, ◌||◌, nat_lt, max};
 
-use crate::advance::advance_far;
+use crate::advance::advance;
 use crate::command::{Command, command_of, goes_on};
-use crate::last_change::last_change;
+use crate::last_change::last_write;
 use crate::reply::{Reply, put_cycle, put_last_write, put_pins, put_pio, put_registers, put_words};
 use arrayvec::ArrayVec;
-use lane_look::Device;
+use lane_look::{Device, Marks};
 use rp_base::Why;
 use rp_machine::{Machine, Steps, World};
 use snap_ring::Ring;
@@ -15,7 +15,6 @@ use std::alloc::{AllocError, Global};
 use std::marker::Model;
 use std::sync::ledger::Ledger;
 use trace_text::line::{push_text, stop_line};
-use window_merge::Crew;
 
 /// A kept state is nearer to a target than the present one, or the present one is beyond the target.
 fn is_nearer(target: u64, now: u64, kept: u64) -> bool
@@ -51,8 +50,8 @@ fn greater(one: u64, other: u64) -> u64
 pub struct Session {
     /// The machine at the present cycle.
     machine: Machine,
-    /// The jobs of the windows by which it goes forward.
-    crew: Crew,
+    /// Another one, which goes over the past.
+    scout: Machine,
     /// The states that are kept.
     ring: Ring,
     /// The cycle at which the run ends at the latest.
@@ -63,7 +62,6 @@ pub struct Session {
 
 impl Model for Session {
     ghost use Rattle.reverse_debug.specs.Session.{Standing};
-    ghost use Rattle.window_merge.specs.Jobs.{IsWhole};
 
     ghost Value = { Standing };
 
@@ -73,13 +71,12 @@ impl Model for Session {
       limit = s.limit;
       reached = s.reached;
     } };
-
-    ghost invariant = { λ s. IsWhole s.crew };
 }
 
 impl Session {
     ghost use Rattle.std.specs.Prelude.{◌≡◌, ◌≤◌, ◌<◌, ◌+◌, IfOk, IfNone, not, []};
     ghost use Rattle.outer_lane.specs.Setting.{Setting, setting_of};
+    ghost use Rattle.rp_base.specs.Alias.{or_zero};
     ghost use Rattle.reverse_debug.specs.Command.{are_words};
     ghost use Rattle.reverse_debug.specs.Reading.{meant, Fits};
     ghost use Rattle.reverse_debug.specs.Reply.{heard, answer, cost, command_cost, moved_to, moved_back, move_cost, last_write};
@@ -87,7 +84,7 @@ impl Session {
     ghost use Rattle.reverse_debug.specs.Session.{first_of, StandsFor, OpensAt, StaysFor, GoesOn, Lands, Does};
 
     /// A session at the state of a machine before its first cycle, for runs up to a limit of at most 1,000,000,000 cycles. It takes
-    /// the memory for 64 states that will be kept, and for the jobs of windows.
+    /// the memory for 64 states that will be kept, and for a second machine.
     ///
     /// # Errors
     ///
@@ -101,7 +98,7 @@ impl Session {
         ring.keep(machine);
         Ok(Session {
             machine: machine.twin(alloc)?,
-            crew: Crew::new(alloc)?,
+            scout: machine.twin(alloc)?,
             ring,
             limit,
             reached: 0,
@@ -131,7 +128,7 @@ impl Session {
         }
     }
 
-    /// Goes forward by windows up to the next cycle whose state is to be kept, at most to a cycle, and keeps the state there.
+    /// Goes forward up to the next cycle whose state is to be kept, at most to a cycle, and keeps the state there.
     fn stretch<X: Device, L: Ledger>(
         &mut self,
         world: &World<'_, X>,
@@ -151,7 +148,7 @@ impl Session {
         let at = self.machine.number();
         let spacing = self.ring.spacing();
         let until = next_stop(at, spacing, to);
-        let why = advance_far(&mut self.machine, world, &mut self.crew, until, steps);
+        let why = advance(&mut self.machine, world, until, &mut Marks::new(), steps);
         self.reached = greater(self.reached, self.machine.number());
         self.ring.keep(&self.machine);
         why
@@ -251,11 +248,11 @@ impl Session {
             (setting_of world.now.script.now (X.meaning world.now.device.now) world.now.limit)
             (first_of self.old) address self.old.now.cycle }
         ensures same { self.new ≡ self.old }
-        ensures steps { steps.new ≡ steps.old + self.old.now.cycle }
+        ensures forward { steps.old ≤ steps.new }
+        ensures steps { steps.new + or_zero result < steps.old + self.old.now.cycle + self.old.ring.spacing }
     {
         let now = self.cycle();
-        self.ring.restore(0, &mut self.machine);
-        last_change(&mut self.machine, world, address, now, steps)
+        last_write(&self.ring, &mut self.scout, world, address, now, steps)
     }
 
     /// Does what a line asks for, and writes the reply.
@@ -275,7 +272,7 @@ impl Session {
             world.now.limit in
             let what = answer w (first_of self.old) self.old.now.cycle (meant command) in
             Does w self.old what
-            (command_cost self.old.ring.spacing self.old.now.cycle what.cycle (meant command))
+            (command_cost w (first_of self.old) self.old.ring.spacing self.old.now.cycle (meant command))
             self.new
             reply.new.items steps.old steps.new }
     {

@@ -1,10 +1,10 @@
 use Rattle.std.proofs.Common.{◌<◌, arith}
-use Rattle.reverse_debug.proofs.Changes.{changing_here, changing_on, never_stopped, changed_state, changed_write, changed_count}
+use Rattle.reverse_debug.proofs.Changes.{changing_here, changing_on, never_stopped, changed_write, changed_count}
 use Rattle.reverse_debug.proofs.Paths.{nearer_by_one}
 use Rattle.reverse_debug.proofs.last_change.last_change.Goals as goal
 
 pub cycles-init : goal.cycles-init
-cycles-init g c = changing_here _ _ _ _ _ c.requires.start (omega arith)
+cycles-init g c = changing_here _ _ _ _ _ c.requires.low c.requires.ahead
 
 pub cycles-smaller : goal.cycles-smaller
 cycles-smaller g c =
@@ -14,13 +14,8 @@ cycles-smaller g c =
 pub cycles-preserved : goal.cycles-preserved
 cycles-preserved g c =
     let lt : c.cycles.machine.cycle < c.args.to = omega arith in
-    changing_on _ _ _ _ _ _ _ _ _ _ _ _ _ _ c.requires.start c.cycles.invariant c.number-cycle.ensures c.in-None.ensures.way lt c.word_at.ensures
+    changing_on _ _ _ _ _ _ _ _ _ _ _ _ _ _ c.cycles.invariant c.number-cycle.ensures c.in-None.ensures.way lt c.word_at.ensures
     c.word_at-before.ensures c.later-last.ensures c.in-None.ensures.steps
-
-pub returns-in-Some-clause-state : goal.returns-in-Some-clause-state
-returns-in-Some-clause-state g c =
-    let lt : c.cycles.machine.cycle < c.args.to = omega arith in
-    absurd (never_stopped _ _ _ _ _ _ _ _ _ _ _ c.cycles.invariant c.number-cycle.ensures c.in-Some.ensures.way lt c.requires.to)
 
 pub returns-in-Some-clause-write : goal.returns-in-Some-clause-write
 returns-in-Some-clause-write g c =
@@ -31,9 +26,6 @@ pub returns-in-Some-clause-steps : goal.returns-in-Some-clause-steps
 returns-in-Some-clause-steps g c =
     let lt : c.cycles.machine.cycle < c.args.to = omega arith in
     absurd (never_stopped _ _ _ _ _ _ _ _ _ _ _ c.cycles.invariant c.number-cycle.ensures c.in-Some.ensures.way lt c.requires.to)
-
-pub returns-clause-state : goal.returns-clause-state
-returns-clause-state g c = changed_state _ _ _ _ _ _ _ _ c.requires.start c.cycles.invariant (omega arith)
 
 pub returns-clause-write : goal.returns-clause-write
 returns-clause-write g c = changed_write _ _ _ _ _ _ _ _ c.cycles.invariant (omega arith)
