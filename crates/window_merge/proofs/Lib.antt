@@ -11,6 +11,7 @@ pub mod Keeping
 pub mod Lanes
 pub mod Lines
 pub mod Logs
+pub mod Marked
 pub mod Meeting
 pub mod Noting
 pub mod OneCore

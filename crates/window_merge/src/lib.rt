@@ -19,6 +19,7 @@ pub mod position;
 mod questions;
 pub mod reports;
 pub mod runs;
+mod sieve;
 mod start;
 mod walk;
 

@@ -2,9 +2,10 @@
 
 ghost use Rattle.std.specs.Prelude.{◌≡◌, ◌<◌, ◌≤◌, length};
 ghost use Rattle.rp_machine.specs.Deeds.{StoresInSram};
-ghost use Rattle.window_merge.specs.Notes.{first_of, last_of, seen_word, write_of, original_word};
+ghost use Rattle.window_merge.specs.Notes.{first_of, write_of, original_word};
 
 use crate::patch::{last_of, with_lanes};
+use crate::sieve::{lacks, with_mark};
 use lane_look::Want;
 use ram_banks::Ram;
 use rp_base::access::{lanes_at, replicated};
@@ -21,37 +22,57 @@ const ROOM: usize = 1024;
 #[derive(Drop)]
 pub(crate) struct Noted {
     list: Vec<(u32, u32)>,
+    // a mark for each word
+    marks: u128,
 }
 
 impl Model for Noted {
     ghost use Rattle.std.specs.Prelude.{ℕ, List, ◌≤◌, length};
     ghost use Rattle.std.specs.Vec.{vec_capacity};
+    ghost use Rattle.window_merge.specs.Marks.{AreMarked};
 
     ghost Value = { List (ℕ × ℕ) };
 
     ghost view = { λ n. n.list.items };
 
-    ghost invariant = { λ n. (1024 ≤ vec_capacity n.list) × (length n.list.items ≤ 1024) };
+    ghost invariant = { λ n. (1024 ≤ vec_capacity n.list)
+        × ((length n.list.items ≤ 1024) × AreMarked n.marks n.list.items) };
 }
 
 impl Noted {
     ghost use Rattle.std.specs.Prelude.{◌≡◌, ◌<◌, [], length, IfOk};
-    ghost use Rattle.window_merge.specs.Notes.{is_none, with_word};
+    ghost use Rattle.window_merge.specs.Notes.{first_of, last_of, is_none, with_word};
 
     /// None, and room for all of them.
     fn new(alloc: Global) -> Result<Noted, AllocError>
         ensures { IfOk result (λ noted. noted ≡ []) }
     {
         let list = Vec::with_capacity(alloc, ROOM)?;
-        Ok(Noted { list })
+        Ok(Noted { list, marks: 0 })
     }
 
-    /// The words.
+    /// The first word of an index; else this word.
     #[inline(always)]
-    pub(crate) fn words(&self) -> &[(u32, u32)]
-        ensures { result.now ≡ self.now }
+    fn first(&self, index: u32, word: u32) -> u32
+        ensures { result ≡ first_of self.now index word }
     {
-        &self.list
+        if lacks(self.marks, index) {
+            word
+        } else {
+            first_of(&self.list, index, word)
+        }
+    }
+
+    /// The last word of an index; else this word.
+    #[inline(always)]
+    fn last(&self, index: u32, word: u32) -> u32
+        ensures { result ≡ last_of self.now index word }
+    {
+        if lacks(self.marks, index) {
+            word
+        } else {
+            last_of(&self.list, index, word)
+        }
     }
 
     /// There is none.
@@ -67,6 +88,7 @@ impl Noted {
         ensures { self.new ≡ [] }
     {
         self.list.clear();
+        self.marks = 0;
     }
 
     /// Adds a word at the end, if there is one.
@@ -76,6 +98,7 @@ impl Noted {
         ensures { self.new ≡ with_word word self.old }
     {
         if let Some(word) = word {
+            self.marks = with_mark(self.marks, word.0);
             self.list.push_reserved(word);
         }
     }
@@ -92,26 +115,6 @@ fn first_of(words: &[(u32, u32)], index: u32, word: u32) -> u32
         }
     }
     word
-}
-
-/// The word of an index, as a lane sees it.
-#[inline(always)]
-fn seen_word(
-    ram: &Ram,
-    clean: bool,
-    own: &[(u32, u32)],
-    originals: &[(u32, u32)],
-    index: u32,
-) -> u32
-    requires { index < 67584 }
-    ensures { result ≡ seen_word clean own.now originals.now ram.now index }
-{
-    let word = ram.read(index);
-    if clean {
-        word
-    } else {
-        last_of(own, index, first_of(originals, index, word))
-    }
 }
 
 /// The write to SRAM of a want, if it is one.
@@ -163,7 +166,7 @@ impl Notes {
     ghost use Rattle.std.specs.Prelude.{◌≡◌, IfOk};
     ghost use Rattle.rp_machine.specs.Deeds.{StoresInSram};
     ghost use Rattle.lane_look.specs.declared.lane.Want.TheVariants as want;
-    ghost use Rattle.window_merge.specs.Notes.{own_of, is_clean, seen_of, own_word, no_notes, noted, noted_by, HasRoom};
+    ghost use Rattle.window_merge.specs.Notes.{last_of, own_of, is_clean, seen_of, own_word, no_notes, noted, noted_by, HasRoom};
 
     /// None, and room for those of 256 cycles.
     pub(crate) fn new(alloc: Global) -> Result<Notes, AllocError>
@@ -187,16 +190,16 @@ impl Notes {
         self.dma.clear();
     }
 
-    /// What a lane of that number wrote.
+    /// The last word of an index that a lane of that number wrote; else this word.
     #[inline(always)]
-    pub(crate) fn own(&self, lane: u8) -> &[(u32, u32)]
-        ensures { result.now ≡ own_of lane self.now }
+    fn own(&self, lane: u8, index: u32, word: u32) -> u32
+        ensures { result ≡ last_of (own_of lane self.now) index word }
     {
         match lane {
-            0 => self.core0.words(),
-            1 => self.core1.words(),
-            2 => self.dma.words(),
-            _ => &[],
+            0 => self.core0.last(index, word),
+            1 => self.core1.last(index, word),
+            2 => self.dma.last(index, word),
+            _ => word,
         }
     }
 
@@ -216,9 +219,11 @@ impl Notes {
         requires { index < 67584 }
         ensures { result ≡ seen_of lane self.now ram.now index }
     {
-        let clean = self.is_clean(lane);
-        let own = self.own(lane);
-        seen_word(ram, clean, own, self.originals.words(), index)
+        let word = ram.read(index);
+        if self.is_clean(lane) {
+            return word;
+        }
+        self.own(lane, index, self.originals.first(index, word))
     }
 
     /// The word of a write as a lane of that number leaves it.

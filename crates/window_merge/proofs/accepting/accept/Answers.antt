@@ -1,4 +1,4 @@
-use Rattle.std.proofs.Common.{refl, sym, ap, ◌∙◌}
+use Rattle.std.proofs.Common.{sym, ap, ◌∙◌}
 use Rattle.rp_machine.specs.State.{State}
 use Rattle.window_merge.specs.Jobs.{IsAlone}
 use Rattle.window_merge.specs.Judged.{IsUnlikeBy}
