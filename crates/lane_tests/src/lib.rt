@@ -39,4 +39,6 @@ pub mod samples;
 #[cfg(test)]
 mod sio_block_tests;
 #[cfg(test)]
+mod startup_tests;
+#[cfg(test)]
 mod thumb_rows_tests;
