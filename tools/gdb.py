@@ -6,7 +6,8 @@
 
 The image is an ELF or a UF2 file. Both cores are threads. What works: registers, SRAM, breakpoints, write watchpoints, step, next,
 stepi, continue, finish, and their reverse forms; Ctrl-C. The run is replayed, so nothing can be written; SRAM alone can be read.
-`monitor help` lists the commands of the session that can be asked, as `monitor pins`.
+`monitor help` lists the commands of the session that can be asked, as `monitor pins`. GDB waits for a reply for two seconds, unless
+`set remotetimeout 60` tells it to wait longer.
 
 A stop of the run is a signal, and its line is shown: SIGTRAP for a BKPT, SIGSEGV outside of the machine, SIGABRT for a lockup; at the
 limit and at the start the history ends. An instruction is taken to begin where PC changes. A breakpoint is looked for cycle by cycle, so
@@ -88,6 +89,14 @@ class Link:
                 return body.decode("latin-1")
 
     def send(self, text):
+        """Sends a reply. What came since the packet was taken was said for want of it: the packet again, or that none came."""
+        if self.is_acknowledged:
+            try:
+                while self.fill(0):
+                    pass
+            except EOFError:
+                pass    # the next packet is found to be missing
+            self.buffer = b"\x03" if b"\x03" in self.buffer else b""
         data = text.encode("latin-1")
         self.last = b"$%s#%02x" % (data, sum(data) % 256)
         self.put(self.last)
@@ -102,16 +111,19 @@ class Link:
 
 
 class Session:
-    """A session of the debugger. It begins anew, at the same cycle, before its input is too long."""
+    """A session of the debugger. It begins with the first question, since GDB waits two seconds for a first reply, and anew, at the
+    same cycle, before its input is too long."""
 
     def __init__(self, make):
         self.make, self.debug, self.sent = make, None, 0
         self.cycle, self.stop = 0, None
-        self.begin()
 
     def begin(self):
         self.close()
-        self.debug, self.sent = self.make(), 0
+        try:
+            self.debug, self.sent = self.make(), 0
+        except johvelni.Refused as refused:
+            raise Refused(f"the session was refused: {refused}") from None
         if self.cycle:
             self.move(f"goto {self.cycle}")
 
@@ -120,7 +132,7 @@ class Session:
             self.debug.close()
 
     def ask(self, command, lines=1):
-        if self.sent + len(command) + 1 > INPUT:
+        if self.debug is None or self.sent + len(command) + 1 > INPUT:
             self.begin()
         self.sent += len(command) + 1
         return self.debug.ask(command, lines)
@@ -494,6 +506,8 @@ class Server:
     def moved(self, move):
         """Moves, and tells where it stopped and why."""
         before, written, told = self.session.cycle, self.target.written, ""
+        if self.session.sent > INPUT // 2:    # while GDB waits for a stop, for which it has no time limit
+            self.session.begin()
         if self.session.stop == "start":
             self.session.stop = None
         try:
@@ -567,15 +581,14 @@ def tool():
         debug.ask("regs", 2)
         return debug
 
-    try:
-        if given.listen is not None:
-            make().close()
-            listen(given.listen, make)
-        if sys.stdin is None or sys.stdout is None:
-            raise Refused("standard input or output is closed: GDB starts this by `target remote |`, or give --listen")
-        Server(Link(0, 1), make).serve()
-    except johvelni.Refused as refused:
-        raise Refused(f"the session was refused: {refused}") from None
+    if given.listen is not None:
+        session = Session(make)
+        session.begin()
+        session.close()
+        listen(given.listen, make)
+    if sys.stdin is None or sys.stdout is None:
+        raise Refused("standard input or output is closed: GDB starts this by `target remote |`, or give --listen")
+    Server(Link(0, 1), make).serve()
 
 
 if __name__ == "__main__":
