@@ -26,6 +26,10 @@ pub given_all : {X Y : Type 0} (P : Y → Type 0) (o : Option X) (next : X → O
 given_all P None next h = tt
 given_all P (Some x) next h = h x refl
 
+-- what holds of a value that is there
+pub of_some : {X : Type 0} (P : X → Type 0) (o : Option X) (x : X) → IfSome o P → o ≡ Some x → P x
+of_some {X} P o x h e = subst (λ (o : Option X). IfSome o P) e h
+
 -- ---- the next item of a list
 
 module _ {X : Type 0} (read : List ℕ → Option X) (clash : X → X → Bool) (items : List X) (text : List ℕ) (texts : List (List ℕ)) (whole : Option (List X)) where

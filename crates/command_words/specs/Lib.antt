@@ -4,6 +4,7 @@ pub mod Numbers
 pub mod Options
 pub mod Read
 pub mod Targets
+pub mod Wirings
 pub mod Words
 pub mod Line
 pub mod Table

@@ -3,6 +3,7 @@ use Rattle.std.specs.Prelude.{◌≡◌, ◌<◌, ℕ, List, ◌∷◌, length, 
 use Rattle.std.specs.Global.{Global}
 use Rattle.std.specs.Option.{option_map}
 use Rattle.std.specs.String.{string_bytes}
+use Rattle.board_parts.specs.Wiring.{wired_in}
 use Rattle.command_words.specs.declared.entry.PioEntry.{PioEntry}
 use Rattle.command_words.specs.declared.reading.RunWords.{RunWords}
 use Rattle.command_words.specs.declared.reading.Reading.{Reading}
@@ -12,7 +13,7 @@ use Rattle.command_words.specs.declared.reading.WordsFault.TheVariants.{Words, M
 use Rattle.command_words.specs.Options.{settings_of}
 use Rattle.command_words.specs.Entries.{Entry}
 use Rattle.command_words.specs.Words.{Run, Command}
-use Rattle.command_words.specs.Words.Command.{RunImage, DebugImage, Disassemble, Assemble, Generate}
+use Rattle.command_words.specs.Words.Command.{RunImage, DebugImage, Disassemble, Assemble, AssembleThumb, Generate}
 
 -- the entry that the words of one stand for
 abbrev pub entry_in : PioEntry → Entry
@@ -26,8 +27,10 @@ run_in r = record {
   script = option_map string_bytes r.script;
   pio = map entry_in r.pio.items;
   probes = r.probes.items;
+  parts = map wired_in r.parts.items;
   workers = r.workers;
   stats = r.stats;
+  table = r.table;
 }
 
 -- the command that a reading stands for
@@ -36,6 +39,7 @@ command_in (readings.Run r) = RunImage (run_in r)
 command_in (readings.Debug r) = DebugImage (run_in r)
 command_in (readings.Dis d) = Disassemble d.words.items d.side
 command_in (readings.Asm name) = Assemble (string_bytes name)
+command_in (readings.Thumb name) = AssembleThumb (string_bytes name)
 command_in (readings.Gen g) = Generate g.number g.cycles g.workers g.stats
 
 -- the answer stands for what was asked for, or is Words where that is none; Memory says nothing

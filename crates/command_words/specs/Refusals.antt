@@ -7,9 +7,14 @@ use Rattle.pin_script.specs.declared.fault.ScriptFault.{ScriptFault}
 use Rattle.pin_script.specs.declared.fault.ScriptFault.TheVariants as script
 use Rattle.pio_parse.specs.declared.fault.PioFault.{PioFault}
 use Rattle.pio_parse.specs.declared.fault.PioFault.TheVariants as pio
+use Rattle.thumb_asm.specs.declared.fault.ThumbFault.{ThumbFault}
+use Rattle.thumb_asm.specs.declared.fault.ThumbFault.TheVariants as thumb
+use Rattle.startup_blocks.specs.declared.fault.StartFault.{StartFault}
+use Rattle.startup_blocks.specs.declared.fault.StartFault.TheVariants as start
 
 -- what is refused: the words, a file that could not be loaded, a file of this length, which is above its limit, an image, a
--- script and a PIO source by their first fault (a program that finds no room is a fault of its source)
+-- script, a PIO source and a Thumb source by their first fault (a program that finds no room is a fault of its source), and an image
+-- that cannot be linked with the table of routines
 pub data Refusal : Type 0 where
   BadWords : Refusal
   Lost : (name : List ℕ) → Refusal
@@ -17,6 +22,8 @@ pub data Refusal : Type 0 where
   BadImage : (fault : ImageFault) → Refusal
   BadScript : (fault : ScriptFault) → Refusal
   BadSource : (fault : PioFault) → Refusal
+  BadThumb : (fault : ThumbFault) → Refusal
+  BadStart : (fault : StartFault) → Refusal
 
 -- a number after a space, and an address
 abbrev pub then_number : ℕ → List ℕ
@@ -77,6 +84,30 @@ pio_fault_words (pio.NoRoom count) = codes "12 NoRoom" ++ then_number count
 abbrev pub pio_line : PioFault → List ℕ
 pio_line fault = codes "error pio " ++ pio_fault_words fault ++ codes "\n"
 
+-- a Thumb source's fault: its number, its name and its line, which is 0 for a source without bytes
+unfoldable pub thumb_fault_words : ThumbFault → List ℕ
+thumb_fault_words (thumb.Char line) = codes "1 Char" ++ then_number line
+thumb_fault_words (thumb.Syntax line) = codes "2 Syntax" ++ then_number line
+thumb_fault_words thumb.Memory = codes "3 Memory"
+thumb_fault_words (thumb.Unknown line) = codes "4 Unknown" ++ then_number line
+thumb_fault_words (thumb.Twice line) = codes "5 Twice" ++ then_number line
+thumb_fault_words (thumb.Range line) = codes "6 Range" ++ then_number line
+thumb_fault_words (thumb.Register line) = codes "7 Register" ++ then_number line
+thumb_fault_words (thumb.Align line) = codes "8 Align" ++ then_number line
+thumb_fault_words (thumb.TooLong line) = codes "9 TooLong" ++ then_number line
+thumb_fault_words (thumb.Nothing line) = codes "10 Nothing" ++ then_number line
+
+abbrev pub thumb_line : ThumbFault → List ℕ
+thumb_line fault = codes "error thumb " ++ thumb_fault_words fault ++ codes "\n"
+
+-- why an image cannot be linked: its number, its name and the address
+unfoldable pub start_fault_words : StartFault → List ℕ
+start_fault_words (start.Taken address) = codes "1 Taken" ++ then_address address
+start_fault_words start.Memory = codes "2 Memory"
+
+abbrev pub start_line : StartFault → List ℕ
+start_line fault = codes "error start " ++ start_fault_words fault ++ codes "\n"
+
 -- the line of a refusal
 unfoldable pub line_of : Refusal → List ℕ
 line_of BadWords = codes "error words\n"
@@ -85,6 +116,8 @@ line_of (TooLarge name long) = codes "error large " ++ name ++ codes " " ++ deci
 line_of (BadImage fault) = image_line fault
 line_of (BadScript fault) = script_line fault
 line_of (BadSource fault) = pio_line fault
+line_of (BadThumb fault) = thumb_line fault
+line_of (BadStart fault) = start_line fault
 
 -- its status
 abbrev pub status_of : Refusal → ℕ
@@ -94,3 +127,5 @@ status_of (TooLarge name long) = 3
 status_of (BadImage fault) = 4
 status_of (BadSource fault) = 5
 status_of (BadScript fault) = 6
+status_of (BadThumb fault) = 11
+status_of (BadStart fault) = 12

@@ -24,7 +24,7 @@ abbrev pub row : String → String → Way → Row
 row command name way = record { command = codes command; name = codes name; way = way }
 
 unfoldable pub commands : List (List ℕ)
-commands = codes "run" ∷ codes "debug" ∷ codes "asm" ∷ codes "dis" ∷ codes "gen" ∷ []
+commands = codes "run" ∷ codes "debug" ∷ codes "asm" ∷ codes "thumb" ∷ codes "dis" ∷ codes "gen" ∷ []
 
 unfoldable pub options : List Row
 options =
@@ -32,11 +32,15 @@ options =
     ∷ row "run" "script" Valued
     ∷ row "run" "pio" Valued
     ∷ row "run" "probe" Valued
+    ∷ row "run" "part" Valued
     ∷ row "run" "workers" Valued
     ∷ row "run" "stats" Alone
+    ∷ row "run" "table" Alone
     ∷ row "debug" "cycles" Needed
     ∷ row "debug" "script" Valued
     ∷ row "debug" "pio" Valued
+    ∷ row "debug" "part" Valued
+    ∷ row "debug" "table" Alone
     ∷ row "dis" "side" Valued
     ∷ row "dis" "opt" Valued
     ∷ row "gen" "cycles" Needed

@@ -1,37 +1,45 @@
 -- The words of a command line, and what they ask for: `run <image> --cycles N [--script FILE] [--pio LIST] [--probe LIST]
--- [--workers K] [--stats]`, `debug` with the same words but `--probe`, `--workers` and `--stats`, `dis <hex> [--side S] [--opt T]`,
--- `asm <file>` or `gen <number> --cycles N [--workers K] [--stats]`. Where probes are spoken of as a number, it is how many are
--- handed in. The project's own.
+-- [--part LIST] [--workers K] [--stats] [--table]`, `debug` with the same words but `--probe`, `--workers` and `--stats`,
+-- `dis <hex> [--side S] [--opt T]`, `asm <file>`, `thumb <file>` or `gen <number> --cycles N [--workers K] [--stats]`. Where probes
+-- are spoken of as a number, it is how many are handed in; where parts are spoken of as a list of numbers, it is how many pins each
+-- part has that is handed in. The project's own.
 use Rattle.std.specs.Prelude.{◌≡◌, ℕ, Bool, ◌≤◌, ◌-◌, ◌^◌, if◌then◌else◌, List, [], ◌∷◌, Option, Some, None, codes}
 use Rattle.std.specs.Str.{bytes_eq}
 use Rattle.pio_words.specs.declared.side.SideConfig.{SideConfig}
 use Rattle.board_parts.specs.declared.target.Target.{Target}
+use Rattle.board_parts.specs.Wiring.{Wired}
 use Rattle.command_words.specs.Line.{line_in}
 use Rattle.command_words.specs.Lists.{given}
 use Rattle.command_words.specs.Numbers.{number_within}
 use Rattle.command_words.specs.Options.{Setting, settings_of, is_given, value_for, is_normal, number_for}
 use Rattle.command_words.specs.Entries.{Entry, entries_of}
 use Rattle.command_words.specs.Targets.{targets_of}
+use Rattle.command_words.specs.Wirings.{wirings_of}
 use Rattle.command_words.specs.Dis.{words_of, side_of}
 
--- a run: the image's name, how many cycles it may have, the script's name, the programs for machines, the probes that are aimed,
--- how many workers run its lanes, and whether it ends with the line of its windows
+-- a run: the image's name, how many cycles it may have, the script's name, the programs for machines, the probes that are aimed, the
+-- parts that are attached, how many workers run its lanes, whether it ends with the line of its windows, and whether the image is
+-- linked with the table of routines
 pub record Run : Type 0 where
   pub image : List ℕ
   pub cycles : ℕ
   pub script : Option (List ℕ)
   pub pio : List Entry
   pub probes : List Target
+  pub parts : List Wired
   pub workers : ℕ
   pub stats : Bool
+  pub table : Bool
 
--- what the words may ask for: a run, the debugger on a run, the source text of instruction words, the listing of a source, or the run
--- of the image that is generated from a number by so many workers, with or without the line of its windows
+-- what the words may ask for: a run, the debugger on a run, the source text of instruction words, the listing of a PIO source, the
+-- image file of a Thumb source, or the run of the image that is generated from a number by so many workers, with or without the line
+-- of its windows
 pub data Command : Type 0 where
   RunImage : (run : Run) → Command
   DebugImage : (run : Run) → Command
   Disassemble : (words : List ℕ) → (side : SideConfig) → Command
   Assemble : (source : List ℕ) → Command
+  AssembleThumb : (source : List ℕ) → Command
   Generate : (number cycles workers : ℕ) → (stats : Bool) → Command
 
 -- the limit of cycles, 1 to 1,000,000,000, which must be given
@@ -46,25 +54,32 @@ workers_in settings = number_for (codes "--workers") 8 settings
 abbrev pub stats_in : List Setting → Bool
 stats_in settings = is_given (codes "--stats") settings
 
+-- the image is to be linked with the table of routines
+abbrev pub table_in : List Setting → Bool
+table_in settings = is_given (codes "--table") settings
+
 -- a list that an option gives, and the empty list where it is not given
 abbrev pub list_in : {X : Type 0} → (List ℕ → Option (List X)) → Option (List ℕ) → Option (List X)
 list_in read None = Some []
 list_in read (Some list) = read list
 
--- `<image> --cycles N [--script FILE] [--pio LIST] [--probe LIST] [--workers K] [--stats]`
-unfoldable pub run_reading : ℕ → List ℕ → List Setting → Option Run
-run_reading probes image settings =
+-- `<image> --cycles N [--script FILE] [--pio LIST] [--probe LIST] [--part LIST] [--workers K] [--stats] [--table]`
+unfoldable pub run_reading : ℕ → List ℕ → List ℕ → List Setting → Option Run
+run_reading probes parts image settings =
     given (cycles_in settings) (λ cycles. given (list_in entries_of (value_for (codes "--pio") settings)) (λ pio.
     given (list_in (targets_of probes) (value_for (codes "--probe") settings)) (λ targets.
+    given (list_in (wirings_of parts) (value_for (codes "--part") settings)) (λ wirings.
     given (workers_in settings) (λ workers. Some (record {
       image = image;
       cycles = cycles;
       script = value_for (codes "--script") settings;
       pio = pio;
       probes = targets;
+      parts = wirings;
       workers = workers;
       stats = stats_in settings;
-    })))))
+      table = table_in settings;
+    }))))))
 
 -- `dis <hex> [--side S] [--opt T]`
 unfoldable pub dis_reading : List ℕ → List Setting → Option Command
@@ -77,21 +92,22 @@ gen_reading number settings =
     given (workers_in settings) (λ workers. Some (Generate number cycles workers (stats_in settings)))))
 
 -- what a command, its argument and its options ask for
-unfoldable pub written : ℕ → List (List ℕ) → Option Command
-written probes [] = None
-written probes (command ∷ []) = None
-written probes (command ∷ argument ∷ options) =
+unfoldable pub written : ℕ → List ℕ → List (List ℕ) → Option Command
+written probes parts [] = None
+written probes parts (command ∷ []) = None
+written probes parts (command ∷ argument ∷ options) =
     let settings = settings_of options in
-    if bytes_eq command (codes "run") then given (run_reading probes argument settings) (λ run. Some (RunImage run))
-    else if bytes_eq command (codes "debug") then given (run_reading probes argument settings) (λ run. Some (DebugImage run))
+    if bytes_eq command (codes "run") then given (run_reading probes parts argument settings) (λ run. Some (RunImage run))
+    else if bytes_eq command (codes "debug") then given (run_reading probes parts argument settings) (λ run. Some (DebugImage run))
     else if bytes_eq command (codes "dis") then dis_reading argument settings
     else if bytes_eq command (codes "asm") then Some (Assemble argument)
+    else if bytes_eq command (codes "thumb") then Some (AssembleThumb argument)
     else if bytes_eq command (codes "gen") then gen_reading argument settings else None
 
 -- The reading of the words, or none where they are refused. Words in normal form are read as they are written. All others are read as
 -- `clap` reads them.
-unfoldable pub reading : ℕ → List (List ℕ) → Option Command
-reading probes words = if is_normal words then written probes words else given (line_in words) (written probes)
+unfoldable pub reading : ℕ → List ℕ → List (List ℕ) → Option Command
+reading probes parts words = if is_normal words then written probes parts words else given (line_in words) (written probes parts)
 
 -- a run that is asked for has at most 1,000,000,000 cycles and 8 workers
 abbrev pub IsLimited : Command → Type 0
@@ -99,6 +115,7 @@ IsLimited (RunImage run) = (run.cycles ≤ 1000000000) × (run.workers ≤ 8)
 IsLimited (DebugImage run) = (run.cycles ≤ 1000000000) × (run.workers ≤ 8)
 IsLimited (Disassemble words side) = Unit {0}
 IsLimited (Assemble source) = Unit {0}
+IsLimited (AssembleThumb source) = Unit {0}
 IsLimited (Generate number cycles workers stats) = (cycles ≤ 1000000000) × (workers ≤ 8)
 
 -- how many workers run the lanes of what is asked for; a command without such a number has none
@@ -107,8 +124,18 @@ workers_of (RunImage run) = run.workers
 workers_of (DebugImage run) = 0
 workers_of (Disassemble words side) = 0
 workers_of (Assemble source) = 0
+workers_of (AssembleThumb source) = 0
 workers_of (Generate number cycles workers stats) = workers
 
--- what was asked for was read from some words, where so many probes were handed in
-abbrev pub IsRead : ℕ → Command → Type 0
-IsRead probes command = (words : List (List ℕ)) × (reading probes words ≡ Some command)
+-- the parts that are attached for what is asked for
+abbrev pub parts_in : Command → List Wired
+parts_in (RunImage run) = run.parts
+parts_in (DebugImage run) = run.parts
+parts_in (Disassemble words side) = []
+parts_in (Assemble source) = []
+parts_in (AssembleThumb source) = []
+parts_in (Generate number cycles workers stats) = []
+
+-- what was asked for was read from some words, where so many probes were handed in, and parts with so many pins
+abbrev pub IsRead : ℕ → List ℕ → Command → Type 0
+IsRead probes parts command = (words : List (List ℕ)) × (reading probes parts words ≡ Some command)

@@ -13,6 +13,7 @@ pub mod refusal;
 mod rows;
 mod table;
 mod targets;
+mod wirings;
 mod words;
 mod write;
 

@@ -11,7 +11,7 @@ use clap::error::ErrorKind;
 use std::alloc::{AllocError, Global};
 
 /// The line that `clap` reads the words after the program's name as, in normal form: the command, its argument, pairs
-/// `--name value`, and `--stats` where it is given. None where `clap` refuses them, or there is no command among them.
+/// `--name value`, and `--stats` and `--table` where they are given. None where `clap` refuses them, or there is no command among them.
 ///
 /// # Errors
 ///

@@ -5,6 +5,7 @@ ghost use Rattle.command_words.specs.declared.reading.WordsFault.TheVariants.{Me
 
 use crate::entry::PioEntry;
 use board_parts::target::Target;
+use board_parts::wiring::Wiring;
 use pio_words::SideConfig;
 use std::alloc::{AllocError, AllocFailed};
 
@@ -21,10 +22,14 @@ pub struct RunWords {
     pub pio: Vec<PioEntry>,
     /// The probes that are aimed, in the order of the list; no probe stands twice.
     pub probes: Vec<Target>,
+    /// The parts that are attached, in the order of the list; no part stands twice.
+    pub parts: Vec<Wiring>,
     /// How many workers run the lanes of its windows, 0 to 8.
     pub workers: u8,
     /// Whether the text ends with the line of the run's windows.
     pub stats: bool,
+    /// Whether the image is linked with the table of routines.
+    pub table: bool,
 }
 
 /// The words of a run of a generated image.
@@ -58,8 +63,10 @@ pub enum Reading {
     Debug(RunWords),
     /// The source text of instruction words.
     Dis(DisWords),
-    /// The listing of the source file of this name.
+    /// The listing of the PIO source file of this name.
     Asm(String),
+    /// The image file of the Thumb source file of this name.
+    Thumb(String),
     /// A run of a generated image.
     Gen(GenWords),
 }

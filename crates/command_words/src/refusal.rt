@@ -2,14 +2,16 @@
 
 ghost use Rattle.std.specs.Prelude.{◌≡◌, ◌+◌, ◌≤◌, ◌++◌, length, codes, decimal, IfOk};
 ghost use Rattle.arrayvec.specs.ArrayVec.{array_vec_len};
-ghost use Rattle.command_words.specs.Refusals.{fault_words, image_line, script_fault_words, script_line, pio_fault_words, pio_line, then_number, then_address, line_of, status_of};
+ghost use Rattle.command_words.specs.Refusals.{fault_words, image_line, script_fault_words, script_line, pio_fault_words, pio_line, thumb_fault_words, thumb_line, start_fault_words, start_line, then_number, then_address, line_of, status_of};
 ghost use Rattle.command_words.specs.Meant.{meant};
 
 use arrayvec::ArrayVec;
 use itoa::Buffer;
 use pin_script::ScriptFault;
 use pio_parse::PioFault;
+use startup_blocks::StartFault;
 use std::alloc::{AllocError, Global};
+use thumb_asm::ThumbFault;
 use trace_text::line::{push_number, push_text, push_word};
 use uf2_image::ImageFault;
 
@@ -28,6 +30,10 @@ pub enum Refusal {
     Script(ScriptFault),
     /// The file is no PIO source, its programs have a fault, or the first one finds no room.
     Source(PioFault),
+    /// The file is no Thumb source.
+    Thumb(ThumbFault),
+    /// The image cannot be linked with the table of routines.
+    Start(StartFault),
 }
 
 /// How many bytes the line of a fault has at most.
@@ -148,6 +154,43 @@ fn push_pio_fault(fault: &PioFault, out: &mut ArrayVec<u8, FAULT>)
     }
 }
 
+/// Appends a Thumb source's fault: its number, its name and its line.
+#[tactic(auto, unfolding(crate::specs::Refusals::thumb_fault_words))]
+fn push_thumb_fault(fault: &ThumbFault, out: &mut ArrayVec<u8, FAULT>)
+    requires { array_vec_len out.old + 64 ≤ FAULT }
+    ensures text { out.new.items ≡ out.old.items ++ thumb_fault_words fault.now }
+    ensures short { array_vec_len out.new ≤ array_vec_len out.old + 64 }
+{
+    match *fault {
+        ThumbFault::Char(line) => push_one(b"1 Char", u64::from(line), out),
+        ThumbFault::Syntax(line) => push_one(b"2 Syntax", u64::from(line), out),
+        ThumbFault::Memory => push_text(b"3 Memory", out),
+        ThumbFault::Unknown(line) => push_one(b"4 Unknown", u64::from(line), out),
+        ThumbFault::Twice(line) => push_one(b"5 Twice", u64::from(line), out),
+        ThumbFault::Range(line) => push_one(b"6 Range", u64::from(line), out),
+        ThumbFault::Register(line) => push_one(b"7 Register", u64::from(line), out),
+        ThumbFault::Align(line) => push_one(b"8 Align", u64::from(line), out),
+        ThumbFault::TooLong(line) => push_one(b"9 TooLong", u64::from(line), out),
+        ThumbFault::Nothing(line) => push_one(b"10 Nothing", u64::from(line), out),
+    }
+}
+
+/// Appends why an image cannot be linked: the number, the name and the address.
+#[tactic(auto, unfolding(crate::specs::Refusals::start_fault_words))]
+fn push_start_fault(fault: &StartFault, out: &mut ArrayVec<u8, FAULT>)
+    requires { array_vec_len out.old + 64 ≤ FAULT }
+    ensures text { out.new.items ≡ out.old.items ++ start_fault_words fault.now }
+    ensures short { array_vec_len out.new ≤ array_vec_len out.old + 64 }
+{
+    match *fault {
+        StartFault::Taken(address) => {
+            push_text(b"1 Taken ", out);
+            push_word(address, out);
+        }
+        StartFault::Memory => push_text(b"2 Memory", out),
+    }
+}
+
 /// The line of an error, by its kind and what is said of it.
 fn error_line(alloc: Global, kind: &[u8], words: &[u8]) -> Result<Vec<u8>, AllocError>
     ensures { IfOk result (λ line. line.items ≡ kind.now ++ words.now ++ codes "\n") }
@@ -185,6 +228,24 @@ fn pio_fault_line(alloc: Global, fault: &PioFault) -> Result<Vec<u8>, AllocError
     error_line(alloc, b"error pio ", &words)
 }
 
+/// The line of a Thumb source's fault.
+fn thumb_fault_line(alloc: Global, fault: &ThumbFault) -> Result<Vec<u8>, AllocError>
+    ensures { IfOk result (λ line. line.items ≡ thumb_line fault.now) }
+{
+    let mut words = ArrayVec::new();
+    push_thumb_fault(fault, &mut words);
+    error_line(alloc, b"error thumb ", &words)
+}
+
+/// The line of an image that cannot be linked.
+fn start_fault_line(alloc: Global, fault: &StartFault) -> Result<Vec<u8>, AllocError>
+    ensures { IfOk result (λ line. line.items ≡ start_line fault.now) }
+{
+    let mut words = ArrayVec::new();
+    push_start_fault(fault, &mut words);
+    error_line(alloc, b"error start ", &words)
+}
+
 /// The line of a file that is longer than its limit.
 fn large_line(alloc: Global, name: &str, length: u64) -> Result<Vec<u8>, AllocError>
     ensures { IfOk result (λ line. line.items
@@ -210,6 +271,8 @@ pub fn refusal_line(alloc: Global, refusal: &Refusal) -> Result<Vec<u8>, AllocEr
         Refusal::Image(fault) => image_fault_line(alloc, fault),
         Refusal::Script(fault) => script_fault_line(alloc, fault),
         Refusal::Source(fault) => pio_fault_line(alloc, fault),
+        Refusal::Thumb(fault) => thumb_fault_line(alloc, fault),
+        Refusal::Start(fault) => start_fault_line(alloc, fault),
     }
 }
 
@@ -223,5 +286,7 @@ pub fn status(refusal: &Refusal) -> u8
         Refusal::Image(_) => 4,
         Refusal::Source(_) => 5,
         Refusal::Script(_) => 6,
+        Refusal::Thumb(_) => 11,
+        Refusal::Start(_) => 12,
     }
 }

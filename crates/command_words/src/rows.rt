@@ -18,22 +18,26 @@ pub enum Way {
 use Way::{Alone, Needed, Valued};
 
 /// The words of the commands.
-const COMMANDS: [&'static str; 5] = ["run", "debug", "asm", "dis", "gen"];
+const COMMANDS: [&'static str; 6] = ["run", "debug", "asm", "thumb", "dis", "gen"];
 
 /// An option: its command, its name without the dashes, and how it is written.
 pub type OptionRow<'a> = (&'a str, &'a str, Way);
 
 /// The options of the commands.
-const OPTIONS: [OptionRow<'static>; 14] = [
+const OPTIONS: [OptionRow<'static>; 18] = [
     ("run", "cycles", Needed),
     ("run", "script", Valued),
     ("run", "pio", Valued),
     ("run", "probe", Valued),
+    ("run", "part", Valued),
     ("run", "workers", Valued),
     ("run", "stats", Alone),
+    ("run", "table", Alone),
     ("debug", "cycles", Needed),
     ("debug", "script", Valued),
     ("debug", "pio", Valued),
+    ("debug", "part", Valued),
+    ("debug", "table", Alone),
     ("dis", "side", Valued),
     ("dis", "opt", Valued),
     ("gen", "cycles", Needed),

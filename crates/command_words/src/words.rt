@@ -4,7 +4,9 @@ ghost use Rattle.std.specs.Prelude.{◌≡◌, map, codes, IfOk};
 ghost use Rattle.std.specs.Option.{option_map};
 ghost use Rattle.std.specs.String.{string_bytes};
 ghost use Rattle.command_words.specs.Entries.{entries_of};
+ghost use Rattle.board_parts.specs.Wiring.{wired_in};
 ghost use Rattle.command_words.specs.Targets.{targets_of};
+ghost use Rattle.command_words.specs.Wirings.{wirings_of};
 ghost use Rattle.command_words.specs.Options.{settings_of, value_for};
 ghost use Rattle.command_words.specs.Words.{cycles_in, workers_in, list_in, run_reading, dis_reading, gen_reading, written, reading};
 ghost use Rattle.command_words.specs.Read.{Reads, entry_in, run_in, command_in};
@@ -17,7 +19,9 @@ use crate::number::number_within;
 use crate::options::{is_given, is_normal, number_for, value_for};
 use crate::reading::{DisWords, GenWords, Reading, RunWords, WordsFault};
 use crate::targets::targets_in;
+use crate::wirings::wirings_in;
 use board_parts::target::Target;
+use board_parts::wiring::Wiring;
 use std::alloc::{AllocError, Global};
 
 /// The limit of cycles among the options of a run.
@@ -69,20 +73,33 @@ fn probes_in(alloc: Global, probes: usize, options: &[String]) -> Result<Vec<Tar
     }
 }
 
-/// Reads `<image> --cycles N [--script FILE] [--pio LIST] [--probe LIST] [--workers K] [--stats]`.
+/// The entries of `--part` among the options of a run.
+fn parts_in(alloc: Global, parts: &[usize], options: &[String]) -> Result<Vec<Wiring>, WordsFault>
+    ensures { Reads (λ found. map wired_in found.items) (list_in (wirings_of parts.now)
+        (value_for (codes "--part") (settings_of (map string_bytes options.now)))) result }
+{
+    match value_for("--part", options) {
+        None => Ok(Vec::new(alloc)),
+        Some(list) => wirings_in(alloc, parts, list),
+    }
+}
+
+/// Reads `<image> --cycles N [--script FILE] [--pio LIST] [--probe LIST] [--part LIST] [--workers K] [--stats] [--table]`.
 #[tactic(auto, unfolding(crate::specs::Words::run_reading))]
 fn run_words(
     alloc: Global,
     probes: usize,
+    parts: &[usize],
     image: &str,
     options: &[String],
 ) -> Result<RunWords, WordsFault>
-    ensures { Reads run_in (run_reading probes image.now (settings_of (map string_bytes options.now)))
-        result }
+    ensures { Reads run_in (run_reading probes parts.now image.now
+        (settings_of (map string_bytes options.now))) result }
 {
     let cycles = cycles_in(options).ok_or(WordsFault::Words)?;
     let pio = pio_in(alloc, options)?;
     let probes = probes_in(alloc, probes, options)?;
+    let parts = parts_in(alloc, parts, options)?;
     let workers = workers_in(options).ok_or(WordsFault::Words)?;
     Ok(RunWords {
         image: String::from_str(alloc, image)?,
@@ -90,8 +107,10 @@ fn run_words(
         script: script_in(alloc, options)?,
         pio,
         probes,
+        parts,
         workers,
         stats: is_given("--stats", options),
+        table: is_given("--table", options),
     })
 }
 
@@ -122,38 +141,50 @@ fn dis_words(alloc: Global, hex: &str, options: &[String]) -> Result<DisWords, W
 
 /// Reads a command, its argument and its options.
 #[tactic(auto, unfolding(crate::specs::Words::written))]
-fn read_written(alloc: Global, probes: usize, words: &[String]) -> Result<Reading, WordsFault>
-    ensures { Reads command_in (written probes (map string_bytes words.now)) result }
+fn read_written(
+    alloc: Global,
+    words: &[String],
+    probes: usize,
+    parts: &[usize],
+) -> Result<Reading, WordsFault>
+    ensures { Reads command_in (written probes parts.now (map string_bytes words.now)) result }
 {
     let [command, argument, options @ ..] = words else {
         return Err(WordsFault::Words);
     };
     let argument = argument.as_str();
     match command.as_str() {
-        "run" => Ok(Reading::Run(run_words(alloc, probes, argument, options)?)),
-        "debug" => Ok(Reading::Debug(run_words(alloc, probes, argument, options)?)),
+        "run" => Ok(Reading::Run(run_words(alloc, probes, parts, argument, options)?)),
+        "debug" => Ok(Reading::Debug(run_words(alloc, probes, parts, argument, options)?)),
         "dis" => Ok(Reading::Dis(dis_words(alloc, argument, options)?)),
         "asm" => Ok(Reading::Asm(String::from_str(alloc, argument)?)),
+        "thumb" => Ok(Reading::Thumb(String::from_str(alloc, argument)?)),
         "gen" => Ok(Reading::Gen(gen_words(argument, options).ok_or(WordsFault::Words)?)),
         _ => Err(WordsFault::Words),
     }
 }
 
-/// Reads `run <image> --cycles N [--script FILE] [--pio LIST] [--probe LIST] [--workers K] [--stats]`, `debug` with the same words
-/// but `--probe`, `--workers` and `--stats`, `dis <hex> [--side S] [--opt T]`, `asm <file>` or `gen <number> --cycles N
-/// [--workers K] [--stats]`, where so many `probes` are handed in. Words in this form, the options in any order and each at most
-/// once, are read as they are written, all others as `clap` reads them.
+/// Reads `run <image> --cycles N [--script FILE] [--pio LIST] [--probe LIST] [--part LIST] [--workers K] [--stats] [--table]`,
+/// `debug` with the same words but `--probe`, `--workers` and `--stats`, `dis <hex> [--side S] [--opt T]`, `asm <file>`,
+/// `thumb <file>` or `gen <number> --cycles N [--workers K] [--stats]`, where so many `probes` are handed in, and `parts` has the number
+/// of pins of each part that is handed in. Words in this form, the options in any order and each at most once, are read as they are
+/// written, all others as `clap` reads them.
 ///
 /// # Errors
 ///
 /// `Words` where the words are none of these, `Memory` where memory ran out.
 #[tactic(auto, unfolding(crate::specs::Words::reading))]
-pub fn read_words(alloc: Global, words: &[String], probes: usize) -> Result<Reading, WordsFault>
-    ensures { Reads command_in (reading probes (map string_bytes words.now)) result }
+pub fn read_words(
+    alloc: Global,
+    words: &[String],
+    probes: usize,
+    parts: &[usize],
+) -> Result<Reading, WordsFault>
+    ensures { Reads command_in (reading probes parts.now (map string_bytes words.now)) result }
 {
     if is_normal(words) {
-        return read_written(alloc, probes, words);
+        return read_written(alloc, words, probes, parts);
     }
     let line = line_in(alloc, words)?.ok_or(WordsFault::Words)?;
-    read_written(alloc, probes, &line)
+    read_written(alloc, &line, probes, parts)
 }

@@ -1,0 +1,110 @@
+-- The parts that a list names fit those that are handed in.
+use Rattle.std.proofs.Common.{◌≡◌, ℕ, ◌==◌, nat_le, nat_lt, Bool, true, false, not, ◌&&◌, List, [], ◌∷◌, ◌++◌, length, Option, Some, None, IfSome, refl, sym, ap, ◌∙◌}
+use Rattle.std.specs.Prelude.{slice_index, if◌then◌else◌}
+use Rattle.std.specs.List.{list_all, list_any}
+use Rattle.std.specs.Option.{option_and_then}
+use Rattle.std.proofs.lemmas.Option.{none-some, same_Some, cond_some}
+use Rattle.std.proofs.lemmas.Bool.{and_from, and_parts, or_parts, not_from_false}
+use Rattle.std.proofs.lemmas.List.Folds.{list_all-append}
+use Rattle.board_parts.specs.Part.{are_pins, all_different}
+use Rattle.board_parts.specs.Wiring.{Wired, all_fit}
+use Rattle.command_words.specs.Lists.{given, cut, items_from, pieces}
+use Rattle.command_words.specs.Numbers.{below, within, number_below, number_within, number_of}
+use Rattle.command_words.specs.Wirings.{is_same_pin, pins_of, wiring_of, share_part, wirings_of}
+use Rattle.command_words.specs.Words.{list_in}
+use Rattle.command_words.proofs.Given.{given_all, of_some}
+
+-- what holds of a value that is given under a condition
+pub where_it : {X : Type 0} (P : X → Type 0) (b : Bool) (x : Option X) → (b ≡ true → IfSome x P) → IfSome (if b then x else None) P
+where_it P true x h = h refl
+where_it P false x h = tt
+
+where_not : {X : Type 0} (P : X → Type 0) (b : Bool) (x : Option X) → (b ≡ false → IfSome x P) → IfSome (if b then None else x) P
+where_not P true x h = tt
+where_not P false x h = h refl
+
+-- what holds of some items, and with them of one more that clashes with none, holds of all that are read
+items_keep : {X : Type 0} (read : List ℕ → Option X) (clash : X → X → Bool) (P : List X → Type 0)
+    → ((items : List X) (text : List ℕ) (item : X) → read text ≡ Some item → list_any (clash item) items ≡ false → P items → P (items ++ item ∷ []))
+    → (items : List X) (texts : List (List ℕ)) → P items → IfSome (items_from read clash items texts) P
+items_keep read clash P more items [] h = h
+items_keep read clash P more items (text ∷ texts) h = given_all P (read text) _ (λ item is.
+    where_not P (list_any (clash item) items) (items_from read clash (items ++ item ∷ []) texts) (λ apart.
+    items_keep read clash P more (items ++ item ∷ []) texts (more items text item is apart h)))
+
+-- a number within a range is at most its end
+pub within_high : (low high : ℕ) (n : Option ℕ) (k : ℕ) → option_and_then (within low high) n ≡ Some k → nat_le k high ≡ true
+within_high low high None k e = absurd (none-some k e)
+within_high low high (Some n) k e =
+    let h = cond_some (nat_le low n && nat_le n high) n k e in
+    ap (λ m. nat_le m high) (sym h.1) ∙ (and_parts (nat_le low n) (nat_le n high) h.0).1
+
+below_low : (count : ℕ) (n : Option ℕ) (k : ℕ) → option_and_then (below count) n ≡ Some k → nat_lt k count ≡ true
+below_low count None k e = absurd (none-some k e)
+below_low count (Some n) k e =
+    let h = cond_some (nat_lt n count) n k e in
+    ap (λ m. nat_lt m count) (sym h.1) ∙ h.0
+
+-- ---- the pins of an entry
+
+-- one more pin that is none of those before it
+one_more : (pins : List ℕ) (pin : ℕ) → all_different pins ≡ true → list_any (is_same_pin pin) pins ≡ false → all_different (pins ++ pin ∷ []) ≡ true
+one_more [] pin h apart = refl
+one_more (p ∷ ps) pin h apart =
+    let differs = and_parts (list_all (λ other. not (other == p)) ps) (all_different ps) h in
+    let new = or_parts (pin == p) (list_any (is_same_pin pin) ps) apart in
+    and_from (list_all (λ other. not (other == p)) (ps ++ pin ∷ [])) (all_different (ps ++ pin ∷ []))
+    (list_all-append (λ other. not (other == p)) ps (pin ∷ [])
+    ∙ and_from (list_all (λ other. not (other == p)) ps) (not (pin == p) && true) differs.0
+    (and_from (not (pin == p)) true (not_from_false (pin == p) new.0) refl))
+    (one_more ps pin differs.1 new.1)
+
+-- pins that a part may be attached to
+abbrev AreApart : List ℕ → Type 0
+AreApart pins = (list_all (λ pin. nat_le pin 29) pins && all_different pins) ≡ true
+
+pins_apart : (text : List ℕ) → IfSome (pins_of text) AreApart
+unfolding pins_of
+pins_apart text = items_keep (number_within 0 29) is_same_pin AreApart (λ pins word pin is apart h.
+    let old = and_parts (list_all (λ p. nat_le p 29) pins) (all_different pins) h in
+    and_from (list_all (λ p. nat_le p 29) (pins ++ pin ∷ [])) (all_different (pins ++ pin ∷ []))
+    (list_all-append (λ p. nat_le p 29) pins (pin ∷ [])
+    ∙ and_from (list_all (λ p. nat_le p 29) pins) (nat_le pin 29 && true) old.0
+    (and_from (nat_le pin 29) true (within_high 0 29 (number_of word) pin is) refl))
+    (one_more pins pin old.1 apart)) [] (pieces 43 text) refl
+
+-- ---- the entries
+
+-- an entry is of a part that is handed in, and of as many pins as that part has
+abbrev fits : List ℕ → Wired → Bool
+fits parts w = nat_lt w.index (length parts) && are_pins (slice_index parts w.index) w.pins
+
+abbrev Fits : List ℕ → Wired → Type 0
+Fits parts w = fits parts w ≡ true
+
+wiring_fits : (parts text : List ℕ) → IfSome (wiring_of parts text) (Fits parts)
+unfolding wiring_of
+wiring_fits parts text =
+    given_all (Fits parts) (cut 61 text) _ (λ sides _.
+    given_all (Fits parts) (number_below (length parts) sides.0) _ (λ index is.
+    given_all (Fits parts) (pins_of sides.1) _ (λ pins listed.
+    let apart : AreApart pins = of_some AreApart (pins_of sides.1) pins (pins_apart sides.1) listed in
+    where_it (Fits parts) (length pins == slice_index parts index) _ (λ long.
+    and_from (nat_lt index (length parts)) (are_pins (slice_index parts index) pins) (below_low (length parts) (number_of sides.0) index is)
+    (and_from (length pins == slice_index parts index) (list_all (λ pin. nat_le pin 29) pins && all_different pins) long apart)))))
+
+abbrev AllFit : List ℕ → List Wired → Type 0
+AllFit parts wirings = all_fit parts wirings ≡ true
+
+wirings_fit : (parts list : List ℕ) → IfSome (wirings_of parts list) (AllFit parts)
+unfolding wirings_of
+wirings_fit parts list = items_keep (wiring_of parts) share_part (AllFit parts) (λ wirings text w is apart h.
+    list_all-append (fits parts) wirings (w ∷ [])
+    ∙ and_from (list_all (fits parts) wirings) (fits parts w && true) h
+    (and_from (fits parts w) true (of_some (Fits parts) (wiring_of parts text) w (wiring_fits parts text) is) refl)) [] (pieces 44 list) refl
+
+-- the entries of an option, or none where it is not given
+pub list_fits : (parts : List ℕ) (value : Option (List ℕ)) (wirings : List Wired) → list_in (wirings_of parts) value ≡ Some wirings
+    → all_fit parts wirings ≡ true
+list_fits parts None wirings e = ap (all_fit parts) (sym (same_Some [] wirings e))
+list_fits parts (Some list) wirings e = of_some (AllFit parts) (wirings_of parts list) wirings (wirings_fit parts list) e
