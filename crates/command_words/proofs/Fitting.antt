@@ -76,20 +76,20 @@ pins_apart text = items_keep (number_within 0 29) is_same_pin AreApart (λ pins 
 -- ---- the entries
 
 -- an entry is of a part that is handed in, and of as many pins as that part has
-abbrev fits : List ℕ → Wired → Bool
-fits parts w = nat_lt w.index (length parts) && are_pins (slice_index parts w.index) w.pins
+abbrev does_fit : List ℕ → Wired → Bool
+does_fit parts w = nat_lt w.index (length parts) && are_pins (slice_index parts w.index) w.pins
 
-abbrev Fits : List ℕ → Wired → Type 0
-Fits parts w = fits parts w ≡ true
+abbrev IsFit : List ℕ → Wired → Type 0
+IsFit parts w = does_fit parts w ≡ true
 
-wiring_fits : (parts text : List ℕ) → IfSome (wiring_of parts text) (Fits parts)
+wiring_fits : (parts text : List ℕ) → IfSome (wiring_of parts text) (IsFit parts)
 unfolding wiring_of
 wiring_fits parts text =
-    given_all (Fits parts) (cut 61 text) _ (λ sides _.
-    given_all (Fits parts) (number_below (length parts) sides.0) _ (λ index is.
-    given_all (Fits parts) (pins_of sides.1) _ (λ pins listed.
+    given_all (IsFit parts) (cut 61 text) _ (λ sides _.
+    given_all (IsFit parts) (number_below (length parts) sides.0) _ (λ index is.
+    given_all (IsFit parts) (pins_of sides.1) _ (λ pins listed.
     let apart : AreApart pins = of_some AreApart (pins_of sides.1) pins (pins_apart sides.1) listed in
-    where_it (Fits parts) (length pins == slice_index parts index) _ (λ long.
+    where_it (IsFit parts) (length pins == slice_index parts index) _ (λ long.
     and_from (nat_lt index (length parts)) (are_pins (slice_index parts index) pins) (below_low (length parts) (number_of sides.0) index is)
     (and_from (length pins == slice_index parts index) (list_all (λ pin. nat_le pin 29) pins && all_different pins) long apart)))))
 
@@ -99,9 +99,9 @@ AllFit parts wirings = all_fit parts wirings ≡ true
 wirings_fit : (parts list : List ℕ) → IfSome (wirings_of parts list) (AllFit parts)
 unfolding wirings_of
 wirings_fit parts list = items_keep (wiring_of parts) share_part (AllFit parts) (λ wirings text w is apart h.
-    list_all-append (fits parts) wirings (w ∷ [])
-    ∙ and_from (list_all (fits parts) wirings) (fits parts w && true) h
-    (and_from (fits parts w) true (of_some (Fits parts) (wiring_of parts text) w (wiring_fits parts text) is) refl)) [] (pieces 44 list) refl
+    list_all-append (does_fit parts) wirings (w ∷ [])
+    ∙ and_from (list_all (does_fit parts) wirings) (does_fit parts w && true) h
+    (and_from (does_fit parts w) true (of_some (IsFit parts) (wiring_of parts text) w (wiring_fits parts text) is) refl)) [] (pieces 44 list) refl
 
 -- the entries of an option, or none where it is not given
 pub list_fits : (parts : List ℕ) (value : Option (List ℕ)) (wirings : List Wired) → list_in (wirings_of parts) value ≡ Some wirings

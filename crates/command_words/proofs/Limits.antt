@@ -44,12 +44,18 @@ run_within probes parts image settings =
     given_all (IsRunWithin parts) (workers_in settings) _ (λ k workers.
     let limits : (n ≤ 1000000000) × (k ≤ 8) =
     (cycles_high (value_for (codes "--cycles") settings) n cycles, zero_high 8 (value_for (codes "--workers") settings) k workers) in
-    (limits, list_fits parts (value_for (codes "--part") settings) wirings listed))))))
+    let whole : ((n ≤ 1000000000) × (k ≤ 8)) × (all_fit parts wirings ≡ true) =
+    (limits, list_fits parts (value_for (codes "--part") settings) wirings listed) in
+    whole)))))
+
+-- a command without limits and parts
+none_within : (parts : List ℕ) → Unit {0} × (all_fit parts [] ≡ true)
+none_within parts = (tt {0}, refl)
 
 dis_within : (parts hex : List ℕ) (settings : List Setting) → IfSome (dis_reading hex settings) (IsWithin parts)
 unfolding dis_reading
 dis_within parts hex settings =
-    given_all (IsWithin parts) (words_of hex) _ (λ words _. given_all (IsWithin parts) (side_of settings) _ (λ side _. (tt {0}, refl)))
+    given_all (IsWithin parts) (words_of hex) _ (λ words _. given_all (IsWithin parts) (side_of settings) _ (λ side _. none_within parts))
 
 gen_within : (parts number : List ℕ) (settings : List Setting) → IfSome (gen_reading number settings) (IsWithin parts)
 unfolding gen_reading
@@ -58,11 +64,12 @@ gen_within parts number settings =
     given_all (IsWithin parts) (workers_in settings) _ (λ k workers.
     let limits : (n ≤ 1000000000) × (k ≤ 8) =
     (cycles_high (value_for (codes "--cycles") settings) n cycles, zero_high 8 (value_for (codes "--workers") settings) k workers) in
-    (limits, refl))))
+    let whole : ((n ≤ 1000000000) × (k ≤ 8)) × (all_fit parts [] ≡ true) = (limits, refl) in
+    whole)))
 
-either : {P : Command → Type 0} (b : Bool) (x y : Option Command) → IfSome x P → IfSome y P → IfSome (if b then x else y) P
-either true x y h k = h
-either false x y h k = k
+either : (P : Command → Type 0) (b : Bool) (x y : Option Command) → IfSome x P → IfSome y P → IfSome (if b then x else y) P
+either P true x y h k = h
+either P false x y h k = k
 
 written_within : (probes : ℕ) (parts : List ℕ) (words : List (List ℕ)) → IfSome (written probes parts words) (IsWithin parts)
 unfolding written
@@ -70,19 +77,18 @@ written_within probes parts [] = tt
 written_within probes parts (command ∷ []) = tt
 written_within probes parts (command ∷ argument ∷ options) =
     let s = settings_of options in
-    let P = IsWithin parts in
     let run = run_within probes parts argument s in
-    either {P} (bytes_eq command (codes "run")) _ _ (given_all P (run_reading probes parts argument s) _ (λ r e. of_some (IsRunWithin parts) _ r run e))
-    (either {P} (bytes_eq command (codes "debug")) _ _ (given_all P (run_reading probes parts argument s) _ (λ r e. of_some (IsRunWithin parts) _ r run e))
-    (either {P} (bytes_eq command (codes "dis")) _ _ (dis_within parts argument s)
-    (either {P} (bytes_eq command (codes "asm")) _ _ (tt, refl)
-    (either {P} (bytes_eq command (codes "thumb")) _ _ (tt, refl)
-    (either {P} (bytes_eq command (codes "gen")) _ _ (gen_within parts argument s) tt)))))
+    either (IsWithin parts) (bytes_eq command (codes "run")) _ _ (given_all (IsWithin parts) (run_reading probes parts argument s) _ (λ r e. of_some (IsRunWithin parts) _ r run e))
+    (either (IsWithin parts) (bytes_eq command (codes "debug")) _ _ (given_all (IsWithin parts) (run_reading probes parts argument s) _ (λ r e. of_some (IsRunWithin parts) _ r run e))
+    (either (IsWithin parts) (bytes_eq command (codes "dis")) _ _ (dis_within parts argument s)
+    (either (IsWithin parts) (bytes_eq command (codes "asm")) _ _ (none_within parts)
+    (either (IsWithin parts) (bytes_eq command (codes "thumb")) _ _ (none_within parts)
+    (either (IsWithin parts) (bytes_eq command (codes "gen")) _ _ (gen_within parts argument s) tt)))))
 
 read_within : (probes : ℕ) (parts : List ℕ) (words : List (List ℕ)) → IfSome (reading probes parts words) (IsWithin parts)
 unfolding reading
 read_within probes parts words =
-    either {IsWithin parts} (is_normal words) _ _ (written_within probes parts words)
+    either (IsWithin parts) (is_normal words) _ _ (written_within probes parts words)
     (given_all (IsWithin parts) (line_in words) _ (λ line _. written_within probes parts line))
 
 command_within : (probes : ℕ) (parts : List ℕ) (command : Command) → IsRead probes parts command → IsWithin parts command

@@ -1,4 +1,4 @@
--- The parts of a text between its marks.
+-- The pieces of a text between its marks.
 use Rattle.std.proofs.Common.{◌≡◌, ◌<◌, ℕ, suc, ◌+◌, Bool, true, false, cond, List, [], ◌∷◌, ◌++◌, map, append_assoc, length, Option, Some, None, Bor, refl, sym, ap, arith, ◌∙◌}
 use Rattle.std.specs.Prelude.{◌==◌, not}
 use Rattle.std.specs.List.{slice_split, onto_first, position_or_len, before_first, after_first}
@@ -7,7 +7,7 @@ use Rattle.std.proofs.lemmas.List.Splits.{slice_split_first}
 use Rattle.std.proofs.lemmas.Str.Pattern.{IsSplitOnceResult, split_once_first}
 use Rattle.command_words.specs.Lists.{pieces}
 
--- a text without a mark is one part
+-- a text without a mark is one piece
 one_more : (p : ℕ → Bool) (x : ℕ) (xs : List ℕ) (b : Bool) → (position_or_len p xs ≡ length xs → slice_split p xs ≡ xs ∷ []) → cond (not b) (1 + position_or_len p xs) 0 ≡ suc (length xs) → cond b ([] ∷ slice_split p xs) (onto_first x (slice_split p xs)) ≡ (x ∷ xs) ∷ []
 one_more p x xs true rest e = absurd (omega (arith, e))
 one_more p x xs false rest e = ap (onto_first x) (rest (omega (arith, e)))
@@ -31,7 +31,7 @@ mark_some mark text (Some x) piece rest h low e =
     let after : rest.now ≡ after_first (λ b. b == mark) text = sym (ap (λ (y : Bor (List ℕ) × Bor (List ℕ)). y.1.now) same) ∙ p.2 in
     rw (before, after) (slice_split_first (λ b. b == mark) text 0 p.0)
 
--- ---- the parts that were found
+-- ---- the pieces that were found
 
 abbrev pub texts_of : List (Bor (List ℕ)) → List (List ℕ)
 texts_of found = map (λ (piece : Bor (List ℕ)). piece.now) found

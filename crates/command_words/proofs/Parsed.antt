@@ -22,7 +22,7 @@ use Rattle.clap.specs.declared.parser.matches.ArgMatches.TheViews.{out-SubComman
 use Rattle.clap.proofs.OnLiterals.{clap_on_literals}
 use Rattle.command_words.specs.Table.{Row as OptionRow, commands, options}
 use Rattle.command_words.specs.Apps.{argument, rule_for, with_row, app_for, with_command, table}
-use Rattle.command_words.specs.Line.{line_in, line_of, line_found, without_fault}
+use Rattle.command_words.specs.Line.{line_in, normal_line, line_found, without_fault}
 
 pub table_is_simple : is_simple table ≡ true
 unfolding table commands options clap_on_literals
@@ -59,8 +59,8 @@ one_met Z None name rows n r = absurd (none-some name (sym n))
 one_met Z (Some b) name rows n r = ap Some (ap₂ (λ (x : Text) (y : List Row). (x, y)) (sym (ap (λ o. unwrap_or o name) n)) (sym (ap (λ o. unwrap_or o rows) r)))
 
 -- what the getters give is what stands in the rows
-pub same_line : (found : Found) (command : Text) → line_of command (first_value found) ≡ line_found (command, rows_of found)
-same_line found command = ap (line_of command) (fun_ext (first_value-rows found))
+pub same_line : (found : Found) (command : Text) → normal_line command (first_value found) ≡ line_found (command, rows_of found)
+same_line found command = ap (normal_line command) (fun_ext (first_value-rows found))
 
 -- a plain command has no global argument
 pub local_of : (a b g r : Bool) → (a && (b && (not g && r))) ≡ true → g ≡ false

@@ -22,13 +22,13 @@ abbrev pub row_words : Text → (Text → Option Text) → Row → List Text
 row_words command given row = if bytes_eq row.command command then option_words row.way row.name (given row.name) else []
 
 -- the line of a command by its name and by what was given for the argument and for each option
-abbrev pub line_of : Text → (Text → Option Text) → Option (List Text)
-line_of command given =
+abbrev pub normal_line : Text → (Text → Option Text) → Option (List Text)
+normal_line command given =
     option_map (λ argument. command ∷ argument ∷ flat_map (row_words command given) options) (given (codes "argument"))
 
 -- the line of a command by its name and its matches
 abbrev pub line_found : Text × List Found → Option (List Text)
-line_found found = line_of found.0 (λ name. first_of name found.1)
+line_found found = normal_line found.0 (λ name. first_of name found.1)
 
 -- the line, where the words have no fault
 abbrev pub without_fault : Kinds → Option (Text × List Found) → Option (List Text)

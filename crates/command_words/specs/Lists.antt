@@ -13,7 +13,7 @@ cut mark text =
     let is : ℕ → Bool = λ byte. byte == mark in
     if nat_lt (position_or_len is text) (length text) then Some (before_first is text, after_first is text) else None
 
--- the parts of a text between its marks
+-- the pieces of a text between its marks
 unfoldable pub pieces : ℕ → List ℕ → List (List ℕ)
 pieces mark text = slice_split (λ byte. byte == mark) text
 

@@ -7,7 +7,7 @@ use Rattle.command_words.specs.Lists.{given, cut, items_of}
 -- `I=PIN`: the probe is one of those that are handed in, the pin 0 to 29
 unfoldable pub target_of : ℕ → List ℕ → Option Target
 target_of probes text =
-    given (cut 61 text) (λ parts. given (number_below probes parts.0) (λ index. given (number_within 0 29 parts.1) (λ pin.
+    given (cut 61 text) (λ sides. given (number_below probes sides.0) (λ index. given (number_within 0 29 sides.1) (λ pin.
     Some (record { index = index; pin = pin }))))
 
 -- two targets are of one probe

@@ -6,7 +6,7 @@ ghost use Rattle.std.specs.String.{string_bytes};
 ghost use Rattle.clap.specs.Matches.{found_of, first_value};
 ghost use Rattle.command_words.specs.Rows.{way_in};
 ghost use Rattle.command_words.specs.Table.{dashed};
-ghost use Rattle.command_words.specs.Line.{line_of, option_words};
+ghost use Rattle.command_words.specs.Line.{normal_line, option_words};
 
 use crate::rows::{Way, options};
 use clap::ArgMatches;
@@ -54,7 +54,7 @@ pub fn written(
     found: &ArgMatches<'_>,
 ) -> Result<Option<Vec<String>>, AllocError>
     ensures { IfOk result (λ line. option_map (λ words. map string_bytes words.items) line
-        ≡ line_of command.now (first_value (found_of found.now))) }
+        ≡ normal_line command.now (first_value (found_of found.now))) }
 {
     let Some(argument) = found.get_str("argument") else {
         return Ok(None);

@@ -7,7 +7,7 @@ use Rattle.clap.specs.Simple.{App, app_of, is_simple, subcommand_of, subcommand_
 use Rattle.clap.specs.Faults.{fault_of, is_simple_and_free}
 use Rattle.clap.specs.Kinds.{IsAmong}
 use Rattle.clap.specs.Words.{kind_of}
-use Rattle.command_words.specs.Line.{line_in, line_of}
+use Rattle.command_words.specs.Line.{line_in, normal_line}
 use Rattle.command_words.specs.Apps.{table}
 use Rattle.command_words.proofs.Parsed.{at_ok, at_err, none_met, one_met, same_line, table_is_free, table_is_simple}
 use Rattle.command_words.proofs.line.line_in.Goals as goal
@@ -32,7 +32,7 @@ returns-in-Ok c =
     (c.in-Ok.ensures.matches (ap is_simple is ∙ table_is_simple)).1 ∙ ap (λ (a : App). subcommand_of a words) is in
     let named : subcommand_rows_of c.in-Ok.matches ≡ Some (c.in-Some.name.now, rows_of (found_of c.in-Some.found.now)) =
     one_met _ _ _ _ c.in-Some.ensures.name c.in-Some.ensures.rows in
-    let line : line_in words ≡ line_of c.in-Some.name.now (first_value (found_of c.in-Some.found.now)) =
+    let line : line_in words ≡ normal_line c.in-Some.name.now (first_value (found_of c.in-Some.found.now)) =
     at_ok words (Some (c.in-Some.name.now, rows_of (found_of c.in-Some.found.now))) faultless (sym found ∙ named)
     ∙ sym (same_line (found_of c.in-Some.found.now) c.in-Some.name.now) in
     IfOk-weaker c.written.result _ _ (λ r h. h ∙ sym line) c.written.ensures

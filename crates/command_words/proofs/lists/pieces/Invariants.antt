@@ -4,7 +4,7 @@ use denote.Shadow.{shadow}
 use Rattle.command_words.specs.Lists.{pieces}
 use Rattle.command_words.proofs.lists.pieces.Given as goal
 
--- what was found, and the parts of what is left, are all parts
+-- what was found, and the pieces of what is left, are all pieces
 abbrev pub invariant-loop-piece : goal.invariant-loop-piece
 invariant-loop-piece l = shadow (Utf8 l.left)
     × (map (λ (piece : Bor (List ℕ)). piece.now) l.found.items ++ pieces l.mark l.left ≡ pieces l.mark l.text)
