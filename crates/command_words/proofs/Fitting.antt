@@ -8,7 +8,7 @@ use Rattle.std.proofs.lemmas.Bool.{and_from, and_parts, or_parts, not_from_false
 use Rattle.std.proofs.lemmas.List.Folds.{list_all-append}
 use Rattle.board_parts.specs.Part.{are_pins, all_different}
 use Rattle.board_parts.specs.Wiring.{Wired, all_fit}
-use Rattle.command_words.specs.Lists.{given, cut, items_from, pieces}
+use Rattle.command_words.specs.Lists.{cut, items_from, pieces}
 use Rattle.command_words.specs.Numbers.{below, within, number_below, number_within, number_of}
 use Rattle.command_words.specs.Wirings.{is_same_pin, pins_of, wiring_of, share_part, wirings_of}
 use Rattle.command_words.specs.Words.{list_in}

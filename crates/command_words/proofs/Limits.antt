@@ -1,13 +1,12 @@
 -- What holds of a run that the words ask for: its limits, and that its parts fit those that are handed in.
-use Rattle.std.proofs.Common.{◌≡◌, arith, ℕ, ◌-◌, ◌^◌, ◌≤◌, nat_le, Bool, true, false, ◌&&◌, if◌then◌else◌, List, [], ◌∷◌, Option, Some, None, IfSome, refl, subst}
-use Rattle.std.specs.Option.{option_and_then}
+use Rattle.std.proofs.Common.{◌≡◌, arith, ℕ, ◌-◌, ◌^◌, ◌≤◌, Bool, true, false, if◌then◌else◌, List, [], ◌∷◌, Option, Some, None, IfSome, refl}
 use Rattle.std.specs.Prelude.{codes}
 use Rattle.std.specs.Str.{bytes_eq}
-use Rattle.std.proofs.lemmas.Option.{none-some, cond_some}
+use Rattle.std.proofs.lemmas.Option.{none-some}
 use Rattle.std.proofs.lemmas.Bool.{leb-true}
 use Rattle.command_words.specs.Line.{line_in}
 use Rattle.command_words.specs.Lists.{given}
-use Rattle.command_words.specs.Numbers.{within, number_within, number_of}
+use Rattle.command_words.specs.Numbers.{number_within, number_of}
 use Rattle.command_words.specs.Options.{Setting, settings_of, is_normal, value_for, number_or_zero}
 use Rattle.command_words.specs.Entries.{entries_of}
 use Rattle.command_words.specs.Targets.{targets_of}
