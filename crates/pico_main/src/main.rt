@@ -1,5 +1,5 @@
-//! The program: hands the command line, the real files, standard input, standard output, an open gate and two probes to the top
-//! call, and ends with its status.
+//! The program: hands the command line, the real files, standard input, standard output, an open gate, two probes, three parts and a
+//! device to the top call, and ends with its status.
 #![tactic(auto)]
 
 mod file_shelf;
@@ -8,14 +8,20 @@ mod stdout_sink;
 
 ghost use Rattle.std.specs.Prelude.{◌≡◌, ◌<◌};
 
+use board_parts::button::Button;
 use board_parts::edge_counter::EdgeCounter;
+use board_parts::loop_back::Loop;
+use board_parts::part::Part;
 use board_parts::probe::Probe;
+use board_parts::shift::Shift;
 use board_parts::ws2812::Ws2812;
 use file_shelf::FileShelf;
+use lane_look::Pair;
 use pico_top::pico;
 use pwm_block::Pwm;
 use rp_machine::Steps;
 use rp_ports::gate::OpenGate;
+use startup_blocks::Startup;
 use std::alloc::{AllocError, Global};
 use std::marker::Brand;
 use std::process::ExitCode;
@@ -41,12 +47,12 @@ fn words<R: Env + AllocGlobal>(rt: &R) -> Result<Vec<String>, AllocError> {
 }
 
 /// Does what the words say over the real files, standard input and standard output, with a counter of edges and a decoder of lights
-/// as probes 0 and 1, with the PWM block as the device and with a gate that does nothing, and answers the status. The cycles are
-/// counted by a ledger that nobody reads.
+/// as probes 0 and 1, with a button, a shift register and a wire as parts 0 to 2, with the PWM block and the start-up registers as the
+/// device and with a gate that does nothing, and answers the status. The cycles are counted by a ledger that nobody reads.
 ///
 /// # Errors
 ///
-/// There was no memory for the probes; nothing was written then.
+/// There was no memory for the probes and the parts; nothing was written then.
 fn serve<L: Ledger, R: Files + Input + Print + Threads + Wait + Sync>(
     blank: Blank,
     rt: &R,
@@ -62,6 +68,14 @@ fn serve<L: Ledger, R: Files + Input + Print + Threads + Wait + Sync>(
     let mut probes: Vec<Box<dyn Probe>> = Vec::new(alloc);
     probes.push(Box::new(alloc, EdgeCounter::new())?)?;
     probes.push(Box::new(alloc, Ws2812::new())?)?;
+    let mut parts: Vec<Box<dyn Part + Sync>> = Vec::new(alloc);
+    parts.push(Box::new(alloc, Button::new())?)?;
+    parts.push(Box::new(alloc, Shift::new())?)?;
+    parts.push(Box::new(alloc, Loop::new())?)?;
+    let device = Pair {
+        first: Pwm::new(),
+        second: Startup::new(),
+    };
     let mut files = FileShelf::new(rt, alloc);
     let mut input = StdinSource::new(rt);
     let mut out = StdoutSink::new(rt);
@@ -74,13 +88,14 @@ fn serve<L: Ledger, R: Files + Input + Print + Threads + Wait + Sync>(
         &mut out,
         &OpenGate,
         probes,
-        Pwm::new(),
+        parts,
+        device,
         &mut steps,
     ))
 }
 
-/// Does what the arguments say, and ends with the status of it; with 9 and no word where the arguments or the probes find no
-/// memory.
+/// Does what the arguments say, and ends with the status of it; with 9 and no word where the arguments, the probes or the parts
+/// find no memory.
 fn program<R>(rt: &R) -> ExitCode
 where
     R: Env + Files + Input + Print + AllocGlobal + Threads + Wait + Sync,

@@ -1,10 +1,16 @@
 -- What was opened, and where its walk ended.
-use Rattle.std.proofs.Common.{◌≡◌, ℕ, List, [], ◌∷◌, map, Option, None, Some, Result, Ok, Err, refl, sym, ap, inl, inr, ◌∙◌, subst, arith, ◌==◌, Bool, true, false, if◌then◌else◌, Vec, Global}
+use Rattle.std.proofs.Common.{◌≡◌, ℕ, ◌≤◌, List, [], ◌∷◌, length, map, Option, None, Some, Result, Ok, Err, refl, sym, ap, inl, inr, ◌∙◌, subst, arith, ◌==◌, Bool, true, false, if◌then◌else◌, Vec, Global}
 use Rattle.lane_look.specs.Device.{DeviceMeaning}
 use Rattle.outer_lane.specs.Setting.{Setting, setting_of}
 use Rattle.rp_ports.specs.Shelf.{Files, Answers, failed_after}
 use Rattle.rp_ports.specs.declared.shelf.Loaded.TheVariants.{Done, Failed}
+use Rattle.std.specs.List.{AllByRecursion}
+use Rattle.uf2_image.specs.declared.parts.Part.{Part}
 use Rattle.uf2_image.specs.declared.parts.Image.{Image as Loaded}
+use Rattle.uf2_image.specs.Uf2.{image_of}
+use Rattle.uf2_image.specs.Writing.{IsSized}
+use Rattle.uf2_image.proofs.Writable.{what_is_read_can_be_written}
+use Rattle.startup_blocks.specs.Table.{linked, HaveBytes}
 use Rattle.pin_script.specs.declared.entry.Entry.{Entry as ScriptEntry}
 use Rattle.pio_asm.specs.Assembly.{ArePrograms}
 use Rattle.pio_asm.specs.declared.program.Program.{Program}
@@ -14,7 +20,7 @@ use Rattle.rp_machine.specs.declared.load.PioLoad.{PioLoad}
 use Rattle.command_words.specs.Words.{Run}
 use Rattle.command_words.specs.declared.refusal.Refusal.{Refusal as Written}
 use Rattle.command_words.specs.Refusals.{Refusal, line_of, status_of}
-use Rattle.command_words.specs.Refusals.Refusal.{Lost}
+use Rattle.command_words.specs.Refusals.Refusal.{Lost, BadStart}
 use Rattle.command_words.specs.Meant.{meant}
 use Rattle.pico_top.specs.declared.open.Opened.{Opened}
 use Rattle.pico_top.specs.declared.open.Opened.TheVariants.{Machine, Session, Text}
@@ -25,7 +31,7 @@ use Rattle.pico_top.specs.declared.open.Unopened.{Unopened}
 use Rattle.pico_top.specs.declared.open.Unopened.TheVariants.{Refusing, Memory}
 use Rattle.reverse_debug.specs.Debugger.{quits}
 use Rattle.pico_top.specs.Loads.{Placed, loads_of, plans_in}
-use Rattle.pico_top.specs.Dialogue.{Reply, Dialogue, judge, run_reply, behind_script, input_limit, session_reply}
+use Rattle.pico_top.specs.Dialogue.{Reply, Dialogue, judge, run_reply, with_linked, behind_script, input_limit, session_reply}
 use Rattle.pico_top.specs.Dialogue.Dialogue.{Load}
 use Rattle.pico_top.specs.Walk.{Ending, Walks, failed_names}
 use Rattle.pico_top.specs.Walk.Ending.{Refused}
@@ -57,6 +63,20 @@ behind_load files failed failed' name limit bytes part (Err unopened) answers sa
 pub file_passes : {A F : Type 0} (files : Option Files) (failed failed' : List (List ℕ)) (name : List ℕ) (limit : ℕ) (bytes : List ℕ) (read : List ℕ → Result A F) (refused : F → Refusal) (result : Result A Unopened) → ((fault : F) → failed ≡ failed_names failed (Refused (refused fault))) → Answers files name limit Done bytes → failed' ≡ failed → Judges (read bytes) refused result → Passes files failed failed' (λ next. Load name limit (λ b. judge (read b) refused next)) result
 file_passes files failed failed' name limit bytes read refused result other answers same is =
     behind_load files failed failed' name limit bytes (λ b. judge (read b) refused) result answers same (judge_passes files failed (read bytes) refused result other is)
+
+-- each part of an image that was read has bytes
+have_bytes : (parts : List Part) → AllByRecursion IsSized parts → HaveBytes parts
+have_bytes [] h = tt
+have_bytes (part ∷ parts) h = (h.0.some, have_bytes parts h.1)
+
+pub read_has_bytes : (bytes : List ℕ) (image : Loaded) → length bytes ≤ 16777216 → image_of bytes ≡ Ok image → HaveBytes image.parts
+read_has_bytes bytes image short is = have_bytes image.parts (what_is_read_can_be_written bytes image short is).sizes
+
+-- an image was linked where that is asked for
+pub links : (table : Bool) (image : Loaded) (files : Option Files) (failed : List (List ℕ)) (result : Result Loaded Unopened) → table ≡ true → Judges (linked image) BadStart result → Passes files failed failed (λ next. with_linked table next image) result
+links table image files failed result is judged =
+    subst (λ (t : Bool). Passes files failed failed (λ next. with_linked t next image) result) (sym is)
+    (judge_passes files failed (linked image) BadStart result (λ fault. refl) judged)
 
 -- ---- parts of a walk, one behind another
 
@@ -133,10 +153,10 @@ boots_opens aims (ForRun stats) files failed device script limit image ps loads 
       omega (arith, at),
       λ e walk. said_with files (plans_in ps) (programs_of loads) (λ programs. run_reply stats aims w (start device image (loads_of ps programs))) (run_reply started.stats aims v started.machine) e (have_words ps loads placed) here walk,
     )
-boots_opens aims (ForRun stats) files failed device script limit image ps loads (Ok (Text text)) placed h = absurd h
+boots_opens aims (ForRun stats) files failed device script limit image ps loads (Ok (Text text pieces)) placed h = absurd h
 boots_opens aims (ForRun stats) files failed device script limit image ps loads (Err (Refusing refusal)) placed h = absurd h
 boots_opens aims (ForRun stats) files failed device script limit image ps loads (Err Memory) placed h = runs_out files failed (use_for aims (ForRun stats) (setting_of script device limit) image ps)
-boots_opens aims ForDebug files failed device script limit image ps loads (Ok (Text text)) placed h = absurd h
+boots_opens aims ForDebug files failed device script limit image ps loads (Ok (Text text pieces)) placed h = absurd h
 boots_opens aims ForDebug files failed device script limit image ps loads (Err (Refusing refusal)) placed h = absurd h
 boots_opens aims ForDebug files failed device script limit image ps loads (Err Memory) placed h = runs_out files failed (use_for aims ForDebug (setting_of script device limit) image ps)
 

@@ -1,6 +1,8 @@
 -- What was opened and told, and the whole call.
-use Rattle.std.proofs.Common.{◌≡◌, ℕ, ◌+◌, ◌≤◌, List, [], length, Option, Some, None, Ok, refl, sym, ap, inl, inr, ◌∙◌, subst}
+use Rattle.std.proofs.Common.{◌≡◌, ℕ, ◌+◌, ◌≤◌, List, [], length, Option, Some, None, Ok, Err, refl, sym, ap, inl, inr, ◌∙◌, subst}
+use Rattle.lane_look.specs.Device.{DeviceMeaning}
 use Rattle.board_parts.specs.Hearing.{Aim}
+use Rattle.board_parts.specs.Wiring.{counts_of}
 use Rattle.command_words.specs.Words.{Command, reading}
 use Rattle.command_words.specs.declared.refusal.Refusal.TheVariants.{Words}
 use Rattle.command_words.specs.Refusals.Refusal.{BadWords}
@@ -8,7 +10,7 @@ use Rattle.pico_top.specs.declared.open.Opened.{Opened}
 use Rattle.pico_top.specs.declared.open.Unopened.{Unopened}
 use Rattle.pico_top.specs.declared.open.Unopened.TheVariants.{Refusing, Memory}
 use Rattle.pico_top.specs.Call.{Board, Outside}
-use Rattle.pico_top.specs.Dialogue.{Reply, say, aims_in, dialogue_from}
+use Rattle.pico_top.specs.Dialogue.{Reply, say, aims_in, device_in, dialogue_from}
 use Rattle.pico_top.specs.Walk.{Ending, Walks, failed_names}
 use Rattle.pico_top.specs.Walk.Ending.{Said, Heard, Refused, NoMemory}
 use Rattle.pico_top.specs.Answer.{Puts, RunsOut, Takes, Ends, Counts, Ticks, most, ConversesFor, Converses}
@@ -45,10 +47,11 @@ none_failed failed (Refused refusal) h = absurd h
 none_failed failed NoMemory h = refl
 
 -- the call where something was opened
-pub opened_converses : (b : Board) (command : Command) (before after : Outside) (aims : List Aim) (opened : Opened) (status : ℕ) → aims ≡ aims_in b.probes command → OpensFor before.files before.failed after.failed b.device command (Ok opened) → after.files ≡ before.files → Concludes (opened_dialogue b.device aims opened) before.left after.left before.source_faults after.source_faults before.written after.written before.sink_faults after.sink_faults before.steps after.steps status → ConversesFor b (Some command) before after status
-opened_converses b command before after aims opened status is opens kept told =
-    let own = opens (aims_in b.probes command) in
-    let tells = subst (λ (a : List Aim). Concludes (opened_dialogue b.device a opened) before.left after.left before.source_faults after.source_faults before.written after.written before.sink_faults after.sink_faults before.steps after.steps status) is told in
+pub opened_converses : (b : Board) (command : Command) (before after : Outside) (device : DeviceMeaning) (aims : List Aim) (opened : Opened) (status : ℕ) → device ≡ device_in b command → aims ≡ aims_in b.probes command → OpensFor before.files before.failed after.failed device command (Ok opened) → after.files ≡ before.files → Concludes (opened_dialogue device aims opened) before.left after.left before.source_faults after.source_faults before.written after.written before.sink_faults after.sink_faults before.steps after.steps status → ConversesFor b (Some command) before after status
+opened_converses b command before after device aims opened status same is opens kept told =
+    let own = (subst (λ (x : DeviceMeaning). OpensFor before.files before.failed after.failed x command (Ok opened)) same opens) (aims_in b.probes command) in
+    let on = subst (λ (x : DeviceMeaning). Concludes (opened_dialogue x aims opened) before.left after.left before.source_faults after.source_faults before.written after.written before.sink_faults after.sink_faults before.steps after.steps status) same told in
+    let tells = subst (λ (a : List Aim). Concludes (opened_dialogue (device_in b command) a opened) before.left after.left before.source_faults after.source_faults before.written after.written before.sink_faults after.sink_faults before.steps after.steps status) is on in
     record {
       ending = tells.ending;
       walked = own.2 tells.ending (tells.walked before.files);
@@ -104,6 +107,12 @@ unopened_converses b asked before after Memory status opens kept left lost refus
   counted = short_counts opens.0 status before.steps after.steps opens.3 same;
 }
 
+-- the call where nothing was opened for a command
+pub closed_converses : (b : Board) (command : Command) (before after : Outside) (device : DeviceMeaning) (unopened : Unopened) (status : ℕ) → device ≡ device_in b command → OpensFor before.files before.failed after.failed device command (Err unopened) → after.files ≡ before.files → after.left ≡ before.left → after.source_faults ≡ before.source_faults → PutsRefusal before.written after.written before.sink_faults after.sink_faults status unopened → after.steps ≡ before.steps → ConversesFor b (Some command) before after status
+closed_converses b command before after device unopened status same opens kept left lost refuses still =
+    let own = subst (λ (x : DeviceMeaning). OpensFor before.files before.failed after.failed x command (Err unopened)) same opens in
+    unopened_converses b (Some command) before after unopened status (own (aims_in b.probes command)) kept left lost refuses still
+
 -- nothing is opened for words that are refused
 pub refused_words : (b : Board) (asked : Option Command) (before after : Outside) → asked ≡ None → after.failed ≡ before.failed → EndsFrom b asked before after (Refusing Words)
 refused_words b asked before after none same =
@@ -115,9 +124,9 @@ no_memory_from b asked before after same =
     let out = runs_out before.files before.failed (dialogue_from b asked) in (out.0, out.1, same ∙ out.2, out.3)
 
 -- the call for words that ask for this
-pub read_converses : (b : Board) (words : List (List ℕ)) (count : ℕ) (command : Option Command) (before after : Outside) (status : ℕ) → count ≡ length b.probes → reading count words ≡ command → ConversesFor b command before after status → Converses b words before after status
-read_converses b words count command before after status long is h =
-    subst (λ (a : Option Command). ConversesFor b a before after status) (sym is ∙ ap (λ n. reading n words) long) h
+pub read_converses : (b : Board) (words : List (List ℕ)) (count : ℕ) (pins : List ℕ) (command : Option Command) (before after : Outside) (status : ℕ) → count ≡ length b.probes → pins ≡ counts_of b.parts → reading count pins words ≡ command → ConversesFor b command before after status → Converses b words before after status
+read_converses b words count pins command before after status long same is h =
+    subst (λ (a : Option Command). ConversesFor b a before after status) (sym is ∙ (ap (λ n. reading n pins words) long ∙ ap (λ ps. reading (length b.probes) ps words) same)) h
 
 -- the call where memory ran out before a file was loaded
 pub out_converses : (b : Board) (asked : Option Command) (before after : Outside) (status : ℕ) → after.failed ≡ before.failed → after.files ≡ before.files → after.left ≡ before.left → after.source_faults ≡ before.source_faults → PutsRefusal before.written after.written before.sink_faults after.sink_faults status Memory → after.steps ≡ before.steps → ConversesFor b asked before after status
@@ -125,7 +134,7 @@ out_converses b asked before after status failed kept left lost refuses same =
     unopened_converses b asked before after Memory status (no_memory_from b asked before after failed) kept left lost refuses same
 
 -- the call where the words are refused
-pub refused_converses : (b : Board) (words : List (List ℕ)) (count : ℕ) (before after : Outside) (status : ℕ) → count ≡ length b.probes → reading count words ≡ None → after.failed ≡ before.failed → after.files ≡ before.files → after.left ≡ before.left → after.source_faults ≡ before.source_faults → PutsRefusal before.written after.written before.sink_faults after.sink_faults status (Refusing Words) → after.steps ≡ before.steps → Converses b words before after status
-refused_converses b words count before after status long none failed kept left lost refuses same =
-    read_converses b words count None before after status long none
+pub refused_converses : (b : Board) (words : List (List ℕ)) (count : ℕ) (pins : List ℕ) (before after : Outside) (status : ℕ) → count ≡ length b.probes → pins ≡ counts_of b.parts → reading count pins words ≡ None → after.failed ≡ before.failed → after.files ≡ before.files → after.left ≡ before.left → after.source_faults ≡ before.source_faults → PutsRefusal before.written after.written before.sink_faults after.sink_faults status (Refusing Words) → after.steps ≡ before.steps → Converses b words before after status
+refused_converses b words count pins before after status long pinned none failed kept left lost refuses same =
+    read_converses b words count pins None before after status long pinned none
     (unopened_converses b None before after (Refusing Words) status (refused_words b None before after refl failed) kept left lost refuses same)

@@ -8,6 +8,8 @@ use Rattle.board_parts.specs.Hearing.{Aim}
 use Rattle.outer_lane.specs.Setting.{Setting}
 use Rattle.uf2_image.specs.Uf2.{image_of}
 use Rattle.uf2_image.specs.declared.parts.Image.{Image}
+use Rattle.startup_blocks.specs.Table.{linked}
+use Rattle.thumb_asm.specs.Source.{image_of_source}
 use Rattle.pin_script.specs.Script.{script_of}
 use Rattle.pin_script.specs.declared.entry.Entry.{Entry as ScriptEntry}
 use Rattle.pio_asm.specs.Assembly.{Plan, ArePrograms}
@@ -15,16 +17,16 @@ use Rattle.pio_asm.specs.declared.program.Program.{Program}
 use Rattle.pio_asm.specs.Listing.{plans_of}
 use Rattle.command_words.specs.Entries.{Entry}
 use Rattle.command_words.specs.Words.{Command, Run}
-use Rattle.command_words.specs.Words.Command.{RunImage, DebugImage, Disassemble, Assemble, Generate}
+use Rattle.command_words.specs.Words.Command.{RunImage, DebugImage, Disassemble, Assemble, AssembleThumb, Generate}
 use Rattle.command_words.specs.Refusals.{Refusal}
-use Rattle.command_words.specs.Refusals.Refusal.{BadWords, Lost, TooLarge, BadImage, BadScript, BadSource}
+use Rattle.command_words.specs.Refusals.Refusal.{BadWords, Lost, TooLarge, BadImage, BadScript, BadSource, BadThumb, BadStart}
 use Rattle.pico_top.specs.declared.open.Unopened.TheVariants.{Memory as OutOfMemory}
 use Rattle.reverse_debug.specs.Lines.{closes}
 use Rattle.reverse_debug.specs.declared.way.Way.{Way}
 use Rattle.reverse_debug.specs.Hear.{MayEnd}
 use Rattle.pico_top.specs.Call.{Board}
 use Rattle.pico_top.specs.Loads.{Placed, offset_of}
-use Rattle.pico_top.specs.Dialogue.{Reply, Dialogue, Use, judge, say, hear, aims_in, dialogue_of, dialogue_from, with_first, with_programs, with_script, with_image, behind_script, behind_image, say_run, hear_run}
+use Rattle.pico_top.specs.Dialogue.{Reply, Dialogue, Use, judge, say, hear, aims_in, device_in, dialogue_of, dialogue_from, with_first, with_programs, with_script, with_linked, with_run, behind_script, say_run, hear_run}
 use Rattle.pico_top.specs.Dialogue.Dialogue.{Load, Refuse, Say, Hear}
 use Rattle.pico_top.specs.Walk.{Ending, IsHeard, AfterLoad, Walks, failed_names, Verdict, heard_as, on_held, verdict}
 use Rattle.pico_top.specs.Walk.Verdict.{Refuses, Says, Hears}
@@ -92,20 +94,26 @@ script_keeps : (script : Option (List ℕ)) (next : List ScriptEntry → Dialogu
 script_keeps None next on = judge_keeps (script_of []) BadScript next (λ fault e. cc e) on
 script_keeps (Some name) next on = λ bytes. judge_keeps (script_of bytes) BadScript next (λ fault e. cc e) on
 
-run_keeps : (use_run : Use) (device : DeviceMeaning) (run : Run) → ((w : Setting) (image : Image) (ps : List Placed) → KeepsWords (use_run w image ps)) → KeepsWords (with_image run.image (behind_image use_run device run))
+linked_keeps : (table : Bool) (next : Image → Dialogue) (image : Image) → ((i : Image) → KeepsWords (next i)) → KeepsWords (with_linked table next image)
+linked_keeps true next image on = judge_keeps (linked image) BadStart next (λ fault e. cc e) on
+linked_keeps false next image on = on image
+
+run_keeps : (use_run : Use) (device : DeviceMeaning) (run : Run) → ((w : Setting) (image : Image) (ps : List Placed) → KeepsWords (use_run w image ps)) → KeepsWords (with_run use_run device run)
 run_keeps use_run device run on = λ bytes.
-    judge_keeps (image_of bytes) BadImage _ (λ fault e. cc e) (λ image. script_keeps run.script _ (λ script. programs_keep run.pio [] _ (on _ image)))
+    judge_keeps (image_of bytes) BadImage _ (λ fault e. cc e)
+    (λ read. linked_keeps run.table _ read (λ image. script_keeps run.script _ (λ script. programs_keep run.pio [] _ (on _ image))))
 
 command_keeps : (device : DeviceMeaning) (aims : List Aim) (command : Command) → KeepsWords (dialogue_of device aims command)
 command_keeps device aims (RunImage run) = run_keeps (say_run run.stats aims) device run (λ w image ps. tt)
 command_keeps device aims (DebugImage run) = run_keeps hear_run device run (λ w image ps. tt)
 command_keeps device aims (Disassemble words side) = tt
 command_keeps device aims (Assemble name) = λ bytes. judge_keeps (plans_of bytes) BadSource _ (λ fault e. cc e) (λ plans. tt)
+command_keeps device aims (AssembleThumb name) = λ bytes. judge_keeps (image_of_source bytes) BadThumb _ (λ fault e. cc e) (λ image. tt)
 command_keeps device aims (Generate number cycles workers stats) = tt
 
 pub words_refused : (files : Option Files) (b : Board) (asked : Option Command) → Walks files (dialogue_from b asked) (Refused BadWords) → asked ≡ None
 words_refused files b None h = refl
-words_refused files b (Some command) h = absurd (walk_keeps files (dialogue_from b (Some command)) (command_keeps b.device (aims_in b.probes command) command) h)
+words_refused files b (Some command) h = absurd (walk_keeps files (dialogue_from b (Some command)) (command_keeps (device_in b command) (aims_in b.probes command) command) h)
 
 -- ---- over files that the shelf tells
 

@@ -5,20 +5,23 @@ use Rattle.rp_ports.specs.Shelf.{Files}
 use Rattle.rp_ports.specs.declared.shelf.Shelf.{Ghosts as ShelfMeaning}
 use Rattle.rp_ports.specs.declared.source.Source.{Ghosts as SourceMeaning}
 use Rattle.rp_ports.specs.declared.sink.Sink.{Ghosts as SinkMeaning}
+use Rattle.board_parts.specs.Part.{PartMeaning}
 use Rattle.board_parts.specs.Probe.{ProbeMeaning}
+use Rattle.board_parts.specs.Wiring.{counts_of}
 use Rattle.command_words.specs.Words.{Command, reading}
 
--- what is handed in for the board: the device at the pads, and the probes that may be aimed
+-- what is handed in for the board: the device at the pads, the probes that may be aimed, and the parts that may be attached
 pub record Board : Type 0 where
   pub device : DeviceMeaning
   pub probes : List ProbeMeaning
+  pub parts : List PartMeaning
 
-abbrev pub board : DeviceMeaning → List ProbeMeaning → Board
-board device probes = record { device = device; probes = probes }
+abbrev pub board : DeviceMeaning → List ProbeMeaning → List PartMeaning → Board
+board device probes parts = record { device = device; probes = probes; parts = parts }
 
 -- what words ask for, or none where they are refused
 abbrev pub asked_by : Board → List (List ℕ) → Option Command
-asked_by b words = reading (length b.probes) words
+asked_by b words = reading (length b.probes) (counts_of b.parts) words
 
 -- the files of the shelf by name, where it tells them, and the names whose loads failed; the bytes that the source has left and
 -- those that the sink has written, where they tell them, and the count of faults of each; and the steps that were counted

@@ -1,14 +1,19 @@
 -- What a call does for its words: it loads files and judges each, one after another, and says a text, or hears lines and answers
 -- them. The project's own.
-use Rattle.std.specs.Prelude.{ℕ, Bool, List, [], ◌∷◌, ◌++◌, Option, None, Some, Result, Ok, Err}
-use Rattle.lane_look.specs.Device.{DeviceMeaning}
+use Rattle.std.specs.Prelude.{ℕ, Bool, if◌then◌else◌, List, [], ◌∷◌, ◌++◌, Option, None, Some, Result, Ok, Err}
+use Rattle.lane_look.specs.Device.{DeviceMeaning, paired}
 use Rattle.board_parts.specs.Probe.{ProbeMeaning}
+use Rattle.board_parts.specs.Parts.{parts_device}
+use Rattle.board_parts.specs.Wiring.{placed_by}
 use Rattle.board_parts.specs.Hearing.{Aim}
 use Rattle.board_parts.specs.Aiming.{aims_of}
 use Rattle.board_parts.specs.declared.target.Target.{Target}
 use Rattle.uf2_image.specs.Code.{image_of_number}
 use Rattle.uf2_image.specs.Uf2.{image_of}
+use Rattle.uf2_image.specs.Writing.{file_of}
 use Rattle.uf2_image.specs.declared.parts.Image.{Image}
+use Rattle.startup_blocks.specs.Table.{linked}
+use Rattle.thumb_asm.specs.Source.{image_of_source}
 use Rattle.pin_script.specs.Script.{script_of}
 use Rattle.pin_script.specs.declared.entry.Entry.{Entry as ScriptEntry}
 use Rattle.pio_asm.specs.Assembly.{Plan}
@@ -20,9 +25,9 @@ use Rattle.rp_machine.specs.State.{State}
 use Rattle.rp_machine.specs.Boot.{start}
 use Rattle.command_words.specs.Entries.{Entry}
 use Rattle.command_words.specs.Refusals.{Refusal}
-use Rattle.command_words.specs.Refusals.Refusal.{BadWords, BadImage, BadScript, BadSource}
-use Rattle.command_words.specs.Words.{Run, Command}
-use Rattle.command_words.specs.Words.Command.{RunImage, DebugImage, Disassemble, Assemble, Generate}
+use Rattle.command_words.specs.Refusals.Refusal.{BadWords, BadImage, BadScript, BadSource, BadThumb, BadStart}
+use Rattle.command_words.specs.Words.{Run, Command, parts_in}
+use Rattle.command_words.specs.Words.Command.{RunImage, DebugImage, Disassemble, Assemble, AssembleThumb, Generate}
 use Rattle.reverse_debug.specs.Talk.{text_from, cost_from}
 use Rattle.reverse_debug.specs.Debugger.{quits, talk_of}
 use Rattle.pico_top.specs.Call.{Board}
@@ -76,13 +81,17 @@ image_limit = 16777216
 abbrev pub script_limit : ℕ
 script_limit = 4194304
 
--- a PIO source file has at most 1 MiB
+-- a source file has at most 1 MiB
 abbrev pub source_limit : ℕ
 source_limit = 1048576
 
 -- an image file, and the image in it
 abbrev pub with_image : List ℕ → (Image → Dialogue) → Dialogue
 with_image name next = Load name image_limit (λ bytes. judge (image_of bytes) BadImage next)
+
+-- an image linked with the table of routines, where that is asked for
+abbrev pub with_linked : Bool → (Image → Dialogue) → Image → Dialogue
+with_linked table next image = if table then judge (linked image) BadStart next else next image
 
 -- a script file, and the script in it; without one the script is that of an empty file
 abbrev pub with_script : Option (List ℕ) → (List ScriptEntry → Dialogue) → Dialogue
@@ -92,6 +101,10 @@ with_script (Some name) next = Load name script_limit (λ bytes. judge (script_o
 -- a PIO source file, and the programs in it
 abbrev pub with_source : List ℕ → (List Plan → Dialogue) → Dialogue
 with_source name next = Load name source_limit (λ bytes. judge (plans_of bytes) BadSource next)
+
+-- a Thumb source file, and the image of its bytes
+abbrev pub with_thumb : List ℕ → (Image → Dialogue) → Dialogue
+with_thumb name next = Load name source_limit (λ bytes. judge (image_of_source bytes) BadThumb next)
 
 -- the first of some programs is placed behind others
 abbrev pub with_first : Entry → List Placed → (List Placed → Dialogue) → List Plan → Dialogue
@@ -139,9 +152,13 @@ Use = Setting → Image → List Placed → Dialogue
 abbrev pub behind_script : Use → DeviceMeaning → Run → Image → List ScriptEntry → Dialogue
 behind_script use_run device run image script = with_programs run.pio [] (use_run (setting_of script device run.cycles) image)
 
--- what comes behind its image
+-- what comes behind its image, which is linked by then
 abbrev pub behind_image : Use → DeviceMeaning → Run → Image → Dialogue
 behind_image use_run device run image = with_script run.script (behind_script use_run device run image)
+
+-- a run: its image, and what comes behind it
+abbrev pub with_run : Use → DeviceMeaning → Run → Dialogue
+with_run use_run device run = with_image run.image (with_linked run.table (behind_image use_run device run))
 
 -- which probes a command aims at which pins: a run those that its words name, and no other command any
 abbrev pub targets_in : Command → List Target
@@ -149,23 +166,29 @@ targets_in (RunImage run) = run.probes
 targets_in (DebugImage run) = []
 targets_in (Disassemble words side) = []
 targets_in (Assemble name) = []
+targets_in (AssembleThumb name) = []
 targets_in (Generate number cycles workers stats) = []
 
 -- the probes that are aimed, of those that are handed in
 abbrev pub aims_in : List ProbeMeaning → Command → List Aim
 aims_in probes command = aims_of probes (targets_in command)
 
--- A run and the debugger on it load its image, its script and its programs, and a listing its source; the source text of
--- instruction words needs no file. The run of a generated image has no script and no programs. How many workers run the lanes of a
+-- the device of what is asked for: the parts that are attached, of those that are handed in, and beside them the device at the pads
+abbrev pub device_in : Board → Command → DeviceMeaning
+device_in b command = paired (parts_device (placed_by b.parts (parts_in command))) b.device
+
+-- A run and the debugger on it load its image, which is linked where that is asked for, its script and its programs, and a listing and the
+-- file of a Thumb source's image their source; the source text of instruction words needs no file. The run of a generated image has no script and no programs. How many workers run the lanes of a
 -- run makes no difference.
 abbrev pub dialogue_of : DeviceMeaning → List Aim → Command → Dialogue
-dialogue_of device aims (RunImage run) = with_image run.image (behind_image (say_run run.stats aims) device run)
-dialogue_of device aims (DebugImage run) = with_image run.image (behind_image hear_run device run)
+dialogue_of device aims (RunImage run) = with_run (say_run run.stats aims) device run
+dialogue_of device aims (DebugImage run) = with_run hear_run device run
 dialogue_of device aims (Disassemble words side) = say (plain (source_text side words))
 dialogue_of device aims (Assemble name) = with_source name (λ plans. Say plans (λ programs. plain (listing programs)))
+dialogue_of device aims (AssembleThumb name) = with_thumb name (λ image. say (plain (file_of image)))
 dialogue_of device aims (Generate number cycles workers stats) = say_run stats aims (setting_of [] device cycles) (image_of_number number) []
 
 -- the dialogue of what words ask for, or their refusal
 abbrev pub dialogue_from : Board → Option Command → Dialogue
 dialogue_from b None = Refuse BadWords
-dialogue_from b (Some command) = dialogue_of b.device (aims_in b.probes command) command
+dialogue_from b (Some command) = dialogue_of (device_in b command) (aims_in b.probes command) command

@@ -47,13 +47,13 @@ abbrev pub opened_dialogue : DeviceMeaning → List Aim → Opened → Dialogue
 opened_dialogue device aims (Machine started) = say (run_reply started.stats aims (setting_in device started) started.machine)
 opened_dialogue device aims (Session debugging) =
     hear input_limit quits (session_reply (setting_by device debugging) (first_of debugging.session))
-opened_dialogue device aims (Text text) = say (plain text.items)
+opened_dialogue device aims (Text text pieces) = say (plain text.items)
 
 -- a machine has not passed its limit; and a session was opened at its first state
 abbrev pub IsReady : Opened → Type 0
 IsReady (Machine started) = started.machine.cycle ≤ started.limit
 IsReady (Session debugging) = OpensAt (first_of debugging.session) debugging.limit debugging.session
-IsReady (Text text) = Unit {0}
+IsReady (Text text pieces) = Unit {0}
 
 -- nothing is said or heard
 abbrev pub IsShort : Ending → Type 0
@@ -106,7 +106,7 @@ Boots (ForRun stats) first script limit (Ok (Session debugging)) = ⊥
 Boots ForDebug first script limit (Ok (Session debugging)) =
     OpensAt first limit debugging.session × (debugging.script ≡ script) × (debugging.limit ≡ limit)
 Boots ForDebug first script limit (Ok (Machine started)) = ⊥
-Boots purpose first script limit (Ok (Text text)) = ⊥
+Boots purpose first script limit (Ok (Text text pieces)) = ⊥
 Boots purpose first script limit (Err (Refusing refusal)) = ⊥
 Boots purpose first script limit (Err Memory) = Unit {0}
 

@@ -11,24 +11,27 @@ mod send;
 mod tell;
 mod teller;
 
-ghost use Rattle.std.specs.Prelude.{◌≡◌, ◌≤◌, List, Some, length, map};
+ghost use Rattle.std.specs.Prelude.{◌≡◌, ◌+◌, ◌≤◌, Some, length, map, true, IfOk};
 ghost use Rattle.std.specs.String.{string_bytes};
-ghost use Rattle.board_parts.specs.Probe.{ProbeMeaning};
 ghost use Rattle.board_parts.specs.Hearing.{aim_of, seen};
-ghost use Rattle.command_words.specs.Words.{workers_of, IsLimited, IsRead};
+ghost use Rattle.board_parts.specs.Wiring.{all_fit, all_words, counts_of, wired_in};
+ghost use Rattle.command_words.specs.Words.{parts_in, workers_of, IsLimited, IsRead};
 ghost use Rattle.command_words.specs.Read.{command_in};
 ghost use Rattle.pico_top.specs.Answer.{Converses, ConversesFor};
-ghost use Rattle.pico_top.specs.Call.{asked_by, board, outside};
+ghost use Rattle.pico_top.specs.Call.{asked_by, board, outside, Board};
 ghost use Rattle.pico_top.specs.Causes.{HasCause, IsComplete};
-ghost use Rattle.pico_top.specs.Dialogue.{aims_in, targets_in};
+ghost use Rattle.pico_top.specs.Dialogue.{aims_in, device_in, targets_in};
 
 use board_parts::aimed::Aimed;
 use board_parts::aiming::aim_all;
+use board_parts::attaching::attach_all;
+use board_parts::part::Part;
 use board_parts::probe::Probe;
 use board_parts::target::Target;
+use board_parts::wiring::Wiring;
 use command_words::refusal::Refusal;
 pub use command_words::{Reading, WordsFault, read_words};
-use lane_look::Device;
+use lane_look::{Device, Pair};
 use open::{Unopened, open_reading};
 use rp_machine::Steps;
 use rp_ports::gate::Gate;
@@ -36,7 +39,7 @@ use rp_ports::shelf::Shelf;
 use rp_ports::sink::Sink;
 use rp_ports::source::Source;
 use runner::Workers;
-use std::alloc::Global;
+use std::alloc::{AllocError, Global};
 use std::sync::Wait;
 use std::sync::ledger::Ledger;
 use std::thread::Threads;
@@ -48,7 +51,21 @@ fn targets(reading: &Reading) -> &[Target]
 {
     match reading {
         Reading::Run(run) => &run.probes,
-        Reading::Debug(_) | Reading::Dis(_) | Reading::Asm(_) | Reading::Gen(_) => &[],
+        Reading::Debug(_)
+        | Reading::Dis(_)
+        | Reading::Asm(_)
+        | Reading::Thumb(_)
+        | Reading::Gen(_) => &[],
+    }
+}
+
+/// The parts that a reading attaches.
+fn wirings(reading: &Reading) -> &[Wiring]
+    ensures { map wired_in result.now ≡ parts_in (command_in reading.now) }
+{
+    match reading {
+        Reading::Run(run) | Reading::Debug(run) => &run.parts,
+        Reading::Dis(_) | Reading::Asm(_) | Reading::Thumb(_) | Reading::Gen(_) => &[],
     }
 }
 
@@ -59,11 +76,22 @@ fn count_of(reading: &Reading) -> u8
     match reading {
         Reading::Run(run) => run.workers,
         Reading::Gen(run) => run.workers,
-        Reading::Debug(_) | Reading::Dis(_) | Reading::Asm(_) => 0,
+        Reading::Debug(_) | Reading::Dis(_) | Reading::Asm(_) | Reading::Thumb(_) => 0,
     }
 }
 
-/// Loads the files of a reading, and writes the text, where these probes hear a run.
+/// How many pins each part has.
+fn pins_of<P: Part>(alloc: Global, parts: &[P]) -> Result<Vec<usize>, AllocError>
+    ensures { IfOk result (λ pins. pins.items ≡ counts_of (map P.meaning parts.now)) }
+{
+    let mut pins = Vec::new(alloc);
+    for part in parts {
+        pins.push(part.pins())?;
+    }
+    Ok(pins)
+}
+
+/// Loads the files of a reading, and writes the text, where these probes hear a run on this device.
 fn serve_aimed<F: Shelf, I: Source, O: Sink, X: Device, L: Ledger>(
     alloc: Global,
     reading: &Reading,
@@ -75,11 +103,11 @@ fn serve_aimed<F: Shelf, I: Source, O: Sink, X: Device, L: Ledger>(
     steps: &mut Steps<L>,
 ) -> u8
     requires { IsLimited (command_in reading.now) }
-    ensures { (probes : List ProbeMeaning)
+    ensures { (b : Board) → X.meaning device.now ≡ device_in b (command_in reading.now)
         → seen aimed.old (λ a. aim_of a.index a.pin
         (⟦<dyn Probe as Probe>⟧ a.probe.vtable) a.probe.value)
-        ≡ aims_in probes (command_in reading.now)
-        → ConversesFor (board (X.meaning device.now) probes) (Some (command_in reading.now))
+        ≡ aims_in b.probes (command_in reading.now)
+        → ConversesFor b (Some (command_in reading.now))
         (outside ⟦<F as Shelf>⟧ ⟦<I as Source>⟧ ⟦<O as Sink>⟧ files.old input.old out.old steps.old)
         (outside ⟦<F as Shelf>⟧ ⟦<I as Source>⟧ ⟦<O as Sink>⟧ files.new input.new out.new steps.new)
         result }
@@ -113,11 +141,11 @@ where
     R: Threads + Wait + Sync,
     requires workers { workers.now.count ≤ 8 }
     requires limited { IsLimited (command_in reading.now) }
-    ensures { (probes : List ProbeMeaning)
+    ensures { (b : Board) → X.meaning device.now ≡ device_in b (command_in reading.now)
         → seen aimed.old (λ a. aim_of a.index a.pin
         (⟦<dyn Probe as Probe>⟧ a.probe.vtable) a.probe.value)
-        ≡ aims_in probes (command_in reading.now)
-        → ConversesFor (board (X.meaning device.now) probes) (Some (command_in reading.now))
+        ≡ aims_in b.probes (command_in reading.now)
+        → ConversesFor b (Some (command_in reading.now))
         (outside ⟦<F as Shelf>⟧ ⟦<I as Source>⟧ ⟦<O as Sink>⟧ files.old input.old out.old steps.old)
         (outside ⟦<F as Shelf>⟧ ⟦<I as Source>⟧ ⟦<O as Sink>⟧ files.new input.new out.new steps.new)
         result }
@@ -128,33 +156,52 @@ where
     }
 }
 
-/// Aims the probes that a reading names, loads its files, and writes the text.
-fn serve<F: Shelf, I: Source, O: Sink, X: Device, L: Ledger>(
+/// Aims the probes and attaches the parts that a reading names, loads its files, and writes the text.
+fn serve<F, I, O, P, X, L>(
     alloc: Global,
     reading: &Reading,
     files: &mut F,
     input: &mut I,
     out: &mut O,
     probes: Vec<Box<dyn Probe>>,
-    device: &X,
+    parts: Vec<P>,
+    device: X,
     steps: &mut Steps<L>,
 ) -> u8
-    requires { IsLimited (command_in reading.now) }
-    ensures { ConversesFor (board (X.meaning device.now)
-        (map (λ p. (Probe-box p).meaning p.value) probes.items))
+where
+    F: Shelf,
+    I: Source,
+    O: Sink,
+    P: Part + Sync,
+    X: Device,
+    L: Ledger,
+    requires limited { IsLimited (command_in reading.now) }
+    requires fit { all_fit (counts_of (map P.meaning parts.items))
+        (parts_in (command_in reading.now)) ≡ true }
+    requires room { all_words (map P.meaning parts.items) + (X.meaning device).count ≤ 128 }
+    ensures { ConversesFor (board (X.meaning device)
+        (map (λ p. (Probe-box p).meaning p.value) probes.items)
+        (map P.meaning parts.items))
         (Some (command_in reading.now))
         (outside ⟦<F as Shelf>⟧ ⟦<I as Source>⟧ ⟦<O as Sink>⟧ files.old input.old out.old steps.old)
         (outside ⟦<F as Shelf>⟧ ⟦<I as Source>⟧ ⟦<O as Sink>⟧ files.new input.new out.new steps.new)
         result }
 {
+    let Ok(first) = attach_all(alloc, parts, wirings(reading)) else {
+        return refuse(alloc, &Unopened::Memory, out);
+    };
+    let device = Pair {
+        first,
+        second: device,
+    };
     match aim_all(alloc, probes, targets(reading)) {
-        Ok(mut aimed) => serve_aimed(alloc, reading, files, input, out, &mut aimed, device, steps),
+        Ok(mut aimed) => serve_aimed(alloc, reading, files, input, out, &mut aimed, &device, steps),
         Err(_) => refuse(alloc, &Unopened::Memory, out),
     }
 }
 
 /// The same, where workers run the lanes of a run.
-fn serve_by<F, I, O, G, X, L, R>(
+fn serve_by<F, I, O, G, P, X, L, R>(
     rt: &R,
     alloc: Global,
     workers: &Workers<'_, G>,
@@ -163,7 +210,8 @@ fn serve_by<F, I, O, G, X, L, R>(
     input: &mut I,
     out: &mut O,
     probes: Vec<Box<dyn Probe>>,
-    device: &X,
+    parts: Vec<P>,
+    device: X,
     steps: &mut Steps<L>,
 ) -> u8
 where
@@ -171,28 +219,41 @@ where
     I: Source,
     O: Sink,
     G: Gate,
+    P: Part + Sync,
     X: Device,
     L: Ledger,
     R: Threads + Wait + Sync,
     requires workers { workers.now.count ≤ 8 }
     requires limited { IsLimited (command_in reading.now) }
-    ensures { ConversesFor (board (X.meaning device.now)
-        (map (λ p. (Probe-box p).meaning p.value) probes.items))
+    requires fit { all_fit (counts_of (map P.meaning parts.items))
+        (parts_in (command_in reading.now)) ≡ true }
+    requires room { all_words (map P.meaning parts.items) + (X.meaning device).count ≤ 128 }
+    ensures { ConversesFor (board (X.meaning device)
+        (map (λ p. (Probe-box p).meaning p.value) probes.items)
+        (map P.meaning parts.items))
         (Some (command_in reading.now))
         (outside ⟦<F as Shelf>⟧ ⟦<I as Source>⟧ ⟦<O as Sink>⟧ files.old input.old out.old steps.old)
         (outside ⟦<F as Shelf>⟧ ⟦<I as Source>⟧ ⟦<O as Sink>⟧ files.new input.new out.new steps.new)
         result }
 {
+    let Ok(first) = attach_all(alloc, parts, wirings(reading)) else {
+        return refuse(alloc, &Unopened::Memory, out);
+    };
+    let device = Pair {
+        first,
+        second: device,
+    };
     match aim_all(alloc, probes, targets(reading)) {
         Ok(mut aimed) => serve_aimed_by(
-            rt, alloc, workers, reading, files, input, out, &mut aimed, device, steps,
+            rt, alloc, workers, reading, files, input, out, &mut aimed, &device, steps,
         ),
         Err(_) => refuse(alloc, &Unopened::Memory, out),
     }
 }
 
 /// Does what a reading says: loads its files from the shelf, takes the lines that it answers from the source, and writes the text
-/// to the sink. It waits for nobody, and returns. The reading names no workers, and was made for as many `probes` as are handed in.
+/// to the sink. It waits for nobody, and returns. The reading names no workers, and was made for the `probes` and the `parts` that are
+/// handed in. All words of the parts and of the device are at most 128 together.
 ///
 /// The answer is the status, as that of `pico`; it is not 2.
 pub fn pico_alone<F: Shelf, I: Source, O: Sink, X: Device, L: Ledger>(
@@ -202,17 +263,23 @@ pub fn pico_alone<F: Shelf, I: Source, O: Sink, X: Device, L: Ledger>(
     input: &mut I,
     out: &mut O,
     probes: Vec<Box<dyn Probe>>,
+    parts: Vec<Box<dyn Part + Sync>>,
     device: X,
     steps: &mut Steps<L>,
 ) -> u8
     requires alone { workers_of (command_in reading.now) ≡ 0 }
-    requires read { IsRead (length probes.items) (command_in reading.now) }
+    requires read { IsRead (length probes.items)
+        (counts_of (map (λ p. (Part-box p).meaning p.value) parts.items))
+        (command_in reading.now) }
+    requires room { all_words (map (λ p. (Part-box p).meaning p.value) parts.items)
+        + (X.meaning device).count ≤ 128 }
 
     // A walk of the reading's dialogue over the shelf ended, and its text was written whole with its status; or a part of it,
     // and the sink failed; or memory ran out, and the line that says so was written alone. The bytes that were heard were
     // taken from the source. So many steps were counted as that text costs.
     ensures text { ConversesFor (board (X.meaning device)
-        (map (λ p. (Probe-box p).meaning p.value) probes.items))
+        (map (λ p. (Probe-box p).meaning p.value) probes.items)
+        (map (λ p. (Part-box p).meaning p.value) parts.items))
         (Some (command_in reading.now))
         (outside ⟦<F as Shelf>⟧ ⟦<I as Source>⟧ ⟦<O as Sink>⟧ files.old input.old out.old steps.old)
         (outside ⟦<F as Shelf>⟧ ⟦<I as Source>⟧ ⟦<O as Sink>⟧ files.new input.new out.new steps.new)
@@ -221,7 +288,8 @@ pub fn pico_alone<F: Shelf, I: Source, O: Sink, X: Device, L: Ledger>(
     // Each status but 0 and 9 has its cause: the words, the file or the input that was refused, the sink or the source that failed,
     // or the input that is too long.
     ensures cause { HasCause (board (X.meaning device)
-        (map (λ p. (Probe-box p).meaning p.value) probes.items))
+        (map (λ p. (Probe-box p).meaning p.value) probes.items)
+        (map (λ p. (Part-box p).meaning p.value) parts.items))
         (Some (command_in reading.now))
         (outside ⟦<F as Shelf>⟧ ⟦<I as Source>⟧ ⟦<O as Sink>⟧ files.old input.old out.old steps.old)
         (outside ⟦<F as Shelf>⟧ ⟦<I as Source>⟧ ⟦<O as Sink>⟧ files.new input.new out.new steps.new)
@@ -230,17 +298,20 @@ pub fn pico_alone<F: Shelf, I: Source, O: Sink, X: Device, L: Ledger>(
     // Refused words have status 2. Where the shelf tells its files and no load failed, the status is that of the dialogue over these
     // files, and where it hears an input, over the bytes of the source, unless the sink failed or memory ran out.
     ensures complete { IsComplete (board (X.meaning device)
-        (map (λ p. (Probe-box p).meaning p.value) probes.items))
+        (map (λ p. (Probe-box p).meaning p.value) probes.items)
+        (map (λ p. (Part-box p).meaning p.value) parts.items))
         (Some (command_in reading.now))
         (outside ⟦<F as Shelf>⟧ ⟦<I as Source>⟧ ⟦<O as Sink>⟧ files.old input.old out.old steps.old)
         (outside ⟦<F as Shelf>⟧ ⟦<I as Source>⟧ ⟦<O as Sink>⟧ files.new input.new out.new steps.new)
         result }
 {
-    serve(alloc, reading, files, input, out, probes, &device, steps)
+    serve(
+        alloc, reading, files, input, out, probes, parts, device, steps,
+    )
 }
 
 /// Does what a reading says, with as many workers as it names.
-fn serve_read<F, I, O, G, X, L, R>(
+fn serve_read<F, I, O, G, P, X, L, R>(
     rt: &R,
     alloc: Global,
     reading: &Reading,
@@ -249,6 +320,7 @@ fn serve_read<F, I, O, G, X, L, R>(
     out: &mut O,
     gate: &G,
     probes: Vec<Box<dyn Probe>>,
+    parts: Vec<P>,
     device: X,
     steps: &mut Steps<L>,
 ) -> u8
@@ -257,12 +329,16 @@ where
     I: Source,
     O: Sink,
     G: Gate,
+    P: Part + Sync,
     X: Device,
     L: Ledger,
     R: Threads + Wait + Sync,
-    requires { IsRead (length probes.items) (command_in reading.now) }
+    requires read { IsRead (length probes.items) (counts_of (map P.meaning parts.items))
+        (command_in reading.now) }
+    requires room { all_words (map P.meaning parts.items) + (X.meaning device).count ≤ 128 }
     ensures { ConversesFor (board (X.meaning device)
-        (map (λ p. (Probe-box p).meaning p.value) probes.items))
+        (map (λ p. (Probe-box p).meaning p.value) probes.items)
+        (map P.meaning parts.items))
         (Some (command_in reading.now))
         (outside ⟦<F as Shelf>⟧ ⟦<I as Source>⟧ ⟦<O as Sink>⟧ files.old input.old out.old steps.old)
         (outside ⟦<F as Shelf>⟧ ⟦<I as Source>⟧ ⟦<O as Sink>⟧ files.new input.new out.new steps.new)
@@ -270,16 +346,18 @@ where
 {
     let count = count_of(reading);
     if count == 0 {
-        return pico_alone(alloc, reading, files, input, out, probes, device, steps);
+        return serve(
+            alloc, reading, files, input, out, probes, parts, device, steps,
+        );
     }
     let workers = Workers { gate, count };
     serve_by(
-        rt, alloc, &workers, reading, files, input, out, probes, &device, steps,
+        rt, alloc, &workers, reading, files, input, out, probes, parts, device, steps,
     )
 }
 
 /// Reads the words, and does what they say.
-fn converse<F, I, O, G, X, L, R>(
+fn converse<F, I, O, G, P, X, L, R>(
     rt: &R,
     alloc: Global,
     words: &[String],
@@ -288,6 +366,7 @@ fn converse<F, I, O, G, X, L, R>(
     out: &mut O,
     gate: &G,
     probes: Vec<Box<dyn Probe>>,
+    parts: Vec<P>,
     device: X,
     steps: &mut Steps<L>,
 ) -> u8
@@ -296,19 +375,25 @@ where
     I: Source,
     O: Sink,
     G: Gate,
+    P: Part + Sync,
     X: Device,
     L: Ledger,
     R: Threads + Wait + Sync,
+    requires room { all_words (map P.meaning parts.items) + (X.meaning device).count ≤ 128 }
     ensures { Converses (board (X.meaning device)
-        (map (λ p. (Probe-box p).meaning p.value) probes.items))
+        (map (λ p. (Probe-box p).meaning p.value) probes.items)
+        (map P.meaning parts.items))
         (map string_bytes words.now)
         (outside ⟦<F as Shelf>⟧ ⟦<I as Source>⟧ ⟦<O as Sink>⟧ files.old input.old out.old steps.old)
         (outside ⟦<F as Shelf>⟧ ⟦<I as Source>⟧ ⟦<O as Sink>⟧ files.new input.new out.new steps.new)
         result }
 {
-    match read_words(alloc, words, probes.len()) {
+    let Ok(pins) = pins_of(alloc, &parts) else {
+        return refuse(alloc, &Unopened::Memory, out);
+    };
+    match read_words(alloc, words, probes.len(), &pins) {
         Ok(reading) => serve_read(
-            rt, alloc, &reading, files, input, out, gate, probes, device, steps,
+            rt, alloc, &reading, files, input, out, gate, probes, parts, device, steps,
         ),
         Err(WordsFault::Words) => refuse(alloc, &Unopened::Refusing(Refusal::Words), out),
         Err(WordsFault::Memory) => refuse(alloc, &Unopened::Memory, out),
@@ -321,10 +406,13 @@ where
 /// The answer is the status: 0 where the text was written, 2 where the words are refused, 3 where a file could not be
 /// loaded or is too large, 4 where the image has a fault, 5 where a PIO source has one or its program finds no room, 6 where
 /// the script has one, 7 where the sink failed, 8 where the source failed, 9 where memory ran out, 10 where the input is
-/// longer than its limit. A refusal has its one line, `error ..`, for its text; at 8 and 10 such a line comes behind the
-/// answers. Those of the `probes` that the words name are aimed at their pins, hear the run, and have their lines at its end; the
-/// others are dropped before it. The `device` stands at the pads of a run and at the addresses that no block covers. Each cycle of
-/// a run, and each that the debugger steps, counts as one of the `steps`.
+/// longer than its limit, 11 where a Thumb source has a fault, 12 where the image loads an address of the table that it is to be linked
+/// with. A refusal has its one line, `error ..`, for its text; at 8 and 10 such a line comes behind the answers.
+///
+/// Those of the `probes` that the words name are aimed at their pins, hear the run, and have their lines at its end; those of the `parts`
+/// that they name are attached to their pins and act in their order; the others are dropped before the run. The parts and the `device`
+/// stand at the pads of a run, and the device at the addresses that no block covers. All their words are at most 128 together. Each
+/// cycle of a run, and each that the debugger steps, counts as one of the `steps`.
 ///
 /// Where the words name workers, so many threads run the lanes of a run beside this one, and the `gate` is entered and left round
 /// each piece of a lane; the call then waits for them and for the gate, and what is said here holds if it returns. The text is the
@@ -338,6 +426,7 @@ pub fn pico<F, I, O, G, X, L, R>(
     out: &mut O,
     gate: &G,
     probes: Vec<Box<dyn Probe>>,
+    parts: Vec<Box<dyn Part + Sync>>,
     device: X,
     steps: &mut Steps<L>,
 ) -> u8
@@ -349,12 +438,15 @@ where
     X: Device,
     L: Ledger,
     R: Threads + Wait + Sync,
+    requires room { all_words (map (λ p. (Part-box p).meaning p.value) parts.items)
+        + (X.meaning device).count ≤ 128 }
 
     // A walk of the words' dialogue over the shelf ended, and its text was written whole with its status; or a part of it,
     // and the sink failed; or memory ran out, and the line that says so was written alone. The bytes that were heard were
     // taken from the source. So many steps were counted as that text costs.
     ensures text { Converses (board (X.meaning device)
-        (map (λ p. (Probe-box p).meaning p.value) probes.items))
+        (map (λ p. (Probe-box p).meaning p.value) probes.items)
+        (map (λ p. (Part-box p).meaning p.value) parts.items))
         (map string_bytes words.now)
         (outside ⟦<F as Shelf>⟧ ⟦<I as Source>⟧ ⟦<O as Sink>⟧ files.old input.old out.old steps.old)
         (outside ⟦<F as Shelf>⟧ ⟦<I as Source>⟧ ⟦<O as Sink>⟧ files.new input.new out.new steps.new)
@@ -364,6 +456,7 @@ where
     // or the input that is too long.
     ensures cause { let b = board (X.meaning device)
         (map (λ p. (Probe-box p).meaning p.value) probes.items)
+        (map (λ p. (Part-box p).meaning p.value) parts.items)
         in HasCause b (asked_by b (map string_bytes words.now))
         (outside ⟦<F as Shelf>⟧ ⟦<I as Source>⟧ ⟦<O as Sink>⟧ files.old input.old out.old steps.old)
         (outside ⟦<F as Shelf>⟧ ⟦<I as Source>⟧ ⟦<O as Sink>⟧ files.new input.new out.new steps.new)
@@ -373,12 +466,13 @@ where
     // files, and where it hears an input, over the bytes of the source, unless the sink failed or memory ran out.
     ensures complete { let b = board (X.meaning device)
         (map (λ p. (Probe-box p).meaning p.value) probes.items)
+        (map (λ p. (Part-box p).meaning p.value) parts.items)
         in IsComplete b (asked_by b (map string_bytes words.now))
         (outside ⟦<F as Shelf>⟧ ⟦<I as Source>⟧ ⟦<O as Sink>⟧ files.old input.old out.old steps.old)
         (outside ⟦<F as Shelf>⟧ ⟦<I as Source>⟧ ⟦<O as Sink>⟧ files.new input.new out.new steps.new)
         result }
 {
     converse(
-        rt, alloc, words, files, input, out, gate, probes, device, steps,
+        rt, alloc, words, files, input, out, gate, probes, parts, device, steps,
     )
 }

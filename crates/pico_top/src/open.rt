@@ -7,13 +7,14 @@ ghost use Rattle.lane_look.specs.Device.{DeviceMeaning};
 ghost use Rattle.rp_ports.specs.Shelf.{Files};
 ghost use Rattle.uf2_image.specs.Uf2.{FitsSram, image_of};
 ghost use Rattle.pin_script.specs.Script.{script_of};
+ghost use Rattle.startup_blocks.specs.Table.{HaveBytes};
 ghost use Rattle.rp_machine.specs.Boot.{AreLoads, start};
 ghost use Rattle.board_parts.specs.Hearing.{Aim};
 ghost use Rattle.command_words.specs.Refusals.Refusal.{BadImage, BadScript};
 ghost use Rattle.command_words.specs.Words.{IsLimited};
-ghost use Rattle.command_words.specs.Words.Command.{Assemble, Disassemble, Generate};
+ghost use Rattle.command_words.specs.Words.Command.{Assemble, AssembleThumb, Disassemble, Generate};
 ghost use Rattle.command_words.specs.Read.{run_in, command_in};
-ghost use Rattle.pico_top.specs.Dialogue.{behind_image, behind_script, with_image, with_script};
+ghost use Rattle.pico_top.specs.Dialogue.{behind_image, behind_script, with_image, with_linked, with_run, with_script};
 ghost use Rattle.pico_top.specs.Opening.{Opens, OpensFor, LoadsAs, Passes, Judges, Boots, use_for};
 
 use crate::programs::open_programs;
@@ -27,9 +28,11 @@ use pio_parse::PioFault;
 use reverse_debug::Session;
 use rp_machine::{Machine, PioLoad, World};
 use rp_ports::shelf::{Loaded, Shelf};
+use startup_blocks::{StartFault, link};
 use std::alloc::Global;
+use thumb_asm::{ThumbFault, assemble_thumb};
 use uf2_image::numbered::generated;
-use uf2_image::{Image, ImageFault, read_image};
+use uf2_image::{Image, ImageFault, read_image, write_image};
 
 /// An image file has at most 16 MiB.
 const IMAGE_LIMIT: usize = 16_777_216;
@@ -37,7 +40,7 @@ const IMAGE_LIMIT: usize = 16_777_216;
 /// A script file has at most 4 MiB.
 const SCRIPT_LIMIT: usize = 4_194_304;
 
-/// A PIO source file has at most 1 MiB.
+/// A source file has at most 1 MiB.
 pub const SOURCE_LIMIT: usize = 1_048_576;
 
 /// Why nothing is opened.
@@ -85,6 +88,15 @@ pub enum Purpose {
     Debug,
 }
 
+/// The pieces in which a text is put.
+#[derive(Clone, Copy, Debug, PartialEq, Eq)]
+pub enum Pieces {
+    /// Its lines.
+    Lines,
+    /// The blocks of a UF2 file.
+    Blocks,
+}
+
 /// What stands when the files are loaded.
 #[derive(Drop)]
 pub enum Opened {
@@ -93,7 +105,7 @@ pub enum Opened {
     /// A session that can hear lines.
     Session(Debugging),
     /// A text that needs no machine.
-    Text(Vec<u8>),
+    Text(Vec<u8>, Pieces),
 }
 
 /// Loads a file of at most so many bytes.
@@ -127,6 +139,7 @@ fn image_in(alloc: Global, bytes: &[u8]) -> Result<Image, Unopened>
     requires { length bytes.now ≤ IMAGE_LIMIT }
     ensures image { Judges (image_of bytes.now) BadImage result }
     ensures fits { IfOk result FitsSram }
+    ensures have { IfOk result (λ image. HaveBytes image.parts) }
 {
     match read_image(alloc, bytes) {
         Ok(image) => Ok(image),
@@ -141,10 +154,29 @@ fn open_image<F: Shelf>(alloc: Global, name: &str, files: &mut F) -> Result<Imag
     ensures answer { Passes (F.files files.old) (F.failed files.old) (F.failed files.new)
         (with_image name.now) result }
     ensures fits { IfOk result FitsSram }
+    ensures have { IfOk result (λ image. HaveBytes image.parts) }
 {
     match load(alloc, name, IMAGE_LIMIT, files) {
         Ok(bytes) => image_in(alloc, &bytes),
         Err(unopened) => Err(unopened),
+    }
+}
+
+/// An image as a run boots it: linked with the table of routines, where that is asked for.
+fn linked_image(alloc: Global, table: bool, image: Image) -> Result<Image, Unopened>
+    requires fits { FitsSram image }
+    requires have { HaveBytes image.parts }
+    ensures answer { (files : Option Files) (failed : List (List ℕ))
+        → Passes files failed failed (λ next. with_linked table next image) result }
+    ensures fits { IfOk result FitsSram }
+{
+    if !table {
+        return Ok(image);
+    }
+    match link(alloc, &image) {
+        Ok(linked) => Ok(linked),
+        Err(StartFault::Memory) => Err(Unopened::Memory),
+        Err(fault) => Err(Unopened::Refusing(Refusal::Start(fault))),
     }
 }
 
@@ -280,6 +312,32 @@ fn open_behind_image<F: Shelf, X: Device>(
     }
 }
 
+/// Links the image of a run where that is asked for, and then does what comes behind it.
+fn open_linked<F: Shelf, X: Device>(
+    alloc: Global,
+    purpose: Purpose,
+    run: &RunWords,
+    image: Image,
+    files: &mut F,
+    device: &X,
+) -> Result<Opened, Unopened>
+    requires fits { FitsSram image }
+    requires have { HaveBytes image.parts }
+    requires limit { run.now.cycles ≤ 1000000000 }
+    ensures kept { F.files files.new ≡ F.files files.old }
+    ensures answer { (aims : List Aim)
+        → Opens (F.files files.old) (F.failed files.old) (F.failed files.new)
+        (X.meaning device.now) aims
+        (with_linked (run_in run.now).table
+        (behind_image (use_for aims purpose) (X.meaning device.now) (run_in run.now)) image)
+        result }
+{
+    match linked_image(alloc, run.table, image) {
+        Ok(image) => open_behind_image(alloc, purpose, run, &image, files, device),
+        Err(unopened) => Err(unopened),
+    }
+}
+
 /// Loads the image of a run, and then what comes behind it.
 fn open_run<F: Shelf, X: Device>(
     alloc: Global,
@@ -293,11 +351,10 @@ fn open_run<F: Shelf, X: Device>(
     ensures answer { (aims : List Aim)
         → Opens (F.files files.old) (F.failed files.old) (F.failed files.new)
         (X.meaning device.now) aims
-        (with_image (run_in run.now).image
-        (behind_image (use_for aims purpose) (X.meaning device.now) (run_in run.now))) result }
+        (with_run (use_for aims purpose) (X.meaning device.now) (run_in run.now)) result }
 {
     match open_image(alloc, run.image.as_str(), files) {
-        Ok(image) => open_behind_image(alloc, purpose, run, &image, files, device),
+        Ok(image) => open_linked(alloc, purpose, run, image, files, device),
         Err(unopened) => Err(unopened),
     }
 }
@@ -317,11 +374,35 @@ fn open_source<F: Shelf, X: Device>(
     match load(alloc, name, SOURCE_LIMIT, files) {
         Ok(bytes) => match programs_in(alloc, &bytes) {
             Ok(programs) => match listing(alloc, &programs) {
-                Ok(text) => Ok(Opened::Text(text)),
+                Ok(text) => Ok(Opened::Text(text, Pieces::Lines)),
                 Err(_) => Err(Unopened::Memory),
             },
             Err(PioFault::Memory) => Err(Unopened::Memory),
             Err(fault) => Err(Unopened::Refusing(Refusal::Source(fault))),
+        },
+        Err(unopened) => Err(unopened),
+    }
+}
+
+/// Loads a Thumb source and makes the file of its image.
+fn open_thumb<F: Shelf, X: Device>(
+    alloc: Global,
+    name: &str,
+    files: &mut F,
+    device: &X,
+) -> Result<Opened, Unopened>
+    ensures kept { F.files files.new ≡ F.files files.old }
+    ensures answer { OpensFor (F.files files.old) (F.failed files.old) (F.failed files.new)
+        (X.meaning device.now) (AssembleThumb name.now) result }
+{
+    match load(alloc, name, SOURCE_LIMIT, files) {
+        Ok(bytes) => match assemble_thumb(alloc, &bytes) {
+            Ok(image) => match write_image(alloc, &image) {
+                Ok(file) => Ok(Opened::Text(file, Pieces::Blocks)),
+                Err(_) => Err(Unopened::Memory),
+            },
+            Err(ThumbFault::Memory) => Err(Unopened::Memory),
+            Err(fault) => Err(Unopened::Refusing(Refusal::Thumb(fault))),
         },
         Err(unopened) => Err(unopened),
     }
@@ -334,7 +415,7 @@ fn open_text(alloc: Global, asked: &DisWords) -> Result<Opened, Unopened>
         result }
 {
     match write_source(alloc, &asked.words, &asked.side) {
-        Ok(text) => Ok(Opened::Text(text)),
+        Ok(text) => Ok(Opened::Text(text, Pieces::Lines)),
         Err(_) => Err(Unopened::Memory),
     }
 }
@@ -388,6 +469,7 @@ pub fn open_reading<F: Shelf, X: Device>(
         Reading::Debug(run) => open_run(alloc, Purpose::Debug, run, files, device),
         Reading::Dis(asked) => open_text(alloc, asked),
         Reading::Asm(name) => open_source(alloc, name.as_str(), files, device),
+        Reading::Thumb(name) => open_thumb(alloc, name.as_str(), files, device),
         Reading::Gen(asked) => open_generated(alloc, asked, device),
     }
 }

@@ -7,6 +7,7 @@ ghost use Rattle.trace_text.specs.Sent.{Sends};
 ghost use Rattle.board_parts.specs.Hearing.{aim_of, seen};
 ghost use Rattle.pico_top.specs.RunText.{core_lines, counts_text, probe_lines};
 
+use crate::open::Pieces;
 use crate::probes::send_probes;
 use arrayvec::ArrayVec;
 use board_parts::aimed::Aimed;
@@ -17,6 +18,9 @@ use rp_ports::sink::Sink;
 use trace_text::line::{push_number, push_text, register_line, stop_line};
 use trace_text::writer::{SinkFault, Writer};
 use window_runner::alone::Ran;
+
+/// A block of a UF2 file has so many bytes.
+const BLOCK: usize = 512;
 
 /// Puts the line of a stop.
 fn send_stop<O: Sink>(why: &Why, cycle: u64, writer: &mut Writer<'_, O>) -> Result<(), SinkFault>
@@ -152,15 +156,32 @@ fn line_end(text: &[u8], from: usize) -> usize
     }
 }
 
-/// Puts a text line by line.
-pub fn send_text<O: Sink>(text: &[u8], writer: &mut Writer<'_, O>) -> Result<(), SinkFault>
+/// The index behind the first piece that begins at an index: a line or a block.
+fn piece_end(text: &[u8], pieces: Pieces, from: usize) -> usize
+    requires { from < length text.now }
+    ensures after { from < result }
+    ensures within { result ≤ length text.now }
+{
+    match pieces {
+        Pieces::Lines => line_end(text, from),
+        Pieces::Blocks if text.len() - from > BLOCK => from + BLOCK,
+        Pieces::Blocks => text.len(),
+    }
+}
+
+/// Puts a text piece by piece.
+pub fn send_text<O: Sink>(
+    text: &[u8],
+    pieces: Pieces,
+    writer: &mut Writer<'_, O>,
+) -> Result<(), SinkFault>
     ensures sends { Sends (O.written writer.old.out.now) (O.written writer.new.out.now)
         (O.faults writer.old.out.now) (O.faults writer.new.out.now) text.now result }
     ensures same_sink { writer.new.out.ghost_name ≡ writer.old.out.ghost_name }
 {
     let mut done = 0;
     while done < text.len() {
-        let end = line_end(text, done);
+        let end = piece_end(text, pieces, done);
         match writer.line(&text[done..end]) {
             Ok(()) => done = end,
             Err(fault) => return Err(fault),

@@ -16,7 +16,7 @@ ghost use Rattle.reverse_debug.specs.Session.{first_of, OpensAt};
 ghost use Rattle.pico_top.specs.Dialogue.{hear, input_limit, run_reply, say, session_reply};
 ghost use Rattle.pico_top.specs.Opening.{setting_in, setting_by, opened_dialogue, IsReady, PutsRefusal, Concludes};
 
-use crate::open::{Debugging, Opened, Started, Unopened};
+use crate::open::{Debugging, Opened, Pieces, Started, Unopened};
 use crate::runner::{Workers, run_to_stop, run_to_stop_by};
 use crate::send::{send_last, send_text};
 use board_parts::aimed::Aimed;
@@ -149,13 +149,13 @@ fn run_into_by<X: Device, O: Sink, G: Gate, L: Ledger, R: Threads + Wait + Sync>
     finish(stats, came, &machine, probes, out)
 }
 
-/// Puts a text into a sink, and answers 0, or 7 where the sink fails.
-fn text_into<O: Sink>(text: &[u8], out: &mut O) -> u8
+/// Puts a text into a sink, piece by piece, and answers 0, or 7 where the sink fails.
+fn text_into<O: Sink>(text: &[u8], pieces: Pieces, out: &mut O) -> u8
     ensures { Puts (O.written out.old) (O.written out.new) (O.faults out.old)
         (O.faults out.new) result 0 text.now }
 {
     let mut writer = Writer { out };
-    match send_text(text, &mut writer) {
+    match send_text(text, pieces, &mut writer) {
         Ok(()) => 0,
         Err(_) => 7,
     }
@@ -263,7 +263,7 @@ pub fn tell_into<I: Source, X: Device, O: Sink, L: Ledger>(
     match opened {
         Opened::Machine(started) => run_into(alloc, started, probes, device, out, steps),
         Opened::Session(debugging) => talk_into(debugging, device, input, out, steps),
-        Opened::Text(text) => text_into(&text, out),
+        Opened::Text(text, pieces) => text_into(&text, pieces, out),
     }
 }
 
@@ -300,7 +300,7 @@ where
             run_into_by(rt, alloc, workers, started, probes, device, out, steps)
         }
         Opened::Session(debugging) => talk_into(debugging, device, input, out, steps),
-        Opened::Text(text) => text_into(&text, out),
+        Opened::Text(text, pieces) => text_into(&text, pieces, out),
     }
 }
 

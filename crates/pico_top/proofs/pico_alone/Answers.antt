@@ -4,7 +4,7 @@ use Rattle.pico_top.proofs.Completing.{completes}
 use Rattle.pico_top.proofs.pico_alone.Goals as goal
 
 pub serve-requires-after_bounds : goal.serve-requires-after_bounds
-serve-requires-after_bounds g c κs within = read_command_limited _ _ c.requires.read
+serve-requires-after_bounds g c κs within = read_command_limited _ _ _ c.requires.read
 
 pub returns-clause-cause : goal.returns-clause-cause
 returns-clause-cause g c = causes _ _ _ _ _ c.serve.ensures

@@ -2,7 +2,7 @@ use Rattle.command_words.proofs.Limits.{read_command_limited, workers_within}
 use Rattle.pico_top.proofs.serve_read.Goals as goal
 
 pub serve_by-requires-clause-workers : goal.serve_by-requires-clause-workers
-serve_by-requires-clause-workers g c κs within = rw c.count_of-count.ensures (workers_within _ (read_command_limited _ _ c.requires))
+serve_by-requires-clause-workers g c κs within = rw c.count_of-count.ensures (workers_within _ (read_command_limited _ _ _ c.requires))
 
 pub serve_by-requires-clause-limited : goal.serve_by-requires-clause-limited
-serve_by-requires-clause-limited g c κs within = read_command_limited _ _ c.requires
+serve_by-requires-clause-limited g c κs within = read_command_limited _ _ _ c.requires

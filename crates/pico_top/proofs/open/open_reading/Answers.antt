@@ -1,5 +1,5 @@
 use Rattle.std.proofs.Common.{List, ℕ, subst}
-use Rattle.command_words.specs.Words.Command.{Assemble}
+use Rattle.command_words.specs.Words.Command.{Assemble, AssembleThumb}
 use Rattle.pico_top.specs.Opening.{OpensFor}
 use Rattle.pico_top.proofs.open.open_reading.Goals as goal
 
@@ -16,6 +16,11 @@ pub returns-in-Asm-clause-answer : goal.returns-in-Asm-clause-answer
 returns-in-Asm-clause-answer g c =
     let named = λ (n : List ℕ). OpensFor (g.F.Shelf.files c.args.files.now) (g.F.Shelf.failed c.args.files.now) (g.F.Shelf.failed c.open_source.new.files) (g.X.Device.meaning c.args.device.now) (Assemble n) c.open_source.result in
     rw c.in-Asm.is (subst named c.as_str.ensures.value c.open_source.ensures.answer)
+
+pub returns-in-Thumb-clause-answer : goal.returns-in-Thumb-clause-answer
+returns-in-Thumb-clause-answer g c =
+    let named = λ (n : List ℕ). OpensFor (g.F.Shelf.files c.args.files.now) (g.F.Shelf.failed c.args.files.now) (g.F.Shelf.failed c.open_thumb.new.files) (g.X.Device.meaning c.args.device.now) (AssembleThumb n) c.open_thumb.result in
+    rw c.in-Thumb.is (subst named c.as_str-in-Thumb.ensures.value c.open_thumb.ensures.answer)
 
 pub returns-in-Gen-clause-answer : goal.returns-in-Gen-clause-answer
 returns-in-Gen-clause-answer g c = rw c.in-Gen.is (c.open_generated.ensures (g.F.Shelf.files c.args.files.now) (g.F.Shelf.failed c.args.files.now))
