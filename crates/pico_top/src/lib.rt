@@ -195,7 +195,9 @@ where
         second: device,
     };
     match aim_all(alloc, probes, targets(reading)) {
-        Ok(mut aimed) => serve_aimed(alloc, reading, files, input, out, &mut aimed, &device, steps),
+        Ok(mut aimed) => serve_aimed(
+            alloc, reading, files, input, out, &mut aimed, &device, steps,
+        ),
         Err(_) => refuse(alloc, &Unopened::Memory, out),
     }
 }
