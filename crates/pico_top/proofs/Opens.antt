@@ -10,7 +10,7 @@ use Rattle.uf2_image.specs.declared.parts.Image.{Image as Loaded}
 use Rattle.uf2_image.specs.Uf2.{image_of}
 use Rattle.uf2_image.specs.Writing.{IsSized}
 use Rattle.uf2_image.proofs.Writable.{what_is_read_can_be_written}
-use Rattle.startup_blocks.specs.Table.{linked, HaveBytes}
+use Rattle.startup_blocks.specs.Table.{HaveBytes}
 use Rattle.pin_script.specs.declared.entry.Entry.{Entry as ScriptEntry}
 use Rattle.pio_asm.specs.Assembly.{ArePrograms}
 use Rattle.pio_asm.specs.declared.program.Program.{Program}
@@ -20,7 +20,7 @@ use Rattle.rp_machine.specs.declared.load.PioLoad.{PioLoad}
 use Rattle.command_words.specs.Words.{Run}
 use Rattle.command_words.specs.declared.refusal.Refusal.{Refusal as Written}
 use Rattle.command_words.specs.Refusals.{Refusal, line_of, status_of}
-use Rattle.command_words.specs.Refusals.Refusal.{Lost, BadStart}
+use Rattle.command_words.specs.Refusals.Refusal.{Lost}
 use Rattle.command_words.specs.Meant.{meant}
 use Rattle.pico_top.specs.declared.open.Opened.{Opened}
 use Rattle.pico_top.specs.declared.open.Opened.TheVariants.{Machine, Session, Text}
@@ -31,7 +31,7 @@ use Rattle.pico_top.specs.declared.open.Unopened.{Unopened}
 use Rattle.pico_top.specs.declared.open.Unopened.TheVariants.{Refusing, Memory}
 use Rattle.reverse_debug.specs.Debugger.{quits}
 use Rattle.pico_top.specs.Loads.{Placed, loads_of, plans_in}
-use Rattle.pico_top.specs.Dialogue.{Reply, Dialogue, judge, run_reply, with_linked, behind_script, input_limit, session_reply}
+use Rattle.pico_top.specs.Dialogue.{Reply, Dialogue, judge, run_reply, behind_script, input_limit, session_reply}
 use Rattle.pico_top.specs.Dialogue.Dialogue.{Load}
 use Rattle.pico_top.specs.Walk.{Ending, Walks, failed_names}
 use Rattle.pico_top.specs.Walk.Ending.{Refused}
@@ -71,12 +71,6 @@ have_bytes (part ∷ parts) h = (h.0.some, have_bytes parts h.1)
 
 pub read_has_bytes : (bytes : List ℕ) (image : Loaded) → length bytes ≤ 16777216 → image_of bytes ≡ Ok image → HaveBytes image.parts
 read_has_bytes bytes image short is = have_bytes image.parts (what_is_read_can_be_written bytes image short is).sizes
-
--- an image was linked where that is asked for
-pub links : (table : Bool) (image : Loaded) (files : Option Files) (failed : List (List ℕ)) (result : Result Loaded Unopened) → table ≡ true → Judges (linked image) BadStart result → Passes files failed failed (λ next. with_linked table next image) result
-links table image files failed result is judged =
-    subst (λ (t : Bool). Passes files failed failed (λ next. with_linked t next image) result) (sym is)
-    (judge_passes files failed (linked image) BadStart result (λ fault. refl) judged)
 
 -- ---- parts of a walk, one behind another
 

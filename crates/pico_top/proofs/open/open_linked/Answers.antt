@@ -12,5 +12,5 @@ returns-in-Ok-clause-answer g c aims =
 
 pub returns-in-Err-clause-answer : goal.returns-in-Err-clause-answer
 returns-in-Err-clause-answer g c aims =
-    c.in-Err.ensures (g.F.Shelf.files c.args.files.now) (g.F.Shelf.failed c.args.files.now)
+    c.in-Err.ensures.answer (g.F.Shelf.files c.args.files.now) (g.F.Shelf.failed c.args.files.now)
     (behind_image (use_for aims c.args.purpose) (g.X.Device.meaning c.args.device.now) (run_in c.args.run.now))
