@@ -24,9 +24,9 @@ returns-in-Ok-read_words g c =
 
 pub returns-in-Err-Words : goal.returns-in-Err-Words
 returns-in-Err-Words g c =
+    let none : reading c.len.result c.deref-2.result.now (map string_bytes c.args.words.now) ≡ None = search rules in
     let pinned = c.deref-2.ensures.value ∙ (c.in-Ok.ensures ∙ ap (λ ps. counts_of (map g.P.Part.meaning ps)) c.deref.ensures.value) in
     let long = c.len.ensures ∙ (c.args.probes.ok.0 ∙ sym (length-map c.args.probes.items _)) in
-    let none : reading c.len.result c.deref-2.result.now (map string_bytes c.args.words.now) ≡ None = search rules in
     refused_converses _ _ _ _ _ _ _ long pinned none refl refl refl refl c.refuse-in-Err-Words.ensures refl
 
 pub returns : goal.returns

@@ -18,5 +18,5 @@ returns-in-Ok-aim_all g c =
     let same = ap (λ d. paired d own) (c.in-Ok.ensures.device ∙ ap (λ ws. parts_device (placed_by parts ws)) c.wirings.ensures) in
     c.serve_aimed_by.ensures (board own probes parts) same (rw c.deref_mut.ensures.value (c.in-Ok-aim_all.ensures ∙ ap (aims_of probes) c.targets.ensures))
 
-pub returns-in-Err : goal.returns-in-Err
-returns-in-Err g c = out_converses _ _ _ _ _ refl refl refl refl c.refuse-in-Err.ensures refl
+pub returns : goal.returns
+returns g c = out_converses _ _ _ _ _ refl refl refl refl c.refuse-in-Err.ensures refl
