@@ -15,7 +15,7 @@ use Rattle.command_words.specs.Words.{list_in}
 use Rattle.command_words.proofs.Given.{given_all, of_some}
 
 -- what holds of a value that is given under a condition
-pub where_it : {X : Type 0} (P : X → Type 0) (b : Bool) (x : Option X) → (b ≡ true → IfSome x P) → IfSome (if b then x else None) P
+where_it : {X : Type 0} (P : X → Type 0) (b : Bool) (x : Option X) → (b ≡ true → IfSome x P) → IfSome (if b then x else None) P
 where_it P true x h = h refl
 where_it P false x h = tt
 
