@@ -4,21 +4,23 @@
 #[cfg(test)]
 mod asm_tests;
 #[cfg(test)]
-mod core_tests;
+mod call;
 #[cfg(test)]
-mod counted;
+mod case;
+#[cfg(test)]
+mod core_tests;
 #[cfg(test)]
 mod debug_tests;
 #[cfg(test)]
-mod gen_tests;
+mod failing_tests;
 pub mod held_file;
 #[cfg(test)]
 mod machine_tests;
 #[cfg(test)]
+mod rows;
+#[cfg(test)]
 mod run_tests;
 #[cfg(test)]
 mod sample_files;
-#[cfg(test)]
-mod window_tests;
 #[cfg(test)]
 mod worker_tests;

@@ -1,146 +1,45 @@
-//! Programs of the whole machine: pads, scripts, UARTs, DMA, PIO and probes, with their whole texts.
+//! Programs of the whole machine: pads, scripts, UARTs, DMA, PIO, devices, probes and parts, with their whole texts.
 
-use crate::counted::probe_words;
-use crate::held_file::held;
-use crate::sample_files::image;
-use board_parts::edge_counter::EdgeCounter;
-use board_parts::probe::Probe;
-use board_parts::ws2812::Ws2812;
-use rp_ports::mem_shelf::MemShelf;
-use rp_ports::mem_sink::MemSink;
-use rp_ports::mem_source::MemSource;
+use crate::case::{Case, HUNDRED, Held, NOTHING, first_wrong, gives, gives_text};
+use crate::rows::{BLINKS, COPIES_THREE, COPIES_TWO, FIVE, IDLE, WS2812};
+use crate::sample_files::{Block, ONLY, repeated};
 use std::alloc::{AllocError, Global};
 use std::sync::Wait;
 use std::test::Fail;
 use std::thread::Threads;
 
-/// The status of words where a counter of edges and a decoder of lights are handed in, and there is no input.
-fn probed<R: Threads + Wait + Sync>(
-    rt: &R,
-    alloc: Global,
-    words: &[String],
-    files: &mut MemShelf,
-    out: &mut MemSink,
-) -> Result<u8, AllocError> {
-    let mut input = MemSource::new(Vec::new(alloc), Vec::new(alloc));
-    let mut probes: Vec<Box<dyn Probe>> = Vec::new(alloc);
-    probes.push(Box::new(alloc, EdgeCounter::new())?)?;
-    probes.push(Box::new(alloc, Ws2812::new())?)?;
-    Ok(probe_words(rt, alloc, words, files, &mut input, out, probes))
-}
-
-/// Whether a run of this code with these words behind `run a.uf2` and these files gives this status and this text.
-fn gives<R: Threads + Wait + Sync>(
-    rt: &R,
-    alloc: Global,
-    code: &[u16],
-    more: &[&str],
-    files: &[(&str, &[u8])],
-    status: u8,
-    text: &[u8],
-) -> Result<bool, AllocError> {
-    let mut words = Vec::new(alloc);
-    for word in ["run", "a.uf2"] {
-        words.push(String::from_str(alloc, word)?)?;
-    }
-    for word in more {
-        words.push(String::from_str(alloc, word)?)?;
-    }
-    let mut shelf = vec![in alloc; held(alloc, "a.uf2", &image(alloc, code)?)?]?;
-    for (name, bytes) in files {
-        shelf.push(held(alloc, name, bytes)?)?;
-    }
-    let mut files = MemShelf::new(alloc, shelf, Vec::new(alloc));
-    let mut out = MemSink::new(alloc, Vec::new(alloc));
-    let answer = probed(rt, alloc, &words, &mut files, &mut out)?;
-    Ok(answer == status && out.bytes.as_slice() == text)
-}
-
-/// The lines of both cores: R0 to R12 as given and 0 for the rest, then SP, LR, PC and xPSR; core 1 sleeps.
-fn with_cores(alloc: Global, lines: &[u8], low: &str, high: &str) -> Result<Vec<u8>, AllocError> {
-    let mut text = Vec::from_slice(alloc, lines)?;
-    text.extend_from_slice(b"core0")?;
-    text.extend_from_slice(low.as_bytes())?;
-    for _ in 0..13usize.saturating_sub(low.len() / 9) {
-        text.extend_from_slice(b" 00000000")?;
-    }
-    text.extend_from_slice(b" 20042000 ffffffff")?;
-    text.extend_from_slice(high.as_bytes())?;
-    text.extend_from_slice(b"\ncore1 asleep\n")?;
-    Ok(text)
-}
-
-const IDLE: [u16; 1] = [0xe7fe];
-
-const FIVE: [u16; 3] = [0x2005, 0x3007, 0xbe00];
-
-/// A name, and what the file has.
-type Named = (&'static str, &'static [u8]);
-
-/// Code, words behind `run a.uf2`, files, and the lines and the registers of the run.
-type Run = (
-    &'static [u16],
-    &'static [&'static str],
-    &'static [Named],
-    (&'static [u8], &'static str, &'static str),
-);
-
-/// The first run that gives another text, which ends in the lines of its probes.
-fn wrong_run<R: Threads + Wait + Sync>(
-    rt: &R,
-    alloc: Global,
-    runs: &[Run],
-    probes: &[u8],
-) -> Result<Option<usize>, AllocError> {
-    for (index, (code, words, files, (lines, low, high))) in runs.iter().enumerate() {
-        let mut text = with_cores(alloc, lines, low, high)?;
-        text.extend_from_slice(probes)?;
-        if !gives(rt, alloc, code, words, files, 0, &text)? {
-            return Ok(Some(index));
-        }
-    }
-    Ok(None)
-}
-
-const SCRIPTS: [Run; 3] = [
-    (
-        &IDLE,
-        &["--script", "s", "--cycles", "20"],
-        &[("s", b"5 3 1\n9 3 z\n")],
-        (
-            b"5 pin 3 1\n9 pin 3 0\nstop limit 20\n",
-            "",
-            " 20000000 01000000",
-        ),
-    ),
+const SCRIPTS: [Case; 3] = [
+    Case {
+        words: &["run", "a.uf2", "--script", "s", "--cycles", "20"],
+        image: Held::Code(&IDLE),
+        files: &[("s", b"5 3 1\n9 3 z\n")],
+        text: b"5 pin 3 1\n9 pin 3 0\nstop limit 20\n\
+            core0 * 20042000 ffffffff 20000000 01000000\ncore1 asleep\n",
+        ..NOTHING
+    },
     // A pull-up keeps the pin high once it is free.
-    (
-        &[0x4801, 0x215a, 0x6001, 0xe7fe, 0xc010, 0x4001],
-        &["--script", "s", "--cycles", "20"],
-        &[("s", b"5 3 1\n9 3 z\n")],
-        (
-            b"5 pin 3 1\nstop limit 20\n",
-            " 4001c010 0000005a",
-            " 20000006 01000000",
-        ),
-    ),
+    Case {
+        words: &["run", "a.uf2", "--script", "s", "--cycles", "20"],
+        image: Held::Code(&[0x4801, 0x215a, 0x6001, 0xe7fe, 0xc010, 0x4001]),
+        files: &[("s", b"5 3 1\n9 3 z\n")],
+        text: b"5 pin 3 1\nstop limit 20\n\
+            core0 4001c010 0000005a * 20042000 ffffffff 20000006 01000000\ncore1 asleep\n",
+        ..NOTHING
+    },
     // A byte that is sent to a pin, in frames of ten bits.
-    (
-        &IDLE,
-        &["--cycles", "200", "--script", "s"],
-        &[("s", b"version 2\n0 3 1\nsend 10 3 65 41\n")],
-        (
-            b"0 pin 3 1\n10 pin 3 0\n27 pin 3 1\n43 pin 3 0\n124 pin 3 1\n140 pin 3 0\n157 pin 3 1\nstop limit 200\n",
-            "",
-            " 20000000 01000000",
-        ),
-    ),
+    Case {
+        words: &["run", "a.uf2", "--cycles", "200", "--script", "s"],
+        image: Held::Code(&IDLE),
+        files: &[("s", b"version 2\n0 3 1\nsend 10 3 65 41\n")],
+        text: b"0 pin 3 1\n10 pin 3 0\n27 pin 3 1\n43 pin 3 0\n124 pin 3 1\n140 pin 3 0\n157 pin 3 1\n\
+            stop limit 200\ncore0 * 20042000 ffffffff 20000000 01000000\ncore1 asleep\n",
+        ..NOTHING
+    },
 ];
 
 #[test]
 fn scripts_drive_pins(rt: HostRuntime) -> Result<(), Fail> {
-    let wrong = wrong_run(&rt, rt.alloc(), &SCRIPTS, b"")?;
-    assert_eq!(rt; wrong, None);
+    assert_eq!(rt; first_wrong(&rt, rt.alloc(), &SCRIPTS)?, None);
     Ok(())
 }
 
@@ -157,8 +56,21 @@ const FAULTS: [(&[u8], &[u8]); 6] = [
     (b"send 10 3 65 41\n", b"error script 1 Form 1\n"),
 ];
 
-/// The words of a run with a script.
-const SCRIPTED: [&str; 4] = ["--cycles", "20", "--script", "s"];
+/// A run with such a script.
+const FAULTY: Case = Case {
+    words: &["run", "a.uf2", "--cycles", "20", "--script", "s"],
+    image: Held::Code(&IDLE),
+    status: 6,
+    ..NOTHING
+};
+
+/// A run with a program.
+const PLACES: Case = Case {
+    words: &["run", "a.uf2", "--cycles", "10"],
+    image: Held::Code(&FIVE),
+    files: &[("b", b".program b\nnop\n")],
+    ..NOTHING
+};
 
 /// The first script of which something else is said.
 fn wrong_fault<R: Threads + Wait + Sync>(
@@ -167,20 +79,11 @@ fn wrong_fault<R: Threads + Wait + Sync>(
 ) -> Result<Option<usize>, AllocError> {
     for (index, (script, text)) in FAULTS.iter().enumerate() {
         let files = [("s", *script)];
-        if !gives(rt, alloc, &IDLE, &SCRIPTED, &files, 6, text)? {
+        if !gives_text(rt, alloc, &FAULTY, &[], &files, text)? {
             return Ok(Some(index));
         }
     }
     Ok(None)
-}
-
-/// The longest program.
-fn longest(alloc: Global) -> Result<Vec<u8>, AllocError> {
-    let mut text = Vec::from_slice(alloc, b".program a\n")?;
-    for _ in 0..32 {
-        text.extend_from_slice(b"nop\n")?;
-    }
-    Ok(text)
 }
 
 /// Whether a run of the longest program and another one, by this list of programs, gives this status and this text.
@@ -191,21 +94,25 @@ fn lists<R: Threads + Wait + Sync>(
     status: u8,
     text: &[u8],
 ) -> Result<bool, AllocError> {
-    let long = longest(alloc)?;
-    let words = ["--cycles", "10", "--pio", list];
-    let files: [(&str, &[u8]); 2] = [("a", &long), ("b", b".program b\nnop\n")];
-    gives(rt, alloc, &FIVE, &words, &files, status, text)
+    let long = repeated(alloc, b".program a\n", b"nop\n", 32)?;
+    let case = Case { status, ..PLACES };
+    gives_text(rt, alloc, &case, &["--pio", list], &[("a", &long)], text)
 }
 
 /// Lists of programs that are refused.
 const LISTS: [&str; 6] = ["", "0:0", "2:0:a", "0:4:a", "0:0:a,", "0:0:a,0:0:b"];
 
+/// The script of a run is not there.
+const NO_SCRIPT: Case = Case {
+    status: 3,
+    text: b"error file s\n",
+    ..FAULTY
+};
+
 #[test]
 fn faults_of_scripts_and_programs(rt: HostRuntime) -> Result<(), Fail> {
-    let wrong = wrong_fault(&rt, rt.alloc())?;
-    assert_eq!(rt; wrong, None);
-    let missing = b"error file s\n";
-    assert!(rt; gives(&rt, rt.alloc(), &IDLE, &SCRIPTED, &[], 3, missing)?);
+    assert_eq!(rt; wrong_fault(&rt, rt.alloc())?, None);
+    assert!(rt; gives(&rt, rt.alloc(), &NO_SCRIPT)?);
     let full = b"error pio 12 NoRoom 1\n";
     assert!(rt; lists(&rt, rt.alloc(), "0:0:a,0:1:b", 5, full)?);
     for list in LISTS {
@@ -217,49 +124,51 @@ fn faults_of_scripts_and_programs(rt: HostRuntime) -> Result<(), Fail> {
     Ok(())
 }
 
-const BLINKS: [Run; 1] = [(
-    &[
-        0x4803, 0x2106, 0x6001, 0x4803, 0x2301, 0x6003, 0xe7fe, 0, 0x4004, 0x4001, 0, 0x5020,
-    ],
-    &["--cycles", "24", "--pio", "0:0:b.pio", "--probe", "0=0"],
-    &[(
-        "b.pio",
-        b".program blink\nset pindirs, 1\n.wrap_target\nset pins, 1 [1]\nset pins, 0 [2]\n.wrap\n",
-    )],
-    (
-        b"15 pin 0 1\n17 pin 0 0\n20 pin 0 1\n22 pin 0 0\nstop limit 24\n",
-        " 50200000 00000006 00000000 00000001",
-        " 2000000c 01000000",
-    ),
-)];
-
-/// Core 0 writes the words.
-const WRITTEN: [Run; 1] = [(
-    &[
-        0x4805, 0x2106, 0x6001, 0x4805, 0xa406, 0xcc0e, 0xc00e, 0x2101, 0x4803, 0x6001, 0xe7fe, 0,
-        0x4004, 0x4001, 0x0048, 0x5020, 0, 0x5020, 0xe081, 0, 0xe101, 0, 0xe200, 0,
-    ],
-    &["--cycles", "36"],
-    &[],
-    (
-        b"26 pin 0 1\n28 pin 0 0\n33 pin 0 1\n35 pin 0 0\nstop limit 36\n",
-        " 50200000 00000001 0000e101 0000e200 20000030",
-        " 20000014 01000000",
-    ),
-)];
+const PROGRAMS: [Case; 3] = [
+    BLINKS,
+    // Core 0 writes the words of the program.
+    Case {
+        words: &["run", "a.uf2", "--cycles", "36"],
+        image: Held::Code(&[
+            0x4805, 0x2106, 0x6001, 0x4805, 0xa406, 0xcc0e, 0xc00e, 0x2101, 0x4803, 0x6001, 0xe7fe,
+            0, 0x4004, 0x4001, 0x0048, 0x5020, 0, 0x5020, 0xe081, 0, 0xe101, 0, 0xe200, 0,
+        ]),
+        text: b"26 pin 0 1\n28 pin 0 0\n33 pin 0 1\n35 pin 0 0\nstop limit 36\n\
+            core0 50200000 00000001 0000e101 0000e200 20000030 * 20042000 ffffffff 20000014 01000000\n\
+            core1 asleep\n",
+        ..NOTHING
+    },
+    // What a machine sets on pins 30 and 31 is not shown: the chip has pins 0 to 29. So it ends no window.
+    Case {
+        words: &[
+            "run",
+            "a.uf2",
+            "--cycles",
+            "60",
+            "--pio",
+            "0:0:p.pio",
+            "--stats",
+        ],
+        image: Held::Code(&[
+            0x4804, 0x2106, 0x6001, 0x4804, 0x4a04, 0x6002, 0x4804, 0x2101, 0x6001, 0xe7fe, 0x4004,
+            0x4001, 0x00dc, 0x5020, 0x7800, 0x4000, 0x0000, 0x5020,
+        ]),
+        files: &[(
+            "p.pio",
+            b".program p\n.side_set 2\nnop side 0\nnop side 1\n",
+        )],
+        text: b"stop limit 60\n\
+            core0 50200000 00000001 40007800 * 20042000 ffffffff 20000012 01000000\ncore1 asleep\n\
+            windows 7 cycles 54\n",
+        ..NOTHING
+    },
+];
 
 #[test]
 fn programs_of_pio(rt: HostRuntime) -> Result<(), Fail> {
-    let probes = b"probe 0 pin 0 edges 4 rises 2\n";
-    let wrong = wrong_run(&rt, rt.alloc(), &BLINKS, probes)?;
-    assert_eq!(rt; wrong, None);
-    let wrong = wrong_run(&rt, rt.alloc(), &WRITTEN, b"")?;
-    assert_eq!(rt; wrong, None);
+    assert_eq!(rt; first_wrong(&rt, rt.alloc(), &PROGRAMS)?, None);
     Ok(())
 }
-
-const WS2812: &[u8] =
-    b".program ws2812\n.side_set 1\n.define public T1 2\n.define public T2 5\n.define public T3 3\n.wrap_target\nbitloop:\nout x, 1 side 0 [T3 - 1]\njmp !x do_zero side 1 [T1 - 1]\njmp bitloop side 1 [T2 - 1]\ndo_zero:\nnop side 0 [T2 - 1]\n.wrap\n";
 
 /// Appends the line of pin 0.
 fn pin(cycle: u64, level: &[u8], text: &mut Vec<u8>) -> Result<(), AllocError> {
@@ -268,19 +177,20 @@ fn pin(cycle: u64, level: &[u8], text: &mut Vec<u8>) -> Result<(), AllocError> {
     text.extend_from_slice(level)
 }
 
-/// The lines of pin 0 and of the cores.
+/// The lines of pin 0, of the cores and of the probes.
 fn led_text(alloc: Global) -> Result<Vec<u8>, AllocError> {
-    let mut lines = Vec::new(alloc);
+    let mut text = Vec::new(alloc);
     for bit in 0..24u64 {
-        pin(100 + 160 * bit, b"1\n", &mut lines)?;
+        pin(100 + 160 * bit, b"1\n", &mut text)?;
         let one = bit < 9 || bit == 23;
-        pin(if one { 212 } else { 132 } + 160 * bit, b"0\n", &mut lines)?;
+        pin(if one { 212 } else { 132 } + 160 * bit, b"0\n", &mut text)?;
     }
-    lines.extend_from_slice(b"stop limit 4200\n")?;
-    let low = " 50000010 20000044 50200000 00000001 00000019 00000001 00000006";
-    let mut text = with_cores(alloc, &lines, low, " 2000001c 21000000")?;
-    text.extend_from_slice(b"probe 0 pin 1 edges 0 rises 0\n")?;
-    text.extend_from_slice(b"probe 1 pin 0 colours 1 last ff8001\n")?;
+    text.extend_from_slice(
+        b"stop limit 4200\n\
+        core0 50000010 20000044 50200000 00000001 00000019 00000001 00000006 * \
+        20042000 ffffffff 2000001c 21000000\ncore1 asleep\n\
+        probe 0 pin 1 edges 0 rises 0\nprobe 1 pin 0 colours 1 last ff8001\n",
+    )?;
     Ok(text)
 }
 
@@ -291,91 +201,216 @@ const LED: [u16; 36] = [
     0, 0x0044, 0x2000, 0x0010, 0x5020, 1, 0, 0x0019, 0, 0x0100, 0xff80,
 ];
 
-/// Whether so many workers give this text.
-fn lights<R: Threads + Wait + Sync>(
-    rt: &R,
-    alloc: Global,
-    workers: &str,
-    text: &[u8],
-) -> Result<bool, AllocError> {
-    let words = [
+/// A run that feeds it.
+const LIGHTS: Case = Case {
+    words: &[
+        "run",
+        "a.uf2",
         "--pio",
         "0:0:ws2812.pio",
         "--cycles",
         "4200",
         "--probe",
         "1=0,0=1",
-        "--workers",
-        workers,
-    ];
-    gives(rt, alloc, &LED, &words, &[("ws2812.pio", WS2812)], 0, text)
-}
+    ],
+    image: Held::Code(&LED),
+    files: &[("ws2812.pio", WS2812)],
+    ..NOTHING
+};
 
 /// A colour of 24 bits, which the DMA engine feeds to a PIO machine.
 #[test]
 fn a_led_gets_its_colour(rt: HostRuntime) -> Result<(), Fail> {
     let text = led_text(rt.alloc())?;
     for workers in ["0", "8"] {
-        assert!(rt; lights(&rt, rt.alloc(), workers, &text)?);
+        let words = ["--workers", workers];
+        assert!(rt; gives_text(&rt, rt.alloc(), &LIGHTS, &words, &[], &text)?);
     }
     Ok(())
 }
 
-const PRINTS: [Run; 1] = [(
-    &[
+const PRINTS: Case = Case {
+    words: &["run", "a.uf2", "--cycles", "60000"],
+    image: Held::Code(&[
         0x4809, 0x2143, 0x6241, 0x2134, 0x6281, 0x2170, 0x62c1, 0x4907, 0x6301, 0x2148, 0x6001,
         0x2165, 0x6001, 0x216c, 0x6001, 0x6001, 0x216f, 0x6001, 0xe7fe, 0, 0x4000, 0x4003, 0x0301,
         0,
-    ],
-    &["--cycles", "60000"],
-    &[],
-    (
-        b"10883 uart0 48\n21733 uart0 65\n32583 uart0 6c\n43433 uart0 6c\n54283 uart0 6f\nstop limit 60000\n",
-        " 40034000 0000006f",
-        " 20000024 01000000",
-    ),
-)];
+    ]),
+    text: b"10883 uart0 48\n21733 uart0 65\n32583 uart0 6c\n43433 uart0 6c\n54283 uart0 6f\n\
+        stop limit 60000\ncore0 40034000 0000006f * 20042000 ffffffff 20000024 01000000\ncore1 asleep\n",
+    ..NOTHING
+};
 
 #[test]
 fn a_uart_prints(rt: HostRuntime) -> Result<(), Fail> {
-    let wrong = wrong_run(&rt, rt.alloc(), &PRINTS, b"")?;
-    assert_eq!(rt; wrong, None);
+    assert!(rt; gives(&rt, rt.alloc(), &PRINTS)?);
     Ok(())
 }
 
-const COPIES: [Run; 2] = [
-    (
-        &[
+const COPIES: [Case; 4] = [
+    Case {
+        image: Held::Code(&[
             0xa504, 0x2050, 0x0600, 0xcd1e, 0xc01e, 0xbf00, 0xbf00, 0xbf00, 0x6856, 0xbe00, 0x0024,
             0x2000, 0x0100, 0x2000, 2, 0, 0x8039, 0x001f, 0x3344, 0x1122, 0x7788, 0x5566,
-        ],
-        &["--cycles", "100"],
-        &[],
-        (
-            b"stop bkpt core0 18\n",
-            " 50000010 20000024 20000100 00000002 001f8039 20000024 55667788",
-            " 20000012 01000000",
-        ),
-    ),
+        ]),
+        text: b"stop bkpt core0 18\n\
+            core0 50000010 20000024 20000100 00000002 001f8039 20000024 55667788 * \
+            20042000 ffffffff 20000012 01000000\ncore1 asleep\n",
+        ..HUNDRED
+    },
     // Core 0 and the second write meet on bank 1: the write goes first, since the bank's last master was the DMA read.
-    (
-        &[
+    Case {
+        image: Held::Code(&[
             0xa504, 0x2050, 0x0600, 0xcd1e, 0xc01e, 0xbf00, 0xbf00, 0x6856, 0xbf00, 0xbe00, 0x0024,
             0x2000, 0x0100, 0x2000, 2, 0, 0x8039, 0x001f, 0x3344, 0x1122, 0x7788, 0x5566,
-        ],
-        &["--cycles", "100"],
-        &[],
-        (
-            b"stop bkpt core0 19\n",
-            " 50000010 20000024 20000100 00000002 001f8039 20000024 55667788",
-            " 20000012 01000000",
-        ),
-    ),
+        ]),
+        text: b"stop bkpt core0 19\n\
+            core0 50000010 20000024 20000100 00000002 001f8039 20000024 55667788 * \
+            20042000 ffffffff 20000012 01000000\ncore1 asleep\n",
+        ..HUNDRED
+    },
+    // Windows begin at 0, 9 to 13, 15 and 16.
+    Case {
+        words: &["run", "a.uf2", "--cycles", "100", "--stats"],
+        image: COPIES_TWO,
+        text: b"stop limit 100\n\
+            core0 50000010 2000001c 20000100 00000002 001f8039 2000001c * \
+            20042000 ffffffff 2000000a 01000000\ncore1 asleep\nwindows 8 cycles 95\n",
+        ..NOTHING
+    },
+    // Windows begin at 17 and 18 too, where a read and a write meet on the bank.
+    Case {
+        words: &["run", "a.uf2", "--cycles", "100", "--stats"],
+        image: COPIES_THREE,
+        text: b"stop limit 100\n\
+            core0 50000010 21000000 21000040 00000003 001f8039 2000001c * \
+            20042000 ffffffff 2000000a 01000000\ncore1 asleep\nwindows 10 cycles 94\n",
+        ..NOTHING
+    },
 ];
 
 #[test]
 fn dma_copies_words(rt: HostRuntime) -> Result<(), Fail> {
-    let wrong = wrong_run(&rt, rt.alloc(), &COPIES, b"")?;
-    assert_eq!(rt; wrong, None);
+    assert_eq!(rt; first_wrong(&rt, rt.alloc(), &COPIES)?, None);
+    Ok(())
+}
+
+const DEVICES: [Case; 2] = [
+    // Slice 0 of PWM on pin 0.
+    Case {
+        words: &["run", "a.uf2", "--cycles", "38"],
+        workers: &["0", "8"],
+        image: Held::Code(&[
+            0x4804, 0x2104, 0x6001, 0x4804, 0x2103, 0x6101, 0x2101, 0x60c1, 0x6001, 0xe7fe, 0x4004,
+            0x4001, 0x0000, 0x4005,
+        ]),
+        text: b"22 pin 0 1\n28 pin 0 0\n31 pin 0 1\n32 pin 0 0\n35 pin 0 1\n36 pin 0 0\nstop limit 38\n\
+            core0 40050000 00000001 * 20042000 ffffffff 20000012 01000000\ncore1 asleep\n",
+        ..NOTHING
+    },
+    // CS of PLL_SYS, which is locked at once.
+    Case {
+        words: &["run", "a.uf2", "--cycles", "10"],
+        image: Held::Code(&[0x4801, 0x6801, 0xbe00, 0x0000, 0x8000, 0x4002]),
+        text: b"stop bkpt core0 6\n\
+            core0 40028000 80000001 * 20042000 ffffffff 20000004 01000000\ncore1 asleep\n",
+        ..NOTHING
+    },
+];
+
+#[test]
+fn devices_of_a_run(rt: HostRuntime) -> Result<(), Fail> {
+    assert_eq!(rt; first_wrong(&rt, rt.alloc(), &DEVICES)?, None);
+    Ok(())
+}
+
+const PARTS: [Case; 3] = [
+    // The level of pin 3 comes to pin 4 a cycle later.
+    Case {
+        words: &[
+            "run", "a.uf2", "--cycles", "20", "--part", "2=3+4", "--script", "s",
+        ],
+        workers: &["0", "8"],
+        image: Held::Code(&IDLE),
+        files: &[("s", b"5 3 1\n9 3 z\n")],
+        text: b"5 pin 3 1\n6 pin 4 1\n9 pin 3 0\n10 pin 4 0\nstop limit 20\n\
+            core0 * 20042000 ffffffff 20000000 01000000\ncore1 asleep\n",
+        ..NOTHING
+    },
+    // A button at pin 2, which is pulled up.
+    Case {
+        words: &["run", "a.uf2", "--cycles", "120000", "--part", "0=2"],
+        workers: &["0", "8"],
+        image: Held::Code(&[0x4801, 0x215a, 0x6001, 0xe7fe, 0xc00c, 0x4001]),
+        text: b"8 pin 2 1\n50000 pin 2 0\n100000 pin 2 1\nstop limit 120000\n\
+            core0 4001c00c 0000005a * 20042000 ffffffff 20000006 01000000\ncore1 asleep\n",
+        ..NOTHING
+    },
+    // A button has one pin.
+    Case {
+        words: &["run", "a.uf2", "--cycles", "120000", "--part", "0=2+3"],
+        image: Held::Code(&IDLE),
+        status: 2,
+        text: b"error words\n",
+        ..NOTHING
+    },
+];
+
+#[test]
+fn parts_drive_pins(rt: HostRuntime) -> Result<(), Fail> {
+    assert_eq!(rt; first_wrong(&rt, rt.alloc(), &PARTS)?, None);
+    Ok(())
+}
+
+/// memcpy of the table copies a word.
+const COPIES_WORD: Case = Case {
+    words: &["run", "a.uf2", "--cycles", "100", "--table"],
+    workers: &["0", "2"],
+    image: Held::Code(&[
+        0x4c03, 0x6864, 0x4803, 0xa104, 0x2204, 0x47a0, 0xbe00, 0, 0, 0x2004, 0x0100, 0x2000,
+        0x3344, 0x1122,
+    ]),
+    text: b"stop bkpt core0 47\n\
+        core0 20000100 20000018 ffffffff 00000044 20040015 * 20042000 2000000d 2000000c 81000000\n\
+        core1 asleep\n",
+    ..NOTHING
+};
+
+const TABLES: [Case; 4] = [
+    COPIES_WORD,
+    Case {
+        words: &["debug", "a.uf2", "--cycles", "100", "--table"],
+        workers: &[],
+        input: b"end\nmem 20000100\nmem 20040000 2\n",
+        text: b"stop bkpt core0 47\nmem 20000100 11223344\nmem 20040000 20040009 20040015\n",
+        ..COPIES_WORD
+    },
+    // Where the table is to stand there is a block.
+    Case {
+        image: Held::Blocks(&[Block {
+            target: 0x2004_0010,
+            code: &[0xbe00],
+            ..ONLY
+        }]),
+        status: 12,
+        text: b"error start 1 Taken 20040010\n",
+        ..COPIES_WORD
+    },
+    // Without the table the block is run.
+    Case {
+        words: &["run", "a.uf2", "--cycles", "100"],
+        image: Held::Blocks(&[Block {
+            target: 0x2004_0010,
+            code: &[0xbe00],
+            ..ONLY
+        }]),
+        text: b"stop bkpt core0 0\ncore0 * 20042000 ffffffff 20040010 01000000\ncore1 asleep\n",
+        ..COPIES_WORD
+    },
+];
+
+#[test]
+fn a_table_of_routines(rt: HostRuntime) -> Result<(), Fail> {
+    assert_eq!(rt; first_wrong(&rt, rt.alloc(), &TABLES)?, None);
     Ok(())
 }

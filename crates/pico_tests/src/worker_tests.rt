@@ -3,18 +3,14 @@
 ghost use Rattle.std.specs.Prelude.{◌≡◌, ◌<◌};
 ghost use Rattle.uf2_image.specs.Uf2.{FitsSram};
 
-use crate::counted::gated_words;
-use crate::gen_tests::MILLION;
-use crate::held_file::held;
-use crate::sample_files::{image, texts};
-use crate::window_tests::{WRITES_CODE, WROTE_CODE};
+use crate::case::{Case, NOTHING, found, found_by_two, gives};
+use crate::rows::{BLINKS, IDLE, WRITES_CODE};
+use crate::sample_files::{image, in_full};
 use lane_look::{Device, Wires};
 use pin_script::Script;
 use rp_base::Why;
 use rp_machine::{Machine, Steps, World};
-use rp_ports::gate::{Gate, OpenGate};
-use rp_ports::mem_shelf::MemShelf;
-use rp_ports::mem_sink::MemSink;
+use rp_ports::gate::Gate;
 use std::alloc::{AllocError, Global};
 use std::marker::Brand;
 use std::sync::Wait;
@@ -29,110 +25,54 @@ use uf2_image::{Image, read_image};
 use window_runner::alone::Ran;
 use window_runner::windows::run_windows;
 
-/// What these words give and write where the shelf holds `a.uf2` with this code, and this gate is handed in.
-fn answer<G: Gate, R: Threads + Wait + Sync>(
-    rt: &R,
-    alloc: Global,
-    code: &[u16],
-    words: &[&str],
-    gate: &G,
-) -> Result<(u8, Vec<u8>), AllocError> {
-    let words = texts(alloc, words)?;
-    let shelf = vec![in alloc; held(alloc, "a.uf2", &image(alloc, code)?)?]?;
-    let mut files = MemShelf::new(alloc, shelf, Vec::new(alloc));
-    let mut out = MemSink::new(alloc, Vec::new(alloc));
-    let status = gated_words(rt, alloc, &words, &mut files, &mut out, gate);
-    Ok((status, out.bytes))
-}
+/// A run with each of some numbers of workers.
+const MANY: Case = Case {
+    workers: &["0", "1", "8"],
+    ..WRITES_CODE
+};
 
 #[test]
 fn a_text_is_the_same_for_each_number_of_workers(rt: HostRuntime) -> Result<(), Fail> {
-    let alloc = rt.alloc();
-    for workers in ["0", "1", "8"] {
-        let words = [
-            "run",
-            "a.uf2",
-            "--cycles",
-            "100",
-            "--stats",
-            "--workers",
-            workers,
-        ];
-        let (status, text) = answer(&rt, alloc, &WRITES_CODE, &words, &OpenGate)?;
-        assert!(rt; status == 0 && text.as_slice() == WROTE_CODE);
-    }
+    assert!(rt; gives(&rt, rt.alloc(), &MANY)?);
     Ok(())
 }
 
-/// The status and the text of a run with so many workers, in which a script drives pin 3, and the sink fails at a call.
-fn broken<R: Threads + Wait + Sync>(
-    rt: &R,
-    alloc: Global,
-    workers: &str,
-    call: u64,
-) -> Result<(u8, Vec<u8>), AllocError> {
-    let script = held(alloc, "s", b"5 3 1\n600 3 0\n700 3 1\n")?;
-    let shelf = vec![in alloc; held(alloc, "a.uf2", &image(alloc, &[0xe7fe])?)?, script]?;
-    let mut files = MemShelf::new(alloc, shelf, Vec::new(alloc));
-    let words = [
-        "run",
-        "a.uf2",
-        "--cycles",
-        "1000",
-        "--script",
-        "s",
-        "--workers",
-        workers,
-    ];
-    let words = texts(alloc, &words)?;
-    let mut out = MemSink::new(alloc, vec![in alloc; call]?);
-    let status = gated_words(rt, alloc, &words, &mut files, &mut out, &OpenGate);
-    Ok((status, out.bytes))
-}
+/// A run of the generated program of 1 over so many cycles.
+const GENERATED: Case = Case {
+    words: &["gen", "1", "--cycles", "1000000", "--stats"],
+    text: b"stop limit 1000000\n\
+        core0 00000000 9711a483 00000000 9781a45d 000000c7 006fff94 00000031 5fffffeb * \
+        20042000 20008001 20000406 81000000\ncore1 asleep\nwindows 3907 cycles 1000000\n",
+    ..NOTHING
+};
 
-/// It fails at the first event, at the second, which is of another window, and at the stop.
+/// The program of the greatest number.
+const GREATEST: Case = Case {
+    words: &["gen", "18446744073709551615", "--cycles", "1"],
+    ..NOTHING
+};
+
+/// A million cycles by another emulator of its eight instructions: the code has run to its end at least once, since LR was set by the
+/// BL there. The greatest number has a program too.
 #[test]
-fn a_failing_sink_ends_a_run_with_workers(rt: HostRuntime) -> Result<(), Fail> {
-    let alloc = rt.alloc();
-    let rows: [(u64, &[u8]); 3] = [
-        (0, b""),
-        (1, b"5 pin 3 1\n"),
-        (3, b"5 pin 3 1\n600 pin 3 0\n700 pin 3 1\n"),
-    ];
-    for workers in ["2", "8"] {
-        for (call, wanted) in rows {
-            let (status, text) = broken(&rt, alloc, workers, call)?;
-            assert!(rt; status == 7 && text.as_slice() == wanted);
-        }
-    }
+fn a_generated_program_runs(rt: HostRuntime) -> Result<(), Fail> {
+    assert!(rt; gives(&rt, rt.alloc(), &GENERATED)?);
+    assert_eq!(rt; found(&rt, rt.alloc(), &GREATEST, &[])?.status, 0);
     Ok(())
 }
+
+/// A shorter run.
+const SHORTER: Case = Case {
+    words: &["gen", "1", "--cycles", "50000", "--stats"],
+    ..NOTHING
+};
 
 #[test]
 fn workers_run_a_generated_program(rt: HostRuntime) -> Result<(), Fail> {
     let alloc = rt.alloc();
-    let words = [
-        "gen",
-        "1",
-        "--workers",
-        "4",
-        "--cycles",
-        "1000000",
-        "--stats",
-    ];
-    let (status, text) = answer(&rt, alloc, &[], &words, &OpenGate)?;
-    assert!(rt; status == 0 && text.as_slice() == MILLION);
-    Ok(())
-}
-
-#[test]
-fn unsuitable_numbers_of_workers(rt: HostRuntime) -> Result<(), Fail> {
-    let alloc = rt.alloc();
-    for workers in ["9", "-1", "+1", "01", "", "1.0", "256"] {
-        let words = ["run", "a.uf2", "--cycles", "100", "--workers", workers];
-        let (status, text) = answer(&rt, alloc, &WRITES_CODE, &words, &OpenGate)?;
-        assert!(rt; status == 2 && text.as_slice() == b"error words\n".as_slice());
-    }
+    let alone = found(&rt, alloc, &SHORTER, &[])?;
+    let worked = found(&rt, alloc, &SHORTER, &["--workers", "4"])?;
+    assert!(rt; worked.status == 0 && worked.text.as_slice() == alone.text.as_slice());
     Ok(())
 }
 
@@ -176,18 +116,107 @@ fn a_piece_is_begun_while_another_is_held(rt: HostRuntime) -> Result<(), Fail> {
         second_entered: AtomicU64::new(0),
         first_left_behind_it: AtomicU64::new(0),
     };
-    let words = [
-        "run",
-        "a.uf2",
-        "--cycles",
-        "100",
-        "--stats",
-        "--workers",
-        "2",
-    ];
-    let (status, text) = answer(&rt, alloc, &WRITES_CODE, &words, &gate)?;
-    assert!(rt; status == 0 && text.as_slice() == WROTE_CODE);
+    let found = found_by_two(&rt, alloc, &WRITES_CODE, &gate)?;
+    let wanted = in_full(alloc, WRITES_CODE.text)?;
+    assert!(rt; found.status == 0 && found.text.as_slice() == wanted.as_slice());
     assert_eq!(rt; gate.first_left_behind_it.load(Ordering::SeqCst), 1);
+    Ok(())
+}
+
+/// Holds ticket 1 until ticket 0 has left.
+#[derive(Drop)]
+struct HoldsSecond {
+    first_left: AtomicU64,
+}
+
+impl Gate for HoldsSecond {
+    fn enter(&self, ticket: u64) {
+        if ticket == 1 {
+            for _ in 0..TURNS {
+                if self.first_left.load(Ordering::SeqCst) == 1 {
+                    return;
+                }
+                thread::yield_now();
+            }
+        }
+    }
+
+    fn leave(&self, ticket: u64) {
+        if ticket == 0 {
+            self.first_left.store(1, Ordering::SeqCst);
+        }
+    }
+}
+
+/// The third line of a run is not put.
+const CUT: Case = Case {
+    failing_put: Some(2),
+    status: 7,
+    ..BLINKS
+};
+
+#[test]
+fn a_sink_fails_while_a_piece_is_held(rt: HostRuntime) -> Result<(), Fail> {
+    let gate = HoldsSecond {
+        first_left: AtomicU64::new(0),
+    };
+    let found = found_by_two(&rt, rt.alloc(), &CUT, &gate)?;
+    let wanted = b"15 pin 0 1\n17 pin 0 0\n".as_slice();
+    assert!(rt; found.status == 7 && found.text.as_slice() == wanted && found.puts == 3);
+    Ok(())
+}
+
+/// Counts the tickets that come, and, a while later, those that leave.
+#[derive(Drop)]
+struct Counts {
+    entered: AtomicU64,
+    left: AtomicU64,
+}
+
+impl Gate for Counts {
+    fn enter(&self, _ticket: u64) {
+        self.entered.fetch_add(1, Ordering::SeqCst);
+    }
+
+    fn leave(&self, _ticket: u64) {
+        for _ in 0..100u32 {
+            thread::yield_now();
+        }
+        self.left.fetch_add(1, Ordering::SeqCst);
+    }
+}
+
+/// So many pieces were run in a call, and none more comes after it; none where one was still at the gate.
+fn counted_pieces<R: Threads + Wait + Sync>(
+    rt: &R,
+    alloc: Global,
+    case: &Case,
+) -> Result<Option<u64>, AllocError> {
+    let gate = Counts {
+        entered: AtomicU64::new(0),
+        left: AtomicU64::new(0),
+    };
+    found_by_two(rt, alloc, case, &gate)?;
+    let left = gate.left.load(Ordering::SeqCst);
+    for _ in 0..1000u32 {
+        thread::yield_now();
+    }
+    let entered = gate.entered.load(Ordering::SeqCst);
+    let now = gate.left.load(Ordering::SeqCst);
+    Ok(if left == entered && now == entered {
+        Some(left)
+    } else {
+        None
+    })
+}
+
+/// The threads are joined before the answer, whole and cut: no piece is at the gate then, and none comes later.
+#[test]
+fn no_piece_is_run_behind_the_answer(rt: HostRuntime) -> Result<(), Fail> {
+    for case in [BLINKS, CUT] {
+        let pieces = counted_pieces(&rt, rt.alloc(), &case)?;
+        assert!(rt; pieces.is_some_and(|count| count >= 6));
+    }
     Ok(())
 }
 
@@ -333,7 +362,7 @@ fn a_piece_is_run_while_another_is_held(rt: HostRuntime) -> Result<(), Fail> {
         counted: AtomicU64::new(0),
         given_up: AtomicU64::new(0),
     };
-    let file = image(alloc, &[0xe7fe])?;
+    let file = image(alloc, &IDLE)?;
     let wanted = Ran {
         why: Why::Limit,
         windows: 4,
