@@ -8,7 +8,9 @@ use board_parts::laws::{
     a_loop_shows_its_first_pin, eight_clocks_fill_the_register, hears_in_turn, hears_its_own_pin,
     no_parts_add_nothing, pressed_in_the_second_half, the_earlier_part_drives,
 };
+use board_parts::part::{Drive, Part};
 use board_parts::probe::Probe;
+use board_parts::shift::Shift;
 use board_parts::ws2812::Ws2812;
 use std::test::Fail;
 
@@ -100,6 +102,25 @@ fn boxed_probes_hear_their_own_pins(rt: HostRuntime) -> Result<(), Fail> {
     let decodes = has_aimed_line(&probes[1], b"probe 1 pin 0 colours 0 last 000000\n");
     assert!(rt; counts && decodes);
     Ok(())
+}
+
+/// The bits of a5, from the highest on.
+const BITS: [bool; 8] = [true, false, true, false, false, true, false, true];
+
+/// The clock is pin 1, the data pin 2 and out pin 3.
+#[test]
+fn a_byte_is_shifted_in(rt: HostRuntime) {
+    let mut shift = Shift::new();
+    shift.attach(&[1, 2, 3]);
+    let mut state = [7; 2];
+    shift.start(&mut state);
+    for bit in BITS {
+        let data = if bit { 4 } else { 0 };
+        let _ = shift.step(&mut state, 0, data);
+        let _ = shift.step(&mut state, 0, data + 2);
+    }
+    assert!(rt; state == [0xa5, 1]);
+    assert!(rt; shift.step(&mut state, 0, 0) == Drive { mask: 8, level: 8 });
 }
 
 #[test]

@@ -27,7 +27,7 @@ fn reads(alloc: Global, text: &str, want: &str) -> Result<bool, AllocError> {
 
 /// Whether the words of a text ask for a run, `with` the line of its windows or `without` it, or for `none`.
 fn asks(alloc: Global, text: &str, want: &str) -> Result<bool, AllocError> {
-    let stats = match read_words(alloc, &split(alloc, text)?, 0) {
+    let stats = match read_words(alloc, &split(alloc, text)?, 0, &[]) {
         Ok(Reading::Run(run)) => run.stats,
         Ok(Reading::Gen(run)) => run.stats,
         Err(WordsFault::Memory) => return Err(AllocError),
@@ -127,7 +127,7 @@ fn words_that_ask_for_windows(rt: HostRuntime) -> Result<(), Fail> {
 
 /// The number of workers that the words of a text ask for; none where they are refused or their command has no such number.
 fn workers(alloc: Global, text: &str) -> Result<Option<u8>, AllocError> {
-    match read_words(alloc, &split(alloc, text)?, 0) {
+    match read_words(alloc, &split(alloc, text)?, 0, &[]) {
         Ok(Reading::Run(run)) => Ok(Some(run.workers)),
         Ok(Reading::Gen(run)) => Ok(Some(run.workers)),
         Err(WordsFault::Memory) => Err(AllocError),
@@ -157,6 +157,71 @@ fn words_that_ask_for_workers(rt: HostRuntime) -> Result<(), Fail> {
         ("dis a042 --workers 1", None),
     ] {
         assert!(rt; workers(alloc, text)? == want);
+    }
+    Ok(())
+}
+
+/// How many parts the words of a text attach, where parts with 1, 3 and 2 pins are handed in, and whether they ask for the table of
+/// routines; none where they are refused.
+fn attached(alloc: Global, text: &str) -> Result<Option<(usize, bool)>, AllocError> {
+    match read_words(alloc, &split(alloc, text)?, 2, &[1, 3, 2]) {
+        Ok(Reading::Run(run) | Reading::Debug(run)) => Ok(Some((run.parts.len(), run.table))),
+        Err(WordsFault::Memory) => Err(AllocError),
+        _ => Ok(None),
+    }
+}
+
+#[test]
+fn words_that_attach_parts(rt: HostRuntime) -> Result<(), Fail> {
+    let alloc = rt.alloc();
+    for (text, want) in [
+        ("run a --cycles 1", Some((0, false))),
+        ("run a --cycles 1 --part 0=2", Some((1, false))),
+        ("run a --cycles 1 --part 2=3+4,0=3,1=29+0+7", Some((3, false))),
+        ("run a --cycles 1 --table --part 1=1+2+3", Some((1, true))),
+        ("run a --part=0=2 --table --cycles=1", Some((1, true))),
+        ("debug a --cycles 1 --part 0=2 --table", Some((1, true))),
+        ("debug --table a --cycles=1", Some((0, true))),
+        ("run a --cycles 1 --part 3=1", None),
+        ("run a --cycles 1 --part 0=2,0=3", None),
+        ("run a --cycles 1 --part 0=30", None),
+        ("run a --cycles 1 --part 2=3+3", None),
+        ("run a --cycles 1 --part 0=2+3", None),
+        ("run a --cycles 1 --part 2=3", None),
+        ("run a --cycles 1 --part ", None),
+        ("run a --cycles 1 --part 0=", None),
+        ("run a --cycles 1 --part 0=1,", None),
+        ("run a --cycles 1 --part 0=01", None),
+        ("run a --cycles 1 --part 2=3+", None),
+        ("run a --cycles 1 --part 0", None),
+        ("run a --cycles 1 --part", None),
+        ("run a --cycles 1 --part 0=1 --part 0=1", None),
+        ("run a --cycles 1 --table --table", None),
+        ("run a --cycles 1 --table=1", None),
+        ("gen 1 --cycles 5 --table", None),
+        ("gen 1 --cycles 5 --part 0=1", None),
+        ("thumb a --table", None),
+    ] {
+        assert!(rt; attached(alloc, text)? == want);
+    }
+    Ok(())
+}
+
+#[test]
+fn words_of_a_thumb_source(rt: HostRuntime) -> Result<(), Fail> {
+    let alloc = rt.alloc();
+    for (text, want) in [
+        ("thumb a.s", "a.s"),
+        ("thumb -- a.s", "a.s"),
+        ("thumb", "none"),
+        ("thumb a.s b.s", "none"),
+    ] {
+        let name = match read_words(alloc, &split(alloc, text)?, 0, &[]) {
+            Ok(Reading::Thumb(name)) => name,
+            Err(WordsFault::Memory) => return Err(Fail::from(AllocError)),
+            _ => String::from_str(alloc, "none")?,
+        };
+        assert!(rt; name.as_str() == want);
     }
     Ok(())
 }

@@ -1,5 +1,5 @@
-//! Tests of texts: UF2 images, scripts, PIO sources and their listings, words of a command line, files, lines of a trace, and what hears
-//! the pins.
+//! Tests of texts: UF2 images and what they are linked with, scripts, PIO sources and their listings, words of a command line, files,
+//! lines of a trace, and what hears the pins.
 #![tactic(auto)]
 
 #[cfg(test)]
@@ -7,7 +7,11 @@ mod board_parts_tests;
 #[cfg(test)]
 mod command_words_tests;
 #[cfg(test)]
+mod damaged_tests;
+#[cfg(test)]
 mod form_tests;
+#[cfg(test)]
+mod link_tests;
 pub mod little_endian;
 #[cfg(test)]
 mod numbered_tests;

@@ -10,7 +10,7 @@ use uf2_image::read_image;
 const NONE: (u32, usize, u8) = (0, 0, 0);
 
 /// What a file gives, where it is short enough to be asked.
-fn read(alloc: Global, file: &[u8]) -> Result<Image, ImageFault> {
+pub(crate) fn read(alloc: Global, file: &[u8]) -> Result<Image, ImageFault> {
     if file.len() > 16_777_216 {
         return Err(ImageFault::Memory);
     }

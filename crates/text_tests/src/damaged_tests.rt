@@ -1,0 +1,261 @@
+//! Damaged files: a block that is cut, and each fault of an image, of a PIO source and of a script, in the smallest file that has it
+//! and as the last thing in a long one.
+
+use crate::program_tests::fault_in;
+use crate::uf2_file::{Fields, MAGIC, plain, push_block};
+use crate::uf2_image_tests::read;
+use pin_script::{ScriptFault, read_script};
+use pio_parse::PioFault;
+use std::alloc::{AllocError, Global};
+use std::test::Fail;
+use uf2_image::fault::ImageFault;
+
+/// A block of six bytes, cut at each length.
+#[test]
+fn a_block_is_cut(rt: HostRuntime) -> Result<(), Fail> {
+    let alloc = rt.alloc();
+    let mut block = Vec::new(alloc);
+    push_block(&mut block, plain(0, 1, 0x2000_0000, 6))?;
+    assert!(rt; read(alloc, &block).is_ok());
+    for len in 0..512usize {
+        let (front, _) = block.split_at(len.min(block.len()));
+        let wanted = match len {
+            0 => ImageFault::Empty,
+            _ => ImageFault::Ragged(len as u64),
+        };
+        assert!(rt; read(alloc, front).err() == Some(wanted), "{len}");
+    }
+    Ok(())
+}
+
+/// Block number `at` of one more, bent in one of twelve ways, and the fault of a file that ends with it.
+fn bent(way: u32, at: u32) -> (Fields, ImageFault) {
+    let good = plain(
+        at,
+        at.wrapping_add(1),
+        at.wrapping_mul(8).wrapping_add(0x2000_0000),
+        8,
+    );
+    let with = |first: u32, second: u32, last: u32| Fields {
+        magic: (first, second, last),
+        ..good
+    };
+    match way {
+        0 => (with(0, MAGIC.1, MAGIC.2), ImageFault::Magic(at)),
+        1 => (with(MAGIC.0, 0, MAGIC.2), ImageFault::Magic(at)),
+        2 => (with(MAGIC.0, MAGIC.1, 0), ImageFault::Magic(at)),
+        3 => (Fields { size: 0, ..good }, ImageFault::Payload(at, 0)),
+        4 => (Fields { size: 477, ..good }, ImageFault::Payload(at, 477)),
+        5 => (Fields { count: 0, ..good }, ImageFault::Count(at)),
+        6 => (
+            Fields {
+                number: at.wrapping_add(1),
+                ..good
+            },
+            ImageFault::Number(at),
+        ),
+        7 => (
+            Fields {
+                target: 0x1000_0000,
+                ..good
+            },
+            ImageFault::Flash(at, 0x1000_0000),
+        ),
+        8 => (
+            Fields {
+                target: 0x2004_1fff,
+                size: 6,
+                ..good
+            },
+            ImageFault::Address(at, 0x2004_1fff),
+        ),
+        9 => (
+            Fields {
+                flags: 0x2001,
+                ..good
+            },
+            if at == 0 {
+                ImageFault::Nothing
+            } else {
+                ImageFault::Missing(at)
+            },
+        ),
+        10 => (Fields { number: 0, ..good }, ImageFault::Repeat(at)),
+        _ => (
+            Fields {
+                target: 0x2000_0000,
+                ..good
+            },
+            ImageFault::Overlap(at),
+        ),
+    }
+}
+
+/// Whether a file of so many good blocks, and then one that is bent so, has the fault of this one.
+fn has_fault(alloc: Global, way: u32, at: u32) -> Result<bool, AllocError> {
+    let mut file = Vec::new(alloc);
+    for number in 0..at {
+        let target = number.wrapping_mul(8).wrapping_add(0x2000_0000);
+        push_block(&mut file, plain(number, at.wrapping_add(1), target, 8))?;
+    }
+    let (last, fault) = bent(way, at);
+    push_block(&mut file, last)?;
+    Ok(read(alloc, &file).err() == Some(fault))
+}
+
+/// The last two ways take a block before.
+#[test]
+fn a_block_is_bent(rt: HostRuntime) -> Result<(), Fail> {
+    for way in 0..12u32 {
+        let least = if way < 10 { 0 } else { 1 };
+        assert!(rt; has_fault(rt.alloc(), way, least)?, "way {way}");
+        assert!(rt;
+            has_fault(rt.alloc(), way, 4096)?,
+            "way {way} behind others"
+        );
+    }
+    Ok(())
+}
+
+/// Some bytes, others so many times, and the last ones.
+fn with_lines(
+    alloc: Global,
+    head: &[u8],
+    line: &[u8],
+    count: usize,
+    tail: &[u8],
+) -> Result<Vec<u8>, AllocError> {
+    let mut text = Vec::from_slice(alloc, head)?;
+    for _ in 0..count {
+        text.extend_from_slice(line)?;
+    }
+    text.extend_from_slice(tail)?;
+    Ok(text)
+}
+
+/// 4096 blocks, and of another one only the first byte.
+#[test]
+fn a_long_file_is_ragged(rt: HostRuntime) -> Result<(), Fail> {
+    let mut file = Vec::new(rt.alloc());
+    for number in 0..4096u32 {
+        let target = number.wrapping_mul(8).wrapping_add(0x2000_0000);
+        push_block(&mut file, plain(number, 4096, target, 8))?;
+    }
+    file.push(0x55)?;
+    assert!(rt; read(rt.alloc(), &file).err() == Some(ImageFault::Ragged(2_097_153)));
+    Ok(())
+}
+
+/// What stands last in a PIO source, and its fault where it stands on line 3, and where on line 500,003.
+const SOURCES: [(&[u8], PioFault, PioFault); 11] = [
+    (b"?", PioFault::Char(3, 1), PioFault::Char(500_003, 1)),
+    (
+        b"/* nop\n",
+        PioFault::Char(3, 1),
+        PioFault::Char(500_003, 1),
+    ),
+    (
+        b"nop nop\n",
+        PioFault::Syntax(3, 5),
+        PioFault::Syntax(500_003, 5),
+    ),
+    (
+        b"jmp there\n",
+        PioFault::Unknown(3),
+        PioFault::Unknown(500_003),
+    ),
+    (
+        b".program p\nnop\n",
+        PioFault::Twice(3),
+        PioFault::Twice(500_003),
+    ),
+    (
+        b"set pins, 32\n",
+        PioFault::Range(3),
+        PioFault::Range(500_003),
+    ),
+    (b"nop [32]\n", PioFault::Delay(3), PioFault::Delay(500_003)),
+    (b"nop side 0\n", PioFault::Side(3), PioFault::Side(500_003)),
+    (
+        b"nop\nnop\nnop\nnop\nnop\nnop\nnop\nnop\nnop\nnop\nnop\nnop\nnop\nnop\nnop\nnop\n\
+        nop\nnop\nnop\nnop\nnop\nnop\nnop\nnop\nnop\nnop\nnop\nnop\nnop\nnop\nnop\nnop\n",
+        PioFault::TooLong(34),
+        PioFault::TooLong(500_034),
+    ),
+    (b".program q\n", PioFault::Wrap(3), PioFault::Wrap(500_003)),
+    (
+        b".origin 32\n",
+        PioFault::Origin(3),
+        PioFault::Origin(500_003),
+    ),
+];
+
+#[test]
+fn the_end_of_a_source(rt: HostRuntime) -> Result<(), Fail> {
+    let alloc = rt.alloc();
+    for (index, (tail, near, far)) in SOURCES.iter().enumerate() {
+        let short = with_lines(alloc, b".program p\nnop\n", b"\n", 0, tail)?;
+        assert!(rt; fault_in(alloc, &short) == Some(*near), "row {index}");
+        let long = with_lines(alloc, b".program p\nnop\n", b"\n", 500_000, tail)?;
+        assert!(rt; fault_in(alloc, &long) == Some(*far), "row {index}");
+    }
+    Ok(())
+}
+
+/// The fault of a script, where it is short enough to be asked.
+fn script_fault(alloc: Global, text: &[u8]) -> Option<ScriptFault> {
+    if text.len() > 4_194_304 {
+        return None;
+    }
+    read_script(alloc, text).err()
+}
+
+/// What stands last in a script, and its fault on line 2, and on line 90,002.
+const SCRIPTS: [(&[u8], ScriptFault, ScriptFault); 7] = [
+    (b"x", ScriptFault::Form(2), ScriptFault::Form(90_002)),
+    (
+        b"10000000000 1 1",
+        ScriptFault::Number(2),
+        ScriptFault::Number(90_002),
+    ),
+    (b"5 30 1", ScriptFault::Pin(2), ScriptFault::Pin(90_002)),
+    (b"4 3 0", ScriptFault::Order(2), ScriptFault::Order(90_002)),
+    (
+        b"send 5 3 63 41",
+        ScriptFault::Divisor(2),
+        ScriptFault::Divisor(90_002),
+    ),
+    (
+        b"send 5 3 64 4",
+        ScriptFault::Bytes(2),
+        ScriptFault::Bytes(90_002),
+    ),
+    (
+        b"version 2",
+        ScriptFault::Form(2),
+        ScriptFault::Form(90_002),
+    ),
+];
+
+#[test]
+fn the_end_of_a_script(rt: HostRuntime) -> Result<(), Fail> {
+    let alloc = rt.alloc();
+    for (index, (tail, near, far)) in SCRIPTS.iter().enumerate() {
+        let short = with_lines(alloc, b"version 2\n", b"", 0, tail)?;
+        let near = match near {
+            // A cycle is too small only behind another one.
+            ScriptFault::Order(_) => None,
+            _ => Some(*near),
+        };
+        assert!(rt; script_fault(alloc, &short) == near, "row {index}");
+        let long = with_lines(alloc, b"version 2\n", b"5 3 1\n", 90_000, tail)?;
+        assert!(rt; script_fault(alloc, &long) == Some(*far), "row {index}");
+    }
+    let versions = with_lines(alloc, b"", b"# x\n", 90_000, b"version 3")?;
+    assert!(rt; script_fault(alloc, &versions) == Some(ScriptFault::Version(90_001)));
+    let line = with_lines(alloc, b"", b"1", 1_000_000, b"")?;
+    assert!(rt; script_fault(alloc, &line) == Some(ScriptFault::Form(1)));
+    let sent = with_lines(alloc, b"version 2\n", b"5 3 1\n", 99_991, b"send 5 3 64 41")?;
+    assert!(rt; script_fault(alloc, &sent) == Some(ScriptFault::TooMany(99_993)));
+    Ok(())
+}
