@@ -110,7 +110,7 @@ fn a_block_is_bent(rt: HostRuntime) -> Result<(), Fail> {
         let least = if way < 10 { 0 } else { 1 };
         assert!(rt; has_fault(rt.alloc(), way, least)?, "way {way}");
         assert!(rt;
-            has_fault(rt.alloc(), way, 4096)?,
+            has_fault(rt.alloc(), way, 512)?,
             "way {way} behind others"
         );
     }
@@ -133,16 +133,16 @@ fn with_lines(
     Ok(text)
 }
 
-/// 4096 blocks, and of another one only the first byte.
+/// 512 blocks, and of another one only the first byte.
 #[test]
 fn a_long_file_is_ragged(rt: HostRuntime) -> Result<(), Fail> {
     let mut file = Vec::new(rt.alloc());
-    for number in 0..4096u32 {
+    for number in 0..512u32 {
         let target = number.wrapping_mul(8).wrapping_add(0x2000_0000);
-        push_block(&mut file, plain(number, 4096, target, 8))?;
+        push_block(&mut file, plain(number, 512, target, 8))?;
     }
     file.push(0x55)?;
-    assert!(rt; read(rt.alloc(), &file).err() == Some(ImageFault::Ragged(2_097_153)));
+    assert!(rt; read(rt.alloc(), &file).err() == Some(ImageFault::Ragged(262_145)));
     Ok(())
 }
 
