@@ -177,7 +177,10 @@ fn words_that_attach_parts(rt: HostRuntime) -> Result<(), Fail> {
     for (text, want) in [
         ("run a --cycles 1", Some((0, false))),
         ("run a --cycles 1 --part 0=2", Some((1, false))),
-        ("run a --cycles 1 --part 2=3+4,0=3,1=29+0+7", Some((3, false))),
+        (
+            "run a --cycles 1 --part 2=3+4,0=3,1=29+0+7",
+            Some((3, false)),
+        ),
         ("run a --cycles 1 --table --part 1=1+2+3", Some((1, true))),
         ("run a --part=0=2 --table --cycles=1", Some((1, true))),
         ("debug a --cycles 1 --part 0=2 --table", Some((1, true))),

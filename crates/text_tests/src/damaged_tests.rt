@@ -109,10 +109,7 @@ fn a_block_is_bent(rt: HostRuntime) -> Result<(), Fail> {
     for way in 0..12u32 {
         let least = if way < 10 { 0 } else { 1 };
         assert!(rt; has_fault(rt.alloc(), way, least)?, "way {way}");
-        assert!(rt;
-            has_fault(rt.alloc(), way, 512)?,
-            "way {way} behind others"
-        );
+        assert!(rt; has_fault(rt.alloc(), way, 512)?, "way {way} behind others");
     }
     Ok(())
 }
@@ -146,47 +143,47 @@ fn a_long_file_is_ragged(rt: HostRuntime) -> Result<(), Fail> {
     Ok(())
 }
 
-/// What stands last in a PIO source, and its fault where it stands on line 3, and where on line 500,003.
+/// What stands last in a PIO source, and its fault where it stands on line 3, and where on line 100,003.
 const SOURCES: [(&[u8], PioFault, PioFault); 11] = [
-    (b"?", PioFault::Char(3, 1), PioFault::Char(500_003, 1)),
+    (b"?", PioFault::Char(3, 1), PioFault::Char(100_003, 1)),
     (
         b"/* nop\n",
         PioFault::Char(3, 1),
-        PioFault::Char(500_003, 1),
+        PioFault::Char(100_003, 1),
     ),
     (
         b"nop nop\n",
         PioFault::Syntax(3, 5),
-        PioFault::Syntax(500_003, 5),
+        PioFault::Syntax(100_003, 5),
     ),
     (
         b"jmp there\n",
         PioFault::Unknown(3),
-        PioFault::Unknown(500_003),
+        PioFault::Unknown(100_003),
     ),
     (
         b".program p\nnop\n",
         PioFault::Twice(3),
-        PioFault::Twice(500_003),
+        PioFault::Twice(100_003),
     ),
     (
         b"set pins, 32\n",
         PioFault::Range(3),
-        PioFault::Range(500_003),
+        PioFault::Range(100_003),
     ),
-    (b"nop [32]\n", PioFault::Delay(3), PioFault::Delay(500_003)),
-    (b"nop side 0\n", PioFault::Side(3), PioFault::Side(500_003)),
+    (b"nop [32]\n", PioFault::Delay(3), PioFault::Delay(100_003)),
+    (b"nop side 0\n", PioFault::Side(3), PioFault::Side(100_003)),
     (
         b"nop\nnop\nnop\nnop\nnop\nnop\nnop\nnop\nnop\nnop\nnop\nnop\nnop\nnop\nnop\nnop\n\
         nop\nnop\nnop\nnop\nnop\nnop\nnop\nnop\nnop\nnop\nnop\nnop\nnop\nnop\nnop\nnop\n",
         PioFault::TooLong(34),
-        PioFault::TooLong(500_034),
+        PioFault::TooLong(100_034),
     ),
-    (b".program q\n", PioFault::Wrap(3), PioFault::Wrap(500_003)),
+    (b".program q\n", PioFault::Wrap(3), PioFault::Wrap(100_003)),
     (
         b".origin 32\n",
         PioFault::Origin(3),
-        PioFault::Origin(500_003),
+        PioFault::Origin(100_003),
     ),
 ];
 
@@ -196,7 +193,7 @@ fn the_end_of_a_source(rt: HostRuntime) -> Result<(), Fail> {
     for (index, (tail, near, far)) in SOURCES.iter().enumerate() {
         let short = with_lines(alloc, b".program p\nnop\n", b"\n", 0, tail)?;
         assert!(rt; fault_in(alloc, &short) == Some(*near), "row {index}");
-        let long = with_lines(alloc, b".program p\nnop\n", b"\n", 500_000, tail)?;
+        let long = with_lines(alloc, b".program p\nnop\n", b"\n", 100_000, tail)?;
         assert!(rt; fault_in(alloc, &long) == Some(*far), "row {index}");
     }
     Ok(())
