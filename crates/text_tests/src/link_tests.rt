@@ -71,7 +71,7 @@ fn a_table_is_put_in_order(rt: HostRuntime) -> Result<(), Fail> {
                 plain(1, 2, 0x2003_fff0, 16),
                 skip,
             ],
-            0x2004_0020,
+            0x2003_fff0,
             [0x2003_fff0, 0x2004_0000, 0x2004_0020],
         ),
         (
