@@ -80,16 +80,7 @@ fn serve<L: Ledger, R: Files + Input + Print + Threads + Wait + Sync>(
     let mut input = StdinSource::new(rt);
     let mut out = StdoutSink::new(rt);
     Ok(pico(
-        rt,
-        alloc,
-        words,
-        &mut files,
-        &mut input,
-        &mut out,
-        &OpenGate,
-        probes,
-        parts,
-        device,
+        rt, alloc, words, &mut files, &mut input, &mut out, &OpenGate, probes, parts, device,
         &mut steps,
     ))
 }
