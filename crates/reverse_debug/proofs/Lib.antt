@@ -5,6 +5,7 @@ pub mod Moves
 pub mod Paths
 pub mod Reading
 pub mod Rings
+pub mod Seeking
 pub mod Sessions
 pub mod Stretches
 pub mod Writes

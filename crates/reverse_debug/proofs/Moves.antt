@@ -1,5 +1,5 @@
 -- Moves, and what is answered.
-use Rattle.std.proofs.Common.{◌≡◌, ℕ, ◌+◌, ◌-◌, ◌<◌, ◌≤◌, ◌^◌, nat_lt, Bool, true, false, not, cond, List, [], ◌++◌, Some, None, inl, inr, refl, sym, ap, subst, arith, ◌∙◌}
+use Rattle.std.proofs.Common.{◌≡◌, ℕ, ◌+◌, ◌-◌, ◌<◌, ◌≤◌, ◌^◌, nat_lt, Bool, true, false, not, cond, List, [], ◌++◌, Option, Some, None, inl, inr, refl, sym, ap, subst, arith, ◌∙◌}
 use Rattle.std.proofs.lemmas.Bool.{cases_lt}
 use Rattle.std.proofs.lemmas.Bool.Decides.{nat_tests}
 use Rattle.std.specs.Prelude.{codes}
@@ -9,9 +9,9 @@ use Rattle.outer_lane.specs.Setting.{Setting}
 use Rattle.rp_machine.specs.State.{State}
 use Rattle.rp_machine.specs.Cycle.{stop}
 use Rattle.rp_machine.specs.Run.{last_state}
-use Rattle.reverse_debug.specs.Reply.{Said, said, last_cycle, at_last, at_reply, moved_to, moved_back, move_cost, answer, heard, command_cost}
+use Rattle.reverse_debug.specs.Reply.{Said, said, last_cycle, at_last, at_or_last, behind_next, at_reply, moved_to, moved_back, move_cost, answer, heard, command_cost}
 use Rattle.reverse_debug.specs.Command.{Command, is_quit, command_of}
-use Rattle.reverse_debug.specs.Command.Command.{Step, Back, Goto, End, Regs, Mem, Pins, Pio, LastWrite, Quit, Bad}
+use Rattle.reverse_debug.specs.Command.Command.{Step, Back, Goto, End, Regs, Mem, Pins, Pio, Until, LastChange, Quit, Bad}
 use Rattle.reverse_debug.specs.declared.command.Command.{Command as Asked}
 use Rattle.reverse_debug.specs.declared.command.Command.TheVariants as code
 use Rattle.reverse_debug.specs.Reading.{meant, Fits}
@@ -26,7 +26,7 @@ moved_within : (w : Setting) (f : State) (target : ℕ) → target ≤ last_cycl
 unfolding moved_to
 moved_within w f target le = let isnt : nat_lt (last_cycle w f) target ≡ false = grind (arith, nat_tests) in rw isnt refl
 
-moved_beyond : (w : Setting) (f t : State) (why : Why) (target : ℕ) → last_state w f ≡ t → stop w t ≡ Some why → t.cycle < target → moved_to w f target ≡ said t.cycle (stop_text why t.cycle)
+pub moved_beyond : (w : Setting) (f t : State) (why : Why) (target : ℕ) → last_state w f ≡ t → stop w t ≡ Some why → t.cycle < target → moved_to w f target ≡ said t.cycle (stop_text why t.cycle)
 unfolding moved_to
 moved_beyond w f t why target last stops lt =
     let e : last_cycle w f ≡ t.cycle = ap (λ (x : State). x.cycle) last in
@@ -36,7 +36,7 @@ moved_beyond w f t why target last stops lt =
 
 -- ---- what a move costs
 
-move_within : (d c m t before after : ℕ) → after + m ≡ before + t → m ≤ t → (t < c → t < m + d) → (c ≤ t → c ≤ m) → after ≤ before + move_cost d c t
+pub move_within : (d c m t before after : ℕ) → after + m ≡ before + t → m ≤ t → (t < c → t < m + d) → (c ≤ t → c ≤ m) → after ≤ before + move_cost d c t
 move_within d c m t before after count le back ahead = elim (cases_lt t c) [
   | inl lt ↦
       let yes : nat_lt t c ≡ true = grind (arith, nat_tests) in
@@ -193,6 +193,10 @@ quits_moved : (b : Bool) (x y : Said) → x.quits ≡ false → y.quits ≡ fals
 quits_moved true x y h k = h
 quits_moved false x y h k = k
 
+quits_next : (w : Setting) (f : State) (found : Option ℕ) → (at_or_last w f found).quits ≡ false
+quits_next w f None = refl
+quits_next w f (Some cycle) = refl
+
 pub quits_exactly : (w : Setting) (f : State) (cycle : ℕ) (q : Command) → (answer w f cycle q).quits ≡ is_quit q
 unfolding moved_to moved_back
 quits_exactly w f cycle (Step n) = quits_moved (nat_lt (last_cycle w f) (cycle + n)) _ _ refl refl
@@ -203,7 +207,8 @@ quits_exactly w f cycle Regs = refl
 quits_exactly w f cycle (Mem address count) = refl
 quits_exactly w f cycle Pins = refl
 quits_exactly w f cycle (Pio block machine) = refl
-quits_exactly w f cycle (LastWrite address) = refl
+quits_exactly w f cycle (Until watched) = quits_next w f (behind_next w f watched cycle)
+quits_exactly w f cycle (LastChange watched) = refl
 quits_exactly w f cycle Quit = refl
 quits_exactly w f cycle Bad = refl
 

@@ -4,7 +4,8 @@ use Rattle.outer_lane.specs.Setting.{Setting}
 use Rattle.rp_machine.specs.State.{State}
 use Rattle.snap_ring.specs.Ring.{Snapshots}
 use Rattle.rp_base.specs.Alias.{or_zero}
-use Rattle.reverse_debug.specs.Reply.{last_cycle, last_write, search_cost}
+use Rattle.reverse_debug.specs.declared.watch.Watched.{Watched}
+use Rattle.reverse_debug.specs.Reply.{last_cycle, last_before, search_cost}
 use Rattle.reverse_debug.specs.Session.{Standing, first_in, first_of, AreOf, StandsFor}
 use Rattle.reverse_debug.proofs.Rings.{restored_any}
 use Rattle.reverse_debug.proofs.Sessions.{first_kept, near_now, now_in_last, spacing_some}
@@ -30,10 +31,10 @@ reaches w v old s now e k en =
     subst (λ n. n ≤ last_cycle w (first_in v.ring s)) (sym en)
     (subst (λ (x : State). old.now.cycle ≤ last_cycle w x) (sym (same_first w v old s e k)) (now_in_last w (first_of old) old k))
 
-pub same_write : (w : Setting) (v old : Standing) (s : State) (address now : ℕ) (write : Option ℕ) → v ≡ old → StandsFor w old → now ≡ old.now.cycle → write ≡ last_write w (first_in v.ring s) address now →
-    write ≡ last_write w (first_of old) address old.now.cycle
-same_write w v old s address now write e k en h =
-    h ∙ ap (λ (x : State). last_write w x address now) (same_first w v old s e k) ∙ ap (last_write w (first_of old) address) en
+pub same_before : (w : Setting) (v old : Standing) (s : State) (watched : Watched) (now : ℕ) (write : Option ℕ) → v ≡ old → StandsFor w old → now ≡ old.now.cycle → write ≡ last_before w (first_in v.ring s) watched now →
+    write ≡ last_before w (first_of old) watched old.now.cycle
+same_before w v old s watched now write e k en h =
+    h ∙ ap (λ (x : State). last_before w x watched now) (same_first w v old s e k) ∙ ap (last_before w (first_of old) watched) en
 
 -- v is what the parts of the session stand for
 pub search_near : (v old : Standing) (now before after : ℕ) (found : Option ℕ) → v ≡ old → now ≡ old.now.cycle → after + or_zero found < before + now + v.ring.spacing → after + or_zero found < before + old.now.cycle + old.ring.spacing

@@ -7,6 +7,8 @@ use Rattle.std.specs.Str.{bytes_eq}
 use Rattle.rp_base.specs.declared.map.Spot.{Spot}
 use Rattle.rp_base.specs.declared.map.Spot.TheVariants as spot
 use Rattle.rp_base.specs.Map.{place_of}
+use Rattle.reverse_debug.specs.declared.watch.Watched.{Watched}
+use Rattle.reverse_debug.specs.declared.watch.Watched.TheVariants.{Word, Pin}
 
 pub data Command : Type 0 where
   -- move so many cycles forward, or back
@@ -20,8 +22,9 @@ pub data Command : Type 0 where
   Mem : (address : ℕ) → (count : ℕ) → Command
   Pins : Command
   Pio : (block : ℕ) → (machine : ℕ) → Command
-  -- name the last cycle that changed a word of SRAM
-  LastWrite : (address : ℕ) → Command
+  -- move forward behind the next change of what is watched, or name the last one
+  Until : (watched : Watched) → Command
+  LastChange : (watched : Watched) → Command
   Quit : Command
   -- no command
   Bad : Command
@@ -95,9 +98,18 @@ mem_of (Some address) (Some count) = if are_words address count then Mem address
 mem_of (Some address) None = Bad
 mem_of None count = Bad
 
-abbrev pub last_write_of : Option ℕ → Command
-last_write_of None = Bad
-last_write_of (Some address) = if are_words address 1 then LastWrite address else Bad
+-- what is watched: one word of SRAM, or one of the pins 0 to 29
+abbrev pub word_of : Option ℕ → Option Watched
+word_of None = None
+word_of (Some address) = if are_words address 1 then Some (Word address) else None
+
+abbrev pub pin_of : Option ℕ → Option Watched
+pin_of None = None
+pin_of (Some pin) = if nat_le pin 29 then Some (Pin pin) else None
+
+abbrev pub with_watched : (Watched → Command) → Option Watched → Command
+with_watched command None = Bad
+with_watched command (Some watched) = command watched
 
 abbrev pub pio_of : Option ℕ → Option ℕ → Command
 pio_of (Some block) (Some machine) = if nat_le block 1 && nat_le machine 3 then Pio block machine else Bad
@@ -110,7 +122,10 @@ with_one name word =
     else if bytes_eq name (codes "back") then with_number Back (number_of word)
     else if bytes_eq name (codes "goto") then with_number Goto (number_of word)
     else if bytes_eq name (codes "mem") then mem_of (address_of word) (Some 1)
-    else if bytes_eq name (codes "lastwrite") then last_write_of (address_of word)
+    else if bytes_eq name (codes "untilwrite") then with_watched Until (word_of (address_of word))
+    else if bytes_eq name (codes "untilpin") then with_watched Until (pin_of (number_of word))
+    else if bytes_eq name (codes "lastwrite") then with_watched LastChange (word_of (address_of word))
+    else if bytes_eq name (codes "lastpin") then with_watched LastChange (pin_of (number_of word))
     else Bad
 
 abbrev pub with_two : List ℕ → List ℕ → List ℕ → Command

@@ -2,8 +2,10 @@
 use Rattle.std.specs.Prelude.{◌≡◌, true, ◌^◌, ◌<◌, ◌≤◌}
 use Rattle.reverse_debug.specs.declared.command.Command.{Command as Asked}
 use Rattle.reverse_debug.specs.declared.command.Command.TheVariants as code
+use Rattle.reverse_debug.specs.declared.watch.Watched.{Watched}
+use Rattle.reverse_debug.specs.declared.watch.Watched.TheVariants.{Word, Pin}
 use Rattle.reverse_debug.specs.Command.{Command, are_words}
-use Rattle.reverse_debug.specs.Command.Command.{Step, Back, Goto, End, Regs, Mem, Pins, Pio, LastWrite, Quit, Bad}
+use Rattle.reverse_debug.specs.Command.Command.{Step, Back, Goto, End, Regs, Mem, Pins, Pio, Until, LastChange, Quit, Bad}
 
 abbrev pub meant : Asked → Command
 meant (code.Step n) = Step n
@@ -14,9 +16,15 @@ meant code.Regs = Regs
 meant (code.Mem address count) = Mem address count
 meant code.Pins = Pins
 meant (code.Pio block machine) = Pio block machine
-meant (code.LastWrite address) = LastWrite address
+meant (code.Until watched) = Until watched
+meant (code.LastChange watched) = LastChange watched
 meant code.Quit = Quit
 meant code.Bad = Bad
+
+-- what is watched is there
+abbrev pub IsThere : Watched → Type 0
+IsThere (Word address) = are_words address 1 ≡ true
+IsThere (Pin pin) = pin ≤ 29
 
 -- numbers have at most 10 digits, and what is to be shown is there
 abbrev pub Fits : Asked → Type 0
@@ -25,5 +33,6 @@ Fits (code.Back n) = n < 10 ^ 10
 Fits (code.Goto cycle) = cycle < 10 ^ 10
 Fits (code.Mem address count) = are_words address count ≡ true
 Fits (code.Pio block machine) = (block ≤ 1) × (machine ≤ 3)
-Fits (code.LastWrite address) = are_words address 1 ≡ true
+Fits (code.Until watched) = IsThere watched
+Fits (code.LastChange watched) = IsThere watched
 Fits _ = Unit {0}

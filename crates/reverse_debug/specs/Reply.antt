@@ -13,8 +13,10 @@ use Rattle.rp_machine.specs.Cycle.{stop, next}
 use Rattle.rp_machine.specs.Sram.{ram_word}
 use Rattle.rp_machine.specs.Readers.{registers_of, pio_registers}
 use Rattle.rp_machine.specs.Run.{states, last_state}
+use Rattle.reverse_debug.specs.declared.watch.Watched.{Watched}
+use Rattle.reverse_debug.specs.declared.watch.Watched.TheVariants.{Word, Pin}
 use Rattle.reverse_debug.specs.Command.{Command, addresses, command_of}
-use Rattle.reverse_debug.specs.Command.Command.{Step, Back, Goto, End, Regs, Mem, Pins, Pio, LastWrite, Quit, Bad}
+use Rattle.reverse_debug.specs.Command.Command.{Step, Back, Goto, End, Regs, Mem, Pins, Pio, Until, LastChange, Quit, Bad}
 
 -- where the session stands after a line, the reply, and whether the line ends the session
 pub record Said : Type 0 where
@@ -76,23 +78,45 @@ unfoldable pub moved_back : Setting → State → ℕ → ℕ → Said
 moved_back w s cycle back =
     if nat_lt cycle back then said 0 (codes "at start\n") else said (cycle - back) (at_reply (cycle - back))
 
--- ---- the last write: the greatest cycle below the present one that changed a word
+-- ---- changes of what is watched: the word of SRAM at an address, or the level of a pin
 
--- the cycle changes the word at an address
-abbrev pub changes : Setting → State → ℕ → ℕ → Bool
-changes w s address cycle =
-    not (word_at (next w (states w s cycle)) address == word_at (states w s cycle) address)
+abbrev pub seen : Watched → State → ℕ
+seen (Word address) s = word_at s address
+seen (Pin pin) s = if has_bit s.outer.pads.current pin then 1 else 0
 
-unfoldable pub last_write : Setting → State → ℕ → ℕ → Option ℕ
-last_write w s address zero = None
-last_write w s address (suc cycle) = if changes w s address cycle then Some cycle else last_write w s address cycle
+-- the step of a cycle changes it
+abbrev pub changes : Setting → State → Watched → ℕ → Bool
+changes w s watched cycle = not (seen watched (next w (states w s cycle)) == seen watched (states w s cycle))
 
-abbrev pub write_text : Option ℕ → List ℕ
-write_text None = codes "none"
-write_text (Some cycle) = decimal cycle
+-- the greatest cycle below another one that changes it
+unfoldable pub last_before : Setting → State → Watched → ℕ → Option ℕ
+last_before w s watched zero = None
+last_before w s watched (suc cycle) = if changes w s watched cycle then Some cycle else last_before w s watched cycle
 
-unfoldable pub last_write_reply : ℕ → Option ℕ → List ℕ
-last_write_reply address write = codes "lastwrite " ++ hex_word address ++ codes " " ++ write_text write ++ codes "\n"
+abbrev pub watched_text : Watched → List ℕ
+watched_text (Word address) = codes "lastwrite " ++ hex_word address
+watched_text (Pin pin) = codes "lastpin " ++ decimal pin
+
+abbrev pub change_text : Option ℕ → List ℕ
+change_text None = codes "none"
+change_text (Some cycle) = decimal cycle
+
+unfoldable pub last_change_reply : Watched → Option ℕ → List ℕ
+last_change_reply watched change = watched_text watched ++ codes " " ++ change_text change ++ codes "\n"
+
+-- the cycle behind the least of so many cycles that changes it, from a cycle on
+unfoldable pub behind_first : Setting → State → Watched → ℕ → ℕ → Option ℕ
+behind_first w s watched cycle zero = None
+behind_first w s watched cycle (suc left) =
+    if changes w s watched cycle then Some (cycle + 1) else behind_first w s watched (cycle + 1) left
+
+-- that of the cycles up to the last one
+abbrev pub behind_next : Setting → State → Watched → ℕ → Option ℕ
+behind_next w s watched cycle = behind_first w s watched cycle (last_cycle w s - cycle)
+
+abbrev pub at_or_last : Setting → State → Option ℕ → Said
+at_or_last w s None = at_last w s
+at_or_last w s (Some cycle) = said cycle (at_reply cycle)
 
 -- ---- a line
 
@@ -106,7 +130,8 @@ answer w s cycle Regs = said cycle (regs_reply (states w s cycle))
 answer w s cycle (Mem address count) = said cycle (mem_reply (states w s cycle) address count)
 answer w s cycle Pins = said cycle (pins_reply (states w s cycle))
 answer w s cycle (Pio block machine) = said cycle (pio_reply (states w s cycle) block machine)
-answer w s cycle (LastWrite address) = said cycle (last_write_reply address (last_write w s address cycle))
+answer w s cycle (Until watched) = at_or_last w s (behind_next w s watched cycle)
+answer w s cycle (LastChange watched) = said cycle (last_change_reply watched (last_before w s watched cycle))
 answer w s cycle Quit = record { cycle = cycle; reply = []; quits = true }
 answer w s cycle Bad = said cycle (codes "bad command\n")
 
@@ -124,7 +149,7 @@ abbrev pub search_cost : ℕ → ℕ → Option ℕ → ℕ
 search_cost spacing cycle found = cycle - or_zero found + spacing - 1
 
 abbrev pub command_cost : Setting → State → ℕ → ℕ → Command → ℕ
-command_cost w s spacing cycle (LastWrite address) = search_cost spacing cycle (last_write w s address cycle)
+command_cost w s spacing cycle (LastChange watched) = search_cost spacing cycle (last_before w s watched cycle)
 command_cost w s spacing cycle command = move_cost spacing cycle (answer w s cycle command).cycle
 
 unfoldable pub cost : Setting → State → ℕ → ℕ → List ℕ → ℕ

@@ -1,12 +1,14 @@
 -- A session that stands at a cycle of a run, with states of the run that are kept (the project's own).
-use Rattle.std.specs.Prelude.{◌≡◌, ◌≤◌, ◌<◌, ℕ, ◌+◌, ◌-◌, ◌*◌, ◌%◌, max, true, List, Option, IfSome, Some}
+use Rattle.std.specs.Prelude.{◌≡◌, ◌≤◌, ◌<◌, ℕ, ◌+◌, ◌-◌, ◌*◌, ◌%◌, max, Bool, true, false, if◌then◌else◌, List, Option, IfSome, Some, None}
 use Rattle.rp_base.specs.declared.Why.{Why}
 use Rattle.outer_lane.specs.Setting.{Setting}
 use Rattle.rp_machine.specs.State.{State}
 use Rattle.rp_machine.specs.Cycle.{stop}
 use Rattle.rp_machine.specs.Run.{states}
 use Rattle.snap_ring.specs.Ring.{Snapshots, spacing_of, is_kept, state_at, restored}
-use Rattle.reverse_debug.specs.Reply.{Said, last_cycle}
+use Rattle.reverse_debug.specs.declared.watch.Watched.{Watched}
+use Rattle.reverse_debug.specs.Advance.{CountsMove}
+use Rattle.reverse_debug.specs.Reply.{Said, last_cycle, behind_next}
 
 pub record Standing : Type 0 where
   -- the machine's state at the present cycle
@@ -74,6 +76,18 @@ pub record GoesOn (w : Setting) (old : Standing) (to : ℕ) (new : Standing) (re
   pub forward : old.now.cycle ≤ new.now.cycle
   pub within : new.now.cycle ≤ to
   pub stopped : IfSome result (λ why. (stop w new.now ≡ Some why) × (new.now.cycle < to))
+
+-- The session has gone forward, and stands behind the next change of what is watched; or there is none before the present cycle.
+pub record Seeks (w : Setting) (watched : Watched) (old new : Standing) (changed : Bool) (before now : ℕ) : Type 0 where
+  pub stays : StaysFor w old new
+  pub forward : old.now.cycle ≤ new.now.cycle
+  pub next : behind_next w (first_of old) watched old.now.cycle ≡ (if changed then Some new.now.cycle else behind_next w (first_of old) watched new.now.cycle)
+  pub count : CountsMove old.now new.now before now
+
+-- it does so, or has come to a stop before it
+abbrev pub ComesBehind : Setting → Watched → Standing → Standing → Option Why → ℕ → ℕ → Type 0
+ComesBehind w watched old new None before now = Seeks w watched old new true before now
+ComesBehind w watched old new (Some why) before now = Seeks w watched old new false before now × (stop w new.now ≡ Some why)
 
 -- Without a step the session has come as near to a target as a kept state is: not beyond it and nearer than a spacing, where it
 -- was beyond it before; else no farther than before.

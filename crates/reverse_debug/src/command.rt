@@ -1,9 +1,10 @@
 //! The commands, and how a line asks for them.
 
-ghost use Rattle.std.specs.Prelude.{◌≡◌, not};
-ghost use Rattle.reverse_debug.specs.Command.{is_quit, command_of, alone, with_one, with_two, mem_of, last_write_of, pio_of};
-ghost use Rattle.reverse_debug.specs.Reading.{meant, Fits};
+ghost use Rattle.std.specs.Prelude.{◌≡◌, not, IfSome};
+ghost use Rattle.reverse_debug.specs.Command.{is_quit, command_of, alone, with_one, with_two, mem_of, word_of, pin_of, pio_of};
+ghost use Rattle.reverse_debug.specs.Reading.{meant, Fits, IsThere};
 
+use crate::watch::Watched;
 use crate::words::{address_of, are_words, first_word, is, number_of};
 
 /// What a line asks for.
@@ -35,8 +36,10 @@ pub(crate) enum Command {
         /// The machine, 0 to 3.
         machine: u8,
     },
-    /// Name the last cycle that changed the word of SRAM at an address.
-    LastWrite(u32),
+    /// Move forward behind the next change.
+    Until(Watched),
+    /// Name the last cycle that changed it.
+    LastChange(Watched),
     /// End the session.
     Quit,
     /// The line is no command.
@@ -79,14 +82,25 @@ fn mem_of(address: Option<u32>, count: Option<u64>) -> Command
     }
 }
 
-/// `lastwrite` with its operand.
-fn last_write_of(address: Option<u32>) -> Command
-    ensures meaning { meant result ≡ last_write_of address }
-    ensures fits { Fits result }
+/// A word of SRAM that is watched.
+fn word_of(address: Option<u32>) -> Option<Watched>
+    ensures meaning { result ≡ word_of address }
+    ensures fits { IfSome result IsThere }
 {
     match address {
-        Some(address) if are_words(address, 1) => Command::LastWrite(address),
-        _ => Command::Bad,
+        Some(address) if are_words(address, 1) => Some(Watched::Word(address)),
+        _ => None,
+    }
+}
+
+/// A pin that is watched.
+fn pin_of(pin: Option<u64>) -> Option<Watched>
+    ensures meaning { result ≡ pin_of pin }
+    ensures fits { IfSome result IsThere }
+{
+    match pin {
+        Some(pin) if pin <= 29 => Some(Watched::Pin(pin as u8)),
+        _ => None,
     }
 }
 
@@ -117,8 +131,14 @@ fn with_one(name: &[u8], word: &[u8]) -> Command
         number_of(word).map_or(Command::Bad, Command::Goto)
     } else if is(name, b"mem") {
         mem_of(address_of(word), Some(1))
+    } else if is(name, b"untilwrite") {
+        word_of(address_of(word)).map_or(Command::Bad, Command::Until)
+    } else if is(name, b"untilpin") {
+        pin_of(number_of(word)).map_or(Command::Bad, Command::Until)
     } else if is(name, b"lastwrite") {
-        last_write_of(address_of(word))
+        word_of(address_of(word)).map_or(Command::Bad, Command::LastChange)
+    } else if is(name, b"lastpin") {
+        pin_of(number_of(word)).map_or(Command::Bad, Command::LastChange)
     } else {
         Command::Bad
     }

@@ -1,35 +1,37 @@
-//! The last cycle that changed a word.
+//! The last cycle that changed what is watched.
 
 ghost use Rattle.std.specs.Prelude.{◌≡◌, ◌≤◌, ◌<◌, ◌+◌, ◌-◌, Some, if◌then◌else◌};
 ghost use Rattle.outer_lane.specs.Setting.{setting_of};
 ghost use Rattle.rp_base.specs.Alias.{or_zero};
 ghost use Rattle.reverse_debug.specs.Advance.{CountsMove};
 ghost use Rattle.reverse_debug.specs.LastChange.{last_change};
-ghost use Rattle.reverse_debug.specs.Reply.{last_cycle, last_write};
+ghost use Rattle.reverse_debug.specs.Reply.{last_cycle, last_before};
+ghost use Rattle.reverse_debug.specs.Reading.{IsThere};
 ghost use Rattle.reverse_debug.specs.Session.{AreOf, first_in};
 
 use crate::advance::advance;
-use crate::reply::word_at;
+use crate::watch::{Watched, seen};
 use lane_look::{Device, Marks};
 use rp_machine::{Machine, Steps, World};
 use snap_ring::Ring;
 use std::sync::ledger::Ledger;
 
-/// A cycle that changed a word is later than the last one.
+/// A cycle with a change is later than the last one.
 fn later(last: Option<u64>, cycle: u64, changed: bool) -> Option<u64>
     ensures { result ≡ (if changed then Some cycle else last) }
 {
     if changed { Some(cycle) } else { last }
 }
 
-/// Steps a machine up to a cycle, and names the last of these cycles that changed the word of SRAM at an address.
+/// Steps a machine up to a cycle, and names the last of these cycles that changed what is watched.
 fn last_change<X: Device, L: Ledger>(
     machine: &mut Machine,
     world: &World<'_, X>,
-    address: u32,
+    watched: Watched,
     to: u64,
     steps: &mut Steps<L>,
 ) -> Option<u64>
+    requires watched { IsThere watched }
     requires low { machine.old.cycle ≤ world.now.limit }
     requires ahead { machine.old.cycle ≤ to }
     requires to { to ≤ last_cycle
@@ -38,18 +40,18 @@ fn last_change<X: Device, L: Ledger>(
     ensures write { result
         ≡ last_change
         (setting_of world.now.script.now (X.meaning world.now.device.now) world.now.limit)
-        machine.old address (to - machine.old.cycle) }
+        machine.old watched (to - machine.old.cycle) }
     ensures steps { steps.new + machine.old.cycle ≡ steps.old + to }
 {
     let mut last = None;
     let mut marks = Marks::new();
     'cycles: while machine.number() < to {
         let cycle = machine.number();
-        let before = word_at(machine, address);
+        let before = seen(machine, watched);
         match advance(machine, world, cycle + 1, &mut marks, steps) {
             Some(_) => return last,
             None => {
-                last = later(last, cycle, word_at(machine, address) != before);
+                last = later(last, cycle, seen(machine, watched) != before);
                 continue 'cycles;
             }
         }
@@ -57,16 +59,17 @@ fn last_change<X: Device, L: Ledger>(
     last
 }
 
-/// The last cycle below another one that changed the word of SRAM at an address. The stretches between the states that are kept are
+/// The last cycle below another one that changed what is watched. The stretches between the states that are kept are
 /// searched from behind, so that a change that is near is found soon. The machine is set to states of the run.
-pub(crate) fn last_write<X: Device, L: Ledger>(
+pub(crate) fn last_before<X: Device, L: Ledger>(
     ring: &Ring,
     machine: &mut Machine,
     world: &World<'_, X>,
-    address: u32,
+    watched: Watched,
     to: u64,
     steps: &mut Steps<L>,
 ) -> Option<u64>
+    requires watched { IsThere watched }
     requires kept { AreOf
         (setting_of world.now.script.now (X.meaning world.now.device.now) world.now.limit)
         (first_in ring.now machine.old) ring.now to }
@@ -74,9 +77,9 @@ pub(crate) fn last_write<X: Device, L: Ledger>(
         (setting_of world.now.script.now (X.meaning world.now.device.now) world.now.limit)
         (first_in ring.now machine.old) }
     ensures write { result
-        ≡ last_write
+        ≡ last_before
         (setting_of world.now.script.now (X.meaning world.now.device.now) world.now.limit)
-        (first_in ring.now machine.old) address to }
+        (first_in ring.now machine.old) watched to }
     ensures forward { steps.old ≤ steps.new }
     ensures steps { steps.new + or_zero result < steps.old + to + ring.now.spacing }
 {
@@ -86,7 +89,7 @@ pub(crate) fn last_write<X: Device, L: Ledger>(
             return None;
         };
         ring.restore(start, machine);
-        match last_change(machine, world, address, end, steps) {
+        match last_change(machine, world, watched, end, steps) {
             Some(cycle) => return Some(cycle),
             None => {
                 end = start;

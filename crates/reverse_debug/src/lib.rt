@@ -8,6 +8,7 @@ pub mod hear;
 mod last_change;
 mod reply;
 pub mod session;
+pub mod watch;
 pub mod way;
 mod words;
 

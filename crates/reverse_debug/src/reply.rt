@@ -6,8 +6,9 @@ ghost use Rattle.arrayvec.specs.ArrayVec.{array_vec_len};
 ghost use Rattle.rp_base.specs.Word.{has_bit};
 ghost use Rattle.trace_text.specs.Line.{hex_word, level_digit, spaced_word};
 ghost use Rattle.reverse_debug.specs.Command.{addresses, are_words};
-ghost use Rattle.reverse_debug.specs.Reply.{word_at, regs_reply, mem_reply, pins_reply, pio_words, pio_reply, at_reply, write_text, last_write_reply};
+ghost use Rattle.reverse_debug.specs.Reply.{word_at, regs_reply, mem_reply, pins_reply, pio_words, pio_reply, at_reply, watched_text, last_change_reply};
 
+use crate::watch::{Watched, word_at};
 use arrayvec::ArrayVec;
 use rp_base::bits::has_bit;
 use rp_machine::Machine;
@@ -15,16 +16,6 @@ use trace_text::line::{push_number, push_text, push_word, register_line};
 
 /// The reply to a line, at most 1024 bytes.
 pub(crate) type Reply = ArrayVec<u8, 1024>;
-
-/// The word of SRAM at an address, 0 where it is not in SRAM.
-pub(crate) fn word_at(machine: &Machine, address: u32) -> u32
-    ensures { result ≡ word_at machine.now address }
-{
-    match machine.word(address) {
-        Some(word) => word,
-        None => 0,
-    }
-}
 
 /// The lines of both cores.
 #[tactic(auto, unfolding(crate::specs::Reply::regs_reply))]
@@ -164,16 +155,33 @@ pub(crate) fn put_cycle(cycle: u64, reply: &mut Reply)
     push_text(b"\n", reply);
 }
 
-/// The last cycle that changed a word.
-#[tactic(auto, unfolding(crate::specs::Reply::last_write_reply))]
-pub(crate) fn put_last_write(address: u32, write: Option<u64>, reply: &mut Reply)
+/// The name of what is watched.
+fn push_watched(watched: Watched, reply: &mut Reply)
     requires { reply.old.items ≡ [] }
-    ensures { reply.new.items ≡ last_write_reply address write }
+    ensures text { reply.new.items ≡ watched_text watched }
+    ensures short { array_vec_len reply.new ≤ 50 }
 {
-    push_text(b"lastwrite ", reply);
-    push_word(address, reply);
+    match watched {
+        Watched::Word(address) => {
+            push_text(b"lastwrite ", reply);
+            push_word(address, reply);
+        }
+        Watched::Pin(pin) => {
+            push_text(b"lastpin ", reply);
+            push_number(u64::from(pin), reply);
+        }
+    }
+}
+
+/// The last cycle that changed what is watched.
+#[tactic(auto, unfolding(crate::specs::Reply::last_change_reply))]
+pub(crate) fn put_last_change(watched: Watched, change: Option<u64>, reply: &mut Reply)
+    requires { reply.old.items ≡ [] }
+    ensures { reply.new.items ≡ last_change_reply watched change }
+{
+    push_watched(watched, reply);
     push_text(b" ", reply);
-    match write {
+    match change {
         Some(cycle) => push_number(cycle, reply),
         None => push_text(b"none", reply),
     }

@@ -4,8 +4,11 @@ ghost use Rattle.std.specs.Prelude.{◌≡◌, ◌≤◌, ◌<◌, ◌+◌, ◌-
 
 use crate::advance::advance;
 use crate::command::{Command, command_of, goes_on};
-use crate::last_change::last_write;
-use crate::reply::{Reply, put_cycle, put_last_write, put_pins, put_pio, put_registers, put_words};
+use crate::last_change::last_before;
+use crate::reply::{
+    Reply, put_cycle, put_last_change, put_pins, put_pio, put_registers, put_words,
+};
+use crate::watch::{Watched, seen};
 use arrayvec::ArrayVec;
 use lane_look::{Device, Marks};
 use rp_base::Why;
@@ -78,10 +81,10 @@ impl Session {
     ghost use Rattle.outer_lane.specs.Setting.{Setting, setting_of};
     ghost use Rattle.rp_base.specs.Alias.{or_zero};
     ghost use Rattle.reverse_debug.specs.Command.{are_words};
-    ghost use Rattle.reverse_debug.specs.Reading.{meant, Fits};
-    ghost use Rattle.reverse_debug.specs.Reply.{heard, answer, cost, command_cost, moved_to, moved_back, move_cost, last_write};
+    ghost use Rattle.reverse_debug.specs.Reading.{meant, Fits, IsThere};
+    ghost use Rattle.reverse_debug.specs.Reply.{heard, answer, cost, command_cost, moved_to, moved_back, move_cost, last_before, behind_next, at_or_last};
     ghost use Rattle.reverse_debug.specs.Advance.{CountsMove};
-    ghost use Rattle.reverse_debug.specs.Session.{first_of, StandsFor, OpensAt, StaysFor, GoesOn, Lands, Does};
+    ghost use Rattle.reverse_debug.specs.Session.{first_of, StandsFor, OpensAt, StaysFor, GoesOn, Lands, ComesBehind, Does};
 
     /// A session at the state of a machine before its first cycle, for runs up to a limit of at most 1,000,000,000 cycles. It takes
     /// the memory for 64 states that will be kept, and for a second machine.
@@ -133,6 +136,7 @@ impl Session {
         &mut self,
         world: &World<'_, X>,
         to: u64,
+        marks: &mut Marks,
         steps: &mut Steps<L>,
     ) -> Option<Why>
         requires stands { StandsFor
@@ -148,7 +152,7 @@ impl Session {
         let at = self.machine.number();
         let spacing = self.ring.spacing();
         let until = next_stop(at, spacing, to);
-        let why = advance(&mut self.machine, world, until, &mut Marks::new(), steps);
+        let why = advance(&mut self.machine, world, until, marks, steps);
         self.reached = greater(self.reached, self.machine.number());
         self.ring.keep(&self.machine);
         why
@@ -171,8 +175,9 @@ impl Session {
         ensures there { IfNone result (self.new.now.cycle ≡ to) }
         ensures steps { CountsMove self.old.now self.new.now steps.old steps.new }
     {
+        let mut marks = Marks::new();
         'stretches: while self.machine.number() < to {
-            match self.stretch(world, to, steps) {
+            match self.stretch(world, to, &mut marks, steps) {
                 Some(why) => return Some(why),
                 None => continue 'stretches,
             }
@@ -234,25 +239,84 @@ impl Session {
         }
     }
 
-    /// The last cycle below the present one that changed the word of SRAM at an address. The session is as before.
-    fn last_write<X: Device, L: Ledger>(
+    /// Goes forward behind the next change of what is watched. None where the session stands there; else the cause of the stop
+    /// before it.
+    fn until_change<X: Device, L: Ledger>(
         &mut self,
         world: &World<'_, X>,
-        address: u32,
+        watched: Watched,
         steps: &mut Steps<L>,
-    ) -> Option<u64>
-        requires { StandsFor
+    ) -> Option<Why>
+        requires stands { StandsFor
             (setting_of world.now.script.now (X.meaning world.now.device.now) world.now.limit)
             self.old }
-        ensures write { result ≡ last_write
+        requires watched { IsThere watched }
+        ensures { ComesBehind
             (setting_of world.now.script.now (X.meaning world.now.device.now) world.now.limit)
-            (first_of self.old) address self.old.now.cycle }
+            watched self.old self.new result steps.old steps.new }
+    {
+        let mut changed = false;
+        let mut marks = Marks::new();
+        'cycles: while !changed {
+            let cycle = self.cycle();
+            let before = seen(&self.machine, watched);
+            match self.stretch(world, cycle + 1, &mut marks, steps) {
+                Some(why) => return Some(why),
+                None => {
+                    changed = seen(&self.machine, watched) != before;
+                    continue 'cycles;
+                }
+            }
+        }
+        None
+    }
+
+    /// Moves behind the next change of what is watched, or to the last cycle, and writes the reply.
+    fn move_until<X: Device, L: Ledger>(
+        &mut self,
+        world: &World<'_, X>,
+        watched: Watched,
+        reply: &mut Reply,
+        steps: &mut Steps<L>,
+    )
+        requires stands { StandsFor
+            (setting_of world.now.script.now (X.meaning world.now.device.now) world.now.limit)
+            self.old }
+        requires watched { IsThere watched }
+        requires empty { reply.old.items ≡ [] }
+        ensures { let w = setting_of world.now.script.now (X.meaning world.now.device.now)
+            world.now.limit in
+            let what = at_or_last w (first_of self.old) (behind_next w (first_of self.old) watched self.old.now.cycle) in
+            Does w self.old what (move_cost self.old.ring.spacing self.old.now.cycle what.cycle)
+            self.new reply.new.items
+            steps.old steps.new }
+    {
+        match self.until_change(world, watched, steps) {
+            None => put_cycle(self.cycle(), reply),
+            Some(why) => stop_line(&why, self.cycle(), reply),
+        }
+    }
+
+    /// The last cycle below the present one that changed what is watched. The session is as before.
+    fn last_before<X: Device, L: Ledger>(
+        &mut self,
+        world: &World<'_, X>,
+        watched: Watched,
+        steps: &mut Steps<L>,
+    ) -> Option<u64>
+        requires stands { StandsFor
+            (setting_of world.now.script.now (X.meaning world.now.device.now) world.now.limit)
+            self.old }
+        requires watched { IsThere watched }
+        ensures change { result ≡ last_before
+            (setting_of world.now.script.now (X.meaning world.now.device.now) world.now.limit)
+            (first_of self.old) watched self.old.now.cycle }
         ensures same { self.new ≡ self.old }
         ensures forward { steps.old ≤ steps.new }
         ensures steps { steps.new + or_zero result < steps.old + self.old.now.cycle + self.old.ring.spacing }
     {
         let now = self.cycle();
-        last_write(&self.ring, &mut self.scout, world, address, now, steps)
+        last_before(&self.ring, &mut self.scout, world, watched, now, steps)
     }
 
     /// Does what a line asks for, and writes the reply.
@@ -286,9 +350,10 @@ impl Session {
             Command::Mem { address, count } => put_words(&self.machine, address, count, reply),
             Command::Pins => put_pins(&self.machine, reply),
             Command::Pio { block, machine } => put_pio(&self.machine, block, machine, reply),
-            Command::LastWrite(address) => {
-                let write = self.last_write(world, address, steps);
-                put_last_write(address, write, reply);
+            Command::Until(watched) => self.move_until(world, watched, reply, steps),
+            Command::LastChange(watched) => {
+                let change = self.last_before(world, watched, steps);
+                put_last_change(watched, change, reply);
             }
             Command::Quit => {}
             Command::Bad => push_text(b"bad command\n", reply),

@@ -22,7 +22,7 @@ type Row = (&'static [u8], &'static [u8]);
 const STORES_ONCE: [u32; 9] = [0x6000_4801, 0x0000_e7fe, 0x2000_0100, 0, 0, 0, 0, 0, 0];
 
 /// What is answered over 10000 cycles of it. The last line is not heard.
-const STORED: [Row; 21] = [
+const STORED: [Row; 32] = [
     (b"goto 5000", b"at 5000\n"),
     (b"back 1", b"at 4999\n"),
     (
@@ -45,6 +45,17 @@ const STORED: [Row; 21] = [
     (b"step", b"at 1\n"),
     (b"back 5000", b"at start\n"),
     (b"lastwrite 20000100", b"lastwrite 20000100 none\n"),
+    (b"untilwrite 20000100", b"at 4\n"),
+    (b"lastwrite 20000100", b"lastwrite 20000100 3\n"),
+    (b"back 1", b"at 3\n"),
+    (b"lastwrite 20000100", b"lastwrite 20000100 none\n"),
+    (b"untilwrite 20000100", b"at 4\n"),
+    (b"untilwrite 20000100", b"stop limit 10000\n"),
+    (b"untilwrite 20000100", b"stop limit 10000\n"),
+    (b"lastwrite 20000100", b"lastwrite 20000100 3\n"),
+    (b"untilwrite 20000102", b"bad command\n"),
+    (b"untilwrite 10000000", b"bad command\n"),
+    (b"untilwrite", b"bad command\n"),
     (b"goto 20000", b"stop limit 10000\n"),
     (b"jump", b"bad command\n"),
     (b"back 0", b"at 10000\n"),
@@ -74,6 +85,34 @@ const COPIED: [Row; 5] = [
     (b"lastwrite 20000110", b"lastwrite 20000110 17\n"),
     (b"lastwrite 20000120", b"lastwrite 20000120 19\n"),
     (b"", b"bad command\n"),
+];
+
+/// The levels of a pin: up in cycle 20, down in cycle 40.
+const LEVELS: &[u8] = b"20 29 1\n40 29 0\n";
+
+/// What is answered over 100 cycles with them.
+const SEEN: [Row; 21] = [
+    (b"lastpin 29", b"lastpin 29 none\n"),
+    (b"untilpin 29", b"at 21\n"),
+    (b"pins", b"pins 000000000000000000000000000001\n"),
+    (b"lastpin 29", b"lastpin 29 20\n"),
+    (b"back 1", b"at 20\n"),
+    (b"pins", b"pins 000000000000000000000000000000\n"),
+    (b"lastpin 29", b"lastpin 29 none\n"),
+    (b"untilpin 29", b"at 21\n"),
+    (b"untilpin 29", b"at 41\n"),
+    (b"lastpin 29", b"lastpin 29 40\n"),
+    (b"lastpin 28", b"lastpin 28 none\n"),
+    (b"back 1", b"at 40\n"),
+    (b"lastpin 29", b"lastpin 29 20\n"),
+    (b"untilpin 28", b"stop limit 100\n"),
+    (b"untilpin 29", b"stop limit 100\n"),
+    (b"lastpin 029", b"lastpin 29 40\n"),
+    (b"lastpin 30", b"bad command\n"),
+    (b"untilpin 30", b"bad command\n"),
+    (b"untilpin 29 1", b"bad command\n"),
+    (b"lastpin", b"bad command\n"),
+    (b"back 0", b"at 100\n"),
 ];
 
 /// The UF2 block of a program that is loaded at 20000000.
@@ -126,6 +165,7 @@ fn session_of<L: Ledger>(
     alloc: Global,
     blank: Blank,
     code: &[u32; 9],
+    levels: &[u8],
     limit: u64,
     rows: &[Row],
 ) -> Result<(usize, bool), Fail>
@@ -137,7 +177,7 @@ fn session_of<L: Ledger>(
     let (book, share) = blank.open::<L>();
     let mut steps = Steps::new(book, share);
     let image = read_image(alloc, &block(code))?;
-    let script = read_script(alloc, b"")?;
+    let script = read_script(alloc, levels)?;
     let world = World {
         script: &script,
         device: &NoDevice,
@@ -150,14 +190,21 @@ fn session_of<L: Ledger>(
 
 #[test]
 fn each_command_is_answered(rt: HostRuntime) -> Result<(), Fail> {
-    let end = session_of::<Brand>(rt.alloc(), Blank::new(1), &STORES_ONCE, 10_000, &STORED)?;
-    assert_eq!(rt; end, (19, true));
+    let end = session_of::<Brand>(rt.alloc(), Blank::new(1), &STORES_ONCE, b"", 10_000, &STORED)?;
+    assert_eq!(rt; end, (30, true));
     Ok(())
 }
 
 #[test]
 fn the_last_write_of_a_copy(rt: HostRuntime) -> Result<(), Fail> {
-    let end = session_of::<Brand>(rt.alloc(), Blank::new(1), &COPIES, 100, &COPIED)?;
+    let end = session_of::<Brand>(rt.alloc(), Blank::new(1), &COPIES, b"", 100, &COPIED)?;
     assert_eq!(rt; end, (5, true));
+    Ok(())
+}
+
+#[test]
+fn the_changes_of_a_pin(rt: HostRuntime) -> Result<(), Fail> {
+    let end = session_of::<Brand>(rt.alloc(), Blank::new(1), &STORES_ONCE, LEVELS, 100, &SEEN)?;
+    assert_eq!(rt; end, (21, true));
     Ok(())
 }

@@ -14,8 +14,8 @@ cycles-smaller g c =
 pub cycles-preserved : goal.cycles-preserved
 cycles-preserved g c =
     let lt : c.cycles.machine.cycle < c.args.to = omega arith in
-    changing_on _ _ _ _ _ _ _ _ _ _ _ _ _ _ c.cycles.invariant c.number-cycle.ensures c.in-None.ensures.way lt c.word_at.ensures
-    c.word_at-before.ensures c.later-last.ensures c.in-None.ensures.steps
+    changing_on _ _ _ _ _ _ _ _ _ _ _ _ _ _ c.cycles.invariant c.number-cycle.ensures c.in-None.ensures.way lt c.seen.ensures
+    c.seen-before.ensures c.later-last.ensures c.in-None.ensures.steps
 
 pub returns-in-Some-clause-write : goal.returns-in-Some-clause-write
 returns-in-Some-clause-write g c =

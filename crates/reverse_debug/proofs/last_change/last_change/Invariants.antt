@@ -5,7 +5,7 @@ use Rattle.reverse_debug.proofs.last_change.last_change.Given as goal
 
 abbrev pub invariant-cycles : goal.invariant-cycles
 invariant-cycles g l =
-    Changing (setting_of l.world.script.now (g.X.Device.meaning l.world.device.now) l.world.limit) l.initial.machine l.machine l.address l.to
+    Changing (setting_of l.world.script.now (g.X.Device.meaning l.world.device.now) l.world.limit) l.initial.machine l.machine l.watched l.to
     l.last l.initial.steps l.steps
 
 abbrev pub decreases-cycles : goal.decreases-cycles

@@ -1,18 +1,18 @@
 use Rattle.std.proofs.Common.{refl, arith}
 use Rattle.reverse_debug.proofs.Stretches.{can_go, found_there, found_near, searching_on, searched}
-use Rattle.reverse_debug.proofs.last_change.last_write.Goals as goal
+use Rattle.reverse_debug.proofs.last_change.last_before.Goals as goal
 
 pub last_change-requires-clause-low : goal.last_change-requires-clause-low
 last_change-requires-clause-low g c κs within =
-    (can_go _ _ _ c.args.address _ _ _ _ _ _ _ _ c.requires.kept c.requires.to c.stretches.invariant c.stretches-test.true refl c.in-Some.ensures c.restore.ensures.machine).low
+    (can_go _ _ _ c.args.watched _ _ _ _ _ _ _ _ c.requires.kept c.requires.to c.stretches.invariant c.stretches-test.true refl c.in-Some.ensures c.restore.ensures.machine).low
 
 pub last_change-requires-clause-ahead : goal.last_change-requires-clause-ahead
 last_change-requires-clause-ahead g c κs within =
-    (can_go _ _ _ c.args.address _ _ _ _ _ _ _ _ c.requires.kept c.requires.to c.stretches.invariant c.stretches-test.true refl c.in-Some.ensures c.restore.ensures.machine).ahead
+    (can_go _ _ _ c.args.watched _ _ _ _ _ _ _ _ c.requires.kept c.requires.to c.stretches.invariant c.stretches-test.true refl c.in-Some.ensures c.restore.ensures.machine).ahead
 
 pub last_change-requires-clause-to : goal.last_change-requires-clause-to
 last_change-requires-clause-to g c κs within =
-    (can_go _ _ _ c.args.address _ _ _ _ _ _ _ _ c.requires.kept c.requires.to c.stretches.invariant c.stretches-test.true refl c.in-Some.ensures c.restore.ensures.machine).to
+    (can_go _ _ _ c.args.watched _ _ _ _ _ _ _ _ c.requires.kept c.requires.to c.stretches.invariant c.stretches-test.true refl c.in-Some.ensures c.restore.ensures.machine).to
 
 pub returns-in-Some-last_change-clause-write : goal.returns-in-Some-last_change-clause-write
 returns-in-Some-last_change-clause-write g c =
