@@ -24,7 +24,10 @@ NUMBERS = {"--cycles": (1, 1_000_000_000), "--workers": (0, 8), "--side": (0, 5)
 ENTRY = {
     "--pio": (r"[01]:[0-3]:.+", r"[01]:[0-3]", "B:M:FILE, with B the block (0, 1) and M the machine (0 to 3)"),
     "--probe": (r"[01]=([0-9]|[12][0-9])", r"[01]", "I=PIN, with I the probe (0 counts edges, 1 decodes lights) and PIN 0 to 29"),
+    "--part": (r"[0-2]=([0-9]|[12][0-9])(\+([0-9]|[12][0-9]))*", r"[0-2]",
+               "I=PINS, with I the part (0 Button, 1 Shift, 2 Loop) and PINS pins 0 to 29 joined by +"),
 }
+PINS = {"0": (1, "Button: its pin"), "1": (3, "Shift: clock+data+out"), "2": (2, "Loop: from+to")}
 
 
 def say(text):
@@ -64,6 +67,15 @@ class Page:
                 return [cell.replace("`", "") for cell in cells[1:] if cell]
         return []
 
+    def thumb_fault(self, number):
+        """What docs/THUMB.md says to do about a fault."""
+        try:
+            with open(f"{TOP}/docs/THUMB.md", encoding="utf-8") as file:
+                found = re.search(rf"^\| {number} \| \w+ \| (.*?) *\|$", file.read(), re.M)
+        except OSError:
+            found = None
+        return found[1].replace("`", "") if found else None
+
     def todo(self, status):
         """What the table of statuses says of one."""
         rows = re.findall(rf"^\| {status} \| .* \| (.*?) *\|$", self.text, re.M)
@@ -84,6 +96,15 @@ def number_fault(name, word, least, most):
     return None
 
 
+def pins_fault(part, pins):
+    """What is wrong with the pins of a part, if anything."""
+    count, said = PINS[part]
+    found = pins.split("+")
+    if len(found) != count:
+        return f"part {part} has {count} pin{'s' * (count > 1)} ({said})"
+    return None if len(set(found)) == count else "a pin is there twice"
+
+
 def list_fault(name, word):
     """What is wrong with a list of entries, if anything."""
     form, key, said = ENTRY[name]
@@ -92,6 +113,8 @@ def list_fault(name, word):
         if not re.fullmatch(form, entry):
             return f"{name} {word}: {entry!r} is no entry {said}; entries are joined by commas"
         keys.append(re.match(key, entry)[0])
+        if name == "--part" and (fault := pins_fault(*entry.split("="))):
+            return f"{name} {word}: {entry}: {fault}"
     twice = [key for key in keys if keys.count(key) > 1]
     return f"{name} {word}: {twice[0]} is there twice" if twice else None
 
@@ -256,6 +279,17 @@ def told_pio(page, program, words, line):
         shown_line(path, int(more[0]), int(more[1]) if len(more) > 1 else None)
 
 
+def told_thumb(page, words, number, name, line=None):
+    path = split(page, words)[0][0]
+    say(f"{path} is refused: {name}: {page.thumb_fault(number) or f'fault {number}'} (docs/THUMB.md)")
+    if line:
+        shown_line(path, int(line))
+
+
+def told_start(page, words, address):
+    say(f"{image_of(page, words) or 'the image'} loads the byte at {address}: {page.todo(12)}".replace("`", ""))
+
+
 def told_script(page, words, number, name, line):
     lists = [word.removeprefix("--script=") for before, word in zip(words, words[1:]) if before == "--script" or word.startswith("--script=")]
     path = lists[0] if lists else "the script"
@@ -277,6 +311,10 @@ def explain(page, program, words, status, line):
         told_image(page, words, parts[2], parts[3])
     elif line.startswith("error pio "):
         told_pio(page, program, words, line)
+    elif line.startswith("error thumb "):
+        told_thumb(page, words, *parts[2:5])
+    elif line.startswith("error start "):
+        told_start(page, words, parts[4])
     elif line.startswith("error script "):
         told_script(page, words, *parts[2:5])
     elif todo := page.todo(status):

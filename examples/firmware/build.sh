@@ -13,9 +13,11 @@ trap 'rm -r "$work"' EXIT
 [ $# = 0 ] && set -- *.c
 for source; do
     name=${source%.c}
-    # print.c has newlib's printf
-    more=
-    [ "$name" = print ] && more="--specs=nano.specs --specs=nosys.specs"
+    case $name in
+    print) more="--specs=nano.specs --specs=nosys.specs" ;; # newlib's printf
+    startup) more="-Wl,--wrap=memset,--wrap=memcpy" ;;      # the table's routines in the place of newlib's
+    *) more= ;;
+    esac
     # -nostartfiles: the start is start.s, and libgcc is linked, so that n / 10 has its routine
     # shellcheck disable=SC2086
     arm-none-eabi-gcc -mcpu=cortex-m0plus -mthumb -g -Os -Wall -ffreestanding -fno-tree-loop-distribute-patterns -nostartfiles $more \
