@@ -217,7 +217,7 @@ def told_file(words, name):
 
 
 def told_large(name, length):
-    say(f"{name} has {length} bytes; an image has at most 16 MiB, a script 4 MiB, a PIO source 1 MiB")
+    say(f"{name} has {length} bytes; an image has at most 16 MiB, a script 4 MiB, a source 1 MiB")
 
 
 def told_image(page, words, number, name):
