@@ -190,7 +190,14 @@ fn session_of<L: Ledger>(
 
 #[test]
 fn each_command_is_answered(rt: HostRuntime) -> Result<(), Fail> {
-    let end = session_of::<Brand>(rt.alloc(), Blank::new(1), &STORES_ONCE, b"", 10_000, &STORED)?;
+    let end = session_of::<Brand>(
+        rt.alloc(),
+        Blank::new(1),
+        &STORES_ONCE,
+        b"",
+        10_000,
+        &STORED,
+    )?;
     assert_eq!(rt; end, (30, true));
     Ok(())
 }
