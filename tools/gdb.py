@@ -32,12 +32,14 @@ AT_WRITE = 16               # cycles after which a step over a write ends where 
 READ_ONLY = "the run is replayed: nothing can be written"
 SRAM = [(0x20000000, 0x20042000), (0x21000000, 0x21040000)]
 PC = slice(141, 149)        # the digits of PC in a line of registers
-HELP = """pins, pio <block> <machine>, regs, mem <address> [count], lastwrite <address>: as a session answers them
-step [n], back [n], goto <cycle>, end: move; `maintenance flush register-cache` then shows the registers there
+HELP = """pins, pio <block> <machine>, regs, mem <address> [count], lastwrite <address>, lastpin <pin>: as a session answers them
+step [n], back [n], goto <cycle>, end, untilwrite <address>, untilpin <pin>: move; `maintenance flush register-cache` then shows
+the registers there
 reset: goes to cycle 0; cycle: where the run stands; info: what this target can do
 """
 INFO = ("cycle {} of a run that is replayed: registers and memory cannot be written; reverse-stepi, reverse-step and reverse-continue "
         "go back; watchpoints are those of writes\n")
+MOVES = ("step", "back", "goto", "end", "untilwrite", "untilpin")
 SIGNALS = {"bkpt": 5, "outside": 11, "lockup": 6}
 TYPES = {"sp": ' type="data_ptr"', "pc": ' type="code_ptr"'}
 XML = ('<?xml version="1.0"?><!DOCTYPE target SYSTEM "gdb-target.dtd"><target version="1.0"><architecture>arm</architecture>'
@@ -269,16 +271,9 @@ class Target:
         last = self.session.last_write(address)
         if last is None or last < begin:
             return None
-        low = begin
-        while low < last:
-            middle = (low + last) // 2 + 1
-            self.session.goto(middle)
-            found = self.session.last_write(address)
-            if found is not None and found >= begin:
-                last = found
-            else:
-                low = middle
-        return last
+        self.session.goto(begin)
+        self.session.move(f"untilwrite {address:08x}")
+        return self.session.cycle - 1
 
     def until_write(self, begin, end):
         """The first write of a watched word between two cycles, with what is told of it."""
@@ -538,7 +533,7 @@ class Server:
             text = own[command]
         elif command.split()[:1] == ["reset"]:
             text = self.session.move("goto 0") + "\n"
-        elif command.split()[:1] and command.split()[0] in ("step", "back", "goto", "end"):
+        elif command.split()[:1] and command.split()[0] in MOVES:
             text = self.session.move(command) + "\n"
         elif command == "quit":
             text = "detach or kill ends the session\n"

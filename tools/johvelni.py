@@ -183,8 +183,23 @@ class Debug:
         (line,) = self.ask(f"pio {block} {machine}")
         return line.split()[3:]
 
+    def untilwrite(self, address):
+        """Goes behind the next cycle, from this one on, that changes the word, or to the stop of the run."""
+        return self.move(f"untilwrite {address:08x}")
+
+    def untilpin(self, pin):
+        """Goes behind the next cycle, from this one on, that changes the level of the pin, or to the stop of the run."""
+        return self.move(f"untilpin {pin}")
+
     def lastwrite(self, address):
         """The last cycle before this one that changed the word, None where there is none."""
-        (line,) = self.ask(f"lastwrite {address:08x}")
+        return self.last(f"lastwrite {address:08x}")
+
+    def lastpin(self, pin):
+        """The last cycle before this one that changed the level of the pin, None where there is none."""
+        return self.last(f"lastpin {pin}")
+
+    def last(self, command):
+        (line,) = self.ask(command)
         last = line.split()[-1]
         return None if last == "none" else int(last)
