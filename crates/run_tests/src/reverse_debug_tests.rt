@@ -1,6 +1,6 @@
 //! Sessions over two small programs: one that stores a word and stands in a loop, and one in which the DMA engine copies.
 
-ghost use Rattle.std.specs.Prelude.{◌≡◌, ◌≤◌, ◌<◌};
+ghost use Rattle.std.specs.Prelude.{◌≡◌, ◌≤◌, ◌<◌, length};
 ghost use Rattle.outer_lane.specs.Setting.{setting_of};
 ghost use Rattle.reverse_debug.specs.Session.{StandsFor};
 
@@ -172,6 +172,7 @@ fn session_of<L: Ledger>(
     requires name { blank.name ≡ L.name }
     requires parts { blank.parts ≡ L.parts }
     requires some { 0 < blank.parts }
+    requires levels { length levels.now ≤ 100 }
     requires limit { limit ≤ 10000 }
 {
     let (book, share) = blank.open::<L>();

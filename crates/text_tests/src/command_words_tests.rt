@@ -221,8 +221,9 @@ fn words_of_a_thumb_source(rt: HostRuntime) -> Result<(), Fail> {
     ] {
         let name = match read_words(alloc, &split(alloc, text)?, 0, &[]) {
             Ok(Reading::Thumb(name)) => name,
+            Ok(_reading) => String::from_str(alloc, "another")?,
+            Err(WordsFault::Words) => String::from_str(alloc, "none")?,
             Err(WordsFault::Memory) => return Err(Fail::from(AllocError)),
-            _ => String::from_str(alloc, "none")?,
         };
         assert!(rt; name.as_str() == want);
     }
