@@ -1,7 +1,6 @@
 -- The causes of a call's status, from the ending of its walk.
-use Rattle.std.proofs.Common.{◌≡◌, ◌⊎◌, ℕ, List, Option, None, Some, Result, Ok, Err, refl, sym, inl, inr, ◌∙◌, subst, arith}
+use Rattle.std.proofs.Common.{◌≡◌, ◌⊎◌, ℕ, List, Option, None, Result, Ok, Err, refl, sym, inl, inr, ◌∙◌, subst, arith}
 use Rattle.rp_ports.specs.Fault.{Rose}
-use Rattle.rp_ports.specs.Shelf.{Files}
 use Rattle.trace_text.specs.Sent.{Sends}
 use Rattle.trace_text.specs.declared.writer.SinkFault.{SinkFault}
 use Rattle.command_words.specs.Words.{Command}
@@ -11,11 +10,11 @@ use Rattle.reverse_debug.specs.declared.way.Way.{Way}
 use Rattle.reverse_debug.specs.declared.way.Way.TheVariants.{Closed, Ended, Broken, Full}
 use Rattle.reverse_debug.specs.Hear.{way_status}
 use Rattle.pico_top.specs.Call.{Board, Outside}
-use Rattle.pico_top.specs.Dialogue.{Reply, dialogue_from}
+use Rattle.pico_top.specs.Dialogue.{dialogue_from}
 use Rattle.pico_top.specs.Walk.{Ending, Walks, failed_names}
 use Rattle.pico_top.specs.Walk.Ending.{Said, Heard, Refused, NoMemory}
 use Rattle.pico_top.specs.Answer.{Puts, RunsOut, Ends, Takes, sent_status, memory_line, ConversesFor}
-use Rattle.pico_top.specs.Causes.{IsRefused, HasHeard, IsOfRefusal, HasCause, IsStatus, Causes}
+use Rattle.pico_top.specs.Causes.{IsRefused, HasHeard, IsOfRefusal, IsStatus, Causes}
 use Rattle.pico_top.proofs.Walking.{words_refused}
 
 -- ---- the status of a text

@@ -1,5 +1,5 @@
 -- What was opened, and where its walk ended.
-use Rattle.std.proofs.Common.{◌≡◌, ℕ, ◌≤◌, List, [], ◌∷◌, length, map, Option, None, Some, Result, Ok, Err, refl, sym, ap, inl, inr, ◌∙◌, subst, arith, ◌==◌, Bool, true, false, if◌then◌else◌, Vec, Global}
+use Rattle.std.proofs.Common.{◌≡◌, ℕ, ◌≤◌, List, [], ◌∷◌, length, map, Option, Result, Ok, Err, refl, sym, ap, inl, ◌∙◌, subst, arith, ◌==◌, Bool, true, false, if◌then◌else◌, Vec, Global}
 use Rattle.lane_look.specs.Device.{DeviceMeaning}
 use Rattle.outer_lane.specs.Setting.{Setting, setting_of}
 use Rattle.rp_ports.specs.Shelf.{Files, Answers, failed_after}
@@ -31,9 +31,9 @@ use Rattle.pico_top.specs.declared.open.Unopened.{Unopened}
 use Rattle.pico_top.specs.declared.open.Unopened.TheVariants.{Refusing, Memory}
 use Rattle.reverse_debug.specs.Debugger.{quits}
 use Rattle.pico_top.specs.Loads.{Placed, loads_of, plans_in}
-use Rattle.pico_top.specs.Dialogue.{Reply, Dialogue, judge, run_reply, behind_script, input_limit, session_reply}
+use Rattle.pico_top.specs.Dialogue.{Dialogue, judge, run_reply, behind_script, input_limit, session_reply}
 use Rattle.pico_top.specs.Dialogue.Dialogue.{Load}
-use Rattle.pico_top.specs.Walk.{Ending, Walks, failed_names}
+use Rattle.pico_top.specs.Walk.{failed_names}
 use Rattle.pico_top.specs.Walk.Ending.{Refused}
 use Rattle.pico_top.specs.Answer.{Puts}
 use Rattle.board_parts.specs.Hearing.{Aim}

@@ -1,5 +1,5 @@
 -- The talk of the debugger, and what a session tells.
-use Rattle.std.proofs.Common.{◌≡◌, ℕ, ◌+◌, ◌≤◌, List, [], ◌++◌, Option, Ok, Err, refl, ap, inl, inr, ◌∙◌, subst, arith}
+use Rattle.std.proofs.Common.{◌≡◌, ℕ, ◌+◌, ◌≤◌, List, [], Option, Ok, Err, refl, ap, inl, inr, ◌∙◌, subst, arith}
 use Rattle.trace_text.specs.declared.writer.SinkFault.{SinkFault}
 use Rattle.trace_text.specs.Sent.{Sends}
 use Rattle.trace_text.proofs.Sending.{sends_then, sends_part}

@@ -1,8 +1,11 @@
 -- What was opened and told, and the whole call.
-use Rattle.std.proofs.Common.{◌≡◌, ℕ, ◌+◌, ◌≤◌, List, [], length, Option, Some, None, Ok, Err, refl, sym, ap, inl, inr, ◌∙◌, subst}
-use Rattle.lane_look.specs.Device.{DeviceMeaning}
+use Rattle.std.proofs.Common.{◌≡◌, ℕ, ◌+◌, ◌≤◌, List, [], ◌∷◌, length, map, arith, Option, Some, None, Ok, Err, refl, sym, ap, inl, inr, ◌∙◌, subst}
+use Rattle.lane_look.specs.Device.{DeviceMeaning, paired}
+use Rattle.board_parts.specs.declared.wiring.Wiring.{Wiring}
 use Rattle.board_parts.specs.Hearing.{Aim}
-use Rattle.board_parts.specs.Wiring.{counts_of}
+use Rattle.board_parts.specs.Part.{PartMeaning}
+use Rattle.board_parts.specs.Parts.{parts_device}
+use Rattle.board_parts.specs.Wiring.{Wired, counts_of, placed_by, wired_in}
 use Rattle.command_words.specs.Words.{Command, reading}
 use Rattle.command_words.specs.declared.refusal.Refusal.TheVariants.{Words}
 use Rattle.command_words.specs.Refusals.Refusal.{BadWords}
@@ -10,7 +13,7 @@ use Rattle.pico_top.specs.declared.open.Opened.{Opened}
 use Rattle.pico_top.specs.declared.open.Unopened.{Unopened}
 use Rattle.pico_top.specs.declared.open.Unopened.TheVariants.{Refusing, Memory}
 use Rattle.pico_top.specs.Call.{Board, Outside}
-use Rattle.pico_top.specs.Dialogue.{Reply, say, aims_in, device_in, dialogue_from}
+use Rattle.pico_top.specs.Dialogue.{Reply, say, aims_in, beside, device_in, dialogue_from}
 use Rattle.pico_top.specs.Walk.{Ending, Walks, failed_names}
 use Rattle.pico_top.specs.Walk.Ending.{Said, Heard, Refused, NoMemory}
 use Rattle.pico_top.specs.Answer.{Puts, RunsOut, Takes, Ends, Counts, Ticks, most, ConversesFor, Converses}
@@ -138,3 +141,8 @@ pub refused_converses : (b : Board) (words : List (List ℕ)) (count : ℕ) (pin
 refused_converses b words count pins before after status long pinned none failed kept left lost refuses same =
     read_converses b words count pins None before after status long pinned none
     (unopened_converses b None before after (Refusing Words) status (refused_words b None before after refl failed) kept left lost refuses same)
+
+-- the device of a run with parts: ws are those that are attached
+pub beside_some : (ws : List Wiring) (ps : List Wired) (parts : List PartMeaning) (first own : DeviceMeaning) → 1 ≤ length ws → map wired_in ws ≡ ps → first ≡ parts_device (placed_by parts (map wired_in ws)) → paired first own ≡ beside ps parts own
+beside_some [] ps parts first own some e f = absurd (omega (arith, some))
+beside_some (w ∷ ws) ps parts first own some e f = subst (λ (qs : List Wired). paired first own ≡ beside qs parts own) e (ap (λ d. paired d own) f)

@@ -26,9 +26,9 @@ use Rattle.reverse_debug.specs.declared.way.Way.{Way}
 use Rattle.reverse_debug.specs.Hear.{MayEnd}
 use Rattle.pico_top.specs.Call.{Board}
 use Rattle.pico_top.specs.Loads.{Placed, offset_of}
-use Rattle.pico_top.specs.Dialogue.{Reply, Dialogue, Use, judge, say, hear, aims_in, device_in, dialogue_of, dialogue_from, with_first, with_programs, with_script, with_linked, with_run, behind_script, say_run, hear_run}
+use Rattle.pico_top.specs.Dialogue.{Reply, Dialogue, Use, judge, say, hear, aims_in, device_in, dialogue_of, dialogue_from, with_first, with_programs, with_script, with_linked, with_run, say_run, hear_run}
 use Rattle.pico_top.specs.Dialogue.Dialogue.{Load, Refuse, Say, Hear}
-use Rattle.pico_top.specs.Walk.{Ending, IsHeard, AfterLoad, Walks, failed_names, Verdict, heard_as, on_held, verdict}
+use Rattle.pico_top.specs.Walk.{Ending, IsHeard, AfterLoad, Walks, Verdict, heard_as, on_held, verdict}
 use Rattle.pico_top.specs.Walk.Verdict.{Refuses, Says, Hears}
 use Rattle.pico_top.specs.Walk.Ending.{Said, Heard, Refused, NoMemory}
 use Rattle.pico_top.specs.Opening.{EndsUnopened}

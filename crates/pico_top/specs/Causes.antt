@@ -12,7 +12,7 @@ use Rattle.reverse_debug.specs.Hear.{IsTaken}
 use Rattle.pico_top.specs.Call.{Board, Outside}
 use Rattle.pico_top.specs.Dialogue.{Reply, dialogue_from}
 use Rattle.pico_top.specs.Answer.{ConversesFor, memory_line}
-use Rattle.pico_top.specs.Walk.{Ending, Verdict, Walks, verdict, status_over, failed_names}
+use Rattle.pico_top.specs.Walk.{Verdict, Walks, verdict, status_over, failed_names}
 use Rattle.pico_top.specs.Walk.Verdict.{Refuses, Says, Hears}
 use Rattle.pico_top.specs.Walk.Ending.{Said, Heard, Refused}
 

@@ -4,7 +4,8 @@ use Rattle.std.specs.Prelude.{ℕ, Bool, if◌then◌else◌, List, [], ◌∷�
 use Rattle.lane_look.specs.Device.{DeviceMeaning, paired}
 use Rattle.board_parts.specs.Probe.{ProbeMeaning}
 use Rattle.board_parts.specs.Parts.{parts_device}
-use Rattle.board_parts.specs.Wiring.{placed_by}
+use Rattle.board_parts.specs.Part.{PartMeaning}
+use Rattle.board_parts.specs.Wiring.{Wired, placed_by}
 use Rattle.board_parts.specs.Hearing.{Aim}
 use Rattle.board_parts.specs.Aiming.{aims_of}
 use Rattle.board_parts.specs.declared.target.Target.{Target}
@@ -173,9 +174,14 @@ targets_in (Generate number cycles workers stats) = []
 abbrev pub aims_in : List ProbeMeaning → Command → List Aim
 aims_in probes command = aims_of probes (targets_in command)
 
--- the device of what is asked for: the parts that are attached, of those that are handed in, and beside them the device at the pads
+-- the parts that are attached, of those that are handed in, and beside them the device at the pads; this alone, where none is attached
+abbrev pub beside : List Wired → List PartMeaning → DeviceMeaning → DeviceMeaning
+beside [] parts device = device
+beside (w ∷ ws) parts device = paired (parts_device (placed_by parts (w ∷ ws))) device
+
+-- the device of what is asked for
 abbrev pub device_in : Board → Command → DeviceMeaning
-device_in b command = paired (parts_device (placed_by b.parts (parts_in command))) b.device
+device_in b command = beside (parts_in command) b.parts b.device
 
 -- A run and the debugger on it load its image, which is linked where that is asked for, its script and its programs, and a listing and the
 -- file of a Thumb source's image their source; the source text of instruction words needs no file. The run of a generated image has no script and no programs. How many workers run the lanes of a

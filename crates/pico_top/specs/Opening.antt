@@ -33,7 +33,7 @@ use Rattle.pico_top.specs.Loads.{Placed, placed_as, offset_of}
 use Rattle.pico_top.specs.Dialogue.{Use, Dialogue, judge, say, hear, plain, dialogue_of, run_reply, say_run, hear_run, input_limit, session_reply, with_first, with_program, with_programs}
 use Rattle.pico_top.specs.Dialogue.Dialogue.{Load}
 use Rattle.pico_top.specs.Walk.{Ending, Walks, failed_names}
-use Rattle.pico_top.specs.Walk.Ending.{Said, Heard, Refused, NoMemory}
+use Rattle.pico_top.specs.Walk.Ending.{Said, Heard, Refused}
 
 -- what the run of a machine is given
 abbrev pub setting_in : DeviceMeaning → Started → Setting

@@ -156,6 +156,69 @@ where
     }
 }
 
+/// Aims the probes that a reading names, loads its files, and writes the text, where a run has this device.
+fn serve_with<F: Shelf, I: Source, O: Sink, X: Device, L: Ledger>(
+    alloc: Global,
+    reading: &Reading,
+    files: &mut F,
+    input: &mut I,
+    out: &mut O,
+    probes: Vec<Box<dyn Probe>>,
+    device: &X,
+    steps: &mut Steps<L>,
+) -> u8
+    requires { IsLimited (command_in reading.now) }
+    ensures { (b : Board) → X.meaning device.now ≡ device_in b (command_in reading.now)
+        → map (λ p. (Probe-box p).meaning p.value) probes.items ≡ b.probes
+        → ConversesFor b (Some (command_in reading.now))
+        (outside ⟦<F as Shelf>⟧ ⟦<I as Source>⟧ ⟦<O as Sink>⟧ files.old input.old out.old steps.old)
+        (outside ⟦<F as Shelf>⟧ ⟦<I as Source>⟧ ⟦<O as Sink>⟧ files.new input.new out.new steps.new)
+        result }
+{
+    match aim_all(alloc, probes, targets(reading)) {
+        Ok(mut aimed) => serve_aimed(alloc, reading, files, input, out, &mut aimed, device, steps),
+        Err(_) => refuse(alloc, &Unopened::Memory, out),
+    }
+}
+
+/// The same, where workers run the lanes of a run.
+fn serve_with_by<F, I, O, G, X, L, R>(
+    rt: &R,
+    alloc: Global,
+    workers: &Workers<'_, G>,
+    reading: &Reading,
+    files: &mut F,
+    input: &mut I,
+    out: &mut O,
+    probes: Vec<Box<dyn Probe>>,
+    device: &X,
+    steps: &mut Steps<L>,
+) -> u8
+where
+    F: Shelf,
+    I: Source,
+    O: Sink,
+    G: Gate,
+    X: Device,
+    L: Ledger,
+    R: Threads + Wait + Sync,
+    requires workers { workers.now.count ≤ 8 }
+    requires limited { IsLimited (command_in reading.now) }
+    ensures { (b : Board) → X.meaning device.now ≡ device_in b (command_in reading.now)
+        → map (λ p. (Probe-box p).meaning p.value) probes.items ≡ b.probes
+        → ConversesFor b (Some (command_in reading.now))
+        (outside ⟦<F as Shelf>⟧ ⟦<I as Source>⟧ ⟦<O as Sink>⟧ files.old input.old out.old steps.old)
+        (outside ⟦<F as Shelf>⟧ ⟦<I as Source>⟧ ⟦<O as Sink>⟧ files.new input.new out.new steps.new)
+        result }
+{
+    match aim_all(alloc, probes, targets(reading)) {
+        Ok(mut aimed) => serve_aimed_by(
+            rt, alloc, workers, reading, files, input, out, &mut aimed, device, steps,
+        ),
+        Err(_) => refuse(alloc, &Unopened::Memory, out),
+    }
+}
+
 /// Aims the probes and attaches the parts that a reading names, loads its files, and writes the text.
 fn serve<F, I, O, P, X, L>(
     alloc: Global,
@@ -187,18 +250,18 @@ where
         (outside ⟦<F as Shelf>⟧ ⟦<I as Source>⟧ ⟦<O as Sink>⟧ files.new input.new out.new steps.new)
         result }
 {
-    let Ok(first) = attach_all(alloc, parts, wirings(reading)) else {
-        return refuse(alloc, &Unopened::Memory, out);
-    };
-    let device = Pair {
-        first,
-        second: device,
-    };
-    match aim_all(alloc, probes, targets(reading)) {
-        Ok(mut aimed) => serve_aimed(
-            alloc, reading, files, input, out, &mut aimed, &device, steps,
-        ),
-        Err(_) => refuse(alloc, &Unopened::Memory, out),
+    match wirings(reading) {
+        [] => serve_with(alloc, reading, files, input, out, probes, &device, steps),
+        wirings => match attach_all(alloc, parts, wirings) {
+            Ok(first) => {
+                let device = Pair {
+                    first,
+                    second: device,
+                };
+                serve_with(alloc, reading, files, input, out, probes, &device, steps)
+            }
+            Err(_) => refuse(alloc, &Unopened::Memory, out),
+        },
     }
 }
 
@@ -238,18 +301,22 @@ where
         (outside ⟦<F as Shelf>⟧ ⟦<I as Source>⟧ ⟦<O as Sink>⟧ files.new input.new out.new steps.new)
         result }
 {
-    let Ok(first) = attach_all(alloc, parts, wirings(reading)) else {
-        return refuse(alloc, &Unopened::Memory, out);
-    };
-    let device = Pair {
-        first,
-        second: device,
-    };
-    match aim_all(alloc, probes, targets(reading)) {
-        Ok(mut aimed) => serve_aimed_by(
-            rt, alloc, workers, reading, files, input, out, &mut aimed, &device, steps,
+    match wirings(reading) {
+        [] => serve_with_by(
+            rt, alloc, workers, reading, files, input, out, probes, &device, steps,
         ),
-        Err(_) => refuse(alloc, &Unopened::Memory, out),
+        wirings => match attach_all(alloc, parts, wirings) {
+            Ok(first) => {
+                let device = Pair {
+                    first,
+                    second: device,
+                };
+                serve_with_by(
+                    rt, alloc, workers, reading, files, input, out, probes, &device, steps,
+                )
+            }
+            Err(_) => refuse(alloc, &Unopened::Memory, out),
+        },
     }
 }
 
