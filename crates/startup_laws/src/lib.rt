@@ -1,0 +1,18 @@
+//! What a usual start-up waits for, in the machine and in the start-up registers beside it.
+#![tactic(auto)]
+
+ghost use Rattle.startup_laws.specs.Waits.{AStartUpWaitsForNothing};
+
+use startup_blocks::laws::{
+    clocks_are_selected_at_once, oscillator_and_plls_are_ready, the_tick_runs_at_once,
+};
+
+/// Each wait of a usual start-up is over as soon as it begins: for STABLE of XOSC, LOCK of both PLLs, the selected sources of CLK_REF and
+/// CLK_SYS, RUNNING of TICK, and the bits of RESET_DONE.
+pub fn a_start_up_waits_for_nothing()
+    ensures { AStartUpWaitsForNothing }
+{
+    oscillator_and_plls_are_ready();
+    clocks_are_selected_at_once();
+    the_tick_runs_at_once();
+}
