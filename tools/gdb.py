@@ -23,7 +23,7 @@ import sys
 
 sys.path.insert(0, os.path.dirname(os.path.abspath(__file__)))
 import johvelni  # noqa: E402
-from runs import NAMES, STOP, Refused, main, parser, say  # noqa: E402
+from runs import NAMES, STOP, Refused, main, moved, parser, say  # noqa: E402
 
 INPUT = 1_000_000           # bytes of commands after which a session begins anew; it hears at most 1 MiB
 CHUNK = 1_000_000           # cycles of a run between two looks for Ctrl-C
@@ -142,13 +142,9 @@ class Session:
     def move(self, command):
         """Moves; `stop` is then the line of the stop that was met, `start`, or None."""
         (line,) = self.ask(command)
-        self.stop = None
-        if found := STOP.fullmatch(line):
-            self.stop, self.cycle = line, int(found[3])
-        elif line == "at start":
-            self.stop, self.cycle = "start", 0
-        else:
-            self.cycle = int(line.removeprefix("at "))
+        self.cycle, self.stop = moved(line)
+        if line == "at start":
+            self.stop = "start"
         return line
 
     def goto(self, cycle):

@@ -14,14 +14,13 @@ program is ./pico, it may be an ELF file.
 from __future__ import annotations
 
 import os
-import re
 import subprocess
 import sys
 import tempfile
 from dataclasses import dataclass
 
 sys.path.insert(0, os.path.dirname(os.path.abspath(__file__)))
-from runs import NAMES, STOP, Run, read_run  # noqa: E402
+from runs import NAMES, Run, moved, read_run  # noqa: E402
 
 TOP = os.path.dirname(os.path.dirname(os.path.abspath(__file__)))
 
@@ -138,13 +137,7 @@ class Debug:
 
     def move(self, command):
         (line,) = self.ask(command)
-        self.stop = None
-        if found := STOP.fullmatch(line):
-            self.stop, self.cycle = line, int(found[3])
-        elif line == "at start":
-            self.cycle = 0
-        else:
-            self.cycle = int(re.fullmatch(r"at (\d+)", line)[1])
+        self.cycle, self.stop = moved(line)
         return self.cycle
 
     def step(self, count=1):

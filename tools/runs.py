@@ -47,6 +47,13 @@ class Run:
         return [(cycle, level) for cycle, number, level in self.pins if number == pin]
 
 
+def moved(line):
+    """The cycle to which a reply of the debugger moves, and the line of the stop that was met, or None."""
+    if found := STOP.fullmatch(line):
+        return int(found[3]), line
+    return 0 if line == "at start" else int(re.fullmatch(r"at (\d+)", line)[1]), None
+
+
 def read_run(text):
     """The run of a text; refused where a line is none of a run, or where the text is a refusal of the program."""
     run = Run()
