@@ -1,0 +1,167 @@
+#!/usr/bin/env python3
+"""Proves and builds the program: tools/build.py [--jobs N]
+
+The crates of the program are proved from the lowest, several at a time (as many as there are processors, as far as there are 2.5 GB of memory
+for each, or as RT_JOBS says), and a crate that is proved is not proved again until it or one below it changes. How far it is goes to standard
+error, all that `rt` prints to crates/pico_main/out/build.log. Status 0: the program stands in crates/pico_main/out/pico_main; 1: it does not.
+"""
+import os
+import subprocess
+import sys
+import time
+
+TOP = os.path.dirname(os.path.dirname(os.path.abspath(__file__)))
+MAIN = "pico_main"
+LOG = f"{TOP}/crates/{MAIN}/out/build.log"
+
+
+def say(text):
+    print(f"pico: {text}", file=sys.stderr, flush=True)
+
+
+def used():
+    """The libraries of this repository that each crate uses, by crates.txt."""
+    words = {}
+    with open(f"{TOP}/crates.txt") as lines:
+        for line in lines:
+            name, colon, rest = line.partition("#")[0].partition(":")
+            if colon:
+                words[name.split()[0]] = rest.split()
+    return {crate: [word for word in rest if word in words] for crate, rest in words.items()}
+
+
+def below(crate, uses, found):
+    """The crate and all that it stands on, lowest first."""
+    for library in uses[crate]:
+        below(library, uses, found)
+    found.setdefault(crate)
+    return list(found)
+
+
+def heights(order, uses):
+    """For each crate, how many stand on each other above it at most: the tallest are begun first."""
+    tall = dict.fromkeys(order, 0)
+    for crate in reversed(order):
+        for library in uses[crate]:
+            tall[library] = max(tall[library], tall[crate] + 1)
+    return tall
+
+
+def memory():
+    """How many proofs of 2.5 GB there is room for."""
+    try:
+        with open("/proc/meminfo") as lines:
+            free = next(int(line.split()[1]) for line in lines if line.startswith("MemAvailable:"))
+        return max(1, free // 2621440)
+    except (OSError, StopIteration):
+        return 1
+
+
+def at_a_time(words):
+    asked = words[words.index("--jobs") + 1 :][:1] if "--jobs" in words else [os.environ.get("RT_JOBS", "")]
+    if asked and asked[0].isdigit() and int(asked[0]) > 0:
+        return int(asked[0])
+    return min(os.cpu_count() or 1, memory())
+
+
+class Build:
+    """The proofs that run, those that wait, and those that are done."""
+
+    def __init__(self, jobs, log):
+        self.uses = used()
+        self.order = below(MAIN, self.uses, {})
+        self.jobs, self.log = jobs, log
+        self.tall = heights(self.order, self.uses)
+        self.waiting = [crate for crate in self.order if crate != MAIN]
+        self.running, self.done = {}, set()
+        self.begun = time.monotonic()
+
+    def minutes(self):
+        return int((time.monotonic() - self.begun) / 60)
+
+    def start(self):
+        """Begins what can be begun; a proof that runs alone has all processors."""
+        ready = [crate for crate in self.waiting if all(library in self.done for library in self.uses[crate])]
+        ready.sort(key=lambda crate: -self.tall[crate])
+        room = self.jobs - sum(jobs for _, jobs, _ in self.running.values())
+        for place, crate in enumerate(ready[:room]):
+            left = min(len(ready), room) - place
+            jobs = max(1, room // left)
+            room -= jobs
+            out = open(f"{self.log.name}.{crate}", "w+")
+            words = ["rt", "lib", "--jobs", str(jobs)]
+            process = subprocess.Popen(words, cwd=f"{TOP}/crates/{crate}", stdin=subprocess.DEVNULL, stdout=out, stderr=subprocess.STDOUT)
+            self.running[crate] = (process, jobs, out)
+            self.waiting.remove(crate)
+
+    def end(self, crate):
+        """What a proof left; whether it is proved."""
+        process, _, out = self.running.pop(crate)
+        out.seek(0)
+        self.log.write(f"== {crate}\n{out.read()}")
+        self.log.flush()
+        out.close()
+        os.remove(out.name)
+        if process.returncode:
+            say(f"{crate} was not proved")
+            return False
+        self.done.add(crate)
+        say(f"crate {len(self.done)} of {len(self.order)} ({crate}) after {self.minutes()} minutes")
+        return True
+
+    def stop(self):
+        for process, _, out in self.running.values():
+            process.terminate()
+            process.wait()
+            out.close()
+            os.remove(out.name)
+
+    def prove(self):
+        """Proves all crates below the program."""
+        try:
+            while self.waiting or self.running:
+                self.start()
+                time.sleep(0.2)
+                for crate in [crate for crate, (process, _, _) in self.running.items() if process.poll() is not None]:
+                    if not self.end(crate):
+                        return False
+            return True
+        finally:
+            self.stop()
+
+    def link(self):
+        """Proves the program itself, and links it."""
+        say(f"linking after {self.minutes()} minutes")
+        words = ["rt", "run", "--"]
+        where = f"{TOP}/crates/{MAIN}"
+        subprocess.run(words, cwd=where, stdin=subprocess.DEVNULL, stdout=self.log, stderr=subprocess.STDOUT)
+        return os.path.exists(f"{where}/out/{MAIN}")
+
+
+def main():
+    words = sys.argv[1:]
+    if "-h" in words or "--help" in words:
+        print(__doc__.strip())
+        return 0
+    os.makedirs(os.path.dirname(LOG), exist_ok=True)
+    with open(LOG, "w") as log:
+        build = Build(at_a_time(words), log)
+        say(f"proving and building the program, {len(build.order)} crates, {build.jobs} at a time; log: {LOG}")
+        try:
+            if build.prove() and build.link():
+                say(f"built in {build.minutes()} minutes")
+                return 0
+        except KeyboardInterrupt:
+            say("interrupted; what is proved is kept")
+            return 1
+    with open(LOG) as log:
+        text = log.read()
+    say(f"the program was not built; the last lines of {LOG}:")
+    print("\n".join(text.splitlines()[-15:]), file=sys.stderr)
+    if "killed" in text:
+        say("a proof was killed, most likely for memory: RT_JOBS=1 proves one crate after the other")
+    return 1
+
+
+if __name__ == "__main__":
+    sys.exit(main())
