@@ -6,7 +6,7 @@ use lane_look::Device;
 
 impl Outer {
     ghost use Rattle.std.specs.Prelude.{◌≡◌, ◌==◌, length};
-    ghost use Rattle.outer_lane.specs.Setting.{setting_of};
+    ghost use Rattle.outer_lane.specs.Setting.{setting};
     ghost use Rattle.outer_lane.specs.Device.{owned_word, device_accessed};
 
     /// Whether the state holds as many words as the device has.
@@ -20,9 +20,7 @@ impl Outer {
     /// for addresses that no block of the machine covers.
     #[tactic(auto, unfolding(crate::specs::Device::owned_word))]
     pub fn owned_word<X: Device>(&self, world: &World<'_, X>, address: u32) -> Option<u32>
-        ensures { result ≡ owned_word
-            (setting_of world.now.script.now (X.meaning world.now.device.now) world.now.limit)
-            address self.now }
+        ensures { result ≡ owned_word (setting X.meaning world.now) address self.now }
     {
         if self.device.len() != world.device.words() || !may_own(world, address) {
             return None;
@@ -40,9 +38,7 @@ impl Outer {
         address: u32,
         write: Option<u32>,
     )
-        ensures { self.new ≡ device_accessed
-            (setting_of world.now.script.now (X.meaning world.now.device.now) world.now.limit)
-            address write self.old }
+        ensures { self.new ≡ device_accessed (setting X.meaning world.now) address write self.old }
     {
         if self.device.len() != world.device.words() {
             return;

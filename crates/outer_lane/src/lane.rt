@@ -4,7 +4,7 @@ ghost use Rattle.std.specs.Prelude.{◌≡◌, ◌%◌, ◌/◌, ◌^◌, Some};
 ghost use Rattle.std.proofs.Common.{refl, rules};
 ghost use Rattle.lane_look.specs.Asking.{Runs};
 ghost use Rattle.outer_lane.specs.Bounds.{two_at_most};
-ghost use Rattle.outer_lane.specs.Setting.{setting_of};
+ghost use Rattle.outer_lane.specs.Setting.{setting};
 ghost use Rattle.outer_lane.specs.Step.{pins_in, asks_second, asks, wanted, next, marked};
 
 use crate::outer::Outer;
@@ -56,11 +56,11 @@ impl<X: Device> Lane<World<'_, X>> for Outer {
 
     ghost wanted = { wanted };
 
-    ghost next = { λ w s seen turns. next (setting_of w.script.now (X.meaning w.device.now) w.limit)
+    ghost next = { λ w s seen turns. next (setting X.meaning w)
         s seen };
 
     ghost marked = { λ w s seen turns. Some
-        (marked (setting_of w.script.now (X.meaning w.device.now) w.limit) s seen) };
+        (marked (setting X.meaning w) s seen) };
 
     #[tactic(auto, unfolding(crate::specs::Step::asks))]
     fn begin<K: Look>(&self, _env: &World<'_, X>, cycle: u64, look: &mut K) -> SeenOutputs {

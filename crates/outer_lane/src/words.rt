@@ -25,7 +25,7 @@ const LAST_PAD: u16 = PAD_GPIO29 - PADS_BANK0;
 impl Outer {
     ghost use Rattle.std.specs.Prelude.{◌≡◌, ◌+◌};
     ghost use Rattle.io_bank.specs.Offsets.{PADS_BANK0};
-    ghost use Rattle.outer_lane.specs.Setting.{setting_of};
+    ghost use Rattle.outer_lane.specs.Setting.{setting};
     ghost use Rattle.outer_lane.specs.Step.{wires_of};
     ghost use Rattle.outer_lane.specs.Words.{outs_now, pads_word, bank_word, outer_word, outer_allowed, outer_accessed};
 
@@ -39,9 +39,7 @@ impl Outer {
         block: Block,
         offset: u16,
     ) -> Option<u32>
-        ensures { result ≡ outer_word
-            (setting_of world.now.script.now (X.meaning world.now.device.now) world.now.limit)
-            seen.now block offset self.now }
+        ensures { result ≡ outer_word (setting X.meaning world.now) seen.now block offset self.now }
     {
         match block {
             Block::IoBank0 => self.read_bank(world, seen, offset),
@@ -60,9 +58,7 @@ impl Outer {
         seen: &SeenOutputs,
         offset: u16,
     ) -> Option<u32>
-        ensures { result ≡ bank_word
-            (setting_of world.now.script.now (X.meaning world.now.device.now) world.now.limit)
-            seen.now offset self.now }
+        ensures { result ≡ bank_word (setting X.meaning world.now) seen.now offset self.now }
     {
         if offset >= PADS_BANK0 {
             return None;
@@ -78,9 +74,7 @@ impl Outer {
         seen: &SeenOutputs,
         offset: u16,
     ) -> Option<u32>
-        ensures { result ≡ pads_word
-            (setting_of world.now.script.now (X.meaning world.now.device.now) world.now.limit)
-            seen.now offset self.now }
+        ensures { result ≡ pads_word (setting X.meaning world.now) seen.now offset self.now }
     {
         let outs = self.outs_now(world, seen);
         self.pads.read(offset, &outs)
@@ -94,9 +88,8 @@ impl Outer {
         seen: &SeenOutputs,
         offset: u16,
     ) -> Option<u32>
-        ensures { result ≡ pads_word
-            (setting_of world.now.script.now (X.meaning world.now.device.now) world.now.limit)
-            seen.now (PADS_BANK0 + offset) self.now }
+        ensures { result ≡ pads_word (setting X.meaning world.now) seen.now (PADS_BANK0 + offset)
+            self.now }
     {
         if offset > LAST_PAD {
             return None;
@@ -106,9 +99,7 @@ impl Outer {
 
     /// The outputs of all parts in this cycle. The device says what it drives, on a copy of its words.
     fn outs_now<X: Device>(&self, world: &World<'_, X>, seen: &SeenOutputs) -> Outs
-        ensures { result ≡ outs_now
-            (setting_of world.now.script.now (X.meaning world.now.device.now) world.now.limit)
-            seen.now self.now }
+        ensures { result ≡ outs_now (setting X.meaning world.now) seen.now self.now }
     {
         let mut words = self.words();
         let wires = step_device(world.device, &mut words, seen.cycle, self.pads.pads());

@@ -1,7 +1,7 @@
 //! A run by windows, up to the first state that has a stop: on one thread, or with workers.
 
 ghost use Rattle.std.specs.Prelude.{◌≡◌, ◌+◌, ◌≤◌, IfOk, IfSome};
-ghost use Rattle.outer_lane.specs.Setting.{setting_of};
+ghost use Rattle.outer_lane.specs.Setting.{setting};
 ghost use Rattle.trace_text.specs.Tape.{Tells};
 ghost use Rattle.rp_machine.specs.Run.{last_state};
 ghost use Rattle.window_runner.specs.Told.{run_shown};
@@ -50,19 +50,12 @@ fn run_by_one<X: Device, T: Tape, L: Ledger>(
     steps: &mut Steps<L>,
 ) -> Result<Ran, RunFault>
     requires number { machine.old.cycle ≤ world.now.limit }
-    ensures told { IfSome (answered result) (Tells T.took T.missed tape.old tape.new
-        (T.faults tape.old) (T.faults tape.new) (run_shown
-        (setting_of world.now.script.now (X.meaning world.now.device.now) world.now.limit)
-        machine.old)) }
-    ensures ran { IfOk result (IsRan
-        (setting_of world.now.script.now (X.meaning world.now.device.now) world.now.limit)
+    ensures told { IfSome (answered result) (Tells T.took T.missed tape.old tape.new (T.faults
+        tape.old) (T.faults tape.new) (run_shown (setting X.meaning world.now) machine.old)) }
+    ensures ran { IfOk result (IsRan (setting X.meaning world.now) machine.old) }
+    ensures state { IfOk result (λ ran. machine.new ≡ last_state (setting X.meaning world.now)
         machine.old) }
-    ensures state { IfOk result (λ ran. machine.new ≡ last_state
-        (setting_of world.now.script.now (X.meaning world.now.device.now) world.now.limit)
-        machine.old) }
-    ensures on_run { IsOnRun
-        (setting_of world.now.script.now (X.meaning world.now.device.now) world.now.limit)
-        machine.old machine.new }
+    ensures on_run { IsOnRun (setting X.meaning world.now) machine.old machine.new }
     ensures steps { steps.new + machine.old.cycle ≡ steps.old + machine.new.cycle }
     ensures memory { OnMemory result ((machine.new ≡ machine.old) × (tape.new ≡ tape.old)) }
 {
@@ -84,16 +77,11 @@ fn run_told<X: Device, O: Sink, L: Ledger>(
     steps: &mut Steps<L>,
 ) -> Result<Ran, RunFault>
     requires number { machine.old.cycle ≤ world.now.limit }
-    ensures told { RunsTo
-        (setting_of world.now.script.now (X.meaning world.now.device.now) world.now.limit)
-        machine.old machine.new
-        (seen teller.old.probes.now (λ a. aim_of a.index a.pin
-        (⟦<dyn Probe as Probe>⟧ a.probe.vtable) a.probe.value))
-        (seen teller.new.probes.now (λ a. aim_of a.index a.pin
-        (⟦<dyn Probe as Probe>⟧ a.probe.vtable) a.probe.value))
-        (O.written teller.old.writer.out.now) (O.written teller.new.writer.out.now)
-        (O.faults teller.old.writer.out.now) (O.faults teller.new.writer.out.now)
-        steps.old steps.new result }
+    ensures told { RunsTo (setting X.meaning world.now) machine.old machine.new (seen
+        teller.old.probes.now (λ a. aim_of a.index a.pin (⟦<dyn Probe as Probe>⟧ a.probe.vtable)
+        a.probe.value)) (seen teller.new.probes.now (λ a. aim_of a.index a.pin (⟦<dyn Probe as Probe>⟧ a.probe.vtable) a.probe.value)) (O.written teller.old.writer.out.now) (O.written
+        teller.new.writer.out.now) (O.faults teller.old.writer.out.now) (O.faults
+        teller.new.writer.out.now) steps.old steps.new result }
     ensures same_sink { teller.new.writer.out.ghost_name ≡ teller.old.writer.out.ghost_name }
     ensures same_probes { teller.new.probes.ghost_name ≡ teller.old.probes.ghost_name }
 {
@@ -112,16 +100,11 @@ fn run_told_by<X: Device, O: Sink, G: Gate, L: Ledger, R: Threads + Wait + Sync>
 ) -> Result<Ran, RunFault>
     requires workers { workers.now.count ≤ 8 }
     requires number { machine.old.cycle ≤ world.now.limit }
-    ensures told { RunsTo
-        (setting_of world.now.script.now (X.meaning world.now.device.now) world.now.limit)
-        machine.old machine.new
-        (seen teller.old.probes.now (λ a. aim_of a.index a.pin
-        (⟦<dyn Probe as Probe>⟧ a.probe.vtable) a.probe.value))
-        (seen teller.new.probes.now (λ a. aim_of a.index a.pin
-        (⟦<dyn Probe as Probe>⟧ a.probe.vtable) a.probe.value))
-        (O.written teller.old.writer.out.now) (O.written teller.new.writer.out.now)
-        (O.faults teller.old.writer.out.now) (O.faults teller.new.writer.out.now)
-        steps.old steps.new result }
+    ensures told { RunsTo (setting X.meaning world.now) machine.old machine.new (seen
+        teller.old.probes.now (λ a. aim_of a.index a.pin (⟦<dyn Probe as Probe>⟧ a.probe.vtable)
+        a.probe.value)) (seen teller.new.probes.now (λ a. aim_of a.index a.pin (⟦<dyn Probe as Probe>⟧ a.probe.vtable) a.probe.value)) (O.written teller.old.writer.out.now) (O.written
+        teller.new.writer.out.now) (O.faults teller.old.writer.out.now) (O.faults
+        teller.new.writer.out.now) steps.old steps.new result }
     ensures same_sink { teller.new.writer.out.ghost_name ≡ teller.old.writer.out.ghost_name }
     ensures same_probes { teller.new.probes.ghost_name ≡ teller.old.probes.ghost_name }
 {
@@ -149,15 +132,11 @@ pub fn run_to_stop<X: Device, O: Sink, L: Ledger>(
     steps: &mut Steps<L>,
 ) -> Result<Ran, RunFault>
     requires number { machine.old.cycle ≤ world.now.limit }
-    ensures { RunsTo
-        (setting_of world.now.script.now (X.meaning world.now.device.now) world.now.limit)
-        machine.old machine.new
-        (seen probes.old (λ a. aim_of a.index a.pin
-        (⟦<dyn Probe as Probe>⟧ a.probe.vtable) a.probe.value))
-        (seen probes.new (λ a. aim_of a.index a.pin
-        (⟦<dyn Probe as Probe>⟧ a.probe.vtable) a.probe.value))
-        (O.written out.old) (O.written out.new) (O.faults out.old) (O.faults out.new)
-        steps.old steps.new result }
+    ensures { RunsTo (setting X.meaning world.now) machine.old machine.new (seen probes.old (λ a.
+        aim_of a.index a.pin (⟦<dyn Probe as Probe>⟧ a.probe.vtable) a.probe.value)) (seen
+        probes.new (λ a. aim_of a.index a.pin (⟦<dyn Probe as Probe>⟧ a.probe.vtable)
+        a.probe.value)) (O.written out.old) (O.written out.new) (O.faults out.old) (O.faults
+        out.new) steps.old steps.new result }
 {
     let mut teller = Teller {
         writer: Writer { out },
@@ -180,15 +159,11 @@ pub fn run_to_stop_by<X: Device, O: Sink, G: Gate, L: Ledger, R: Threads + Wait 
 ) -> Result<Ran, RunFault>
     requires workers { workers.now.count ≤ 8 }
     requires number { machine.old.cycle ≤ world.now.limit }
-    ensures { RunsTo
-        (setting_of world.now.script.now (X.meaning world.now.device.now) world.now.limit)
-        machine.old machine.new
-        (seen probes.old (λ a. aim_of a.index a.pin
-        (⟦<dyn Probe as Probe>⟧ a.probe.vtable) a.probe.value))
-        (seen probes.new (λ a. aim_of a.index a.pin
-        (⟦<dyn Probe as Probe>⟧ a.probe.vtable) a.probe.value))
-        (O.written out.old) (O.written out.new) (O.faults out.old) (O.faults out.new)
-        steps.old steps.new result }
+    ensures { RunsTo (setting X.meaning world.now) machine.old machine.new (seen probes.old (λ a.
+        aim_of a.index a.pin (⟦<dyn Probe as Probe>⟧ a.probe.vtable) a.probe.value)) (seen
+        probes.new (λ a. aim_of a.index a.pin (⟦<dyn Probe as Probe>⟧ a.probe.vtable)
+        a.probe.value)) (O.written out.old) (O.written out.new) (O.faults out.old) (O.faults
+        out.new) steps.old steps.new result }
 {
     let mut teller = Teller {
         writer: Writer { out },

@@ -1,7 +1,7 @@
 //! How a machine goes forward.
 
 ghost use Rattle.std.specs.Prelude.{◌≤◌};
-ghost use Rattle.outer_lane.specs.Setting.{setting_of};
+ghost use Rattle.outer_lane.specs.Setting.{setting};
 ghost use Rattle.reverse_debug.specs.Advance.{Advances, CountsMove};
 
 use lane_look::{Device, Marks};
@@ -20,9 +20,7 @@ pub(crate) fn advance<X: Device, L: Ledger>(
 ) -> Option<Why>
     requires low { machine.old.cycle ≤ world.now.limit }
     requires ahead { machine.old.cycle ≤ to }
-    ensures way { Advances
-        (setting_of world.now.script.now (X.meaning world.now.device.now) world.now.limit)
-        machine.old to machine.new result }
+    ensures way { Advances (setting X.meaning world.now) machine.old to machine.new result }
     ensures steps { CountsMove machine.old machine.new steps.old steps.new }
 {
     'cycles: while machine.number() < to {

@@ -4,7 +4,7 @@ ghost use Rattle.std.specs.Prelude.{◌≡◌, ◌<◌, ◌≤◌, ◌+◌, ◌+
 ghost use Rattle.std.specs.Str.Lines.{strip_carriage_return};
 ghost use Rattle.arrayvec.specs.ArrayVec.{array_vec_len};
 ghost use Rattle.trace_text.specs.Sent.{Sends};
-ghost use Rattle.outer_lane.specs.Setting.{setting_of};
+ghost use Rattle.outer_lane.specs.Setting.{setting};
 ghost use Rattle.reverse_debug.specs.Session.{first_of, StandsFor};
 ghost use Rattle.reverse_debug.specs.Debugger.{talk_with};
 ghost use Rattle.reverse_debug.specs.Lines.{all_lines};
@@ -67,30 +67,18 @@ fn say<X: Device, L: Ledger>(
     reply: &mut ArrayVec<u8, REPLY>,
     steps: &mut Steps<L>,
 ) -> bool
-    requires stood { StandsFor
-        (setting_of world.now.script.now (X.meaning world.now.device.now) world.now.limit)
-        session.old }
-    ensures stands { StandsFor
-        (setting_of world.now.script.now (X.meaning world.now.device.now) world.now.limit)
-        session.new }
+    requires stood { StandsFor (setting X.meaning world.now) session.old }
+    ensures stands { StandsFor (setting X.meaning world.now) session.new }
     ensures first { first_of session.new ≡ first_of session.old }
-    ensures more { let t = talk_with
-        (setting_of world.now.script.now (X.meaning world.now.device.now) world.now.limit)
-        session.old in
-        result ≡ not (t.last line.now) }
-    ensures reply { let t = talk_with
-        (setting_of world.now.script.now (X.meaning world.now.device.now) world.now.limit)
-        session.old in
-        result ≡ true → reply.new.items ≡ t.reply session.old.now.cycle line.now }
-    ensures cycle { let t = talk_with
-        (setting_of world.now.script.now (X.meaning world.now.device.now) world.now.limit)
-        session.old in
-        result ≡ true → session.new.now.cycle ≡ t.next session.old.now.cycle line.now }
+    ensures more { let t = talk_with (setting X.meaning world.now) session.old in result ≡ not
+        (t.last line.now) }
+    ensures reply { let t = talk_with (setting X.meaning world.now) session.old in result ≡ true →
+        reply.new.items ≡ t.reply session.old.now.cycle line.now }
+    ensures cycle { let t = talk_with (setting X.meaning world.now) session.old in result ≡ true →
+        session.new.now.cycle ≡ t.next session.old.now.cycle line.now }
     ensures forward { steps.old ≤ steps.new }
-    ensures within { let t = talk_with
-        (setting_of world.now.script.now (X.meaning world.now.device.now) world.now.limit)
-        session.old in
-        steps.new ≤ steps.old + spent_on t session.old.now.cycle line.now }
+    ensures within { let t = talk_with (setting X.meaning world.now) session.old in steps.new ≤
+        steps.old + spent_on t session.old.now.cycle line.now }
 {
     session.command(world, line, reply, steps)
 }
@@ -103,38 +91,22 @@ fn answer<X: Device, O: Sink, L: Ledger>(
     writer: &mut Writer<'_, O>,
     steps: &mut Steps<L>,
 ) -> Result<bool, SinkFault>
-    requires stood { StandsFor
-        (setting_of world.now.script.now (X.meaning world.now.device.now) world.now.limit)
-        session.old }
-    ensures stands { StandsFor
-        (setting_of world.now.script.now (X.meaning world.now.device.now) world.now.limit)
-        session.new }
+    requires stood { StandsFor (setting X.meaning world.now) session.old }
+    ensures stands { StandsFor (setting X.meaning world.now) session.new }
     ensures first { first_of session.new ≡ first_of session.old }
     ensures same_sink { writer.new.out.ghost_name ≡ writer.old.out.ghost_name }
-    ensures more { let t = talk_with
-        (setting_of world.now.script.now (X.meaning world.now.device.now) world.now.limit)
-        session.old in
-        IfOk result (λ more. more ≡ not (t.last line.now)) }
-    ensures other { let t = talk_with
-        (setting_of world.now.script.now (X.meaning world.now.device.now) world.now.limit)
-        session.old in
-        OnErr result (t.last line.now ≡ false) }
-    ensures sends { let t = talk_with
-        (setting_of world.now.script.now (X.meaning world.now.device.now) world.now.limit)
-        session.old in
-        Sends (O.written writer.old.out.now) (O.written writer.new.out.now)
-        (O.faults writer.old.out.now) (O.faults writer.new.out.now)
-        (said_to t session.old.now.cycle line.now) result }
-    ensures cycle { let t = talk_with
-        (setting_of world.now.script.now (X.meaning world.now.device.now) world.now.limit)
-        session.old in
-        IfOk result (λ more. more ≡ true
-        → session.new.now.cycle ≡ t.next session.old.now.cycle line.now) }
+    ensures more { let t = talk_with (setting X.meaning world.now) session.old in IfOk result (λ
+        more. more ≡ not (t.last line.now)) }
+    ensures other { let t = talk_with (setting X.meaning world.now) session.old in OnErr result
+        (t.last line.now ≡ false) }
+    ensures sends { let t = talk_with (setting X.meaning world.now) session.old in Sends (O.written
+        writer.old.out.now) (O.written writer.new.out.now) (O.faults writer.old.out.now) (O.faults
+        writer.new.out.now) (said_to t session.old.now.cycle line.now) result }
+    ensures cycle { let t = talk_with (setting X.meaning world.now) session.old in IfOk result (λ
+        more. more ≡ true → session.new.now.cycle ≡ t.next session.old.now.cycle line.now) }
     ensures forward { steps.old ≤ steps.new }
-    ensures within { let t = talk_with
-        (setting_of world.now.script.now (X.meaning world.now.device.now) world.now.limit)
-        session.old in
-        steps.new ≤ steps.old + spent_on t session.old.now.cycle line.now }
+    ensures within { let t = talk_with (setting X.meaning world.now) session.old in steps.new ≤
+        steps.old + spent_on t session.old.now.cycle line.now }
 {
     let mut reply = ArrayVec::<u8, REPLY>::new();
     if !say(session, world, line, &mut reply, steps) {
@@ -155,22 +127,16 @@ fn hear_byte<X: Device, O: Sink, L: Ledger>(
     writer: &mut Writer<'_, O>,
     steps: &mut Steps<L>,
 ) -> Result<bool, SinkFault>
-    requires stood { StandsFor
-        (setting_of world.now.script.now (X.meaning world.now.device.now) world.now.limit)
-        session.old }
-    ensures stands { StandsFor
-        (setting_of world.now.script.now (X.meaning world.now.device.now) world.now.limit)
-        session.new }
+    requires stood { StandsFor (setting X.meaning world.now) session.old }
+    ensures stands { StandsFor (setting X.meaning world.now) session.new }
     ensures first { first_of session.new ≡ first_of session.old }
     ensures same_sink { writer.new.out.ghost_name ≡ writer.old.out.ghost_name }
-    ensures feeds { let t = talk_with
-        (setting_of world.now.script.now (X.meaning world.now.device.now) world.now.limit)
-        session.old in
-        (cycle : ℕ) (seen : List ℕ) (old : Option (List ℕ)) (before base : ℕ)
-        → Along t cycle seen old (O.written writer.old.out.now) before
-        (O.faults writer.old.out.now) base steps.old session.old.now.cycle open.old.items
-        → Feeds t cycle (seen ++ byte ∷ []) old (O.written writer.new.out.now) before
-        (O.faults writer.new.out.now) base steps.new session.new.now.cycle open.new.items result }
+    ensures feeds { let t = talk_with (setting X.meaning world.now) session.old in (cycle : ℕ) (seen
+        : List ℕ) (old : Option (List ℕ)) (before base : ℕ) → Along t cycle seen old (O.written
+        writer.old.out.now) before (O.faults writer.old.out.now) base steps.old
+        session.old.now.cycle open.old.items → Feeds t cycle (seen ++ byte ∷ []) old (O.written
+        writer.new.out.now) before (O.faults writer.new.out.now) base steps.new
+        session.new.now.cycle open.new.items result }
 {
     if byte != b'\n' {
         keep(byte, open);
@@ -190,22 +156,16 @@ fn hear_bytes<X: Device, O: Sink, L: Ledger>(
     writer: &mut Writer<'_, O>,
     steps: &mut Steps<L>,
 ) -> Result<bool, SinkFault>
-    requires stood { StandsFor
-        (setting_of world.now.script.now (X.meaning world.now.device.now) world.now.limit)
-        session.old }
-    ensures stands { StandsFor
-        (setting_of world.now.script.now (X.meaning world.now.device.now) world.now.limit)
-        session.new }
+    requires stood { StandsFor (setting X.meaning world.now) session.old }
+    ensures stands { StandsFor (setting X.meaning world.now) session.new }
     ensures first { first_of session.new ≡ first_of session.old }
     ensures same_sink { writer.new.out.ghost_name ≡ writer.old.out.ghost_name }
-    ensures feeds { let t = talk_with
-        (setting_of world.now.script.now (X.meaning world.now.device.now) world.now.limit)
-        session.old in
-        (cycle : ℕ) (seen : List ℕ) (old : Option (List ℕ)) (before base : ℕ)
-        → Along t cycle seen old (O.written writer.old.out.now) before
-        (O.faults writer.old.out.now) base steps.old session.old.now.cycle open.old.items
-        → Feeds t cycle (seen ++ bytes.now) old (O.written writer.new.out.now) before
-        (O.faults writer.new.out.now) base steps.new session.new.now.cycle open.new.items result }
+    ensures feeds { let t = talk_with (setting X.meaning world.now) session.old in (cycle : ℕ) (seen
+        : List ℕ) (old : Option (List ℕ)) (before base : ℕ) → Along t cycle seen old (O.written
+        writer.old.out.now) before (O.faults writer.old.out.now) base steps.old
+        session.old.now.cycle open.old.items → Feeds t cycle (seen ++ bytes.now) old (O.written
+        writer.new.out.now) before (O.faults writer.new.out.now) base steps.new
+        session.new.now.cycle open.new.items result }
 {
     for byte in bytes {
         match hear_byte(session, world, *byte, open, writer, steps) {
@@ -225,22 +185,15 @@ fn hear_end<X: Device, O: Sink, L: Ledger>(
     writer: &mut Writer<'_, O>,
     steps: &mut Steps<L>,
 ) -> Result<(), SinkFault>
-    requires stood { StandsFor
-        (setting_of world.now.script.now (X.meaning world.now.device.now) world.now.limit)
-        session.old }
-    ensures stands { StandsFor
-        (setting_of world.now.script.now (X.meaning world.now.device.now) world.now.limit)
-        session.new }
+    requires stood { StandsFor (setting X.meaning world.now) session.old }
+    ensures stands { StandsFor (setting X.meaning world.now) session.new }
     ensures first { first_of session.new ≡ first_of session.old }
     ensures same_sink { writer.new.out.ghost_name ≡ writer.old.out.ghost_name }
-    ensures ends { let t = talk_with
-        (setting_of world.now.script.now (X.meaning world.now.device.now) world.now.limit)
-        session.old in
-        (cycle : ℕ) (seen : List ℕ) (old : Option (List ℕ)) (before base : ℕ)
-        → Along t cycle seen old (O.written writer.old.out.now) before
-        (O.faults writer.old.out.now) base steps.old session.old.now.cycle open.now
-        → Finishes t cycle (all_lines seen) old (O.written writer.new.out.now) before
-        (O.faults writer.new.out.now) base steps.new result }
+    ensures ends { let t = talk_with (setting X.meaning world.now) session.old in (cycle : ℕ) (seen
+        : List ℕ) (old : Option (List ℕ)) (before base : ℕ) → Along t cycle seen old (O.written
+        writer.old.out.now) before (O.faults writer.old.out.now) base steps.old
+        session.old.now.cycle open.now → Finishes t cycle (all_lines seen) old (O.written
+        writer.new.out.now) before (O.faults writer.new.out.now) base steps.new result }
 {
     if open.is_empty() {
         return Ok(());
@@ -261,27 +214,19 @@ fn take_piece<X: Device, I: Source, O: Sink, L: Ledger>(
     writer: &mut Writer<'_, O>,
     steps: &mut Steps<L>,
 ) -> Result<AfterTake, SinkFault>
-    requires stood { StandsFor
-        (setting_of world.now.script.now (X.meaning world.now.device.now) world.now.limit)
-        session.old }
+    requires stood { StandsFor (setting X.meaning world.now) session.old }
     requires room { 0 < length piece.old }
-    ensures stands { StandsFor
-        (setting_of world.now.script.now (X.meaning world.now.device.now) world.now.limit)
-        session.new }
+    ensures stands { StandsFor (setting X.meaning world.now) session.new }
     ensures first { first_of session.new ≡ first_of session.old }
     ensures same_sink { writer.new.out.ghost_name ≡ writer.old.out.ghost_name }
-    ensures came { let t = talk_with
-        (setting_of world.now.script.now (X.meaning world.now.device.now) world.now.limit)
-        session.old in
-        (cycle limit count : ℕ) (left : Option (List ℕ)) (lost : ℕ) (old : Option (List ℕ))
-        (before base : ℕ)
-        → count + length piece.old ≤ limit
-        → Taking t cycle limit left (I.left input.old) lost (I.faults input.old) old
-        (O.written writer.old.out.now) before (O.faults writer.old.out.now) base
-        steps.old session.old.now.cycle open.old.items count
-        → IsAfterTake t cycle limit left (I.left input.new) lost (I.faults input.new) old
-        (O.written writer.new.out.now) before (O.faults writer.new.out.now) base
-        steps.new session.new.now.cycle open.new.items count result }
+    ensures came { let t = talk_with (setting X.meaning world.now) session.old in (cycle limit count
+        : ℕ) (left : Option (List ℕ)) (lost : ℕ) (old : Option (List ℕ)) (before base : ℕ) → count +
+        length piece.old ≤ limit → Taking t cycle limit left (I.left input.old) lost (I.faults
+        input.old) old (O.written writer.old.out.now) before (O.faults writer.old.out.now) base
+        steps.old session.old.now.cycle open.old.items count → IsAfterTake t cycle limit left
+        (I.left input.new) lost (I.faults input.new) old (O.written writer.new.out.now) before
+        (O.faults writer.new.out.now) base steps.new session.new.now.cycle open.new.items count
+        result }
 {
     match input.take(piece) {
         Taken::Took(count) => match hear_bytes(
@@ -319,16 +264,11 @@ pub fn hear<X: Device, I: Source, O: Sink, L: Ledger>(
     writer: &mut Writer<'_, O>,
     steps: &mut Steps<L>,
 ) -> Result<Way, SinkFault>
-    requires stood { StandsFor
-        (setting_of world.now.script.now (X.meaning world.now.device.now) world.now.limit)
-        session.old }
-    ensures hears { let t = talk_with
-        (setting_of world.now.script.now (X.meaning world.now.device.now) world.now.limit)
-        session.old in
-        Hears t session.old.now.cycle limit (I.left input.old) (I.left input.new)
-        (I.faults input.old) (I.faults input.new)
-        (O.written writer.old.out.now) (O.written writer.new.out.now)
-        (O.faults writer.old.out.now) (O.faults writer.new.out.now) steps.old steps.new result }
+    requires stood { StandsFor (setting X.meaning world.now) session.old }
+    ensures hears { let t = talk_with (setting X.meaning world.now) session.old in Hears t
+        session.old.now.cycle limit (I.left input.old) (I.left input.new) (I.faults input.old)
+        (I.faults input.new) (O.written writer.old.out.now) (O.written writer.new.out.now) (O.faults
+        writer.old.out.now) (O.faults writer.new.out.now) steps.old steps.new result }
     ensures first { first_of session.new ≡ first_of session.old }
     ensures same_sink { writer.new.out.ghost_name ≡ writer.old.out.ghost_name }
 {

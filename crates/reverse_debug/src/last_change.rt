@@ -1,7 +1,7 @@
 //! The last cycle that changed what is watched.
 
 ghost use Rattle.std.specs.Prelude.{◌≡◌, ◌≤◌, ◌<◌, ◌+◌, ◌-◌, Some, if◌then◌else◌};
-ghost use Rattle.outer_lane.specs.Setting.{setting_of};
+ghost use Rattle.outer_lane.specs.Setting.{setting};
 ghost use Rattle.rp_base.specs.Alias.{or_zero};
 ghost use Rattle.reverse_debug.specs.Advance.{CountsMove};
 ghost use Rattle.reverse_debug.specs.LastChange.{last_change};
@@ -34,13 +34,9 @@ fn last_change<X: Device, L: Ledger>(
     requires watched { IsThere watched }
     requires low { machine.old.cycle ≤ world.now.limit }
     requires ahead { machine.old.cycle ≤ to }
-    requires to { to ≤ last_cycle
-        (setting_of world.now.script.now (X.meaning world.now.device.now) world.now.limit)
-        machine.old }
-    ensures write { result
-        ≡ last_change
-        (setting_of world.now.script.now (X.meaning world.now.device.now) world.now.limit)
-        machine.old watched (to - machine.old.cycle) }
+    requires to { to ≤ last_cycle (setting X.meaning world.now) machine.old }
+    ensures write { result ≡ last_change (setting X.meaning world.now) machine.old watched (to -
+        machine.old.cycle) }
     ensures steps { steps.new + machine.old.cycle ≡ steps.old + to }
 {
     let mut last = None;
@@ -70,16 +66,10 @@ pub(crate) fn last_before<X: Device, L: Ledger>(
     steps: &mut Steps<L>,
 ) -> Option<u64>
     requires watched { IsThere watched }
-    requires kept { AreOf
-        (setting_of world.now.script.now (X.meaning world.now.device.now) world.now.limit)
-        (first_in ring.now machine.old) ring.now to }
-    requires to { to ≤ last_cycle
-        (setting_of world.now.script.now (X.meaning world.now.device.now) world.now.limit)
-        (first_in ring.now machine.old) }
-    ensures write { result
-        ≡ last_before
-        (setting_of world.now.script.now (X.meaning world.now.device.now) world.now.limit)
-        (first_in ring.now machine.old) watched to }
+    requires kept { AreOf (setting X.meaning world.now) (first_in ring.now machine.old) ring.now to }
+    requires to { to ≤ last_cycle (setting X.meaning world.now) (first_in ring.now machine.old) }
+    ensures write { result ≡ last_before (setting X.meaning world.now) (first_in ring.now
+        machine.old) watched to }
     ensures forward { steps.old ≤ steps.new }
     ensures steps { steps.new + or_zero result < steps.old + to + ring.now.spacing }
 {

@@ -78,7 +78,7 @@ impl Model for Session {
 
 impl Session {
     ghost use Rattle.std.specs.Prelude.{◌≡◌, ◌≤◌, ◌<◌, ◌+◌, IfOk, IfNone, not, []};
-    ghost use Rattle.outer_lane.specs.Setting.{Setting, setting_of};
+    ghost use Rattle.outer_lane.specs.Setting.{Setting, setting};
     ghost use Rattle.rp_base.specs.Alias.{or_zero};
     ghost use Rattle.reverse_debug.specs.Command.{are_words};
     ghost use Rattle.reverse_debug.specs.Reading.{meant, Fits, IsThere};
@@ -139,13 +139,9 @@ impl Session {
         marks: &mut Marks,
         steps: &mut Steps<L>,
     ) -> Option<Why>
-        requires stands { StandsFor
-            (setting_of world.now.script.now (X.meaning world.now.device.now) world.now.limit)
-            self.old }
+        requires stands { StandsFor (setting X.meaning world.now) self.old }
         requires ahead { self.old.now.cycle < to }
-        ensures way { GoesOn
-            (setting_of world.now.script.now (X.meaning world.now.device.now) world.now.limit)
-            self.old to self.new result }
+        ensures way { GoesOn (setting X.meaning world.now) self.old to self.new result }
         ensures nearer { IfNone result (self.old.now.cycle < self.new.now.cycle) }
         ensures steps { CountsMove self.old.now self.new.now steps.old steps.new }
     {
@@ -165,13 +161,9 @@ impl Session {
         to: u64,
         steps: &mut Steps<L>,
     ) -> Option<Why>
-        requires stands { StandsFor
-            (setting_of world.now.script.now (X.meaning world.now.device.now) world.now.limit)
-            self.old }
+        requires stands { StandsFor (setting X.meaning world.now) self.old }
         requires ahead { self.old.now.cycle ≤ to }
-        ensures way { GoesOn
-            (setting_of world.now.script.now (X.meaning world.now.device.now) world.now.limit)
-            self.old to self.new result }
+        ensures way { GoesOn (setting X.meaning world.now) self.old to self.new result }
         ensures there { IfNone result (self.new.now.cycle ≡ to) }
         ensures steps { CountsMove self.old.now self.new.now steps.old steps.new }
     {
@@ -193,16 +185,11 @@ impl Session {
         reply: &mut Reply,
         steps: &mut Steps<L>,
     )
-        requires stands { StandsFor
-            (setting_of world.now.script.now (X.meaning world.now.device.now) world.now.limit)
-            self.old }
+        requires stands { StandsFor (setting X.meaning world.now) self.old }
         requires empty { reply.old.items ≡ [] }
-        ensures { let w = setting_of world.now.script.now (X.meaning world.now.device.now)
-            world.now.limit in
-            let what = moved_to w (first_of self.old) target in
-            Does w self.old what (move_cost self.old.ring.spacing self.old.now.cycle what.cycle)
-            self.new reply.new.items
-            steps.old steps.new }
+        ensures { let w = setting X.meaning world.now in let what = moved_to w (first_of self.old)
+            target in Does w self.old what (move_cost self.old.ring.spacing self.old.now.cycle
+            what.cycle) self.new reply.new.items steps.old steps.new }
     {
         self.jump(target);
         match self.forward(world, target, steps) {
@@ -219,16 +206,11 @@ impl Session {
         reply: &mut Reply,
         steps: &mut Steps<L>,
     )
-        requires stands { StandsFor
-            (setting_of world.now.script.now (X.meaning world.now.device.now) world.now.limit)
-            self.old }
+        requires stands { StandsFor (setting X.meaning world.now) self.old }
         requires empty { reply.old.items ≡ [] }
-        ensures { let w = setting_of world.now.script.now (X.meaning world.now.device.now)
-            world.now.limit in
-            let what = moved_back w (first_of self.old) self.old.now.cycle cycles in
-            Does w self.old what (move_cost self.old.ring.spacing self.old.now.cycle what.cycle)
-            self.new reply.new.items
-            steps.old steps.new }
+        ensures { let w = setting X.meaning world.now in let what = moved_back w (first_of self.old)
+            self.old.now.cycle cycles in Does w self.old what (move_cost self.old.ring.spacing
+            self.old.now.cycle what.cycle) self.new reply.new.items steps.old steps.new }
     {
         let now = self.cycle();
         if now < cycles {
@@ -247,13 +229,10 @@ impl Session {
         watched: Watched,
         steps: &mut Steps<L>,
     ) -> Option<Why>
-        requires stands { StandsFor
-            (setting_of world.now.script.now (X.meaning world.now.device.now) world.now.limit)
-            self.old }
+        requires stands { StandsFor (setting X.meaning world.now) self.old }
         requires watched { IsThere watched }
-        ensures { ComesBehind
-            (setting_of world.now.script.now (X.meaning world.now.device.now) world.now.limit)
-            watched self.old self.new result steps.old steps.new }
+        ensures { ComesBehind (setting X.meaning world.now) watched self.old self.new result
+            steps.old steps.new }
     {
         let mut changed = false;
         let mut marks = Marks::new();
@@ -279,16 +258,12 @@ impl Session {
         reply: &mut Reply,
         steps: &mut Steps<L>,
     )
-        requires stands { StandsFor
-            (setting_of world.now.script.now (X.meaning world.now.device.now) world.now.limit)
-            self.old }
+        requires stands { StandsFor (setting X.meaning world.now) self.old }
         requires watched { IsThere watched }
         requires empty { reply.old.items ≡ [] }
-        ensures { let w = setting_of world.now.script.now (X.meaning world.now.device.now)
-            world.now.limit in
-            let what = at_or_last w (first_of self.old) (behind_next w (first_of self.old) watched self.old.now.cycle) in
-            Does w self.old what (move_cost self.old.ring.spacing self.old.now.cycle what.cycle)
-            self.new reply.new.items
+        ensures { let w = setting X.meaning world.now in let what = at_or_last w (first_of self.old)
+            (behind_next w (first_of self.old) watched self.old.now.cycle) in Does w self.old what
+            (move_cost self.old.ring.spacing self.old.now.cycle what.cycle) self.new reply.new.items
             steps.old steps.new }
     {
         match self.until_change(world, watched, steps) {
@@ -304,13 +279,10 @@ impl Session {
         watched: Watched,
         steps: &mut Steps<L>,
     ) -> Option<u64>
-        requires stands { StandsFor
-            (setting_of world.now.script.now (X.meaning world.now.device.now) world.now.limit)
-            self.old }
+        requires stands { StandsFor (setting X.meaning world.now) self.old }
         requires watched { IsThere watched }
-        ensures change { result ≡ last_before
-            (setting_of world.now.script.now (X.meaning world.now.device.now) world.now.limit)
-            (first_of self.old) watched self.old.now.cycle }
+        ensures change { result ≡ last_before (setting X.meaning world.now) (first_of self.old)
+            watched self.old.now.cycle }
         ensures same { self.new ≡ self.old }
         ensures forward { steps.old ≤ steps.new }
         ensures steps { steps.new + or_zero result < steps.old + self.old.now.cycle + self.old.ring.spacing }
@@ -327,17 +299,12 @@ impl Session {
         reply: &mut Reply,
         steps: &mut Steps<L>,
     )
-        requires stands { StandsFor
-            (setting_of world.now.script.now (X.meaning world.now.device.now) world.now.limit)
-            self.old }
+        requires stands { StandsFor (setting X.meaning world.now) self.old }
         requires fits { Fits command }
         requires empty { reply.old.items ≡ [] }
-        ensures { let w = setting_of world.now.script.now (X.meaning world.now.device.now)
-            world.now.limit in
-            let what = answer w (first_of self.old) self.old.now.cycle (meant command) in
-            Does w self.old what
-            (command_cost w (first_of self.old) self.old.ring.spacing self.old.now.cycle (meant command))
-            self.new
+        ensures { let w = setting X.meaning world.now in let what = answer w (first_of self.old)
+            self.old.now.cycle (meant command) in Does w self.old what (command_cost w (first_of
+            self.old) self.old.ring.spacing self.old.now.cycle (meant command)) self.new
             reply.new.items steps.old steps.new }
     {
         let now = self.cycle();
@@ -373,29 +340,17 @@ impl Session {
         reply: &mut ArrayVec<u8, 1024>,
         steps: &mut Steps<L>,
     ) -> bool
-        requires { StandsFor
-            (setting_of world.now.script.now (X.meaning world.now.device.now) world.now.limit)
-            self.old }
-        ensures stays { StaysFor
-            (setting_of world.now.script.now (X.meaning world.now.device.now) world.now.limit)
-            self.old self.new }
-        ensures cycle { self.new.now.cycle
-            ≡ (heard
-            (setting_of world.now.script.now (X.meaning world.now.device.now) world.now.limit)
-            (first_of self.old) self.old.now.cycle line.now).cycle }
-        ensures reply { reply.new.items
-            ≡ (heard
-            (setting_of world.now.script.now (X.meaning world.now.device.now) world.now.limit)
-            (first_of self.old) self.old.now.cycle line.now).reply }
-        ensures quit { result
-            ≡ not (heard
-            (setting_of world.now.script.now (X.meaning world.now.device.now) world.now.limit)
-            (first_of self.old) self.old.now.cycle line.now).quits }
+        requires { StandsFor (setting X.meaning world.now) self.old }
+        ensures stays { StaysFor (setting X.meaning world.now) self.old self.new }
+        ensures cycle { self.new.now.cycle ≡ (heard (setting X.meaning world.now) (first_of
+            self.old) self.old.now.cycle line.now).cycle }
+        ensures reply { reply.new.items ≡ (heard (setting X.meaning world.now) (first_of self.old)
+            self.old.now.cycle line.now).reply }
+        ensures quit { result ≡ not (heard (setting X.meaning world.now) (first_of self.old)
+            self.old.now.cycle line.now).quits }
         ensures forward { steps.old ≤ steps.new }
-        ensures steps { steps.new ≤ steps.old
-            + cost
-            (setting_of world.now.script.now (X.meaning world.now.device.now) world.now.limit)
-            (first_of self.old) self.old.ring.spacing self.old.now.cycle line.now }
+        ensures steps { steps.new ≤ steps.old + cost (setting X.meaning world.now) (first_of
+            self.old) self.old.ring.spacing self.old.now.cycle line.now }
     {
         let command = command_of(line);
         reply.clear();

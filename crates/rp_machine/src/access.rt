@@ -178,7 +178,7 @@ fn stored_at(request: &Request, spot: &Spot) -> Deed
 
 impl Machine {
     ghost use Rattle.std.specs.Prelude.{◌≡◌, unwrap_or};
-    ghost use Rattle.outer_lane.specs.Setting.{setting_of};
+    ghost use Rattle.outer_lane.specs.Setting.{setting};
     ghost use Rattle.rp_base.specs.declared.Master.TheVariants.{Core0};
     ghost use Rattle.m0_core.specs.Cycle.{want_of};
     ghost use Rattle.lane_look.specs.declared.lane.Turn.TheVariants as turn;
@@ -209,9 +209,8 @@ impl Machine {
         address: u32,
         spot: &Spot,
     ) -> Option<u32>
-        ensures { result ≡ word_for
-            (setting_of world.now.script.now (X.meaning world.now.device.now) world.now.limit)
-            seen.now master address spot.now self.now }
+        ensures { result ≡ word_for (setting X.meaning world.now) seen.now master address spot.now
+            self.now }
     {
         match *spot {
             Spot::Reg { block, offset, .. } => self.block_word(world, seen, block, offset),
@@ -233,9 +232,8 @@ impl Machine {
         offset: u16,
         alias: u8,
     ) -> bool
-        ensures { result ≡ is_open request.now (spot.Reg block offset alias) (block_word
-            (setting_of world.now.script.now (X.meaning world.now.device.now) world.now.limit)
-            seen.now block offset self.now) }
+        ensures { result ≡ is_open request.now (spot.Reg block offset alias) (block_word (setting
+            X.meaning world.now) seen.now block offset self.now) }
     {
         match block {
             Block::Pio0 if alias == 0 => self.pio0.allows(offset, word_written(request)),
@@ -258,9 +256,8 @@ impl Machine {
         offset: u16,
         alias: u8,
     ) -> bool
-        ensures { result ≡ is_open request.now (spot.Reg block offset alias) (block_word
-            (setting_of world.now.script.now (X.meaning world.now.device.now) world.now.limit)
-            seen.now block offset self.now) }
+        ensures { result ≡ is_open request.now (spot.Reg block offset alias) (block_word (setting
+            X.meaning world.now) seen.now block offset self.now) }
     {
         if is_outer(block) {
             return self.outer.allows(block, offset, None);
@@ -279,8 +276,7 @@ impl Machine {
         request: &Request,
         spot: &Spot,
     ) -> bool
-        ensures { result ≡ is_open request.now spot.now (word_for
-            (setting_of world.now.script.now (X.meaning world.now.device.now) world.now.limit)
+        ensures { result ≡ is_open request.now spot.now (word_for (setting X.meaning world.now)
             seen.now master request.now.address spot.now self.now) }
     {
         match *spot {
@@ -304,9 +300,8 @@ impl Machine {
         master: Master,
         access: &Placed,
     ) -> Option<Why>
-        ensures { result ≡ cause_by
-            (setting_of world.now.script.now (X.meaning world.now.device.now) world.now.limit)
-            seen.now master (Want.Outward access.now) self.now }
+        ensures { result ≡ cause_by (setting X.meaning world.now) seen.now master (Want.Outward
+            access.now) self.now }
     {
         let request = access.request();
         if self.is_open(world, seen, master, request, access.spot()) {
@@ -324,9 +319,8 @@ impl Machine {
         seen: &SeenOutputs,
         core0: &Doing,
     ) -> Option<Why>
-        ensures { result ≡ cause_of
-            (setting_of world.now.script.now (X.meaning world.now.device.now) world.now.limit)
-            seen.now self.now (wanted_by Core0 (want_of core0.now)) }
+        ensures { result ≡ cause_of (setting X.meaning world.now) seen.now self.now (wanted_by Core0
+            (want_of core0.now)) }
     {
         match &core0.act {
             Act::Outward(_, access) => self.cause_at(world, seen, Master::Core0, access),
@@ -349,9 +343,7 @@ impl Machine {
         seen: &SeenOutputs,
         wanted: &Wanted,
     ) -> Option<Why>
-        ensures { result ≡ cause_of
-            (setting_of world.now.script.now (X.meaning world.now.device.now) world.now.limit)
-            seen.now self.now wanted.now }
+        ensures { result ≡ cause_of (setting X.meaning world.now) seen.now self.now wanted.now }
     {
         match &wanted.want {
             Want::Outward(request) => {
@@ -374,13 +366,11 @@ impl Machine {
         spot: &Spot,
         word: u32,
     ) -> Deed
-        requires { word ≡ unwrap_or (word_for
-            (setting_of world.now.script.now (X.meaning world.now.device.now) world.now.limit)
-            seen.now master request.now.address spot.now self.now) 0 }
+        requires { word ≡ unwrap_or (word_for (setting X.meaning world.now) seen.now master
+            request.now.address spot.now self.now) 0 }
         ensures within { StoresInSram result }
-        ensures value { result ≡ accessed_at
-            (setting_of world.now.script.now (X.meaning world.now.device.now) world.now.limit)
-            seen.now request.now spot.now self.now }
+        ensures value { result ≡ accessed_at (setting X.meaning world.now) seen.now request.now
+            spot.now self.now }
     {
         match *spot {
             Spot::Reg {
@@ -412,12 +402,10 @@ impl Machine {
         seen: &SeenOutputs,
         access: &Placed,
     ) -> (Turn, Deed)
-        ensures turn { result.0 ≡ turn.Done (unwrap_or (word_for
-            (setting_of world.now.script.now (X.meaning world.now.device.now) world.now.limit)
+        ensures turn { result.0 ≡ turn.Done (unwrap_or (word_for (setting X.meaning world.now)
             seen.now Core0 access.now.address (place_of access.now.address) self.now) 0) }
-        ensures deed { result.1 ≡ accessed_at
-            (setting_of world.now.script.now (X.meaning world.now.device.now) world.now.limit)
-            seen.now access.now (place_of access.now.address) self.now }
+        ensures deed { result.1 ≡ accessed_at (setting X.meaning world.now) seen.now access.now
+            (place_of access.now.address) self.now }
         ensures stores { StoresInSram result.1 }
     {
         let (request, spot) = (access.request(), access.spot());
@@ -440,12 +428,10 @@ impl Machine {
         core0: &Doing,
         granted: bool,
     ) -> (Turn, Deed)
-        ensures turn { result.0 ≡ turn_of
-            (setting_of world.now.script.now (X.meaning world.now.device.now) world.now.limit)
-            seen.now (want_of core0.now) granted Core0 (want_of core0.now) self.now }
-        ensures deed { result.1 ≡ deed_of
-            (setting_of world.now.script.now (X.meaning world.now.device.now) world.now.limit)
-            seen.now granted (want_of core0.now) self.now }
+        ensures turn { result.0 ≡ turn_of (setting X.meaning world.now) seen.now (want_of core0.now)
+            granted Core0 (want_of core0.now) self.now }
+        ensures deed { result.1 ≡ deed_of (setting X.meaning world.now) seen.now granted (want_of
+            core0.now) self.now }
         ensures stores { StoresInSram result.1 }
     {
         match &core0.act {
@@ -479,12 +465,10 @@ impl Machine {
     ) -> (Turn, Deed)
         requires spot { spot.now ≡ spot_of wanted.now.want }
         requires within { IsWithin spot.now }
-        ensures turn { result.0 ≡ turn_of
-            (setting_of world.now.script.now (X.meaning world.now.device.now) world.now.limit)
-            seen.now rival.now granted wanted.now.master wanted.now.want self.now }
-        ensures deed { result.1 ≡ deed_of
-            (setting_of world.now.script.now (X.meaning world.now.device.now) world.now.limit)
-            seen.now granted wanted.now.want self.now }
+        ensures turn { result.0 ≡ turn_of (setting X.meaning world.now) seen.now rival.now granted
+            wanted.now.master wanted.now.want self.now }
+        ensures deed { result.1 ≡ deed_of (setting X.meaning world.now) seen.now granted
+            wanted.now.want self.now }
         ensures stores { StoresInSram result.1 }
     {
         match &wanted.want {

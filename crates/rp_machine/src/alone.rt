@@ -12,7 +12,7 @@ use std::sync::ledger::Ledger;
 
 impl Machine {
     ghost use Rattle.std.specs.Prelude.{◌≡◌, ◌+◌, ◌-◌, ◌^◌, ◌<◌, ◌∷◌, ◌++◌, if◌then◌else◌, is_some, [], length, true, false, Decides};
-    ghost use Rattle.outer_lane.specs.Setting.{setting_of};
+    ghost use Rattle.outer_lane.specs.Setting.{setting};
     ghost use Rattle.outer_lane.specs.Step.{marked};
     ghost use Rattle.rp_machine.specs.Cycle.{begun, wanted, cause_in, next, mark};
     ghost use Rattle.rp_machine.specs.Alone.{is_core0_alone, IsAlone, alone_at_rest, alone_next};
@@ -71,12 +71,10 @@ impl Machine {
     )
         requires number { self.old.cycle < 2 ^ 64 - 1 }
         requires marks { length marks.old < 256 }
-        ensures state { self.new ≡ alone_at_rest
-            (setting_of world.now.script.now (X.meaning world.now.device.now) world.now.limit)
-            core0.now outer.now self.old }
-        ensures marks { marks.new ≡ marks.old ++ marked
-            (setting_of world.now.script.now (X.meaning world.now.device.now) world.now.limit)
-            self.old.outer outer.now ∷ [] }
+        ensures state { self.new ≡ alone_at_rest (setting X.meaning world.now) core0.now outer.now
+            self.old }
+        ensures marks { marks.new ≡ marks.old ++ marked (setting X.meaning world.now) self.old.outer
+            outer.now ∷ [] }
     {
         let at = self.at;
         let offered = self.sio.offers();
@@ -98,12 +96,10 @@ impl Machine {
     )
         requires number { self.old.cycle < 2 ^ 64 - 1 }
         requires marks { length marks.old < 256 }
-        ensures state { self.new ≡ alone_next
-            (setting_of world.now.script.now (X.meaning world.now.device.now) world.now.limit)
-            core0.now outer.now (want_of core0.now) self.old }
-        ensures marks { marks.new ≡ marks.old ++ marked
-            (setting_of world.now.script.now (X.meaning world.now.device.now) world.now.limit)
-            self.old.outer outer.now ∷ [] }
+        ensures state { self.new ≡ alone_next (setting X.meaning world.now) core0.now outer.now
+            (want_of core0.now) self.old }
+        ensures marks { marks.new ≡ marks.old ++ marked (setting X.meaning world.now) self.old.outer
+            outer.now ∷ [] }
     {
         let at = self.at;
         let mut fabric = self.fabric;
@@ -132,15 +128,12 @@ impl Machine {
     ) -> Option<Why>
         requires number { self.old.cycle < 2 ^ 64 - 1 }
         requires alone { IsAlone self.old }
-        ensures cause { result ≡ cause_in
-            (setting_of world.now.script.now (X.meaning world.now.device.now) world.now.limit)
-            (begun self.old) (wanted (begun self.old)) self.old }
-        ensures state { self.new ≡ (if is_some result then self.old else next
-            (setting_of world.now.script.now (X.meaning world.now.device.now) world.now.limit)
-            self.old) }
-        ensures marks { marks.new ≡ (if is_some result then marks.old else mark
-            (setting_of world.now.script.now (X.meaning world.now.device.now) world.now.limit)
-            self.old ∷ []) }
+        ensures cause { result ≡ cause_in (setting X.meaning world.now) (begun self.old) (wanted
+            (begun self.old)) self.old }
+        ensures state { self.new ≡ (if is_some result then self.old else next (setting X.meaning
+            world.now) self.old) }
+        ensures marks { marks.new ≡ (if is_some result then marks.old else mark (setting X.meaning
+            world.now) self.old ∷ []) }
         ensures steps { steps.new ≡ (if is_some result then steps.old else steps.old + 1) }
     {
         let mut core0 = Doing::nothing();

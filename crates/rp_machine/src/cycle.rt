@@ -78,7 +78,7 @@ fn tell_of_sio(sio: &Sio, outer: &mut Outer, core1: &mut Core)
 impl Machine {
     ghost use Rattle.std.specs.Prelude.{◌≡◌, ◌+◌, ◌-◌, ◌^◌, ◌<◌, ◌≤◌, ◌∷◌, ◌++◌, if◌then◌else◌, is_some, true, None, [], length, map};
     ghost use Rattle.std.specs.List.{All};
-    ghost use Rattle.outer_lane.specs.Setting.{setting_of};
+    ghost use Rattle.outer_lane.specs.Setting.{setting};
     ghost use Rattle.outer_lane.specs.Step.{marked};
     ghost use Rattle.rp_base.specs.declared.Master.TheVariants.{Core0};
     ghost use Rattle.m0_core.specs.Cycle.{want_of};
@@ -92,9 +92,8 @@ impl Machine {
     #[inline(never)]
     #[tactic(auto, unfolding(crate::specs::Cycle::cause_in))]
     fn cause_in<X: Device>(&self, world: &World<'_, X>, begun: &Begun) -> Option<Why>
-        ensures { result ≡ cause_in
-            (setting_of world.now.script.now (X.meaning world.now.device.now) world.now.limit)
-            begun.now (wanted begun.now) self.now }
+        ensures { result ≡ cause_in (setting X.meaning world.now) begun.now (wanted begun.now)
+            self.now }
     {
         let [core0, core1, read, write] = &all_wanted(begun);
         let seen = &begun.outer;
@@ -113,9 +112,8 @@ impl Machine {
     /// The first cause of a master to stop before a cycle in which this was begun. In most, core 0 alone wants anything.
     #[inline(always)]
     fn cause<X: Device>(&self, world: &World<'_, X>, begun: &Begun) -> Option<Why>
-        ensures { result ≡ cause_in
-            (setting_of world.now.script.now (X.meaning world.now.device.now) world.now.limit)
-            begun.now (wanted begun.now) self.now }
+        ensures { result ≡ cause_in (setting X.meaning world.now) begun.now (wanted begun.now)
+            self.now }
     {
         if is_core0_first(begun) {
             self.cause_of_core0(world, &begun.outer, &begun.core0)
@@ -137,12 +135,10 @@ impl Machine {
     ) -> ([Turn; 4], [Deed; 4])
         requires spots { spots.now ≡ map (λ x. spot_of x.want) wants.now }
         requires within { All IsWithin spots.now }
-        ensures turns { result.0 ≡ turns
-            (setting_of world.now.script.now (X.meaning world.now.device.now) world.now.limit)
-            begun.now wants.now self.now granted }
-        ensures deeds { result.1 ≡ deeds
-            (setting_of world.now.script.now (X.meaning world.now.device.now) world.now.limit)
-            begun.now wants.now self.now granted }
+        ensures turns { result.0 ≡ turns (setting X.meaning world.now) begun.now wants.now self.now
+            granted }
+        ensures deeds { result.1 ≡ deeds (setting X.meaning world.now) begun.now wants.now self.now
+            granted }
         ensures within { All StoresInSram result.1 }
     {
         let [core0, core1, read, write] = wants;
@@ -167,12 +163,9 @@ impl Machine {
         marks: &mut Marks,
     )
         requires { length marks.old < 256 }
-        ensures state { self.new ≡ with_turns
-            (setting_of world.now.script.now (X.meaning world.now.device.now) world.now.limit)
-            begun.now turns self.old }
-        ensures marks { marks.new ≡ marks.old ++ marked
-            (setting_of world.now.script.now (X.meaning world.now.device.now) world.now.limit)
-            self.old.outer begun.now.outer ∷ [] }
+        ensures state { self.new ≡ with_turns (setting X.meaning world.now) begun.now turns self.old }
+        ensures marks { marks.new ≡ marks.old ++ marked (setting X.meaning world.now) self.old.outer
+            begun.now.outer ∷ [] }
     {
         let [turn0, turn1, read, write] = turns;
         self.core0
@@ -234,9 +227,7 @@ impl Machine {
         master: Master,
         deed: &Deed,
     )
-        ensures { self.new ≡ after_deed
-            (setting_of world.now.script.now (X.meaning world.now.device.now) world.now.limit)
-            found master deed.now self.old }
+        ensures { self.new ≡ after_deed (setting X.meaning world.now) found master deed.now self.old }
     {
         match *deed {
             Deed::Signal => self.signal(),
@@ -270,9 +261,8 @@ impl Machine {
     /// The deed of core 1, or while it sleeps the turn of its launcher, where the start of the cycle offered it a word.
     #[inline(always)]
     fn do_core1<X: Device>(&mut self, world: &World<'_, X>, offered: bool, found: bool, deed: &Deed)
-        ensures { self.new ≡ after_core1
-            (setting_of world.now.script.now (X.meaning world.now.device.now) world.now.limit)
-            offered found deed.now self.old }
+        ensures { self.new ≡ after_core1 (setting X.meaning world.now) offered found deed.now
+            self.old }
     {
         if !self.core1.is_asleep() {
             self.do_deed(world, found, Master::Core1, deed);
@@ -313,9 +303,7 @@ impl Machine {
     #[tactic(auto, unfolding(crate::specs::Cycle::after_deeds))]
     fn do_deeds<X: Device>(&mut self, world: &World<'_, X>, deeds: &[Deed; 4])
         requires { All StoresInSram deeds.now }
-        ensures { self.new ≡ after_deeds
-            (setting_of world.now.script.now (X.meaning world.now.device.now) world.now.limit)
-            deeds.now self.old }
+        ensures { self.new ≡ after_deeds (setting X.meaning world.now) deeds.now self.old }
     {
         let [core0, core1, read, write] = deeds;
         let offered = self.sio.offers();
@@ -354,12 +342,9 @@ impl Machine {
     )
         requires number { self.old.cycle < 2 ^ 64 - 1 }
         requires marks { length marks.old < 256 }
-        ensures state { self.new ≡ rest_next
-            (setting_of world.now.script.now (X.meaning world.now.device.now) world.now.limit)
-            begun.now self.old }
-        ensures marks { marks.new ≡ marks.old ++ marked
-            (setting_of world.now.script.now (X.meaning world.now.device.now) world.now.limit)
-            self.old.outer begun.now.outer ∷ [] }
+        ensures state { self.new ≡ rest_next (setting X.meaning world.now) begun.now self.old }
+        ensures marks { marks.new ≡ marks.old ++ marked (setting X.meaning world.now) self.old.outer
+            begun.now.outer ∷ [] }
     {
         let at = self.at;
         let offered = self.sio.offers();
@@ -375,12 +360,10 @@ impl Machine {
     fn step_for_core0<X: Device>(&mut self, world: &World<'_, X>, begun: &Begun, marks: &mut Marks)
         requires number { self.old.cycle < 2 ^ 64 - 1 }
         requires marks { length marks.old < 256 }
-        ensures state { self.new ≡ first_next
-            (setting_of world.now.script.now (X.meaning world.now.device.now) world.now.limit)
-            begun.now (wanted_by Core0 (want_of begun.now.core0)) self.old }
-        ensures marks { marks.new ≡ marks.old ++ marked
-            (setting_of world.now.script.now (X.meaning world.now.device.now) world.now.limit)
-            self.old.outer begun.now.outer ∷ [] }
+        ensures state { self.new ≡ first_next (setting X.meaning world.now) begun.now (wanted_by
+            Core0 (want_of begun.now.core0)) self.old }
+        ensures marks { marks.new ≡ marks.old ++ marked (setting X.meaning world.now) self.old.outer
+            begun.now.outer ∷ [] }
     {
         let at = self.at;
         let mut fabric = self.fabric;
@@ -408,12 +391,10 @@ impl Machine {
     fn step_for_all<X: Device>(&mut self, world: &World<'_, X>, begun: &Begun, marks: &mut Marks)
         requires number { self.old.cycle < 2 ^ 64 - 1 }
         requires marks { length marks.old < 256 }
-        ensures state { self.new ≡ next_by
-            (setting_of world.now.script.now (X.meaning world.now.device.now) world.now.limit)
-            begun.now (wanted begun.now) self.old }
-        ensures marks { marks.new ≡ marks.old ++ marked
-            (setting_of world.now.script.now (X.meaning world.now.device.now) world.now.limit)
-            self.old.outer begun.now.outer ∷ [] }
+        ensures state { self.new ≡ next_by (setting X.meaning world.now) begun.now (wanted
+            begun.now) self.old }
+        ensures marks { marks.new ≡ marks.old ++ marked (setting X.meaning world.now) self.old.outer
+            begun.now.outer ∷ [] }
     {
         let at = self.at;
         let wants = all_wanted(begun);
@@ -432,12 +413,10 @@ impl Machine {
     pub fn step<X: Device>(&mut self, world: &World<'_, X>, begun: &Begun, marks: &mut Marks)
         requires number { self.old.cycle < 2 ^ 64 - 1 }
         requires marks { length marks.old < 256 }
-        ensures state { self.new ≡ next_by
-            (setting_of world.now.script.now (X.meaning world.now.device.now) world.now.limit)
-            begun.now (wanted begun.now) self.old }
-        ensures marks { marks.new ≡ marks.old ++ marked
-            (setting_of world.now.script.now (X.meaning world.now.device.now) world.now.limit)
-            self.old.outer begun.now.outer ∷ [] }
+        ensures state { self.new ≡ next_by (setting X.meaning world.now) begun.now (wanted
+            begun.now) self.old }
+        ensures marks { marks.new ≡ marks.old ++ marked (setting X.meaning world.now) self.old.outer
+            begun.now.outer ∷ [] }
     {
         if !is_core0_first(begun) {
             self.step_for_all(world, begun, marks);
@@ -461,15 +440,12 @@ impl Machine {
     ) -> Option<Why>
         requires number { self.old.cycle < 2 ^ 64 - 1 }
         requires begun { lanes.now ≡ begun self.old }
-        ensures cause { result ≡ cause_in
-            (setting_of world.now.script.now (X.meaning world.now.device.now) world.now.limit)
-            (begun self.old) (wanted (begun self.old)) self.old }
-        ensures state { self.new ≡ (if is_some result then self.old else next
-            (setting_of world.now.script.now (X.meaning world.now.device.now) world.now.limit)
-            self.old) }
-        ensures marks { marks.new ≡ (if is_some result then marks.old else mark
-            (setting_of world.now.script.now (X.meaning world.now.device.now) world.now.limit)
-            self.old ∷ []) }
+        ensures cause { result ≡ cause_in (setting X.meaning world.now) (begun self.old) (wanted
+            (begun self.old)) self.old }
+        ensures state { self.new ≡ (if is_some result then self.old else next (setting X.meaning
+            world.now) self.old) }
+        ensures marks { marks.new ≡ (if is_some result then marks.old else mark (setting X.meaning
+            world.now) self.old ∷ []) }
         ensures steps { steps.new ≡ (if is_some result then steps.old else steps.old + 1) }
     {
         if let Some(why) = self.cause(world, lanes) {
@@ -490,15 +466,12 @@ impl Machine {
         steps: &mut Steps<L>,
     ) -> Option<Why>
         requires { self.old.cycle < 2 ^ 64 - 1 }
-        ensures cause { result ≡ cause_in
-            (setting_of world.now.script.now (X.meaning world.now.device.now) world.now.limit)
-            (begun self.old) (wanted (begun self.old)) self.old }
-        ensures state { self.new ≡ (if is_some result then self.old else next
-            (setting_of world.now.script.now (X.meaning world.now.device.now) world.now.limit)
-            self.old) }
-        ensures marks { marks.new ≡ (if is_some result then marks.old else mark
-            (setting_of world.now.script.now (X.meaning world.now.device.now) world.now.limit)
-            self.old ∷ []) }
+        ensures cause { result ≡ cause_in (setting X.meaning world.now) (begun self.old) (wanted
+            (begun self.old)) self.old }
+        ensures state { self.new ≡ (if is_some result then self.old else next (setting X.meaning
+            world.now) self.old) }
+        ensures marks { marks.new ≡ (if is_some result then marks.old else mark (setting X.meaning
+            world.now) self.old ∷ []) }
         ensures steps { steps.new ≡ (if is_some result then steps.old else steps.old + 1) }
     {
         let mut begun = Begun::nothing();
@@ -510,9 +483,7 @@ impl Machine {
     #[tactic(auto, unfolding(crate::specs::Cycle::stop))]
     pub fn stop_of<X: Device>(&self, world: &World<'_, X>, lanes: &Begun) -> Option<Why>
         requires { lanes.now ≡ begun self.now }
-        ensures { result ≡ stop
-            (setting_of world.now.script.now (X.meaning world.now.device.now) world.now.limit)
-            self.now }
+        ensures { result ≡ stop (setting X.meaning world.now) self.now }
     {
         if self.at == world.limit {
             return Some(Why::Limit);
@@ -532,15 +503,11 @@ impl Machine {
     ) -> Option<Why>
         requires number { self.old.cycle ≤ world.now.limit }
         requires begun { lanes.now ≡ begun self.old }
-        ensures cause { result ≡ stop
-            (setting_of world.now.script.now (X.meaning world.now.device.now) world.now.limit)
-            self.old }
-        ensures state { self.new ≡ (if is_some result then self.old else next
-            (setting_of world.now.script.now (X.meaning world.now.device.now) world.now.limit)
-            self.old) }
-        ensures marks { marks.new ≡ (if is_some result then marks.old else mark
-            (setting_of world.now.script.now (X.meaning world.now.device.now) world.now.limit)
-            self.old ∷ []) }
+        ensures cause { result ≡ stop (setting X.meaning world.now) self.old }
+        ensures state { self.new ≡ (if is_some result then self.old else next (setting X.meaning
+            world.now) self.old) }
+        ensures marks { marks.new ≡ (if is_some result then marks.old else mark (setting X.meaning
+            world.now) self.old ∷ []) }
         ensures steps { steps.new ≡ (if is_some result then steps.old else steps.old + 1) }
     {
         if self.at == world.limit {
@@ -561,15 +528,9 @@ impl Machine {
     )
         requires number { self.old.cycle ≤ world.now.limit }
         requires begun { lanes.now ≡ begun self.old }
-        requires unstopped { stop
-            (setting_of world.now.script.now (X.meaning world.now.device.now) world.now.limit)
-            self.old ≡ None }
-        ensures state { self.new ≡ next
-            (setting_of world.now.script.now (X.meaning world.now.device.now) world.now.limit)
-            self.old }
-        ensures marks { marks.new ≡ mark
-            (setting_of world.now.script.now (X.meaning world.now.device.now) world.now.limit)
-            self.old ∷ [] }
+        requires unstopped { stop (setting X.meaning world.now) self.old ≡ None }
+        ensures state { self.new ≡ next (setting X.meaning world.now) self.old }
+        ensures marks { marks.new ≡ mark (setting X.meaning world.now) self.old ∷ [] }
         ensures steps { steps.new ≡ steps.old + 1 }
     {
         is_bounded(world);
@@ -587,15 +548,11 @@ impl Machine {
         steps: &mut Steps<L>,
     ) -> Option<Why>
         requires { self.old.cycle ≤ world.now.limit }
-        ensures cause { result ≡ stop
-            (setting_of world.now.script.now (X.meaning world.now.device.now) world.now.limit)
-            self.old }
-        ensures state { self.new ≡ (if is_some result then self.old else next
-            (setting_of world.now.script.now (X.meaning world.now.device.now) world.now.limit)
-            self.old) }
-        ensures marks { marks.new ≡ (if is_some result then marks.old else mark
-            (setting_of world.now.script.now (X.meaning world.now.device.now) world.now.limit)
-            self.old ∷ []) }
+        ensures cause { result ≡ stop (setting X.meaning world.now) self.old }
+        ensures state { self.new ≡ (if is_some result then self.old else next (setting X.meaning
+            world.now) self.old) }
+        ensures marks { marks.new ≡ (if is_some result then marks.old else mark (setting X.meaning
+            world.now) self.old ∷ []) }
         ensures steps { steps.new ≡ (if is_some result then steps.old else steps.old + 1) }
     {
         if self.at == world.limit {

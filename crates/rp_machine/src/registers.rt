@@ -51,7 +51,7 @@ fn access<B: Registers<()>>(block: &mut B, offset: u16, write: Option<u32>)
 
 impl Machine {
     ghost use Rattle.std.specs.Prelude.{◌≡◌, Some, ◌<◌, ◌^◌};
-    ghost use Rattle.outer_lane.specs.Setting.{setting_of};
+    ghost use Rattle.outer_lane.specs.Setting.{setting};
     ghost use Rattle.rp_machine.specs.Registers.{resets_word, resets_written, resets_accessed, with_reset, block_word, block_allows, block_accessed};
 
     /// RESET, WDSEL or RESET_DONE.
@@ -76,9 +76,7 @@ impl Machine {
         block: Block,
         offset: u16,
     ) -> Option<u32>
-        ensures { result ≡ block_word
-            (setting_of world.now.script.now (X.meaning world.now.device.now) world.now.limit)
-            seen.now block offset self.now }
+        ensures { result ≡ block_word (setting X.meaning world.now) seen.now block offset self.now }
     {
         match block {
             Block::Resets => self.resets_word(offset),

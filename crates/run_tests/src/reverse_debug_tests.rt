@@ -1,7 +1,7 @@
 //! Sessions over two small programs: one that stores a word and stands in a loop, and one in which the DMA engine copies.
 
 ghost use Rattle.std.specs.Prelude.{◌≡◌, ◌≤◌, ◌<◌, length};
-ghost use Rattle.outer_lane.specs.Setting.{setting_of};
+ghost use Rattle.outer_lane.specs.Setting.{setting};
 ghost use Rattle.reverse_debug.specs.Session.{StandsFor};
 
 use arrayvec::ArrayVec;
@@ -145,9 +145,7 @@ fn end_of<X: Device, L: Ledger>(
     rows: &[Row],
     steps: &mut Steps<L>,
 ) -> (usize, bool)
-    requires { StandsFor
-        (setting_of world.now.script.now (X.meaning world.now.device.now) world.now.limit)
-        session.old }
+    requires { StandsFor (setting X.meaning world.now) session.old }
 {
     let mut reply = ArrayVec::<u8, 1024>::new();
     'rows: for (row, (line, expected)) in rows.iter().enumerate() {

@@ -1,7 +1,7 @@
 //! A machine that goes by windows up to a cycle, on one thread.
 
 ghost use Rattle.std.specs.Prelude.{◌≡◌, ◌+◌, ◌-◌, ◌<◌, ◌≤◌};
-ghost use Rattle.outer_lane.specs.Setting.{setting_of};
+ghost use Rattle.outer_lane.specs.Setting.{setting};
 ghost use Rattle.rp_machine.specs.Cycle.{begun};
 ghost use Rattle.rp_machine.specs.Run.{states};
 ghost use Rattle.window_merge.specs.Window.{longest};
@@ -22,9 +22,7 @@ use std::sync::ledger::Ledger;
 fn longest_to<X: Device>(machine: &Machine, world: &World<'_, X>, to: u64) -> u16
     requires number { machine.now.cycle ≤ world.now.limit }
     requires to { machine.now.cycle ≤ to }
-    ensures few { result ≤ longest
-        (setting_of world.now.script.now (X.meaning world.now.device.now) world.now.limit)
-        machine.now }
+    ensures few { result ≤ longest (setting X.meaning world.now) machine.now }
     ensures within { machine.now.cycle + result ≤ to }
 {
     let cycles = to - machine.at;
@@ -51,9 +49,8 @@ fn go_on<X: Device, L: Ledger>(
     requires to { machine.old.cycle < to }
     requires crew { IsWhole crew.old }
     requires begun { crew.old.begun ≡ begun machine.old }
-    ensures gone { IsGone
-        (setting_of world.now.script.now (X.meaning world.now.device.now) world.now.limit)
-        after_empty to result machine.old machine.new steps.old steps.new }
+    ensures gone { IsGone (setting X.meaning world.now) after_empty to result machine.old
+        machine.new steps.old steps.new }
     ensures crew { IsWhole crew.new }
     ensures begun { crew.new.begun ≡ begun machine.new }
 {
@@ -96,12 +93,9 @@ pub fn advance_alone<X: Device, L: Ledger>(
     requires number { machine.old.cycle ≤ world.now.limit }
     requires to { machine.old.cycle ≤ to }
     requires crew { IsWhole crew.old }
-    ensures state { machine.new ≡ states
-        (setting_of world.now.script.now (X.meaning world.now.device.now) world.now.limit)
-        machine.old (to - machine.old.cycle) }
-    ensures why { IsReached
-        (setting_of world.now.script.now (X.meaning world.now.device.now) world.now.limit)
-        to result machine.new }
+    ensures state { machine.new ≡ states (setting X.meaning world.now) machine.old (to -
+        machine.old.cycle) }
+    ensures why { IsReached (setting X.meaning world.now) to result machine.new }
     ensures number { machine.new.cycle ≤ world.now.limit }
     ensures steps { steps.new + machine.old.cycle ≡ steps.old + machine.new.cycle }
     ensures crew { IsWhole crew.new }

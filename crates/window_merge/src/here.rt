@@ -2,7 +2,7 @@
 
 ghost use Rattle.std.specs.Prelude.{◌≡◌, ◌+◌, ◌<◌, ◌≤◌, [], false, true};
 ghost use Rattle.std.specs.List.{list_all};
-ghost use Rattle.outer_lane.specs.Setting.{setting_of};
+ghost use Rattle.outer_lane.specs.Setting.{setting};
 ghost use Rattle.bus_fabric.specs.State.{has_hold};
 ghost use Rattle.rp_machine.specs.BusRest.{wants_nothing};
 ghost use Rattle.rp_machine.specs.Cycle.{begun, wanted};
@@ -38,25 +38,17 @@ fn go_within<X: Device, L: Ledger>(
 ) -> u16
     requires number { machine.old.cycle ≤ world.now.limit }
     requires some { 0 < at_most }
-    requires cycles { at_most ≤ longest
-        (setting_of world.now.script.now (X.meaning world.now.device.now) world.now.limit)
-        machine.old }
+    requires cycles { at_most ≤ longest (setting X.meaning world.now) machine.old }
     requires marks { marks.old ≡ [] }
     requires free { has_hold machine.old.fabric ≡ false }
     requires launching { is_launching machine.old.core1 ≡ false }
     requires begun { lanes.old ≡ begun machine.old }
     requires quiet { quiet ≡ list_all wants_nothing (wanted lanes.old) }
     requires goes { goes_first machine.old ≡ true }
-    ensures length { result ≡ window_within
-        (setting_of world.now.script.now (X.meaning world.now.device.now) world.now.limit)
-        machine.old at_most }
-    ensures state { machine.new ≡ states
-        (setting_of world.now.script.now (X.meaning world.now.device.now) world.now.limit)
-        machine.old result }
+    ensures length { result ≡ window_within (setting X.meaning world.now) machine.old at_most }
+    ensures state { machine.new ≡ states (setting X.meaning world.now) machine.old result }
     ensures number { machine.new.cycle ≡ machine.old.cycle + result }
-    ensures marks { marks.new ≡ marks_in
-        (setting_of world.now.script.now (X.meaning world.now.device.now) world.now.limit)
-        machine.old result }
+    ensures marks { marks.new ≡ marks_in (setting X.meaning world.now) machine.old result }
     ensures steps { steps.new ≡ steps.old + result }
     ensures begun { lanes.new ≡ begun machine.new }
 {
@@ -88,21 +80,13 @@ pub(crate) fn window_within<X: Device, L: Ledger>(
     steps: &mut Steps<L>,
 ) -> u16
     requires number { machine.old.cycle ≤ world.now.limit }
-    requires cycles { at_most ≤ longest
-        (setting_of world.now.script.now (X.meaning world.now.device.now) world.now.limit)
-        machine.old }
+    requires cycles { at_most ≤ longest (setting X.meaning world.now) machine.old }
     requires free { has_hold machine.old.fabric ≡ false }
     requires begun { lanes.old ≡ begun machine.old }
-    ensures length { result ≡ window_within
-        (setting_of world.now.script.now (X.meaning world.now.device.now) world.now.limit)
-        machine.old at_most }
-    ensures state { machine.new ≡ states
-        (setting_of world.now.script.now (X.meaning world.now.device.now) world.now.limit)
-        machine.old result }
+    ensures length { result ≡ window_within (setting X.meaning world.now) machine.old at_most }
+    ensures state { machine.new ≡ states (setting X.meaning world.now) machine.old result }
     ensures number { machine.new.cycle ≡ machine.old.cycle + result }
-    ensures marks { marks.new ≡ marks_in
-        (setting_of world.now.script.now (X.meaning world.now.device.now) world.now.limit)
-        machine.old result }
+    ensures marks { marks.new ≡ marks_in (setting X.meaning world.now) machine.old result }
     ensures steps { steps.new ≡ steps.old + result }
     ensures begun { lanes.new ≡ begun machine.new }
 {
@@ -136,16 +120,10 @@ pub fn window<X: Device, L: Ledger>(
     requires number { machine.old.cycle ≤ world.now.limit }
     requires free { has_hold machine.old.fabric ≡ false }
     requires begun { lanes.old ≡ begun machine.old }
-    ensures length { result ≡ window_length
-        (setting_of world.now.script.now (X.meaning world.now.device.now) world.now.limit)
-        machine.old }
-    ensures state { machine.new ≡ states
-        (setting_of world.now.script.now (X.meaning world.now.device.now) world.now.limit)
-        machine.old result }
+    ensures length { result ≡ window_length (setting X.meaning world.now) machine.old }
+    ensures state { machine.new ≡ states (setting X.meaning world.now) machine.old result }
     ensures number { machine.new.cycle ≡ machine.old.cycle + result }
-    ensures marks { marks.new ≡ marks_in
-        (setting_of world.now.script.now (X.meaning world.now.device.now) world.now.limit)
-        machine.old result }
+    ensures marks { marks.new ≡ marks_in (setting X.meaning world.now) machine.old result }
     ensures steps { steps.new ≡ steps.old + result }
     ensures begun { lanes.new ≡ begun machine.new }
 {

@@ -2,7 +2,7 @@
 
 ghost use Rattle.std.specs.Prelude.{◌≡◌, ℕ, ◌+◌, ◌^◌, ◌<◌, ◌≤◌, ◌==◌, ◌&&◌, true, length, Some};
 ghost use Rattle.lane_look.specs.Replay.{meaning};
-ghost use Rattle.outer_lane.specs.Setting.{setting_of};
+ghost use Rattle.outer_lane.specs.Setting.{setting};
 ghost use Rattle.rp_machine.specs.State.{State};
 ghost use Rattle.window_merge.specs.Kinds.{is_run_of};
 ghost use Rattle.window_merge.specs.Lanes.{core_lane, dma_lane, pio_lane, peripheral_lane};
@@ -122,9 +122,8 @@ fn run_outer<X: Device>(
 ) -> Copies
     requires cycles { at_most ≤ 256 }
     requires number { start + at_most < 2 ^ 64 }
-    ensures { RanIn (peripheral_lane
-        (setting_of world.now.script.now (X.meaning world.now.device.now) world.now.limit))
-        tt room.old.before start copies at_most room.new }
+    ensures { RanIn (peripheral_lane (setting X.meaning world.now)) tt room.old.before start copies
+        at_most room.new }
 {
     run_lane(room, world, start, copies, at_most)
 }
@@ -142,9 +141,7 @@ pub(crate) fn run_room<X: Device>(
     requires cycles { at_most ≤ 256 }
     requires number { start + at_most < 2 ^ 64 }
     ensures kind { is_run_of lane room.new ≡ true }
-    ensures run { Ran
-        (setting_of world.now.script.now (X.meaning world.now.device.now) world.now.limit)
-        lane start copies at_most room.old room.new }
+    ensures run { Ran (setting X.meaning world.now) lane start copies at_most room.old room.new }
 {
     match room {
         LaneRun::Core(room) => run_core(room, lane, start, copies, at_most),
@@ -169,13 +166,9 @@ pub fn run_by<X: Device>(job: LaneJob, world: &World<'_, X>) -> LaneReport
     requires { job.limit ≡ world.now.limit }
     ensures lane { result.lane ≡ job.lane }
     ensures limit { result.limit ≡ job.limit }
-    ensures replays { IsTrueRun
-        (setting_of world.now.script.now (X.meaning world.now.device.now) world.now.limit)
-        result.run }
+    ensures replays { IsTrueRun (setting X.meaning world.now) result.run }
     ensures words { (count : ℕ) → HasWordsIn count job.set.room → HasWords count result.run }
-    ensures alone { (s : State) → IsJobOf s job → IsAlone
-        (setting_of world.now.script.now (X.meaning world.now.device.now) world.now.limit) s
-        result }
+    ensures alone { (s : State) → IsJobOf s job → IsAlone (setting X.meaning world.now) s result }
 {
     let LaneJob {
         lane,
@@ -198,14 +191,10 @@ pub fn run_by<X: Device>(job: LaneJob, world: &World<'_, X>) -> LaneReport
 
 /// Runs a lane alone: from the state and by the answers that its job holds, up to the limit and for at most 256 cycles.
 pub fn run_job<X: Device>(job: LaneJob, world: &World<'_, X>) -> LaneReport
-    requires { IsJobFor
-        (setting_of world.now.script.now (X.meaning world.now.device.now) world.now.limit) job }
+    requires { IsJobFor (setting X.meaning world.now) job }
     ensures lane { result.lane ≡ job.lane }
-    ensures holds { IsTrueIn
-        (setting_of world.now.script.now (X.meaning world.now.device.now) world.now.limit) result }
-    ensures alone { (s : State) → IsJobOf s job → IsAlone
-        (setting_of world.now.script.now (X.meaning world.now.device.now) world.now.limit) s
-        result }
+    ensures holds { IsTrueIn (setting X.meaning world.now) result }
+    ensures alone { (s : State) → IsJobOf s job → IsAlone (setting X.meaning world.now) s result }
 {
     run_by(job, world)
 }

@@ -1,7 +1,7 @@
 //! A window: six runs alone, kept as far as they go the machine's way.
 
 ghost use Rattle.std.specs.Prelude.{◌≡◌, ◌+◌, ◌-◌, ◌^◌, ◌<◌, ◌≤◌, ◌++◌, ◌∷◌, ◌||◌, [], false, if◌then◌else◌, length};
-ghost use Rattle.outer_lane.specs.Setting.{setting_of};
+ghost use Rattle.outer_lane.specs.Setting.{setting};
 ghost use Rattle.outer_lane.specs.Step.{marked};
 ghost use Rattle.bus_fabric.specs.State.{has_hold};
 ghost use Rattle.sio_block.specs.Launcher.{offers_of};
@@ -78,15 +78,11 @@ fn try_cycle<X: Device>(
     ensures within { IsWithin runs.now indices.new }
     ensures indices { rests_at runs.now indices.new ≡ left_by (rests_at runs.now indices.old)
         machine.old }
-    ensures state { machine.new ≡ (if result then next_by
-        (setting_of world.now.script.now (X.meaning world.now.device.now) world.now.limit)
-        (begun_by (rests_at runs.now indices.old) machine.old)
-        (wanted (begun_by (rests_at runs.now indices.old) machine.old)) machine.old
-        else machine.old) }
-    ensures marks { marks.new ≡ marks.old ++ (if result then marked
-        (setting_of world.now.script.now (X.meaning world.now.device.now) world.now.limit)
-        machine.old.outer (begun_by (rests_at runs.now indices.old) machine.old).outer ∷ []
-        else []) }
+    ensures state { machine.new ≡ (if result then next_by (setting X.meaning world.now) (begun_by
+        (rests_at runs.now indices.old) machine.old) (wanted (begun_by (rests_at runs.now
+        indices.old) machine.old)) machine.old else machine.old) }
+    ensures marks { marks.new ≡ marks.old ++ (if result then marked (setting X.meaning world.now)
+        machine.old.outer (begun_by (rests_at runs.now indices.old) machine.old).outer ∷ [] else []) }
 {
     let Comparison {
         begun,
@@ -105,9 +101,7 @@ fn try_cycle<X: Device>(
 /// How many cycles a window may have.
 pub(crate) fn longest<X: Device>(machine: &Machine, world: &World<'_, X>) -> u16
     requires { machine.now.cycle ≤ world.now.limit }
-    ensures value { result ≡ longest
-        (setting_of world.now.script.now (X.meaning world.now.device.now) world.now.limit)
-        machine.now }
+    ensures value { result ≡ longest (setting X.meaning world.now) machine.now }
     ensures number { machine.now.cycle + result < 2 ^ 64 }
     ensures few { result ≤ 256 }
 {
@@ -127,9 +121,7 @@ pub(crate) fn is_known(machine: &Machine)
 /// The cycles of a window have numbers.
 pub(crate) fn is_numbered<X: Device>(machine: &Machine, world: &World<'_, X>, at_most: u16)
     requires limit { machine.now.cycle ≤ world.now.limit }
-    requires cycles { at_most ≤ longest
-        (setting_of world.now.script.now (X.meaning world.now.device.now) world.now.limit)
-        machine.now }
+    requires cycles { at_most ≤ longest (setting X.meaning world.now) machine.now }
     ensures { machine.now.cycle + at_most < 2 ^ 64 }
 {
     let _longest = longest(machine, world);
@@ -146,19 +138,11 @@ pub fn merge_runs<X: Device, L: Ledger>(
 ) -> u16
     requires number { machine.old.cycle ≤ world.now.limit }
     requires free { has_hold machine.old.fabric ≡ false }
-    requires runs { AreRunsAlone
-        (setting_of world.now.script.now (X.meaning world.now.device.now) world.now.limit)
-        machine.old runs.now }
-    ensures length { result ≡ window_length
-        (setting_of world.now.script.now (X.meaning world.now.device.now) world.now.limit)
-        machine.old }
-    ensures state { machine.new ≡ states
-        (setting_of world.now.script.now (X.meaning world.now.device.now) world.now.limit)
-        machine.old result }
+    requires runs { AreRunsAlone (setting X.meaning world.now) machine.old runs.now }
+    ensures length { result ≡ window_length (setting X.meaning world.now) machine.old }
+    ensures state { machine.new ≡ states (setting X.meaning world.now) machine.old result }
     ensures number { machine.new.cycle ≡ machine.old.cycle + result }
-    ensures marks { marks.new ≡ marks_in
-        (setting_of world.now.script.now (X.meaning world.now.device.now) world.now.limit)
-        machine.old result }
+    ensures marks { marks.new ≡ marks_in (setting X.meaning world.now) machine.old result }
     ensures steps { steps.new ≡ steps.old + result }
 {
     is_known(machine);

@@ -4,7 +4,7 @@ ghost use Rattle.std.specs.Prelude.{◌≡◌, ◌+◌, ◌-◌, ◌^◌, ◌<�
 ghost use Rattle.bus_fabric.specs.State.{has_hold};
 ghost use Rattle.lane_look.specs.Alone.{ends_want};
 ghost use Rattle.m0_core.specs.Cycle.{want_of};
-ghost use Rattle.outer_lane.specs.Setting.{setting_of};
+ghost use Rattle.outer_lane.specs.Setting.{setting};
 ghost use Rattle.outer_lane.specs.Step.{marked};
 ghost use Rattle.rp_machine.specs.Cycle.{begun, wanted, next_by};
 ghost use Rattle.std.specs.List.{list_all};
@@ -122,12 +122,10 @@ pub(crate) fn do_first<X: Device>(
     requires free { has_hold machine.old.fabric ≡ false }
     requires begun { lanes.now ≡ begun machine.old }
     requires quiet { quiet ≡ list_all wants_nothing (wanted lanes.now) }
-    ensures state { machine.new ≡ next_by
-        (setting_of world.now.script.now (X.meaning world.now.device.now) world.now.limit)
-        (begun machine.old) (wanted (begun machine.old)) machine.old }
-    ensures marks { marks.new ≡ marks.old ++ marked
-        (setting_of world.now.script.now (X.meaning world.now.device.now) world.now.limit)
-        machine.old.outer (begun machine.old).outer ∷ [] }
+    ensures state { machine.new ≡ next_by (setting X.meaning world.now) (begun machine.old) (wanted
+        (begun machine.old)) machine.old }
+    ensures marks { marks.new ≡ marks.old ++ marked (setting X.meaning world.now) machine.old.outer
+        (begun machine.old).outer ∷ [] }
     ensures notes { notes.new ≡ noted_by (wanted (begun machine.old)) machine.old.sram no_notes }
 {
     notes.clear();
@@ -154,15 +152,11 @@ fn try_alone<X: Device>(
     requires marks { length marks.old < 256 }
     requires room { HasRoom notes.old 3 }
     ensures goes { result ≡ goes_on start.now notes.old machine.old }
-    ensures state { machine.new ≡ (if result then next_by
-        (setting_of world.now.script.now (X.meaning world.now.device.now) world.now.limit)
-        (begun_from start.now notes.old machine.old)
-        (wanted (begun_from start.now notes.old machine.old)) machine.old
-        else machine.old) }
-    ensures marks { marks.new ≡ marks.old ++ (if result then marked
-        (setting_of world.now.script.now (X.meaning world.now.device.now) world.now.limit)
-        machine.old.outer (begun_from start.now notes.old machine.old).outer ∷ []
-        else []) }
+    ensures state { machine.new ≡ (if result then next_by (setting X.meaning world.now) (begun_from
+        start.now notes.old machine.old) (wanted (begun_from start.now notes.old machine.old))
+        machine.old else machine.old) }
+    ensures marks { marks.new ≡ marks.old ++ (if result then marked (setting X.meaning world.now)
+        machine.old.outer (begun_from start.now notes.old machine.old).outer ∷ [] else []) }
     ensures notes { notes.new ≡ (if result then noted_by
         (wanted (begun_from start.now notes.old machine.old)) machine.old.sram notes.old
         else notes.old) }
@@ -200,15 +194,11 @@ fn try_all<X: Device>(
     requires marks { length marks.old < 256 }
     requires room { HasRoom notes.old 3 }
     ensures goes { result ≡ goes_on start.now notes.old machine.old }
-    ensures state { machine.new ≡ (if result then next_by
-        (setting_of world.now.script.now (X.meaning world.now.device.now) world.now.limit)
-        (begun_from start.now notes.old machine.old)
-        (wanted (begun_from start.now notes.old machine.old)) machine.old
-        else machine.old) }
-    ensures marks { marks.new ≡ marks.old ++ (if result then marked
-        (setting_of world.now.script.now (X.meaning world.now.device.now) world.now.limit)
-        machine.old.outer (begun_from start.now notes.old machine.old).outer ∷ []
-        else []) }
+    ensures state { machine.new ≡ (if result then next_by (setting X.meaning world.now) (begun_from
+        start.now notes.old machine.old) (wanted (begun_from start.now notes.old machine.old))
+        machine.old else machine.old) }
+    ensures marks { marks.new ≡ marks.old ++ (if result then marked (setting X.meaning world.now)
+        machine.old.outer (begun_from start.now notes.old machine.old).outer ∷ [] else []) }
     ensures notes { notes.new ≡ (if result then noted_by
         (wanted (begun_from start.now notes.old machine.old)) machine.old.sram notes.old
         else notes.old) }
@@ -244,15 +234,11 @@ pub(crate) fn try_later<X: Device>(
     requires marks { length marks.old < 256 }
     requires room { HasRoom notes.old 3 }
     ensures goes { result ≡ goes_on start.now notes.old machine.old }
-    ensures state { machine.new ≡ (if result then next_by
-        (setting_of world.now.script.now (X.meaning world.now.device.now) world.now.limit)
-        (begun_from start.now notes.old machine.old)
-        (wanted (begun_from start.now notes.old machine.old)) machine.old
-        else machine.old) }
-    ensures marks { marks.new ≡ marks.old ++ (if result then marked
-        (setting_of world.now.script.now (X.meaning world.now.device.now) world.now.limit)
-        machine.old.outer (begun_from start.now notes.old machine.old).outer ∷ []
-        else []) }
+    ensures state { machine.new ≡ (if result then next_by (setting X.meaning world.now) (begun_from
+        start.now notes.old machine.old) (wanted (begun_from start.now notes.old machine.old))
+        machine.old else machine.old) }
+    ensures marks { marks.new ≡ marks.old ++ (if result then marked (setting X.meaning world.now)
+        machine.old.outer (begun_from start.now notes.old machine.old).outer ∷ [] else []) }
     ensures notes { notes.new ≡ (if result then noted_by
         (wanted (begun_from start.now notes.old machine.old)) machine.old.sram notes.old
         else notes.old) }

@@ -1,7 +1,7 @@
 //! The positions at which a run stands between windows and single cycles.
 
 ghost use Rattle.std.specs.Prelude.{◌≡◌, ◌≤◌, None, true};
-ghost use Rattle.outer_lane.specs.Setting.{setting_of};
+ghost use Rattle.outer_lane.specs.Setting.{setting};
 ghost use Rattle.rp_machine.specs.Cycle.{begun, stop};
 ghost use Rattle.window_merge.specs.Merging.{IsStep};
 ghost use Rattle.window_merge.specs.Jobs.{IsWhole};
@@ -39,12 +39,9 @@ pub fn advance<X: Device, L: Ledger>(
     requires number { machine.old.cycle ≤ world.now.limit }
     requires crew { IsWhole crew.old }
     requires begun { crew.old.begun ≡ begun machine.old }
-    requires unstopped { after_empty ≡ true → stop
-        (setting_of world.now.script.now (X.meaning world.now.device.now) world.now.limit)
-        machine.old ≡ None }
-    ensures moved { IsStep
-        (setting_of world.now.script.now (X.meaning world.now.device.now) world.now.limit)
-        after_empty result machine.old machine.new marks.old marks.new steps.old steps.new }
+    requires unstopped { after_empty ≡ true → stop (setting X.meaning world.now) machine.old ≡ None }
+    ensures moved { IsStep (setting X.meaning world.now) after_empty result machine.old machine.new
+        marks.old marks.new steps.old steps.new }
     ensures crew { IsWhole crew.new }
     ensures begun { crew.new.begun ≡ begun machine.new }
 {

@@ -1,7 +1,7 @@
 //! A window of six reports.
 
 ghost use Rattle.std.specs.Prelude.{◌≡◌, ◌+◌, ◌≤◌, false};
-ghost use Rattle.outer_lane.specs.Setting.{setting_of};
+ghost use Rattle.outer_lane.specs.Setting.{setting};
 ghost use Rattle.bus_fabric.specs.State.{has_hold};
 ghost use Rattle.rp_machine.specs.Run.{states};
 ghost use Rattle.window_merge.specs.declared.lane_run.LaneRun.TheVariants as run;
@@ -78,18 +78,10 @@ pub fn merge<X: Device, L: Ledger>(
 ) -> u16
     requires number { machine.old.cycle ≤ world.now.limit }
     requires free { has_hold machine.old.fabric ≡ false }
-    requires reports { AreAlone
-        (setting_of world.now.script.now (X.meaning world.now.device.now) world.now.limit)
-        machine.old reports.old }
-    ensures length { result ≡ window_length
-        (setting_of world.now.script.now (X.meaning world.now.device.now) world.now.limit)
-        machine.old }
-    ensures state { machine.new ≡ states
-        (setting_of world.now.script.now (X.meaning world.now.device.now) world.now.limit)
-        machine.old result }
-    ensures marks { marks.new ≡ marks_in
-        (setting_of world.now.script.now (X.meaning world.now.device.now) world.now.limit)
-        machine.old result }
+    requires reports { AreAlone (setting X.meaning world.now) machine.old reports.old }
+    ensures length { result ≡ window_length (setting X.meaning world.now) machine.old }
+    ensures state { machine.new ≡ states (setting X.meaning world.now) machine.old result }
+    ensures marks { marks.new ≡ marks_in (setting X.meaning world.now) machine.old result }
     ensures number { machine.new.cycle ≡ machine.old.cycle + result }
     ensures steps { steps.new ≡ steps.old + result }
     ensures reports { reports.new ≡ reports.old }

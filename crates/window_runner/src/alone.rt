@@ -1,7 +1,7 @@
 //! A run by windows on one thread.
 
 ghost use Rattle.std.specs.Prelude.{◌≡◌, ◌+◌, ◌<◌, ◌≤◌, ◌^◌, ◌==◌, [], None, length, if◌then◌else◌, false, true, IfOk};
-ghost use Rattle.outer_lane.specs.Setting.{setting_of};
+ghost use Rattle.outer_lane.specs.Setting.{setting};
 ghost use Rattle.trace_text.specs.Tape.{Tells};
 ghost use Rattle.rp_machine.specs.Cycle.{begun, stop};
 ghost use Rattle.rp_machine.specs.Run.{last_state, unless_stopped};
@@ -87,31 +87,25 @@ fn step<X: Device, T: Tape, L: Ledger>(
     requires number { machine.old.cycle ≤ world.now.limit }
     requires crew { IsWhole crew.old }
     requires begun { crew.old.begun ≡ begun machine.old }
-    requires unstopped { counts.old.after_empty ≡ true → stop
-        (setting_of world.now.script.now (X.meaning world.now.device.now) world.now.limit)
+    requires unstopped { counts.old.after_empty ≡ true → stop (setting X.meaning world.now)
         machine.old ≡ None }
     requires windows { counts.old.windows
         ≤ machine.old.cycle + (if counts.old.after_empty then 1 else 0) }
     requires cycles { counts.old.cycles ≤ machine.old.cycle }
-    ensures cause { stop
-        (setting_of world.now.script.now (X.meaning world.now.device.now) world.now.limit)
-        machine.old ≡ stop_in result }
+    ensures cause { stop (setting X.meaning world.now) machine.old ≡ stop_in result }
     ensures position { position_at machine.new counts.new ≡ unless_stopped (stop_in result)
-        (position_at machine.old counts.old) (next_position
-        (setting_of world.now.script.now (X.meaning world.now.device.now) world.now.limit)
+        (position_at machine.old counts.old) (next_position (setting X.meaning world.now)
         (position_at machine.old counts.old)) }
     ensures told { Tells T.took T.missed tape.old tape.new (T.faults tape.old) (T.faults tape.new)
-        (all_shown (unless_stopped (stop_in result) [] (step_events
-        (setting_of world.now.script.now (X.meaning world.now.device.now) world.now.limit)
+        (all_shown (unless_stopped (stop_in result) [] (step_events (setting X.meaning world.now)
         (position_at machine.old counts.old)))) result }
     ensures counted { counts.new.cycles + machine.old.cycle
         ≤ counts.old.cycles + machine.new.cycle }
     ensures steps { steps.new + machine.old.cycle ≡ steps.old + machine.new.cycle }
     ensures crew { IsWhole crew.new }
     ensures begun { crew.new.begun ≡ begun machine.new }
-    ensures unstopped { counts.new.after_empty ≡ true → stop_in result ≡ None → stop
-        (setting_of world.now.script.now (X.meaning world.now.device.now) world.now.limit)
-        machine.new ≡ None }
+    ensures unstopped { counts.new.after_empty ≡ true → stop_in result ≡ None → stop (setting
+        X.meaning world.now) machine.new ≡ None }
 {
     is_bounded(world);
     let cycle = machine.number();
@@ -146,18 +140,11 @@ pub fn run_alone<X: Device, T: Tape, L: Ledger>(
     requires number { machine.old.cycle ≤ world.now.limit }
     requires crew { IsWhole crew.old }
     ensures told { Tells T.took T.missed tape.old tape.new (T.faults tape.old) (T.faults tape.new)
-        (run_shown
-        (setting_of world.now.script.now (X.meaning world.now.device.now) world.now.limit)
-        machine.old) result }
-    ensures ran { IfOk result (IsRan
-        (setting_of world.now.script.now (X.meaning world.now.device.now) world.now.limit)
+        (run_shown (setting X.meaning world.now) machine.old) result }
+    ensures ran { IfOk result (IsRan (setting X.meaning world.now) machine.old) }
+    ensures state { IfOk result (λ ran. machine.new ≡ last_state (setting X.meaning world.now)
         machine.old) }
-    ensures state { IfOk result (λ ran. machine.new ≡ last_state
-        (setting_of world.now.script.now (X.meaning world.now.device.now) world.now.limit)
-        machine.old) }
-    ensures on_run { IsOnRun
-        (setting_of world.now.script.now (X.meaning world.now.device.now) world.now.limit)
-        machine.old machine.new }
+    ensures on_run { IsOnRun (setting X.meaning world.now) machine.old machine.new }
     ensures steps { steps.new + machine.old.cycle ≡ steps.old + machine.new.cycle }
     ensures crew { IsWhole crew.new }
 {

@@ -1,7 +1,7 @@
 //! What the coordinator does: it opens the windows' numbers, helps with their pieces, and merges what was found.
 
 ghost use Rattle.std.specs.Prelude.{◌≡◌, ◌+◌, ◌≤◌, ◌^◌, false, length, IfSome, None, [], if◌then◌else◌, IfOk};
-ghost use Rattle.outer_lane.specs.Setting.{setting_of};
+ghost use Rattle.outer_lane.specs.Setting.{setting};
 ghost use Rattle.bus_fabric.specs.State.{has_hold};
 ghost use Rattle.trace_text.specs.Tape.{Tells};
 ghost use Rattle.rp_machine.specs.Cycle.{begun, stop};
@@ -111,16 +111,14 @@ fn gather<'w, X: Device, G: Gate, H: Wait>(
 ) -> Six<Found>
     requires ready { IsReady desk.now.board.now (λ w. w.now ≡ desk.now.world.now) lead.old.opened
         lead.old.kept lead.old.master lead.old.seat lead.old.sets.value.spare }
-    requires pieces { EachLane (λ lane piece. IfSome piece.job (IsJobFor
-        (setting_of desk.now.world.now.script.now (X.meaning desk.now.world.now.device.now)
-        desk.now.world.now.limit))) pieces }
+    requires pieces { EachLane (λ lane piece. IfSome piece.job (IsJobFor (setting X.meaning
+        desk.now.world.now))) pieces }
     requires few { lead.old.opened + 6 ≤ 2 ^ 62 }
     ensures ready { IsReady desk.now.board.now (λ w. w.now ≡ desk.now.world.now) lead.new.opened
         lead.new.kept lead.new.master lead.new.seat lead.new.sets.value.spare }
     ensures begun { lead.new.sets.value.begun ≡ lead.old.sets.value.begun }
-    ensures found { EachLane (λ lane found. IfSome found.report (IsTrueIn
-        (setting_of desk.now.world.now.script.now (X.meaning desk.now.world.now.device.now)
-        desk.now.world.now.limit))) result }
+    ensures found { EachLane (λ lane found. IfSome found.report (IsTrueIn (setting X.meaning
+        desk.now.world.now))) result }
 {
     desk.board.offer(&mut lead.master, pieces);
     lead.opened += 6;
@@ -145,9 +143,8 @@ fn found_in<'w, X: Device, G: Gate, H: Wait>(
     ensures ready { IsReady desk.now.board.now (λ w. w.now ≡ desk.now.world.now) lead.new.opened
         lead.new.kept lead.new.master lead.new.seat lead.new.sets.value.spare }
     ensures begun { lead.new.sets.value.begun ≡ lead.old.sets.value.begun }
-    ensures found { EachLane (λ lane found. IfSome found.report (IsTrueIn
-        (setting_of desk.now.world.now.script.now (X.meaning desk.now.world.now.device.now)
-        desk.now.world.now.limit))) result }
+    ensures found { EachLane (λ lane found. IfSome found.report (IsTrueIn (setting X.meaning
+        desk.now.world.now))) result }
 {
     if lead.opened > MOST || !machine.outer.has_device(desk.world.device) {
         return nothing();
@@ -172,20 +169,13 @@ fn merge_found<X: Device, L: Ledger>(
 ) -> u16
     requires number { machine.old.cycle ≤ world.now.limit }
     requires free { has_hold machine.old.fabric ≡ false }
-    requires found { EachLane (λ lane found. IfSome found.report (IsTrueIn
-        (setting_of world.now.script.now (X.meaning world.now.device.now) world.now.limit)))
-        found }
+    requires found { EachLane (λ lane found. IfSome found.report (IsTrueIn (setting X.meaning
+        world.now))) found }
     requires spare { EachLane HasNumber sets.old.spare }
-    ensures length { result ≡ window_length
-        (setting_of world.now.script.now (X.meaning world.now.device.now) world.now.limit)
-        machine.old }
-    ensures state { machine.new ≡ states
-        (setting_of world.now.script.now (X.meaning world.now.device.now) world.now.limit)
-        machine.old result }
+    ensures length { result ≡ window_length (setting X.meaning world.now) machine.old }
+    ensures state { machine.new ≡ states (setting X.meaning world.now) machine.old result }
     ensures number { machine.new.cycle ≡ machine.old.cycle + result }
-    ensures marks { marks.new ≡ marks_in
-        (setting_of world.now.script.now (X.meaning world.now.device.now) world.now.limit)
-        machine.old result }
+    ensures marks { marks.new ≡ marks_in (setting X.meaning world.now) machine.old result }
     ensures steps { steps.new ≡ steps.old + result }
     ensures spare { EachLane HasNumber sets.new.spare }
 {
@@ -209,19 +199,10 @@ fn window<'w, X: Device, G: Gate, H: Wait, L: Ledger>(
     requires ready { IsReady desk.now.board.now (λ w. w.now ≡ desk.now.world.now) lead.old.opened
         lead.old.kept lead.old.master lead.old.seat lead.old.sets.value.spare }
     requires begun { lead.old.sets.value.begun ≡ begun machine.old }
-    ensures length { result ≡ window_length
-        (setting_of desk.now.world.now.script.now (X.meaning desk.now.world.now.device.now)
-        desk.now.world.now.limit)
-        machine.old }
-    ensures state { machine.new ≡ states
-        (setting_of desk.now.world.now.script.now (X.meaning desk.now.world.now.device.now)
-        desk.now.world.now.limit)
-        machine.old result }
+    ensures length { result ≡ window_length (setting X.meaning desk.now.world.now) machine.old }
+    ensures state { machine.new ≡ states (setting X.meaning desk.now.world.now) machine.old result }
     ensures number { machine.new.cycle ≡ machine.old.cycle + result }
-    ensures marks { marks.new ≡ marks_in
-        (setting_of desk.now.world.now.script.now (X.meaning desk.now.world.now.device.now)
-        desk.now.world.now.limit)
-        machine.old result }
+    ensures marks { marks.new ≡ marks_in (setting X.meaning desk.now.world.now) machine.old result }
     ensures steps { steps.new ≡ steps.old + result }
     ensures ready { IsReady desk.now.board.now (λ w. w.now ≡ desk.now.world.now) lead.new.opened
         lead.new.kept lead.new.master lead.new.seat lead.new.sets.value.spare }
@@ -251,10 +232,8 @@ fn go<'w, X: Device, G: Gate, H: Wait, L: Ledger>(
     requires number { machine.old.cycle ≤ desk.now.world.now.limit }
     requires ready { IsReady desk.now.board.now (λ w. w.now ≡ desk.now.world.now) lead.old.opened
         lead.old.kept lead.old.master lead.old.seat lead.old.sets.value.spare }
-    ensures moved { IsStep
-        (setting_of desk.now.world.now.script.now (X.meaning desk.now.world.now.device.now)
-        desk.now.world.now.limit)
-        after_empty result machine.old machine.new marks.old marks.new steps.old steps.new }
+    ensures moved { IsStep (setting X.meaning desk.now.world.now) after_empty result machine.old
+        machine.new marks.old marks.new steps.old steps.new }
     ensures ready { IsReady desk.now.board.now (λ w. w.now ≡ desk.now.world.now) lead.new.opened
         lead.new.kept lead.new.master lead.new.seat lead.new.sets.value.spare }
 {
@@ -287,20 +266,13 @@ fn step<'w, X: Device, G: Gate, H: Wait, T: Tape, L: Ledger>(
     requires windows { counts.old.windows
         ≤ machine.old.cycle + (if counts.old.after_empty then 1 else 0) }
     requires cycles { counts.old.cycles ≤ machine.old.cycle }
-    ensures cause { stop
-        (setting_of desk.now.world.now.script.now (X.meaning desk.now.world.now.device.now)
-        desk.now.world.now.limit)
-        machine.old ≡ stop_in result }
+    ensures cause { stop (setting X.meaning desk.now.world.now) machine.old ≡ stop_in result }
     ensures position { position_at machine.new counts.new ≡ unless_stopped (stop_in result)
-        (position_at machine.old counts.old) (next_position
-        (setting_of desk.now.world.now.script.now (X.meaning desk.now.world.now.device.now)
-        desk.now.world.now.limit)
+        (position_at machine.old counts.old) (next_position (setting X.meaning desk.now.world.now)
         (position_at machine.old counts.old)) }
     ensures told { Tells T.took T.missed tape.old tape.new (T.faults tape.old) (T.faults tape.new)
-        (all_shown (unless_stopped (stop_in result) [] (step_events
-        (setting_of desk.now.world.now.script.now (X.meaning desk.now.world.now.device.now)
-        desk.now.world.now.limit)
-        (position_at machine.old counts.old)))) result }
+        (all_shown (unless_stopped (stop_in result) [] (step_events (setting X.meaning
+        desk.now.world.now) (position_at machine.old counts.old)))) result }
     ensures counted { counts.new.cycles + machine.old.cycle
         ≤ counts.old.cycles + machine.new.cycle }
     ensures steps { steps.new + machine.old.cycle ≡ steps.old + machine.new.cycle }
@@ -336,22 +308,11 @@ pub(crate) fn run<'w, X: Device, G: Gate, H: Wait, T: Tape, L: Ledger>(
     requires ready { IsReady desk.now.board.now (λ w. w.now ≡ desk.now.world.now) lead.old.opened
         lead.old.kept lead.old.master lead.old.seat lead.old.sets.value.spare }
     ensures told { Tells T.took T.missed tape.old tape.new (T.faults tape.old) (T.faults tape.new)
-        (run_shown
-        (setting_of desk.now.world.now.script.now (X.meaning desk.now.world.now.device.now)
-        desk.now.world.now.limit)
-        machine.old) result }
-    ensures ran { IfOk result (IsRan
-        (setting_of desk.now.world.now.script.now (X.meaning desk.now.world.now.device.now)
-        desk.now.world.now.limit)
-        machine.old) }
-    ensures state { IfOk result (λ ran. machine.new ≡ last_state
-        (setting_of desk.now.world.now.script.now (X.meaning desk.now.world.now.device.now)
-        desk.now.world.now.limit)
-        machine.old) }
-    ensures on_run { IsOnRun
-        (setting_of desk.now.world.now.script.now (X.meaning desk.now.world.now.device.now)
-        desk.now.world.now.limit)
-        machine.old machine.new }
+        (run_shown (setting X.meaning desk.now.world.now) machine.old) result }
+    ensures ran { IfOk result (IsRan (setting X.meaning desk.now.world.now) machine.old) }
+    ensures state { IfOk result (λ ran. machine.new ≡ last_state (setting X.meaning
+        desk.now.world.now) machine.old) }
+    ensures on_run { IsOnRun (setting X.meaning desk.now.world.now) machine.old machine.new }
     ensures steps { steps.new + machine.old.cycle ≡ steps.old + machine.new.cycle }
     ensures ready { IsReady desk.now.board.now (λ w. w.now ≡ desk.now.world.now) lead.new.opened
         lead.new.kept lead.new.master lead.new.seat lead.new.sets.value.spare }

@@ -1,7 +1,7 @@
 //! What goes over the board: the piece of a window that is a lane's, and what was found of it.
 
 ghost use Rattle.std.specs.Prelude.{IfSome};
-ghost use Rattle.outer_lane.specs.Setting.{setting_of};
+ghost use Rattle.outer_lane.specs.Setting.{setting};
 ghost use Rattle.window_merge.specs.Jobs.{IsJobFor, IsTrueIn};
 
 use lane_look::Device;
@@ -26,10 +26,10 @@ pub struct Found {
 
 impl<'w, X: Device> Kept<&'w World<'w, X>> for Piece {
     ghost made_for = { λ world lane piece. IfSome piece.job (IsJobFor
-        (setting_of world.now.script.now (X.meaning world.now.device.now) world.now.limit)) };
+        (setting X.meaning world.now)) };
 }
 
 impl<'w, X: Device> Kept<&'w World<'w, X>> for Found {
     ghost made_for = { λ world lane found. IfSome found.report (IsTrueIn
-        (setting_of world.now.script.now (X.meaning world.now.device.now) world.now.limit)) };
+        (setting X.meaning world.now)) };
 }

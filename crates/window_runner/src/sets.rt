@@ -1,7 +1,7 @@
 //! The two jobs of each lane, and its report in a window.
 
 ghost use Rattle.std.specs.Prelude.{◌≡◌, ◌||◌, length, is_some, IfOk, IfSome, None};
-ghost use Rattle.outer_lane.specs.Setting.{setting_of};
+ghost use Rattle.outer_lane.specs.Setting.{setting};
 ghost use Rattle.turn_board.specs.Answers.{EachLane};
 ghost use Rattle.window_merge.specs.Jobs.{AreAlone, HasNumber, IsAlone, IsJobFor, IsTrueIn, IsWhole};
 ghost use Rattle.window_runner.specs.Seated.{MayHaveNumber, HaveNumbersFrom};
@@ -76,8 +76,7 @@ fn piece_of<X: Device>(
     first: &mut Option<LaneJob>,
 ) -> Piece
     requires { length machine.now.outer.device ≡ (X.meaning world.now.device.now).count }
-    ensures { IfSome result.job (IsJobFor
-        (setting_of world.now.script.now (X.meaning world.now.device.now) world.now.limit)) }
+    ensures { IfSome result.job (IsJobFor (setting X.meaning world.now)) }
 {
     match first.take() {
         Some(mut own) => {
@@ -96,8 +95,7 @@ pub(crate) fn pieces_of<X: Device>(
     first: &mut Six<Option<LaneJob>>,
 ) -> Six<Piece>
     requires { length machine.now.outer.device ≡ (X.meaning world.now.device.now).count }
-    ensures { EachLane (λ lane piece. IfSome piece.job (IsJobFor
-        (setting_of world.now.script.now (X.meaning world.now.device.now) world.now.limit)))
+    ensures { EachLane (λ lane piece. IfSome piece.job (IsJobFor (setting X.meaning world.now)))
         result }
 {
     Six {
@@ -143,9 +141,7 @@ fn run_spare<X: Device>(
 ) -> LaneReport
     requires { HasNumber lane spare.old }
     ensures lane { result.lane ≡ lane }
-    ensures alone { IsAlone
-        (setting_of world.now.script.now (X.meaning world.now.device.now) world.now.limit)
-        machine.now result }
+    ensures alone { IsAlone (setting X.meaning world.now) machine.now result }
     ensures spare { MayHaveNumber lane spare.new }
 {
     let Some(mut own) = spare.take() else {
@@ -166,13 +162,10 @@ fn settle<X: Device>(
     spare: &mut Option<LaneJob>,
     lane: u8,
 ) -> LaneReport
-    requires found { IfSome found.report (IsTrueIn
-        (setting_of world.now.script.now (X.meaning world.now.device.now) world.now.limit)) }
+    requires found { IfSome found.report (IsTrueIn (setting X.meaning world.now)) }
     requires spare { HasNumber lane spare.old }
     ensures lane { result.lane ≡ lane }
-    ensures alone { IsAlone
-        (setting_of world.now.script.now (X.meaning world.now.device.now) world.now.limit)
-        machine.now result }
+    ensures alone { IsAlone (setting X.meaning world.now) machine.now result }
     ensures spare { MayHaveNumber lane spare.new }
 {
     let Some(report) = found.report else {
@@ -195,14 +188,11 @@ pub(crate) fn settle_all<X: Device>(
     found: Six<Found>,
     sets: &mut Sets,
 ) -> [LaneReport; 6]
-    requires found { EachLane (λ lane found. IfSome found.report (IsTrueIn
-        (setting_of world.now.script.now (X.meaning world.now.device.now) world.now.limit)))
-        found }
+    requires found { EachLane (λ lane found. IfSome found.report (IsTrueIn (setting X.meaning
+        world.now))) found }
     requires spare { EachLane HasNumber sets.old.spare }
     ensures numbers { HaveNumbersFrom 0 result }
-    ensures alone { AreAlone
-        (setting_of world.now.script.now (X.meaning world.now.device.now) world.now.limit)
-        machine.now result }
+    ensures alone { AreAlone (setting X.meaning world.now) machine.now result }
     ensures spare { EachLane MayHaveNumber sets.new.spare }
 {
     let Sets { first, spare, .. } = sets;

@@ -1,7 +1,7 @@
 //! A run by windows whose lanes are run by several threads.
 
 ghost use Rattle.std.specs.Prelude.{◌≡◌, ◌+◌, ◌≤◌, All, IfOk, IfSome, IsSome, is_none, true};
-ghost use Rattle.outer_lane.specs.Setting.{setting_of};
+ghost use Rattle.outer_lane.specs.Setting.{setting};
 ghost use Rattle.trace_text.specs.Tape.{Tells};
 ghost use Rattle.rp_machine.specs.Run.{last_state};
 ghost use Rattle.turn_board.specs.Tickets.{IsFree};
@@ -59,15 +59,10 @@ impl<'b, 'w, X: Device, G: Gate> Bench<'b, 'w, X, G> {
         requires number { machine.old.cycle ≤ self.world.now.limit }
         requires ready { IsReady self.board.now (λ w. w.now ≡ self.world.now) self.lead.opened
             self.lead.kept self.lead.master self.lead.seat self.lead.sets.value.spare }
-        ensures told { Tells T.took T.missed tape.old tape.new (T.faults tape.old)
-            (T.faults tape.new) (run_shown
-            (setting_of self.entry.world.now.script.now
-            (X.meaning self.entry.world.now.device.now) self.entry.world.now.limit)
-            machine.old) result }
-        ensures left { Leaves
-            (setting_of self.entry.world.now.script.now
-            (X.meaning self.entry.world.now.device.now) self.entry.world.now.limit)
-            machine.old machine.new steps.old steps.new result }
+        ensures told { Tells T.took T.missed tape.old tape.new (T.faults tape.old) (T.faults
+            tape.new) (run_shown (setting X.meaning self.entry.world.now) machine.old) result }
+        ensures left { Leaves (setting X.meaning self.entry.world.now) machine.old machine.new
+            steps.old steps.new result }
     {
         let Bench {
             board,
@@ -102,14 +97,9 @@ fn both<'b, 'w, X: Device, G: Gate, T: Tape, L: Ledger, R: Threads + Wait + Sync
     requires ready { IsReady bench.board.now (λ w. w.now ≡ bench.world.now) bench.lead.opened
         bench.lead.kept bench.lead.master bench.lead.seat bench.lead.sets.value.spare }
     ensures told { Tells T.took T.missed tape.old tape.new (T.faults tape.old) (T.faults tape.new)
-        (run_shown
-        (setting_of bench.entry.world.now.script.now
-        (X.meaning bench.entry.world.now.device.now) bench.entry.world.now.limit)
-        machine.old) result }
-    ensures left { Leaves
-        (setting_of bench.entry.world.now.script.now
-        (X.meaning bench.entry.world.now.device.now) bench.entry.world.now.limit)
-        machine.old machine.new steps.old steps.new result }
+        (run_shown (setting X.meaning bench.entry.world.now) machine.old) result }
+    ensures left { Leaves (setting X.meaning bench.entry.world.now) machine.old machine.new
+        steps.old steps.new result }
 {
     let mut hall = Some(hall);
     let mut bench = Some(bench);
@@ -130,14 +120,9 @@ fn both<'b, 'w, X: Device, G: Gate, T: Tape, L: Ledger, R: Threads + Wait + Sync
                 (λ w. w.now ≡ b.world.now) b.lead.opened
                 b.lead.kept b.lead.master b.lead.seat b.lead.sets.value.spare) }
             ensures told { IfSome bench.entry (λ b. Tells T.took T.missed tape.entry.now
-                tape.exit.now (T.faults tape.entry.now) (T.faults tape.exit.now)
-                (run_shown
-                (setting_of b.world.now.script.now
-                (X.meaning b.world.now.device.now) b.world.now.limit)
-                machine.entry.now) result) }
-            ensures left { IfSome bench.entry (λ b. Leaves
-                (setting_of b.world.now.script.now
-                (X.meaning b.world.now.device.now) b.world.now.limit)
+                tape.exit.now (T.faults tape.entry.now) (T.faults tape.exit.now) (run_shown (setting
+                X.meaning b.world.now) machine.entry.now) result) }
+            ensures left { IfSome bench.entry (λ b. Leaves (setting X.meaning b.world.now)
                 machine.entry.now machine.exit.now steps.entry.now steps.exit.now result) }
         {
             match bench.take() {
@@ -163,12 +148,9 @@ fn run_at<'w, X: Device, G: Gate, T: Tape, L: Ledger, R: Threads + Wait + Sync>(
     requires number { machine.old.cycle ≤ world.now.limit }
     requires workers { workers ≤ 8 }
     ensures told { IfSome result (Tells T.took T.missed tape.old tape.new (T.faults tape.old)
-        (T.faults tape.new) (run_shown
-        (setting_of world.now.script.now (X.meaning world.now.device.now) world.now.limit)
-        machine.old)) }
-    ensures left { IfSome result (Leaves
-        (setting_of world.now.script.now (X.meaning world.now.device.now) world.now.limit)
-        machine.old machine.new steps.old steps.new) }
+        (T.faults tape.new) (run_shown (setting X.meaning world.now) machine.old)) }
+    ensures left { IfSome result (Leaves (setting X.meaning world.now) machine.old machine.new
+        steps.old steps.new) }
     ensures memory { is_none result ≡ true → (machine.new ≡ machine.old) × (tape.new ≡ tape.old)
         × (steps.new ≡ steps.old) }
 {
@@ -232,19 +214,12 @@ pub fn run_windows<X: Device, G: Gate, T: Tape, L: Ledger, R: Threads + Wait + S
 ) -> Result<Ran, RunFault>
     requires number { machine.old.cycle ≤ world.now.limit }
     requires workers { workers ≤ 8 }
-    ensures told { IfSome (answered result) (Tells T.took T.missed tape.old tape.new
-        (T.faults tape.old) (T.faults tape.new) (run_shown
-        (setting_of world.now.script.now (X.meaning world.now.device.now) world.now.limit)
-        machine.old)) }
-    ensures ran { IfOk result (IsRan
-        (setting_of world.now.script.now (X.meaning world.now.device.now) world.now.limit)
+    ensures told { IfSome (answered result) (Tells T.took T.missed tape.old tape.new (T.faults
+        tape.old) (T.faults tape.new) (run_shown (setting X.meaning world.now) machine.old)) }
+    ensures ran { IfOk result (IsRan (setting X.meaning world.now) machine.old) }
+    ensures state { IfOk result (λ ran. machine.new ≡ last_state (setting X.meaning world.now)
         machine.old) }
-    ensures state { IfOk result (λ ran. machine.new ≡ last_state
-        (setting_of world.now.script.now (X.meaning world.now.device.now) world.now.limit)
-        machine.old) }
-    ensures on_run { IsOnRun
-        (setting_of world.now.script.now (X.meaning world.now.device.now) world.now.limit)
-        machine.old machine.new }
+    ensures on_run { IsOnRun (setting X.meaning world.now) machine.old machine.new }
     ensures steps { steps.new + machine.old.cycle ≡ steps.old + machine.new.cycle }
     ensures memory { OnMemory result ((machine.new ≡ machine.old) × (tape.new ≡ tape.old)) }
 {

@@ -1,7 +1,7 @@
 //! What a worker does, and how the workers are started.
 
 ghost use Rattle.std.specs.Prelude.{◌≡◌, true, false, All, IsSome, IfSome};
-ghost use Rattle.outer_lane.specs.Setting.{setting_of};
+ghost use Rattle.outer_lane.specs.Setting.{setting};
 ghost use Rattle.crossbeam_utils.specs.Padded.{padded_value};
 ghost use Rattle.turn_board.specs.Tickets.{IsFree, IsUnfinished};
 ghost use Rattle.window_merge.specs.Jobs.{IsJobFor, IsTrueIn};
@@ -19,10 +19,8 @@ use window_merge::run_job;
 
 /// Runs the job of a piece, where there is one.
 fn found_of<X: Device>(piece: Piece, world: &World<'_, X>) -> Found
-    requires { IfSome piece.job (IsJobFor
-        (setting_of world.now.script.now (X.meaning world.now.device.now) world.now.limit)) }
-    ensures { IfSome result.report (IsTrueIn
-        (setting_of world.now.script.now (X.meaning world.now.device.now) world.now.limit)) }
+    requires { IfSome piece.job (IsJobFor (setting X.meaning world.now)) }
+    ensures { IfSome result.report (IsTrueIn (setting X.meaning world.now)) }
 {
     match piece.job {
         Some(job) => Found {
