@@ -3,8 +3,8 @@ use Rattle.std.proofs.Common.{◌∙◌, ap, ◌≡◌, ℕ, zero, suc, ◌+◌,
 use Rattle.std.proofs.lemmas.Grind.{common_steps}
 use Rattle.std.proofs.lemmas.Bool.Decides.{nat_tests}
 use Rattle.rp_timer.specs.State.{TimerState}
-use Rattle.rp_timer.specs.Step.{is_tick, risen, after_step}
-use Rattle.rp_timer.specs.Laws.{after_cycles, TimeCountsMicroseconds}
+use Rattle.rp_timer.specs.Step.{is_tick, risen, after_step, after_cycles}
+use Rattle.rp_timer.specs.Laws.{TimeCountsMicroseconds}
 
 paused-step : (c : ℕ) (s : TimerState) (b : Bool) → (cond b (risen s) s).paused ≡ s.paused
 paused-step c s true = refl
@@ -17,10 +17,10 @@ paused-cycles first (suc n) s =
     ∙ paused-cycles first n s
 
 -- the ticks up to a cycle
-ticks-more : (c : ℕ) → is_tick c ≡ true → (c + 1) / 125 ≡ c / 125 + 1
+pub ticks-more : (c : ℕ) → is_tick c ≡ true → (c + 1) / 125 ≡ c / 125 + 1
 ticks-more c h = grind (arith, nat_tests, common_steps)
 
-ticks-same : (c : ℕ) → is_tick c ≡ false → (c + 1) / 125 ≡ c / 125
+pub ticks-same : (c : ℕ) → is_tick c ≡ false → (c + 1) / 125 ≡ c / 125
 ticks-same c h = grind (arith, nat_tests, common_steps)
 
 time-tick : (c : ℕ) (s : TimerState) → is_tick c ≡ true → s.paused ≡ false → (after_step c s).time ≡ (s.time + 1) % 2 ^ 64

@@ -4,8 +4,8 @@ use Rattle.std.specs.Prelude.{◌==◌}
 use Rattle.std.proofs.lemmas.Grind.{common_steps}
 use Rattle.std.proofs.lemmas.Bool.Decides.{nat_tests}
 use Rattle.rp_timer.specs.State.{TimerState, low_of, high_of}
-use Rattle.rp_timer.specs.Step.{is_tick, risen}
-use Rattle.rp_timer.specs.Laws.{after_cycles, after_low_read, TheTimeReadsAsOne, ACarryTearsTheRead}
+use Rattle.rp_timer.specs.Step.{is_tick, risen, after_cycles}
+use Rattle.rp_timer.specs.Laws.{after_low_read, TheTimeReadsAsOne, ACarryTearsTheRead}
 
 -- a cycle leaves what was latched
 high-step : (s : TimerState) (b : Bool) → (cond b (risen s) s).high ≡ s.high

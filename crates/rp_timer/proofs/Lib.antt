@@ -1,3 +1,4 @@
 mod Alarms
 mod Count
 mod Latched
+mod Passing

@@ -3,14 +3,9 @@ use Rattle.std.specs.Prelude.{◌≡◌, ℕ, zero, suc, ◌+◌, ◌-◌, ◌*�
 use Rattle.rp_base.specs.Word.{has_bit}
 use Rattle.rp_timer.specs.State.{TimerState, low_of, high_of}
 use Rattle.rp_timer.specs.Words.{word_of, effect_of, offset_of}
-use Rattle.rp_timer.specs.Step.{is_tick, risen, after_step}
+use Rattle.rp_timer.specs.Step.{is_tick, risen, after_step, after_cycles}
 
 -- ---- the time
-
--- so many cycles from a first one on
-abbrev pub after_cycles : ℕ → ℕ → TimerState → TimerState
-after_cycles first zero s = s
-after_cycles first (suc n) s = after_step (first + n) (after_cycles first n s)
 
 -- a timer that is not paused counts the microseconds that end, of 125 cycles each
 abbrev pub TimeCountsMicroseconds : Type 0

@@ -1,5 +1,5 @@
 -- One cycle of the timer (RP2040 Datasheet, 4.6.2, Counter, 4.6.3, Alarms, and 4.7.2, Tick Generation).
-use Rattle.std.specs.Prelude.{ℕ, ◌+◌, ◌*◌, ◌%◌, ◌^◌, Bool, not, ◌==◌, ◌&&◌, if◌then◌else◌, bit_or, slice_index}
+use Rattle.std.specs.Prelude.{ℕ, zero, suc, ◌+◌, ◌*◌, ◌%◌, ◌^◌, Bool, not, ◌==◌, ◌&&◌, if◌then◌else◌, bit_or, slice_index}
 use Rattle.rp_base.specs.Word.{has_bit, bit_number}
 use Rattle.rp_timer.specs.State.{TimerState, low_of}
 use Rattle.rp_base.specs.Word.{minus}
@@ -21,9 +21,18 @@ due_of s =
 abbrev pub alarmed : TimerState → TimerState
 alarmed s = record s { raised = bit_or s.raised (due_of s); armed = minus s.armed (due_of s) }
 
+-- another time
+abbrev pub at_time : ℕ → TimerState → TimerState
+at_time time s = record s { time = time % 2 ^ 64 }
+
 -- the time rises by one, and the alarms are compared with the new low word
 abbrev pub risen : TimerState → TimerState
-risen s = alarmed (record s { time = (s.time + 1) % 2 ^ 64 })
+risen s = alarmed (at_time (s.time + 1) s)
 
 abbrev pub after_step : ℕ → TimerState → TimerState
 after_step cycle s = if is_tick cycle && not s.paused then risen s else s
+
+-- so many cycles from a first one on
+abbrev pub after_cycles : ℕ → ℕ → TimerState → TimerState
+after_cycles first zero s = s
+after_cycles first (suc n) s = after_step (first + n) (after_cycles first n s)

@@ -3,6 +3,7 @@
 #![tactic(auto)]
 
 pub mod laws;
+mod quiet;
 pub mod registers;
 pub mod timer;
 mod words;
