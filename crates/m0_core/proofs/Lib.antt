@@ -1,3 +1,4 @@
+mod Begins
 mod Events
 mod GoingOn
 mod GivenBack

@@ -1,3 +1,4 @@
+pub mod Begins
 pub mod Bounds
 pub mod Cycle
 pub mod Entry

@@ -8,6 +8,7 @@ ghost use Rattle.lane_look.specs.declared.lane.Ask.TheVariants.{Lines};
 ghost use Rattle.lane_look.specs.Asking.Asking.{Ready};
 ghost use Rattle.rp_base.specs.Access.{master_of};
 ghost use Rattle.m0_beats.specs.Beats.{beats_of};
+ghost use Rattle.m0_core.specs.Begins.{begins};
 ghost use Rattle.m0_beats.specs.Shapes.{beats_of_shape};
 ghost use Rattle.m0_core.specs.Fetch.{is_ram, is_locked, asks_fault, is_callable, is_faulty, beat_of, beat_of_work, in_ram, in_private, at_spot, in_beat, asks_beat, locks_last, asks_return, asks_decoded, asks_second, asks_first, taken_of, asks_boundary, asks_work, asks_awake, asks};
 
@@ -367,6 +368,21 @@ impl Core {
         match &self.work {
             None => self.begin_boundary(look, act),
             Some(work) => self.begin_work(work, look, act),
+        }
+    }
+
+    /// The address of the instruction that the core begins in the coming cycle, which is the one whose first halfword it fetches then.
+    /// It begins none where it is asleep, where a beat of something in progress is next, where it takes an exception, and where it stops
+    /// because PC is outside SRAM.
+    #[tactic(auto, unfolding(crate::specs::Begins::begins))]
+    pub fn begins(&self) -> Option<u32>
+        ensures { result ≡ begins self.now }
+    {
+        let is_between = !self.is_asleep() && self.work.is_none();
+        if is_between && self.taken().is_none() && is_ram(self.regs.pc) {
+            Some(self.regs.pc)
+        } else {
+            None
         }
     }
 

@@ -1,6 +1,7 @@
 //! The laws of the core, each the contract of a function without arguments.
 
 ghost use Rattle.m0_core.specs.Laws.{AnInstructionGoesOn, AnInstructionOffThePrivateBusTakesItsBeats, AnInstructionTakesItsBeats, AnAccessLastsUntilItIsDone};
+ghost use Rattle.m0_core.specs.Begins.{WhatBeginsIsFetchedFirst};
 ghost use Rattle.m0_core.specs.EventLaws.{AWfeMovesOnAtAnEvent, ACoreStopsAtItsCauses, AReturnFaults};
 ghost use Rattle.m0_core.specs.ExceptionLaws.{WhatIsTakenIsTheLeast, AFaultPendsHardFaultAlone, AWfiMovesOnWhereAnExceptionWakes};
 ghost use Rattle.m0_core.specs.Handlers.{AnEntryTakesItsBeats, AReturnTakesItsBeats, AReturnGivesBackWhatAnEntryFound};
@@ -82,4 +83,10 @@ pub fn a_core_stops_at_its_causes()
 /// its last beat locks the core up where the frame's exception number does not fit the mode.
 pub fn a_return_faults()
     ensures { AReturnFaults }
+{}
+
+/// The instruction that a core begins in a cycle is the one at the first halfword that it asks for then, whatever it is answered;
+/// where it begins none it asks for no halfword.
+pub fn what_begins_is_fetched_first()
+    ensures { WhatBeginsIsFetchedFirst }
 {}
