@@ -3,8 +3,10 @@ pub mod Driven
 pub mod Entries
 pub mod Least
 pub mod Pairs
+pub mod Quiet
 pub mod Records
 pub mod Replays
 pub mod Rewinds
 pub mod RunsAlone
+pub mod Times
 pub mod Trees

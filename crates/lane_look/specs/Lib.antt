@@ -3,6 +3,8 @@ pub mod Asking
 pub mod Bounds
 pub mod Device
 pub mod DeviceLaws
+pub mod Quiet
 pub mod Replay
 pub mod Steps
+pub mod Times
 pub mod Truth

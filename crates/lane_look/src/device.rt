@@ -1,7 +1,8 @@
 //! The device that the caller of the machine attaches to its pads and its bus.
 
-ghost use Rattle.std.specs.Prelude.{◌≡◌, ◌≤◌, length};
+ghost use Rattle.std.specs.Prelude.{◌≡◌, ◌≤◌, ◌<◌, ◌+◌, ◌^◌, length};
 ghost use Rattle.lane_look.specs.Device.{DeviceMeaning, no_device};
+ghost use Rattle.lane_look.specs.Quiet.{IsDeviceQuiet, device_after};
 
 /// What a device drives in a cycle. Pad 0 and interrupt line 0 are in bit 0.
 #[derive(Clone, Copy, Debug, PartialEq, Eq, Default)]
@@ -53,6 +54,37 @@ pub trait Device: Sync + Drop {
         requires { length state.old ≡ (meaning self.now).count }
         ensures wires { result ≡ (meaning self.now).wires state.old cycle pads }
         ensures state { state.new ≡ (meaning self.now).after_step state.old cycle pads };
+
+    /// For so many cycles from this one on it is quiet: as long as the pads have these levels it drives in each of them what it
+    /// drives in the first one. Any smaller number is right too.
+    fn quiet(&self, _state: &[u32], _cycle: u64, _pads: u32) -> u64
+        requires { length _state.now ≡ (meaning self.now).count }
+        ensures { IsDeviceQuiet (meaning self.now) _state.now _cycle _pads result }
+    {
+        0
+    }
+
+    /// So many cycles from a first one on, in which the pads have these levels.
+    fn pass(&self, state: &mut [u32], first: u64, pads: u32, n: u64)
+        requires words { length state.old ≡ (meaning self.now).count }
+        requires number { first + n < 2 ^ 64 }
+        ensures { state.new ≡ device_after (meaning self.now) pads first n state.old }
+    {
+        for k in 0..n {
+            let _ = self.step(state, first + k, pads);
+        }
+    }
+}
+
+/// So many cycles of a device one by one, for a `pass` that knows nothing shorter.
+pub fn pass_each<X: Device>(device: &X, state: &mut [u32], first: u64, pads: u32, n: u64)
+    requires words { length state.old ≡ (X.meaning device.now).count }
+    requires number { first + n < 2 ^ 64 }
+    ensures { state.new ≡ device_after (X.meaning device.now) pads first n state.old }
+{
+    for k in 0..n {
+        let _ = device.step(state, first + k, pads);
+    }
 }
 
 /// The device that is none: it has no words, owns no address and drives nothing.
@@ -81,4 +113,10 @@ impl Device for NoDevice {
     fn step(&self, _state: &mut [u32], _cycle: u64, _pads: u32) -> Wires {
         Wires::default()
     }
+
+    fn quiet(&self, _state: &[u32], _cycle: u64, _pads: u32) -> u64 {
+        u64::MAX
+    }
+
+    fn pass(&self, _state: &mut [u32], _first: u64, _pads: u32, _n: u64) {}
 }

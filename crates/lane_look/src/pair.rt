@@ -57,6 +57,29 @@ impl<A: Device, B: Device> Device for Pair<A, B> {
         let second = self.second.step(back, cycle, pads);
         join(first, second)
     }
+
+    fn quiet(&self, state: &[u32], cycle: u64, pads: u32) -> u64 {
+        let (front, back) = state.split_at(self.first.words());
+        let first = self.first.quiet(front, cycle, pads);
+        first.min(self.second.quiet(back, cycle, pads))
+    }
+
+    fn pass(&self, state: &mut [u32], first: u64, pads: u32, n: u64) {
+        let words = self.first.words();
+        let (front, back) = state.split_at(words);
+        let quiet = self.first.quiet(front, first, pads);
+        if n <= quiet && n <= self.second.quiet(back, first, pads) {
+            let (front, back) = state.split_at_mut(words);
+            self.first.pass(front, first, pads, n);
+            self.second.pass(back, first, pads, n);
+        } else {
+            for k in 0..n {
+                let (front, back) = state.split_at_mut(words);
+                let _ = self.first.step(front, first + k, pads);
+                let _ = self.second.step(back, first + k, pads);
+            }
+        }
+    }
 }
 
 /// What two devices drive together.
