@@ -3,4 +3,5 @@ pub mod Held
 pub mod InForce
 pub mod Least
 mod Period
+pub mod Settled
 pub mod Silent

@@ -5,6 +5,7 @@ pub mod Laws
 pub mod Numbers
 pub mod Offsets
 pub mod Priority
+pub mod Quiet
 pub mod State
 pub mod TimerLaws
 pub mod Words
