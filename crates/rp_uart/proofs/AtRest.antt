@@ -14,7 +14,7 @@ pub cond-same : {A : Type 0} (c : Bool) (x : A) → cond c x x ≡ x
 cond-same true x = refl
 cond-same false x = refl
 
-none-in : (xs : List ℕ) → length xs ≡ 0 → xs ≡ []
+pub none-in : (xs : List ℕ) → length xs ≡ 0 → xs ≡ []
 none-in [] e = refl
 none-in (x ∷ xs) e = absurd (omega arith)
 

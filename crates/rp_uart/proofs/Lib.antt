@@ -6,3 +6,4 @@ pub mod Heard
 pub mod Kept
 pub mod Loopback
 pub mod Timing
+mod Passing

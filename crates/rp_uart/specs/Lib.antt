@@ -1,6 +1,7 @@
 pub mod Frame
 pub mod Interrupts
 pub mod Laws
+pub mod Quiet
 pub mod Receiver
 pub mod Sender
 pub mod State

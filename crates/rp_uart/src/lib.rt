@@ -6,6 +6,7 @@ pub mod control;
 pub mod frame;
 mod interrupts;
 pub mod laws;
+mod quiet;
 pub mod receiver;
 pub mod registers;
 pub mod sender;

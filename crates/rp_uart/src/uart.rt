@@ -316,7 +316,7 @@ impl Uart {
     }
 
     /// The level that the receiver hears.
-    fn heard(&self, line: bool) -> bool
+    pub(crate) fn heard(&self, line: bool) -> bool
         ensures { result ≡ heard_of line self.now }
     {
         if self.control.loopback {
