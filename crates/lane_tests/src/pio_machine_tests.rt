@@ -1,21 +1,32 @@
 //! One machine: single instructions, and runs of small programs.
 
-use pio_machine::{Done, Machine1, Seen, Waiting, tick};
+ghost use Rattle.std.specs.Prelude.{◌<◌};
+
+use pio_machine::settings::Settings;
+use pio_machine::{Done, Machine1, Memory, Seen, Waiting};
 use std::process::Abort;
 
 /// What a program sees where all pins are low.
 fn seen(program: &[u16; 4]) -> Seen {
-    let mut memory = [0; 32];
-    memory[0] = program[0];
-    memory[1] = program[1];
-    memory[2] = program[2];
-    memory[3] = program[3];
+    let mut memory = Memory::new();
+    memory.write(0, program[0]);
+    memory.write(1, program[1]);
+    memory.write(2, program[2]);
+    memory.write(3, program[3]);
     Seen {
         memory,
         inputs: [0, 0],
         bypass: 0,
         flags: 0,
     }
+}
+
+/// A cycle of the machine of that number.
+fn tick(machine: &mut Machine1, number: u8, seen: &Seen, done: &mut Done)
+    requires { number < 4 }
+{
+    let settings = Settings::of(machine);
+    pio_machine::tick(machine, &settings, number, seen, done);
 }
 
 /// A word, and then PC, X, Y, both shift registers and both counts.
@@ -257,7 +268,7 @@ fn runs(machine: &mut Machine1, seen: &mut Seen, deed: &Deed) -> bool {
 /// The first of these that is not so, of an enabled machine that runs this program, with one more word at address 5.
 fn first_fault(program: &[u16; 4], fifth: u16, deeds: &[Deed]) -> Option<usize> {
     let mut seen = seen(program);
-    seen.memory[5] = fifth;
+    seen.memory.write(5, fifth);
     let mut machine = Machine1::new();
     machine.enabled = true;
     for (index, deed) in deeds.iter().enumerate() {

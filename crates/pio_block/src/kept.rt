@@ -2,35 +2,26 @@
 
 use crate::machine::{clear_stalls, control, send, take, write_register};
 use pio_machine::settings::Settings;
-use pio_machine::{
-    Done, LastOut, Machine1, Seen, is_again, is_delayed, is_idle, is_shift, is_steady, tick_again,
-    tick_by, tick_delayed, tick_shift, tick_steady,
-};
+use pio_machine::{Done, Machine1, Seen, tick};
 use std::marker::Model;
 
-/// A machine, seen as its state. Beside it stand what its registers say, whether it is steady, and the OUT to pins at which it
-/// stays, if any.
+/// A machine, seen as its state. Beside it stands what its registers say.
 #[derive(Drop)]
 pub(crate) struct Kept {
     machine: Machine1,
     settings: Settings,
-    steady: bool,
-    last: LastOut,
 }
 
 impl Model for Kept {
-    ghost use Rattle.std.specs.Prelude.{◌≡◌, Decides};
+    ghost use Rattle.std.specs.Prelude.{◌≡◌};
     ghost use Rattle.pio_machine.specs.declared.machine.Machine1.{Machine1};
-    ghost use Rattle.pio_machine.specs.Ready.{settings_of, IsSteady};
-    ghost use Rattle.pio_machine.specs.Again.{Lasts};
+    ghost use Rattle.pio_machine.specs.Ready.{settings_of};
 
     ghost Value = { Machine1 };
 
     ghost view = { λ k. k.machine };
 
-    ghost invariant = { λ k. (k.settings ≡ settings_of k.machine)
-        × Decides k.steady (IsSteady k.machine)
-        × Lasts k.last k.machine };
+    ghost invariant = { λ k. k.settings ≡ settings_of k.machine };
 }
 
 impl Kept {
@@ -38,7 +29,6 @@ impl Kept {
     ghost use Rattle.pio_machine.specs.Start.{at_reset};
     ghost use Rattle.pio_machine.specs.Operation.{with_pc};
     ghost use Rattle.pio_machine.specs.Cycle.{after_cycle, written_in_cycle};
-    ghost use Rattle.pio_machine.specs.Ready.{IsSteady};
     ghost use Rattle.pio_block.specs.Control.{controlled};
     ghost use Rattle.pio_block.specs.Words.{room_left};
     ghost use Rattle.pio_block.specs.Queues.{with_stalls_cleared, with_sent, with_taken};
@@ -50,13 +40,7 @@ impl Kept {
     {
         let machine = Machine1::new();
         let settings = Settings::of(&machine);
-        let steady = is_steady(&machine, &settings);
-        Kept {
-            machine,
-            settings,
-            steady,
-            last: LastOut::none(),
-        }
+        Kept { machine, settings }
     }
 
     /// The machine.
@@ -76,38 +60,6 @@ impl Kept {
             .saturating_sub(self.machine.tx.level())
     }
 
-    /// A cycle of the machine of that number, which is steady, and in which no delay is left.
-    #[inline(always)]
-    fn tick_steadily(&mut self, number: u8, seen: &Seen, done: &mut Done)
-        requires number { number < 4 }
-        requires steady { IsSteady self.old }
-        requires delay { self.old.delay ≡ 0 }
-        ensures machine { self.new ≡ after_cycle number seen.now self.old }
-        ensures done { done.new ≡ written_in_cycle number seen.now self.old done.old }
-    {
-        let (machine, settings) = (&mut self.machine, &self.settings);
-        if self.last.ready {
-            if is_again(machine, &self.last, seen) {
-                tick_again(machine, settings, &self.last, number, seen, done);
-                return;
-            }
-            self.last.ready = false;
-        }
-        self.steady = tick_steady(machine, settings, number, seen, done, &mut self.last);
-    }
-
-    /// A cycle of the machine of that number, whatever it does in it.
-    #[inline(always)]
-    fn tick_plainly(&mut self, number: u8, seen: &Seen, done: &mut Done)
-        requires { number < 4 }
-        ensures machine { self.new ≡ after_cycle number seen.now self.old }
-        ensures done { done.new ≡ written_in_cycle number seen.now self.old done.old }
-    {
-        self.last.ready = false;
-        tick_by(&mut self.machine, &self.settings, number, seen, done);
-        self.steady = is_steady(&self.machine, &self.settings);
-    }
-
     /// A cycle of the machine of that number.
     #[inline(always)]
     pub(crate) fn tick(&mut self, number: u8, seen: &Seen, done: &mut Done)
@@ -115,16 +67,7 @@ impl Kept {
         ensures machine { self.new ≡ after_cycle number seen.now self.old }
         ensures done { done.new ≡ written_in_cycle number seen.now self.old done.old }
     {
-        if is_shift(&self.machine, &self.last, seen) {
-            let (machine, settings) = (&mut self.machine, &self.settings);
-            tick_shift(machine, settings, &self.last, number, seen, done);
-        } else if self.steady && self.machine.delay == 0 {
-            self.tick_steadily(number, seen, done);
-        } else if self.steady && is_delayed(&self.machine, &self.settings) {
-            tick_delayed(&mut self.machine, &self.settings, number, seen, done);
-        } else if !is_idle(&self.machine, number, seen, done) {
-            self.tick_plainly(number, seen, done);
-        }
+        tick(&mut self.machine, &self.settings, number, seen, done);
     }
 
     /// A write of CTRL, to the machine of that number.
@@ -134,8 +77,6 @@ impl Kept {
     {
         control(&mut self.machine, number, word);
         self.settings = Settings::of(&self.machine);
-        self.steady = is_steady(&self.machine, &self.settings);
-        self.last.ready = false;
     }
 
     /// A write of FDEBUG, to the machine of that number.
@@ -166,8 +107,6 @@ impl Kept {
     {
         write_register(&mut self.machine, offset, word);
         self.settings = Settings::of(&self.machine);
-        self.steady = is_steady(&self.machine, &self.settings);
-        self.last.ready = false;
     }
 
     /// Sets the program counter.
@@ -175,7 +114,6 @@ impl Kept {
         ensures { self.new ≡ with_pc address self.old }
     {
         self.machine.set_pc(address);
-        self.last.ready = false;
     }
 
     /// Both are in the same state.
@@ -191,7 +129,5 @@ impl Kept {
     {
         self.machine.copy_from(&other.machine);
         self.settings = other.settings;
-        self.steady = other.steady;
-        self.last = other.last;
     }
 }

@@ -1,16 +1,14 @@
 //! What the system does to one machine.
 
-ghost use Rattle.std.specs.Prelude.{◌≡◌, ◌<◌, Bool, Decides};
-ghost use Rattle.pio_machine.specs.declared.again.LastOut.{LastOut};
-ghost use Rattle.pio_machine.specs.Ready.{settings_of, IsSteady};
-ghost use Rattle.pio_machine.specs.Again.{Lasts};
+ghost use Rattle.std.specs.Prelude.{◌≡◌, ◌<◌};
+ghost use Rattle.pio_machine.specs.Ready.{settings_of};
 ghost use Rattle.pio_block.specs.State.{is_running, is_written};
 ghost use Rattle.pio_block.specs.Control.{restarted_if, with_divider_restarted, controlled};
 ghost use Rattle.pio_block.specs.Queues.{with_stalls_cleared, with_sent, with_taken};
 ghost use Rattle.pio_block.specs.Registers.{execctrl_of, register_of, joined, register_written};
 
 use crate::registers::{SM_ADDR, SM_CLKDIV, SM_EXECCTRL, SM_INSTR, SM_PINCTRL, SM_SHIFTCTRL};
-use pio_machine::{Machine1, Waiting};
+use pio_machine::{Machine1, Memory, Waiting};
 use rp_base::bits::{bit_number, has_bit};
 
 /// A word that was written to INSTR waits.
@@ -69,10 +67,7 @@ pub(crate) fn clear_stalls(machine: &mut Machine1, number: u32, word: u32)
 /// A write of TXF.
 pub(crate) fn send(machine: &mut Machine1, word: u32)
     ensures machine { machine.new ≡ with_sent word machine.old }
-    ensures steady { (b : Bool) → Decides b (IsSteady machine.old)
-        → Decides b (IsSteady machine.new) }
     ensures settings { settings_of machine.new ≡ settings_of machine.old }
-    ensures last { (o : LastOut) → Lasts o machine.old → Lasts o machine.new }
 {
     if !machine.is_tx_full() {
         machine.tx.push(word);
@@ -95,7 +90,7 @@ fn execctrl(machine: &Machine1) -> u32
 
 /// A register of the machine, by its offset from the first one.
 #[tactic(auto, unfolding(crate::specs::Registers::register_of))]
-pub(crate) fn register(machine: &Machine1, offset: u16, memory: &[u16; 32]) -> u32
+pub(crate) fn register(machine: &Machine1, offset: u16, memory: &Memory) -> u32
     ensures { result ≡ register_of offset memory.now machine.now }
 {
     match offset {
@@ -103,7 +98,7 @@ pub(crate) fn register(machine: &Machine1, offset: u16, memory: &[u16; 32]) -> u
         SM_EXECCTRL => execctrl(machine),
         SM_SHIFTCTRL => machine.shiftctrl,
         SM_ADDR => u32::from(machine.pc),
-        SM_INSTR => u32::from(memory[(machine.pc % 32) as usize]),
+        SM_INSTR => u32::from(memory.word(machine.pc % 32)),
         SM_PINCTRL => machine.pinctrl,
         _ => 0,
     }

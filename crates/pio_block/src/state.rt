@@ -6,7 +6,7 @@ ghost use Rattle.pio_machine.specs.Pins.{overlaid};
 use crate::inputs::Inputs;
 use crate::machines::Machines;
 use crate::words::PINS;
-use pio_machine::{Done, Seen};
+use pio_machine::{Done, Memory, Seen};
 use std::marker::Model;
 
 /// The state of a block. What the machines see stands in `seen`, whose inputs are those of the last cycle that was stepped.
@@ -57,7 +57,7 @@ fn nothing_seen() -> Seen
     } }
 {
     Seen {
-        memory: [0; 32],
+        memory: Memory::new(),
         inputs: [0, 0],
         bypass: 0,
         flags: 0,
@@ -190,7 +190,7 @@ impl State {
         ensures { Decides result (self.now ≡ other.now) }
     {
         let machines = self.machines.is_same(&other.machines);
-        let memory = self.seen.memory == other.seen.memory;
+        let memory = self.seen.memory.is_same(&other.seen.memory);
         machines
             & memory
             & (self.seen.flags == other.seen.flags)
@@ -211,7 +211,7 @@ impl State {
         ensures { self.new ≡ other.now }
     {
         self.machines.copy_from(&other.machines);
-        self.seen = other.seen;
+        self.seen.copy_from(&other.seen);
         self.levels = other.levels;
         self.enables = other.enables;
         self.tx_over = other.tx_over;

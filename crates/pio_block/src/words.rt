@@ -154,7 +154,8 @@ impl State {
         requires high { offset < SM0_CLKDIV }
         ensures { self.new ≡ after_memory offset word self.old }
     {
-        self.seen.memory[((offset - INSTR_MEM0) / 4) as usize] = (word & 0xffff) as u16;
+        let address = ((offset - INSTR_MEM0) / 4) as u8;
+        self.seen.memory.write(address, (word & 0xffff) as u16);
     }
 
     /// A register of a machine.

@@ -1,12 +1,10 @@
-pub mod Repeats
 pub mod Clock
 pub mod Comparisons
 pub mod Drives
 pub mod Goes
+pub mod Beside
 pub mod Once
-pub mod Outs
 pub mod Refills
 pub mod Ready
 pub mod Stream
 pub mod Tries
-pub mod Sides

@@ -6,8 +6,7 @@ use Rattle.pio_words.specs.declared.op.PioOp.{PioOp}
 use Rattle.pio_machine.specs.Operation.{tried}
 use Rattle.pio_machine.specs.Cycle.{advanced, worked, divided, after_cycle}
 use Rattle.pio_machine.specs.Ready.{settings_of}
-use Rattle.pio_machine.specs.Queue.{loaded}
-use Rattle.pio_machine.proofs.Goes.{goes-load, goes-op, goes-worked}
+use Rattle.pio_machine.proofs.Goes.{goes-op, goes-worked}
 use Rattle.pio_machine.proofs.Clock.{goes-cycle, clkdiv-kept, shiftctrl-kept}
 
 execctrl-kept : (b : Bool) (m : Machine1) (a : ℕ) → (if b then record m { acc = a } else m).execctrl ≡ m.execctrl
@@ -47,8 +46,3 @@ settings_advanced m =
     (execctrl-kept m.enabled m (divided m))
     (shiftctrl-kept m.enabled m (divided m))
     (pinctrl-kept m.enabled m (divided m))
-
-pub settings_loaded : (m : Machine1) → settings_of (loaded m) ≡ settings_of m
-settings_loaded m =
-    let g = goes-load m.tx m refl in
-    same_settings m (loaded m) g.clkdiv g.execctrl g.shiftctrl g.pinctrl

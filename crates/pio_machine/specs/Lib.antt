@@ -2,14 +2,12 @@ pub mod Fields
 pub mod Bits
 pub mod Pins
 pub mod Ready
-pub mod Again
 pub mod Ending
 pub mod Progress
 pub mod Start
 pub mod Flags
 pub mod Jump
 pub mod Input
-pub mod Out
 pub mod Output
 pub mod Queue
 pub mod Move

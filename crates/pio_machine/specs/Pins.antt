@@ -39,8 +39,11 @@ with_masked_levels mask base value d = record d {
 abbrev pub with_levels : ℕ → ℕ → ℕ → Done → Done
 with_levels base count value d = with_masked_levels (pins_from base count) base value d
 
-abbrev pub with_enables : ℕ → ℕ → ℕ → Done → Done
-with_enables base count value d = record d {
-  enables = overlaid (pins_from base count) (rotate_left w32 value base) d.enables;
-  enable_mask = bit_or d.enable_mask (pins_from base count);
+abbrev pub with_masked_enables : ℕ → ℕ → ℕ → Done → Done
+with_masked_enables mask base value d = record d {
+  enables = overlaid mask (rotate_left w32 value base) d.enables;
+  enable_mask = bit_or d.enable_mask mask;
 }
+
+abbrev pub with_enables : ℕ → ℕ → ℕ → Done → Done
+with_enables base count value d = with_masked_enables (pins_from base count) base value d

@@ -13,7 +13,7 @@ pub(crate) fn low_mask(count: u8) -> u32
 
 /// The low bits of a word, `count` of them.
 #[tactic(auto, using(std::proofs::lemmas::Nat::and_mask))]
-fn low_bits(word: u32, count: u8) -> u32
+pub(crate) fn low_bits(word: u32, count: u8) -> u32
     requires { count ≤ 32 }
     ensures { result ≡ word % 2 ^ count }
 {
@@ -27,7 +27,7 @@ fn shifted_left(word: u32, count: u8) -> u32
     if count < 32 { word << count } else { 0 }
 }
 
-pub(crate) fn shifted_right(word: u32, count: u8) -> u32
+fn shifted_right(word: u32, count: u8) -> u32
     requires { count ≤ 32 }
     ensures { result ≡ word / 2 ^ count }
 {

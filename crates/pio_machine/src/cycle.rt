@@ -6,11 +6,12 @@ ghost use Rattle.pio_machine.specs.Ready.{settings_of};
 
 use crate::machine::{Done, Machine1, Seen, Waiting};
 use crate::settings::Settings;
+use pio_words::decode_word;
 
 impl Machine1 {
     /// The machine ticks in this cycle.
     #[inline(always)]
-    pub(crate) fn ticks(&self) -> bool
+    fn ticks(&self) -> bool
         ensures { result ≡ ticks self.now }
     {
         self.enabled && self.acc < 256
@@ -18,11 +19,12 @@ impl Machine1 {
 
     /// The divider goes on in a tick.
     #[inline(always)]
-    fn begin_period(&mut self)
-        requires { ticks self.old ≡ true }
+    fn begin_period(&mut self, settings: &Settings)
+        requires settings { settings.now ≡ settings_of self.old }
+        requires ticks { ticks self.old ≡ true }
         ensures { self.new ≡ advanced self.old }
     {
-        self.acc = self.acc + self.divider() - 256;
+        self.acc = self.acc + settings.period - 256;
     }
 
     /// The divider goes on in a cycle that is no tick.
@@ -38,11 +40,12 @@ impl Machine1 {
 
     /// The divider goes on.
     #[inline(always)]
-    fn advance(&mut self)
+    fn advance(&mut self, settings: &Settings)
+        requires { settings.now ≡ settings_of self.old }
         ensures { self.new ≡ advanced self.old }
     {
         if self.ticks() {
-            self.begin_period();
+            self.begin_period(settings);
         } else {
             self.count_down();
         }
@@ -66,9 +69,10 @@ impl Machine1 {
         ensures done { done.new ≡ written_in_cycle number seen.now self.old done.old }
     {
         let tried = waiting.forced || self.ticks();
-        self.advance();
+        self.advance(settings);
         if tried {
-            self.attempt_word(waiting.word, settings, number, seen, done);
+            let operation = decode_word(waiting.word);
+            self.attempt(waiting.word, operation, settings, number, seen, done);
         }
     }
 
@@ -83,10 +87,11 @@ impl Machine1 {
         ensures machine { self.new ≡ after_cycle number seen.now self.old }
         ensures done { done.new ≡ written_in_cycle number seen.now self.old done.old }
     {
-        self.begin_period();
+        self.begin_period(settings);
         if self.delay == 0 {
-            let word = seen.memory[(self.pc % 32) as usize];
-            self.attempt_word(word, settings, number, seen, done);
+            let word = seen.memory.word(self.pc % 32);
+            let operation = seen.memory.operation(self.pc % 32);
+            self.attempt(word, operation, settings, number, seen, done);
         } else {
             self.pass_delay(settings);
         }
@@ -94,7 +99,7 @@ impl Machine1 {
 
     /// A tick of the delay passes.
     #[inline(always)]
-    pub(crate) fn pass_delay(&mut self, settings: &Settings)
+    fn pass_delay(&mut self, settings: &Settings)
         requires { settings.now ≡ settings_of self.old }
         ensures { self.new ≡ delayed self.old }
     {
@@ -107,13 +112,7 @@ impl Machine1 {
 /// written in this cycle, and wins over them.
 #[inline(always)]
 #[tactic(auto, unfolding(crate::specs::Cycle::after_cycle, crate::specs::Cycle::written_in_cycle, crate::specs::Cycle::word_tried), using(crate::proofs::Ready::settings_kept, crate::proofs::Ready::settings_advanced))]
-pub fn tick_by(
-    machine: &mut Machine1,
-    settings: &Settings,
-    number: u8,
-    seen: &Seen,
-    done: &mut Done,
-)
+pub fn tick(machine: &mut Machine1, settings: &Settings, number: u8, seen: &Seen, done: &mut Done)
     requires number { number < 4 }
     requires settings { settings.now ≡ settings_of machine.old }
     ensures machine { machine.new ≡ after_cycle number seen.now machine.old }
@@ -127,15 +126,4 @@ pub fn tick_by(
     } else {
         machine.count_down();
     }
-}
-
-/// One cycle of the machine of that number, 0 to 3, which adds to what the machines before it have written in this cycle,
-/// and wins over them.
-pub fn tick(machine: &mut Machine1, number: u8, seen: &Seen, done: &mut Done)
-    requires { number < 4 }
-    ensures machine { machine.new ≡ after_cycle number seen.now machine.old }
-    ensures done { done.new ≡ written_in_cycle number seen.now machine.old done.old }
-{
-    let settings = Settings::of(machine);
-    tick_by(machine, &settings, number, seen, done);
 }

@@ -3,7 +3,6 @@
 //! machine's record, in which a FIFO is a list.
 #![tactic(auto)]
 
-mod again;
 mod attempt;
 mod bits;
 mod cycle;
@@ -14,17 +13,15 @@ mod flags;
 mod jump;
 pub mod laws;
 pub mod machine;
+pub mod memory;
 mod moves;
 mod operation;
-mod out;
 mod pins;
 mod queue;
 pub mod settings;
 mod shifting;
-mod steady;
 
-pub use again::{LastOut, is_again, is_idle, is_shift, tick_again, tick_shift};
-pub use cycle::{tick, tick_by};
+pub use cycle::tick;
 pub use fifo::Fifo;
 pub use machine::{Done, Machine1, Progress, Seen, Waiting};
-pub use steady::{is_delayed, is_steady, tick_delayed, tick_steady};
+pub use memory::Memory;

@@ -6,6 +6,7 @@ ghost use Rattle.pio_machine.specs.Operation.{with_pc};
 ghost use Rattle.pio_machine.specs.Progress.{untried, forced, executed, progress_of, with_progress, with_raised, with_shifted};
 
 use crate::fifo::Fifo;
+use crate::memory::Memory;
 
 /// What a word has done that stalls, and does not do again while it is tried.
 #[derive(Clone, Copy, PartialEq, Eq)]
@@ -74,10 +75,10 @@ pub struct Machine1 {
 }
 
 /// What a machine sees at the start of a cycle.
-#[derive(Clone, Copy)]
+#[derive(Drop)]
 pub struct Seen {
     /// The instruction memory.
-    pub memory: [u16; 32],
+    pub memory: Memory,
     /// The levels of the pins before their synchronisers and behind them, pin 0 in bit 0.
     pub inputs: [u32; 2],
     /// INPUT_SYNC_BYPASS.
@@ -114,6 +115,18 @@ pub(crate) enum Outcome {
     Jumped(u8),
     /// It completed and gives a word to be executed.
     Executes(u16),
+}
+
+impl Seen {
+    /// Takes over what another one says.
+    pub fn copy_from(&mut self, other: &Seen)
+        ensures { self.new ≡ other.now }
+    {
+        self.memory.copy_from(&other.memory);
+        self.inputs = other.inputs;
+        self.bypass = other.bypass;
+        self.flags = other.flags;
+    }
 }
 
 impl Progress {

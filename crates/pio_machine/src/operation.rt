@@ -1,10 +1,11 @@
 //! A try of an operation, and its side-set.
 
 ghost use Rattle.std.specs.Prelude.{◌≡◌, ◌<◌, ◌≤◌, ◌^◌};
-ghost use Rattle.pio_machine.specs.Operation.{tried, written, loads_osr, side_field, delay_of, side_value, has_side, side_pins, with_side};
+ghost use Rattle.pio_machine.specs.Operation.{tried, written, loads_osr, side_field, delay_of, side_pins, with_side};
 ghost use Rattle.pio_machine.specs.Ready.{settings_of};
 ghost use Rattle.pio_machine.specs.Tie.{stands_for};
 
+use crate::bits::low_bits;
 use crate::flags::flag_of;
 use crate::machine::{Done, Machine1, Outcome, Seen};
 use crate::settings::Settings;
@@ -31,15 +32,6 @@ pub(crate) fn side_field(word: u16) -> u8
     ensures small { result < 32 }
 {
     ((word >> 8) & 0x1f) as u8
-}
-
-/// Two words of pins have 32 bits.
-#[inline(always)]
-pub(crate) fn have_32_bits(levels: u32, enables: u32)
-    ensures levels { levels < 2 ^ 32 }
-    ensures enables { enables < 2 ^ 32 }
-{
-    let _ = (levels, enables);
 }
 
 impl Machine1 {
@@ -84,26 +76,28 @@ impl Machine1 {
         }
     }
 
-    /// The delay that a word asks for.
-    pub(crate) fn delay_of(&self, word: u16) -> u8
-        ensures { result ≡ delay_of word self.now }
+    /// The side-set of a word, and its delay.
+    #[inline(always)]
+    #[tactic(auto, unfolding(crate::specs::Operation::with_side))]
+    pub(crate) fn set_side(&self, word: u16, settings: &Settings, done: &mut Done) -> u8
+        requires { settings.now ≡ settings_of self.now }
+        ensures delay { result ≡ delay_of word self.now }
+        ensures done { done.new ≡ with_side word self.now done.old }
     {
-        side_field(word) % (1 << (5 - self.side_count()))
+        let field = side_field(word);
+        if !settings.side_enable || has_bit(u32::from(word), 12) {
+            let value = u32::from(field >> settings.delay_bits);
+            if settings.side_pindir {
+                done.write_enables_by(settings.side_mask, settings.side_base, value);
+            } else {
+                done.write_levels_by(settings.side_mask, settings.side_base, value);
+            }
+        }
+        low_bits(u32::from(field), settings.delay_bits) as u8
     }
 
-    fn side_value(&self, word: u16) -> u8
-        ensures { result ≡ side_value word self.now }
-    {
-        side_field(word) >> (5 - self.side_count())
-    }
-
-    fn has_side(&self, word: u16) -> bool
-        ensures { result ≡ has_side word self.now }
-    {
-        !self.side_enable() || has_bit(u32::from(word), 12)
-    }
-
-    fn side_pins(&self) -> u8
+    /// How many pins side-set writes.
+    pub(crate) fn side_pins(&self) -> u8
         ensures value { result ≡ side_pins self.now }
         ensures small { result ≤ 5 }
     {
@@ -111,21 +105,6 @@ impl Machine1 {
             self.side_count().saturating_sub(1)
         } else {
             self.side_count()
-        }
-    }
-
-    /// The side-set of a word.
-    #[tactic(auto, unfolding(crate::specs::Operation::with_side))]
-    pub(crate) fn set_side(&self, word: u16, done: &mut Done)
-        ensures { done.new ≡ with_side word self.now done.old }
-    {
-        if self.has_side(word) {
-            let value = u32::from(self.side_value(word));
-            if self.side_pindir() {
-                done.write_enables(self.side_base(), self.side_pins(), value);
-            } else {
-                done.write_levels(self.side_base(), self.side_pins(), value);
-            }
         }
     }
 }

@@ -1,7 +1,7 @@
 //! The pins as a machine sees and writes them.
 
 ghost use Rattle.std.specs.Prelude.{◌≡◌, ◌≤◌};
-ghost use Rattle.pio_machine.specs.Pins.{input_word, mapped_inputs, pins_from, overlaid, with_masked_levels, with_levels, with_enables};
+ghost use Rattle.pio_machine.specs.Pins.{input_word, mapped_inputs, pins_from, overlaid, with_masked_levels, with_masked_enables, with_levels, with_enables};
 
 use crate::bits::low_mask;
 use crate::machine::{Done, Machine1, Seen};
@@ -49,6 +49,15 @@ impl Done {
         self.level_mask |= mask;
     }
 
+    /// Writes the enables of the pins of a mask, from a base on.
+    #[inline(always)]
+    pub(crate) fn write_enables_by(&mut self, mask: u32, base: u32, value: u32)
+        ensures { self.new ≡ with_masked_enables mask base value self.old }
+    {
+        self.enables = overlaid(mask, value.rotate_left(base), self.enables);
+        self.enable_mask |= mask;
+    }
+
     /// Writes the levels of so many pins from a base on.
     pub(crate) fn write_levels(&mut self, base: u32, count: u8, value: u32)
         requires { count ≤ 32 }
@@ -62,8 +71,6 @@ impl Done {
         requires { count ≤ 32 }
         ensures { self.new ≡ with_enables base count value self.old }
     {
-        let mask = pins_from(base, count);
-        self.enables = overlaid(mask, value.rotate_left(base), self.enables);
-        self.enable_mask |= mask;
+        self.write_enables_by(pins_from(base, count), base, value);
     }
 }

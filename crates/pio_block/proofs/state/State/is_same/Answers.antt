@@ -1,5 +1,5 @@
 use Rattle.std.proofs.Common.{refl}
-use Rattle.rp_base.proofs.Exact.{numbers, flags, lists, both, whole, seen, told}
+use Rattle.rp_base.proofs.Exact.{numbers, flags, both, whole, seen}
 use Rattle.pio_block.proofs.state.State.is_same.Goals as goal
 
 pub returns : goal.returns
@@ -9,7 +9,7 @@ returns c = seen _ c.self.view_is c.other.view_is
     (λ p. record { machines = p.0.0.0.0.0.0.0.0.0.0.0.0; memory = p.0.0.0.0.0.0.0.0.0.0.0.1; flags = p.0.0.0.0.0.0.0.0.0.0.1; bypass = p.0.0.0.0.0.0.0.0.0.1; levels = p.0.0.0.0.0.0.0.0.1; enables = p.0.0.0.0.0.0.0.1; tx_over = p.0.0.0.0.0.0.1; rx_under = p.0.0.0.0.0.1; inte0 = p.0.0.0.0.1; intf0 = p.0.0.0.1; inte1 = p.0.0.1; intf1 = p.0.1; held = p.1 })
     (λ _. refl)
     (both _ _ (both _ _ (both _ _ (both _ _ (both _ _ (both _ _ (both _ _ (both _ _ (both _ _ (both _ _ (both _ _ (both _ _ c.is_same-machines.ensures
-    (told _ (lists numbers) c.eq-memory.ensures))
+    c.is_same-memory.ensures)
     (numbers _ _))
     (numbers _ _))
     (numbers _ _))

@@ -1,0 +1,13 @@
+-- The operation that stands beside a word of the instruction memory.
+use Rattle.std.proofs.Common.{◌≡◌, ℕ, ◌<◌, List, map, length, sym}
+use Rattle.std.specs.Prelude.{slice_index, slice_index_or, slice_set}
+use Rattle.std.proofs.lemmas.List.{get_or-map, map-set}
+use Rattle.pio_words.specs.declared.op.PioOp.{PioOp}
+use Rattle.pio_words.specs.Operation.{operation_of}
+
+pub operation_at : (operations : List PioOp) (words now : List ℕ) (i : ℕ) (d : PioOp) → operations ≡ map operation_of words → words ≡ now → i < length words
+    → slice_index_or operations i d ≡ operation_of (slice_index now i)
+operation_at operations words now i d beside same low = rw beside (rw (sym same) (get_or-map operation_of words i 0 d low))
+
+pub operations_set : (words : List ℕ) (i word : ℕ) → slice_set (map operation_of words) i (operation_of word) ≡ map operation_of (slice_set words i word)
+operations_set words i word = sym (map-set operation_of words i word)

@@ -1,0 +1,6 @@
+use Rattle.std.proofs.Common.{◌∙◌, ap, sym}
+use Rattle.pio_words.specs.Operation.{operation_of}
+use Rattle.pio_machine.proofs.machine.Machine1.tick_at_pc.Goals as goal
+
+pub attempt-requires-clause-operation : goal.attempt-requires-clause-operation
+attempt-requires-clause-operation c = c.operation-operation.ensures ∙ sym (ap operation_of c.word-word.ensures)
