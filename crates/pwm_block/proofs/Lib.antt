@@ -5,3 +5,4 @@ mod Pins
 mod Rows
 mod Slices
 mod Wraps
+mod Quiet

@@ -1,5 +1,5 @@
 -- The registers of the PWM block (RP2040 Datasheet, 4.5.3, List of Registers), by their offsets after 40050000.
-use Rattle.std.specs.Prelude.{ℕ, ◌+◌, ◌*◌, ◌/◌, ◌%◌, ◌^◌, Bool, ◌==◌, if◌then◌else◌, List, [], ◌∷◌, ◌++◌, Option, Some, None, bit_or, bit_xor, ⊤}
+use Rattle.std.specs.Prelude.{ℕ, ◌+◌, ◌*◌, ◌/◌, ◌%◌, ◌^◌, Bool, ◌==◌, if◌then◌else◌, List, [], ◌∷◌, ◌++◌, Some, ⊤}
 use Rattle.rp_base.specs.Alias.{aliased, or_zero}
 use Rattle.rp_base.specs.Rows.{Row, read_only, read_write, repeated, word_at, effect_at, IsListed}
 use Rattle.rp_base.specs.Word.{minus, bit_number, has_bit}

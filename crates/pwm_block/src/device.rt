@@ -1,7 +1,8 @@
 //! The block as a device.
 
 ghost use Rattle.std.specs.Prelude.{◌≡◌, length};
-ghost use Rattle.pwm_block.specs.Device.{pwm_device};
+ghost use Rattle.lane_look.specs.Quiet.{device_after};
+ghost use Rattle.pwm_block.specs.Device.{packed_step, pwm_device};
 ghost use Rattle.pwm_block.specs.State.{at_reset};
 ghost use Rattle.pwm_block.specs.Step.{after_step};
 ghost use Rattle.pwm_block.specs.Packing.{words_of, block_of};
@@ -55,12 +56,26 @@ impl Device for Pwm {
             pwm: state[PINS],
             irq: ((signs >> 8) & 1) << 4,
         };
-        if signs & 0xff == 0 {
-            state[LAST] = pads;
-        } else {
-            step_slices(state, pads);
-        }
+        cycle(state, pads);
         wires
+    }
+
+    fn quiet(&self, state: &[u32], _cycle: u64, _pads: u32) -> u64 {
+        if state[SIGNS] & 0xff == 0 {
+            u64::MAX
+        } else {
+            0
+        }
+    }
+
+    fn pass(&self, state: &mut [u32], first: u64, pads: u32, n: u64) {
+        if state[SIGNS] & 0xff == 0 {
+            if 0 < n {
+                state[LAST] = pads;
+            }
+        } else {
+            cycles(state, first, pads, n);
+        }
     }
 }
 
@@ -75,6 +90,29 @@ fn start(state: &mut [u32])
         forced: 0,
     };
     renew(state, &Change::Reset, 0, none);
+}
+
+/// A cycle: where no slice is enabled it changes the last levels of the pads alone.
+#[inline(always)]
+fn cycle(state: &mut [u32], pads: u32)
+    requires { length state.old ≡ 68 }
+    ensures { state.new ≡ packed_step pads state.old }
+{
+    if state[SIGNS] & 0xff == 0 {
+        state[LAST] = pads;
+    } else {
+        step_slices(state, pads);
+    }
+}
+
+/// So many cycles one by one.
+fn cycles(state: &mut [u32], _first: u64, pads: u32, n: u64)
+    requires { length state.old ≡ 68 }
+    ensures { state.new ≡ device_after pwm_device pads _first n state.old }
+{
+    for _k in 0..n {
+        cycle(state, pads);
+    }
 }
 
 /// A cycle of all slices.

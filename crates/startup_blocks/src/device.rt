@@ -45,6 +45,12 @@ impl Device for Startup {
     fn step(&self, _state: &mut [u32], _cycle: u64, _pads: u32) -> Wires {
         Wires::default()
     }
+
+    fn quiet(&self, _state: &[u32], _cycle: u64, _pads: u32) -> u64 {
+        u64::MAX
+    }
+
+    fn pass(&self, _state: &mut [u32], _first: u64, _pads: u32, _n: u64) {}
 }
 
 /// The state at the start.
