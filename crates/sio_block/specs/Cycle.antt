@@ -1,4 +1,4 @@
--- The end of a cycle: a division goes on.
+-- The end of a cycle: a division goes on (RP2040 Datasheet, 2.3.1.5, Integer Divider).
 use Rattle.sio_block.specs.Side.{side_ended}
 use Rattle.sio_block.specs.State.{SioState}
 
