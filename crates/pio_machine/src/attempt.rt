@@ -14,9 +14,9 @@ use pio_words::PioOp;
 impl Machine1 {
     /// Autopull after an operation that does not load the OSR itself.
     #[inline(always)]
-    fn refill_for(&mut self, op: PioOp, settings: &Settings)
+    fn refill_for(&mut self, op: &PioOp, settings: &Settings)
         requires { settings.now ≡ settings_of self.old }
-        ensures { self.new ≡ with_autopull op self.old }
+        ensures { self.new ≡ with_autopull op.now self.old }
     {
         if !loads_osr(op) {
             self.refill(settings);
@@ -29,7 +29,7 @@ impl Machine1 {
     pub(crate) fn attempt(
         &mut self,
         word: u16,
-        op: PioOp,
+        op: &PioOp,
         settings: &Settings,
         number: u8,
         seen: &Seen,
@@ -37,7 +37,7 @@ impl Machine1 {
     )
         requires number { number < 4 }
         requires settings { settings.now ≡ settings_of self.old }
-        requires operation { op ≡ operation_of word }
+        requires operation { op.now ≡ operation_of word }
         ensures machine { self.new ≡ after_try word number seen.now self.old }
         ensures done { done.new ≡ written_by_try word number seen.now self.old done.old }
     {

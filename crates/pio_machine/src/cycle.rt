@@ -72,7 +72,7 @@ impl Machine1 {
         self.advance(settings);
         if tried {
             let operation = decode_word(waiting.word);
-            self.attempt(waiting.word, operation, settings, number, seen, done);
+            self.attempt(waiting.word, &operation, settings, number, seen, done);
         }
     }
 

@@ -47,11 +47,11 @@ impl Memory {
 
     /// The operation of the word at an address, 0 to 31.
     #[inline(always)]
-    pub(crate) fn operation(&self, address: u8) -> PioOp
+    pub(crate) fn operation(&self, address: u8) -> &PioOp
         requires { address < 32 }
-        ensures { result ≡ operation_of (slice_index self.now address) }
+        ensures { result.now ≡ operation_of (slice_index self.now address) }
     {
-        self.operations[address as usize]
+        &self.operations[address as usize]
     }
 
     /// Writes the word at an address, 0 to 31.

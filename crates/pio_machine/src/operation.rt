@@ -13,10 +13,10 @@ use pio_words::{MovDestination, PioOp};
 use rp_base::bits::has_bit;
 
 /// The operation loads the OSR itself.
-pub(crate) fn loads_osr(op: PioOp) -> bool
-    ensures { result ≡ loads_osr op }
+pub(crate) fn loads_osr(op: &PioOp) -> bool
+    ensures { result ≡ loads_osr op.now }
 {
-    match op {
+    match *op {
         PioOp::Out { .. } | PioOp::Pull { .. } => true,
         PioOp::Mov { destination, .. } => match destination {
             MovDestination::Osr => true,
@@ -39,7 +39,7 @@ impl Machine1 {
     #[inline(always)]
     pub(crate) fn perform(
         &mut self,
-        op: PioOp,
+        op: &PioOp,
         settings: &Settings,
         number: u8,
         seen: &Seen,
@@ -47,11 +47,11 @@ impl Machine1 {
     ) -> Outcome
         requires number { number < 4 }
         requires settings { settings.now ≡ settings_of self.old }
-        ensures machine { self.new ≡ (tried op number seen.now self.old).machine }
-        ensures ending { stands_for result ≡ (tried op number seen.now self.old).ending }
-        ensures done { done.new ≡ written op number seen.now self.old done.old }
+        ensures machine { self.new ≡ (tried op.now number seen.now self.old).machine }
+        ensures ending { stands_for result ≡ (tried op.now number seen.now self.old).ending }
+        ensures done { done.new ≡ written op.now number seen.now self.old done.old }
     {
-        match op {
+        match *op {
             PioOp::Jmp { condition, address } => self.jmp(condition, address, seen),
             PioOp::Wait { polarity, source } => self.wait(polarity, source, number, seen, done),
             PioOp::In { source, count } => self.try_in(source, count, seen),

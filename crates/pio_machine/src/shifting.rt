@@ -105,12 +105,23 @@ impl Machine1 {
     }
 
     /// Pins or their enables take the bits that left the OSR.
-    fn out_pins(&self, destination: OutDestination, value: u32, done: &mut Done)
+    fn out_pins(
+        &self,
+        destination: OutDestination,
+        value: u32,
+        settings: &Settings,
+        done: &mut Done,
+    )
+        requires { settings.now ≡ settings_of self.now }
         ensures { done.new ≡ out_pins destination value self.now done.old }
     {
         match destination {
-            OutDestination::Pins => done.write_levels(self.out_base(), self.out_count(), value),
-            OutDestination::Pindirs => done.write_enables(self.out_base(), self.out_count(), value),
+            OutDestination::Pins => {
+                done.write_levels_by(settings.out_mask, self.out_base(), value);
+            }
+            OutDestination::Pindirs => {
+                done.write_enables_by(settings.out_mask, self.out_base(), value);
+            }
             _ => {}
         }
     }
@@ -145,7 +156,7 @@ impl Machine1 {
             done.old }
     {
         let value = self.shift_out(count);
-        self.out_pins(destination, value, done);
+        self.out_pins(destination, value, settings, done);
         self.put_out(destination, value, count);
         let outcome = outcome_of_out(destination, value);
         self.refill(settings);
