@@ -4,5 +4,6 @@ pub mod Hearing
 pub mod Levels
 pub mod PartLaws
 pub mod Placing
+pub mod Quiet
 pub mod Seen
 pub mod Viewing

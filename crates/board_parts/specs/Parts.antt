@@ -33,6 +33,20 @@ first_of (p ∷ parts) = p.part.first p.pins ++ first_of parts
 abbrev pub wires_by : Drive → Wires
 wires_by drive = record { mask = drive.mask; level = drive.level; pwm = 0; irq = 0 }
 
+-- a part alone, as a device: it owns no address, and has no outputs on function 4 and no interrupt lines
+abbrev pub part_device : Placed → DeviceMeaning
+part_device p =
+    record {
+      count = p.part.words;
+      first = λ state. p.part.first p.pins;
+      covers = λ address. false;
+      value = λ state address. 0;
+      after_read = λ state address. state;
+      after_write = λ state address value. state;
+      wires = λ state cycle pads. wires_by (p.part.drives p.pins state cycle pads);
+      after_step = p.part.after_step p.pins;
+    }
+
 -- what they drive together
 abbrev pub wires_of : List Placed → List ℕ → ℕ → ℕ → Wires
 wires_of [] state cycle pads = no_wires

@@ -56,4 +56,11 @@ impl Part for Button {
         }
         at_level(self.pins[0], 0)
     }
+
+    /// Up to the next half of a turn.
+    fn quiet(&self, _state: &[u32], cycle: u64, _pads: u32) -> u64 {
+        PRESSED - cycle % PRESSED
+    }
+
+    fn pass(&self, _state: &mut [u32], _first: u64, _pads: u32, _n: u64) {}
 }

@@ -46,4 +46,10 @@ impl Part for Loop {
     fn step(&self, _state: &mut [u32], _cycle: u64, pads: u32) -> Drive {
         at_level(self.pins[1], level_of(self.pins[0], pads))
     }
+
+    fn quiet(&self, _state: &[u32], _cycle: u64, _pads: u32) -> u64 {
+        u64::MAX
+    }
+
+    fn pass(&self, _state: &mut [u32], _first: u64, _pads: u32, _n: u64) {}
 }

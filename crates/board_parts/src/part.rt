@@ -1,8 +1,10 @@
 //! What drives pins.
 
 ghost use Rattle.std.specs.Int.{bit_at};
-ghost use Rattle.std.specs.Prelude.{◌≡◌, ℕ, ◌<◌, ◌≤◌, List, true, length};
+ghost use Rattle.std.specs.Prelude.{◌≡◌, ℕ, ◌+◌, ◌^◌, ◌<◌, ◌≤◌, List, true, length};
+ghost use Rattle.lane_look.specs.Quiet.{IsDeviceQuiet, device_after};
 ghost use Rattle.board_parts.specs.Part.{PartMeaning, are_pins, at_level};
+ghost use Rattle.board_parts.specs.Parts.{part_device, placed_at};
 
 use arrayvec::ArrayVec;
 
@@ -49,6 +51,33 @@ pub trait Part: Drop {
         requires placed { are_pins (meaning self.now).pins (attached self.now) ≡ true }
         ensures drive { result ≡ (meaning self.now).drives (attached self.now) state.old cycle pads }
         ensures state { state.new ≡ (meaning self.now).after_step (attached self.now) state.old cycle pads };
+
+    /// For so many cycles from this one on it is quiet: as long as the pads have these levels it drives in each of them what it
+    /// drives in the first one. Any smaller number is right too.
+    fn quiet(&self, _state: &[u32], _cycle: u64, _pads: u32) -> u64
+        requires state { length _state.now ≡ (meaning self.now).words }
+        requires placed { are_pins (meaning self.now).pins (attached self.now) ≡ true }
+        ensures { IsDeviceQuiet (part_device (placed_at (attached self.now) (meaning self.now)))
+            _state.now _cycle _pads result }
+    {
+        0
+    }
+
+    /// So many cycles from a first one on, in which the pads have these levels.
+    fn pass(&self, state: &mut [u32], first: u64, pads: u32, n: u64)
+        requires state { length state.old ≡ (meaning self.now).words }
+        requires placed { are_pins (meaning self.now).pins (attached self.now) ≡ true }
+        requires number { first + n < 2 ^ 64 }
+        ensures state { state.new ≡ device_after
+            (part_device (placed_at (attached self.now) (meaning self.now))) pads first n state.old }
+        ensures words { (k : ℕ) → k ≤ n → length (device_after
+            (part_device (placed_at (attached self.now) (meaning self.now))) pads first k state.old)
+            ≡ (meaning self.now).words }
+    {
+        for k in 0..n {
+            let _ = self.step(state, first + k, pads);
+        }
+    }
 }
 
 /// Keeps these pins, and no others.

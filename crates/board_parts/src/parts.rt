@@ -1,7 +1,8 @@
 //! Parts side by side, as one device.
 
-ghost use Rattle.std.specs.Prelude.{◌≡◌, ◌≤◌, true, length, map};
+ghost use Rattle.std.specs.Prelude.{◌≡◌, ◌+◌, ◌^◌, ◌<◌, ◌≤◌, true, length, map};
 ghost use Rattle.lane_look.specs.Device.{joined};
+ghost use Rattle.lane_look.specs.Quiet.{IsDeviceQuiet, device_after};
 ghost use Rattle.board_parts.specs.Part.{are_pins};
 ghost use Rattle.board_parts.specs.Parts.{placed_at, all_placed, words_of, first_of, wires_of, states_after, parts_device, wires_by};
 
@@ -44,8 +45,17 @@ impl Part for Box<dyn Part + Sync> {
         (**self).start(state);
     }
 
+    #[inline(always)]
     fn step(&self, state: &mut [u32], cycle: u64, pads: u32) -> Drive {
         (**self).step(state, cycle, pads)
+    }
+
+    fn quiet(&self, state: &[u32], cycle: u64, pads: u32) -> u64 {
+        (**self).quiet(state, cycle, pads)
+    }
+
+    fn pass(&self, state: &mut [u32], first: u64, pads: u32, n: u64) {
+        (**self).pass(state, first, pads, n);
     }
 }
 
@@ -96,8 +106,17 @@ impl<P: Part + Sync> Device for Row<P> {
 
     fn write(&self, _state: &mut [u32], _address: u32, _value: u32) {}
 
+    #[inline(always)]
     fn step(&self, state: &mut [u32], cycle: u64, pads: u32) -> Wires {
         step_all(&self.list, state, cycle, pads)
+    }
+
+    fn quiet(&self, state: &[u32], cycle: u64, pads: u32) -> u64 {
+        quiet_all(&self.list, state, cycle, pads)
+    }
+
+    fn pass(&self, state: &mut [u32], first: u64, pads: u32, n: u64) {
+        pass_all(&self.list, state, first, pads, n);
     }
 }
 
@@ -126,6 +145,7 @@ fn join(first: Drive, rest: Wires) -> Wires
 }
 
 /// A cycle of parts, each over its own words.
+#[inline(always)]
 fn step_all<P: Part>(list: &[P], state: &mut [u32], cycle: u64, pads: u32) -> Wires
     requires state { length state.old ≡ words_of (map (λ p. placed_at (P.attached p) (P.meaning p)) list.now) }
     requires placed { all_placed (map (λ p. placed_at (P.attached p) (P.meaning p)) list.now) ≡ true }
@@ -136,10 +156,60 @@ fn step_all<P: Part>(list: &[P], state: &mut [u32], cycle: u64, pads: u32) -> Wi
 {
     match list {
         [] => Wires::default(),
+        [last] => join(last.step(state, cycle, pads), Wires::default()),
+        _ => step_many(list, state, cycle, pads),
+    }
+}
+
+/// The same, of several parts.
+#[inline(never)]
+fn step_many<P: Part>(list: &[P], state: &mut [u32], cycle: u64, pads: u32) -> Wires
+    requires state { length state.old ≡ words_of (map (λ p. placed_at (P.attached p) (P.meaning p)) list.now) }
+    requires placed { all_placed (map (λ p. placed_at (P.attached p) (P.meaning p)) list.now) ≡ true }
+    ensures wires { result ≡ wires_of (map (λ p. placed_at (P.attached p) (P.meaning p)) list.now)
+        state.old cycle pads }
+    ensures state { state.new ≡ states_after (map (λ p. placed_at (P.attached p) (P.meaning p)) list.now)
+        state.old cycle pads }
+{
+    match list {
+        [] => Wires::default(),
+        [last] => join(last.step(state, cycle, pads), Wires::default()),
         [first, rest @ ..] => {
             let (words, others) = state.split_at_mut(first.words());
             let drive = first.step(words, cycle, pads);
-            join(drive, step_all(rest, others, cycle, pads))
+            join(drive, step_many(rest, others, cycle, pads))
         }
+    }
+}
+
+/// For how many cycles each of these parts is quiet.
+fn quiet_all<P: Part>(list: &[P], state: &[u32], cycle: u64, pads: u32) -> u64
+    requires state { length state.now ≡ words_of (map (λ p. placed_at (P.attached p) (P.meaning p)) list.now) }
+    requires placed { all_placed (map (λ p. placed_at (P.attached p) (P.meaning p)) list.now) ≡ true }
+    ensures { IsDeviceQuiet (parts_device (map (λ p. placed_at (P.attached p) (P.meaning p)) list.now))
+        state.now cycle pads result }
+{
+    match list {
+        [] => u64::MAX,
+        [first, rest @ ..] => {
+            let (own, others) = state.split_at(first.words());
+            let quiet = first.quiet(own, cycle, pads);
+            quiet.min(quiet_all(rest, others, cycle, pads))
+        }
+    }
+}
+
+/// So many cycles of parts, each over its own words.
+fn pass_all<P: Part>(list: &[P], state: &mut [u32], first: u64, pads: u32, n: u64)
+    requires state { length state.old ≡ words_of (map (λ p. placed_at (P.attached p) (P.meaning p)) list.now) }
+    requires placed { all_placed (map (λ p. placed_at (P.attached p) (P.meaning p)) list.now) ≡ true }
+    requires number { first + n < 2 ^ 64 }
+    ensures { state.new ≡ device_after (parts_device (map (λ p. placed_at (P.attached p) (P.meaning p)) list.now))
+        pads first n state.old }
+{
+    if let [part, rest @ ..] = list {
+        let (own, others) = state.split_at_mut(part.words());
+        part.pass(own, first, pads, n);
+        pass_all(rest, others, first, pads, n);
     }
 }

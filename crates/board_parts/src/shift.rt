@@ -56,4 +56,19 @@ impl Part for Shift {
         state[1] = clock;
         at_level(self.pins[2], level_of(7, register))
     }
+
+    fn quiet(&self, state: &[u32], _cycle: u64, pads: u32) -> u64 {
+        if state[1] == level_of(self.pins[0], pads) {
+            u64::MAX
+        } else {
+            0
+        }
+    }
+
+    /// A second cycle with the same pads changes nothing.
+    fn pass(&self, state: &mut [u32], first: u64, pads: u32, n: u64) {
+        if 0 < n {
+            let _ = self.step(state, first, pads);
+        }
+    }
 }
