@@ -13,4 +13,5 @@ pub mod Comparisons
 pub mod Kept
 pub mod OneAccess
 pub mod Plain
+pub mod Lasting
 pub mod Shapes

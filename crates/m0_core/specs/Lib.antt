@@ -11,6 +11,7 @@ pub mod Kept
 pub mod Kinds
 pub mod Laws
 pub mod Private
+pub mod Quiet
 pub mod Return
 pub mod Start
 pub mod State

@@ -329,7 +329,7 @@ impl Core {
     /// A beat is over that may have read a value.
     #[inline(always)]
     #[tactic(auto, unfolding(crate::specs::Cycle::passed))]
-    fn pass(&mut self, work: &Work, value: Option<u32>)
+    fn pass_beat(&mut self, work: &Work, value: Option<u32>)
         ensures { self.new ≡ passed work.now value self.old }
     {
         self.keep(value);
@@ -348,7 +348,7 @@ impl Core {
 
     /// The beat lasts on.
     #[inline(always)]
-    fn is_paused(&self, work: &Work) -> bool
+    pub(crate) fn is_paused(&self, work: &Work) -> bool
         ensures { result ≡ is_paused work.now self.now }
     {
         match work {
@@ -366,7 +366,7 @@ impl Core {
         if self.is_paused(work) {
             self.wait(work);
         } else {
-            self.pass(work, None);
+            self.pass_beat(work, None);
         }
     }
 
@@ -387,7 +387,7 @@ impl Core {
         ensures { self.new ≡ after_access word work.now value self.old }
     {
         if word.is_some() {
-            self.pass(work, value);
+            self.pass_beat(work, value);
         } else {
             self.wait(work);
         }
@@ -400,7 +400,7 @@ impl Core {
     {
         match word {
             None => self.wait(work),
-            Some(word) => self.pass(work, value_of(request, word)),
+            Some(word) => self.pass_beat(work, value_of(request, word)),
         }
     }
 
@@ -411,7 +411,7 @@ impl Core {
     {
         let value = self.private_value(request, offset);
         self.access(request, offset);
-        self.pass(work, value);
+        self.pass_beat(work, value);
     }
 
     /// The end of what was begun.

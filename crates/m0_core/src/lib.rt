@@ -16,6 +16,7 @@ pub mod laws;
 pub mod placed;
 mod private;
 pub mod processor;
+mod quiet;
 mod returns;
 
 pub use doing::{Act, Doing, Work};
