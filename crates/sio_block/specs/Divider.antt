@@ -1,10 +1,10 @@
 -- The divider of a core (RP2040 Datasheet, 2.3.1.5, Integer Divider, and 2.3.1.7). The unsigned and the signed words of an
 -- operand are the same operand; which of them was written last decides how the operands are read.
-use Rattle.std.specs.Prelude.{ℕ, ◌+◌, ◌-◌, ◌*◌, ◌^◌, Bool, true, false, ◌&&◌, ◌||◌, ◌==◌, ℤ, pos, if◌then◌else◌, Option, Some, None}
+use Rattle.std.specs.Prelude.{ℕ, ◌+◌, ◌-◌, ◌*◌, ◌^◌, Bool, true, false, ◌&&◌, ◌==◌, ℤ, pos, if◌then◌else◌, List, [], ◌∷◌, Option, Some, None, ⊤}
 use Rattle.std.specs.Int.{cast_signed, w32}
 use Rattle.std.specs.Int.RustNames.{int_div, int_rem}
 use Rattle.rp_base.specs.Word.{word_of, bit_number, is_negative_word}
-use Rattle.sio_block.specs.Offsets.{DIV_UDIVIDEND, DIV_UDIVISOR, DIV_SDIVIDEND, DIV_SDIVISOR, DIV_QUOTIENT, DIV_REMAINDER, DIV_CSR}
+use Rattle.rp_base.specs.Rows.{Row, register, read_only, read_write, word_at, effect_at}
 use Rattle.sio_block.specs.declared.divider.Divider.{Divider}
 
 -- at reset no division is going on
@@ -34,14 +34,6 @@ remainder_of d =
 abbrev pub csr_of : Divider → ℕ
 csr_of d = bit_number (d.left == 0) + bit_number d.dirty * 2
 
-abbrev pub divider_word : ℕ → Divider → Option ℕ
-divider_word offset d =
-    if offset == DIV_UDIVIDEND || offset == DIV_SDIVIDEND then Some d.dividend else
-    if offset == DIV_UDIVISOR || offset == DIV_SDIVISOR then Some d.divisor else
-    if offset == DIV_QUOTIENT then Some d.quotient else
-    if offset == DIV_REMAINDER then Some d.remainder else
-    if offset == DIV_CSR then Some (csr_of d) else None
-
 -- a division begins, also where one was going on; it takes 8 cycles, that of the write among them
 abbrev pub begun : Bool → Divider → Divider
 begun signed d = record d { signed = signed; left = 8; dirty = true }
@@ -50,18 +42,26 @@ begun signed d = record d { signed = signed; left = 8; dirty = true }
 abbrev pub ended_by_write : Divider → Divider
 ended_by_write d = record d { left = 0; dirty = true }
 
-abbrev pub divider_written : ℕ → ℕ → Divider → Divider
-divider_written offset w d =
-    if offset == DIV_UDIVIDEND then begun false (record d { dividend = w }) else
-    if offset == DIV_UDIVISOR then begun false (record d { divisor = w }) else
-    if offset == DIV_SDIVIDEND then begun true (record d { dividend = w }) else
-    if offset == DIV_SDIVISOR then begun true (record d { divisor = w }) else
-    if offset == DIV_QUOTIENT then ended_by_write (record d { quotient = w }) else
-    if offset == DIV_REMAINDER then ended_by_write (record d { remainder = w }) else d
+-- the operands, the results, of which a read of the quotient clears DIRTY, and the status
+abbrev pub divider_rows : List (Row ⊤ Divider)
+divider_rows =
+    read_write 0x060 "DIV_UDIVIDEND" (λ d. d.dividend) (λ w d. begun false (record d { dividend = w }))
+    ∷ read_write 0x064 "DIV_UDIVISOR" (λ d. d.divisor) (λ w d. begun false (record d { divisor = w }))
+    ∷ read_write 0x068 "DIV_SDIVIDEND" (λ d. d.dividend) (λ w d. begun true (record d { dividend = w }))
+    ∷ read_write 0x06c "DIV_SDIVISOR" (λ d. d.divisor) (λ w d. begun true (record d { divisor = w }))
+    ∷ register 0x070 "DIV_QUOTIENT" (λ seen d. d.quotient) (λ d. record d { dirty = false }) (λ w d. ended_by_write (record d { quotient = w }))
+    ∷ read_write 0x074 "DIV_REMAINDER" (λ d. d.remainder) (λ w d. ended_by_write (record d { remainder = w }))
+    ∷ read_only 0x078 "DIV_CSR" (λ d. csr_of d)
+    ∷ []
 
--- a read of the quotient clears DIRTY
+abbrev pub divider_word : ℕ → Divider → Option ℕ
+divider_word offset d = word_at divider_rows tt offset d
+
+abbrev pub divider_written : ℕ → ℕ → Divider → Divider
+divider_written offset w d = effect_at divider_rows offset (Some w) d
+
 abbrev pub divider_read : ℕ → Divider → Divider
-divider_read offset d = if offset == DIV_QUOTIENT then record d { dirty = false } else d
+divider_read offset d = effect_at divider_rows offset None d
 
 -- the results appear at the end of the last cycle; until then the old ones stay
 abbrev pub divider_ended : Divider → Divider

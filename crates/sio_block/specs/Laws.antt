@@ -1,15 +1,29 @@
 -- Laws of the block: what the definitions come to for the software that uses it.
 use Rattle.std.specs.Prelude.{◌≡◌, ℕ, zero, suc, ◌+◌, ◌*◌, ◌^◌, ◌<◌, ◌≤◌, Bool, true, false, ◌||◌, ◌==◌, ℤ, ◌+ℤ◌, ◌*ℤ◌, unsigned_abs, List, [], ◌∷◌, ◌++◌, Option, Some, None, option_to_list}
+use Rattle.rp_base.specs.Rows.{IsListed}
 use Rattle.rp_base.specs.Word as word
 use Rattle.rp_base.specs.Word.{has_bit}
-use Rattle.sio_block.specs.Offsets.{DIV_UDIVIDEND, DIV_UDIVISOR, DIV_SDIVIDEND, DIV_SDIVISOR, SPINLOCK0}
+use Rattle.sio_block.specs.Offsets.{SPINLOCK0}
 use Rattle.sio_block.specs.declared.Launch.{Launch}
 use Rattle.sio_block.specs.declared.divider.Divider.{Divider}
-use Rattle.sio_block.specs.Divider.{number_of, quotient_of, remainder_of, csr_of, divider_written, divider_ended}
+use Rattle.sio_block.specs.Divider.{number_of, quotient_of, remainder_of, csr_of, divider_rows, divider_written, divider_ended}
 use Rattle.sio_block.specs.Launcher.{answer_to, taken_after, launch_after}
+use Rattle.sio_block.specs.Pins.{pin_rows}
+use Rattle.sio_block.specs.Side.{mailbox_rows}
 use Rattle.sio_block.specs.State.{SioState}
 use Rattle.sio_block.specs.Words.{word_of}
 use Rattle.sio_block.specs.Changes.{finds, effect_where}
+
+-- ---- registers
+
+-- the registers of the pins, the mailboxes and the dividers are each what stands at its offset
+pub record AreListed : Type 0 where
+  pub pins : IsListed pin_rows
+  pub mailboxes : (found : Bool) → IsListed (mailbox_rows found)
+  pub dividers : IsListed divider_rows
+
+abbrev pub EachRegisterIsAtItsOffset : Type 0
+EachRegisterIsAtItsOffset = AreListed
 
 -- ---- spinlocks
 
@@ -61,8 +75,9 @@ abbrev pub after_cycles : ℕ → Divider → Divider
 after_cycles zero d = d
 after_cycles (suc n) d = after_cycles n (divider_ended d)
 
+-- the offsets of DIV_UDIVIDEND, DIV_UDIVISOR, DIV_SDIVIDEND and DIV_SDIVISOR
 abbrev pub is_operand : ℕ → Bool
-is_operand offset = offset == DIV_UDIVIDEND || (offset == DIV_UDIVISOR || (offset == DIV_SDIVIDEND || offset == DIV_SDIVISOR))
+is_operand offset = offset == 0x060 || (offset == 0x064 || (offset == 0x068 || offset == 0x06c))
 
 -- what is read: the results, and READY and DIRTY
 pub record Reads (d : Divider) (q r status : ℕ) : Type 0 where

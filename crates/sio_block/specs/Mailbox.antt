@@ -1,6 +1,6 @@
 -- The FIFOs between the two cores (RP2040 Datasheet, 2.3.1.4, Inter-processor FIFOs): the mailbox of a core has the words for
 -- it, at most 8, the oldest first.
-use Rattle.std.specs.Prelude.{ℕ, Bool, ◌&&◌, nat_lt, if◌then◌else◌, List, [], ◌∷◌, ◌++◌, length, drop, slice_index}
+use Rattle.std.specs.Prelude.{ℕ, Bool, nat_lt, if◌then◌else◌, List, [], ◌∷◌, ◌++◌, length, drop, slice_index}
 
 abbrev pub has_word : List ℕ → Bool
 has_word words = nat_lt 0 (length words)

@@ -1,7 +1,7 @@
--- The pins that software drives (RP2040 Datasheet, 2.3.1.2, GPIO Control, and 2.3.1.7): GPIO_OUT and GPIO_OE have 30 bits, one
--- for each pin. After each of the two come its SET, CLR and XOR words, which are written only and read as 0.
-use Rattle.std.specs.Prelude.{ℕ, ◌+◌, ◌%◌, ◌^◌, Bool, ◌||◌, ◌==◌, if◌then◌else◌, Option, Some, None, bit_or, bit_xor}
-use Rattle.sio_block.specs.Offsets.{GPIO_OUT, GPIO_OE}
+-- The pins that software drives (RP2040 Datasheet, 2.3.1.2, GPIO Control, and 2.3.1.7, List of Registers): GPIO_OUT and GPIO_OE
+-- have 30 bits, one for each pin. After each of the two come its SET, CLR and XOR words, which are written only and read as 0.
+use Rattle.std.specs.Prelude.{ℕ, ◌%◌, ◌^◌, List, [], ◌∷◌, Option, Some, bit_or, bit_xor, ⊤}
+use Rattle.rp_base.specs.Rows.{Row, read_write, write_only, word_at, effect_at}
 use Rattle.sio_block.specs.declared.pins.Pins.{Pins}
 use Rattle.rp_base.specs.Word.{minus}
 
@@ -9,27 +9,24 @@ use Rattle.rp_base.specs.Word.{minus}
 abbrev pub pins_at_reset : Pins
 pins_at_reset = record { out = 0; enable = 0 }
 
--- the SET, CLR and XOR words after a first one
-abbrev pub is_change : ℕ → ℕ → Bool
-is_change first offset = offset == first + 4 || (offset == first + 8 || offset == first + 12)
+-- a word has a bit for each of 30 pins
+abbrev pub pins_of : ℕ → ℕ
+pins_of w = w % 2 ^ 30
+
+abbrev pub pin_rows : List (Row ⊤ Pins)
+pin_rows =
+    read_write 0x010 "GPIO_OUT" (λ p. p.out) (λ w p. record p { out = pins_of w })
+    ∷ write_only 0x014 "GPIO_OUT_SET" (λ w p. record p { out = bit_or p.out (pins_of w) })
+    ∷ write_only 0x018 "GPIO_OUT_CLR" (λ w p. record p { out = minus p.out (pins_of w) })
+    ∷ write_only 0x01c "GPIO_OUT_XOR" (λ w p. record p { out = bit_xor p.out (pins_of w) })
+    ∷ read_write 0x020 "GPIO_OE" (λ p. p.enable) (λ w p. record p { enable = pins_of w })
+    ∷ write_only 0x024 "GPIO_OE_SET" (λ w p. record p { enable = bit_or p.enable (pins_of w) })
+    ∷ write_only 0x028 "GPIO_OE_CLR" (λ w p. record p { enable = minus p.enable (pins_of w) })
+    ∷ write_only 0x02c "GPIO_OE_XOR" (λ w p. record p { enable = bit_xor p.enable (pins_of w) })
+    ∷ []
 
 abbrev pub pins_word : ℕ → Pins → Option ℕ
-pins_word offset p =
-    if offset == GPIO_OUT then Some p.out else
-    if offset == GPIO_OE then Some p.enable else
-    if is_change GPIO_OUT offset || is_change GPIO_OE offset then Some 0 else None
-
--- a word after a write to it, or to its SET, CLR or XOR word
-abbrev pub changed : ℕ → ℕ → ℕ → ℕ → ℕ
-changed first offset w old =
-    if offset == first then w else
-    if offset == first + 4 then bit_or old w else
-    if offset == first + 8 then minus old w else
-    if offset == first + 12 then bit_xor old w else old
+pins_word offset p = word_at pin_rows tt offset p
 
 abbrev pub pins_written : ℕ → ℕ → Pins → Pins
-pins_written offset w p =
-    record {
-      out = changed GPIO_OUT offset (w % 2 ^ 30) p.out;
-      enable = changed GPIO_OE offset (w % 2 ^ 30) p.enable;
-    }
+pins_written offset w p = effect_at pin_rows offset (Some w) p

@@ -90,13 +90,21 @@ impl Divider {
         ensures { self.new ≡ divider_written offset word self.old }
     {
         match offset {
-            DIV_UDIVIDEND | DIV_SDIVIDEND => {
+            DIV_UDIVIDEND => {
                 self.dividend = word;
-                self.begin(offset == DIV_SDIVIDEND);
+                self.begin(false);
             }
-            DIV_UDIVISOR | DIV_SDIVISOR => {
+            DIV_UDIVISOR => {
                 self.divisor = word;
-                self.begin(offset == DIV_SDIVISOR);
+                self.begin(false);
+            }
+            DIV_SDIVIDEND => {
+                self.dividend = word;
+                self.begin(true);
+            }
+            DIV_SDIVISOR => {
+                self.divisor = word;
+                self.begin(true);
             }
             DIV_QUOTIENT => {
                 self.quotient = word;

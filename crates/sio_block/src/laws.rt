@@ -1,6 +1,6 @@
 //! The laws of the block, each the contract of a function without arguments.
 
-ghost use Rattle.sio_block.specs.Laws.{ALockHasOneOwner, ResultsAreTruncated, ADivisionTakesEightCycles, SixWordsStartCore1};
+ghost use Rattle.sio_block.specs.Laws.{ALockHasOneOwner, ResultsAreTruncated, ADivisionTakesEightCycles, SixWordsStartCore1, EachRegisterIsAtItsOffset};
 ghost use Rattle.sio_block.specs.MailLaws.{WordsStayInOrder, TheLauncherAnswers};
 
 /// Of two cores that read a free spinlock in one cycle the first gets it, and the second finds it taken until it is written.
@@ -32,4 +32,9 @@ pub fn words_stay_in_order()
 /// The launcher echoes each word that fits, and answers another one by its complement.
 pub fn the_launcher_answers()
     ensures { TheLauncherAnswers }
+{}
+
+/// At the offset of each register of the pins, the mailboxes and the dividers stands that register, and nothing of them at any other.
+pub fn each_register_is_at_its_offset()
+    ensures { EachRegisterIsAtItsOffset }
 {}

@@ -1,7 +1,7 @@
 //! The pins that software drives.
 
-ghost use Rattle.std.specs.Prelude.{◌≡◌, ◌≤◌};
-ghost use Rattle.sio_block.specs.Pins.{is_change, pins_word, changed, pins_written};
+ghost use Rattle.std.specs.Prelude.{◌≡◌};
+ghost use Rattle.sio_block.specs.Pins.{pins_word, pins_written};
 
 use crate::registers::{
     GPIO_OE, GPIO_OE_CLR, GPIO_OE_SET, GPIO_OE_XOR, GPIO_OUT, GPIO_OUT_CLR, GPIO_OUT_SET,
@@ -36,25 +36,16 @@ impl Pins {
         ensures { self.new ≡ pins_written offset word self.old }
     {
         let bits = word & 0x3fff_ffff;
-        self.out = changed(GPIO_OUT, offset, bits, self.out);
-        self.enable = changed(GPIO_OE, offset, bits, self.enable);
-    }
-}
-
-/// What a write leaves in the word at `first`, where the SET, CLR and XOR words follow it.
-fn changed(first: u16, offset: u16, bits: u32, old: u32) -> u32
-    requires { first ≤ GPIO_OE }
-    ensures { result ≡ changed first offset bits old }
-{
-    if offset == first {
-        bits
-    } else if offset == first + 4 {
-        old | bits
-    } else if offset == first + 8 {
-        old & !bits
-    } else if offset == first + 12 {
-        old ^ bits
-    } else {
-        old
+        match offset {
+            GPIO_OUT => self.out = bits,
+            GPIO_OUT_SET => self.out |= bits,
+            GPIO_OUT_CLR => self.out &= !bits,
+            GPIO_OUT_XOR => self.out ^= bits,
+            GPIO_OE => self.enable = bits,
+            GPIO_OE_SET => self.enable |= bits,
+            GPIO_OE_CLR => self.enable &= !bits,
+            GPIO_OE_XOR => self.enable ^= bits,
+            _ => {}
+        }
     }
 }
