@@ -17,6 +17,7 @@ KINDS = {
     "read_write": "read, write", "register": "read (which acts), write", "read_acts": "read (which acts)", "read_only": "read",
     "seen_only": "read", "write_only": "write", "kept": "read, write",
 }
+NO_READ = re.compile(r"\(λ (\w+)\. \1\)")    # a read that leaves what it found
 HEAD = re.compile(r"^abbrev pub (\w+_rows) : .*List \(Row ", re.M)
 ROW = re.compile(rf'(?:repeated (\d+) (\d+) \(λ \w+\. )?({"|".join(KINDS)}) (0x[0-9a-f]+) "(\w+)"')
 PAGE = """# The registers
@@ -43,7 +44,8 @@ def rows_of(part):
         found = ROW.search(" ".join(row.split()))
         if not found:
             raise Refused(f"a row is in no form that this tool knows: {' '.join(row.split())[-60:]}")
-        yield found.groups()
+        kind = "read_write" if found[3] == "register" and NO_READ.search(row) else found[3]
+        yield found[1], found[2], kind, found[4], found[5]
 
 
 def table(name, head, part):
