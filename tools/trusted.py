@@ -65,7 +65,7 @@ class Walk:
     """The files that are met, each behind those that import it; what they name of the code; what they import of libraries."""
 
     def __init__(self):
-        self.done, self.order, self.types, self.libraries = set(), [], {}, {}
+        self.done, self.order, self.names, self.types, self.libraries = set(), [], [], {}, {}
         for path in roots():
             self.visit(path)
         self.order.reverse()
@@ -74,16 +74,32 @@ class Walk:
         if path in self.done:
             return
         self.done.add(path)
-        for crate, folder, words, _ in reversed(list(imports(read(path)))):
+        for crate, folder, words, names in reversed(list(imports(read(path)))):
             if not os.path.isdir(f"crates/{crate}"):
                 self.libraries.setdefault(crate, set()).add(".".join([folder, *words] if folder != "specs" else words))
             elif words[0] == "declared":
                 self.declare(crate, words[1:])
+            elif folder == "proofs":
+                self.name(crate, words, names)
             elif found := file_of(crate, words):
                 self.visit(found)
             else:
                 raise Refused(f"{path} imports {'.'.join([crate, folder, *words])}, which is no file")
         self.order.append(path)
+
+    def name(self, crate, words, names):
+        """Names of proofs: of each its type alone is believed, and what this is."""
+        path = f"crates/{crate}/proofs/{'/'.join(words)}.antt"
+        text = read(path)
+        for name in names:
+            signature = re.search(rf"^(?:abbrev |unfoldable )?pub {re.escape(name)} : (.*)$", text, re.M)
+            if signature is None:
+                raise Refused(f"{path} has no signature of {name}")
+            self.names.append(f"{path}: {signature[0].split('pub ', 1)[1]}")
+            used = set(re.findall(r"\w+", signature[1]))
+            for other, folder, parts, found in imports(text):
+                if used & set(found) and folder == "specs" and (below := file_of(other, parts)):
+                    self.visit(below)
 
     def declare(self, crate, words):
         """A type of the code by its modules and its name."""
@@ -142,6 +158,9 @@ def page(walk):
             out.append(f"## {crate}: {sum(lines[path] for path in files)} lines\n")
             out += [item(f"{path.split('/specs/')[1]}, {lines[path]}: {manual(texts[path])}") for path in files]
             out.append("")
+    if walk.names:
+        out.append("## Values that are known by their types\n\nOf these the definitions use nothing but what their types say.\n")
+        out += [*map(item, walk.names), ""]
     out.append("## Types of the code\n\nThe types that these files name as the code declares them.\n")
     out += [item(f"{path}: {', '.join(sorted(names))}") for path, names in sorted(walk.types.items())]
     out.append("\n## Libraries\n\nWhat these files import of the toolchain's libraries.\n")

@@ -1,7 +1,8 @@
 -- The programs of a file are whole.
 use Rattle.std.proofs.Common.{◌≡◌, ℕ, List, Result, Ok, Err}
 use Rattle.pio_parse.specs.declared.syntax.Source.{Source}
-use Rattle.pio_parse.specs.Source.{EarlyFault, parsed}
+use Rattle.pio_parse.specs.Files.{EarlyFault}
+use Rattle.pio_parse.proofs.Readers.{reader}
 use Rattle.pio_asm.specs.Assembly.{Plan}
 use Rattle.pio_asm.specs.Whole.{AreWhole}
 use Rattle.pio_asm.proofs.Wholeness.{source_whole}
@@ -14,4 +15,4 @@ read_whole (Err fault) all e = absurd (cc e)
 -- the programs of a file
 pub plans_whole : (bytes : List ℕ) (all : List Plan) → plans_of bytes ≡ Ok all → AreWhole all
 unfolding plans_of
-plans_whole bytes all e = read_whole (parsed bytes) all e
+plans_whole bytes all e = read_whole (reader.read bytes) all e

@@ -16,7 +16,8 @@ use Rattle.pio_asm.specs.declared.plan.Member.{Member}
 use Rattle.pio_asm.specs.declared.plan.Judged.{Judged}
 use Rattle.pio_asm.specs.declared.building.Building.{Building}
 use Rattle.pio_asm.specs.declared.building.Verdict.{Verdict}
-use Rattle.pio_asm.specs.Symbols.{Names, put}
+use Rattle.source_text.specs.Symbols.{put}
+use Rattle.pio_asm.specs.Symbols.{Names}
 use Rattle.pio_asm.specs.Kept.{AllValued, AreKept, is_kept}
 use Rattle.pio_asm.specs.Value.{evaluated}
 use Rattle.pio_asm.specs.Operand.{number_within}

@@ -1,4 +1,3 @@
-pub mod SymbolLaws
 pub mod Bounds
 pub mod Codes
 pub mod Words

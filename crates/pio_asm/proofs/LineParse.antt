@@ -33,11 +33,12 @@ use Rattle.pio_parse.specs.declared.syntax.Instruction.{Instruction}
 use Rattle.pio_parse.specs.declared.syntax.Statement.{Statement}
 use Rattle.pio_parse.specs.declared.syntax.Statement.TheVariants.{SideSet as SideSetStatement, Word as WordStatement, Instruction as InstructionStatement}
 use Rattle.pio_parse.specs.declared.syntax.Line.{Line}
-use Rattle.pio_parse.specs.Outcome.{and_then, map_ok}
-use Rattle.pio_parse.specs.Cursor.{Outcome, after_head, head_kind}
+use Rattle.source_text.specs.Outcome.{and_then, map_ok}
+use Rattle.pio_parse.specs.descent.Cursor.{Outcome, after_head}
+use Rattle.pio_parse.specs.Tokens.{head_kind}
 use Rattle.pio_parse.specs.Registers.{mov_destination_of_word, mov_source_of_word}
-use Rattle.pio_parse.specs.Instruction.{is_rel, modified_at}
-use Rattle.pio_parse.specs.Statement.{end_at, line_at}
+use Rattle.pio_parse.specs.descent.Instruction.{is_rel, modified_at}
+use Rattle.pio_parse.specs.descent.Statement.{end_at, line_at}
 use Rattle.pio_parse.proofs.Pieces.{Piece, token_at, tokens_of}
 use Rattle.pio_parse.proofs.Pieces.Piece.{End}
 use Rattle.pio_parse.specs.Words.{keyword_name}

@@ -5,11 +5,14 @@ use Rattle.pio_parse.specs.declared.token.Span.{Span}
 use Rattle.pio_parse.specs.declared.token.Keyword.{Keyword}
 use Rattle.pio_parse.specs.declared.token.Keyword.TheVariants.{Public, Opt, Pindirs, Jmp, Wait, In, Out, Push, Pull, Mov, Irq, Set, Nop, Side, Gpio, Pin, Rel, Pins, X, Y, Null, Isr, Osr, Pc, Exec, Status, IfFull, IfEmpty, Block, NoBlock, NoWait, Clear, Osre}
 use Rattle.pio_parse.specs.declared.token.TokenKind.TheVariants.{Keyword as KeywordToken, Number}
-use Rattle.pio_parse.specs.Words.{digit_of, digits_value, is_digit, is_word_char, keyword_name, number_of, word_kind}
+use Rattle.source_text.specs.Characters.{digit_of, is_digit, is_word_char}
+use Rattle.source_text.specs.Numbers.{digits_value}
+use Rattle.pio_parse.specs.Words.{keyword_name, number_of, word_kind}
 use Rattle.pio_parse.proofs.Pieces.{IsRun, is_run}
 use Rattle.pio_parse.proofs.Runs.{both}
 use Rattle.std.specs.Fmt.{decimal, digits}
 use Rattle.std.specs.Char.{digit_char}
+use Rattle.std.specs.Option.{option_map}
 use Rattle.pio_disasm.specs.Text.{hex_half}
 
 pub key_run : (keyword : Keyword) → IsRun (keyword_name keyword) (KeywordToken keyword)
@@ -116,27 +119,26 @@ hex_is d lt =
     let h = both (is_word_char (digit_char d)) (is_that (digit_of (digit_char d)) d) (all_below-at (λ d. is_word_char (digit_char d) && is_that (digit_of (digit_char d)) d) 16 d hex_digits lt) in
     record { char = h.0; value = that_is (digit_of (digit_char d)) d h.1 }
 
-next_digit : (d value : ℕ) (cs : List ℕ) → d < 16 → value < 4096 → digits_value 16 value (digit_char d ∷ cs) ≡ digits_value 16 (value * 16 + d) cs
-next_digit d value cs lt small =
+next_digit : (d value : ℕ) (cs : List ℕ) → d < 16 → digits_value 16 value (digit_char d ∷ cs) ≡ digits_value 16 (value * 16 + d) cs
+next_digit d value cs lt =
     let is = (hex_is d lt).value in
     let fits : nat_le 16 d ≡ false = not_le d lt in
-    let bound : min (value * 16 + d) 4294967296 ≡ value * 16 + d = omega arith in
-    rw (is, fits, bound) refl
+    rw (is, fits) refl
   where
     not_le : (d : ℕ) → d < 16 → nat_le 16 d ≡ false
     not_le d lt = grind (arith, nat_tests)
 
 four_digits : (a b c d : ℕ) → a < 16 → b < 16 → c < 16 → d < 16 → digits_value 16 0 (digit_char a ∷ digit_char b ∷ digit_char c ∷ digit_char d ∷ []) ≡ Some ((((0 * 16 + a) * 16 + b) * 16 + c) * 16 + d)
 four_digits a b c d la lb lc ld =
-    next_digit a 0 (digit_char b ∷ digit_char c ∷ digit_char d ∷ []) la (omega arith)
-    ∙ next_digit b (0 * 16 + a) (digit_char c ∷ digit_char d ∷ []) lb (omega arith)
-    ∙ next_digit c ((0 * 16 + a) * 16 + b) (digit_char d ∷ []) lc (omega arith)
-    ∙ next_digit d (((0 * 16 + a) * 16 + b) * 16 + c) [] ld (omega arith)
+    next_digit a 0 (digit_char b ∷ digit_char c ∷ digit_char d ∷ []) la
+    ∙ next_digit b (0 * 16 + a) (digit_char c ∷ digit_char d ∷ []) lb
+    ∙ next_digit c ((0 * 16 + a) * 16 + b) (digit_char d ∷ []) lc
+    ∙ next_digit d (((0 * 16 + a) * 16 + b) * 16 + c) [] ld
 
 digit_lt : (n : ℕ) → n % 16 < 16
 digit_lt n = omega arith
 
-half_value : (n : ℕ) → n < 65536 → (((0 * 16 + n / 4096 % 16) * 16 + n / 256 % 16) * 16 + n / 16 % 16) * 16 + n % 16 ≡ n
+half_value : (n : ℕ) → n < 65536 → min 4294967296 ((((0 * 16 + n / 4096 % 16) * 16 + n / 256 % 16) * 16 + n / 16 % 16) * 16 + n % 16) ≡ n
 half_value n lt = omega arith
 
 half_run : (a b c d : ℕ) → is_word_char a ≡ true → is_word_char b ≡ true → is_word_char c ≡ true → is_word_char d ≡ true → is_run (48 ∷ 120 ∷ a ∷ b ∷ c ∷ d ∷ []) ≡ true
@@ -148,7 +150,7 @@ hex_run n lt =
     let b = hex_is (n / 256 % 16) (digit_lt (n / 256)) in
     let c = hex_is (n / 16 % 16) (digit_lt (n / 16)) in
     let d = hex_is (n % 16) (digit_lt n) in
-    let value : number_of (48 ∷ 120 ∷ hex_half n) ≡ Some n = four_digits (n / 4096 % 16) (n / 256 % 16) (n / 16 % 16) (n % 16) (digit_lt (n / 4096)) (digit_lt (n / 256)) (digit_lt (n / 16)) (digit_lt n) ∙ ap (λ k. Some k) (half_value n lt) in
+    let value : number_of (48 ∷ 120 ∷ hex_half n) ≡ Some n = ap (option_map (min 4294967296)) (four_digits (n / 4096 % 16) (n / 256 % 16) (n / 16 % 16) (n % 16) (digit_lt (n / 4096)) (digit_lt (n / 256)) (digit_lt (n / 16)) (digit_lt n)) ∙ ap (λ k. Some k) (half_value n lt) in
     record {
       run = half_run (digit_char (n / 4096 % 16)) (digit_char (n / 256 % 16)) (digit_char (n / 16 % 16)) (digit_char (n % 16)) a.char b.char c.char d.char;
       plain = refl;

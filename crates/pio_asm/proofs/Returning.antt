@@ -11,11 +11,12 @@ use Rattle.pio_words.specs.Operation.{operation_of}
 use Rattle.pio_words.specs.Side.{IsSideField, side_at}
 use Rattle.pio_words.proofs.Unique.{word-unique}
 use Rattle.pio_parse.specs.declared.fault.PioFault.{PioFault}
-use Rattle.pio_parse.specs.Outcome.{and_then}
+use Rattle.source_text.specs.Outcome.{and_then}
 use Rattle.pio_parse.specs.declared.syntax.Statement.{Statement}
 use Rattle.pio_parse.specs.declared.syntax.Statement.TheVariants.{SideSet as SideSetStatement}
 use Rattle.pio_parse.specs.declared.syntax.Line.{Line}
-use Rattle.pio_parse.specs.Source.{parsed}
+use Rattle.pio_parse.specs.descent.Parsed.{parsed}
+use Rattle.pio_parse.proofs.Files.{parses_grammar}
 use Rattle.pio_parse.proofs.Pieces.{AreApart, Piece, is_open, joined}
 use Rattle.pio_parse.proofs.Pieces.Piece.{End}
 use Rattle.pio_parse.proofs.Runs.{both}
@@ -241,7 +242,7 @@ reads_back b side words h fits some few halves =
     record {
       source = source_of_lines (lines_if b side words);
       plan = plan_of (codes "code") (built (map (word_member (set_if b side) side) words) (set_if b side));
-      parses = ap parsed text ∙ program_parses (side_set_lines b side ++ map (line_pieces side) words) (lines_if b side words) program.apart (program.lines (header ++ joined (all_lines (side_set_lines b side ++ map (line_pieces side) words))));
+      parses = (parses_grammar (source_text side words) (source_of_lines (lines_if b side words))).0 (ap parsed text ∙ program_parses (side_set_lines b side ++ map (line_pieces side) words) (lines_if b side words) program.apart (program.lines (header ++ joined (all_lines (side_set_lines b side ++ map (line_pieces side) words)))));
       assembles = program.assembles;
       same_words = program.stand;
       no_others = λ others are. same_words (map (word_member (set_if b side) side) words) words others program.stand are;

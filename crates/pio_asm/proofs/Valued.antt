@@ -9,7 +9,8 @@ use Rattle.pio_asm.specs.declared.value.Evaluation.{Evaluation}
 use Rattle.pio_asm.specs.declared.value.Evaluated.{Evaluated}
 use Rattle.pio_asm.specs.declared.operand.Field.{Field}
 use Rattle.pio_asm.specs.declared.operand.Modifier.{Modifier}
-use Rattle.pio_asm.specs.Symbols.{Names, found}
+use Rattle.source_text.specs.Symbols.{found}
+use Rattle.pio_asm.specs.Symbols.{Names}
 use Rattle.pio_asm.specs.Kept.{AllValued}
 use Rattle.pio_asm.specs.Value.{after_binary, after_unary, binary_step, evaluated, evaluation_of, name_step, one_operand, operator_step, rest_of, term_step, top_of, two_operands, unary_step, value_in, with_result}
 use Rattle.pio_asm.specs.Operand.{field_by, field_in, field_with, number_within, modifier_by, modifier_in, modifier_with, polarity_in}

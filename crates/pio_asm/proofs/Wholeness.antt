@@ -12,13 +12,14 @@ use Rattle.pio_parse.specs.declared.syntax.Statement.TheVariants.{Program, Defin
 use Rattle.pio_parse.specs.declared.syntax.Line.{Line}
 use Rattle.pio_parse.specs.declared.syntax.Source.{Source}
 use Rattle.pio_parse.specs.declared.syntax.SourceProgram.{SourceProgram}
-use Rattle.pio_parse.specs.Outcome.{map_ok}
+use Rattle.source_text.specs.Outcome.{map_ok}
 use Rattle.pio_asm.specs.declared.value.Evaluated.{Evaluated}
 use Rattle.pio_asm.specs.declared.plan.Member.{Member}
 use Rattle.pio_asm.specs.declared.plan.Judged.{Judged}
 use Rattle.pio_asm.specs.declared.building.Building.{Building}
 use Rattle.pio_asm.specs.declared.building.Verdict.{Verdict}
-use Rattle.pio_asm.specs.Symbols.{Names, found, put}
+use Rattle.source_text.specs.Symbols.{found, put}
+use Rattle.pio_asm.specs.Symbols.{Names}
 use Rattle.pio_asm.specs.Value.{evaluated}
 use Rattle.pio_asm.specs.Operand.{number_within}
 use Rattle.pio_asm.specs.Plan.{config_of, instruction_in}

@@ -7,11 +7,12 @@ use Rattle.pio_parse.specs.declared.fault.PioFault.TheVariants.{Memory, Twice, W
 use Rattle.pio_parse.specs.declared.syntax.Line.{Line}
 use Rattle.pio_parse.specs.declared.syntax.SourceProgram.{SourceProgram}
 use Rattle.pio_parse.specs.declared.syntax.Source.{Source}
-use Rattle.pio_parse.specs.Outcome.{and_then, map_ok}
+use Rattle.source_text.specs.Outcome.{and_then, map_ok}
 use Rattle.pio_asm.specs.declared.plan.Member.{Member}
 use Rattle.pio_asm.specs.declared.building.Building.{Building}
 use Rattle.pio_asm.specs.declared.program.Program.{Program}
-use Rattle.pio_asm.specs.Symbols.{Names, found, put}
+use Rattle.source_text.specs.Symbols.{found, put}
+use Rattle.pio_asm.specs.Symbols.{Names}
 use Rattle.pio_asm.specs.Plan.{config_of}
 use Rattle.pio_asm.specs.Code.{AreWordsOf}
 use Rattle.pio_asm.specs.Step.{line_step, names_of}

@@ -4,8 +4,9 @@ use Rattle.pio_words.specs.declared.side.SideConfig.{SideConfig}
 use Rattle.pio_parse.specs.declared.syntax.Source.{Source}
 use Rattle.pio_parse.specs.declared.fault.PioFault.{PioFault}
 use Rattle.pio_parse.specs.declared.fault.PioFault.TheVariants.{Char, Syntax}
-use Rattle.pio_parse.specs.Source.{EarlyFault, parsed}
-use Rattle.pio_parse.specs.Source.EarlyFault.{CharAt, SyntaxAt}
+use Rattle.pio_parse.specs.Files.{EarlyFault}
+use Rattle.pio_parse.proofs.Readers.{reader}
+use Rattle.pio_parse.specs.Files.EarlyFault.{CharAt, SyntaxAt}
 use Rattle.pio_asm.specs.Assembly.{Plan, assembled}
 use Rattle.pio_asm.specs.declared.program.Program.{Program}
 use Rattle.pio_disasm.specs.Text.{hex_half}
@@ -21,9 +22,10 @@ abbrev pub plans_in : Result Source EarlyFault → Result (List Plan) PioFault
 plans_in (Ok source) = assembled source
 plans_in (Err fault) = Err (early_fault fault)
 
--- the programs of a file, or its first fault: the first of its characters, else of its tokens, else of its lines
+-- the programs of a file, or its first fault: the first of its characters, else of its tokens, else of its lines. Of the reader its type
+-- alone counts: it answers what the grammar has (and no two do otherwise, by the law `one_answer`)
 unfoldable pub plans_of : List ℕ → Result (List Plan) PioFault
-plans_of bytes = plans_in (parsed bytes)
+plans_of bytes = plans_in (reader.read bytes)
 
 -- ---- the listing
 

@@ -3,7 +3,7 @@ use Rattle.std.specs.Prelude.{◌≡◌, ◌==◌, ◌&&◌, not, ℕ, ◌-◌, 
 use Rattle.pio_words.specs.declared.side.SideConfig.{SideConfig}
 use Rattle.pio_disasm.specs.Text.{source_text}
 use Rattle.pio_parse.specs.declared.syntax.Source.{Source}
-use Rattle.pio_parse.specs.Source.{parsed}
+use Rattle.pio_parse.specs.Files.{IsSource}
 use Rattle.pio_asm.specs.Plan.{IsConfig}
 use Rattle.pio_asm.specs.Code.{AreWordsOf}
 use Rattle.pio_asm.specs.Assembly.{Plan, assembled}
@@ -16,7 +16,7 @@ named_side side = if (side.count == 0) && not side.opt then record { count = 0; 
 pub record ReadsBack (side : SideConfig) (words : List ℕ) : Type 0 where
   pub source : Source
   pub plan : Plan
-  pub parses : parsed (source_text side words) ≡ Ok source
+  pub parses : IsSource (source_text side words) source
   pub assembles : assembled source ≡ Ok (plan ∷ [])
   pub same_words : AreWordsOf plan.members words
   pub no_others : (others : List ℕ) → AreWordsOf plan.members others → others ≡ words

@@ -15,7 +15,8 @@ use Rattle.pio_asm.specs.declared.plan.Member.TheVariants.{Word as WordMember, L
 use Rattle.pio_asm.specs.declared.plan.Judged.{Judged}
 use Rattle.pio_asm.specs.declared.building.Building.{Building}
 use Rattle.pio_asm.specs.declared.building.Verdict.{Verdict}
-use Rattle.pio_asm.specs.Symbols.{Names, put}
+use Rattle.source_text.specs.Symbols.{put}
+use Rattle.pio_asm.specs.Symbols.{Names}
 use Rattle.pio_asm.specs.Value.{evaluated, value_in}
 use Rattle.pio_asm.specs.Operand.{number_within}
 use Rattle.pio_asm.specs.Plan.{instruction_in}

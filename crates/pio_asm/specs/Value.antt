@@ -7,7 +7,8 @@ use Rattle.pio_parse.specs.declared.expression.Term.{Term}
 use Rattle.pio_parse.specs.declared.expression.Term.TheVariants.{Number, Name, Operator as OperatorTerm}
 use Rattle.pio_asm.specs.declared.value.Evaluation.{Evaluation}
 use Rattle.pio_asm.specs.declared.value.Evaluated.{Evaluated}
-use Rattle.pio_asm.specs.Symbols.{Names, found}
+use Rattle.source_text.specs.Symbols.{found}
+use Rattle.pio_asm.specs.Symbols.{Names}
 
 -- the values that an expression may have at any step: -2^31 to 2^32 - 1
 abbrev pub is_in_bounds : ℤ → Bool

@@ -29,7 +29,7 @@ pub(crate) fn add_name<'a>(
         Some(_) => Ok(()),
         None => match globals.get(name) {
             Some(_) => Ok(()),
-            None => seen.define(name, value),
+            None => seen.put(name, value),
         },
     }
 }

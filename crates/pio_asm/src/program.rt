@@ -3,7 +3,7 @@
 ghost use Rattle.std.specs.Prelude.{◌≡◌, ◌≤◌, ◌<◌, [], ◌∷◌, ◌++◌, Ok, None, OnOk, IfOk, IfErr, IsOkAnd};
 ghost use Rattle.pio_asm.specs.Plan.{IsOptionalConfig};
 ghost use Rattle.pio_asm.specs.Step.{names_of};
-ghost use Rattle.pio_asm.specs.Symbols.{found, put};
+ghost use Rattle.source_text.specs.Symbols.{found, put};
 ghost use Rattle.pio_asm.specs.Kept.{AllValued, AreKept};
 ghost use Rattle.pio_asm.specs.Assembly.{Assembles, IsFaultOf, IsProgram, assembled, lines_from, lines_of, plan_of, program_lines, program_plan, programs_from};
 
@@ -157,7 +157,7 @@ fn add_program<'a>(
     ensures taken { OnOk result (taken.new ≡ put name.now None taken.old) }
     ensures made { OnOk result (made.new.items ≡ made.old.items ++ program ∷ []) }
 {
-    taken.define(name, None)?;
+    taken.put(name, None)?;
     made.push(program)?;
     Ok(())
 }

@@ -15,13 +15,14 @@ use Rattle.pio_parse.specs.declared.expression.Term.{Term}
 use Rattle.pio_parse.specs.declared.syntax.Operation.{Operation}
 use Rattle.pio_parse.specs.declared.syntax.Statement.{Statement}
 use Rattle.pio_parse.specs.declared.syntax.Statement.TheVariants.{Instruction as InstructionStatement}
-use Rattle.pio_parse.specs.Outcome.{map_ok}
-use Rattle.pio_parse.specs.Cursor.{Outcome, after_head, head_kind}
-use Rattle.pio_parse.specs.Expression.{expression_at, operand_at}
+use Rattle.source_text.specs.Outcome.{map_ok}
+use Rattle.pio_parse.specs.descent.Cursor.{Outcome, after_head}
+use Rattle.pio_parse.specs.Tokens.{head_kind}
+use Rattle.pio_parse.specs.descent.Expression.{expression_at, operand_at}
 use Rattle.pio_parse.specs.Grammar.{Expr, IsSum, postfix}
 use Rattle.pio_parse.specs.Registers.{mov_source_of}
-use Rattle.pio_parse.specs.Instruction.{block_at, block_of, delay_at, irq_mode_at, irq_mode_of, is_comma, is_if_empty, is_if_full, is_open_bracket, is_rel, is_side, jmp_condition_at, jmp_condition_of, last_operand_at, modified_at, modifiers_at, mov_operation_at, past_comma, polarity_at, polarity_of, side_at}
-use Rattle.pio_parse.specs.Statement.{begins_label, is_opt, is_pindirs, label_at, statement_at, statement_of_kind}
+use Rattle.pio_parse.specs.descent.Instruction.{block_at, block_of, delay_at, irq_mode_at, irq_mode_of, is_comma, is_if_empty, is_if_full, is_open_bracket, is_rel, is_side, jmp_condition_at, jmp_condition_of, last_operand_at, modified_at, modifiers_at, mov_operation_at, past_comma, polarity_at, polarity_of, side_at}
+use Rattle.pio_parse.specs.descent.Statement.{begins_label, is_opt, is_pindirs, label_at, statement_at, statement_of_kind}
 use Rattle.pio_parse.proofs.Finds.{is_none_left, reads}
 use Rattle.pio_parse.proofs.Extents.{ends_sum}
 use Rattle.pio_parse.specs.Lines.{IsBlock, IsCondition, IsDelay, IsIrqMode, IsJmpCondition, IsLabel, IsLastValue, IsModifiers, IsMovOperation, IsOperation, IsPolarity, IsProgram, IsSetting, IsSide, IsStatement, IsValue, MayStand}

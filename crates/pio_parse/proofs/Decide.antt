@@ -2,13 +2,14 @@
 use Rattle.std.proofs.Common.{◌≡◌, ◌==◌, ◌&&◌, ◌||◌, ℕ, zero, suc, ◌+◌, ◌<◌, ◌≤◌, Bool, true, false, List, [], ◌∷◌, ◌++◌, length, Option, None, Some, Result, Ok, Err, append_assoc, length-append, ◌⊎◌, inl, inr, arith, refl, sym, ap, ◌∙◌, subst}
 use Rattle.std.proofs.lemmas.Bool.{cases_Bool}
 use Rattle.std.proofs.lemmas.Bool.Decides.{eqb_tells}
-use Rattle.pio_parse.specs.declared.token.SourcePosition.{SourcePosition}
+use Rattle.source_text.specs.declared.position.SourcePosition.{SourcePosition}
 use Rattle.pio_parse.specs.declared.token.Token.{Token}
 use Rattle.pio_parse.specs.declared.token.TokenKind.{TokenKind}
 use Rattle.pio_parse.specs.declared.token.TokenKind.TheVariants.{Comma, Colon, DoubleColon, OpenBracket, CloseBracket, OpenParenthesis, CloseParenthesis, Plus, Minus, Star, Bang, NotEqual, Tilde, LineEnd, FileEnd}
-use Rattle.pio_parse.specs.Words.{is_word_char}
-use Rattle.pio_parse.specs.Scan.{scanned}
-use Rattle.pio_parse.specs.Lexical.{AreLexemes, IsCharFaultAt, IsLexed, IsLexeme, IsMisplaced, StopsAt, are_word_chars, begins_by, ends_line, ends_word, has_name, is_option, is_word, lacks, lacks_pair, moved, past, tokens_at, word_at}
+use Rattle.source_text.specs.Characters.{is_word_char}
+use Rattle.pio_parse.specs.descent.Scan.{scanned}
+use Rattle.pio_parse.specs.Lexical.{AreLexemes, IsCharFaultAt, IsLexed, IsLexeme, IsMisplaced, StopsAt, are_word_chars, begins_by, ends_line, ends_word, has_name, is_option, is_word, lacks, lacks_pair, tokens_at, word_at}
+use Rattle.source_text.specs.Position.{moved, past}
 use Rattle.pio_parse.specs.Lexical.IsLexeme.{space, tab, carriage_return, line_end, comma, open_bracket, close_bracket, open_parenthesis, close_parenthesis, plus, minus, star, tilde, colon, double_colon, bang, not_equal, word, option, semicolon, slashes, comment, code_block}
 use Rattle.pio_parse.specs.Lexical.AreLexemes.{nothing, lexeme}
 use Rattle.pio_parse.specs.Lexical.IsMisplaced.{other, slash, open_comment, percent, open_block}

@@ -1,15 +1,16 @@
 -- How an expression and an operand are read where a line goes on after them.
 use Rattle.std.proofs.Common.{◌≡◌, ◌≢◌, not, true, ℕ, List, [], ◌∷◌, ◌++◌, Ok, Err, inl, inr, refl, sym, ap, ◌∙◌, subst}
 use mathlib.Core.Bool.{false≢true}
-use Rattle.pio_parse.specs.declared.token.SourcePosition.{SourcePosition}
+use Rattle.source_text.specs.declared.position.SourcePosition.{SourcePosition}
 use Rattle.pio_parse.specs.declared.token.Token.{Token}
 use Rattle.pio_parse.specs.declared.token.TokenKind.{TokenKind}
 use Rattle.pio_parse.specs.declared.token.TokenKind.TheVariants.{Name, Number, OpenParenthesis, CloseParenthesis, Plus, Minus, Star}
 use Rattle.pio_parse.specs.declared.expression.Term.{Term}
 use Rattle.pio_parse.specs.declared.expression.Term.TheVariants.{Number as NumberTerm, Name as NameTerm}
-use Rattle.pio_parse.specs.Outcome.{and_then, map_ok}
-use Rattle.pio_parse.specs.Cursor.{Outcome, expected, head_kind}
-use Rattle.pio_parse.specs.Expression.{expression_at, is_close_parenthesis, name_at, operand_at, operand_of_kind}
+use Rattle.source_text.specs.Outcome.{and_then, map_ok}
+use Rattle.pio_parse.specs.descent.Cursor.{Outcome, expected}
+use Rattle.pio_parse.specs.Tokens.{head_kind, name_at, is_end}
+use Rattle.pio_parse.specs.descent.Expression.{expression_at, is_close_parenthesis, operand_at, operand_of_kind}
 use Rattle.pio_parse.specs.Grammar.{EndsSum, Expr, IsSum, postfix}
 use Rattle.pio_parse.specs.Grammar.IsSum.{product}
 use Rattle.pio_parse.specs.Grammar.IsProduct.{operand}
@@ -18,7 +19,6 @@ use Rattle.pio_parse.specs.Laws.{ends_line}
 use Rattle.pio_parse.proofs.Runs.{both}
 use Rattle.pio_parse.proofs.Finds.{finds_tree, is_none_left, reads, refused}
 use Rattle.pio_parse.proofs.Extents.{Refusal, extent, ends_sum, none_ends, refusal}
-use Rattle.pio_parse.specs.Statement.{is_end}
 use Rattle.pio_parse.specs.GrammarLaws.{is_line}
 use Rattle.pio_parse.specs.Lines.{IsValue}
 use Rattle.pio_parse.specs.Lines.IsValue.{number, name, parentheses}

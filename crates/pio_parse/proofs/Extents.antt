@@ -1,19 +1,17 @@
 -- How far an expression goes: before whatever ends it, it is the same, and where it is refused it could have come to an end.
 use Rattle.std.proofs.Common.{◌≡◌, ◌==◌, ◌&&◌, not, Bool, true, false, if◌then◌else◌, ℕ, zero, suc, List, [], ◌∷◌, ◌++◌, Option, Some, None, Result, Ok, Err, refl, sym, ap, ◌∙◌, subst}
 use mathlib.Core.Bool.{false≢true}
-use Rattle.pio_parse.specs.declared.token.SourcePosition.{SourcePosition}
+use Rattle.source_text.specs.declared.position.SourcePosition.{SourcePosition}
 use Rattle.pio_parse.specs.declared.token.Token.{Token}
 use Rattle.pio_parse.specs.declared.token.TokenKind.{TokenKind}
 use Rattle.pio_parse.specs.declared.token.TokenKind.TheVariants.{Number, CloseParenthesis, Plus, Minus, Star}
-use Rattle.pio_parse.specs.Expression.{Pending}
-use Rattle.pio_parse.specs.Expression.{Reading}
+use Rattle.pio_parse.specs.descent.Expression.{Pending, Reading, after_newest, expression_at, expression_from, nothing_read, operand_step, operator_step, reduced, token_step}
 use Rattle.pio_parse.specs.declared.expression.Term.{Term}
 use Rattle.pio_parse.specs.declared.expression.Term.TheVariants.{Number as NumberTerm}
-use Rattle.pio_parse.specs.Outcome.{map_ok}
-use Rattle.pio_parse.specs.Cursor.{Outcome}
-use Rattle.pio_parse.specs.Statement.{is_end}
+use Rattle.source_text.specs.Outcome.{map_ok}
+use Rattle.pio_parse.specs.descent.Cursor.{Outcome}
+use Rattle.pio_parse.specs.Tokens.{is_end}
 use Rattle.pio_parse.specs.Laws.{ends_line}
-use Rattle.pio_parse.specs.Expression.{after_newest, expression_at, expression_from, nothing_read, operand_step, operator_step, reduced, token_step}
 use Rattle.pio_parse.proofs.Follows.{after_operand}
 use Rattle.pio_parse.proofs.Finds.{refused}
 use Rattle.pio_parse.proofs.Faults.{FaultIs, StopsHere, end_stops, position_in, suc-back, suc-tested, goes_on, token_fault, token_of}

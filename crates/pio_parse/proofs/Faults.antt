@@ -2,17 +2,15 @@
 use Rattle.std.proofs.Common.{◌≡◌, ◌==◌, ℕ, zero, suc, ◌-◌, Bool, true, false, if◌then◌else◌, List, [], ◌∷◌, ◌++◌, Option, Some, None, Result, Ok, Err, arith, refl, sym, ap, ◌∙◌, subst}
 use mathlib.Core.Bool.{false≢true}
 use Rattle.std.specs.Prelude.{⊤}
-use Rattle.pio_parse.specs.declared.token.SourcePosition.{SourcePosition}
+use Rattle.source_text.specs.declared.position.SourcePosition.{SourcePosition}
 use Rattle.pio_parse.specs.declared.token.Token.{Token}
 use Rattle.pio_parse.specs.declared.token.TokenKind.{TokenKind}
 use Rattle.pio_parse.specs.declared.token.TokenKind.TheVariants.{Name as NameToken, Number as NumberToken, DoubleColon, OpenParenthesis, CloseParenthesis, Plus, Minus, Star, LineEnd, FileEnd}
-use Rattle.pio_parse.specs.Expression.{Pending}
+use Rattle.pio_parse.specs.descent.Expression.{Pending, Reading, after_newest, expression_at, expression_from, nothing_read, operand_step, operator_step, reduced, token_step}
 use Rattle.pio_parse.specs.declared.expression.Term.{Term}
 use Rattle.pio_parse.specs.declared.expression.Term.TheVariants.{Number as NumberTerm}
-use Rattle.pio_parse.specs.Expression.{Reading}
-use Rattle.pio_parse.specs.Outcome.{map_ok}
-use Rattle.pio_parse.specs.Statement.{is_end}
-use Rattle.pio_parse.specs.Expression.{after_newest, expression_at, expression_from, nothing_read, operand_step, operator_step, reduced, token_step}
+use Rattle.source_text.specs.Outcome.{map_ok}
+use Rattle.pio_parse.specs.Tokens.{is_end}
 use Rattle.pio_parse.specs.Grammar.{BeginsExpression}
 use Rattle.pio_parse.specs.Laws.{ends_line, FaultsAtFirst}
 use Rattle.pio_parse.proofs.Follows.{after_operand}

@@ -1,11 +1,12 @@
 -- A line is refused at the first token with which no line of the grammar begins as the tokens up to it do.
 use Rattle.std.proofs.Common.{◌≡◌, not, Bool, true, false, ℕ, List, [], ◌∷◌, ◌++◌, Ok, Err, inl, inr, append_assoc, refl, sym, ap, ◌∙◌, subst}
-use Rattle.pio_parse.specs.declared.token.SourcePosition.{SourcePosition}
+use Rattle.source_text.specs.declared.position.SourcePosition.{SourcePosition}
 use Rattle.pio_parse.specs.declared.token.Token.{Token}
 use Rattle.pio_parse.specs.declared.syntax.Line.{Line}
-use Rattle.pio_parse.specs.Outcome.{map_ok}
-use Rattle.pio_parse.specs.Cursor.{Outcome}
-use Rattle.pio_parse.specs.Statement.{is_end, line_at}
+use Rattle.source_text.specs.Outcome.{map_ok}
+use Rattle.pio_parse.specs.descent.Cursor.{Outcome}
+use Rattle.pio_parse.specs.Tokens.{is_end}
+use Rattle.pio_parse.specs.descent.Statement.{line_at}
 use Rattle.pio_parse.proofs.Runs.{both}
 use Rattle.pio_parse.proofs.Finds.{refused}
 use Rattle.pio_parse.specs.GrammarLaws.{LineFaultsAtFirst, is_line}

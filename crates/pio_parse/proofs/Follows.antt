@@ -2,7 +2,7 @@
 use Rattle.std.proofs.Common.{◌≡◌, ◌≢◌, ◌==◌, ℕ, ◌+◌, ◌-◌, nat_le, Bool, true, false, not, if◌then◌else◌, List, [], ◌∷◌, ◌++◌, Option, Some, None, Result, Ok, Err, arith, refl, sym, ap, ◌∙◌, append_assoc}
 use mathlib.Core.Bool.{false≢true}
 use Rattle.std.specs.Option.{option_map_or}
-use Rattle.pio_parse.specs.declared.token.SourcePosition.{SourcePosition}
+use Rattle.source_text.specs.declared.position.SourcePosition.{SourcePosition}
 use Rattle.pio_parse.specs.declared.token.Token.{Token}
 use Rattle.pio_parse.specs.declared.token.TokenKind.{TokenKind}
 use Rattle.pio_parse.specs.declared.token.TokenKind.TheVariants.{DoubleColon, OpenParenthesis, CloseParenthesis, Plus, Minus, Star}
@@ -10,12 +10,11 @@ use Rattle.pio_parse.specs.declared.expression.Operator.{Operator}
 use Rattle.pio_parse.specs.declared.expression.Operator.TheVariants.{Add, Subtract, Multiply, Negate as NegateOperator, Reverse as ReverseOperator}
 use Rattle.pio_parse.specs.declared.expression.Term.{Term}
 use Rattle.pio_parse.specs.declared.expression.Term.TheVariants.{Operator as OperatorTerm}
-use Rattle.pio_parse.specs.Expression.{Pending}
-use Rattle.pio_parse.specs.Expression.Pending.{Parenthesis, OperatorPending}
-use Rattle.pio_parse.specs.Expression.{Reading}
-use Rattle.pio_parse.specs.Outcome.{and_then}
-use Rattle.pio_parse.specs.Cursor.{Outcome, head_kind}
-use Rattle.pio_parse.specs.Expression.{expression_from, level_of, operator_step, reduced, with_closed}
+use Rattle.pio_parse.specs.descent.Expression.{Pending, Reading, expression_from, level_of, operator_step, reduced, with_closed}
+use Rattle.pio_parse.specs.descent.Expression.Pending.{Parenthesis, OperatorPending}
+use Rattle.source_text.specs.Outcome.{and_then}
+use Rattle.pio_parse.specs.descent.Cursor.{Outcome}
+use Rattle.pio_parse.specs.Tokens.{head_kind}
 use Rattle.pio_parse.specs.Grammar.{Expr, IsOperand, IsProduct, IsSum, postfix}
 use Rattle.pio_parse.specs.Grammar.IsSum.{product, plus, minus}
 use Rattle.pio_parse.specs.Grammar.IsProduct.{operand, times}

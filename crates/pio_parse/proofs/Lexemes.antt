@@ -3,19 +3,19 @@ use Rattle.std.proofs.Common.{◌≡◌, ◌==◌, ◌&&◌, ◌||◌, not, ℕ,
 use Rattle.std.specs.Prelude.{⊤}
 use Rattle.std.specs.Option.{option_map_or}
 use Rattle.std.proofs.lemmas.Bool.Decides.{eqb_tells}
-use Rattle.pio_parse.specs.declared.token.SourcePosition.{SourcePosition}
+use Rattle.source_text.specs.declared.position.SourcePosition.{SourcePosition}
 use Rattle.pio_parse.specs.declared.token.Token.{Token}
 use Rattle.pio_parse.specs.declared.token.Directive.{Directive}
 use Rattle.pio_parse.specs.declared.token.Directive.TheVariants.{LangOpt}
 use Rattle.pio_parse.specs.declared.token.TokenKind.{TokenKind}
 use Rattle.pio_parse.specs.declared.token.TokenKind.TheVariants.{Directive as DirectiveToken, Colon as ColonToken, Bang as BangToken, Comma as CommaToken, DoubleColon as DoubleColonToken, OpenBracket as OpenBracketToken, CloseBracket as CloseBracketToken, OpenParenthesis as OpenParenthesisToken, CloseParenthesis as CloseParenthesisToken, Plus as PlusToken, Minus as MinusToken, Star as StarToken, NotEqual as NotEqualToken, Tilde as TildeToken, LineEnd as LineEndToken, FileEnd}
-use Rattle.pio_parse.specs.Scan.{Mode}
-use Rattle.pio_parse.specs.Scan.Mode.{Between, Word, Colon, Bang, Slash, LineComment, BlockComment, Header, Code}
-use Rattle.pio_parse.specs.Scan.{Step}
-use Rattle.pio_parse.specs.Outcome.{and_then, map_ok}
-use Rattle.pio_parse.specs.Words.{is_word_char, word_kind}
-use Rattle.pio_parse.specs.Scan.{begins, ends, next_position, without_token, scanned, scanned_from, sign_of, single_token, steps, word_ends, word_token_ends}
-use Rattle.pio_parse.specs.Lexical.{AreLexemes, IsLexed, IsLexeme, are_word_chars, begins_by, ends_line, ends_word, has_name, is_option, is_word, lacks, lacks_pair, moved, past, tokens_at, word_at}
+use Rattle.pio_parse.specs.descent.Scan.{Mode, Step, begins, ends, without_token, scanned, scanned_from, sign_of, single_token, steps, word_ends, word_token_ends}
+use Rattle.pio_parse.specs.descent.Scan.Mode.{Between, Word, Colon, Bang, Slash, LineComment, BlockComment, Header, Code}
+use Rattle.source_text.specs.Outcome.{and_then, map_ok}
+use Rattle.source_text.specs.Characters.{is_word_char}
+use Rattle.pio_parse.specs.Words.{word_kind}
+use Rattle.source_text.specs.Position.{position_behind, moved, past}
+use Rattle.pio_parse.specs.Lexical.{AreLexemes, IsLexed, IsLexeme, are_word_chars, begins_by, ends_line, ends_word, has_name, is_option, is_word, lacks, lacks_pair, tokens_at, word_at}
 use Rattle.pio_parse.specs.Lexical.IsLexeme.{space, tab, carriage_return, line_end, comma, open_bracket, close_bracket, open_parenthesis, close_parenthesis, plus, minus, star, tilde, colon, double_colon, bang, not_equal, word, option, semicolon, slashes, comment, code_block}
 use Rattle.pio_parse.specs.Lexical.AreLexemes.{nothing, lexeme}
 use Rattle.pio_parse.proofs.Runs.{both, run_begins, slice_middle}
@@ -30,17 +30,17 @@ behind here = record { line = here.line; column = here.column + 1 }
 -- what is read after a character, by what the character does
 abbrev pub after_step : List ℕ → List ℕ → ℕ → ℕ → SourcePosition → List Token → Result Step SourcePosition → Result (List Token) SourcePosition
 after_step text rest index c here toks outcome =
-    and_then (λ step. scanned_from text rest (index + 1) step.mode (next_position c here) (behind here) (toks ++ option_to_list step.first ++ option_to_list step.second)) outcome
+    and_then (λ step. scanned_from text rest (index + 1) step.mode (position_behind c here) (behind here) (toks ++ option_to_list step.first ++ option_to_list step.second)) outcome
 
 -- a character that ends no token
 pub tokenless_step : (text rest : List ℕ) (index c : ℕ) (mode next : Mode) (here after : SourcePosition) (toks : List Token) → steps text index mode c here ≡ Ok (without_token next)
-    → scanned_from text (c ∷ rest) index mode here after toks ≡ scanned_from text rest (index + 1) next (next_position c here) (behind here) toks
+    → scanned_from text (c ∷ rest) index mode here after toks ≡ scanned_from text rest (index + 1) next (position_behind c here) (behind here) toks
 tokenless_step text rest index c mode next here after toks h =
     ap (λ (r : Result Step SourcePosition). after_step text rest index c here toks r) h ∙ rw (append-nil toks, append-nil toks) refl
 
 -- a character that ends the one token
 token_step : (text rest : List ℕ) (index c : ℕ) (mode : Mode) (kind : TokenKind) (here position after : SourcePosition) (toks : List Token) → steps text index mode c here ≡ Ok (single_token kind position)
-    → scanned_from text (c ∷ rest) index mode here after toks ≡ scanned_from text rest (index + 1) Between (next_position c here) (behind here) (toks ++ record { kind = kind; position = position } ∷ [])
+    → scanned_from text (c ∷ rest) index mode here after toks ≡ scanned_from text rest (index + 1) Between (position_behind c here) (behind here) (toks ++ record { kind = kind; position = position } ∷ [])
 token_step text rest index c mode kind here position after toks h =
     ap (λ (r : Result Step SourcePosition). after_step text rest index c here toks r) h ∙ rw (append-nil toks) refl
 
@@ -58,7 +58,7 @@ word_walk (c ∷ cs) rest text index start begun here after toks h =
     let parts = both (is_word_char c) (are_word_chars cs) h in
     let here_step : steps text index (Word start begun) c here ≡ Ok (without_token (Word start begun)) = rw (parts.0) refl in
     tokenless_step text (cs ++ rest) index c (Word start begun) (Word start begun) here after toks here_step
-    ∙ word_walk cs rest text (index + 1) start begun (next_position c here) (behind here) toks parts.1
+    ∙ word_walk cs rest text (index + 1) start begun (position_behind c here) (behind here) toks parts.1
     ∙ ap (λ i. scanned_from text rest i (Word start begun) (moved (c ∷ cs) here) (past after here (c ∷ cs)) toks) (next_index index (length cs))
 
 -- the characters of a line that is not read
@@ -69,7 +69,7 @@ line_walk (c ∷ cs) rest text index here after toks h =
     let parts = both (not (c == 10)) (lacks 10 cs) h in
     let here_step : steps text index LineComment c here ≡ Ok (without_token LineComment) = rw (not_true (c == 10) parts.0) refl in
     tokenless_step text (cs ++ rest) index c LineComment LineComment here after toks here_step
-    ∙ line_walk cs rest text (index + 1) (next_position c here) (behind here) toks parts.1
+    ∙ line_walk cs rest text (index + 1) (position_behind c here) (behind here) toks parts.1
     ∙ ap (λ i. scanned_from text rest i LineComment (moved (c ∷ cs) here) (past after here (c ∷ cs)) toks) (next_index index (length cs))
 
 -- such a line is over
@@ -92,13 +92,13 @@ comment_walk : (body rest text : List ℕ) (index : ℕ) (begun : SourcePosition
     ≡ scanned_from text rest (index + length (body ++ 42 ∷ 47 ∷ [])) Between (moved (body ++ 42 ∷ 47 ∷ []) here) (past after here (body ++ 42 ∷ 47 ∷ [])) toks
 comment_walk [] rest text index begun starred here after toks h lack =
     tokenless_step text (47 ∷ rest) index 42 (BlockComment begun starred) (BlockComment begun true) here after toks (star_first text index begun here starred)
-    ∙ tokenless_step text rest (index + 1) 47 (BlockComment begun true) Between (next_position 42 here) (behind here) toks refl
+    ∙ tokenless_step text rest (index + 1) 47 (BlockComment begun true) Between (position_behind 42 here) (behind here) toks refl
     ∙ ap (λ i. scanned_from text rest i Between (moved (42 ∷ 47 ∷ []) here) (past after here (42 ∷ 47 ∷ [])) toks) (next_index index 1)
 comment_walk (c ∷ cs) rest text index begun starred here after toks h lack =
     let parts = both (not ((c == 42) && begins_by 47 (cs ++ 42 ∷ []))) (lacks_pair 42 47 (cs ++ 42 ∷ [])) lack in
     let here_step : steps text index (BlockComment begun starred) c here ≡ Ok (without_token (BlockComment begun (c == 42))) = rw h refl in
     tokenless_step text ((cs ++ 42 ∷ 47 ∷ []) ++ rest) index c (BlockComment begun starred) (BlockComment begun (c == 42)) here after toks here_step
-    ∙ comment_walk cs rest text (index + 1) begun (c == 42) (next_position c here) (behind here) toks (not_true ((c == 42) && begins_by 47 (cs ++ 42 ∷ [])) parts.0) parts.1
+    ∙ comment_walk cs rest text (index + 1) begun (c == 42) (position_behind c here) (behind here) toks (not_true ((c == 42) && begins_by 47 (cs ++ 42 ∷ [])) parts.0) parts.1
     ∙ ap (λ i. scanned_from text rest i Between (moved (c ∷ (cs ++ 42 ∷ 47 ∷ [])) here) (past after here (c ∷ (cs ++ 42 ∷ 47 ∷ []))) toks) (next_index index (length (cs ++ 42 ∷ 47 ∷ [])))
 
 percent_first : (text : List ℕ) (index : ℕ) (begun here : SourcePosition) (percent : Bool) → steps text index (Code begun percent) 37 here ≡ Ok (without_token (Code begun true))
@@ -112,13 +112,13 @@ code_walk : (body rest text : List ℕ) (index : ℕ) (begun : SourcePosition) (
     ≡ scanned_from text rest (index + length (body ++ 37 ∷ 125 ∷ [])) Between (moved (body ++ 37 ∷ 125 ∷ []) here) (past after here (body ++ 37 ∷ 125 ∷ [])) toks
 code_walk [] rest text index begun percent here after toks h lack =
     tokenless_step text (125 ∷ rest) index 37 (Code begun percent) (Code begun true) here after toks (percent_first text index begun here percent)
-    ∙ tokenless_step text rest (index + 1) 125 (Code begun true) Between (next_position 37 here) (behind here) toks refl
+    ∙ tokenless_step text rest (index + 1) 125 (Code begun true) Between (position_behind 37 here) (behind here) toks refl
     ∙ ap (λ i. scanned_from text rest i Between (moved (37 ∷ 125 ∷ []) here) (past after here (37 ∷ 125 ∷ [])) toks) (next_index index 1)
 code_walk (c ∷ cs) rest text index begun percent here after toks h lack =
     let parts = both (not ((c == 37) && begins_by 125 (cs ++ 37 ∷ []))) (lacks_pair 37 125 (cs ++ 37 ∷ [])) lack in
     let here_step : steps text index (Code begun percent) c here ≡ Ok (without_token (Code begun (c == 37))) = rw h refl in
     tokenless_step text ((cs ++ 37 ∷ 125 ∷ []) ++ rest) index c (Code begun percent) (Code begun (c == 37)) here after toks here_step
-    ∙ code_walk cs rest text (index + 1) begun (c == 37) (next_position c here) (behind here) toks (not_true ((c == 37) && begins_by 125 (cs ++ 37 ∷ [])) parts.0) parts.1
+    ∙ code_walk cs rest text (index + 1) begun (c == 37) (position_behind c here) (behind here) toks (not_true ((c == 37) && begins_by 125 (cs ++ 37 ∷ [])) parts.0) parts.1
     ∙ ap (λ i. scanned_from text rest i Between (moved (c ∷ (cs ++ 37 ∷ 125 ∷ [])) here) (past after here (c ∷ (cs ++ 37 ∷ 125 ∷ []))) toks) (next_index index (length (cs ++ 37 ∷ 125 ∷ [])))
 
 named_last : (named : Bool) → (named || false) ≡ true → named ≡ true
@@ -145,7 +145,7 @@ header_walk (c ∷ cs) rest text index begun named here after toks a b d h =
     let here_step : steps text index (Header begun named) c here ≡ Ok (without_token (Header begun (named || not (c == 32))))
     = rw (not_true (c == 123) no_brace.0, not_true (c == 37) no_percent.0, not_true (c == 10) no_line.0) refl in
     tokenless_step text (cs ++ 123 ∷ rest) index c (Header begun named) (Header begun (named || not (c == 32))) here after toks here_step
-    ∙ header_walk cs rest text (index + 1) begun (named || not (c == 32)) (next_position c here) (behind here) toks no_percent.1 no_line.1 no_brace.1 (named_more named (not (c == 32)) (has_name cs) h)
+    ∙ header_walk cs rest text (index + 1) begun (named || not (c == 32)) (position_behind c here) (behind here) toks no_percent.1 no_line.1 no_brace.1 (named_more named (not (c == 32)) (has_name cs) h)
     ∙ ap (λ i. scanned_from text rest i (Code begun false) (moved (123 ∷ []) (moved (c ∷ cs) here)) (past (past after here (c ∷ cs)) (moved (c ∷ cs) here) (123 ∷ [])) toks) (next_index index (suc (length cs)))
 
 -- what begins at a character ends no token before it
@@ -248,11 +248,11 @@ word_over (c ∷ cs) text chars start index begun here after toks e s o =
 
 moved_append : (cs ds : List ℕ) (position : SourcePosition) → moved (cs ++ ds) position ≡ moved ds (moved cs position)
 moved_append [] ds position = refl
-moved_append (c ∷ cs) ds position = moved_append cs ds (next_position c position)
+moved_append (c ∷ cs) ds position = moved_append cs ds (position_behind c position)
 
 past_append : (cs ds : List ℕ) (before position : SourcePosition) → past before position (cs ++ ds) ≡ past (past before position cs) (moved cs position) ds
 past_append [] ds before position = refl
-past_append (c ∷ cs) ds before position = past_append cs ds (behind position) (next_position c position)
+past_append (c ∷ cs) ds before position = past_append cs ds (behind position) (position_behind c position)
 
 -- the option's word, its line and what follows
 option_over : (line rest text chars : List ℕ) (start index : ℕ) (begun here after : SourcePosition) (toks : List Token) → ends_word (line ++ rest) ≡ true → Stands text chars (line ++ rest) start index
@@ -271,8 +271,8 @@ option_over (c ∷ cs) rest text chars start index begun here after toks e s o l
     let token : Token = record { kind = word_kind chars (record { start = start; end = index }); position = begun } in
     ap (λ (r : Result Step SourcePosition). after_step text (cs ++ rest) index c here toks r)
     (word_step text chars start index c begun here (not_true (is_word_char c) e) s.range ∙ option_step (word_kind chars (record { start = start; end = index })) begun c index here o (not_true (c == 10) parts.0))
-    ∙ ap (λ (ts : List Token). scanned_from text (cs ++ rest) (index + 1) LineComment (next_position c here) (behind here) ts) (append-nil (toks ++ record { kind = word_kind chars (record { start = start; end = index }); position = begun } ∷ []))
-    ∙ line_walk cs rest text (index + 1) (next_position c here) (behind here) (toks ++ record { kind = word_kind chars (record { start = start; end = index }); position = begun } ∷ []) parts.1
+    ∙ ap (λ (ts : List Token). scanned_from text (cs ++ rest) (index + 1) LineComment (position_behind c here) (behind here) ts) (append-nil (toks ++ record { kind = word_kind chars (record { start = start; end = index }); position = begun } ∷ []))
+    ∙ line_walk cs rest text (index + 1) (position_behind c here) (behind here) (toks ++ record { kind = word_kind chars (record { start = start; end = index }); position = begun } ∷ []) parts.1
     ∙ line_over rest text (index + 1 + length cs) (moved (c ∷ cs) here) (past after here (c ∷ cs)) (toks ++ record { kind = word_kind chars (record { start = start; end = index }); position = begun } ∷ []) ends
     ∙ ap (λ i. scanned_from text rest i Between (moved (c ∷ cs) here) (past after here (c ∷ cs)) (toks ++ record { kind = word_kind chars (record { start = start; end = index }); position = begun } ∷ [])) (next_index index (length cs))
 
@@ -292,7 +292,7 @@ word_begun [] rest text index position after toks h = absurd (let g : false ≡ 
 word_begun (c ∷ cs) rest text index position after toks h =
     let parts = both (is_word_char c || c == 46) (are_word_chars cs) h in
     tokenless_step text (cs ++ rest) index c Between (Word index position) position after toks ((run_begins c parts.0).starts index position)
-    ∙ word_walk cs rest text (index + 1) index position (next_position c position) (behind position) toks parts.1
+    ∙ word_walk cs rest text (index + 1) index position (position_behind c position) (behind position) toks parts.1
     ∙ ap (λ i. scanned_from text rest i (Word index position) (moved (c ∷ cs) position) (past after position (c ∷ cs)) toks) (next_index index (length cs))
 
 nothing_more : (text rest : List ℕ) (index : ℕ) (position after : SourcePosition) (toks : List Token) → scanned_from text rest index Between position after toks ≡ scanned_from text rest index Between position after (toks ++ [])
@@ -305,7 +305,7 @@ Reads index chars rest token text position after toks = scanned_from text (chars
 
 blank_reads : (c index : ℕ) (rest text : List ℕ) (position after : SourcePosition) (toks : List Token) → begins index c position ≡ Ok (without_token Between) → Reads index (c ∷ []) rest None text position after toks
 blank_reads c index rest text position after toks h =
-    tokenless_step text rest index c Between Between position after toks h ∙ nothing_more text rest (index + 1) (next_position c position) (behind position) toks
+    tokenless_step text rest index c Between Between position after toks h ∙ nothing_more text rest (index + 1) (position_behind c position) (behind position) toks
 
 word_reads : (chars rest text pre : List ℕ) (index : ℕ) (position after : SourcePosition) (toks : List Token) → is_word chars ≡ true → ends_word rest ≡ true → is_option (word_at index chars) ≡ false
     → text ≡ pre ++ (chars ++ rest) → index ≡ length pre → Reads index chars rest (Some (word_at index chars)) text position after toks
@@ -338,11 +338,11 @@ block_reads name body rest text index position after toks a b d h lack =
     let inner = body ++ 37 ∷ 125 ∷ [] in
     let far : index + 1 + suc (length name) + length (body ++ 37 ∷ 125 ∷ []) ≡ index + suc (length (name ++ 123 ∷ (body ++ 37 ∷ 125 ∷ []))) = omega (arith, length-append name (123 ∷ (body ++ 37 ∷ 125 ∷ []))) in
     tokenless_step text ((name ++ 123 ∷ (body ++ 37 ∷ 125 ∷ [])) ++ rest) index 37 Between (Header position false) position after toks refl
-    ∙ ap (λ cs. scanned_from text cs (index + 1) (Header position false) (next_position 37 position) (behind position) toks) (append_assoc name (123 ∷ (body ++ 37 ∷ 125 ∷ [])) rest)
-    ∙ header_walk name ((body ++ 37 ∷ 125 ∷ []) ++ rest) text (index + 1) position false (next_position 37 position) (behind position) toks a b d h
-    ∙ code_walk body rest text (index + 1 + suc (length name)) position false (moved (123 ∷ []) (moved name (next_position 37 position))) (past (past (behind position) (next_position 37 position) name) (moved name (next_position 37 position)) (123 ∷ [])) toks refl lack
-    ∙ rw (far, moved_append name (123 ∷ (body ++ 37 ∷ 125 ∷ [])) (next_position 37 position), past_append name (123 ∷ (body ++ 37 ∷ 125 ∷ [])) (behind position) (next_position 37 position))
-    (nothing_more text rest (index + suc (length (name ++ 123 ∷ (body ++ 37 ∷ 125 ∷ [])))) (moved (123 ∷ (body ++ 37 ∷ 125 ∷ [])) (moved name (next_position 37 position))) (past (past (behind position) (next_position 37 position) name) (moved name (next_position 37 position)) (123 ∷ (body ++ 37 ∷ 125 ∷ []))) toks)
+    ∙ ap (λ cs. scanned_from text cs (index + 1) (Header position false) (position_behind 37 position) (behind position) toks) (append_assoc name (123 ∷ (body ++ 37 ∷ 125 ∷ [])) rest)
+    ∙ header_walk name ((body ++ 37 ∷ 125 ∷ []) ++ rest) text (index + 1) position false (position_behind 37 position) (behind position) toks a b d h
+    ∙ code_walk body rest text (index + 1 + suc (length name)) position false (moved (123 ∷ []) (moved name (position_behind 37 position))) (past (past (behind position) (position_behind 37 position) name) (moved name (position_behind 37 position)) (123 ∷ [])) toks refl lack
+    ∙ rw (far, moved_append name (123 ∷ (body ++ 37 ∷ 125 ∷ [])) (position_behind 37 position), past_append name (123 ∷ (body ++ 37 ∷ 125 ∷ [])) (behind position) (position_behind 37 position))
+    (nothing_more text rest (index + suc (length (name ++ 123 ∷ (body ++ 37 ∷ 125 ∷ [])))) (moved (123 ∷ (body ++ 37 ∷ 125 ∷ [])) (moved name (position_behind 37 position))) (past (past (behind position) (position_behind 37 position) name) (moved name (position_behind 37 position)) (123 ∷ (body ++ 37 ∷ 125 ∷ []))) toks)
 
 two_indices : (index : ℕ) → index + 1 + 1 ≡ index + 2
 two_indices index = omega arith
@@ -366,35 +366,35 @@ lexeme_reads {index = index} (minus {rest = rest}) text pre position after toks 
 lexeme_reads {index = index} (star {rest = rest}) text pre position after toks whole at = token_step text rest index 42 Between StarToken position position after toks refl
 lexeme_reads {index = index} (tilde {rest = rest}) text pre position after toks whole at = token_step text rest index 126 Between TildeToken position position after toks refl
 lexeme_reads {index = index} (colon {rest = rest} h) text pre position after toks whole at =
-    tokenless_step text rest index 58 Between (Colon position) position after toks refl ∙ colon_over rest text (index + 1) position (next_position 58 position) (behind position) toks h
+    tokenless_step text rest index 58 Between (Colon position) position after toks refl ∙ colon_over rest text (index + 1) position (position_behind 58 position) (behind position) toks h
 lexeme_reads {index = index} (double_colon {rest = rest}) text pre position after toks whole at =
     tokenless_step text (58 ∷ rest) index 58 Between (Colon position) position after toks refl
-    ∙ token_step text rest (index + 1) 58 (Colon position) DoubleColonToken (next_position 58 position) position (behind position) toks refl
+    ∙ token_step text rest (index + 1) 58 (Colon position) DoubleColonToken (position_behind 58 position) position (behind position) toks refl
     ∙ rw (two_indices index) refl
 lexeme_reads {index = index} (bang {rest = rest} h) text pre position after toks whole at =
-    tokenless_step text rest index 33 Between (Bang position) position after toks refl ∙ bang_over rest text (index + 1) position (next_position 33 position) (behind position) toks h
+    tokenless_step text rest index 33 Between (Bang position) position after toks refl ∙ bang_over rest text (index + 1) position (position_behind 33 position) (behind position) toks h
 lexeme_reads {index = index} (not_equal {rest = rest}) text pre position after toks whole at =
     tokenless_step text (61 ∷ rest) index 33 Between (Bang position) position after toks refl
-    ∙ token_step text rest (index + 1) 61 (Bang position) NotEqualToken (next_position 33 position) position (behind position) toks refl
+    ∙ token_step text rest (index + 1) 61 (Bang position) NotEqualToken (position_behind 33 position) position (behind position) toks refl
     ∙ rw (two_indices index) refl
 lexeme_reads {index = index} (word {chars = chars} {rest = rest} w e o) text pre position after toks whole at = word_reads chars rest text pre index position after toks w e o whole at
 lexeme_reads {index = index} (option chars line {rest = rest} w e o lack ends) text pre position after toks whole at =
     option_reads chars line rest text pre index position after toks w e o lack ends whole at
 lexeme_reads {index = index} (semicolon {line = line} {rest = rest} lack ends) text pre position after toks whole at =
     tokenless_step text (line ++ rest) index 59 Between LineComment position after toks refl
-    ∙ line_reads line rest text (index + 1) (next_position 59 position) (behind position) toks lack ends
+    ∙ line_reads line rest text (index + 1) (position_behind 59 position) (behind position) toks lack ends
     ∙ rw (next_index index (length line)) refl
 lexeme_reads {index = index} (slashes {line = line} {rest = rest} lack ends) text pre position after toks whole at =
     tokenless_step text (47 ∷ (line ++ rest)) index 47 Between (Slash position) position after toks refl
-    ∙ tokenless_step text (line ++ rest) (index + 1) 47 (Slash position) LineComment (next_position 47 position) (behind position) toks refl
-    ∙ line_reads line rest text (index + 1 + 1) (next_position 47 (next_position 47 position)) (behind (next_position 47 position)) toks lack ends
+    ∙ tokenless_step text (line ++ rest) (index + 1) 47 (Slash position) LineComment (position_behind 47 position) (behind position) toks refl
+    ∙ line_reads line rest text (index + 1 + 1) (position_behind 47 (position_behind 47 position)) (behind (position_behind 47 position)) toks lack ends
     ∙ rw (two_before index (length line)) refl
 lexeme_reads {index = index} (comment body {rest = rest} lack) text pre position after toks whole at =
     tokenless_step text (42 ∷ ((body ++ 42 ∷ 47 ∷ []) ++ rest)) index 47 Between (Slash position) position after toks refl
-    ∙ tokenless_step text ((body ++ 42 ∷ 47 ∷ []) ++ rest) (index + 1) 42 (Slash position) (BlockComment position false) (next_position 47 position) (behind position) toks refl
-    ∙ comment_walk body rest text (index + 1 + 1) position false (next_position 42 (next_position 47 position)) (behind (next_position 47 position)) toks refl lack
+    ∙ tokenless_step text ((body ++ 42 ∷ 47 ∷ []) ++ rest) (index + 1) 42 (Slash position) (BlockComment position false) (position_behind 47 position) (behind position) toks refl
+    ∙ comment_walk body rest text (index + 1 + 1) position false (position_behind 42 (position_behind 47 position)) (behind (position_behind 47 position)) toks refl lack
     ∙ rw (two_before index (length (body ++ 42 ∷ 47 ∷ [])))
-    (nothing_more text rest (index + suc (suc (length (body ++ 42 ∷ 47 ∷ [])))) (moved (body ++ 42 ∷ 47 ∷ []) (next_position 42 (next_position 47 position))) (past (behind (next_position 47 position)) (next_position 42 (next_position 47 position)) (body ++ 42 ∷ 47 ∷ [])) toks)
+    (nothing_more text rest (index + suc (suc (length (body ++ 42 ∷ 47 ∷ [])))) (moved (body ++ 42 ∷ 47 ∷ []) (position_behind 42 (position_behind 47 position))) (past (behind (position_behind 47 position)) (position_behind 42 (position_behind 47 position)) (body ++ 42 ∷ 47 ∷ [])) toks)
 lexeme_reads {index = index} (code_block name body {rest = rest} a b d h lack) text pre position after toks whole at =
     block_reads name body rest text index position after toks a b d h lack
 

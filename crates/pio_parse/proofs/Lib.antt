@@ -21,3 +21,4 @@ pub mod Completes
 pub mod ReadLines
 pub mod FirstFaults
 pub mod Files
+pub mod Readers

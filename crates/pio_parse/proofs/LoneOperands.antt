@@ -1,15 +1,15 @@
 -- What is read outside brackets and directives is an operand of the grammar without an operator before it.
 use Rattle.std.proofs.Common.{◌≡◌, ◌≢◌, ℕ, Bool, true, false, List, [], ◌∷◌, Ok, Err, refl, sym, ap, ◌∙◌, subst}
 use mathlib.Core.Bool.{false≢true}
-use Rattle.pio_parse.specs.declared.token.SourcePosition.{SourcePosition}
+use Rattle.source_text.specs.declared.position.SourcePosition.{SourcePosition}
 use Rattle.pio_parse.specs.declared.token.Token.{Token}
 use Rattle.pio_parse.specs.declared.token.TokenKind.{TokenKind}
 use Rattle.pio_parse.specs.declared.token.TokenKind.TheVariants.{Name as NameToken, Number as NumberToken, DoubleColon, OpenParenthesis, CloseParenthesis, Plus, Minus, Star}
 use Rattle.pio_parse.specs.declared.expression.Term.{Term}
-use Rattle.pio_parse.specs.Expression.{Reading}
-use Rattle.pio_parse.specs.Outcome.{and_then, map_ok}
-use Rattle.pio_parse.specs.Cursor.{Outcome, expected, head_kind, misfit}
-use Rattle.pio_parse.specs.Expression.{expression_at, is_close_parenthesis, name_at, nothing_read, operand_at, operand_of_kind, operand_step}
+use Rattle.pio_parse.specs.descent.Expression.{Reading, expression_at, is_close_parenthesis, nothing_read, operand_at, operand_of_kind, operand_step}
+use Rattle.source_text.specs.Outcome.{and_then, map_ok}
+use Rattle.pio_parse.specs.descent.Cursor.{Outcome, expected, misfit}
+use Rattle.pio_parse.specs.Tokens.{head_kind, name_at}
 use Rattle.pio_parse.specs.Grammar.{Expr, IsOperand, postfix}
 use Rattle.pio_parse.specs.Grammar.Expr.{Number, Name}
 use Rattle.pio_parse.specs.Grammar.IsOperand.{number, name, parentheses, negate, reverse}

@@ -1,14 +1,13 @@
 -- Characters that are no lexemes up to their end are refused where the first of them stands that begins none; so each file has its tokens or its fault.
 use Rattle.std.proofs.Common.{◌≡◌, ◌==◌, ◌&&◌, ◌||◌, not, ℕ, ◌+◌, Bool, true, false, cond, List, [], ◌∷◌, ◌++◌, length, Result, Ok, Err, append_assoc, length-append, inl, inr, arith, refl, sym, ap, ◌∙◌, subst}
 use Rattle.std.proofs.lemmas.Bool.Decides.{eqb_tells}
-use Rattle.pio_parse.specs.declared.token.SourcePosition.{SourcePosition}
+use Rattle.source_text.specs.declared.position.SourcePosition.{SourcePosition}
 use Rattle.pio_parse.specs.declared.token.Token.{Token}
-use Rattle.pio_parse.specs.Scan.{Mode}
-use Rattle.pio_parse.specs.Scan.Mode.{Between, Slash, BlockComment, Header, Code}
-use Rattle.pio_parse.specs.Scan.{Step}
-use Rattle.pio_parse.specs.Words.{is_word_char}
-use Rattle.pio_parse.specs.Scan.{begins, next_position, without_token, scanned, scanned_from, steps}
-use Rattle.pio_parse.specs.Lexical.{IsCharFaultAt, IsMisplaced, StopsAt, begins_by, ends_badly, first_chars, has_name, is_among, lacks, lacks_pair, moved, past, tokens_at}
+use Rattle.pio_parse.specs.descent.Scan.{Mode, Step, begins, without_token, scanned, scanned_from, steps}
+use Rattle.pio_parse.specs.descent.Scan.Mode.{Between, Slash, BlockComment, Header, Code}
+use Rattle.source_text.specs.Characters.{is_word_char}
+use Rattle.source_text.specs.Position.{position_behind, moved, past}
+use Rattle.pio_parse.specs.Lexical.{IsCharFaultAt, IsMisplaced, StopsAt, begins_by, ends_badly, first_chars, has_name, is_among, lacks, lacks_pair, tokens_at}
 use Rattle.pio_parse.specs.Lexical.IsMisplaced.{other, slash, open_comment, percent, open_block}
 use Rattle.pio_parse.specs.Lexical.StopsAt.{none_here, after_lexeme}
 use Rattle.pio_parse.proofs.Runs.{both}
@@ -52,7 +51,7 @@ comment_stays (c ∷ cs) text index begun starred here after toks h lack =
     let parts = both (not ((c == 42) && begins_by 47 cs)) (lacks_pair 42 47 cs) lack in
     let here_step : steps text index (BlockComment begun starred) c here ≡ Ok (without_token (BlockComment begun (c == 42))) = rw h refl in
     tokenless_step text cs index c (BlockComment begun starred) (BlockComment begun (c == 42)) here after toks here_step
-    ∙ comment_stays cs text (index + 1) begun (c == 42) (next_position c here) (behind here) toks (not_true ((c == 42) && begins_by 47 cs) parts.0) parts.1
+    ∙ comment_stays cs text (index + 1) begun (c == 42) (position_behind c here) (behind here) toks (not_true ((c == 42) && begins_by 47 cs) parts.0) parts.1
 
 code_stays : (cs text : List ℕ) (index : ℕ) (begun : SourcePosition) (ready : Bool) (here after : SourcePosition) (toks : List Token) → (ready && begins_by 125 cs) ≡ false → lacks_pair 37 125 cs ≡ true
     → scanned_from text cs index (Code begun ready) here after toks ≡ Err begun
@@ -61,7 +60,7 @@ code_stays (c ∷ cs) text index begun ready here after toks h lack =
     let parts = both (not ((c == 37) && begins_by 125 cs)) (lacks_pair 37 125 cs) lack in
     let here_step : steps text index (Code begun ready) c here ≡ Ok (without_token (Code begun (c == 37))) = rw h refl in
     tokenless_step text cs index c (Code begun ready) (Code begun (c == 37)) here after toks here_step
-    ∙ code_stays cs text (index + 1) begun (c == 37) (next_position c here) (behind here) toks (not_true ((c == 37) && begins_by 125 cs) parts.0) parts.1
+    ∙ code_stays cs text (index + 1) begun (c == 37) (position_behind c here) (behind here) toks (not_true ((c == 37) && begins_by 125 cs) parts.0) parts.1
 
 or_false : (b : Bool) → (b || false) ≡ b
 or_false true = refl
@@ -83,7 +82,7 @@ header_goes (c ∷ cs) rest text index begun named here after toks a b d =
     let here_step : steps text index (Header begun named) c here ≡ Ok (without_token (Header begun (named || not (c == 32))))
     = rw (not_true (c == 123) no_brace.0, not_true (c == 37) no_percent.0, not_true (c == 10) no_line.0) refl in
     tokenless_step text (cs ++ rest) index c (Header begun named) (Header begun (named || not (c == 32))) here after toks here_step
-    ∙ header_goes cs rest text (index + 1) begun (named || not (c == 32)) (next_position c here) (behind here) toks no_percent.1 no_line.1 no_brace.1
+    ∙ header_goes cs rest text (index + 1) begun (named || not (c == 32)) (position_behind c here) (behind here) toks no_percent.1 no_line.1 no_brace.1
     ∙ rw (next_index index (length cs), or_assoc named (not (c == 32)) (has_name cs)) refl
 
 bad_named : (named : Bool) (begun : SourcePosition) (step : Result Step SourcePosition) → not named ≡ true → cond named step (Err begun) ≡ Err begun
@@ -119,21 +118,21 @@ slash_fails (c ∷ cs) text index begun here after toks a b = err_step text cs i
 misplaced_fails : {chars : List ℕ} → IsMisplaced chars → (text : List ℕ) (index : ℕ) (position after : SourcePosition) (toks : List Token) → scanned_from text chars index Between position after toks ≡ Err position
 misplaced_fails (other {c = c} {rest = rest} w h) text index position after toks = err_step text rest index c Between position position after toks (other_begins c index position w h)
 misplaced_fails (slash {rest = rest} a b) text index position after toks =
-    tokenless_step text rest index 47 Between (Slash position) position after toks refl ∙ slash_fails rest text (index + 1) position (next_position 47 position) (behind position) toks a b
+    tokenless_step text rest index 47 Between (Slash position) position after toks refl ∙ slash_fails rest text (index + 1) position (position_behind 47 position) (behind position) toks a b
 misplaced_fails (open_comment {rest = rest} lack) text index position after toks =
     tokenless_step text (42 ∷ rest) index 47 Between (Slash position) position after toks refl
-    ∙ tokenless_step text rest (index + 1) 42 (Slash position) (BlockComment position false) (next_position 47 position) (behind position) toks refl
-    ∙ comment_stays rest text (index + 1 + 1) position false (next_position 42 (next_position 47 position)) (behind (next_position 47 position)) toks refl lack
+    ∙ tokenless_step text rest (index + 1) 42 (Slash position) (BlockComment position false) (position_behind 47 position) (behind position) toks refl
+    ∙ comment_stays rest text (index + 1 + 1) position false (position_behind 42 (position_behind 47 position)) (behind (position_behind 47 position)) toks refl lack
 misplaced_fails (percent name rest a b d h) text index position after toks =
     tokenless_step text (name ++ rest) index 37 Between (Header position false) position after toks refl
-    ∙ header_goes name rest text (index + 1) position false (next_position 37 position) (behind position) toks a b d
-    ∙ header_fails rest text (index + 1 + length name) position (has_name name) (moved name (next_position 37 position)) (past (behind position) (next_position 37 position) name) toks h
+    ∙ header_goes name rest text (index + 1) position false (position_behind 37 position) (behind position) toks a b d
+    ∙ header_fails rest text (index + 1 + length name) position (has_name name) (moved name (position_behind 37 position)) (past (behind position) (position_behind 37 position) name) toks h
 misplaced_fails (open_block name rest a b d h lack) text index position after toks =
     tokenless_step text (name ++ 123 ∷ rest) index 37 Between (Header position false) position after toks refl
-    ∙ header_goes name (123 ∷ rest) text (index + 1) position false (next_position 37 position) (behind position) toks a b d
-    ∙ ap (λ b. scanned_from text (123 ∷ rest) (index + 1 + length name) (Header position b) (moved name (next_position 37 position)) (past (behind position) (next_position 37 position) name) toks) h
-    ∙ tokenless_step text rest (index + 1 + length name) 123 (Header position true) (Code position false) (moved name (next_position 37 position)) (past (behind position) (next_position 37 position) name) toks refl
-    ∙ code_stays rest text (index + 1 + length name + 1) position false (next_position 123 (moved name (next_position 37 position))) (behind (moved name (next_position 37 position))) toks refl lack
+    ∙ header_goes name (123 ∷ rest) text (index + 1) position false (position_behind 37 position) (behind position) toks a b d
+    ∙ ap (λ b. scanned_from text (123 ∷ rest) (index + 1 + length name) (Header position b) (moved name (position_behind 37 position)) (past (behind position) (position_behind 37 position) name) toks) h
+    ∙ tokenless_step text rest (index + 1 + length name) 123 (Header position true) (Code position false) (moved name (position_behind 37 position)) (past (behind position) (position_behind 37 position) name) toks refl
+    ∙ code_stays rest text (index + 1 + length name + 1) position false (position_behind 123 (moved name (position_behind 37 position))) (behind (moved name (position_behind 37 position))) toks refl lack
 
 stops_read : {index : ℕ} {position fault : SourcePosition} {chars : List ℕ} → StopsAt index position chars fault → (text pre : List ℕ) (after : SourcePosition) (toks : List Token) → text ≡ pre ++ chars → index ≡ length pre
     → scanned_from text chars index Between position after toks ≡ Err fault

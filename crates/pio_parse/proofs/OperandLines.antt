@@ -11,7 +11,7 @@ use Rattle.pio_words.specs.declared.op.MovDestination.TheVariants.{Pins as ToPin
 use Rattle.pio_words.specs.declared.op.MovOperation.{MovOperation}
 use Rattle.pio_words.specs.declared.op.MovOperation.TheVariants.{Plain, Invert, Reverse}
 use Rattle.pio_words.specs.declared.op.MovSource.TheVariants.{Pins as FromPins, Y as MovFromY}
-use Rattle.pio_parse.specs.declared.token.SourcePosition.{SourcePosition}
+use Rattle.source_text.specs.declared.position.SourcePosition.{SourcePosition}
 use Rattle.pio_parse.specs.declared.token.Token.{Token}
 use Rattle.pio_parse.specs.declared.token.Keyword.{Keyword}
 use Rattle.pio_parse.specs.declared.token.Keyword.TheVariants.{Jmp, Wait, In, Out, Push, Pull, Mov, Irq, Set, Nop, Side, Gpio, Pin, Rel, Pins, X, Y, Osre, IfFull, IfEmpty, Block, NoBlock, NoWait, Clear}
@@ -21,11 +21,12 @@ use Rattle.pio_parse.specs.declared.expression.Term.{Term}
 use Rattle.pio_parse.specs.declared.expression.Term.TheVariants.{Number as NumberTerm}
 use Rattle.pio_parse.specs.declared.syntax.Operation.{Operation}
 use Rattle.pio_parse.specs.declared.syntax.Operation.TheVariants.{Jmp as JmpOperation, WaitGpio, WaitPin, WaitIrq, In as InOperation, Out as OutOperation, Push as PushOperation, Pull as PullOperation, Mov as MovOperation', Irq as IrqOperation, Set as SetOperation}
-use Rattle.pio_parse.specs.Outcome.{and_then, map_ok}
-use Rattle.pio_parse.specs.Cursor.{Outcome, after_head, expected, head_kind, head_position}
-use Rattle.pio_parse.specs.Expression.{expression_at, operand_at}
+use Rattle.source_text.specs.Outcome.{and_then, map_ok}
+use Rattle.pio_parse.specs.descent.Cursor.{Outcome, after_head, expected}
+use Rattle.pio_parse.specs.Tokens.{head_kind, head_position, are_together}
+use Rattle.pio_parse.specs.descent.Expression.{expression_at, operand_at}
 use Rattle.pio_parse.specs.Registers.{in_source_of, mov_destination_of, mov_source_of, out_destination_of, set_destination_of}
-use Rattle.pio_parse.specs.Instruction.{are_together, block_at, block_of, conditional_at, decrement_at, delay_at, flag_at, in_at, irq_at, irq_mode_at, irq_mode_of, is_close_bracket, is_comma, is_if_empty, is_if_full, is_minus, is_not_equal, is_open_bracket, is_rel, is_side, is_y, jmp_at, jmp_condition_at, jmp_condition_of, last_operand_at, modifiers_at, mov_at, mov_operation_at, mov_operation_of, named_at, not_condition_at, not_condition_of, out_at, past_comma, polarity_at, polarity_of, pull_at, push_at, set_at, side_at, wait_at, wait_for, x_condition_at}
+use Rattle.pio_parse.specs.descent.Instruction.{block_at, block_of, conditional_at, decrement_at, delay_at, flag_at, in_at, irq_at, irq_mode_at, irq_mode_of, is_close_bracket, is_comma, is_if_empty, is_if_full, is_minus, is_not_equal, is_open_bracket, is_rel, is_side, is_y, jmp_at, jmp_condition_at, jmp_condition_of, last_operand_at, modifiers_at, mov_at, mov_operation_at, mov_operation_of, named_at, not_condition_at, not_condition_of, out_at, past_comma, polarity_at, polarity_of, pull_at, push_at, set_at, side_at, wait_at, wait_for, x_condition_at}
 use Rattle.pio_parse.proofs.Runs.{both}
 use Rattle.pio_parse.specs.Lines.{IsBlock, IsCondition, IsDecrement, IsDelay, IsIrqMode, IsJmpCondition, IsLastValue, IsModifiers, IsMovOperation, IsOperation, IsPolarity, IsSide, IsValue, MayStand}
 use Rattle.pio_parse.specs.Lines.IsLastValue.{last_value}

@@ -2,23 +2,23 @@
 use Rattle.std.proofs.Common.{◌≡◌, not, nat_le, ℕ, ◌+◌, Bool, true, false, List, [], ◌∷◌, ◌++◌, length, Option, None, Some, Ok, append-nil, append_assoc, codes, arith, refl, ap, ◌∙◌}
 use Rattle.std.specs.Prelude.{⊤}
 use Rattle.std.proofs.lemmas.Bool.{le-leb}
-use Rattle.pio_parse.specs.declared.token.SourcePosition.{SourcePosition}
+use Rattle.source_text.specs.declared.position.SourcePosition.{SourcePosition}
 use Rattle.pio_parse.specs.declared.token.Token.{Token}
 use Rattle.pio_parse.specs.declared.token.Directive.TheVariants.{Program as ProgramDirective}
 use Rattle.pio_parse.specs.declared.token.TokenKind.TheVariants.{Directive as DirectiveToken, Name, FileEnd, LineEnd}
-use Rattle.pio_parse.specs.Scan.Mode.{Between}
+use Rattle.pio_parse.specs.descent.Scan.Mode.{Between}
 use Rattle.pio_parse.specs.declared.syntax.Statement.{Statement}
 use Rattle.pio_parse.specs.declared.syntax.Statement.TheVariants.{Program}
 use Rattle.pio_parse.specs.declared.syntax.Line.{Line}
 use Rattle.pio_parse.specs.declared.syntax.SourceProgram.{SourceProgram}
 use Rattle.pio_parse.specs.declared.syntax.Source.{Source}
 use Rattle.pio_parse.specs.declared.parser.Groups.{Groups}
-use Rattle.pio_parse.specs.Outcome.{and_then}
-use Rattle.pio_parse.specs.Scan.{scanned, scanned_from}
-use Rattle.pio_parse.specs.Expression.{name_at}
-use Rattle.pio_parse.specs.Statement.{is_end, line_at}
-use Rattle.pio_parse.specs.Source.{parsed, parsed_tokens, with_syntax}
-use Rattle.pio_parse.specs.Gathering.{grouped_by, line_step, no_groups, source_from}
+use Rattle.source_text.specs.Outcome.{and_then}
+use Rattle.pio_parse.specs.descent.Scan.{scanned, scanned_from}
+use Rattle.pio_parse.specs.Tokens.{name_at, is_end}
+use Rattle.pio_parse.specs.descent.Statement.{line_at}
+use Rattle.pio_parse.specs.descent.Parsed.{parsed, parsed_tokens, with_syntax}
+use Rattle.pio_parse.specs.descent.Gathering.{grouped_by, line_step, no_groups, source_from}
 use Rattle.pio_parse.proofs.Gathered.{source_gathered}
 use Rattle.pio_parse.proofs.Pieces.{AreApart, Piece, chars_of, is_open, joined, kind_of, token_at, tokens_of}
 use Rattle.pio_parse.proofs.Pieces.Piece.{Blank, End, Run}

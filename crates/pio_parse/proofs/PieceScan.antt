@@ -1,11 +1,11 @@
 -- The tokens of a source are those of its pieces.
 use Rattle.std.proofs.Common.{◌≡◌, ℕ, ◌+◌, true, false, List, [], ◌∷◌, ◌++◌, length, None, Some, Ok, append-nil, append_assoc, length-append, arith, refl, sym, ◌∙◌}
-use Rattle.pio_parse.specs.declared.token.SourcePosition.{SourcePosition}
+use Rattle.source_text.specs.declared.position.SourcePosition.{SourcePosition}
 use Rattle.pio_parse.specs.declared.token.Token.{Token}
 use Rattle.pio_parse.specs.declared.token.TokenKind.{TokenKind}
 use Rattle.pio_parse.specs.declared.token.TokenKind.TheVariants.{FileEnd, LineEnd, Comma as CommaToken, Minus as MinusToken, OpenBracket, CloseBracket, Bang as BangToken, DoubleColon, NotEqual as NotEqualToken}
-use Rattle.pio_parse.specs.Scan.Mode.{Between, Bang as BangMode}
-use Rattle.pio_parse.specs.Scan.{scanned_from}
+use Rattle.pio_parse.specs.descent.Scan.Mode.{Between, Bang as BangMode}
+use Rattle.pio_parse.specs.descent.Scan.{scanned_from}
 use Rattle.pio_parse.proofs.Pieces.{AreApart, Piece, begins_run, ends_word, joined, token_at, tokens_of}
 use Rattle.pio_parse.proofs.Pieces.Piece.{Blank, End, Run, Comma, Minus, Open, Close, Bang, Colons, NotEqual}
 use Rattle.pio_parse.proofs.Runs.{IsEnding, bang_reads, position_at, run_reads}

@@ -7,8 +7,9 @@ use Rattle.pio_parse.specs.declared.token.Directive.{Directive}
 use Rattle.pio_parse.specs.declared.token.Directive.TheVariants.{LangOpt}
 use Rattle.pio_parse.specs.declared.token.TokenKind.{TokenKind}
 use Rattle.pio_parse.specs.declared.token.TokenKind.TheVariants.{Directive as DirectiveToken, Comma as CommaToken, Minus as MinusToken, OpenBracket, CloseBracket, Bang as BangToken, DoubleColon, NotEqual as NotEqualToken, LineEnd}
-use Rattle.pio_parse.specs.Words.{is_word_char, word_kind}
-use Rattle.pio_parse.specs.Statement.{is_end}
+use Rattle.source_text.specs.Characters.{is_word_char}
+use Rattle.pio_parse.specs.Words.{word_kind}
+use Rattle.pio_parse.specs.Tokens.{is_end}
 
 pub data Piece : Type 0 where
   Blank : Piece

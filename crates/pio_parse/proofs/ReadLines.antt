@@ -1,16 +1,17 @@
 -- A line is read as the grammar has it, and is refused at the first token with which no line of the grammar begins so.
 use Rattle.std.proofs.Common.{◌≡◌, ◌||◌, not, Bool, true, false, if◌then◌else◌, ℕ, List, [], ◌∷◌, Option, None, Ok, Err, ◌⊎◌, inl, inr, refl, sym, ap, ◌∙◌, subst}
 use mathlib.Core.Bool.{false≢true}
-use Rattle.pio_parse.specs.declared.token.SourcePosition.{SourcePosition}
+use Rattle.source_text.specs.declared.position.SourcePosition.{SourcePosition}
 use Rattle.pio_parse.specs.declared.token.Token.{Token}
 use Rattle.pio_parse.specs.declared.token.Directive.TheVariants.{Program, Define, LangOpt, PioVersion}
 use Rattle.pio_parse.specs.declared.token.TokenKind.{TokenKind}
 use Rattle.pio_parse.specs.declared.token.TokenKind.TheVariants.{Directive as DirectiveToken, LineEnd, FileEnd}
 use Rattle.pio_parse.specs.declared.syntax.Statement.{Statement}
 use Rattle.pio_parse.specs.declared.syntax.Line.{Line}
-use Rattle.pio_parse.specs.Outcome.{and_then, map_ok}
-use Rattle.pio_parse.specs.Cursor.{Outcome, after_head, head_kind, head_position, misfit}
-use Rattle.pio_parse.specs.Statement.{begins_label, end_at, is_end, is_end_after, is_first, is_program, label_at, line_at, statement_at, statement_of_kind}
+use Rattle.source_text.specs.Outcome.{and_then, map_ok}
+use Rattle.pio_parse.specs.descent.Cursor.{Outcome, after_head, misfit}
+use Rattle.pio_parse.specs.Tokens.{head_kind, head_position, is_end, is_program}
+use Rattle.pio_parse.specs.descent.Statement.{begins_label, end_at, is_end_after, is_first, label_at, line_at, statement_at, statement_of_kind}
 use Rattle.pio_parse.proofs.Runs.{both}
 use Rattle.pio_parse.proofs.Finds.{refused}
 use Rattle.pio_parse.specs.GrammarLaws.{ReadsLines, is_line}

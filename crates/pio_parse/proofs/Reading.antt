@@ -1,15 +1,15 @@
 -- How the rest of a line is read, part by part: what stands there where it is read, and where it is refused.
 use Rattle.std.proofs.Common.{◌≡◌, not, Bool, true, false, ℕ, List, [], ◌∷◌, Option, Some, None, Ok, Err, ◌⊎◌, inl, inr, refl, sym, ap, ◌∙◌}
 use mathlib.Core.Bool.{false≢true}
-use Rattle.pio_parse.specs.declared.token.SourcePosition.{SourcePosition}
+use Rattle.source_text.specs.declared.position.SourcePosition.{SourcePosition}
 use Rattle.pio_parse.specs.declared.token.Token.{Token}
 use Rattle.pio_parse.specs.declared.token.TokenKind.{TokenKind}
 use Rattle.pio_parse.specs.declared.token.TokenKind.TheVariants.{LineEnd, FileEnd}
 use Rattle.pio_parse.specs.declared.syntax.Statement.{Statement}
-use Rattle.pio_parse.specs.Outcome.{and_then, map_ok}
-use Rattle.pio_parse.specs.Cursor.{Outcome, after_head, expected, head_kind, head_position, misfit}
-use Rattle.pio_parse.specs.Instruction.{flag_at, named_at}
-use Rattle.pio_parse.specs.Statement.{is_end}
+use Rattle.source_text.specs.Outcome.{and_then, map_ok}
+use Rattle.pio_parse.specs.descent.Cursor.{Outcome, after_head, expected, misfit}
+use Rattle.pio_parse.specs.Tokens.{head_kind, head_position, is_end}
+use Rattle.pio_parse.specs.descent.Instruction.{flag_at, named_at}
 use Rattle.pio_parse.proofs.Runs.{both}
 use Rattle.pio_parse.proofs.Finds.{refused}
 use Rattle.pio_parse.proofs.Extents.{ends_sum}

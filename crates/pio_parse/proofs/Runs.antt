@@ -1,18 +1,17 @@
 -- How a word of a source is read.
 use Rattle.std.proofs.Common.{◌≡◌, ◌==◌, ◌&&◌, ◌||◌, ℕ, ◌+◌, ◌-◌, Bool, true, false, cond, List, [], ◌∷◌, ◌++◌, length, Option, None, Result, Ok, slice_range, option_to_list, append-nil, take_at, drop_at, ◌⊎◌, inl, inr, arith, refl, ap, ◌∙◌}
 use Rattle.std.proofs.lemmas.Bool.Decides.{eqb_tells}
-use Rattle.pio_parse.specs.declared.token.SourcePosition.{SourcePosition}
+use Rattle.source_text.specs.declared.position.SourcePosition.{SourcePosition}
 use Rattle.pio_parse.specs.declared.token.Token.{Token}
 use Rattle.pio_parse.specs.declared.token.Directive.{Directive}
 use Rattle.pio_parse.specs.declared.token.Directive.TheVariants.{LangOpt}
 use Rattle.pio_parse.specs.declared.token.TokenKind.{TokenKind}
 use Rattle.pio_parse.specs.declared.token.TokenKind.TheVariants.{Bang as BangToken, Directive as DirectiveToken}
-use Rattle.pio_parse.specs.Scan.{Mode}
-use Rattle.pio_parse.specs.Scan.{Step}
-use Rattle.pio_parse.specs.Scan.Mode.{Between, Word}
-use Rattle.pio_parse.specs.Outcome.{and_then}
-use Rattle.pio_parse.specs.Words.{is_word_char}
-use Rattle.pio_parse.specs.Scan.{begins, ends, next_position, without_token, scanned_from, steps, word_ends, word_token_ends}
+use Rattle.pio_parse.specs.descent.Scan.{Mode, Step, begins, ends, without_token, scanned_from, steps, word_ends, word_token_ends}
+use Rattle.pio_parse.specs.descent.Scan.Mode.{Between, Word}
+use Rattle.source_text.specs.Outcome.{and_then}
+use Rattle.source_text.specs.Characters.{is_word_char}
+use Rattle.source_text.specs.Position.{position_behind}
 use Rattle.pio_parse.proofs.Pieces.{IsRun, all_word, is_lang_opt, is_run, skips_line, token_at}
 
 abbrev pub position_at : ℕ → ℕ → SourcePosition
@@ -69,7 +68,7 @@ pub record IsTokenless (c : ℕ) : Type 0 where
 
 -- a token that ends before a character stands before what begins there
 token_ends : (text rest : List ℕ) (index c : ℕ) (here : SourcePosition) (token : Token) (toks : List Token) → IsTokenless c → and_then
-    (λ step. scanned_from text rest (index + 1) step.mode (next_position c here) (record { line = here.line; column = here.column + 1 }) (toks ++ option_to_list step.first ++ option_to_list step.second))
+    (λ step. scanned_from text rest (index + 1) step.mode (position_behind c here) (record { line = here.line; column = here.column + 1 }) (toks ++ option_to_list step.first ++ option_to_list step.second))
     (ends token index c here) ≡ scanned_from text (c ∷ rest) index Between here here (toks ++ token ∷ [])
 token_ends text rest index c here token toks q = rw (q.begins_so index here) (rw (append-nil (toks ++ token ∷ [])) refl)
 
@@ -103,7 +102,7 @@ word_over w rest text kind start index begun here toks e n s =
     ∙ ap (λ (x : List ℕ). word_ends x start begun c index here) s
     ∙ ap (λ (k : TokenKind). word_token_ends k begun c index here) (n.names (record { start = start; end = index }))
     ∙ kind_over kind begun c index here n.plain in
-    rw same (ap (λ (r : Result Step SourcePosition). and_then (λ step. scanned_from text e.rest (index + 1) step.mode (next_position c here) (record { line = here.line; column = here.column + 1 }) (toks ++ option_to_list step.first ++ option_to_list step.second)) r) over
+    rw same (ap (λ (r : Result Step SourcePosition). and_then (λ step. scanned_from text e.rest (index + 1) step.mode (position_behind c here) (record { line = here.line; column = here.column + 1 }) (toks ++ option_to_list step.first ++ option_to_list step.second)) r) over
     ∙ token_ends text e.rest index c here (record { kind = kind; position = begun }) toks e.no_token)
 
 pub slice_middle : (pre w rest : List ℕ) (n : ℕ) → n ≡ length pre + length w → slice_range (pre ++ (w ++ rest)) (length pre) n ≡ w

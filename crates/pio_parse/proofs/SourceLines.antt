@@ -5,15 +5,15 @@ use Rattle.std.proofs.lemmas.List.{get_or-drop}
 use Rattle.pio_parse.specs.declared.cursor.Stop.{Stop}
 use Rattle.pio_parse.specs.declared.cursor.Stop.TheVariants.{Syntax, Memory}
 use Rattle.std.specs.Prelude.{Result, Ok}
-use Rattle.pio_parse.specs.declared.token.SourcePosition.{SourcePosition}
+use Rattle.source_text.specs.declared.position.SourcePosition.{SourcePosition}
 use Rattle.pio_parse.specs.declared.token.Token.{Token}
 use Rattle.pio_parse.specs.declared.syntax.Source.{Source}
 use Rattle.pio_parse.specs.declared.parser.Groups.{Groups}
-use Rattle.pio_parse.specs.Outcome.{and_then}
-use Rattle.pio_parse.specs.Statement.{is_end}
-use Rattle.pio_parse.specs.Source.{source_of}
-use Rattle.pio_parse.specs.Calls.{IsStopOf}
-use Rattle.pio_parse.specs.Gathering.{line_step, source_from}
+use Rattle.source_text.specs.Outcome.{and_then}
+use Rattle.pio_parse.specs.Tokens.{is_end}
+use Rattle.pio_parse.specs.descent.Parsed.{source_of}
+use Rattle.pio_parse.specs.descent.Calls.{IsStopOf}
+use Rattle.pio_parse.specs.descent.Gathering.{line_step, source_from}
 use Rattle.pio_parse.proofs.Gathered.{source_gathered}
 
 get_or_dropped : {X : Type 0} (xs : List X) (i j : ℕ) (d : X) → i ≤ j → get_or (drop i xs) (j - i) d ≡ get_or xs j d

@@ -2,7 +2,7 @@
 use Rattle.std.proofs.Common.{◌≡◌, ◌==◌, ◌||◌, Bool, true, false, if◌then◌else◌, ℕ, List, [], ◌∷◌, Option, Some, None, Ok, Err, inl, inr, refl, sym, ap, ◌∙◌, subst}
 use Rattle.std.proofs.lemmas.Bool.Decides.{eqb_tells}
 use mathlib.Core.Bool.{false≢true}
-use Rattle.pio_parse.specs.declared.token.SourcePosition.{SourcePosition}
+use Rattle.source_text.specs.declared.position.SourcePosition.{SourcePosition}
 use Rattle.pio_parse.specs.declared.token.Span.{Span}
 use Rattle.pio_parse.specs.declared.token.Token.{Token}
 use Rattle.pio_parse.specs.declared.token.Keyword.{Keyword}
@@ -16,11 +16,12 @@ use Rattle.pio_parse.specs.declared.syntax.Operation.{Operation}
 use Rattle.pio_parse.specs.declared.syntax.Instruction.{Instruction}
 use Rattle.pio_parse.specs.declared.syntax.Statement.{Statement}
 use Rattle.pio_parse.specs.declared.syntax.Statement.TheVariants.{Program as ProgramStatement, Define as DefineStatement, Origin as OriginStatement, SideSet as SideSetStatement, WrapTarget as WrapTargetStatement, Wrap as WrapStatement, Word as WordStatement, Instruction as InstructionStatement}
-use Rattle.pio_parse.specs.Outcome.{and_then, map_ok}
-use Rattle.pio_parse.specs.Cursor.{Outcome, after_head, expected, head_kind, misfit}
-use Rattle.pio_parse.specs.Expression.{expression_at, name_at}
-use Rattle.pio_parse.specs.Instruction.{flag_at, modified_at}
-use Rattle.pio_parse.specs.Statement.{begins_label, define_at, is_colon, is_end_after, is_opt, is_pindirs, is_program, is_public, is_zero, label_at, name_of_kind, name_token_at, past_public, side_set_at, statement_at, statement_of_kind, version_at}
+use Rattle.source_text.specs.Outcome.{and_then, map_ok}
+use Rattle.pio_parse.specs.descent.Cursor.{Outcome, after_head, expected, misfit}
+use Rattle.pio_parse.specs.Tokens.{head_kind, name_at, is_program}
+use Rattle.pio_parse.specs.descent.Expression.{expression_at}
+use Rattle.pio_parse.specs.descent.Instruction.{flag_at, modified_at}
+use Rattle.pio_parse.specs.descent.Statement.{begins_label, define_at, is_colon, is_end_after, is_opt, is_pindirs, is_public, is_zero, label_at, name_of_kind, name_token_at, past_public, side_set_at, statement_at, statement_of_kind, version_at}
 use Rattle.pio_parse.proofs.Finds.{refused}
 use Rattle.pio_parse.specs.GrammarLaws.{is_line}
 use Rattle.pio_parse.specs.Lines.{IsLabel, IsModifiers, IsProgram, IsSetting, IsStatement, MayStand}

@@ -5,7 +5,7 @@ use Rattle.pio_parse.specs.declared.expression.Operator.{Operator}
 use Rattle.pio_parse.specs.declared.expression.Operator.TheVariants.{Add, Subtract, Multiply, Negate as NegateOperator, Reverse as ReverseOperator}
 use Rattle.pio_parse.specs.declared.expression.Term.{Term}
 use Rattle.pio_parse.specs.declared.expression.Term.TheVariants.{Number as NumberTerm, Name as NameTerm, Operator as OperatorTerm}
-use Rattle.pio_parse.specs.Expression.{expression_at}
+use Rattle.pio_parse.specs.descent.Expression.{expression_at}
 use Rattle.pio_parse.specs.Grammar.{Expr, IsExpression, postfix}
 use Rattle.pio_parse.specs.Grammar.Expr.{Number, Name, Negate, Reverse, Sum, Difference, Product}
 use Rattle.pio_parse.proofs.Finds.{finds_tree, reads, same_rest, same_terms}

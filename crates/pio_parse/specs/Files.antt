@@ -1,12 +1,14 @@
 -- A whole PIO source by the grammar of its lines, and its first token that fits nothing (RP2040 Datasheet, 3.3).
-use Rattle.std.specs.Prelude.{◌≡◌, ◌||◌, ℕ, Bool, false, List, [], ◌∷◌, ◌++◌}
-use Rattle.pio_parse.specs.declared.token.SourcePosition.{SourcePosition}
+use Rattle.std.specs.Prelude.{◌≡◌, ◌||◌, ℕ, Bool, false, List, [], ◌∷◌, ◌++◌, Result, Ok, Err, ⊤}
+use Rattle.source_text.specs.declared.position.SourcePosition.{SourcePosition}
 use Rattle.pio_parse.specs.declared.token.Token.{Token}
 use Rattle.pio_parse.specs.declared.syntax.Line.{Line}
 use Rattle.pio_parse.specs.declared.syntax.Source.{Source}
-use Rattle.pio_parse.specs.Lexical.{IsLexed}
-use Rattle.pio_parse.specs.Source.{gathered, token_lines}
-use Rattle.pio_parse.specs.Statement.{is_program}
+use Rattle.pio_parse.specs.declared.fault.PioFault.{PioFault}
+use Rattle.pio_parse.specs.declared.fault.PioFault.TheVariants.{Char, Syntax, Memory}
+use Rattle.pio_parse.specs.Lexical.{IsCharFaultAt, IsLexed}
+use Rattle.pio_parse.specs.Programs.{gathered, token_lines}
+use Rattle.pio_parse.specs.Tokens.{is_program}
 use Rattle.pio_parse.specs.Lines.{BeginsLine, IsLine}
 
 -- lines of the grammar one after the other, with what they say; a program has begun before them, or not
@@ -34,3 +36,26 @@ pub data FaultsAt (text : List ℕ) : Bool → List (List Token) → SourcePosit
 -- a file's characters are lexemes, and its first token that fits nothing is at this position
 abbrev pub IsSyntaxFaultAt : List ℕ → SourcePosition → Type 0
 IsSyntaxFaultAt text position = (tokens : List Token) × IsLexed text tokens × FaultsAt text false (token_lines tokens) position
+
+-- the first fault that comes before a source has a meaning
+pub data EarlyFault : Type 0 where
+  CharAt : (position : SourcePosition) → EarlyFault
+  SyntaxAt : (position : SourcePosition) → EarlyFault
+
+-- what the grammar has a file to be: a source, or a file with its first fault, which is one of its characters, or else of its tokens
+abbrev pub IsAnswer : List ℕ → Result Source EarlyFault → Type 0
+IsAnswer text (Ok source) = IsSource text source
+IsAnswer text (Err (CharAt position)) = IsCharFaultAt text position
+IsAnswer text (Err (SyntaxAt position)) = IsSyntaxFaultAt text position
+
+-- a reader of files: what it answers of each is what the grammar has it to be
+pub record Reader : Type 0 where
+  pub read : List ℕ → Result Source EarlyFault
+  pub reads : (text : List ℕ) → IsAnswer text (read text)
+
+-- the fault of a file that is refused; memory may run out at any time
+abbrev pub IsFault : List ℕ → PioFault → Type 0
+IsFault text (Char line column) = IsCharFaultAt text (record { line = line; column = column })
+IsFault text (Syntax line column) = IsSyntaxFaultAt text (record { line = line; column = column })
+IsFault text Memory = ⊤
+IsFault text fault = ⊥

@@ -14,8 +14,7 @@ use Rattle.pio_parse.specs.declared.token.TokenKind.TheVariants.{Name as NameTok
 use Rattle.pio_parse.specs.declared.expression.Operator.TheVariants.{Add, Subtract, Multiply, Negate as NegateOperator, Reverse as ReverseOperator}
 use Rattle.pio_parse.specs.declared.expression.Term.{Term}
 use Rattle.pio_parse.specs.declared.expression.Term.TheVariants.{Number as NumberTerm, Name as NameTerm, Operator as OperatorTerm}
-use Rattle.pio_parse.specs.Cursor.{head_kind}
-use Rattle.pio_parse.specs.Expression.{name_at}
+use Rattle.pio_parse.specs.Tokens.{head_kind, name_at}
 
 -- an expression as a tree; a name is its text
 pub data Expr : Type 0 where

@@ -1,18 +1,19 @@
 -- What holds of the sources that are read (RP2040 Datasheet, 3.3): they are those of the grammar.
-use Rattle.std.specs.Prelude.{◌≡◌, ◌↔◌, ◌&&◌, not, ℕ, Bool, true, false, List, [], ◌∷◌, ◌++◌, Some, Ok, Err, codes}
+use Rattle.std.specs.Prelude.{◌≡◌, ◌↔◌, ◌&&◌, not, ℕ, Bool, true, false, List, [], ◌∷◌, ◌++◌, Some, Result, Ok, Err, codes}
 use Rattle.pio_words.specs.declared.op.JmpCondition.TheVariants.{XDecrement}
-use Rattle.pio_parse.specs.declared.token.SourcePosition.{SourcePosition}
+use Rattle.source_text.specs.declared.position.SourcePosition.{SourcePosition}
 use Rattle.pio_parse.specs.declared.token.Token.{Token}
 use Rattle.pio_parse.specs.declared.expression.Term.TheVariants.{Number, Name}
 use Rattle.pio_parse.specs.declared.syntax.Operation.TheVariants.{Jmp}
 use Rattle.pio_parse.specs.declared.syntax.Statement.TheVariants.{Instruction}
 use Rattle.pio_parse.specs.declared.syntax.Line.{Line}
 use Rattle.pio_parse.specs.declared.syntax.Source.{Source}
-use Rattle.pio_parse.specs.Source.{parsed}
-use Rattle.pio_parse.specs.Source.EarlyFault.{SyntaxAt}
-use Rattle.pio_parse.specs.Statement.{is_end, line_at}
+use Rattle.pio_parse.specs.descent.Parsed.{parsed}
+use Rattle.pio_parse.specs.Files.EarlyFault.{SyntaxAt}
+use Rattle.pio_parse.specs.Tokens.{is_end}
+use Rattle.pio_parse.specs.descent.Statement.{line_at}
 use Rattle.pio_parse.specs.Lines.{BeginsLine, IsLine}
-use Rattle.pio_parse.specs.Files.{IsSource, IsSyntaxFaultAt}
+use Rattle.pio_parse.specs.Files.{EarlyFault, IsAnswer, IsSource, IsSyntaxFaultAt}
 
 -- the tokens of one line: the last of them ends it, and no other ends one
 abbrev pub is_line : List Token → Bool
@@ -46,6 +47,10 @@ abbrev pub OneMeaning : Type 0
 OneMeaning =
     ((text : List ℕ) (started : Bool) (tokens : List Token) (line other : Line) → IsLine text started tokens line → IsLine text started tokens other → line ≡ other)
     × ((text : List ℕ) (source other : Source) → IsSource text source → IsSource text other → source ≡ other)
+
+-- the grammar has one answer for each file: a source, or its first fault
+abbrev pub OneAnswer : Type 0
+OneAnswer = (text : List ℕ) (answer other : Result Source EarlyFault) → IsAnswer text answer → IsAnswer text other → answer ≡ other
 
 -- a file has its first token that fits nothing at this line and column
 abbrev pub FaultsIn : List ℕ → ℕ → ℕ → Type 0

@@ -1,14 +1,13 @@
 -- What holds of the expressions that are read (RP2040 Datasheet, 3.3, Expressions): they are those of the grammar.
 use Rattle.std.specs.Prelude.{◌≡◌, ◌≢◌, ◌↔◌, ◌≤◌, ℕ, Bool, true, false, List, [], ◌∷◌, ◌++◌, length, Ok, Err}
-use Rattle.pio_parse.specs.declared.token.SourcePosition.{SourcePosition}
+use Rattle.source_text.specs.declared.position.SourcePosition.{SourcePosition}
 use Rattle.pio_parse.specs.declared.token.Token.{Token}
 use Rattle.pio_parse.specs.declared.token.TokenKind.{TokenKind}
 use Rattle.pio_parse.specs.declared.token.TokenKind.TheVariants.{CloseParenthesis, DoubleColon, LineEnd, Minus, Number as NumberToken, OpenParenthesis, Plus, Star}
 use Rattle.pio_parse.specs.declared.expression.Term.{Term}
-use Rattle.pio_parse.specs.Cursor.{head_kind}
-use Rattle.pio_parse.specs.Expression.{expression_at, operand_at}
-use Rattle.pio_parse.specs.Statement.{is_end}
-use Rattle.pio_parse.specs.Scan.{scanned}
+use Rattle.pio_parse.specs.Tokens.{head_kind, is_end}
+use Rattle.pio_parse.specs.descent.Expression.{expression_at, operand_at}
+use Rattle.pio_parse.specs.descent.Scan.{scanned}
 use Rattle.pio_parse.specs.Lexical.{IsCharFaultAt, IsLexed}
 use Rattle.pio_parse.specs.Grammar.{BeginsExpression, Expr, IsExpression, IsOperand, IsSum, postfix}
 use Rattle.pio_parse.specs.Grammar.Expr.{Number, Negate, Reverse, Sum, Difference, Product}

@@ -1,13 +1,15 @@
 -- The lexical grammar of a source, which knows nothing of how a program reads it (RP2040 Datasheet, 3.3, Comments; code blocks: Raspberry Pi
 -- Pico C/C++ SDK, pioasm, Output pass through). A source is lexemes one after the other, each the longest: blanks, signs, words, comments,
 -- code blocks and ends of line. Signs, words and ends of line are tokens.
-use Rattle.std.specs.Prelude.{◌≡◌, ◌==◌, ◌&&◌, ◌||◌, not, ℕ, ◌+◌, Bool, true, false, if◌then◌else◌, List, [], ◌∷◌, ◌++◌, length, Option, None, Some}
-use Rattle.pio_parse.specs.declared.token.SourcePosition.{SourcePosition}
+use Rattle.std.specs.Prelude.{◌≡◌, ◌==◌, ◌&&◌, ◌||◌, not, ℕ, ◌+◌, Bool, true, false, List, [], ◌∷◌, ◌++◌, length, Option, None, Some}
+use Rattle.source_text.specs.declared.position.SourcePosition.{SourcePosition}
 use Rattle.pio_parse.specs.declared.token.Token.{Token}
 use Rattle.pio_parse.specs.declared.token.Directive.TheVariants.{LangOpt}
 use Rattle.pio_parse.specs.declared.token.TokenKind.{TokenKind}
 use Rattle.pio_parse.specs.declared.token.TokenKind.TheVariants.{Directive as DirectiveToken, Comma, Colon, DoubleColon, OpenBracket, CloseBracket, OpenParenthesis, CloseParenthesis, Plus, Minus, Star, Bang, NotEqual, Tilde, LineEnd, FileEnd}
-use Rattle.pio_parse.specs.Words.{is_word_char, word_kind}
+use Rattle.source_text.specs.Characters.{is_word_char}
+use Rattle.source_text.specs.Position.{first_position, moved, past}
+use Rattle.pio_parse.specs.Words.{word_kind}
 
 -- this character stands nowhere in these
 abbrev pub lacks : ℕ → List ℕ → Bool
@@ -91,20 +93,6 @@ pub data IsLexeme (index : ℕ) : List ℕ → List ℕ → Option TokenKind →
   code_block : (name body : List ℕ) {rest : List ℕ} → lacks 37 name ≡ true → lacks 10 name ≡ true → lacks 123 name ≡ true → has_name name ≡ true
       → lacks_pair 37 125 (body ++ 37 ∷ []) ≡ true → IsLexeme index (37 ∷ (name ++ 123 ∷ (body ++ 37 ∷ 125 ∷ []))) rest None
 
--- the position of the character after one at a position: lines and columns count from 1
-abbrev pub position_behind : ℕ → SourcePosition → SourcePosition
-position_behind c position = if c == 10 then record { line = position.line + 1; column = 1 } else record { line = position.line; column = position.column + 1 }
-
--- the position behind these characters
-abbrev pub moved : List ℕ → SourcePosition → SourcePosition
-moved [] position = position
-moved (c ∷ cs) position = moved cs (position_behind c position)
-
--- the position one column past the last of these characters, where one is there
-abbrev pub past : SourcePosition → SourcePosition → List ℕ → SourcePosition
-past before position [] = before
-past before position (c ∷ cs) = past (record { line = position.line; column = position.column + 1 }) (position_behind c position) cs
-
 abbrev pub tokens_at : Option TokenKind → SourcePosition → List Token
 tokens_at None position = []
 tokens_at (Some kind) position = record { kind = kind; position = position } ∷ []
@@ -152,9 +140,9 @@ pub data StopsAt : ℕ → SourcePosition → List ℕ → SourcePosition → Ty
 
 -- a file with these tokens, the last of which is its end
 abbrev pub IsLexed : List ℕ → List Token → Type 0
-IsLexed text tokens = (all : List Token) × AreLexemes 0 (record { line = 1; column = 1 }) text all
-    × (tokens ≡ all ++ record { kind = FileEnd; position = past (record { line = 1; column = 1 }) (record { line = 1; column = 1 }) text } ∷ [])
+IsLexed text tokens = (all : List Token) × AreLexemes 0 first_position text all
+    × (tokens ≡ all ++ record { kind = FileEnd; position = past first_position first_position text } ∷ [])
 
 -- a file whose characters are lexemes up to this position, where none stands
 abbrev pub IsCharFaultAt : List ℕ → SourcePosition → Type 0
-IsCharFaultAt text position = StopsAt 0 (record { line = 1; column = 1 }) text position
+IsCharFaultAt text position = StopsAt 0 first_position text position

@@ -43,12 +43,9 @@ use Rattle.pio_parse.specs.declared.syntax.Operation.TheVariants.{Jmp as JmpOper
 use Rattle.pio_parse.specs.declared.syntax.Statement.{Statement}
 use Rattle.pio_parse.specs.declared.syntax.Statement.TheVariants.{Program as ProgramStatement, Define as DefineStatement, Origin as OriginStatement, SideSet as SideSetStatement, WrapTarget as WrapTargetStatement, Wrap as WrapStatement, Word as WordStatement, Instruction as InstructionStatement}
 use Rattle.pio_parse.specs.declared.syntax.Line.{Line}
-use Rattle.pio_parse.specs.Cursor.{head_position}
-use Rattle.pio_parse.specs.Expression.{name_at}
+use Rattle.pio_parse.specs.Tokens.{head_position, name_at, are_together, is_end}
 use Rattle.pio_parse.specs.Grammar.{Expr, IsSum, postfix}
-use Rattle.pio_parse.specs.Instruction.{are_together}
 use Rattle.pio_parse.specs.Registers.{in_source_of, mov_destination_of, mov_source_of, out_destination_of, set_destination_of}
-use Rattle.pio_parse.specs.Statement.{is_end}
 
 -- In each relation the tokens of a file's text, up to the rest of them, are what its name says; a constructor is an alternative of the grammar. An
 -- expression is kept as its terms in postfix order.

@@ -1,6 +1,8 @@
 -- Keywords, names and numbers (RP2040 Datasheet, 3.3, Directives and Values; 3.4). Which words are no names is the project's own.
-use Rattle.std.specs.Prelude.{◌==◌, ◌&&◌, ◌||◌, nat_le, ℕ, ◌+◌, ◌-◌, ◌*◌, min, Bool, true, false, if◌then◌else◌, List, [], ◌∷◌, Option, None, Some, find, codes, option_and_then}
-use Rattle.std.specs.Option.{option_map_or}
+use Rattle.std.specs.Prelude.{◌==◌, ◌&&◌, ℕ, min, Bool, true, false, if◌then◌else◌, List, [], ◌∷◌, Option, find, codes}
+use Rattle.std.specs.Option.{option_map, option_map_or}
+use Rattle.source_text.specs.Characters.{is_digit}
+use Rattle.source_text.specs.Numbers.{digits_value}
 use Rattle.std.specs.Char.{to_ascii_lowercase}
 use Rattle.pio_parse.specs.declared.token.Keyword.{Keyword}
 use Rattle.pio_parse.specs.declared.token.Keyword.TheVariants.{Public, Opt, Pindirs, Jmp, Wait, In, Out, Push, Pull, Mov, Irq, Set, Nop, Side, Gpio, Pin, Rel, Pins, X, Y, Null, Isr, Osr, Pc, Exec, Status, IfFull, IfEmpty, Block, NoBlock, NoWait, Clear, Osre}
@@ -78,36 +80,17 @@ keyword_of word = find (λ keyword. same_word (keyword_name keyword) word) keywo
 abbrev pub directive_of : List ℕ → Option Directive
 directive_of word = find (λ directive. same_word (directive_name directive) word) directives
 
-abbrev pub is_between : ℕ → ℕ → ℕ → Bool
-is_between low high n = nat_le low n && nat_le n high
-
-abbrev pub is_digit : ℕ → Bool
-is_digit c = is_between 48 57 c
-
--- what goes on with a word: a letter, a digit or an underscore
-abbrev pub is_word_char : ℕ → Bool
-is_word_char c = is_between 97 122 c || is_between 65 90 c || is_digit c || c == 95
-
--- the value of a hexadecimal digit of either case
-abbrev pub digit_of : ℕ → Option ℕ
-digit_of c =
-    if is_between 48 57 c then Some (c - 48)
-    else if is_between 97 102 c then Some (c - 97 + 10)
-    else if is_between 65 70 c then Some (c - 65 + 10)
-    else None
-
--- the value of digits after those that made `value`: a value above 2^32 - 1 is kept as 2^32, since no number may be so large
-abbrev pub digits_value : ℕ → ℕ → List ℕ → Option ℕ
-digits_value base value [] = Some value
-digits_value base value (c ∷ cs) = option_and_then (λ digit. if nat_le base digit then None else digits_value base (min (value * base + digit) 4294967296) cs) (digit_of c)
+-- the number of digits to a base: a value above 2^32 - 1 is kept as 2^32, since no number may be so large
+abbrev pub number_to : ℕ → List ℕ → Option ℕ
+number_to base digits = option_map (min 4294967296) (digits_value base 0 digits)
 
 -- a number: 0x with hexadecimal digits, 0b with binary ones, or decimal digits
 abbrev pub number_of : List ℕ → Option ℕ
 number_of (a ∷ b ∷ c ∷ cs) =
-    if (a == 48) && (b == 120) then digits_value 16 0 (c ∷ cs)
-    else if (a == 48) && (b == 98) then digits_value 2 0 (c ∷ cs)
-    else digits_value 10 0 (a ∷ b ∷ c ∷ cs)
-number_of word = digits_value 10 0 word
+    if (a == 48) && (b == 120) then number_to 16 (c ∷ cs)
+    else if (a == 48) && (b == 98) then number_to 2 (c ∷ cs)
+    else number_to 10 (a ∷ b ∷ c ∷ cs)
+number_of word = number_to 10 word
 
 abbrev pub directive_kind_of : List ℕ → TokenKind
 directive_kind_of name = option_map_or DirectiveToken (directive_of name) Unfit

@@ -1,11 +1,13 @@
 //! The tokens of a line that are not read yet, and why a line is not read to its end.
 
 ghost use Rattle.std.specs.Prelude.{◌≡◌, if◌then◌else◌};
-ghost use Rattle.pio_parse.specs.Calls.{Reads};
-ghost use Rattle.pio_parse.specs.Cursor.{after_head, head_kind, head_position, expected};
+ghost use Rattle.pio_parse.specs.descent.Calls.{Reads};
+ghost use Rattle.pio_parse.specs.descent.Cursor.{after_head, expected};
+ghost use Rattle.pio_parse.specs.Tokens.{head_kind, head_position};
 ghost use Rattle.pio_parse.specs.declared.cursor.Stop.TheVariants.{Memory};
 
-use crate::token::{SourcePosition, Token, TokenKind};
+use crate::token::{Token, TokenKind};
+use source_text::SourcePosition;
 use std::alloc::{AllocError, AllocFailed};
 
 /// Why a line is not read to its end.

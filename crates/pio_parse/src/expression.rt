@@ -1,8 +1,9 @@
 //! Expressions, read into postfix order.
 
 ghost use Rattle.std.specs.Prelude.{◌≡◌, ◌++◌, ◌∷◌, [], List, ℕ, ◌<◌, ◌≤◌, ◌+◌, ◌^◌, length, IfOk, OnOk, OnSome, IfSome, IfErr};
-ghost use Rattle.pio_parse.specs.Calls.{HasPopped, Reads, ReadsOperand, ReadsOperator, newest, reading_of, stack_of};
-ghost use Rattle.pio_parse.specs.Expression.{expression_at, level_of, name_at, operand_at, operand_step, operator_step, reduced, token_step, with_binary, with_closed};
+ghost use Rattle.pio_parse.specs.descent.Calls.{HasPopped, Reads, ReadsOperand, ReadsOperator, newest, reading_of, stack_of};
+ghost use Rattle.pio_parse.specs.descent.Expression.{expression_at, level_of, operand_at, operand_step, operator_step, reduced, token_step, with_binary, with_closed};
+ghost use Rattle.pio_parse.specs.Tokens.{name_at};
 
 use crate::cursor::{Stop, TokenCursor};
 use crate::name::Name;

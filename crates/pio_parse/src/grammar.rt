@@ -1,5 +1,5 @@
 //! The laws of lines and sources, each the contract of a function without arguments.
-ghost use Rattle.pio_parse.specs.GrammarLaws.{Examples, LineFaultsAtFirst, OneMeaning, ParsesGrammar, ReadsLines, SyntaxFaultsAtFirst};
+ghost use Rattle.pio_parse.specs.GrammarLaws.{Examples, LineFaultsAtFirst, OneAnswer, OneMeaning, ParsesGrammar, ReadsLines, SyntaxFaultsAtFirst};
 
 /// A line that is read is one of the grammar, with what it says, and each line of the grammar is read as that.
 pub fn reads_lines()
@@ -25,6 +25,11 @@ pub fn syntax_faults_at_first()
 /// The grammar gives a line one meaning at most, and a file one source.
 pub fn one_meaning()
     ensures { OneMeaning }
+{}
+
+/// The grammar has one answer for each file: a source, or its first fault, which is of a character or else of a token.
+pub fn one_answer()
+    ensures { OneAnswer }
 {}
 
 /// A file of the grammar, and some with their first token that fits nothing.

@@ -1,8 +1,8 @@
 //! An instruction with its side-set value and its delay.
 
 ghost use Rattle.std.specs.Prelude.{◌≡◌};
-ghost use Rattle.pio_parse.specs.Calls.{Reads};
-ghost use Rattle.pio_parse.specs.Instruction.{delay_at, instruction_at, is_instruction, operands_at, side_at, modifiers_at};
+ghost use Rattle.pio_parse.specs.descent.Calls.{Reads};
+ghost use Rattle.pio_parse.specs.descent.Instruction.{delay_at, instruction_at, is_instruction, operands_at, side_at, modifiers_at};
 
 use crate::cursor::{Stop, TokenCursor};
 use crate::expression::{Expression, File, read_expression, read_operand};

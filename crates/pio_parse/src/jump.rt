@@ -1,8 +1,8 @@
 //! The operands of `jmp`.
 
 ghost use Rattle.std.specs.Prelude.{◌≡◌, Ok};
-ghost use Rattle.pio_parse.specs.Calls.{Reads};
-ghost use Rattle.pio_parse.specs.Instruction.{conditional_at, decrement_at, jmp_at, jmp_condition_at, not_condition_at, x_condition_at};
+ghost use Rattle.pio_parse.specs.descent.Calls.{Reads};
+ghost use Rattle.pio_parse.specs.descent.Instruction.{conditional_at, decrement_at, jmp_at, jmp_condition_at, not_condition_at, x_condition_at};
 
 use crate::cursor::{Stop, TokenCursor};
 use crate::expression::{File, read_operand};

@@ -1,9 +1,9 @@
 //! Commas that may be missing, and the operands behind them.
 
 ghost use Rattle.std.specs.Prelude.{◌≡◌, Ok};
-ghost use Rattle.pio_parse.specs.Calls.{Reads};
-ghost use Rattle.pio_parse.specs.Cursor.{head_kind};
-ghost use Rattle.pio_parse.specs.Instruction.{flag_at, is_rel, last_operand_at, past_comma};
+ghost use Rattle.pio_parse.specs.descent.Calls.{Reads};
+ghost use Rattle.pio_parse.specs.Tokens.{head_kind};
+ghost use Rattle.pio_parse.specs.descent.Instruction.{flag_at, is_rel, last_operand_at, past_comma};
 
 use crate::cursor::{Stop, TokenCursor};
 use crate::expression::{Expression, File, read_operand};

@@ -1,10 +1,11 @@
 //! The lines of a file, gathered into programs.
 
 ghost use Rattle.std.specs.Prelude.{◌≡◌, Ok, Some, IfOk, IfErr, OnOk, []};
-ghost use Rattle.pio_parse.specs.Statement.{is_end};
-ghost use Rattle.pio_parse.specs.Source.{IsFault, parsed, source_of};
-ghost use Rattle.pio_parse.specs.Calls.{IsStopOf};
-ghost use Rattle.pio_parse.specs.Gathering.{grouped, line_step, source_of_groups, with_line, with_program};
+ghost use Rattle.pio_parse.specs.Tokens.{is_end};
+ghost use Rattle.pio_parse.specs.Files.{IsFault, IsSource};
+ghost use Rattle.pio_parse.specs.descent.Parsed.{IsFaultOf, parsed, source_of};
+ghost use Rattle.pio_parse.specs.descent.Calls.{IsStopOf};
+ghost use Rattle.pio_parse.specs.descent.Gathering.{grouped, line_step, source_of_groups, with_line, with_program};
 
 use crate::cursor::{Stop, TokenCursor};
 use crate::expression::File;
@@ -153,14 +154,10 @@ fn read_lines(file: &File, tokens: &[Token]) -> Result<Source, Stop>
     Ok(finish(groups)?)
 }
 
-/// The source that a file holds, or its first fault: the first character that has no meaning where it
-/// stands, else the first token with which no line of the grammar begins as its line does (RP2040
-/// Datasheet, 3.3).
-///
-/// Memory may run out at any time.
-pub fn parse(alloc: Global, text: &[u8]) -> Result<Source, PioFault>
+/// The source that a file holds, or its first fault.
+fn read_file(alloc: Global, text: &[u8]) -> Result<Source, PioFault>
     ensures ok { IfOk result (λ source. parsed text.now ≡ Ok source) }
-    ensures err { IfErr result (IsFault (parsed text.now)) }
+    ensures err { IfErr result (IsFaultOf (parsed text.now)) }
 {
     let tokens = scan(alloc, text)?;
     let file = File { alloc, text };
@@ -172,4 +169,16 @@ pub fn parse(alloc: Global, text: &[u8]) -> Result<Source, PioFault>
         )),
         Err(Stop::Memory) => Err(PioFault::Memory),
     }
+}
+
+/// The source that a file holds by the grammar, or its first fault: the first character that has no meaning where it
+/// stands, else the first token with which no line of the grammar begins as its line does (RP2040
+/// Datasheet, 3.3).
+///
+/// Memory may run out at any time.
+pub fn parse(alloc: Global, text: &[u8]) -> Result<Source, PioFault>
+    ensures ok { IfOk result (IsSource text.now) }
+    ensures err { IfErr result (IsFault text.now) }
+{
+    read_file(alloc, text)
 }

@@ -1,9 +1,9 @@
 //! The registers that the operands of an instruction name.
 
 ghost use Rattle.std.specs.Prelude.{◌≡◌};
-ghost use Rattle.pio_parse.specs.Calls.{Reads};
+ghost use Rattle.pio_parse.specs.descent.Calls.{Reads};
 ghost use Rattle.pio_parse.specs.Registers.{in_source_of, mov_destination_of, mov_source_of, out_destination_of, set_destination_of};
-ghost use Rattle.pio_parse.specs.Instruction.{named_at};
+ghost use Rattle.pio_parse.specs.descent.Instruction.{named_at};
 
 use crate::cursor::{Stop, TokenCursor};
 use crate::token::{Keyword, TokenKind};

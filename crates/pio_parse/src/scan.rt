@@ -1,13 +1,14 @@
 //! From characters to tokens.
 
 ghost use Rattle.std.specs.Prelude.{◌≡◌, ◌≤◌, ◌<◌, ◌+◌, ◌-◌, ◌^◌, ◌++◌, length, IfOk, IfErr, OnOk, Ok, option_to_list};
-ghost use Rattle.pio_parse.specs.Outcome.{map_ok};
-ghost use Rattle.pio_parse.specs.Scan.{begins, ends, finishes, IsCharFault, next_position, without_token, scanned, sign_of, single_token, skips, steps, word_ends};
-ghost use Rattle.pio_parse.specs.Scanning.{IsPositionBelow, IsStarted, mode_of, step_of};
+ghost use Rattle.source_text.specs.Outcome.{map_ok};
+ghost use Rattle.pio_parse.specs.descent.Scan.{begins, ends, finishes, IsCharFault, without_token, scanned, sign_of, single_token, skips, steps, word_ends};
+ghost use Rattle.pio_parse.specs.descent.Scanning.{IsStarted, mode_of, step_of};
 
 use crate::fault::PioFault;
-use crate::token::{Directive, SourcePosition, Token, TokenKind, span_of};
-use crate::words::{classify, is_word_byte};
+use crate::token::{Directive, Token, TokenKind, span_of};
+use crate::words::classify;
+use source_text::{SourcePosition, is_word_byte, position_after};
 use std::alloc::Global;
 
 /// What the characters so far have begun.
@@ -291,24 +292,6 @@ fn finish(text: &[u8], mode: Mode) -> Result<Option<Token>, SourcePosition>
         | Mode::BlockComment(begun, _)
         | Mode::Header(begun, _)
         | Mode::Code(begun, _) => Err(begun),
-    }
-}
-
-/// The position of the character after this one.
-fn position_after(byte: u8, position: SourcePosition) -> SourcePosition
-    requires { IsPositionBelow position (2 ^ 32 - 1) }
-    ensures { result ≡ next_position byte position }
-{
-    if byte == b'\n' {
-        SourcePosition {
-            line: position.line + 1,
-            column: 1,
-        }
-    } else {
-        SourcePosition {
-            line: position.line,
-            column: position.column + 1,
-        }
     }
 }
 

@@ -1,8 +1,9 @@
 //! A line: its label, its directive or its instruction.
 
 ghost use Rattle.std.specs.Prelude.{◌≡◌};
-ghost use Rattle.pio_parse.specs.Calls.{Reads};
-ghost use Rattle.pio_parse.specs.Statement.{define_at, directive_at, end_at, is_end_after, is_first, is_program, label_at, line_at, name_token_at, side_set_at, statement_at, version_at};
+ghost use Rattle.pio_parse.specs.descent.Calls.{Reads};
+ghost use Rattle.pio_parse.specs.descent.Statement.{define_at, directive_at, end_at, is_end_after, is_first, label_at, line_at, name_token_at, side_set_at, statement_at, version_at};
+ghost use Rattle.pio_parse.specs.Tokens.{is_program};
 
 use crate::cursor::{Stop, TokenCursor};
 use crate::expression::{File, read_expression};

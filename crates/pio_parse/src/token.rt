@@ -2,14 +2,7 @@
 
 ghost use Rattle.std.specs.Prelude.{◌≡◌, ◌<◌, ◌^◌};
 
-/// A position in a file of less than 4 GiB: lines and columns count from 1, and a column is a byte.
-#[derive(Clone, Copy)]
-pub struct SourcePosition {
-    /// The line.
-    pub line: u32,
-    /// The byte of the line.
-    pub column: u32,
-}
+use source_text::SourcePosition;
 
 /// A range of a file's bytes.
 #[derive(Clone, Copy)]

@@ -1,8 +1,8 @@
 //! The operands of `in`, `out`, `push`, `pull`, `mov` and `set`.
 
 ghost use Rattle.std.specs.Prelude.{◌≡◌, Ok};
-ghost use Rattle.pio_parse.specs.Calls.{Reads};
-ghost use Rattle.pio_parse.specs.Instruction.{block_at, in_at, mov_at, mov_operation_at, out_at, pull_at, push_at, set_at};
+ghost use Rattle.pio_parse.specs.descent.Calls.{Reads};
+ghost use Rattle.pio_parse.specs.descent.Instruction.{block_at, in_at, mov_at, mov_operation_at, out_at, pull_at, push_at, set_at};
 
 use crate::cursor::{Stop, TokenCursor};
 use crate::expression::File;

@@ -1,9 +1,9 @@
 //! The operands of `wait` and `irq`.
 
 ghost use Rattle.std.specs.Prelude.{◌≡◌, Ok};
-ghost use Rattle.pio_parse.specs.Calls.{Reads};
-ghost use Rattle.pio_parse.specs.Cursor.{head_kind};
-ghost use Rattle.pio_parse.specs.Instruction.{irq_at, irq_mode_at, polarity_at, wait_at, wait_for};
+ghost use Rattle.pio_parse.specs.descent.Calls.{Reads};
+ghost use Rattle.pio_parse.specs.Tokens.{head_kind};
+ghost use Rattle.pio_parse.specs.descent.Instruction.{irq_at, irq_mode_at, polarity_at, wait_at, wait_for};
 
 use crate::cursor::{Stop, TokenCursor};
 use crate::expression::{Expression, File, read_operand};

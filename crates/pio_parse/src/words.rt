@@ -1,9 +1,10 @@
 //! Which token a run of letters, digits and signs is.
 
-ghost use Rattle.std.specs.Prelude.{◌≡◌, ◌<◌, ◌≤◌, find, length, Some, None};
-ghost use Rattle.pio_parse.specs.Words.{digit_of, digits_value, directive_kind_of, directive_name, directive_of, directives, is_word_char, keyword_name, keyword_of, keywords, name_kind_of, number_kind_of, number_of, same_word, word_kind};
+ghost use Rattle.std.specs.Prelude.{◌≡◌, ◌≤◌, find};
+ghost use Rattle.pio_parse.specs.Words.{directive_kind_of, directive_name, directive_of, directives, keyword_name, keyword_of, keywords, name_kind_of, number_kind_of, number_of, number_to, same_word, word_kind};
 
 use crate::token::{Directive, Keyword, Span, TokenKind};
+use source_text::value_of_digits;
 
 const KEYWORDS: [Keyword; 33] = [
     Keyword::Public,
@@ -145,38 +146,13 @@ fn find_directive(word: &[u8]) -> Option<Directive>
         .find(|directive| is_same_word(directive_text(*directive), word))
 }
 
-/// Whether a byte goes on with a word that has begun.
-pub(crate) fn is_word_byte(byte: u8) -> bool
-    ensures { result ≡ is_word_char byte }
+/// The number of digits to a base from 1 to 16.
+fn number_to(base: u64, digits: &[u8]) -> Option<u64>
+    requires positive { 1 ≤ base }
+    requires base { base ≤ 16 }
+    ensures { result ≡ number_to base digits.now }
 {
-    matches!(byte, b'a'..=b'z' | b'A'..=b'Z' | b'0'..=b'9' | b'_')
-}
-
-fn digit(byte: u8) -> Option<u64>
-    ensures { result ≡ digit_of byte }
-{
-    match byte {
-        b'0'..=b'9' => Some((byte - b'0') as u64),
-        b'a'..=b'f' => Some((byte - b'a' + 10) as u64),
-        b'A'..=b'F' => Some((byte - b'A' + 10) as u64),
-        _ => None,
-    }
-}
-
-/// The value of digits to a base of at most 16, which begins at `value`.
-fn value_of_digits(base: u64, digits: &[u8]) -> Option<u64>
-    requires { base ≤ 16 }
-    ensures { result ≡ digits_value base 0 digits.now }
-{
-    let mut value: u64 = 0;
-    for byte in digits {
-        let next = digit(*byte)?;
-        if next >= base {
-            return None;
-        }
-        value = (value * base + next).min(TOO_LARGE);
-    }
-    Some(value)
+    value_of_digits(base, TOO_LARGE, digits)
 }
 
 fn find_number(word: &[u8]) -> Option<u64>
@@ -185,14 +161,14 @@ fn find_number(word: &[u8]) -> Option<u64>
     match word {
         [first, second, _, ..] => {
             if *first == b'0' && *second == b'x' {
-                value_of_digits(16, &word[2..])
+                number_to(16, &word[2..])
             } else if *first == b'0' && *second == b'b' {
-                value_of_digits(2, &word[2..])
+                number_to(2, &word[2..])
             } else {
-                value_of_digits(10, word)
+                number_to(10, word)
             }
         }
-        _ => value_of_digits(10, word),
+        _ => number_to(10, word),
     }
 }
 

@@ -2,7 +2,7 @@ use Rattle.std.proofs.Common.{◌≡◌, ℕ, List, [], ap, subst}
 use Rattle.std.specs.Prelude.{Result, Ok, Err, MatchResult, IfOk}
 use Rattle.pio_parse.specs.declared.fault.PioFault.{PioFault}
 use Rattle.pio_parse.specs.declared.fault.PioFault.TheVariants.{Memory}
-use Rattle.pio_parse.specs.Outcome.{and_then}
+use Rattle.source_text.specs.Outcome.{and_then}
 use Rattle.pio_parse.specs.declared.syntax.Line.{Line}
 use Rattle.pio_parse.specs.declared.syntax.Source.{Source}
 use Rattle.pio_asm.specs.declared.building.Building.{Building}

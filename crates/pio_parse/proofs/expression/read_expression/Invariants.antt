@@ -1,8 +1,7 @@
 use Rattle.std.proofs.Common.{◌≡◌, ◌≤◌, List, ℕ, drop}
 use Rattle.pio_parse.specs.declared.token.Token.{Token}
-use Rattle.pio_parse.specs.Expression.{Reading}
-use Rattle.pio_parse.specs.Expression.{expression_at, expression_from}
-use Rattle.pio_parse.specs.Calls.{reading_of}
+use Rattle.pio_parse.specs.descent.Expression.{Reading, expression_at, expression_from}
+use Rattle.pio_parse.specs.descent.Calls.{reading_of}
 use Rattle.pio_parse.proofs.expression.read_expression.Given as goal
 
 -- the reading of the whole goes on from here

@@ -1,6 +1,6 @@
 use Rattle.std.proofs.Common.{◌≡◌, length}
-use Rattle.pio_parse.specs.Expression.{reduced}
-use Rattle.pio_parse.specs.Calls.{stack_of}
+use Rattle.pio_parse.specs.descent.Expression.{reduced}
+use Rattle.pio_parse.specs.descent.Calls.{stack_of}
 use Rattle.pio_parse.proofs.expression.reduce.Given as goal
 
 abbrev pub invariant-loop-operator : goal.invariant-loop-operator

@@ -1,13 +1,14 @@
 use Rattle.std.proofs.Common.{◌≡◌, ◌==◌, ℕ, ◌+◌, ◌<◌, ◌≤◌, Bool, true, false, List, [], ◌∷◌, ◌++◌, length, drop, get_or, Option, Ok, Err, option_to_list, add-one, drop-cons, arith, refl, sym, ◌∙◌}
 use Rattle.std.proofs.lemmas.List.{drop_all}
-use Rattle.pio_parse.specs.declared.token.SourcePosition.{SourcePosition}
+use Rattle.source_text.specs.declared.position.SourcePosition.{SourcePosition}
 use Rattle.pio_parse.specs.declared.token.Token.{Token}
 use Rattle.pio_parse.specs.declared.token.TokenKind.TheVariants.{FileEnd}
-use Rattle.pio_parse.specs.Scan.{Mode, Step, finishes, next_position, scanned_from, steps}
-use Rattle.pio_parse.specs.Scanning.{IsPositionBelow, mode_of, step_of}
+use Rattle.pio_parse.specs.descent.Scan.{Mode, Step, finishes, scanned_from, steps}
+use Rattle.source_text.specs.Position.{position_behind, IsPositionBelow}
+use Rattle.pio_parse.specs.descent.Scanning.{mode_of, step_of}
 use Rattle.pio_parse.proofs.scan.scan.Goals as goal
 
-below_next : (c index : ℕ) (here : SourcePosition) (b : Bool) → (c == 10) ≡ b → here.line < index + 2 → here.column < index + 2 → IsPositionBelow (next_position c here) (index + 1 + 2)
+below_next : (c index : ℕ) (here : SourcePosition) (b : Bool) → (c == 10) ≡ b → here.line < index + 2 → here.column < index + 2 → IsPositionBelow (position_behind c here) (index + 1 + 2)
 below_next c index here true h line column = rw h (omega arith, omega arith)
 below_next c index here false h line column = rw h (omega arith, omega arith)
 
@@ -16,7 +17,7 @@ drop_next text index inside = rw add-one (drop-cons text index 0 inside)
 
 -- the scan after one more character
 scan_next : (text : List ℕ) (index : ℕ) (mode : Mode) (here next after : SourcePosition) (tokens one two : List Token) (step : Step) → index < length text
-    → steps text index mode (get_or text index 0) here ≡ Ok step → next ≡ next_position (get_or text index 0) here
+    → steps text index mode (get_or text index 0) here ≡ Ok step → next ≡ position_behind (get_or text index 0) here
     → one ≡ tokens ++ option_to_list step.first → two ≡ one ++ option_to_list step.second
     → scanned_from text (drop index text) index mode here after tokens
     ≡ scanned_from text (drop (index + 1) text) (index + 1) step.mode next (record { line = here.line; column = here.column + 1 }) two

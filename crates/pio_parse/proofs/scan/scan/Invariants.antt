@@ -1,9 +1,9 @@
 use Rattle.std.proofs.Common.{◌≡◌, ◌+◌, ℕ, List, drop}
-use Rattle.pio_parse.specs.declared.token.SourcePosition.{SourcePosition}
+use Rattle.source_text.specs.declared.position.SourcePosition.{SourcePosition}
 use Rattle.pio_parse.specs.declared.token.Token.{Token}
-use Rattle.pio_parse.specs.Scan.{Mode}
-use Rattle.pio_parse.specs.Scan.{scanned, scanned_from}
-use Rattle.pio_parse.specs.Scanning.{IsPositionBelow, IsStarted, mode_of}
+use Rattle.pio_parse.specs.descent.Scan.{Mode, scanned, scanned_from}
+use Rattle.source_text.specs.Position.{IsPositionBelow}
+use Rattle.pio_parse.specs.descent.Scanning.{IsStarted, mode_of}
 use Rattle.pio_parse.proofs.scan.scan.Given as goal
 
 -- the scan of the whole goes on from here

@@ -1,0 +1,4 @@
+pub mod SymbolLaws
+pub mod Capped
+pub mod LinesOf
+pub mod FirstThat
