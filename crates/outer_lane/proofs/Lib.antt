@@ -4,3 +4,4 @@ mod Sets
 mod Stepped
 mod Staying
 mod NoTick
+mod Cycles

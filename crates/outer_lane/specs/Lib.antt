@@ -1,6 +1,7 @@
 pub mod Bounds
 pub mod Device
 pub mod Lines
+pub mod Quiet
 pub mod Rest
 pub mod Setting
 pub mod State

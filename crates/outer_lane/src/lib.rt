@@ -9,6 +9,7 @@ pub mod drivers;
 mod lane;
 pub mod outer;
 mod outside;
+mod quiet;
 mod step;
 pub mod ticks;
 mod words;

@@ -1,0 +1,390 @@
+-- The peripherals over many cycles: each part goes its own way as long as the pads stay.
+use Rattle.std.proofs.Common.{◌≡◌, ℕ, zero, suc, ◌+◌, ◌-◌, ◌^◌, ◌<◌, ◌≤◌, ◌==◌, Bool, true, false, List, [], ◌∷◌, ◌++◌, length, Option, None, refl, sym, ap, subst, ◌∙◌, arith}
+use Rattle.std.proofs.lemmas.Bool.Decides.{nat_tests}
+use Rattle.std.specs.List.{filter}
+use Rattle.rp_base.specs.declared.resettable.Resettable.{Resettable}
+use Rattle.rp_base.specs.Resettable.{unless_held_becomes}
+use Rattle.io_bank.specs.declared.outputs.Outs.{Outs}
+use Rattle.io_bank.specs.State.{Bank}
+use Rattle.io_bank.specs.Edges.{edges_of}
+use Rattle.io_bank.specs.Levels.{by_sets, levels_of, receive_level, uart_outputs}
+use Rattle.io_bank.specs.Step.{after_step, with_edges, with_levels}
+use Rattle.lane_look.specs.declared.device.Wires.{Wires}
+use Rattle.lane_look.specs.declared.marks.Mark.{Mark}
+use Rattle.lane_look.specs.Device.{DeviceMeaning, no_wires}
+use Rattle.lane_look.specs.Quiet.{IsDeviceQuiet, device_step, device_after}
+use Rattle.lane_look.specs.Times.{times}
+use Rattle.lane_look.proofs.Times.{times_rest, times_none}
+use Rattle.pin_script.specs.declared.entry.Entry.{Entry}
+use Rattle.pin_script.specs.declared.script.Drives.{Drives}
+use Rattle.pin_script.specs.Levels.{is_due, level_after, drive_of, drive_at}
+use Rattle.pin_script.specs.Reading.{cycle_at, IsDueBefore}
+use Rattle.pin_script.specs.Script.{IsScript}
+use Rattle.pin_script.proofs.Due.{due_are_first}
+use Rattle.rp_timer.specs.State.{TimerState, lines_of}
+use Rattle.rp_timer.specs.Step as timer
+use Rattle.rp_timer.specs.Quiet as timer_quiet
+use Rattle.rp_uart.specs.State.{SerialPort}
+use Rattle.rp_uart.specs.Step.{output_of, pacing_of}
+use Rattle.rp_uart.specs.Interrupts.{is_line_high}
+use Rattle.outer_lane.specs.declared.world.SeenOutputs.{SeenOutputs}
+use Rattle.outer_lane.specs.Lines.{bank_line, block_lines, outer_lines, outer_pacing}
+use Rattle.outer_lane.specs.Setting.{Setting}
+use Rattle.outer_lane.specs.State.{OuterState}
+use Rattle.outer_lane.specs.Step.{either, outs_of, outside_of, levels_by, pads_by, next_by, next, marked_by, marked, timer_after, uart_after, byte_of, wires_by, words_by, wires_of}
+use Rattle.outer_lane.specs.Quiet.{seen_in, outer_step, outer_after, held_blocks, quiet_mark, IsQuiet, uart_cycle, words_cycle, words_after, IsSettled, IsTimerQuiet, IsUartQuiet, AreWordsQuiet, IsScriptQuiet}
+use Rattle.outer_lane.proofs.Sets.{levels_same}
+
+-- ---- the timer
+
+timer_go : (held : Bool) (block x : TimerState) (c : ℕ) → timer_after c (unless_held_becomes (record { block = block; held = held }) x) ≡ unless_held_becomes (record { block = block; held = held }) (timer.after_step c x)
+timer_go true block x c = refl
+timer_go false block x c = refl
+
+none_go : (held : Bool) (block : TimerState) → record { block = block; held = held } ≡ unless_held_becomes (record { block = block; held = held }) block
+none_go true block = refl
+none_go false block = refl
+
+pub timer_cycles : (t : Resettable TimerState) (cycle k : ℕ) → times timer_after cycle k t ≡ unless_held_becomes t (timer.after_cycles cycle k t.block)
+unfolding times
+timer_cycles t cycle zero = none_go t.held t.block
+timer_cycles t cycle (suc k) =
+    ap (timer_after (cycle + k)) (timer_cycles t cycle k)
+    ∙ timer_go t.held t.block (timer.after_cycles cycle k t.block) (cycle + k)
+
+pub held_timer : (t : Resettable TimerState) (cycle k : ℕ) → t.held ≡ true → times timer_after cycle k t ≡ t
+held_timer t cycle k e = timer_cycles t cycle k ∙ rw e refl
+
+pub let_go_timer : (t : Resettable TimerState) (cycle k : ℕ) → t.held ≡ false → times timer_after cycle k t ≡ record t { block = timer.after_cycles cycle k t.block }
+let_go_timer t cycle k e = timer_cycles t cycle k ∙ rw e refl
+
+pub runs_timer : (t : Resettable TimerState) (cycle k : ℕ) (block : TimerState) → t.held ≡ false → block ≡ timer.after_cycles cycle k t.block → record { block = block; held = t.held } ≡ times timer_after cycle k t
+runs_timer t cycle k block e f = rw f (sym (let_go_timer t cycle k e))
+
+pub timer_held : (t : Resettable TimerState) (cycle n : ℕ) → t.held ≡ true → IsTimerQuiet t cycle n
+timer_held t cycle n e = record {
+  lines = λ k le. ap (λ (x : Resettable TimerState). lines_of x.block) (held_timer t cycle k e);
+  held = λ k le. ap (λ (x : Resettable TimerState). x.held) (held_timer t cycle k e);
+}
+
+pub timer_runs : (t : Resettable TimerState) (cycle n : ℕ) → t.held ≡ false → timer_quiet.IsQuiet t.block cycle n → IsTimerQuiet t cycle n
+timer_runs t cycle n e q = record {
+  lines = λ k le. ap (λ (x : Resettable TimerState). lines_of x.block) (let_go_timer t cycle k e) ∙ q.lines k le;
+  held = λ k le. ap (λ (x : Resettable TimerState). x.held) (let_go_timer t cycle k e);
+}
+
+-- ---- a UART at rest
+
+pub uart_rests : (line : Bool) (u : Resettable SerialPort) (cycle n : ℕ) → uart_after line u ≡ u → byte_of u ≡ None → IsUartQuiet line u cycle n
+uart_rests line u cycle n same silent =
+    let at : (k : ℕ) → times (uart_cycle line) cycle k u ≡ u = λ k. times_rest (uart_cycle line) cycle k u (λ c. same) in
+    record {
+      silent = λ k lt. ap byte_of (at k) ∙ silent;
+      output = λ k le. ap (λ (x : Resettable SerialPort). output_of x.block) (at k);
+      interrupt = λ k le. ap (λ (x : Resettable SerialPort). is_line_high x.block) (at k);
+      pacing = λ k le. ap (λ (x : Resettable SerialPort). pacing_of x.block) (at k);
+      held = λ k le. ap (λ (x : Resettable SerialPort). x.held) (at k);
+    }
+
+pub uart_stays : (line : Bool) (u : Resettable SerialPort) (cycle n : ℕ) → uart_after line u ≡ u → times (uart_cycle line) cycle n u ≡ u
+uart_stays line u cycle n same = times_rest (uart_cycle line) cycle n u (λ c. same)
+
+pub uart_none : (line : Bool) (u : Resettable SerialPort) (cycle : ℕ) → IsUartQuiet line u cycle 0
+uart_none line u cycle =
+    let at : (k : ℕ) → k ≤ 0 → times (uart_cycle line) cycle k u ≡ u = λ k le. times_none (uart_cycle line) cycle k u (omega arith) in
+    record {
+      silent = λ k lt. absurd (omega arith);
+      output = λ k le. ap (λ (x : Resettable SerialPort). output_of x.block) (at k le);
+      interrupt = λ k le. ap (λ (x : Resettable SerialPort). is_line_high x.block) (at k le);
+      pacing = λ k le. ap (λ (x : Resettable SerialPort). pacing_of x.block) (at k le);
+      held = λ k le. ap (λ (x : Resettable SerialPort). x.held) (at k le);
+    }
+
+-- ---- the device
+
+fits_go : (d : DeviceMeaning) (words : List ℕ) (c levels : ℕ) → length words ≡ d.count → words_by d words c levels ≡ d.after_step words c levels
+unfolding words_by
+fits_go d words c levels e = let t : (length words == d.count) ≡ true = grind (arith, nat_tests) in rw t refl
+
+wires_go : (d : DeviceMeaning) (words : List ℕ) (c levels : ℕ) → length words ≡ d.count → wires_by d words c levels ≡ d.wires words c levels
+unfolding wires_by
+wires_go d words c levels e = let t : (length words == d.count) ≡ true = grind (arith, nat_tests) in rw t refl
+
+-- as long as the number of words stays, the words are the device's own
+pub words_fit : (d : DeviceMeaning) (words : List ℕ) (cycle levels n : ℕ) → ((k : ℕ) → k ≤ n → length (device_after d levels cycle k words) ≡ d.count) → (k : ℕ) → k ≤ n → times (words_cycle d levels) cycle k words ≡ device_after d levels cycle k words
+unfolding times
+words_fit d words cycle levels n fits zero le = refl
+words_fit d words cycle levels n fits (suc k) le =
+    ap (words_cycle d levels (cycle + k)) (words_fit d words cycle levels n fits k (omega arith))
+    ∙ fits_go d (device_after d levels cycle k words) (cycle + k) levels (fits k (omega arith))
+
+-- the same by the number of words after each cycle of the whole
+pub words_kept : (d : DeviceMeaning) (words : List ℕ) (cycle levels n : ℕ) → length words ≡ d.count → ((k : ℕ) → k ≤ n → length (times (words_cycle d levels) cycle k words) ≡ length words) → (k : ℕ) → k ≤ n → times (words_cycle d levels) cycle k words ≡ device_after d levels cycle k words
+unfolding times
+words_kept d words cycle levels n fits kept zero le = refl
+words_kept d words cycle levels n fits kept (suc k) le =
+    let here = words_kept d words cycle levels n fits kept k (omega arith) in
+    let count : length (device_after d levels cycle k words) ≡ d.count = sym (ap length here) ∙ kept k (omega arith) ∙ fits in
+    ap (words_cycle d levels (cycle + k)) here
+    ∙ fits_go d (device_after d levels cycle k words) (cycle + k) levels count
+
+words_quiet : (d : DeviceMeaning) (words : List ℕ) (cycle levels n : ℕ) → length words ≡ d.count → IsDeviceQuiet d words cycle levels n → AreWordsQuiet d words cycle levels n
+words_quiet d words cycle levels n fits q =
+    let at : (k : ℕ) → k ≤ n → times (words_cycle d levels) cycle k words ≡ device_after d levels cycle k words = words_fit d words cycle levels n q.words in
+    record {
+      drives = λ k lt.
+          ap (λ (x : List ℕ). wires_by d x (cycle + k) levels) (at k (omega arith))
+          ∙ wires_go d (device_after d levels cycle k words) (cycle + k) levels (q.words k (omega arith))
+          ∙ q.drives k lt ∙ sym (wires_go d words cycle levels fits);
+      count = λ k le. ap length (at k le) ∙ q.words k le ∙ sym fits;
+    }
+
+pub words_fitting : (d : DeviceMeaning) (words slice : List ℕ) (cycle levels n : ℕ) → (length words == d.count) ≡ true → slice ≡ words → IsDeviceQuiet d slice cycle levels n → AreWordsQuiet d words cycle levels n
+words_fitting d words slice cycle levels n fitting e q =
+    words_quiet d words cycle levels n (grind (arith, nat_tests)) (rw e at q)
+
+unfit_go : (d : DeviceMeaning) (words : List ℕ) (c levels : ℕ) → (length words == d.count) ≡ false → words_by d words c levels ≡ words
+unfolding words_by
+unfit_go d words c levels e = rw e refl
+
+unfit_wires : (d : DeviceMeaning) (words : List ℕ) (c levels : ℕ) → (length words == d.count) ≡ false → wires_by d words c levels ≡ no_wires
+unfolding wires_by
+unfit_wires d words c levels e = rw e refl
+
+pub words_unfit : (d : DeviceMeaning) (words : List ℕ) (cycle levels n : ℕ) → (length words == d.count) ≡ false → AreWordsQuiet d words cycle levels n
+words_unfit d words cycle levels n unfit =
+    let at : (k : ℕ) → times (words_cycle d levels) cycle k words ≡ words = λ k. times_rest (words_cycle d levels) cycle k words (λ c. unfit_go d words c levels unfit) in
+    record {
+      drives = λ k lt.
+          ap (λ (x : List ℕ). wires_by d x (cycle + k) levels) (at k)
+          ∙ unfit_wires d words (cycle + k) levels unfit ∙ sym (unfit_wires d words cycle levels unfit);
+      count = λ k le. ap length (at k);
+    }
+
+pub words_stay : (d : DeviceMeaning) (words : List ℕ) (cycle levels n : ℕ) → (length words == d.count) ≡ false → times (words_cycle d levels) cycle n words ≡ words
+words_stay d words cycle levels n unfit = times_rest (words_cycle d levels) cycle n words (λ c. unfit_go d words c levels unfit)
+
+after_go : (b : Bool) (d : DeviceMeaning) (words : List ℕ) (cycle levels n : ℕ) → (length words == d.count) ≡ b → ((k : ℕ) → k ≤ n → length (times (words_cycle d levels) cycle k words) ≡ length words) → words_after d levels cycle n words ≡ times (words_cycle d levels) cycle n words
+unfolding words_after
+after_go true d words cycle levels n e kept =
+    let fits : length words ≡ d.count = grind (arith, nat_tests) in
+    rw e (sym (words_kept d words cycle levels n fits kept n (omega arith)))
+after_go false d words cycle levels n e kept = rw e (sym (words_stay d words cycle levels n e))
+
+pub words_after_is : (d : DeviceMeaning) (words : List ℕ) (cycle levels n : ℕ) → ((k : ℕ) → k ≤ n → length (times (words_cycle d levels) cycle k words) ≡ length words) → words_after d levels cycle n words ≡ times (words_cycle d levels) cycle n words
+words_after_is d words cycle levels n kept = after_go (length words == d.count) d words cycle levels n refl kept
+
+-- ---- the script
+
+pub script_waits : (script : List Entry) (cycle due n : ℕ) → IsScript script → due ≤ length script → IsDueBefore script cycle due → (due < length script → cycle < cycle_at script due) → (due < length script → cycle + n ≤ cycle_at script due) → IsScriptQuiet script cycle n
+script_waits script cycle due n s within before after late k lt =
+    due_are_first script (cycle + k) due s within (λ low. let b : cycle_at script (due - 1) ≤ cycle = before low in omega arith)
+    (λ low. let l : cycle + n ≤ cycle_at script due = late low in omega arith)
+    ∙ sym (due_are_first script cycle due s within before after)
+
+-- by the entries as a slice
+pub script_waits_by : (script slice : List Entry) (cycle due n : ℕ) → slice ≡ script → IsScript script → due ≤ length slice → IsDueBefore slice cycle due → (due < length slice → cycle < cycle_at slice due) → (due < length slice → cycle + n ≤ cycle_at slice due) → IsScriptQuiet script cycle n
+script_waits_by script slice cycle due n e s within before after late =
+    script_waits script cycle due n s (rw e at within) (rw e at before) (rw e at after) (rw e at late)
+
+same_outside : (script : List Entry) (wires : Wires) (cycle later : ℕ) → filter (is_due later) script ≡ filter (is_due cycle) script → (pin : ℕ) → outside_of script wires later pin ≡ outside_of script wires cycle pin
+unfolding outside_of drive_at
+same_outside script wires cycle later e pin =
+    ap (λ (es : List Entry). either (drive_of (level_after es pin)) (by_sets wires.mask wires.level pin)) e
+
+-- ---- all of them
+
+-- the state in which each part has gone so far on its own
+abbrev pub passed : Setting → SeenOutputs → ℕ → OuterState → OuterState
+passed w seen k s = record s {
+  timer = times timer_after seen.cycle k s.timer;
+  uart0 = times (uart_cycle (receive_level 0 s.pads)) seen.cycle k s.uart0;
+  uart1 = times (uart_cycle (receive_level 1 s.pads)) seen.cycle k s.uart1;
+  device = times (words_cycle w.device s.pads.current) seen.cycle k s.device;
+}
+
+with_same : (x : OuterState) (pads : Bank) (irq : ℕ) → x.pads ≡ pads → x.irq ≡ irq → x ≡ record x { pads = pads; irq = irq }
+with_same x pads irq e f = rw (← e, ← f) refl
+
+closed_step : (w : Setting) (seen : SeenOutputs) (s : OuterState) (k : ℕ) → outer_after w seen k s ≡ passed w seen k s → (outer_step w seen (seen.cycle + k) (passed w seen k s)).pads ≡ s.pads → (outer_step w seen (seen.cycle + k) (passed w seen k s)).irq ≡ s.irq → outer_after w seen (suc k) s ≡ passed w seen (suc k) s
+unfolding times next next_by
+closed_step w seen s k here pads irq =
+    ap (outer_step w seen (seen.cycle + k)) here
+    ∙ with_same (outer_step w seen (seen.cycle + k) (passed w seen k s)) s.pads s.irq pads irq
+
+closed_none : (w : Setting) (seen : SeenOutputs) (s : OuterState) → outer_after w seen 0 s ≡ passed w seen 0 s
+unfolding times
+closed_none w seen s = refl
+
+one_more : (w : Setting) (seen : SeenOutputs) (s : OuterState) (k : ℕ) → outer_after w seen (suc k) s ≡ outer_step w seen (seen.cycle + k) (outer_after w seen k s)
+unfolding times
+one_more w seen s k = refl
+
+-- where the peripherals are quiet, each part has gone on its own
+pub quiet_closed : (w : Setting) (seen : SeenOutputs) (s : OuterState) (n : ℕ) → IsQuiet w seen s n → (k : ℕ) → k ≤ n → outer_after w seen k s ≡ passed w seen k s
+quiet_closed w seen s n q zero le = closed_none w seen s
+quiet_closed w seen s n q (suc k) le =
+    let here = quiet_closed w seen s n q k (omega arith) in
+    let there : outer_step w seen (seen.cycle + k) (passed w seen k s) ≡ outer_after w seen (suc k) s =
+    sym (one_more w seen s k ∙ ap (outer_step w seen (seen.cycle + k)) here) in
+    closed_step w seen s k here
+    (ap (λ (x : OuterState). x.pads) there ∙ q.pads (suc k) le)
+    (ap (λ (x : OuterState). x.irq) there ∙ q.irq (suc k) le)
+
+-- the number of the device's words, as its own cycles leave it
+pub quiet_count : (w : Setting) (seen : SeenOutputs) (s : OuterState) (n : ℕ) → IsQuiet w seen s n → (k : ℕ) → k ≤ n → length (times (words_cycle w.device s.pads.current) seen.cycle k s.device) ≡ length s.device
+quiet_count w seen s n q k le =
+    sym (ap (λ (x : OuterState). length x.device) (quiet_closed w seen s n q k le)) ∙ q.words k le
+
+-- what the parts leave, one after another
+pub passed_all : (w : Setting) (seen : SeenOutputs) (s a b c : OuterState) (n : ℕ) → IsQuiet w seen s n → a ≡ record s { uart0 = times (uart_cycle (receive_level 0 s.pads)) seen.cycle n s.uart0; uart1 = times (uart_cycle (receive_level 1 s.pads)) seen.cycle n s.uart1 } → b ≡ record a { timer = times timer_after seen.cycle n a.timer } → c ≡ record b { device = words_after w.device b.pads.current seen.cycle n b.device } → c ≡ outer_after w seen n s
+passed_all w seen s a b c n q ea eb ec =
+    ec
+    ∙ ap (λ (x : OuterState). record x { device = words_after w.device x.pads.current seen.cycle n x.device }) eb
+    ∙ ap (λ (x : OuterState). record x { timer = times timer_after seen.cycle n x.timer; device = words_after w.device x.pads.current seen.cycle n x.device }) ea
+    ∙ ap (λ (x : List ℕ). record (passed w seen n s) { device = x })
+    (words_after_is w.device s.device seen.cycle s.pads.current n (quiet_count w seen s n q))
+    ∙ sym (quiet_closed w seen s n q n (omega arith))
+
+-- what makes them quiet
+pub record ArePartsQuiet (w : Setting) (seen : SeenOutputs) (s : OuterState) (n : ℕ) : Type 0 where
+  pub timer_quiet : IsTimerQuiet s.timer seen.cycle n
+  pub uart0_quiet : IsUartQuiet (receive_level 0 s.pads) s.uart0 seen.cycle n
+  pub uart1_quiet : IsUartQuiet (receive_level 1 s.pads) s.uart1 seen.cycle n
+  pub words_quiet : AreWordsQuiet w.device s.device seen.cycle s.pads.current n
+  pub script_quiet : IsScriptQuiet w.script seen.cycle n
+  pub settled : after_step (outs_of (wires_of w.device seen.cycle s) seen s) (outside_of w.script (wires_of w.device seen.cycle s) seen.cycle) s.pads ≡ s.pads
+  pub same_irq : (wires_of w.device seen.cycle s).irq ≡ s.irq
+
+-- what the device drives in cycle k
+abbrev wires_at : Setting → SeenOutputs → ℕ → OuterState → Wires
+wires_at w seen k s = wires_by w.device (times (words_cycle w.device s.pads.current) seen.cycle k s.device) (seen.cycle + k) s.pads.current
+
+abbrev outs_with : Wires → SeenOutputs → OuterState → List ℕ → Outs
+outs_with wires seen s uart = record { sio = s.sio; pio0 = seen.pio0; pio1 = seen.pio1; pwm = wires.pwm ∷ (2 ^ 30 - 1) ∷ []; uart = uart }
+
+uart_outs : (a b c d : Bool) → a ≡ c → b ≡ d → uart_outputs a b ≡ uart_outputs c d
+uart_outs a b c d e f = rw (e, f) refl
+
+pads_stay : (w : Setting) (seen : SeenOutputs) (s : OuterState) (n k : ℕ) → ArePartsQuiet w seen s n → k < n → pads_by w.script (wires_at w seen k s) (seen_in seen (seen.cycle + k)) (passed w seen k s) ≡ s.pads
+unfolding pads_by
+pads_stay w seen s n k p lt =
+    let wires = wires_of w.device seen.cycle s in
+    let cycle = seen.cycle + k in
+    let outputs : uart_outputs (output_of (passed w seen k s).uart0.block) (output_of (passed w seen k s).uart1.block) ≡ uart_outputs (output_of s.uart0.block) (output_of s.uart1.block) =
+    uart_outs _ _ _ _ (p.uart0_quiet.output k (omega arith)) (p.uart1_quiet.output k (omega arith)) in
+    ap (λ (x : Wires). after_step (outs_of x (seen_in seen cycle) (passed w seen k s)) (outside_of w.script x cycle) s.pads) (p.words_quiet.drives k lt)
+    ∙ ap (λ (x : List ℕ). after_step (outs_with wires seen s x) (outside_of w.script wires cycle) s.pads) outputs
+    ∙ ap (λ (x : ℕ). with_levels x (with_edges (edges_of s.pads) s.pads))
+    (levels_same (outs_of wires seen s) (outside_of w.script wires cycle) (outside_of w.script wires seen.cycle) s.pads
+    (λ pin low. same_outside w.script wires seen.cycle cycle (p.script_quiet k lt) pin))
+    ∙ p.settled
+
+next_pads : (w : Setting) (seen : SeenOutputs) (s : OuterState) (k : ℕ) → (outer_step w seen (seen.cycle + k) (passed w seen k s)).pads ≡ pads_by w.script (wires_at w seen k s) (seen_in seen (seen.cycle + k)) (passed w seen k s)
+unfolding next next_by
+next_pads w seen s k = refl
+
+next_irq : (w : Setting) (seen : SeenOutputs) (s : OuterState) (k : ℕ) → (outer_step w seen (seen.cycle + k) (passed w seen k s)).irq ≡ (wires_at w seen k s).irq
+unfolding next next_by
+next_irq w seen s k = refl
+
+parts_closed : (w : Setting) (seen : SeenOutputs) (s : OuterState) (n : ℕ) → ArePartsQuiet w seen s n → (k : ℕ) → k ≤ n → outer_after w seen k s ≡ passed w seen k s
+parts_closed w seen s n p zero le = closed_none w seen s
+parts_closed w seen s n p (suc k) le =
+    closed_step w seen s k (parts_closed w seen s n p k (omega arith))
+    (next_pads w seen s k ∙ pads_stay w seen s n k p (omega arith))
+    (next_irq w seen s k ∙ ap (λ (x : Wires). x.irq) (p.words_quiet.drives k (omega arith)) ∙ p.same_irq)
+
+mark_go : (a b : Option ℕ) (x : ℕ) (s : OuterState) → a ≡ None → b ≡ None → x ≡ s.pads.current → record { uart = a ∷ b ∷ []; pads = x } ≡ quiet_mark s
+mark_go a b x s e f g = rw (e, f, g) refl
+
+passed_mark : (w : Setting) (seen : SeenOutputs) (s : OuterState) (n k : ℕ) → ArePartsQuiet w seen s n → k < n → marked w (passed w seen k s) (seen_in seen (seen.cycle + k)) ≡ quiet_mark s
+unfolding marked marked_by levels_by pads_by
+passed_mark w seen s n k p lt =
+    mark_go _ _ _ s (p.uart0_quiet.silent k lt) (p.uart1_quiet.silent k lt) (ap (λ (x : Bank). x.current) (pads_stay w seen s n k p lt))
+
+passed_lines : (w : Setting) (seen : SeenOutputs) (s : OuterState) (n k core : ℕ) → ArePartsQuiet w seen s n → k ≤ n → outer_lines core (passed w seen k s) ≡ outer_lines core s
+unfolding outer_lines
+passed_lines w seen s n k core p le = rw (p.timer_quiet.lines k le, p.uart0_quiet.interrupt k le, p.uart1_quiet.interrupt k le) refl
+
+passed_pacing : (w : Setting) (seen : SeenOutputs) (s : OuterState) (n k : ℕ) → ArePartsQuiet w seen s n → k ≤ n → outer_pacing (passed w seen k s) ≡ outer_pacing s
+passed_pacing w seen s n k p le = rw (p.uart0_quiet.pacing k le, p.uart1_quiet.pacing k le) refl
+
+passed_held : (w : Setting) (seen : SeenOutputs) (s : OuterState) (n k : ℕ) → ArePartsQuiet w seen s n → k ≤ n → held_blocks (passed w seen k s) ≡ held_blocks s
+passed_held w seen s n k p le = rw (p.timer_quiet.held k le, p.uart0_quiet.held k le, p.uart1_quiet.held k le) refl
+
+pub parts_quiet : (w : Setting) (seen : SeenOutputs) (s : OuterState) (n : ℕ) → ArePartsQuiet w seen s n → IsQuiet w seen s n
+parts_quiet w seen s n p =
+    let at = parts_closed w seen s n p in
+    record {
+      mark = λ k lt. ap (λ (x : OuterState). marked w x (seen_in seen (seen.cycle + k))) (at k (omega arith)) ∙ passed_mark w seen s n k p lt;
+      pads = λ k le. ap (λ (x : OuterState). x.pads) (at k le);
+      lines = λ k le core. ap (outer_lines core) (at k le) ∙ passed_lines w seen s n k core p le;
+      pacing = λ k le. ap outer_pacing (at k le) ∙ passed_pacing w seen s n k p le;
+      irq = λ k le. ap (λ (x : OuterState). x.irq) (at k le);
+      sio = λ k le. ap (λ (x : OuterState). x.sio) (at k le);
+      held = λ k le. ap held_blocks (at k le) ∙ passed_held w seen s n k p le;
+      words = λ k le. ap (λ (x : OuterState). length x.device) (at k le) ∙ p.words_quiet.count k le;
+    }
+
+-- ---- fewer cycles, and none
+
+pub fewer : (w : Setting) (seen : SeenOutputs) (s : OuterState) (n m : ℕ) → IsQuiet w seen s n → m ≤ n → IsQuiet w seen s m
+fewer w seen s n m q le = record {
+  mark = λ k lt. q.mark k (omega arith);
+  pads = λ k lt. q.pads k (omega arith);
+  lines = λ k lt. q.lines k (omega arith);
+  pacing = λ k lt. q.pacing k (omega arith);
+  irq = λ k lt. q.irq k (omega arith);
+  sio = λ k lt. q.sio k (omega arith);
+  held = λ k lt. q.held k (omega arith);
+  words = λ k lt. q.words k (omega arith);
+}
+
+pub quiet_zero : (w : Setting) (seen : SeenOutputs) (s : OuterState) → IsQuiet w seen s 0
+quiet_zero w seen s =
+    let at : (k : ℕ) → k ≤ 0 → outer_after w seen k s ≡ s = λ k le. times_none (outer_step w seen) seen.cycle k s (omega arith) in
+    record {
+      mark = λ k lt. absurd (omega arith);
+      pads = λ k le. ap (λ (x : OuterState). x.pads) (at k le);
+      lines = λ k le core. ap (outer_lines core) (at k le);
+      pacing = λ k le. ap outer_pacing (at k le);
+      irq = λ k le. ap (λ (x : OuterState). x.irq) (at k le);
+      sio = λ k le. ap (λ (x : OuterState). x.sio) (at k le);
+      held = λ k le. ap held_blocks (at k le);
+      words = λ k le. ap (λ (x : OuterState). length x.device) (at k le);
+    }
+
+uart_less : (line : Bool) (u : Resettable SerialPort) (cycle n m : ℕ) → IsUartQuiet line u cycle n → m ≤ n → IsUartQuiet line u cycle m
+uart_less line u cycle n m q le = record {
+  silent = λ k lt. q.silent k (omega arith);
+  output = λ k lt. q.output k (omega arith);
+  interrupt = λ k lt. q.interrupt k (omega arith);
+  pacing = λ k lt. q.pacing k (omega arith);
+  held = λ k lt. q.held k (omega arith);
+}
+
+-- by the number of cycles that each part is quiet for, where the fields are these
+pub least_quiet : (w : Setting) (seen : SeenOutputs) (i s : OuterState) (a b c d e n : ℕ) → i ≡ s → IsTimerQuiet i.timer seen.cycle a → IsUartQuiet (receive_level 0 i.pads) i.uart0 seen.cycle b → IsUartQuiet (receive_level 1 i.pads) i.uart1 seen.cycle c → IsScriptQuiet w.script seen.cycle d → AreWordsQuiet w.device i.device seen.cycle i.pads.current e → n ≤ a → n ≤ b → n ≤ c → n ≤ d → n ≤ e → IsSettled w seen s → IsQuiet w seen s n
+least_quiet w seen i s a b c d e n same t u v x y la lb lc ld le settled =
+    let here : IsSettled w seen i = subst (IsSettled w seen) (sym same) settled in
+    subst (λ (o : OuterState). IsQuiet w seen o n) same
+    (parts_quiet w seen i n (record {
+      timer_quiet = record { lines = λ k lt. t.lines k (omega arith); held = λ k lt. t.held k (omega arith) };
+      uart0_quiet = uart_less (receive_level 0 i.pads) i.uart0 seen.cycle b n u lb;
+      uart1_quiet = uart_less (receive_level 1 i.pads) i.uart1 seen.cycle c n v lc;
+      words_quiet = record { drives = λ k lt. y.drives k (omega arith); count = λ k lt. y.count k (omega arith) };
+      script_quiet = λ k lt. x k (omega arith);
+      settled = here.pads;
+      same_irq = here.irq;
+    }))
+
+-- by what was stepped on copies
+pub settled_by : (w : Setting) (seen : SeenOutputs) (s : OuterState) (wires : Wires) (drives : Drives) (outs : Outs) (pads : Bank) → wires ≡ wires_of w.device seen.cycle s → ((pin : ℕ) → pin < 30 → by_sets drives.driven drives.high pin ≡ outside_of w.script wires seen.cycle pin) → outs ≡ outs_of wires seen s → pads ≡ s.pads → after_step outs (by_sets drives.driven drives.high) pads ≡ pads → wires.irq ≡ s.irq → IsSettled w seen s
+settled_by w seen s wires drives outs pads e outside f g stays irq =
+    let here : after_step (outs_of wires seen s) (by_sets drives.driven drives.high) s.pads ≡ s.pads = rw (f, g) at stays in
+    let there : after_step (outs_of wires seen s) (outside_of w.script wires seen.cycle) s.pads ≡ s.pads =
+    ap (λ (x : ℕ). with_levels x (with_edges (edges_of s.pads) s.pads))
+    (sym (levels_same (outs_of wires seen s) (by_sets drives.driven drives.high) (outside_of w.script wires seen.cycle) s.pads outside))
+    ∙ here in
+    record { pads = rw (← e) there; irq = rw (← e) irq }

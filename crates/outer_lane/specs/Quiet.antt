@@ -1,0 +1,91 @@
+-- For how long the peripherals are quiet, and what they are after so many cycles.
+use Rattle.std.specs.Prelude.{◌≡◌, ℕ, ◌+◌, ◌<◌, ◌≤◌, Bool, if◌then◌else◌, List, [], ◌∷◌, length, None}
+use Rattle.std.specs.List.{filter}
+use Rattle.rp_base.specs.declared.resettable.Resettable.{Resettable}
+use Rattle.lane_look.specs.declared.marks.Mark.{Mark}
+use Rattle.lane_look.specs.Device.{DeviceMeaning}
+use Rattle.lane_look.specs.Quiet.{device_after}
+use Rattle.lane_look.specs.Times.{times}
+use Rattle.io_bank.specs.Step.{after_step}
+use Rattle.pin_script.specs.declared.entry.Entry.{Entry}
+use Rattle.pin_script.specs.Levels.{is_due}
+use Rattle.rp_timer.specs.State.{TimerState, lines_of}
+use Rattle.rp_uart.specs.State.{SerialPort}
+use Rattle.rp_uart.specs.Step.{output_of, pacing_of}
+use Rattle.rp_uart.specs.Interrupts.{is_line_high}
+use Rattle.outer_lane.specs.declared.world.SeenOutputs.{SeenOutputs}
+use Rattle.outer_lane.specs.Setting.{Setting}
+use Rattle.outer_lane.specs.State.{OuterState}
+use Rattle.outer_lane.specs.Lines.{outer_lines, outer_pacing}
+use Rattle.outer_lane.specs.Step.{is_fitting, next, marked, outs_of, outside_of, timer_after, uart_after, byte_of, wires_by, wires_of, words_by}
+
+-- what is seen in another cycle, where the outputs of PIO stay
+abbrev pub seen_in : SeenOutputs → ℕ → SeenOutputs
+seen_in seen cycle = record seen { cycle = cycle }
+
+-- a cycle, where the outputs of PIO are these
+abbrev pub outer_step : Setting → SeenOutputs → ℕ → OuterState → OuterState
+outer_step w seen cycle s = next w s (seen_in seen cycle)
+
+-- the state after so many cycles, from the one on in which this is seen
+abbrev pub outer_after : Setting → SeenOutputs → ℕ → OuterState → OuterState
+outer_after w seen n s = times (outer_step w seen) seen.cycle n s
+
+-- which blocks are held in reset beside the pads
+abbrev pub held_blocks : OuterState → List Bool
+held_blocks s = s.timer.held ∷ s.uart0.held ∷ s.uart1.held ∷ []
+
+-- the mark of a cycle in which no frame ends and no level changes
+abbrev pub quiet_mark : OuterState → Mark
+quiet_mark s = record { uart = None ∷ None ∷ []; pads = s.pads.current }
+
+-- in each of so many cycles, as long as the outputs of PIO are these, no frame ends and no level changes; after each the pads, the
+-- interrupt lines, the counts that pace DMA channels, what is kept of SIO and of RESETS, and the number of the device's words are
+-- what they were
+pub record IsQuiet (w : Setting) (seen : SeenOutputs) (s : OuterState) (n : ℕ) : Type 0 where
+  pub mark : (k : ℕ) → k < n → marked w (outer_after w seen k s) (seen_in seen (seen.cycle + k)) ≡ quiet_mark s
+  pub pads : (k : ℕ) → k ≤ n → (outer_after w seen k s).pads ≡ s.pads
+  pub lines : (k : ℕ) → k ≤ n → (core : ℕ) → outer_lines core (outer_after w seen k s) ≡ outer_lines core s
+  pub pacing : (k : ℕ) → k ≤ n → outer_pacing (outer_after w seen k s) ≡ outer_pacing s
+  pub irq : (k : ℕ) → k ≤ n → (outer_after w seen k s).irq ≡ s.irq
+  pub sio : (k : ℕ) → k ≤ n → (outer_after w seen k s).sio ≡ s.sio
+  pub held : (k : ℕ) → k ≤ n → held_blocks (outer_after w seen k s) ≡ held_blocks s
+  pub words : (k : ℕ) → k ≤ n → length (outer_after w seen k s).device ≡ length s.device
+
+-- a cycle in which this is seen leaves the pads as they are, and the lines of the device
+pub record IsSettled (w : Setting) (seen : SeenOutputs) (s : OuterState) : Type 0 where
+  pub pads : after_step (outs_of (wires_of w.device seen.cycle s) seen s) (outside_of w.script (wires_of w.device seen.cycle s) seen.cycle) s.pads ≡ s.pads
+  pub irq : (wires_of w.device seen.cycle s).irq ≡ s.irq
+
+-- ---- part by part
+
+-- a UART hears this line, whatever the number of the cycle
+abbrev pub uart_cycle : Bool → ℕ → Resettable SerialPort → Resettable SerialPort
+uart_cycle line cycle u = uart_after line u
+
+-- the words of the device, where the pads have these levels
+abbrev pub words_cycle : DeviceMeaning → ℕ → ℕ → List ℕ → List ℕ
+words_cycle d levels cycle words = words_by d words cycle levels
+
+-- they after so many cycles, where their number stays
+unfoldable pub words_after : DeviceMeaning → ℕ → ℕ → ℕ → List ℕ → List ℕ
+words_after d levels cycle n words = if is_fitting d words then device_after d levels cycle n words else words
+
+pub record IsTimerQuiet (t : Resettable TimerState) (cycle n : ℕ) : Type 0 where
+  pub lines : (k : ℕ) → k ≤ n → lines_of (times timer_after cycle k t).block ≡ lines_of t.block
+  pub held : (k : ℕ) → k ≤ n → (times timer_after cycle k t).held ≡ t.held
+
+pub record IsUartQuiet (line : Bool) (u : Resettable SerialPort) (cycle n : ℕ) : Type 0 where
+  pub silent : (k : ℕ) → k < n → byte_of (times (uart_cycle line) cycle k u) ≡ None
+  pub output : (k : ℕ) → k ≤ n → output_of (times (uart_cycle line) cycle k u).block ≡ output_of u.block
+  pub interrupt : (k : ℕ) → k ≤ n → is_line_high (times (uart_cycle line) cycle k u).block ≡ is_line_high u.block
+  pub pacing : (k : ℕ) → k ≤ n → pacing_of (times (uart_cycle line) cycle k u).block ≡ pacing_of u.block
+  pub held : (k : ℕ) → k ≤ n → (times (uart_cycle line) cycle k u).held ≡ u.held
+
+pub record AreWordsQuiet (d : DeviceMeaning) (words : List ℕ) (cycle levels n : ℕ) : Type 0 where
+  pub drives : (k : ℕ) → k < n → wires_by d (times (words_cycle d levels) cycle k words) (cycle + k) levels ≡ wires_by d words cycle levels
+  pub count : (k : ℕ) → k ≤ n → length (times (words_cycle d levels) cycle k words) ≡ length words
+
+-- no entry of the script comes in so many cycles
+abbrev pub IsScriptQuiet : List Entry → ℕ → ℕ → Type 0
+IsScriptQuiet script cycle n = (k : ℕ) → k < n → filter (is_due (cycle + k)) script ≡ filter (is_due cycle) script
