@@ -1,5 +1,5 @@
 -- The peripherals over many cycles: each part goes its own way as long as the pads stay.
-use Rattle.std.proofs.Common.{◌≡◌, ℕ, zero, suc, ◌+◌, ◌-◌, ◌^◌, ◌<◌, ◌≤◌, ◌==◌, Bool, true, false, List, [], ◌∷◌, ◌++◌, length, Option, None, refl, sym, ap, subst, ◌∙◌, arith}
+use Rattle.std.proofs.Common.{◌≡◌, ℕ, zero, suc, ◌+◌, ◌-◌, ◌^◌, ◌<◌, ◌≤◌, ◌==◌, Bool, true, false, List, [], ◌∷◌, ◌++◌, length, Option, None, if◌then◌else◌, refl, sym, ap, subst, ◌∙◌, arith}
 use Rattle.std.proofs.lemmas.Bool.Decides.{nat_tests}
 use Rattle.std.specs.List.{filter}
 use Rattle.rp_base.specs.declared.resettable.Resettable.{Resettable}
@@ -7,12 +7,15 @@ use Rattle.rp_base.specs.Resettable.{unless_held_becomes}
 use Rattle.io_bank.specs.declared.outputs.Outs.{Outs}
 use Rattle.io_bank.specs.State.{Bank}
 use Rattle.io_bank.specs.Edges.{edges_of}
-use Rattle.io_bank.specs.Levels.{by_sets, levels_of, receive_level, uart_outputs}
+use Rattle.io_bank.specs.Levels.{by_sets, is_used, receive_level, uart_outputs}
 use Rattle.io_bank.specs.Step.{after_step, with_edges, with_levels}
 use Rattle.lane_look.specs.declared.device.Wires.{Wires}
-use Rattle.lane_look.specs.declared.marks.Mark.{Mark}
+use Rattle.lane_look.specs.declared.lane.Ask.{Ask}
+use Rattle.lane_look.specs.declared.lane.Ask.TheVariants as ask
+use Rattle.lane_look.specs.Asking.{answered}
+use Rattle.lane_look.specs.Asking.Asking.{Ready, Question}
 use Rattle.lane_look.specs.Device.{DeviceMeaning, no_wires}
-use Rattle.lane_look.specs.Quiet.{IsDeviceQuiet, device_step, device_after}
+use Rattle.lane_look.specs.Quiet.{IsDeviceQuiet, device_after}
 use Rattle.lane_look.specs.Times.{times}
 use Rattle.lane_look.proofs.Times.{times_rest, times_none}
 use Rattle.pin_script.specs.declared.entry.Entry.{Entry}
@@ -26,12 +29,14 @@ use Rattle.rp_timer.specs.Step as timer
 use Rattle.rp_timer.specs.Quiet as timer_quiet
 use Rattle.rp_uart.specs.State.{SerialPort}
 use Rattle.rp_uart.specs.Step.{output_of, pacing_of}
+use Rattle.rp_uart.specs.Step as uart
+use Rattle.rp_uart.specs.Quiet as uart_quiet
 use Rattle.rp_uart.specs.Interrupts.{is_line_high}
 use Rattle.outer_lane.specs.declared.world.SeenOutputs.{SeenOutputs}
-use Rattle.outer_lane.specs.Lines.{bank_line, block_lines, outer_lines, outer_pacing}
+use Rattle.outer_lane.specs.Lines.{outer_lines, outer_pacing}
 use Rattle.outer_lane.specs.Setting.{Setting}
 use Rattle.outer_lane.specs.State.{OuterState}
-use Rattle.outer_lane.specs.Step.{either, outs_of, outside_of, levels_by, pads_by, next_by, next, marked_by, marked, timer_after, uart_after, byte_of, wires_by, words_by, wires_of}
+use Rattle.outer_lane.specs.Step.{either, outs_of, outside_of, levels_by, pads_by, next_by, next, marked_by, marked, timer_after, uart_after, byte_of, wires_by, words_by, wires_of, seen_of, pins_in, no_pins, asks_second, asks}
 use Rattle.outer_lane.specs.Quiet.{seen_in, outer_step, outer_after, held_blocks, quiet_mark, IsQuiet, uart_cycle, words_cycle, words_after, IsSettled, IsTimerQuiet, IsUartQuiet, AreWordsQuiet, IsScriptQuiet}
 use Rattle.outer_lane.proofs.Sets.{levels_same}
 
@@ -73,31 +78,61 @@ timer_runs t cycle n e q = record {
   held = λ k le. ap (λ (x : Resettable TimerState). x.held) (let_go_timer t cycle k e);
 }
 
--- ---- a UART at rest
+-- ---- a UART
 
-pub uart_rests : (line : Bool) (u : Resettable SerialPort) (cycle n : ℕ) → uart_after line u ≡ u → byte_of u ≡ None → IsUartQuiet line u cycle n
-uart_rests line u cycle n same silent =
-    let at : (k : ℕ) → times (uart_cycle line) cycle k u ≡ u = λ k. times_rest (uart_cycle line) cycle k u (λ c. same) in
+uart_go : (held : Bool) (block x : SerialPort) (line : Bool) → uart_after line (unless_held_becomes (record { block = block; held = held }) x) ≡ unless_held_becomes (record { block = block; held = held }) (uart.after_step line x)
+uart_go true block x line = refl
+uart_go false block x line = refl
+
+none_uart : (held : Bool) (block : SerialPort) → record { block = block; held = held } ≡ unless_held_becomes (record { block = block; held = held }) block
+none_uart true block = refl
+none_uart false block = refl
+
+uart_cycles : (line : Bool) (u : Resettable SerialPort) (cycle k : ℕ) → times (uart_cycle line) cycle k u ≡ unless_held_becomes u (uart_quiet.after_cycles line k u.block)
+unfolding times
+uart_cycles line u cycle zero = none_uart u.held u.block
+uart_cycles line u cycle (suc k) =
+    ap (uart_after line) (uart_cycles line u cycle k)
+    ∙ uart_go u.held u.block (uart_quiet.after_cycles line k u.block) line
+
+pub held_uart : (line : Bool) (u : Resettable SerialPort) (cycle k : ℕ) → u.held ≡ true → times (uart_cycle line) cycle k u ≡ u
+held_uart line u cycle k e = uart_cycles line u cycle k ∙ rw e refl
+
+let_go_uart : (line : Bool) (u : Resettable SerialPort) (cycle k : ℕ) → u.held ≡ false → times (uart_cycle line) cycle k u ≡ record u { block = uart_quiet.after_cycles line k u.block }
+let_go_uart line u cycle k e = uart_cycles line u cycle k ∙ rw e refl
+
+pub runs_uart : (line : Bool) (u : Resettable SerialPort) (cycle k : ℕ) (block : SerialPort) → u.held ≡ false → block ≡ uart_quiet.after_cycles line k u.block → record { block = block; held = u.held } ≡ times (uart_cycle line) cycle k u
+runs_uart line u cycle k block e f = rw f (sym (let_go_uart line u cycle k e))
+
+pub uart_stays : (line : Bool) (u : Resettable SerialPort) (cycle n : ℕ) → uart_after line u ≡ u → times (uart_cycle line) cycle n u ≡ u
+uart_stays line u cycle n same = times_rest (uart_cycle line) cycle n u (λ c. same)
+
+byte_held : (u : Resettable SerialPort) → u.held ≡ true → byte_of u ≡ None
+byte_held u e = rw e refl
+
+byte_let_go : (u : Resettable SerialPort) → u.held ≡ false → byte_of u ≡ uart.sent_byte u.block
+byte_let_go u e = rw e refl
+
+pub uart_held : (line : Bool) (u : Resettable SerialPort) (cycle n : ℕ) → u.held ≡ true → IsUartQuiet line u cycle n
+uart_held line u cycle n e =
+    let at : (k : ℕ) → times (uart_cycle line) cycle k u ≡ u = λ k. held_uart line u cycle k e in
     record {
-      silent = λ k lt. ap byte_of (at k) ∙ silent;
+      silent = λ k lt. ap byte_of (at k) ∙ byte_held u e;
       output = λ k le. ap (λ (x : Resettable SerialPort). output_of x.block) (at k);
       interrupt = λ k le. ap (λ (x : Resettable SerialPort). is_line_high x.block) (at k);
       pacing = λ k le. ap (λ (x : Resettable SerialPort). pacing_of x.block) (at k);
       held = λ k le. ap (λ (x : Resettable SerialPort). x.held) (at k);
     }
 
-pub uart_stays : (line : Bool) (u : Resettable SerialPort) (cycle n : ℕ) → uart_after line u ≡ u → times (uart_cycle line) cycle n u ≡ u
-uart_stays line u cycle n same = times_rest (uart_cycle line) cycle n u (λ c. same)
-
-pub uart_none : (line : Bool) (u : Resettable SerialPort) (cycle : ℕ) → IsUartQuiet line u cycle 0
-uart_none line u cycle =
-    let at : (k : ℕ) → k ≤ 0 → times (uart_cycle line) cycle k u ≡ u = λ k le. times_none (uart_cycle line) cycle k u (omega arith) in
+pub uart_runs : (line : Bool) (u : Resettable SerialPort) (cycle n : ℕ) → u.held ≡ false → uart_quiet.IsQuiet line u.block n → IsUartQuiet line u cycle n
+uart_runs line u cycle n e q =
+    let at : (k : ℕ) → times (uart_cycle line) cycle k u ≡ record u { block = uart_quiet.after_cycles line k u.block } = λ k. let_go_uart line u cycle k e in
     record {
-      silent = λ k lt. absurd (omega arith);
-      output = λ k le. ap (λ (x : Resettable SerialPort). output_of x.block) (at k le);
-      interrupt = λ k le. ap (λ (x : Resettable SerialPort). is_line_high x.block) (at k le);
-      pacing = λ k le. ap (λ (x : Resettable SerialPort). pacing_of x.block) (at k le);
-      held = λ k le. ap (λ (x : Resettable SerialPort). x.held) (at k le);
+      silent = λ k lt. ap byte_of (at k) ∙ byte_let_go (record u { block = uart_quiet.after_cycles line k u.block }) e ∙ q.silent k lt;
+      output = λ k le. ap (λ (x : Resettable SerialPort). output_of x.block) (at k) ∙ q.output k le;
+      interrupt = λ k le. ap (λ (x : Resettable SerialPort). is_line_high x.block) (at k) ∙ q.lines k le;
+      pacing = λ k le. ap (λ (x : Resettable SerialPort). pacing_of x.block) (at k) ∙ q.pacing k le;
+      held = λ k le. ap (λ (x : Resettable SerialPort). x.held) (at k);
     }
 
 -- ---- the device
@@ -220,6 +255,9 @@ one_more : (w : Setting) (seen : SeenOutputs) (s : OuterState) (k : ℕ) → out
 unfolding times
 one_more w seen s k = refl
 
+pub after_more : (w : Setting) (seen : SeenOutputs) (s : OuterState) (k : ℕ) → outer_after w seen (suc k) s ≡ next w (outer_after w seen k s) (seen_in seen (seen.cycle + k))
+after_more w seen s k = one_more w seen s k
+
 -- where the peripherals are quiet, each part has gone on its own
 pub quiet_closed : (w : Setting) (seen : SeenOutputs) (s : OuterState) (n : ℕ) → IsQuiet w seen s n → (k : ℕ) → k ≤ n → outer_after w seen k s ≡ passed w seen k s
 quiet_closed w seen s n q zero le = closed_none w seen s
@@ -307,8 +345,13 @@ passed_lines : (w : Setting) (seen : SeenOutputs) (s : OuterState) (n k core : �
 unfolding outer_lines
 passed_lines w seen s n k core p le = rw (p.timer_quiet.lines k le, p.uart0_quiet.interrupt k le, p.uart1_quiet.interrupt k le) refl
 
+two_pacings : (a b c d : List ℕ) → a ≡ c → b ≡ d → a ++ b ≡ c ++ d
+two_pacings a b c d e f = rw (e, f) refl
+
 passed_pacing : (w : Setting) (seen : SeenOutputs) (s : OuterState) (n k : ℕ) → ArePartsQuiet w seen s n → k ≤ n → outer_pacing (passed w seen k s) ≡ outer_pacing s
-passed_pacing w seen s n k p le = rw (p.uart0_quiet.pacing k le, p.uart1_quiet.pacing k le) refl
+passed_pacing w seen s n k p le =
+    two_pacings (pacing_of (passed w seen k s).uart0.block) (pacing_of (passed w seen k s).uart1.block) (pacing_of s.uart0.block) (pacing_of s.uart1.block)
+    (p.uart0_quiet.pacing k le) (p.uart1_quiet.pacing k le)
 
 passed_held : (w : Setting) (seen : SeenOutputs) (s : OuterState) (n k : ℕ) → ArePartsQuiet w seen s n → k ≤ n → held_blocks (passed w seen k s) ≡ held_blocks s
 passed_held w seen s n k p le = rw (p.timer_quiet.held k le, p.uart0_quiet.held k le, p.uart1_quiet.held k le) refl
@@ -388,3 +431,25 @@ settled_by w seen s wires drives outs pads e outside f g stays irq =
     (sym (levels_same (outs_of wires seen s) (by_sets drives.driven drives.high) (outside_of w.script wires seen.cycle) s.pads outside))
     ∙ here in
     record { pads = rw (← e) there; irq = rw (← e) irq }
+
+-- ---- what is seen in another cycle, where the pads are the same and the outputs of PIO too
+
+second_go : (b : Bool) (f g : Ask → ℕ) (c d : ℕ) (first : List ℕ) → f (ask.Outs 1) ≡ g (ask.Outs 1) → answered f (if b then Question (ask.Outs 1) (λ answer. Ready (seen_of d first (pins_in answer))) else Ready (seen_of d first no_pins)) ≡ seen_in (answered g (if b then Question (ask.Outs 1) (λ answer. Ready (seen_of c first (pins_in answer))) else Ready (seen_of c first no_pins))) d
+second_go true f g c d first e = rw e refl
+second_go false f g c d first e = refl
+
+first_go : (a : Bool) (f g : Ask → ℕ) (o : OuterState) (c d : ℕ) → f (ask.Outs 0) ≡ g (ask.Outs 0) → f (ask.Outs 1) ≡ g (ask.Outs 1) → answered f (if a then Question (ask.Outs 0) (λ answer. asks_second o d (pins_in answer)) else asks_second o d no_pins) ≡ seen_in (answered g (if a then Question (ask.Outs 0) (λ answer. asks_second o c (pins_in answer)) else asks_second o c no_pins)) d
+unfolding asks_second
+first_go true f g o c d e0 e1 =
+    ap (λ (x : ℕ). answered f (asks_second o d (pins_in x))) e0
+    ∙ second_go (is_used 7 o.pads) f g c d (pins_in (g (ask.Outs 0))) e1
+first_go false f g o c d e0 e1 = second_go (is_used 7 o.pads) f g c d no_pins e1
+
+same_asks : (o p : OuterState) (d : ℕ) → p.pads ≡ o.pads → asks p d ≡ asks o d
+unfolding asks asks_second
+same_asks o p d e = rw e refl
+
+pub seen_again : (f g : Ask → ℕ) (o p : OuterState) (c d : ℕ) → p.pads ≡ o.pads → f (ask.Outs 0) ≡ g (ask.Outs 0) → f (ask.Outs 1) ≡ g (ask.Outs 1) → answered f (asks p d) ≡ seen_in (answered g (asks o c)) d
+unfolding asks
+seen_again f g o p c d e e0 e1 =
+    ap (answered f) (same_asks o p d e) ∙ first_go (is_used 6 o.pads) f g o c d e0 e1

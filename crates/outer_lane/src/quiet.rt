@@ -1,11 +1,11 @@
 //! For how long the peripherals are quiet, and many cycles at once.
 
-ghost use Rattle.std.specs.Prelude.{◌≡◌, ◌≤◌, ◌<◌, ◌+◌, ◌^◌, length, true, None};
+ghost use Rattle.std.specs.Prelude.{◌≡◌, ◌≤◌, ◌<◌, ◌+◌, ◌^◌, length, true};
 ghost use Rattle.io_bank.specs.Levels.{by_sets};
 ghost use Rattle.io_bank.specs.Step.{after_step};
 ghost use Rattle.lane_look.specs.Times.{times};
 ghost use Rattle.pin_script.specs.Reading.{cycle_at, IsDueBefore};
-ghost use Rattle.outer_lane.specs.Step.{timer_after, uart_after, byte_of};
+ghost use Rattle.outer_lane.specs.Step.{timer_after};
 ghost use Rattle.outer_lane.specs.Quiet.{IsTimerQuiet, IsUartQuiet, AreWordsQuiet, IsScriptQuiet, uart_cycle, words_after};
 
 use crate::outer::Outer;
@@ -42,28 +42,15 @@ fn pass_timer(timer: &mut Resettable<Timer>, cycle: u64, n: u64)
     timer.block.pass(cycle, n);
 }
 
-/// A UART is held, or a cycle with this line changes nothing of it.
-fn rests(uart: &Resettable<Uart>, line: bool) -> bool
-    ensures same { result ≡ true → uart_after line uart.now ≡ uart.now }
-    ensures silent { result ≡ true → byte_of uart.now ≡ None }
-{
-    uart.held || uart.block.is_at_rest(line)
-}
-
 /// For so many cycles with this line a UART ends no frame, and shows the same.
 fn uart_quiet(uart: &Resettable<Uart>, line: bool, cycle: u64) -> u64
     ensures { IsUartQuiet line uart.now cycle result }
 {
     let _first = cycle;
-    if rests(uart, line) { u64::MAX } else { 0 }
-}
-
-/// One cycle of a UART with this line, unless it is held.
-fn step_line(uart: &mut Resettable<Uart>, line: bool)
-    ensures { uart.new ≡ uart_after line uart.old }
-{
-    if !uart.held {
-        let _ = uart.block.step(line);
+    if uart.held {
+        u64::MAX
+    } else {
+        uart.block.quiet(line)
     }
 }
 
@@ -72,13 +59,10 @@ fn pass_uart(uart: &mut Resettable<Uart>, line: bool, cycle: u64, n: u64)
     ensures { uart.new ≡ times (uart_cycle line) cycle n uart.old }
 {
     let _first = cycle;
-    if rests(uart, line) {
+    if uart.held {
         return;
     }
-    for k in 0..n {
-        prove!(k < n);
-        step_line(uart, line);
-    }
+    uart.block.pass(line, n);
 }
 
 /// For so many cycles from this one on the device drives the same, where the pads have these levels. One that has another number of
@@ -203,7 +187,11 @@ impl Outer {
         if least == 0 {
             return 0;
         }
-        if self.is_settled(world, seen) { least } else { 0 }
+        if self.is_settled(world, seen) {
+            least
+        } else {
+            0
+        }
     }
 
     /// So many cycles of the UARTs from this one on, where the pads stay.

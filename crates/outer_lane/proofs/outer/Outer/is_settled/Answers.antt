@@ -1,0 +1,18 @@
+use Rattle.std.proofs.Common.{◌≡◌, ℕ, List, ap, ◌∙◌}
+use Rattle.outer_lane.specs.Setting.{setting}
+use Rattle.outer_lane.specs.State.{OuterState}
+use Rattle.outer_lane.specs.Step.{wires_by, wires_of}
+use Rattle.outer_lane.proofs.Cycles.{settled_by}
+use Rattle.outer_lane.proofs.outer.Outer.is_settled.Goals as goal
+
+pub returns : goal.returns
+returns g c t =
+    let d = g.X.Device.meaning c.args.world.now.device.now in
+    let s = c.args.self.now in
+    let cycle = c.args.seen.now.cycle in
+    let e : c.step_device-wires.result ≡ wires_of d cycle s =
+    c.step_device-wires.ensures.wires
+    ∙ ap (λ (xs : List ℕ). wires_by d xs cycle c.pads-levels.result) c.words-words.ensures
+    ∙ ap (λ (n : ℕ). wires_by d s.device cycle n) c.pads-levels.ensures in
+    settled_by (setting g.X.Device.meaning c.args.world.now) c.args.seen.now s c.step_device-wires.result c.outside-drives.result c.outs-outs.result _ e c.outside-drives.ensures c.outs-outs.ensures (ap (λ (x : OuterState). x.pads) c.self.view_is) (c.settles.ensures t)
+    (c.if-wires-self.false ∙ ap (λ (x : OuterState). x.irq) c.self.view_is)
