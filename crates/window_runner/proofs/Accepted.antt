@@ -34,7 +34,7 @@ agrees f (Question ask next) =
 
 -- ---- all cycles
 
-abbrev run : {S B : Type 0} → Meaning (Unit {0}) S B → ℕ → State → Report S → ℕ → Alone S State
+abbrev pub run : {S B : Type 0} → Meaning (Unit {0}) S B → ℕ → State → Report S → ℕ → Alone S State
 run m lane s report k = alone m (around lane) tt report.before report.start s k
 
 abbrev asked_at : {S B : Type 0} → Meaning (Unit {0}) S B → ℕ → State → Report S → ℕ → List Entry
@@ -72,8 +72,8 @@ begins m lane s report k (suc n) le =
     ]
 
 -- after k cycles the replay stands where the run alone stands, with what the run asks from there on
-record IsAlong {S B : Type 0} (m : Meaning (Unit {0}) S B) (lane : ℕ) (s : State) (report : Report S) (k : ℕ) : Type 0 where
-  level : IsLevel m lane s report k
+pub record IsAlong {S B : Type 0} (m : Meaning (Unit {0}) S B) (lane : ℕ) (s : State) (report : Report S) (k : ℕ) : Type 0 where
+  pub level : IsLevel m lane s report k
   rest : report.log ≡ (run m lane s report k).talk ++ (replay_of m tt report k).rest
 
 along_first : {S B : Type 0} (m : Meaning (Unit {0}) S B) (lane : ℕ) (s : State) (report : Report S) → IsAlong m lane s report 0
@@ -121,7 +121,7 @@ left_now {S} m lane s report k h next =
     ∙ ap (λ (es : List Entry). left es (m.asks tt a.state cycle)) next.is
     ∙ left_asked (answer_of lane a.around) (m.asks tt a.state cycle) next.more
 
-along : {S B : Type 0} (m : Meaning (Unit {0}) S B) (lane : ℕ) (s : State) (report : Report S) (k : ℕ) →
+pub along : {S B : Type 0} (m : Meaning (Unit {0}) S B) (lane : ℕ) (s : State) (report : Report S) (k : ℕ) →
     report.log ≡ (run m lane s report report.length).talk → k ≤ report.length → IsAlong m lane s report k
 along m lane s report zero log le = along_first m lane s report
 along m lane s report (suc k) log le =
@@ -132,7 +132,7 @@ along m lane s report (suc k) log le =
       rest = next.whole ∙ ap (λ (es : List Entry). (run m lane s report (suc k)).talk ++ es) (sym (left_now m lane s report k h.level next));
     }
 
-alone_accepted : {S B : Type 0} (m : Meaning (Unit {0}) S B) (lane : ℕ) (before : S) (s : State) (bound : ℕ) (report : Report S)
+pub alone_accepted : {S B : Type 0} (m : Meaning (Unit {0}) S B) (lane : ℕ) (before : S) (s : State) (bound : ℕ) (report : Report S)
     → IsRunAlone m lane before s bound report → IsAccepted m lane before s bound report
 alone_accepted {S} m lane before s bound report h =
     let log : report.log ≡ (run m lane s report report.length).talk =

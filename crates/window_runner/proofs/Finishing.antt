@@ -12,7 +12,7 @@ use Rattle.turn_board.proofs.Follows.{finishes, done_opened, all_finished}
 use Rattle.turn_board.proofs.Keeps.{events_keep_good, sit_keeps}
 use Rattle.window_runner.specs.Reports.{OneReport}
 use Rattle.window_runner.specs.Orders.{RunState, new_board, beginning, Event, IsLegal, Happens, Goes, numbers_in, EachCameOnce}
-use Rattle.window_runner.specs.Orders.Event.{Draw, SeeOpen, Finish, Open, Close, SeeDone, Commit}
+use Rattle.window_runner.specs.Orders.Event.{Draw, SeeOpen, Finish, Open, Close, SeeDone, Commit, Pass}
 
 -- ---- a new board
 
@@ -83,7 +83,8 @@ step_counted w r (Finish seat number found) next h legal e = subst Counted (sym 
 step_counted w r Open next h legal e = subst Counted (sym e) (record { good = events_keep_good r.board OpenOn h.good legal.0; same = h.same })
 step_counted w r Close next h legal e = subst Counted (sym e) (record { good = events_keep_good r.board CloseOn h.good legal; same = h.same })
 step_counted w r SeeDone next h legal e = subst Counted (sym e) (record { good = events_keep_good r.board SeeDoneOn h.good legal; same = h.same })
-step_counted w r Commit next h legal e = subst Counted (sym e.2) (record { good = h.good; same = h.same })
+step_counted w r Commit next h legal e = subst Counted (sym e.1.1) (record { good = h.good; same = h.same })
+step_counted w r (Pass windows) next h legal e = subst Counted (sym e.2) (record { good = h.good; same = h.same })
 
 goes_counted : (w : Setting) (events : List Event) (r last : RunState) → Counted r → Goes w r events last → Counted last
 goes_counted w [] r last h e = subst Counted (sym e) h

@@ -16,9 +16,8 @@ use Rattle.window_merge.proofs.Agree.{both_false, not_false, is_not, differ_of}
 use Rattle.window_merge.proofs.Lanes.{lane_first, below_least}
 use Rattle.window_merge.proofs.Meeting.{least_meets}
 use Rattle.window_merge.proofs.Windows.{Lengths, AreLengths, AreOn, Stands, Tries, stands_first, stands_next, ends_tried, ends_run, ends_full}
-use Rattle.window_runner.specs.Reports.{SixReports}
+use Rattle.window_runner.specs.Reports.{SixReports, AreRunsAlone}
 use Rattle.window_runner.specs.Merge.{logs_of, by_logs, any_ends, merge_ends, merged_length, merged}
-use Rattle.window_runner.proofs.Taking.{AreAlone}
 
 abbrev lengths_of : SixReports → Lengths
 lengths_of six = record {
@@ -30,7 +29,7 @@ lengths_of six = record {
   outer = six.outer.length;
 }
 
-are_lengths : (w : Setting) (s : State) (six : SixReports) → AreAlone w s six → AreLengths w s (lengths_of six)
+are_lengths : (w : Setting) (s : State) (six : SixReports) → AreRunsAlone w s six → AreLengths w s (lengths_of six)
 are_lengths w s six h = record {
   core0 = h.core0.same_length;
   core1 = h.core1.same_length;
@@ -40,7 +39,7 @@ are_lengths w s six h = record {
   outer = h.outer.same_length;
 }
 
-ends_as : (w : Setting) (s : State) (six : SixReports) (k : ℕ) → AreAlone w s six → ends_in (runs_of w s (longest w s)) k ≡ any_ends six k
+ends_as : (w : Setting) (s : State) (six : SixReports) (k : ℕ) → AreRunsAlone w s six → ends_in (runs_of w s (longest w s)) k ≡ any_ends six k
 ends_as w s six k h =
     rw (← h.core0.same_length, ← h.core1.same_length, ← h.dma.same_length, ← h.pio0.same_length, ← h.pio1.same_length, ← h.outer.same_length) refl
 
@@ -65,7 +64,7 @@ on_of six k e =
 pub record Starts (w : Setting) (s : State) (six : SixReports) : Type 0 where
   pub free : has_hold s.fabric ≡ false
   pub knows : KnowsSio s
-  pub alone : AreAlone w s six
+  pub alone : AreRunsAlone w s six
 
 -- after k cycles none of which ends it, it stands where the window stands
 record AtCycle (w : Setting) (s : State) (six : SixReports) (k : ℕ) : Type 0 where
@@ -85,7 +84,7 @@ first_at w s six h = record {
       (lane_first (peripheral_lane w) 5 s.outer s six.outer.length six.outer.log h.alone.outer.same_log) refl;
 }
 
-tries_at : (w : Setting) (s : State) (six : SixReports) (k : ℕ) (now : State) (rests : Rests) (marks : List Mark) → AreAlone w s six
+tries_at : (w : Setting) (s : State) (six : SixReports) (k : ℕ) (now : State) (rests : Rests) (marks : List Mark) → AreRunsAlone w s six
     → Stands w s (lengths_of six) k now rests marks → any_ends six k ≡ false → k < longest w s → Tries w s (lengths_of six) k now rests marks
 tries_at w s six k now rests marks h stands e lt =
     record { stands = stands; lengths = are_lengths w s six h; on = on_of six k e; below = lt }
@@ -98,7 +97,7 @@ next_stands w s six k now rests marks t e =
     rw (← add-one) (stands_next w s (lengths_of six) k now rests marks true (next_by w (begun_by rests now) (wanted (begun_by rests now)) now)
     (left_by rests now) (marks ++ outer.marked w now.outer (begun_by rests now).outer ∷ []) t (sym e) refl refl refl refl)
 
-next_at : (w : Setting) (s : State) (six : SixReports) (k : ℕ) → AreAlone w s six → AtCycle w s six k → merge_ends w six s k ≡ false
+next_at : (w : Setting) (s : State) (six : SixReports) (k : ℕ) → AreRunsAlone w s six → AtCycle w s six k → merge_ends w six s k ≡ false
     → k < longest w s → AtCycle w s six (suc k)
 unfolding by_logs merge_ends
 next_at w s six k h at e lt =
@@ -119,7 +118,7 @@ at_cycle w s six (suc k) h le on =
 -- ---- its end
 
 ends_by : (w : Setting) (s : State) (six : SixReports) (k : ℕ) (now : State) (rests : Rests) (marks : List Mark) (ended : Bool)
-    → AreAlone w s six → Stands w s (lengths_of six) k now rests marks → k < longest w s → any_ends six k ≡ ended
+    → AreRunsAlone w s six → Stands w s (lengths_of six) k now rests marks → k < longest w s → any_ends six k ≡ ended
     → (ended || not (fits rests now)) ≡ true → k ≡ window_length w s
 ends_by w s six k now rests marks true h stands lt e either =
     ends_run w s (lengths_of six) k now rests marks stands lt (ends_as w s six k h ∙ e)
@@ -127,14 +126,14 @@ ends_by w s six k now rests marks false h stands lt e either =
     ends_tried w s (lengths_of six) k now rests marks (fits rests now) (tries_at w s six k now rests marks h stands e lt) refl
     (is_not (fits rests now) either)
 
-ends_here : (w : Setting) (s : State) (six : SixReports) (k : ℕ) → AreAlone w s six → AtCycle w s six k → k < longest w s
+ends_here : (w : Setting) (s : State) (six : SixReports) (k : ℕ) → AreRunsAlone w s six → AtCycle w s six k → k < longest w s
     → merge_ends w six s k ≡ true → k ≡ window_length w s
 unfolding merge_ends
 ends_here w s six k h at lt e =
     let now = by_logs w six s k in
     ends_by w s six k now.state now.rests at.marks (any_ends six k) h at.stands lt refl e
 
-ends_at : (w : Setting) (s : State) (six : SixReports) (k : ℕ) → AreAlone w s six → AtCycle w s six k → k ≤ longest w s
+ends_at : (w : Setting) (s : State) (six : SixReports) (k : ℕ) → AreRunsAlone w s six → AtCycle w s six k → k ≤ longest w s
     → (k < longest w s → merge_ends w six s k ≡ true) → k ≡ window_length w s
 ends_at w s six k h at le met = elim (eqb_tells k (longest w s)) [
   | inl e ↦ ends_full w s (lengths_of six) k (by_logs w six s k).state (by_logs w six s k).rests at.marks at.stands e.1

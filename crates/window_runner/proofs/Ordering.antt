@@ -1,5 +1,5 @@
 -- Each event of a legal list keeps the machine where it should stand.
-use Rattle.std.proofs.Common.{◌≡◌, ℕ, ◌+◌, ◌-◌, ◌*◌, ◌==◌, ◌&&◌, Bool, true, false, not, if◌then◌else◌, inl, inr, ◌⊎◌, List, [], ◌∷◌, ◌++◌, Option, Some, None, refl, ap, sym, ◌∙◌, subst, arith}
+use Rattle.std.proofs.Common.{◌≡◌, ℕ, zero, suc, ◌+◌, ◌-◌, ◌*◌, ◌==◌, ◌&&◌, Bool, true, false, not, if◌then◌else◌, inl, inr, ◌⊎◌, List, [], ◌∷◌, ◌++◌, Option, Some, None, refl, ap, sym, ◌∙◌, subst, arith}
 use Rattle.rp_base.specs.declared.Why.{Why}
 use Rattle.outer_lane.specs.Setting.{Setting}
 use Rattle.bus_fabric.specs.State.{has_hold}
@@ -11,8 +11,8 @@ use Rattle.turn_board.specs.Tickets.Event.{Draw as DrawOn, SeeOpen as SeeOpenOn,
 use Rattle.window_merge.specs.Window.{Position, first_position, is_tried, next_position, window_length}
 use Rattle.window_runner.specs.Reports.{OneReport, IsTrueOrNone, SixReports, AreTaken}
 use Rattle.window_runner.specs.Merge.{merged, merged_length}
-use Rattle.window_runner.specs.Orders.{RunState, Begins, beginning, Event, found_of, IsLegal, next_tried, by_merge, on_board, Happens, Goes, window_start, commits_in, AnyOrder}
-use Rattle.window_runner.specs.Orders.Event.{Draw, SeeOpen, Finish, Open, Close, SeeDone, Commit}
+use Rattle.window_runner.specs.Orders.{RunState, Begins, beginning, Event, found_of, IsLegal, GoesOver, next_tried, by_merge, on_board, Happens, Goes, window_start, commits_in, passed_in, AnyOrder}
+use Rattle.window_runner.specs.Orders.Event.{Draw, SeeOpen, Finish, Open, Close, SeeDone, Commit, Pass}
 use Rattle.window_runner.proofs.Taking.{all_alone}
 use Rattle.window_runner.proofs.Merges.{merges}
 use Rattle.window_runner.proofs.Standing.{Ready, IsReady, standing_first, standing_window, window_on, onward_ready, begins_here}
@@ -41,15 +41,16 @@ more_true w (y ∷ came) x h t = (h.0, more_true w came x h.1 t)
 abbrev IsDue : Setting → RunState → Type 0
 IsDue w r = (r.board.opened ≡ 6 * r.commits) ⊎ ((r.board.opened ≡ 6 * r.commits + 6) × (stop w r.position.state ≡ None))
 
-record Sound (w : Setting) (s : State) (r : RunState) : Type 0 where
-  ready : Ready w s r.commits r.position
+-- after so many windows
+record Sound (w : Setting) (s : State) (m : ℕ) (r : RunState) : Type 0 where
+  ready : Ready w s m r.position
   due : IsDue w r
   truth : AllTrue w r.came
 
-still : (w : Setting) (s : State) (r next : RunState) → Sound w s r → next.position ≡ r.position → next.commits ≡ r.commits
-    → next.board.opened ≡ r.board.opened → AllTrue w next.came → Sound w s next
-still w s r next h position commits opened truth = record {
-  ready = rw (position, commits) h.ready;
+still : (w : Setting) (s : State) (m : ℕ) (r next : RunState) → Sound w s m r → next.position ≡ r.position → next.commits ≡ r.commits
+    → next.board.opened ≡ r.board.opened → AllTrue w next.came → Sound w s m next
+still w s m r next h position commits opened truth = record {
+  ready = rw position h.ready;
   due = rw (position, commits, opened) h.due;
   truth = truth;
 }
@@ -74,10 +75,16 @@ merged_position : (p : Position) (t t' : State) (n n' : ℕ) → t ≡ t' → n 
     ≡ record { state = t'; windows = p.windows + 1; cycles = p.cycles + n'; after_empty = n' == 0 }
 merged_position p t t' n n' e_state e_length = rw (e_state, e_length) refl
 
-commit_ready : (w : Setting) (s : State) (r : RunState) (six : SixReports) → Sound w s r → stop w r.position.state ≡ None
+-- over the window that is tried at a position
+over_one : (w : Setting) (s : State) (m : ℕ) (p : Position) → Ready w s m p → stop w p.state ≡ None → Ready w s (m + 1) (next_tried w (next_position w p))
+over_one w s m p h runs =
+    let standing = standing_window w s m h.step p h.standing runs (tried_by w p h.ready runs) in
+    onward_ready w s (m + 1) (h.step + 1) (next_position w p) (w.limit - (next_position w p).state.cycle) standing (omega arith)
+
+commit_ready : (w : Setting) (s : State) (m : ℕ) (r : RunState) (six : SixReports) → Sound w s m r → stop w r.position.state ≡ None
     → AreTaken w r.position.state (λ lane. found_of r.came (6 * r.commits + lane)) six
-    → Ready w s (r.commits + 1) (next_tried w (by_merge w six r.position))
-commit_ready w s r six h runs taken =
+    → Ready w s (m + 1) (next_tried w (by_merge w six r.position))
+commit_ready w s m r six h runs taken =
     let p = r.position in
     let tried = tried_by w p h.ready.ready runs in
     let alone = all_alone w p.state (λ lane. found_of r.came (6 * r.commits + lane)) six
@@ -90,41 +97,78 @@ commit_ready w s r six h runs taken =
     let same : by_merge w six p ≡ next_position w p =
     merged_position p (merged w six p.state) (states w p.state (window_length w p.state)) (merged_length w six p.state) (window_length w p.state)
     window.state window.length ∙ sym (window_on w p tried) in
-    let standing = standing_window w s r.commits h.ready.step p h.ready.standing runs tried in
-    subst (λ (q : Position). Ready w s (r.commits + 1) (next_tried w q)) (sym same)
-    (onward_ready w s (r.commits + 1) (h.ready.step + 1) (next_position w p) (w.limit - (next_position w p).state.cycle) standing (omega arith))
+    subst (λ (q : Position). Ready w s (m + 1) (next_tried w q)) (sym same) (over_one w s m p h.ready runs)
+
+-- ---- windows that are passed over
+
+over_ready : (w : Setting) (s : State) (m n : ℕ) (p q : Position) → Ready w s m p → GoesOver w p n q → Ready w s (m + n) q
+over_ready w s m zero p q h e = let none : m + zero ≡ m = omega arith in rw (e, none) h
+over_ready w s m (suc n) p q h e =
+    let sum : m + suc n ≡ (m + 1) + n = omega arith in
+    rw sum (over_ready w s (m + 1) n (next_tried w (next_position w p)) q (over_one w s m p h e.0) e.1)
 
 -- ---- each event
 
-step_sound : (w : Setting) (s : State) (r : RunState) (event : Event) (next : RunState) → Sound w s r → IsLegal w r event → Happens w r event next → Sound w s next
-step_sound w s r (Draw seat) next h legal e =
-    subst (Sound w s) (sym e) (still w s r (on_board (DrawOn seat) r) h refl refl refl h.truth)
-step_sound w s r (SeeOpen seat) next h legal e =
-    subst (Sound w s) (sym e) (still w s r (on_board (SeeOpenOn seat) r) h refl refl refl h.truth)
-step_sound w s r (Finish seat number found) next h legal e =
-    subst (Sound w s) (sym e)
-    (still w s r (record r { board = board.after r.board (FinishOn seat number); came = r.came ++ (number, found) ∷ [] }) h refl refl refl
-    (more_true w r.came (number, found) h.truth legal.1))
-step_sound w s r Open next h legal e =
+-- how many windows it commits or passes over
+windows_of : Event → ℕ
+windows_of Commit = 1
+windows_of (Pass windows) = windows
+windows_of _ = 0
+
+none_more : (w : Setting) (s : State) (m : ℕ) (r : RunState) → Sound w s m r → Sound w s (m + 0) r
+none_more w s m r h = let same : m + 0 ≡ m = omega arith in rw same h
+
+step_sound : (w : Setting) (s : State) (m : ℕ) (r : RunState) (event : Event) (next : RunState) → Sound w s m r → IsLegal w r event → Happens w r event next
+    → Sound w s (m + windows_of event) next
+unfolding windows_of
+step_sound w s m r (Draw seat) next h legal e =
+    none_more w s m next (subst (Sound w s m) (sym e) (still w s m r (on_board (DrawOn seat) r) h refl refl refl h.truth))
+step_sound w s m r (SeeOpen seat) next h legal e =
+    none_more w s m next (subst (Sound w s m) (sym e) (still w s m r (on_board (SeeOpenOn seat) r) h refl refl refl h.truth))
+step_sound w s m r (Finish seat number found) next h legal e =
+    none_more w s m next (subst (Sound w s m) (sym e)
+    (still w s m r (record r { board = board.after r.board (FinishOn seat number); came = r.came ++ (number, found) ∷ [] }) h refl refl refl
+    (more_true w r.came (number, found) h.truth legal.1)))
+step_sound w s m r Open next h legal e =
     let opened = legal.2 in
-    subst (Sound w s) (sym e) (record { ready = h.ready; due = inr (ap (λ n. n + 6) opened, legal.1); truth = h.truth })
-step_sound w s r Close next h legal e =
-    subst (Sound w s) (sym e) (still w s r (on_board CloseOn r) h refl refl refl h.truth)
-step_sound w s r SeeDone next h legal e =
-    subst (Sound w s) (sym e) (still w s r (on_board SeeDoneOn r) h refl refl refl h.truth)
-step_sound w s r Commit next h legal e =
+    none_more w s m next (subst (Sound w s m) (sym e) (record { ready = h.ready; due = inr (ap (λ n. n + 6) opened, legal.1); truth = h.truth }))
+step_sound w s m r Close next h legal e =
+    none_more w s m next (subst (Sound w s m) (sym e) (still w s m r (on_board CloseOn r) h refl refl refl h.truth))
+step_sound w s m r SeeDone next h legal e =
+    none_more w s m next (subst (Sound w s m) (sym e) (still w s m r (on_board SeeDoneOn r) h refl refl refl h.truth))
+step_sound w s m r Commit next h legal e =
     let opened = legal.1 in
     let runs = runs_by w r h.due opened in
-    subst (Sound w s) (sym e.2) (record {
-      ready = commit_ready w s r e.0 h runs e.1;
+    subst (Sound w s (m + 1)) (sym e.1.1) (record {
+      ready = commit_ready w s m r e.0 h runs e.1.0;
       due = inl (omega arith);
       truth = h.truth;
     })
+step_sound w s m r (Pass windows) next h legal e =
+    subst (Sound w s (m + windows)) (sym e.2) (record {
+      ready = over_ready w s m windows r.position e.0 h.ready e.1;
+      due = inl legal.1;
+      truth = h.truth;
+    })
 
-goes_sound : (w : Setting) (s : State) (events : List Event) (r last : RunState) → Sound w s r → Goes w r events last → Sound w s last
-goes_sound w s [] r last h e = subst (Sound w s) (sym e) h
-goes_sound w s (event ∷ events) r last h e =
-    goes_sound w s events e.0 last (step_sound w s r event e.0 h e.1 e.2) e.3
+in_order : (event : Event) (events : List Event) (m : ℕ) → m + (commits_in (event ∷ events) + passed_in (event ∷ events)) ≡ (m + windows_of event) + (commits_in events + passed_in events)
+unfolding windows_of
+in_order (Draw seat) events m = omega arith
+in_order (SeeOpen seat) events m = omega arith
+in_order (Finish seat number found) events m = omega arith
+in_order Open events m = omega arith
+in_order Close events m = omega arith
+in_order SeeDone events m = omega arith
+in_order Commit events m = omega arith
+in_order (Pass windows) events m = omega arith
+
+goes_sound : (w : Setting) (s : State) (m : ℕ) (events : List Event) (r last : RunState) → Sound w s m r → Goes w r events last
+    → Sound w s (m + (commits_in events + passed_in events)) last
+goes_sound w s m [] r last h e = none_more w s m last (subst (Sound w s m) (sym e) h)
+goes_sound w s m (event ∷ events) r last h e =
+    let rest = goes_sound w s (m + windows_of event) events e.0 last (step_sound w s m r event e.0 h e.1 e.2) e.3 in
+    let sum = in_order event events m in
+    rw sum rest
 
 -- ---- the beginning
 
@@ -137,7 +181,7 @@ ready_first w s (Some why) e h = inl (why, e)
 ready_first w s None e (inl h) = inl h
 ready_first w s None e (inr h) = inr (e, tried_free (has_hold s.fabric) h)
 
-first_sound : (w : Setting) (s : State) (seats : ℕ) → Begins w s → Sound w s (beginning s seats)
+first_sound : (w : Setting) (s : State) (seats : ℕ) → Begins w s → Sound w s 0 (beginning s seats)
 first_sound w s seats h = record {
   ready = record {
     step = 0;
@@ -148,42 +192,8 @@ first_sound w s seats h = record {
   truth = tt;
 }
 
--- ---- how many windows are committed
-
-counts : (w : Setting) (events : List Event) (r last : RunState) → Goes w r events last → last.commits ≡ r.commits + commits_in events
-counts w [] r last e = let same : last.commits ≡ r.commits = ap (λ (x : RunState). x.commits) e in omega arith
-counts w (Draw seat ∷ events) r last e =
-    let here : e.0.commits ≡ r.commits = ap (λ (x : RunState). x.commits) e.2 in
-    let rest = counts w events e.0 last e.3 in
-    omega arith
-counts w (SeeOpen seat ∷ events) r last e =
-    let here : e.0.commits ≡ r.commits = ap (λ (x : RunState). x.commits) e.2 in
-    let rest = counts w events e.0 last e.3 in
-    omega arith
-counts w (Finish seat number found ∷ events) r last e =
-    let here : e.0.commits ≡ r.commits = ap (λ (x : RunState). x.commits) e.2 in
-    let rest = counts w events e.0 last e.3 in
-    omega arith
-counts w (Open ∷ events) r last e =
-    let here : e.0.commits ≡ r.commits = ap (λ (x : RunState). x.commits) e.2 in
-    let rest = counts w events e.0 last e.3 in
-    omega arith
-counts w (Close ∷ events) r last e =
-    let here : e.0.commits ≡ r.commits = ap (λ (x : RunState). x.commits) e.2 in
-    let rest = counts w events e.0 last e.3 in
-    omega arith
-counts w (SeeDone ∷ events) r last e =
-    let here : e.0.commits ≡ r.commits = ap (λ (x : RunState). x.commits) e.2 in
-    let rest = counts w events e.0 last e.3 in
-    omega arith
-counts w (Commit ∷ events) r last e =
-    let here : e.0.commits ≡ r.commits + 1 = ap (λ (x : RunState). x.commits) e.2.2 in
-    let rest = counts w events e.0 last e.3 in
-    omega arith
-
 pub any_order : AnyOrder
 any_order w s seats h events r goes =
-    let sound = goes_sound w s events (beginning s seats) r (first_sound w s seats h) goes in
-    let count = counts w events (beginning s seats) r goes in
-    let same : r.commits ≡ commits_in events = omega arith in
-    sym (begins_here w s r.commits r.position sound.ready h.within) ∙ ap (window_start w s) same
+    let sound = goes_sound w s 0 events (beginning s seats) r (first_sound w s seats h) goes in
+    let count : 0 + (commits_in events + passed_in events) ≡ commits_in events + passed_in events = omega arith in
+    sym (begins_here w s (0 + (commits_in events + passed_in events)) r.position sound.ready h.within) ∙ ap (window_start w s) count

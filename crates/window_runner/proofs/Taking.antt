@@ -6,9 +6,8 @@ use Rattle.lane_look.specs.Truth.{IsTrue}
 use Rattle.outer_lane.specs.Setting.{Setting}
 use Rattle.rp_machine.specs.State.{State}
 use Rattle.window_merge.specs.Lanes.{core_lane, dma_lane, pio_lane, peripheral_lane, core1_bound}
-use Rattle.window_merge.specs.Window.{longest}
 use Rattle.window_merge.specs.Merging.{IsRunAlone}
-use Rattle.window_runner.specs.Reports.{OneReport, IsTrueOrNone, core0_in, core1_in, dma_in, pio0_in, pio1_in, outer_in, IsAccepted, bound_under, IsTaken, SixReports, AreTaken}
+use Rattle.window_runner.specs.Reports.{OneReport, IsTrueOrNone, core0_in, core1_in, dma_in, pio0_in, pio1_in, outer_in, IsAccepted, bound_under, IsTaken, SixReports, AreTaken, AreRunsAlone}
 use Rattle.window_runner.specs.Reports.OneReport.{OfCore0, OfCore1, OfDma, OfPio0, OfPio1, OfOuter}
 use Rattle.window_runner.proofs.Accepting.{accepted_alone}
 
@@ -82,17 +81,8 @@ taken_alone m lane before s bound limit came report truth (inl h) =
     (subst (λ (l : ℕ). IsAccepted m lane before s (bound l) report) t.0 h.2)
 taken_alone m lane before s bound limit came report truth (inr h) = h.1
 
--- the six
-pub record AreAlone (w : Setting) (s : State) (six : SixReports) : Type 0 where
-  pub core0 : IsRunAlone core_lane 0 s.core0 s (longest w s) six.core0
-  pub core1 : IsRunAlone core_lane 1 s.core1 s (core1_bound s (longest w s)) six.core1
-  pub dma : IsRunAlone dma_lane 2 s.dma s (longest w s) six.dma
-  pub pio0 : IsRunAlone pio_lane 3 s.pio0 s (longest w s) six.pio0
-  pub pio1 : IsRunAlone pio_lane 4 s.pio1 s (longest w s) six.pio1
-  pub outer : IsRunAlone (peripheral_lane w) 5 s.outer s (longest w s) six.outer
-
 pub all_alone : (w : Setting) (s : State) (came : ℕ → Option OneReport) (six : SixReports)
-    → ((lane : ℕ) → IsTrueOrNone w (came lane)) → AreTaken w s came six → AreAlone w s six
+    → ((lane : ℕ) → IsTrueOrNone w (came lane)) → AreTaken w s came six → AreRunsAlone w s six
 all_alone w s came six truth h = record {
   core0 = taken_alone core_lane 0 s.core0 s (bound_under w s) w.limit (core0_in (came 0)) six.core0 (core0_true w (came 0) (truth 0)) h.core0;
   core1 = taken_alone core_lane 1 s.core1 s (λ limit. core1_bound s (bound_under w s limit)) w.limit (core1_in (came 1)) six.core1 (core1_true w (came 1) (truth 1)) h.core1;

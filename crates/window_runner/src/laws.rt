@@ -1,11 +1,12 @@
 //! The laws of runs of windows, each the contract of a function without arguments.
 
 ghost use Rattle.window_runner.specs.Laws.{TheEventsAreThoseOfCycles, TheMarksTellTheEvents, WindowsAreFew};
-ghost use Rattle.window_runner.specs.Orders.{AnyOrder, EachCameOnce, AWindowPasses};
+ghost use Rattle.window_runner.specs.Orders.{ACommitHasAnOutcome, AnyOrder, AWindowPasses, EachCameOnce, SixReportsAreTaken};
 ghost use Rattle.window_runner.specs.AcceptLaws.{WhatIsAcceptedIsTheRunAlone};
 
-/// Whatever the seats do in whatever order, and whatever true reports come or do not come: the machine after m commits is
-/// the state at which the run tries its window m, counted from 0, or at which it stops where it does not try that many.
+/// Whatever the seats do in whatever order, whatever true reports come or do not come, and wherever windows are passed over: the machine
+/// after m windows that were committed or passed over is the state at which the run tries its window m, counted from 0, or at which it
+/// stops where it does not try that many.
 pub fn any_order()
     ensures { AnyOrder }
 {}
@@ -15,9 +16,20 @@ pub fn each_came_once()
     ensures { EachCameOnce }
 {}
 
-/// From each state that begins a run and has no stop, one seat alone can pass a window, also where no report comes.
+/// Where a window may be committed, it cannot be that this has no outcome.
+pub fn a_commit_has_an_outcome()
+    ensures { ACommitHasAnOutcome }
+{}
+
+/// From each state that begins a run and has no stop, one seat alone can pass a window for which no report comes: its commit takes the
+/// six runs alone.
 pub fn a_window_passes()
     ensures { AWindowPasses }
+{}
+
+/// From each such state it can pass one for which six true reports come, and its commit takes these.
+pub fn six_reports_are_taken()
+    ensures { SixReportsAreTaken }
 {}
 
 /// A run that goes by windows and single cycles has the events of the run by single cycles, in the same order.
