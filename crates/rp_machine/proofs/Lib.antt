@@ -8,6 +8,7 @@ pub mod Joining
 pub mod Kept
 pub mod Numbered
 pub mod OneCore
+pub mod Inward
 pub mod Opening
 pub mod Placing
 pub mod BusRest

@@ -10,6 +10,7 @@ pub mod Laws
 pub mod LineLaws
 pub mod Loading
 pub mod Offsets
+pub mod Inward
 pub mod Readers
 pub mod Registers
 pub mod Rest

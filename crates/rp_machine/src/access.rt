@@ -161,7 +161,7 @@ fn is_outer(block: Block) -> bool
 }
 
 /// The write to SRAM of a request to a spot, if it is one.
-fn stored_at(request: &Request, spot: &Spot) -> Deed
+pub(crate) fn stored_at(request: &Request, spot: &Spot) -> Deed
     requires { IsWithin spot.now }
     ensures within { StoresInSram result }
     ensures value { result ≡ stored_at request.now request.now.write spot.now }

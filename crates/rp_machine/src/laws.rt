@@ -3,6 +3,7 @@
 ghost use Rattle.rp_machine.specs.Laws.{RunsFollowEachOther, SramChangesByTheWritesAlone, EffectsComeAfterTheSteps, SioIsKnown};
 ghost use Rattle.rp_machine.specs.BusRest.{CyclesAtRestChangeTheLanesAlone};
 ghost use Rattle.rp_machine.specs.Alone.{OneCoreGoesAlone};
+ghost use Rattle.rp_machine.specs.Inward.{Core0GoesOnAlone};
 ghost use Rattle.rp_machine.specs.LineLaws.{EachLineHasItsNumber, OneCoreGetsALock};
 
 /// A run of some cycles and then of others is one of all of them: it ends in the same state and has the same events.
@@ -51,4 +52,10 @@ pub fn each_line_has_its_number()
 /// Of two cores that read one free spinlock in one cycle core 0 gets its bit and core 1 reads 0; alone each gets it.
 pub fn one_core_gets_a_lock()
     ensures { OneCoreGetsALock }
+{}
+
+/// Beside peripherals that answer core 0 as others do, a core 0 that goes on alone and reaches for nothing but SRAM does what it would do
+/// beside the others.
+pub fn core0_goes_on_alone()
+    ensures { Core0GoesOnAlone }
 {}

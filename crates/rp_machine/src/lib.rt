@@ -17,6 +17,7 @@ pub mod load;
 mod loading;
 mod look;
 pub mod machine;
+mod onward;
 pub mod registers;
 pub mod rest;
 pub mod steps;
