@@ -1,5 +1,6 @@
 -- Core 0 goes on alone beside peripherals that lie behind: each cycle is the definition's.
-use Rattle.std.proofs.Common.{◌≡◌, ◌+◌, ℕ, true, false, Bool, if◌then◌else◌, List, [], ◌∷◌, Option, Some, None, bit_or, refl, sym, ap, ◌∙◌}
+use Rattle.std.proofs.lemmas.Bool.Decides.{eqb_tells}
+use Rattle.std.proofs.Common.{◌≡◌, ◌+◌, ◌<◌, ◌≤◌, zero, suc, inl, inr, arith, ℕ, true, false, Bool, if◌then◌else◌, List, [], ◌∷◌, Option, Some, None, bit_or, refl, sym, ap, ◌∙◌}
 use Rattle.rp_base.specs.declared.Master.TheVariants as master
 use Rattle.rp_base.specs.declared.Request.{Request}
 use Rattle.rp_base.specs.declared.Why.{Why}
@@ -19,18 +20,25 @@ use Rattle.m0_core.specs.Cycle as core
 use Rattle.bus_fabric.specs.State.{has_hold}
 use Rattle.bus_fabric.proofs.Alone.{nobody-after}
 use Rattle.sio_block.specs.Launcher.{offers_of}
+use Rattle.io_bank.specs.State.{Bank}
+use Rattle.io_bank.specs.Levels.{inputs_of as inputs_of_pads}
 use Rattle.outer_lane.specs.Setting.{Setting}
 use Rattle.outer_lane.specs.State.{OuterState}
 use Rattle.outer_lane.specs.Lines.{outer_lines, outer_inputs, outer_pacing}
 use Rattle.outer_lane.specs.declared.world.SeenOutputs.{SeenOutputs}
 use Rattle.outer_lane.specs.Step as outer
+use Rattle.outer_lane.specs.Step.{marked}
+use Rattle.outer_lane.specs.Quiet.{IsQuiet, seen_in, outer_after}
+use Rattle.lane_look.specs.Times.{times}
 use Rattle.rp_machine.specs.State.{State}
 use Rattle.rp_machine.specs.Answers.{answer_of, lines_of, block_lines, counts_of, packed, packed_pair, pacing_of, inputs_of, outs_of}
 use Rattle.rp_machine.specs.Deeds.{asked_of, turn_of, deed_of, cause_of, stored_at}
-use Rattle.rp_machine.specs.Cycle.{begun, wanted, wanted_by, cause_in, with_pins, pins_of, with_sio, ended, after_deed, next}
+use Rattle.rp_machine.specs.Cycle.{begun, wanted, wanted_by, cause_in, with_pins, pins_of, with_sio, ended, after_deed, mark, stop, next}
 use Rattle.rp_machine.specs.BusRest.{core1_at_rest}
 use Rattle.rp_machine.specs.Alone.{IsAlone, alone_next, granted_alone, with_grant, with_store}
-use Rattle.rp_machine.specs.Inward.{with_outer, is_inward, core0_want, inward_turn, inward_deed, core0_stepped, inward_next, TellsSame, GoesAlone, Core0GoesOnAlone}
+use Rattle.rp_machine.specs.Inward.{with_outer, is_inward, core0_want, inward_turn, inward_deed, core0_stepped, inward_next, TellsSame, GoesAlone, GoesOn, inward_after, StaysInward, onward_after, IsSilent, Core0GoesOnAlone}
+use Rattle.rp_machine.specs.Events.{events}
+use Rattle.rp_machine.proofs.Quietly.{RunsThrough, states_through, events_through, fewer, no_events, seen_later, seen_number}
 use Rattle.rp_machine.proofs.OneCore.{next_alone, cause_alone}
 use Rattle.rp_machine.proofs.HeldLanes.{outer_next}
 
@@ -99,17 +107,17 @@ inward_end w o s b seen x h pins =
     ∙ ap (λ (q : State). record q { cycle = s.cycle + 1 })
     (ends_beside (outer.next w o seen) (with_store (inward_deed (granted_alone x s) x) (reached b x s)) ((outer_next w o seen).sio ∙ pins))
 
-inward_cycle : (w : Setting) (o : OuterState) (s : State) (b : Doing) (seen : SeenOutputs) (x : Want) → GoesAlone s → o.sio ≡ pins_of s.sio → is_inward x ≡ true
+inward_same : (w : Setting) (o : OuterState) (s : State) (b : Doing) (seen : SeenOutputs) (x : Want) → GoesAlone s → o.sio ≡ pins_of s.sio → is_inward x ≡ true
     → alone_next w b seen x (with_outer o s) ≡ with_outer (outer.next w o seen) (inward_next b x s)
 unfolding alone_next turn_of deed_of asked_of after_deed
-inward_cycle w o s b seen want.Nothing h pins e = inward_end w o s b seen want.Nothing h pins
-inward_cycle w o s b seen (want.Ram request) h pins e =
+inward_same w o s b seen want.Nothing h pins e = inward_end w o s b seen want.Nothing h pins
+inward_same w o s b seen (want.Ram request) h pins e =
     ap (λ (q : State). closed (want.Ram request) s.cycle (granted_alone (want.Ram request) s) (core1_at_rest (offers_of s.sio) q))
     (no_deed_where w _ (granted_alone (want.Ram request) s) request (with_outer (outer.next w o seen) (reached b (want.Ram request) s)))
     ∙ inward_end w o s b seen (want.Ram request) h pins
-inward_cycle w o s b seen (want.Outward request) h pins e = cc
-inward_cycle w o s b seen want.Signal h pins e = cc
-inward_cycle w o s b seen (want.Stopped cause) h pins e = cc
+inward_same w o s b seen (want.Outward request) h pins e = cc
+inward_same w o s b seen want.Signal h pins e = cc
+inward_same w o s b seen (want.Stopped cause) h pins e = cc
 
 beside : (o : OuterState) (s : State) → IsAlone s → IsAlone (with_outer o s)
 beside o s h = record { asleep = h.asleep; dma = h.dma; pio0 = h.pio0; pio1 = h.pio1 }
@@ -119,7 +127,7 @@ pub onward : (w : Setting) (o : OuterState) (s : State) → GoesAlone s → Tell
 onward w o s h same inward =
     next_alone w (with_outer o s) (beside o s h.alone)
     ∙ ap (λ b. alone_next w b (begun (with_outer o s)).outer (core.want_of b) (with_outer o s)) (begun_same o s same)
-    ∙ inward_cycle w o s (begun s).core0 (begun (with_outer o s)).outer (core0_want s) h same.sio inward
+    ∙ inward_same w o s (begun s).core0 (begun (with_outer o s)).outer (core0_want s) h same.sio inward
 
 -- no master stops it
 no_cause : (w : Setting) (seen : SeenOutputs) (s : State) (x : Want) → is_inward x ≡ true → cause_of w seen s (wanted_by master.Core0 x) ≡ None
@@ -137,22 +145,6 @@ onward_runs w o s h same inward =
     ∙ ap (λ b. cause_of w (begun (with_outer o s)).outer (with_outer o s) (wanted_by master.Core0 (core.want_of b))) (begun_same o s same)
     ∙ no_cause w (begun (with_outer o s)).outer (with_outer o s) (core0_want s) inward
 
--- core 0 is alone behind it as before
-pub still_alone : (b : Doing) (x : Want) (s : State) → GoesAlone s → GoesAlone (inward_next b x s)
-unfolding inward_next ended with_sio
-still_alone b x s h = record {
-  alone = record { asleep = h.alone.asleep; dma = h.alone.dma; pio0 = h.alone.pio0; pio1 = h.alone.pio1 };
-  offers = h.offers;
-}
-
-pub outer_stays : (b : Doing) (x : Want) (s : State) → s.outer.sio ≡ pins_of s.sio → (inward_next b x s).outer ≡ s.outer
-unfolding inward_next ended with_sio
-outer_stays b x s h = rw (sym h) refl
-
-pub sio_stays : (b : Doing) (x : Want) (s : State) → pins_of (inward_next b x s).sio ≡ pins_of s.sio
-unfolding inward_next ended with_sio
-sio_stays b x s = refl
-
 -- ---- a cycle in which nothing is wanted, and no access lasts
 
 pub nothing_inward : (b : Doing) (s : State) → has_hold s.fabric ≡ false
@@ -160,5 +152,97 @@ pub nothing_inward : (b : Doing) (s : State) → has_hold s.fabric ≡ false
 unfolding inward_next asked_of
 nothing_inward b s free = rw (nobody-after s.fabric free) refl
 
+goes_on : (w : Setting) (o : OuterState) (s : State) → GoesAlone s → TellsSame o s → is_inward (core0_want s) ≡ true → GoesOn w o s
+goes_on w o s h same inward = record { cause = onward_runs w o s h same inward; state = onward w o s h same inward }
+
+-- ---- one cycle after another
+
+-- what no such cycle changes
+record Stays (s t : State) (n : ℕ) : Type 0 where
+  alone : GoesAlone t
+  outer : t.outer ≡ s.outer
+  pio0 : t.pio0 ≡ s.pio0
+  pio1 : t.pio1 ≡ s.pio1
+  pins : pins_of t.sio ≡ pins_of s.sio
+  cycle : t.cycle ≡ s.cycle + n
+
+stays_here : (s : State) → GoesAlone s → Stays s s 0
+stays_here s h = record { alone = h; outer = refl; pio0 = refl; pio1 = refl; pins = refl; cycle = omega arith }
+
+stays_on : (b : Doing) (x : Want) (s t : State) (n : ℕ) → s.outer.sio ≡ pins_of s.sio → Stays s t n → Stays s (inward_next b x t) (suc n)
+unfolding inward_next ended with_sio
+stays_on b x s t n known h =
+    let cycle = h.cycle in
+    record {
+      alone = record {
+        alone = record { asleep = h.alone.alone.asleep; dma = h.alone.alone.dma; pio0 = h.alone.alone.pio0; pio1 = h.alone.alone.pio1 };
+        offers = h.alone.offers;
+      };
+      outer = ap (λ (o : OuterState). record o { sio = pins_of t.sio }) h.outer ∙ ap (λ (pins : List ℕ). record s.outer { sio = pins }) (h.pins ∙ sym known);
+      pio0 = h.pio0;
+      pio1 = h.pio1;
+      pins = h.pins;
+      cycle = omega arith;
+    }
+
+stays_after : (s : State) (n : ℕ) → GoesAlone s → s.outer.sio ≡ pins_of s.sio → Stays s (inward_after n s) n
+unfolding inward_after
+stays_after s zero h known = stays_here s h
+stays_after s (suc n) h known = stays_on _ _ s (inward_after n s) n known (stays_after s n h known)
+
+-- the cycle that comes next is one without a stop and without events
+record IsStep (w : Setting) (s : State) (k : ℕ) : Type 0 where
+  stop : stop w (onward_after w s k) ≡ None
+  next : next w (onward_after w s k) ≡ onward_after w s (suc k)
+  events : events w (onward_after w s k) ≡ []
+
+stop_none : (w : Setting) (s : State) → s.cycle < w.limit → cause_in w (begun s) (wanted (begun s)) s ≡ None → stop w s ≡ None
+unfolding stop
+stop_none w s lt none = elim (eqb_tells s.cycle w.limit) [
+    inl e ↦ absurd (let same = e.1 in omega arith)
+  | inr e ↦ rw e.0 none
+]
+
+a_step : (w : Setting) (s : State) (n k : ℕ) → k < n → GoesAlone s → s.outer.sio ≡ pins_of s.sio → IsQuiet w (begun s).outer s.outer n
+    → is_inward (core0_want (inward_after k s)) ≡ true → s.cycle + n ≤ w.limit → IsStep w s k
+unfolding mark events inward_after times
+a_step w s n k lt h known quiet inward limit =
+    let le : k ≤ n = omega arith in
+    let t = inward_after k s in
+    let o = outer_after w (begun s).outer k s.outer in
+    let stays = stays_after s k h known in
+    let number = seen_number s in
+    let cycle = stays.cycle in
+    let seen : (begun (with_outer o t)).outer ≡ seen_in (begun s).outer ((begun s).outer.cycle + k) =
+      seen_later s (with_outer o t) (quiet.pads k le) stays.pio0 stays.pio1 ∙ ap (λ (c : ℕ). seen_in (begun s).outer c) (omega arith) in
+    let tells : TellsSame o t = record {
+      lines = quiet.lines k le 0 ∙ ap (outer_lines 0) (sym stays.outer);
+      pacing = quiet.pacing k le ∙ ap outer_pacing (sym stays.outer);
+      inputs = ap (λ (p : Bank). inputs_of_pads p p.current ∷ inputs_of_pads p p.second ∷ []) (quiet.pads k le) ∙ ap outer_inputs (sym stays.outer);
+      sio = quiet.sio k le ∙ known ∙ sym stays.pins;
+    } in
+    let step = goes_on w o t stays.alone tells inward in
+    record {
+      stop = stop_none w (with_outer o t) (omega arith) step.cause;
+      next = step.state ∙ ap (λ (x : SeenOutputs). with_outer (outer.next w o x) (inward_next (begun t).core0 (core0_want t) t)) seen;
+      events = no_events t.cycle o.pads.current (marked w o (begun (with_outer o t)).outer)
+        (ap (λ (x : SeenOutputs). marked w o x) seen ∙ quiet.mark k lt ∙ ap (λ (p : Bank). record { uart = None ∷ None ∷ []; pads = p.current }) (sym (quiet.pads k le)));
+    }
+
+runs_through : (w : Setting) (s : State) (n : ℕ) → GoesAlone s → s.outer.sio ≡ pins_of s.sio → IsQuiet w (begun s).outer s.outer n → StaysInward s n
+    → s.cycle + n ≤ w.limit → RunsThrough w (onward_after w s) n
+runs_through w s n h known quiet inward limit = record {
+  stop = λ k lt. (a_step w s n k lt h known quiet (inward k lt) limit).stop;
+  next = λ k lt. (a_step w s n k lt h known quiet (inward k lt) limit).next;
+  events = λ k lt. (a_step w s n k lt h known quiet (inward k lt) limit).events;
+}
+
 pub core0_goes_on_alone : Core0GoesOnAlone
-core0_goes_on_alone w o s h same inward = record { cause = onward_runs w o s h same inward; state = onward w o s h same inward }
+unfolding inward_after times
+core0_goes_on_alone w s n h known quiet inward limit =
+    let runs = runs_through w s n h known quiet inward limit in
+    record {
+      state = states_through w (onward_after w s) n runs;
+      events = events_through w (onward_after w s) n runs;
+      stop = λ k lt. ap (stop w) (states_through w (onward_after w s) k (fewer w (onward_after w s) n k (omega arith) runs)) ∙ runs.stop k lt;
+    }

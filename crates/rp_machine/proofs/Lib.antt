@@ -12,4 +12,5 @@ pub mod Inward
 pub mod Opening
 pub mod Placing
 pub mod BusRest
+pub mod Quietly
 pub mod Runs

@@ -1,5 +1,5 @@
 -- Core 0 goes on alone beside peripherals that lie behind. The project's own.
-use Rattle.std.specs.Prelude.{◌≡◌, ℕ, ◌+◌, Bool, true, false, if◌then◌else◌, [], ◌∷◌, None}
+use Rattle.std.specs.Prelude.{◌≡◌, ℕ, zero, suc, ◌+◌, ◌<◌, ◌≤◌, Bool, true, false, if◌then◌else◌, [], ◌∷◌, None}
 use Rattle.lane_look.specs.declared.lane.Want.{Want}
 use Rattle.lane_look.specs.declared.lane.Want.TheVariants as want
 use Rattle.lane_look.specs.declared.lane.Turn.{Turn}
@@ -13,12 +13,14 @@ use Rattle.outer_lane.specs.Setting.{Setting}
 use Rattle.outer_lane.specs.State.{OuterState}
 use Rattle.outer_lane.specs.Lines.{outer_lines, outer_inputs, outer_pacing}
 use Rattle.outer_lane.specs.Step as outer
+use Rattle.outer_lane.specs.Quiet.{IsQuiet, outer_after}
 use Rattle.rp_base.specs.Map.{place_of}
 use Rattle.rp_machine.specs.declared.deed.Deed.{Deed}
 use Rattle.rp_machine.specs.declared.deed.Deed.TheVariants as deed
 use Rattle.rp_machine.specs.State.{State}
 use Rattle.rp_machine.specs.Deeds.{asked_of, turn_at, stored_at}
-use Rattle.rp_machine.specs.Cycle.{begun, wanted, cause_in, pins_of, ended, next}
+use Rattle.rp_machine.specs.Cycle.{begun, wanted, cause_in, pins_of, stop, ended, next}
+use Rattle.rp_machine.specs.Run.{states, events_in}
 use Rattle.rp_machine.specs.Alone.{IsAlone, granted_alone, with_grant, with_store}
 
 -- a state with these peripherals
@@ -67,11 +69,33 @@ pub record GoesAlone (s : State) : Type 0 where
 
 -- Beside peripherals that answer core 0 as those do with which it goes on alone, a cycle in which it reaches for nothing but SRAM has no
 -- stop, and its state is what the two leave each by itself
+abbrev pub inward_cycle : State → State
+inward_cycle s = inward_next (begun s).core0 (core0_want s) s
+
 pub record GoesOn (w : Setting) (o : OuterState) (s : State) : Type 0 where
   pub cause : cause_in w (begun (with_outer o s)) (wanted (begun (with_outer o s))) (with_outer o s) ≡ None
-  pub state : next w (with_outer o s)
-    ≡ with_outer (outer.next w o (begun (with_outer o s)).outer) (inward_next (begun s).core0 (core0_want s) s)
+  pub state : next w (with_outer o s) ≡ with_outer (outer.next w o (begun (with_outer o s)).outer) (inward_cycle s)
+
+-- so many such cycles
+unfoldable pub inward_after : ℕ → State → State
+inward_after zero s = s
+inward_after (suc n) s = inward_cycle (inward_after n s)
+
+-- in each of which it reaches for nothing but SRAM
+abbrev pub StaysInward : State → ℕ → Type 0
+StaysInward s n = (k : ℕ) → k < n → is_inward (core0_want (inward_after k s)) ≡ true
+
+-- the state after so many cycles, in which the peripherals are quiet
+abbrev pub onward_after : Setting → State → ℕ → State
+onward_after w s n = with_outer (outer_after w (begun s).outer n s.outer) (inward_after n s)
+
+-- the cycles have no stop and no events
+pub record IsSilent (w : Setting) (s t : State) (n : ℕ) : Type 0 where
+  pub state : states w s n ≡ t
+  pub events : events_in w s n ≡ []
+  pub stop : (k : ℕ) → k < n → stop w (states w s k) ≡ None
 
 abbrev pub Core0GoesOnAlone : Type 0
 Core0GoesOnAlone =
-    (w : Setting) (o : OuterState) (s : State) → GoesAlone s → TellsSame o s → is_inward (core0_want s) ≡ true → GoesOn w o s
+    (w : Setting) (s : State) (n : ℕ) → GoesAlone s → s.outer.sio ≡ pins_of s.sio → IsQuiet w (begun s).outer s.outer n → StaysInward s n
+    → s.cycle + n ≤ w.limit → IsSilent w s (onward_after w s n) n
