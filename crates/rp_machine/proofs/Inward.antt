@@ -9,6 +9,7 @@ use Rattle.rp_base.specs.declared.map.Spot.TheVariants as spot
 use Rattle.rp_base.specs.Map.{place_of}
 use Rattle.lane_look.specs.declared.lane.Ask.{Ask}
 use Rattle.lane_look.specs.declared.lane.Ask.TheVariants as ask
+use Rattle.lane_look.specs.declared.marks.Mark.{Mark}
 use Rattle.lane_look.specs.declared.lane.Want.{Want}
 use Rattle.lane_look.specs.declared.lane.Want.TheVariants as want
 use Rattle.lane_look.specs.declared.lane.Turn.TheVariants as turn
@@ -36,7 +37,7 @@ use Rattle.rp_machine.specs.Deeds.{asked_of, turn_of, deed_of, cause_of, stored_
 use Rattle.rp_machine.specs.Cycle.{begun, wanted, wanted_by, cause_in, with_pins, pins_of, with_sio, ended, after_deed, mark, stop, next}
 use Rattle.rp_machine.specs.BusRest.{core1_at_rest}
 use Rattle.rp_machine.specs.Alone.{IsAlone, alone_next, granted_alone, with_grant, with_store}
-use Rattle.rp_machine.specs.Inward.{with_outer, is_inward, core0_want, inward_turn, inward_deed, core0_stepped, inward_next, TellsSame, GoesAlone, GoesOn, inward_after, StaysInward, onward_after, IsSilent, Core0GoesOnAlone}
+use Rattle.rp_machine.specs.Inward.{with_outer, is_inward, core0_want, inward_turn, inward_deed, core0_stepped, inward_rest, inward_next, TellsSame, GoesAlone, GoesOn, inward_cycle, inward_after, StaysInward, onward_after, IsSilent, Core0GoesOnAlone}
 use Rattle.rp_machine.specs.Events.{events}
 use Rattle.rp_machine.proofs.Quietly.{RunsThrough, states_through, events_through, fewer, no_events, seen_later, seen_number}
 use Rattle.rp_machine.proofs.OneCore.{next_alone, cause_alone}
@@ -147,10 +148,22 @@ onward_runs w o s h same inward =
 
 -- ---- a cycle in which nothing is wanted, and no access lasts
 
-pub nothing_inward : (b : Doing) (s : State) → has_hold s.fabric ≡ false
-    → record (ended (record s { core0 = core.next s.core0 b (turn.Nothing ∷ turn.Nothing ∷ []) })) { cycle = s.cycle + 1 } ≡ inward_next b want.Nothing s
-unfolding inward_next asked_of
-nothing_inward b s free = rw (nobody-after s.fabric free) refl
+rests_inward : (b : Doing) (x : Want) (s : State) → x ≡ want.Nothing → has_hold s.fabric ≡ false → inward_rest b s ≡ inward_next b x s
+unfolding inward_rest inward_next asked_of
+rests_inward b x s e free = rw (e, nobody-after s.fabric free) refl
+
+-- the same of what a call begins
+pub rests_by : (b : Doing) (s : State) → b ≡ (begun s).core0 → core.want_of b ≡ want.Nothing → has_hold s.fabric ≡ false → inward_rest b s ≡ inward_cycle s
+rests_by b s e nothing free = rests_inward b (core.want_of b) s nothing free ∙ ap (λ (d : Doing). inward_next d (core.want_of d) s) e
+
+pub reaches_by : (b : Doing) (s t : State) → b ≡ (begun s).core0 → t ≡ inward_next b (core.want_of b) s → t ≡ inward_cycle s
+reaches_by b s t e reaches = reaches ∙ ap (λ (d : Doing). inward_next d (core.want_of d) s) e
+
+pub nothing_inward : (b : Doing) (s : State) → b ≡ (begun s).core0 → core.want_of b ≡ want.Nothing → is_inward (core0_want s) ≡ true
+nothing_inward b s e nothing = ap (λ (d : Doing). is_inward (core.want_of d)) (sym e) ∙ ap is_inward nothing
+
+pub inward_by : (b : Doing) (s : State) → b ≡ (begun s).core0 → is_inward (core.want_of b) ≡ true → is_inward (core0_want s) ≡ true
+inward_by b s e inward = ap (λ (d : Doing). is_inward (core.want_of d)) (sym e) ∙ inward
 
 goes_on : (w : Setting) (o : OuterState) (s : State) → GoesAlone s → TellsSame o s → is_inward (core0_want s) ≡ true → GoesOn w o s
 goes_on w o s h same inward = record { cause = onward_runs w o s h same inward; state = onward w o s h same inward }
@@ -199,7 +212,7 @@ record IsStep (w : Setting) (s : State) (k : ℕ) : Type 0 where
 stop_none : (w : Setting) (s : State) → s.cycle < w.limit → cause_in w (begun s) (wanted (begun s)) s ≡ None → stop w s ≡ None
 unfolding stop
 stop_none w s lt none = elim (eqb_tells s.cycle w.limit) [
-    inl e ↦ absurd (let same = e.1 in omega arith)
+  | inl e ↦ absurd (let same = e.1 in omega arith)
   | inr e ↦ rw e.0 none
 ]
 
@@ -214,7 +227,7 @@ a_step w s n k lt h known quiet inward limit =
     let number = seen_number s in
     let cycle = stays.cycle in
     let seen : (begun (with_outer o t)).outer ≡ seen_in (begun s).outer ((begun s).outer.cycle + k) =
-      seen_later s (with_outer o t) (quiet.pads k le) stays.pio0 stays.pio1 ∙ ap (λ (c : ℕ). seen_in (begun s).outer c) (omega arith) in
+    seen_later s (with_outer o t) (quiet.pads k le) stays.pio0 stays.pio1 ∙ ap (λ (c : ℕ). seen_in (begun s).outer c) (omega arith) in
     let tells : TellsSame o t = record {
       lines = quiet.lines k le 0 ∙ ap (outer_lines 0) (sym stays.outer);
       pacing = quiet.pacing k le ∙ ap outer_pacing (sym stays.outer);
@@ -226,7 +239,7 @@ a_step w s n k lt h known quiet inward limit =
       stop = stop_none w (with_outer o t) (omega arith) step.cause;
       next = step.state ∙ ap (λ (x : SeenOutputs). with_outer (outer.next w o x) (inward_next (begun t).core0 (core0_want t) t)) seen;
       events = no_events t.cycle o.pads.current (marked w o (begun (with_outer o t)).outer)
-        (ap (λ (x : SeenOutputs). marked w o x) seen ∙ quiet.mark k lt ∙ ap (λ (p : Bank). record { uart = None ∷ None ∷ []; pads = p.current }) (sym (quiet.pads k le)));
+          (ap (λ (x : SeenOutputs). marked w o x) seen ∙ quiet.mark k lt ∙ ap (λ (p : Bank). record { uart = None ∷ None ∷ []; pads = p.current }) (sym (quiet.pads k le)));
     }
 
 runs_through : (w : Setting) (s : State) (n : ℕ) → GoesAlone s → s.outer.sio ≡ pins_of s.sio → IsQuiet w (begun s).outer s.outer n → StaysInward s n
@@ -245,4 +258,63 @@ core0_goes_on_alone w s n h known quiet inward limit =
       state = states_through w (onward_after w s) n runs;
       events = events_through w (onward_after w s) n runs;
       stop = λ k lt. ap (stop w) (states_through w (onward_after w s) k (fewer w (onward_after w s) n k (omega arith) runs)) ∙ runs.stop k lt;
+    }
+
+-- ---- as far as core 0 reaches for nothing but SRAM
+
+-- from s core 0 has gone on alone for so many cycles, at most so many
+pub record HasGone (s t : State) (most done lines before now : ℕ) (old new : List Mark) : Type 0 where
+  pub within : done ≤ most
+  pub state : t ≡ inward_after done s
+  pub inward : StaysInward s done
+  pub told : lines ≡ lines_of 0 t
+  pub counted : now ≡ before + done
+  pub kept : new ≡ old
+  pub cycle : t.cycle ≡ s.cycle + done
+
+pub has_gone_none : (s : State) (most lines steps : ℕ) (marks : List Mark) → lines ≡ lines_of 0 s → HasGone s s most 0 lines steps steps marks marks
+unfolding inward_after
+has_gone_none s most lines steps marks h = record {
+  within = omega arith;
+  state = refl;
+  inward = λ k lt. absurd (omega arith);
+  told = h;
+  counted = omega arith;
+  kept = refl;
+  cycle = omega arith;
+}
+
+lines_stay : (b : Doing) (x : Want) (t : State) → lines_of 0 (inward_next b x t) ≡ lines_of 0 t
+unfolding inward_next ended with_sio lines_of block_lines outer_lines
+lines_stay b x t = refl
+
+cycle_more : (b : Doing) (x : Want) (t : State) → (inward_next b x t).cycle ≡ t.cycle + 1
+unfolding inward_next ended with_sio
+cycle_more b x t = refl
+
+inward_again : (s t : State) (n : ℕ) → t ≡ inward_after n s → is_inward (core0_want t) ≡ true → StaysInward s n → StaysInward s (suc n)
+inward_again s t n e last so_far k lt = elim (eqb_tells k n) [
+  | inl same ↦ ap (λ (m : ℕ). is_inward (core0_want (inward_after m s))) same.1 ∙ ap (λ (x : State). is_inward (core0_want x)) (sym e) ∙ last
+  | inr other ↦ so_far k (let ne = other.1 in omega (arith, ne))
+]
+
+pub has_gone_on : (s t u : State) (most done more lines before now later : ℕ) (old new last : List Mark)
+    → HasGone s t most done lines before now old new → done < most → is_inward (core0_want t) ≡ true → u ≡ inward_next (begun t).core0 (core0_want t) t
+    → more ≡ done + 1 → later ≡ now + 1 → last ≡ new
+    → HasGone s u most more lines before later old last
+unfolding inward_after
+has_gone_on s t u most done more lines before now later old new last h lt inward e one step mark =
+    let state : u ≡ inward_after (suc done) s = e ∙ ap inward_cycle h.state in
+    let n : more ≡ suc done = omega arith in
+    let steps = h.counted in
+    let cycle = h.cycle in
+    let here : u.cycle ≡ t.cycle + 1 = ap (λ (x : State). x.cycle) e ∙ cycle_more _ _ t in
+    record {
+      within = omega arith;
+      state = state ∙ ap (λ (k : ℕ). inward_after k s) (sym n);
+      inward = rw n (inward_again s t done h.state inward h.inward);
+      told = h.told ∙ sym (ap (lines_of 0) e ∙ lines_stay _ _ t);
+      counted = omega arith;
+      kept = mark ∙ h.kept;
+      cycle = omega arith;
     }

@@ -62,6 +62,10 @@ pub record TellsSame (o : OuterState) (s : State) : Type 0 where
   pub inputs : outer_inputs o ≡ outer_inputs s.outer
   pub sio : o.sio ≡ pins_of s.sio
 
+-- the same where nothing is wanted, and no access lasts
+unfoldable pub inward_rest : Doing → State → State
+inward_rest b s = record (ended (core0_stepped b turn.Nothing s)) { cycle = s.cycle + 1 }
+
 -- core 0 alone is at work, and its launcher has no word for core 1
 pub record GoesAlone (s : State) : Type 0 where
   pub alone : IsAlone s

@@ -14,6 +14,7 @@ impl Machine {
     ghost use Rattle.std.specs.Prelude.{◌≡◌, ◌+◌, ◌-◌, ◌^◌, ◌<◌, ◌∷◌, ◌++◌, if◌then◌else◌, is_some, [], length, true, false, Decides};
     ghost use Rattle.outer_lane.specs.Setting.{setting};
     ghost use Rattle.outer_lane.specs.Step.{marked};
+    ghost use Rattle.rp_machine.specs.Answers.{lines_of};
     ghost use Rattle.rp_machine.specs.Cycle.{begun, wanted, cause_in, next, mark};
     ghost use Rattle.rp_machine.specs.Alone.{is_core0_alone, IsAlone, alone_at_rest, alone_next};
     ghost use Rattle.bus_fabric.specs.State.{has_hold};
@@ -32,13 +33,14 @@ impl Machine {
             && self.pio1.is_at_rest()
     }
 
-    /// What core 0 begins, in the place of what it began before.
+    /// What core 0 begins, whose interrupt lines are these, in the place of what it began before.
     #[inline(always)]
     #[tactic(auto, unfolding(crate::specs::Cycle::begun))]
-    fn begin_core0(&self, core0: &mut Doing)
+    pub(crate) fn begin_core0(&self, lines: u32, core0: &mut Doing)
+        requires { lines ≡ lines_of 0 self.now }
         ensures { core0.new ≡ (begun self.now).core0 }
     {
-        begin_core(self, 0, self.lines(0), &self.core0, core0);
+        begin_core(self, 0, lines, &self.core0, core0);
     }
 
     /// What the peripherals begin.
@@ -137,7 +139,7 @@ impl Machine {
         ensures steps { steps.new ≡ (if is_some result then steps.old else steps.old + 1) }
     {
         let mut core0 = Doing::nothing();
-        self.begin_core0(&mut core0);
+        self.begin_core0(self.lines(0), &mut core0);
         let outer = self.begin_outer(world);
         if self.is_bus_free(&core0) {
             marks.clear();

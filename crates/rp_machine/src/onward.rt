@@ -6,11 +6,12 @@ ghost use Rattle.rp_machine.specs.Deeds.{StoresInSram};
 ghost use Rattle.rp_machine.specs.Inward.{is_inward, inward_turn, inward_deed};
 
 use crate::access::{asked_begun, stored_at};
-use crate::begun::begin_core;
 use crate::deed::Deed;
 use crate::machine::Machine;
+use crate::steps::Steps;
 use lane_look::{Lane, Marks, Turn};
 use m0_core::{Act, Doing};
+use std::sync::ledger::Ledger;
 
 /// What the bus gives a core for the access to SRAM that it has begun, and what that comes to.
 #[inline(always)]
@@ -38,17 +39,29 @@ fn served_in_sram(begun: &Doing, granted: bool) -> Option<(Turn, Deed)>
 }
 
 impl Machine {
-    ghost use Rattle.std.specs.Prelude.{◌≡◌, ◌+◌, ◌-◌, ◌^◌, ◌<◌, true, false};
+    ghost use Rattle.std.specs.Prelude.{◌≡◌, ◌+◌, ◌-◌, ◌^◌, ◌<◌, ◌≤◌, true, false};
     ghost use Rattle.m0_core.specs.Cycle.{want_of};
     ghost use Rattle.rp_machine.specs.Answers.{lines_of};
-    ghost use Rattle.rp_machine.specs.Cycle.{begun};
-    ghost use Rattle.rp_machine.specs.Inward.{core0_want, is_inward, inward_next, GoesAlone};
+    ghost use Rattle.rp_machine.specs.Inward.{core0_want, is_inward, inward_rest, inward_next, inward_cycle, inward_after, StaysInward};
 
-    /// What core 0 does in a cycle in which it has begun this, where that is nothing or an access to SRAM: all but the number of the
-    /// cycle. False where it reaches for more, and then nothing changes.
+    /// A cycle in which core 0 has begun this and wants nothing, and no access lasts.
+    #[inline(always)]
+    #[tactic(auto, unfolding(crate::specs::Inward::inward_rest))]
+    fn rest_onward(&mut self, core0: &Doing, marks: &mut Marks)
+        requires number { self.old.cycle < 2 ^ 64 - 1 }
+        ensures state { self.new ≡ inward_rest core0.now self.old }
+        ensures marks { marks.new ≡ marks.old }
+    {
+        let at = self.at;
+        self.core0.finish(&(), core0, [Turn::Nothing; 2], marks);
+        self.end();
+        self.at = at + 1;
+    }
+
+    /// A cycle in which core 0 has begun this, where that is an access to SRAM. False where it is none, and then nothing changes.
     #[inline(always)]
     #[tactic(auto, unfolding(crate::specs::Inward::inward_next))]
-    fn core0_onward(&mut self, core0: &Doing, marks: &mut Marks) -> bool
+    fn reach_onward(&mut self, core0: &Doing, marks: &mut Marks) -> bool
         requires number { self.old.cycle < 2 ^ 64 - 1 }
         ensures inward { result ≡ true → is_inward (want_of core0.now) ≡ true }
         ensures done { result ≡ true → self.new ≡ inward_next core0.now (want_of core0.now) self.old }
@@ -56,18 +69,14 @@ impl Machine {
         ensures marks { marks.new ≡ marks.old }
     {
         let at = self.at;
-        if self.is_bus_free(core0) {
-            self.core0.finish(&(), core0, [Turn::Nothing; 2], marks);
-        } else {
-            let mut fabric = self.fabric;
-            let granted = fabric.grant_core0(asked_begun(core0));
-            let Some((turn, deed)) = served_in_sram(core0, granted) else {
-                return false;
-            };
-            self.fabric = fabric;
-            self.core0.finish(&(), core0, [turn, Turn::Nothing], marks);
-            self.store(&deed);
-        }
+        let mut fabric = self.fabric;
+        let granted = fabric.grant_core0(asked_begun(core0));
+        let Some((turn, deed)) = served_in_sram(core0, granted) else {
+            return false;
+        };
+        self.fabric = fabric;
+        self.core0.finish(&(), core0, [turn, Turn::Nothing], marks);
+        self.store(&deed);
         self.end();
         self.at = at + 1;
         true
@@ -76,17 +85,44 @@ impl Machine {
     /// One cycle of a machine in which core 0 is alone, whose interrupt lines are these, but for the peripherals, which stay as they
     /// are. False where core 0 reaches for more than SRAM, and then nothing changes.
     #[inline(always)]
-    #[tactic(auto, unfolding(crate::specs::Cycle::begun))]
     pub(crate) fn cycle_onward(&mut self, lines: u32, marks: &mut Marks) -> bool
         requires number { self.old.cycle < 2 ^ 64 - 1 }
         requires lines { lines ≡ lines_of 0 self.old }
         ensures inward { result ≡ true → is_inward (core0_want self.old) ≡ true }
-        ensures done { result ≡ true → self.new ≡ inward_next (begun self.old).core0 (core0_want self.old) self.old }
+        ensures done { result ≡ true → self.new ≡ inward_cycle self.old }
         ensures stays { result ≡ false → self.new ≡ self.old }
         ensures marks { marks.new ≡ marks.old }
     {
         let mut core0 = Doing::nothing();
-        begin_core(self, 0, lines, &self.core0, &mut core0);
-        self.core0_onward(&core0, marks)
+        self.begin_core0(lines, &mut core0);
+        if self.is_bus_free(&core0) {
+            self.rest_onward(&core0, marks);
+            return true;
+        }
+        self.reach_onward(&core0, marks)
+    }
+
+    /// Core 0 goes on alone for at most so many cycles, up to the first in which it reaches for more than SRAM, and the peripherals stay
+    /// as they are. How many cycles that were.
+    pub(crate) fn go_onward<L: Ledger>(
+        &mut self,
+        most: u64,
+        marks: &mut Marks,
+        steps: &mut Steps<L>,
+    ) -> u64
+        requires number { self.old.cycle + most < 2 ^ 64 }
+        ensures most { result ≤ most }
+        ensures state { self.new ≡ inward_after result self.old }
+        ensures inward { StaysInward self.old result }
+        ensures marks { marks.new ≡ marks.old }
+        ensures steps { steps.new ≡ steps.old + result }
+    {
+        let lines = self.lines(0);
+        let mut done = 0;
+        while done < most && self.cycle_onward(lines, marks) {
+            steps.tick();
+            done += 1;
+        }
+        done
     }
 }
