@@ -37,9 +37,10 @@ use Rattle.rp_machine.specs.Deeds.{asked_of, turn_of, deed_of, cause_of, stored_
 use Rattle.rp_machine.specs.Cycle.{begun, wanted, wanted_by, cause_in, with_pins, pins_of, with_sio, ended, after_deed, mark, stop, next}
 use Rattle.rp_machine.specs.BusRest.{core1_at_rest}
 use Rattle.rp_machine.specs.Alone.{IsAlone, alone_next, granted_alone, with_grant, with_store}
-use Rattle.rp_machine.specs.Inward.{with_outer, is_inward, core0_want, inward_turn, inward_deed, core0_stepped, inward_rest, inward_next, TellsSame, GoesAlone, GoesOn, inward_cycle, inward_after, StaysInward, onward_after, IsSilent, Core0GoesOnAlone}
+use Rattle.rp_machine.specs.Inward.{with_outer, is_inward, core0_want, inward_turn, inward_deed, core0_stepped, inward_rest, inward_next, TellsSame, GoesAlone, GoesOn, inward_cycle, inward_after, StaysInward, onward_after, GoesOnward, Core0GoesOnAlone}
 use Rattle.rp_machine.specs.Events.{events}
-use Rattle.rp_machine.proofs.Quietly.{RunsThrough, states_through, events_through, fewer, no_events, seen_later, seen_number}
+use Rattle.rp_machine.specs.Run.{states}
+use Rattle.rp_machine.proofs.Quietly.{RunsThrough, states_through, fewer, no_events, seen_later, seen_number}
 use Rattle.rp_machine.proofs.OneCore.{next_alone, cause_alone}
 use Rattle.rp_machine.proofs.HeldLanes.{outer_next}
 
@@ -254,11 +255,27 @@ pub core0_goes_on_alone : Core0GoesOnAlone
 unfolding inward_after times
 core0_goes_on_alone w s n h known quiet inward limit =
     let runs = runs_through w s n h known quiet inward limit in
+    let here : (k : ℕ) → k ≤ n → states w s k ≡ onward_after w s k =
+    λ k le. states_through w (onward_after w s) k (fewer w (onward_after w s) n k le runs) in
     record {
-      state = states_through w (onward_after w s) n runs;
-      events = events_through w (onward_after w s) n runs;
-      stop = λ k lt. ap (stop w) (states_through w (onward_after w s) k (fewer w (onward_after w s) n k (omega arith) runs)) ∙ runs.stop k lt;
+      state = here n (omega arith);
+      quiet = record {
+        goes = λ k lt. ap (stop w) (here k (omega arith)) ∙ runs.stop k lt;
+        silent = λ k lt. ap (events w) (here k (omega arith)) ∙ runs.events k lt;
+        pads = λ k le. ap (λ (t : State). t.outer.pads) (here k le) ∙ quiet.pads k le;
+        cycle = λ k le. ap (λ (t : State). t.cycle) (here k le) ∙ (stays_after s k h known).cycle;
+      };
     }
+
+-- the same of what the calls of a run leave
+pub went_onward : (w : Setting) (s t : State) (o : OuterState) (seen : SeenOutputs) (n : ℕ) → GoesAlone s → s.outer.sio ≡ pins_of s.sio → seen ≡ (begun s).outer
+    → t ≡ inward_after n s → o ≡ outer_after w seen n t.outer → GoesOnward w s n → with_outer o t ≡ states w s n
+went_onward w s t o seen n h known same went passed runs =
+    ap (λ (x : OuterState). with_outer x t) passed
+    ∙ ap (λ (x : State). with_outer (outer_after w seen n x.outer) x) went
+    ∙ ap (λ (x : SeenOutputs). with_outer (outer_after w x n (inward_after n s).outer) (inward_after n s)) same
+    ∙ ap (λ (x : OuterState). with_outer (outer_after w (begun s).outer n x) (inward_after n s)) (stays_after s n h known).outer
+    ∙ sym runs.state
 
 -- ---- as far as core 0 reaches for nothing but SRAM
 

@@ -16,8 +16,8 @@ use Rattle.rp_machine.specs.State.{State}
 use Rattle.rp_machine.specs.Answers.{answer_of, outs_of}
 use Rattle.rp_machine.specs.Cycle.{begun, stop, next}
 use Rattle.rp_machine.specs.Events.{events, events_of}
-use Rattle.rp_machine.specs.Run.{states, events_in}
-use Rattle.rp_machine.proofs.Runs.{states_on, events_more}
+use Rattle.rp_machine.specs.Run.{states}
+use Rattle.rp_machine.proofs.Runs.{states_on}
 
 -- ---- states that follow each other without a stop and without events
 
@@ -44,18 +44,6 @@ states_from w at m c (suc n) h le =
 
 pub states_through : (w : Setting) (at : ℕ → State) (n : ℕ) → RunsThrough w at n → states w (at 0) n ≡ at n
 states_through w at n h = states_from w at n 0 n h (omega arith) ∙ ap at (omega arith)
-
-events_from : (w : Setting) (at : ℕ → State) (m c n : ℕ) → RunsThrough w at m → c + n ≤ m → events_in w (at c) n ≡ []
-unfolding events_in
-events_from w at m c zero h le = refl
-events_from w at m c (suc n) h le =
-    events_more w (at c) n (h.stop c (omega arith))
-    ∙ ap (λ es. es ++ events_in w (next w (at c)) n) (h.events c (omega arith))
-    ∙ ap (λ (s : State). events_in w s n) (h.next c (omega arith))
-    ∙ events_from w at m (suc c) n h (omega arith)
-
-pub events_through : (w : Setting) (at : ℕ → State) (n : ℕ) → RunsThrough w at n → events_in w (at 0) n ≡ []
-events_through w at n h = events_from w at n 0 n h (omega arith)
 
 -- ---- a mark of no byte and of the levels before it tells no event
 

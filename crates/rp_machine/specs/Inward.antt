@@ -19,8 +19,9 @@ use Rattle.rp_machine.specs.declared.deed.Deed.{Deed}
 use Rattle.rp_machine.specs.declared.deed.Deed.TheVariants as deed
 use Rattle.rp_machine.specs.State.{State}
 use Rattle.rp_machine.specs.Deeds.{asked_of, turn_at, stored_at}
-use Rattle.rp_machine.specs.Cycle.{begun, wanted, cause_in, pins_of, stop, ended, next}
-use Rattle.rp_machine.specs.Run.{states, events_in}
+use Rattle.rp_machine.specs.Cycle.{begun, wanted, cause_in, pins_of, ended, next}
+use Rattle.rp_machine.specs.Run.{states}
+use Rattle.rp_machine.specs.Quiet.{IsQuiet as RunsQuietly}
 use Rattle.rp_machine.specs.Alone.{IsAlone, granted_alone, with_grant, with_store}
 
 -- a state with these peripherals
@@ -93,13 +94,12 @@ StaysInward s n = (k : ℕ) → k < n → is_inward (core0_want (inward_after k 
 abbrev pub onward_after : Setting → State → ℕ → State
 onward_after w s n = with_outer (outer_after w (begun s).outer n s.outer) (inward_after n s)
 
--- the cycles have no stop and no events
-pub record IsSilent (w : Setting) (s t : State) (n : ℕ) : Type 0 where
-  pub state : states w s n ≡ t
-  pub events : events_in w s n ≡ []
-  pub stop : (k : ℕ) → k < n → stop w (states w s k) ≡ None
+-- then it is the state of the run
+pub record GoesOnward (w : Setting) (s : State) (n : ℕ) : Type 0 where
+  pub state : states w s n ≡ onward_after w s n
+  pub quiet : RunsQuietly w s n
 
 abbrev pub Core0GoesOnAlone : Type 0
 Core0GoesOnAlone =
     (w : Setting) (s : State) (n : ℕ) → GoesAlone s → s.outer.sio ≡ pins_of s.sio → IsQuiet w (begun s).outer s.outer n → StaysInward s n
-    → s.cycle + n ≤ w.limit → IsSilent w s (onward_after w s n) n
+    → s.cycle + n ≤ w.limit → GoesOnward w s n

@@ -11,7 +11,9 @@ pub mod LineLaws
 pub mod Loading
 pub mod Offsets
 pub mod Inward
+pub mod Quiet
 pub mod Readers
+pub mod Reads
 pub mod Registers
 pub mod Rest
 pub mod Run

@@ -201,7 +201,7 @@ impl Machine {
 
     /// The word at a spot that is not in SRAM, as it reads for a master. None where there is no such word.
     #[tactic(auto, unfolding(crate::specs::Deeds::word_for))]
-    fn word_for<X: Device>(
+    pub(crate) fn word_for<X: Device>(
         &self,
         world: &World<'_, X>,
         seen: &SeenOutputs,

@@ -36,7 +36,7 @@ impl Machine {
     /// What core 0 begins, whose interrupt lines are these, in the place of what it began before.
     #[inline(always)]
     #[tactic(auto, unfolding(crate::specs::Cycle::begun))]
-    pub(crate) fn begin_core0(&self, lines: u32, core0: &mut Doing)
+    pub fn begin_core0(&self, lines: u32, core0: &mut Doing)
         requires { lines ≡ lines_of 0 self.now }
         ensures { core0.new ≡ (begun self.now).core0 }
     {
@@ -46,7 +46,7 @@ impl Machine {
     /// What the peripherals begin.
     #[inline(always)]
     #[tactic(auto, unfolding(crate::specs::Cycle::begun))]
-    fn begin_outer<X: Device>(&self, world: &World<'_, X>) -> SeenOutputs
+    pub fn begin_outer<X: Device>(&self, world: &World<'_, X>) -> SeenOutputs
         ensures { result ≡ (begun self.now).outer }
     {
         begin_lane(self, 5, &self.outer, world)

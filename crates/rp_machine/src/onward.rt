@@ -104,7 +104,7 @@ impl Machine {
 
     /// Core 0 goes on alone for at most so many cycles, up to the first in which it reaches for more than SRAM, and the peripherals stay
     /// as they are. How many cycles that were.
-    pub(crate) fn go_onward<L: Ledger>(
+    pub fn go_onward<L: Ledger>(
         &mut self,
         most: u64,
         marks: &mut Marks,

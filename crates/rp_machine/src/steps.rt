@@ -35,4 +35,11 @@ impl<L: Ledger> Steps<L> {
     {
         self.book.add(&mut self.share, 1);
     }
+
+    /// Counts so many cycles.
+    pub fn add(&mut self, n: u64)
+        ensures { self.new ≡ self.old + n }
+    {
+        self.book.add(&mut self.share, n);
+    }
 }
