@@ -1,5 +1,4 @@
-//! Tests of texts: UF2 images and what they are linked with, scripts, PIO sources and their listings, words of a command line, files,
-//! lines of a trace, and what hears the pins.
+//! Tests of texts: scripts, PIO sources and their listings, words of a command line, files, lines of a trace, and what hears the pins.
 #![tactic(auto)]
 
 #[cfg(test)]
@@ -11,11 +10,6 @@ mod damaged_tests;
 #[cfg(test)]
 mod form_tests;
 #[cfg(test)]
-mod link_tests;
-pub mod little_endian;
-#[cfg(test)]
-mod numbered_tests;
-#[cfg(test)]
 mod pin_script_tests;
 #[cfg(test)]
 mod program_tests;
@@ -25,7 +19,3 @@ mod rp_ports_tests;
 mod source_tests;
 #[cfg(test)]
 mod trace_text_tests;
-#[cfg(test)]
-mod uf2_file;
-#[cfg(test)]
-mod uf2_image_tests;

@@ -1,0 +1,5 @@
+//! Tests of the top call with workers.
+#![tactic(auto)]
+
+#[cfg(test)]
+mod worker_tests;
