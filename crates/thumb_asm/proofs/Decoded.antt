@@ -18,15 +18,14 @@ use Rattle.thumb_words.specs.Codes.{DecodesTo, code_of, coded}
 use Rattle.thumb_words.proofs.Decode.{codes_decode}
 use Rattle.thumb_asm.specs.declared.fault.ThumbFault.{ThumbFault}
 use Rattle.thumb_asm.specs.declared.fault.ThumbFault.TheVariants.{Unknown, Twice, Range, Register, Align as AlignFault, TooLong}
-use Rattle.thumb_asm.specs.declared.item.Item.{Item}
-use Rattle.thumb_asm.specs.declared.item.Item.TheVariants.{Empty, Instruction, OutOfRange, WrongRegister, Literal, Address, Branch, Call, BranchIf, Word, WordAt, Half, Space, Align}
-use Rattle.thumb_asm.specs.declared.statement.Statement.{Statement}
+use Rattle.thumb_parse.specs.declared.item.Item.{Item}
+use Rattle.thumb_parse.specs.declared.item.Item.TheVariants.{Empty, Instruction, OutOfRange, WrongRegister, Literal, Address, Branch, Call, BranchIf, Word, WordAt, Half, Space, Align}
+use Rattle.thumb_parse.specs.declared.statement.Statement.{Statement}
 use Rattle.thumb_asm.specs.Laws.{AreDecoded, InstructionsAreDecoded, IsDecoded, WhatIsAssembledIsReadBack, half_at}
 use Rattle.thumb_asm.specs.Lines.{statement_at}
-use Rattle.thumb_asm.specs.Names.{Names}
 use Rattle.thumb_asm.specs.Placed.{bytes_at, code_bytes, half_bytes, is_misaligned, is_out_of_range, is_wrong_register, name_of, op_at, op_bytes, size_at}
-use Rattle.thumb_asm.specs.Source.{address_after, bytes_from, bytes_of, fault_at, image_of_bytes, image_of_source, image_with, is_twice, is_unknown, line_bytes, names_of, or_fault, target_of, unless_misfit, unless_other_char}
-use Rattle.thumb_asm.specs.Tokens.{code_part}
+use Rattle.thumb_asm.specs.Source.{Names, address_after, bytes_from, bytes_of, fault_at, image_of_bytes, image_of_source, image_with, is_twice, is_unknown, line_bytes, names_of, or_fault, target_of, unless_misfit, unless_other_char}
+use Rattle.thumb_parse.specs.Tokens.{code_part}
 
 -- ---- the bytes of an operation
 

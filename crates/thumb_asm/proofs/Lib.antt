@@ -1,13 +1,5 @@
 pub mod Decoded
-pub mod FirstThat
-pub mod LinesOf
-pub mod Lists
-pub mod NameLaws
-pub mod Numbers
 pub mod Parts
-pub mod ReadLines
-pub mod ReadTokens
-pub mod Scanning
 pub mod Sizes
 pub mod SourceSteps
 pub mod Whole

@@ -2,10 +2,9 @@
 use Rattle.std.proofs.Common.{◌≡◌, ℕ, ◌+◌, List, [], ◌∷◌, ◌++◌, length, Some, None, Result, Ok, Err, sym, ap, ◌∙◌, arith}
 use Rattle.std.specs.Str.Lines.{lines}
 use Rattle.thumb_asm.specs.declared.fault.ThumbFault.{ThumbFault}
-use Rattle.thumb_asm.specs.Tokens.{code_part}
+use Rattle.thumb_parse.specs.Tokens.{code_part}
 use Rattle.thumb_asm.specs.Lines.{statement_at}
-use Rattle.thumb_asm.specs.Names.{Names}
-use Rattle.thumb_asm.specs.Source.{address_after, bytes_from, fault_at, line_bytes, names_from, or_fault, with_label}
+use Rattle.thumb_asm.specs.Source.{Names, address_after, bytes_from, fault_at, line_bytes, names_from, or_fault, with_label}
 
 -- ---- names
 

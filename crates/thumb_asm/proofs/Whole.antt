@@ -5,9 +5,9 @@ use Rattle.std.specs.Str.Lines.{lines}
 use Rattle.uf2_image.specs.declared.parts.Image.{Image}
 use Rattle.thumb_asm.specs.declared.fault.ThumbFault.{ThumbFault}
 use Rattle.thumb_asm.specs.declared.fault.ThumbFault.TheVariants.{Char, Memory}
-use Rattle.thumb_asm.specs.Lines.{first_that, has_other_char, is_misfit}
-use Rattle.thumb_asm.specs.Names.{Names}
-use Rattle.thumb_asm.specs.Source.{IsMisfitAt, bytes_from, bytes_of, image_of_bytes, image_of_source, image_or_nothing, names_of, unless_misfit, unless_other_char}
+use Rattle.source_text.specs.Lines.{first_that}
+use Rattle.thumb_asm.specs.Lines.{has_other_char, is_misfit}
+use Rattle.thumb_asm.specs.Source.{Names, IsMisfitAt, bytes_from, bytes_of, image_of_bytes, image_of_source, image_or_nothing, names_of, unless_misfit, unless_other_char}
 
 pub char_fault : (text : List ℕ) (n : ℕ) → first_that has_other_char 1 (lines text) ≡ Some n → image_of_source text ≡ Err (Char n)
 unfolding image_of_source

@@ -1,20 +1,16 @@
 -- What is read of a line is what the grammar says, and what holds of every source that has no fault: its instructions stand at their
 -- addresses, and the file of its image holds that image.
-use Rattle.std.specs.Prelude.{◌≡◌, ⊤, ℕ, ◌+◌, ◌-◌, ◌*◌, List, [], ◌∷◌, get_or, true, Option, Some, None, Ok}
-use Rattle.std.specs.List.{list_all}
+use Rattle.std.specs.Prelude.{◌≡◌, ℕ, ◌+◌, ◌-◌, ◌*◌, List, [], ◌∷◌, get_or, Option, Some, None, Ok, ⊤}
 use Rattle.std.specs.Str.Lines.{lines}
 use Rattle.rp_base.specs.declared.op.Op.{Op}
 use Rattle.thumb_rows.specs.Rows.{operation_of}
 use Rattle.uf2_image.specs.declared.parts.Image.{Image}
 use Rattle.uf2_image.specs.Uf2.{image_of}
 use Rattle.uf2_image.specs.Writing.{IsWritable, file_of}
-use Rattle.thumb_asm.specs.declared.statement.Statement.{Statement}
-use Rattle.thumb_asm.specs.Grammar.{Says}
-use Rattle.thumb_asm.specs.Tokens.{code_part, is_allowed}
-use Rattle.thumb_asm.specs.Lines.{statement_at, statement_of}
-use Rattle.thumb_asm.specs.Names.{Names}
+use Rattle.thumb_parse.specs.Tokens.{code_part}
+use Rattle.thumb_asm.specs.Lines.{statement_at}
 use Rattle.thumb_asm.specs.Placed.{op_at}
-use Rattle.thumb_asm.specs.Source.{address_after, image_of_source, image_with, names_of, target_of}
+use Rattle.thumb_asm.specs.Source.{Names, address_after, image_of_source, image_with, names_of, target_of}
 
 -- the halfword so far behind the first of some bytes
 abbrev pub half_at : List ℕ → ℕ → ℕ
@@ -40,12 +36,6 @@ AreDecoded names bytes address (line ∷ rest) =
 abbrev pub InstructionsAreDecoded : Type 0
 InstructionsAreDecoded = (text : List ℕ) (image : Image) → image_of_source text ≡ Ok image →
     (bytes : List ℕ) × (image ≡ image_with bytes) × AreDecoded (names_of text) bytes 0x2000_0000 (lines text)
-
--- what is read of a line without its comment, whose characters may all stand there, is what it says by the grammar, and what a line says by
--- the grammar is read
-abbrev pub LinesAreReadByTheirForms : Type 0
-LinesAreReadByTheirForms = (code : List ℕ) (statement : Statement) → list_all is_allowed code ≡ true →
-    (statement_of code ≡ Some statement → Says code statement) × (Says code statement → statement_of code ≡ Some statement)
 
 -- an image that can be written, which its own file holds, and whose entry is the start of SRAM
 pub record IsReadBack (image : Image) : Type 0 where

@@ -1,12 +1,4 @@
-pub mod Forms
-pub mod FormOps
-pub mod Grammar
-pub mod Laws
-pub mod Lexical
 pub mod Lines
-pub mod Names
-pub mod Operands
 pub mod Placed
 pub mod Source
-pub mod Tokens
-pub mod Words
+pub mod Laws

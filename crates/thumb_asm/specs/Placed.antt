@@ -7,10 +7,10 @@ use Rattle.rp_base.specs.declared.op.Op.{Op}
 use Rattle.rp_base.specs.declared.op.Op.TheVariants.{LdrLit, Adr, B, Bl, BCond}
 use Rattle.thumb_words.specs.declared.halfwords.Code.{Code}
 use Rattle.thumb_words.specs.Codes.{code_of}
-use Rattle.thumb_asm.specs.declared.token.Span.{Span}
-use Rattle.thumb_asm.specs.declared.token.Number.{Number}
-use Rattle.thumb_asm.specs.declared.item.Item.{Item}
-use Rattle.thumb_asm.specs.declared.item.Item.TheVariants.{Empty, Instruction, OutOfRange, WrongRegister, Literal, Address, Branch, Call, BranchIf, Word, WordAt, Half, Space, Align}
+use Rattle.thumb_parse.specs.declared.token.Span.{Span}
+use Rattle.thumb_parse.specs.declared.token.Number.{Number}
+use Rattle.thumb_parse.specs.declared.item.Item.{Item}
+use Rattle.thumb_parse.specs.declared.item.Item.TheVariants.{Empty, Instruction, OutOfRange, WrongRegister, Literal, Address, Branch, Call, BranchIf, Word, WordAt, Half, Space, Align}
 
 -- ---- bytes, from the lowest
 

@@ -6,19 +6,24 @@ use Rattle.std.specs.List.{range_with_len}
 use Rattle.std.specs.Str.Lines.{lines}
 use Rattle.uf2_image.specs.declared.parts.Part.{Part}
 use Rattle.uf2_image.specs.declared.parts.Image.{Image}
-use Rattle.thumb_asm.specs.declared.token.Span.{Span}
-use Rattle.thumb_asm.specs.declared.item.Item.{Item}
-use Rattle.thumb_asm.specs.declared.statement.Statement.{Statement}
-use Rattle.thumb_asm.specs.declared.names.Place.{Place}
+use Rattle.thumb_parse.specs.declared.token.Span.{Span}
+use Rattle.thumb_parse.specs.declared.item.Item.{Item}
+use Rattle.thumb_parse.specs.declared.statement.Statement.{Statement}
+use Rattle.thumb_asm.specs.declared.source.Place.{Place}
 use Rattle.thumb_asm.specs.declared.fault.ThumbFault.{ThumbFault}
 use Rattle.thumb_asm.specs.declared.fault.ThumbFault.TheVariants.{Char, Syntax, Unknown, Twice, Range, Register, Align, TooLong, Nothing}
-use Rattle.thumb_asm.specs.Tokens.{code_part}
-use Rattle.thumb_asm.specs.Forms.{name_text}
-use Rattle.thumb_asm.specs.Lines.{first_that, has_other_char, is_misfit, statement_at}
-use Rattle.thumb_asm.specs.Names.{Names, defined, found}
+use Rattle.thumb_parse.specs.Tokens.{code_part}
+use Rattle.thumb_parse.specs.Forms.{name_text}
+use Rattle.thumb_asm.specs.Lines.{has_other_char, is_misfit, statement_at}
+use Rattle.source_text.specs.Lines.{first_that}
+use Rattle.source_text.specs.Symbols.{Symbols, defined, found}
 use Rattle.thumb_asm.specs.Placed.{bytes_at, is_misaligned, is_out_of_range, is_wrong_register, name_of, size_at}
 
 -- ---- names
+
+-- names with the places where they are defined first
+abbrev pub Names : Type 0
+Names = Symbols Place
 
 abbrev pub place_of : ℕ → ℕ → Place
 place_of n address = record { line = n; address = address }

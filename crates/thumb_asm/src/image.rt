@@ -5,9 +5,8 @@ ghost use Rattle.uf2_image.specs.Writing.{IsWritable};
 ghost use Rattle.thumb_asm.specs.Source.{image_or_nothing, image_with, part_at, part_bytes, parts_of};
 
 use crate::fault::ThumbFault;
-use crate::form::name_text;
-use crate::token::Span;
 use std::alloc::{AllocError, Global};
+use thumb_parse::{Span, name_text};
 use uf2_image::{Image, Part, PartBytes, PartList};
 
 /// How many bytes a part has, but for the last.

@@ -1,16 +1,11 @@
 //! The laws of lines and sources, each the contract of a function without parameters.
 
-ghost use Rattle.thumb_asm.specs.Laws.{InstructionsAreDecoded, LinesAreReadByTheirForms, WhatIsAssembledIsReadBack};
+ghost use Rattle.thumb_asm.specs.Laws.{InstructionsAreDecoded, WhatIsAssembledIsReadBack};
 
 /// The image of a source is that of bytes in which each instruction of the source stands at its address: the table of encodings gives
 /// that operation for the halfwords there.
 pub fn instructions_are_decoded()
     ensures { InstructionsAreDecoded }
-{}
-
-/// What is read of a line is what it says by the grammar, and each line of the grammar is read so.
-pub fn lines_are_read_by_their_forms()
-    ensures { LinesAreReadByTheirForms }
 {}
 
 /// The image of a source can be written, the file of it holds that image, and its entry is the start of SRAM.

@@ -7,25 +7,16 @@
 ghost use Rattle.std.specs.Prelude.{◌≡◌, ◌≢◌, ◌≤◌, length, MatchResult, IfOk, None, Ok, Err};
 ghost use Rattle.std.specs.Str.Lines.{lines};
 ghost use Rattle.uf2_image.specs.Writing.{IsWritable};
-ghost use Rattle.thumb_asm.specs.Lines.{first_that, has_other_char};
+ghost use Rattle.source_text.specs.Lines.{first_that};
+ghost use Rattle.thumb_asm.specs.Lines.{has_other_char};
 ghost use Rattle.thumb_asm.specs.Source.{image_of_source};
 
 pub mod fault;
-mod form;
-mod form_ops;
 mod image;
-mod item;
 pub mod laws;
 mod lines;
-mod mnemonic;
-mod names;
-mod operands;
 mod placed;
-mod scan;
 mod source;
-mod statement;
-mod token;
-mod words;
 
 pub use fault::ThumbFault;
 use image::image_or_nothing;

@@ -1,33 +1,12 @@
-//! The lines of a source, one after the other.
+//! The first line with a character that may not stand there.
 
-ghost use Rattle.std.specs.Prelude.{◌≡◌, ◌∷◌, ◌<◌, ◌≤◌, ◌+◌, length};
-ghost use Rattle.std.specs.Str.Lines.{lines, strip_carriage_return};
-ghost use Rattle.thumb_asm.specs.Lines.{first_that, has_other_char};
+ghost use Rattle.std.specs.Prelude.{◌≡◌, ◌≤◌, length};
+ghost use Rattle.std.specs.Str.Lines.{lines};
+ghost use Rattle.source_text.specs.Lines.{first_that};
+ghost use Rattle.thumb_asm.specs.Lines.{has_other_char};
 
-use crate::scan::{are_allowed, code_part, find};
-
-/// A line without the CR at its end.
-fn without_return(line: &[u8]) -> &[u8]
-    ensures { result.now ≡ strip_carriage_return line.now }
-{
-    if !line.is_empty() && line[line.len() - 1] == b'\r' {
-        &line[..line.len() - 1]
-    } else {
-        line
-    }
-}
-
-/// The first line of some bytes, and the bytes after it.
-pub(crate) fn first_line(bytes: &[u8]) -> (&[u8], &[u8])
-    requires { 0 < length bytes.now }
-    ensures line { lines bytes.now ≡ result.0.now ∷ lines result.1.now }
-    ensures shorter { length result.1.now < length bytes.now }
-{
-    match find(bytes, b'\n') {
-        Some(end) => (without_return(&bytes[..end]), &bytes[end + 1..]),
-        None => (bytes, &bytes[bytes.len()..]),
-    }
-}
+use source_text::first_line;
+use thumb_parse::{are_allowed, code_part};
 
 /// Whether a line has a character that may not stand before a comment.
 #[tactic(auto, unfolding(crate::specs::Lines::has_other_char))]

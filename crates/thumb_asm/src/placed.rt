@@ -3,10 +3,9 @@
 ghost use Rattle.std.specs.Prelude.{◌≡◌, ◌≤◌, ◌<◌, ◌^◌, ◌++◌, length, replicate, OnOk};
 ghost use Rattle.thumb_asm.specs.Placed.{aligned_pc, bytes_at, call_by, code_bytes, halfwords, has_no_code, is_marked, is_ahead, is_misaligned, is_near, is_out_of_range, is_word, is_wrong_register, name_of, op_at, op_bytes, padding, size_at, words_ahead, word_bytes, half_bytes, word_value};
 
-use crate::item::Item;
-use crate::token::{Number, Span};
 use rp_base::op::Op;
 use std::alloc::AllocError;
+use thumb_parse::{Item, Number, Span};
 use thumb_words::{Code, encode};
 
 /// How many bytes an operation has.

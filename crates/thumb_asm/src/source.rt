@@ -2,23 +2,31 @@
 
 ghost use Rattle.std.specs.Prelude.{◌≡◌, ◌≢◌, ◌≤◌, ◌<◌, ◌^◌, ◌*◌, ◌+◌, ◌++◌, Ok, Err, Some, None, [], length, IfErr, IfNone, IfOk, OnOk, MatchResult, true, false, ⊤};
 ghost use Rattle.std.specs.Str.Lines.{lines};
-ghost use Rattle.thumb_asm.specs.Tokens.{code_part};
-ghost use Rattle.thumb_asm.specs.Lines.{first_that, is_misfit, statement_at, statement_of};
+ghost use Rattle.thumb_parse.specs.Tokens.{code_part};
+ghost use Rattle.source_text.specs.Lines.{first_that};
+ghost use Rattle.thumb_asm.specs.Lines.{is_misfit, statement_at, statement_of};
 ghost use Rattle.thumb_asm.specs.Placed.{size_at};
 ghost use Rattle.thumb_asm.specs.Source.{IsMisfitAt, address_after, bytes_from, bytes_of, fault_at, is_twice, is_unknown, item_fault, line_bytes, names_of, place_in, target_of, with_label};
 
 use crate::fault::ThumbFault;
-use crate::form::name_text;
-use crate::item::Item;
-use crate::lines::first_line;
-use crate::names::{Names, Place};
 use crate::placed::{
     is_misaligned, is_out_of_range, is_wrong_register, name_of, push_item, size_at,
 };
-use crate::scan::code_part;
-use crate::statement::{Statement, read_statement};
-use crate::token::{Span, Token};
+use source_text::{Symbols, first_line};
 use std::alloc::{AllocError, Global};
+use thumb_parse::{Item, Span, Statement, Token, code_part, name_text, read_statement};
+
+/// Where a name is defined first.
+#[derive(Clone, Copy, PartialEq, Eq)]
+pub(crate) struct Place {
+    /// The line, counted from 1.
+    pub(crate) line: u32,
+    /// The address of what follows.
+    pub(crate) address: u64,
+}
+
+/// Names with the places where they are defined first.
+pub(crate) type Names<'a> = Symbols<'a, Place>;
 
 /// Where code begins.
 const START: u64 = 0x2000_0000;
@@ -80,7 +88,7 @@ pub(crate) fn find_names(alloc: Global, text: &[u8]) -> Result<Names<'_>, ThumbF
     ensures fault { IfErr result (λ fault. fault ≢ ThumbFault.Memory
         → IsMisfitAt fault (first_that is_misfit 1 (lines text.now))) }
 {
-    let mut names = Names::new(alloc);
+    let mut names = Symbols::new(alloc);
     let mut tokens = Vec::new(alloc);
     let mut rest = text;
     let mut number: u32 = 0;

@@ -1,7 +1,7 @@
 use Rattle.std.proofs.Common.{length, refl, sym, arith}
 use Rattle.std.proofs.lemmas.Bool.{eqb-true}
 use Rattle.thumb_asm.specs.Lines.{has_other_char}
-use Rattle.thumb_asm.proofs.FirstThat.{test_end, test_here, test_more}
+use Rattle.source_text.proofs.FirstThat.{test_end, test_here, test_more}
 use Rattle.thumb_asm.proofs.lines.first_other_char.Goals as goal
 
 pub loop-rest-init : goal.loop-rest-init

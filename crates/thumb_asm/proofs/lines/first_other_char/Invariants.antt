@@ -1,6 +1,7 @@
 use Rattle.std.proofs.Common.{◌≡◌, ◌≤◌, ◌+◌, ℕ, List, length}
 use Rattle.std.specs.Str.Lines.{lines}
-use Rattle.thumb_asm.specs.Lines.{first_that, has_other_char}
+use Rattle.source_text.specs.Lines.{first_that}
+use Rattle.thumb_asm.specs.Lines.{has_other_char}
 use Rattle.thumb_asm.proofs.lines.first_other_char.Given as goal
 
 -- the lines up to here have no other character

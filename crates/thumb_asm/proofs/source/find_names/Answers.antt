@@ -2,7 +2,7 @@ use Rattle.std.proofs.Common.{length, refl, sym, arith}
 use Rattle.std.proofs.lemmas.Bool.{eqb-true}
 use Rattle.std.proofs.lemmas.Result.{err_from_is_err_and}
 use Rattle.thumb_asm.specs.Lines.{is_misfit}
-use Rattle.thumb_asm.proofs.FirstThat.{test_end, test_here, test_more}
+use Rattle.source_text.proofs.FirstThat.{test_end, test_here, test_more}
 use Rattle.thumb_asm.proofs.SourceSteps.{names_end, names_more}
 use Rattle.thumb_asm.proofs.source.find_names.Goals as goal
 

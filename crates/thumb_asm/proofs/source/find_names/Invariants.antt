@@ -1,8 +1,8 @@
 use Rattle.std.proofs.Common.{◌≡◌, ◌≤◌, ◌+◌, ◌*◌, ℕ, List, length}
 use Rattle.std.specs.Str.Lines.{lines}
-use Rattle.thumb_asm.specs.Lines.{first_that, is_misfit}
-use Rattle.thumb_asm.specs.Names.{Names}
-use Rattle.thumb_asm.specs.Source.{names_from, names_of}
+use Rattle.source_text.specs.Lines.{first_that}
+use Rattle.thumb_asm.specs.Lines.{is_misfit}
+use Rattle.thumb_asm.specs.Source.{Names, names_from, names_of}
 use Rattle.thumb_asm.proofs.source.find_names.Given as goal
 
 -- the lines up to here have forms and define these names

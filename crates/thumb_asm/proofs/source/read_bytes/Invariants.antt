@@ -1,7 +1,6 @@
 use Rattle.std.proofs.Common.{◌≡◌, ◌≤◌, ◌+◌, ℕ, List, [], length}
 use Rattle.std.specs.Str.Lines.{lines}
-use Rattle.thumb_asm.specs.Names.{Names}
-use Rattle.thumb_asm.specs.Source.{bytes_from}
+use Rattle.thumb_asm.specs.Source.{Names, bytes_from}
 use Rattle.thumb_asm.proofs.source.read_bytes.Given as goal
 
 -- the lines up to here have no fault and give these bytes

@@ -1,6 +1,0 @@
-use Rattle.std.proofs.Common.{◌≡◌, ◌-◌}
-use Rattle.thumb_asm.specs.Operands.{with_range, with_registers}
-use Rattle.thumb_asm.proofs.operands.RegisterList.with_range.Given as goal
-
-abbrev pub invariant-loop-register : goal.invariant-loop-register
-invariant-loop-register l = with_range l.fn.self l.fn.first l.fn.last ≡ with_registers l.list l.register (l.fn.last - l.register)

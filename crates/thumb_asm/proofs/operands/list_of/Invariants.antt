@@ -1,6 +1,0 @@
-use Rattle.std.proofs.Common.{◌≡◌, drop}
-use Rattle.thumb_asm.specs.Operands.{list_from, list_of}
-use Rattle.thumb_asm.proofs.operands.list_of.Given as goal
-
-abbrev pub invariant-loop-token : goal.invariant-loop-token
-invariant-loop-token l = list_of l.tokens ≡ list_from l.part (drop l.token-index l.tokens)

@@ -1,6 +1,0 @@
-use Rattle.std.proofs.Common.{◌≡◌, ◌≤◌, ◌++◌, drop}
-use Rattle.thumb_asm.specs.Tokens.{tokens_from, tokens_of}
-use Rattle.thumb_asm.proofs.scan.read_tokens.Given as goal
-
-abbrev pub invariant-loop-at : goal.invariant-loop-at
-invariant-loop-at l = (tokens_of l.line ≡ l.tokens.items ++ tokens_from l.line l.start l.at (drop l.at l.line)) × (l.start ≤ l.at)

@@ -1,0 +1,5 @@
+pub mod Lists
+pub mod Numbers
+pub mod ReadLines
+pub mod ReadTokens
+pub mod Scanning

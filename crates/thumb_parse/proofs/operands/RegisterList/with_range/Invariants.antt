@@ -1,0 +1,6 @@
+use Rattle.std.proofs.Common.{◌≡◌, ◌-◌}
+use Rattle.thumb_parse.specs.Lists.{with_range, with_registers}
+use Rattle.thumb_parse.proofs.operands.RegisterList.with_range.Given as goal
+
+abbrev pub invariant-loop-register : goal.invariant-loop-register
+invariant-loop-register l = with_range l.fn.self l.fn.first l.fn.last ≡ with_registers l.list l.register (l.fn.last - l.register)

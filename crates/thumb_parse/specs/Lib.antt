@@ -1,0 +1,9 @@
+pub mod Words
+pub mod Tokens
+pub mod Lists
+pub mod FormOps
+pub mod Forms
+pub mod Lexical
+pub mod Grammar
+pub mod Laws
+pub mod descent
