@@ -1,0 +1,10 @@
+//! Many cycles at once: a machine in which nobody has anything to do goes over as many as that lasts.
+//!
+//! Each part says for how many cycles it is quiet as long as what it is told stays (`quiet`), and is after so many what it would be
+//! one by one (`pass`). The machine goes to the least of the ends.
+#![tactic(auto)]
+
+pub mod laws;
+pub mod pass;
+
+pub use pass::pass_quiet;
