@@ -170,8 +170,8 @@ impl<J: Kept<W> + Drop, R: Kept<W> + Drop, W> Board<J, R, W> {
         ensures free { IsFree seat.new.state }
         ensures event { IsFinish seat.old.state ticket seat.new.state }
     {
-        steps::finish(&self.table.shared, &mut seat.post);
-        self.table.shared.wake_all(steps::DONE);
+        let before = steps::finish(&self.table.shared, &mut seat.post);
+        self.ring(before);
     }
 
     /// Opens six more numbers, one for each lane, with the jobs that were made for the lanes. The master has gathered all earlier ones, and has
@@ -264,6 +264,13 @@ impl<J: Kept<W> + Drop, R: Kept<W> + Drop, W> Board<J, R, W> {
             }
         }
         unreachable!()
+    }
+
+    // The master waits for all six, so the last of them alone wakes it.
+    fn ring(&self, before: u64) {
+        if before % 6 == 5 {
+            self.table.shared.wake_all(steps::DONE);
+        }
     }
 
     // A close changes no low bit of the word, so a wake for it may come before the sleep: it does not last.

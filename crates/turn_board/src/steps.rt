@@ -73,17 +73,17 @@ pub fn see_open<J: Kept<W>, R: Kept<W>, W>(words: &Words<J, R, W>, seat: &mut Po
 }
 
 /// Fetch-and-add 1 on DONE: a worker that holds its lane, with a result in the second slot, finishes its number and gives
-/// the slots back.
-pub fn finish<J: Kept<W>, R: Kept<W>, W>(words: &Words<J, R, W>, seat: &mut Post<J, R, W>)
+/// the slots back. Gives how many were finished before.
+pub fn finish<J: Kept<W>, R: Kept<W>, W>(words: &Words<J, R, W>, seat: &mut Post<J, R, W>) -> u64
     requires table { seat.old.table_id ≡ words.now.table_id }
     requires sized { IsSized words.now.table_id }
     requires follows { seat.old.me.0.leads ≡ false }
     requires result { Brings J.made_for R.made_for seat.old.me }
     ensures table { seat.new.table_id ≡ seat.old.table_id }
-    ensures finished { ((found : ℕ)
-        × finished (step words.now.table_id.slots 2 1 0 none) seat.old.me found seat.new.me) }
+    ensures finished { finished (step words.now.table_id.slots 2 1 0 none) seat.old.me result
+        seat.new.me }
 {
-    words.fetch_add::<Finish>(seat, DONE, 1);
+    words.fetch_add::<Finish>(seat, DONE, 1)
 }
 
 /// Fetch-and-add 6 on OPEN: the master, which knows that all open numbers are finished, opens six more and gives all slots
