@@ -5,13 +5,14 @@
     tools/gdb.py firmware.elf --cycles 200000 --listen 3333        for an editor, which connects to localhost:3333
 
 The image is an ELF or a UF2 file. Both cores are threads. What works: registers, SRAM, breakpoints, write watchpoints, step, next,
-stepi, continue, finish, and their reverse forms; Ctrl-C. The run is replayed, so nothing can be written; SRAM alone can be read.
+stepi, continue, finish, and their reverse forms; Ctrl-C. The run is replayed, so nothing can be written; SRAM and the registers of blocks can be read.
 `monitor help` lists the commands of the session that can be asked, as `monitor pins`. GDB waits for a reply for two seconds, unless
 `set remotetimeout 60` tells it to wait longer.
 
 A stop of the run is a signal, and its line is shown: SIGTRAP for a BKPT, SIGSEGV outside of the machine, SIGABRT for a lockup; at the
-limit and at the start the history ends. An instruction is taken to begin where PC changes. A breakpoint is looked for cycle by cycle, so
-one that is ten million cycles away takes a minute or so; a watchpoint takes about the time of the run up to there.
+limit and at the start the history ends. A breakpoint or a watchpoint takes about the time of the run up to there. Ctrl-C while one is
+sought ends the search: the run stands where it did, and the session begins anew. Registers of blocks are read as core 0 would read
+them, without what a read does.
 """
 from __future__ import annotations
 
@@ -27,19 +28,19 @@ from runs import NAMES, STOP, Refused, main, moved, parser, say  # noqa: E402
 
 INPUT = 1_000_000           # bytes of commands after which a session begins anew; it hears at most 1 MiB
 CHUNK = 1_000_000           # cycles of a run between two looks for Ctrl-C
-LEAST, MOST = 64, 4096      # cycles that are looked at at once
-AT_WRITE = 16               # cycles after which a step over a write ends where no core begins an instruction
+LEAST, MOST = 64, 4096      # instructions that are looked at at once
 READ_ONLY = "the run is replayed: nothing can be written"
 SRAM = [(0x20000000, 0x20042000), (0x21000000, 0x21040000)]
 PC = slice(141, 149)        # the digits of PC in a line of registers
-HELP = """pins, pio <block> <machine>, regs, mem <address> [count], lastwrite <address>, lastpin <pin>: as a session answers them
-step [n], back [n], goto <cycle>, end, untilwrite <address>, untilpin <pin>: move; `maintenance flush register-cache` then shows
-the registers there
+HELP = """pins, pio <block> <machine>, regs, mem <address> [count], peek <address>, lastat <address> [core], lastwrite <address>,
+lastpin <pin>: as a session answers them
+step [n], back [n], goto <cycle>, end, next [n] [core], prev [n] [core], until <address> [core], untilwrite <address>,
+untilpin <pin>: move; `maintenance flush register-cache` then shows the registers there
 reset: goes to cycle 0; cycle: where the run stands; info: what this target can do
 """
 INFO = ("cycle {} of a run that is replayed: registers and memory cannot be written; reverse-stepi, reverse-step and reverse-continue "
         "go back; watchpoints are those of writes\n")
-MOVES = ("step", "back", "goto", "end", "untilwrite", "untilpin")
+MOVES = ("step", "back", "goto", "end", "next", "prev", "until", "untilwrite", "untilpin")
 SIGNALS = {"bkpt": 5, "outside": 11, "lockup": 6}
 TYPES = {"sp": ' type="data_ptr"', "pc": ' type="code_ptr"'}
 XML = ('<?xml version="1.0"?><!DOCTYPE target SYSTEM "gdb-target.dtd"><target version="1.0"><architecture>arm</architecture>'
@@ -141,11 +142,31 @@ class Session:
 
     def move(self, command):
         """Moves; `stop` is then the line of the stop that was met, `start`, or None."""
-        (line,) = self.ask(command)
+        return self.stand(self.ask(command)[0])
+
+    def stand(self, line):
         self.cycle, self.stop = moved(line)
         if line == "at start":
             self.stop = "start"
         return line
+
+    def seek(self, command, link):
+        """Moves by a command that may take long. Ctrl-C ends it: the session begins anew where it stood."""
+        if self.debug is None or self.sent + len(command) + 1 > INPUT:
+            self.begin()
+        self.sent += len(command) + 1
+        self.debug.put(command)
+        source = self.debug.process.stdout
+        try:
+            link.look()
+            while source not in select.select([source, link.source], [], [])[0]:
+                link.look()
+        except (EOFError, Interrupted) as ended:
+            self.debug.process.kill()
+            if isinstance(ended, Interrupted):
+                self.begin()
+            raise
+        return self.stand(self.debug.take()[0])
 
     def goto(self, cycle):
         if cycle != self.cycle:
@@ -159,25 +180,35 @@ class Session:
         """PC of both cores."""
         return [place_of(line) for line in self.ask("regs", 2)]
 
-    def trace(self, count):
-        """The next cycles with PC of both cores in each, up to the stop."""
-        found, lines = [], self.ask("\n".join(["step", "regs"] * count), 3 * count)
+    def instructions(self, core, count):
+        """The next cycles in which a core begins an instruction, with PC of both cores in each, up to the stop."""
+        found, lines = [], self.ask("\n".join([f"next 1 {core}", "regs"] * count), 3 * count)
         self.stop = None
         for where, first, second in zip(*[iter(lines)] * 3):
-            if STOP.fullmatch(where):
-                self.stop = where
+            self.cycle, self.stop = moved(where)
+            if self.stop:
                 break
-            self.cycle = int(where.removeprefix("at "))
             found.append((self.cycle, [place_of(first), place_of(second)]))
         return found
 
-    def last_write(self, address):
-        last = self.ask(f"lastwrite {address:08x}")[0].split()[-1]
+    def last(self, command):
+        last = self.ask(command)[0].split()[-1]
         return None if last == "none" else int(last)
 
 
 def place_of(line):
     return None if line.endswith("asleep") else int(line[PC], 16)
+
+
+class Event:
+    """What ends a move: a core begins the instruction at a breakpoint, or a watched word is written."""
+
+    def __init__(self, until, last, told, core=None):
+        self.until, self.last, self.told, self.core = until, last, told, core
+
+    def cycle(self, session):
+        """Its cycle, where a move forward has ended by it: a write is one of the cycle before."""
+        return session.cycle - (self.core is None)
 
 
 class Target:
@@ -189,151 +220,113 @@ class Target:
         self.core = 0          # the one that the last stop is told of
         self.written = None    # the cycle of a write that was told last, which is then the next one
 
-    def entered(self, before, places):
-        """The core that begins an instruction with a breakpoint, if one does."""
-        for core in (0, 1):
-            if places[core] != before[core] and places[core] in self.breaks:
-                return core
-        return None
+    def events(self, core):
+        """Those of a core; of core 0 the writes too."""
+        found = [Event(f"until {at:08x} {core}", f"lastat {at:08x} {core}", "hwbreak:;", core) for at in sorted(self.breaks)]
+        if core == 0:
+            found += [Event(f"untilwrite {at:08x}", f"lastwrite {at:08x}", f"watch:{told:x};") for at, told in self.watched.items()]
+        return found
 
-    def forward(self, is_end, most=None):
-        """Goes on to the first cycle that is an end, by PC of both cores before and in it; None where there was a stop before."""
-        before, count, begin = self.session.places(), LEAST, self.session.cycle
-        while most is None or self.session.cycle - begin < most:
-            self.link.look()
-            for cycle, places in self.session.trace(count):
-                if is_end(before, places):
-                    self.session.goto(cycle)
-                    self.session.stop = None
-                    return cycle
-                before = places
-            if self.session.stop:
-                return None
-            count = min(2 * count, MOST)
-        return self.session.cycle
-
-    def backward(self, is_end, below, least=0):
-        """The last cycle below one, and from the least on, that is an end; None where there is none."""
-        high, count = below, LEAST
-        while high > least:
-            self.link.look()
-            low = max(0, high - count)
-            self.session.goto(low)
-            rows = [(low, self.session.places()), *(self.session.trace(high - low))]
-            for (_, before), (cycle, places) in reversed(list(zip(rows, rows[1:]))):
-                if least <= cycle < below and is_end(before, places):
-                    return cycle
-            high, count = low, min(2 * count, MOST)
-        return None
-
-    def begun(self, core, below):
-        """The last cycle below one in which a core began an instruction; 0 where it was before all."""
-        return self.backward(lambda before, places: places[core] != before[core], below) or 0
+    def stop_at(self, cycle, event):
+        """Goes to an event; what is told of it. GDB takes a watchpoint of ARM to be told before the access, and steps over it."""
+        self.session.goto(cycle)
+        self.session.stop = None
+        if event.core is None:
+            self.written = cycle
+        else:
+            self.core = event.core
+        return event.told
 
     def step(self, core, area=range(0)):
-        """One instruction of a core, or as many as lie in an area. A step from a write that was told ends once that is done: it
-        is GDB's own, which looks at the value then."""
-        self.core = core
-        if self.session.cycle == self.written:
-            self.forward(lambda before, places: places != before, AT_WRITE)
+        """One instruction of a core, or as many as lie in an area, at most to a breakpoint. A step from a write that was told ends once that
+        is done: it is GDB's own, which looks at the value then."""
+        session, self.core = self.session, core
+        if session.cycle == self.written:
+            session.move("step 1")
             return ""
-        entered = []
-
-        def is_end(before, places):
-            if (found := self.entered(before, places)) is not None:
-                entered[:] = [found]
-                return True
-            return places[core] != before[core] and places[core] not in area
-
-        self.forward(is_end, None if area else MOST)
-        if self.session.stop is None and entered:
-            self.core = entered[0]
+        begin, end, count = session.cycle, None, 1
+        while end is None and not session.stop:
+            self.link.look()
+            for cycle, places in session.instructions(core, count):
+                if places[core] in self.breaks or places[core] not in area:
+                    end = (cycle, places[core])
+                    break
+            count = min(max(LEAST, 2 * count), MOST)
+        last = end[0] if end else session.cycle
+        if self.breaks and session.places()[1 - core] is not None and (other := self.entered(1 - core, begin, last)) is not None:
+            session.goto(other)
+            self.core, session.stop = 1 - core, None
             return "hwbreak:;"
-        return ""
+        if end is None:
+            session.move("end")    # where the stop is met
+            return ""
+        session.goto(last)
+        session.stop = None
+        return "hwbreak:;" if end[1] in self.breaks else ""
+
+    def entered(self, core, begin, end):
+        """The first cycle between two in which a core begins an instruction with a breakpoint; None where there is none."""
+        self.session.goto(begin)
+        count = 1
+        while self.session.cycle < end and not self.session.stop:
+            self.link.look()
+            for cycle, places in self.session.instructions(core, count):
+                if begin < cycle <= end and places[core] in self.breaks:
+                    return cycle
+            count = min(2 * count, MOST)
+        return None
 
     def step_back(self, core):
-        """To the first cycle of the instruction before; from a write that was told to that of the one that writes."""
+        """To the first cycle of the instruction before; from a write that was told, or from within an instruction, to that of the present
+        one first."""
         self.core = core
-        now = self.session.cycle
-        begun = self.begun(core, now + 1)
-        if now != self.written:
-            begun = self.begun(core, begun)
-        self.session.goto(begun)
-        self.session.stop = None if begun else "start"
+        session, now = self.session, self.session.cycle
+        place = session.places()[core]
+        session.move(f"prev 1 {core}")
+        if session.stop is None and now != self.written and session.places()[core] == place:
+            session.move(f"prev 1 {core}")
         return ""
-
-    def first_write(self, address, begin):
-        """The first cycle from this one on, and below the present one, that changes a word."""
-        last = self.session.last_write(address)
-        if last is None or last < begin:
-            return None
-        self.session.goto(begin)
-        self.session.move(f"untilwrite {address:08x}")
-        return self.session.cycle - 1
-
-    def until_write(self, begin, end):
-        """The first write of a watched word between two cycles, with what is told of it."""
-        best = None
-        for address, told in self.watched.items():
-            self.session.goto(end)
-            found = self.first_write(address, begin)
-            if found is not None and (best is None or found < best[0]):
-                best = (found, f"watch:{told:x};")
-        return best
 
     def go_on(self):
-        """Goes on to a breakpoint, a write of a watched word or the stop; what is told of it."""
-        session, count = self.session, LEAST
-        while session.stop is None or session.stop == "start":
-            self.link.look()
-            begin, hit = session.cycle, None
-            if self.breaks:
-                before = session.places()
-                for cycle, places in session.trace(min(count, MOST)):
-                    if (core := self.entered(before, places)) is not None:
-                        hit = (cycle, core)
-                        break
-                    before = places
-            else:
-                session.move(f"step {min(count * 16, CHUNK)}")
-            stop, end = session.stop, hit[0] if hit else session.cycle
-            if self.watched and (found := self.until_write(begin, end)):
-                return self.told_write(*found)
-            session.goto(end)
-            session.stop = None if hit else stop
-            if hit:
-                self.core = hit[1]
-                return "hwbreak:;"
-            count *= 2
+        """Goes on to the first breakpoint, write of a watched word, or the stop; what is told of it."""
+        session, begin, best = self.session, self.session.cycle, None
+        if not self.breaks and not self.watched:
+            while session.stop is None or session.stop == "start":
+                self.link.look()
+                session.move(f"step {CHUNK}")
+            return ""
+        for core in (0, 1):
+            if core == 1 and session.places()[1] is None:    # it was asleep all the time
+                break
+            for event in self.events(core):
+                if best is not None:
+                    session.goto(best[0])
+                    last = session.last(event.last)
+                    if last is None or last < begin + (event.core is not None):
+                        continue
+                session.goto(begin)
+                session.seek(event.until, self.link)
+                if session.stop is None:
+                    best = (event.cycle(session), event)
+            if best is not None:
+                session.goto(best[0])
+        if best is not None:
+            return self.stop_at(*best)
+        session.move("end")
         return ""
-
-    def told_write(self, cycle, told):
-        """Goes to the state before a write. GDB takes a watchpoint of ARM to be told before the access, and steps over it."""
-        self.session.goto(cycle)
-        self.session.stop, self.written = None, cycle
-        return told
 
     def go_back(self):
         """Back to a breakpoint, a write of a watched word or the start; what is told of it."""
-        session, write, cores = self.session, None, []
-        now = session.cycle
-        for address, told in self.watched.items():
-            found = session.last_write(address)
-            if found is not None and (write is None or found > write[0]):
-                write = (found, f"watch:{told:x};")
-
-        def is_end(before, places):
-            if (core := self.entered(before, places)) is not None:
-                cores[:] = [core]
-            return core is not None
-
-        if self.breaks and (found := self.backward(is_end, now, write[0] + 1 if write else 0)):
-            self.core = cores[0]
-            session.goto(found)
-            session.stop = None
-            return "hwbreak:;"
-        if write:
-            return self.told_write(*write)
+        session, best = self.session, None
+        for core in (0, 1):
+            if core == 1 and session.places()[1] is None:    # it has not begun anything yet
+                break
+            for event in self.events(core):
+                last = session.last(event.last)
+                if last is not None and (best is None or last > best[0]):
+                    best = (last, event)
+        if best is not None:
+            return self.stop_at(*best)
         session.goto(0)
         session.stop = "start"
         return ""
@@ -433,7 +426,7 @@ class Server:
         begin, length = (int(word, 16) for word in rest.split(","))
         area = next(((low, high) for low, high in SRAM if low <= begin < high), None)
         if area is None:
-            return "E01"
+            return self.peeked(begin, length)
         end = min(begin + length, area[1])
         data, at = "", begin & ~3
         while at < end:
@@ -445,6 +438,16 @@ class Server:
             data += "".join(turned(word) for word in line.split()[2:])
             at += 4 * count
         return data[2 * (begin & 3):2 * (end - (begin & ~3))] or "E01"
+
+    def peeked(self, begin, length):
+        """Bytes of words outside of SRAM, as core 0 would read them."""
+        data, first = "", begin & ~3
+        for at in range(first, min(begin + length, begin + 1024), 4):
+            try:
+                data += turned(self.session.ask(f"peek {at:08x}")[0].split()[2])
+            except johvelni.Refused:
+                break
+        return data[2 * (begin - first):2 * (begin - first + length)] or "E01"
 
     def insert(self, rest):
         return self.point(rest, True)

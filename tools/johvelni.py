@@ -122,11 +122,19 @@ class Debug:
 
     def ask(self, command, lines=1):
         """The lines with which the session answers a command."""
+        self.put(command)
+        return self.take(lines)
+
+    def put(self, command):
+        """Says a command, whose answer is taken later."""
         try:
             self.process.stdin.write(command + "\n")
             self.process.stdin.flush()
         except OSError:
             pass  # a session that was refused has ended; its line tells why
+
+    def take(self, lines=1):
+        """The lines of an answer."""
         found = []
         while len(found) < lines:
             line = self.process.stdout.readline().rstrip("\n")
@@ -175,6 +183,27 @@ class Debug:
         """PC, X, Y, ISR and OSR of a PIO machine, as the session writes them."""
         (line,) = self.ask(f"pio {block} {machine}")
         return line.split()[3:]
+
+    def peek(self, address):
+        """What core 0 would read there of a register block, SIO or the private bus."""
+        (line,) = self.ask(f"peek {address:08x}")
+        return int(line.split()[2], 16)
+
+    def next(self, count=1, core=0):
+        """Goes to the n-th cycle after this one in which the core begins an instruction, or to the stop of the run."""
+        return self.move(f"next {count} {core}")
+
+    def prev(self, count=1, core=0):
+        """Goes back to the n-th cycle before this one in which the core began an instruction, or to the start."""
+        return self.move(f"prev {count} {core}")
+
+    def until(self, address, core=0):
+        """Goes to the next cycle, after this one, in which the core begins the instruction there, or to the stop of the run."""
+        return self.move(f"until {address:08x} {core}")
+
+    def lastat(self, address, core=0):
+        """The last cycle before this one in which the core began the instruction there, None where there is none."""
+        return self.last(f"lastat {address:08x} {core}")
 
     def untilwrite(self, address):
         """Goes behind the next cycle, from this one on, that changes the word, or to the stop of the run."""

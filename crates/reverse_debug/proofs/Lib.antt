@@ -1,4 +1,4 @@
-pub mod Changes
+pub mod Tallies
 pub mod Digits
 pub mod Listing
 pub mod Moves
@@ -8,7 +8,7 @@ pub mod Rings
 pub mod Seeking
 pub mod Sessions
 pub mod Stretches
-pub mod Writes
+pub mod Befores
 pub mod LineLists
 pub mod TalkSessions
 pub mod Takings

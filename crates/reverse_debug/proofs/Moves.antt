@@ -9,9 +9,9 @@ use Rattle.outer_lane.specs.Setting.{Setting}
 use Rattle.rp_machine.specs.State.{State}
 use Rattle.rp_machine.specs.Cycle.{stop}
 use Rattle.rp_machine.specs.Run.{last_state}
-use Rattle.reverse_debug.specs.Reply.{Said, said, last_cycle, at_last, at_or_last, behind_next, at_reply, moved_to, moved_back, move_cost, answer, heard, command_cost}
+use Rattle.reverse_debug.specs.Reply.{Said, said, last_cycle, at_last, at_or_last, at_or_start, before_nth, behind_next, at_reply, moved_to, moved_back, move_cost, answer, heard, command_cost}
 use Rattle.reverse_debug.specs.Command.{Command, is_quit, command_of}
-use Rattle.reverse_debug.specs.Command.Command.{Step, Back, Goto, End, Regs, Mem, Pins, Pio, Until, LastChange, Quit, Bad}
+use Rattle.reverse_debug.specs.Command.Command.{Step, Back, Goto, End, Regs, Mem, Pins, Pio, Peek, Until, Before, Last, Quit, Bad}
 use Rattle.reverse_debug.specs.declared.command.Command.{Command as Asked}
 use Rattle.reverse_debug.specs.declared.command.Command.TheVariants as code
 use Rattle.reverse_debug.specs.Reading.{meant, Fits}
@@ -22,7 +22,7 @@ use Rattle.reverse_debug.proofs.Sessions.{now_in_last, now_low, path_of, stays_h
 
 -- ---- what a move is
 
-moved_within : (w : Setting) (f : State) (target : ℕ) → target ≤ last_cycle w f → moved_to w f target ≡ said target (at_reply target)
+pub moved_within : (w : Setting) (f : State) (target : ℕ) → target ≤ last_cycle w f → moved_to w f target ≡ said target (at_reply target)
 unfolding moved_to
 moved_within w f target le = let isnt : nat_lt (last_cycle w f) target ≡ false = grind (arith, nat_tests) in rw isnt refl
 
@@ -197,6 +197,10 @@ quits_next : (w : Setting) (f : State) (found : Option ℕ) → (at_or_last w f 
 quits_next w f None = refl
 quits_next w f (Some cycle) = refl
 
+quits_prev : (found : Option ℕ) → (at_or_start found).quits ≡ false
+quits_prev None = refl
+quits_prev (Some cycle) = refl
+
 pub quits_exactly : (w : Setting) (f : State) (cycle : ℕ) (q : Command) → (answer w f cycle q).quits ≡ is_quit q
 unfolding moved_to moved_back
 quits_exactly w f cycle (Step n) = quits_moved (nat_lt (last_cycle w f) (cycle + n)) _ _ refl refl
@@ -207,8 +211,10 @@ quits_exactly w f cycle Regs = refl
 quits_exactly w f cycle (Mem address count) = refl
 quits_exactly w f cycle Pins = refl
 quits_exactly w f cycle (Pio block machine) = refl
-quits_exactly w f cycle (Until watched) = quits_next w f (behind_next w f watched cycle)
-quits_exactly w f cycle (LastChange watched) = refl
+quits_exactly w f cycle (Peek address) = refl
+quits_exactly w f cycle (Until watched count) = quits_next w f (behind_next w f watched count cycle)
+quits_exactly w f cycle (Before watched count) = quits_prev (before_nth w f watched count cycle)
+quits_exactly w f cycle (Last watched) = refl
 quits_exactly w f cycle Quit = refl
 quits_exactly w f cycle Bad = refl
 

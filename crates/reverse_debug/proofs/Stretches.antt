@@ -1,57 +1,135 @@
 -- The stretches between the states that are kept, from behind.
-use Rattle.std.proofs.Common.{◌≡◌, ℕ, zero, suc, ◌+◌, ◌-◌, ◌%◌, ◌<◌, ◌≤◌, Bool, true, false, cond, Option, Some, None, refl, sym, ap, arith, ◌∙◌, inl, inr}
-use Rattle.std.proofs.lemmas.Bool.{cases_Bool}
+use Rattle.std.proofs.Common.{◌≡◌, ◌⊎◌, ℕ, zero, suc, ◌+◌, ◌-◌, ◌*◌, ◌%◌, ◌<◌, ◌≤◌, ◌^◌, nat_le, nat_lt, Bool, true, false, cond, Option, Some, None, refl, sym, ap, subst, arith, ◌∙◌, inl, inr}
+use Rattle.std.proofs.lemmas.Bool.{cases_Bool, cases_lt}
+use Rattle.std.proofs.lemmas.Bool.Decides.{nat_tests}
 use Rattle.std.proofs.Math.Nat.{mod-lt}
 use Rattle.rp_base.specs.Alias.{or_zero}
 use Rattle.outer_lane.specs.Setting.{Setting}
 use Rattle.rp_machine.specs.State.{State}
 use Rattle.rp_machine.specs.Run.{states}
 use Rattle.snap_ring.specs.Ring.{Snapshots, state_at, restored, IsNearest}
+use Rattle.reverse_debug.specs.declared.search.Tally.{Tally}
 use Rattle.reverse_debug.specs.declared.watch.Watched.{Watched}
-use Rattle.reverse_debug.specs.Reply.{last_cycle, changes, last_before}
-use Rattle.reverse_debug.specs.LastChange.{last_change, or_else}
+use Rattle.reverse_debug.specs.Reply.{last_cycle, happens, passes, before_nth}
+use Rattle.reverse_debug.specs.Search.{noted, tally}
 use Rattle.reverse_debug.specs.Session.{AreOf}
 use Rattle.reverse_debug.proofs.Paths.{Path, joined, last_within, path_to_last}
 use Rattle.reverse_debug.proofs.Rings.{restored_cycle}
+use Rattle.reverse_debug.proofs.Tallies.{few_of}
 
 -- ---- a run up to a state on the way, and from there on
 
 some_is : {x y : ℕ} → Some x ≡ Some y → x ≡ y
 some_is e = ap or_zero e
 
-none_change : (w : Setting) (m : State) (watched : Watched) → last_change w m watched 0 ≡ None
-unfolding last_change
-none_change w m watched = refl
-
-one_change : (w : Setting) (m : State) (watched : Watched) (n : ℕ) (changed : Bool) → changes w m watched n ≡ changed → last_change w m watched (suc n) ≡ cond changed (Some (m.cycle + n)) (last_change w m watched n)
-unfolding last_change
-one_change w m watched n changed is = rw is refl
-
-one_write : (w : Setting) (f : State) (watched : Watched) (cycle : ℕ) (changed : Bool) → changes w f watched cycle ≡ changed → last_before w f watched (suc cycle) ≡ cond changed (Some cycle) (last_before w f watched cycle)
-unfolding last_before
-one_write w f watched cycle changed is = rw is refl
-
-changes_on : (w : Setting) (f m : State) (watched : Watched) (n : ℕ) → m ≡ states w f m.cycle → changes w f watched (m.cycle + n) ≡ changes w m watched n
-changes_on w f m watched n is =
+happens_on : (w : Setting) (f m : State) (watched : Watched) (n : ℕ) → m ≡ states w f m.cycle → happens w f watched (m.cycle + n) ≡ happens w m watched n
+unfolding happens
+happens_on w f m watched n is =
     let there : states w f (m.cycle + n) ≡ states w m n = joined w f m.cycle n (m.cycle + n) refl ∙ ap (λ (x : State). states w x n) (sym is) in
     rw there refl
 
-else_of : (changed : Bool) (cycle : ℕ) (later earlier : Option ℕ) → cond changed (Some cycle) (or_else later earlier) ≡ or_else (cond changed (Some cycle) later) earlier
-else_of true cycle later earlier = refl
-else_of false cycle later earlier = refl
+tally_none : (w : Setting) (m : State) (watched : Watched) (most : ℕ) → tally w m watched most 0 ≡ record { count = 0; last = None }
+unfolding tally
+tally_none w m watched most = refl
 
--- the last write is that of the stretch, where it has one, or else the last one before it
-pub write_split : (w : Setting) (f m : State) (watched : Watched) (n : ℕ) → m ≡ states w f m.cycle → last_before w f watched (m.cycle + n) ≡ or_else (last_change w m watched n) (last_before w f watched m.cycle)
-write_split w f m watched zero is =
+tally_one : (w : Setting) (m : State) (watched : Watched) (most n : ℕ) (was : Bool) → happens w m watched n ≡ was → tally w m watched most (suc n) ≡ noted most was (m.cycle + n) (tally w m watched most n)
+unfolding tally
+tally_one w m watched most n was is = rw is refl
+
+before_one : (w : Setting) (f : State) (watched : Watched) (k cycle : ℕ) (was : Bool) → happens w f watched cycle ≡ was → before_nth w f watched (suc k) (suc cycle) ≡ before_nth w f watched (cond was k (suc k)) cycle
+unfolding before_nth
+before_one w f watched k cycle was is = ap (λ b. before_nth w f watched (cond b k (suc k)) cycle) is
+
+before_here : (w : Setting) (f : State) (watched : Watched) (cycle : ℕ) → before_nth w f watched 0 cycle ≡ Some cycle
+unfolding before_nth
+before_here w f watched cycle = refl
+
+-- the stretch has fewer times than are asked for: the others are below it
+pub passed_over : (w : Setting) (f m : State) (watched : Watched) (most n left : ℕ) → m ≡ states w f m.cycle → (tally w m watched most n).count < left →
+    before_nth w f watched left (m.cycle + n) ≡ before_nth w f watched (left - (tally w m watched most n).count) m.cycle
+passed_over w f m watched most n zero is lt = absurd (omega arith)
+passed_over w f m watched most zero (suc k) is lt =
     let e : m.cycle + 0 ≡ m.cycle = omega arith in
-    ap (last_before w f watched) e ∙ sym (ap (λ l. or_else l (last_before w f watched m.cycle)) (none_change w m watched))
-write_split w f m watched (suc n) is =
+    let none : (tally w m watched most 0).count ≡ 0 = ap (λ (t : Tally). t.count) (tally_none w m watched most) in
+    let left : suc k ≡ suc k - (tally w m watched most 0).count = omega arith in
+    ap (before_nth w f watched (suc k)) e ∙ ap (λ j. before_nth w f watched j m.cycle) left
+passed_over w f m watched most (suc n) (suc k) is lt =
     let e : m.cycle + suc n ≡ suc (m.cycle + n) = omega arith in
-    ap (last_before w f watched) e
-    ∙ one_write w f watched (m.cycle + n) (changes w m watched n) (changes_on w f m watched n is)
-    ∙ ap (λ l. cond (changes w m watched n) (Some (m.cycle + n)) l) (write_split w f m watched n is)
-    ∙ else_of (changes w m watched n) (m.cycle + n) (last_change w m watched n) (last_before w f watched m.cycle)
-    ∙ sym (ap (λ l. or_else l (last_before w f watched m.cycle)) (one_change w m watched n (changes w m watched n) refl))
+    elim (cases_Bool (happens w m watched n)) [
+      | inl was ↦
+          let one : (tally w m watched most (suc n)).count ≡ (tally w m watched most n).count + 1 = ap (λ (t : Tally). t.count) (tally_one w m watched most n true was) in
+          let left : k - (tally w m watched most n).count ≡ suc k - (tally w m watched most (suc n)).count = omega arith in
+          ap (before_nth w f watched (suc k)) e ∙ before_one w f watched k (m.cycle + n) true (happens_on w f m watched n is ∙ was)
+          ∙ passed_over w f m watched most n k is (omega arith) ∙ ap (λ j. before_nth w f watched j m.cycle) left
+      | inr none ↦
+          let same : (tally w m watched most (suc n)).count ≡ (tally w m watched most n).count = ap (λ (t : Tally). t.count) (tally_one w m watched most n false none) in
+          ap (before_nth w f watched (suc k)) e ∙ before_one w f watched k (m.cycle + n) false (happens_on w f m watched n is ∙ none)
+          ∙ passed_over w f m watched most n (suc k) is (omega arith) ∙ ap (λ j. before_nth w f watched (suc k - j) m.cycle) (sym same)
+    ]
+
+-- as many of a count are remembered as lie up to the one that is left-th from behind
+abbrev pub Remembers : ℕ → ℕ → ℕ → Type 0
+Remembers left most count = (most + left ≡ count + 1) ⊎ ((left ≡ 1) × (count ≤ most))
+
+last_noted : (most cycle : ℕ) (t : Tally) (last : Bool) → nat_lt t.count most ≡ last → (noted most true cycle t).last ≡ cond last (Some cycle) t.last
+last_noted most cycle t last is = rw is refl
+
+-- the stretch has as many: the last one that is remembered is the one that is asked for
+pub found_on : (w : Setting) (f m : State) (watched : Watched) (most n left : ℕ) → m ≡ states w f m.cycle → 0 < left → left ≤ (tally w m watched most n).count → Remembers left most (tally w m watched most n).count →
+    before_nth w f watched left (m.cycle + n) ≡ (tally w m watched most n).last
+found_on w f m watched most n zero is some le fits = absurd (omega arith)
+found_on w f m watched most zero (suc k) is some le fits =
+    absurd (let none : (tally w m watched most 0).count ≡ 0 = ap (λ (t : Tally). t.count) (tally_none w m watched most) in omega arith)
+found_on w f m watched most (suc n) (suc zero) is some le fits =
+    let e : m.cycle + suc n ≡ suc (m.cycle + n) = omega arith in
+    elim (cases_Bool (happens w m watched n)) [
+      | inl was ↦
+          let t = tally_one w m watched most n true was in
+          let one : (tally w m watched most (suc n)).count ≡ (tally w m watched most n).count + 1 = ap (λ (x : Tally). x.count) t in
+          let room : (tally w m watched most n).count < most = elim fits [
+            | inl rest ↦ omega arith
+            | inr all ↦ let within : (tally w m watched most (suc n)).count ≤ most = all.1 in omega arith
+          ] in
+          let last : nat_lt (tally w m watched most n).count most ≡ true = grind (arith, nat_tests) in
+          ap (before_nth w f watched 1) e ∙ before_one w f watched 0 (m.cycle + n) true (happens_on w f m watched n is ∙ was) ∙ before_here w f watched (m.cycle + n)
+          ∙ sym (ap (λ (x : Tally). x.last) t ∙ last_noted most (m.cycle + n) (tally w m watched most n) true last)
+      | inr none ↦
+          let t = tally_one w m watched most n false none in
+          let same : (tally w m watched most (suc n)).count ≡ (tally w m watched most n).count = ap (λ (x : Tally). x.count) t in
+          ap (before_nth w f watched 1) e ∙ before_one w f watched 0 (m.cycle + n) false (happens_on w f m watched n is ∙ none)
+          ∙ found_on w f m watched most n 1 is some (omega arith) (subst (Remembers 1 most) same fits) ∙ sym (ap (λ (x : Tally). x.last) t)
+    ]
+found_on w f m watched most (suc n) (suc (suc k)) is some le fits =
+    let e : m.cycle + suc n ≡ suc (m.cycle + n) = omega arith in
+    elim (cases_Bool (happens w m watched n)) [
+      | inl was ↦
+          let t = tally_one w m watched most n true was in
+          let one : (tally w m watched most (suc n)).count ≡ (tally w m watched most n).count + 1 = ap (λ (x : Tally). x.count) t in
+          let rest : most + suc (suc k) ≡ (tally w m watched most (suc n)).count + 1 = elim fits [
+            | inl rest ↦ rest
+            | inr all ↦ absurd (let bad : suc (suc k) ≡ 1 = all.0 in omega arith)
+          ] in
+          let room : nat_lt (tally w m watched most n).count most ≡ false = grind (arith, nat_tests) in
+          ap (before_nth w f watched (suc (suc k))) e ∙ before_one w f watched (suc k) (m.cycle + n) true (happens_on w f m watched n is ∙ was)
+          ∙ found_on w f m watched most n (suc k) is (omega arith) (omega arith) (inl (omega arith))
+          ∙ sym (ap (λ (x : Tally). x.last) t ∙ last_noted most (m.cycle + n) (tally w m watched most n) false room)
+      | inr none ↦
+          let t = tally_one w m watched most n false none in
+          let same : (tally w m watched most (suc n)).count ≡ (tally w m watched most n).count = ap (λ (x : Tally). x.count) t in
+          ap (before_nth w f watched (suc (suc k))) e ∙ before_one w f watched (suc k) (m.cycle + n) false (happens_on w f m watched n is ∙ none)
+          ∙ found_on w f m watched most n (suc (suc k)) is some (omega arith) (subst (Remembers (suc (suc k)) most) same fits) ∙ sym (ap (λ (x : Tally). x.last) t)
+    ]
+
+-- how many are counted doesn't depend on how many are remembered
+count_noted : (most other : ℕ) (was : Bool) (cycle : ℕ) (t u : Tally) → t.count ≡ u.count → (noted most was cycle t).count ≡ (noted other was cycle u).count
+count_noted most other true cycle t u e = omega arith
+count_noted most other false cycle t u e = e
+
+pub count_same : (w : Setting) (m : State) (watched : Watched) (most other n : ℕ) → (tally w m watched most n).count ≡ (tally w m watched other n).count
+unfolding tally
+count_same w m watched most other zero = refl
+count_same w m watched most other (suc n) =
+    count_noted most other (happens w m watched n) (m.cycle + n) (tally w m watched most n) (tally w m watched other n) (count_same w m watched most other n)
 
 -- ---- a kept state
 
@@ -72,25 +150,30 @@ path_start w f s start begins k =
 
 -- ---- stretch after stretch
 
--- no cycle from `end` on, up to another one, changed it, and no cycle was stepped twice
-pub record Searching (w : Setting) (f : State) (watched : Watched) (to end before now : ℕ) : Type 0 where
-  pub write : last_before w f watched to ≡ last_before w f watched end
+-- so many of a count of times are left below `end`, and no cycle was stepped twice
+pub record Searching (w : Setting) (f : State) (watched : Watched) (count to left end before now : ℕ) : Type 0 where
+  pub found : before_nth w f watched count to ≡ before_nth w f watched left end
+  pub some : 0 < left
+  pub few : left ≤ count
   pub within : end ≤ to
   pub forward : before ≤ now
   pub steps : now + end ≤ before + to
 
-pub searching_here : (w : Setting) (f : State) (watched : Watched) (to steps : ℕ) → Searching w f watched to to steps steps
-searching_here w f watched to steps = record { write = refl; within = omega arith; forward = omega arith; steps = omega arith }
+pub searching_here : (w : Setting) (f : State) (watched : Watched) (count to steps : ℕ) → 0 < count → Searching w f watched count to count to steps steps
+searching_here w f watched count to steps some = record { found = refl; some = some; few = omega arith; within = omega arith; forward = omega arith; steps = omega arith }
 
--- what a stretch asks for
-pub record CanGo (w : Setting) (end : ℕ) (s : State) : Type 0 where
+-- a stretch that is searched: it begins at the kept state that is the nearest one below its end
+pub record Stretch (w : Setting) (f : State) (ring : Snapshots) (to start end : ℕ) (s : State) : Type 0 where
+  pub begins : IsStart w f start s
+  pub some : start < end
   pub low : s.cycle ≤ w.limit
   pub ahead : s.cycle ≤ end
-  pub to : end ≤ last_cycle w s
+  pub reach : end ≤ last_cycle w s
+  pub short : end ≤ start + ring.spacing
 
-pub can_go : (w : Setting) (f : State) (ring : Snapshots) (watched : Watched) (to end start below before now : ℕ) (own s : State) → AreOf w f ring to → to ≤ last_cycle w f → Searching w f watched to end before now → 0 < end → below ≡ end - 1 →
-    IsNearest below ring.kept (Some start) → s ≡ restored (state_at start ring.kept) own → CanGo w end s
-can_go w f ring watched to end start below before now own s k le so_far some eb g e =
+pub stretch_of : (w : Setting) (f : State) (ring : Snapshots) (watched : Watched) (count to left end start below before now : ℕ) (own s : State) → AreOf w f ring to → to ≤ last_cycle w f → Searching w f watched count to left end before now → 0 < end → below ≡ end - 1 →
+    IsNearest below ring.kept (Some start) → s ≡ restored (state_at start ring.kept) own → Stretch w f ring to start end s
+stretch_of w f ring watched count to left end start below before now own s k le so_far some eb g e =
     let at = start_of w f ring to below start own s k g e in
     let cycle : s.cycle ≡ start = at.at in
     let near : start ≤ below = g.reached in
@@ -99,69 +182,149 @@ can_go w f ring watched to end start below before now own s k le so_far some eb 
     let limit : last_cycle w f ≤ w.limit = last_within w f (omega arith) in
     let low : s.cycle ≤ w.limit = omega arith in
     let same : last_cycle w f ≡ last_cycle w s = ap (λ (x : State). x.cycle) (path_to_last w f s (path_start w f s start k.begins at) low) in
-    record { low = low; ahead = omega arith; to = omega arith }
+    let rest : below % ring.spacing < ring.spacing = mod-lt below k.some in
+    let kept : below - below % ring.spacing ≤ start = g.greatest (below - below % ring.spacing) (k.near below (omega arith)) (omega arith) in
+    record { begins = at; some = omega arith; low = low; ahead = omega arith; reach = omega arith; short = omega arith }
 
-split_at : (w : Setting) (f s : State) (watched : Watched) (start end : ℕ) → IsStart w f start s → start ≤ end → last_before w f watched end ≡ or_else (last_change w s watched (end - s.cycle)) (last_before w f watched start)
-split_at w f s watched start end k le =
-    let at : s.cycle ≡ start = k.at in
+at_end : (w : Setting) (f : State) (ring : Snapshots) (watched : Watched) (to start end left : ℕ) (s : State) → Stretch w f ring to start end s → before_nth w f watched left end ≡ before_nth w f watched left (s.cycle + (end - s.cycle))
+at_end w f ring watched to start end left s k =
+    let ahead : s.cycle ≤ end = k.ahead in
     let sum : end ≡ s.cycle + (end - s.cycle) = omega arith in
-    ap (last_before w f watched) sum ∙ write_split w f s watched (end - s.cycle) k.is
-    ∙ ap (λ c. or_else (last_change w s watched (end - s.cycle)) (last_before w f watched c)) at
+    ap (before_nth w f watched left) sum
 
-pub found_there : (w : Setting) (f : State) (ring : Snapshots) (watched : Watched) (to end start below before now : ℕ) (own s : State) (cycle : ℕ) → AreOf w f ring to → Searching w f watched to end before now → 0 < end → below ≡ end - 1 →
-    IsNearest below ring.kept (Some start) → s ≡ restored (state_at start ring.kept) own → Some cycle ≡ last_change w s watched (end - s.cycle) → Some cycle ≡ last_before w f watched to
-found_there w f ring watched to end start below before now own s cycle k so_far some eb g e found =
-    let at = start_of w f ring to below start own s k g e in
-    let near : start ≤ below = g.reached in
-    let le : start ≤ end = omega arith in
-    ap (λ l. or_else l (last_before w f watched start)) found ∙ sym (split_at w f s watched start end at le) ∙ sym so_far.write
-
-change_below : (w : Setting) (m : State) (watched : Watched) (n cycle : ℕ) → Some cycle ≡ last_change w m watched n → cycle < m.cycle + n
-unfolding last_change
-change_below w m watched zero cycle h = absurd (cc)
-change_below w m watched (suc n) cycle h = elim (cases_Bool (changes w m watched n)) [
-  | inl is ↦ let e = rw is at h in let same : cycle ≡ m.cycle + n = some_is e in omega arith
-  | inr isnt ↦ let e = rw isnt at h in let low = change_below w m watched n cycle e in omega (arith, low)
-]
-
--- the stretch on which it is found begins less than a spacing before it
-pub found_near : (w : Setting) (f : State) (ring : Snapshots) (watched : Watched) (to end start below before now after : ℕ) (own s : State) (cycle : ℕ) → AreOf w f ring to → Searching w f watched to end before now → 0 < end → below ≡ end - 1 →
-    IsNearest below ring.kept (Some start) → s ≡ restored (state_at start ring.kept) own → Some cycle ≡ last_change w s watched (end - s.cycle) → after + s.cycle ≡ now + end →
-    (before ≤ after) × (after + cycle < before + to + ring.spacing)
-found_near w f ring watched to end start below before now after own s cycle k so_far some eb g e found count =
-    let at = start_of w f ring to below start own s k g e in
-    let same : s.cycle ≡ start = at.at in
-    let near : start ≤ below = g.reached in
-    let low : cycle < s.cycle + (end - s.cycle) = change_below w s watched (end - s.cycle) cycle found in
+-- none of the stretch is the one
+pub searching_on : (w : Setting) (f : State) (ring : Snapshots) (watched : Watched) (count to left end start most before now after : ℕ) (all : Tally) (s : State) → Searching w f watched count to left end before now → Stretch w f ring to start end s →
+    all ≡ tally w s watched most (end - s.cycle) → all.count < left → after + s.cycle ≡ now + end → Searching w f watched count to (left - all.count) start before after
+searching_on w f ring watched count to left end start most before now after all s so_far k is lt counted =
+    let at : s.cycle ≡ start = k.begins.at in
+    let some : start < end = k.some in
     let within : end ≤ to = so_far.within in
-    let rest : cycle % ring.spacing < ring.spacing = mod-lt cycle k.some in
-    let begins : cycle - cycle % ring.spacing ≤ start = g.greatest (cycle - cycle % ring.spacing) (k.near cycle (omega arith)) (omega arith) in
+    let few : left ≤ count = so_far.few in
     let forward : before ≤ now = so_far.forward in
     let steps : now + end ≤ before + to = so_far.steps in
-    (omega arith, omega arith)
-
-pub searching_on : (w : Setting) (f : State) (ring : Snapshots) (watched : Watched) (to end start below before now after : ℕ) (own s : State) → AreOf w f ring to → Searching w f watched to end before now → 0 < end → below ≡ end - 1 →
-    IsNearest below ring.kept (Some start) → s ≡ restored (state_at start ring.kept) own → None ≡ last_change w s watched (end - s.cycle) → after + s.cycle ≡ now + end → Searching w f watched to start before after
-searching_on w f ring watched to end start below before now after own s k so_far some eb g e none count =
-    let at = start_of w f ring to below start own s k g e in
-    let cycle : s.cycle ≡ start = at.at in
-    let near : start ≤ below = g.reached in
-    let le : start ≤ end = omega arith in
-    let within : end ≤ to = so_far.within in
-    let forward : before ≤ now = so_far.forward in
-    let steps : now + end ≤ before + to = so_far.steps in
+    let same : all.count ≡ (tally w s watched most (end - s.cycle)).count = ap (λ (x : Tally). x.count) is in
     record {
-      write = so_far.write ∙ split_at w f s watched start end at le ∙ sym (ap (λ l. or_else l (last_before w f watched start)) none);
+      found =
+          so_far.found ∙ at_end w f ring watched to start end left s k
+          ∙ passed_over w f s watched most (end - s.cycle) left k.begins.is (omega arith)
+          ∙ ap (λ j. before_nth w f watched (left - j) s.cycle) (sym same) ∙ ap (before_nth w f watched (left - all.count)) at;
+      some = omega arith;
+      few = omega arith;
       within = omega arith;
       forward = omega arith;
       steps = omega arith;
     }
 
-no_write : (w : Setting) (f : State) (watched : Watched) → None ≡ last_before w f watched 0
-unfolding last_before
-no_write w f watched = refl
+-- the stretch has it
+pub found_there : (w : Setting) (f : State) (ring : Snapshots) (watched : Watched) (count to left end start most before now : ℕ) (all : Tally) (s : State) → Searching w f watched count to left end before now → Stretch w f ring to start end s →
+    all ≡ tally w s watched most (end - s.cycle) → left ≤ all.count → Remembers left most all.count → all.last ≡ before_nth w f watched count to
+found_there w f ring watched count to left end start most before now all s so_far k is le fits =
+    let same : all.count ≡ (tally w s watched most (end - s.cycle)).count = ap (λ (x : Tally). x.count) is in
+    ap (λ (x : Tally). x.last) is
+    ∙ sym (found_on w f s watched most (end - s.cycle) left k.begins.is so_far.some (omega arith) (subst (Remembers left most) same fits))
+    ∙ sym (at_end w f ring watched to start end left s k) ∙ sym so_far.found
 
-pub searched : (w : Setting) (f : State) (watched : Watched) (to end before now : ℕ) → Searching w f watched to end before now → end ≤ 0 → None ≡ last_before w f watched to
-searched w f watched to end before now k le =
+-- ---- steps
+
+-- what is found is below the end of what is searched
+pub before_within : (w : Setting) (f : State) (watched : Watched) (left cycle found : ℕ) → Some found ≡ before_nth w f watched left cycle → found ≤ cycle
+unfolding before_nth
+before_within w f watched zero cycle found e = let same : found ≡ cycle = some_is e in omega arith
+before_within w f watched (suc k) zero found e = absurd (cc)
+before_within w f watched (suc k) (suc cycle) found e =
+    let low = before_within w f watched (cond (happens w f watched cycle) k (suc k)) cycle found e in omega (arith, low)
+
+before_low : (w : Setting) (f : State) (watched : Watched) (left cycle : ℕ) (found : Option ℕ) → 0 < left → 0 < cycle → found ≡ before_nth w f watched left cycle → or_zero found < cycle
+unfolding before_nth
+before_low w f watched left cycle None some more e = more
+before_low w f watched zero cycle (Some x) some more e = absurd (omega arith)
+before_low w f watched (suc k) zero (Some x) some more e = absurd (omega arith)
+before_low w f watched (suc k) (suc cycle) (Some x) some more e =
+    let low = before_within w f watched (cond (happens w f watched cycle) k (suc k)) cycle x e in omega (arith, low)
+
+-- one pass over the stretch, or two where it is not the last
+pub record Near (count to spacing before after : ℕ) (found : Option ℕ) : Type 0 where
+  pub forward : before ≤ after
+  pub steps : after + or_zero found < before + to + passes count * spacing
+
+near_by : (count to spacing before after : ℕ) (found : Option ℕ) → before ≤ after → after + or_zero found < before + to + spacing → Near count to spacing before after found
+near_by count to spacing before after found forward lt = elim (cases_lt 1 count) [
+  | inl more ↦ let no : nat_le count 1 ≡ false = grind (arith, nat_tests) in record { forward = forward; steps = rw no (omega (arith, lt)) }
+  | inr le ↦ let yes : nat_le count 1 ≡ true = grind (arith, nat_tests) in record { forward = forward; steps = rw yes (omega (arith, lt)) }
+]
+
+near_twice : (count to spacing before after : ℕ) (found : Option ℕ) → 1 < count → before ≤ after → after + or_zero found < before + to + 2 * spacing → Near count to spacing before after found
+near_twice count to spacing before after found more forward lt =
+    let no : nat_le count 1 ≡ false = grind (arith, nat_tests) in record { forward = forward; steps = rw no (omega (arith, lt)) }
+
+pub near_once : (w : Setting) (f : State) (ring : Snapshots) (watched : Watched) (count to left end start before now after : ℕ) (s : State) (found : Option ℕ) → 0 < ring.spacing → Searching w f watched count to left end before now → Stretch w f ring to start end s →
+    found ≡ before_nth w f watched count to → after + s.cycle ≡ now + end → Near count to ring.spacing before after found
+near_once w f ring watched count to left end start before now after s found some so_far k is counted =
+    let begins : start < end = k.some in
+    let low : or_zero found < end = before_low w f watched left end found so_far.some (omega arith) (is ∙ so_far.found) in
+    let at : s.cycle ≡ start = k.begins.at in
+    let short : end ≤ start + ring.spacing = k.short in
+    let within : end ≤ to = so_far.within in
+    let forward : before ≤ now = so_far.forward in
+    let steps : now + end ≤ before + to = so_far.steps in
+    near_by count to ring.spacing before after found (omega arith) (omega arith)
+
+pub near_again : (w : Setting) (f : State) (ring : Snapshots) (watched : Watched) (count to left end start before now mid after : ℕ) (s u : State) (found : Option ℕ) → 1 < left → Searching w f watched count to left end before now → Stretch w f ring to start end s →
+    Stretch w f ring to start end u → found ≡ before_nth w f watched count to → mid + s.cycle ≡ now + end → after + u.cycle ≡ mid + end → Near count to ring.spacing before after found
+near_again w f ring watched count to left end start before now mid after s u found more so_far k j is first second =
+    let begins : start < end = k.some in
+    let low : or_zero found < end = before_low w f watched left end found so_far.some (omega arith) (is ∙ so_far.found) in
+    let at : s.cycle ≡ start = k.begins.at in
+    let too : u.cycle ≡ start = j.begins.at in
+    let short : end ≤ start + ring.spacing = k.short in
+    let within : end ≤ to = so_far.within in
+    let few : left ≤ count = so_far.few in
+    let forward : before ≤ now = so_far.forward in
+    let steps : now + end ≤ before + to = so_far.steps in
+    near_twice count to ring.spacing before after found (omega arith) (omega arith) (omega arith)
+
+none_left : (w : Setting) (f : State) (watched : Watched) (left : ℕ) → 0 < left → None ≡ before_nth w f watched left 0
+unfolding before_nth
+none_left w f watched zero some = absurd (omega arith)
+none_left w f watched (suc k) some = refl
+
+pub searched : (w : Setting) (f : State) (watched : Watched) (count to left end before now : ℕ) → Searching w f watched count to left end before now → end ≤ 0 → None ≡ before_nth w f watched count to
+searched w f watched count to left end before now k le =
     let e : end ≡ 0 = omega arith in
-    no_write w f watched ∙ ap (last_before w f watched) (sym e) ∙ sym k.write
+    none_left w f watched left k.some ∙ ap (before_nth w f watched left) (sym e) ∙ sym k.found
+
+pub searched_steps : (w : Setting) (f : State) (watched : Watched) (count to left end before now spacing : ℕ) → 0 < spacing → Searching w f watched count to left end before now → Near count to spacing before now None
+searched_steps w f watched count to left end before now spacing some k =
+    let forward : before ≤ now = k.forward in
+    let steps : now + end ≤ before + to = k.steps in
+    near_by count to spacing before now None forward (omega arith)
+
+pub zero_th : (w : Setting) (f : State) (watched : Watched) (count to : ℕ) → count ≡ 0 → Some to ≡ before_nth w f watched count to
+zero_th w f watched count to e = sym (ap (λ n. before_nth w f watched n to) e ∙ before_here w f watched to)
+
+pub zero_steps : (count to spacing steps : ℕ) → 0 < spacing → Near count to spacing steps steps (Some to)
+zero_steps count to spacing steps some = near_by count to spacing steps steps (Some to) (omega arith) (omega arith)
+
+-- ---- how many are remembered
+
+pub remembers_all : (w : Setting) (f : State) (ring : Snapshots) (watched : Watched) (to left end start most : ℕ) (all : Tally) (s : State) → Stretch w f ring to start end s → all ≡ tally w s watched most (end - s.cycle) → left ≡ 1 → end ≤ most → Remembers left most all.count
+remembers_all w f ring watched to left end start most all s k is one le =
+    let few = few_of w s watched most (end - s.cycle) in
+    let same : all.count ≡ (tally w s watched most (end - s.cycle)).count = ap (λ (x : Tally). x.count) is in
+    inr (one, omega (arith, few))
+
+some_remembered : (left count : ℕ) → 0 < left → left ≤ count → Remembers left (count - left + 1) count
+some_remembered left count some le = inl (omega arith)
+
+-- the same stretch once more, up to the one that is asked for
+pub found_again : (w : Setting) (f : State) (ring : Snapshots) (watched : Watched) (count to left end start most before now : ℕ) (all again : Tally) (s u : State) → Searching w f watched count to left end before now → Stretch w f ring to start end s →
+    Stretch w f ring to start end u → all ≡ tally w s watched most (end - s.cycle) → left ≤ all.count → again ≡ tally w u watched (all.count - left + 1) (end - u.cycle) → again.last ≡ before_nth w f watched count to
+found_again w f ring watched count to left end start most before now all again s u so_far k j is le isagain =
+    let same_cycle : u.cycle ≡ s.cycle = j.begins.at ∙ sym k.begins.at in
+    let same : u ≡ s = j.begins.is ∙ ap (states w f) same_cycle ∙ sym k.begins.is in
+    let counts : again.count ≡ all.count =
+    ap (λ (x : Tally). x.count) isagain ∙ ap (λ (x : State). (tally w x watched (all.count - left + 1) (end - x.cycle)).count) same
+    ∙ count_same w s watched (all.count - left + 1) most (end - s.cycle) ∙ sym (ap (λ (x : Tally). x.count) is)
+    in
+    found_there w f ring watched count to left end start (all.count - left + 1) before now again u so_far j isagain (omega arith)
+    (subst (Remembers left (all.count - left + 1)) (sym counts) (some_remembered left all.count so_far.some le))

@@ -5,7 +5,7 @@ use Rattle.outer_lane.specs.Setting.{Setting}
 use Rattle.rp_machine.specs.State.{State}
 use Rattle.snap_ring.specs.Ring.{spacing_of}
 use Rattle.reverse_debug.specs.Command.{Command, is_quit, command_of}
-use Rattle.reverse_debug.specs.Command.Command.{Step, Back, Goto, End, Regs, Mem, Pins, Pio, Until, LastChange, Quit, Bad}
+use Rattle.reverse_debug.specs.Command.Command.{Step, Back, Goto, End, Regs, Mem, Pins, Pio, Peek, Until, Before, Last, Quit, Bad}
 use Rattle.reverse_debug.specs.Reply.{move_cost, command_cost, heard, cost}
 use Rattle.reverse_debug.specs.Session.{Standing, StandsFor}
 use Rattle.reverse_debug.proofs.Moves.{quits_exactly}
@@ -31,8 +31,10 @@ order_spent w f d cycle Regs = refl
 order_spent w f d cycle (Mem address count) = refl
 order_spent w f d cycle Pins = refl
 order_spent w f d cycle (Pio block machine) = refl
-order_spent w f d cycle (Until watched) = refl
-order_spent w f d cycle (LastChange watched) = refl
+order_spent w f d cycle (Peek address) = refl
+order_spent w f d cycle (Until watched count) = refl
+order_spent w f d cycle (Before watched count) = refl
+order_spent w f d cycle (Last watched) = refl
 order_spent w f d cycle Quit = no_move d cycle
 order_spent w f d cycle Bad = refl
 

@@ -8,7 +8,7 @@ use Rattle.rp_base.specs.declared.map.Spot.{Spot}
 use Rattle.rp_base.specs.declared.map.Spot.TheVariants as spot
 use Rattle.rp_base.specs.Map.{place_of}
 use Rattle.reverse_debug.specs.declared.watch.Watched.{Watched}
-use Rattle.reverse_debug.specs.declared.watch.Watched.TheVariants.{Word, Pin}
+use Rattle.reverse_debug.specs.declared.watch.Watched.TheVariants.{Word, Pin, Begun}
 
 pub data Command : Type 0 where
   -- move so many cycles forward, or back
@@ -22,9 +22,12 @@ pub data Command : Type 0 where
   Mem : (address : ℕ) → (count : ℕ) → Command
   Pins : Command
   Pio : (block : ℕ) → (machine : ℕ) → Command
-  -- move forward behind the next change of what is watched, or name the last one
-  Until : (watched : Watched) → Command
-  LastChange : (watched : Watched) → Command
+  -- show a word of a register block, of SIO or of the private bus
+  Peek : (address : ℕ) → Command
+  -- of what is watched: move forward to its n-th time, or back to it, or name the last time
+  Until : (watched : Watched) → (count : ℕ) → Command
+  Before : (watched : Watched) → (count : ℕ) → Command
+  Last : (watched : Watched) → Command
   Quit : Command
   -- no command
   Bad : Command
@@ -78,6 +81,22 @@ are_words address count =
 abbrev pub words : List ℕ → List (List ℕ)
 words line = slice_split (λ byte. byte == 32) line
 
+-- a core has the number 0 or 1; what it begins is watched: the instruction at an address, or each one
+abbrev pub begun_at : Option ℕ → Option ℕ → Option Watched
+begun_at (Some address) (Some core) = if nat_le core 1 then Some (Begun core (Some address)) else None
+begun_at (Some address) None = None
+begun_at None core = None
+
+abbrev pub next_of : Option ℕ → Option ℕ → Command
+next_of (Some count) (Some core) = if nat_le core 1 then Until (Begun core None) count else Bad
+next_of (Some count) None = Bad
+next_of None core = Bad
+
+abbrev pub prev_of : Option ℕ → Option ℕ → Command
+prev_of (Some count) (Some core) = if nat_le core 1 then Before (Begun core None) count else Bad
+prev_of (Some count) None = Bad
+prev_of None core = Bad
+
 abbrev pub alone : List ℕ → Command
 alone name =
     if bytes_eq name (codes "step") then Step 1
@@ -85,6 +104,8 @@ alone name =
     else if bytes_eq name (codes "end") then End
     else if bytes_eq name (codes "regs") then Regs
     else if bytes_eq name (codes "pins") then Pins
+    else if bytes_eq name (codes "next") then next_of (Some 1) (Some 0)
+    else if bytes_eq name (codes "prev") then prev_of (Some 1) (Some 0)
     else if bytes_eq name (codes "quit") then Quit
     else Bad
 
@@ -107,9 +128,18 @@ abbrev pub pin_of : Option ℕ → Option Watched
 pin_of None = None
 pin_of (Some pin) = if nat_le pin 29 then Some (Pin pin) else None
 
-abbrev pub with_watched : (Watched → Command) → Option Watched → Command
-with_watched command None = Bad
-with_watched command (Some watched) = command watched
+abbrev pub until_of : Option Watched → Command
+until_of None = Bad
+until_of (Some watched) = Until watched 1
+
+abbrev pub last_of : Option Watched → Command
+last_of None = Bad
+last_of (Some watched) = Last watched
+
+-- a word that is looked at has an address that is a multiple of 4
+abbrev pub peek_of : Option ℕ → Command
+peek_of None = Bad
+peek_of (Some address) = if address % 4 == 0 then Peek address else Bad
 
 abbrev pub pio_of : Option ℕ → Option ℕ → Command
 pio_of (Some block) (Some machine) = if nat_le block 1 && nat_le machine 3 then Pio block machine else Bad
@@ -122,16 +152,25 @@ with_one name word =
     else if bytes_eq name (codes "back") then with_number Back (number_of word)
     else if bytes_eq name (codes "goto") then with_number Goto (number_of word)
     else if bytes_eq name (codes "mem") then mem_of (address_of word) (Some 1)
-    else if bytes_eq name (codes "untilwrite") then with_watched Until (word_of (address_of word))
-    else if bytes_eq name (codes "untilpin") then with_watched Until (pin_of (number_of word))
-    else if bytes_eq name (codes "lastwrite") then with_watched LastChange (word_of (address_of word))
-    else if bytes_eq name (codes "lastpin") then with_watched LastChange (pin_of (number_of word))
+    else if bytes_eq name (codes "peek") then peek_of (address_of word)
+    else if bytes_eq name (codes "next") then next_of (number_of word) (Some 0)
+    else if bytes_eq name (codes "prev") then prev_of (number_of word) (Some 0)
+    else if bytes_eq name (codes "until") then until_of (begun_at (address_of word) (Some 0))
+    else if bytes_eq name (codes "untilwrite") then until_of (word_of (address_of word))
+    else if bytes_eq name (codes "untilpin") then until_of (pin_of (number_of word))
+    else if bytes_eq name (codes "lastat") then last_of (begun_at (address_of word) (Some 0))
+    else if bytes_eq name (codes "lastwrite") then last_of (word_of (address_of word))
+    else if bytes_eq name (codes "lastpin") then last_of (pin_of (number_of word))
     else Bad
 
 abbrev pub with_two : List ℕ → List ℕ → List ℕ → Command
 with_two name first second =
     if bytes_eq name (codes "mem") then mem_of (address_of first) (number_of second)
     else if bytes_eq name (codes "pio") then pio_of (number_of first) (number_of second)
+    else if bytes_eq name (codes "next") then next_of (number_of first) (number_of second)
+    else if bytes_eq name (codes "prev") then prev_of (number_of first) (number_of second)
+    else if bytes_eq name (codes "until") then until_of (begun_at (address_of first) (number_of second))
+    else if bytes_eq name (codes "lastat") then last_of (begun_at (address_of first) (number_of second))
     else Bad
 
 unfoldable pub command_by : List (List ℕ) → Command

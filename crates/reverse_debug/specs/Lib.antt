@@ -2,10 +2,10 @@ pub mod Advance
 pub mod Command
 pub mod Reading
 pub mod Reply
+pub mod Search
 pub mod Session
 pub mod Debugger
 pub mod Hear
-pub mod LastChange
 pub mod Lines
 pub mod Talk
 pub mod Way

@@ -3,9 +3,9 @@ use Rattle.std.specs.Prelude.{◌≡◌, true, ◌^◌, ◌<◌, ◌≤◌}
 use Rattle.reverse_debug.specs.declared.command.Command.{Command as Asked}
 use Rattle.reverse_debug.specs.declared.command.Command.TheVariants as code
 use Rattle.reverse_debug.specs.declared.watch.Watched.{Watched}
-use Rattle.reverse_debug.specs.declared.watch.Watched.TheVariants.{Word, Pin}
+use Rattle.reverse_debug.specs.declared.watch.Watched.TheVariants.{Word, Pin, Begun}
 use Rattle.reverse_debug.specs.Command.{Command, are_words}
-use Rattle.reverse_debug.specs.Command.Command.{Step, Back, Goto, End, Regs, Mem, Pins, Pio, Until, LastChange, Quit, Bad}
+use Rattle.reverse_debug.specs.Command.Command.{Step, Back, Goto, End, Regs, Mem, Pins, Pio, Peek, Until, Before, Last, Quit, Bad}
 
 abbrev pub meant : Asked → Command
 meant (code.Step n) = Step n
@@ -16,8 +16,10 @@ meant code.Regs = Regs
 meant (code.Mem address count) = Mem address count
 meant code.Pins = Pins
 meant (code.Pio block machine) = Pio block machine
-meant (code.Until watched) = Until watched
-meant (code.LastChange watched) = LastChange watched
+meant (code.Peek address) = Peek address
+meant (code.Until watched count) = Until watched count
+meant (code.Before watched count) = Before watched count
+meant (code.Last watched) = Last watched
 meant code.Quit = Quit
 meant code.Bad = Bad
 
@@ -25,6 +27,7 @@ meant code.Bad = Bad
 abbrev pub IsThere : Watched → Type 0
 IsThere (Word address) = are_words address 1 ≡ true
 IsThere (Pin pin) = pin ≤ 29
+IsThere (Begun core address) = core ≤ 1
 
 -- numbers have at most 10 digits, and what is to be shown is there
 abbrev pub Fits : Asked → Type 0
@@ -33,6 +36,7 @@ Fits (code.Back n) = n < 10 ^ 10
 Fits (code.Goto cycle) = cycle < 10 ^ 10
 Fits (code.Mem address count) = are_words address count ≡ true
 Fits (code.Pio block machine) = (block ≤ 1) × (machine ≤ 3)
-Fits (code.Until watched) = IsThere watched
-Fits (code.LastChange watched) = IsThere watched
+Fits (code.Until watched count) = IsThere watched
+Fits (code.Before watched count) = IsThere watched
+Fits (code.Last watched) = IsThere watched
 Fits _ = Unit {0}

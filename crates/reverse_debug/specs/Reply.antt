@@ -1,6 +1,6 @@
 -- What the debugger answers (the project's own). A session stands at one cycle of a run. Each line moves it to a cycle and has a
 -- reply, which shows a part of the run's state at the cycle reached.
-use Rattle.std.specs.Prelude.{ℕ, zero, suc, ◌+◌, ◌-◌, Bool, true, false, not, ◌==◌, nat_lt, if◌then◌else◌, List, [], ◌∷◌, ◌++◌, drop, flat_map, Option, Some, None, codes, decimal}
+use Rattle.std.specs.Prelude.{ℕ, zero, suc, ◌+◌, ◌-◌, ◌*◌, Bool, true, false, not, ◌==◌, nat_le, nat_lt, if◌then◌else◌, List, [], ◌∷◌, ◌++◌, drop, flat_map, Option, Some, None, codes, decimal}
 use Rattle.std.specs.List.{range_with_len}
 use Rattle.rp_base.specs.Alias.{or_zero}
 use Rattle.rp_base.specs.Word.{has_bit}
@@ -12,11 +12,12 @@ use Rattle.rp_machine.specs.State.{State}
 use Rattle.rp_machine.specs.Cycle.{stop, next}
 use Rattle.rp_machine.specs.Sram.{ram_word}
 use Rattle.rp_machine.specs.Readers.{registers_of, pio_registers}
+use Rattle.rp_machine.specs.Reads.{begins_of, peeked}
 use Rattle.rp_machine.specs.Run.{states, last_state}
 use Rattle.reverse_debug.specs.declared.watch.Watched.{Watched}
-use Rattle.reverse_debug.specs.declared.watch.Watched.TheVariants.{Word, Pin}
+use Rattle.reverse_debug.specs.declared.watch.Watched.TheVariants.{Word, Pin, Begun}
 use Rattle.reverse_debug.specs.Command.{Command, addresses, command_of}
-use Rattle.reverse_debug.specs.Command.Command.{Step, Back, Goto, End, Regs, Mem, Pins, Pio, Until, LastChange, Quit, Bad}
+use Rattle.reverse_debug.specs.Command.Command.{Step, Back, Goto, End, Regs, Mem, Pins, Pio, Peek, Until, Before, Last, Quit, Bad}
 
 -- where the session stands after a line, the reply, and whether the line ends the session
 pub record Said : Type 0 where
@@ -59,6 +60,14 @@ unfoldable pub pio_reply : State → ℕ → ℕ → List ℕ
 pio_reply s block machine =
     codes "pio " ++ decimal block ++ codes " " ++ decimal machine ++ pio_words (pio_registers block machine s) ++ codes "\n"
 
+-- what a read of core 0 would give of a word that is not in SRAM
+abbrev pub peek_text : ℕ → Option ℕ → List ℕ
+peek_text address None = codes "bad command\n"
+peek_text address (Some word) = codes "peek " ++ hex_word address ++ spaced_word word ++ codes "\n"
+
+unfoldable pub peek_reply : Setting → State → ℕ → List ℕ
+peek_reply w s address = peek_text address (peeked w address s)
+
 -- ---- moves: no session stands beyond the last cycle, that of the first state with a stop
 
 unfoldable pub at_reply : ℕ → List ℕ
@@ -78,45 +87,77 @@ unfoldable pub moved_back : Setting → State → ℕ → ℕ → Said
 moved_back w s cycle back =
     if nat_lt cycle back then said 0 (codes "at start\n") else said (cycle - back) (at_reply (cycle - back))
 
--- ---- changes of what is watched: the word of SRAM at an address, or the level of a pin
+-- ---- what is watched: the word of SRAM at an address or the level of a pin, which changes, or what a core begins
+
+-- an instruction is begun, and it is the one at an address, where one is given
+abbrev pub is_begun : Option ℕ → Option ℕ → Bool
+is_begun address None = false
+is_begun None (Some begun) = true
+is_begun (Some address) (Some begun) = begun == address
 
 abbrev pub seen : Watched → State → ℕ
 seen (Word address) s = word_at s address
 seen (Pin pin) s = if has_bit s.outer.pads.current pin then 1 else 0
+seen (Begun core address) s = if is_begun address (begins_of core s) then 1 else 0
 
--- the step of a cycle changes it
-abbrev pub changes : Setting → State → Watched → ℕ → Bool
-changes w s watched cycle = not (seen watched (next w (states w s cycle)) == seen watched (states w s cycle))
+-- It happens in a cycle, by what is seen before and after its step: a word or a level changes, or in that cycle the core begins
+-- the instruction.
+abbrev pub happens_by : Watched → ℕ → ℕ → Bool
+happens_by (Begun core address) before after = before == 1
+happens_by _ before after = not (after == before)
 
--- the greatest cycle below another one that changes it
-unfoldable pub last_before : Setting → State → Watched → ℕ → Option ℕ
-last_before w s watched zero = None
-last_before w s watched (suc cycle) = if changes w s watched cycle then Some cycle else last_before w s watched cycle
+unfoldable pub happens : Setting → State → Watched → ℕ → Bool
+happens w s watched cycle = happens_by watched (seen watched (states w s cycle)) (seen watched (next w (states w s cycle)))
 
-abbrev pub watched_text : Watched → List ℕ
-watched_text (Word address) = codes "lastwrite " ++ hex_word address
-watched_text (Pin pin) = codes "lastpin " ++ decimal pin
+-- A move forward ends behind a cycle: the step has changed the word or the level, or the core begins the instruction next.
+abbrev pub ends_by : Watched → ℕ → ℕ → Bool
+ends_by (Begun core address) before after = after == 1
+ends_by _ before after = not (after == before)
 
-abbrev pub change_text : Option ℕ → List ℕ
-change_text None = codes "none"
-change_text (Some cycle) = decimal cycle
+unfoldable pub ends : Setting → State → Watched → ℕ → Bool
+ends w s watched cycle = ends_by watched (seen watched (states w s cycle)) (seen watched (next w (states w s cycle)))
 
-unfoldable pub last_change_reply : Watched → Option ℕ → List ℕ
-last_change_reply watched change = watched_text watched ++ codes " " ++ change_text change ++ codes "\n"
+-- the times that are left, where one of them was in this cycle or not
+abbrev pub fewer : Bool → ℕ → ℕ
+fewer is count = if is then count - 1 else count
 
--- the cycle behind the least of so many cycles that changes it, from a cycle on
-unfoldable pub behind_first : Setting → State → Watched → ℕ → ℕ → Option ℕ
-behind_first w s watched cycle zero = None
-behind_first w s watched cycle (suc left) =
-    if changes w s watched cycle then Some (cycle + 1) else behind_first w s watched (cycle + 1) left
+-- the n-th greatest cycle below another one in which it happens, which itself is the 0-th
+unfoldable pub before_nth : Setting → State → Watched → ℕ → ℕ → Option ℕ
+before_nth w s watched zero cycle = Some cycle
+before_nth w s watched (suc count) zero = None
+before_nth w s watched (suc count) (suc cycle) =
+    before_nth w s watched (if happens w s watched cycle then count else suc count) cycle
+
+-- the cycle at which a move forward from a cycle ends the n-th time, at most so many cycles on
+unfoldable pub behind_nth : Setting → State → Watched → ℕ → ℕ → ℕ → Option ℕ
+behind_nth w s watched zero cycle more = Some cycle
+behind_nth w s watched (suc count) cycle zero = None
+behind_nth w s watched (suc count) cycle (suc more) =
+    behind_nth w s watched (if ends w s watched cycle then count else suc count) (cycle + 1) more
 
 -- that of the cycles up to the last one
-abbrev pub behind_next : Setting → State → Watched → ℕ → Option ℕ
-behind_next w s watched cycle = behind_first w s watched cycle (last_cycle w s - cycle)
+abbrev pub behind_next : Setting → State → Watched → ℕ → ℕ → Option ℕ
+behind_next w s watched count cycle = behind_nth w s watched count cycle (last_cycle w s - cycle)
 
 abbrev pub at_or_last : Setting → State → Option ℕ → Said
 at_or_last w s None = at_last w s
 at_or_last w s (Some cycle) = said cycle (at_reply cycle)
+
+abbrev pub at_or_start : Option ℕ → Said
+at_or_start None = said 0 (codes "at start\n")
+at_or_start (Some cycle) = said cycle (at_reply cycle)
+
+abbrev pub watched_text : Watched → List ℕ
+watched_text (Word address) = codes "lastwrite " ++ hex_word address
+watched_text (Pin pin) = codes "lastpin " ++ decimal pin
+watched_text (Begun core address) = codes "lastat " ++ hex_word (or_zero address)
+
+abbrev pub last_text : Option ℕ → List ℕ
+last_text None = codes "none"
+last_text (Some cycle) = decimal cycle
+
+unfoldable pub last_reply : Watched → Option ℕ → List ℕ
+last_reply watched last = watched_text watched ++ codes " " ++ last_text last ++ codes "\n"
 
 -- ---- a line
 
@@ -130,8 +171,10 @@ answer w s cycle Regs = said cycle (regs_reply (states w s cycle))
 answer w s cycle (Mem address count) = said cycle (mem_reply (states w s cycle) address count)
 answer w s cycle Pins = said cycle (pins_reply (states w s cycle))
 answer w s cycle (Pio block machine) = said cycle (pio_reply (states w s cycle) block machine)
-answer w s cycle (Until watched) = at_or_last w s (behind_next w s watched cycle)
-answer w s cycle (LastChange watched) = said cycle (last_change_reply watched (last_before w s watched cycle))
+answer w s cycle (Peek address) = said cycle (peek_reply w (states w s cycle) address)
+answer w s cycle (Until watched count) = at_or_last w s (behind_next w s watched count cycle)
+answer w s cycle (Before watched count) = at_or_start (before_nth w s watched count cycle)
+answer w s cycle (Last watched) = said cycle (last_reply watched (before_nth w s watched 1 cycle))
 answer w s cycle Quit = record { cycle = cycle; reply = []; quits = true }
 answer w s cycle Bad = said cycle (codes "bad command\n")
 
@@ -144,12 +187,19 @@ heard w s cycle line = answer w s cycle (command_of line)
 abbrev pub move_cost : ℕ → ℕ → ℕ → ℕ
 move_cost spacing cycle target = if nat_lt target cycle then spacing - 1 else target - cycle
 
--- for a search: back to the cycle that is found, or to the start, and less than a spacing more
-abbrev pub search_cost : ℕ → ℕ → Option ℕ → ℕ
-search_cost spacing cycle found = cycle - or_zero found + spacing - 1
+-- the stretch between two kept states on which the n-th cycle is found is gone over once, or a second time where n is not 1
+abbrev pub passes : ℕ → ℕ
+passes count = if nat_le count 1 then 1 else 2
+
+-- for a search: back to the cycle that is found, or to the start, and less than a spacing more for each pass
+abbrev pub search_cost : ℕ → ℕ → ℕ → Option ℕ → ℕ
+search_cost spacing count cycle found = cycle - or_zero found + passes count * spacing - 1
 
 abbrev pub command_cost : Setting → State → ℕ → ℕ → Command → ℕ
-command_cost w s spacing cycle (LastChange watched) = search_cost spacing cycle (last_before w s watched cycle)
+command_cost w s spacing cycle (Last watched) = search_cost spacing 1 cycle (before_nth w s watched 1 cycle)
+command_cost w s spacing cycle (Before watched count) =
+    search_cost spacing count cycle (before_nth w s watched count cycle)
+    + move_cost spacing cycle (at_or_start (before_nth w s watched count cycle)).cycle
 command_cost w s spacing cycle command = move_cost spacing cycle (answer w s cycle command).cycle
 
 unfoldable pub cost : Setting → State → ℕ → ℕ → List ℕ → ℕ

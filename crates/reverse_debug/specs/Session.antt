@@ -1,5 +1,5 @@
 -- A session that stands at a cycle of a run, with states of the run that are kept (the project's own).
-use Rattle.std.specs.Prelude.{◌≡◌, ◌≤◌, ◌<◌, ℕ, ◌+◌, ◌-◌, ◌*◌, ◌%◌, max, Bool, true, false, if◌then◌else◌, List, Option, IfSome, Some, None}
+use Rattle.std.specs.Prelude.{◌≡◌, ◌≤◌, ◌<◌, ℕ, ◌+◌, ◌-◌, ◌*◌, ◌%◌, max, true, List, Option, IfSome, Some, None}
 use Rattle.rp_base.specs.declared.Why.{Why}
 use Rattle.outer_lane.specs.Setting.{Setting}
 use Rattle.rp_machine.specs.State.{State}
@@ -77,17 +77,24 @@ pub record GoesOn (w : Setting) (old : Standing) (to : ℕ) (new : Standing) (re
   pub within : new.now.cycle ≤ to
   pub stopped : IfSome result (λ why. (stop w new.now ≡ Some why) × (new.now.cycle < to))
 
--- The session has gone forward, and stands behind the next change of what is watched; or there is none before the present cycle.
-pub record Seeks (w : Setting) (watched : Watched) (old new : Standing) (changed : Bool) (before now : ℕ) : Type 0 where
+-- The session has gone forward, and so many of the times at which it would end are left.
+pub record Seeks (w : Setting) (watched : Watched) (times : ℕ) (old new : Standing) (left before now : ℕ) : Type 0 where
   pub stays : StaysFor w old new
   pub forward : old.now.cycle ≤ new.now.cycle
-  pub next : behind_next w (first_of old) watched old.now.cycle ≡ (if changed then Some new.now.cycle else behind_next w (first_of old) watched new.now.cycle)
+  pub next : behind_next w (first_of old) watched times old.now.cycle ≡ behind_next w (first_of old) watched left new.now.cycle
   pub count : CountsMove old.now new.now before now
 
--- it does so, or has come to a stop before it
-abbrev pub ComesBehind : Setting → Watched → Standing → Standing → Option Why → ℕ → ℕ → Type 0
-ComesBehind w watched old new None before now = Seeks w watched old new true before now
-ComesBehind w watched old new (Some why) before now = Seeks w watched old new false before now × (stop w new.now ≡ Some why)
+-- Some are left, and it has come to a stop.
+pub record Misses (w : Setting) (watched : Watched) (count : ℕ) (old new : Standing) (why : Why) (before now : ℕ) : Type 0 where
+  pub left : ℕ
+  pub some : 0 < left
+  pub seeks : Seeks w watched count old new left before now
+  pub stopped : stop w new.now ≡ Some why
+
+-- none is left, or it has come to a stop before
+abbrev pub ComesTo : Setting → Watched → ℕ → Standing → Standing → Option Why → ℕ → ℕ → Type 0
+ComesTo w watched count old new None before now = Seeks w watched count old new 0 before now
+ComesTo w watched count old new (Some why) before now = Misses w watched count old new why before now
 
 -- Without a step the session has come as near to a target as a kept state is: not beyond it and nearer than a spacing, where it
 -- was beyond it before; else no farther than before.

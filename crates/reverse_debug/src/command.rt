@@ -1,7 +1,7 @@
 //! The commands, and how a line asks for them.
 
 ghost use Rattle.std.specs.Prelude.{◌≡◌, not, IfSome};
-ghost use Rattle.reverse_debug.specs.Command.{is_quit, command_of, alone, with_one, with_two, mem_of, word_of, pin_of, pio_of};
+ghost use Rattle.reverse_debug.specs.Command.{is_quit, command_of, alone, with_one, with_two, mem_of, word_of, pin_of, begun_at, next_of, prev_of, until_of, last_of, peek_of, pio_of};
 ghost use Rattle.reverse_debug.specs.Reading.{meant, Fits, IsThere};
 
 use crate::watch::Watched;
@@ -36,14 +36,92 @@ pub(crate) enum Command {
         /// The machine, 0 to 3.
         machine: u8,
     },
-    /// Move forward behind the next change.
-    Until(Watched),
-    /// Name the last cycle that changed it.
-    LastChange(Watched),
+    /// Show a word of a register block, of SIO or of the private bus.
+    Peek(u32),
+    /// Move forward to its n-th time.
+    Until(Watched, u64),
+    /// Move back to its n-th time.
+    Before(Watched, u64),
+    /// Name its last time.
+    Last(Watched),
     /// End the session.
     Quit,
     /// The line is no command.
     Bad,
+}
+
+/// What core 0 or 1 begins is watched: the instruction at an address.
+fn begun_at(address: Option<u32>, core: Option<u64>) -> Option<Watched>
+    ensures meaning { result ≡ begun_at address core }
+    ensures fits { IfSome result IsThere }
+{
+    match (address, core) {
+        (Some(address), Some(core)) if core <= 1 => Some(Watched::Begun(core as u8, Some(address))),
+        _ => None,
+    }
+}
+
+/// `next` with its operands.
+fn next_of(count: Option<u64>, core: Option<u64>) -> Command
+    ensures meaning { meant result ≡ next_of count core }
+    ensures fits { Fits result }
+{
+    match (count, core) {
+        (Some(count), Some(core)) if core <= 1 => Command::Until(
+            Watched::Begun(core as u8, None),
+            count,
+        ),
+        _ => Command::Bad,
+    }
+}
+
+/// `prev` with its operands.
+fn prev_of(count: Option<u64>, core: Option<u64>) -> Command
+    ensures meaning { meant result ≡ prev_of count core }
+    ensures fits { Fits result }
+{
+    match (count, core) {
+        (Some(count), Some(core)) if core <= 1 => Command::Before(
+            Watched::Begun(core as u8, None),
+            count,
+        ),
+        _ => Command::Bad,
+    }
+}
+
+/// A move to the next time of what is watched.
+fn until_of(watched: Option<Watched>) -> Command
+    requires { IfSome watched IsThere }
+    ensures meaning { meant result ≡ until_of watched }
+    ensures fits { Fits result }
+{
+    match watched {
+        Some(watched) => Command::Until(watched, 1),
+        None => Command::Bad,
+    }
+}
+
+/// A question for the last time of what is watched.
+fn last_of(watched: Option<Watched>) -> Command
+    requires { IfSome watched IsThere }
+    ensures meaning { meant result ≡ last_of watched }
+    ensures fits { Fits result }
+{
+    match watched {
+        Some(watched) => Command::Last(watched),
+        None => Command::Bad,
+    }
+}
+
+/// `peek` with its operand.
+fn peek_of(address: Option<u32>) -> Command
+    ensures meaning { meant result ≡ peek_of address }
+    ensures fits { Fits result }
+{
+    match address {
+        Some(address) if address % 4 == 0 => Command::Peek(address),
+        _ => Command::Bad,
+    }
 }
 
 /// A command of one word.
@@ -61,6 +139,10 @@ fn alone(name: &[u8]) -> Command
         Command::Regs
     } else if is(name, b"pins") {
         Command::Pins
+    } else if is(name, b"next") {
+        next_of(Some(1), Some(0))
+    } else if is(name, b"prev") {
+        prev_of(Some(1), Some(0))
     } else if is(name, b"quit") {
         Command::Quit
     } else {
@@ -131,14 +213,24 @@ fn with_one(name: &[u8], word: &[u8]) -> Command
         number_of(word).map_or(Command::Bad, Command::Goto)
     } else if is(name, b"mem") {
         mem_of(address_of(word), Some(1))
+    } else if is(name, b"peek") {
+        peek_of(address_of(word))
+    } else if is(name, b"next") {
+        next_of(number_of(word), Some(0))
+    } else if is(name, b"prev") {
+        prev_of(number_of(word), Some(0))
+    } else if is(name, b"until") {
+        until_of(begun_at(address_of(word), Some(0)))
     } else if is(name, b"untilwrite") {
-        word_of(address_of(word)).map_or(Command::Bad, Command::Until)
+        until_of(word_of(address_of(word)))
     } else if is(name, b"untilpin") {
-        pin_of(number_of(word)).map_or(Command::Bad, Command::Until)
+        until_of(pin_of(number_of(word)))
+    } else if is(name, b"lastat") {
+        last_of(begun_at(address_of(word), Some(0)))
     } else if is(name, b"lastwrite") {
-        word_of(address_of(word)).map_or(Command::Bad, Command::LastChange)
+        last_of(word_of(address_of(word)))
     } else if is(name, b"lastpin") {
-        pin_of(number_of(word)).map_or(Command::Bad, Command::LastChange)
+        last_of(pin_of(number_of(word)))
     } else {
         Command::Bad
     }
@@ -153,6 +245,14 @@ fn with_two(name: &[u8], first: &[u8], second: &[u8]) -> Command
         mem_of(address_of(first), number_of(second))
     } else if is(name, b"pio") {
         pio_of(number_of(first), number_of(second))
+    } else if is(name, b"next") {
+        next_of(number_of(first), number_of(second))
+    } else if is(name, b"prev") {
+        prev_of(number_of(first), number_of(second))
+    } else if is(name, b"until") {
+        until_of(begun_at(address_of(first), number_of(second)))
+    } else if is(name, b"lastat") {
+        last_of(begun_at(address_of(first), number_of(second)))
     } else {
         Command::Bad
     }

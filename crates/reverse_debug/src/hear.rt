@@ -265,6 +265,7 @@ pub fn hear<X: Device, I: Source, O: Sink, L: Ledger>(
     steps: &mut Steps<L>,
 ) -> Result<Way, SinkFault>
     requires stood { StandsFor (setting X.meaning world.now) session.old }
+    ensures stands { StandsFor (setting X.meaning world.now) session.new }
     ensures hears { let t = talk_with (setting X.meaning world.now) session.old in Hears t
         session.old.now.cycle limit (I.left input.old) (I.left input.new) (I.faults input.old)
         (I.faults input.new) (O.written writer.old.out.now) (O.written writer.new.out.now) (O.faults

@@ -5,8 +5,8 @@
 mod advance;
 mod command;
 pub mod hear;
-mod last_change;
 mod reply;
+pub mod search;
 pub mod session;
 pub mod watch;
 pub mod way;

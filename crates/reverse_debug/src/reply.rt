@@ -3,15 +3,17 @@
 ghost use Rattle.std.specs.Prelude.{◌≡◌, ◌≤◌, ◌<◌, ◌+◌, ◌*◌, ◌^◌, ◌++◌, ◌∷◌, [], drop, length, codes, flat_map, true};
 ghost use Rattle.std.specs.List.{range_with_len};
 ghost use Rattle.arrayvec.specs.ArrayVec.{array_vec_len};
+ghost use Rattle.outer_lane.specs.Setting.{setting};
 ghost use Rattle.rp_base.specs.Word.{has_bit};
 ghost use Rattle.trace_text.specs.Line.{hex_word, level_digit, spaced_word};
 ghost use Rattle.reverse_debug.specs.Command.{addresses, are_words};
-ghost use Rattle.reverse_debug.specs.Reply.{word_at, regs_reply, mem_reply, pins_reply, pio_words, pio_reply, at_reply, watched_text, last_change_reply};
+ghost use Rattle.reverse_debug.specs.Reply.{word_at, regs_reply, mem_reply, pins_reply, pio_words, pio_reply, peek_reply, at_reply, watched_text, last_reply};
 
 use crate::watch::{Watched, word_at};
 use arrayvec::ArrayVec;
+use lane_look::Device;
 use rp_base::bits::has_bit;
-use rp_machine::Machine;
+use rp_machine::{Machine, World};
 use trace_text::line::{push_number, push_text, push_word, register_line};
 
 /// The reply to a line, at most 1024 bytes.
@@ -144,6 +146,29 @@ pub(crate) fn put_pio(machine: &Machine, block: u8, number: u8, reply: &mut Repl
     push_text(b"\n", reply);
 }
 
+/// A word that a read of core 0 would give.
+#[tactic(auto, unfolding(crate::specs::Reply::peek_reply))]
+pub(crate) fn put_peek<X: Device>(
+    machine: &Machine,
+    world: &World<'_, X>,
+    address: u32,
+    reply: &mut Reply,
+)
+    requires { reply.old.items ≡ [] }
+    ensures { reply.new.items
+        ≡ peek_reply (setting X.meaning world.now) machine.now address }
+{
+    match machine.peek(world, address) {
+        None => push_text(b"bad command\n", reply),
+        Some(word) => {
+            push_text(b"peek ", reply);
+            push_word(address, reply);
+            push_spaced_word(word, reply);
+            push_text(b"\n", reply);
+        }
+    }
+}
+
 /// The cycle at which the session stands.
 #[tactic(auto, unfolding(crate::specs::Reply::at_reply))]
 pub(crate) fn put_cycle(cycle: u64, reply: &mut Reply)
@@ -170,18 +195,22 @@ fn push_watched(watched: Watched, reply: &mut Reply)
             push_text(b"lastpin ", reply);
             push_number(u64::from(pin), reply);
         }
+        Watched::Begun(_, address) => {
+            push_text(b"lastat ", reply);
+            push_word(address.unwrap_or(0), reply);
+        }
     }
 }
 
-/// The last cycle that changed what is watched.
-#[tactic(auto, unfolding(crate::specs::Reply::last_change_reply))]
-pub(crate) fn put_last_change(watched: Watched, change: Option<u64>, reply: &mut Reply)
+/// The last cycle in which what is watched happened.
+#[tactic(auto, unfolding(crate::specs::Reply::last_reply))]
+pub(crate) fn put_last(watched: Watched, last: Option<u64>, reply: &mut Reply)
     requires { reply.old.items ≡ [] }
-    ensures { reply.new.items ≡ last_change_reply watched change }
+    ensures { reply.new.items ≡ last_reply watched last }
 {
     push_watched(watched, reply);
     push_text(b" ", reply);
-    match change {
+    match last {
         Some(cycle) => push_number(cycle, reply),
         None => push_text(b"none", reply),
     }

@@ -1,14 +1,15 @@
 //! A session: where it stands, how it moves, and what it answers.
 
 ghost use Rattle.std.specs.Prelude.{◌≡◌, ◌≤◌, ◌<◌, ◌+◌, ◌-◌, ◌%◌, ◌^◌, ◌||◌, nat_lt, max};
+ghost use Rattle.reverse_debug.specs.Reply.{fewer};
 
 use crate::advance::advance;
 use crate::command::{Command, command_of, goes_on};
-use crate::last_change::last_before;
 use crate::reply::{
-    Reply, put_cycle, put_last_change, put_pins, put_pio, put_registers, put_words,
+    Reply, put_cycle, put_last, put_peek, put_pins, put_pio, put_registers, put_words,
 };
-use crate::watch::{Watched, seen};
+use crate::search::nth_before;
+use crate::watch::{Watched, ends_by, seen};
 use arrayvec::ArrayVec;
 use lane_look::{Device, Marks};
 use rp_base::Why;
@@ -47,6 +48,14 @@ fn greater(one: u64, other: u64) -> u64
     if one < other { other } else { one }
 }
 
+/// The times that are left, where one of them was in this cycle or not.
+fn fewer(was: bool, left: u64) -> u64
+    requires { 0 < left }
+    ensures { result ≡ fewer was left }
+{
+    if was { left - 1 } else { left }
+}
+
 /// A session of the debugger. It stands at one cycle of a run; states of the run that it has reached are kept in a ring, so that
 /// it can go back. All memory is taken by `open`.
 #[derive(Drop)]
@@ -77,14 +86,14 @@ impl Model for Session {
 }
 
 impl Session {
-    ghost use Rattle.std.specs.Prelude.{◌≡◌, ◌≤◌, ◌<◌, ◌+◌, IfOk, IfNone, not, []};
+    ghost use Rattle.std.specs.Prelude.{◌≡◌, ◌≤◌, ◌<◌, ◌+◌, ◌*◌, IfOk, IfNone, not, []};
     ghost use Rattle.outer_lane.specs.Setting.{Setting, setting};
     ghost use Rattle.rp_base.specs.Alias.{or_zero};
     ghost use Rattle.reverse_debug.specs.Command.{are_words};
     ghost use Rattle.reverse_debug.specs.Reading.{meant, Fits, IsThere};
-    ghost use Rattle.reverse_debug.specs.Reply.{heard, answer, cost, command_cost, moved_to, moved_back, move_cost, last_before, behind_next, at_or_last};
+    ghost use Rattle.reverse_debug.specs.Reply.{heard, answer, cost, command_cost, moved_to, moved_back, move_cost, passes, search_cost, before_nth, behind_next, at_or_last, at_or_start};
     ghost use Rattle.reverse_debug.specs.Advance.{CountsMove};
-    ghost use Rattle.reverse_debug.specs.Session.{first_of, StandsFor, OpensAt, StaysFor, GoesOn, Lands, ComesBehind, Does};
+    ghost use Rattle.reverse_debug.specs.Session.{first_of, StandsFor, OpensAt, StaysFor, GoesOn, Lands, ComesTo, Does};
 
     /// A session at the state of a machine before its first cycle, for runs up to a limit of at most 1,000,000,000 cycles. It takes
     /// the memory for 64 states that will be kept, and for a second machine.
@@ -187,9 +196,11 @@ impl Session {
     )
         requires stands { StandsFor (setting X.meaning world.now) self.old }
         requires empty { reply.old.items ≡ [] }
-        ensures { let w = setting X.meaning world.now in let what = moved_to w (first_of self.old)
-            target in Does w self.old what (move_cost self.old.ring.spacing self.old.now.cycle
-            what.cycle) self.new reply.new.items steps.old steps.new }
+        ensures { let w = setting X.meaning world.now in
+            let what = moved_to w (first_of self.old) target in
+            Does w self.old what (move_cost self.old.ring.spacing self.old.now.cycle what.cycle)
+            self.new reply.new.items
+            steps.old steps.new }
     {
         self.jump(target);
         match self.forward(world, target, steps) {
@@ -208,9 +219,11 @@ impl Session {
     )
         requires stands { StandsFor (setting X.meaning world.now) self.old }
         requires empty { reply.old.items ≡ [] }
-        ensures { let w = setting X.meaning world.now in let what = moved_back w (first_of self.old)
-            self.old.now.cycle cycles in Does w self.old what (move_cost self.old.ring.spacing
-            self.old.now.cycle what.cycle) self.new reply.new.items steps.old steps.new }
+        ensures { let w = setting X.meaning world.now in
+            let what = moved_back w (first_of self.old) self.old.now.cycle cycles in
+            Does w self.old what (move_cost self.old.ring.spacing self.old.now.cycle what.cycle)
+            self.new reply.new.items
+            steps.old steps.new }
     {
         let now = self.cycle();
         if now < cycles {
@@ -221,28 +234,29 @@ impl Session {
         }
     }
 
-    /// Goes forward behind the next change of what is watched. None where the session stands there; else the cause of the stop
-    /// before it.
-    fn until_change<X: Device, L: Ledger>(
+    /// Goes forward until it has ended so many times by what is watched. None where the session stands there; else the cause of the
+    /// stop before it.
+    fn until_nth<X: Device, L: Ledger>(
         &mut self,
         world: &World<'_, X>,
         watched: Watched,
+        count: u64,
         steps: &mut Steps<L>,
     ) -> Option<Why>
         requires stands { StandsFor (setting X.meaning world.now) self.old }
         requires watched { IsThere watched }
-        ensures { ComesBehind (setting X.meaning world.now) watched self.old self.new result
-            steps.old steps.new }
+        ensures { ComesTo (setting X.meaning world.now) watched count self.old self.new result steps.old steps.new }
     {
-        let mut changed = false;
+        let mut left = count;
         let mut marks = Marks::new();
-        'cycles: while !changed {
+        'cycles: while 0 < left {
             let cycle = self.cycle();
             let before = seen(&self.machine, watched);
             match self.stretch(world, cycle + 1, &mut marks, steps) {
                 Some(why) => return Some(why),
                 None => {
-                    changed = seen(&self.machine, watched) != before;
+                    let ended = ends_by(watched, before, seen(&self.machine, watched));
+                    left = fewer(ended, left);
                     continue 'cycles;
                 }
             }
@@ -250,45 +264,86 @@ impl Session {
         None
     }
 
-    /// Moves behind the next change of what is watched, or to the last cycle, and writes the reply.
+    /// Moves forward to the n-th time of what is watched, or to the last cycle, and writes the reply.
     fn move_until<X: Device, L: Ledger>(
         &mut self,
         world: &World<'_, X>,
         watched: Watched,
+        count: u64,
         reply: &mut Reply,
         steps: &mut Steps<L>,
     )
         requires stands { StandsFor (setting X.meaning world.now) self.old }
         requires watched { IsThere watched }
         requires empty { reply.old.items ≡ [] }
-        ensures { let w = setting X.meaning world.now in let what = at_or_last w (first_of self.old)
-            (behind_next w (first_of self.old) watched self.old.now.cycle) in Does w self.old what
-            (move_cost self.old.ring.spacing self.old.now.cycle what.cycle) self.new reply.new.items
+        ensures { let w = setting X.meaning world.now in
+            let what = at_or_last w (first_of self.old)
+            (behind_next w (first_of self.old) watched count self.old.now.cycle) in
+            Does w self.old what (move_cost self.old.ring.spacing self.old.now.cycle what.cycle)
+            self.new reply.new.items
             steps.old steps.new }
     {
-        match self.until_change(world, watched, steps) {
+        match self.until_nth(world, watched, count, steps) {
             None => put_cycle(self.cycle(), reply),
             Some(why) => stop_line(&why, self.cycle(), reply),
         }
     }
 
-    /// The last cycle below the present one that changed what is watched. The session is as before.
-    fn last_before<X: Device, L: Ledger>(
+    /// The n-th cycle below the present one in which what is watched happens. The session is as before.
+    fn nth_before<X: Device, L: Ledger>(
         &mut self,
         world: &World<'_, X>,
         watched: Watched,
+        count: u64,
         steps: &mut Steps<L>,
     ) -> Option<u64>
         requires stands { StandsFor (setting X.meaning world.now) self.old }
         requires watched { IsThere watched }
-        ensures change { result ≡ last_before (setting X.meaning world.now) (first_of self.old)
-            watched self.old.now.cycle }
+        ensures found { result ≡ before_nth (setting X.meaning world.now) (first_of self.old) watched count self.old.now.cycle }
         ensures same { self.new ≡ self.old }
         ensures forward { steps.old ≤ steps.new }
-        ensures steps { steps.new + or_zero result < steps.old + self.old.now.cycle + self.old.ring.spacing }
+        ensures steps { steps.new + or_zero result
+            < steps.old + self.old.now.cycle + passes count * self.old.ring.spacing }
     {
         let now = self.cycle();
-        last_before(&self.ring, &mut self.scout, world, watched, now, steps)
+        nth_before(
+            &self.ring,
+            &mut self.scout,
+            world,
+            watched,
+            count,
+            now,
+            steps,
+        )
+    }
+
+    /// Moves back to the n-th time of what is watched, or to the start, and writes the reply.
+    fn move_before<X: Device, L: Ledger>(
+        &mut self,
+        world: &World<'_, X>,
+        watched: Watched,
+        count: u64,
+        reply: &mut Reply,
+        steps: &mut Steps<L>,
+    )
+        requires stands { StandsFor (setting X.meaning world.now) self.old }
+        requires watched { IsThere watched }
+        requires empty { reply.old.items ≡ [] }
+        ensures { let w = setting X.meaning world.now in
+            let found = before_nth w (first_of self.old) watched count self.old.now.cycle in
+            Does w self.old (at_or_start found)
+            (search_cost self.old.ring.spacing count self.old.now.cycle found
+            + move_cost self.old.ring.spacing self.old.now.cycle (at_or_start found).cycle)
+            self.new reply.new.items
+            steps.old steps.new }
+    {
+        match self.nth_before(world, watched, count, steps) {
+            Some(cycle) => self.move_to(world, cycle, reply, steps),
+            None => {
+                self.jump(0);
+                push_text(b"at start\n", reply);
+            }
+        }
     }
 
     /// Does what a line asks for, and writes the reply.
@@ -302,9 +357,11 @@ impl Session {
         requires stands { StandsFor (setting X.meaning world.now) self.old }
         requires fits { Fits command }
         requires empty { reply.old.items ≡ [] }
-        ensures { let w = setting X.meaning world.now in let what = answer w (first_of self.old)
-            self.old.now.cycle (meant command) in Does w self.old what (command_cost w (first_of
-            self.old) self.old.ring.spacing self.old.now.cycle (meant command)) self.new
+        ensures { let w = setting X.meaning world.now in
+            let what = answer w (first_of self.old) self.old.now.cycle (meant command) in
+            Does w self.old what
+            (command_cost w (first_of self.old) self.old.ring.spacing self.old.now.cycle (meant command))
+            self.new
             reply.new.items steps.old steps.new }
     {
         let now = self.cycle();
@@ -317,10 +374,16 @@ impl Session {
             Command::Mem { address, count } => put_words(&self.machine, address, count, reply),
             Command::Pins => put_pins(&self.machine, reply),
             Command::Pio { block, machine } => put_pio(&self.machine, block, machine, reply),
-            Command::Until(watched) => self.move_until(world, watched, reply, steps),
-            Command::LastChange(watched) => {
-                let change = self.last_before(world, watched, steps);
-                put_last_change(watched, change, reply);
+            Command::Peek(address) => put_peek(&self.machine, world, address, reply),
+            Command::Until(watched, count) => {
+                self.move_until(world, watched, count, reply, steps);
+            }
+            Command::Before(watched, count) => {
+                self.move_before(world, watched, count, reply, steps);
+            }
+            Command::Last(watched) => {
+                let last = self.nth_before(world, watched, 1, steps);
+                put_last(watched, last, reply);
             }
             Command::Quit => {}
             Command::Bad => push_text(b"bad command\n", reply),
@@ -342,15 +405,15 @@ impl Session {
     ) -> bool
         requires { StandsFor (setting X.meaning world.now) self.old }
         ensures stays { StaysFor (setting X.meaning world.now) self.old self.new }
-        ensures cycle { self.new.now.cycle ≡ (heard (setting X.meaning world.now) (first_of
-            self.old) self.old.now.cycle line.now).cycle }
-        ensures reply { reply.new.items ≡ (heard (setting X.meaning world.now) (first_of self.old)
-            self.old.now.cycle line.now).reply }
-        ensures quit { result ≡ not (heard (setting X.meaning world.now) (first_of self.old)
-            self.old.now.cycle line.now).quits }
+        ensures cycle { self.new.now.cycle
+            ≡ (heard (setting X.meaning world.now) (first_of self.old) self.old.now.cycle line.now).cycle }
+        ensures reply { reply.new.items
+            ≡ (heard (setting X.meaning world.now) (first_of self.old) self.old.now.cycle line.now).reply }
+        ensures quit { result
+            ≡ not (heard (setting X.meaning world.now) (first_of self.old) self.old.now.cycle line.now).quits }
         ensures forward { steps.old ≤ steps.new }
-        ensures steps { steps.new ≤ steps.old + cost (setting X.meaning world.now) (first_of
-            self.old) self.old.ring.spacing self.old.now.cycle line.now }
+        ensures steps { steps.new ≤ steps.old
+            + cost (setting X.meaning world.now) (first_of self.old) self.old.ring.spacing self.old.now.cycle line.now }
     {
         let command = command_of(line);
         reply.clear();

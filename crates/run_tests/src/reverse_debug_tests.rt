@@ -115,6 +115,84 @@ const SEEN: [Row; 21] = [
     (b"back 0", b"at 100\n"),
 ];
 
+/// What is answered of instructions over 10000 cycles of the first program: LDR and STR take two cycles each, and the branch two.
+const BEGUN: [Row; 40] = [
+    (b"lastat 20000000", b"lastat 20000000 none\n"),
+    (b"prev", b"at start\n"),
+    (b"next 0", b"at 0\n"),
+    (b"next", b"at 2\n"),
+    (b"lastat 20000002", b"lastat 20000002 none\n"),
+    (b"lastat 20000000", b"lastat 20000000 0\n"),
+    (b"next 2", b"at 6\n"),
+    (b"prev 0", b"at 6\n"),
+    (b"prev 3 0", b"at 0\n"),
+    (b"until 20000004", b"at 4\n"),
+    (b"until 20000004 0", b"at 6\n"),
+    (b"step", b"at 7\n"),
+    (b"prev", b"at 6\n"),
+    (b"lastat 20000004", b"lastat 20000004 4\n"),
+    (b"prev 4", b"at start\n"),
+    (b"until 20000000", b"stop limit 10000\n"),
+    (b"next", b"stop limit 10000\n"),
+    (b"prev", b"at 9998\n"),
+    (b"next", b"at 10000\n"),
+    (b"prev 1000", b"at 8000\n"),
+    (b"lastat 20000004 0", b"lastat 20000004 7998\n"),
+    (b"lastat 20000002", b"lastat 20000002 2\n"),
+    (b"lastat 20000003", b"lastat 20000003 none\n"),
+    (b"lastat 20000004 1", b"lastat 20000004 none\n"),
+    (b"prev 1 1", b"at start\n"),
+    (b"until 20000004 1", b"stop limit 10000\n"),
+    (b"next 1 1", b"stop limit 10000\n"),
+    (b"next 1 2", b"bad command\n"),
+    (b"prev x", b"bad command\n"),
+    (b"until", b"bad command\n"),
+    (b"lastat 20000004 2", b"bad command\n"),
+    (b"peek 4000c008", b"peek 4000c008 01ffffff\n"),
+    (b"peek e000ed00", b"peek e000ed00 410cc601\n"),
+    (b"peek d0000100", b"peek d0000100 00000001\n"),
+    (b"peek d0000100", b"peek d0000100 00000001\n"),
+    (b"peek 20000000", b"bad command\n"),
+    (b"peek 4000c00a", b"bad command\n"),
+    (b"peek 4000c00c", b"bad command\n"),
+    (b"peek", b"bad command\n"),
+    (b"back 0", b"at 10000\n"),
+];
+
+/// MOVS, and a word that is no instruction: a fault, whose vector is outside of the machine.
+const FAULTS: [u32; 9] = [0xde00_2001, 0, 0, 0, 0, 0, 0, 0, 0];
+
+/// What is answered over 100 cycles of it.
+const FAULTED: [Row; 6] = [
+    (b"until 20000002", b"at 1\n"),
+    (b"lastat 20000000", b"lastat 20000000 0\n"),
+    (b"next", b"stop outside core0 0000000c 100\n"),
+    (b"lastat 20000002", b"lastat 20000002 1\n"),
+    (b"lastat 20000004", b"lastat 20000004 none\n"),
+    (b"prev", b"at 1\n"),
+];
+
+/// The vector table is set to 20000000, and SVC calls; its vector is 0, which is outside of the machine.
+const CALLS: [u32; 9] = [
+    0x4903_4802,
+    0xdf00_6001,
+    0x0000_e7fe,
+    0xe000_ed08,
+    0x2000_0000,
+    0,
+    0,
+    0,
+    0,
+];
+
+/// What is answered over 100 cycles of it: the exception is taken where the branch would begin.
+const CALLED: [Row; 4] = [
+    (b"until 20000006", b"at 6\n"),
+    (b"until 20000008", b"stop outside core0 00000000 100\n"),
+    (b"lastat 20000008", b"lastat 20000008 none\n"),
+    (b"peek e000ed08", b"peek e000ed08 20000000\n"),
+];
+
 /// The UF2 block of a program that is loaded at 20000000.
 fn block(code: &[u32; 9]) -> [u8; 512] {
     let mut bytes = [0u8; 512];
@@ -212,5 +290,26 @@ fn the_last_write_of_a_copy(rt: HostRuntime) -> Result<(), Fail> {
 fn the_changes_of_a_pin(rt: HostRuntime) -> Result<(), Fail> {
     let end = session_of::<Brand>(rt.alloc(), Blank::new(1), &STORES_ONCE, LEVELS, 100, &SEEN)?;
     assert_eq!(rt; end, (21, true));
+    Ok(())
+}
+
+#[test]
+fn the_instructions_of_a_program(rt: HostRuntime) -> Result<(), Fail> {
+    let end = session_of::<Brand>(rt.alloc(), Blank::new(1), &STORES_ONCE, b"", 10_000, &BEGUN)?;
+    assert_eq!(rt; end, (40, true));
+    Ok(())
+}
+
+#[test]
+fn an_instruction_that_faults_was_begun(rt: HostRuntime) -> Result<(), Fail> {
+    let end = session_of::<Brand>(rt.alloc(), Blank::new(1), &FAULTS, b"", 100, &FAULTED)?;
+    assert_eq!(rt; end, (6, true));
+    Ok(())
+}
+
+#[test]
+fn an_exception_is_taken_in_place_of_an_instruction(rt: HostRuntime) -> Result<(), Fail> {
+    let end = session_of::<Brand>(rt.alloc(), Blank::new(1), &CALLS, b"", 100, &CALLED)?;
+    assert_eq!(rt; end, (4, true));
     Ok(())
 }
