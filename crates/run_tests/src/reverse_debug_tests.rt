@@ -166,7 +166,7 @@ const FAULTS: [u32; 9] = [0xde00_2001, 0, 0, 0, 0, 0, 0, 0, 0];
 const FAULTED: [Row; 6] = [
     (b"until 20000002", b"at 1\n"),
     (b"lastat 20000000", b"lastat 20000000 0\n"),
-    (b"next", b"stop outside core0 0000000c 100\n"),
+    (b"next", b"stop outside core0 0000000c 11\n"),
     (b"lastat 20000002", b"lastat 20000002 1\n"),
     (b"lastat 20000004", b"lastat 20000004 none\n"),
     (b"prev", b"at 1\n"),
@@ -188,7 +188,7 @@ const CALLS: [u32; 9] = [
 /// What is answered over 100 cycles of it: the exception is taken where the branch would begin.
 const CALLED: [Row; 4] = [
     (b"until 20000006", b"at 6\n"),
-    (b"until 20000008", b"stop outside core0 00000000 100\n"),
+    (b"until 20000008", b"stop outside core0 00000000 22\n"),
     (b"lastat 20000008", b"lastat 20000008 none\n"),
     (b"peek e000ed08", b"peek e000ed08 20000000\n"),
 ];
