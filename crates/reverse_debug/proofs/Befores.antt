@@ -91,6 +91,9 @@ went_back w old same new watched count before mid after cycle reply k e is forwa
     is
     (went w old new count before mid after (Some cycle) reply forward (search_within old.ring.spacing count old.now.cycle before mid (Some cycle) (Some cycle) refl near) there)
 
+pub stands_same : (w : Setting) (same old : Standing) → same ≡ old → StandsFor w old → StandsFor w same
+stands_same w same old e k = subst (λ (x : Standing). StandsFor w x) (sym e) k
+
 pub went_to_start : (w : Setting) (old same new : Standing) (watched : Watched) (count before mid : ℕ) (empty reply : List ℕ) → StandsFor w old → same ≡ old → None ≡ before_nth w (first_of old) watched count old.now.cycle → before ≤ mid →
     mid + 0 < before + old.now.cycle + passes count * old.ring.spacing → Lands w same 0 new → empty ≡ [] → reply ≡ empty ++ codes "at start\n" →
     Does w old (at_or_start (before_nth w (first_of old) watched count old.now.cycle))

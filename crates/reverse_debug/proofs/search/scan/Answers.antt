@@ -18,10 +18,10 @@ cycles-preserved g c =
     c.seen-before.ensures c.happens_by-happened.ensures c.noted-tally.ensures c.in-None.ensures.steps
 
 pub noted-tally-requires : goal.noted-tally-requires
-noted-tally-requires g c κs within =
+noted-tally-requires g c =
     let lt : c.cycles.machine.cycle < c.args.to = omega arith in
     let few : c.cycles.tally.count < c.args.to = few_counted _ _ _ _ _ _ _ _ _ c.cycles.invariant lt in
-    omega (arith, c.ranges.to.fits)
+    record { few = omega (arith, c.ranges.to.fits) }
 
 pub returns-in-Some-clause-tally : goal.returns-in-Some-clause-tally
 returns-in-Some-clause-tally g c =

@@ -1,4 +1,4 @@
-use Rattle.reverse_debug.proofs.Befores.{went_back, went_to_start}
+use Rattle.reverse_debug.proofs.Befores.{went_back, went_to_start, stands_same}
 use Rattle.reverse_debug.proofs.session.Session.move_before.Goals as goal
 
 pub returns-in-Some : goal.returns-in-Some
@@ -8,4 +8,4 @@ returns-in-Some g c =
 pub returns-in-None : goal.returns-in-None
 returns-in-None g c =
     went_to_start _ _ _ _ _ _ _ _ _ _ c.requires.stands c.in-None.ensures.same c.in-None.ensures.found c.in-None.ensures.forward c.in-None.ensures.steps
-    (c.jump.ensures _ c.requires.stands) c.requires.empty c.push_text.ensures
+    (c.jump.ensures _ (stands_same _ _ _ c.in-None.ensures.same c.requires.stands)) c.requires.empty c.push_text.ensures
