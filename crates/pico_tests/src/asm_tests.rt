@@ -1,8 +1,8 @@
 //! Worked sources: the listing or the refusal of each, with its status.
 
-use pico_cases::case::{Case, NOTHING, first_wrong, found, gives, gives_text};
-use pico_cases::rows::{FIVE, THREE, WS2812};
-use pico_cases::sample_files::{image, repeated};
+use crate::case::{Case, NOTHING, first_wrong, found, gives, gives_text};
+use crate::rows::{FIVE, THREE, WS2812};
+use crate::sample_files::{image, repeated};
 use std::alloc::{AllocError, Global};
 use std::sync::Wait;
 use std::test::Fail;

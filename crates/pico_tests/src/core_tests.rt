@@ -1,7 +1,7 @@
 //! Programs of two cores, SIO and the registers of the bus: where they stop, and the registers of both cores.
 
-use pico_cases::case::{Case, HUNDRED, Held, first_wrong};
-use pico_cases::rows::WRITES_CODE;
+use crate::case::{Case, HUNDRED, Held, first_wrong};
+use crate::rows::WRITES_CODE;
 use std::test::Fail;
 
 const CORES: [Case; 5] = [

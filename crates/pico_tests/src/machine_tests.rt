@@ -1,8 +1,8 @@
 //! Programs of the whole machine: pads, scripts, UARTs, DMA, PIO, devices, probes and parts, with their whole texts.
 
-use pico_cases::case::{Case, HUNDRED, Held, NOTHING, first_wrong, gives, gives_text};
-use pico_cases::rows::{BLINKS, COPIES_THREE, COPIES_TWO, FIVE, IDLE, WS2812};
-use pico_cases::sample_files::{Block, ONLY, repeated};
+use crate::case::{Case, HUNDRED, Held, NOTHING, first_wrong, gives, gives_text};
+use crate::rows::{BLINKS, COPIES_THREE, COPIES_TWO, FIVE, IDLE, WS2812};
+use crate::sample_files::{Block, ONLY, repeated};
 use std::alloc::{AllocError, Global};
 use std::sync::Wait;
 use std::test::Fail;

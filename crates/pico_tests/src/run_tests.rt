@@ -1,8 +1,8 @@
 //! Runs of one core, with their whole texts, and what is refused.
 
-use pico_cases::case::{Case, HUNDRED, Held, NOTHING, first_wrong, gives, gives_text};
-use pico_cases::rows::THREE;
-use pico_cases::sample_files::{Block, ONLY, RP2040, image, repeated};
+use crate::case::{Case, HUNDRED, Held, NOTHING, first_wrong, gives, gives_text};
+use crate::rows::THREE;
+use crate::sample_files::{Block, ONLY, RP2040, image, repeated};
 use std::alloc::{AllocError, Global};
 use std::sync::Wait;
 use std::test::Fail;

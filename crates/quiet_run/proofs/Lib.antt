@@ -1,1 +1,2 @@
+mod GoneOn
 mod Passing

@@ -265,7 +265,7 @@ passing_agrees offer pads held pins a = record {
 
 -- ---- what the tests of the parts come to
 
-fewer : (w : Setting) (seen : SeenOutputs) (o : OuterState) (n m : ℕ) → outer_quiet.IsQuiet w seen o n → m ≤ n → outer_quiet.IsQuiet w seen o m
+pub fewer : (w : Setting) (seen : SeenOutputs) (o : OuterState) (n m : ℕ) → outer_quiet.IsQuiet w seen o n → m ≤ n → outer_quiet.IsQuiet w seen o m
 fewer w seen o n m q le = record {
   mark = λ k lt. q.mark k (omega arith);
   pads = λ k lt. q.pads k (omega arith);

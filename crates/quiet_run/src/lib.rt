@@ -1,10 +1,13 @@
-//! Many cycles at once: a machine in which nobody has anything to do goes over as many as that lasts.
+//! Many cycles at once: a machine in which nobody has anything to do goes over as many as that lasts, and one in which core 0 alone is at
+//! work in SRAM goes on by itself, and its peripherals are brought up behind it.
 //!
 //! Each part says for how many cycles it is quiet as long as what it is told stays (`quiet`), and is after so many what it would be
 //! one by one (`pass`). The machine goes to the least of the ends.
 #![tactic(auto)]
 
 pub mod laws;
-pub mod pass;
+mod onward;
+pub mod pace;
+mod pass;
 
-pub use pass::pass_quiet;
+pub use pace::{Pace, pass_quiet};

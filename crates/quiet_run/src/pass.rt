@@ -91,8 +91,8 @@ fn pass<X: Device>(machine: &mut Machine, world: &World<'_, X>, n: u64)
 /// Goes over as many cycles as nobody has anything to do in, at most up to a cycle, and counts them. Gives how many there are: 0
 /// where somebody has work, which costs a few tests while core 0 is awake. Each of them happens, has no events, and leaves the
 /// pads as they are.
-#[inline(always)]
-pub fn pass_quiet<X: Device, L: Ledger>(
+#[inline(never)]
+pub(crate) fn pass_waiting<X: Device, L: Ledger>(
     machine: &mut Machine,
     world: &World<'_, X>,
     to: u64,

@@ -3,10 +3,10 @@
 ghost use Rattle.std.specs.Prelude.{◌≡◌, ◌<◌};
 ghost use Rattle.uf2_image.specs.Uf2.{FitsSram};
 
+use crate::case::{Case, NOTHING, found, found_by_two, gives};
+use crate::rows::{BLINKS, IDLE, WRITES_CODE};
+use crate::sample_files::{image, in_full};
 use lane_look::{Device, Wires};
-use pico_cases::case::{Case, NOTHING, found, found_by_two, gives};
-use pico_cases::rows::{BLINKS, IDLE, WRITES_CODE};
-use pico_cases::sample_files::{image, in_full};
 use pin_script::Script;
 use rp_base::Why;
 use rp_machine::{Machine, Steps, World};

@@ -1,7 +1,7 @@
 use Rattle.std.proofs.Common.{arith, refl, ℕ}
 use denote.Param.Object.{read_made}
-use Rattle.pico_cases.proofs.call.counted.OwnLists.{own-2, at-2-1, at-2-2, at-2-3}
-use Rattle.pico_cases.proofs.call.counted.Goals as goal
+use Rattle.pico_tests.proofs.call.counted.OwnLists.{own-2, at-2-1, at-2-2, at-2-3}
+use Rattle.pico_tests.proofs.call.counted.Goals as goal
 
 -- the words of the three parts are read through their boxes
 pub pico-requires-clause-room : goal.pico-requires-clause-room

@@ -7,9 +7,6 @@ use rp_ports::gate::{Gate, OpenGate};
 use rp_ports::mem_shelf::MemShelf;
 use rp_ports::mem_sink::MemSink;
 use rp_ports::mem_source::MemSource;
-use rp_ports::shelf::Shelf;
-use rp_ports::sink::Sink;
-use rp_ports::source::Source;
 use std::alloc::{AllocError, Global};
 use std::sync::Wait;
 use std::thread::Threads;
@@ -84,7 +81,7 @@ pub struct Outcome {
 }
 
 /// The words of a case, and these behind them.
-fn words_of(alloc: Global, case: &Case, more: &[&str]) -> Result<Vec<String>, AllocError> {
+pub fn words_of(alloc: Global, case: &Case, more: &[&str]) -> Result<Vec<String>, AllocError> {
     let mut words = texts(alloc, case.words)?;
     for word in more {
         words.push(String::from_str(alloc, word)?)?;
@@ -125,32 +122,6 @@ pub fn shelf_of(
     Ok(MemShelf::new(alloc, shelf, list_of(alloc, case.failing_load)?))
 }
 
-/// The source of a case.
-pub fn source_of(alloc: Global, case: &Case) -> Result<MemSource, AllocError> {
-    let bytes = Vec::from_slice(alloc, case.input)?;
-    Ok(MemSource::new(bytes, list_of(alloc, case.failing_take)?))
-}
-
-/// The sink of a case.
-pub fn sink_of(alloc: Global, case: &Case) -> Result<MemSink, AllocError> {
-    Ok(MemSink::new(alloc, list_of(alloc, case.failing_put)?))
-}
-
-/// The status of a case with these words behind its own, over these files, this source and this sink, at this gate.
-pub fn status_over<F: Shelf, I: Source, O: Sink, G: Gate, R: Threads + Wait + Sync>(
-    rt: &R,
-    alloc: Global,
-    case: &Case,
-    more: &[&str],
-    files: &mut F,
-    input: &mut I,
-    out: &mut O,
-    gate: &G,
-) -> Result<u8, AllocError> {
-    let words = words_of(alloc, case, more)?;
-    call_pico(rt, alloc, &words, files, input, out, gate)
-}
-
 /// What a case gives with these words behind its own and with these files before its own, at this gate.
 fn found_at<G: Gate, R: Threads + Wait + Sync>(
     rt: &R,
@@ -160,12 +131,12 @@ fn found_at<G: Gate, R: Threads + Wait + Sync>(
     first: &[(&str, &[u8])],
     gate: &G,
 ) -> Result<Outcome, AllocError> {
+    let words = words_of(alloc, case, more)?;
     let mut files = shelf_of(alloc, case, first)?;
-    let mut input = source_of(alloc, case)?;
-    let mut out = sink_of(alloc, case)?;
-    let status = status_over(
-        rt, alloc, case, more, &mut files, &mut input, &mut out, gate,
-    )?;
+    let bytes = Vec::from_slice(alloc, case.input)?;
+    let mut input = MemSource::new(bytes, list_of(alloc, case.failing_take)?);
+    let mut out = MemSink::new(alloc, list_of(alloc, case.failing_put)?);
+    let status = call_pico(rt, alloc, &words, &mut files, &mut input, &mut out, gate)?;
     Ok(Outcome {
         status,
         text: out.bytes,

@@ -2,9 +2,11 @@
 
 ghost use Rattle.std.specs.Prelude.{None};
 
-use pico_cases::case::{Case, NOTHING, first_wrong, found, gives, shelf_of, sink_of, status_over};
-use pico_cases::rows::{COPIES_THREE, COPIES_TWO, STORES_ONCE, THREE};
+use crate::call::call_pico;
+use crate::case::{Case, NOTHING, first_wrong, found, gives, shelf_of, words_of};
+use crate::rows::{COPIES_THREE, COPIES_TWO, STORES_ONCE, THREE};
 use rp_ports::gate::OpenGate;
+use rp_ports::mem_sink::MemSink;
 use rp_ports::mem_source::MemSource;
 use rp_ports::sink::{Put, Sink};
 use rp_ports::source::{Source, Taken};
@@ -69,18 +71,12 @@ fn a_session_ends(rt: HostRuntime) -> Result<(), Fail> {
     let alloc = rt.alloc();
     assert!(rt; gives(&rt, alloc, &BROKEN)?);
     // An input of a megabyte without a line.
+    let words = words_of(alloc, &STEPS, &[])?;
     let mut files = shelf_of(alloc, &STEPS, &[])?;
     let mut input = MemSource::new(vec![in alloc; b'x'; 1_048_576]?, Vec::new(alloc));
-    let mut out = sink_of(alloc, &STEPS)?;
-    let status = status_over(
-        &rt,
-        alloc,
-        &STEPS,
-        &[],
-        &mut files,
-        &mut input,
-        &mut out,
-        &OpenGate,
+    let mut out = MemSink::new(alloc, Vec::new(alloc));
+    let status = call_pico(
+        &rt, alloc, &words, &mut files, &mut input, &mut out, &OpenGate,
     )?;
     assert!(rt; status == 10 && out.bytes.as_slice() == b"error input\n".as_slice());
     Ok(())
@@ -133,6 +129,7 @@ impl Sink for Counting<'_> {
 #[test]
 fn a_reply_is_put_before_the_next_take(rt: HostRuntime) -> Result<(), Fail> {
     let alloc = rt.alloc();
+    let words = words_of(alloc, &STEPS, &[])?;
     let mut files = shelf_of(alloc, &STEPS, &[])?;
     let puts = Cell::new(0);
     let mut input = Waiting {
@@ -141,15 +138,8 @@ fn a_reply_is_put_before_the_next_take(rt: HostRuntime) -> Result<(), Fail> {
         faults: 0,
     };
     let mut out = Counting { puts: &puts };
-    let status = status_over(
-        &rt,
-        alloc,
-        &STEPS,
-        &[],
-        &mut files,
-        &mut input,
-        &mut out,
-        &OpenGate,
+    let status = call_pico(
+        &rt, alloc, &words, &mut files, &mut input, &mut out, &OpenGate,
     )?;
     assert_eq!(rt; status, 0);
     assert_eq!(rt; puts.get(), 2);

@@ -2,14 +2,14 @@
 
 ghost use Rattle.std.specs.Prelude.{None, Some};
 
-use pico_cases::case::{
-    Case, HUNDRED, Held, NOTHING, found, gives, gives_text, shelf_of, sink_of, source_of,
-    status_over,
-};
-use pico_cases::rows::{BLINKS, IDLE, STORES_ONCE, THREE, WRITES_CODE};
-use pico_cases::sample_files::{first_lines, in_full};
+use crate::call::call_pico;
+use crate::case::{Case, HUNDRED, Held, NOTHING, found, gives, gives_text, shelf_of, words_of};
+use crate::rows::{BLINKS, IDLE, STORES_ONCE, THREE, WRITES_CODE};
+use crate::sample_files::{first_lines, in_full};
 use rp_ports::gate::OpenGate;
 use rp_ports::mem_shelf::MemShelf;
+use rp_ports::mem_sink::MemSink;
+use rp_ports::mem_source::MemSource;
 use rp_ports::shelf::{Loaded, Shelf};
 use rp_ports::sink::{Put, Sink};
 use rp_ports::source::{Source, Taken};
@@ -240,14 +240,15 @@ fn comes_whole<R: Threads + Wait + Sync>(
     case: &Case,
     more: &[&str],
 ) -> Result<bool, AllocError> {
+    let words = words_of(alloc, case, more)?;
     let mut files = shelf_of(alloc, case, &[])?;
-    let mut input = source_of(alloc, case)?;
+    let mut input = MemSource::new(Vec::from_slice(alloc, case.input)?, Vec::new(alloc));
     let mut out = ByteSink {
         bytes: Vec::new(alloc),
         faults: 0,
     };
-    let status = status_over(
-        rt, alloc, case, more, &mut files, &mut input, &mut out, &OpenGate,
+    let status = call_pico(
+        rt, alloc, &words, &mut files, &mut input, &mut out, &OpenGate,
     )?;
     let text = in_full(alloc, case.text)?;
     Ok(status == case.status && out.bytes.as_slice() == text.as_slice())
@@ -305,22 +306,16 @@ fn fills<R: Threads + Wait + Sync>(
     case: &Case,
     room: usize,
 ) -> Result<bool, AllocError> {
+    let words = words_of(alloc, case, &[])?;
     let mut files = shelf_of(alloc, case, &[])?;
-    let mut input = source_of(alloc, case)?;
+    let mut input = MemSource::new(Vec::new(alloc), Vec::new(alloc));
     let mut out = Small {
         bytes: Vec::new(alloc),
         room,
         faults: 0,
     };
-    let status = status_over(
-        rt,
-        alloc,
-        case,
-        &[],
-        &mut files,
-        &mut input,
-        &mut out,
-        &OpenGate,
+    let status = call_pico(
+        rt, alloc, &words, &mut files, &mut input, &mut out, &OpenGate,
     )?;
     let text = in_full(alloc, case.text)?;
     let written = out.bytes.as_slice();
@@ -373,6 +368,7 @@ fn dripped<R: Threads + Wait + Sync>(
     case: &Case,
     failing: usize,
 ) -> Result<(u8, Vec<u8>), AllocError> {
+    let words = words_of(alloc, case, &[])?;
     let mut files = shelf_of(alloc, case, &[])?;
     let mut input = Dripping {
         bytes: case.input,
@@ -380,16 +376,9 @@ fn dripped<R: Threads + Wait + Sync>(
         takes: 0,
         faults: 0,
     };
-    let mut out = sink_of(alloc, case)?;
-    let status = status_over(
-        rt,
-        alloc,
-        case,
-        &[],
-        &mut files,
-        &mut input,
-        &mut out,
-        &OpenGate,
+    let mut out = MemSink::new(alloc, Vec::new(alloc));
+    let status = call_pico(
+        rt, alloc, &words, &mut files, &mut input, &mut out, &OpenGate,
     )?;
     Ok((status, out.bytes))
 }
@@ -478,22 +467,16 @@ fn noted<R: Threads + Wait + Sync>(
     alloc: Global,
     case: &Case,
 ) -> Result<(u8, usize, [usize; 4]), AllocError> {
+    let words = words_of(alloc, case, &[])?;
     let mut files = Noting {
         shelf: shelf_of(alloc, case, &[])?,
         limits: [0; 4],
         loads: 0,
     };
-    let mut input = source_of(alloc, case)?;
-    let mut out = sink_of(alloc, case)?;
-    let status = status_over(
-        rt,
-        alloc,
-        case,
-        &[],
-        &mut files,
-        &mut input,
-        &mut out,
-        &OpenGate,
+    let mut input = MemSource::new(Vec::new(alloc), Vec::new(alloc));
+    let mut out = MemSink::new(alloc, Vec::new(alloc));
+    let status = call_pico(
+        rt, alloc, &words, &mut files, &mut input, &mut out, &OpenGate,
     )?;
     Ok((status, files.loads, files.limits))
 }

@@ -1,0 +1,68 @@
+use Rattle.std.proofs.Common.{refl, sym, arith}
+use Rattle.outer_lane.specs.Setting.{setting}
+use Rattle.rp_machine.specs.contracts.machine.Machine.{the_view}
+use Rattle.quiet_run.proofs.Passing.{no_states, quiet_none}
+use Rattle.quiet_run.proofs.GoneOn.{HasBegun, has_begun, goes_onward, number_fits, still_quiet, brought_up, agrees}
+use Rattle.quiet_run.proofs.onward.pass_onward.Goals as goal
+
+pub returns-then-to-at-clause-state : goal.returns-then-to-at-clause-state
+returns-then-to-at-clause-state g c = sym (no_states (setting g.X.Device.meaning c.args.world.now) c.args.machine.now 0 refl)
+
+pub returns-then-to-at-clause-quiet : goal.returns-then-to-at-clause-quiet
+returns-then-to-at-clause-quiet g c = quiet_none (setting g.X.Device.meaning c.args.world.now) c.args.machine.now
+
+pub pass-requires-clause-number : goal.pass-requires-clause-number
+pass-requires-clause-number g c κs within =
+    let w = setting g.X.Device.meaning c.args.world.now in
+    let min = c.min-most.ensures in
+    let at = c.number-at.ensures in
+    let ahead = c.if-to-at.false in
+    let begun = has_begun w (the_view c.machine.inside) c.args.machine.now c.begin_outer-seen.result c.offers.result c.quiet.result c.min-most.result c.number-at.result c.args.to
+    c.machine.view_is c.machine.invariant (c.is_core0_alone.ensures.alone c.if-not-is_core0_alone.false) c.offers.ensures c.if-offers.false c.begin_outer-seen.ensures c.quiet.ensures
+    (omega arith) c.number-at.ensures (omega arith) c.requires in
+    number_fits w c.args.machine.now c.begin_outer-seen.result c.min-most.result c.go_onward-done.result c.args.to _ begun c.go_onward-done.ensures.most (omega arith) c.ranges.to.fits
+
+pub pass-requires-clause-quiet : goal.pass-requires-clause-quiet
+pass-requires-clause-quiet g c κs within =
+    let w = setting g.X.Device.meaning c.args.world.now in
+    let min = c.min-most.ensures in
+    let at = c.number-at.ensures in
+    let ahead = c.if-to-at.false in
+    let begun = has_begun w (the_view c.machine.inside) c.args.machine.now c.begin_outer-seen.result c.offers.result c.quiet.result c.min-most.result c.number-at.result c.args.to
+    c.machine.view_is c.machine.invariant (c.is_core0_alone.ensures.alone c.if-not-is_core0_alone.false) c.offers.ensures c.if-offers.false c.begin_outer-seen.ensures c.quiet.ensures
+    (omega arith) c.number-at.ensures (omega arith) c.requires in
+    still_quiet w c.args.machine.now c.go_onward-done.new.self (the_view c.machine-2.inside) c.begin_outer-seen.result c.min-most.result c.go_onward-done.result begun c.go_onward-done.ensures.most c.go_onward-done.ensures.state c.machine-2.view_is
+
+pub invariant_of-machine : goal.invariant_of-machine
+invariant_of-machine g c =
+    let w = setting g.X.Device.meaning c.args.world.now in
+    let min = c.min-most.ensures in
+    let at = c.number-at.ensures in
+    let ahead = c.if-to-at.false in
+    let begun = has_begun w (the_view c.machine.inside) c.args.machine.now c.begin_outer-seen.result c.offers.result c.quiet.result c.min-most.result c.number-at.result c.args.to
+    c.machine.view_is c.machine.invariant (c.is_core0_alone.ensures.alone c.if-not-is_core0_alone.false) c.offers.ensures c.if-offers.false c.begin_outer-seen.ensures c.quiet.ensures
+    (omega arith) c.number-at.ensures (omega arith) c.requires in
+    let quiet = still_quiet w c.args.machine.now c.go_onward-done.new.self (the_view c.machine-2.inside) c.begin_outer-seen.result c.min-most.result c.go_onward-done.result begun c.go_onward-done.ensures.most c.go_onward-done.ensures.state c.machine-2.view_is in
+    agrees w (the_view c.machine-2.inside) c.pass.new.self c.begin_outer-seen.result c.go_onward-done.result quiet c.pass.ensures c.machine-2.invariant
+
+pub returns-clause-state : goal.returns-clause-state
+returns-clause-state g c =
+    let w = setting g.X.Device.meaning c.args.world.now in
+    let min = c.min-most.ensures in
+    let at = c.number-at.ensures in
+    let ahead = c.if-to-at.false in
+    let begun = has_begun w (the_view c.machine.inside) c.args.machine.now c.begin_outer-seen.result c.offers.result c.quiet.result c.min-most.result c.number-at.result c.args.to
+    c.machine.view_is c.machine.invariant (c.is_core0_alone.ensures.alone c.if-not-is_core0_alone.false) c.offers.ensures c.if-offers.false c.begin_outer-seen.ensures c.quiet.ensures
+    (omega arith) c.number-at.ensures (omega arith) c.requires in
+    brought_up w c.args.machine.now c.go_onward-done.new.self (the_view c.machine-2.inside) c.pass.new.self c.begin_outer-seen.result c.min-most.result c.go_onward-done.result begun c.go_onward-done.ensures.most c.go_onward-done.ensures.inward c.go_onward-done.ensures.state c.machine-2.view_is c.pass.ensures
+
+pub returns-clause-quiet : goal.returns-clause-quiet
+returns-clause-quiet g c =
+    let w = setting g.X.Device.meaning c.args.world.now in
+    let min = c.min-most.ensures in
+    let at = c.number-at.ensures in
+    let ahead = c.if-to-at.false in
+    let begun = has_begun w (the_view c.machine.inside) c.args.machine.now c.begin_outer-seen.result c.offers.result c.quiet.result c.min-most.result c.number-at.result c.args.to
+    c.machine.view_is c.machine.invariant (c.is_core0_alone.ensures.alone c.if-not-is_core0_alone.false) c.offers.ensures c.if-offers.false c.begin_outer-seen.ensures c.quiet.ensures
+    (omega arith) c.number-at.ensures (omega arith) c.requires in
+    (goes_onward w c.args.machine.now c.begin_outer-seen.result c.min-most.result c.go_onward-done.result begun c.go_onward-done.ensures.most c.go_onward-done.ensures.inward).quiet
