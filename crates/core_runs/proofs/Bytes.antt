@@ -8,7 +8,7 @@ use Rattle.rp_base.specs.declared.map.Spot.TheVariants as spot
 use Rattle.rp_base.specs.Access.{lanes_of}
 use Rattle.rp_base.specs.Map.{place_of}
 use Rattle.m0_core.specs.Fetch.{is_ram_spot}
-use Rattle.m0_core.specs.Laws.{half_at}
+use Rattle.core_laws.specs.Laws.{half_at}
 use Rattle.core_runs.specs.Bytes.{put, Holds, IsSram, word_from, word_at, half_of, answer, bytes_of, stored_at}
 use Rattle.core_runs.specs.Programs.{IsInside, place, writing, EachPlaceHasAByte, EachFourthPlaceHasAWord, CodeIsFetched, APutElsewhereKeepsCode}
 

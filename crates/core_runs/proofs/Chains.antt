@@ -9,7 +9,7 @@ use Rattle.lane_look.specs.Replay.{turn_alone}
 use Rattle.lane_look.specs.Alone.{Alone, alone, alone_cycle, ends_at, ends_now, ends_want}
 use Rattle.m0_core.specs.State.{State}
 use Rattle.m0_core.specs.Cycle.{next}
-use Rattle.m0_core.specs.Laws.{turn_of, begun_in, after_cycle, wanted_in, wants_in}
+use Rattle.core_laws.specs.Laws.{turn_of, begun_in, after_cycle, wanted_in, wants_in}
 use Rattle.core_runs.specs.Bytes.{stored, around}
 use Rattle.core_runs.specs.Runs.{core_lane, run, ends_in, then, ARunAloneChains, given_by, givens, IsStepped, ARunAloneIsTheCoresOwn}
 

@@ -21,7 +21,7 @@ use Rattle.m0_core.specs.State.{State}
 use Rattle.m0_core.specs.Kinds.{is_breakpoint, is_signal, is_undefined, is_call, awaits_event, awaits_interrupt}
 use Rattle.m0_core.specs.Fetch.{taken_of, is_faulty, is_callable, is_ram_spot}
 use Rattle.m0_core.specs.Cycle.{returning, called}
-use Rattle.m0_core.specs.Laws.{after_cycle, after_cycles, wanted_in, wants_in, want_of_beat, want_at, reads_in, read_in, read_at, touched_at, touched_by, changed_by, exceptions_in, is_private, is_private_spot, IsAtBoundary, IsPlain, TakesItsBeats, AnInstructionOffThePrivateBusTakesItsBeats}
+use Rattle.core_laws.specs.Laws.{after_cycle, after_cycles, wanted_in, wants_in, want_of_beat, want_at, reads_in, read_in, read_at, touched_at, touched_by, changed_by, exceptions_in, is_refused_at, is_refused, IsAtBoundary, IsPlain, TakesItsBeats, AnInstructionTakesItsBeats}
 use Rattle.core_runs.specs.Bytes.{stored, stored_by, around}
 use Rattle.core_runs.specs.Runs.{run, ends_in, given_by, givens, IsSilent, IsReady, Leads, StepsChain}
 use Rattle.core_runs.specs.Instructions.{is_elsewhere, after_beat, after_beats, value_at, value_of, values_of, is_ordinary, IsRunnable, AnInstructionSteps}
@@ -79,20 +79,20 @@ ordinary_parts op e =
 
 -- ---- beats over SRAM
 
-private_spot : (p : Spot) → not (is_ram_spot p) ≡ false → is_private_spot p ≡ false
-private_spot (spot.Ram index bank) e = refl
-private_spot (spot.Ppb offset) e = absurd (true≢false e)
-private_spot (spot.Sio offset) e = refl
-private_spot (spot.Reg block offset alias) e = refl
-private_spot spot.Outside e = refl
+granted_spot : (e : Exceptions) (request : Request) (p : Spot) → not (is_ram_spot p) ≡ false → is_refused_at e request p ≡ false
+granted_spot e request (spot.Ram index bank) h = refl
+granted_spot e request (spot.Ppb offset) h = absurd (true≢false h)
+granted_spot e request (spot.Sio offset) h = refl
+granted_spot e request (spot.Reg block offset alias) h = refl
+granted_spot e request spot.Outside h = refl
 
-private_beat : (b : Beat) → is_elsewhere b ≡ false → is_private b ≡ false
-private_beat Inner e = refl
-private_beat (Access request) e = private_spot (place_of request.address) e
+granted_beat : (e : Exceptions) (b : Beat) → is_elsewhere b ≡ false → is_refused e b ≡ false
+granted_beat e Inner h = refl
+granted_beat e (Access request) h = granted_spot e request (place_of request.address) h
 
-none_private : (bs : List Beat) → list_any is_elsewhere bs ≡ false → list_any is_private bs ≡ false
-none_private [] e = refl
-none_private (b ∷ bs) e = let parts = or_parts _ _ e in ap₂ (λ x y. x || y) (private_beat b parts.0) (none_private bs parts.1)
+all_granted : (e : Exceptions) (bs : List Beat) → list_any is_elsewhere bs ≡ false → list_any (is_refused e) bs ≡ false
+all_granted e [] h = refl
+all_granted e (b ∷ bs) h = let parts = or_parts _ _ h in ap₂ (λ x y. x || y) (granted_beat e b parts.0) (all_granted e bs parts.1)
 
 ends_at_spot : (request : Request) (p : Spot) → not (is_ram_spot p) ≡ false → ends_want (want_at p request) ≡ false
 ends_at_spot request (spot.Ram index bank) e = refl
@@ -209,18 +209,17 @@ givens_length : (cycle n : ℕ) (s : State) (m : List ℕ) → length (givens cy
 givens_length cycle zero s m = refl
 givens_length cycle (suc n) s m = ap suc (givens_length (cycle + 1) n (after_cycle cycle (given_by m) s) (stored m (wanted_in cycle (given_by m) s)))
 
-takes : AnInstructionOffThePrivateBusTakesItsBeats → (op : Op) (s : State) (m : List ℕ) (cycle n : ℕ) → IsReady s → IsRunnable op s.regs m → n ≡ length (beats_of op s.regs) → TakesItsBeats op cycle (givens cycle n s m) s
+takes : AnInstructionTakesItsBeats → (op : Op) (s : State) (m : List ℕ) (cycle n : ℕ) → IsReady s → IsRunnable op s.regs m → n ≡ length (beats_of op s.regs) → TakesItsBeats op cycle (givens cycle n s m) s
 takes law op s m cycle zero ready can e = absurd (omega (arith, e, can.beats))
 takes law op s m cycle (suc n) ready can e =
     let u = after_cycle cycle (given_by m) s in
     let m1 = stored m (wanted_in cycle (given_by m) s) in
     let gs = givens (cycle + 1) n u m1 in
-    let few : length (given_by m ∷ gs) ≤ length (beats_of op s.regs) = omega (arith, givens_length (cycle + 1) n u m1, e) in
     let at = at_boundary s ready in
     let easy = plain op s m can in
-    law op s cycle (given_by m) gs at can.fetched easy (none_private (beats_of op s.regs) can.inside) few
+    law op s cycle (given_by m) gs at can.fetched easy (all_granted s.nvic (beats_of op s.regs) can.inside)
 
-one : AnInstructionOffThePrivateBusTakesItsBeats → (op : Op) (s : State) (m : List ℕ) (cycle : ℕ) → IsReady s → IsRunnable op s.regs m
+one : AnInstructionTakesItsBeats → (op : Op) (s : State) (m : List ℕ) (cycle : ℕ) → IsReady s → IsRunnable op s.regs m
     → Leads cycle (length (beats_of op s.regs)) s m (effect_of op s.regs (values_of (beats_of op s.regs) m)) (after_beats (beats_of op s.regs) m)
 one law op s m cycle ready can =
     let bs = beats_of op s.regs in
@@ -243,6 +242,6 @@ one law op s m cycle ready can =
       memory = runs.memory ∙ ap (all_stored around m) wants ∙ stored_beats op bs m o.unsignalled can.inside;
     }
 
-pub an_instruction_steps : AnInstructionOffThePrivateBusTakesItsBeats → AnInstructionSteps
+pub an_instruction_steps : AnInstructionTakesItsBeats → AnInstructionSteps
 an_instruction_steps law op r m can cycle s ready e =
     subst (λ x. IsRunnable op x m → Leads cycle (length (beats_of op x)) s m (effect_of op x (values_of (beats_of op x) m)) (after_beats (beats_of op x) m)) e (one law op s m cycle ready) can

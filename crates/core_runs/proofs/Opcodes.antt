@@ -16,7 +16,7 @@ use Rattle.m0_beats.specs.Effects.{effect_of, return_of}
 use Rattle.m0_beats.specs.Registers.{register_of, with_pc}
 use Rattle.m0_beats.specs.Rows.{sign_extended}
 use Rattle.m0_core.specs.Fetch.{is_ram}
-use Rattle.m0_core.specs.Laws.{half_at}
+use Rattle.core_laws.specs.Laws.{half_at}
 use Rattle.core_runs.specs.Bytes.{put, answer, IsSram}
 use Rattle.core_runs.specs.Runs.{Steps}
 use Rattle.core_runs.specs.Programs.{AHalfwordSteps, IsInside, place}

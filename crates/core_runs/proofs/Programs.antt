@@ -8,7 +8,7 @@ use Rattle.m0_beats.specs.declared.timing.Beat.{Beat}
 use Rattle.m0_beats.specs.Beats.{beats_of, is_unaligned_beat, is_unaligned_of}
 use Rattle.m0_beats.specs.Effects.{effect_of, return_of}
 use Rattle.m0_core.specs.Fetch.{is_ram}
-use Rattle.m0_core.specs.Laws.{half_at, IsEncoded, IsFetched}
+use Rattle.core_laws.specs.Laws.{half_at, IsEncoded, IsFetched}
 use Rattle.core_runs.specs.Bytes.{answer}
 use Rattle.core_runs.specs.Runs.{Steps}
 use Rattle.core_runs.specs.Instructions.{is_elsewhere, after_beats, values_of, AnInstructionSteps}

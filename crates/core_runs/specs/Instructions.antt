@@ -12,7 +12,7 @@ use Rattle.m0_beats.specs.Beats.{beats_of, is_unaligned_of}
 use Rattle.m0_beats.specs.Effects.{effect_of, return_of}
 use Rattle.m0_core.specs.Fetch.{is_ram_spot}
 use Rattle.m0_core.specs.Kinds.{is_breakpoint, is_signal, is_undefined, is_call, awaits_event, awaits_interrupt}
-use Rattle.m0_core.specs.Laws.{IsFetched}
+use Rattle.core_laws.specs.Laws.{IsFetched}
 use Rattle.core_runs.specs.Bytes.{answer, word_at, stored_by}
 use Rattle.core_runs.specs.Runs.{Steps}
 

@@ -15,7 +15,7 @@ use Rattle.m0_beats.specs.Beats.{beats_of, is_unaligned_beat}
 use Rattle.m0_beats.specs.Conditions.{is_exception_return}
 use Rattle.m0_beats.specs.Effects.{effect_of, return_of}
 use Rattle.m0_core.specs.Fetch.{is_ram, is_ram_spot}
-use Rattle.m0_core.specs.Laws.{half_at}
+use Rattle.core_laws.specs.Laws.{half_at}
 use Rattle.core_runs.specs.Bytes.{put, Holds, IsSram, word_from, answer, bytes_of, stored_by}
 use Rattle.core_runs.specs.Runs.{Steps}
 use Rattle.core_runs.specs.Instructions.{is_elsewhere, after_beats, value_at, values_of, is_ordinary}

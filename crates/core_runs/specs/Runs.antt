@@ -12,7 +12,7 @@ use Rattle.m0_core.specs.declared.doing.Doing.{Doing}
 use Rattle.m0_core.specs.Fetch.{asks}
 use Rattle.m0_core.specs.Cycle.{wanted, next}
 use Rattle.m0_core.specs.State.{State}
-use Rattle.m0_core.specs.Laws.{Given, after_cycle, after_cycles, wanted_in, wants_in}
+use Rattle.core_laws.specs.Laws.{Given, after_cycle, after_cycles, wanted_in, wants_in}
 use Rattle.core_runs.specs.Bytes.{answer, stored, around}
 
 -- a core as a lane

@@ -6,7 +6,7 @@ ghost use Rattle.core_runs.specs.Instructions.{AnInstructionSteps};
 ghost use Rattle.core_runs.specs.Programs.{AHalfwordSteps, EachPlaceHasAByte, EachFourthPlaceHasAWord, CodeIsFetched, APutElsewhereKeepsCode};
 ghost use Rattle.core_runs.specs.Words.{ARunOverWordsIsThatOverTheirBytes, StepsHoldOverWords, TheBytesOfWordsAreSram};
 
-use m0_core::laws::an_instruction_off_the_private_bus_takes_its_beats;
+use core_laws::an_instruction_takes_its_beats;
 
 /// The run alone of n + k cycles is that of n cycles and then that of k.
 pub fn a_run_alone_chains()
@@ -48,7 +48,7 @@ pub fn steps_chain()
 pub fn an_instruction_steps()
     ensures { AnInstructionSteps }
 {
-    an_instruction_off_the_private_bus_takes_its_beats();
+    an_instruction_takes_its_beats();
 }
 
 /// The same by the halfword at PC: it is an operation whose beats, registers and memory are known.

@@ -29,8 +29,7 @@ use Rattle.m0_core.specs.Fetch.{asks, ends_with}
 use Rattle.m0_core.specs.Cycle.{want_of, waiting, passed, is_paused_op, after_inner, closed, next}
 use Rattle.m0_core.specs.Quiet.{rested, IsQuiet, is_lasting}
 use Rattle.m0_core.specs.State.{State}
-use Rattle.m0_core.specs.Laws.{Given}
-use Rattle.m0_core.proofs.TakesBeats.{begun_beat, begins_on}
+use Rattle.m0_core.proofs.Carrying.{begun_on}
 
 -- ---- the timer moves no priority
 
@@ -91,10 +90,9 @@ waits_on o s h = (both _ _ (both (s.beats_done == 1) _ h.paused).1).0
 begun_waiting : (o : Op) (s : State) (cycle : ℕ) (answer : Ask → ℕ) → Lasts o s
     → answered answer (asks s cycle) ≡ ends_with (answer Lines % 2 ^ 32) cycle (act.Inner (works.Instruction o))
 begun_waiting o s cycle answer h =
-    let g : Given = record { answers = answer; word = 0 } in
     let second = eqb-true s.beats_done 1 (both (s.beats_done == 1) _ h.paused).0 in
     let at : slice_get (beats_of o s.regs) s.beats_done ≡ Some Inner = ap (slice_get (beats_of o s.regs)) second ∙ second_inner o s.regs (not s.event) (waits_on o s h) in
-    begun_beat o g cycle s Inner h.awake (begins_on o g s h.waits) at
+    begun_on answer cycle s o Inner h.awake h.waits at
 
 wants_none : (o : Op) (s : State) (cycle lines : ℕ) → Lasts o s → want_of (answered (λ ask. lines) (asks s cycle)) ≡ want.Nothing
 wants_none o s cycle lines h =

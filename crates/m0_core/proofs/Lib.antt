@@ -1,13 +1,3 @@
-mod Begins
-mod Events
-mod GoingOn
-mod GivenBack
-mod Handlers
-mod ReadCount
-mod Taken
-mod TakesBeats
-mod Waits
-mod Walk
 pub mod Carrying
 pub mod Comparisons
 pub mod Kept

@@ -1,12 +1,8 @@
 -- Which instruction a core begins in a cycle: the one whose first halfword it fetches then (ARMv6-M Architecture Reference Manual, A5.1, and
 -- B1.5.4, an exception that is taken in its place).
-use Rattle.std.specs.Prelude.{◌≡◌, ℕ, if◌then◌else◌, Option, Some, None}
-use Rattle.lane_look.specs.declared.lane.Ask.{Ask}
-use Rattle.lane_look.specs.declared.lane.Ask.TheVariants.{Half}
-use Rattle.lane_look.specs.Asking.{Asking}
-use Rattle.lane_look.specs.Asking.Asking.{Ready, Question}
+use Rattle.std.specs.Prelude.{ℕ, if◌then◌else◌, Option, Some, None}
 use Rattle.m0_core.specs.declared.doing.Work.{Work}
-use Rattle.m0_core.specs.Fetch.{is_ram, taken_of, asks}
+use Rattle.m0_core.specs.Fetch.{is_ram, taken_of}
 use Rattle.m0_core.specs.State.{State}
 
 -- no exception is taken; an address outside SRAM is not fetched
@@ -22,15 +18,3 @@ begins_between (Some work) s = None
 -- the address of the instruction that a core in this state begins
 unfoldable pub begins : State → Option ℕ
 begins s = if s.asleep then None else begins_between s.work s
-
--- ---- the law
-
--- the first halfword that is asked for, where these are the answers
-abbrev pub first_half : {B : Type 0} → (Ask → ℕ) → Asking B → Option ℕ
-first_half f (Ready begun) = None
-first_half f (Question (Half address) next) = Some address
-first_half f (Question ask next) = first_half f (next (f ask))
-
--- in every cycle that is the one that the core asks for, whatever it is answered
-abbrev pub WhatBeginsIsFetchedFirst : Type 0
-WhatBeginsIsFetchedFirst = (s : State) (cycle : ℕ) (f : Ask → ℕ) → begins s ≡ first_half f (asks s cycle)

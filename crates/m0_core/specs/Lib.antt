@@ -2,17 +2,12 @@ pub mod Begins
 pub mod Bounds
 pub mod Cycle
 pub mod Entry
-pub mod EventLaws
 pub mod ExcReturn
-pub mod ExceptionLaws
 pub mod Fetch
-pub mod Handlers
 pub mod Kept
 pub mod Kinds
-pub mod Laws
 pub mod Private
 pub mod Quiet
 pub mod Return
 pub mod Start
 pub mod State
-pub mod Waiting

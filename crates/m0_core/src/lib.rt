@@ -12,7 +12,6 @@ mod fetch;
 mod finish;
 mod kinds;
 mod lane;
-pub mod laws;
 pub mod placed;
 mod private;
 pub mod processor;

@@ -2,4 +2,4 @@ use Rattle.core_runs.proofs.Instructions.{an_instruction_steps}
 use Rattle.core_runs.proofs.laws.an_instruction_steps.Goals as goal
 
 pub returns : goal.returns
-returns c = an_instruction_steps c.an_instruction_off_the_private_bus_takes_its_beats.ensures
+returns c = an_instruction_steps c.an_instruction_takes_its_beats.ensures

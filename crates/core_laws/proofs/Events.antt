@@ -1,0 +1,183 @@
+-- When WFE moves on, and where a core stops.
+use Rattle.std.proofs.Common.{◌≡◌, ℕ, ◌+◌, ◌^◌, ◌%◌, ◌==◌, ◌&&◌, ◌||◌, not, Bool, true, false, cond, List, length, refl, sym, ap, ap₂, subst, ◌∙◌, true≢false, Some, None}
+use Rattle.std.specs.Prelude.{slice_get, slice_index, nat_lt}
+use Rattle.rp_base.specs.declared.op.Op.{Op}
+use Rattle.rp_base.specs.declared.op.Op.TheVariants as op
+use Rattle.rp_base.specs.declared.Why.{Why}
+use Rattle.rp_base.specs.declared.Why.TheVariants as why
+use Rattle.rp_base.specs.Access.{master_of}
+use Rattle.m0_beats.specs.declared.registers.Regs.{Regs}
+use Rattle.m0_beats.specs.declared.timing.Beat.TheVariants.{Inner}
+use Rattle.m0_beats.specs.Beats.{beats_of}
+use Rattle.m0_beats.specs.Effects.{return_of}
+use Rattle.m0_nvic.specs.Priority.{wakes_of}
+use Rattle.m0_nvic.specs.Cycle as nvic
+use Rattle.lane_look.specs.declared.lane.Ask.TheVariants.{Lines, Half}
+use Rattle.lane_look.specs.declared.lane.Want.TheVariants as want
+use Rattle.lane_look.specs.Asking.{answered}
+use Rattle.lane_look.specs.Asking.Asking.{Ready, Question}
+use Rattle.m0_core.specs.declared.doing.Act.TheVariants as act
+use Rattle.m0_core.specs.declared.doing.Work.{Work}
+use Rattle.m0_core.specs.declared.doing.Work.TheVariants as works
+use Rattle.m0_core.specs.Kinds.{is_breakpoint}
+use Rattle.m0_core.specs.Fetch.{stopped, asks_awake, asks_next, asks_boundary, asks_taken, asks_first, asks_second, asks_decoded, asks_fault, asks_beat, asks_return, locks_last, ends_with, is_ram, is_faulty, is_locked}
+use Rattle.m0_core.specs.Cycle.{want_of, waiting, followed, ended, passed, passed_instruction, after_inner, closed, returning}
+use Rattle.core_laws.specs.ExceptionLaws.{OnlyPendsHardFault}
+use Rattle.m0_core.specs.Return.{is_bad, is_misfit}
+use Rattle.m0_core.specs.State.{State}
+use Rattle.core_laws.specs.Laws.{Given, lines_in, wanted_in, after_cycle, IsAtBoundary}
+use Rattle.core_laws.specs.EventLaws.{IsInWfe, StaysInWfe, LeavesWfe, AWfeMovesOnAtAnEvent, ACoreStopsAtItsCauses, AReturnFaults}
+use Rattle.core_laws.proofs.TakesBeats.{begins_on, begins_first, begun_awake, begun_beat, after_begun}
+use Rattle.core_laws.proofs.Taken.{fault_leaves}
+
+-- ---- WFE
+
+abbrev wfe : Work
+wfe = works.Instruction op.Wfe
+
+second_beat : (r : Regs) → slice_get (beats_of op.Wfe r) 1 ≡ Some Inner
+unfolding beats_of
+second_beat r = refl
+
+two_beats : (r : Regs) → length (beats_of op.Wfe r) ≡ 2
+unfolding beats_of
+two_beats r = refl
+
+no_return : (r : Regs) (read : List ℕ) → return_of op.Wfe r read ≡ None
+unfolding return_of
+no_return r read = refl
+
+cycle_in_wfe : (g : Given) (cycle : ℕ) (s : State) → IsInWfe s → after_cycle cycle g s ≡ closed (lines_in g) cycle (after_inner wfe s)
+cycle_in_wfe g cycle s in_wfe =
+    let at : slice_get (beats_of op.Wfe s.regs) s.beats_done ≡ Some Inner = ap (slice_get (beats_of op.Wfe s.regs)) in_wfe.second ∙ second_beat s.regs in
+    after_begun g cycle s (act.Inner wfe) (begun_beat op.Wfe g cycle s Inner in_wfe.awake (begins_on op.Wfe g s in_wfe.waits) at)
+
+neither : (event woken : Bool) → (not event && not woken) ≡ not (event || woken)
+neither true woken = refl
+neither false woken = refl
+
+paused_by : (s : State) (b : Bool) → IsInWfe s → (s.event || wakes_of s.nvic) ≡ b → after_inner wfe s ≡ cond (not b) (waiting wfe s) (passed wfe None s)
+unfolding after_inner
+paused_by s b in_wfe e =
+    ap (λ (k : ℕ). cond ((k == 1) && (not s.event && not (wakes_of s.nvic))) (waiting wfe s) (passed wfe None s)) in_wfe.second
+    ∙ ap (λ p. cond p (waiting wfe s) (passed wfe None s)) (neither s.event (wakes_of s.nvic) ∙ ap not e)
+
+passed_wfe : (s : State) → IsInWfe s → passed wfe None s ≡ ended op.Wfe s
+unfolding passed passed_instruction
+passed_wfe s in_wfe =
+    ap₂ (λ (k n : ℕ). cond (nat_lt (k + 1) n) (followed wfe s) (ended op.Wfe s)) in_wfe.second (two_beats s.regs)
+
+cleared : (b c : Bool) → ((b && false) || c) ≡ c
+cleared true c = refl
+cleared false c = refl
+
+left_one : (a b : Bool) → (a || b) ≡ false → a ≡ false
+left_one true b h = absurd (true≢false h)
+left_one false b h = refl
+
+leaves : (g : Given) (cycle : ℕ) (s : State) → IsInWfe s → LeavesWfe cycle g s (closed (lines_in g) cycle (ended op.Wfe s))
+unfolding closed ended
+leaves g cycle s in_wfe = record {
+  awake = in_wfe.awake;
+  moved = refl;
+  between = ap returning (no_return s.regs s.read);
+  first = refl;
+  fresh = refl;
+  exceptions = refl;
+  event = cleared s.event (nvic.is_event (lines_in g) cycle s.nvic);
+}
+
+stays : (g : Given) (cycle : ℕ) (s : State) → IsInWfe s → s.event ≡ false → StaysInWfe cycle g s (closed (lines_in g) cycle (waiting wfe s))
+unfolding closed
+stays g cycle s in_wfe clear = record {
+  in_wfe = record { awake = in_wfe.awake; waits = refl; second = in_wfe.second };
+  kept = refl;
+  exceptions = refl;
+  event = ap (λ b. b || nvic.is_event (lines_in g) cycle s.nvic) clear;
+}
+
+pub a_wfe_moves_on_at_an_event : AWfeMovesOnAtAnEvent
+a_wfe_moves_on_at_an_event s cycle g in_wfe =
+    let path = cycle_in_wfe g cycle s in_wfe in (
+      λ woken. subst (λ t. LeavesWfe cycle g s t)
+          (sym (path ∙ ap (closed (lines_in g) cycle) (paused_by s true in_wfe woken ∙ passed_wfe s in_wfe))) (leaves g cycle s in_wfe),
+      λ none. subst (λ t. StaysInWfe cycle g s t)
+          (sym (path ∙ ap (closed (lines_in g) cycle) (paused_by s false in_wfe none))) (stays g cycle s in_wfe (left_one s.event (wakes_of s.nvic) none)),
+    )
+
+-- ---- stops
+
+at_boundary : (g : Given) (s : State) → IsAtBoundary s → answered g.answers (asks_awake s) ≡ answered g.answers (asks_first s)
+unfolding asks_awake asks_boundary
+at_boundary g s at = ap (λ w. answered g.answers (asks_next w s)) at.between ∙ ap (λ t. answered g.answers (asks_taken t s)) at.untaken
+
+stops_by : (g : Given) (cycle : ℕ) (s : State) (cause : Why) → IsAtBoundary s → answered g.answers (asks_first s) ≡ act.Stopped cause
+    → wanted_in cycle g s ≡ want.Stopped cause
+stops_by g cycle s cause at first =
+    ap want_of (begun_awake g cycle s at.awake ∙ ap (ends_with (g.answers Lines % 2 ^ 32) cycle) (at_boundary g s at ∙ first))
+
+decoded_break : (op : Op) (g : Given) (s : State) → is_breakpoint op ≡ true → answered g.answers (asks_decoded op s) ≡ act.Stopped (why.Bkpt s.number)
+unfolding asks_decoded
+decoded_break op g s b =
+    ap (λ x. answered g.answers (cond x (stopped (why.Bkpt s.number)) (cond (is_faulty op s) (asks_fault s) (asks_beat (works.Instruction op) s)))) b
+
+decoded_locked : (op : Op) (g : Given) (s : State) → is_breakpoint op ≡ false → is_faulty op s ≡ true → is_locked s ≡ true
+    → answered g.answers (asks_decoded op s) ≡ act.Stopped (why.Lockup s.number)
+unfolding asks_decoded
+decoded_locked op g s b f l =
+    ap (λ x. answered g.answers (cond x (stopped (why.Bkpt s.number)) (cond (is_faulty op s) (asks_fault s) (asks_beat (works.Instruction op) s)))) b
+    ∙ ap (λ x. answered g.answers (cond x (asks_fault s) (asks_beat (works.Instruction op) s))) f
+    ∙ ap (λ x. answered g.answers (cond x (stopped (why.Lockup s.number)) (Ready act.Fault))) l
+
+fetched_outside : (g : Given) (s : State) → is_ram s.regs.pc ≡ false → answered g.answers (asks_first s) ≡ act.Stopped (why.Outside (master_of s.number) s.regs.pc)
+unfolding asks_first
+fetched_outside g s e =
+    ap (λ b. answered g.answers (cond b (Question (Half s.regs.pc) (λ half. asks_second (half % 2 ^ 16) s)) (stopped (why.Outside (master_of s.number) s.regs.pc)))) e
+
+pub a_core_stops_at_its_causes : ACoreStopsAtItsCauses
+a_core_stops_at_its_causes s cycle g at = record {
+  breakpoint = λ op fetched b. stops_by g cycle s (why.Bkpt s.number) at (begins_first op g s fetched ∙ decoded_break op g s b);
+  lockup = λ op fetched b f l. stops_by g cycle s (why.Lockup s.number) at (begins_first op g s fetched ∙ decoded_locked op g s b f l);
+  fetch = λ e. stops_by g cycle s (why.Outside (master_of s.number) s.regs.pc) at (fetched_outside g s e);
+}
+
+-- ---- a return that faults
+
+begins_return : (value : ℕ) (g : Given) (s : State) → s.work ≡ Some (works.Return value) → answered g.answers (asks_awake s) ≡ answered g.answers (asks_return value s)
+unfolding asks_awake
+begins_return value g s h = ap (λ w. answered g.answers (asks_next w s)) h
+
+bad_first : (value : ℕ) (g : Given) (s : State) → s.beats_done ≡ 0 → is_bad value s ≡ true → answered g.answers (asks_return value s) ≡ answered g.answers (asks_fault s)
+unfolding asks_return
+bad_first value g s first bad =
+    ap₂ (λ (k : ℕ) b. answered g.answers (cond ((k == 0) && b) (asks_fault s)
+    (cond (locks_last value s) (stopped (why.Lockup s.number)) (asks_beat (works.Return value) s)))) first bad
+
+fault_by : (g : Given) (s : State) (locked : Bool) → is_locked s ≡ locked
+    → answered g.answers (asks_fault s) ≡ answered g.answers (cond locked (stopped (why.Lockup s.number)) (Ready act.Fault))
+fault_by g s locked h = ap (λ b. answered g.answers (cond b (stopped (why.Lockup s.number)) (Ready act.Fault))) h
+
+misfit_last : (value : ℕ) (g : Given) (s : State) → s.beats_done ≡ 12 → is_misfit value (slice_index s.read 7) ≡ true → is_locked s ≡ true
+    → answered g.answers (asks_return value s) ≡ act.Stopped (why.Lockup s.number)
+unfolding asks_return
+misfit_last value g s last misfit locked =
+    ap (λ (k : ℕ). answered g.answers (cond ((k == 0) && is_bad value s) (asks_fault s)
+    (cond ((k == 12) && (is_misfit value (slice_index s.read 7) && is_locked s)) (stopped (why.Lockup s.number)) (asks_beat (works.Return value) s)))) last
+    ∙ ap₂ (λ m l. answered g.answers (cond (m && l) (stopped (why.Lockup s.number)) (asks_beat (works.Return value) s))) misfit locked
+
+stops_awake : (g : Given) (cycle : ℕ) (s : State) (cause : Why) → s.asleep ≡ false → answered g.answers (asks_awake s) ≡ act.Stopped cause
+    → wanted_in cycle g s ≡ want.Stopped cause
+stops_awake g cycle s cause awake h = ap want_of (begun_awake g cycle s awake ∙ ap (ends_with (g.answers Lines % 2 ^ 32) cycle) h)
+
+pub a_return_faults : AReturnFaults
+a_return_faults value s cycle g awake returns =
+    let begins = begins_return value g s returns in
+    record {
+      bad = λ first bad unlocked.
+          let begun = begun_awake g cycle s awake ∙ ap (ends_with (lines_in g) cycle) (begins ∙ bad_first value g s first bad ∙ fault_by g s false unlocked) in
+          subst (λ t. OnlyPendsHardFault cycle g s t) (sym (after_begun g cycle s act.Fault begun)) (fault_leaves g cycle s awake unlocked);
+      bad_locked = λ first bad locked.
+          stops_awake g cycle s (why.Lockup s.number) awake (begins ∙ bad_first value g s first bad ∙ fault_by g s true locked);
+      misfit_locked = λ last misfit locked.
+          stops_awake g cycle s (why.Lockup s.number) awake (begins ∙ misfit_last value g s last misfit locked);
+    }

@@ -1,0 +1,13 @@
+mod Begins
+mod Events
+mod GivenBack
+mod GoingOn
+mod Handlers
+mod Keeping
+mod ReadCount
+mod Sets
+mod Sound
+mod Taken
+mod TakesBeats
+mod Waits
+mod Walk

@@ -1,0 +1,128 @@
+-- Numbers, and sets of exceptions as numbers.
+use Rattle.std.proofs.Common.{◌≡◌, ◌∙◌, ℕ, zero, suc, ◌-◌, ◌*◌, ◌^◌, ◌≤◌, ◌==◌, ◌&&◌, Bool, true, false, cond, refl, sym, ap, ap₂, arith, true≢false, nat_lt}
+use Rattle.std.specs.Prelude.{Option, Some, None, max, bit_or}
+use Rattle.std.specs.Int.{bit_at}
+use Rattle.std.proofs.lemmas.Bool.{ne_eqb}
+use Rattle.std.proofs.lemmas.Nat.Bits.{bit_at_and, bit_at_or, bit_at-lt}
+use Rattle.rp_base.specs.declared.op.Op.{Op}
+use Rattle.rp_base.specs.Word.{has_bit}
+use Rattle.m0_nvic.specs.Exceptions.{SVCALL}
+use Rattle.m0_nvic.specs.Offsets.{NVIC_ISER, NVIC_ICER, NVIC_ISPR, NVIC_ICPR, NVIC_IPR0, CPUID, ICSR, VTOR, SCR, SHPR2, SHPR3}
+use Rattle.m0_nvic.specs.State.{Exceptions}
+use Rattle.m0_nvic.specs.Numbers.{is_number, is_member, minus, of_interrupts}
+use Rattle.m0_nvic.specs.Changes.{with_pending, without_pending, pended}
+use Rattle.m0_nvic.specs.Cycle as nvic
+use Rattle.m0_nvic.specs.Words as words
+use Rattle.m0_nvic.specs.Words.{pended_if, cleared_if}
+use Rattle.m0_core.specs.Kinds.{is_call}
+use Rattle.m0_core.specs.Cycle.{called}
+use Rattle.core_laws.proofs.GivenBack.{bit_clear}
+use Rattle.core_laws.proofs.Handlers.{active_cycle}
+
+-- ---- numbers
+
+pub positive_by : (k : ℕ) → (k == 0) ≡ false → 1 ≤ k
+positive_by zero e = absurd (true≢false e)
+positive_by (suc k) e = omega arith
+
+pub not_zero : (k : ℕ) → 1 ≤ k → (k == 0) ≡ false
+not_zero k h = ne_eqb k 0 (λ e. absurd (omega (arith, h, e)))
+
+pub both_right : (a b : Bool) → (a && b) ≡ true → b ≡ true
+both_right true b h = h
+both_right false b h = absurd (true≢false (sym h))
+
+-- ---- sets of exceptions
+
+-- the active exceptions stay, and no exception 0 is enabled
+pub record Leaves (e f : Exceptions) : Type 0 where
+  pub active : f.active ≡ e.active
+  pub numbered : is_member 0 e.enabled ≡ false → is_member 0 f.enabled ≡ false
+
+pub leaves_then : (a b c : Exceptions) → Leaves a b → Leaves b c → Leaves a c
+leaves_then a b c x y = record { active = y.active ∙ x.active; numbered = λ h. y.numbered (x.numbered h) }
+
+pub leaves_either : (b : Bool) (e x y : Exceptions) → Leaves e x → Leaves e y → Leaves e (cond b x y)
+leaves_either true e x y h k = h
+leaves_either false e x y h k = k
+
+pub leaves_self : (e : Exceptions) → Leaves e e
+leaves_self e = record { active = refl; numbered = λ h. h }
+
+pub leaves_pending : (set : ℕ) (e : Exceptions) → Leaves e (with_pending set e)
+leaves_pending set e = record { active = refl; numbered = λ h. h }
+
+pub leaves_clear : (set : ℕ) (e : Exceptions) → Leaves e (without_pending set e)
+leaves_clear set e = record { active = refl; numbered = λ h. h }
+
+pub leaves_pended : (n : ℕ) (e : Exceptions) → Leaves e (pended n e)
+leaves_pended n e = leaves_either (is_number n) e _ _ (leaves_pending (2 ^ n) e) (leaves_self e)
+
+pub leaves_called : (op : Op) (e : Exceptions) → Leaves e (called op e)
+leaves_called op e = leaves_either (is_call op) e _ _ (leaves_pended SVCALL e) (leaves_self e)
+
+pub leaves_cycle : (lines cycle : ℕ) (e : Exceptions) → Leaves e (nvic.after_cycle lines cycle e)
+leaves_cycle lines cycle e = record {
+  active = active_cycle lines cycle e;
+  numbered = λ h. ap (is_member 0) (go (nvic.timer_pends cycle e.systick) (nvic.with_timer (nvic.timer_after cycle e.systick) e) refl) ∙ h;
+}
+  where
+    go : (b : Bool) (f : Exceptions) → f.enabled ≡ e.enabled → (cond b (with_pending (2 ^ 15) f) f).enabled ≡ e.enabled
+    go true f h = h
+    go false f h = h
+
+pub clear_of : (set : ℕ) → is_member 0 set ≡ false → bit_at set 0 ≡ 0
+clear_of set h = bit_clear (bit_at set 0) (bit_at-lt set 0) h
+
+pub none_or : (set w : ℕ) → is_member 0 set ≡ false → is_member 0 (bit_or set (of_interrupts w)) ≡ false
+none_or set w h =
+    let clear = clear_of set h in
+    let other : bit_at (w * 2 ^ 16) 0 ≡ 0 = omega arith in
+    ap (λ (x : ℕ). x == 1) (bit_at_or set (w * 2 ^ 16) 0 ∙ ap₂ (λ (x y : ℕ). max x y) clear other)
+
+pub none_minus : (set other : ℕ) → is_member 0 set ≡ false → is_member 0 (minus set other) ≡ false
+none_minus set other h =
+    let none : bit_at (minus set other) 0 ≡ 0 = omega (arith, bit_at_and set (2 ^ 64 - 1 - other) 0, clear_of set h) in
+    ap (λ (x : ℕ). x == 1) none
+
+pub leaves_interrupts : (offset w : ℕ) (e : Exceptions) → Leaves e (words.interrupts_written offset w e)
+leaves_interrupts offset w e =
+    leaves_either (offset == NVIC_ISER) e _ _ (record { active = refl; numbered = none_or e.enabled w })
+    (leaves_either (offset == NVIC_ICER) e _ _ (record { active = refl; numbered = none_minus e.enabled (of_interrupts w) })
+    (leaves_either (offset == NVIC_ISPR) e _ _ (leaves_pending (of_interrupts w) e)
+    (leaves_either (offset == NVIC_ICPR) e _ _ (leaves_clear (of_interrupts w) e) (leaves_self e))))
+
+pub leaves_pended_if : (b : Bool) (n : ℕ) (e : Exceptions) → Leaves e (pended_if b n e)
+leaves_pended_if b n e = leaves_either b e _ _ (leaves_pended n e) (leaves_self e)
+
+pub leaves_cleared_if : (b : Bool) (n : ℕ) (e : Exceptions) → Leaves e (cleared_if b n e)
+leaves_cleared_if b n e = leaves_either b e _ _ (leaves_clear (2 ^ n) e) (leaves_self e)
+
+pub leaves_icsr : (w : ℕ) (e : Exceptions) → Leaves e (words.icsr_written w e)
+leaves_icsr w e =
+    let a = pended_if (has_bit w 31) 2 e in
+    let b = pended_if (has_bit w 28) 14 a in
+    let c = pended_if (has_bit w 26) 15 b in
+    let d = cleared_if (has_bit w 27) 14 c in
+    leaves_then e d _
+    (leaves_then e c d (leaves_then e b c (leaves_then e a b (leaves_pended_if (has_bit w 31) 2 e) (leaves_pended_if (has_bit w 28) 14 a)) (leaves_pended_if (has_bit w 26) 15 b)) (leaves_cleared_if (has_bit w 27) 14 c))
+    (leaves_cleared_if (has_bit w 25) 15 d)
+
+pub leaves_control : (offset w : ℕ) (e : Exceptions) → Leaves e (words.control_written offset w e)
+leaves_control offset w e =
+    leaves_either (offset == ICSR) e _ _ (leaves_icsr w e)
+    (leaves_either (offset == VTOR) e _ _ (record { active = refl; numbered = λ h. h })
+    (leaves_either (offset == SCR) e _ _ (record { active = refl; numbered = λ h. h })
+    (leaves_either (offset == SHPR2) e _ _ (record { active = refl; numbered = λ h. h })
+    (leaves_either (offset == SHPR3) e _ _ (record { active = refl; numbered = λ h. h }) (leaves_self e)))))
+
+pub leaves_access : (offset : ℕ) (w : Option ℕ) (e : Exceptions) → Leaves e (words.after_access offset w e)
+leaves_access offset None e = record { active = refl; numbered = λ h. h }
+leaves_access offset (Some w) e =
+    leaves_either (nat_lt offset NVIC_ISER) e _ _ (record { active = refl; numbered = λ h. h })
+    (leaves_either (nat_lt offset NVIC_IPR0) e _ _ (leaves_interrupts offset w e)
+    (leaves_either (nat_lt offset CPUID) e _ _ (leaves_either (words.is_priority_offset offset) e _ _ (record { active = refl; numbered = λ h. h }) (leaves_self e))
+    (leaves_control offset w e)))
+
+pub leaves_effect : (offset : ℕ) (w : Option ℕ) (e : Exceptions) → Leaves e (words.effect_of offset w e)
+leaves_effect offset w e = leaves_either (words.is_allowed e offset w) e _ _ (leaves_access offset w e) (leaves_self e)

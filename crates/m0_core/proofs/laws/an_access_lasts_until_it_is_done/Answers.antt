@@ -1,5 +1,0 @@
-use Rattle.m0_core.proofs.TakesBeats.{an_access_lasts_until_it_is_done}
-use Rattle.m0_core.proofs.laws.an_access_lasts_until_it_is_done.Goals as goal
-
-pub returns : goal.returns
-returns c = an_access_lasts_until_it_is_done
