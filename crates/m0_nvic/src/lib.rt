@@ -269,13 +269,6 @@ impl Nvic {
         }
     }
 
-    /// An exception is active.
-    pub fn is_active(&self, number: u8) -> bool
-        ensures { result ≡ is_member number self.now.active }
-    {
-        is_member(self.active, number)
-    }
-
     /// No exception but this one is active.
     pub fn is_alone(&self, number: u8) -> bool
         ensures { result ≡ is_alone number self.now }
