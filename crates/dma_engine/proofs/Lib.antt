@@ -13,6 +13,8 @@ pub mod Packing
 pub mod Passing
 pub mod Paused
 pub mod Ring
+pub mod Rows
 pub mod Search
 pub mod StaysChosen
+pub mod Strided
 pub mod TimersAtRest

@@ -6,11 +6,11 @@ pub mod Control
 pub mod Cycle
 pub mod InterruptLaws
 pub mod Laws
-pub mod Offsets
 pub mod Pace
 pub mod Paused
 pub mod Rest
 pub mod State
+pub mod Strided
 pub mod Timer
 pub mod TransferLaws
 pub mod Transfer

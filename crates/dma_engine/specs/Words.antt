@@ -1,94 +1,75 @@
--- The words of the engine's registers by their offsets, what they read as and what a write does (RP2040 Datasheet, 2.5.7,
--- "List of Registers").
-use Rattle.std.specs.Prelude.{ℕ, ◌+◌, ◌-◌, ◌*◌, ◌/◌, ◌%◌, ◌^◌, Bool, not, ◌&&◌, ◌==◌, nat_lt, if◌then◌else◌, List, [], ◌∷◌, Option, Some, None, bit_and, bit_or, slice_index_or, slice_set, is_some}
+-- The registers of the engine (RP2040 Datasheet, 2.5.7, List of Registers), by their offsets after 50000000.
+use Prim.Native.String.{String}
+use Rattle.std.specs.Prelude.{ℕ, ◌+◌, ◌-◌, ◌*◌, ◌/◌, ◌%◌, ◌^◌, Bool, not, ◌&&◌, ◌==◌, if◌then◌else◌, List, [], ◌∷◌, ◌++◌, Option, bit_and, bit_or, slice_set, ⊤}
+use Rattle.rp_base.specs.Rows.{Row, read_only, write_only, read_write, repeated, word_at, has_row, effect_at, IsListed}
 use Rattle.rp_base.specs.Word.{has_bit, bit_number}
 use Rattle.rp_base.specs.Held.{unless_held, after_access}
 use Rattle.dma_engine.specs.declared.channel.Channel.{Channel}
-use Rattle.dma_engine.specs.Offsets.{INTR, INTE0, INTF0, INTS0, INTE1, INTF1, INTS1, TIMER0, MULTI_CHAN_TRIGGER, CHAN_ABORT, N_CHANNELS}
-use Rattle.dma_engine.specs.declared.registers.Register.{Register}
-use Rattle.dma_engine.specs.declared.registers.Register.TheVariants.{ReadAddress, WriteAddress, Count, Control}
 use Rattle.dma_engine.specs.declared.timer.PacingTimer.{PacingTimer}
 use Rattle.dma_engine.specs.declared.line.InterruptLine.{InterruptLine}
 use Rattle.dma_engine.specs.Control.{is_quiet}
 use Rattle.dma_engine.specs.Channel.{changed, with_trigger, with_abort, with_raised, in_turn}
 use Rattle.dma_engine.specs.State.{Engine, channel_at, timer_at}
 
--- ---- channels: sixteen words of each, its four registers in four orders
-
-abbrev pub registers : List Register
-registers =
-    ReadAddress ∷ WriteAddress ∷ Count ∷ Control
-    ∷ Control ∷ ReadAddress ∷ WriteAddress ∷ Count
-    ∷ Control ∷ Count ∷ ReadAddress ∷ WriteAddress
-    ∷ Control ∷ WriteAddress ∷ Count ∷ ReadAddress
-    ∷ []
-
-unfoldable pub register_at : ℕ → Register
-register_at index = slice_index_or registers index Control
-
-abbrev pub number_of : ℕ → ℕ
-number_of offset = offset / 2 ^ 6
-
-abbrev pub index_of : ℕ → ℕ
-index_of offset = offset % 2 ^ 6 / 4
-
--- the last word of each order triggers
-abbrev pub triggers : ℕ → Bool
-triggers offset = index_of offset % 4 == 3
+-- ---- channels
 
 -- BUSY stands in the control word; the bits of errors that the engine does not find are 0
 abbrev pub control_of : Channel → ℕ
 control_of c = c.ctrl % 2 ^ 23 + bit_number c.busy * 2 ^ 24
 
-abbrev pub register_of : Register → Channel → ℕ
-register_of ReadAddress c = c.read
-register_of WriteAddress c = c.write
-register_of Count c = c.count
-register_of Control c = control_of c
+abbrev pub with_read_address : ℕ → Channel → Channel
+with_read_address w c = record c { read = w }
 
-abbrev pub channel_word : Engine → ℕ → Option ℕ
-channel_word s offset =
-    if nat_lt (number_of offset) 12
-    then Some (register_of (register_at (index_of offset)) (channel_at (number_of offset) s))
-    else None
+abbrev pub with_write_address : ℕ → Channel → Channel
+with_write_address w c = record c { write = w }
 
 -- a write to the count is loaded by the next trigger; CTRL has the 23 bits up to BSWAP
-abbrev pub with_register : Register → ℕ → Channel → Channel
-with_register ReadAddress w c = record c { read = w }
-with_register WriteAddress w c = record c { write = w }
-with_register Count w c = record c { reload = w }
-with_register Control w c = record c { ctrl = w % 2 ^ 23 }
+abbrev pub with_count : ℕ → Channel → Channel
+with_count w c = record c { reload = w }
+
+abbrev pub with_control : ℕ → Channel → Channel
+with_control w c = record c { ctrl = w % 2 ^ 23 }
 
 -- a 0 in a trigger word starts nothing; it raises the interrupt of a channel that is else quiet
 abbrev pub null_trigger : ℕ → Engine → Engine
-null_trigger n e = if nat_lt n 12 && is_quiet (channel_at n e) then with_raised n e else e
+null_trigger n e = if is_quiet (channel_at n e) then with_raised n e else e
 
 abbrev pub trigger_word : ℕ → ℕ → Engine → Engine
 trigger_word n w e = if w == 0 then null_trigger n e else with_trigger n e
 
-abbrev pub with_word_of : ℕ → ℕ → Engine → Engine
-with_word_of offset w e = changed (with_register (register_at (index_of offset)) w) (number_of offset) e
+-- a register of channel n, and one whose write triggers the channel
+abbrev pub of_channel : {V : Type 0} → ℕ → String → (Channel → ℕ) → (ℕ → Channel → Channel) → ℕ → Row V Engine
+of_channel offset name reads write n = read_write offset name (λ e. reads (channel_at n e)) (λ w. changed (write w) n)
 
-abbrev pub channel_written : ℕ → ℕ → Engine → Engine
-channel_written offset w e =
-    if triggers offset
-    then trigger_word (number_of offset) w (with_word_of offset w e)
-    else with_word_of offset w e
+abbrev pub triggering : {V : Type 0} → ℕ → String → (Channel → ℕ) → (ℕ → Channel → Channel) → ℕ → Row V Engine
+triggering offset name reads write n =
+    read_write offset name (λ e. reads (channel_at n e)) (λ w e. trigger_word n w (changed (write w) n e))
 
--- ---- interrupts: INTR, and INTE, INTF and INTS of two lines
+-- the four registers of each channel in four orders, of which the last one triggers
+abbrev pub channel_rows : {V : Type 0} → List (Row V Engine)
+channel_rows =
+    repeated 12 64 (of_channel 0x00 "CHn_READ_ADDR" (λ c. c.read) with_read_address)
+    ∷ repeated 12 64 (of_channel 0x04 "CHn_WRITE_ADDR" (λ c. c.write) with_write_address)
+    ∷ repeated 12 64 (of_channel 0x08 "CHn_TRANS_COUNT" (λ c. c.count) with_count)
+    ∷ repeated 12 64 (triggering 0x0c "CHn_CTRL_TRIG" control_of with_control)
+    ∷ repeated 12 64 (of_channel 0x10 "CHn_AL1_CTRL" control_of with_control)
+    ∷ repeated 12 64 (of_channel 0x14 "CHn_AL1_READ_ADDR" (λ c. c.read) with_read_address)
+    ∷ repeated 12 64 (of_channel 0x18 "CHn_AL1_WRITE_ADDR" (λ c. c.write) with_write_address)
+    ∷ repeated 12 64 (triggering 0x1c "CHn_AL1_TRANS_COUNT_TRIG" (λ c. c.count) with_count)
+    ∷ repeated 12 64 (of_channel 0x20 "CHn_AL2_CTRL" control_of with_control)
+    ∷ repeated 12 64 (of_channel 0x24 "CHn_AL2_TRANS_COUNT" (λ c. c.count) with_count)
+    ∷ repeated 12 64 (of_channel 0x28 "CHn_AL2_READ_ADDR" (λ c. c.read) with_read_address)
+    ∷ repeated 12 64 (triggering 0x2c "CHn_AL2_WRITE_ADDR_TRIG" (λ c. c.write) with_write_address)
+    ∷ repeated 12 64 (of_channel 0x30 "CHn_AL3_CTRL" control_of with_control)
+    ∷ repeated 12 64 (of_channel 0x34 "CHn_AL3_WRITE_ADDR" (λ c. c.write) with_write_address)
+    ∷ repeated 12 64 (of_channel 0x38 "CHn_AL3_TRANS_COUNT" (λ c. c.count) with_count)
+    ∷ repeated 12 64 (triggering 0x3c "CHn_AL3_READ_ADDR_TRIG" (λ c. c.read) with_read_address)
+    ∷ []
+
+-- ---- the block
 
 abbrev pub status_of : ℕ → InterruptLine → ℕ
 status_of raised line = bit_or (bit_and raised line.enable) line.force
-
-abbrev pub interrupt_word : Engine → ℕ → Option ℕ
-interrupt_word s offset =
-    if offset == INTR then Some s.raised else
-    if offset == INTE0 then Some s.line_0.enable else
-    if offset == INTF0 then Some s.line_0.force else
-    if offset == INTS0 then Some (status_of s.raised s.line_0) else
-    if offset == INTE1 then Some s.line_1.enable else
-    if offset == INTF1 then Some s.line_1.force else
-    if offset == INTS1 then Some (status_of s.raised s.line_1) else None
 
 -- a 1 in INTR or INTS clears the interrupt of a channel
 abbrev pub without_raised : ℕ → Engine → Engine
@@ -100,79 +81,55 @@ with_enable w line = record line { enable = w % 2 ^ 16 }
 abbrev pub with_force : ℕ → InterruptLine → InterruptLine
 with_force w line = record line { force = w % 2 ^ 16 }
 
-abbrev pub interrupt_written : ℕ → ℕ → Engine → Engine
-interrupt_written offset w e =
-    if offset == INTR then without_raised w e else
-    if offset == INTE0 then record e { line_0 = with_enable w e.line_0 } else
-    if offset == INTF0 then record e { line_0 = with_force w e.line_0 } else
-    if offset == INTS0 then without_raised w e else
-    if offset == INTE1 then record e { line_1 = with_enable w e.line_1 } else
-    if offset == INTF1 then record e { line_1 = with_force w e.line_1 } else
-    if offset == INTS1 then without_raised w e else e
-
--- ---- pacing timers: X above Y
-
-abbrev pub timer_number : ℕ → ℕ
-timer_number offset = (offset - TIMER0) / 4
-
+-- X above Y
 abbrev pub word_of_timer : PacingTimer → ℕ
 word_of_timer t = t.x * 2 ^ 16 + t.y
-
-abbrev pub timer_word : Engine → ℕ → Option ℕ
-timer_word s offset = Some (word_of_timer (timer_at (timer_number offset) s.timers))
 
 abbrev pub with_timer_word : ℕ → PacingTimer → PacingTimer
 with_timer_word w t = record t { x = w / 2 ^ 16; y = w % 2 ^ 16 }
 
-abbrev pub with_timers : List PacingTimer → Engine → Engine
-with_timers timers e = record e { timers = timers }
+abbrev pub with_timer : ℕ → ℕ → Engine → Engine
+with_timer k w e = record e { timers = slice_set e.timers k (with_timer_word w (timer_at k e.timers)) }
 
-abbrev pub with_timer : ℕ → ℕ → List PacingTimer → List PacingTimer
-with_timer k w timers = slice_set timers k (with_timer_word w (timer_at k timers))
+-- each bit of MULTI_CHAN_TRIGGER and CHAN_ABORT stands for a channel
+abbrev pub block_rows : {V : Type 0} → List (Row V Engine)
+block_rows =
+    read_write 0x400 "INTR" (λ e. e.raised) without_raised
+    ∷ read_write 0x404 "INTE0" (λ e. e.line_0.enable) (λ w e. record e { line_0 = with_enable w e.line_0 })
+    ∷ read_write 0x408 "INTF0" (λ e. e.line_0.force) (λ w e. record e { line_0 = with_force w e.line_0 })
+    ∷ read_write 0x40c "INTS0" (λ e. status_of e.raised e.line_0) without_raised
+    ∷ read_write 0x414 "INTE1" (λ e. e.line_1.enable) (λ w e. record e { line_1 = with_enable w e.line_1 })
+    ∷ read_write 0x418 "INTF1" (λ e. e.line_1.force) (λ w e. record e { line_1 = with_force w e.line_1 })
+    ∷ read_write 0x41c "INTS1" (λ e. status_of e.raised e.line_1) without_raised
+    ∷ repeated 4 4 (λ k. read_write 0x420 "TIMERn" (λ e. word_of_timer (timer_at k e.timers)) (with_timer k))
+    ∷ write_only 0x430 "MULTI_CHAN_TRIGGER" (λ w. in_turn (has_bit w) with_trigger 12)
+    ∷ write_only 0x444 "CHAN_ABORT" (λ w. in_turn (has_bit w) with_abort 12)
+    ∷ read_only 0x448 "N_CHANNELS" (λ e. 12)
+    ∷ []
 
-abbrev pub timer_written : ℕ → ℕ → Engine → Engine
-timer_written offset w e = with_timers (with_timer (timer_number offset) w e.timers) e
-
--- ---- MULTI_CHAN_TRIGGER, CHAN_ABORT and N_CHANNELS
-
-abbrev pub control_word : ℕ → Option ℕ
-control_word offset =
-    if offset == MULTI_CHAN_TRIGGER then Some 0 else if offset == CHAN_ABORT then Some 0 else if offset == N_CHANNELS then Some 12 else None
-
-abbrev pub control_written : ℕ → ℕ → Engine → Engine
-control_written offset w e =
-    if offset == MULTI_CHAN_TRIGGER then in_turn (has_bit w) with_trigger 12 e else
-    if offset == CHAN_ABORT then in_turn (has_bit w) with_abort 12 e else e
-
--- ---- all words
+-- the sniffer and the debug registers are left out
+abbrev pub dma_rows : List (Row ⊤ Engine)
+dma_rows = channel_rows ++ block_rows
 
 -- what a word reads as where the engine is not held; None where there is no such word
 unfoldable pub listed_word : Engine → ℕ → Option ℕ
-listed_word s offset =
-    if not (offset % 4 == 0) then None else
-    if nat_lt offset INTR then channel_word s offset else
-    if nat_lt offset TIMER0 then interrupt_word s offset else
-    if nat_lt offset MULTI_CHAN_TRIGGER then timer_word s offset else control_word offset
+listed_word s offset = word_at dma_rows tt offset s
 
 abbrev pub word_of : Engine → ℕ → Option ℕ
 word_of s offset = unless_held s.held (listed_word s offset)
 
-abbrev pub is_allowed : Engine → ℕ → Bool
-is_allowed s offset = is_some (listed_word s offset)
+unfoldable pub is_word : ℕ → Bool
+is_word offset = has_row dma_rows offset
 
-unfoldable pub written : ℕ → ℕ → Engine → Engine
-written offset w e =
-    if nat_lt offset INTR then channel_written offset w e else
-    if nat_lt offset TIMER0 then interrupt_written offset w e else
-    if nat_lt offset MULTI_CHAN_TRIGGER then timer_written offset w e else control_written offset w e
-
--- a read does nothing
-abbrev pub after_any : ℕ → Option ℕ → Engine → Engine
-after_any offset None e = e
-after_any offset (Some w) e = written offset w e
+unfoldable pub after_any : ℕ → Option ℕ → Engine → Engine
+after_any offset write s = effect_at dma_rows offset write s
 
 abbrev pub effect_of : ℕ → Option ℕ → Engine → Engine
-effect_of offset write s = after_access (is_allowed s offset) s.held s (after_any offset write s)
+effect_of offset write s = after_access (is_word offset) s.held s (after_any offset write s)
+
+-- each register is what stands at its offset, and nothing stands at any other
+abbrev pub EachRegisterIsAtItsOffset : Type 0
+EachRegisterIsAtItsOffset = IsListed dma_rows
 
 -- ---- interrupt lines
 

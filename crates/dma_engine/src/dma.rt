@@ -1,7 +1,7 @@
 //! The engine as the rest of the machine sees it.
 
 ghost use Rattle.std.specs.Prelude.{◌≡◌};
-ghost use Rattle.dma_engine.specs.Words.{word_of, is_allowed, effect_of};
+ghost use Rattle.dma_engine.specs.Words.{word_of, is_word, effect_of};
 
 use crate::begun::BegunTransfer;
 use crate::engine::Engine;
@@ -49,7 +49,7 @@ impl Dma {
     ghost use Rattle.dma_engine.specs.Paused.{is_paused};
     ghost use Rattle.dma_engine.specs.Rest.{is_still, StaysAtRest};
     ghost use Rattle.dma_engine.specs.State.{reset_state, with_hold};
-    ghost use Rattle.dma_engine.specs.Words.{word_of, is_allowed, effect_of, is_silent, lines_of};
+    ghost use Rattle.dma_engine.specs.Words.{word_of, is_word, effect_of, is_silent, lines_of};
 
     /// The engine in its reset state: no channel is busy, and every register is 0.
     pub fn new() -> Dma
@@ -81,7 +81,7 @@ impl Dma {
     /// is no such word, and nothing is changed then.
     pub fn effect(&mut self, offset: u16, write: Option<u32>) -> bool
         ensures after { self.new ≡ effect_of offset write self.old }
-        ensures allowed { result ≡ is_allowed self.old offset }
+        ensures allowed { result ≡ is_word offset }
     {
         let allowed = self.engine.effect(offset, write);
         self.at_rest = self.engine.is_still();
@@ -93,7 +93,7 @@ impl Dma {
 
     /// A read or a write is allowed: there is such a word.
     pub fn allows(&self, offset: u16, _write: Option<u32>) -> bool
-        ensures { result ≡ is_allowed self.now offset }
+        ensures { result ≡ is_word offset }
     {
         self.engine.allows(offset)
     }
@@ -185,7 +185,7 @@ impl Dma {
 impl Registers<()> for Dma {
     ghost word = { λ _ s offset. word_of s offset };
 
-    ghost allowed = { λ s offset _. is_allowed s offset };
+    ghost allowed = { λ s offset _. is_word offset };
 
     ghost accessed = { effect_of };
 

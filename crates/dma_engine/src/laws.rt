@@ -4,6 +4,7 @@ ghost use Rattle.dma_engine.specs.Laws.{TheChoiceComesFirst};
 ghost use Rattle.dma_engine.specs.Pace.{CountsAreTakenAsPacked};
 ghost use Rattle.dma_engine.specs.TransferLaws.{ACopyIsExact, ARingKeepsItsHighBits, AnAbortRaisesNothing};
 ghost use Rattle.dma_engine.specs.InterruptLaws.{WhatIsEnabledOrForcedIsShown};
+ghost use Rattle.dma_engine.specs.Words.{EachRegisterIsAtItsOffset};
 
 /// Counts of at most 63 that are packed into one answer are taken from it as they were.
 pub fn counts_are_taken_as_packed()
@@ -36,4 +37,9 @@ pub fn an_abort_raises_nothing()
 /// INTS of a line is INTR where its INTE enables it, and its INTF whatever is enabled.
 pub fn what_is_enabled_or_forced_is_shown()
     ensures { WhatIsEnabledOrForcedIsShown }
+{}
+
+/// At the offset of each register stands that register, and nothing at any other.
+pub fn each_register_is_at_its_offset()
+    ensures { EachRegisterIsAtItsOffset }
 {}

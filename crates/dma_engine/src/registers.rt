@@ -1,7 +1,7 @@
 //! The registers by their offsets (RP2040 Datasheet, 2.5.7, List of Registers), and those of a channel.
 
-ghost use Rattle.std.specs.Prelude.{◌≡◌, ◌<◌};
-ghost use Rattle.dma_engine.specs.Words.{register_at, control_of, register_of, with_register};
+ghost use Rattle.std.specs.Prelude.{◌≡◌};
+ghost use Rattle.dma_engine.specs.Words.{control_of};
 
 use crate::channel::Channel;
 
@@ -19,6 +19,42 @@ pub const CH0_CTRL_TRIG: u16 = 0x00c;
 
 /// The control word of channel 0 without a trigger, the first of three further orders of the same words.
 pub const CH0_AL1_CTRL: u16 = 0x010;
+
+/// The address of the next read in the second order.
+pub const CH0_AL1_READ_ADDR: u16 = 0x014;
+
+/// The address of the next write in the second order.
+pub const CH0_AL1_WRITE_ADDR: u16 = 0x018;
+
+/// The transfers in the second order, which trigger.
+pub const CH0_AL1_TRANS_COUNT_TRIG: u16 = 0x01c;
+
+/// The control word in the third order.
+pub const CH0_AL2_CTRL: u16 = 0x020;
+
+/// The transfers in the third order.
+pub const CH0_AL2_TRANS_COUNT: u16 = 0x024;
+
+/// The address of the next read in the third order.
+pub const CH0_AL2_READ_ADDR: u16 = 0x028;
+
+/// The address of the next write in the third order, which triggers.
+pub const CH0_AL2_WRITE_ADDR_TRIG: u16 = 0x02c;
+
+/// The control word in the fourth order.
+pub const CH0_AL3_CTRL: u16 = 0x030;
+
+/// The address of the next write in the fourth order.
+pub const CH0_AL3_WRITE_ADDR: u16 = 0x034;
+
+/// The transfers in the fourth order.
+pub const CH0_AL3_TRANS_COUNT: u16 = 0x038;
+
+/// The address of the next read in the fourth order, which triggers.
+pub const CH0_AL3_READ_ADDR_TRIG: u16 = 0x03c;
+
+/// The first offset after the registers of the channels.
+pub const CHANNELS_END: u16 = 0x300;
 
 /// The channels that raised their interrupt.
 pub const INTR: u16 = 0x400;
@@ -44,6 +80,15 @@ pub const INTS1: u16 = 0x41c;
 /// The first of the four pacing timers: X in bits 31:16, Y in 15:0.
 pub const TIMER0: u16 = 0x420;
 
+/// The second pacing timer.
+pub const TIMER1: u16 = 0x424;
+
+/// The third pacing timer.
+pub const TIMER2: u16 = 0x428;
+
+/// The fourth pacing timer.
+pub const TIMER3: u16 = 0x42c;
+
 /// Triggers each channel whose bit is written as 1.
 pub const MULTI_CHAN_TRIGGER: u16 = 0x430;
 
@@ -53,62 +98,11 @@ pub const CHAN_ABORT: u16 = 0x444;
 /// How many channels there are.
 pub const N_CHANNELS: u16 = 0x448;
 
-/// A register of a channel.
-#[derive(Clone, Copy)]
-pub enum Register {
-    /// READ_ADDR.
-    ReadAddress,
-    /// WRITE_ADDR.
-    WriteAddress,
-    /// TRANS_COUNT.
-    Count,
-    /// CTRL.
-    Control,
-}
-
-/// The register at an index among the sixteen words of a channel.
-#[tactic(auto, unfolding(crate::specs::Words::register_at))]
-pub(crate) fn register_at(index: u16) -> Register
-    requires { index < 16 }
-    ensures { result ≡ register_at index }
-{
-    match index {
-        0 | 5 | 10 | 15 => Register::ReadAddress,
-        1 | 6 | 11 | 13 => Register::WriteAddress,
-        2 | 7 | 9 | 14 => Register::Count,
-        _ => Register::Control,
-    }
-}
-
 impl Channel {
     /// The control word, with BUSY.
-    fn control(&self) -> u32
+    pub(crate) fn control(&self) -> u32
         ensures { result ≡ control_of self.now }
     {
         self.ctrl % 0x80_0000 + if self.busy { 0x100_0000 } else { 0 }
-    }
-
-    /// What a register reads as.
-    pub(crate) fn register(&self, register: Register) -> u32
-        ensures { result ≡ register_of register self.now }
-    {
-        match register {
-            Register::ReadAddress => self.read,
-            Register::WriteAddress => self.write,
-            Register::Count => self.count,
-            Register::Control => self.control(),
-        }
-    }
-
-    /// Writes a register.
-    pub(crate) fn set_register(&mut self, register: Register, word: u32)
-        ensures { self.new ≡ with_register register word self.old }
-    {
-        match register {
-            Register::ReadAddress => self.read = word,
-            Register::WriteAddress => self.write = word,
-            Register::Count => self.reload = word,
-            Register::Control => self.ctrl = word % 0x80_0000,
-        }
     }
 }

@@ -1,41 +1,26 @@
 //! The words of the engine's registers by their offsets.
 
-ghost use Rattle.std.specs.Prelude.{◌≡◌, ◌*◌, ◌/◌, ◌%◌, ◌^◌, ◌<◌, ◌≤◌};
-ghost use Rattle.dma_engine.specs.Words.{number_of, index_of, channel_word, trigger_word, with_word_of, channel_written, interrupt_word, without_raised, interrupt_written, timer_word, word_of_timer, with_timer_word, timer_written, control_word, control_written, listed_word, word_of, is_allowed, written, effect_of};
+ghost use Rattle.std.specs.Prelude.{◌≡◌, ◌*◌, ◌%◌, ◌^◌, ◌<◌, Some, None, ⊤};
+ghost use Rattle.rp_base.specs.Rows.{word_at, effect_at};
+ghost use Rattle.dma_engine.specs.Strided.{in_stride};
+ghost use Rattle.dma_engine.specs.Words.{trigger_word, channel_rows, without_raised, word_of_timer, with_timer_word, block_rows, listed_word, word_of, is_word, after_any, effect_of};
 
-use crate::engine::{CHANNELS, Engine};
+use crate::engine::Engine;
 use crate::registers::{
-    CHAN_ABORT, INTE0, INTE1, INTF0, INTF1, INTR, INTS0, INTS1, MULTI_CHAN_TRIGGER, N_CHANNELS,
-    TIMER0, register_at,
+    CH0_AL1_CTRL, CH0_AL1_READ_ADDR, CH0_AL1_TRANS_COUNT_TRIG, CH0_AL1_WRITE_ADDR, CH0_AL2_CTRL,
+    CH0_AL2_READ_ADDR, CH0_AL2_TRANS_COUNT, CH0_AL2_WRITE_ADDR_TRIG, CH0_AL3_CTRL,
+    CH0_AL3_READ_ADDR_TRIG, CH0_AL3_TRANS_COUNT, CH0_AL3_WRITE_ADDR, CH0_CTRL_TRIG, CH0_READ_ADDR,
+    CH0_TRANS_COUNT, CH0_WRITE_ADDR, CHAN_ABORT, CHANNELS_END, INTE0, INTE1, INTF0, INTF1, INTR,
+    INTS0, INTS1, MULTI_CHAN_TRIGGER, N_CHANNELS, TIMER0, TIMER1, TIMER2, TIMER3,
 };
 use crate::timer::PacingTimer;
 use rp_base::unless_held;
-
-/// The number of the channel of an offset, and the index of the word among its sixteen.
-fn channel_index(offset: u16) -> (u16, u16)
-    ensures number { result.0 ≡ number_of offset }
-    ensures index { result.1 ≡ index_of offset }
-    ensures bound { result.1 < 16 }
-{
-    (offset / 0x40, offset % 0x40 / 4)
-}
 
 /// The bits of a word that channels have.
 fn low_half(word: u32) -> u16
     ensures { result ≡ word % 2 ^ 16 }
 {
     (word % 0x1_0000) as u16
-}
-
-/// MULTI_CHAN_TRIGGER, CHAN_ABORT and N_CHANNELS.
-fn control_word(offset: u16) -> Option<u32>
-    ensures { result ≡ control_word offset }
-{
-    match offset {
-        MULTI_CHAN_TRIGGER | CHAN_ABORT => Some(0),
-        N_CHANNELS => Some(12),
-        _ => None,
-    }
 }
 
 impl PacingTimer {
@@ -57,20 +42,13 @@ impl PacingTimer {
 
 impl Engine {
     /// The word at an offset, where the engine is not held.
-    #[tactic(auto, unfolding(crate::specs::Words::listed_word))]
     fn listed(&self, offset: u16) -> Option<u32>
         ensures { result ≡ listed_word self.now offset }
     {
-        if offset % 4 != 0 {
-            None
-        } else if offset < INTR {
-            self.read_channel(offset)
-        } else if offset < TIMER0 {
-            self.read_interrupts(offset)
-        } else if offset < MULTI_CHAN_TRIGGER {
-            self.read_timer(offset)
+        if offset < CHANNELS_END {
+            self.channel_word(offset / 0x40, offset % 0x40)
         } else {
-            control_word(offset)
+            self.block_word(offset)
         }
     }
 
@@ -82,16 +60,18 @@ impl Engine {
     }
 
     /// There is a word at the offset.
+    #[tactic(auto, using(crate::proofs::Rows::there))]
     pub(crate) fn allows(&self, offset: u16) -> bool
-        ensures { result ≡ is_allowed self.now offset }
+        ensures { result ≡ is_word offset }
     {
         self.listed(offset).is_some()
     }
 
     /// Does what a read, or a write of this word, does.
+    #[tactic(auto, using(crate::proofs::Rows::reads))]
     pub(crate) fn effect(&mut self, offset: u16, write: Option<u32>) -> bool
         ensures after { self.new ≡ effect_of offset write self.old }
-        ensures allowed { result ≡ is_allowed self.old offset }
+        ensures allowed { result ≡ is_word offset }
     {
         let allowed = self.allows(offset);
         if let Some(word) = write {
@@ -103,53 +83,74 @@ impl Engine {
     }
 
     /// A write of a word.
-    #[tactic(auto, unfolding(crate::specs::Words::written))]
     fn write(&mut self, offset: u16, word: u32)
-        ensures { self.new ≡ written offset word self.old }
+        ensures { self.new ≡ after_any offset (Some word) self.old }
     {
-        if offset < INTR {
-            self.write_channel(offset, word);
-        } else if offset < TIMER0 {
-            self.write_interrupts(offset, word);
-        } else if offset < MULTI_CHAN_TRIGGER {
-            self.write_timer(offset, word);
+        if offset < CHANNELS_END {
+            self.write_channel((offset / 0x40) as u8, offset % 0x40, word);
         } else {
-            self.write_control(offset, word);
+            self.write_block(offset, word);
         }
     }
 
-    /// A register of a channel.
-    fn read_channel(&self, offset: u16) -> Option<u32>
-        ensures { result ≡ channel_word self.now offset }
+    /// A register of a channel, by the number of the channel and the offset from its first register.
+    fn channel_word(&self, number: u16, offset: u16) -> Option<u32>
+        requires { number < 12 }
+        ensures { result ≡ in_stride 0 None (λ row. Some (row.reads number tt self.now)) (channel_rows {V = ⊤}) offset }
     {
-        let (number, index) = channel_index(offset);
-        if number < 12 {
-            Some(self.channels[number as usize].register(register_at(index)))
-        } else {
-            None
+        let channel = &self.channels[number as usize];
+        match offset {
+            CH0_READ_ADDR | CH0_AL1_READ_ADDR | CH0_AL2_READ_ADDR | CH0_AL3_READ_ADDR_TRIG => Some(
+                channel.read,
+            ),
+            CH0_WRITE_ADDR | CH0_AL1_WRITE_ADDR | CH0_AL2_WRITE_ADDR_TRIG | CH0_AL3_WRITE_ADDR =>
+                Some(channel.write),
+            CH0_TRANS_COUNT
+            | CH0_AL1_TRANS_COUNT_TRIG
+            | CH0_AL2_TRANS_COUNT
+            | CH0_AL3_TRANS_COUNT => Some(channel.count),
+            CH0_CTRL_TRIG | CH0_AL1_CTRL | CH0_AL2_CTRL | CH0_AL3_CTRL => Some(channel.control()),
+            _ => None,
         }
     }
 
-    /// Writes a register of a channel.
-    fn set_register(&mut self, offset: u16, word: u32)
-        ensures { self.new ≡ with_word_of offset word self.old }
+    /// Writes a register of a channel, by the number of the channel and the offset from its first register. The last one of each
+    /// order triggers.
+    fn write_channel(&mut self, number: u8, offset: u16, word: u32)
+        requires { number < 12 }
+        ensures { self.new ≡ in_stride 0 self.old (λ row. row.write_does number word self.old) (channel_rows {V = ⊤}) offset }
     {
-        let (number, index) = channel_index(offset);
-        if number < 12 {
-            let channel = &mut self.channels[number as usize];
-            channel.set_register(register_at(index), word);
+        let channel = &mut self.channels[number as usize];
+        match offset {
+            CH0_READ_ADDR | CH0_AL1_READ_ADDR | CH0_AL2_READ_ADDR => channel.read = word,
+            CH0_WRITE_ADDR | CH0_AL1_WRITE_ADDR | CH0_AL3_WRITE_ADDR => channel.write = word,
+            CH0_TRANS_COUNT | CH0_AL2_TRANS_COUNT | CH0_AL3_TRANS_COUNT => channel.reload = word,
+            CH0_AL1_CTRL | CH0_AL2_CTRL | CH0_AL3_CTRL => channel.ctrl = word % 0x80_0000,
+            CH0_CTRL_TRIG => {
+                channel.ctrl = word % 0x80_0000;
+                self.write_trigger(number, word);
+            }
+            CH0_AL1_TRANS_COUNT_TRIG => {
+                channel.reload = word;
+                self.write_trigger(number, word);
+            }
+            CH0_AL2_WRITE_ADDR_TRIG => {
+                channel.write = word;
+                self.write_trigger(number, word);
+            }
+            CH0_AL3_READ_ADDR_TRIG => {
+                channel.read = word;
+                self.write_trigger(number, word);
+            }
+            _ => {}
         }
     }
 
     /// A word that was written in a trigger word.
-    #[tactic(auto, unfolding(crate::specs::Channel::with_trigger))]
-    fn write_trigger(&mut self, number: u16, word: u32)
+    fn write_trigger(&mut self, number: u8, word: u32)
+        requires { number < 12 }
         ensures { self.new ≡ trigger_word number word self.old }
     {
-        if number >= 12 {
-            return;
-        }
-        let number = number as u8;
         if word != 0 {
             self.trigger(number);
         } else if self.channels[number as usize].is_quiet() {
@@ -157,32 +158,26 @@ impl Engine {
         }
     }
 
-    /// Writes a register of a channel, which triggers where it is the last of an order.
-    fn write_channel(&mut self, offset: u16, word: u32)
-        ensures { self.new ≡ channel_written offset word self.old }
+    /// A register of the block.
+    fn block_word(&self, offset: u16) -> Option<u32>
+        ensures { result ≡ word_at (block_rows {V = ⊤}) tt offset self.now }
     {
-        let (number, index) = channel_index(offset);
-        self.set_register(offset, word);
-        if index % 4 == 3 {
-            self.write_trigger(number, word);
+        match offset {
+            INTR => Some(u32::from(self.raised)),
+            INTE0 => Some(u32::from(self.line_0.enable)),
+            INTF0 => Some(u32::from(self.line_0.force)),
+            INTS0 => Some(u32::from(self.line_0.status(self.raised))),
+            INTE1 => Some(u32::from(self.line_1.enable)),
+            INTF1 => Some(u32::from(self.line_1.force)),
+            INTS1 => Some(u32::from(self.line_1.status(self.raised))),
+            TIMER0 => Some(self.timers[0].word()),
+            TIMER1 => Some(self.timers[1].word()),
+            TIMER2 => Some(self.timers[2].word()),
+            TIMER3 => Some(self.timers[3].word()),
+            MULTI_CHAN_TRIGGER | CHAN_ABORT => Some(0),
+            N_CHANNELS => Some(12),
+            _ => None,
         }
-    }
-
-    /// INTR, and INTE, INTF or INTS of a line.
-    fn read_interrupts(&self, offset: u16) -> Option<u32>
-        ensures { result ≡ interrupt_word self.now offset }
-    {
-        let bits = match offset {
-            INTR => self.raised,
-            INTE0 => self.line_0.enable,
-            INTF0 => self.line_0.force,
-            INTS0 => self.line_0.status(self.raised),
-            INTE1 => self.line_1.enable,
-            INTF1 => self.line_1.force,
-            INTS1 => self.line_1.status(self.raised),
-            _ => return None,
-        };
-        Some(u32::from(bits))
     }
 
     /// Clears interrupts.
@@ -192,9 +187,9 @@ impl Engine {
         self.raised &= !low_half(word);
     }
 
-    /// Writes INTR, or INTE, INTF or INTS of a line.
-    fn write_interrupts(&mut self, offset: u16, word: u32)
-        ensures { self.new ≡ interrupt_written offset word self.old }
+    /// Writes a register of the block.
+    fn write_block(&mut self, offset: u16, word: u32)
+        ensures { self.new ≡ effect_at (block_rows {V = ⊤}) offset (Some word) self.old }
     {
         match offset {
             INTR | INTS0 | INTS1 => self.clear_raised(word),
@@ -202,35 +197,10 @@ impl Engine {
             INTF0 => self.line_0.force = low_half(word),
             INTE1 => self.line_1.enable = low_half(word),
             INTF1 => self.line_1.force = low_half(word),
-            _ => {}
-        }
-    }
-
-    /// X and Y of a pacing timer.
-    fn read_timer(&self, offset: u16) -> Option<u32>
-        requires low { TIMER0 ≤ offset }
-        requires high { offset < MULTI_CHAN_TRIGGER }
-        ensures { result ≡ timer_word self.now offset }
-    {
-        let timer = &self.timers[(offset - TIMER0) as usize / 4];
-        Some(timer.word())
-    }
-
-    /// Writes X and Y of a pacing timer.
-    fn write_timer(&mut self, offset: u16, word: u32)
-        requires low { TIMER0 ≤ offset }
-        requires high { offset < MULTI_CHAN_TRIGGER }
-        ensures { self.new ≡ timer_written offset word self.old }
-    {
-        let timer = &mut self.timers[(offset - TIMER0) as usize / 4];
-        timer.set_word(word);
-    }
-
-    /// Writes MULTI_CHAN_TRIGGER or CHAN_ABORT.
-    fn write_control(&mut self, offset: u16, word: u32)
-        ensures { self.new ≡ control_written offset word self.old }
-    {
-        match offset {
+            TIMER0 => self.timers[0].set_word(word),
+            TIMER1 => self.timers[1].set_word(word),
+            TIMER2 => self.timers[2].set_word(word),
+            TIMER3 => self.timers[3].set_word(word),
             MULTI_CHAN_TRIGGER => self.trigger_all(word),
             CHAN_ABORT => self.abort_all(word),
             _ => {}
