@@ -9,7 +9,6 @@ use Rattle.uf2_image.specs.declared.parts.Image.{Image}
 use Rattle.thumb_parse.specs.declared.token.Span.{Span}
 use Rattle.thumb_parse.specs.declared.item.Item.{Item}
 use Rattle.thumb_parse.specs.declared.statement.Statement.{Statement}
-use Rattle.thumb_asm.specs.declared.source.Place.{Place}
 use Rattle.thumb_asm.specs.declared.fault.ThumbFault.{ThumbFault}
 use Rattle.thumb_asm.specs.declared.fault.ThumbFault.TheVariants.{Char, Syntax, Unknown, Twice, Range, Register, Align, TooLong, Nothing}
 use Rattle.thumb_parse.specs.Tokens.{code_part}
@@ -21,16 +20,13 @@ use Rattle.thumb_asm.specs.Placed.{bytes_at, is_misaligned, is_out_of_range, is_
 
 -- ---- names
 
--- names with the places where they are defined first
+-- names with the line and the address at which they are defined first
 abbrev pub Names : Type 0
-Names = Symbols Place
-
-abbrev pub place_of : ℕ → ℕ → Place
-place_of n address = record { line = n; address = address }
+Names = Symbols (ℕ × ℕ)
 
 -- the names with the label of line n, if it has one
 abbrev pub with_label : ℕ → ℕ → List ℕ → Option Span → Names → Names
-with_label n address code (Some label) names = defined (name_text code label) (place_of n address) names
+with_label n address code (Some label) names = defined (name_text code label) (n, address) names
 with_label n address code None names = names
 
 -- the address after a line
@@ -46,7 +42,7 @@ names_from n address names (line ∷ rest) =
 
 -- ---- faults of a line, in the order of their numbers
 
-abbrev pub place_in : Names → List ℕ → Option Span → Option Place
+abbrev pub place_in : Names → List ℕ → Option Span → Option (ℕ × ℕ)
 place_in names code (Some name) = found (name_text code name) names
 place_in names code None = None
 
@@ -57,11 +53,11 @@ is_unknown names code None = false
 
 -- the address of what a line names
 abbrev pub target_of : Names → List ℕ → Item → ℕ
-target_of names code item = option_map_or (λ place. place.address) (place_in names code (name_of item)) 0
+target_of names code item = option_map_or (λ place. place.1) (place_in names code (name_of item)) 0
 
 -- the label of line n is defined before
 abbrev pub is_twice : Names → ℕ → List ℕ → Option Span → Bool
-is_twice names n code label = option_map_or (λ place. not (place.line == n)) (place_in names code label) false
+is_twice names n code label = option_map_or (λ place. not (place.0 == n)) (place_in names code label) false
 
 abbrev pub item_fault : ℕ → ℕ → ℕ → Item → Option ThumbFault
 item_fault n address target item =

@@ -16,17 +16,8 @@ use source_text::{Symbols, first_line};
 use std::alloc::{AllocError, Global};
 use thumb_parse::{Item, Span, Statement, Token, code_part, name_text, read_statement};
 
-/// Where a name is defined first.
-#[derive(Clone, Copy, PartialEq, Eq)]
-pub(crate) struct Place {
-    /// The line, counted from 1.
-    pub(crate) line: u32,
-    /// The address of what follows.
-    pub(crate) address: u64,
-}
-
-/// Names with the places where they are defined first.
-pub(crate) type Names<'a> = Symbols<'a, Place>;
+/// Names with the line, counted from 1, and the address at which they are defined first.
+pub(crate) type Names<'a> = Symbols<'a, (u32, u64)>;
 
 /// Where code begins.
 const START: u64 = 0x2000_0000;
@@ -44,14 +35,10 @@ fn add_label<'a>(
 ) -> Result<(), AllocError>
     ensures { OnOk result (names.new ≡ with_label number address code.now label names.old) }
 {
-    let Some(label) = label else {
-        return Ok(());
-    };
-    let place = Place {
-        line: number,
-        address,
-    };
-    names.define(name_text(code, label), place)
+    match label {
+        Some(label) => names.define(name_text(code, label), (number, address)),
+        None => Ok(()),
+    }
 }
 
 /// Adds the label of a line, which has to have a form, and gives the address after it.
@@ -102,8 +89,8 @@ pub(crate) fn find_names(alloc: Global, text: &[u8]) -> Result<Names<'_>, ThumbF
     Ok(names)
 }
 
-/// The place of a name of a line, if the name is written and defined.
-fn place_in(names: &Names, code: &[u8], name: Option<Span>) -> Option<Place>
+/// The line and the address at which a name of a line is defined first, if the name is written and defined.
+fn place_in(names: &Names, code: &[u8], name: Option<Span>) -> Option<(u32, u64)>
     ensures { result ≡ place_in names.now code.now name }
 {
     match name {
@@ -117,7 +104,7 @@ fn target_of(names: &Names, code: &[u8], item: Item) -> u64
     ensures { result ≡ target_of names.now code.now item }
 {
     match place_in(names, code, name_of(item)) {
-        Some(place) => place.address,
+        Some((_, address)) => address,
         None => 0,
     }
 }
@@ -137,7 +124,7 @@ fn is_twice(names: &Names, number: u32, code: &[u8], label: Option<Span>) -> boo
     ensures { result ≡ is_twice names.now number code.now label }
 {
     match place_in(names, code, label) {
-        Some(place) => place.line != number,
+        Some((line, _)) => line != number,
         None => false,
     }
 }

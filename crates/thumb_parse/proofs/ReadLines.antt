@@ -1,7 +1,7 @@
 -- What is read of a line is a line of the grammar that says this, and each line of the grammar is read so.
-use Rattle.std.proofs.Common.{◌≡◌, ℕ, ◌%◌, ◌==◌, Bool, true, false, cond, ◌&&◌, List, [], ◌∷◌, Option, Some, None, refl, sym, ap, subst, ◌∙◌, bytes_eq}
+use Rattle.std.proofs.Common.{◌≡◌, ℕ, ◌%◌, ◌==◌, Bool, true, false, cond, ◌&&◌, List, [], ◌∷◌, ◌++◌, Option, Some, None, refl, sym, ap, subst, ◌∙◌, bytes_eq}
 use Rattle.std.specs.Prelude.{is_some, option_and_then}
-use Rattle.std.specs.Option.{option_map, option_map_or}
+use Rattle.std.specs.Option.{option_map}
 use Rattle.std.proofs.lemmas.Bool.{eqb-true}
 use Rattle.std.proofs.lemmas.Slice.Eq.{bytes_eq-Decides}
 use Rattle.rp_base.specs.declared.op.Op.{Op}
@@ -19,17 +19,18 @@ use Rattle.thumb_parse.specs.declared.item.Item.{Item}
 use Rattle.thumb_parse.specs.declared.item.Item.TheVariants.{Instruction, BranchIf}
 use Rattle.thumb_parse.specs.declared.statement.Statement.{Statement}
 use Rattle.thumb_parse.specs.FormOps.{alone_op, number_op, branch_op, low_op, three_op, byte_op, small_op, index_op, offset_op, stack_op, adjust_op, shift_op}
-use Rattle.thumb_parse.specs.descent.Forms.{align_alone, form_of, immediate_register, index_immediate, index_register, numbered, offset_form, register_and_list, register_immediate, register_name, registers_immediate, three_registers, two_registers, with_immediate, with_list, with_name, with_number, with_register, with_sum, write_back}
-use Rattle.thumb_parse.specs.Forms.{condition_of, field, is_low, judged, name_text, unit_of, units}
+use Rattle.thumb_parse.specs.descent.Forms.{alone, form_of, immediate_register, index_immediate, index_register, register_and_list, register_immediate, register_name, registers_immediate, short, three_registers, two_registers, with_immediate, with_list, with_name, with_number, with_register, with_sum, write_back}
+use Rattle.thumb_parse.specs.Forms.{condition_of, field, is_low, judged, ldm_item, ldm_listed_item, name_text, pop_item, push_item, stm_item, unit_of, units}
 use Rattle.thumb_parse.specs.Grammar.{IsItem, IsLine, IsList}
 use Rattle.thumb_parse.specs.Grammar.IsItem.{nothing, word_number, word_name, word_sum, half_number, space_number, align_alone as align_form, no_operand, cpsie_i, cpsid_i, b_name, bl_name, b_if_name, ldr_name, adr_name, number, msr_number, mrs_number, register, low_pair, cmp_low, cmp_high, add_pair, mov_pair, three, byte, adjust, small, shift_left, shift_right, add_stack, indexed, stack, offset, push_list, pop_list, stm_back, ldm_back, ldm_listed}
 use Rattle.thumb_parse.specs.Grammar.IsLine.{labelled, plain}
 use Rattle.thumb_parse.specs.Grammar.IsList.{last, last_range, more, more_range}
 use Rattle.thumb_parse.specs.Laws.{Reader, ReadsForms}
 use Rattle.thumb_parse.specs.descent.Lines.{item_of, statement_in, statement_of, statement_with}
-use Rattle.thumb_parse.specs.descent.Operands.{after_comma, after_register, after_second, index_of, list_from, list_of, list_step, operands_of}
-use Rattle.thumb_parse.specs.Lists.{no_registers, with_range}
+use Rattle.thumb_parse.specs.descent.Operands.{after_comma, after_register, after_second, index_of, list_from, list_of, list_step, no_registers, operands_of, with_range, with_register as with_one, with_registers}
+use Rattle.thumb_parse.specs.Lists.{ascend_from, bits_with, range_of}
 use Rattle.thumb_parse.specs.descent.Tokens.{tokens_of}
+use Rattle.thumb_parse.proofs.Lists.{by_registers, registers_append}
 use Rattle.thumb_parse.proofs.ReadTokens.{line_tokens, tokens_only}
 
 -- ---- answers
@@ -53,33 +54,48 @@ unfolding list_step
 none_of_misfit [] = refl
 none_of_misfit (token ∷ tokens) = none_of_misfit tokens
 
-no_list : (tokens : List Token) (all : RegisterList) → list_from Misfit tokens ≡ Some all → ⊥
+no_list : {X : Type 0} (tokens : List Token) (all : RegisterList) → list_from Misfit tokens ≡ Some all → X
 no_list tokens all h = let none = none_of_misfit tokens in absurd cc
 
-is_list : (list : RegisterList) (tokens : List Token) (all : RegisterList) → list_from (Open list) tokens ≡ Some all → IsList list tokens all
-unfolding list_step
+-- with the registers before them these tokens list those of `all`
+abbrev IsListOf : RegisterList → List Token → RegisterList → Type 0
+IsListOf list tokens all = (rs : List ℕ) × IsList tokens rs × (with_registers list rs ≡ all)
+
+is_list : (list : RegisterList) (tokens : List Token) (all : RegisterList) → list_from (Open list) tokens ≡ Some all → IsListOf list tokens all
+unfolding list_step with_registers
 is_list list [] all h = absurd cc
 is_list list (Register a ∷ []) all h = absurd cc
-is_list list (Register a ∷ CloseBrace ∷ []) all h = let same : with_range list a a ≡ all = cc in subst (IsList list (Register a ∷ CloseBrace ∷ [])) same last
-is_list list (Register a ∷ CloseBrace ∷ t ∷ tokens) all h = absurd (no_list tokens all h)
-is_list list (Register a ∷ Comma ∷ tokens) all h = more (is_list (with_range list a a) tokens all h)
+is_list list (Register a ∷ CloseBrace ∷ []) all h = (a ∷ [], last, cc)
+is_list list (Register a ∷ CloseBrace ∷ t ∷ tokens) all h = no_list tokens all h
+is_list list (Register a ∷ Comma ∷ tokens) all h = let rest = is_list (with_one list a) tokens all h in (a ∷ rest.0, more rest.1, rest.2)
 is_list list (Register a ∷ Minus ∷ []) all h = absurd cc
 is_list list (Register a ∷ Minus ∷ Register b ∷ []) all h = absurd cc
-is_list list (Register a ∷ Minus ∷ Register b ∷ CloseBrace ∷ []) all h =
-    let same : with_range list a b ≡ all = cc in subst (IsList list (Register a ∷ Minus ∷ Register b ∷ CloseBrace ∷ [])) same last_range
-is_list list (Register a ∷ Minus ∷ Register b ∷ CloseBrace ∷ t ∷ tokens) all h = absurd (no_list tokens all h)
-is_list list (Register a ∷ Minus ∷ Register b ∷ Comma ∷ tokens) all h = more_range (is_list (with_range list a b) tokens all h)
-is_list list (Register a ∷ Minus ∷ Register b ∷ t ∷ tokens) all h = absurd (no_list tokens all h)
-is_list list (Register a ∷ Minus ∷ t ∷ tokens) all h = absurd (no_list tokens all h)
-is_list list (Register a ∷ t ∷ tokens) all h = absurd (no_list tokens all h)
-is_list list (t ∷ tokens) all h = absurd (no_list tokens all h)
+is_list list (Register a ∷ Minus ∷ Register b ∷ CloseBrace ∷ []) all h = (range_of a b, last_range, cc)
+is_list list (Register a ∷ Minus ∷ Register b ∷ CloseBrace ∷ t ∷ tokens) all h = no_list tokens all h
+is_list list (Register a ∷ Minus ∷ Register b ∷ Comma ∷ tokens) all h =
+    let rest = is_list (with_range list a b) tokens all h in
+    (range_of a b ++ rest.0, more_range rest.1, registers_append list (range_of a b) rest.0 ∙ rest.2)
+is_list list (Register a ∷ Minus ∷ Register b ∷ t ∷ tokens) all h = no_list tokens all h
+is_list list (Register a ∷ Minus ∷ t ∷ tokens) all h = no_list tokens all h
+is_list list (Register a ∷ t ∷ tokens) all h = no_list tokens all h
+is_list list (t ∷ tokens) all h = no_list tokens all h
 
-list_is : {list : RegisterList} {tokens : List Token} {all : RegisterList} → IsList list tokens all → list_from (Open list) tokens ≡ Some all
-unfolding list_step
-list_is last = refl
-list_is last_range = refl
-list_is (more rest) = list_is rest
-list_is (more_range rest) = list_is rest
+list_is : {tokens : List Token} {rs : List ℕ} → IsList tokens rs → (list : RegisterList) → list_from (Open list) tokens ≡ Some (with_registers list rs)
+unfolding list_step with_registers
+list_is last list = refl
+list_is last_range list = refl
+list_is (more {r = r} rest) list = list_is rest (with_one list r)
+list_is (more_range {a = a} {b = b} {rs = rs} rest) list = list_is rest (with_range list a b) ∙ ap (λ all. Some all) (sym (registers_append list (range_of a b) rs))
+
+-- an item by the fields of a list is one by its registers
+by_list : (f : Bool → ℕ → Item) (rs : List ℕ)
+    → Some (f (with_registers no_registers rs).ascends (with_registers no_registers rs).mask) ≡ Some (f (ascend_from 0 rs) (bits_with 0 rs))
+by_list f rs = ap (λ item. Some item) (by_registers f rs)
+
+of_list : {tokens : List Token} {list : RegisterList} {item : Item} (f : Bool → ℕ → Item) (l : IsListOf no_registers tokens list)
+    → Some (f list.ascends list.mask) ≡ Some item → Some (f (ascend_from 0 l.0) (bits_with 0 l.0)) ≡ Some item
+of_list {item = item} f l h =
+    sym (by_list f l.0) ∙ subst (λ list. Some (f list.ascends list.mask) ≡ Some item) (sym l.2) h
 
 -- ---- what is read is of a form
 
@@ -92,13 +108,9 @@ module _ {code : List ℕ} {tokens : List Token} {item : Item} where
   mapped None f h forms = absurd cc
 
 module _ {code : List ℕ} {item : Item} where
-  is_align : (w : Mnemonic) → align_alone w ≡ Some item → IsItem code (Word' w ∷ []) item
-  is_align AlignDirective h = is_same align_form h
-  is_align w h = absurd cc
-
-  is_alone : (w : Mnemonic) (o : Option Op) → alone_op w ≡ o → option_map_or (λ op. Some (Instruction op)) o (align_alone w) ≡ Some item → IsItem code (Word' w ∷ []) item
-  is_alone w (Some op) e h = is_same (no_operand e) h
-  is_alone w None e h = is_align w h
+  is_alone : (w : Mnemonic) → alone w ≡ Some item → IsItem code (Word' w ∷ []) item
+  is_alone AlignDirective h = is_same align_form h
+  is_alone w h = mapped (alone_op w) Instruction h (λ op e. no_operand e)
 
   is_number : (w : Mnemonic) (k : Number) → with_number w k ≡ Some item → IsItem code (Word' w ∷ Number' k ∷ []) item
   is_number WordDirective k h = is_same word_number h
@@ -150,7 +162,7 @@ module _ {code : List ℕ} {item : Item} where
   is_three w d n m h = mapped (three_op w m n d) (judged 2 true (is_low d && is_low n && is_low m)) h (λ op e. three e)
 
   is_adjust : (w : Mnemonic) (d : ℕ) (k : Number) (b : Bool) → (d == 13) ≡ b
-      → cond b (numbered (units 4 0 127 k) true (adjust_op w (field (units 4 0 127 k)))) None ≡ Some item
+      → cond b (short (is_some (units 4 0 127 k)) true (adjust_op w (field (units 4 0 127 k)))) None ≡ Some item
       → IsItem code (Word' w ∷ Register d ∷ Comma ∷ Hash ∷ Number' k ∷ []) item
   is_adjust w d k true e h =
       subst (λ d. IsItem code (Word' w ∷ Register d ∷ Comma ∷ Hash ∷ Number' k ∷ []) item) (sym (eqb-true d 13 e))
@@ -171,7 +183,7 @@ module _ {code : List ℕ} {item : Item} where
   is_add_stack d n k false e h = absurd cc
 
   is_shift : (w : Mnemonic) (d m : ℕ) (k : Number)
-      → numbered (units 1 1 32 k) (is_low d && is_low m) (shift_op w (field (units 1 1 32 k) % 32) m d) ≡ Some item
+      → short (is_some (units 1 1 32 k)) (is_low d && is_low m) (shift_op w (field (units 1 1 32 k) % 32) m d) ≡ Some item
       → IsItem code (Word' w ∷ Register d ∷ Comma ∷ Register m ∷ Comma ∷ Hash ∷ Number' k ∷ []) item
   is_shift w d m k h = mapped (shift_op w (field (units 1 1 32 k) % 32) m d) (judged 2 (is_some (units 1 1 32 k)) (is_low d && is_low m)) h (λ op e. shift_right e)
 
@@ -192,7 +204,7 @@ module _ {code : List ℕ} {item : Item} where
   is_indexed w t n m h = mapped (index_op w m n t) (judged 2 true (is_low t && is_low n && is_low m)) h (λ op e. indexed e)
 
   is_offset : (w : Mnemonic) (t n : ℕ) (k : Number) (b : Bool) → (n == 13 && unit_of w == 4) ≡ b
-      → cond b (numbered (units 4 0 255 k) (is_low t) (stack_op w t (field (units 4 0 255 k)))) (offset_form w t n (units (unit_of w) 0 31 k)) ≡ Some item
+      → cond b (short (is_some (units 4 0 255 k)) (is_low t) (stack_op w t (field (units 4 0 255 k)))) (short (is_some (units (unit_of w) 0 31 k)) (is_low t && is_low n) (offset_op w (field (units (unit_of w) 0 31 k)) n t)) ≡ Some item
       → IsItem code (Word' w ∷ Register t ∷ Comma ∷ OpenBracket ∷ Register n ∷ Comma ∷ Hash ∷ Number' k ∷ CloseBracket ∷ []) item
   is_offset w t n k true e h =
       subst (λ n. IsItem code (Word' w ∷ Register t ∷ Comma ∷ OpenBracket ∷ Register n ∷ Comma ∷ Hash ∷ Number' k ∷ CloseBracket ∷ []) item)
@@ -201,20 +213,20 @@ module _ {code : List ℕ} {item : Item} where
   is_offset w t n k false e h =
       mapped (offset_op w (field (units (unit_of w) 0 31 k)) n t) (judged 2 (is_some (units (unit_of w) 0 31 k)) (is_low t && is_low n)) h (λ op f. offset e f)
 
-  is_push : (w : Mnemonic) (tokens : List Token) (list : RegisterList) → IsList no_registers tokens list → with_list w list ≡ Some item → IsItem code (Word' w ∷ OpenBrace ∷ tokens) item
-  is_push Push tokens list l h = is_same (push_list l) h
-  is_push Pop tokens list l h = is_same (pop_list l) h
+  is_push : (w : Mnemonic) (tokens : List Token) (list : RegisterList) → IsListOf no_registers tokens list → with_list w list ≡ Some item → IsItem code (Word' w ∷ OpenBrace ∷ tokens) item
+  is_push Push tokens list l h = is_same (push_list l.1) (of_list push_item l h)
+  is_push Pop tokens list l h = is_same (pop_list l.1) (of_list pop_item l h)
   is_push w tokens list l h = absurd cc
 
-  is_back : (w : Mnemonic) (n : ℕ) (tokens : List Token) (list : RegisterList) → IsList no_registers tokens list → write_back w n list ≡ Some item
+  is_back : (w : Mnemonic) (n : ℕ) (tokens : List Token) (list : RegisterList) → IsListOf no_registers tokens list → write_back w n list ≡ Some item
       → IsItem code (Word' w ∷ Register n ∷ Bang ∷ Comma ∷ OpenBrace ∷ tokens) item
-  is_back Stm n tokens list l h = is_same (stm_back l) h
-  is_back Ldm n tokens list l h = is_same (ldm_back l) h
+  is_back Stm n tokens list l h = is_same (stm_back l.1) (of_list (stm_item n) l h)
+  is_back Ldm n tokens list l h = is_same (ldm_back l.1) (of_list (ldm_item n) l h)
   is_back w n tokens list l h = absurd cc
 
-  is_listed_form : (w : Mnemonic) (n : ℕ) (tokens : List Token) (list : RegisterList) → IsList no_registers tokens list → register_and_list w n list ≡ Some item
+  is_listed_form : (w : Mnemonic) (n : ℕ) (tokens : List Token) (list : RegisterList) → IsListOf no_registers tokens list → register_and_list w n list ≡ Some item
       → IsItem code (Word' w ∷ Register n ∷ Comma ∷ OpenBrace ∷ tokens) item
-  is_listed_form Ldm n tokens list l h = is_same (ldm_listed l) h
+  is_listed_form Ldm n tokens list l h = is_same (ldm_listed l.1) (of_list (ldm_listed_item n) l h)
   is_listed_form w n tokens list l h = absurd cc
 
   -- ---- by the tokens
@@ -273,7 +285,7 @@ module _ {code : List ℕ} {item : Item} where
 
   after_word : (w : Mnemonic) (tokens : List Token) → option_and_then (form_of code w) (operands_of tokens) ≡ Some item → IsItem code (Word' w ∷ tokens) item
   unfolding form_of operands_of
-  after_word w [] h = is_alone w (alone_op w) refl h
+  after_word w [] h = is_alone w h
   after_word w (Register d ∷ tokens) h = after_one w d tokens h
   after_word w (Number' k ∷ []) h = is_number w k h
   after_word w (Name name ∷ []) h = is_name w name h
@@ -297,6 +309,10 @@ is_line code tokens statement h =
     subst (IsLine code tokens) found.2 (plain (is_item tokens found.1))
 
 -- ---- what is of a form is read
+
+not_align : (w : Mnemonic) (op : Op) → alone_op w ≡ Some op → alone w ≡ Some (Instruction op)
+not_align AlignDirective op h = absurd cc
+not_align w op h = ap (option_map Instruction) h
 
 no_pair : (w : Mnemonic) (d m : ℕ) (op : Op) → low_op w m d ≡ Some op → two_registers w d m ≡ Some (judged 2 true (is_low d && is_low m) op)
 no_pair Cmp d m op h = absurd cc
@@ -359,7 +375,7 @@ module _ {code : List ℕ} where
   item_is half_number = refl
   item_is space_number = refl
   item_is align_form = refl
-  item_is (no_operand {m = w} e) = ap (λ o. option_map_or (λ op. Some (Instruction op)) o (align_alone w)) e
+  item_is (no_operand {m = w} {op = op} e) = not_align w op e
   item_is (cpsie_i e) = ap (λ text. cond (bytes_eq text (105 ∷ [])) (Some (Instruction CpsieOp)) None) e
   item_is (cpsid_i e) = ap (λ text. cond (bytes_eq text (105 ∷ [])) (Some (Instruction CpsidOp)) None) e
   item_is b_name = refl
@@ -386,13 +402,13 @@ module _ {code : List ℕ} where
   item_is (indexed {t = t} {n = n} {m = m} e) = ap (option_map (judged 2 true (is_low t && is_low n && is_low m))) e
   item_is (stack {w = w} {op = op} {t = t} {k = k} e) = no_other_stack w t k op e
   item_is (offset {w = w} {op = op} {t = t} {n = n} {k = k} other e) =
-      ap (λ b. cond b (numbered (units 4 0 255 k) (is_low t) (stack_op w t (field (units 4 0 255 k)))) (offset_form w t n (units (unit_of w) 0 31 k))) other
+      ap (λ b. cond b (short (is_some (units 4 0 255 k)) (is_low t) (stack_op w t (field (units 4 0 255 k)))) (short (is_some (units (unit_of w) 0 31 k)) (is_low t && is_low n) (offset_op w (field (units (unit_of w) 0 31 k)) n t))) other
       ∙ ap (option_map (judged 2 (is_some (units (unit_of w) 0 31 k)) (is_low t && is_low n))) e
-  item_is (push_list l) = ap (λ o. option_and_then (form_of code Push) (option_map ListOperand o)) (list_is l)
-  item_is (pop_list l) = ap (λ o. option_and_then (form_of code Pop) (option_map ListOperand o)) (list_is l)
-  item_is (stm_back {n = n} l) = ap (λ o. option_and_then (form_of code Stm) (option_map (WriteBack n) o)) (list_is l)
-  item_is (ldm_back {n = n} l) = ap (λ o. option_and_then (form_of code Ldm) (option_map (WriteBack n) o)) (list_is l)
-  item_is (ldm_listed {n = n} l) = ap (λ o. option_and_then (form_of code Ldm) (option_map (RegisterAndList n) o)) (list_is l)
+  item_is (push_list {rs = rs} l) = ap (λ o. option_and_then (form_of code Push) (option_map ListOperand o)) (list_is l no_registers) ∙ by_list push_item rs
+  item_is (pop_list {rs = rs} l) = ap (λ o. option_and_then (form_of code Pop) (option_map ListOperand o)) (list_is l no_registers) ∙ by_list pop_item rs
+  item_is (stm_back {n = n} {rs = rs} l) = ap (λ o. option_and_then (form_of code Stm) (option_map (WriteBack n) o)) (list_is l no_registers) ∙ by_list (stm_item n) rs
+  item_is (ldm_back {n = n} {rs = rs} l) = ap (λ o. option_and_then (form_of code Ldm) (option_map (WriteBack n) o)) (list_is l no_registers) ∙ by_list (ldm_item n) rs
+  item_is (ldm_listed {n = n} {rs = rs} l) = ap (λ o. option_and_then (form_of code Ldm) (option_map (RegisterAndList n) o)) (list_is l no_registers) ∙ by_list (ldm_listed_item n) rs
 
   line_is : {tokens : List Token} {statement : Statement} → IsLine code tokens statement → statement_in code tokens ≡ Some statement
   line_is (labelled {name = name} form) = ap (option_map (statement_with (Some name))) (item_is form)

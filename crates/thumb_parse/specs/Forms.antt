@@ -1,13 +1,13 @@
 -- The numbers and registers of items, and what an item is where they fit or not (ARMv6-M Architecture Reference Manual, A6.7; the directives
 -- are the project's own). A number outside its range counts before a wrong register.
-use Rattle.std.specs.Prelude.{ℕ, ◌+◌, ◌-◌, ◌/◌, ◌%◌, Bool, not, ◌==◌, ◌&&◌, ◌||◌, nat_lt, nat_le, if◌then◌else◌, List, Option, None, Some, bit_and, take, drop}
+use Rattle.std.specs.Prelude.{ℕ, ◌+◌, ◌-◌, ◌/◌, ◌%◌, Bool, true, not, ◌==◌, ◌&&◌, ◌||◌, nat_lt, nat_le, if◌then◌else◌, List, Option, None, Some, bit_and, take, drop}
 use Rattle.std.specs.Option.{unwrap_or}
 use Rattle.rp_base.specs.declared.op.Op.{Op}
+use Rattle.rp_base.specs.declared.op.Op.TheVariants.{Push, Pop, Stm, Ldm}
 use Rattle.thumb_parse.specs.declared.mnemonic.Mnemonic.{Mnemonic}
 use Rattle.thumb_parse.specs.declared.mnemonic.Mnemonic.TheVariants.{Ldr, Beq, Bne, Bcs, Bcc, Bmi, Bpl, Bvs, Bvc, Bhi, Bls, Bge, Blt, Bgt, Ble, Str, Strh, Ldrh}
 use Rattle.thumb_parse.specs.declared.token.Span.{Span}
 use Rattle.thumb_parse.specs.declared.token.Number.{Number}
-use Rattle.thumb_parse.specs.declared.operands.RegisterList.{RegisterList}
 use Rattle.thumb_parse.specs.declared.item.Item.{Item}
 use Rattle.thumb_parse.specs.declared.item.Item.TheVariants.{Instruction, OutOfRange, WrongRegister, Word, Half, Space}
 use Rattle.thumb_parse.specs.Lists.{register_bit}
@@ -74,12 +74,27 @@ unit_of Strh = 2
 unit_of Ldrh = 2
 unit_of mnemonic = 1
 
--- a list that ascends, of low registers and perhaps this one last
-abbrev pub holds_list : RegisterList → ℕ → Bool
-holds_list list last = list.ascends && (list.mask / 256 == 0 || list.mask / 256 == last)
+-- what holds of a list by whether it ascends and by its bits: it has low registers and perhaps this bit of the upper eight
+abbrev pub holds_list : Bool → ℕ → ℕ → Bool
+holds_list ascends bits last = ascends && (bits / 256 == 0 || bits / 256 == last)
 
-abbrev pub low_registers : RegisterList → ℕ
-low_registers list = list.mask % 256
+-- a low register that is in the list or not
+abbrev pub is_listed : ℕ → ℕ → Bool
+is_listed n bits = not (bit_and bits (register_bit n) == 0)
 
-abbrev pub is_listed : ℕ → RegisterList → Bool
-is_listed n list = not (bit_and list.mask (register_bit n) == 0)
+-- `push {list}` with lr last or not, `pop {list}` with pc last or not
+abbrev pub push_item : Bool → ℕ → Item
+push_item ascends bits = judged 2 true (holds_list ascends bits 0x40) (Push (bits / 256 == 0x40) (bits % 256))
+
+abbrev pub pop_item : Bool → ℕ → Item
+pop_item ascends bits = judged 2 true (holds_list ascends bits 0x80) (Pop (bits / 256 == 0x80) (bits % 256))
+
+-- `stm n!, {list}`, `ldm n!, {list}` without n in the list, `ldm n, {list}` with it
+abbrev pub stm_item : ℕ → Bool → ℕ → Item
+stm_item n ascends bits = judged 2 true (is_low n && holds_list ascends bits 0) (Stm n (bits % 256))
+
+abbrev pub ldm_item : ℕ → Bool → ℕ → Item
+ldm_item n ascends bits = judged 2 true (is_low n && holds_list ascends bits 0 && not (is_listed n bits)) (Ldm n (bits % 256))
+
+abbrev pub ldm_listed_item : ℕ → Bool → ℕ → Item
+ldm_listed_item n ascends bits = judged 2 true (is_low n && holds_list ascends bits 0 && is_listed n bits) (Ldm n (bits % 256))

@@ -10,33 +10,31 @@
 -- In the forms d, n, m and t are registers and #k is a number. A line of a form whose number is out of the form's range, or which has a
 -- register that the form cannot hold, is a line of the grammar with an item that says so: `judged` has the size of the form's
 -- instruction, whether the number is in range, whether the registers can be held, and the operation.
-use Rattle.std.specs.Prelude.{◌≡◌, ℕ, ◌/◌, ◌%◌, true, false, not, ◌==◌, ◌&&◌, List, [], ◌∷◌, None, Some, is_some, codes}
+use Rattle.std.specs.Prelude.{◌≡◌, ℕ, ◌%◌, true, false, ◌==◌, ◌&&◌, List, [], ◌∷◌, ◌++◌, None, Some, is_some, codes}
 use Rattle.rp_base.specs.declared.op.Op.{Op}
-use Rattle.rp_base.specs.declared.op.Op.TheVariants.{LslImm, Cmp as CmpLow, CmpHigh, AddHigh, MovHigh, AddSp, Cpsie as CpsieOp, Cpsid as CpsidOp, Push as PushOp, Pop as PopOp, Stm as StmOp, Ldm as LdmOp, Msr as MsrOp, Mrs as MrsOp}
+use Rattle.rp_base.specs.declared.op.Op.TheVariants.{LslImm, Cmp as CmpLow, CmpHigh, AddHigh, MovHigh, AddSp, Cpsie as CpsieOp, Cpsid as CpsidOp, Msr as MsrOp, Mrs as MrsOp}
 use Rattle.thumb_parse.specs.declared.mnemonic.Mnemonic.{Mnemonic}
 use Rattle.thumb_parse.specs.declared.mnemonic.Mnemonic.TheVariants.{Cmp, Lsls, Add, Mov, Ldr, Adr, Push, Pop, Stm, Ldm, Cpsie, Cpsid, B, Bl, Msr, Mrs, Word as WordDirective, Half as HalfDirective, Space as SpaceDirective, Align as AlignDirective}
 use Rattle.thumb_parse.specs.declared.token.Span.{Span}
 use Rattle.thumb_parse.specs.declared.token.Number.{Number}
 use Rattle.thumb_parse.specs.declared.token.Token.{Token}
 use Rattle.thumb_parse.specs.declared.token.Token.TheVariants.{Name, Register, Mnemonic as Word', Number as Number', Comma, Colon, Hash, OpenBracket, CloseBracket, OpenBrace, CloseBrace, Bang, Plus, Minus}
-use Rattle.thumb_parse.specs.declared.operands.RegisterList.{RegisterList}
 use Rattle.thumb_parse.specs.declared.item.Item.{Item}
 use Rattle.thumb_parse.specs.declared.item.Item.TheVariants.{Empty, Instruction, Literal, Address, Branch, Call, BranchIf, WordAt, Align}
 use Rattle.thumb_parse.specs.declared.statement.Statement.{Statement}
 use Rattle.thumb_parse.specs.Lexical.{AreTokens}
-use Rattle.thumb_parse.specs.Lists.{no_registers, with_range}
-use Rattle.thumb_parse.specs.Forms.{condition_of, field, half, holds_list, is_listed, is_low, is_special_register, judged, low_registers, name_text, space, unit_of, units, word}
+use Rattle.thumb_parse.specs.Lists.{ascend_from, bits_with, range_of}
+use Rattle.thumb_parse.specs.Forms.{condition_of, field, half, is_low, is_special_register, judged, ldm_item, ldm_listed_item, name_text, pop_item, push_item, space, stm_item, unit_of, units, word}
 use Rattle.thumb_parse.specs.FormOps.{alone_op, number_op, branch_op, low_op, three_op, byte_op, small_op, index_op, offset_op, stack_op, adjust_op, shift_op}
 
 -- ---- lists of registers
 
--- the tokens after `{`: with the registers before them they are a list
-pub data IsList : RegisterList → List Token → RegisterList → Type 0 where
-  last : {list : RegisterList} {r : ℕ} → IsList list (Register r ∷ CloseBrace ∷ []) (with_range list r r)
-  last_range : {list : RegisterList} {a b : ℕ} → IsList list (Register a ∷ Minus ∷ Register b ∷ CloseBrace ∷ []) (with_range list a b)
-  more : {list all : RegisterList} {r : ℕ} {rest : List Token} → IsList (with_range list r r) rest all → IsList list (Register r ∷ Comma ∷ rest) all
-  more_range : {list all : RegisterList} {a b : ℕ} {rest : List Token}
-      → IsList (with_range list a b) rest all → IsList list (Register a ∷ Minus ∷ Register b ∷ Comma ∷ rest) all
+-- the tokens after `{` list these registers
+pub data IsList : List Token → List ℕ → Type 0 where
+  last : {r : ℕ} → IsList (Register r ∷ CloseBrace ∷ []) (r ∷ [])
+  last_range : {a b : ℕ} → IsList (Register a ∷ Minus ∷ Register b ∷ CloseBrace ∷ []) (range_of a b)
+  more : {r : ℕ} {rest : List Token} {rs : List ℕ} → IsList rest rs → IsList (Register r ∷ Comma ∷ rest) (r ∷ rs)
+  more_range : {a b : ℕ} {rest : List Token} {rs : List ℕ} → IsList rest rs → IsList (Register a ∷ Minus ∷ Register b ∷ Comma ∷ rest) (range_of a b ++ rs)
 
 -- ---- items, a constructor for each form
 
@@ -117,21 +115,17 @@ pub data IsItem (code : List ℕ) : List Token → Item → Type 0 where
       → (n == 13 && unit_of w == 4) ≡ false → offset_op w (field (units (unit_of w) 0 31 k)) n t ≡ Some op
       → IsItem code (Word' w ∷ Register t ∷ Comma ∷ OpenBracket ∷ Register n ∷ Comma ∷ Hash ∷ Number' k ∷ CloseBracket ∷ [])
       (judged 2 (is_some (units (unit_of w) 0 31 k)) (is_low t && is_low n) op)
-  -- `push {list}` with lr last or not, `pop {list}` with pc last or not
-  push_list : {tokens : List Token} {list : RegisterList} → IsList no_registers tokens list
-      → IsItem code (Word' Push ∷ OpenBrace ∷ tokens) (judged 2 true (holds_list list 0x40) (PushOp (list.mask / 256 == 0x40) (low_registers list)))
-  pop_list : {tokens : List Token} {list : RegisterList} → IsList no_registers tokens list
-      → IsItem code (Word' Pop ∷ OpenBrace ∷ tokens) (judged 2 true (holds_list list 0x80) (PopOp (list.mask / 256 == 0x80) (low_registers list)))
-  -- `stm n!, {list}`, `ldm n!, {list}` without n in the list, `ldm n, {list}` with it
-  stm_back : {n : ℕ} {tokens : List Token} {list : RegisterList} → IsList no_registers tokens list
-      → IsItem code (Word' Stm ∷ Register n ∷ Bang ∷ Comma ∷ OpenBrace ∷ tokens)
-      (judged 2 true (is_low n && holds_list list 0) (StmOp n (low_registers list)))
-  ldm_back : {n : ℕ} {tokens : List Token} {list : RegisterList} → IsList no_registers tokens list
-      → IsItem code (Word' Ldm ∷ Register n ∷ Bang ∷ Comma ∷ OpenBrace ∷ tokens)
-      (judged 2 true (is_low n && holds_list list 0 && not (is_listed n list)) (LdmOp n (low_registers list)))
-  ldm_listed : {n : ℕ} {tokens : List Token} {list : RegisterList} → IsList no_registers tokens list
-      → IsItem code (Word' Ldm ∷ Register n ∷ Comma ∷ OpenBrace ∷ tokens)
-      (judged 2 true (is_low n && holds_list list 0 && is_listed n list) (LdmOp n (low_registers list)))
+  -- `push {list}`, `pop {list}`, `stm n!, {list}`, `ldm n!, {list}`, `ldm n, {list}`
+  push_list : {tokens : List Token} {rs : List ℕ} → IsList tokens rs
+      → IsItem code (Word' Push ∷ OpenBrace ∷ tokens) (push_item (ascend_from 0 rs) (bits_with 0 rs))
+  pop_list : {tokens : List Token} {rs : List ℕ} → IsList tokens rs
+      → IsItem code (Word' Pop ∷ OpenBrace ∷ tokens) (pop_item (ascend_from 0 rs) (bits_with 0 rs))
+  stm_back : {n : ℕ} {tokens : List Token} {rs : List ℕ} → IsList tokens rs
+      → IsItem code (Word' Stm ∷ Register n ∷ Bang ∷ Comma ∷ OpenBrace ∷ tokens) (stm_item n (ascend_from 0 rs) (bits_with 0 rs))
+  ldm_back : {n : ℕ} {tokens : List Token} {rs : List ℕ} → IsList tokens rs
+      → IsItem code (Word' Ldm ∷ Register n ∷ Bang ∷ Comma ∷ OpenBrace ∷ tokens) (ldm_item n (ascend_from 0 rs) (bits_with 0 rs))
+  ldm_listed : {n : ℕ} {tokens : List Token} {rs : List ℕ} → IsList tokens rs
+      → IsItem code (Word' Ldm ∷ Register n ∷ Comma ∷ OpenBrace ∷ tokens) (ldm_listed_item n (ascend_from 0 rs) (bits_with 0 rs))
 
 -- ---- lines
 

@@ -1,25 +1,21 @@
 -- Lists of registers: registers and ranges `a-b`, joined by commas (ARMv6-M Architecture Reference Manual, A6.7, Assembler syntax).
-use Rattle.std.specs.Prelude.{ℕ, zero, suc, ◌+◌, ◌-◌, ◌^◌, true, false, ◌&&◌, nat_le, nat_lt, if◌then◌else◌, bit_or}
-use Rattle.thumb_parse.specs.declared.operands.RegisterList.{RegisterList}
+use Rattle.std.specs.Prelude.{ℕ, ◌+◌, ◌-◌, ◌^◌, Bool, true, ◌&&◌, nat_le, nat_lt, if◌then◌else◌, List, [], ◌∷◌, bit_or}
+use Rattle.std.specs.List.{range_with_len}
 
-abbrev pub no_registers : RegisterList
-no_registers = record { mask = 0; next = 0; ascends = true }
+-- the registers of a range; where its last is below its first these two, which do not ascend
+abbrev pub range_of : ℕ → ℕ → List ℕ
+range_of a b = if nat_lt b a then a ∷ b ∷ [] else range_with_len a (b - a + 1)
+
+-- each register is above those before it, and none is below this one
+abbrev pub ascend_from : ℕ → List ℕ → Bool
+ascend_from least [] = true
+ascend_from least (r ∷ rs) = nat_le least r && ascend_from (r + 1) rs
 
 -- bit k for register k
 abbrev pub register_bit : ℕ → ℕ
 register_bit r = if nat_lt r 16 then 2 ^ r else 0
 
--- one more register: the list ascends where it is above those before it
-abbrev pub with_register : RegisterList → ℕ → RegisterList
-with_register list r = record { mask = bit_or list.mask (register_bit r); next = r + 1; ascends = list.ascends && nat_le list.next r }
-
--- so many registers more, the one after `r` first
-unfoldable pub with_registers : RegisterList → ℕ → ℕ → RegisterList
-with_registers list r zero = list
-with_registers list r (suc count) = with_registers (with_register list (r + 1)) (r + 1) count
-
--- a range: it ascends where its last register is no less than its first
-unfoldable pub with_range : RegisterList → ℕ → ℕ → RegisterList
-with_range list first last =
-    if nat_lt last first then record { mask = list.mask; next = list.next; ascends = false }
-    else with_registers (with_register list first) first (last - first)
+-- these bits with those of some registers
+abbrev pub bits_with : ℕ → List ℕ → ℕ
+bits_with bits [] = bits
+bits_with bits (r ∷ rs) = bits_with (bit_or bits (register_bit r)) rs

@@ -1,8 +1,9 @@
 //! The forms of items: the numbers that they take and the registers that they can hold.
 
-ghost use Rattle.std.specs.Prelude.{◌≡◌, ◌≤◌, ◌<◌, IfSome};
-ghost use Rattle.thumb_parse.specs.descent.Forms.{adjust_stack, align_alone, alone, any_pair, compare, for_interrupts, form_of, immediate_register, index_immediate, index_register, low_pair, numbered, offset_form, register_and_list, register_immediate, register_name, registers_immediate, registered, read_special, shift_left, shift_right, small_number, with_byte, from_stack, three_registers, two_registers, with_immediate, with_list, with_name, with_number, with_register, with_sum, write_back};
-ghost use Rattle.thumb_parse.specs.Forms.{condition_of, field, holds_list, is_listed, is_low, is_special_register, judged, name_text, low_registers, word, half, space, unit_of, units};
+ghost use Rattle.std.specs.Prelude.{◌≡◌, ◌≤◌, ◌<◌, ◌&&◌, true, IfSome};
+ghost use Rattle.thumb_parse.specs.FormOps.{low_op};
+ghost use Rattle.thumb_parse.specs.descent.Forms.{adjust_stack, alone, compare, for_interrupts, form_of, immediate_register, index_immediate, index_register, register_and_list, register_immediate, register_name, registers_immediate, read_special, shift_left, shift_right, short, small_number, with_byte, from_stack, three_registers, two_registers, with_immediate, with_list, with_name, with_number, with_register, with_sum, write_back};
+ghost use Rattle.thumb_parse.specs.Forms.{condition_of, field, holds_list, is_listed, is_low, is_special_register, judged, name_text, word, half, space, unit_of, units};
 
 use crate::form_ops::{
     adjust_op, alone_op, branch_op, byte_op, index_op, low_op, number_op, offset_op, shift_op,
@@ -70,33 +71,13 @@ fn judged(size: u8, ranged: bool, held: bool, op: Op) -> Item
     }
 }
 
-/// An instruction of two bytes with a number, if a form has it.
-fn numbered(number: Option<u8>, held: bool, op: Option<Op>) -> Option<Item>
-    ensures { result ≡ numbered number held op }
+/// An instruction of two bytes, whose number may be out of range and whose registers it may not hold, if a form has it.
+fn short(ranged: bool, held: bool, op: Option<Op>) -> Option<Item>
+    ensures { result ≡ short ranged held op }
 {
     match op {
-        Some(op) => Some(judged(2, number.is_some(), held, op)),
+        Some(op) => Some(judged(2, ranged, held, op)),
         None => None,
-    }
-}
-
-/// An instruction of two bytes without a number, if a form has it.
-fn registered(held: bool, op: Option<Op>) -> Option<Item>
-    ensures { result ≡ registered held op }
-{
-    match op {
-        Some(op) => Some(judged(2, true, held, op)),
-        None => None,
-    }
-}
-
-/// `.align`.
-fn align_alone(mnemonic: Mnemonic) -> Option<Item>
-    ensures { result ≡ align_alone mnemonic }
-{
-    match mnemonic {
-        Mnemonic::Align => Some(Item::Align),
-        _ => None,
     }
 }
 
@@ -104,9 +85,12 @@ fn align_alone(mnemonic: Mnemonic) -> Option<Item>
 fn alone(mnemonic: Mnemonic) -> Option<Item>
     ensures { result ≡ alone mnemonic }
 {
-    match alone_op(mnemonic) {
-        Some(op) => Some(Item::Instruction(op)),
-        None => align_alone(mnemonic),
+    match mnemonic {
+        Mnemonic::Align => Some(Item::Align),
+        _ => match alone_op(mnemonic) {
+            Some(op) => Some(Item::Instruction(op)),
+            None => None,
+        },
     }
 }
 
@@ -224,7 +208,7 @@ fn with_immediate(mnemonic: Mnemonic, number: Number) -> Option<Item>
     ensures { result ≡ with_immediate mnemonic number }
 {
     let byte = units(1, 0, 255, number);
-    numbered(byte, true, number_op(mnemonic, field(byte)))
+    short(byte.is_some(), true, number_op(mnemonic, field(byte)))
 }
 
 /// `msr #k, m`.
@@ -264,31 +248,22 @@ fn compare(d: u8, m: u8) -> Op
     }
 }
 
-/// `add`, `cmp` and `mov` of any registers.
-fn any_pair(mnemonic: Mnemonic, d: u8, m: u8) -> Option<Op>
-    ensures { result ≡ any_pair mnemonic d m }
-{
-    match mnemonic {
-        Mnemonic::Cmp => Some(compare(d, m)),
-        Mnemonic::Add => Some(Op::AddHigh { d, m }),
-        Mnemonic::Mov => Some(Op::MovHigh { d, m }),
-        _ => None,
-    }
-}
-
+/// The instructions on two low registers.
 fn low_pair(mnemonic: Mnemonic, d: u8, m: u8) -> Option<Item>
-    ensures { result ≡ low_pair mnemonic d m }
+    ensures { result ≡ short true (is_low d && is_low m) (low_op mnemonic m d) }
 {
-    registered(is_low(d) && is_low(m), low_op(mnemonic, m, d))
+    short(true, is_low(d) && is_low(m), low_op(mnemonic, m, d))
 }
 
 /// `add`, `cmp` and `mov` of any registers; the other instructions on two registers.
 fn two_registers(mnemonic: Mnemonic, d: u8, m: u8) -> Option<Item>
     ensures { result ≡ two_registers mnemonic d m }
 {
-    match any_pair(mnemonic, d, m) {
-        Some(op) => Some(Item::Instruction(op)),
-        None => low_pair(mnemonic, d, m),
+    match mnemonic {
+        Mnemonic::Cmp => Some(Item::Instruction(compare(d, m))),
+        Mnemonic::Add => Some(Item::Instruction(Op::AddHigh { d, m })),
+        Mnemonic::Mov => Some(Item::Instruction(Op::MovHigh { d, m })),
+        _ => low_pair(mnemonic, d, m),
     }
 }
 
@@ -296,7 +271,8 @@ fn two_registers(mnemonic: Mnemonic, d: u8, m: u8) -> Option<Item>
 fn three_registers(mnemonic: Mnemonic, d: u8, n: u8, m: u8) -> Option<Item>
     ensures { result ≡ three_registers mnemonic d n m }
 {
-    registered(
+    short(
+        true,
         is_low(d) && is_low(n) && is_low(m),
         three_op(mnemonic, m, n, d),
     )
@@ -308,7 +284,7 @@ fn adjust_stack(mnemonic: Mnemonic, d: u8, number: Number) -> Option<Item>
 {
     if d == STACK_POINTER {
         let words = units(4, 0, 127, number);
-        numbered(words, true, adjust_op(mnemonic, field(words)))
+        short(words.is_some(), true, adjust_op(mnemonic, field(words)))
     } else {
         None
     }
@@ -332,7 +308,7 @@ fn with_byte(mnemonic: Mnemonic, d: u8, number: Number) -> Option<Item>
     ensures { result ≡ with_byte mnemonic d number }
 {
     let byte = units(1, 0, 255, number);
-    numbered(byte, is_low(d), byte_op(mnemonic, d, field(byte)))
+    short(byte.is_some(), is_low(d), byte_op(mnemonic, d, field(byte)))
 }
 
 /// `mrs d, #k`, `add sp, #k`, `sub sp, #k`; `movs`, `cmp`, `adds` and `subs` with a byte.
@@ -364,8 +340,8 @@ fn shift_right(mnemonic: Mnemonic, d: u8, m: u8, number: Number) -> Option<Item>
     ensures { result ≡ shift_right mnemonic d m number }
 {
     let count = units(1, 1, 32, number);
-    numbered(
-        count,
+    short(
+        count.is_some(),
         is_low(d) && is_low(m),
         shift_op(mnemonic, field(count) % 32, m, d),
     )
@@ -390,7 +366,7 @@ fn small_number(mnemonic: Mnemonic, d: u8, n: u8, number: Number) -> Option<Item
 {
     let small = units(1, 0, 7, number);
     let op = small_op(mnemonic, field(small), n, d);
-    numbered(small, is_low(d) && is_low(n), op)
+    short(small.is_some(), is_low(d) && is_low(n), op)
 }
 
 /// The shifts by a number, `add d, sp, #k`, `adds` and `subs` with a number of three bits.
@@ -420,7 +396,8 @@ fn register_name(mnemonic: Mnemonic, register: u8, name: Span) -> Option<Item>
 fn index_register(mnemonic: Mnemonic, t: u8, n: u8, m: u8) -> Option<Item>
     ensures { result ≡ index_register mnemonic t n m }
 {
-    registered(
+    short(
+        true,
         is_low(t) && is_low(n) && is_low(m),
         index_op(mnemonic, m, n, t),
     )
@@ -438,16 +415,6 @@ fn unit_of(mnemonic: Mnemonic) -> u64
     }
 }
 
-fn offset_form(mnemonic: Mnemonic, t: u8, n: u8, units: Option<u8>) -> Option<Item>
-    ensures { result ≡ offset_form mnemonic t n units }
-{
-    numbered(
-        units,
-        is_low(t) && is_low(n),
-        offset_op(mnemonic, field(units), n, t),
-    )
-}
-
 /// Loads and stores `t, [n, #k]`; `str` and `ldr` `t, [sp, #k]`.
 fn index_immediate(mnemonic: Mnemonic, t: u8, n: u8, number: Number) -> Option<Item>
     ensures { result ≡ index_immediate mnemonic t n number }
@@ -455,31 +422,30 @@ fn index_immediate(mnemonic: Mnemonic, t: u8, n: u8, number: Number) -> Option<I
     let unit = unit_of(mnemonic);
     if n == STACK_POINTER && unit == 4 {
         let words = units(4, 0, 255, number);
-        numbered(words, is_low(t), stack_op(mnemonic, t, field(words)))
+        short(
+            words.is_some(),
+            is_low(t),
+            stack_op(mnemonic, t, field(words)),
+        )
     } else {
-        offset_form(mnemonic, t, n, units(unit, 0, 31, number))
+        let count = units(unit, 0, 31, number);
+        let op = offset_op(mnemonic, field(count), n, t);
+        short(count.is_some(), is_low(t) && is_low(n), op)
     }
 }
 
 /// A list that ascends, of low registers and perhaps the one of this bit of the upper eight.
 fn holds_list(list: RegisterList, last: u16) -> bool
-    ensures { result ≡ holds_list list last }
+    ensures { result ≡ holds_list list.ascends list.mask last }
 {
     list.ascends && (list.mask / 256 == 0 || list.mask / 256 == last)
-}
-
-/// The low registers of a list.
-fn low_registers(list: RegisterList) -> u8
-    ensures { result ≡ low_registers list }
-{
-    (list.mask % 256) as u8
 }
 
 /// `push` and `pop`.
 fn with_list(mnemonic: Mnemonic, list: RegisterList) -> Option<Item>
     ensures { result ≡ with_list mnemonic list }
 {
-    let l = low_registers(list);
+    let l = (list.mask % 256) as u8;
     match mnemonic {
         Mnemonic::Push => {
             let r = list.mask / 256 == 0x40;
@@ -494,7 +460,7 @@ fn with_list(mnemonic: Mnemonic, list: RegisterList) -> Option<Item>
 }
 
 fn is_listed(n: u8, list: RegisterList) -> bool
-    ensures { result ≡ is_listed n list }
+    ensures { result ≡ is_listed n list.mask }
 {
     list.mask & register_bit(n) != 0
 }
@@ -504,7 +470,7 @@ fn write_back(mnemonic: Mnemonic, n: u8, list: RegisterList) -> Option<Item>
     ensures { result ≡ write_back mnemonic n list }
 {
     let held = is_low(n) && holds_list(list, 0);
-    let l = low_registers(list);
+    let l = (list.mask % 256) as u8;
     match mnemonic {
         Mnemonic::Stm => Some(judged(2, true, held, Op::Stm { n, l })),
         Mnemonic::Ldm => {
@@ -520,7 +486,7 @@ fn register_and_list(mnemonic: Mnemonic, n: u8, list: RegisterList) -> Option<It
     ensures { result ≡ register_and_list mnemonic n list }
 {
     let held = is_low(n) && holds_list(list, 0) && is_listed(n, list);
-    let l = low_registers(list);
+    let l = (list.mask % 256) as u8;
     match mnemonic {
         Mnemonic::Ldm => Some(judged(2, true, held, Op::Ldm { n, l })),
         _ => None,

@@ -1,8 +1,8 @@
 //! The operands of an item, read from the tokens after its mnemonic.
 
 ghost use Rattle.std.specs.Prelude.{◌≡◌, ◌≤◌, ◌+◌, ◌-◌};
-ghost use Rattle.thumb_parse.specs.descent.Operands.{after_comma, after_register, after_second, index_of, list_from, list_of, list_step, list_whole, operands_of};
-ghost use Rattle.thumb_parse.specs.Lists.{no_registers, register_bit, with_range, with_register, with_registers};
+ghost use Rattle.thumb_parse.specs.descent.Operands.{after_comma, after_register, after_second, index_of, list_from, list_of, list_step, list_whole, no_registers, operands_of, with_range, with_register, with_registers};
+ghost use Rattle.thumb_parse.specs.Lists.{range_of, register_bit};
 
 use crate::token::{Number, Span, Token};
 
@@ -100,7 +100,7 @@ pub(crate) fn register_bit(register: u8) -> u16
 
 impl RegisterList {
     ghost use Rattle.std.specs.Prelude.{◌≡◌};
-    ghost use Rattle.thumb_parse.specs.Lists.{no_registers, with_range, with_register};
+    ghost use Rattle.thumb_parse.specs.descent.Operands.{no_registers, with_range, with_register};
 
     fn new() -> RegisterList
         ensures { result ≡ no_registers }
@@ -123,18 +123,15 @@ impl RegisterList {
         }
     }
 
-    /// The registers from `first` to `last`.
+    /// The registers from `first` to `last`, or these two where `last` is below `first`.
     #[tactic(auto, using(crate::proofs::Lists::range_down, crate::proofs::Lists::range_up, crate::proofs::Lists::registers_more, crate::proofs::Lists::registers_none))]
     fn with_range(self, first: u8, last: u8) -> RegisterList
         ensures { result ≡ with_range self first last }
     {
-        if last < first {
-            return RegisterList {
-                ascends: false,
-                ..self
-            };
-        }
         let mut list = self.with_register(first);
+        if last < first {
+            return list.with_register(last);
+        }
         for register in first..last {
             list = list.with_register(register + 1);
         }
@@ -153,8 +150,8 @@ fn list_step(part: ListPart, token: Token) -> ListPart
             _ => ListPart::Misfit,
         },
         ListPart::One(list, first) => match token {
-            Token::Comma => ListPart::Open(list.with_range(first, first)),
-            Token::CloseBrace => ListPart::Closed(list.with_range(first, first)),
+            Token::Comma => ListPart::Open(list.with_register(first)),
+            Token::CloseBrace => ListPart::Closed(list.with_register(first)),
             Token::Minus => ListPart::To(list, first),
             _ => ListPart::Misfit,
         },

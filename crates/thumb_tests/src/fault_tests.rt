@@ -1,50 +1,39 @@
 //! Each fault, as the smallest source that has it and as the last line of a long one; which fault comes first; and long lines and many
 //! names.
 
-use crate::outcome::{Row, Wanted, assembled, bytes_in, bytes_of, first_wrong};
+use crate::outcome::Wanted::{Fault, Words};
+use crate::outcome::{Row, assembled, bytes_in, bytes_of, first_wrong};
 use std::alloc::{AllocError, Global};
 use std::test::Fail;
 use thumb_asm::ThumbFault;
+use thumb_asm::ThumbFault::{
+    Align, Char, Nothing, Range, Register, Syntax, TooLong, Twice, Unknown,
+};
 
 const SMALLEST: [Row; 9] = [
-    ("?", Wanted::Fault(ThumbFault::Char(1))),
-    ("nop nop", Wanted::Fault(ThumbFault::Syntax(1))),
-    ("b there", Wanted::Fault(ThumbFault::Unknown(1))),
-    ("a:\na:", Wanted::Fault(ThumbFault::Twice(2))),
-    ("movs r0, #256", Wanted::Fault(ThumbFault::Range(1))),
-    ("adds r0, r8, r1", Wanted::Fault(ThumbFault::Register(1))),
-    (".space 1\nnop", Wanted::Fault(ThumbFault::Align(2))),
-    ("", Wanted::Fault(ThumbFault::Nothing(0))),
-    ("; \x7f\n\na:\n", Wanted::Fault(ThumbFault::Nothing(0))),
+    ("?", Fault(Char(1))),
+    ("nop nop", Fault(Syntax(1))),
+    ("b there", Fault(Unknown(1))),
+    ("a:\na:", Fault(Twice(2))),
+    ("movs r0, #256", Fault(Range(1))),
+    ("adds r0, r8, r1", Fault(Register(1))),
+    (".space 1\nnop", Fault(Align(2))),
+    ("", Fault(Nothing(0))),
+    ("; \x7f\n\na:\n", Fault(Nothing(0))),
 ];
 
 /// The first Char comes, else the first Syntax, else the first line with another one, and of these the least number.
 const FIRST: [Row; 10] = [
-    ("nop nop\nb there\n?", Wanted::Fault(ThumbFault::Char(3))),
-    ("b there\nnop nop", Wanted::Fault(ThumbFault::Syntax(2))),
-    (
-        "b there\na: nop\na: nop",
-        Wanted::Fault(ThumbFault::Unknown(1)),
-    ),
-    (
-        "movs r0, #256\nb there",
-        Wanted::Fault(ThumbFault::Range(1)),
-    ),
-    ("a: nop\na: b there", Wanted::Fault(ThumbFault::Unknown(2))),
-    (
-        "a: nop\na: movs r0, #256",
-        Wanted::Fault(ThumbFault::Twice(2)),
-    ),
-    ("movs r8, #256", Wanted::Fault(ThumbFault::Range(1))),
-    (
-        ".space 1\nmovs r8, #0",
-        Wanted::Fault(ThumbFault::Register(2)),
-    ),
-    (".space 1\nb there", Wanted::Fault(ThumbFault::Unknown(2))),
-    (
-        "nop ; ?\n\tnop\r\n ; nop nop\nnop?",
-        Wanted::Fault(ThumbFault::Char(4)),
-    ),
+    ("nop nop\nb there\n?", Fault(Char(3))),
+    ("b there\nnop nop", Fault(Syntax(2))),
+    ("b there\na: nop\na: nop", Fault(Unknown(1))),
+    ("movs r0, #256\nb there", Fault(Range(1))),
+    ("a: nop\na: b there", Fault(Unknown(2))),
+    ("a: nop\na: movs r0, #256", Fault(Twice(2))),
+    ("movs r8, #256", Fault(Range(1))),
+    (".space 1\nmovs r8, #0", Fault(Register(2))),
+    (".space 1\nb there", Fault(Unknown(2))),
+    ("nop ; ?\n\tnop\r\n ; nop nop\nnop?", Fault(Char(4))),
 ];
 
 #[test]
@@ -83,27 +72,27 @@ const NO_FORM: [&str; 23] = [
 
 /// Lines that do.
 const FORMS: [Row; 7] = [
-    ("lsl: nop", Wanted::Words(0, &[0xbf00])),
-    ("i: cpsie i", Wanted::Words(0, &[0xb662])),
-    ("a: .word a+-4", Wanted::Words(0, &[0xfffc, 0x1fff])),
-    ("push { r0 , r1 - r3 }", Wanted::Words(0, &[0xb40f])),
-    ("push {r0-r3}\r\n", Wanted::Words(0, &[0xb40f])),
-    ("movs\tr0,#0x1F", Wanted::Words(0, &[0x201f])),
-    ("r16: b r16", Wanted::Words(0, &[0xe7fe])),
+    ("lsl: nop", Words(0, &[0xbf00])),
+    ("i: cpsie i", Words(0, &[0xb662])),
+    ("a: .word a+-4", Words(0, &[0xfffc, 0x1fff])),
+    ("push { r0 , r1 - r3 }", Words(0, &[0xb40f])),
+    ("push {r0-r3}\r\n", Words(0, &[0xb40f])),
+    ("movs\tr0,#0x1F", Words(0, &[0x201f])),
+    ("r16: b r16", Words(0, &[0xe7fe])),
 ];
 
 #[test]
 fn lines_and_their_forms(rt: HostRuntime) -> Result<(), Fail> {
     for line in NO_FORM {
         let fault = fault_of(rt.alloc(), line.as_bytes());
-        assert!(rt; fault == Some(ThumbFault::Syntax(1)), "{line}");
+        assert!(rt; fault == Some(Syntax(1)), "{line}");
     }
     assert_eq!(rt; first_wrong(rt.alloc(), &FORMS)?, None);
     Ok(())
 }
 
 /// Some bytes, and behind them others so many times, and then the last ones.
-fn with_run(
+pub fn with_run(
     alloc: Global,
     head: &[u8],
     middle: &[u8],
@@ -119,19 +108,19 @@ fn with_run(
 }
 
 /// The fault of a text.
-fn fault_of(alloc: Global, text: &[u8]) -> Option<ThumbFault> {
+pub fn fault_of(alloc: Global, text: &[u8]) -> Option<ThumbFault> {
     assembled(alloc, text).err()
 }
 
 /// The last lines of a source of 5000 lines before them, and the fault.
 const LAST: [(&[u8], ThumbFault); 7] = [
-    (b"?", ThumbFault::Char(5_001)),
-    (b"nop nop", ThumbFault::Syntax(5_001)),
-    (b"b there", ThumbFault::Unknown(5_001)),
-    (b"a:", ThumbFault::Twice(5_001)),
-    (b"b a", ThumbFault::Range(5_001)),
-    (b"mov r0, r1\npush {pc}", ThumbFault::Register(5_002)),
-    (b".space 1\nnop", ThumbFault::Align(5_002)),
+    (b"?", Char(5_001)),
+    (b"nop nop", Syntax(5_001)),
+    (b"b there", Unknown(5_001)),
+    (b"a:", Twice(5_001)),
+    (b"b a", Range(5_001)),
+    (b"mov r0, r1\npush {pc}", Register(5_002)),
+    (b".space 1\nnop", Align(5_002)),
 ];
 
 #[test]
@@ -142,7 +131,7 @@ fn the_last_line_of_a_long_source(rt: HostRuntime) -> Result<(), Fail> {
         assert!(rt; fault_of(alloc, &text) == Some(fault), "{fault}");
     }
     let empty = with_run(alloc, b"", b"; \xff\n", 20_000, b"")?;
-    assert!(rt; fault_of(alloc, &empty) == Some(ThumbFault::Nothing(0)));
+    assert!(rt; fault_of(alloc, &empty) == Some(Nothing(0)));
     Ok(())
 }
 
@@ -153,9 +142,9 @@ fn the_end_of_sram(rt: HostRuntime) -> Result<(), Fail> {
     let full = with_run(alloc, b"", b".space 4096\n", 66, b"")?;
     assert!(rt; assembled(alloc, &full).is_ok());
     let more = with_run(alloc, &full, b"a:\n", 1, b".space 1")?;
-    assert!(rt; fault_of(alloc, &more) == Some(ThumbFault::TooLong(68)));
+    assert!(rt; fault_of(alloc, &more) == Some(TooLong(68)));
     let over = with_run(alloc, b"nop\n", b".space 4096\n", 66, b"nop")?;
-    assert!(rt; fault_of(alloc, &over) == Some(ThumbFault::TooLong(67)));
+    assert!(rt; fault_of(alloc, &over) == Some(TooLong(67)));
     Ok(())
 }
 
@@ -167,9 +156,9 @@ fn long_lines(rt: HostRuntime) -> Result<(), Fail> {
     let image = assembled(alloc, &spaces)?;
     assert!(rt; bytes_of(alloc, &image)?.as_slice() == bytes_in(alloc, &[0xbf00])?.as_slice());
     let word = with_run(alloc, b"b ", b"a", 1_048_574, b"")?;
-    assert!(rt; fault_of(alloc, &word) == Some(ThumbFault::Unknown(1)));
+    assert!(rt; fault_of(alloc, &word) == Some(Unknown(1)));
     let digits = with_run(alloc, b".word ", b"0", 1_048_570, b"")?;
-    assert!(rt; fault_of(alloc, &digits) == Some(ThumbFault::Syntax(1)));
+    assert!(rt; fault_of(alloc, &digits) == Some(Syntax(1)));
     Ok(())
 }
 
@@ -193,7 +182,7 @@ fn names(alloc: Global) -> Result<Vec<u8>, AllocError> {
 #[test]
 fn one_name_again_and_again(rt: HostRuntime) -> Result<(), Fail> {
     let again = with_run(rt.alloc(), b"", b"a:\n", 100_000, b"")?;
-    assert!(rt; fault_of(rt.alloc(), &again) == Some(ThumbFault::Twice(2)));
+    assert!(rt; fault_of(rt.alloc(), &again) == Some(Twice(2)));
     Ok(())
 }
 

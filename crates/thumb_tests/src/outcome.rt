@@ -48,7 +48,12 @@ pub fn bytes_in(alloc: Global, words: &[u16]) -> Result<Vec<u8>, AllocError> {
 }
 
 /// Whether an image has these halfwords at a place.
-fn has_words(alloc: Global, image: &Image, at: usize, words: &[u16]) -> Result<bool, AllocError> {
+pub fn has_words(
+    alloc: Global,
+    image: &Image,
+    at: usize,
+    words: &[u16],
+) -> Result<bool, AllocError> {
     let bytes = bytes_of(alloc, image)?;
     let wanted = bytes_in(alloc, words)?;
     let (_, rest) = bytes.split_at(at.min(bytes.len()));

@@ -1,9 +1,9 @@
 -- How an item is found by its mnemonic and its operands: where no form has the mnemonic with operands of that shape there is none.
-use Rattle.std.specs.Prelude.{ℕ, ◌/◌, ◌%◌, Bool, true, not, ◌==◌, ◌&&◌, if◌then◌else◌, List, [], ◌∷◌, Option, None, Some, is_some}
-use Rattle.std.specs.Option.{option_map, option_map_or}
+use Rattle.std.specs.Prelude.{ℕ, ◌%◌, Bool, true, ◌==◌, ◌&&◌, if◌then◌else◌, List, [], ◌∷◌, Option, None, Some, is_some}
+use Rattle.std.specs.Option.{option_map}
 use Rattle.std.specs.Str.{bytes_eq}
 use Rattle.rp_base.specs.declared.op.Op.{Op}
-use Rattle.rp_base.specs.declared.op.Op.TheVariants.{LslImm, Cmp as CmpLow, CmpHigh, AddHigh, MovHigh, AddSp, Cpsie as CpsieOp, Cpsid as CpsidOp, Push as PushOp, Pop as PopOp, Stm as StmOp, Ldm as LdmOp, Msr as MsrOp, Mrs as MrsOp}
+use Rattle.rp_base.specs.declared.op.Op.TheVariants.{LslImm, Cmp as CmpLow, CmpHigh, AddHigh, MovHigh, AddSp, Cpsie as CpsieOp, Cpsid as CpsidOp, Msr as MsrOp, Mrs as MrsOp}
 use Rattle.thumb_parse.specs.declared.mnemonic.Mnemonic.{Mnemonic}
 use Rattle.thumb_parse.specs.declared.mnemonic.Mnemonic.TheVariants.{Cmp, Lsls, Lsrs, Asrs, Add, Mov, Sub, Ldr, Adr, Push, Pop, Stm, Ldm, Cpsie, Cpsid, B, Bl, Msr, Mrs, Word as WordDirective, Half as HalfDirective, Space as SpaceDirective, Align as AlignDirective}
 use Rattle.thumb_parse.specs.declared.token.Span.{Span}
@@ -14,24 +14,16 @@ use Rattle.thumb_parse.specs.declared.operands.Operands.TheVariants.{Empty as No
 use Rattle.thumb_parse.specs.declared.item.Item.{Item}
 use Rattle.thumb_parse.specs.declared.item.Item.TheVariants.{Instruction, Literal, Address, Branch, Call, BranchIf, WordAt, Align}
 use Rattle.thumb_parse.specs.FormOps.{alone_op, number_op, branch_op, low_op, three_op, byte_op, small_op, index_op, offset_op, stack_op, adjust_op, shift_op}
-use Rattle.thumb_parse.specs.Forms.{units, is_low, judged, field, word, half, space, condition_of, name_text, is_special_register, unit_of, holds_list, low_registers, is_listed}
+use Rattle.thumb_parse.specs.Forms.{units, is_low, judged, field, word, half, space, condition_of, name_text, is_special_register, unit_of, push_item, pop_item, stm_item, ldm_item, ldm_listed_item}
 
--- an instruction of two bytes with a number, if a form has it
-abbrev pub numbered : Option ℕ → Bool → Option Op → Option Item
-numbered k held op = option_map (judged 2 (is_some k) held) op
-
--- an instruction of two bytes without a number, if a form has it
-abbrev pub registered : Bool → Option Op → Option Item
-registered held op = option_map (judged 2 true held) op
-
--- `.align`
-abbrev pub align_alone : Mnemonic → Option Item
-align_alone AlignDirective = Some Align
-align_alone mnemonic = None
+-- an instruction of two bytes, of whose number and registers this is known, if a form has it
+abbrev pub short : Bool → Bool → Option Op → Option Item
+short ranged held op = option_map (judged 2 ranged held) op
 
 -- `nop` and the like, `.align`
 abbrev pub alone : Mnemonic → Option Item
-alone mnemonic = option_map_or (λ op. Some (Instruction op)) (alone_op mnemonic) (align_alone mnemonic)
+alone AlignDirective = Some Align
+alone mnemonic = option_map Instruction (alone_op mnemonic)
 
 abbrev pub with_number : Mnemonic → Number → Option Item
 with_number WordDirective k = Some (word k)
@@ -59,7 +51,7 @@ with_sum mnemonic name k = None
 
 -- `bkpt`, `udf`, `svc` and 0 to 255
 abbrev pub with_immediate : Mnemonic → Number → Option Item
-with_immediate mnemonic k = numbered (units 1 0 255 k) true (number_op mnemonic (field (units 1 0 255 k)))
+with_immediate mnemonic k = short (is_some (units 1 0 255 k)) true (number_op mnemonic (field (units 1 0 255 k)))
 
 -- `msr #k, m` with 0 to 255
 abbrev pub immediate_register : Mnemonic → Number → ℕ → Option Item
@@ -74,28 +66,21 @@ with_register mnemonic m = option_map Instruction (branch_op mnemonic m)
 abbrev pub compare : ℕ → ℕ → Op
 compare d m = if is_low d && is_low m then CmpLow m d else CmpHigh d m
 
-abbrev pub low_pair : Mnemonic → ℕ → ℕ → Option Item
-low_pair mnemonic d m = registered (is_low d && is_low m) (low_op mnemonic m d)
-
--- `add`, `cmp`, `mov` of any registers
-abbrev pub any_pair : Mnemonic → ℕ → ℕ → Option Op
-any_pair Cmp d m = Some (compare d m)
-any_pair Add d m = Some (AddHigh d m)
-any_pair Mov d m = Some (MovHigh d m)
-any_pair mnemonic d m = None
-
--- those, or else the instructions on two low registers
+-- `add`, `cmp`, `mov` of any registers, or else the instructions on two low registers
 abbrev pub two_registers : Mnemonic → ℕ → ℕ → Option Item
-two_registers mnemonic d m = option_map_or (λ op. Some (Instruction op)) (any_pair mnemonic d m) (low_pair mnemonic d m)
+two_registers Cmp d m = Some (Instruction (compare d m))
+two_registers Add d m = Some (Instruction (AddHigh d m))
+two_registers Mov d m = Some (Instruction (MovHigh d m))
+two_registers mnemonic d m = short true (is_low d && is_low m) (low_op mnemonic m d)
 
 -- `adds`, `subs`
 abbrev pub three_registers : Mnemonic → ℕ → ℕ → ℕ → Option Item
-three_registers mnemonic d n m = registered (is_low d && is_low n && is_low m) (three_op mnemonic m n d)
+three_registers mnemonic d n m = short true (is_low d && is_low n && is_low m) (three_op mnemonic m n d)
 
 -- `add sp, #k` and `sub sp, #k` with 0 to 127 words
 abbrev pub adjust_stack : Mnemonic → ℕ → Number → Option Item
 adjust_stack mnemonic d k =
-    if d == 13 then numbered (units 4 0 127 k) true (adjust_op mnemonic (field (units 4 0 127 k))) else None
+    if d == 13 then short (is_some (units 4 0 127 k)) true (adjust_op mnemonic (field (units 4 0 127 k))) else None
 
 -- `mrs d, #k` with 0 to 255
 abbrev pub read_special : ℕ → Number → Item
@@ -103,7 +88,7 @@ read_special d k = judged 4 (is_some (units 1 0 255 k)) (is_special_register d) 
 
 -- `movs`, `cmp`, `adds`, `subs` with 0 to 255
 abbrev pub with_byte : Mnemonic → ℕ → Number → Option Item
-with_byte mnemonic d k = numbered (units 1 0 255 k) (is_low d) (byte_op mnemonic d (field (units 1 0 255 k)))
+with_byte mnemonic d k = short (is_some (units 1 0 255 k)) (is_low d) (byte_op mnemonic d (field (units 1 0 255 k)))
 
 -- `mrs d, #k`, `add sp, #k`, `sub sp, #k`; `movs`, `cmp`, `adds`, `subs` with 0 to 255
 abbrev pub register_immediate : Mnemonic → ℕ → Number → Option Item
@@ -119,7 +104,7 @@ shift_left d m k = judged 2 (is_some (units 1 0 31 k)) (is_low d && is_low m) (L
 -- `lsrs` and `asrs` by 1 to 32, where 0 stands for 32
 abbrev pub shift_right : Mnemonic → ℕ → ℕ → Number → Option Item
 shift_right mnemonic d m k =
-    numbered (units 1 1 32 k) (is_low d && is_low m) (shift_op mnemonic (field (units 1 1 32 k) % 32) m d)
+    short (is_some (units 1 1 32 k)) (is_low d && is_low m) (shift_op mnemonic (field (units 1 1 32 k) % 32) m d)
 
 -- `add d, sp, #k` with 0 to 255 words
 abbrev pub from_stack : ℕ → ℕ → Number → Option Item
@@ -128,7 +113,7 @@ from_stack d n k =
 
 -- `adds` and `subs` with 0 to 7
 abbrev pub small_number : Mnemonic → ℕ → ℕ → Number → Option Item
-small_number mnemonic d n k = numbered (units 1 0 7 k) (is_low d && is_low n) (small_op mnemonic (field (units 1 0 7 k)) n d)
+small_number mnemonic d n k = short (is_some (units 1 0 7 k)) (is_low d && is_low n) (small_op mnemonic (field (units 1 0 7 k)) n d)
 
 -- shifts by a number, `add d, sp, #k`, `adds` and `subs` with 0 to 7
 abbrev pub registers_immediate : Mnemonic → ℕ → ℕ → Number → Option Item
@@ -146,32 +131,31 @@ register_name mnemonic r name = None
 
 -- loads and stores `t, [n, m]`
 abbrev pub index_register : Mnemonic → ℕ → ℕ → ℕ → Option Item
-index_register mnemonic t n m = registered (is_low t && is_low n && is_low m) (index_op mnemonic m n t)
-
-abbrev pub offset_form : Mnemonic → ℕ → ℕ → Option ℕ → Option Item
-offset_form mnemonic t n k = numbered k (is_low t && is_low n) (offset_op mnemonic (field k) n t)
+index_register mnemonic t n m = short true (is_low t && is_low n && is_low m) (index_op mnemonic m n t)
 
 -- loads and stores `t, [n, #k]` with 0 to 31 units; `str` and `ldr` `t, [sp, #k]` with 0 to 255 words
 abbrev pub index_immediate : Mnemonic → ℕ → ℕ → Number → Option Item
 index_immediate mnemonic t n k =
-    if n == 13 && unit_of mnemonic == 4 then numbered (units 4 0 255 k) (is_low t) (stack_op mnemonic t (field (units 4 0 255 k)))
-    else offset_form mnemonic t n (units (unit_of mnemonic) 0 31 k)
+    if n == 13 && unit_of mnemonic == 4 then short (is_some (units 4 0 255 k)) (is_low t) (stack_op mnemonic t (field (units 4 0 255 k)))
+    else
+    short (is_some (units (unit_of mnemonic) 0 31 k)) (is_low t && is_low n)
+    (offset_op mnemonic (field (units (unit_of mnemonic) 0 31 k)) n t)
 
 -- `push` with `lr`, `pop` with `pc`
 abbrev pub with_list : Mnemonic → RegisterList → Option Item
-with_list Push list = Some (judged 2 true (holds_list list 0x40) (PushOp (list.mask / 256 == 0x40) (low_registers list)))
-with_list Pop list = Some (judged 2 true (holds_list list 0x80) (PopOp (list.mask / 256 == 0x80) (low_registers list)))
+with_list Push list = Some (push_item list.ascends list.mask)
+with_list Pop list = Some (pop_item list.ascends list.mask)
 with_list mnemonic list = None
 
 -- `stm n!, {list}`, and `ldm n!, {list}` with n not in the list
 abbrev pub write_back : Mnemonic → ℕ → RegisterList → Option Item
-write_back Stm n list = Some (judged 2 true (is_low n && holds_list list 0) (StmOp n (low_registers list)))
-write_back Ldm n list = Some (judged 2 true (is_low n && holds_list list 0 && not (is_listed n list)) (LdmOp n (low_registers list)))
+write_back Stm n list = Some (stm_item n list.ascends list.mask)
+write_back Ldm n list = Some (ldm_item n list.ascends list.mask)
 write_back mnemonic n list = None
 
 -- `ldm n, {list}` with n in the list
 abbrev pub register_and_list : Mnemonic → ℕ → RegisterList → Option Item
-register_and_list Ldm n list = Some (judged 2 true (is_low n && holds_list list 0 && is_listed n list) (LdmOp n (low_registers list)))
+register_and_list Ldm n list = Some (ldm_listed_item n list.ascends list.mask)
 register_and_list mnemonic n list = None
 
 -- the item of a mnemonic and its operands on this line

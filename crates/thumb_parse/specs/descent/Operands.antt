@@ -1,5 +1,5 @@
 -- How the operands of an item are read, by their shape.
-use Rattle.std.specs.Prelude.{ℕ, List, [], ◌∷◌, Option, None, Some}
+use Rattle.std.specs.Prelude.{ℕ, ◌+◌, true, ◌&&◌, nat_le, List, [], ◌∷◌, Option, None, Some, bit_or}
 use Rattle.std.specs.Option.{option_map}
 use Rattle.thumb_parse.specs.declared.token.Token.{Token}
 use Rattle.thumb_parse.specs.declared.token.Token.TheVariants.{Name as NameToken, Register as RegisterToken, Number as NumberToken, Comma, Hash, OpenBracket, CloseBracket, OpenBrace, CloseBrace, Bang, Plus, Minus}
@@ -8,13 +8,28 @@ use Rattle.thumb_parse.specs.declared.operands.ListPart.{ListPart}
 use Rattle.thumb_parse.specs.declared.operands.ListPart.TheVariants.{Open, One, To, Range, Closed, Misfit}
 use Rattle.thumb_parse.specs.declared.operands.Operands.{Operands}
 use Rattle.thumb_parse.specs.declared.operands.Operands.TheVariants.{Empty, Number, Name, NamePlus, Immediate, ImmediateRegister, Register, TwoRegisters, ThreeRegisters, RegisterImmediate, RegistersImmediate, RegisterName, IndexRegister, IndexImmediate, List as ListOperand, WriteBack, RegisterAndList}
-use Rattle.thumb_parse.specs.Lists.{no_registers, with_range}
+use Rattle.thumb_parse.specs.Lists.{range_of, register_bit}
+
+abbrev pub no_registers : RegisterList
+no_registers = record { mask = 0; next = 0; ascends = true }
+
+-- one more register: the list ascends where it is above those before it
+abbrev pub with_register : RegisterList → ℕ → RegisterList
+with_register list r = record { mask = bit_or list.mask (register_bit r); next = r + 1; ascends = list.ascends && nat_le list.next r }
+
+-- these registers more, one after the other
+unfoldable pub with_registers : RegisterList → List ℕ → RegisterList
+with_registers list [] = list
+with_registers list (r ∷ rs) = with_registers (with_register list r) rs
+
+abbrev pub with_range : RegisterList → ℕ → ℕ → RegisterList
+with_range list a b = with_registers list (range_of a b)
 
 -- what stands in a list with one token more
 unfoldable pub list_step : ListPart → Token → ListPart
 list_step (Open list) (RegisterToken first) = One list first
-list_step (One list first) Comma = Open (with_range list first first)
-list_step (One list first) CloseBrace = Closed (with_range list first first)
+list_step (One list first) Comma = Open (with_register list first)
+list_step (One list first) CloseBrace = Closed (with_register list first)
 list_step (One list first) Minus = To list first
 list_step (To list first) (RegisterToken last) = Range (with_range list first last)
 list_step (Range list) Comma = Open list
