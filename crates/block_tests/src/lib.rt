@@ -1,6 +1,7 @@
 //! Tests of the blocks of registers, DMA and PIO, with the words and cycles that the manuals give.
 #![tactic(auto)]
 
+pub mod counter;
 #[cfg(test)]
 mod dma_engine_tests;
 #[cfg(test)]

@@ -285,6 +285,48 @@ const FORCED: [Deed; 21] = [
     Deed::Reads(DBG_PADOUT, 0x3000_0001),
 ];
 
+/// The offsets by which these tests reach the registers are those of the datasheet's list (3.7).
+#[test]
+fn offsets(rt: HostRuntime) {
+    assert_eq!(rt;
+        [CTRL, FSTAT, FDEBUG, FLEVEL, TXF0, RXF0, IRQ, IRQ_FORCE],
+        [0x000, 0x004, 0x008, 0x00c, 0x010, 0x020, 0x030, 0x034]
+    );
+    assert_eq!(rt;
+        [
+            INPUT_SYNC_BYPASS,
+            DBG_PADOUT,
+            DBG_PADOE,
+            DBG_CFGINFO,
+            INSTR_MEM0
+        ],
+        [0x038, 0x03c, 0x040, 0x044, 0x048]
+    );
+    assert_eq!(rt;
+        [
+            SM0_CLKDIV + SM_CLKDIV,
+            SM0_CLKDIV + SM_EXECCTRL,
+            SM0_CLKDIV + SM_SHIFTCTRL
+        ],
+        [0x0c8, 0x0cc, 0x0d0]
+    );
+    assert_eq!(rt;
+        [
+            SM0_CLKDIV + SM_ADDR,
+            SM0_CLKDIV + SM_INSTR,
+            SM0_CLKDIV + SM_PINCTRL,
+            SM_BYTES
+        ],
+        [0x0d4, 0x0d8, 0x0dc, 0x018]
+    );
+    assert_eq!(rt;
+        [
+            INTR, IRQ0_INTE, IRQ0_INTF, IRQ0_INTS, IRQ1_INTE, IRQ1_INTF, IRQ1_INTS
+        ],
+        [0x128, 0x12c, 0x130, 0x134, 0x138, 0x13c, 0x140]
+    );
+}
+
 #[test]
 fn words(rt: HostRuntime) {
     assert_eq!(rt; first_wrong(&WORDS), None);

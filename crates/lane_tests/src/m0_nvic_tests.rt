@@ -128,6 +128,27 @@ const WORDS: [Deed; 31] = [
     Deed::Refused(AIRCR, 0x05fa_0004),
 ];
 
+/// The offsets by which these tests reach the words are those of the manual's lists (B3.2, B3.3 and B3.4).
+#[test]
+fn offsets(rt: HostRuntime) {
+    assert_eq!(rt;
+        [SYST_CSR, SYST_RVR, SYST_CVR, SYST_CALIB],
+        [0x010, 0x014, 0x018, 0x01c]
+    );
+    assert_eq!(rt;
+        [NVIC_ISER, NVIC_ICER, NVIC_ISPR, NVIC_ICPR],
+        [0x100, 0x180, 0x200, 0x280]
+    );
+    assert_eq!(rt;
+        [NVIC_IPR0, NVIC_IPR7, CPUID, ICSR, VTOR],
+        [0x400, 0x41c, 0xd00, 0xd04, 0xd08]
+    );
+    assert_eq!(rt;
+        [AIRCR, SCR, CCR, SHPR2, SHPR3],
+        [0xd0c, 0xd10, 0xd14, 0xd1c, 0xd20]
+    );
+}
+
 #[test]
 fn words(rt: HostRuntime) {
     assert_eq!(rt; first_wrong(&WORDS), None);

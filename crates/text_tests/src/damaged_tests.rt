@@ -1,5 +1,6 @@
 //! Damaged texts: each fault of a PIO source and of a script, in the smallest file that has it and as the last thing in a long one.
 
+use crate::pieces::joined;
 use crate::program_tests::fault_in;
 use pin_script::{ScriptFault, read_script};
 use pio_parse::PioFault;
@@ -7,19 +8,18 @@ use std::alloc::{AllocError, Global};
 use std::test::Fail;
 
 /// Some bytes, others so many times, and the last ones.
-fn with_lines(
+pub(crate) fn with_lines(
     alloc: Global,
     head: &[u8],
     line: &[u8],
     count: usize,
     tail: &[u8],
 ) -> Result<Vec<u8>, AllocError> {
-    let mut text = Vec::from_slice(alloc, head)?;
+    let mut lines = Vec::new(alloc);
     for _ in 0..count {
-        text.extend_from_slice(line)?;
+        lines.extend_from_slice(line)?;
     }
-    text.extend_from_slice(tail)?;
-    Ok(text)
+    joined(alloc, head, &lines, tail)
 }
 
 /// What stands last in a PIO source, and its fault where it stands on line 3, and where on line 100,003.

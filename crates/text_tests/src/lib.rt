@@ -9,6 +9,7 @@ mod command_words_tests;
 mod damaged_tests;
 #[cfg(test)]
 mod form_tests;
+pub mod pieces;
 #[cfg(test)]
 mod pin_script_tests;
 #[cfg(test)]

@@ -1,5 +1,6 @@
 //! Sources of every kind, large ones too, with the first fault of each.
 
+use crate::damaged_tests::with_lines;
 use crate::program_tests::{fault_in, has_words};
 use pio_parse::{PioFault, parse};
 use std::alloc::{AllocError, Global};
@@ -43,36 +44,20 @@ fn faults_of_sources(rt: HostRuntime) {
     }
 }
 
-// `head`, then a byte so many times, then `tail`.
-fn with_run(
-    alloc: Global,
-    head: &str,
-    byte: u8,
-    count: usize,
-    tail: &[u8],
-) -> Result<Vec<u8>, AllocError> {
-    let mut text = Vec::from_slice(alloc, head.as_bytes())?;
-    for _ in 0..count {
-        text.push(byte)?;
-    }
-    text.extend_from_slice(tail)?;
-    Ok(text)
-}
-
 // Sources of a megabyte.
 #[test]
 fn large_sources(rt: HostRuntime) -> Result<(), AllocError> {
     let alloc = rt.alloc();
-    let open = with_run(alloc, ".program p\n.word ", b'(', 1000000, b"")?;
-    assert!(rt; fault_in(alloc, open.as_slice()) == Some(PioFault::Syntax(2, 1000007)));
-    let close = with_run(alloc, "1", b')', 500000, b"\n")?;
-    let nested = with_run(alloc, ".program p\n.word ", b'(', 500000, close.as_slice())?;
-    assert!(rt; has_words(alloc, nested.as_slice(), &[1], 0, 0));
-    let signs = with_run(alloc, ".program p\n.word 7 ", b'-', 1000000, b"1\n")?;
-    assert!(rt; has_words(alloc, signs.as_slice(), &[8], 0, 0));
-    let jump = with_run(alloc, ": jmp ", b'a', 1000000, b"\n")?;
-    let label = with_run(alloc, ".program p\nnop\n", b'a', 1000000, jump.as_slice())?;
-    assert!(rt; has_words(alloc, label.as_slice(), &[0xa042, 1], 0, 1));
+    let open = with_lines(alloc, b".program p\n.word ", b"(", 1_000_000, b"")?;
+    assert!(rt; fault_in(alloc, &open) == Some(PioFault::Syntax(2, 1_000_007)));
+    let close = with_lines(alloc, b"1", b")", 500_000, b"\n")?;
+    let nested = with_lines(alloc, b".program p\n.word ", b"(", 500_000, &close)?;
+    assert!(rt; has_words(alloc, &nested, &[1], 0, 0));
+    let signs = with_lines(alloc, b".program p\n.word 7 ", b"-", 1_000_000, b"1\n")?;
+    assert!(rt; has_words(alloc, &signs, &[8], 0, 0));
+    let jump = with_lines(alloc, b": jmp ", b"a", 1_000_000, b"\n")?;
+    let label = with_lines(alloc, b".program p\nnop\n", b"a", 1_000_000, &jump)?;
+    assert!(rt; has_words(alloc, &label, &[0xa042, 1], 0, 1));
     Ok(())
 }
 
@@ -109,9 +94,9 @@ fn fault_of_byte(byte: u8) -> Option<PioFault> {
 #[test]
 fn each_byte(rt: HostRuntime) -> Result<(), AllocError> {
     for byte in 0..=255u8 {
-        let text = with_run(rt.alloc(), ".program p\nnop ", byte, 1, b"")?;
+        let text = with_lines(rt.alloc(), b".program p\nnop ", &[byte], 1, b"")?;
         assert!(rt;
-            fault_in(rt.alloc(), text.as_slice()) == fault_of_byte(byte),
+            fault_in(rt.alloc(), &text) == fault_of_byte(byte),
             "{byte}"
         );
     }
