@@ -6,14 +6,13 @@ use Rattle.lane_look.specs.declared.lane.Turn.{Turn}
 use Rattle.dma_engine.specs.declared.channel.Channel.{Channel}
 use Rattle.dma_engine.specs.declared.begun.BegunTransfer.{BegunTransfer}
 use Rattle.dma_engine.specs.State.{Engine, channel_at, with_hold}
-use Rattle.dma_engine.specs.Offsets.{INTR, INTE0, INTF0, INTS0, INTE1, INTF1, INTS1}
-use Rattle.dma_engine.specs.declared.line.InterruptLine.{InterruptLine}
 use Rattle.dma_engine.specs.Control.{is_quiet}
 use Rattle.dma_engine.specs.Channel.{triggered, aborted, idle, with_channels, changed, with_trigger, with_abort, with_raised, with_report, with_chain, with_end_of, with_end, in_turn}
 use Rattle.dma_engine.specs.Timer.{gets_credit, credited, with_credit, after_timers}
 use Rattle.dma_engine.specs.Choice.{choice_of}
 use Rattle.dma_engine.specs.Cycle.{is_over, after_ends, word_of, word_read, is_written, after_read_of, after_write_of, with_data, with_read_by, with_read, after_read, after_write, counted, choice_where_none, after_transfers, next}
-use Rattle.dma_engine.specs.Words.{null_trigger, trigger_word, with_word_of, with_register, register_at, index_of, number_of, channel_written, without_raised, with_enable, with_force, interrupt_written, timer_written, control_written, written, after_any, effect_of}
+use Rattle.dma_engine.specs.Words.{null_trigger, trigger_word, with_read_address, with_write_address, with_count, with_control, dma_rows, after_any, effect_of}
+use Rattle.rp_base.proofs.Rows.{Kept, keeps}
 
 pub either_way : {A : Type 0} (P : A → Type 0) (c : Bool) (x y : A) → P x → P y → P (if c then x else y)
 either_way P true x y h k = h
@@ -107,76 +106,40 @@ dma_next s begun turns bit h =
 -- ---- an access
 
 null_holds : (n : ℕ) (bit : Bool) (e : Engine) → Holds bit e → Holds bit (null_trigger n e)
-null_holds n bit e h = way bit (nat_lt n 12 && is_quiet (channel_at n e)) (with_raised n e) e (raised_holds n bit e h) h
+null_holds n bit e h = way bit (is_quiet (channel_at n e)) (with_raised n e) e (raised_holds n bit e h) h
 
 trigger_word_holds : (n w : ℕ) (bit : Bool) (e : Engine) → Holds bit e → Holds bit (trigger_word n w e)
 trigger_word_holds n w bit e h = way bit _ _ _ (null_holds n bit e h) (trigger_holds n bit e h)
 
-word_holds : (offset w : ℕ) (bit : Bool) (e : Engine) → Holds bit e → Holds bit (with_word_of offset w e)
-word_holds offset w bit e h = changed_holds (with_register (register_at (index_of offset)) w) (number_of offset) bit e h
+-- a register of a channel, and one that triggers
+channel_keeps : (write : ℕ → Channel → Channel) (bit : Bool) (e : Engine) → Holds bit e
+    → (n : ℕ) → Holds bit e × ((w : ℕ) → Holds bit (changed (write w) n e))
+channel_keeps write bit e h n = (h, λ w. changed_holds (write w) n bit e h)
 
-channel_holds : (offset w : ℕ) (bit : Bool) (e : Engine) → Holds bit e → Holds bit (channel_written offset w e)
-channel_holds offset w bit e h =
-    let word = word_holds offset w bit e h in
-    way bit _ _ _ (trigger_word_holds (number_of offset) w bit (with_word_of offset w e) word) word
+trigger_keeps : (write : ℕ → Channel → Channel) (bit : Bool) (e : Engine) → Holds bit e
+    → (n : ℕ) → Holds bit e × ((w : ℕ) → Holds bit (trigger_word n w (changed (write w) n e)))
+trigger_keeps write bit e h n = (h, λ w. trigger_word_holds n w bit (changed (write w) n e) (changed_holds (write w) n bit e h))
 
-cleared_holds : (w : ℕ) (bit : Bool) (e : Engine) → Holds bit e → Holds bit (without_raised w e)
-cleared_holds w bit e h = record { is = h.is }
-
-abbrev with_line_0 : InterruptLine → Engine → Engine
-with_line_0 line e = record e { line_0 = line }
-
-abbrev with_line_1 : InterruptLine → Engine → Engine
-with_line_1 line e = record e { line_1 = line }
-
-line_0_holds : (line : InterruptLine) (bit : Bool) (e : Engine) → Holds bit e → Holds bit (with_line_0 line e)
-line_0_holds line bit e h = record { is = h.is }
-
-line_1_holds : (line : InterruptLine) (bit : Bool) (e : Engine) → Holds bit e → Holds bit (with_line_1 line e)
-line_1_holds line bit e h = record { is = h.is }
-
--- of seven ways and none
-seven : (a b c d f g i bit : Bool) (t u v w x y z e : Engine) → Holds bit t → Holds bit u → Holds bit v → Holds bit w → Holds bit x → Holds bit y → Holds bit z
-    → Holds bit e
-    → Holds bit (if a then t else if b then u else if c then v else if d then w else if f then x else if g then y else if i then z else e)
-seven true b c d f g i bit t u v w x y z e ht hu hv hw hx hy hz he = ht
-seven false true c d f g i bit t u v w x y z e ht hu hv hw hx hy hz he = hu
-seven false false true d f g i bit t u v w x y z e ht hu hv hw hx hy hz he = hv
-seven false false false true f g i bit t u v w x y z e ht hu hv hw hx hy hz he = hw
-seven false false false false true g i bit t u v w x y z e ht hu hv hw hx hy hz he = hx
-seven false false false false false true i bit t u v w x y z e ht hu hv hw hx hy hz he = hy
-seven false false false false false false true bit t u v w x y z e ht hu hv hw hx hy hz he = hz
-seven false false false false false false false bit t u v w x y z e ht hu hv hw hx hy hz he = he
-
-interrupt_holds : (offset w : ℕ) (bit : Bool) (e : Engine) → Holds bit e → Holds bit (interrupt_written offset w e)
-interrupt_holds offset w bit e h =
-    seven (offset == INTR) (offset == INTE0) (offset == INTF0) (offset == INTS0) (offset == INTE1) (offset == INTF1) (offset == INTS1) bit
-    (without_raised w e) (with_line_0 (with_enable w e.line_0) e) (with_line_0 (with_force w e.line_0) e) (without_raised w e)
-    (with_line_1 (with_enable w e.line_1) e) (with_line_1 (with_force w e.line_1) e) (without_raised w e) e
-    (cleared_holds w bit e h) (line_0_holds (with_enable w e.line_0) bit e h) (line_0_holds (with_force w e.line_0) bit e h) (cleared_holds w bit e h)
-    (line_1_holds (with_enable w e.line_1) bit e h) (line_1_holds (with_force w e.line_1) bit e h) (cleared_holds w bit e h) h
-
-control_holds : (offset w : ℕ) (bit : Bool) (e : Engine) → Holds bit e → Holds bit (control_written offset w e)
-control_holds offset w bit e h =
-    way bit _ _ _ (turns_hold (has_bit w) with_trigger bit (λ k x g. trigger_holds k bit x g) 12 e h)
-    (way bit _ _ _ (turns_hold (has_bit w) with_abort bit (λ k x g. abort_holds k bit x g) 12 e h) h)
-
-timer_holds : (offset w : ℕ) (bit : Bool) (e : Engine) → Holds bit e → Holds bit (timer_written offset w e)
-timer_holds offset w bit e h = record { is = h.is }
-
-written_holds : (offset w : ℕ) (bit : Bool) (e : Engine) → Holds bit e → Holds bit (written offset w e)
-unfolding written
-written_holds offset w bit e h =
-    way bit _ _ _ (channel_holds offset w bit e h)
-    (way bit _ _ _ (interrupt_holds offset w bit e h)
-    (way bit _ _ _ (timer_holds offset w bit e h) (control_holds offset w bit e h)))
-
-access_holds : (offset : ℕ) (write : Option ℕ) (bit : Bool) (e : Engine) → Holds bit e → Holds bit (after_any offset write e)
-access_holds offset None bit e h = h
-access_holds offset (Some w) bit e h = written_holds offset w bit e h
+all_keep : (bit : Bool) (e : Engine) → Holds bit e → Kept (Holds bit) e dma_rows
+all_keep bit e h =
+    let read = channel_keeps with_read_address bit e h in
+    let write = channel_keeps with_write_address bit e h in
+    let count = channel_keeps with_count bit e h in
+    let control = channel_keeps with_control bit e h in
+    (read, (write, (count, (trigger_keeps with_control bit e h,
+    (control, (read, (write, (trigger_keeps with_count bit e h,
+    (control, (count, (read, (trigger_keeps with_write_address bit e h,
+    (control, (write, (count, (trigger_keeps with_read_address bit e h,
+    (λ n. (h, λ w. record { is = h.is }), (λ n. (h, λ w. record { is = h.is }), (λ n. (h, λ w. record { is = h.is }),
+    (λ n. (h, λ w. record { is = h.is }), (λ n. (h, λ w. record { is = h.is }), (λ n. (h, λ w. record { is = h.is }),
+    (λ n. (h, λ w. record { is = h.is }), (λ n. (h, λ w. record { is = h.is }),
+    (λ n. (h, λ w. turns_hold (has_bit w) with_trigger bit (λ k x g. trigger_holds k bit x g) 12 e h),
+    (λ n. (h, λ w. turns_hold (has_bit w) with_abort bit (λ k x g. abort_holds k bit x g) 12 e h),
+    (λ n. (h, λ w. h), tt)))))))))))))))))))))))))))
 
 pub dma_effect : (offset : ℕ) (write : Option ℕ) (bit : Bool) (s : Engine) → Holds bit s → Holds bit (effect_of offset write s)
-dma_effect offset write bit s h = way bit _ _ _ (way bit _ _ _ h (access_holds offset write bit s h)) h
+unfolding after_any
+dma_effect offset write bit s h = way bit _ _ _ (way bit _ _ _ h (keeps (Holds bit) dma_rows offset write s h (all_keep bit s h))) h
 
 -- ---- RESETS
 

@@ -29,7 +29,7 @@ use Rattle.rp_machine.specs.Cycle.{begun, wanted, wanted_by, first_cause, cause_
 use Rattle.rp_machine.specs.BusRest.{is_nothing, core1_at_rest, rest_next}
 use Rattle.rp_machine.proofs.BusRest.{both, nothing, rest_four}
 use Rattle.rp_machine.specs.declared.wanted.Wanted.{Wanted}
-use Rattle.rp_machine.specs.Alone.{IsAlone, beside, stepped_alone, alone_at_rest, alone_next, first_next, is_first_alone}
+use Rattle.rp_machine.specs.Alone.{IsAlone, beside, stepped_alone, alone_next, first_next, is_first_alone}
 
 -- ---- what the parts at rest begin
 
@@ -122,40 +122,6 @@ pub next_alone : (w : Setting) (s : State) → IsAlone s → next w s ≡ alone_
 unfolding next
 next_alone w s h =
     ap (λ xs. next_by w (begun s) xs s) (wanted_alone s h) ∙ next_beside w (core.want_of (begun s).core0) s h
-
--- the same of what the calls of a cycle begin and want
-pub cause_is : (w : Setting) {s : State} {b : Doing} {seen : SeenOutputs} {x : Want} {cause : Option Why} → IsAlone s → b ≡ (begun s).core0 → seen ≡ (begun s).outer
-    → x ≡ core.want_of b → cause ≡ cause_of w seen s (wanted_by master.Core0 x) → cause ≡ cause_in w (begun s) (wanted (begun s)) s
-cause_is w {s} {b} {seen} {x} {cause} h core0 outer wants e =
-    e ∙ ap (λ y. cause_of w seen s (wanted_by master.Core0 y)) wants
-    ∙ ap (λ d. cause_of w seen s (wanted_by master.Core0 (core.want_of d))) core0
-    ∙ ap (λ o. cause_of w o s (wanted_by master.Core0 (core.want_of (begun s).core0))) outer
-    ∙ sym (cause_alone w s h)
-
-pub next_is : (w : Setting) {s after : State} {b : Doing} {seen : SeenOutputs} {x : Want} → IsAlone s → b ≡ (begun s).core0 → seen ≡ (begun s).outer
-    → x ≡ core.want_of b → after ≡ alone_next w b seen x s → after ≡ next w s
-next_is w {s} {after} {b} {seen} {x} h core0 outer wants e =
-    e ∙ ap (λ y. alone_next w b seen y s) wants
-    ∙ ap (λ d. alone_next w d seen (core.want_of d) s) core0
-    ∙ ap (λ o. alone_next w (begun s).core0 o (core.want_of (begun s).core0) s) outer
-    ∙ sym (next_alone w s h)
-
-pub marks_are : (w : Setting) (s : State) {seen : SeenOutputs} {before after : List Mark} → before ≡ [] → seen ≡ (begun s).outer
-    → after ≡ before ++ marked w s.outer seen ∷ [] → after ≡ mark w s ∷ []
-unfolding mark
-marks_are w s {seen} {before} {after} clear outer e =
-    e ∙ ap (λ ms. ms ++ marked w s.outer seen ∷ []) clear ∙ ap (λ o. marked w s.outer o ∷ []) outer
-
--- ---- a cycle in which core 0 wants nothing, and no access lasts
-
-pub rest_by : (w : Setting) (b : Doing) (seen : SeenOutputs) (x : Want) (s : State) → x ≡ want.Nothing → has_hold s.fabric ≡ false
-    → alone_at_rest w b seen s ≡ alone_next w b seen x s
-unfolding alone_next alone_at_rest turn_of deed_of asked_of after_deed
-rest_by w b seen x s e free = rw (e, nobody-after s.fabric free) refl
-
-pub nothing_stops : (w : Setting) (seen : SeenOutputs) (x : Want) (s : State) → x ≡ want.Nothing → None ≡ cause_of w seen s (wanted_by master.Core0 x)
-unfolding cause_of
-nothing_stops w seen x s h = rw h refl
 
 -- ---- a cycle in which the first master alone wants something
 

@@ -87,11 +87,6 @@ abbrev pub is_first_alone : List Wanted → Bool
 is_first_alone [] = true
 is_first_alone (x ∷ xs) = list_all wants_nothing xs
 
--- the same where core 0 wants nothing, and no access lasts
-unfoldable pub alone_at_rest : Setting → Doing → SeenOutputs → State → State
-alone_at_rest w b seen s =
-    record (ended (core1_at_rest (offers_of s.sio) (stepped_alone w b seen turn.Nothing s))) { cycle = s.cycle + 1 }
-
 -- a cycle of a machine in which core 0 alone is at work
 abbrev pub OneCoreGoesAlone : Type 0
 OneCoreGoesAlone = (w : Setting) (s : State) → IsAlone s → next w s ≡ alone_next w (begun s).core0 (begun s).outer (core.want_of (begun s).core0) s

@@ -334,7 +334,7 @@ impl Machine {
     /// One cycle in which this was begun, nobody wants anything, and no access lasts: only the lanes, SIO and the number change.
     #[inline(never)]
     #[tactic(auto, unfolding(crate::specs::BusRest::rest_next))]
-    pub fn step_at_rest<X: Device>(
+    fn step_at_rest<X: Device>(
         &mut self,
         world: &World<'_, X>,
         begun: &Begun,
@@ -457,28 +457,6 @@ impl Machine {
         None
     }
 
-    /// One cycle below the limit, in which each lane may be at work.
-    #[inline(never)]
-    fn cycle_of_all<X: Device, L: Ledger>(
-        &mut self,
-        world: &World<'_, X>,
-        marks: &mut Marks,
-        steps: &mut Steps<L>,
-    ) -> Option<Why>
-        requires { self.old.cycle < 2 ^ 64 - 1 }
-        ensures cause { result ≡ cause_in (setting X.meaning world.now) (begun self.old) (wanted
-            (begun self.old)) self.old }
-        ensures state { self.new ≡ (if is_some result then self.old else next (setting X.meaning
-            world.now) self.old) }
-        ensures marks { marks.new ≡ (if is_some result then marks.old else mark (setting X.meaning
-            world.now) self.old ∷ []) }
-        ensures steps { steps.new ≡ (if is_some result then steps.old else steps.old + 1) }
-    {
-        let mut begun = Begun::nothing();
-        self.begin_into(world, &mut begun);
-        self.cycle_from(world, &begun, marks, steps)
-    }
-
     /// The cause for which the next cycle does not happen, if there is one, where this is what the lanes begin.
     #[tactic(auto, unfolding(crate::specs::Cycle::stop))]
     pub fn stop_of<X: Device>(&self, world: &World<'_, X>, lanes: &Begun) -> Option<Why>
@@ -558,9 +536,8 @@ impl Machine {
         if self.at == world.limit {
             return Some(Why::Limit);
         }
-        if self.is_core0_alone() {
-            return self.cycle_alone(world, marks, steps);
-        }
-        self.cycle_of_all(world, marks, steps)
+        let mut begun = Begun::nothing();
+        self.begin_into(world, &mut begun);
+        self.cycle_from(world, &begun, marks, steps)
     }
 }

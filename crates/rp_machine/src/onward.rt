@@ -119,7 +119,7 @@ impl Machine {
     {
         let lines = self.lines(0);
         let mut done = 0;
-        while done < most && self.cycle_onward(lines, marks) {
+        while done < most && !self.core0.is_waiting() && self.cycle_onward(lines, marks) {
             steps.tick();
             done += 1;
         }

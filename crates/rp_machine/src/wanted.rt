@@ -2,10 +2,9 @@
 
 ghost use Rattle.std.specs.Prelude.{◌≡◌};
 ghost use Rattle.m0_core.specs.Cycle.{want_of};
-ghost use Rattle.std.specs.List.{list_all};
 ghost use Rattle.rp_base.specs.Map.{IsWithin};
 ghost use Rattle.rp_machine.specs.Alone.{is_first_alone};
-ghost use Rattle.rp_machine.specs.BusRest.{is_nothing, wants_nothing};
+ghost use Rattle.rp_machine.specs.BusRest.{is_nothing};
 ghost use Rattle.rp_machine.specs.Cycle.{wanted};
 ghost use Rattle.rp_machine.specs.Deeds.{spot_of};
 
@@ -23,15 +22,6 @@ pub struct Wanted {
     pub master: Master,
     /// What it wants.
     pub want: Want,
-}
-
-/// What a core wants.
-#[inline(always)]
-pub fn want_of(begun: &Doing) -> Want
-    ensures { result ≡ want_of begun.now }
-{
-    let [want, _] = <Core as Lane<()>>::wants(begun);
-    want
 }
 
 /// The spot of the access to SRAM or outwards that a core names, as it was found when it began; outside where it names none.
@@ -67,15 +57,6 @@ pub(crate) fn is_core0_first(begun: &Begun) -> bool
 {
     let [read, write] = <Dma as Lane<()>>::wants(&begun.dma);
     begun.core1.wants_nothing() && is_nothing(&read) && is_nothing(&write)
-}
-
-/// No master wants anything in a cycle in which this was begun.
-#[inline(always)]
-#[tactic(auto, unfolding(crate::specs::Cycle::wanted))]
-pub fn wants_nothing(begun: &Begun) -> bool
-    ensures { result ≡ list_all wants_nothing (wanted begun.now) }
-{
-    begun.core0.wants_nothing() && is_core0_first(begun)
 }
 
 /// What the four masters want in a cycle in which this was begun, in their order.
