@@ -1,4 +1,4 @@
--- The way to a cycle by windows goes along the states of the run.
+-- The way to a cycle goes along the states of the run.
 use Rattle.std.proofs.Common.{◌≡◌, ℕ, ◌+◌, ◌-◌, ◌*◌, ◌<◌, ◌≤◌, Bool, true, false, if◌then◌else◌, Some, None, refl, ap, sym, ◌∙◌, subst, arith}
 use Rattle.rp_base.specs.declared.Why.{Why}
 use Rattle.outer_lane.specs.Setting.{Setting}
@@ -57,16 +57,3 @@ way_stopped w s to now before steps why h e =
     ∙ ap (λ t. states w t (to - now.cycle)) h.is_states
     ∙ sym (runs_follow w s (now.cycle - s.cycle) (to - now.cycle)).state
     ∙ ap (states w s) (omega (arith, later, within))
-
--- how many steps are left at most
-abbrev pub steps_left : ℕ → State → Bool → ℕ
-steps_left to now after_empty = 2 * (to - now.cycle) + (if after_empty then 0 else 1)
-
-fewer_one : (b : Bool) (x y : ℕ) → y + 1 ≡ x → 2 * y + 1 < 2 * x + (if b then 0 else 1)
-fewer_one true x y e = omega (arith, e)
-fewer_one false x y e = omega (arith, e)
-
-pub fewer_cycle : (w : Setting) (to : ℕ) (now now' : State) (before : Bool) → now.cycle < to → now' ≡ next w now → steps_left to now' false < steps_left to now before
-fewer_cycle w to now now' before lt e =
-    let at : now'.cycle ≡ now.cycle + 1 = ap (λ (t : State). t.cycle) e ∙ next_cycle w now in
-    fewer_one before (to - now.cycle) (to - now'.cycle) (omega (arith, at, lt))

@@ -1,9 +1,6 @@
--- The least number that meets a test is within its bound; so is the length of a window.
+-- The least number that meets a test is within its bound.
 use Rattle.std.proofs.Common.{◌≡◌, ℕ, zero, suc, ◌+◌, ◌<◌, ◌≤◌, Bool, true, false, if◌then◌else◌, refl, arith}
 use Rattle.lane_look.specs.Alone.{first_from, least}
-use Rattle.outer_lane.specs.Setting.{Setting}
-use Rattle.rp_machine.specs.State.{State}
-use Rattle.window_merge.specs.Window.{closes, window_within}
 
 pub record Meets (test : ℕ → Bool) (bound k : ℕ) : Type 0 where
   pub within : k ≤ bound
@@ -26,10 +23,3 @@ of_bound test bound k h = let le = h.within in record { within = omega arith; me
 pub least_meets : (test : ℕ → Bool) (bound : ℕ) → Meets test bound (least test bound)
 unfolding least
 least_meets test bound = of_bound test bound (first_from test 0 bound) (first_meets test 0 bound)
-
--- a window of at most so many cycles has no more
-pub short_window : (w : Setting) (s : State) (bound n : ℕ) → n ≡ window_within w s bound → n ≤ bound
-short_window w s bound n e =
-    let le = (least_meets (closes w s) bound).within in
-    let same : n ≡ least (closes w s) bound = e in
-    omega (arith, same, le)

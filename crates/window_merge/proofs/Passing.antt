@@ -30,7 +30,7 @@ use Rattle.rp_machine.specs.Answers.{answer_of}
 use Rattle.rp_machine.specs.Cycle.{begun, wanted, stored, stop, next_by}
 use Rattle.rp_machine.specs.Run.{states}
 use Rattle.window_merge.specs.Lanes.{core_lane, dma_lane, pio_lane, peripheral_lane, around, is_launching, core1_bound, runs_of}
-use Rattle.window_merge.specs.Window.{longest, ends_in, differs_in, clash, clash_in, closes, window_length, window_within}
+use Rattle.window_merge.specs.Window.{longest, ends_in, differs_in, clash, clash_in, closes, window_length}
 use Rattle.rp_machine.specs.Laws.{KnowsSio}
 use Rattle.window_merge.specs.Merging.{Rests, begun_by, left_by, differs_by, wants_of, fits, marks_in}
 use Rattle.window_merge.specs.Patch.{patched, sram_after}
@@ -42,12 +42,12 @@ use Rattle.window_merge.proofs.Agree.{both_false, differ_of, same_number}
 use Rattle.window_merge.proofs.Calm.{IsCalm, calm_sram}
 use Rattle.window_merge.proofs.Copying.{answered_same, asked_same}
 use Rattle.window_merge.proofs.Countless.{Alike, alike_but, core_countless, dma_countless, outer_countless, pio_countless}
-use Rattle.window_merge.proofs.Meeting.{least_meets, short_window}
+use Rattle.window_merge.proofs.Meeting.{least_meets}
 use Rattle.window_merge.proofs.Lanes.{LaneStands, lane_first, below_least, ends_is, no_cycles}
 use Rattle.window_merge.proofs.Noting.{Restores, undoes_on, own_on, still, sight, no_word, with_word-length, in_sram, after_want}
 use Rattle.window_merge.proofs.Reading.{read_only}
 use Rattle.window_merge.proofs.Starting.{HasLines, lines0, lines1, lines2, lines3, lines4, lines5, counts_told, guess_but, guess_is, around_over, stored_sram, differs_never}
-use Rattle.window_merge.proofs.Windows.{Lengths, AreLengths, AreOn, Stands, AreTold, Tries, all_told, stands_first, fitted, stands_next, closes_within, run_within, full_within, they_end, runs_on, short, first_ends}
+use Rattle.window_merge.proofs.Windows.{Lengths, AreLengths, AreOn, Stands, AreTold, Tries, all_told, stands_first, fitted, stands_next, ends_tried, ends_run, ends_full, they_end, runs_on, short, first_ends}
 
 -- ---- the whole runs alone
 
@@ -263,14 +263,14 @@ true_or_false true = inl refl
 true_or_false false = inr refl
 
 -- where it is not, the window closes there
-closed : (w : Setting) (s : State) (k : ℕ) (now : State) (rests : Rests) (marks : List Mark) (b : Begun) (d goes : Bool) (bound : ℕ) → Stands w s (whole w s) k now rests marks → Begins w s k now b
-    → (AreTold w s (whole w s) k now rests → differs_by rests now ≡ d) → is_launching s.core1 ≡ false → bound ≤ longest w s
-    → k < bound → goes ≡ not (d || not (goes_by b)) → goes ≡ false → k ≡ window_within w s bound
-closed w s k now rests marks b d goes bound t h differ calm short lt e is_false = elim (true_or_false (ends_wanted (wanted b))) [
-  | inl ends ↦ run_within w s (whole w s) k now rests marks bound t lt (run_ends w s k now rests marks b t h ends)
+closed : (w : Setting) (s : State) (k : ℕ) (now : State) (rests : Rests) (marks : List Mark) (b : Begun) (d goes : Bool) → Stands w s (whole w s) k now rests marks → Begins w s k now b
+    → (AreTold w s (whole w s) k now rests → differs_by rests now ≡ d) → is_launching s.core1 ≡ false
+    → k < longest w s → goes ≡ not (d || not (goes_by b)) → goes ≡ false → k ≡ window_length w s
+closed w s k now rests marks b d goes t h differ calm lt e is_false = elim (true_or_false (ends_wanted (wanted b))) [
+  | inl ends ↦ ends_run w s (whole w s) k now rests marks t lt (run_ends w s k now rests marks b t h ends)
   | inr none ↦
-      let r = tried w s k now rests marks b d t h differ calm (omega (arith, lt, short)) none in
-      closes_within w s (whole w s) k now rests marks goes bound r.goes (e ∙ kept_by d (ends_wanted (wanted b)) (clash (wants_of b)) none ∙ sym r.fitting) is_false lt
+      let r = tried w s k now rests marks b d t h differ calm lt none in
+      ends_tried w s (whole w s) k now rests marks goes r.goes (e ∙ kept_by d (ends_wanted (wanted b)) (clash (wants_of b)) none ∙ sym r.fitting) is_false
 ]
 
 -- where it is, the machine goes on
@@ -624,25 +624,25 @@ passes_first w s start marks goes now' notes' marks' h calm lt e_goes is_true e_
     twice true = refl
     twice false = refl
 
-pub closed_first : (w : Setting) (s : State) (marks : List Mark) (goes : Bool) (bound : ℕ) → First s marks → is_launching s.core1 ≡ false → bound ≤ longest w s → 0 < bound
-    → goes ≡ goes_first s → goes ≡ false → 0 ≡ window_within w s bound
-closed_first w s marks goes bound h calm short lt e_goes is_false =
-    closed w s 0 s (whole_talks w s) marks (begun s) false goes bound (stands_here w s marks h) (begins_first w s) (differs_first w s (whole_talks w s)) calm short lt (e_goes ∙ sym (twice (goes_by (begun s)))) is_false
+pub closed_first : (w : Setting) (s : State) (marks : List Mark) (goes : Bool) → First s marks → is_launching s.core1 ≡ false → 0 < longest w s
+    → goes ≡ goes_first s → goes ≡ false → 0 ≡ window_length w s
+closed_first w s marks goes h calm lt e_goes is_false =
+    closed w s 0 s (whole_talks w s) marks (begun s) false goes (stands_here w s marks h) (begins_first w s) (differs_first w s (whole_talks w s)) calm lt (e_goes ∙ sym (twice (goes_by (begun s)))) is_false
   where
     twice : (c : Bool) → not (false || not c) ≡ c
     twice true = refl
     twice false = refl
 
--- no cycle is asked for
-pub closed_at_once : (w : Setting) (s : State) (marks : List Mark) (bound : ℕ) → First s marks → bound ≡ 0 → 0 ≡ window_within w s bound
-closed_at_once w s marks bound h e = full_within w s (whole w s) 0 s (whole_talks w s) marks bound (stands_here w s marks h) (sym e)
+-- it stands at the limit
+pub closed_at_once : (w : Setting) (s : State) (marks : List Mark) → First s marks → longest w s ≡ 0 → 0 ≡ window_length w s
+closed_at_once w s marks h e = ends_full w s (whole w s) 0 s (whole_talks w s) marks (stands_here w s marks h) (sym e)
 
 -- core 1 has a word of its launcher to take
-pub closed_launching : (w : Setting) (s : State) (marks : List Mark) (bound : ℕ) → First s marks → 0 < bound → is_launching s.core1 ≡ true → 0 ≡ window_within w s bound
-closed_launching w s marks bound h lt e =
+pub closed_launching : (w : Setting) (s : State) (marks : List Mark) → First s marks → 0 < longest w s → is_launching s.core1 ≡ true → 0 ≡ window_length w s
+closed_launching w s marks h lt e =
     let none : alone_length core_lane (around 1) tt s.core1 s.cycle s (core1_bound s (longest w s)) ≡ 0 =
     ap (λ (c : Bool). alone_length core_lane (around 1) tt s.core1 s.cycle s (if c then 0 else longest w s)) e ∙ no_cycles core_lane 1 s.core1 s in
-    run_within w s (whole w s) 0 s (whole_talks w s) marks bound (stands_here w s marks h) lt (subst (λ j. ends_in (runs_of w s (longest w s)) j ≡ true) none (they_end w s).core1)
+    ends_run w s (whole w s) 0 s (whole_talks w s) marks (stands_here w s marks h) lt (subst (λ j. ends_in (runs_of w s (longest w s)) j ≡ true) none (they_end w s).core1)
 
 pub passes_later : (w : Setting) (s : State) (k : ℕ) (now : State) (start : Start) (notes : Notes) (marks : List Mark) (goes : Bool) (now' : State) (notes' : Notes) (marks' : List Mark)
     → Passes w s k now start notes marks → is_launching s.core1 ≡ false → k < longest w s
@@ -664,15 +664,15 @@ passes_later w s k now start notes marks goes now' notes' marks' p calm lt e_goe
       follows = subst (λ (x : Notes). Follows s (k + 1) now' start x) (sym (e ∙ noted_all b now.sram notes)) f;
     }
 
-pub closed_later : (w : Setting) (s : State) (k : ℕ) (now : State) (start : Start) (notes : Notes) (marks : List Mark) (goes : Bool) (bound : ℕ)
-    → Passes w s k now start notes marks → is_launching s.core1 ≡ false → bound ≤ longest w s → k < bound
-    → goes ≡ goes_on start notes now → goes ≡ false → k ≡ window_within w s bound
-closed_later w s k now start notes marks goes bound p calm short lt e_goes is_false =
+pub closed_later : (w : Setting) (s : State) (k : ℕ) (now : State) (start : Start) (notes : Notes) (marks : List Mark) (goes : Bool)
+    → Passes w s k now start notes marks → is_launching s.core1 ≡ false → k < longest w s
+    → goes ≡ goes_on start notes now → goes ≡ false → k ≡ window_length w s
+closed_later w s k now start notes marks goes p calm lt e_goes is_false =
     let a = all_alone w s k now p.rests marks start notes p.stands p.follows in
-    closed w s k now p.rests marks (begun_from start notes now) (differs_from start notes now) goes bound p.stands (begins_later w s k now start notes a) (differs_later w s k now p.rests start notes a) calm short lt e_goes is_false
+    closed w s k now p.rests marks (begun_from start notes now) (differs_from start notes now) goes p.stands (begins_later w s k now start notes a) (differs_later w s k now p.rests start notes a) calm lt e_goes is_false
 
-pub closed_full : (w : Setting) (s : State) (k : ℕ) (now : State) (start : Start) (notes : Notes) (marks : List Mark) (bound : ℕ) → Passes w s k now start notes marks → k ≡ bound → k ≡ window_within w s bound
-closed_full w s k now start notes marks bound p e = full_within w s (whole w s) k now p.rests marks bound p.stands e
+pub closed_full : (w : Setting) (s : State) (k : ℕ) (now : State) (start : Start) (notes : Notes) (marks : List Mark) → Passes w s k now start notes marks → k ≡ longest w s → k ≡ window_length w s
+closed_full w s k now start notes marks p e = ends_full w s (whole w s) k now p.rests marks p.stands e
 
 -- there is room for the notes of one more cycle
 pub has_room : (s : State) (k : ℕ) (now : State) (start : Start) (notes : Notes) → Follows s k now start notes → k < 256 → HasRoom notes 3
@@ -720,13 +720,14 @@ have_cycles w s e =
     let ne2 = differ_of 0 (whole w s).dma c.0 in
     record { core0 = omega (arith, ne0); core1 = omega (arith, ne1); dma = omega (arith, ne2) }
 
-pub unstopped : (w : Setting) (s : State) (bound n : ℕ) → n ≡ window_within w s bound → bound ≤ longest w s → 0 < n → stop w s ≡ None
-unstopped w s bound n e le lt =
-    let same : n ≡ least (closes w s) bound = e in
-    let few = short_window w s bound n e in
+pub unstopped_whole : (w : Setting) (s : State) (n : ℕ) → n ≡ window_length w s → 0 < n → stop w s ≡ None
+unfolding window_length
+unstopped_whole w s n e lt =
+    let same : n ≡ least (closes w s) (longest w s) = e in
+    let few = (least_meets (closes w s) (longest w s)).within in
     let low = short w s in
-    let ne : s.cycle ≢ w.limit = λ here. omega (arith, here, few, le, low, lt) in
-    let none : closes w s 0 ≡ false = below_least (closes w s) bound 0 (omega (arith, same, lt)) in
+    let ne : s.cycle ≢ w.limit = λ here. omega (arith, here, same, few, low, lt) in
+    let none : closes w s 0 ≡ false = below_least (closes w s) (longest w s) 0 (omega (arith, same, lt)) in
     let have = have_cycles w s (none_at_first w s none) in
     let b = begins_first w s in
     let c0 = lane_calm core_lane 0 s.core0 s (whole w s).core0 (longest w s) (begun s).core0 refl have.core0 b.core0 in
@@ -738,10 +739,6 @@ unstopped w s bound n e le lt =
       calm_read = (first_ends (dma.want_of (begun s).dma.read) (dma.want_of (begun s).dma.write) d).0;
       calm_write = (first_ends (dma.want_of (begun s).dma.read) (dma.want_of (begun s).dma.write) d).1;
     })
-
-pub unstopped_whole : (w : Setting) (s : State) (n : ℕ) → n ≡ window_length w s → 0 < n → stop w s ≡ None
-unfolding window_length
-unstopped_whole w s n e lt = unstopped w s (longest w s) n e (omega arith) lt
 
 -- none at all
 pub no_cycle : (w : Setting) (s t : State) (n : ℕ) → t ≡ states w s n → n ≤ 0 → t ≡ s

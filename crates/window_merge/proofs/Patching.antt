@@ -1,6 +1,7 @@
 -- What a word of SRAM is where words were written into it.
-use Rattle.std.proofs.Common.{◌≡◌, ℕ, zero, suc, ◌<◌, ◌==◌, if◌then◌else◌, inl, inr, List, [], ◌∷◌, ◌++◌, length, refl, ap, sym, ◌∙◌, subst, arith}
-use Rattle.std.specs.Prelude.{slice_index, slice_set}
+use Rattle.std.proofs.Common.{◌≡◌, ℕ, zero, suc, ◌-◌, ◌<◌, ◌==◌, if◌then◌else◌, inl, inr, List, [], ◌∷◌, ◌++◌, length, refl, ap, sym, ◌∙◌, subst, arith}
+use Rattle.std.specs.Prelude.{◌≤◌, ◌≢◌, slice_index, slice_index_or, slice_set, take}
+use Rattle.std.proofs.Math.Seq.{take-suc}
 use Rattle.std.proofs.Math.ListN.{set}
 use Rattle.std.proofs.lemmas.Bool.Decides.{eqb_tells}
 use Rattle.std.proofs.lemmas.List.{get_or-set_same, get_or-set_other}
@@ -25,6 +26,36 @@ set_at sram at word i lt = elim (eqb_tells at i) [
   | inl h ↦ rw h.0 (ap (λ n. slice_index (slice_set sram n word) i) h.1 ∙ get_or-set_same sram i word 0 lt)
   | inr h ↦ rw h.0 (get_or-set_other sram at i word 0 (λ e. h.1 (sym e)))
 ]
+
+-- the last note is looked at first
+pub last_end : (ns : List (ℕ × ℕ)) (n : ℕ × ℕ) (index word : ℕ) → last_of (ns ++ n ∷ []) index word ≡ (if n.0 == index then n.1 else last_of ns index word)
+last_end [] n index word = refl
+last_end (m ∷ ns) n index word = last_end ns n index (if m.0 == index then m.1 else word)
+
+back : (words : List (ℕ × ℕ)) (left index word : ℕ) → 0 < left → left ≤ length words
+    → last_of (take left words) index word
+    ≡ (if (slice_index_or words (left - 1) (0, 0)).0 == index then (slice_index_or words (left - 1) (0, 0)).1 else last_of (take (left - 1) words) index word)
+back words left index word some le =
+    let one : left ≡ suc (left - 1) = omega (arith, some) in
+    ap (λ k. last_of (take k words) index word) one
+    ∙ ap (λ l. last_of l index word) (take-suc words (left - 1) (0, 0) (omega (arith, some, le)))
+    ∙ last_end (take (left - 1) words) (slice_index_or words (left - 1) (0, 0)) index word
+
+pub found_back : (words : List (ℕ × ℕ)) (left index word : ℕ) → 0 < left → left ≤ length words → last_of (take left words) index word ≡ last_of words index word
+    → (slice_index_or words (left - 1) (0, 0)).0 ≡ index → (slice_index_or words (left - 1) (0, 0)).1 ≡ last_of words index word
+found_back words left index word some le h is =
+    let n = slice_index_or words (left - 1) (0, 0) in
+    elim (eqb_tells n.0 index) [
+      | inl e ↦ sym (sym h ∙ back words left index word some le ∙ ap (λ b. if b then n.1 else last_of (take (left - 1) words) index word) e.0)
+      | inr ne ↦ absurd (ne.1 is) ]
+
+pub passed_back : (words : List (ℕ × ℕ)) (left index word : ℕ) → 0 < left → left ≤ length words → last_of (take left words) index word ≡ last_of words index word
+    → (slice_index_or words (left - 1) (0, 0)).0 ≢ index → last_of (take (left - 1) words) index word ≡ last_of words index word
+passed_back words left index word some le h other =
+    let n = slice_index_or words (left - 1) (0, 0) in
+    elim (eqb_tells n.0 index) [
+      | inl e ↦ absurd (other e.1)
+      | inr ne ↦ sym (sym h ∙ back words left index word some le ∙ ap (λ b. if b then n.1 else last_of (take (left - 1) words) index word) ne.0) ]
 
 pub patched_last : (own : List (ℕ × ℕ)) (sram : List ℕ) (i : ℕ) → i < length sram → slice_index (patched own sram) i ≡ last_of own i (slice_index sram i)
 unfolding patched

@@ -25,7 +25,7 @@ use Rattle.rp_machine.specs.Cycle.{begun, wanted, cause_in, stop, next_by, next,
 use Rattle.rp_machine.specs.Run.{states}
 use Rattle.rp_machine.proofs.Joining.{runs_follow}
 use Rattle.window_merge.specs.Lanes.{core_lane, dma_lane, pio_lane, peripheral_lane, around, is_launching, core1_bound, runs_of}
-use Rattle.window_merge.specs.Window.{longest, ends_in, differs_in, clash, clash_in, share_port, closes, window_length, window_within}
+use Rattle.window_merge.specs.Window.{longest, ends_in, differs_in, clash, clash_in, share_port, closes, window_length}
 use Rattle.window_merge.specs.declared.runs.Runs.{Runs}
 use Rattle.rp_machine.specs.Laws.{KnowsSio}
 use Rattle.window_merge.specs.Merging.{Rests, begun_by, left_by, differs_by, wants_of, fits, marks_in, AreRunsAlone, IsWithin, rests_at, end_at}
@@ -406,35 +406,21 @@ stands_next w s n k now rests marks fitting now' rests' marks' t is_fitting is_t
 
 -- ---- the ways out of the loop
 
-pub closes_within : (w : Setting) (s : State) (n : Lengths) (k : ℕ) (now : State) (rests : Rests) (marks : List Mark) (fitting : Bool) (bound : ℕ) → Tries w s n k now rests marks → fitting ≡ fits rests now → fitting ≡ false → k < bound → k ≡ window_within w s bound
-closes_within w s n k now rests marks fitting bound t is_fitting is_false lt =
-    let ends : closes w s k ≡ true = closes_tried w s n k now rests marks t ∙ ap not (sym is_fitting ∙ is_false) in
-    sym (is_least (closes w s) bound k (omega (arith, lt)) t.stands.goes (λ lt. ends))
-
-pub run_within : (w : Setting) (s : State) (n : Lengths) (k : ℕ) (now : State) (rests : Rests) (marks : List Mark) (bound : ℕ) → Stands w s n k now rests marks → k < bound → ends_in (runs_of w s (longest w s)) k ≡ true → k ≡ window_within w s bound
-unfolding closes
-run_within w s n k now rests marks bound t lt here =
-    sym (is_least (closes w s) bound k (omega (arith, lt)) t.goes (λ lt. rw here refl))
-
-pub full_within : (w : Setting) (s : State) (n : Lengths) (k : ℕ) (now : State) (rests : Rests) (marks : List Mark) (bound : ℕ) → Stands w s n k now rests marks → k ≡ bound → k ≡ window_within w s bound
-full_within w s n k now rests marks bound t e =
-    sym (is_least (closes w s) bound k (omega (arith, e)) t.goes (λ lt. absurd (omega (arith, e, lt))))
-
 pub ends_tried : (w : Setting) (s : State) (n : Lengths) (k : ℕ) (now : State) (rests : Rests) (marks : List Mark) (fitting : Bool) → Tries w s n k now rests marks → fitting ≡ fits rests now → fitting ≡ false → k ≡ window_length w s
 unfolding window_length
-ends_tried w s n k now rests marks fitting t is_fitting is_false = closes_within w s n k now rests marks fitting (longest w s) t is_fitting is_false t.below
+ends_tried w s n k now rests marks fitting t is_fitting is_false =
+    let below = t.below in
+    let ends : closes w s k ≡ true = closes_tried w s n k now rests marks t ∙ ap not (sym is_fitting ∙ is_false) in
+    sym (is_least (closes w s) (longest w s) k (omega (arith, below)) t.stands.goes (λ lt. ends))
 
 pub ends_run : (w : Setting) (s : State) (n : Lengths) (k : ℕ) (now : State) (rests : Rests) (marks : List Mark) → Stands w s n k now rests marks → k < longest w s → ends_in (runs_of w s (longest w s)) k ≡ true → k ≡ window_length w s
-unfolding window_length
-ends_run w s n k now rests marks t below here = run_within w s n k now rests marks (longest w s) t below here
+unfolding window_length closes
+ends_run w s n k now rests marks t below here = sym (is_least (closes w s) (longest w s) k (omega (arith, below)) t.goes (λ lt. rw here refl))
 
 pub ends_full : (w : Setting) (s : State) (n : Lengths) (k : ℕ) (now : State) (rests : Rests) (marks : List Mark) → Stands w s n k now rests marks → k ≡ longest w s → k ≡ window_length w s
 unfolding window_length
-ends_full w s n k now rests marks t e = full_within w s n k now rests marks (longest w s) t e
-
-pub is_whole : (w : Setting) (s : State) (n bound : ℕ) → n ≡ window_within w s bound → bound ≡ longest w s → n ≡ window_length w s
-unfolding window_length
-is_whole w s n bound e same = e ∙ ap (window_within w s) same
+ends_full w s n k now rests marks t e =
+    sym (is_least (closes w s) (longest w s) k (omega (arith, e)) t.goes (λ lt. absurd (omega (arith, e, lt))))
 
 -- ---- six reports
 

@@ -92,11 +92,6 @@ differs_core0 start n s = differs (answer_of 0 s) (asked (guess 0 start (seen_of
 abbrev pub differs_outer : Start → Notes → State → Bool
 differs_outer start n s = differs (answer_of 5 s) (asked (guess 5 start (seen_of 5 n s.sram)) (outer.asks s.outer s.cycle))
 
--- a pin has the function of a PIO block, which puts out something else than at the start: an answer to the peripherals is not
-abbrev pub shows_other : Start → State → Bool
-shows_other start s =
-    (is_used 6 s.outer.pads && not (outs_of 0 s == start.pio0)) || (is_used 7 s.outer.pads && not (outs_of 1 s == start.pio1))
-
 -- some answer to a lane is not
 abbrev pub differs_from : Start → Notes → State → Bool
 differs_from start n s =
@@ -106,10 +101,6 @@ differs_from start n s =
     || (differs (answer_of 3 s) (asked (guess 3 start (seen_of 3 n s.sram)) (pio.asks s.pio0))
     || (differs (answer_of 4 s) (asked (guess 4 start (seen_of 4 n s.sram)) (pio.asks s.pio1))
     || (differs_outer start n s || false)))))
-
--- the same where core 0 is alone: the other lanes but the peripherals ask nothing
-abbrev pub differs_alone : Start → Notes → State → Bool
-differs_alone start n s = differs_core0 start n s || (differs_outer start n s || false)
 
 -- ---- whether a cycle is one of the window
 

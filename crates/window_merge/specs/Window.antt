@@ -56,10 +56,6 @@ closes w s k =
 unfoldable pub window_length : Setting → State → ℕ
 window_length w s = least (closes w s) (longest w s)
 
--- the same where a window has at most so many cycles
-abbrev pub window_within : Setting → State → ℕ → ℕ
-window_within w s bound = least (closes w s) bound
-
 -- ---- the positions at which a run stands
 
 -- where a run stands between windows and single cycles; how many windows were tried, and how many cycles they had; whether the

@@ -118,15 +118,6 @@ pub(crate) fn is_known(machine: &Machine)
     let _word = machine.ram.read(0);
 }
 
-/// The cycles of a window have numbers.
-pub(crate) fn is_numbered<X: Device>(machine: &Machine, world: &World<'_, X>, at_most: u16)
-    requires limit { machine.now.cycle ≤ world.now.limit }
-    requires cycles { at_most ≤ longest (setting X.meaning world.now) machine.now }
-    ensures { machine.now.cycle + at_most < 2 ^ 64 }
-{
-    let _longest = longest(machine, world);
-}
-
 /// Moves the machine by the window of six runs alone from its state, and gives the window's length. The marks of its cycles are
 /// left in `marks`, and each counts as one of the steps.
 pub fn merge_runs<X: Device, L: Ledger>(

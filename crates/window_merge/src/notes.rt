@@ -245,18 +245,6 @@ impl Notes {
         }
     }
 
-    /// Notes what core 0 writes in a cycle in which no other master wants anything, before it does.
-    #[inline(always)]
-    pub(crate) fn note_core0(&mut self, ram: &Ram, core0: &Want)
-        requires { HasRoom self.old 3 }
-        ensures { self.new ≡ noted core0.now want.Nothing want.Nothing ram.now self.old }
-    {
-        let write = write_of(core0);
-        let word = self.own_word(ram, 0, &write);
-        self.originals.add(original_word(ram, &write));
-        self.core0.add(word);
-    }
-
     /// Notes what the masters write in a cycle, before they do. A read of the DMA engine writes nothing.
     #[inline(always)]
     pub(crate) fn note(&mut self, ram: &Ram, wants: &[Wanted; 4])

@@ -59,18 +59,19 @@ pub(crate) fn with_lanes(lanes: u8, value: u32, word: u32) -> u32
         + lane_byte(lanes, value, word, 0)
 }
 
-/// The last word of an index; else this word.
+/// The last word of an index, looked for from the newest back; else this word.
 pub(crate) fn last_of(words: &[(u32, u32)], index: u32, word: u32) -> u32
     ensures { result ≡ last_of words.now index word }
 {
-    let mut last = word;
-    for noted in words {
-        let (at, later) = *noted;
+    let mut left = words.len();
+    while left > 0 {
+        left -= 1;
+        let (at, last) = words[left];
         if at == index {
-            last = later;
+            return last;
         }
     }
-    last
+    word
 }
 
 impl WordLog {

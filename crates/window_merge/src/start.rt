@@ -77,7 +77,7 @@ fn counts_told(machine: &Machine) -> Counts
 
 impl Start {
     ghost use Rattle.std.specs.Prelude.{◌≡◌};
-    ghost use Rattle.window_merge.specs.Start.{IsStart, shows_other};
+    ghost use Rattle.window_merge.specs.Start.{IsStart};
 
     /// What a machine answers now, whose lanes begin this. The counts are found only where the DMA engine may come to ask for
     /// them.
@@ -94,16 +94,6 @@ impl Start {
             pio0: machine.answer(5, Ask::Outs(0)),
             pio1: machine.answer(5, Ask::Outs(1)),
         }
-    }
-
-    /// A pin has the function of a PIO block, which puts out something else now: the peripherals are answered otherwise.
-    #[inline(always)]
-    pub(crate) fn shows_other(&self, machine: &Machine) -> bool
-        ensures { result ≡ shows_other self.now machine.now }
-    {
-        let pads = &machine.outer.pads;
-        (pads.uses(6) && machine.answer(5, Ask::Outs(0)) != self.pio0)
-            || (pads.uses(7) && machine.answer(5, Ask::Outs(1)) != self.pio1)
     }
 }
 

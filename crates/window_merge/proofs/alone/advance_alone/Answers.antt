@@ -1,45 +1,33 @@
-use Rattle.std.proofs.Common.{◌∙◌, arith}
+use Rattle.std.proofs.Common.{◌+◌, ◌≡◌, ap, sym, ◌∙◌, arith}
 use Rattle.outer_lane.specs.Setting.{setting_of}
-use Rattle.window_merge.proofs.Going.{way_first, way_window, way_cycle, way_stopped, fewer_cycle}
+use Rattle.rp_machine.specs.State.{State}
+use Rattle.rp_machine.proofs.Runs.{next_cycle}
+use Rattle.window_merge.proofs.Going.{way_first, way_cycle, way_stopped}
 use Rattle.window_merge.proofs.alone.advance_alone.Goals as goal
 
-pub moves-init : goal.moves-init
-moves-init g c =
+pub loop-marks-init : goal.loop-marks-init
+loop-marks-init g c =
     let w = setting_of c.args.world.now.script.now (g.X.Device.meaning c.args.world.now.device.now) c.args.world.now.limit in
-    (way_first w c.args.machine.now c.args.to _ c.requires.to c.requires.number, record { jobs = c.requires.crew.jobs; spare = c.requires.crew.spare }, c.begin_into.ensures)
+    way_first w c.args.machine.now c.args.to _ c.requires.to c.requires.number
 
-pub returns-in-Stopped-clause-state : goal.returns-in-Stopped-clause-state
-returns-in-Stopped-clause-state g c =
+pub returns-in-Some-clause-state : goal.returns-in-Some-clause-state
+returns-in-Some-clause-state g c =
     let w = setting_of c.args.world.now.script.now (g.X.Device.meaning c.args.world.now.device.now) c.args.world.now.limit in
-    let h = c.in-Stopped.ensures.gone in
-    h.1 ∙ way_stopped w c.args.machine.now c.args.to c.moves.machine c.args.steps.now c.moves.steps c.in-Stopped.why c.moves.invariant.0 h.0
+    c.in-Some.ensures.state
+    ∙ way_stopped w c.args.machine.now c.args.to c.loop-marks.machine c.args.steps.now c.loop-marks.steps c.in-Some.why c.loop-marks.invariant (sym c.in-Some.ensures.cause)
 
-pub moves-preserved-in-Window : goal.moves-preserved-in-Window
-moves-preserved-in-Window g c =
+pub loop-marks-smaller : goal.loop-marks-smaller
+loop-marks-smaller g c =
     let w = setting_of c.args.world.now.script.now (g.X.Device.meaning c.args.world.now.device.now) c.args.world.now.limit in
-    let h = c.in-Window.ensures.gone in (
-      way_window w c.args.machine.now c.args.to c.moves.machine c.args.steps.now c.moves.steps c.in-Window.length c.go_on.new.machine c.go_on.new.steps
-          c.moves.invariant.0 h.1 h.2 h.3 h.4,
-      c.in-Window.ensures.crew,
-      c.in-Window.ensures.begun,
-    )
-
-pub moves-smaller : goal.moves-smaller
-moves-smaller g c =
-    let w = setting_of c.args.world.now.script.now (g.X.Device.meaning c.args.world.now.device.now) c.args.world.now.limit in
-    let h = c.in-Cycle.ensures.gone in
-    let below = c.if-number-to.false in
+    let at = ap (λ (t : State). t.cycle) c.in_default.ensures.state ∙ next_cycle w c.loop-marks.machine in
+    let below = c.loop-marks-test.true in
     let number = c.number.ensures in
-    fewer_cycle w c.args.to c.moves.machine c.go_on.new.machine c.moves.after_empty (omega (arith, below, number)) h.1
+    omega (arith, at, below, number)
 
-pub moves-preserved : goal.moves-preserved
-moves-preserved g c =
+pub loop-marks-preserved : goal.loop-marks-preserved
+loop-marks-preserved g c =
     let w = setting_of c.args.world.now.script.now (g.X.Device.meaning c.args.world.now.device.now) c.args.world.now.limit in
-    let h = c.in-Cycle.ensures.gone in
-    let below = c.if-number-to.false in
-    let number = c.number.ensures in (
-      way_cycle w c.args.machine.now c.args.to c.moves.machine c.args.steps.now c.moves.steps c.go_on.new.machine c.go_on.new.steps
-          c.moves.invariant.0 (omega (arith, below, number)) h.0 h.1 h.2,
-      c.in-Cycle.ensures.crew,
-      c.in-Cycle.ensures.begun,
-    )
+    let below = c.loop-marks-test.true in
+    let number = c.number.ensures in
+    way_cycle w c.args.machine.now c.args.to c.loop-marks.machine c.args.steps.now c.loop-marks.steps c.cycle.new.self c.cycle.new.steps
+    c.loop-marks.invariant (omega (arith, below, number)) (sym c.in_default.ensures.cause) c.in_default.ensures.state c.in_default.ensures.steps

@@ -1,15 +1,11 @@
-use Rattle.std.proofs.Common.{◌≡◌}
+use Rattle.std.proofs.Common.{◌-◌}
 use Rattle.outer_lane.specs.Setting.{setting_of}
-use Rattle.rp_machine.specs.Cycle.{begun}
-use Rattle.window_merge.specs.Jobs.{IsWhole}
-use Rattle.window_merge.proofs.Going.{OnWay, steps_left}
+use Rattle.window_merge.proofs.Going.{OnWay}
 use Rattle.window_merge.proofs.alone.advance_alone.Given as goal
 
-abbrev pub invariant-moves : goal.invariant-moves
-invariant-moves g l =
-    let w = setting_of l.world.script.now (g.X.Device.meaning l.world.device.now) l.world.limit in
-    OnWay w l.initial.machine l.to l.machine l.initial.steps l.steps × IsWhole l.crew
-    × (l.crew.begun ≡ begun l.machine)
+abbrev pub invariant-loop-marks : goal.invariant-loop-marks
+invariant-loop-marks g l =
+    OnWay (setting_of l.world.script.now (g.X.Device.meaning l.world.device.now) l.world.limit) l.initial.machine l.to l.machine l.initial.steps l.steps
 
-abbrev pub decreases-moves : goal.decreases-moves
-decreases-moves g l = steps_left l.to l.machine l.after_empty
+abbrev pub decreases-loop-marks : goal.decreases-loop-marks
+decreases-loop-marks g l = l.to - l.machine.cycle

@@ -1,7 +1,7 @@
 use Rattle.std.proofs.Common.{◌≡◌, ◌+◌}
 use Rattle.outer_lane.specs.Setting.{setting_of}
 use Rattle.window_merge.proofs.Passing.{Passes}
-use Rattle.window_merge.proofs.here.go_within.Given as goal
+use Rattle.window_merge.proofs.here.go.Given as goal
 
 abbrev pub invariant-loop-k : goal.invariant-loop-k
 invariant-loop-k g l = record {

@@ -1,0 +1,76 @@
+use Rattle.std.proofs.Common.{◌≡◌, ◌+◌, ◌++◌, [], ◌∷◌, true, refl, ap, sym, ◌∙◌, arith}
+use Rattle.outer_lane.specs.Setting.{setting_of}
+use Rattle.outer_lane.specs.Step.{marked}
+use Rattle.rp_machine.specs.declared.begun.Begun.{Begun}
+use Rattle.rp_machine.specs.Cycle.{wanted, next_by}
+use Rattle.window_merge.specs.declared.notes.Notes.{Notes}
+use Rattle.window_merge.specs.Notes.{noted_by}
+use Rattle.window_merge.proofs.Windows.{at_most}
+use Rattle.window_merge.proofs.Passing.{First, closed_later, closed_full, passes_first, passes_later, has_room}
+use Rattle.window_merge.proofs.here.go.Goals as goal
+
+pub loop-k-init : goal.loop-k-init
+loop-k-init g c =
+    let w = setting_of c.args.world.now.script.now (g.X.Device.meaning c.args.world.now.device.now) c.args.world.now.limit in
+    let s = c.args.machine.now in
+    let first : First s c.args.marks.now = record { free = c.requires.free; knows = record { pins = c.is_known.ensures.pins; offer = c.is_known.ensures.offer }; none = c.requires.marks; long = c.is_known.ensures.sram } in
+    let some = c.requires.some in
+    let most = c.requires.most in
+    record {
+      passes = passes_first w s c.of-start.result c.args.marks.now true c.step_noted.new.machine c.step_noted.new.notes c.step_noted.new.marks first c.requires.launching (omega (arith, some, most))
+          (sym c.requires.goes) refl c.of-start.ensures
+          (c.step_noted.ensures.state ∙ ap (λ (b : Begun). next_by w b (wanted b) s) c.requires.begun)
+          (c.step_noted.ensures.marks ∙ ap (λ (b : Begun). c.args.marks.now ++ marked w s.outer b.outer ∷ []) c.requires.begun)
+          (c.step_noted.ensures.notes ∙ ap (λ (n : Notes). noted_by (wanted c.args.lanes.now) s.sram n) c.clear.ensures ∙ ap (λ (b : Begun). noted_by (wanted b) s.sram _) c.requires.begun);
+      counted = c.tick.ensures;
+    }
+
+pub try_later-requires-clause-room : goal.try_later-requires-clause-room
+try_later-requires-clause-room g c κs within =
+    let w = setting_of c.args.world.now.script.now (g.X.Device.meaning c.args.world.now.device.now) c.args.world.now.limit in
+    let below = c.loop-k-test.true in
+    let most = c.requires.most in
+    let few = at_most w c.args.machine.now in
+    has_room c.args.machine.now c.loop-k.k c.loop-k.machine c.of-start.result c.loop-k.notes c.loop-k.invariant.passes.follows (omega (arith, below, most, few))
+
+pub try_later-requires-clause-number : goal.try_later-requires-clause-number
+try_later-requires-clause-number g c κs within =
+    let at = c.loop-k.invariant.passes.stands.at in
+    let below = c.loop-k-test.true in
+    let top = c.requires.number in
+    omega (arith, at, below, top)
+
+pub try_later-requires-clause-marks : goal.try_later-requires-clause-marks
+try_later-requires-clause-marks g c κs within =
+    let w = setting_of c.args.world.now.script.now (g.X.Device.meaning c.args.world.now.device.now) c.args.world.now.limit in
+    let below = c.loop-k-test.true in
+    let most = c.requires.most in
+    let few = at_most w c.args.machine.now in
+    let count = c.loop-k.invariant.passes.stands.few in
+    omega (arith, below, most, few, count)
+
+pub returns-then-not-try_later-clause-length : goal.returns-then-not-try_later-clause-length
+returns-then-not-try_later-clause-length g c =
+    let w = setting_of c.args.world.now.script.now (g.X.Device.meaning c.args.world.now.device.now) c.args.world.now.limit in
+    let below = c.loop-k-test.true in
+    let most = c.requires.most in
+    closed_later w c.args.machine.now c.loop-k.k c.loop-k.machine c.of-start.result c.loop-k.notes c.loop-k.marks c.try_later.result c.loop-k.invariant.passes
+    c.requires.launching (omega (arith, below, most)) c.try_later.ensures.goes c.if-not-try_later.true
+
+pub loop-k-preserved : goal.loop-k-preserved
+loop-k-preserved g c =
+    let w = setting_of c.args.world.now.script.now (g.X.Device.meaning c.args.world.now.device.now) c.args.world.now.limit in
+    let below = c.loop-k-test.true in
+    let most = c.requires.most in
+    record {
+      passes = passes_later w c.args.machine.now c.loop-k.k c.loop-k.machine c.of-start.result c.loop-k.notes c.loop-k.marks c.try_later.result c.try_later.new.machine c.try_later.new.notes c.try_later.new.marks c.loop-k.invariant.passes
+          c.requires.launching (omega (arith, below, most)) c.try_later.ensures.goes c.if-not-try_later.false c.try_later.ensures.state c.try_later.ensures.marks c.try_later.ensures.notes;
+      counted = let before = c.loop-k.invariant.counted in let tick = c.tick-in-loop-k.ensures in omega (arith, before, tick);
+    }
+
+pub returns-clause-length : goal.returns-clause-length
+returns-clause-length g c =
+    let w = setting_of c.args.world.now.script.now (g.X.Device.meaning c.args.world.now.device.now) c.args.world.now.limit in
+    let some = c.requires.some in
+    let full : c.loop-k.k ≡ c.args.most = let ended = c.loop-k-test.false in let end = c.loop-k.auto.k-end in omega (arith, some, ended, end) in
+    sym full ∙ closed_full w c.args.machine.now c.loop-k.k c.loop-k.machine c.of-start.result c.loop-k.notes c.loop-k.marks c.loop-k.invariant.passes (full ∙ c.requires.most)
