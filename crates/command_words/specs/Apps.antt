@@ -1,4 +1,5 @@
--- The commands as the crate `clap` sees them: one command with a subcommand for each. Each has one argument, and its options.
+-- The commands as the crate `clap` sees them: one command with a subcommand for each. Each has one argument, and its options (the
+-- project's own).
 use Rattle.std.specs.Prelude.{true, if◌then◌else◌, Some, codes}
 use Rattle.std.specs.List.{fold}
 use Rattle.std.specs.Str.{bytes_eq}

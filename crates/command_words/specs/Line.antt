@@ -1,5 +1,5 @@
 -- A line of words as `clap` reads it, written in normal form: the command, its argument, and then its options in the order of their
--- rows.
+-- rows (the project's own).
 use Rattle.std.specs.Prelude.{if◌then◌else◌, List, [], ◌∷◌, flat_map, Option, Some, None, codes}
 use Rattle.std.specs.Option.{option_and_then, option_map}
 use Rattle.std.specs.Str.{bytes_eq}

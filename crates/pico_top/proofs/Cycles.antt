@@ -1,5 +1,5 @@
 -- The text and the cycles of a run.
-use Rattle.std.proofs.Common.{◌≡◌, ℕ, Bool, ◌+◌, ◌≤◌, [], ◌∷◌, ◌++◌, List, Option, Some, Result, Ok, Err, IfOk, IfSome, refl, ap, ap₂, subst, sym, arith, ◌∙◌, append_assoc}
+use Rattle.std.proofs.Common.{◌≡◌, ℕ, Bool, false, ◌+◌, ◌≤◌, [], ◌∷◌, ◌++◌, List, Option, Some, Result, Ok, Err, IfOk, IfSome, refl, ap, ap₂, subst, sym, arith, ◌∙◌, append_assoc}
 use Rattle.outer_lane.specs.Setting.{Setting}
 use Rattle.trace_text.specs.Line.{stop_text, event_text}
 use Rattle.rp_ports.specs.Sink.{Appends}
@@ -16,6 +16,7 @@ use Rattle.window_runner.specs.declared.alone.Ran.{Ran}
 use Rattle.window_runner.specs.declared.windows.RunFault.{RunFault}
 use Rattle.window_runner.specs.declared.windows.RunFault.TheVariants.{Sink, Memory}
 use Rattle.window_runner.specs.Alone.{IsRan}
+use Rattle.pico_top.specs.Running.{IsRanFor}
 use Rattle.window_runner.specs.Windows.{answered, OnMemory}
 use Rattle.pico_top.specs.RunText.{event_lines, after_events, probe_lines, counts_text, stats_text, run_text, run_cycles, end_text, core_lines}
 use Rattle.pico_top.specs.Teller.{HasTold, lines_both, one_line}
@@ -26,12 +27,28 @@ unfolding run_text
 run_begins stats w aims s = refl
 
 -- and ends with the lines of the last state, those of the probes and that of the counts
-pub text_of_run : (stats : Bool) (w : Setting) (aims heard : List Aim) (s t : State) (ran : Ran) → t ≡ last_state w s → IsRan w s ran → heard ≡ after_events (run_shown w s) aims → event_lines (run_shown w s) ++ ((stop_text ran.why t.cycle ++ core_lines t) ++ (probe_lines heard ++ counts_text stats ran.windows ran.cycles)) ≡ run_text stats w aims s
+pub text_of_run : (stats : Bool) (w : Setting) (aims heard : List Aim) (s t : State) (ran : Ran) → t ≡ last_state w s → IsRanFor stats w s ran → heard ≡ after_events (run_shown w s) aims → event_lines (run_shown w s) ++ ((stop_text ran.why t.cycle ++ core_lines t) ++ (probe_lines heard ++ counts_text stats ran.windows ran.cycles)) ≡ run_text stats w aims s
 text_of_run stats w aims heard s t ran e is h =
     let stops : stop w t ≡ Some ran.why = ap (stop w) e ∙ is.why in
     let here : stop_text ran.why t.cycle ++ core_lines t ≡ end_text w (last_state w s) = subst (λ (x : State). stop_text ran.why t.cycle ++ core_lines t ≡ end_text w x) e (rw stops refl) in
-    let counts : counts_text stats ran.windows ran.cycles ≡ stats_text stats w s = ap₂ (counts_text stats) is.windows is.cycles in
-    ap₂ (λ (r a : List ℕ). event_lines (run_shown w s) ++ (r ++ a)) here (ap₂ (λ (a : List Aim) (n : List ℕ). probe_lines a ++ n) h counts) ∙ run_begins stats w aims s
+    ap₂ (λ (r a : List ℕ). event_lines (run_shown w s) ++ (r ++ a)) here (ap₂ (λ (a : List Aim) (n : List ℕ). probe_lines a ++ n) h is.counts) ∙ run_begins stats w aims s
+
+-- a run by windows found the counts, whether they are asked for or not
+ran_for : (stats : Bool) (w : Setting) (s : State) (ran : Ran) → IsRan w s ran → IsRanFor stats w s ran
+ran_for stats w s ran is = record { why = is.why; counts = ap₂ (counts_text stats) is.windows is.cycles }
+
+pub counted_for : (stats : Bool) (w : Setting) (s : State) (r : Result Ran RunFault) → IfOk r (IsRan w s) → IfOk r (IsRanFor stats w s)
+counted_for stats w s (Ok ran) is = ran_for stats w s ran is
+counted_for stats w s (Err fault) is = tt
+
+-- where they are not asked for, no run has to find them
+no_counts : (windows cycles : ℕ) (w : Setting) (s : State) → counts_text false windows cycles ≡ stats_text false w s
+unfolding counts_text
+no_counts windows cycles w s = refl
+
+pub uncounted_for : (stats : Bool) (w : Setting) (s : State) (r : Result Ran RunFault) → stats ≡ false → IfOk r (λ ran. stop w (last_state w s) ≡ Some ran.why) → IfOk r (IsRanFor stats w s)
+uncounted_for stats w s (Ok ran) none stops = record { why = stops; counts = rw none (no_counts ran.windows ran.cycles w s) }
+uncounted_for stats w s (Err fault) none stops = tt
 
 -- the lines up to an event at which the sink failed are a part of all lines
 lines_cut : (first others : List Event) (event : Event) → (event_lines first ++ event_text event) ++ event_lines others ≡ event_lines (first ++ event ∷ others)

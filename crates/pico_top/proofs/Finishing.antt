@@ -32,11 +32,11 @@ counted_forward s t before now le count = omega (arith, le, count)
 
 -- the run went to its stop, and its last lines were put
 pub run_ended : (stats : Bool) (w : Setting) (s t : State) (before after : List Aim) (old mid new : Option (List ℕ)) (lost between now steps steps' status : ℕ) (ran : Ran) (came : Result Ran RunFault) (left : Option (List ℕ)) (faults : ℕ)
-    → came ≡ Ok ran → RunsTo w s t before after old mid lost between steps steps' came
+    → came ≡ Ok ran → RunsTo stats w s t before after old mid lost between steps steps' came
     → Puts mid new between now status 0 ((stop_text ran.why t.cycle ++ core_lines t) ++ (probe_lines after ++ counts_text stats ran.windows ran.cycles))
     → Concludes (say (run_reply stats before w s)) left left faults faults old new lost now steps steps' status
 run_ended stats w s t before after old mid new lost between now steps steps' status ran came left faults is h₀ last =
-    let h = subst (λ (r : Result Ran RunFault). RunsTo w s t before after old mid lost between steps steps' r) is h₀ in
+    let h = subst (λ (r : Result Ran RunFault). RunsTo stats w s t before after old mid lost between steps steps' r) is h₀ in
     let puts : Puts old new lost now status 0 (run_text stats w before s) = (
       last.0,
       sends_second old mid new lost between now (event_lines (run_shown w s)) _ _ ran last.0 (text_of_run stats w before after s t ran h.state h.ran h.heard) (sends_done old mid lost between _ ran h.sends) last.1,
@@ -48,10 +48,10 @@ run_ended stats w s t before after old mid new lost between now steps steps' sta
 
 -- the sink failed at an event
 pub run_cut : (stats : Bool) (w : Setting) (s t : State) (before after : List Aim) (old mid : Option (List ℕ)) (lost between steps steps' status : ℕ) (came : Result Ran RunFault) (left : Option (List ℕ)) (faults : ℕ)
-    → came ≡ Err Sink → status ≡ 7 → RunsTo w s t before after old mid lost between steps steps' came
+    → came ≡ Err Sink → status ≡ 7 → RunsTo stats w s t before after old mid lost between steps steps' came
     → Concludes (say (run_reply stats before w s)) left left faults faults old mid lost between steps steps' status
 run_cut stats w s t before after old mid lost between steps steps' status came left faults is seven h₀ =
-    let h = subst (λ (r : Result Ran RunFault). RunsTo w s t before after old mid lost between steps steps' r) is h₀ in
+    let h = subst (λ (r : Result Ran RunFault). RunsTo stats w s t before after old mid lost between steps steps' r) is h₀ in
     let fault : SinkFault = record {} in
     let puts : Puts old mid lost between status 0 (run_text stats w before s) = (
       Err fault,
@@ -64,9 +64,9 @@ run_cut stats w s t before after old mid lost between steps steps' status came l
 
 -- memory ran out before the run
 pub run_none : (stats : Bool) (w : Setting) (s t : State) (before after : List Aim) (old mid new : Option (List ℕ)) (lost between now steps steps' status : ℕ) (came : Result Ran RunFault) (left : Option (List ℕ)) (faults : ℕ)
-    → came ≡ Err Memory → RunsTo w s t before after old mid lost between steps steps' came → RunsOut mid new between now status
+    → came ≡ Err Memory → RunsTo stats w s t before after old mid lost between steps steps' came → RunsOut mid new between now status
     → Concludes (say (run_reply stats before w s)) left left faults faults old new lost now steps steps' status
 run_none stats w s t before after old mid new lost between now steps steps' status came left faults is h₀ out =
-    let h = subst (λ (r : Result Ran RunFault). RunsTo w s t before after old mid lost between steps steps' r) is h₀ in
+    let h = subst (λ (r : Result Ran RunFault). RunsTo stats w s t before after old mid lost between steps steps' r) is h₀ in
     tells_out (run_reply stats before w s) left faults old mid new lost between now steps steps' status
     h.memory.1 h.memory.2 (none_counted s t steps steps' h.memory.0 h.counted) out

@@ -1,14 +1,15 @@
-//! A run by windows, up to the first state that has a stop: on one thread, or with workers.
+//! A run up to the first state that has a stop: cycle by cycle, or by windows where these are counted or have workers.
 
-ghost use Rattle.std.specs.Prelude.{◌≡◌, ◌+◌, ◌≤◌, IfOk, IfSome};
+ghost use Rattle.std.specs.Prelude.{◌≡◌, ◌+◌, ◌≤◌, IfOk, IfSome, Some};
 ghost use Rattle.outer_lane.specs.Setting.{setting};
 ghost use Rattle.trace_text.specs.Tape.{Tells};
+ghost use Rattle.rp_machine.specs.Cycle.{stop};
 ghost use Rattle.rp_machine.specs.Run.{last_state};
 ghost use Rattle.window_runner.specs.Told.{run_shown};
 ghost use Rattle.window_runner.specs.Alone.{IsRan, IsOnRun};
 ghost use Rattle.window_runner.specs.Windows.{answered, OnMemory};
 ghost use Rattle.board_parts.specs.Hearing.{aim_of, seen};
-ghost use Rattle.pico_top.specs.Running.{RunsTo};
+ghost use Rattle.pico_top.specs.Running.{IsRanFor, RunsTo};
 
 use crate::teller::Teller;
 use board_parts::aimed::Aimed;
@@ -26,6 +27,7 @@ use trace_text::tape::Tape;
 use trace_text::writer::Writer;
 use window_merge::Crew;
 use window_runner::alone::{Ran, run_alone};
+use window_runner::cycles::run_cycles;
 use window_runner::windows::{RunFault, run_windows};
 
 /// How many threads run the lanes of a run's windows beside the calling one, and what is entered and left round each piece.
@@ -37,12 +39,13 @@ pub struct Workers<'a, G: Gate> {
     pub count: u8,
 }
 
-/// Makes the jobs of a run, and runs a machine up to its first stop on the calling thread alone. Each cycle counts as a step.
+/// Makes the jobs of a run, and runs a machine by windows up to its first stop on the calling thread alone. Each cycle counts as a
+/// step.
 ///
 /// # Errors
 ///
 /// `Sink`: the tape failed at an event. `Memory`: there was none for the jobs; nothing has changed.
-fn run_by_one<X: Device, T: Tape, L: Ledger>(
+fn run_counted<X: Device, T: Tape, L: Ledger>(
     alloc: Global,
     machine: &mut Machine,
     world: &World<'_, X>,
@@ -68,8 +71,75 @@ fn run_by_one<X: Device, T: Tape, L: Ledger>(
     }
 }
 
+/// Runs a machine cycle by cycle up to its first stop on the calling thread alone, which tries no window and takes no memory. Each
+/// cycle counts as a step.
+///
+/// # Errors
+///
+/// `Sink`: the tape failed at an event.
+fn run_uncounted<X: Device, T: Tape, L: Ledger>(
+    machine: &mut Machine,
+    world: &World<'_, X>,
+    tape: &mut T,
+    steps: &mut Steps<L>,
+) -> Result<Ran, RunFault>
+    requires number { machine.old.cycle ≤ world.now.limit }
+    ensures told { IfSome (answered result) (Tells T.took T.missed tape.old tape.new
+        (T.faults tape.old) (T.faults tape.new) (run_shown (setting X.meaning world.now)
+        machine.old)) }
+    ensures why { IfOk result (λ ran. stop (setting X.meaning world.now) (last_state (setting
+        X.meaning world.now) machine.old) ≡ Some ran.why) }
+    ensures state { IfOk result (λ ran. machine.new ≡ last_state (setting X.meaning world.now)
+        machine.old) }
+    ensures on_run { IsOnRun (setting X.meaning world.now) machine.old machine.new }
+    ensures steps { steps.new + machine.old.cycle ≡ steps.old + machine.new.cycle }
+    ensures memory { OnMemory result ((machine.new ≡ machine.old) × (tape.new ≡ tape.old)) }
+{
+    match run_cycles(machine, world, tape, steps) {
+        Ok(why) => Ok(Ran {
+            why,
+            windows: 0,
+            cycles: 0,
+        }),
+        Err(_) => Err(RunFault::Sink),
+    }
+}
+
+/// Runs a machine up to its first stop on the calling thread alone: by windows where these are to be counted, and else cycle by
+/// cycle. Each cycle counts as a step.
+///
+/// # Errors
+///
+/// `Sink`: the tape failed at an event. `Memory`: there was none for the windows; nothing has changed.
+fn run_by_one<X: Device, T: Tape, L: Ledger>(
+    stats: bool,
+    alloc: Global,
+    machine: &mut Machine,
+    world: &World<'_, X>,
+    tape: &mut T,
+    steps: &mut Steps<L>,
+) -> Result<Ran, RunFault>
+    requires number { machine.old.cycle ≤ world.now.limit }
+    ensures told { IfSome (answered result) (Tells T.took T.missed tape.old tape.new
+        (T.faults tape.old) (T.faults tape.new) (run_shown (setting X.meaning world.now)
+        machine.old)) }
+    ensures ran { IfOk result (IsRanFor stats (setting X.meaning world.now) machine.old) }
+    ensures state { IfOk result (λ ran. machine.new ≡ last_state (setting X.meaning world.now)
+        machine.old) }
+    ensures on_run { IsOnRun (setting X.meaning world.now) machine.old machine.new }
+    ensures steps { steps.new + machine.old.cycle ≡ steps.old + machine.new.cycle }
+    ensures memory { OnMemory result ((machine.new ≡ machine.old) × (tape.new ≡ tape.old)) }
+{
+    if stats {
+        run_counted(alloc, machine, world, tape, steps)
+    } else {
+        run_uncounted(machine, world, tape, steps)
+    }
+}
+
 /// Runs a machine up to its first stop on the calling thread alone and tells its events. Each cycle counts as a step.
 fn run_told<X: Device, O: Sink, L: Ledger>(
+    stats: bool,
     alloc: Global,
     machine: &mut Machine,
     world: &World<'_, X>,
@@ -77,7 +147,7 @@ fn run_told<X: Device, O: Sink, L: Ledger>(
     steps: &mut Steps<L>,
 ) -> Result<Ran, RunFault>
     requires number { machine.old.cycle ≤ world.now.limit }
-    ensures told { RunsTo (setting X.meaning world.now) machine.old machine.new (seen
+    ensures told { RunsTo stats (setting X.meaning world.now) machine.old machine.new (seen
         teller.old.probes.now (λ a. aim_of a.index a.pin (⟦<dyn Probe as Probe>⟧ a.probe.vtable)
         a.probe.value)) (seen teller.new.probes.now (λ a. aim_of a.index a.pin (⟦<dyn Probe as Probe>⟧ a.probe.vtable) a.probe.value)) (O.written teller.old.writer.out.now) (O.written
         teller.new.writer.out.now) (O.faults teller.old.writer.out.now) (O.faults
@@ -85,12 +155,13 @@ fn run_told<X: Device, O: Sink, L: Ledger>(
     ensures same_sink { teller.new.writer.out.ghost_name ≡ teller.old.writer.out.ghost_name }
     ensures same_probes { teller.new.probes.ghost_name ≡ teller.old.probes.ghost_name }
 {
-    run_by_one(alloc, machine, world, teller, steps)
+    run_by_one(stats, alloc, machine, world, teller, steps)
 }
 
 /// Runs a machine up to its first stop with workers and tells its events. Each cycle counts as a step.
 fn run_told_by<X: Device, O: Sink, G: Gate, L: Ledger, R: Threads + Wait + Sync>(
     rt: &R,
+    stats: bool,
     alloc: Global,
     workers: &Workers<'_, G>,
     machine: &mut Machine,
@@ -100,7 +171,7 @@ fn run_told_by<X: Device, O: Sink, G: Gate, L: Ledger, R: Threads + Wait + Sync>
 ) -> Result<Ran, RunFault>
     requires workers { workers.now.count ≤ 8 }
     requires number { machine.old.cycle ≤ world.now.limit }
-    ensures told { RunsTo (setting X.meaning world.now) machine.old machine.new (seen
+    ensures told { RunsTo stats (setting X.meaning world.now) machine.old machine.new (seen
         teller.old.probes.now (λ a. aim_of a.index a.pin (⟦<dyn Probe as Probe>⟧ a.probe.vtable)
         a.probe.value)) (seen teller.new.probes.now (λ a. aim_of a.index a.pin (⟦<dyn Probe as Probe>⟧ a.probe.vtable) a.probe.value)) (O.written teller.old.writer.out.now) (O.written
         teller.new.writer.out.now) (O.faults teller.old.writer.out.now) (O.faults
@@ -124,6 +195,7 @@ fn run_told_by<X: Device, O: Sink, G: Gate, L: Ledger, R: Threads + Wait + Sync>
 /// Runs a machine up to its first stop on the calling thread alone, lets the probes hear the events, and puts their lines. Each
 /// cycle counts as a step.
 pub fn run_to_stop<X: Device, O: Sink, L: Ledger>(
+    stats: bool,
     alloc: Global,
     machine: &mut Machine,
     world: &World<'_, X>,
@@ -132,8 +204,8 @@ pub fn run_to_stop<X: Device, O: Sink, L: Ledger>(
     steps: &mut Steps<L>,
 ) -> Result<Ran, RunFault>
     requires number { machine.old.cycle ≤ world.now.limit }
-    ensures { RunsTo (setting X.meaning world.now) machine.old machine.new (seen probes.old (λ a.
-        aim_of a.index a.pin (⟦<dyn Probe as Probe>⟧ a.probe.vtable) a.probe.value)) (seen
+    ensures { RunsTo stats (setting X.meaning world.now) machine.old machine.new (seen probes.old (λ
+        a. aim_of a.index a.pin (⟦<dyn Probe as Probe>⟧ a.probe.vtable) a.probe.value)) (seen
         probes.new (λ a. aim_of a.index a.pin (⟦<dyn Probe as Probe>⟧ a.probe.vtable)
         a.probe.value)) (O.written out.old) (O.written out.new) (O.faults out.old) (O.faults
         out.new) steps.old steps.new result }
@@ -143,12 +215,13 @@ pub fn run_to_stop<X: Device, O: Sink, L: Ledger>(
         probes,
         boxed: PhantomData,
     };
-    run_told(alloc, machine, world, &mut teller, steps)
+    run_told(stats, alloc, machine, world, &mut teller, steps)
 }
 
-/// The same with workers.
+/// The same with workers, where there are any.
 pub fn run_to_stop_by<X: Device, O: Sink, G: Gate, L: Ledger, R: Threads + Wait + Sync>(
     rt: &R,
+    stats: bool,
     alloc: Global,
     workers: &Workers<'_, G>,
     machine: &mut Machine,
@@ -159,16 +232,28 @@ pub fn run_to_stop_by<X: Device, O: Sink, G: Gate, L: Ledger, R: Threads + Wait 
 ) -> Result<Ran, RunFault>
     requires workers { workers.now.count ≤ 8 }
     requires number { machine.old.cycle ≤ world.now.limit }
-    ensures { RunsTo (setting X.meaning world.now) machine.old machine.new (seen probes.old (λ a.
-        aim_of a.index a.pin (⟦<dyn Probe as Probe>⟧ a.probe.vtable) a.probe.value)) (seen
+    ensures { RunsTo stats (setting X.meaning world.now) machine.old machine.new (seen probes.old (λ
+        a. aim_of a.index a.pin (⟦<dyn Probe as Probe>⟧ a.probe.vtable) a.probe.value)) (seen
         probes.new (λ a. aim_of a.index a.pin (⟦<dyn Probe as Probe>⟧ a.probe.vtable)
         a.probe.value)) (O.written out.old) (O.written out.new) (O.faults out.old) (O.faults
         out.new) steps.old steps.new result }
 {
+    if workers.count == 0 {
+        return run_to_stop(stats, alloc, machine, world, probes, out, steps);
+    }
     let mut teller = Teller {
         writer: Writer { out },
         probes,
         boxed: PhantomData,
     };
-    run_told_by(rt, alloc, workers, machine, world, &mut teller, steps)
+    run_told_by(
+        rt,
+        stats,
+        alloc,
+        workers,
+        machine,
+        world,
+        &mut teller,
+        steps,
+    )
 }

@@ -66,7 +66,7 @@ fn finish<O: Sink>(
 ) -> u8
     ensures { (w : Setting) (s : State) (before : List Aim) (old : Option (List ℕ))
         (lost steps steps' : ℕ)
-        → RunsTo w s machine.now before (seen probes.now (λ a. aim_of a.index a.pin
+        → RunsTo stats w s machine.now before (seen probes.now (λ a. aim_of a.index a.pin
         (⟦<dyn Probe as Probe>⟧ a.probe.vtable) a.probe.value))
         old (O.written out.old) lost (O.faults out.old) steps steps' came
         → (left : Option (List ℕ)) (faults : ℕ)
@@ -110,7 +110,7 @@ fn run_into<X: Device, O: Sink, L: Ledger>(
         device,
         limit,
     };
-    let came = run_to_stop(alloc, &mut machine, &world, probes, out, steps);
+    let came = run_to_stop(stats, alloc, &mut machine, &world, probes, out, steps);
     finish(stats, came, &machine, probes, out)
 }
 
@@ -145,7 +145,17 @@ fn run_into_by<X: Device, O: Sink, G: Gate, L: Ledger, R: Threads + Wait + Sync>
         device,
         limit,
     };
-    let came = run_to_stop_by(rt, alloc, workers, &mut machine, &world, probes, out, steps);
+    let came = run_to_stop_by(
+        rt,
+        stats,
+        alloc,
+        workers,
+        &mut machine,
+        &world,
+        probes,
+        out,
+        steps,
+    );
     finish(stats, came, &machine, probes, out)
 }
 

@@ -2,10 +2,12 @@ pub mod Accepted
 pub mod Accepting
 pub mod Along
 pub mod CycleEvents
+pub mod Cycling
 pub mod Finishing
 pub mod Marks
 pub mod Merges
 pub mod Ordering
+pub mod Over
 pub mod Pads
 pub mod Passing
 pub mod Reaching

@@ -51,11 +51,11 @@ reached_first w s le =
 
 -- ---- from one position to the next
 
-no_cycles : (w : Setting) (s : State) → states w s zero ≡ s
+pub no_cycles : (w : Setting) (s : State) → states w s zero ≡ s
 unfolding states
 no_cycles w s = refl
 
-one_cycle : (w : Setting) (s : State) → stop w s ≡ None → states w s 1 ≡ next w s
+pub one_cycle : (w : Setting) (s : State) → stop w s ≡ None → states w s 1 ≡ next w s
 one_cycle w s runs = states_on w s zero runs ∙ no_cycles w (next w s)
 
 goes_by : (w : Setting) (p : Position) (tried : Bool) → stop w p.state ≡ None
@@ -67,7 +67,7 @@ goes_on : (w : Setting) (p : Position) → stop w p.state ≡ None → GoesOn w 
 unfolding next_position
 goes_on w p runs = goes_by w p (is_tried p.after_empty p.state) runs
 
-then_on : (w : Setting) (s t u : State) → GoesOn w s t → GoesOn w t u → GoesOn w s u
+pub then_on : (w : Setting) (s t u : State) → GoesOn w s t → GoesOn w t u → GoesOn w s u
 then_on w s t u a b = record {
   count = a.count + b.count;
   state = b.state ∙ ap (λ x. states w x b.count) a.state ∙ sym (join w s a.count b.count).state;
@@ -129,10 +129,10 @@ by_number w s zero =
     ap (states w s) (sym none)
 by_number w s (suc n) = number_by w s n (stop w s) refl (by_number w (next w s) n)
 
-own_number : (w : Setting) (s t : State) → GoesOn w s t → t ≡ states w s (t.cycle - s.cycle)
+pub own_number : (w : Setting) (s t : State) → GoesOn w s t → t ≡ states w s (t.cycle - s.cycle)
 own_number w s t on = subst (λ (x : State). x ≡ states w s (x.cycle - s.cycle)) (sym on.state) (by_number w s on.count)
 
-last_later : (w : Setting) (s : State) → s.cycle ≤ (last_state w s).cycle
+pub last_later : (w : Setting) (s : State) → s.cycle ≤ (last_state w s).cycle
 unfolding last_state
 last_later w s = not_back w s (w.limit - s.cycle)
 
@@ -199,7 +199,7 @@ shown_on : (w : Setting) (p : Position) → stop w p.state ≡ None → p.state.
     → run_shown w p.state ≡ all_shown (step_events w p) ++ run_shown w (next_position w p).state
 shown_on w p runs le = ap all_shown (sym (step_then w p runs le)) ∙ shown_both (step_events w p) (all_events w (next_position w p).state)
 
-shown_here : (w : Setting) (s : State) (why : Why) → stop w s ≡ Some why → run_shown w s ≡ all_shown []
+pub shown_here : (w : Setting) (s : State) (why : Why) → stop w s ≡ Some why → run_shown w s ≡ all_shown []
 shown_here w s why e = ap all_shown (events_here w s why e)
 
 -- the events of one more step were taken

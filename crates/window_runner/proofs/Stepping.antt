@@ -44,7 +44,7 @@ goes_by_cycle w s t old new found none tried state windows cycles after =
 
 -- ---- the events that are told of it
 
-told : (found : Option Why) (xs ys : List Event) → found ≡ None → xs ≡ ys → xs ≡ unless_stopped found [] ys
+pub told : (found : Option Why) (xs ys : List Event) → found ≡ None → xs ≡ ys → xs ≡ unless_stopped found [] ys
 told found xs ys none e = rw none e
 
 events_of_window : (w : Setting) (p : Position) → is_tried p.after_empty p.state ≡ true → step_events w p ≡ events_in w p.state (window_length w p.state)
@@ -63,7 +63,7 @@ tells_window w s t old n cycle before marks found none tried len state number at
     told found (events_by cycle before marks) (step_events w (position_at s old)) none
     (here ∙ marks_tell w s n count ∙ ap (events_in w s) len ∙ sym (events_of_window w (position_at s old) tried))
 
-only_one : (w : Setting) (s : State) → events_by s.cycle s.outer.pads.current (mark w s ∷ []) ≡ events w s
+pub only_one : (w : Setting) (s : State) → events_by s.cycle s.outer.pads.current (mark w s ∷ []) ≡ events w s
 unfolding events
 only_one w s = append-nil (events_of s.cycle s.outer.pads.current (mark w s))
 

@@ -16,7 +16,7 @@ ghost use Rattle.window_runner.specs.Seated.{IsSeatAt, IsReady};
 
 use crate::alone::{Counts, Ran, count_window, tell_step};
 use crate::piece::{Found, Piece};
-use crate::sets::{Sets, give_back_all, has_report, no_pieces, pieces_of, settle_all};
+use crate::sets::{Sets, give_back_all, has_report, pieces_of, settle_all};
 use crate::worker::pass;
 use lane_look::{Device, Marks};
 use outer_lane::World;
@@ -130,9 +130,8 @@ fn gather<'w, X: Device, G: Gate, H: Wait>(
     }
 }
 
-/// The reports of the window from the machine's state that come over the board. Behind a short window the pieces have no job, so
-/// that there is no report. Nothing goes over the board where the peripherals have another number of words than the device, or where no
-/// more numbers can be opened.
+/// The reports of the window from the machine's state that come over the board. Nothing goes over it behind a short window, where the
+/// peripherals have another number of words than the device, or where no more numbers can be opened.
 fn found_in<'w, X: Device, G: Gate, H: Wait>(
     desk: &Desk<'_, 'w, X, G, H>,
     lead: &mut Lead<'w, X>,
@@ -146,14 +145,10 @@ fn found_in<'w, X: Device, G: Gate, H: Wait>(
     ensures found { EachLane (λ lane found. IfSome found.report (IsTrueIn (setting X.meaning
         desk.now.world.now))) result }
 {
-    if lead.opened > MOST || !machine.outer.has_device(desk.world.device) {
+    if lead.after_short || lead.opened > MOST || !machine.outer.has_device(desk.world.device) {
         return nothing();
     }
-    let pieces = if lead.after_short {
-        no_pieces()
-    } else {
-        pieces_of(machine, desk.world, &mut lead.sets.first)
-    };
+    let pieces = pieces_of(machine, desk.world, &mut lead.sets.first);
     gather(desk, lead, pieces)
 }
 

@@ -4,6 +4,7 @@
 
 pub mod alone;
 mod coordinator;
+pub mod cycles;
 pub mod events;
 pub mod laws;
 pub mod piece;
@@ -12,5 +13,6 @@ pub mod windows;
 mod worker;
 
 pub use alone::{Ran, run_alone};
+pub use cycles::run_cycles;
 pub use piece::{Found, Piece};
 pub use windows::{RunFault, run_windows};

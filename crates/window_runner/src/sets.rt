@@ -1,6 +1,6 @@
 //! The two jobs of each lane, and its report in a window.
 
-ghost use Rattle.std.specs.Prelude.{◌≡◌, ◌||◌, length, is_some, IfOk, IfSome, None};
+ghost use Rattle.std.specs.Prelude.{◌≡◌, ◌||◌, length, is_some, IfOk, IfSome};
 ghost use Rattle.outer_lane.specs.Setting.{setting};
 ghost use Rattle.turn_board.specs.Answers.{EachLane};
 ghost use Rattle.window_merge.specs.Jobs.{AreAlone, HasNumber, IsAlone, IsJobFor, IsTrueIn, IsWhole};
@@ -105,20 +105,6 @@ pub(crate) fn pieces_of<X: Device>(
         l3: piece_of(machine, world, &mut first.l3),
         l4: piece_of(machine, world, &mut first.l4),
         l5: piece_of(machine, world, &mut first.l5),
-    }
-}
-
-/// Six pieces without a job.
-pub(crate) fn no_pieces() -> Six<Piece>
-    ensures { EachLane (λ lane piece. piece.job ≡ None) result }
-{
-    Six {
-        l0: Piece { job: None },
-        l1: Piece { job: None },
-        l2: Piece { job: None },
-        l3: Piece { job: None },
-        l4: Piece { job: None },
-        l5: Piece { job: None },
     }
 }
 

@@ -82,7 +82,7 @@ impl<'b, 'w, X: Device, G: Gate> Bench<'b, 'w, X, G> {
     }
 }
 
-/// The workers and the coordinator, each in a thread of its own.
+/// The workers, of which there is one at least, and the coordinator, each in a thread of its own.
 fn both<'b, 'w, X: Device, G: Gate, T: Tape, L: Ledger, R: Threads + Wait + Sync>(
     rt: &'b R,
     hall: Hall<'b, 'w, X, G>,
@@ -191,6 +191,9 @@ fn run_at<'w, X: Device, G: Gate, T: Tape, L: Ledger, R: Threads + Wait + Sync>(
         world,
         gate,
     };
+    if workers == 0 {
+        return Some(bench.work(rt, machine, tape, steps));
+    }
     Some(both(rt, hall, bench, machine, tape, steps))
 }
 

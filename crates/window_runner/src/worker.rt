@@ -114,18 +114,21 @@ pub(crate) struct Hall<'b, 'w, X: Device, G: Gate> {
 }
 
 impl<'b, 'w, X: Device, G: Gate> Hall<'b, 'w, X, G> {
-    /// Starts a thread for each seat. Where one can't be started, the others aren't either: their seats are let go, and the
-    /// coordinator draws the tickets.
+    /// Starts a thread for each seat but one, and serves at that one. Where a thread can't be started, the others aren't either: their
+    /// seats are let go, and the coordinator draws the tickets.
     fn start<'s, E, R: Threads + Wait + Sync>(self, rt: &'b R, scope: &'s Scope<'b, E>)
         requires { All (λ seat. (seat.board ≡ self.board.now)
             × (seat.made_for.now ≡ self.world.now) × IsFree seat.state) self.seats.items }
     {
         let Hall {
             board,
-            seats,
+            mut seats,
             world,
             gate,
         } = self;
+        let Some(own) = seats.pop() else {
+            return;
+        };
         for seat in seats {
             let shift = Shift {
                 board,
@@ -144,6 +147,7 @@ impl<'b, 'w, X: Device, G: Gate> Hall<'b, 'w, X, G> {
                 break;
             }
         }
+        serve(rt, board, own, world, gate);
     }
 
     /// Lets the workers serve until the board is closed, and waits for them.

@@ -1,5 +1,5 @@
 use Rattle.std.proofs.Common.{◌∙◌, ap}
-use Rattle.pico_top.proofs.Cycles.{part_told, sends_answered, heard_answered, same_answered, memory_answered}
+use Rattle.pico_top.proofs.Cycles.{part_told, sends_answered, heard_answered, same_answered, memory_answered, counted_for}
 use Rattle.pico_top.proofs.runner.run_told_by.Goals as goal
 
 pub returns-clause-told : goal.returns-clause-told
@@ -8,7 +8,7 @@ returns-clause-told g c =
     record {
       sends = sends_answered _ _ _ _ _ _ _ _ _ _ (λ t. t.0.written) (λ k. part_told _ _ _ _ _ _ _ _ _ k.in_order k.taken.0 k.failed.0) h.told;
       heard = heard_answered _ _ _ _ _ _ _ _ _ (λ t. t.0.heard) h.told;
-      ran = h.ran;
+      ran = counted_for _ _ _ _ h.ran;
       state = h.state;
       on_run = h.on_run;
       counted = h.steps;

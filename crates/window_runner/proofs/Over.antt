@@ -1,0 +1,72 @@
+-- Cycles in which nobody has anything to do, gone over at once on the way of a run.
+use Rattle.std.proofs.Common.{◌≡◌, ℕ, zero, suc, ◌+◌, ◌-◌, ◌<◌, ◌≤◌, List, [], ◌++◌, None, refl, ap, sym, ◌∙◌, subst, arith}
+use Rattle.outer_lane.specs.Setting.{Setting}
+use Rattle.trace_text.specs.declared.event.Event.{Event as Shown}
+use Rattle.rp_machine.specs.State.{State}
+use Rattle.rp_machine.specs.Cycle.{stop, next}
+use Rattle.rp_machine.specs.Events.{Event, events}
+use Rattle.rp_machine.specs.Run.{states, events_in, last_state, all_events}
+use Rattle.rp_machine.specs.Quiet.{IsQuiet}
+use Rattle.rp_machine.proofs.Joining.{join}
+use Rattle.rp_machine.proofs.Runs.{states_on, events_more, step_nearer}
+use Rattle.window_merge.proofs.Positions.{along_states}
+use Rattle.window_runner.specs.Told.{all_shown, run_shown}
+use Rattle.window_runner.proofs.Cycling.{OnItsWay}
+use Rattle.window_runner.proofs.Reaching.{no_cycles, then_on}
+use Rattle.window_runner.proofs.Telling.{TakenBefore, taken_same}
+
+no_events_in : (w : Setting) (s : State) (n : ℕ) → ((k : ℕ) → k < n → stop w (states w s k) ≡ None) → ((k : ℕ) → k < n → events w (states w s k) ≡ [])
+    → events_in w s n ≡ []
+unfolding events_in
+no_events_in w s zero goes silent = refl
+no_events_in w s (suc n) goes silent =
+    let runs : stop w s ≡ None = ap (stop w) (sym (no_cycles w s)) ∙ goes 0 (omega arith) in
+    events_more w s n runs
+    ∙ ap (λ (es : List Event). es ++ events_in w (next w s) n) (ap (events w) (sym (no_cycles w s)) ∙ silent 0 (omega arith))
+    ∙ no_events_in w (next w s) n
+    (λ k lt. ap (stop w) (sym (states_on w s k runs)) ∙ goes (suc k) (omega arith))
+    (λ k lt. ap (events w) (sym (states_on w s k runs)) ∙ silent (suc k) (omega arith))
+
+number_over : (w : Setting) (s t : State) (n : ℕ) → t ≡ states w s n → IsQuiet w s n → t.cycle ≡ s.cycle + n
+number_over w s t n state h = ap (λ (u : State). u.cycle) state ∙ h.cycle n (omega arith)
+
+-- the events that are left are the same
+shown_over : (w : Setting) (s t : State) (n : ℕ) → s.cycle ≤ w.limit → t ≡ states w s n → IsQuiet w s n → run_shown w s ≡ run_shown w t
+unfolding all_events
+shown_over w s t n le state h =
+    let number = number_over w s t n state h in
+    let same = ap (λ (u : State). u.cycle) state in
+    let within = (along_states w s n le).within in
+    let sum : w.limit - s.cycle ≡ n + (w.limit - t.cycle) = omega (arith, number, same, within) in
+    ap all_shown (ap (events_in w s) sum ∙ (join w s n (w.limit - t.cycle)).events
+    ∙ ap (λ (es : List Event). es ++ events_in w (states w s n) (w.limit - t.cycle)) (no_events_in w s n h.goes h.silent)
+    ∙ ap (λ (u : State). events_in w u (w.limit - t.cycle)) (sym state))
+
+pub taken_over : {T : Type 0} (took : T → List Shown → T → Type 0) (a b : T) (f g : ℕ) (w : Setting) (first s t : State) (n : ℕ) → s.cycle ≤ w.limit
+    → TakenBefore took a b f g (run_shown w first) (run_shown w s) → t ≡ states w s n → IsQuiet w s n
+    → TakenBefore took a b f g (run_shown w first) (run_shown w t)
+taken_over took a b f g w first s t n le taken state h =
+    taken_same took a b f g (run_shown w first) (run_shown w s) (run_shown w t) taken (shown_over w s t n le state h)
+
+pub way_over : (w : Setting) (first s t : State) (before now after n : ℕ) → OnItsWay w first s before now → t ≡ states w s n → IsQuiet w s n → after ≡ now + n
+    → OnItsWay w first t before after
+way_over w first s t before now after n r state h count =
+    let along = along_states w s n r.within in
+    let number = number_over w s t n state h in
+    let forward = r.forward in
+    let so_far = r.steps in
+    record {
+      within = subst (λ (u : State). u.cycle ≤ w.limit) (sym state) along.within;
+      forward = omega (arith, forward, number);
+      way = then_on w first s t r.way (record { count = n; state = state });
+      last = ap (last_state w) state ∙ along.last ∙ r.last;
+      steps = omega (arith, so_far, number, count);
+    }
+
+-- and the cycle behind them brings the run nearer to its end
+pub nearer_over : (w : Setting) (s t u : State) (n : ℕ) → t ≡ states w s n → IsQuiet w s n → stop w t ≡ None → u ≡ next w t → t.cycle ≤ w.limit
+    → w.limit - u.cycle < w.limit - s.cycle
+nearer_over w s t u n state h runs on le =
+    let number = number_over w s t n state h in
+    let near = step_nearer w t u runs on le in
+    omega (arith, number, near)

@@ -1,0 +1,82 @@
+//! A run cycle by cycle, which goes over cycles in which nobody has anything to do at once: no window is made of it, and nothing is
+//! counted but its cycles.
+
+ghost use Rattle.std.specs.Prelude.{◌≡◌, ◌+◌, ◌≤◌, [], Some, IfOk};
+ghost use Rattle.outer_lane.specs.Setting.{setting};
+ghost use Rattle.trace_text.specs.Tape.{Tells};
+ghost use Rattle.rp_machine.specs.Cycle.{next, stop};
+ghost use Rattle.rp_machine.specs.Events.{events};
+ghost use Rattle.rp_machine.specs.Run.{last_state, unless_stopped};
+ghost use Rattle.window_runner.specs.Told.{all_shown, run_shown};
+ghost use Rattle.window_runner.specs.Alone.{IsOnRun, stop_in};
+
+use crate::alone::tell_step;
+use lane_look::{Device, Marks};
+use outer_lane::World;
+use quiet_run::{Pace, pass_quiet};
+use rp_base::Why;
+use rp_machine::{Machine, Steps, is_bounded};
+use std::sync::ledger::Ledger;
+use trace_text::tape::Tape;
+use trace_text::writer::SinkFault;
+
+/// Does one cycle and tells its events, or finds a stop and changes nothing.
+fn cycle_told<X: Device, T: Tape, L: Ledger>(
+    machine: &mut Machine,
+    world: &World<'_, X>,
+    marks: &mut Marks,
+    tape: &mut T,
+    steps: &mut Steps<L>,
+) -> Result<Option<Why>, SinkFault>
+    requires number { machine.old.cycle ≤ world.now.limit }
+    ensures cause { stop (setting X.meaning world.now) machine.old ≡ stop_in result }
+    ensures state { machine.new ≡ unless_stopped (stop_in result) machine.old (next (setting
+        X.meaning world.now) machine.old) }
+    ensures told { Tells T.took T.missed tape.old tape.new (T.faults tape.old) (T.faults tape.new)
+        (all_shown (unless_stopped (stop_in result) [] (events (setting X.meaning world.now)
+        machine.old))) result }
+    ensures steps { steps.new + machine.old.cycle ≡ steps.old + machine.new.cycle }
+{
+    is_bounded(world);
+    let cycle = machine.number();
+    let before = machine.pads();
+    match machine.cycle(world, marks, steps) {
+        Some(why) => Ok(Some(why)),
+        None => tell_step(cycle, before, marks, tape),
+    }
+}
+
+/// Runs a machine up to its first stop, tells the events of all its cycles to a tape, and answers the cause of the stop: cycle by cycle,
+/// and over as many as nobody has anything to do in at once. Each cycle counts as a step. It takes no memory.
+///
+/// # Errors
+///
+/// The tape failed at an event, and its count of faults rose. It has the events before that one, and the machine stands behind a
+/// cycle of the run.
+pub fn run_cycles<X: Device, T: Tape, L: Ledger>(
+    machine: &mut Machine,
+    world: &World<'_, X>,
+    tape: &mut T,
+    steps: &mut Steps<L>,
+) -> Result<Why, SinkFault>
+    requires number { machine.old.cycle ≤ world.now.limit }
+    ensures told { Tells T.took T.missed tape.old tape.new (T.faults tape.old) (T.faults tape.new)
+        (run_shown (setting X.meaning world.now) machine.old) result }
+    ensures why { IfOk result (λ why. stop (setting X.meaning world.now) (last_state (setting
+        X.meaning world.now) machine.old) ≡ Some why) }
+    ensures state { IfOk result (λ why. machine.new ≡ last_state (setting X.meaning world.now)
+        machine.old) }
+    ensures on_run { IsOnRun (setting X.meaning world.now) machine.old machine.new }
+    ensures steps { steps.new + machine.old.cycle ≡ steps.old + machine.new.cycle }
+{
+    let mut marks = Marks::new();
+    let mut pace = Pace::default();
+    'cycles: loop {
+        pass_quiet(machine, world, world.limit, &mut pace, &mut marks, steps);
+        match cycle_told(machine, world, &mut marks, tape, steps) {
+            Ok(None) => continue 'cycles,
+            Ok(Some(why)) => return Ok(why),
+            Err(fault) => return Err(fault),
+        }
+    }
+}
