@@ -1,0 +1,4 @@
+; Core 0 sleeps, and nothing else is at work.
+
+again:  wfi
+        b again
