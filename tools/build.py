@@ -2,10 +2,12 @@
 """Proves and builds the program: tools/build.py [--jobs N]
 
 The crates of the program are proved from the lowest, several at a time (as many as there are processors, as far as there are 2.5 GB of memory
-for each, or as RT_JOBS says), and a crate that is proved is not proved again until it or one below it changes. How far it is goes to standard
-error, all that `rt` prints to crates/pico_main/out/build.log. Status 0: the program stands in crates/pico_main/out/pico_main; 1: it does not.
+for each, or as RT_JOBS says), and a crate that is proved is not proved again until it or one below it changes. An `rt` keeps others out of
+all crates below its own, so each that runs has a copy of the sources, and what it proved is handed on. How far it is goes to standard error,
+all that `rt` prints to crates/pico_main/out/build.log. Status 0: the program stands in crates/pico_main/out/pico_main; 1: it does not.
 """
 import os
+import shutil
 import subprocess
 import sys
 import time
@@ -64,6 +66,46 @@ def at_a_time(words):
     return min(os.cpu_count() or 1, memory())
 
 
+def shares(room, ready):
+    """How many processors each of the proofs that are begun at once has: all that there is room for, shared out as evenly as it goes."""
+    begun = min(room, ready)
+    return [room // begun + (place < room % begun) for place in range(begun)]
+
+
+def copied(place, crates):
+    """Makes a copy of the sources, in which an `rt` is alone."""
+    shutil.rmtree(place, ignore_errors=True)
+    for crate in filter(lambda crate: os.path.isdir(f"{TOP}/crates/{crate}"), crates):
+        shutil.copytree(f"{TOP}/crates/{crate}", f"{place}/crates/{crate}", ignore=shutil.ignore_patterns("out"))
+    for name in ("crates.txt", "HANDLES"):
+        if os.path.exists(f"{TOP}/{name}"):
+            shutil.copy(f"{TOP}/{name}", f"{place}/{name}")
+    return place
+
+
+def is_same(first, second):
+    return os.path.exists(first) and os.path.exists(second) and os.path.samefile(first, second)
+
+
+def hand(crate, source, target):
+    """Hands the library of a crate from one copy of the sources to another, if the one has it."""
+    kept, given = (f"{place}/crates/{crate}/out/rlib" for place in (source, target))
+    shutil.rmtree(f"{given}.new", ignore_errors=True)
+    if os.path.isdir(kept) and not is_same(f"{kept}/stamp", f"{given}/stamp"):
+        shutil.copytree(kept, f"{given}.new", copy_function=os.link)
+        shutil.rmtree(given, ignore_errors=True)
+        os.rename(f"{given}.new", given)
+
+
+def move_work(crate, source, target):
+    """Moves what a check kept for the next one, if it kept anything."""
+    kept, moved = (f"{place}/crates/{crate}/out/incremental" for place in (source, target))
+    if os.path.isdir(kept):
+        shutil.rmtree(moved, ignore_errors=True)
+        os.makedirs(os.path.dirname(moved), exist_ok=True)
+        os.rename(kept, moved)
+
+
 class Build:
     """The proofs that run, those that wait, and those that are done."""
 
@@ -75,6 +117,7 @@ class Build:
         self.waiting = [crate for crate in self.order if crate != MAIN]
         self.running, self.done = {}, set()
         self.begun = time.monotonic()
+        self.copies = [copied(f"{os.path.dirname(log.name)}/copies/{number}", self.uses) for number in range(jobs)]
 
     def minutes(self):
         return int((time.monotonic() - self.begun) / 60)
@@ -83,26 +126,35 @@ class Build:
         """Begins what can be begun; a proof that runs alone has all processors."""
         ready = [crate for crate in self.waiting if all(library in self.done for library in self.uses[crate])]
         ready.sort(key=lambda crate: -self.tall[crate])
-        room = self.jobs - sum(jobs for _, jobs, _ in self.running.values())
-        for place, crate in enumerate(ready[:room]):
-            left = min(len(ready), room) - place
-            jobs = max(1, room // left)
-            room -= jobs
+        room = self.jobs - sum(jobs for _, jobs, _, _ in self.running.values())
+        for crate, jobs in zip(ready, shares(room, len(ready))):
+            place = self.copies.pop()
+            for library in below(crate, self.uses, {}):
+                hand(library, TOP, place)
+            move_work(crate, TOP, place)
             out = open(f"{self.log.name}.{crate}", "w+")
             words = ["rt", "lib", "--jobs", str(jobs)]
-            process = subprocess.Popen(words, cwd=f"{TOP}/crates/{crate}", stdin=subprocess.DEVNULL, stdout=out, stderr=subprocess.STDOUT)
-            self.running[crate] = (process, jobs, out)
+            process = subprocess.Popen(words, cwd=f"{place}/crates/{crate}", stdin=subprocess.DEVNULL, stdout=out, stderr=subprocess.STDOUT)
+            self.running[crate] = (process, jobs, out, place)
             self.waiting.remove(crate)
 
-    def end(self, crate):
-        """What a proof left; whether it is proved."""
-        process, _, out = self.running.pop(crate)
+    def leave(self, crate):
+        """Takes a proof that ended away, with what it printed and kept; whether it is proved."""
+        process, _, out, place = self.running.pop(crate)
         out.seek(0)
         self.log.write(f"== {crate}\n{out.read()}")
         self.log.flush()
         out.close()
         os.remove(out.name)
-        if process.returncode:
+        move_work(crate, place, TOP)
+        if process.returncode == 0:
+            hand(crate, place, TOP)
+        self.copies.append(place)
+        return process.returncode == 0
+
+    def end(self, crate):
+        """A proof has ended: whether it is proved."""
+        if not self.leave(crate):
             say(f"{crate} was not proved")
             return False
         self.done.add(crate)
@@ -110,11 +162,12 @@ class Build:
         return True
 
     def stop(self):
-        for process, _, out in self.running.values():
+        for crate, (process, _, _, _) in list(self.running.items()):
             process.terminate()
             process.wait()
-            out.close()
-            os.remove(out.name)
+            self.leave(crate)
+        for place in self.copies:
+            shutil.rmtree(place, ignore_errors=True)
 
     def prove(self):
         """Proves all crates below the program."""
@@ -122,7 +175,7 @@ class Build:
             while self.waiting or self.running:
                 self.start()
                 time.sleep(0.2)
-                for crate in [crate for crate, (process, _, _) in self.running.items() if process.poll() is not None]:
+                for crate in [crate for crate, (process, _, _, _) in self.running.items() if process.poll() is not None]:
                     if not self.end(crate):
                         return False
             return True

@@ -15,11 +15,12 @@ from runs import Refused, main, parser, write  # noqa: E402
 TOP = os.path.dirname(os.path.dirname(os.path.abspath(__file__)))
 KINDS = {
     "read_write": "read, write", "register": "read (which acts), write", "read_acts": "read (which acts)", "read_only": "read",
-    "seen_only": "read", "write_only": "write", "kept": "read, write",
+    "seen_only": "read", "write_only": "write", "kept": "read, write", "of_channel": "read, write",
+    "triggering": "read, write (which triggers)",
 }
 NO_READ = re.compile(r"\(λ (\w+)\. \1\)")    # a read that leaves what it found
 HEAD = re.compile(r"^abbrev pub (\w+_rows) : .*List \(Row ", re.M)
-ROW = re.compile(rf'(?:repeated (\d+) (\d+) \(λ \w+\. )?({"|".join(KINDS)}) (0x[0-9a-f]+) "(\w+)"')
+ROW = re.compile(rf'(?:repeated (\d+) (\d+) \((?:λ \w+\. )?)?({"|".join(KINDS)}) (0x[0-9a-f]+) "(\w+)"')
 PAGE = """# The registers
 
 Made by `tools/registers.py`; `.ci/made` compares it, and `.ci/made --write` makes it anew.

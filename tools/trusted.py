@@ -3,7 +3,7 @@
 
 It begins with the names in that clause (crates/pico_top/src/lib.rt) and follows the imports of the files that define them. Each file of
 crates/*/specs that is met is listed behind those that import it, with its lines and the section of a manual that its first comment
-names; then the types of the code that these files name, and what they import of libraries. .ci/made compares the page.
+names, or `UNNAMED` below; then the types of the code that these files name, and what they import of libraries. .ci/made compares the page.
 """
 import os
 import re
@@ -16,7 +16,30 @@ from runs import Refused, main, parser, write  # noqa: E402
 TOP = os.path.dirname(os.path.dirname(os.path.abspath(__file__)))
 CALL = "crates/pico_top/src/lib.rt"
 IMPORT = re.compile(r"^(?:pub |ghost )?use (?:Rattle\.)?(\w+)\.(\w+)\.([\w.]+?)\.?(?: as \w+|\{([^}]*)\})?;?$", re.M)
-MANUAL = re.compile(r"Datasheet|Manual|DDI 0183|Microsoft|O'Neill|PCG|ISO C")
+MANUAL = re.compile(r"Datasheet|Manual|DDI 0183|Microsoft|O'Neill|PCG|ISO C|AMBA")
+# The section of a file whose first comment names none, or why it has none.
+UNNAMED = {
+    "lane_look/Alone": "the project's own: a part that runs alone",
+    "lane_look/Asking": "the project's own: what a part asks the rest of the machine",
+    "lane_look/Device": "the project's own: what stands outside the chip",
+    "lane_look/Replay": "the project's own: a part that is told its answers",
+    "pio_machine/Ending": "RP2040 Datasheet, 3.4.1 to 3.4.10, what stalls, sets PC or is executed",
+    "ram_banks/Pages": "the project's own: the pieces of SRAM in a snapshot",
+    "rp_base/Resettable": "RP2040 Datasheet, 2.14, Subsystem Resets",
+    "rp_base/Rows": "the form of the manuals' lists of registers; the rows of a block name theirs",
+    "rp_machine/Answers": "RP2040 Datasheet, 2.3.2, Interrupts, and 2.5.3.1, System DREQ Table",
+    "rp_machine/Cycle": "RP2040 Datasheet, 2.1, Bus Fabric; the order within a cycle is the project's own",
+    "rp_machine/Events": "the project's own: the events that are printed",
+    "rp_machine/Readers": "the project's own: the registers that are printed",
+    "rp_machine/Reads": "the project's own: what the debugger is told",
+    "rp_machine/Run": "the project's own: cycles one after the other",
+    "rp_ports/Fault": "the project's own: how often something outside failed",
+    "rp_ports/Shelf": "the project's own: files",
+    "rp_ports/Sink": "the project's own: what is written",
+    "rp_ports/Source": "the project's own: what is read",
+    "trace_text/Line": "the project's own: the lines that are printed",
+    "trace_text/Sent": "the project's own: text that was written, or a part of it",
+}
 PAGE = """# What has to be believed
 
 Made by `tools/trusted.py`; `.ci/made` compares it, and `.ci/made --write` makes it anew.
@@ -26,7 +49,7 @@ imports it stands on these files of definitions: {files} files, {lines:,} lines,
 comments, imports and empty lines. A file counts as a whole where one of its definitions is used, so this is more than is needed.
 
 The crates go from top to bottom, and in a crate each file stands behind those that import it, with its lines and the section of a
-manual that its first comment names. Device, probes, files, input and output are handed to `pico`: what is proved of those of the
+manual that it restates. Device, probes, files, input and output are handed to `pico`: what is proved of those of the
 program is in [PROOFS](PROOFS.md).
 """
 
@@ -124,15 +147,18 @@ def bracketed(text):
                 yield text[begin:at]
 
 
-def manual(text):
-    """The section of a manual that the first comment of a file names."""
+def manual(path, text):
+    """The section of a manual that a file restates, or why there is none."""
     comment = " ".join(line[2:].strip() for line in re.match(r"(?:--.*\n)*", text)[0].splitlines())
     found = [part for part in bracketed(comment) if MANUAL.search(part)]
     if not found and MANUAL.search(comment):
         found = [part for part in re.split(r"(?<=[.:;]) ", comment) if MANUAL.search(part)]
     if not found and "project's own" in comment:
         found = ["the project's own"]
-    return "; ".join(found) if found else "no section is named"
+    short = path.removeprefix("crates/").removesuffix(".antt").replace("/specs/", "/")
+    if bool(found) == (short in UNNAMED):
+        raise Refused(f"the first comment of {path} and `UNNAMED` have to name one section")
+    return "; ".join(found) or UNNAMED[short]
 
 
 def defines(text):
@@ -156,7 +182,7 @@ def page(walk):
         files = [path for path in walk.order if path.split("/")[1] == crate]
         if files:
             out.append(f"## {crate}: {sum(lines[path] for path in files)} lines\n")
-            out += [item(f"{path.split('/specs/')[1]}, {lines[path]}: {manual(texts[path])}") for path in files]
+            out += [item(f"{path.split('/specs/')[1]}, {lines[path]}: {manual(path, texts[path])}") for path in files]
             out.append("")
     if walk.names:
         out.append("## Values that are known by their types\n\nOf these the definitions use nothing but what their types say.\n")
