@@ -31,7 +31,7 @@ pub fn advance_alone<X: Device, L: Ledger>(
     ensures why { IsReached (setting X.meaning world.now) to result machine.new }
     ensures number { machine.new.cycle ≤ world.now.limit }
     ensures steps { steps.new + machine.old.cycle ≡ steps.old + machine.new.cycle }
-    ensures crew { IsWhole crew.new }
+    ensures crew { crew.new ≡ crew.old }
 {
     let mut marks = Marks::new();
     while machine.number() < to {
