@@ -1,13 +1,14 @@
 -- Lists of rows: where no two rows share an offset, each row is the one that is found at its offsets.
 use Rattle.std.proofs.Common.{◌≡◌, refl, sym, ap, ◌∙◌, ℕ, zero, suc, ◌+◌, ◌-◌, ◌*◌, ◌/◌, ◌%◌, ◌<◌, Bool, true, false, not, ◌&&◌, cond, List, [], ◌∷◌, ◌++◌, Some, None, inl, inr, true≢false, arith}
 use Rattle.std.specs.Prelude.{◌==◌, ◌≢◌, ◌≤◌, nat_le, nat_lt, if◌then◌else◌, Option, length, is_some, slice_index_or, ⊤}
-use Rattle.std.proofs.Math.Nat.{mul-div_cancel, mul-mod_left, mod-eq-sub-div-mul, div-mul-le_self, div-lt_iff_lt-mul, mul-lt-mul_of_pos_right, mul-le-mul_right}
+use Rattle.std.proofs.Math.Nat.{mul-div_cancel, mul-mod_left, mod-eq-sub-div-mul, div-mul-le_self, div-lt_iff_lt-mul, mul-lt-mul_of_pos_right, mul-le-mul_right, mod-eq_of_lt}
+use native.Mathlib.Nat.{add-mul-mod_self_right}
 use Rattle.std.proofs.lemmas.Grind.{common_steps}
 use Rattle.std.proofs.lemmas.Bool.Decides.{nat_tests, eqb_tells}
 use Rattle.rp_base.specs.declared.resettable.Resettable.{Resettable}
 use Rattle.rp_base.specs.Held.{unless_held}
 use Rattle.rp_base.specs.Resettable.{unless_held_becomes}
-use Rattle.rp_base.specs.Rows.{Place, At, Each, count_of, offset_at, is_at, number_at, Row, at_row, word_at, has_row, effect_at, EachOffset, IsListed, IsHeld}
+use Rattle.rp_base.specs.Rows.{Place, At, Each, count_of, first_of, offset_at, is_at, number_at, Row, at_row, word_at, has_row, effect_at, EachOffset, IsListed, IsHeld}
 
 -- ---- rows that are apart
 
@@ -274,7 +275,90 @@ told test bound rows at e all high = told-by (nat_lt at bound) refl
     told-by true h = alike (has_row rows at) (test at) (each_below-at (λ at. cond (has_row rows at) (test at) (not (test at))) bound at e (is_less at bound h))
     told-by false h = high h ∙ sym (none_above false (λ row n. true) bound rows at all h)
 
+-- ---- rows of which each stands so many times, a stride apart
+
+-- so many, of which the first one is within a stride from a base on
+abbrev pub is_strided : ℕ → ℕ → ℕ → Place → Bool
+is_strided base count stride (At offset) = false
+is_strided base count stride (Each first n apart) =
+    nat_lt 0 stride && (n == count && (apart == stride && (nat_le base first && nat_lt first (base + stride))))
+
+abbrev pub are_strided : {V S : Type 0} → ℕ → ℕ → ℕ → List (Row V S) → Bool
+are_strided base count stride [] = true
+are_strided base count stride (row ∷ rows) = is_strided base count stride row.place && are_strided base count stride rows
+
+-- what is found of the row that has an index in the stride
+abbrev pub in_stride : {V S A : Type 0} → ℕ → A → (Row V S → A) → List (Row V S) → ℕ → A
+in_stride base none found [] index = none
+in_stride base none found (row ∷ rows) index = if base + index == first_of row.place then found row else in_stride base none found rows index
+
+strided_index : (first stride base number index n : ℕ) → base ≤ first → first < base + stride → index < stride
+    → base + (number * stride + index) ≡ first + n * stride → base + index ≡ first
+strided_index first stride base number index n low high inside e =
+    let away : first - base < stride = omega arith in
+    let sum : index + number * stride ≡ (first - base) + n * stride = omega (arith, e, low) in
+    let left : (index + number * stride) % stride ≡ index = add-mul-mod_self_right index number stride ∙ mod-eq_of_lt inside in
+    let right : ((first - base) + n * stride) % stride ≡ first - base = add-mul-mod_self_right (first - base) n stride ∙ mod-eq_of_lt away in
+    let is : index ≡ first - base = sym left ∙ ap (λ x. x % stride) sum ∙ right in
+    omega (arith, is, low)
+
+strided_place : (first count stride base number index at : ℕ) → nat_lt 0 stride ≡ true → base ≤ first → first < base + stride
+    → number < count → index < stride → at ≡ base + (number * stride + index) → (b : Bool) → (base + index == first) ≡ b
+    → (is_at (Each first count stride) at ≡ b) × (b ≡ true → number_at (Each first count stride) at ≡ number)
+strided_place first count stride base number index at spread low high less inside e true h =
+    let here : base + index ≡ first = is_same (base + index) first h in
+    let is : at ≡ first + number * stride = omega (arith, e, here) in
+    (ap (is_at (Each first count stride)) is ∙ is_at-offset (Each first count stride) number spread less,
+    λ yes. ap (number_at (Each first count stride)) is ∙ number_at-offset (Each first count stride) number spread less)
+strided_place first count stride base number index at spread low high less inside e false h =
+    (other (is_at (Each first count stride) at) refl, λ yes. absurd (true≢false (sym yes)))
+  where
+    other : (c : Bool) → is_at (Each first count stride) at ≡ c → c ≡ false
+    other false i = refl
+    other true i =
+        let only = is_at-only (Each first count stride) at spread i in
+        let is = strided_index first stride base number index (number_at (Each first count stride) at) low high inside (sym e ∙ only.1) in
+        absurd (true≢false (sym (ap (λ x. x == first) is ∙ same first) ∙ h))
+
+strided_row : (p : Place) (count stride base number index at : ℕ) → is_strided base count stride p ≡ true → number < count → index < stride
+    → at ≡ base + (number * stride + index) → (b : Bool) → (base + index == first_of p) ≡ b
+    → (is_at p at ≡ b) × (b ≡ true → number_at p at ≡ number)
+strided_row (At offset) count stride base number index at s less inside e b h = absurd (true≢false (sym s))
+strided_row (Each first n apart) count stride base number index at s less inside e b h =
+    let s1 = last_of_both (nat_lt 0 stride) (n == count && (apart == stride && (nat_le base first && nat_lt first (base + stride)))) s in
+    let s2 = last_of_both (n == count) (apart == stride && (nat_le base first && nat_lt first (base + stride))) s1 in
+    let s3 = last_of_both (apart == stride) (nat_le base first && nat_lt first (base + stride)) s2 in
+    rw (is_same n count (first_of_both _ _ s1), is_same apart stride (first_of_both _ _ s2))
+    (strided_place first count stride base number index at (first_of_both _ _ s) (is_low base first (first_of_both _ _ s3))
+    (is_less first (base + stride) (last_of_both (nat_le base first) _ s3)) less inside e b h)
+
+strided_step : {V S A : Type 0} (none : A) (found : Row V S → ℕ → A) (row : Row V S) (rows : List (Row V S)) (base number index at : ℕ) (b : Bool)
+    → (base + index == first_of row.place) ≡ b → (is_at row.place at ≡ b) × (b ≡ true → number_at row.place at ≡ number)
+    → at_row none found rows at ≡ in_stride base none (λ row. found row number) rows index
+    → at_row none found (row ∷ rows) at ≡ in_stride base none (λ row. found row number) (row ∷ rows) index
+strided_step none found row rows base number index at true h place rest = rw (place.0, h) (ap (found row) (place.1 refl))
+strided_step none found row rows base number index at false h place rest = rw (place.0, h) rest
+
+-- in such rows what stands at an offset is told by its number and its index
+pub strided : {V S A : Type 0} (none : A) (found : Row V S → ℕ → A) (base count stride : ℕ) (rows : List (Row V S)) (number index at : ℕ)
+    → are_strided base count stride rows ≡ true → number < count → index < stride → at ≡ base + (number * stride + index)
+    → at_row none found rows at ≡ in_stride base none (λ row. found row number) rows index
+strided none found base count stride [] number index at s less inside e = refl
+strided none found base count stride (row ∷ rows) number index at s less inside e =
+    strided_step none found row rows base number index at (base + index == first_of row.place) refl
+    (strided_row row.place count stride base number index at (first_of_both _ _ s) less inside e (base + index == first_of row.place) refl)
+    (strided none found base count stride rows number index at (last_of_both (is_strided base count stride row.place) _ s) less inside e)
+
 -- ---- what each row keeps
+
+-- a read of each row does nothing
+abbrev pub AreStill : {V S : Type 0} → S → List (Row V S) → Type 0
+AreStill s [] = ⊤
+AreStill s (row ∷ rows) = ((n : ℕ) → row.read_does n s ≡ s) × AreStill s rows
+
+pub still : {V S : Type 0} (rows : List (Row V S)) (at : ℕ) (s : S) → AreStill s rows → effect_at rows at None s ≡ s
+still [] at s h = refl
+still (row ∷ rows) at s h = either-way (λ x. x ≡ s) (is_at row.place at) (h.0 (number_at row.place at)) (still rows at s h.1)
 
 -- what a read and a write of each row keep
 abbrev pub Kept : {V S : Type 0} → (S → Type 0) → S → List (Row V S) → Type 0

@@ -17,6 +17,10 @@ abbrev pub count_of : Place → ℕ
 count_of (At offset) = 1
 count_of (Each first count stride) = count
 
+abbrev pub first_of : Place → ℕ
+first_of (At offset) = offset
+first_of (Each first count stride) = first
+
 -- the offset of the one of a number
 abbrev pub offset_at : Place → ℕ → ℕ
 offset_at (At offset) n = offset
@@ -69,7 +73,7 @@ write_only offset name write = read_write offset name (λ s. 0) write
 -- so many alike a stride apart, each by its number
 abbrev pub repeated : {V S : Type 0} → ℕ → ℕ → (ℕ → Row V S) → Row V S
 repeated count stride row = record {
-  place = Each (offset_at (row 0).place 0) count stride;
+  place = Each (first_of (row 0).place) count stride;
   name = (row 0).name;
   reads = λ n. (row n).reads 0;
   read_does = λ n. (row n).read_does 0;
@@ -97,10 +101,13 @@ abbrev pub effect_at : {V S : Type 0} → List (Row V S) → ℕ → Option ℕ 
 effect_at rows offset None s = at_row s (λ row n. row.read_does n s) rows offset
 effect_at rows offset (Some w) s = at_row s (λ row n. row.write_does n w s) rows offset
 
--- the offset of the row with a name, of its first number
+-- where the row with a name stands, and the first offset of it
+abbrev pub place_in : {V S : Type 0} → List (Row V S) → String → Place
+place_in [] name = At 0
+place_in (row ∷ rows) name = if eqt name row.name then row.place else place_in rows name
+
 abbrev pub offset_in : {V S : Type 0} → List (Row V S) → String → ℕ
-offset_in [] name = 0
-offset_in (row ∷ rows) name = if eqt name row.name then offset_at row.place 0 else offset_in rows name
+offset_in rows name = first_of (place_in rows name)
 
 -- ---- what it comes to
 
