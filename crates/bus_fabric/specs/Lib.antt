@@ -2,7 +2,6 @@ pub mod Alone
 pub mod Grant
 pub mod Laws
 pub mod Masters
-pub mod Offsets
 pub mod State
 pub mod WaitLaws
 pub mod Winners

@@ -1,7 +1,7 @@
 //! BUSCTRL: the words of the fabric by their offsets.
 
 ghost use Rattle.std.specs.Prelude.{◌≡◌};
-ghost use Rattle.bus_fabric.specs.Words.{word_of, is_allowed, effect_of};
+ghost use Rattle.bus_fabric.specs.Words.{word_of, is_word, effect_of};
 
 use crate::Fabric;
 use crate::registers::{BUS_PRIORITY, BUS_PRIORITY_ACK};
@@ -10,7 +10,7 @@ use rp_base::Registers;
 impl Registers<()> for Fabric {
     ghost word = { λ _. word_of };
 
-    ghost allowed = { λ s offset _. is_allowed s offset };
+    ghost allowed = { λ s offset _. is_word offset };
 
     ghost accessed = { effect_of };
 

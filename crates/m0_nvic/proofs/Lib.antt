@@ -3,5 +3,6 @@ pub mod Held
 pub mod InForce
 pub mod Least
 mod Period
+pub mod Rows
 pub mod Settled
 pub mod Silent

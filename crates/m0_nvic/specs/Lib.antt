@@ -3,7 +3,6 @@ pub mod Cycle
 pub mod Exceptions
 pub mod Laws
 pub mod Numbers
-pub mod Offsets
 pub mod Priority
 pub mod Quiet
 pub mod State

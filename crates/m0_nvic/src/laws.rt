@@ -2,6 +2,7 @@
 
 ghost use Rattle.m0_nvic.specs.Laws.{ThePriorityIsTheLeast, AHeldLinePendsAgain};
 ghost use Rattle.m0_nvic.specs.TimerLaws.{TheTimerHasItsPeriod};
+ghost use Rattle.m0_nvic.specs.Words.{EachRegisterIsAtItsOffset};
 
 /// The execution priority is the least of the active exceptions' priorities and of that of PRIMASK, which is 0 where it is
 /// set; it is 256 where there is neither.
@@ -20,4 +21,9 @@ pub fn a_held_line_pends_again()
 /// exception.
 pub fn the_timer_has_its_period()
     ensures { TheTimerHasItsPeriod }
+{}
+
+/// At the offset of each register stands that register, and nothing at any other.
+pub fn each_register_is_at_its_offset()
+    ensures { EachRegisterIsAtItsOffset }
 {}

@@ -1,9 +1,9 @@
 //! The words of the private bus that show the exceptions, by their offsets after E000E000.
 
-ghost use Rattle.std.specs.Prelude.{◌≡◌, ◌^◌, ◌*◌, ◌/◌, ◌<◌, ◌≤◌};
-ghost use Rattle.rp_base.specs.Word.{bit_number};
-ghost use Rattle.rp_base.specs.Word.{byte_of};
-ghost use Rattle.m0_nvic.specs.Words.{csr_of, timer_word, timer_written, timer_read, interrupt_word, interrupts_written, four_priorities, priority_word, with_four, priorities_written, is_priority_offset, icsr_of, shpr2_of, shpr3_of, fixed_word, control_word, pended_if, cleared_if, icsr_written, control_written, word_of, asks_reset, is_allowed, after_write, effect_of};
+ghost use Rattle.std.specs.Prelude.{◌≡◌, ◌^◌, ◌*◌, ◌/◌, ◌<◌, ◌≤◌, ◌+◌, ◌-◌, ◌%◌, ⊤, Some, None};
+ghost use Rattle.rp_base.specs.Rows.{Each, is_at, word_at, effect_at};
+ghost use Rattle.rp_base.specs.Word.{bit_number, byte_of};
+ghost use Rattle.m0_nvic.specs.Words.{csr_of, timer_rows, interrupt_rows, four_priorities, with_four, priority_rows, icsr_of, pended_if, cleared_if, icsr_written, control_rows, word_of, is_word, asks_reset, is_allowed, after_access, effect_of};
 
 use crate::numbers::{INTERRUPT_0, NMI, PENDSV, SVCALL, SYSTICK};
 use crate::registers::{
@@ -16,21 +16,23 @@ use crate::{Nvic, bit, interrupts, is_member, of_interrupts};
 impl Nvic {
     /// The word at an offset of the private bus, where `ipsr` is the number of the exception in progress. None exactly
     /// where there is no such word.
+    #[tactic(auto, using(crate::proofs::Rows::timer_word, crate::proofs::Rows::interrupt_word, crate::proofs::Rows::priority_word, crate::proofs::Rows::control_word))]
     pub fn read(&self, offset: u16, ipsr: u8) -> Option<u32>
         ensures { result ≡ word_of self.now offset ipsr }
     {
         if offset < NVIC_ISER {
-            self.systick.read(offset)
+            self.timer_word(offset)
         } else if offset < NVIC_IPR0 {
-            self.read_interrupts(offset)
+            self.interrupt_word(offset)
         } else if offset < CPUID {
-            self.read_priorities(offset)
+            self.priority_word(offset)
         } else {
-            self.read_control(offset, ipsr)
+            self.control_word(offset, ipsr)
         }
     }
 
     /// A read, or a write of this word, is allowed: there is such a word, and it is no request of a system reset.
+    #[tactic(auto, using(crate::proofs::Rows::there))]
     pub fn allows(&self, offset: u16, write: Option<u32>) -> bool
         ensures { result ≡ is_allowed self.now offset write }
     {
@@ -39,6 +41,7 @@ impl Nvic {
 
     /// Does what a read, or a write of this word, does to the exceptions. False, and nothing is changed, where it is not
     /// allowed.
+    #[tactic(auto, using(crate::proofs::Rows::reads))]
     pub fn effect(&mut self, offset: u16, write: Option<u32>) -> bool
         ensures after { self.new ≡ effect_of offset write self.old }
         ensures allowed { result ≡ is_allowed self.old offset write }
@@ -48,17 +51,19 @@ impl Nvic {
         }
         match write {
             Some(word) => self.write(offset, word),
-            None => self.systick.after_read(offset),
+            None if offset == SYST_CSR => self.systick.counted = false,
+            None => {}
         }
         true
     }
 
     /// A write of a word.
+    #[tactic(auto, using(crate::proofs::Rows::timer_write, crate::proofs::Rows::interrupt_write, crate::proofs::Rows::priority_write, crate::proofs::Rows::control_write))]
     fn write(&mut self, offset: u16, word: u32)
-        ensures { self.new ≡ after_write offset word self.old }
+        ensures { self.new ≡ after_access offset (Some word) self.old }
     {
         if offset < NVIC_ISER {
-            self.systick.write(offset, word);
+            self.write_timer(offset, word);
         } else if offset < NVIC_IPR0 {
             self.write_interrupts(offset, word);
         } else if offset < CPUID {
@@ -68,9 +73,41 @@ impl Nvic {
         }
     }
 
+    /// CSR, RVR, CVR or CALIB of SysTick.
+    fn timer_word(&self, offset: u16) -> Option<u32>
+        ensures { result ≡ word_at (timer_rows {V = ⊤}) tt offset self.now }
+    {
+        match offset {
+            SYST_CSR => Some(self.systick.csr()),
+            SYST_RVR => Some(self.systick.reload),
+            SYST_CVR => Some(self.systick.current),
+            SYST_CALIB => Some(0),
+            _ => None,
+        }
+    }
+
+    /// A write of CSR, RVR or CVR of SysTick.
+    fn write_timer(&mut self, offset: u16, word: u32)
+        ensures { self.new ≡ effect_at (timer_rows {V = ⊤}) offset (Some word) self.old }
+    {
+        match offset {
+            SYST_CSR => {
+                self.systick.enable = word & 1 == 1;
+                self.systick.interrupt = (word >> 1) & 1 == 1;
+                self.systick.core_clock = (word >> 2) & 1 == 1;
+            }
+            SYST_RVR => self.systick.reload = word & 0xff_ffff,
+            SYST_CVR => {
+                self.systick.current = 0;
+                self.systick.counted = false;
+            }
+            _ => {}
+        }
+    }
+
     /// ISER, ICER, ISPR or ICPR.
-    fn read_interrupts(&self, offset: u16) -> Option<u32>
-        ensures { result ≡ interrupt_word self.now offset }
+    fn interrupt_word(&self, offset: u16) -> Option<u32>
+        ensures { result ≡ word_at (interrupt_rows {V = ⊤}) tt offset self.now }
     {
         match offset {
             NVIC_ISER | NVIC_ICER => Some(interrupts(self.enabled)),
@@ -81,7 +118,7 @@ impl Nvic {
 
     /// Sets or clears the enabled or the pending interrupts.
     fn write_interrupts(&mut self, offset: u16, word: u32)
-        ensures { self.new ≡ interrupts_written offset word self.old }
+        ensures { self.new ≡ effect_at (interrupt_rows {V = ⊤}) offset (Some word) self.old }
     {
         let set = of_interrupts(word);
         match offset {
@@ -94,14 +131,11 @@ impl Nvic {
     }
 
     /// IPR0 to IPR7.
-    fn read_priorities(&self, offset: u16) -> Option<u32>
-        ensures { result ≡ priority_word self.now offset }
+    fn priority_word(&self, offset: u16) -> Option<u32>
+        ensures { result ≡ word_at (priority_rows {V = ⊤}) tt offset self.now }
     {
         if is_priority_offset(offset) {
-            Some(four_priorities(
-                &self.priorities,
-                (offset - NVIC_IPR0) as usize + INTERRUPT_0 as usize,
-            ))
+            Some(four_priorities(&self.priorities, first_of(offset)))
         } else {
             None
         }
@@ -109,25 +143,24 @@ impl Nvic {
 
     /// Sets the priorities of four interrupts.
     fn write_priorities(&mut self, offset: u16, word: u32)
-        ensures { self.new ≡ priorities_written offset word self.old }
+        ensures { self.new ≡ effect_at (priority_rows {V = ⊤}) offset (Some word) self.old }
     {
         if is_priority_offset(offset) {
-            set_four(
-                &mut self.priorities,
-                (offset - NVIC_IPR0) as usize + INTERRUPT_0 as usize,
-                word,
-            );
+            set_four(&mut self.priorities, first_of(offset), word);
         }
     }
 
     /// The words of the system control block.
-    fn read_control(&self, offset: u16, ipsr: u8) -> Option<u32>
-        ensures { result ≡ control_word self.now offset ipsr }
+    fn control_word(&self, offset: u16, ipsr: u8) -> Option<u32>
+        ensures { result ≡ word_at control_rows ipsr offset self.now }
     {
         match offset {
+            CPUID => Some(0x410c_c601),
             ICSR => Some(self.icsr(ipsr)),
             VTOR => Some(self.vtor),
+            AIRCR => Some(0xfa05_0000),
             SCR => Some(self.scr),
+            CCR => Some(0x208),
             SHPR2 => Some(u32::from(self.priorities[SVCALL as usize]) * 0x100_0000),
             SHPR3 => {
                 Some(
@@ -135,7 +168,7 @@ impl Nvic {
                         + u32::from(self.priorities[PENDSV as usize]) * 0x1_0000,
                 )
             }
-            _ => fixed_word(offset),
+            _ => None,
         }
     }
 
@@ -153,7 +186,7 @@ impl Nvic {
 
     /// A write to the system control block.
     fn write_control(&mut self, offset: u16, word: u32)
-        ensures { self.new ≡ control_written offset word self.old }
+        ensures { self.new ≡ effect_at control_rows offset (Some word) self.old }
     {
         match offset {
             ICSR => self.write_icsr(word),
@@ -198,19 +231,6 @@ impl Nvic {
 }
 
 impl SysTick {
-    /// CSR, RVR, CVR or CALIB.
-    fn read(&self, offset: u16) -> Option<u32>
-        ensures { result ≡ timer_word self.now offset }
-    {
-        match offset {
-            SYST_CSR => Some(self.csr()),
-            SYST_RVR => Some(self.reload),
-            SYST_CVR => Some(self.current),
-            SYST_CALIB => Some(0),
-            _ => None,
-        }
-    }
-
     /// CSR.
     fn csr(&self) -> u32
         ensures { result ≡ csr_of self.now }
@@ -220,41 +240,23 @@ impl SysTick {
             + one(self.core_clock) * 4
             + one(self.counted) * 0x1_0000
     }
-
-    /// What a read does.
-    fn after_read(&mut self, offset: u16)
-        ensures { self.new ≡ timer_read offset self.old }
-    {
-        if offset == SYST_CSR {
-            self.counted = false;
-        }
-    }
-
-    /// A write of CSR, RVR or CVR.
-    fn write(&mut self, offset: u16, word: u32)
-        ensures { self.new ≡ timer_written offset word self.old }
-    {
-        match offset {
-            SYST_CSR => {
-                self.enable = word & 1 == 1;
-                self.interrupt = (word >> 1) & 1 == 1;
-                self.core_clock = (word >> 2) & 1 == 1;
-            }
-            SYST_RVR => self.reload = word & 0xff_ffff,
-            SYST_CVR => {
-                self.current = 0;
-                self.counted = false;
-            }
-            _ => {}
-        }
-    }
 }
 
 /// The offset of one of IPR0 to IPR7.
 fn is_priority_offset(offset: u16) -> bool
-    ensures { result ≡ is_priority_offset offset }
+    ensures { result ≡ is_at (Each 0x400 8 4) offset }
 {
     NVIC_IPR0 <= offset && offset <= NVIC_IPR7 && offset % 4 == 0
+}
+
+/// The number of the exception whose priority is the lowest byte of one of IPR0 to IPR7.
+fn first_of(offset: u16) -> usize
+    requires low { 0x400 ≤ offset }
+    requires high { offset ≤ 0x41c }
+    ensures value { result ≡ 16 + 4 * ((offset - 0x400) / 4) }
+    ensures bound { result ≤ 44 }
+{
+    INTERRUPT_0 as usize + 4 * ((offset - NVIC_IPR0) / 4) as usize
 }
 
 /// The priorities of four exceptions from a first one on, the first in the lowest byte.
@@ -286,18 +288,6 @@ fn level(word: u32, k: u32) -> u8
 {
     let byte = ((word >> (8 * k)) & 0xff) as u8;
     byte & 0xc0
-}
-
-/// CPUID, AIRCR and CCR.
-fn fixed_word(offset: u16) -> Option<u32>
-    ensures { result ≡ fixed_word offset }
-{
-    match offset {
-        CPUID => Some(0x410c_c601),
-        AIRCR => Some(0xfa05_0000),
-        CCR => Some(0x208),
-        _ => None,
-    }
 }
 
 /// A write to AIRCR with its key that asks for a reset of the system.
