@@ -307,9 +307,10 @@ strided_place : (first count stride base number index at : ℕ) → nat_lt 0 str
     → (is_at (Each first count stride) at ≡ b) × (b ≡ true → number_at (Each first count stride) at ≡ number)
 strided_place first count stride base number index at spread low high less inside e true h =
     let here : base + index ≡ first = is_same (base + index) first h in
-    let is : at ≡ first + number * stride = omega (arith, e, here) in
-    (ap (is_at (Each first count stride)) is ∙ is_at-offset (Each first count stride) number spread less,
-    λ yes. ap (number_at (Each first count stride)) is ∙ number_at-offset (Each first count stride) number spread less)
+    let is : at ≡ first + number * stride = omega (arith, e, here) in (
+      ap (is_at (Each first count stride)) is ∙ is_at-offset (Each first count stride) number spread less,
+      λ yes. ap (number_at (Each first count stride)) is ∙ number_at-offset (Each first count stride) number spread less,
+    )
 strided_place first count stride base number index at spread low high less inside e false h =
     (other (is_at (Each first count stride) at) refl, λ yes. absurd (true≢false (sym yes)))
   where

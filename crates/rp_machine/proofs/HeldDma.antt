@@ -125,17 +125,85 @@ all_keep bit e h =
     let read = channel_keeps with_read_address bit e h in
     let write = channel_keeps with_write_address bit e h in
     let count = channel_keeps with_count bit e h in
-    let control = channel_keeps with_control bit e h in
-    (read, (write, (count, (trigger_keeps with_control bit e h,
-    (control, (read, (write, (trigger_keeps with_count bit e h,
-    (control, (count, (read, (trigger_keeps with_write_address bit e h,
-    (control, (write, (count, (trigger_keeps with_read_address bit e h,
-    (λ n. (h, λ w. record { is = h.is }), (λ n. (h, λ w. record { is = h.is }), (λ n. (h, λ w. record { is = h.is }),
-    (λ n. (h, λ w. record { is = h.is }), (λ n. (h, λ w. record { is = h.is }), (λ n. (h, λ w. record { is = h.is }),
-    (λ n. (h, λ w. record { is = h.is }), (λ n. (h, λ w. record { is = h.is }),
-    (λ n. (h, λ w. turns_hold (has_bit w) with_trigger bit (λ k x g. trigger_holds k bit x g) 12 e h),
-    (λ n. (h, λ w. turns_hold (has_bit w) with_abort bit (λ k x g. abort_holds k bit x g) 12 e h),
-    (λ n. (h, λ w. h), tt)))))))))))))))))))))))))))
+    let control = channel_keeps with_control bit e h in (
+      read,
+      (
+        write,
+        (
+          count,
+          (
+            trigger_keeps with_control bit e h,
+            (
+              control,
+              (
+                read,
+                (
+                  write,
+                  (
+                    trigger_keeps with_count bit e h,
+                    (
+                      control,
+                      (
+                        count,
+                        (
+                          read,
+                          (
+                            trigger_keeps with_write_address bit e h,
+                            (
+                              control,
+                              (
+                                write,
+                                (
+                                  count,
+                                  (
+                                    trigger_keeps with_read_address bit e h,
+                                    (
+                                      λ n. (h, λ w. record { is = h.is }),
+                                      (
+                                        λ n. (h, λ w. record { is = h.is }),
+                                        (
+                                          λ n. (h, λ w. record { is = h.is }),
+                                          (
+                                            λ n. (h, λ w. record { is = h.is }),
+                                            (
+                                              λ n. (h, λ w. record { is = h.is }),
+                                              (
+                                                λ n. (h, λ w. record { is = h.is }),
+                                                (
+                                                  λ n. (h, λ w. record { is = h.is }),
+                                                  (
+                                                    λ n. (h, λ w. record { is = h.is }),
+                                                    (
+                                                      λ n. (h, λ w. turns_hold (has_bit w) with_trigger bit (λ k x g. trigger_holds k bit x g) 12 e h),
+                                                      (
+                                                        λ n. (h, λ w. turns_hold (has_bit w) with_abort bit (λ k x g. abort_holds k bit x g) 12 e h),
+                                                        (λ n. (h, λ w. h), tt),
+                                                      ),
+                                                    ),
+                                                  ),
+                                                ),
+                                              ),
+                                            ),
+                                          ),
+                                        ),
+                                      ),
+                                    ),
+                                  ),
+                                ),
+                              ),
+                            ),
+                          ),
+                        ),
+                      ),
+                    ),
+                  ),
+                ),
+              ),
+            ),
+          ),
+        ),
+      ),
+    )
 
 pub dma_effect : (offset : ℕ) (write : Option ℕ) (bit : Bool) (s : Engine) → Holds bit s → Holds bit (effect_of offset write s)
 unfolding after_any

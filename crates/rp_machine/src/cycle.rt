@@ -334,12 +334,7 @@ impl Machine {
     /// One cycle in which this was begun, nobody wants anything, and no access lasts: only the lanes, SIO and the number change.
     #[inline(never)]
     #[tactic(auto, unfolding(crate::specs::BusRest::rest_next))]
-    fn step_at_rest<X: Device>(
-        &mut self,
-        world: &World<'_, X>,
-        begun: &Begun,
-        marks: &mut Marks,
-    )
+    fn step_at_rest<X: Device>(&mut self, world: &World<'_, X>, begun: &Begun, marks: &mut Marks)
         requires number { self.old.cycle < 2 ^ 64 - 1 }
         requires marks { length marks.old < 256 }
         ensures state { self.new ≡ rest_next (setting X.meaning world.now) begun.now self.old }

@@ -47,7 +47,8 @@ found_back words left index word some le h is =
     let n = slice_index_or words (left - 1) (0, 0) in
     elim (eqb_tells n.0 index) [
       | inl e ↦ sym (sym h ∙ back words left index word some le ∙ ap (λ b. if b then n.1 else last_of (take (left - 1) words) index word) e.0)
-      | inr ne ↦ absurd (ne.1 is) ]
+      | inr ne ↦ absurd (ne.1 is)
+    ]
 
 pub passed_back : (words : List (ℕ × ℕ)) (left index word : ℕ) → 0 < left → left ≤ length words → last_of (take left words) index word ≡ last_of words index word
     → (slice_index_or words (left - 1) (0, 0)).0 ≢ index → last_of (take (left - 1) words) index word ≡ last_of words index word
@@ -55,7 +56,8 @@ passed_back words left index word some le h other =
     let n = slice_index_or words (left - 1) (0, 0) in
     elim (eqb_tells n.0 index) [
       | inl e ↦ absurd (other e.1)
-      | inr ne ↦ sym (sym h ∙ back words left index word some le ∙ ap (λ b. if b then n.1 else last_of (take (left - 1) words) index word) ne.0) ]
+      | inr ne ↦ sym (sym h ∙ back words left index word some le ∙ ap (λ b. if b then n.1 else last_of (take (left - 1) words) index word) ne.0)
+    ]
 
 pub patched_last : (own : List (ℕ × ℕ)) (sram : List ℕ) (i : ℕ) → i < length sram → slice_index (patched own sram) i ≡ last_of own i (slice_index sram i)
 unfolding patched
