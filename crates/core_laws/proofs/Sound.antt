@@ -24,7 +24,6 @@ use Rattle.m0_beats.specs.Registers.{is_thread}
 use Rattle.m0_beats.specs.Beats.{access, beats_of}
 use Rattle.m0_beats.specs.Effects.{effect_of, return_of}
 use Rattle.m0_nvic.specs.Exceptions.{HARDFAULT, SVCALL}
-use Rattle.m0_nvic.specs.Offsets.{NVIC_ISER, NVIC_ICER, NVIC_ISPR, NVIC_ICPR, NVIC_IPR0, CPUID, ICSR, VTOR, SCR, SHPR2, SHPR3}
 use Rattle.m0_nvic.specs.State.{Exceptions}
 use Rattle.m0_nvic.specs.Numbers.{is_number, is_member, minus, of_interrupts}
 use Rattle.m0_nvic.specs.Changes.{with_pending, without_pending, pended, entered, left}
