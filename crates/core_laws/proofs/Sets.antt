@@ -1,6 +1,6 @@
 -- Numbers, and sets of exceptions as numbers.
-use Rattle.std.proofs.Common.{◌≡◌, ◌∙◌, ℕ, zero, suc, ◌-◌, ◌*◌, ◌^◌, ◌≤◌, ◌==◌, ◌&&◌, Bool, true, false, cond, refl, sym, ap, ap₂, arith, true≢false, nat_lt}
-use Rattle.std.specs.Prelude.{Option, Some, None, max, bit_or}
+use Rattle.std.proofs.Common.{◌≡◌, ◌∙◌, ℕ, zero, suc, ◌-◌, ◌*◌, ◌^◌, ◌≤◌, ◌==◌, ◌&&◌, Bool, true, false, cond, refl, sym, ap, ap₂, arith, true≢false}
+use Rattle.std.specs.Prelude.{Option, max, bit_or}
 use Rattle.std.specs.Int.{bit_at}
 use Rattle.std.proofs.lemmas.Bool.{ne_eqb}
 use Rattle.std.proofs.lemmas.Nat.Bits.{bit_at_and, bit_at_or, bit_at-lt}
@@ -101,30 +101,26 @@ leaves_icsr w e =
     (leaves_then e c d (leaves_then e b c (leaves_then e a b (leaves_pended_if (has_bit w 31) 2 e) (leaves_pended_if (has_bit w 28) 14 a)) (leaves_pended_if (has_bit w 26) 15 b)) (leaves_cleared_if (has_bit w 27) 14 c))
     (leaves_cleared_if (has_bit w 25) 15 d)
 
-rows_leave : (e : Exceptions) → Kept (Leaves e) e words.bus_rows
+-- the same as a pair
+abbrev Left : Exceptions → Exceptions → Type 0
+Left e f = (f.active ≡ e.active) × (is_member 0 e.enabled ≡ false → is_member 0 f.enabled ≡ false)
+
+rows_leave : (e : Exceptions) → Kept (Left e) e words.bus_rows
 rows_leave e =
-    let same = leaves_self e in
-    (λ n. (record { active = refl; numbered = λ h. h }, λ w. record { active = refl; numbered = λ h. h }),
-    (λ n. (same, λ w. record { active = refl; numbered = λ h. h }),
-    (λ n. (same, λ w. record { active = refl; numbered = λ h. h }),
-    (λ n. (same, λ w. same),
-    (λ n. (same, λ w. record { active = refl; numbered = none_or e.enabled w }),
-    (λ n. (same, λ w. record { active = refl; numbered = none_minus e.enabled (of_interrupts w) }),
-    (λ n. (same, λ w. leaves_pending (of_interrupts w) e),
-    (λ n. (same, λ w. leaves_clear (of_interrupts w) e),
-    (λ n. (same, λ w. record { active = refl; numbered = λ h. h }),
-    (λ n. (same, λ w. same),
-    (λ n. (same, λ w. leaves_icsr w e),
-    (λ n. (same, λ w. record { active = refl; numbered = λ h. h }),
-    (λ n. (same, λ w. same),
-    (λ n. (same, λ w. record { active = refl; numbered = λ h. h }),
-    (λ n. (same, λ w. same),
-    (λ n. (same, λ w. record { active = refl; numbered = λ h. h }),
-    (λ n. (same, λ w. record { active = refl; numbered = λ h. h }), tt)))))))))))))))))
+    let k : (n : ℕ) → Left e e × (ℕ → Left e e) = λ n. ((refl, λ h. h), λ w. (refl, λ h. h)) in
+    let iser : (n : ℕ) → Left e e × ((w : ℕ) → Left e (record e { enabled = bit_or e.enabled (of_interrupts w) })) =
+    λ n. ((refl, λ h. h), λ w. (refl, none_or e.enabled w)) in
+    let icer : (n : ℕ) → Left e e × ((w : ℕ) → Left e (record e { enabled = minus e.enabled (of_interrupts w) })) =
+    λ n. ((refl, λ h. h), λ w. (refl, none_minus e.enabled (of_interrupts w))) in
+    let icsr : (n : ℕ) → Left e e × ((w : ℕ) → Left e (words.icsr_written w e)) =
+    λ n. ((refl, λ h. h), λ w. ((leaves_icsr w e).active, (leaves_icsr w e).numbered)) in
+    (k, (k, (k, (k, (iser, (icer, (k, (k, (k, (k, (icsr, (k, (k, (k, (k, (k, (k, tt)))))))))))))))))
 
 leaves_access : (offset : ℕ) (w : Option ℕ) (e : Exceptions) → Leaves e (words.after_access offset w e)
 unfolding words.after_access
-leaves_access offset w e = keeps (Leaves e) words.bus_rows offset w e (leaves_self e) (rows_leave e)
+leaves_access offset w e =
+    let left = keeps (Left e) words.bus_rows offset w e (refl, λ h. h) (rows_leave e) in
+    record { active = left.0; numbered = left.1 }
 
 pub leaves_effect : (offset : ℕ) (w : Option ℕ) (e : Exceptions) → Leaves e (words.effect_of offset w e)
 leaves_effect offset w e = leaves_either (words.is_allowed e offset w) e _ _ (leaves_access offset w e) (leaves_self e)

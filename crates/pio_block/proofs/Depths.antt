@@ -1,5 +1,6 @@
 -- No FIFO of a block holds more words than it has room for.
-use Rattle.std.proofs.Common.{◌≡◌, ◌∙◌, ap, sym, subst, ℕ, zero, suc, ◌+◌, ◌*◌, ◌/◌, ◌%◌, ◌^◌, ◌≤◌, Bool, true, false, ◌==◌, nat_lt, nat_le, if◌then◌else◌, List, [], ◌∷◌, ◌++◌, length, length-append, Option, Some, None, refl, arith, bit_and}
+use Rattle.std.proofs.Common.{◌≡◌, ◌∙◌, ap, sym, subst, ℕ, zero, suc, ◌+◌, ◌*◌, ◌/◌, ◌%◌, ◌^◌, ◌≤◌, Bool, true, false, ◌==◌, nat_le, if◌then◌else◌, List, [], ◌∷◌, ◌++◌, length, length-append, Option, Some, None, refl, arith, bit_and}
+use Rattle.std.specs.Prelude.{map, ⊤}
 use Rattle.std.proofs.lemmas.Bool.Decides.{nat_tests}
 use Rattle.rp_base.specs.Word.{has_bit}
 use Rattle.pio_machine.specs.declared.machine.Machine1.{Machine1}
@@ -13,10 +14,10 @@ use Rattle.pio_block.specs.State.{Block, at_reset, with_held, changed, each_from
 use Rattle.pio_block.specs.Control.{restarted_if, with_divider_restarted, with_enable, controlled, control_written}
 use Rattle.pio_block.specs.Queues.{with_stalls_cleared, debug_written, with_sent, sent, with_rx, with_taken, taken}
 use Rattle.pio_machine.specs.Progress.{forced}
-use Rattle.pio_block.specs.Registers.{execctrl_bits, joined, with_shiftctrl}
+use Rattle.pio_block.specs.Registers.{execctrl_bits, joined, with_shiftctrl, machine_rows}
 use Rattle.pio_block.specs.Cycle.{seen_by, all_stepped, next, after_cycle}
 use Rattle.pio_block.specs.Cycle as block
-use Rattle.pio_block.specs.Words.{pio_rows, is_allowed, after_any, effect_of}
+use Rattle.pio_block.specs.Words.{of_machines, interrupt_rows, pio_rows, is_allowed, after_any, effect_of}
 use Rattle.rp_base.proofs.Rows.{Kept, keeps}
 use Rattle.pio_block.specs.Laws.{AreWithin, Happening, after, after_all, NoFifoHoldsTooMuch}
 use Rattle.pio_block.specs.Laws.Happening.{Cycle, Access, Hold, Counter}
@@ -116,26 +117,30 @@ either true x y v w = v
 either false x y v w = w
 
 -- what a write of a register leaves of the machines
-writes-within : (n : ℕ) (f : ℕ → Machine1 → Machine1) (s : Block) → ((w : ℕ) → Keeps (f w)) → Within s
-    → Within s × ((w : ℕ) → Within (record s { machines = changed n (f w) s.machines }))
-writes-within n f s k w = (w, λ word. changes n (f word) s.machines (k word) w)
+writes-within : (f : ℕ → Machine1 → Machine1) (s : Block) → ((w : ℕ) → Keeps (f w)) → Within s
+    → (n : ℕ) → Within s × ((w : ℕ) → Within (record s { machines = changed n (f w) s.machines }))
+writes-within f s k w n = (w, λ word. changes n (f word) s.machines (k word) w)
 
 all-kept : (s : Block) → Within s → Kept Within s pio_rows
 unfolding control_written debug_written sent taken
 all-kept s w =
-    let same : (n : ℕ) → Within s × (ℕ → Within s) = λ n. (w, λ word. w) in
-    (λ n. (w, λ word. all-from 0 (controlled word) s.machines (controls word) w),
-    (same, (λ n. (w, λ word. all-from 0 (with_stalls_cleared word) s.machines (λ k m v. alike m _ refl refl refl v) w),
-    (same, (λ n. (w, λ word. changes n (with_sent word) s.machines (sends word) w),
-    (λ n. (changes n with_taken s.machines takes w, λ word. w),
-    (same, (same, (same, (same, (same, (same, (same,
-    (λ n. writes-within n (λ word m. record m { clkdiv = word / 2 ^ 8 * 2 ^ 8 }) s (λ word m v. alike m _ refl refl refl v) w,
-    (λ n. writes-within n (λ word m. record m { execctrl = bit_and word execctrl_bits }) s (λ word m v. alike m _ refl refl refl v) w,
-    (λ n. writes-within n (λ word m. with_shiftctrl word (joined word m)) s (λ word m v. shifts-by (m.shiftctrl / 2 ^ 30 == word / 2 ^ 30) word m refl v) w,
-    (λ n. writes-within n (λ word m. m) s (λ word m v. v) w,
-    (λ n. writes-within n (λ word m. record m { waiting = Some (forced (word % 2 ^ 16)) }) s (λ word m v. alike m _ refl refl refl v) w,
-    (λ n. writes-within n (λ word m. record m { pinctrl = word }) s (λ word m v. alike m _ refl refl refl v) w,
-    (same, (same, (same, (same, (same, (same, (same, tt))))))))))))))))))))))))))
+    let ctrl : (n : ℕ) → Within s × ((word : ℕ) → Within (control_written word s)) =
+    λ n. (w, λ word. all-from 0 (controlled word) s.machines (controls word) w) in
+    let debug : (n : ℕ) → Within s × ((word : ℕ) → Within (debug_written word s)) =
+    λ n. (w, λ word. all-from 0 (with_stalls_cleared word) s.machines (λ k m v. alike m _ refl refl refl v) w) in
+    let tx : (n : ℕ) → Within s × ((word : ℕ) → Within (sent n word s)) = λ n. (w, λ word. changes n (with_sent word) s.machines (sends word) w) in
+    let rx : (n : ℕ) → Within (taken n s) × (ℕ → Within s) = λ n. (changes n with_taken s.machines takes w, λ word. w) in
+    let div = writes-within (λ word m. record m { clkdiv = word / 2 ^ 8 * 2 ^ 8 }) s (λ word m v. alike m _ refl refl refl v) w in
+    let exec = writes-within (λ word m. record m { execctrl = bit_and word execctrl_bits }) s (λ word m v. alike m _ refl refl refl v) w in
+    let shift =
+    writes-within (λ word m. with_shiftctrl word (joined word m)) s (λ word m v. shifts-by (m.shiftctrl / 2 ^ 30 == word / 2 ^ 30) word m refl v) w in
+    let addr = writes-within (λ word m. m) s (λ word m v. v) w in
+    let instr = writes-within (λ word m. record m { waiting = Some (forced (word % 2 ^ 16)) }) s (λ word m v. alike m _ refl refl refl v) w in
+    let pin = writes-within (λ word m. record m { pinctrl = word }) s (λ word m v. alike m _ refl refl refl v) w in
+    let k : (n : ℕ) → Within s × (ℕ → Within s) = λ n. (w, λ word. w) in
+    let machines : Kept Within s (map (of_machines {V = ⊤}) machine_rows ++ interrupt_rows) =
+    (div, (exec, (shift, (addr, (instr, (pin, (k, (k, (k, (k, (k, (k, (k, tt))))))))))))) in
+    (ctrl, (k, (debug, (k, (tx, (rx, (k, (k, (k, (k, (k, (k, (k, machines)))))))))))))
 
 effect-within : (offset : ℕ) (write : Option ℕ) (s : Block) → Within s → Within (effect_of offset write s)
 unfolding effect_of after_any

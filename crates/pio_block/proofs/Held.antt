@@ -1,6 +1,5 @@
 -- A block that is held stays as it is.
 use Rattle.std.proofs.Common.{◌≡◌, ℕ, Bool, true, false, if◌then◌else◌, Option, Some, None, refl}
-use Rattle.rp_base.specs.Held.{unless_held}
 use Rattle.pio_block.specs.State.{Block, at_reset, with_held}
 use Rattle.pio_block.specs.Cycle.{asks, next, Rests}
 use Rattle.pio_block.specs.Words.{pio_rows, is_word, is_allowed, listed_word, word_of, effect_of}

@@ -1,6 +1,6 @@
 -- The rows of a block in their six parts, and those of the machines by numbers and offsets.
-use Rattle.std.proofs.Common.{◌≡◌, refl, sym, ap, ◌∙◌, ℕ, zero, suc, ◌+◌, ◌-◌, ◌*◌, ◌/◌, ◌%◌, ◌<◌, Bool, true, false, ◌&&◌, cond, List, [], ◌∷◌, ◌++◌, Some, None, true≢false, arith, rules}
-use Rattle.std.specs.Prelude.{◌==◌, ◌≤◌, nat_lt, if◌then◌else◌, Option, map, ⊤}
+use Rattle.std.proofs.Common.{◌≡◌, refl, sym, ap, ◌∙◌, ℕ, zero, suc, ◌+◌, ◌-◌, ◌/◌, ◌%◌, ◌<◌, Bool, true, false, ◌&&◌, cond, List, [], ◌∷◌, ◌++◌, Some, None, true≢false, arith, rules}
+use Rattle.std.specs.Prelude.{◌==◌, ◌≢◌, ◌≤◌, nat_eq, nat_lt, if◌then◌else◌, map, ⊤}
 use Rattle.std.proofs.lemmas.Grind.{common_steps}
 use Rattle.std.proofs.lemmas.Bool.Decides.{nat_tests}
 use Rattle.rp_base.specs.Rows.{Place, At, Each, first_of, is_at, number_at, Row, at_row, word_at, effect_at}
@@ -82,6 +82,14 @@ written-of_machine (row ∷ rows) index number w s e =
 
 -- ---- by the part in which an offset is
 
+then-side : {A : Type 0} (b : Bool) (x y : A) → b ≡ true → cond b x y ≡ x
+then-side true x y e = refl
+then-side false x y e = absurd (true≢false (sym e))
+
+else-side : {A : Type 0} (b : Bool) (x y : A) → b ≡ false → cond b x y ≡ y
+else-side true x y e = absurd (true≢false e)
+else-side false x y e = refl
+
 below : (at bound : ℕ) → at < bound → nat_lt at bound ≡ true
 below at bound h = grind (arith, nat_tests, common_steps)
 
@@ -110,16 +118,25 @@ at_machine : {A : Type 0} (none : A) (found : Row ⊤ Block → ℕ → A) (at :
     ≡ in_stride 0x0c8 none (λ row. found row ((at - 0x0c8) / 24)) (map of_machines machine_rows) ((at - 0x0c8) % 24)
 at_machine none found at g h =
     parts none found at
-    ∙ rw (above at 0x010 (omega (arith, g)), above at 0x030 (omega (arith, g)), above at 0x048 (omega (arith, g)), above at 0x0c8 g, below at 0x128 h)
-    (strided none found 0x0c8 4 24 (map of_machines machine_rows) ((at - 0x0c8) / 24) ((at - 0x0c8) % 24) at refl
-    (omega (arith, g, h)) (omega arith) (omega (arith, g)))
+    ∙ else-side (nat_lt at 0x010) _ _ (above at 0x010 (omega (arith, g)))
+    ∙ else-side (nat_lt at 0x030) _ _ (above at 0x030 (omega (arith, g)))
+    ∙ else-side (nat_lt at 0x048) _ _ (above at 0x048 (omega (arith, g)))
+    ∙ else-side (nat_lt at 0x0c8) _ _ (above at 0x0c8 g)
+    ∙ then-side (nat_lt at 0x128) _ _ (below at 0x128 h)
+    ∙ strided none found 0x0c8 4 24 (map of_machines machine_rows) ((at - 0x0c8) / 24) ((at - 0x0c8) % 24) at refl
+    (omega (arith, g, h)) (omega arith) (omega (arith, g))
 
 at_interrupt : {A : Type 0} (none : A) (found : Row ⊤ Block → ℕ → A) (at : ℕ) → 0x128 ≤ at
     → at_row none found pio_rows at ≡ at_row none found interrupt_rows at
 at_interrupt none found at g =
     parts none found at
-    ∙ rw (above at 0x010 (omega (arith, g)), above at 0x030 (omega (arith, g)), above at 0x048 (omega (arith, g)),
-    above at 0x0c8 (omega (arith, g)), above at 0x128 g) refl
+    ∙ rw (
+      above at 0x010 (omega (arith, g)),
+      above at 0x030 (omega (arith, g)),
+      above at 0x048 (omega (arith, g)),
+      above at 0x0c8 (omega (arith, g)),
+      above at 0x128 g,
+    ) refl
 
 -- ---- reads and writes
 
@@ -176,39 +193,28 @@ unfolding after_any
 interrupt_write at w s g = at_interrupt s (λ row n. row.write_does n w s) at g
 
 -- a read of an RXF alone does something
-nowhere : {S : Type 0} (b : Bool) (x s : S) → b ≡ false → s ≡ cond b x s
-nowhere true x s e = absurd (true≢false e)
-nowhere false x s e = refl
-
-second : {S : Type 0} (b c : Bool) (x s : S) → (b ≡ true → c ≡ false) → cond b s (cond c x s) ≡ cond c x s
-second true c x s h = nowhere c x s (h refl)
-second false c x s h = refl
-
-not_both : (at : ℕ) → is_at (Each 0x010 4 4) at ≡ true → is_at (Each 0x020 4 4) at ≡ false
+not_both : (at : ℕ) → is_at (Each 0x020 4 4) at ≡ true → is_at (Each 0x010 4 4) at ≡ false
 not_both at h = grind (arith, nat_tests, common_steps)
 
-pub reads : (at : ℕ) (s : Block) → after_any at None s ≡ (if is_at (Each 0x020 4 4) at then taken (number_at (Each 0x020 4 4) at) s else s)
+pub rx_read : (at : ℕ) (s : Block) → is_at (Each 0x020 4 4) at ≡ true → after_any at None s ≡ taken (number_at (Each 0x020 4 4) at) s
 unfolding after_any
-reads at s = reads-by (nat_lt at 0x010) (nat_lt at 0x030) refl refl
-  where
-    reads-by : (b c : Bool) → nat_lt at 0x010 ≡ b → nat_lt at 0x030 ≡ c
-        → effect_at pio_rows at None s ≡ (if is_at (Each 0x020 4 4) at then taken (number_at (Each 0x020 4 4) at) s else s)
-    reads-by true c e f =
-        let none : is_at (Each 0x020 4 4) at ≡ false = grind (arith, nat_tests, common_steps) in
-        parts s (λ row n. row.read_does n s) at ∙ rw e (still (control_rows {V = ⊤}) at s (search rules))
-        ∙ nowhere (is_at (Each 0x020 4 4) at) (taken (number_at (Each 0x020 4 4) at) s) s none
-    reads-by false true e f =
-        parts s (λ row n. row.read_does n s) at
-        ∙ rw (e, f) (second (is_at (Each 0x010 4 4) at) (is_at (Each 0x020 4 4) at) (taken (number_at (Each 0x020 4 4) at) s) s (not_both at))
-    reads-by false false e f =
-        let none : is_at (Each 0x020 4 4) at ≡ false = grind (arith, nat_tests, common_steps) in
-        parts s (λ row n. row.read_does n s) at
-        ∙ rw (e, f) (either-way (λ x. x ≡ s) (nat_lt at 0x048) (still (pin_rows {V = ⊤}) at s (search rules))
-        (either-way (λ x. x ≡ s) (nat_lt at 0x0c8) (still (memory_rows {V = ⊤}) at s (search rules))
-        (either-way (λ x. x ≡ s) (nat_lt at 0x128) (still (map (of_machines {V = ⊤}) machine_rows) at s (search rules))
-        (still (interrupt_rows {V = ⊤}) at s (search rules)))))
-        ∙ nowhere (is_at (Each 0x020 4 4) at) (taken (number_at (Each 0x020 4 4) at) s) s none
+rx_read at s h =
+    let from : nat_lt at 0x010 ≡ false = grind (arith, nat_tests, common_steps) in
+    let to : nat_lt at 0x030 ≡ true = grind (arith, nat_tests, common_steps) in
+    parts s (λ row n. row.read_does n s) at ∙ else-side (nat_lt at 0x010) _ _ from ∙ then-side (nat_lt at 0x030) _ _ to
+    ∙ else-side (is_at (Each 0x010 4 4) at) _ _ (not_both at h) ∙ then-side (is_at (Each 0x020 4 4) at) _ _ h
 
+pub no_read : (at : ℕ) (s : Block) → is_at (Each 0x020 4 4) at ≡ false → after_any at None s ≡ s
+unfolding after_any
+no_read at s h =
+    parts s (λ row n. row.read_does n s) at
+    ∙ either-way (λ x. x ≡ s) (nat_lt at 0x010) (still (control_rows {V = ⊤}) at s (search rules))
+    (either-way (λ x. x ≡ s) (nat_lt at 0x030)
+    (either-way (λ x. x ≡ s) (is_at (Each 0x010 4 4) at) refl (else-side (is_at (Each 0x020 4 4) at) (taken (number_at (Each 0x020 4 4) at) s) s h))
+    (either-way (λ x. x ≡ s) (nat_lt at 0x048) (still (pin_rows {V = ⊤}) at s (search rules))
+    (either-way (λ x. x ≡ s) (nat_lt at 0x0c8) (still (memory_rows {V = ⊤}) at s (search rules))
+    (either-way (λ x. x ≡ s) (nat_lt at 0x128) (still (map (of_machines {V = ⊤}) machine_rows) at s (search rules))
+    (still (interrupt_rows {V = ⊤}) at s (search rules))))))
 
 -- the offsets of the words
 abbrev test : ℕ → Bool
@@ -217,6 +223,14 @@ test at = at % 4 == 0 && nat_lt at 0x144
 high : (at : ℕ) → nat_lt at 0x144 ≡ false → test at ≡ false
 high at h = grind (arith, nat_tests, common_steps)
 
-pub there : (at : ℕ) → (at % 4 == 0 && nat_lt at 0x144) ≡ is_word at
+there : (at : ℕ) → test at ≡ is_word at
 unfolding is_word
 there at = told test 0x144 pio_rows at refl refl (high at)
+
+pub below_end : (at : ℕ) → at % 4 ≡ 0 → nat_lt at 0x144 ≡ is_word at
+below_end at h = sym (ap (λ b. b && nat_lt at 0x144) (ap (λ x. x == 0) h)) ∙ there at
+
+pub not_whole : (at : ℕ) → at % 4 ≢ 0 → nat_eq (at % 4) 0 ≡ is_word at
+not_whole at h =
+    let no : (at % 4 == 0) ≡ false = grind (arith, nat_tests, common_steps) in
+    no ∙ sym (ap (λ b. b && nat_lt at 0x144) no) ∙ there at

@@ -1,7 +1,6 @@
 -- The registers of a block (RP2040 Datasheet, 3.7, List of Registers), by their offsets after 50200000 (PIO0) and 50300000 (PIO1).
-use Prim.Native.String.{String}
 use Rattle.std.specs.Prelude.{ℕ, ◌+◌, ◌-◌, ◌*◌, ◌%◌, ◌^◌, Bool, false, not, ◌&&◌, ◌||◌, ◌==◌, Option, Some, None, List, [], ◌∷◌, ◌++◌, map, length, bit_and, bit_or, slice_set, ⊤}
-use Rattle.rp_base.specs.Rows.{Row, At, first_of, is_at, register, read_only, write_only, read_write, read_acts, repeated, word_at, has_row, effect_at, place_in, IsListed}
+use Rattle.rp_base.specs.Rows.{Row, first_of, is_at, register, read_only, write_only, read_write, read_acts, repeated, word_at, has_row, effect_at, place_in, IsListed}
 use Rattle.rp_base.specs.Word.{has_bit}
 use Rattle.rp_base.specs.Held.{unless_held, after_access}
 use Rattle.pio_machine.specs.Fields.{is_tx_full, tx_depth}

@@ -312,7 +312,7 @@ impl State {
     }
 
     /// What a read does.
-    #[tactic(auto, using(crate::proofs::Rows::reads))]
+    #[tactic(auto, using(crate::proofs::Rows::rx_read, crate::proofs::Rows::no_read))]
     fn after_read(&mut self, offset: u16)
         ensures { self.new ≡ after_any offset None self.old }
     {
@@ -375,7 +375,7 @@ fn register_offset(offset: u16) -> u16
 }
 
 /// There is a word at that offset.
-#[tactic(auto, using(crate::proofs::Rows::there))]
+#[tactic(auto, using(crate::proofs::Rows::below_end, crate::proofs::Rows::not_whole))]
 fn is_word(offset: u16) -> bool
     ensures { result ≡ is_word offset }
 {

@@ -1,5 +1,5 @@
 -- The PIO blocks and the peripherals keep their bits of RESETS in a cycle and in an access, and core 1 what its launcher has.
-use Rattle.std.proofs.Common.{◌≡◌, ◌+◌, ◌-◌, ◌/◌, ◌%◌, ◌^◌, ◌==◌, nat_lt, ℕ, Bool, true, false, if◌then◌else◌, Option, Some, None, List, [], ◌∷◌, refl, rules}
+use Rattle.std.proofs.Common.{◌≡◌, ◌+◌, ◌-◌, ◌==◌, nat_lt, ℕ, Bool, true, false, if◌then◌else◌, Option, Some, None, List, [], ◌∷◌, refl, rules}
 use Rattle.rp_base.specs.declared.Request.{Request}
 use Rattle.rp_base.specs.declared.op.Op.{Op}
 use Rattle.rp_base.specs.declared.map.Block.{Block}
@@ -49,23 +49,19 @@ unfolding pio.next pio.after_cycle pio.joined
 pio_next None bit p h = h
 pio_next (Some inputs) bit p h = record { is = h.is }
 
-rows_hold : (bit : Bool) (p : Pio) → PioHolds bit p → Kept (PioHolds bit) p words.pio_rows
+rows_hold : (bit : Bool) (p : Pio) → p.held ≡ bit → Kept (λ (q : Pio). q.held ≡ bit) p words.pio_rows
 unfolding control_written debug_written sent taken
 rows_hold bit p h =
-    let same : (n : ℕ) → PioHolds bit p × (ℕ → PioHolds bit p) = λ n. (h, λ w. h) in
-    (λ n. (h, λ w. record { is = h.is }), (same, (λ n. (h, λ w. record { is = h.is }), (same,
-    (λ n. (h, λ w. record { is = h.is }), (λ n. (record { is = h.is }, λ w. h),
-    (λ n. (h, λ w. record { is = h.is }), (λ n. (h, λ w. record { is = h.is }), (λ n. (h, λ w. record { is = h.is }), (same, (same, (same,
-    (λ n. (h, λ w. record { is = h.is }),
-    (λ n. (h, λ w. record { is = h.is }), (λ n. (h, λ w. record { is = h.is }), (λ n. (h, λ w. record { is = h.is }),
-    (λ n. (h, λ w. record { is = h.is }), (λ n. (h, λ w. record { is = h.is }), (λ n. (h, λ w. record { is = h.is }),
-    (same, (λ n. (h, λ w. record { is = h.is }), (λ n. (h, λ w. record { is = h.is }), (same,
-    (λ n. (h, λ w. record { is = h.is }), (λ n. (h, λ w. record { is = h.is }), (same, tt))))))))))))))))))))))))))
+    let k : (n : ℕ) → (p.held ≡ bit) × (ℕ → p.held ≡ bit) = λ n. (h, λ w. h) in
+    (k, (k, (k, (k, (k, (k, (k, (k, (k, (k, (k, (k, (k, (k, (k, (k, (k, (k, (k, (k, (k, (k, (k, (k, (k, (k, tt))))))))))))))))))))))))))
+
+rows_holding : (offset : ℕ) (write : Option ℕ) (bit : Bool) (p : Pio) → PioHolds bit p → PioHolds bit (words.after_any offset write p)
+unfolding words.after_any
+rows_holding offset write bit p h = record { is = keeps (λ (q : Pio). q.held ≡ bit) words.pio_rows offset write p h.is (rows_hold bit p h.is) }
 
 pub pio_effect : (offset : ℕ) (write : Option ℕ) (bit : Bool) (p : Pio) → PioHolds bit p → PioHolds bit (words.effect_of offset write p)
-unfolding words.effect_of words.after_any
-pio_effect offset write bit p h =
-    pio_way bit _ _ _ (pio_way bit _ _ _ h (keeps (PioHolds bit) words.pio_rows offset write p h (rows_hold bit p h))) h
+unfolding words.effect_of
+pio_effect offset write bit p h = pio_way bit _ _ _ (pio_way bit _ _ _ h (rows_holding offset write bit p h)) h
 
 pub pio_reset : (bit : Bool) (p : Pio) → PioHolds bit (with_held bit p)
 unfolding with_held
