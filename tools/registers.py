@@ -25,9 +25,8 @@ PAGE = """# The registers
 
 Made by `tools/registers.py`; `.ci/made` compares it, and `.ci/made --write` makes it anew.
 
-The registers of the blocks whose definitions are written as rows, by their offsets (hexadecimal), with the accesses that are not
-ignored. What each reads as and what a write leaves stands in its row, in the file that is named. The other blocks have their
-registers in files `crates/*/specs/Words.antt` too, but not as rows.
+The registers of the blocks by their offsets (hexadecimal), with the accesses that are not ignored. What each reads as and what a
+write leaves stands in its row, in the file that is named.
 """
 
 

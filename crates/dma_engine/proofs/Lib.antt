@@ -16,5 +16,4 @@ pub mod Ring
 pub mod Rows
 pub mod Search
 pub mod StaysChosen
-pub mod Strided
 pub mod TimersAtRest

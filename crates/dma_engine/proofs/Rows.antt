@@ -4,9 +4,7 @@ use Rattle.std.specs.Prelude.{◌≤◌, nat_lt, if◌then◌else◌, Option, is
 use Rattle.std.proofs.lemmas.Grind.{common_steps}
 use Rattle.std.proofs.lemmas.Bool.Decides.{nat_tests}
 use Rattle.rp_base.specs.Rows.{Row, at_row, word_at, effect_at}
-use Rattle.rp_base.proofs.Rows.{listed, cut}
-use Rattle.dma_engine.specs.Strided.{in_stride}
-use Rattle.dma_engine.proofs.Strided.{strided, still}
+use Rattle.rp_base.proofs.Rows.{listed, cut, in_stride, strided, still}
 use Rattle.dma_engine.specs.State.{Engine}
 use Rattle.dma_engine.specs.Words.{channel_rows, block_rows, dma_rows, listed_word, is_word, after_any}
 

@@ -10,7 +10,6 @@ pub mod Pace
 pub mod Paused
 pub mod Rest
 pub mod State
-pub mod Strided
 pub mod Timer
 pub mod TransferLaws
 pub mod Transfer

@@ -2,7 +2,7 @@
 
 ghost use Rattle.std.specs.Prelude.{◌≡◌, ◌*◌, ◌%◌, ◌^◌, ◌<◌, Some, None, ⊤};
 ghost use Rattle.rp_base.specs.Rows.{word_at, effect_at};
-ghost use Rattle.dma_engine.specs.Strided.{in_stride};
+ghost use Rattle.rp_base.proofs.Rows.{in_stride};
 ghost use Rattle.dma_engine.specs.Words.{trigger_word, channel_rows, without_raised, word_of_timer, with_timer_word, block_rows, listed_word, word_of, is_word, after_any, effect_of};
 
 use crate::engine::Engine;

@@ -1,5 +1,6 @@
 -- No FIFO of a block holds more words than it has room for.
-use Rattle.std.proofs.Common.{◌≡◌, ◌∙◌, ap, sym, subst, ℕ, zero, suc, ◌+◌, ◌*◌, ◌/◌, ◌%◌, ◌^◌, ◌≤◌, Bool, true, false, ◌==◌, nat_lt, nat_le, if◌then◌else◌, List, [], ◌∷◌, ◌++◌, length, length-append, Option, Some, None, refl, arith, bit_and}
+use Rattle.std.proofs.Common.{◌≡◌, ◌∙◌, ap, sym, subst, ℕ, zero, suc, ◌+◌, ◌*◌, ◌/◌, ◌%◌, ◌^◌, ◌≤◌, Bool, true, false, ◌==◌, nat_le, if◌then◌else◌, List, [], ◌∷◌, ◌++◌, length, length-append, Option, Some, None, refl, arith, bit_and}
+use Rattle.std.specs.Prelude.{map, ⊤}
 use Rattle.std.proofs.lemmas.Bool.Decides.{nat_tests}
 use Rattle.rp_base.specs.Word.{has_bit}
 use Rattle.pio_machine.specs.declared.machine.Machine1.{Machine1}
@@ -9,15 +10,15 @@ use Rattle.pio_machine.specs.Start as machine
 use Rattle.pio_machine.specs.Clock.{IsWithin}
 use Rattle.pio_machine.specs.Cycle as cycle
 use Rattle.pio_machine.proofs.Clock.{a_cycle_keeps_the_fifos_within}
-use Rattle.pio_block.specs.Offsets.{CTRL, FDEBUG, TXF0, RXF0, IRQ, IRQ_FORCE, INPUT_SYNC_BYPASS, INSTR_MEM0, SM0_CLKDIV, INTR, IRQ0_INTE, IRQ0_INTF, IRQ1_INTE, IRQ1_INTF, SM_CLKDIV, SM_EXECCTRL, SM_SHIFTCTRL, SM_INSTR, SM_PINCTRL}
 use Rattle.pio_block.specs.State.{Block, at_reset, with_held, changed, each_from}
 use Rattle.pio_block.specs.Control.{restarted_if, with_divider_restarted, with_enable, controlled, control_written}
 use Rattle.pio_block.specs.Queues.{with_stalls_cleared, debug_written, with_sent, sent, with_rx, with_taken, taken}
 use Rattle.pio_machine.specs.Progress.{forced}
-use Rattle.pio_block.specs.Registers.{execctrl_bits, joined, with_shiftctrl, register_written}
+use Rattle.pio_block.specs.Registers.{execctrl_bits, joined, with_shiftctrl, machine_rows}
 use Rattle.pio_block.specs.Cycle.{seen_by, all_stepped, next, after_cycle}
 use Rattle.pio_block.specs.Cycle as block
-use Rattle.pio_block.specs.Words.{fifo_number, is_rxf, register_number, register_offset, after_control, after_fifo, after_pin, after_memory, after_machine, after_interrupt, is_allowed, after_write, after_read, after_any, effect_of}
+use Rattle.pio_block.specs.Words.{of_machines, interrupt_rows, pio_rows, is_allowed, after_any, effect_of}
+use Rattle.rp_base.proofs.Rows.{Kept, keeps}
 use Rattle.pio_block.specs.Laws.{AreWithin, Happening, after, after_all, NoFifoHoldsTooMuch}
 use Rattle.pio_block.specs.Laws.Happening.{Cycle, Access, Hold, Counter}
 
@@ -94,26 +95,6 @@ shifts-by true word m h w =
     }
 shifts-by false word m h w = record { tx = omega arith; rx = omega arith }
 
--- ---- the registers of a machine
-
--- a choice, whose both sides keep
-chosen : (b : Bool) (x y : Machine1) → IsWithin x → IsWithin y → IsWithin (if b then x else y)
-chosen true x y v w = v
-chosen false x y v w = w
-
-writes : (offset word : ℕ) → Keeps (register_written offset word)
-unfolding register_written
-writes offset word m w =
-    let clkdiv = record m { clkdiv = word / 2 ^ 8 * 2 ^ 8 } in
-    let execctrl = record m { execctrl = bit_and word execctrl_bits } in
-    let instr = record m { waiting = Some (forced (word % 2 ^ 16)) } in
-    let pinctrl = record m { pinctrl = word } in
-    chosen (offset == SM_CLKDIV) clkdiv _ (alike m clkdiv refl refl refl w)
-    (chosen (offset == SM_EXECCTRL) execctrl _ (alike m execctrl refl refl refl w)
-    (chosen (offset == SM_SHIFTCTRL) (with_shiftctrl word (joined word m)) _ (shifts-by (m.shiftctrl / 2 ^ 30 == word / 2 ^ 30) word m refl w)
-    (chosen (offset == SM_INSTR) instr _ (alike m instr refl refl refl w)
-    (chosen (offset == SM_PINCTRL) pinctrl m (alike m pinctrl refl refl refl w) w))))
-
 -- ---- four machines
 
 changes : (n : ℕ) (f : Machine1 → Machine1) (ms : List Machine1) → Keeps f → AreWithin ms → AreWithin (changed n f ms)
@@ -135,58 +116,36 @@ either : (b : Bool) (x y : Block) → Within x → Within y → Within (if b the
 either true x y v w = v
 either false x y v w = w
 
-control-within : (offset word : ℕ) (s : Block) → Within s → Within (after_control offset word s)
-unfolding after_control control_written debug_written
-control-within offset word s w =
-    either (offset == CTRL) _ _ (all-from 0 (controlled word) s.machines (controls word) w)
-    (either (offset == FDEBUG) _ _ (all-from 0 (with_stalls_cleared word) s.machines (λ n m v. alike m _ refl refl refl v) w) w)
+-- what a write of a register leaves of the machines
+writes-within : (f : ℕ → Machine1 → Machine1) (s : Block) → ((w : ℕ) → Keeps (f w)) → Within s
+    → (n : ℕ) → Within s × ((w : ℕ) → Within (record s { machines = changed n (f w) s.machines }))
+writes-within f s k w n = (w, λ word. changes n (f word) s.machines (k word) w)
 
-fifo-within : (offset word : ℕ) (s : Block) → Within s → Within (after_fifo offset word s)
-unfolding after_fifo sent
-fifo-within offset word s w =
-    either (nat_lt offset RXF0) _ _ (changes (fifo_number offset) (with_sent word) s.machines (sends word) w) w
-
-pin-within : (offset word : ℕ) (s : Block) → Within s → Within (after_pin offset word s)
-unfolding after_pin
-pin-within offset word s w =
-    either (offset == IRQ) _ _ w (either (offset == IRQ_FORCE) _ _ w (either (offset == INPUT_SYNC_BYPASS) _ _ w w))
-
-memory-within : (offset word : ℕ) (s : Block) → Within s → Within (after_memory offset word s)
-unfolding after_memory
-memory-within offset word s w = w
-
-machine-within : (offset word : ℕ) (s : Block) → Within s → Within (after_machine offset word s)
-unfolding after_machine
-machine-within offset word s w =
-    changes (register_number offset) (register_written (register_offset offset) word) s.machines (writes (register_offset offset) word) w
-
-interrupt-within : (offset word : ℕ) (s : Block) → Within s → Within (after_interrupt offset word s)
-unfolding after_interrupt
-interrupt-within offset word s w =
-    either (offset == IRQ0_INTE) _ _ w (either (offset == IRQ0_INTF) _ _ w
-    (either (offset == IRQ1_INTE) _ _ w (either (offset == IRQ1_INTF) _ _ w w)))
-
-write-within : (offset word : ℕ) (s : Block) → Within s → Within (after_write offset word s)
-unfolding after_write
-write-within offset word s w =
-    either (nat_lt offset TXF0) _ _ (control-within offset word s w)
-    (either (nat_lt offset IRQ) _ _ (fifo-within offset word s w)
-    (either (nat_lt offset INSTR_MEM0) _ _ (pin-within offset word s w)
-    (either (nat_lt offset SM0_CLKDIV) _ _ (memory-within offset word s w)
-    (either (nat_lt offset INTR) _ _ (machine-within offset word s w) (interrupt-within offset word s w)))))
-
-read-within : (offset : ℕ) (s : Block) → Within s → Within (after_read offset s)
-unfolding after_read taken
-read-within offset s w = either (is_rxf offset) _ _ (changes (fifo_number offset) with_taken s.machines takes w) w
-
-access-within : (offset : ℕ) (write : Option ℕ) (s : Block) → Within s → Within (after_any offset write s)
-access-within offset None s w = read-within offset s w
-access-within offset (Some word) s w = write-within offset word s w
+all-kept : (s : Block) → Within s → Kept Within s pio_rows
+unfolding control_written debug_written sent taken
+all-kept s w =
+    let ctrl : (n : ℕ) → Within s × ((word : ℕ) → Within (control_written word s)) =
+    λ n. (w, λ word. all-from 0 (controlled word) s.machines (controls word) w) in
+    let debug : (n : ℕ) → Within s × ((word : ℕ) → Within (debug_written word s)) =
+    λ n. (w, λ word. all-from 0 (with_stalls_cleared word) s.machines (λ k m v. alike m _ refl refl refl v) w) in
+    let tx : (n : ℕ) → Within s × ((word : ℕ) → Within (sent n word s)) = λ n. (w, λ word. changes n (with_sent word) s.machines (sends word) w) in
+    let rx : (n : ℕ) → Within (taken n s) × (ℕ → Within s) = λ n. (changes n with_taken s.machines takes w, λ word. w) in
+    let div = writes-within (λ word m. record m { clkdiv = word / 2 ^ 8 * 2 ^ 8 }) s (λ word m v. alike m _ refl refl refl v) w in
+    let exec = writes-within (λ word m. record m { execctrl = bit_and word execctrl_bits }) s (λ word m v. alike m _ refl refl refl v) w in
+    let shift =
+    writes-within (λ word m. with_shiftctrl word (joined word m)) s (λ word m v. shifts-by (m.shiftctrl / 2 ^ 30 == word / 2 ^ 30) word m refl v) w in
+    let addr = writes-within (λ word m. m) s (λ word m v. v) w in
+    let instr = writes-within (λ word m. record m { waiting = Some (forced (word % 2 ^ 16)) }) s (λ word m v. alike m _ refl refl refl v) w in
+    let pin = writes-within (λ word m. record m { pinctrl = word }) s (λ word m v. alike m _ refl refl refl v) w in
+    let k : (n : ℕ) → Within s × (ℕ → Within s) = λ n. (w, λ word. w) in
+    let machines : Kept Within s (map (of_machines {V = ⊤}) machine_rows ++ interrupt_rows) =
+    (div, (exec, (shift, (addr, (instr, (pin, (k, (k, (k, (k, (k, (k, (k, tt))))))))))))) in
+    (ctrl, (k, (debug, (k, (tx, (rx, (k, (k, (k, (k, (k, (k, (k, machines)))))))))))))
 
 effect-within : (offset : ℕ) (write : Option ℕ) (s : Block) → Within s → Within (effect_of offset write s)
-unfolding effect_of
+unfolding effect_of after_any
 effect-within offset write s w =
-    either (is_allowed offset write) _ _ (either s.held _ _ w (access-within offset write s w)) w
+    either (is_allowed offset write) _ _ (either s.held _ _ w (keeps Within pio_rows offset write s w (all-kept s w))) w
 
 cycle-within : (now second : ℕ) (s : Block) → Within s → Within (after_cycle now second s)
 unfolding after_cycle all_stepped block.joined

@@ -1,9 +1,9 @@
 -- A block that is held stays as it is.
 use Rattle.std.proofs.Common.{◌≡◌, ℕ, Bool, true, false, if◌then◌else◌, Option, Some, None, refl}
-use Rattle.rp_base.specs.Held.{unless_held}
 use Rattle.pio_block.specs.State.{Block, at_reset, with_held}
 use Rattle.pio_block.specs.Cycle.{asks, next, Rests}
-use Rattle.pio_block.specs.Words.{is_word, is_allowed, value_of, listed_word, word_of, effect_of}
+use Rattle.pio_block.specs.Words.{pio_rows, is_word, is_allowed, listed_word, word_of, effect_of}
+use Rattle.rp_base.proofs.Rows.{held}
 use Rattle.pio_block.specs.Laws.{AHeldBlockStays}
 
 abbrev held_block : Block
@@ -12,10 +12,6 @@ held_block = record at_reset { held = true }
 either_way : (b : Bool) (s : Block) → (if b then s else s) ≡ s
 either_way true s = refl
 either_way false s = refl
-
-zero_or_none : (b : Bool) (word : ℕ) → unless_held true (if b then Some word else None) ≡ (if b then Some 0 else None)
-zero_or_none true word = refl
-zero_or_none false word = refl
 
 rests_held : Rests held_block
 unfolding asks next
@@ -26,8 +22,8 @@ unfolding effect_of
 no_access offset write = either_way (is_allowed offset write) held_block
 
 reads_nothing : (offset : ℕ) → word_of held_block offset ≡ (if is_word offset then Some 0 else None)
-unfolding word_of listed_word
-reads_nothing offset = zero_or_none (is_word offset) (value_of held_block offset)
+unfolding word_of listed_word is_word
+reads_nothing offset = (held pio_rows).reads offset tt held_block
 
 pub a_held_block_stays : AHeldBlockStays
 unfolding with_held

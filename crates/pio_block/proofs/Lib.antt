@@ -3,4 +3,5 @@ pub mod Depths
 pub mod Held
 pub mod Highest
 pub mod Masks
+pub mod Rows
 mod Instr

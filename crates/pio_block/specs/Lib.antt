@@ -4,7 +4,6 @@ pub mod Cycle
 pub mod InstrLaws
 pub mod InterruptLaws
 pub mod Laws
-pub mod Offsets
 pub mod Queues
 pub mod Registers
 pub mod State

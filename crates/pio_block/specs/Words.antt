@@ -1,82 +1,53 @@
--- The words of a block by their offsets (RP2040 Datasheet, 3.7), what they read as and what an access does.
-use Rattle.std.specs.Prelude.{ℕ, ◌+◌, ◌-◌, ◌*◌, ◌/◌, ◌%◌, ◌^◌, Bool, false, not, ◌&&◌, ◌||◌, ◌==◌, nat_lt, nat_le, if◌then◌else◌, Option, Some, None, List, [], ◌∷◌, length, bit_and, bit_or, slice_set}
+-- The registers of a block (RP2040 Datasheet, 3.7, List of Registers), by their offsets after 50200000 (PIO0) and 50300000 (PIO1).
+use Rattle.std.specs.Prelude.{ℕ, ◌+◌, ◌-◌, ◌*◌, ◌%◌, ◌^◌, Bool, false, not, ◌&&◌, ◌||◌, ◌==◌, Option, Some, None, List, [], ◌∷◌, ◌++◌, map, length, bit_and, bit_or, slice_set, ⊤}
+use Rattle.rp_base.specs.Rows.{Row, first_of, is_at, register, read_only, write_only, read_write, read_acts, repeated, word_at, has_row, effect_at, place_in, IsListed}
 use Rattle.rp_base.specs.Word.{has_bit}
 use Rattle.rp_base.specs.Held.{unless_held, after_access}
 use Rattle.pio_machine.specs.Fields.{is_tx_full, tx_depth}
 use Rattle.pio_machine.specs.declared.machine.Machine1.{Machine1}
 use Rattle.pio_machine.specs.Operation.{with_pc}
-use Rattle.pio_block.specs.Offsets.{CTRL, FSTAT, FDEBUG, TXF0, RXF0, IRQ, IRQ_FORCE, INPUT_SYNC_BYPASS, DBG_PADOUT, DBG_PADOE, INSTR_MEM0, SM0_CLKDIV, INTR, IRQ0_INTE, IRQ0_INTF, IRQ0_INTS, IRQ1_INTE, IRQ1_INTF, END, SM_BYTES, SM_EXECCTRL}
 use Rattle.pio_block.specs.State.{Block, machine_of, changed, with_machines, without, is_busy}
 use Rattle.pio_block.specs.Control.{ctrl_of, control_written}
-use Rattle.pio_block.specs.Queues.{bits_of, fstat_of, fdebug_of, flevel_of, is_rx_empty, first_of, debug_written, sent, taken}
-use Rattle.pio_block.specs.Registers.{register_of, register_written}
+use Rattle.pio_block.specs.Queues.{bits_of, fstat_of, fdebug_of, flevel_of, is_rx_empty, first_of as first_word, debug_written, sent, taken}
+use Rattle.pio_block.specs.Registers.{machine_rows}
 
--- ---- CTRL, FSTAT, FDEBUG, FLEVEL: 00 to 0C
+abbrev pub control_rows : {V : Type 0} → List (Row V Block)
+control_rows =
+    read_write 0x000 "CTRL" (λ s. ctrl_of s.machines) control_written
+    ∷ read_only 0x004 "FSTAT" (λ s. fstat_of s.machines)
+    ∷ read_write 0x008 "FDEBUG" fdebug_of debug_written
+    ∷ read_only 0x00c "FLEVEL" (λ s. flevel_of s.machines)
+    ∷ []
 
-unfoldable pub control_word : Block → ℕ → ℕ
-control_word s offset =
-    if offset == CTRL then ctrl_of s.machines else
-    if offset == FSTAT then fstat_of s.machines else
-    if offset == FDEBUG then fdebug_of s else flevel_of s.machines
+-- a read of RXF takes a word away
+abbrev pub fifo_rows : {V : Type 0} → List (Row V Block)
+fifo_rows =
+    repeated 4 4 (λ n. write_only 0x010 "TXFn" (sent n))
+    ∷ repeated 4 4 (λ n. read_acts 0x020 "RXFn" (λ s. first_word (machine_of n s.machines).rx) (taken n))
+    ∷ []
 
-unfoldable pub after_control : ℕ → ℕ → Block → Block
-after_control offset w s =
-    if offset == CTRL then control_written w s else
-    if offset == FDEBUG then debug_written w s else s
+-- the chip has 30 pins; DBG_CFGINFO tells 32 words of instruction memory, four machines and FIFOs of four words
+abbrev pub pin_rows : {V : Type 0} → List (Row V Block)
+pin_rows =
+    read_write 0x030 "IRQ" (λ s. s.flags) (λ w s. record s { flags = without s.flags (w % 2 ^ 8) })
+    ∷ write_only 0x034 "IRQ_FORCE" (λ w s. record s { flags = bit_or s.flags (w % 2 ^ 8) })
+    ∷ read_write 0x038 "INPUT_SYNC_BYPASS" (λ s. s.bypass) (λ w s. record s { bypass = w })
+    ∷ read_only 0x03c "DBG_PADOUT" (λ s. s.levels % 2 ^ 30)
+    ∷ read_only 0x040 "DBG_PADOE" (λ s. s.enables % 2 ^ 30)
+    ∷ read_only 0x044 "DBG_CFGINFO" (λ s. 0x00200404)
+    ∷ []
 
--- ---- TXF0 to TXF3: 10 to 1C, RXF0 to RXF3: 20 to 2C
+abbrev pub memory_rows : {V : Type 0} → List (Row V Block)
+memory_rows =
+    repeated 32 4 (λ n. write_only 0x048 "INSTR_MEMn" (λ w s. record s { memory = slice_set s.memory n (w % 2 ^ 16) }))
+    ∷ []
 
-abbrev pub fifo_number : ℕ → ℕ
-fifo_number offset = offset / 4 % 4
-
-abbrev pub is_rxf : ℕ → Bool
-is_rxf offset = nat_le RXF0 offset && nat_lt offset IRQ
-
-unfoldable pub fifo_word : Block → ℕ → ℕ
-fifo_word s offset = if is_rxf offset then first_of (machine_of (fifo_number offset) s.machines).rx else 0
-
-unfoldable pub after_fifo : ℕ → ℕ → Block → Block
-after_fifo offset w s = if nat_lt offset RXF0 then sent (fifo_number offset) w s else s
-
--- ---- IRQ, IRQ_FORCE, INPUT_SYNC_BYPASS, DBG_PADOUT, DBG_PADOE, DBG_CFGINFO: 30 to 44
-
--- the chip has 30 pins; the last word tells 32 words of instruction memory, four machines and FIFOs of four words
-unfoldable pub pin_word : Block → ℕ → ℕ
-pin_word s offset =
-    if offset == IRQ then s.flags else
-    if offset == IRQ_FORCE then 0 else
-    if offset == INPUT_SYNC_BYPASS then s.bypass else
-    if offset == DBG_PADOUT then s.levels % 2 ^ 30 else
-    if offset == DBG_PADOE then s.enables % 2 ^ 30 else 0x00200404
-
-unfoldable pub after_pin : ℕ → ℕ → Block → Block
-after_pin offset w s =
-    if offset == IRQ then record s { flags = without s.flags (w % 2 ^ 8) } else
-    if offset == IRQ_FORCE then record s { flags = bit_or s.flags (w % 2 ^ 8) } else
-    if offset == INPUT_SYNC_BYPASS then record s { bypass = w } else s
-
--- ---- INSTR_MEM0 to INSTR_MEM31: 48 to C4, which can only be written
-
-unfoldable pub after_memory : ℕ → ℕ → Block → Block
-after_memory offset w s = record s { memory = slice_set s.memory ((offset - INSTR_MEM0) / 4) (w % 2 ^ 16) }
-
--- ---- the registers of the machines: C8 to 124
-
-abbrev pub register_number : ℕ → ℕ
-register_number offset = (offset - SM0_CLKDIV) / SM_BYTES
-
-abbrev pub register_offset : ℕ → ℕ
-register_offset offset = (offset - SM0_CLKDIV) % SM_BYTES
-
-unfoldable pub machine_word : Block → ℕ → ℕ
-machine_word s offset =
-    register_of (register_offset offset) s.memory (machine_of (register_number offset) s.machines)
-
-unfoldable pub after_machine : ℕ → ℕ → Block → Block
-after_machine offset w s =
-    with_machines (changed (register_number offset) (register_written (register_offset offset) w) s.machines) s
-
--- ---- INTR, and INTE, INTF and INTS of both lines: 128 to 140
+-- a register of machine 0 stands 18h times n later for machine n
+abbrev pub of_machines : {V : Type 0} → Row (List ℕ) Machine1 → Row V Block
+of_machines row =
+    repeated 4 24 (λ n. register (first_of row.place) row.name
+    (λ seen s. row.reads 0 s.memory (machine_of n s.machines)) (λ s. s)
+    (λ w s. with_machines (changed n (row.write_does 0 w) s.machines) s))
 
 abbrev pub has_room : Machine1 → Bool
 has_room m = not (is_tx_full m)
@@ -97,38 +68,28 @@ ints0_of s = ints_of s.inte0 s.intf0 s
 abbrev pub ints1_of : Block → ℕ
 ints1_of s = ints_of s.inte1 s.intf1 s
 
-unfoldable pub interrupt_word : Block → ℕ → ℕ
-interrupt_word s offset =
-    if offset == INTR then intr_of s else
-    if offset == IRQ0_INTE then s.inte0 else
-    if offset == IRQ0_INTF then s.intf0 else
-    if offset == IRQ0_INTS then ints0_of s else
-    if offset == IRQ1_INTE then s.inte1 else
-    if offset == IRQ1_INTF then s.intf1 else ints1_of s
-
-unfoldable pub after_interrupt : ℕ → ℕ → Block → Block
-after_interrupt offset w s =
-    if offset == IRQ0_INTE then record s { inte0 = w % 2 ^ 12 } else
-    if offset == IRQ0_INTF then record s { intf0 = w % 2 ^ 12 } else
-    if offset == IRQ1_INTE then record s { inte1 = w % 2 ^ 12 } else
-    if offset == IRQ1_INTF then record s { intf1 = w % 2 ^ 12 } else s
+abbrev pub interrupt_rows : {V : Type 0} → List (Row V Block)
+interrupt_rows =
+    read_only 0x128 "INTR" intr_of
+    ∷ read_write 0x12c "IRQ0_INTE" (λ s. s.inte0) (λ w s. record s { inte0 = w % 2 ^ 12 })
+    ∷ read_write 0x130 "IRQ0_INTF" (λ s. s.intf0) (λ w s. record s { intf0 = w % 2 ^ 12 })
+    ∷ read_only 0x134 "IRQ0_INTS" ints0_of
+    ∷ read_write 0x138 "IRQ1_INTE" (λ s. s.inte1) (λ w s. record s { inte1 = w % 2 ^ 12 })
+    ∷ read_write 0x13c "IRQ1_INTF" (λ s. s.intf1) (λ w s. record s { intf1 = w % 2 ^ 12 })
+    ∷ read_only 0x140 "IRQ1_INTS" ints1_of
+    ∷ []
 
 -- ---- all words
 
-abbrev pub is_word : ℕ → Bool
-is_word offset = offset % 4 == 0 && nat_lt offset END
+abbrev pub pio_rows : List (Row ⊤ Block)
+pio_rows = control_rows ++ fifo_rows ++ pin_rows ++ memory_rows ++ map of_machines machine_rows ++ interrupt_rows
 
-unfoldable pub value_of : Block → ℕ → ℕ
-value_of s offset =
-    if nat_lt offset TXF0 then control_word s offset else
-    if nat_lt offset IRQ then fifo_word s offset else
-    if nat_lt offset INSTR_MEM0 then pin_word s offset else
-    if nat_lt offset SM0_CLKDIV then 0 else
-    if nat_lt offset INTR then machine_word s offset else interrupt_word s offset
+unfoldable pub is_word : ℕ → Bool
+is_word offset = has_row pio_rows offset
 
 -- what a word reads as where the block is not held; None where there is no such word
 unfoldable pub listed_word : Block → ℕ → Option ℕ
-listed_word s offset = if is_word offset then Some (value_of s offset) else None
+listed_word s offset = word_at pio_rows tt offset s
 
 unfoldable pub word_of : Block → ℕ → Option ℕ
 word_of s offset = unless_held s.held (listed_word s offset)
@@ -136,30 +97,20 @@ word_of s offset = unless_held s.held (listed_word s offset)
 -- OUT_STICKY and INLINE_OUT_EN of EXECCTRL are left out: a write that sets one of them is not allowed
 abbrev pub sets_left_out : ℕ → Option ℕ → Bool
 sets_left_out offset None = false
-sets_left_out offset (Some w) =
-    nat_le SM0_CLKDIV offset && (nat_lt offset INTR && (register_offset offset == SM_EXECCTRL && (has_bit w 17 || has_bit w 18)))
+sets_left_out offset (Some w) = is_at (place_in pio_rows "SMn_EXECCTRL") offset && (has_bit w 17 || has_bit w 18)
 
 unfoldable pub is_allowed : ℕ → Option ℕ → Bool
 is_allowed offset write = is_word offset && not (sets_left_out offset write)
 
-unfoldable pub after_write : ℕ → ℕ → Block → Block
-after_write offset w s =
-    if nat_lt offset TXF0 then after_control offset w s else
-    if nat_lt offset IRQ then after_fifo offset w s else
-    if nat_lt offset INSTR_MEM0 then after_pin offset w s else
-    if nat_lt offset SM0_CLKDIV then after_memory offset w s else
-    if nat_lt offset INTR then after_machine offset w s else after_interrupt offset w s
-
--- a read of RXF takes a word away
-unfoldable pub after_read : ℕ → Block → Block
-after_read offset s = if is_rxf offset then taken (fifo_number offset) s else s
-
-abbrev pub after_any : ℕ → Option ℕ → Block → Block
-after_any offset None s = after_read offset s
-after_any offset (Some w) s = after_write offset w s
+unfoldable pub after_any : ℕ → Option ℕ → Block → Block
+after_any offset write s = effect_at pio_rows offset write s
 
 unfoldable pub effect_of : ℕ → Option ℕ → Block → Block
 effect_of offset write s = after_access (is_allowed offset write) s.held s (after_any offset write s)
+
+-- each register is what stands at its offset, and nothing stands at any other
+abbrev pub EachRegisterIsAtItsOffset : Type 0
+EachRegisterIsAtItsOffset = IsListed pio_rows
 
 -- ---- what the rest of the machine is told
 

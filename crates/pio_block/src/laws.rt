@@ -3,6 +3,7 @@
 ghost use Rattle.pio_block.specs.Laws.{TheHighestMachineDecides, AHeldBlockStays, NoFifoHoldsTooMuch};
 ghost use Rattle.pio_block.specs.InstrLaws.{AWrittenWordComesNext};
 ghost use Rattle.pio_block.specs.InterruptLaws.{WhatIsEnabledOrForcedIsShown};
+ghost use Rattle.pio_block.specs.Words.{EachRegisterIsAtItsOffset};
 
 /// Of each pin the highest machine that wrote it in a cycle decides, and a pin that no machine wrote stays.
 pub fn the_highest_machine_decides()
@@ -28,4 +29,9 @@ pub fn what_is_enabled_or_forced_is_shown()
 /// The low half of what is written to INSTR of a machine is the word that it tries in the next cycle, enabled or not.
 pub fn a_written_word_comes_next()
     ensures { AWrittenWordComesNext }
+{}
+
+/// At the offset of each register stands that register, and nothing at any other.
+pub fn each_register_is_at_its_offset()
+    ensures { EachRegisterIsAtItsOffset }
 {}

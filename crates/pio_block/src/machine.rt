@@ -90,17 +90,17 @@ fn execctrl(machine: &Machine1) -> u32
 
 /// A register of the machine, by its offset from the first one.
 #[tactic(auto, unfolding(crate::specs::Registers::register_of))]
-pub(crate) fn register(machine: &Machine1, offset: u16, memory: &Memory) -> u32
+pub(crate) fn register(machine: &Machine1, offset: u16, memory: &Memory) -> Option<u32>
     ensures { result ≡ register_of offset memory.now machine.now }
 {
     match offset {
-        SM_CLKDIV => machine.clkdiv,
-        SM_EXECCTRL => execctrl(machine),
-        SM_SHIFTCTRL => machine.shiftctrl,
-        SM_ADDR => u32::from(machine.pc),
-        SM_INSTR => u32::from(memory.word(machine.pc % 32)),
-        SM_PINCTRL => machine.pinctrl,
-        _ => 0,
+        SM_CLKDIV => Some(machine.clkdiv),
+        SM_EXECCTRL => Some(execctrl(machine)),
+        SM_SHIFTCTRL => Some(machine.shiftctrl),
+        SM_ADDR => Some(u32::from(machine.pc)),
+        SM_INSTR => Some(u32::from(memory.word(machine.pc % 32))),
+        SM_PINCTRL => Some(machine.pinctrl),
+        _ => None,
     }
 }
 

@@ -43,6 +43,12 @@ pub const INSTR_MEM0: u16 = 0x048;
 /// The first register of machine 0.
 pub const SM0_CLKDIV: u16 = 0x0c8;
 
+/// What machine 0 does with pins and program.
+pub const SM0_EXECCTRL: u16 = 0x0cc;
+
+/// The pins of machine 0.
+pub const SM0_PINCTRL: u16 = 0x0dc;
+
 /// The interrupts as they are.
 pub const INTR: u16 = 0x128;
 

@@ -1,14 +1,14 @@
 //! The words of a block by their offsets.
 
-ghost use Rattle.std.specs.Prelude.{◌≡◌, ◌<◌, ◌≤◌, ◌+◌, ◌*◌, ◌^◌};
-ghost use Rattle.pio_block.specs.Offsets.{SM0_CLKDIV, INTR};
-ghost use Rattle.pio_block.specs.Words.{fifo_number, is_rxf, register_number, register_offset, is_word, sets_left_out, is_allowed};
+ghost use Rattle.std.specs.Prelude.{◌≡◌, ◌<◌, ◌≤◌, ◌+◌, ◌-◌, ◌*◌, ◌/◌, ◌%◌, ◌^◌};
+ghost use Rattle.rp_base.specs.Rows.{Each, is_at};
+ghost use Rattle.pio_block.specs.Words.{is_word, sets_left_out, is_allowed};
 
 use crate::machine::register;
 use crate::registers::{
-    CTRL, DBG_PADOE, DBG_PADOUT, END, FDEBUG, FSTAT, INPUT_SYNC_BYPASS, INSTR_MEM0, INTR, IRQ,
-    IRQ_FORCE, IRQ0_INTE, IRQ0_INTF, IRQ0_INTS, IRQ1_INTE, IRQ1_INTF, RXF0, SM_BYTES, SM_EXECCTRL,
-    SM0_CLKDIV, TXF0,
+    CTRL, DBG_CFGINFO, DBG_PADOE, DBG_PADOUT, END, FDEBUG, FLEVEL, FSTAT, INPUT_SYNC_BYPASS,
+    INSTR_MEM0, INTR, IRQ, IRQ_FORCE, IRQ0_INTE, IRQ0_INTF, IRQ0_INTS, IRQ1_INTE, IRQ1_INTF,
+    IRQ1_INTS, RXF0, SM_BYTES, SM0_CLKDIV, SM0_EXECCTRL, TXF0,
 };
 use crate::state::State;
 use rp_base::bits::has_bit;
@@ -18,11 +18,11 @@ use rp_base::unless_held;
 pub(crate) const PINS: u32 = 0x3fff_ffff;
 
 impl State {
-    ghost use Rattle.std.specs.Prelude.{◌≡◌, ◌<◌, ◌≤◌, ◌∷◌, [], Bool, true, false};
-    ghost use Rattle.pio_block.specs.Offsets.{INSTR_MEM0, SM0_CLKDIV, INTR};
+    ghost use Rattle.std.specs.Prelude.{◌≡◌, ◌<◌, ◌≤◌, ◌∷◌, [], Bool, true, false, None, Some, ⊤};
+    ghost use Rattle.rp_base.specs.Rows.{word_at, effect_at};
     ghost use Rattle.pio_block.specs.Control.{control_written};
     ghost use Rattle.pio_block.specs.Queues.{fdebug_of, debug_written, sent, taken, first_of, is_rx_empty};
-    ghost use Rattle.pio_block.specs.Words.{control_word, after_control, fifo_word, after_fifo, fifo_number, is_rxf, pin_word, after_pin, after_memory, register_number, register_offset, machine_word, after_machine, intr_of, ints_of, ints0_of, ints1_of, interrupt_word, after_interrupt, value_of, listed_word, word_of, after_write, after_read, after_any, effect_of, is_allowed, is_silent, is_at_rest, lines_of};
+    ghost use Rattle.pio_block.specs.Words.{control_rows, fifo_rows, pin_rows, memory_rows, interrupt_rows, intr_of, ints_of, ints0_of, ints1_of, listed_word, word_of, after_any, effect_of, is_allowed, is_silent, is_at_rest, lines_of};
 
     /// FDEBUG.
     #[tactic(auto, unfolding(crate::specs::Queues::fdebug_of))]
@@ -48,22 +48,22 @@ impl State {
     }
 
     /// CTRL, FSTAT, FDEBUG or FLEVEL.
-    #[tactic(auto, unfolding(crate::specs::Words::control_word))]
-    fn read_control(&self, offset: u16) -> u32
-        ensures { result ≡ control_word self.now offset }
+    fn control_word(&self, offset: u16) -> Option<u32>
+        ensures { result ≡ word_at (control_rows {V = ⊤}) tt offset self.now }
     {
         match offset {
-            CTRL => self.machines.ctrl(),
-            FSTAT => self.machines.fstat(),
-            FDEBUG => self.fdebug(),
-            _ => self.machines.flevel(),
+            CTRL => Some(self.machines.ctrl()),
+            FSTAT => Some(self.machines.fstat()),
+            FDEBUG => Some(self.fdebug()),
+            FLEVEL => Some(self.machines.flevel()),
+            _ => None,
         }
     }
 
     /// A write of CTRL or FDEBUG.
-    #[tactic(auto, unfolding(crate::specs::Words::after_control, crate::specs::Control::control_written))]
+    #[tactic(auto, unfolding(crate::specs::Control::control_written))]
     fn write_control(&mut self, offset: u16, word: u32)
-        ensures { self.new ≡ after_control offset word self.old }
+        ensures { self.new ≡ effect_at (control_rows {V = ⊤}) offset (Some word) self.old }
     {
         match offset {
             CTRL => self.machines.control(word),
@@ -73,14 +73,17 @@ impl State {
     }
 
     /// The first word of RXF; 0 where it is empty, and for TXF.
-    #[tactic(auto, unfolding(crate::specs::Words::fifo_word))]
-    fn read_fifo(&self, offset: u16) -> u32
-        ensures { result ≡ fifo_word self.now offset }
+    fn fifo_word(&self, offset: u16) -> Option<u32>
+        requires low { 0x010 ≤ offset }
+        requires high { offset < 0x030 }
+        ensures { result ≡ word_at (fifo_rows {V = ⊤}) tt offset self.now }
     {
-        if is_rxf(offset) {
-            self.machines.at(fifo_number(offset)).rx.first()
+        if offset % 4 != 0 {
+            None
+        } else if offset < RXF0 {
+            Some(0)
         } else {
-            0
+            Some(self.machines.at(((offset - RXF0) / 4) as u8).rx.first())
         }
     }
 
@@ -109,34 +112,34 @@ impl State {
     }
 
     /// A write of TXF.
-    #[tactic(auto, unfolding(crate::specs::Words::after_fifo))]
     fn write_fifo(&mut self, offset: u16, word: u32)
-        ensures { self.new ≡ after_fifo offset word self.old }
+        requires low { 0x010 ≤ offset }
+        requires high { offset < 0x030 }
+        ensures { self.new ≡ effect_at (fifo_rows {V = ⊤}) offset (Some word) self.old }
     {
-        if offset < RXF0 {
-            self.send(fifo_number(offset), word);
+        if offset % 4 == 0 && offset < RXF0 {
+            self.send(((offset - TXF0) / 4) as u8, word);
         }
     }
 
     /// IRQ, IRQ_FORCE, INPUT_SYNC_BYPASS, DBG_PADOUT, DBG_PADOE or DBG_CFGINFO.
-    #[tactic(auto, unfolding(crate::specs::Words::pin_word))]
-    fn read_pins(&self, offset: u16) -> u32
-        ensures { result ≡ pin_word self.now offset }
+    fn pin_word(&self, offset: u16) -> Option<u32>
+        ensures { result ≡ word_at (pin_rows {V = ⊤}) tt offset self.now }
     {
         match offset {
-            IRQ => u32::from(self.seen.flags),
-            IRQ_FORCE => 0,
-            INPUT_SYNC_BYPASS => self.seen.bypass,
-            DBG_PADOUT => self.levels & PINS,
-            DBG_PADOE => self.enables & PINS,
-            _ => 0x0020_0404,
+            IRQ => Some(u32::from(self.seen.flags)),
+            IRQ_FORCE => Some(0),
+            INPUT_SYNC_BYPASS => Some(self.seen.bypass),
+            DBG_PADOUT => Some(self.levels & PINS),
+            DBG_PADOE => Some(self.enables & PINS),
+            DBG_CFGINFO => Some(0x0020_0404),
+            _ => None,
         }
     }
 
     /// Clears flags, sets flags, or writes INPUT_SYNC_BYPASS.
-    #[tactic(auto, unfolding(crate::specs::Words::after_pin))]
     fn write_pins(&mut self, offset: u16, word: u32)
-        ensures { self.new ≡ after_pin offset word self.old }
+        ensures { self.new ≡ effect_at (pin_rows {V = ⊤}) offset (Some word) self.old }
     {
         let flags = (word & 0xff) as u8;
         match offset {
@@ -147,37 +150,25 @@ impl State {
         }
     }
 
+    /// A word of the instruction memory, which cannot be read.
+    fn memory_word(&self, offset: u16) -> Option<u32>
+        requires low { 0x048 ≤ offset }
+        requires high { offset < 0x0c8 }
+        ensures { result ≡ word_at (memory_rows {V = ⊤}) tt offset self.now }
+    {
+        if offset % 4 == 0 { Some(0) } else { None }
+    }
+
     /// A write of a word of the instruction memory.
-    #[tactic(auto, unfolding(crate::specs::Words::after_memory))]
     fn write_memory(&mut self, offset: u16, word: u32)
-        requires low { INSTR_MEM0 ≤ offset }
-        requires high { offset < SM0_CLKDIV }
-        ensures { self.new ≡ after_memory offset word self.old }
+        requires low { 0x048 ≤ offset }
+        requires high { offset < 0x0c8 }
+        ensures { self.new ≡ effect_at (memory_rows {V = ⊤}) offset (Some word) self.old }
     {
-        let address = ((offset - INSTR_MEM0) / 4) as u8;
-        self.seen.memory.write(address, (word & 0xffff) as u16);
-    }
-
-    /// A register of a machine.
-    #[tactic(auto, unfolding(crate::specs::Words::machine_word))]
-    fn read_machine(&self, offset: u16) -> u32
-        requires low { SM0_CLKDIV ≤ offset }
-        requires high { offset < INTR }
-        ensures { result ≡ machine_word self.now offset }
-    {
-        let machine = self.machines.at(register_number(offset));
-        register(machine, register_offset(offset), &self.seen.memory)
-    }
-
-    /// A write of a register of a machine.
-    #[tactic(auto, unfolding(crate::specs::Words::after_machine))]
-    fn write_machine(&mut self, offset: u16, word: u32)
-        requires low { SM0_CLKDIV ≤ offset }
-        requires high { offset < INTR }
-        ensures { self.new ≡ after_machine offset word self.old }
-    {
-        self.machines
-            .write_register(register_number(offset), register_offset(offset), word);
+        if offset % 4 == 0 {
+            let address = ((offset - INSTR_MEM0) / 4) as u8;
+            self.seen.memory.write(address, (word & 0xffff) as u16);
+        }
     }
 
     /// INTR.
@@ -241,25 +232,24 @@ impl State {
     }
 
     /// INTR, or INTE, INTF or INTS of a line.
-    #[tactic(auto, unfolding(crate::specs::Words::interrupt_word))]
-    fn read_interrupts(&self, offset: u16) -> u32
-        ensures { result ≡ interrupt_word self.now offset }
+    fn interrupt_word(&self, offset: u16) -> Option<u32>
+        ensures { result ≡ word_at (interrupt_rows {V = ⊤}) tt offset self.now }
     {
         match offset {
-            INTR => self.intr(),
-            IRQ0_INTE => u32::from(self.inte0),
-            IRQ0_INTF => u32::from(self.intf0),
-            IRQ0_INTS => self.ints0(),
-            IRQ1_INTE => u32::from(self.inte1),
-            IRQ1_INTF => u32::from(self.intf1),
-            _ => self.ints1(),
+            INTR => Some(self.intr()),
+            IRQ0_INTE => Some(u32::from(self.inte0)),
+            IRQ0_INTF => Some(u32::from(self.intf0)),
+            IRQ0_INTS => Some(self.ints0()),
+            IRQ1_INTE => Some(u32::from(self.inte1)),
+            IRQ1_INTF => Some(u32::from(self.intf1)),
+            IRQ1_INTS => Some(self.ints1()),
+            _ => None,
         }
     }
 
     /// A write of INTE or INTF.
-    #[tactic(auto, unfolding(crate::specs::Words::after_interrupt))]
     fn write_interrupts(&mut self, offset: u16, word: u32)
-        ensures { self.new ≡ after_interrupt offset word self.old }
+        ensures { self.new ≡ effect_at (interrupt_rows {V = ⊤}) offset (Some word) self.old }
     {
         let bits = (word & 0xfff) as u16;
         match offset {
@@ -271,35 +261,24 @@ impl State {
         }
     }
 
-    /// What a word reads as.
-    #[tactic(auto, unfolding(crate::specs::Words::value_of))]
-    fn value(&self, offset: u16) -> u32
-        ensures { result ≡ value_of self.now offset }
-    {
-        if offset < TXF0 {
-            self.read_control(offset)
-        } else if offset < IRQ {
-            self.read_fifo(offset)
-        } else if offset < INSTR_MEM0 {
-            self.read_pins(offset)
-        } else if offset < SM0_CLKDIV {
-            0
-        } else if offset < INTR {
-            self.read_machine(offset)
-        } else {
-            self.read_interrupts(offset)
-        }
-    }
-
     /// The word at an offset, where the block is not held.
-    #[tactic(auto, unfolding(crate::specs::Words::listed_word))]
+    #[tactic(auto, using(crate::proofs::Rows::control_word, crate::proofs::Rows::fifo_word, crate::proofs::Rows::pin_word, crate::proofs::Rows::memory_word, crate::proofs::Rows::machine_word, crate::proofs::Rows::interrupt_word))]
     fn listed(&self, offset: u16) -> Option<u32>
         ensures { result ≡ listed_word self.now offset }
     {
-        if is_word(offset) {
-            Some(self.value(offset))
+        if offset < TXF0 {
+            self.control_word(offset)
+        } else if offset < IRQ {
+            self.fifo_word(offset)
+        } else if offset < INSTR_MEM0 {
+            self.pin_word(offset)
+        } else if offset < SM0_CLKDIV {
+            self.memory_word(offset)
+        } else if offset < INTR {
+            let machine = self.machines.at(register_number(offset));
+            register(machine, register_offset(offset), &self.seen.memory)
         } else {
-            None
+            self.interrupt_word(offset)
         }
     }
 
@@ -312,9 +291,9 @@ impl State {
     }
 
     /// A write of a word.
-    #[tactic(auto, unfolding(crate::specs::Words::after_write))]
+    #[tactic(auto, using(crate::proofs::Rows::control_write, crate::proofs::Rows::fifo_write, crate::proofs::Rows::pin_write, crate::proofs::Rows::memory_write, crate::proofs::Rows::machine_write, crate::proofs::Rows::interrupt_write))]
     fn write(&mut self, offset: u16, word: u32)
-        ensures { self.new ≡ after_write offset word self.old }
+        ensures { self.new ≡ after_any offset (Some word) self.old }
     {
         if offset < TXF0 {
             self.write_control(offset, word);
@@ -325,29 +304,20 @@ impl State {
         } else if offset < SM0_CLKDIV {
             self.write_memory(offset, word);
         } else if offset < INTR {
-            self.write_machine(offset, word);
+            self.machines
+                .write_register(register_number(offset), register_offset(offset), word);
         } else {
             self.write_interrupts(offset, word);
         }
     }
 
     /// What a read does.
-    #[tactic(auto, unfolding(crate::specs::Words::after_read))]
+    #[tactic(auto, using(crate::proofs::Rows::rx_read, crate::proofs::Rows::no_read))]
     fn after_read(&mut self, offset: u16)
-        ensures { self.new ≡ after_read offset self.old }
+        ensures { self.new ≡ after_any offset None self.old }
     {
         if is_rxf(offset) {
-            self.take(fifo_number(offset));
-        }
-    }
-
-    /// What a read does, or a write of this word.
-    fn access(&mut self, offset: u16, write: Option<u32>)
-        ensures { self.new ≡ after_any offset write self.old }
-    {
-        match write {
-            Some(word) => self.write(offset, word),
-            None => self.after_read(offset),
+            self.take(((offset - RXF0) / 4) as u8);
         }
     }
 
@@ -361,7 +331,10 @@ impl State {
             return false;
         }
         if !self.held {
-            self.access(offset, write);
+            match write {
+                Some(word) => self.write(offset, word),
+                None => self.after_read(offset),
+            }
         }
         true
     }
@@ -376,25 +349,18 @@ fn joined_sets(first: u32, second: u8, third: u8, last: u32) -> u32
     first * 0x100_0000 + u32::from(second) * 0x1_0000 + u32::from(third) * 0x100 + last
 }
 
-/// The number of a machine by the offset of its FIFO.
-fn fifo_number(offset: u16) -> u8
-    ensures value { result ≡ fifo_number offset }
-    ensures small { result < 4 }
-{
-    (offset / 4 % 4) as u8
-}
-
+/// The offset of an RXF.
 fn is_rxf(offset: u16) -> bool
-    ensures { result ≡ is_rxf offset }
+    ensures { result ≡ is_at (Each 0x020 4 4) offset }
 {
-    RXF0 <= offset && offset < IRQ
+    RXF0 <= offset && offset < IRQ && offset % 4 == 0
 }
 
 /// The number of a machine by the offset of one of its registers.
 fn register_number(offset: u16) -> u8
-    requires low { SM0_CLKDIV ≤ offset }
-    requires high { offset < INTR }
-    ensures value { result ≡ register_number offset }
+    requires low { 0x0c8 ≤ offset }
+    requires high { offset < 0x128 }
+    ensures value { result ≡ (offset - 0x0c8) / 24 }
     ensures small { result < 4 }
 {
     ((offset - SM0_CLKDIV) / SM_BYTES) as u8
@@ -402,12 +368,14 @@ fn register_number(offset: u16) -> u8
 
 /// The offset of a register from the first one of its machine.
 fn register_offset(offset: u16) -> u16
-    ensures { result ≡ register_offset offset }
+    requires { 0x0c8 ≤ offset }
+    ensures { result ≡ (offset - 0x0c8) % 24 }
 {
-    offset.saturating_sub(SM0_CLKDIV) % SM_BYTES
+    (offset - SM0_CLKDIV) % SM_BYTES
 }
 
 /// There is a word at that offset.
+#[tactic(auto, using(crate::proofs::Rows::below_end, crate::proofs::Rows::not_whole))]
 fn is_word(offset: u16) -> bool
     ensures { result ≡ is_word offset }
 {
@@ -420,9 +388,9 @@ fn sets_left_out(offset: u16, write: Option<u32>) -> bool
 {
     match write {
         Some(word) => {
-            SM0_CLKDIV <= offset
-                && offset < INTR
-                && register_offset(offset) == SM_EXECCTRL
+            SM0_EXECCTRL <= offset
+                && offset < SM0_EXECCTRL + 4 * SM_BYTES
+                && (offset - SM0_EXECCTRL) % SM_BYTES == 0
                 && (has_bit(word, 17) || has_bit(word, 18))
         }
         None => false,

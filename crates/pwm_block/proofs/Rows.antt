@@ -1,11 +1,11 @@
 -- The rows of the slices, and those of the block; the words of a slice.
-use Rattle.std.proofs.Common.{sym, ◌≡◌, ◌≢◌, ℕ, zero, suc, ◌+◌, ◌*◌, ◌/◌, ◌%◌, ◌^◌, ◌<◌, true, false, refl, ap, ◌∙◌, arith, Some, None, List, [], ◌∷◌, take, drop, get_or}
-use Rattle.std.specs.Prelude.{nat_lt, if◌then◌else◌, slice_index_or, ⊤}
+use Rattle.std.proofs.Common.{sym, ◌≡◌, ◌≢◌, ℕ, zero, suc, ◌+◌, ◌*◌, ◌/◌, ◌%◌, ◌^◌, ◌<◌, false, refl, ap, ◌∙◌, arith, Some, None, List, take, drop, get_or}
+use Rattle.std.specs.Prelude.{◌==◌, nat_lt, if◌then◌else◌, slice_index_or, ⊤}
 use Rattle.std.proofs.lemmas.Grind.{common_steps}
 use Rattle.std.proofs.lemmas.Bool.Decides.{nat_tests}
 use Rattle.std.proofs.lemmas.List.{get_or-drop, get_or-take, drop-drop}
-use Rattle.rp_base.specs.Rows.{Each, Row, read_only, is_at, number_at, at_row, word_at, effect_at}
-use Rattle.rp_base.proofs.Rows.{cut}
+use Rattle.rp_base.specs.Rows.{Row, at_row, word_at, effect_at}
+use Rattle.rp_base.proofs.Rows.{cut, in_stride, strided}
 use Rattle.pwm_block.specs.State.{Slice, Block, slice_at_reset, slice_at}
 use Rattle.pwm_block.specs.Words.{with_csr, with_div, with_ctr, with_cc, with_top, only, with_slices, slice_rows, block_rows, pwm_rows}
 use Rattle.pwm_block.specs.Packing.{slice_of, slices_in, block_of}
@@ -21,98 +21,44 @@ writes at w b = cut b (λ row n. row.write_does n w b) 0xa0 slice_rows block_row
 
 -- ---- the rows of the slices
 
--- a row that is nowhere
-abbrev none_row : Row ⊤ Block
-none_row = read_only 0 "NONE" (λ b. 0)
+by-slice : {A : Type 0} (none : A) (found : Row ⊤ Block → ℕ → A) (at j : ℕ) → at < 160 → at % 20 ≡ j
+    → at_row none found slice_rows at ≡ in_stride 0 none (λ row. found row (at / 20)) slice_rows j
+by-slice none found at j h e = strided none found 0 8 20 slice_rows (at / 20) j at refl (omega arith) (omega (arith, e)) (omega (arith, e))
 
-abbrev row_of : ℕ → Row ⊤ Block
-row_of k = get_or slice_rows k none_row
+other : (j k : ℕ) → j ≢ k → (0 + j == k) ≡ false
+other j k h = grind (arith, nat_tests, common_steps)
 
-found-here : {A : Type 0} (none : A) (found : Row ⊤ Block → ℕ → A) (row : Row ⊤ Block) (rows : List (Row ⊤ Block)) (at n : ℕ)
-    → is_at row.place at ≡ true → number_at row.place at ≡ n → at_row none found (row ∷ rows) at ≡ found row n
-found-here none found row rows at n e h = rw e (ap (found row) h)
-
-found-later : {A : Type 0} (none : A) (found : Row ⊤ Block → ℕ → A) (row : Row ⊤ Block) (rows : List (Row ⊤ Block)) (at : ℕ)
-    → is_at row.place at ≡ false → at_row none found (row ∷ rows) at ≡ at_row none found rows at
-found-later none found row rows at e = rw e refl
-
-here : (j at : ℕ) → at < 160 → at % 20 ≡ j → is_at (Each j 8 20) at ≡ true
-here j at h e = grind (arith, nat_tests, common_steps)
-
-other : (j at : ℕ) → j < 20 → at % 20 ≢ j → is_at (Each j 8 20) at ≡ false
-other j at h e = grind (arith, nat_tests, common_steps)
-
-number : (j at : ℕ) → at % 20 ≡ j → number_at (Each j 8 20) at ≡ at / 20
-number j at e = omega arith
-
-at-0 : {A : Type 0} (none : A) (found : Row ⊤ Block → ℕ → A) (at : ℕ) → at < 160 → at % 20 ≡ 0
-    → at_row none found slice_rows at ≡ found (row_of 0) (at / 20)
-at-0 none found at h e = found-here none found (row_of 0) (drop 1 slice_rows) at (at / 20) (here 0 at h e) (number 0 at e)
-
-at-4 : {A : Type 0} (none : A) (found : Row ⊤ Block → ℕ → A) (at : ℕ) → at < 160 → at % 20 ≡ 4
-    → at_row none found slice_rows at ≡ found (row_of 1) (at / 20)
-at-4 none found at h e =
-    found-later none found (row_of 0) (drop 1 slice_rows) at (other 0 at (omega arith) (λ x. omega arith))
-    ∙ found-here none found (row_of 1) (drop 2 slice_rows) at (at / 20) (here 4 at h e) (number 4 at e)
-
-at-8 : {A : Type 0} (none : A) (found : Row ⊤ Block → ℕ → A) (at : ℕ) → at < 160 → at % 20 ≡ 8
-    → at_row none found slice_rows at ≡ found (row_of 2) (at / 20)
-at-8 none found at h e =
-    found-later none found (row_of 0) (drop 1 slice_rows) at (other 0 at (omega arith) (λ x. omega arith))
-    ∙ found-later none found (row_of 1) (drop 2 slice_rows) at (other 4 at (omega arith) (λ x. omega arith))
-    ∙ found-here none found (row_of 2) (drop 3 slice_rows) at (at / 20) (here 8 at h e) (number 8 at e)
-
-at-12 : {A : Type 0} (none : A) (found : Row ⊤ Block → ℕ → A) (at : ℕ) → at < 160 → at % 20 ≡ 12
-    → at_row none found slice_rows at ≡ found (row_of 3) (at / 20)
-at-12 none found at h e =
-    found-later none found (row_of 0) (drop 1 slice_rows) at (other 0 at (omega arith) (λ x. omega arith))
-    ∙ found-later none found (row_of 1) (drop 2 slice_rows) at (other 4 at (omega arith) (λ x. omega arith))
-    ∙ found-later none found (row_of 2) (drop 3 slice_rows) at (other 8 at (omega arith) (λ x. omega arith))
-    ∙ found-here none found (row_of 3) (drop 4 slice_rows) at (at / 20) (here 12 at h e) (number 12 at e)
-
-at-16 : {A : Type 0} (none : A) (found : Row ⊤ Block → ℕ → A) (at : ℕ) → at < 160 → at % 20 ≡ 16
-    → at_row none found slice_rows at ≡ found (row_of 4) (at / 20)
-at-16 none found at h e =
-    found-later none found (row_of 0) (drop 1 slice_rows) at (other 0 at (omega arith) (λ x. omega arith))
-    ∙ found-later none found (row_of 1) (drop 2 slice_rows) at (other 4 at (omega arith) (λ x. omega arith))
-    ∙ found-later none found (row_of 2) (drop 3 slice_rows) at (other 8 at (omega arith) (λ x. omega arith))
-    ∙ found-later none found (row_of 3) (drop 4 slice_rows) at (other 12 at (omega arith) (λ x. omega arith))
-    ∙ found-here none found (row_of 4) [] at (at / 20) (here 16 at h e) (number 16 at e)
-
-at-none : {A : Type 0} (none : A) (found : Row ⊤ Block → ℕ → A) (at : ℕ)
+at-none : {A : Type 0} (none : A) (found : Row ⊤ Block → ℕ → A) (at : ℕ) → at < 160
     → at % 20 ≢ 0 → at % 20 ≢ 4 → at % 20 ≢ 8 → at % 20 ≢ 12 → at % 20 ≢ 16 → at_row none found slice_rows at ≡ none
-at-none none found at e f g h i =
-    found-later none found (row_of 0) (drop 1 slice_rows) at (other 0 at (omega arith) e)
-    ∙ found-later none found (row_of 1) (drop 2 slice_rows) at (other 4 at (omega arith) f)
-    ∙ found-later none found (row_of 2) (drop 3 slice_rows) at (other 8 at (omega arith) g)
-    ∙ found-later none found (row_of 3) (drop 4 slice_rows) at (other 12 at (omega arith) h)
-    ∙ found-later none found (row_of 4) [] at (other 16 at (omega arith) i)
+at-none none found at low e f g h i =
+    by-slice none found at (at % 20) low refl
+    ∙ rw (other (at % 20) 0 e, other (at % 20) 4 f, other (at % 20) 8 g, other (at % 20) 12 h, other (at % 20) 16 i) refl
 
 -- ---- what is written there
 
 pub csr_write : (at w : ℕ) (b : Block) → at < 160 → at % 20 ≡ 0
     → effect_at slice_rows at (Some w) b ≡ with_slices (only (at / 20) (with_csr w)) b
-csr_write at w b h e = at-0 b (λ row n. row.write_does n w b) at h e
+csr_write at w b h e = by-slice b (λ row n. row.write_does n w b) at 0 h e
 
 pub div_write : (at w : ℕ) (b : Block) → at < 160 → at % 20 ≡ 4
     → effect_at slice_rows at (Some w) b ≡ with_slices (only (at / 20) (with_div w)) b
-div_write at w b h e = at-4 b (λ row n. row.write_does n w b) at h e
+div_write at w b h e = by-slice b (λ row n. row.write_does n w b) at 4 h e
 
 pub ctr_write : (at w : ℕ) (b : Block) → at < 160 → at % 20 ≡ 8
     → effect_at slice_rows at (Some w) b ≡ with_slices (only (at / 20) (with_ctr w)) b
-ctr_write at w b h e = at-8 b (λ row n. row.write_does n w b) at h e
+ctr_write at w b h e = by-slice b (λ row n. row.write_does n w b) at 8 h e
 
 pub cc_write : (at w : ℕ) (b : Block) → at < 160 → at % 20 ≡ 12
     → effect_at slice_rows at (Some w) b ≡ with_slices (only (at / 20) (with_cc w)) b
-cc_write at w b h e = at-12 b (λ row n. row.write_does n w b) at h e
+cc_write at w b h e = by-slice b (λ row n. row.write_does n w b) at 12 h e
 
 pub top_write : (at w : ℕ) (b : Block) → at < 160 → at % 20 ≡ 16
     → effect_at slice_rows at (Some w) b ≡ with_slices (only (at / 20) (with_top w)) b
-top_write at w b h e = at-16 b (λ row n. row.write_does n w b) at h e
+top_write at w b h e = by-slice b (λ row n. row.write_does n w b) at 16 h e
 
-pub no_write : (at w : ℕ) (b : Block) → at % 20 ≢ 0 → at % 20 ≢ 4 → at % 20 ≢ 8 → at % 20 ≢ 12 → at % 20 ≢ 16
+pub no_write : (at w : ℕ) (b : Block) → at < 160 → at % 20 ≢ 0 → at % 20 ≢ 4 → at % 20 ≢ 8 → at % 20 ≢ 12 → at % 20 ≢ 16
     → effect_at slice_rows at (Some w) b ≡ b
-no_write at w b e f g h i = at-none b (λ row n. row.write_does n w b) at e f g h i
+no_write at w b low e f g h i = at-none b (λ row n. row.write_does n w b) at low e f g h i
 
 -- ---- what is read there
 
@@ -141,38 +87,38 @@ read_of at ws h = slice_in 8 (at / 20) ws (omega arith)
 pub csr_word : (at : ℕ) (ws : List ℕ) → at < 160 → at % 20 ≡ 0
     → word_at slice_rows tt at (block_of ws) ≡ Some (get_or ws (at / 20 * 8) 0 % 2 ^ 6)
 csr_word at ws h e =
-    at-0 None (λ row n. Some (row.reads n tt (block_of ws))) at h e
+    by-slice None (λ row n. Some (row.reads n tt (block_of ws))) at 0 h e
     ∙ ap (λ (s : Slice). Some s.csr) (read_of at ws h)
     ∙ ap (λ (x : ℕ). Some (x % 2 ^ 6)) (word_in 0 (at / 20) ws (omega arith) ∙ ap (λ (i : ℕ). get_or ws i 0) (omega arith))
 
 pub div_word : (at : ℕ) (ws : List ℕ) → at < 160 → at % 20 ≡ 4
     → word_at slice_rows tt at (block_of ws) ≡ Some (get_or ws (at / 20 * 8 + 1) 0)
 div_word at ws h e =
-    at-4 None (λ row n. Some (row.reads n tt (block_of ws))) at h e
+    by-slice None (λ row n. Some (row.reads n tt (block_of ws))) at 4 h e
     ∙ ap (λ (s : Slice). Some s.div) (read_of at ws h)
     ∙ ap (λ (x : ℕ). Some x) (word_in 1 (at / 20) ws (omega arith))
 
 pub ctr_word : (at : ℕ) (ws : List ℕ) → at < 160 → at % 20 ≡ 8
     → word_at slice_rows tt at (block_of ws) ≡ Some (get_or ws (at / 20 * 8 + 2) 0)
 ctr_word at ws h e =
-    at-8 None (λ row n. Some (row.reads n tt (block_of ws))) at h e
+    by-slice None (λ row n. Some (row.reads n tt (block_of ws))) at 8 h e
     ∙ ap (λ (s : Slice). Some s.ctr) (read_of at ws h)
     ∙ ap (λ (x : ℕ). Some x) (word_in 2 (at / 20) ws (omega arith))
 
 pub cc_word : (at : ℕ) (ws : List ℕ) → at < 160 → at % 20 ≡ 12
     → word_at slice_rows tt at (block_of ws) ≡ Some (get_or ws (at / 20 * 8 + 3) 0)
 cc_word at ws h e =
-    at-12 None (λ row n. Some (row.reads n tt (block_of ws))) at h e
+    by-slice None (λ row n. Some (row.reads n tt (block_of ws))) at 12 h e
     ∙ ap (λ (s : Slice). Some s.cc) (read_of at ws h)
     ∙ ap (λ (x : ℕ). Some x) (word_in 3 (at / 20) ws (omega arith))
 
 pub top_word : (at : ℕ) (ws : List ℕ) → at < 160 → at % 20 ≡ 16
     → word_at slice_rows tt at (block_of ws) ≡ Some (get_or ws (at / 20 * 8 + 4) 0)
 top_word at ws h e =
-    at-16 None (λ row n. Some (row.reads n tt (block_of ws))) at h e
+    by-slice None (λ row n. Some (row.reads n tt (block_of ws))) at 16 h e
     ∙ ap (λ (s : Slice). Some s.top) (read_of at ws h)
     ∙ ap (λ (x : ℕ). Some x) (word_in 4 (at / 20) ws (omega arith))
 
-pub no_word : (at : ℕ) (ws : List ℕ) → at % 20 ≢ 0 → at % 20 ≢ 4 → at % 20 ≢ 8 → at % 20 ≢ 12 → at % 20 ≢ 16
+pub no_word : (at : ℕ) (ws : List ℕ) → at < 160 → at % 20 ≢ 0 → at % 20 ≢ 4 → at % 20 ≢ 8 → at % 20 ≢ 12 → at % 20 ≢ 16
     → word_at slice_rows tt at (block_of ws) ≡ None
-no_word at ws e f g h i = at-none None (λ row n. Some (row.reads n tt (block_of ws))) at e f g h i
+no_word at ws low e f g h i = at-none None (λ row n. Some (row.reads n tt (block_of ws))) at low e f g h i

@@ -1,6 +1,5 @@
 -- What the deeds of a cycle leave of a part for which none of them is.
-use Rattle.std.proofs.Common.{◌≡◌, ◌==◌, ◌%◌, ◌^◌, ℕ, Bool, true, false, ◌||◌, if◌then◌else◌, List, [], ◌∷◌, Option, Some, None, refl, ap, ◌∙◌}
-use Rattle.std.specs.Prelude.{slice_set}
+use Rattle.std.proofs.Common.{◌≡◌, ℕ, Bool, true, false, ◌||◌, if◌then◌else◌, List, [], ◌∷◌, Option, Some, None, refl, ap, ◌∙◌}
 use Rattle.std.specs.List.{list_any}
 use Rattle.rp_base.specs.declared.Master.{Master}
 use Rattle.rp_base.specs.declared.Master.TheVariants as master
@@ -15,9 +14,9 @@ use Rattle.sio_block.specs.State.{SioState}
 use Rattle.sio_block.specs.Launcher.{offers_of, launch_of, after_turn}
 use Rattle.rp_machine.specs.declared.deed.Deed.{Deed}
 use Rattle.rp_machine.specs.declared.deed.Deed.TheVariants as deed
-use Rattle.rp_machine.specs.Offsets.{RESET, WDSEL}
+use Rattle.rp_base.proofs.Rows.{keeps}
 use Rattle.rp_machine.specs.State.{State}
-use Rattle.rp_machine.specs.Registers.{with_reset, resets_written, block_accessed}
+use Rattle.rp_machine.specs.Registers.{with_reset, resets_rows, block_accessed}
 use Rattle.rp_machine.specs.Cycle.{begun, wanted, with_event, with_sio, found_by, sio_accessed, after_deed, started_by, after_launcher, launched_where, after_master, after_masters, with_stores, ended, after_deeds, with_turns, stepped, next_by, next}
 use Rattle.rp_machine.specs.Laws.{deeds_in, own_core0, own_core1, own_dma, own_outer, core_alone, outer_alone, is_for, is_dma, is_pio0, is_pio1, is_outer, is_for_outer, NoneIs, EffectsComeAfterTheSteps}
 use Rattle.rp_machine.proofs.HeldDma.{either_way}
@@ -279,20 +278,12 @@ own_step_outer w s h =
 
 -- ---- core 1, which is awake, but for its event register and what it knows of its launcher
 
-resets_core1 : (offset w : ℕ) (s : State) → core_alone (resets_written offset w s).core1 ≡ core_alone s.core1
-unfolding with_reset
-resets_core1 offset w s =
-    let word = record s { resets = slice_set s.resets 1 w } in
-    either_way (λ (t : State). core_alone t.core1 ≡ core_alone s.core1) (offset == RESET) (with_reset (w % 2 ^ 25) s)
-    (if offset == WDSEL then word else s) refl
-    (either_way (λ (t : State). core_alone t.core1 ≡ core_alone s.core1) (offset == WDSEL) word s refl refl)
-
 block_core1 : (b : Block) (offset : ℕ) (write : Option ℕ) (s : State) → core_alone (block_accessed b offset write s).core1 ≡ core_alone s.core1
-unfolding block_accessed
-block_core1 block.Resets offset None s = refl
-block_core1 block.Resets offset (Some w) s = resets_core1 offset w s
-block_core1 block.Busctrl offset None s = refl
-block_core1 block.Busctrl offset (Some w) s = refl
+unfolding block_accessed with_reset
+block_core1 block.Resets offset write s =
+    keeps (λ (t : State). core_alone t.core1 ≡ core_alone s.core1) resets_rows offset write s refl
+    (λ n. (refl, λ w. refl), (λ n. (refl, λ w. refl), (λ n. (refl, λ w. refl), tt)))
+block_core1 block.Busctrl offset write s = refl
 block_core1 block.Dma offset write s = refl
 block_core1 block.Pio0 offset write s = refl
 block_core1 block.Pio1 offset write s = refl

@@ -1,19 +1,17 @@
 -- The PIO blocks and the peripherals keep their bits of RESETS in a cycle and in an access, and core 1 what its launcher has.
-use Rattle.std.proofs.Common.{◌≡◌, ◌+◌, ◌-◌, ◌/◌, ◌%◌, ◌^◌, ◌==◌, nat_lt, ℕ, Bool, true, false, if◌then◌else◌, Option, Some, None, List, [], ◌∷◌, refl, rules}
+use Rattle.std.proofs.Common.{◌≡◌, ◌+◌, ◌==◌, nat_lt, ℕ, Bool, true, false, if◌then◌else◌, Option, Some, None, List, [], ◌∷◌, refl, rules}
 use Rattle.rp_base.specs.declared.Request.{Request}
 use Rattle.rp_base.specs.declared.op.Op.{Op}
 use Rattle.rp_base.specs.declared.map.Block.{Block}
 use Rattle.rp_base.specs.declared.map.Block.TheVariants as block
 use Rattle.lane_look.specs.declared.lane.Turn.{Turn}
 use Rattle.pio_block.specs.declared.inputs.Inputs.{Inputs}
-use Rattle.std.specs.Prelude.{bit_and, bit_or, slice_set}
-use Rattle.pio_block.specs.Offsets.{IRQ, IRQ_FORCE, INPUT_SYNC_BYPASS, IRQ0_INTE, IRQ0_INTF, IRQ1_INTE, IRQ1_INTF}
-use Rattle.pio_block.specs.State.{Block as Pio, without, with_held}
+use Rattle.pio_block.specs.State.{Block as Pio, with_held}
 use Rattle.pio_block.specs.Control.{control_written}
 use Rattle.pio_block.specs.Queues.{debug_written, sent, taken}
 use Rattle.pio_block.specs.Cycle as pio
 use Rattle.pio_block.specs.Words as words
-use Rattle.rp_base.proofs.Rows.{keeps}
+use Rattle.rp_base.proofs.Rows.{Kept, keeps}
 use Rattle.io_bank.specs.Offsets.{PADS_BANK0}
 use Rattle.io_bank.specs.State.{Bank, after_held}
 use Rattle.io_bank.specs.Words as bank
@@ -51,90 +49,19 @@ unfolding pio.next pio.after_cycle pio.joined
 pio_next None bit p h = h
 pio_next (Some inputs) bit p h = record { is = h.is }
 
-control_written_holds : (w : ℕ) (bit : Bool) (p : Pio) → PioHolds bit p → PioHolds bit (control_written w p)
-unfolding control_written
-control_written_holds w bit p h = record { is = h.is }
+rows_hold : (bit : Bool) (p : Pio) → p.held ≡ bit → Kept (λ (q : Pio). q.held ≡ bit) p words.pio_rows
+unfolding control_written debug_written sent taken
+rows_hold bit p h =
+    let k : (n : ℕ) → (p.held ≡ bit) × (ℕ → p.held ≡ bit) = λ n. (h, λ w. h) in
+    (k, (k, (k, (k, (k, (k, (k, (k, (k, (k, (k, (k, (k, (k, (k, (k, (k, (k, (k, (k, (k, (k, (k, (k, (k, (k, tt))))))))))))))))))))))))))
 
-debug_holds : (w : ℕ) (bit : Bool) (p : Pio) → PioHolds bit p → PioHolds bit (debug_written w p)
-unfolding debug_written
-debug_holds w bit p h = record { is = h.is }
-
-sent_holds : (n w : ℕ) (bit : Bool) (p : Pio) → PioHolds bit p → PioHolds bit (sent n w p)
-unfolding sent
-sent_holds n w bit p h = record { is = h.is }
-
-taken_holds : (n : ℕ) (bit : Bool) (p : Pio) → PioHolds bit p → PioHolds bit (taken n p)
-unfolding taken
-taken_holds n bit p h = record { is = h.is }
-
-memory_holds : (offset w : ℕ) (bit : Bool) (p : Pio) → PioHolds bit p → PioHolds bit (words.after_memory offset w p)
-unfolding words.after_memory
-memory_holds offset w bit p h = record { is = h.is }
-
-machine_holds : (offset w : ℕ) (bit : Bool) (p : Pio) → PioHolds bit p → PioHolds bit (words.after_machine offset w p)
-unfolding words.after_machine
-machine_holds offset w bit p h = record { is = h.is }
-
-control_holds : (offset w : ℕ) (bit : Bool) (p : Pio) → PioHolds bit p → PioHolds bit (words.after_control offset w p)
-unfolding words.after_control
-control_holds offset w bit p h =
-    pio_way bit _ _ _ (control_written_holds w bit p h) (pio_way bit _ _ _ (debug_holds w bit p h) h)
-
-fifo_holds : (offset w : ℕ) (bit : Bool) (p : Pio) → PioHolds bit p → PioHolds bit (words.after_fifo offset w p)
-unfolding words.after_fifo
-fifo_holds offset w bit p h = pio_way bit _ _ _ (sent_holds _ w bit p h) h
-
--- of three ways and none, and of four
-three : (a b c bit : Bool) (t u v p : Pio) → PioHolds bit t → PioHolds bit u → PioHolds bit v → PioHolds bit p
-    → PioHolds bit (if a then t else if b then u else if c then v else p)
-three true b c bit t u v p ht hu hv hp = ht
-three false true c bit t u v p ht hu hv hp = hu
-three false false true bit t u v p ht hu hv hp = hv
-three false false false bit t u v p ht hu hv hp = hp
-
-four : (a b c d bit : Bool) (t u v w p : Pio) → PioHolds bit t → PioHolds bit u → PioHolds bit v → PioHolds bit w → PioHolds bit p
-    → PioHolds bit (if a then t else if b then u else if c then v else if d then w else p)
-four true b c d bit t u v w p ht hu hv hw hp = ht
-four false true c d bit t u v w p ht hu hv hw hp = hu
-four false false true d bit t u v w p ht hu hv hw hp = hv
-four false false false true bit t u v w p ht hu hv hw hp = hw
-four false false false false bit t u v w p ht hu hv hw hp = hp
-
-pin_holds : (offset w : ℕ) (bit : Bool) (p : Pio) → PioHolds bit p → PioHolds bit (words.after_pin offset w p)
-unfolding words.after_pin
-pin_holds offset w bit p h =
-    three (offset == IRQ) (offset == IRQ_FORCE) (offset == INPUT_SYNC_BYPASS) bit
-    (record p { flags = without p.flags (w % 2 ^ 8) }) (record p { flags = bit_or p.flags (w % 2 ^ 8) }) (record p { bypass = w }) p
-    (record { is = h.is }) (record { is = h.is }) (record { is = h.is }) h
-
-interrupt_holds : (offset w : ℕ) (bit : Bool) (p : Pio) → PioHolds bit p → PioHolds bit (words.after_interrupt offset w p)
-unfolding words.after_interrupt
-interrupt_holds offset w bit p h =
-    four (offset == IRQ0_INTE) (offset == IRQ0_INTF) (offset == IRQ1_INTE) (offset == IRQ1_INTF) bit
-    (record p { inte0 = w % 2 ^ 12 }) (record p { intf0 = w % 2 ^ 12 }) (record p { inte1 = w % 2 ^ 12 }) (record p { intf1 = w % 2 ^ 12 }) p
-    (record { is = h.is }) (record { is = h.is }) (record { is = h.is }) (record { is = h.is }) h
-
-write_holds : (offset w : ℕ) (bit : Bool) (p : Pio) → PioHolds bit p → PioHolds bit (words.after_write offset w p)
-unfolding words.after_write
-write_holds offset w bit p h =
-    pio_way bit _ _ _ (control_holds offset w bit p h)
-    (pio_way bit _ _ _ (fifo_holds offset w bit p h)
-    (pio_way bit _ _ _ (pin_holds offset w bit p h)
-    (pio_way bit _ _ _ (memory_holds offset w bit p h)
-    (pio_way bit _ _ _ (machine_holds offset w bit p h) (interrupt_holds offset w bit p h)))))
-
-read_holds : (offset : ℕ) (bit : Bool) (p : Pio) → PioHolds bit p → PioHolds bit (words.after_read offset p)
-unfolding words.after_read
-read_holds offset bit p h = pio_way bit _ _ _ (taken_holds _ bit p h) h
-
-access_holds : (offset : ℕ) (write : Option ℕ) (bit : Bool) (p : Pio) → PioHolds bit p → PioHolds bit (words.after_any offset write p)
-access_holds offset None bit p h = read_holds offset bit p h
-access_holds offset (Some w) bit p h = write_holds offset w bit p h
+rows_holding : (offset : ℕ) (write : Option ℕ) (bit : Bool) (p : Pio) → PioHolds bit p → PioHolds bit (words.after_any offset write p)
+unfolding words.after_any
+rows_holding offset write bit p h = record { is = keeps (λ (q : Pio). q.held ≡ bit) words.pio_rows offset write p h.is (rows_hold bit p h.is) }
 
 pub pio_effect : (offset : ℕ) (write : Option ℕ) (bit : Bool) (p : Pio) → PioHolds bit p → PioHolds bit (words.effect_of offset write p)
 unfolding words.effect_of
-pio_effect offset write bit p h =
-    pio_way bit _ _ _ (pio_way bit _ _ _ h (access_holds offset write bit p h)) h
+pio_effect offset write bit p h = pio_way bit _ _ _ (pio_way bit _ _ _ h (rows_holding offset write bit p h)) h
 
 pub pio_reset : (bit : Bool) (p : Pio) → PioHolds bit (with_held bit p)
 unfolding with_held

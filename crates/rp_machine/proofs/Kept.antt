@@ -1,7 +1,7 @@
 -- What the deeds of a cycle leave as it was: SRAM, and core 0 but for its event register.
 use Rattle.std.proofs.lemmas.Bool.Decides.{eqb_tells}
 use Rattle.std.proofs.lemmas.List.{get_or-set_same, get_or-set_other, length-set}
-use Rattle.std.proofs.Common.{inl, inr, ◌≢◌, ◌≡◌, ℕ, ◌<◌, ◌==◌, Bool, true, false, if◌then◌else◌, List, [], ◌∷◌, length, Option, Some, None, refl, sym, ap, arith, ◌∙◌}
+use Rattle.std.proofs.Common.{inl, inr, ◌≢◌, ◌≡◌, ℕ, ◌<◌, Bool, true, false, if◌then◌else◌, List, [], ◌∷◌, length, Option, Some, None, refl, sym, ap, arith, ◌∙◌, ◌%◌, ◌^◌}
 use Rattle.std.specs.Prelude.{slice_index}
 use Rattle.rp_base.specs.declared.Master.{Master}
 use Rattle.rp_base.specs.declared.Master.TheVariants as master
@@ -14,9 +14,9 @@ use Rattle.sio_block.specs.Launcher.{offers_of, launch_of, after_turn}
 use Rattle.outer_lane.specs.Setting.{Setting}
 use Rattle.rp_machine.specs.declared.deed.Deed.{Deed}
 use Rattle.rp_machine.specs.declared.deed.Deed.TheVariants as deed
-use Rattle.rp_machine.specs.Offsets.{RESET, WDSEL}
+use Rattle.rp_base.proofs.Rows.{keeps}
 use Rattle.rp_machine.specs.State.{State}
-use Rattle.rp_machine.specs.Registers.{with_reset, resets_written, block_accessed}
+use Rattle.rp_machine.specs.Registers.{with_reset, resets_rows, block_accessed}
 use Rattle.bus_fabric.specs.Masters.{masters}
 use Rattle.rp_machine.specs.Cycle.{begun, wanted, with_event, with_sio, found_by, sio_accessed, after_deed, started_by, after_launcher, after_master, after_masters, stored, all_stored, ended, after_deeds, with_turns, stepped, next_by, next}
 use Rattle.rp_machine.specs.Laws.{deeds_in, word_with, word_after, SramChangesByTheWritesAlone}
@@ -39,17 +39,12 @@ reset_keeps : (w : ℕ) (s : State) → Keeps s (with_reset w s)
 unfolding with_reset
 reset_keeps w s = record { sram = refl; core0 = refl }
 
-resets_keep : (offset w : ℕ) (s : State) → Keeps s (resets_written offset w s)
-resets_keep offset w s =
-    either_keeps (offset == RESET) _ _ _ (reset_keeps _ s)
-    (either_keeps (offset == WDSEL) _ _ _ (record { sram = refl; core0 = refl }) (same s))
-
 block_keeps : (b : Block) (offset : ℕ) (write : Option ℕ) (s : State) → Keeps s (block_accessed b offset write s)
 unfolding block_accessed
-block_keeps block.Resets offset None s = same s
-block_keeps block.Resets offset (Some w) s = resets_keep offset w s
-block_keeps block.Busctrl offset None s = same s
-block_keeps block.Busctrl offset (Some w) s = record { sram = refl; core0 = refl }
+block_keeps block.Resets offset write s =
+    keeps (Keeps s) resets_rows offset write s (same s)
+    (λ n. (same s, λ w. reset_keeps (w % 2 ^ 25) s), (λ n. (same s, λ w. record { sram = refl; core0 = refl }), (λ n. (same s, λ w. same s), tt)))
+block_keeps block.Busctrl offset write s = record { sram = refl; core0 = refl }
 block_keeps block.Dma offset write s = record { sram = refl; core0 = refl }
 block_keeps block.Pio0 offset write s = record { sram = refl; core0 = refl }
 block_keeps block.Pio1 offset write s = record { sram = refl; core0 = refl }

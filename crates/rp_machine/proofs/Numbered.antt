@@ -19,7 +19,8 @@ use Rattle.dma_engine.specs.Words as dma
 use Rattle.pio_block.specs.Words as pio
 use Rattle.rp_timer.specs.State as timer
 use Rattle.rp_uart.specs.Interrupts.{is_line_high}
-use Rattle.sio_block.specs.Locks.{is_lock, lock_number, lock_word}
+use Rattle.rp_base.specs.Rows.{Each, is_at, number_at}
+use Rattle.sio_block.specs.Locks.{lock_word}
 use Rattle.sio_block.specs.Side.{line_of}
 use Rattle.sio_block.specs.State.{SioState}
 use Rattle.sio_block.specs.Words as sio
@@ -289,9 +290,9 @@ numbered (suc (suc n)) s low small = absurd (omega (arith, low))
 lock_read : (core n inputs : ℕ) (s : SioState) → n < 32 → has_bit s.locks.taken n ≡ false → sio.word_of core (0x100 + 4 * n) inputs s ≡ Some (2 ^ n)
 lock_read core n inputs s low free =
     let word : sio.word_of core (0x100 + 4 * n) inputs s ≡ lock_word (0x100 + 4 * n) s.locks = grind (arith, nat_tests, common_steps) in
-    let there : is_lock (0x100 + 4 * n) ≡ true = grind (arith, nat_tests, common_steps) in
-    let number : lock_number (0x100 + 4 * n) ≡ n = omega arith in
-    word ∙ ap (λ b. cond b (Some (cond (has_bit s.locks.taken (lock_number (0x100 + 4 * n))) 0 (2 ^ lock_number (0x100 + 4 * n)))) None) there
+    let there : is_at (Each 0x100 32 4) (0x100 + 4 * n) ≡ true = grind (arith, nat_tests, common_steps) in
+    let number : number_at (Each 0x100 32 4) (0x100 + 4 * n) ≡ n = omega arith in
+    word ∙ ap (λ b. cond b (Some (cond (has_bit s.locks.taken (number_at (Each 0x100 32 4) (0x100 + 4 * n))) 0 (2 ^ number_at (Each 0x100 32 4) (0x100 + 4 * n)))) None) there
     ∙ ap (λ k. Some (cond (has_bit s.locks.taken k) 0 (2 ^ k))) number ∙ ap (λ b. Some (cond b 0 (2 ^ n))) free
 
 turn_for : (w : Setting) (seen : SeenOutputs) (rival : Want) (granted : Bool) (s : State) (request : Request) (p : Spot) (word : ℕ) → place_of request.address ≡ p →

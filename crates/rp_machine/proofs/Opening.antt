@@ -10,7 +10,7 @@ use Rattle.rp_base.specs.declared.map.Block.{Block as Place}
 use Rattle.rp_base.specs.declared.map.Block.TheVariants as block
 use Rattle.rp_base.specs.declared.map.Spot.TheVariants as spot
 use Rattle.pio_block.specs.State.{Block}
-use Rattle.pio_block.specs.Words.{is_word, is_allowed, sets_left_out, listed_word, value_of, word_of}
+use Rattle.pio_block.specs.Words.{pio_rows, is_word, is_allowed, sets_left_out, listed_word, word_of}
 use Rattle.io_bank.specs.Offsets.{PADS_BANK0}
 use Rattle.io_bank.specs.Words as bank
 use Rattle.rp_uart.specs.Words.{uart_rows}
@@ -28,26 +28,6 @@ same_write : (r : Request) (write : Option ℕ) (word : ℕ) → word_written r.
 same_write r None word = refl
 same_write r (Some value) word = refl
 
--- the block is either of the two
-abbrev Opens : Request → ℕ → Block → Option ℕ → Type 0
-Opens r offset b word =
-    (is_allowed offset (word_written r.size r.write) ≡ is_open r (spot.Reg block.Pio0 offset 0) word)
-    × (is_allowed offset (word_written r.size r.write) ≡ is_open r (spot.Reg block.Pio1 offset 0) word)
-
-open_by : (r : Request) (offset : ℕ) (b : Block) (some : Bool) → is_word offset ≡ some →
-    Opens r offset b (unless_held b.held (cond some (Some (value_of b offset)) None))
-unfolding is_allowed
-open_by r offset b true e = (ap (is_allowed offset) (same_write r r.write _), ap (is_allowed offset) (same_write r r.write _))
-open_by r offset b false e =
-    let none = ap (λ (c : Bool). c && not (sets_left_out offset (word_written r.size r.write))) e in
-    (none, none)
-
-pub plainly_open : (r : Request) (offset : ℕ) (b : Block) → Opens r offset b (word_of b offset)
-unfolding word_of listed_word
-plainly_open r offset b = open_by r offset b (is_word offset) refl
-
--- ---- the peripherals
-
 some-held : (held : Bool) (word : Option ℕ) → is_some (unless_held held word) ≡ is_some word
 some-held held None = refl
 some-held held (Some word) = refl
@@ -64,6 +44,25 @@ some-word (row ∷ rows) at seen s =
 some-read : {V S : Type 0} (rows : List (Row V S)) (held : Bool) (at : ℕ) (seen : V) (s : S)
     → has_row rows at ≡ is_some (unless_held held (word_at rows seen at s))
 some-read rows held at seen s = some-word rows at seen s ∙ sym (some-held held (word_at rows seen at s))
+
+-- the block is either of the two
+abbrev Opens : Request → ℕ → Block → Option ℕ → Type 0
+Opens r offset b word =
+    (is_allowed offset (word_written r.size r.write) ≡ is_open r (spot.Reg block.Pio0 offset 0) word)
+    × (is_allowed offset (word_written r.size r.write) ≡ is_open r (spot.Reg block.Pio1 offset 0) word)
+
+open_by : (r : Request) (offset : ℕ) (b : Block) (word : Option ℕ) → is_word offset ≡ is_some word → Opens r offset b word
+unfolding is_allowed
+open_by r offset b (Some word) e = (ap (is_allowed offset) (same_write r r.write word), ap (is_allowed offset) (same_write r r.write word))
+open_by r offset b None e =
+    let none = ap (λ (c : Bool). c && not (sets_left_out offset (word_written r.size r.write))) e in
+    (none, none)
+
+pub plainly_open : (r : Request) (offset : ℕ) (b : Block) → Opens r offset b (word_of b offset)
+unfolding word_of listed_word is_word
+plainly_open r offset b = open_by r offset b (word_of b offset) (some-read pio_rows b.held offset tt b)
+
+-- ---- the peripherals
 
 some-below : (b c : Bool) (word : Option ℕ) → c ≡ is_some word → (b && c) ≡ is_some (cond b word None)
 some-below true c word e = e

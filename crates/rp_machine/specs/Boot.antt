@@ -6,9 +6,9 @@ use Rattle.lane_look.specs.Device.{DeviceMeaning}
 use Rattle.uf2_image.specs.declared.parts.Image.{Image}
 use Rattle.pio_words.specs.declared.side.SideConfig.{SideConfig}
 use Rattle.pio_asm.specs.declared.program.Program.{Program}
-use Rattle.pio_block.specs.Offsets.{INSTR_MEM0, SM0_CLKDIV, SM_BYTES, SM_EXECCTRL, SM_PINCTRL}
+use Rattle.rp_base.specs.Rows.{offset_at, place_in}
 use Rattle.pio_block.specs.State.{Block as Pio}
-use Rattle.pio_block.specs.Words.{effect_of, counter_set}
+use Rattle.pio_block.specs.Words.{pio_rows, effect_of, counter_set}
 use Rattle.rp_machine.specs.declared.load.PioLoad.{PioLoad}
 use Rattle.rp_machine.specs.State.{State, first_state}
 
@@ -26,7 +26,7 @@ with_word offset w p = effect_of offset (Some w) p
 abbrev pub words_loaded : ℕ → ℕ → List ℕ → Pio → Pio
 words_loaded offset at [] p = p
 words_loaded offset at (word ∷ words) p =
-    words_loaded offset (at + 1) words (with_word (INSTR_MEM0 + 4 * at) (relocated offset word) p)
+    words_loaded offset (at + 1) words (with_word (offset_at (place_in pio_rows "INSTR_MEMn") at) (relocated offset word) p)
 
 -- ---- the registers of a machine, which have their reset values but for what the program says
 
@@ -42,10 +42,10 @@ pinctrl_of side = (side.count + bit_number side.opt) * 2 ^ 29 + 5 * 2 ^ 26
 
 -- EXECCTRL and PINCTRL of a machine
 abbrev pub execctrl_offset : ℕ → ℕ
-execctrl_offset machine = SM0_CLKDIV + SM_BYTES * machine + SM_EXECCTRL
+execctrl_offset machine = offset_at (place_in pio_rows "SMn_EXECCTRL") machine
 
 abbrev pub pinctrl_offset : ℕ → ℕ
-pinctrl_offset machine = SM0_CLKDIV + SM_BYTES * machine + SM_PINCTRL
+pinctrl_offset machine = offset_at (place_in pio_rows "SMn_PINCTRL") machine
 
 -- ---- loads
 

@@ -9,7 +9,6 @@ pub mod Events
 pub mod Laws
 pub mod LineLaws
 pub mod Loading
-pub mod Offsets
 pub mod Inward
 pub mod Quiet
 pub mod Readers

@@ -1,11 +1,12 @@
 -- The words of the register blocks: what they read as, whether an access to one is allowed, and what it does (RP2040 Datasheet,
 -- 2.1.2 "Atomic Register Access", 2.1.4 "Narrow IO Register Writes", 2.14.3 "List of Registers" of RESETS).
-use Rattle.std.specs.Prelude.{ℕ, ◌-◌, ◌%◌, ◌^◌, Bool, true, ◌==◌, if◌then◌else◌, List, Option, Some, None, bit_and, bit_or, bit_xor, slice_index, slice_set}
+use Rattle.std.specs.Prelude.{ℕ, ◌-◌, ◌%◌, ◌^◌, Bool, true, List, [], ◌∷◌, Option, Some, None, slice_index, slice_set, ⊤}
 use Rattle.rp_base.specs.declared.Request.{Request}
 use Rattle.rp_base.specs.declared.map.Block.{Block}
 use Rattle.rp_base.specs.declared.map.Block.TheVariants as block
 use Rattle.rp_base.specs.Access.{replicated}
 use Rattle.rp_base.specs.Alias.{aliased}
+use Rattle.rp_base.specs.Rows.{Row, read_only, read_write, word_at, effect_at, IsListed}
 use Rattle.rp_base.specs.Word.{has_bit}
 use Rattle.rp_base.specs.ResetBits.{DMA, PIO0, PIO1}
 use Rattle.bus_fabric.specs.Words as busctrl
@@ -17,16 +18,9 @@ use Rattle.outer_lane.specs.declared.world.SeenOutputs.{SeenOutputs}
 use Rattle.outer_lane.specs.Setting.{Setting}
 use Rattle.outer_lane.specs.State.{outer_reset}
 use Rattle.outer_lane.specs.Words.{outer_word, outer_accessed}
-use Rattle.rp_machine.specs.Offsets.{RESET, WDSEL, RESET_DONE}
 use Rattle.rp_machine.specs.State.{State}
 
--- ---- RESETS: RESET has a bit for each of 25 blocks, WDSEL is kept, and RESET_DONE is the complement of RESET
-
-abbrev pub resets_word : List ℕ → ℕ → Option ℕ
-resets_word resets offset =
-    if offset == RESET then Some (slice_index resets 0) else
-    if offset == WDSEL then Some (slice_index resets 1) else
-    if offset == RESET_DONE then Some (2 ^ 25 - 1 - slice_index resets 0) else None
+-- ---- RESETS
 
 -- a block whose bit is set gets its reset state, and is held in it until the bit is clear
 unfoldable pub with_reset : ℕ → State → State
@@ -38,21 +32,19 @@ with_reset w s = record s {
   resets = slice_set s.resets 0 w;
 }
 
-abbrev pub resets_written : ℕ → ℕ → State → State
-resets_written offset w s =
-    if offset == RESET then with_reset (w % 2 ^ 25) s else
-    if offset == WDSEL then record s { resets = slice_set s.resets 1 w } else s
-
--- a read does nothing
-abbrev pub resets_accessed : ℕ → Option ℕ → State → State
-resets_accessed offset None s = s
-resets_accessed offset (Some w) s = resets_written offset w s
+-- RESET has a bit for each of 25 blocks, WDSEL is kept, and RESET_DONE is the complement of RESET
+abbrev pub resets_rows : List (Row ⊤ State)
+resets_rows =
+    read_write 0x0 "RESET" (λ s. slice_index s.resets 0) (λ w. with_reset (w % 2 ^ 25))
+    ∷ read_write 0x4 "WDSEL" (λ s. slice_index s.resets 1) (λ w s. record s { resets = slice_set s.resets 1 w })
+    ∷ read_only 0x8 "RESET_DONE" (λ s. 2 ^ 25 - 1 - slice_index s.resets 0)
+    ∷ []
 
 -- ---- all blocks
 
 -- what a word reads as at the start of a cycle, in which the peripherals have seen this; None where the block has no such word
 unfoldable pub block_word : Setting → SeenOutputs → Block → ℕ → State → Option ℕ
-block_word w seen block.Resets offset s = resets_word s.resets offset
+block_word w seen block.Resets offset s = word_at resets_rows tt offset s
 block_word w seen block.Busctrl offset s = busctrl.word_of s.fabric offset
 block_word w seen block.Dma offset s = dma.word_of s.dma offset
 block_word w seen block.Pio0 offset s = pio.word_of s.pio0 offset
@@ -68,12 +60,17 @@ block_allows _ offset write = true
 
 -- what a read, or a write of this word, does
 unfoldable pub block_accessed : Block → ℕ → Option ℕ → State → State
-block_accessed block.Resets offset write s = resets_accessed offset write s
+block_accessed block.Resets offset write s = effect_at resets_rows offset write s
 block_accessed block.Busctrl offset write s = record s { fabric = busctrl.effect_of offset write s.fabric }
 block_accessed block.Dma offset write s = record s { dma = dma.effect_of offset write s.dma }
 block_accessed block.Pio0 offset write s = record s { pio0 = pio.effect_of offset write s.pio0 }
 block_accessed block.Pio1 offset write s = record s { pio1 = pio.effect_of offset write s.pio1 }
 block_accessed other offset write s = record s { outer = outer_accessed other offset write s.outer }
+
+-- each register of RESETS and of BUSCTRL is what stands at its offset, and nothing stands at any other
+pub record EachRegisterIsAtItsOffset : Type 0 where
+  pub resets : IsListed resets_rows
+  pub busctrl : IsListed busctrl.busctrl_rows
 
 -- ---- aliases: a write through one changes the word as it is at the start of the cycle
 

@@ -10,7 +10,7 @@ use lane_look::Device;
 use outer_lane::World;
 use pio_asm::Program;
 use pio_block::PioBlock;
-use pio_block::registers::{INSTR_MEM0, SM_BYTES, SM_EXECCTRL, SM_PINCTRL, SM0_CLKDIV};
+use pio_block::registers::{INSTR_MEM0, SM_BYTES, SM0_EXECCTRL, SM0_PINCTRL};
 use pio_words::SideConfig;
 use std::alloc::{AllocError, Global};
 use uf2_image::Image;
@@ -37,7 +37,7 @@ fn load_words(pio: &mut PioBlock, offset: u8, words: &[u16])
     let mut at = offset;
     for word in words {
         let _ = pio.effect(
-            INSTR_MEM0 + 4 * u16::from(at),
+            INSTR_MEM0 + u16::from(at) * 4,
             Some(u32::from(relocated(offset, *word))),
         );
         at += 1;
@@ -70,12 +70,12 @@ fn load_block(pio: &mut PioBlock, load: &PioLoad)
     requires { IsLoad load.now }
     ensures { pio.new ≡ block_loaded load.now pio.old }
 {
-    let registers = SM0_CLKDIV + SM_BYTES * u16::from(load.machine);
+    let machine = u16::from(load.machine) * SM_BYTES;
     let execctrl = execctrl_of(load.offset, &load.program);
     let pinctrl = pinctrl_of(&load.program.side);
     load_words(pio, load.offset, load.program.words.as_slice());
-    let _ = pio.effect(registers + SM_EXECCTRL, Some(execctrl));
-    let _ = pio.effect(registers + SM_PINCTRL, Some(pinctrl));
+    let _ = pio.effect(SM0_EXECCTRL + machine, Some(execctrl));
+    let _ = pio.effect(SM0_PINCTRL + machine, Some(pinctrl));
     pio.set_counter(load.machine, load.offset);
 }
 

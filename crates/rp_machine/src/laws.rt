@@ -5,6 +5,7 @@ ghost use Rattle.rp_machine.specs.BusRest.{CyclesAtRestChangeTheLanesAlone};
 ghost use Rattle.rp_machine.specs.Alone.{OneCoreGoesAlone};
 ghost use Rattle.rp_machine.specs.Inward.{Core0GoesOnAlone};
 ghost use Rattle.rp_machine.specs.LineLaws.{EachLineHasItsNumber, OneCoreGetsALock};
+ghost use Rattle.rp_machine.specs.Registers.{EachRegisterIsAtItsOffset};
 
 /// A run of some cycles and then of others is one of all of them: it ends in the same state and has the same events.
 pub fn runs_follow_each_other()
@@ -58,4 +59,9 @@ pub fn one_core_gets_a_lock()
 /// beside the others.
 pub fn core0_goes_on_alone()
     ensures { Core0GoesOnAlone }
+{}
+
+/// At the offset of each register of RESETS and of BUSCTRL stands that register, and nothing at any other.
+pub fn each_register_is_at_its_offset()
+    ensures { EachRegisterIsAtItsOffset }
 {}

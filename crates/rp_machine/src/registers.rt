@@ -52,11 +52,12 @@ fn access<B: Registers<()>>(block: &mut B, offset: u16, write: Option<u32>)
 impl Machine {
     ghost use Rattle.std.specs.Prelude.{◌≡◌, Some, ◌<◌, ◌^◌};
     ghost use Rattle.outer_lane.specs.Setting.{setting};
-    ghost use Rattle.rp_machine.specs.Registers.{resets_word, resets_written, resets_accessed, with_reset, block_word, block_allows, block_accessed};
+    ghost use Rattle.rp_machine.specs.Registers.{resets_rows, with_reset, block_word, block_allows, block_accessed};
+    ghost use Rattle.rp_base.specs.Rows.{word_at, effect_at};
 
     /// RESET, WDSEL or RESET_DONE.
     fn resets_word(&self, offset: u16) -> Option<u32>
-        ensures { result ≡ resets_word self.now.resets offset }
+        ensures { result ≡ word_at resets_rows tt offset self.now }
     {
         match offset {
             RESET => Some(self.resets[0]),
@@ -116,7 +117,7 @@ impl Machine {
 
     /// Writes RESET or WDSEL.
     fn write_resets(&mut self, offset: u16, word: u32)
-        ensures { self.new ≡ resets_written offset word self.old }
+        ensures { self.new ≡ effect_at resets_rows offset (Some word) self.old }
     {
         match offset {
             RESET => self.set_reset(word & ALL_BLOCKS),
@@ -127,7 +128,7 @@ impl Machine {
 
     /// Does what a read, or a plain write of this word, does to RESETS.
     fn access_resets(&mut self, offset: u16, write: Option<u32>)
-        ensures { self.new ≡ resets_accessed offset write self.old }
+        ensures { self.new ≡ effect_at resets_rows offset write self.old }
     {
         if let Some(word) = write {
             self.write_resets(offset, word);

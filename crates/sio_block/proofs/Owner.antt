@@ -8,16 +8,17 @@ use Rattle.std.proofs.lemmas.Bool.Decides.{nat_tests}
 use Rattle.rp_base.specs.Word.{has_bit}
 use Rattle.sio_block.specs.declared.locks.Locks.{Locks}
 use Rattle.rp_base.specs.Word.{minus}
-use Rattle.sio_block.specs.Locks.{is_lock, is_free, lock_number, lock_word, lock_read, lock_written}
+use Rattle.sio_block.specs.Locks.{is_free, lock_word, lock_read, lock_written}
+use Rattle.rp_base.specs.Rows.{Each, is_at, number_at}
 use Rattle.sio_block.specs.State.{SioState}
 use Rattle.sio_block.specs.Words.{word_of}
 use Rattle.sio_block.specs.Changes.{finds, effect_where}
 use Rattle.sio_block.specs.Laws.{lock_offset, does_by, both_read, ALockHasOneOwner}
 
-number_of_offset : (n : ℕ) → lock_number (lock_offset n) ≡ n
+number_of_offset : (n : ℕ) → number_at (Each 0x100 32 4) (lock_offset n) ≡ n
 number_of_offset n = omega arith
 
-offset_is_lock : (n : ℕ) → n < 32 → is_lock (lock_offset n) ≡ true
+offset_is_lock : (n : ℕ) → n < 32 → is_at (Each 0x100 32 4) (lock_offset n) ≡ true
 offset_is_lock n h = grind (arith, nat_tests, common_steps)
 
 -- a lock's word, read and written
@@ -30,7 +31,7 @@ finds-lock core n s h = grind (arith, nat_tests, common_steps)
 read-lock : (found : Bool) (core n : ℕ) (s : SioState) → n < 32 → (effect_where found core (lock_offset n) None s).locks ≡ lock_read found (lock_offset n) s.locks
 read-lock found core n s h = grind (arith, nat_tests, common_steps)
 
-write-lock : (found : Bool) (core n w : ℕ) (s : SioState) → n < 32 → (effect_where found core (lock_offset n) (Some w) s).locks ≡ lock_written (lock_offset n) s.locks
+write-lock : (found : Bool) (core n w : ℕ) (s : SioState) → n < 32 → (effect_where found core (lock_offset n) (Some w) s).locks ≡ lock_written (lock_offset n) w s.locks
 write-lock found core n w s h = grind (arith, nat_tests, common_steps)
 
 word-number : (n : ℕ) (l : Locks) → n < 32 → lock_word (lock_offset n) l ≡ Some (if has_bit l.taken n then 0 else 2 ^ n)
@@ -42,8 +43,8 @@ free-number n l h free = rw (offset_is_lock n h, number_of_offset n, free) refl
 read-number : (n : ℕ) (l : Locks) → n < 32 → lock_read true (lock_offset n) l ≡ record l { taken = bit_or l.taken (2 ^ n) }
 read-number n l h = rw (offset_is_lock n h, number_of_offset n) refl
 
-write-number : (n : ℕ) (l : Locks) → n < 32 → lock_written (lock_offset n) l ≡ record l { taken = minus l.taken (2 ^ n) }
-write-number n l h = rw (offset_is_lock n h, number_of_offset n) refl
+write-number : (n w : ℕ) (l : Locks) → n < 32 → lock_written (lock_offset n) w l ≡ record l { taken = minus l.taken (2 ^ n) }
+write-number n w l h = rw (offset_is_lock n h, number_of_offset n) refl
 
 -- a bit that is set, and one that is cleared
 set_bit : (x n : ℕ) → has_bit (bit_or x (2 ^ n)) n ≡ true
@@ -82,7 +83,7 @@ a_lock_has_one_owner = λ s n inputs first second w h free. record {
   freed =
       let held = both_read n first second s in
       word-lock second n inputs (does_by held first (lock_offset n) (Some w) held) h
-      ∙ ap (lock_word (lock_offset n)) (write-lock (finds first (lock_offset n) (Some w) held) first n w held h ∙ write-number n held.locks h)
+      ∙ ap (lock_word (lock_offset n)) (write-lock (finds first (lock_offset n) (Some w) held) first n w held h ∙ write-number n w held.locks h)
       ∙ word-number n (record held.locks { taken = minus held.locks.taken (2 ^ n) }) h
       ∙ ap (λ (b : Bool). Some (if b then 0 else 2 ^ n)) (clear_bit held.locks.taken n h);
 }

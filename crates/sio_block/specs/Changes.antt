@@ -32,7 +32,7 @@ sides_written found core offset w s =
 abbrev pub after_write : Bool → ℕ → ℕ → ℕ → SioState → SioState
 after_write found core offset w s =
     if nat_lt offset FIFO_ST then record s { pins = pins_written offset w s.pins } else
-    if nat_lt offset SPINLOCK0 then sides_written found core offset w s else record s { locks = lock_written offset s.locks }
+    if nat_lt offset SPINLOCK0 then sides_written found core offset w s else record s { locks = lock_written offset w s.locks }
 
 -- what a read or a write of a core does that found this
 abbrev pub effect_where : Bool → ℕ → ℕ → Option ℕ → SioState → SioState

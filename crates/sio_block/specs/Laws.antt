@@ -8,19 +8,22 @@ use Rattle.sio_block.specs.declared.Launch.{Launch}
 use Rattle.sio_block.specs.declared.divider.Divider.{Divider}
 use Rattle.sio_block.specs.Divider.{number_of, quotient_of, remainder_of, csr_of, divider_rows, divider_written, divider_ended}
 use Rattle.sio_block.specs.Launcher.{answer_to, taken_after, launch_after}
+use Rattle.sio_block.specs.Locks.{lock_rows}
 use Rattle.sio_block.specs.Pins.{pin_rows}
 use Rattle.sio_block.specs.Side.{mailbox_rows}
 use Rattle.sio_block.specs.State.{SioState}
-use Rattle.sio_block.specs.Words.{word_of}
+use Rattle.sio_block.specs.Words.{core_rows, word_of}
 use Rattle.sio_block.specs.Changes.{finds, effect_where}
 
 -- ---- registers
 
--- the registers of the pins, the mailboxes and the dividers are each what stands at its offset
+-- the registers of a core, the pins, the mailboxes, the dividers and the spinlocks are each what stands at its offset
 pub record AreListed : Type 0 where
+  pub cores : (core : ℕ) → IsListed (core_rows core)
   pub pins : IsListed pin_rows
   pub mailboxes : (found : Bool) → IsListed (mailbox_rows found)
   pub dividers : IsListed divider_rows
+  pub locks : (found : Bool) → IsListed (lock_rows found)
 
 abbrev pub EachRegisterIsAtItsOffset : Type 0
 EachRegisterIsAtItsOffset = AreListed

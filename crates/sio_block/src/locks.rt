@@ -1,7 +1,8 @@
 //! The spinlocks.
 
 ghost use Rattle.std.specs.Prelude.{◌≡◌, ◌<◌, true};
-ghost use Rattle.sio_block.specs.Locks.{is_lock, is_free, lock_number, lock_word, lock_read, lock_written};
+ghost use Rattle.rp_base.specs.Rows.{Each, is_at, number_at};
+ghost use Rattle.sio_block.specs.Locks.{is_free, lock_word, lock_read, lock_written};
 
 use crate::registers::{SPINLOCK0, SPINLOCK31};
 
@@ -45,8 +46,8 @@ impl Locks {
     }
 
     /// A write frees a lock.
-    pub(crate) fn write(&mut self, offset: u16)
-        ensures { self.new ≡ lock_written offset self.old }
+    pub(crate) fn write(&mut self, offset: u16, word: u32)
+        ensures { self.new ≡ lock_written offset word self.old }
     {
         if is_lock(offset) {
             self.taken &= !(1 << lock_number(offset));
@@ -56,15 +57,15 @@ impl Locks {
 
 /// The offset of a lock.
 fn is_lock(offset: u16) -> bool
-    ensures { result ≡ is_lock offset }
+    ensures { result ≡ is_at (Each 0x100 32 4) offset }
 {
     SPINLOCK0 <= offset && offset <= SPINLOCK31 && offset % 4 == 0
 }
 
 /// The number of the lock at an offset.
 fn lock_number(offset: u16) -> u16
-    requires { is_lock offset ≡ true }
-    ensures value { result ≡ lock_number offset }
+    requires { is_at (Each 0x100 32 4) offset ≡ true }
+    ensures value { result ≡ number_at (Each 0x100 32 4) offset }
     ensures range { result < 32 }
 {
     (offset - SPINLOCK0) / 4

@@ -87,7 +87,7 @@ impl Sio {
         if offset < FIFO_ST {
             self.pins.write(offset, word);
         } else if offset >= SPINLOCK0 {
-            self.locks.write(offset);
+            self.locks.write(offset, word);
         } else if core == 0 {
             self.core0
                 .write(found, offset, word, &mut self.core1.mailbox);

@@ -1,5 +1,5 @@
 -- The levels that a cycle marks are those of the pads after it: what is done in the cycle leaves them.
-use Rattle.std.proofs.Common.{◌≡◌, ◌+◌, ◌-◌, ◌==◌, ◌/◌, ◌%◌, ◌^◌, ℕ, Bool, true, false, nat_lt, if◌then◌else◌, List, [], ◌∷◌, Option, Some, None, refl, ◌∙◌, rules}
+use Rattle.std.proofs.Common.{◌≡◌, ◌+◌, ◌-◌, ◌%◌, ◌^◌, ℕ, Bool, true, false, nat_lt, if◌then◌else◌, List, [], ◌∷◌, Option, Some, None, refl, ◌∙◌, rules}
 use Rattle.rp_base.specs.declared.Master.{Master}
 use Rattle.rp_base.specs.declared.Master.TheVariants as master
 use Rattle.rp_base.specs.declared.map.Block.{Block}
@@ -21,9 +21,8 @@ use Rattle.sio_block.specs.State.{SioState}
 use Rattle.sio_block.specs.Launcher.{offers_of, launch_of, after_turn}
 use Rattle.rp_machine.specs.declared.deed.Deed.{Deed}
 use Rattle.rp_machine.specs.declared.deed.Deed.TheVariants as deed
-use Rattle.rp_machine.specs.Offsets.{RESET, WDSEL}
 use Rattle.rp_machine.specs.State.{State}
-use Rattle.rp_machine.specs.Registers.{with_reset, resets_written, block_accessed}
+use Rattle.rp_machine.specs.Registers.{with_reset, resets_rows, block_accessed}
 use Rattle.rp_machine.specs.Cycle.{begun, wanted, granted, with_sio, found_by, sio_accessed, after_deed, started_by, after_launcher, after_master, after_masters, ended, deeds, after_deeds, with_turns, stepped, next_by, next, mark}
 
 -- the levels now
@@ -91,17 +90,12 @@ device_same w address write o =
 
 -- ---- what is done in a cycle
 
-resets_same : (offset w : ℕ) (s : State) → levels (resets_written offset w s) ≡ levels s
-unfolding with_reset
-resets_same offset w s =
-    either levels (offset == RESET) _ _ s (reset_same (w % 2 ^ 25) s.outer) (either levels (offset == WDSEL) _ _ s refl refl)
-
 block_same : (b : Block) (offset : ℕ) (write : Option ℕ) (s : State) → levels (block_accessed b offset write s) ≡ levels s
-unfolding block_accessed
-block_same block.Resets offset None s = refl
-block_same block.Resets offset (Some w) s = resets_same offset w s
-block_same block.Busctrl offset None s = refl
-block_same block.Busctrl offset (Some w) s = refl
+unfolding block_accessed with_reset
+block_same block.Resets offset write s =
+    keeps (λ (t : State). levels t ≡ levels s) resets_rows offset write s refl
+    (λ n. (refl, λ w. reset_same (w % 2 ^ 25) s.outer), (λ n. (refl, λ w. refl), (λ n. (refl, λ w. refl), tt)))
+block_same block.Busctrl offset write s = refl
 block_same block.Dma offset write s = refl
 block_same block.Pio0 offset write s = refl
 block_same block.Pio1 offset write s = refl
