@@ -51,6 +51,7 @@ impl<A: Device, B: Device> Device for Pair<A, B> {
         }
     }
 
+    #[inline(always)]
     fn step(&self, state: &mut [u32], cycle: u64, pads: u32) -> Wires {
         let (front, back) = state.split_at_mut(self.first.words());
         let first = self.first.step(front, cycle, pads);
