@@ -361,13 +361,22 @@ impl Source for Dripping<'_> {
     }
 }
 
+/// What a call gave, how often it took, and how often a take failed.
+#[derive(Drop)]
+struct Dripped {
+    status: u8,
+    text: Vec<u8>,
+    takes: usize,
+    faults: u64,
+}
+
 /// What a call gives where its input comes by single bytes, and one take fails.
 fn dripped<R: Threads + Wait + Sync>(
     rt: &R,
     alloc: Global,
     case: &Case,
     failing: usize,
-) -> Result<(u8, Vec<u8>), AllocError> {
+) -> Result<Dripped, AllocError> {
     let words = words_of(alloc, case, &[])?;
     let mut files = shelf_of(alloc, case, &[])?;
     let mut input = Dripping {
@@ -380,7 +389,12 @@ fn dripped<R: Threads + Wait + Sync>(
     let status = call_pico(
         rt, alloc, &words, &mut files, &mut input, &mut out, &OpenGate,
     )?;
-    Ok((status, out.bytes))
+    Ok(Dripped {
+        status,
+        text: out.bytes,
+        takes: input.takes,
+        faults: input.faults,
+    })
 }
 
 /// A session of a few lines, in which each line has a reply of one line.
@@ -391,7 +405,7 @@ const SHORT: Case = Case {
     ..THREE
 };
 
-/// Whether the lines before a failing take are answered, and then the session ends.
+/// Whether the lines before a failing take are answered, and then the session ends: the take is not tried again.
 fn breaks_at<R: Threads + Wait + Sync>(
     rt: &R,
     alloc: Global,
@@ -401,17 +415,19 @@ fn breaks_at<R: Threads + Wait + Sync>(
     let lines = before.iter().filter(|byte| **byte == b'\n').count();
     let mut wanted = Vec::from_slice(alloc, first_lines(SHORT.text, lines))?;
     wanted.extend_from_slice(b"error source\n")?;
-    let (status, text) = dripped(rt, alloc, &SHORT, take)?;
-    Ok(status == 8 && text.as_slice() == wanted.as_slice())
+    let given = dripped(rt, alloc, &SHORT, take)?;
+    let once = given.takes == take.saturating_add(1) && given.faults == 1;
+    Ok(given.status == 8 && given.text.as_slice() == wanted.as_slice() && once)
 }
 
 #[test]
 fn an_input_comes_byte_by_byte(rt: HostRuntime) -> Result<(), Fail> {
     let alloc = rt.alloc();
     for case in [SHORT, STORES_ONCE] {
-        let (status, text) = dripped(&rt, alloc, &case, usize::MAX)?;
+        let given = dripped(&rt, alloc, &case, usize::MAX)?;
         let wanted = in_full(alloc, case.text)?;
-        assert!(rt; status == 0 && text.as_slice() == wanted.as_slice());
+        assert!(rt; given.status == 0 && given.text.as_slice() == wanted.as_slice());
+        assert_eq!(rt; given.faults, 0);
     }
     for take in 0..=SHORT.input.len() {
         assert!(rt; breaks_at(&rt, alloc, take)?, "take {take}");

@@ -48,7 +48,7 @@ told_status : (status before now limit : ℕ) (last : List ℕ → Bool) (held b
 told_status status before now limit last held bytes rest Closed is taken le may h rose =
     let closed : closes last (take limit held) ≡ true = ap (λ x. closes last (take limit x)) is ∙ ap (closes last) (first_bytes limit bytes rest le) ∙ closes_more last bytes (take (limit - length bytes) rest) may in
     subst (λ n. IsStatus status n) (sym (open_status limit last held closed)) h
-told_status status before now limit last held bytes rest Ended is taken le may h rose = elim taken.borne [
+told_status status before now limit last held bytes rest Ended is taken le may h rose = elim taken.borne.1 [
   | inl seven ↦ inr (inl seven)
   | inr none ↦
       let long : length held ≡ length bytes = ap length (is ∙ ap (λ x. bytes ++ x) none ∙ append-nil bytes) in

@@ -21,10 +21,10 @@ use Rattle.pico_top.specs.Opening.{Concludes}
 -- ---- what is told
 
 bears : (left : Option (List ℕ)) (before now status : ℕ) (way : Way) → BearsOut left before now 0 way → BearsOut left before now status way
-bears left before now status Closed h = tt
-bears left before now status Ended h = elim h [ inl bad ↦ absurd (omega (arith, bad)) | inr end ↦ inr end ]
+bears left before now status Closed h = h
+bears left before now status Ended h = (h.0, elim h.1 [ inl bad ↦ absurd (omega (arith, bad)) | inr end ↦ inr end ])
 bears left before now status Broken h = h
-bears left before now status Full h = tt
+bears left before now status Full h = h
 
 taken_so : (left left' : Option (List ℕ)) (lost lost' status : ℕ) (bytes : List ℕ) (way : Way) → IsTaken left left' lost lost' 0 bytes way → IsTaken left left' lost lost' status bytes way
 taken_so left left' lost lost' status bytes way h = record { taken = h.taken; forward = h.forward; borne = bears left' lost lost' status way h.borne }

@@ -45,8 +45,8 @@ one_line [] some = absurd (some refl)
 one_line (b ∷ bs) some = refl
 
 -- it was answered
-pub end_said : (t : Talk) (cycle : ℕ) (seen : List ℕ) (old new later : Option (List ℕ)) (before now last steps steps' more at : ℕ) (kept : List ℕ) (b : Bool) (done : Unit {0}) → (kept ≡ [] → ⊥) → Along t cycle seen old new before now steps steps' at kept → b ≡ not (t.last kept) → Sends {E = SinkFault} new later now last (said_to t at kept) (Ok b) → steps' ≤ more → more ≤ steps' + spent_on t at kept → Finishes t cycle (all_lines seen) old later before last steps more (Ok done)
-end_said t cycle seen old new later before now last steps steps' more at kept true done some a goes sends forward most =
+pub end_said : (t : Talk) (cycle : ℕ) (seen : List ℕ) (old new later : Option (List ℕ)) (before now last steps steps' more at : ℕ) (kept : List ℕ) (b : Bool) (done : Unit {0}) → (kept ≡ [] → ⊥) → Along t cycle seen old new before now steps steps' at kept → b ≡ not (t.last kept) → Sends {E = SinkFault} new later now last (said_to t at kept) (Ok b) → last ≡ now → steps' ≤ more → more ≤ steps' + spent_on t at kept → Finishes t cycle (all_lines seen) old later before last steps more (Ok done)
+end_said t cycle seen old new later before now last steps steps' more at kept true done some a goes sends steady forward most =
     let differs : t.last kept ≡ false = not_true (t.last kept) goes in
     let lines : all_lines seen ≡ complete_lines seen ++ kept ∷ [] = end_lines t seen kept a.keeps ∙ ap (λ l. complete_lines seen ++ l) (one_line kept some) in
     let whole : until t.last (all_lines seen) ≡ complete_lines seen ++ kept ∷ [] = ap (until t.last) lines ∙ until_other t.last (complete_lines seen) [] kept a.none differs in
@@ -55,18 +55,18 @@ end_said t cycle seen old new later before now last steps steps' more at kept tr
     let cost : more ≤ steps' + t.cost (cycle_after t cycle (complete_lines seen)) kept = subst (λ p. more ≤ steps' + t.cost p kept) (sym here) (subst (λ n. more ≤ steps' + n) (other_cost t at kept differs) most) in
     answered_same t cycle _ _ old later before last steps more (sym whole) (record {
       sent = subst (λ x. Appends old later x) (sym (text_snoc t cycle (complete_lines seen) kept)) (appends_both old new later _ _ a.answered.sent sent);
-      count = omega (arith, a.answered.count, sends.count);
+      steady = steady ∙ a.answered.steady;
       forward = omega (arith, a.answered.forward, forward);
       most = omega (arith, a.answered.most, cost, cost_snoc t cycle (complete_lines seen) kept);
     })
-end_said t cycle seen old new later before now last steps steps' more at kept false done some a goes sends forward most =
+end_said t cycle seen old new later before now last steps steps' more at kept false done some a goes sends steady forward most =
     let ends : t.last kept ≡ true = not_false (t.last kept) goes in
     let lines : all_lines seen ≡ complete_lines seen ++ kept ∷ [] = end_lines t seen kept a.keeps ∙ ap (λ l. complete_lines seen ++ l) (one_line kept some) in
     let cut : until t.last (all_lines seen) ≡ complete_lines seen = ap (until t.last) lines ∙ until_last t.last (complete_lines seen) [] kept a.none ends in
     let sent : Appends new later [] = subst (λ x. Appends new later x) (last_text t at kept ends) sends.ok in
     answered_same t cycle _ _ old later before last steps more (sym cut) (record {
       sent = subst (λ x. Appends old later x) (append-nil (text_from t cycle (complete_lines seen))) (appends_both old new later _ [] a.answered.sent sent);
-      count = omega (arith, a.answered.count, sends.count);
+      steady = steady ∙ a.answered.steady;
       forward = omega (arith, a.answered.forward, forward);
       most = omega (arith, a.answered.most, most, last_cost t at kept ends);
     })
@@ -85,8 +85,8 @@ end_cut t cycle seen old new later before now last steps steps' more at kept fau
       none = a.none;
       other = other;
       sent = part_behind old new later _ _ a.answered.sent part;
-      cause = rose_later before now last a.answered.count sends.cause;
-      count = omega (arith, a.answered.count, sends.count);
+      cause = rose_later before now last (omega (arith, a.answered.steady)) sends.cause;
+      count = omega (arith, a.answered.steady, sends.count);
       forward = omega (arith, a.answered.forward, forward);
       most = omega (arith, a.answered.most, cost);
     }
@@ -112,29 +112,31 @@ cut_sends t cycle lines old new before now steps steps' fault c =
     )
 
 -- the hearing ends at a last line
-pub hears_closed : (t : Talk) (cycle limit : ℕ) (bytes : List ℕ) (left left' : Option (List ℕ)) (lost lost' : ℕ) (old new : Option (List ℕ)) (before now steps steps' : ℕ) → length bytes ≤ limit → Consumes left left' bytes → lost ≤ lost' → IsClosed t cycle bytes old new before now steps steps' → Hears t cycle limit left left' lost lost' old new before now steps steps' (Ok Closed)
-hears_closed t cycle limit bytes left left' lost lost' old new before now steps steps' le consumed later c = record {
+pub hears_closed : (t : Talk) (cycle limit : ℕ) (bytes : List ℕ) (left left' : Option (List ℕ)) (lost lost' : ℕ) (old new : Option (List ℕ)) (before now steps steps' : ℕ) → length bytes ≤ limit → Consumes left left' bytes → lost' ≡ lost → IsClosed t cycle bytes old new before now steps steps' → Hears t cycle limit left left' lost lost' old new before now steps steps' (Ok Closed)
+hears_closed t cycle limit bytes left left' lost lost' old new before now steps steps' le consumed same c = record {
   bytes = bytes;
   way = Closed;
   within = le;
   may = c.closed;
-  taken = record { taken = consumed; forward = later; borne = tt };
+  taken = record { taken = consumed; forward = omega (arith, same); borne = same };
   is = refl;
-  sends = record { ok = c.answered.sent; err = tt; cause = tt; count = c.answered.count };
+  sends = record { ok = c.answered.sent; err = tt; cause = tt; count = omega (arith, c.answered.steady) };
+  steady = c.answered.steady;
   forward = c.answered.forward;
   most = c.answered.most;
 }
 
 -- at the end of the input
-pub hears_ended : (t : Talk) (cycle limit : ℕ) (bytes : List ℕ) (left left' : Option (List ℕ)) (lost lost' : ℕ) (old new : Option (List ℕ)) (before now steps steps' : ℕ) → length bytes < limit → closes t.last bytes ≡ false → Consumes left left' bytes → IsAtEnd left' → lost ≤ lost' → Answered t cycle (until t.last (all_lines bytes)) old new before now steps steps' → Hears t cycle limit left left' lost lost' old new before now steps steps' (Ok Ended)
-hears_ended t cycle limit bytes left left' lost lost' old new before now steps steps' lt none consumed end later a = record {
+pub hears_ended : (t : Talk) (cycle limit : ℕ) (bytes : List ℕ) (left left' : Option (List ℕ)) (lost lost' : ℕ) (old new : Option (List ℕ)) (before now steps steps' : ℕ) → length bytes < limit → closes t.last bytes ≡ false → Consumes left left' bytes → IsAtEnd left' → lost' ≡ lost → Answered t cycle (until t.last (all_lines bytes)) old new before now steps steps' → Hears t cycle limit left left' lost lost' old new before now steps steps' (Ok Ended)
+hears_ended t cycle limit bytes left left' lost lost' old new before now steps steps' lt none consumed end same a = record {
   bytes = bytes;
   way = Ended;
   within = omega (arith, lt);
   may = (none, lt);
-  taken = record { taken = consumed; forward = later; borne = inr end };
+  taken = record { taken = consumed; forward = omega (arith, same); borne = (same, inr end) };
   is = refl;
-  sends = record { ok = a.sent; err = tt; cause = tt; count = a.count };
+  sends = record { ok = a.sent; err = tt; cause = tt; count = omega (arith, a.steady) };
+  steady = a.steady;
   forward = a.forward;
   most = a.most;
 }
@@ -154,7 +156,8 @@ hears_broken t cycle limit bytes left left' lost lost' old new before now steps 
       may = (along.none, lt);
       taken = record { taken = consumed; forward = later; borne = rose };
       is = refl;
-      sends = record { ok = a.sent; err = tt; cause = tt; count = a.count };
+      sends = record { ok = a.sent; err = tt; cause = tt; count = omega (arith, a.steady) };
+      steady = a.steady;
       forward = a.forward;
       most = a.most;
     }
@@ -168,46 +171,48 @@ hears_full t cycle limit count left left' lost lost' old new before now steps st
       way = Full;
       within = omega (arith, k.long, k.within);
       may = (k.along.none, omega (arith, k.long, k.within, le));
-      taken = record { taken = k.consumed; forward = k.later; borne = tt };
+      taken = record { taken = k.consumed; forward = omega (arith, k.steady); borne = k.steady };
       is = refl;
-      sends = record { ok = a.sent; err = tt; cause = tt; count = a.count };
+      sends = record { ok = a.sent; err = tt; cause = tt; count = omega (arith, a.steady) };
+      steady = a.steady;
       forward = a.forward;
       most = a.most;
     }
 
 -- the sink failed at a reply to one of the lines that count in this way
-cut_by : (t : Talk) (cycle limit : ℕ) (bytes : List ℕ) (way : Way) (left left' : Option (List ℕ)) (lost lost' : ℕ) (old new : Option (List ℕ)) (before now steps steps' : ℕ) (lines : List (List ℕ)) (fault : SinkFault) → length bytes ≤ limit → MayEnd limit (closes t.last bytes) (length bytes) way → BearsOut left' lost lost' 7 way → lines_heard t.last way bytes ≡ until t.last lines → Consumes left left' bytes → lost ≤ lost' → CutOff t cycle lines old new before now steps steps' → Hears t cycle limit left left' lost lost' old new before now steps steps' (Err fault)
-cut_by t cycle limit bytes way left left' lost lost' old new before now steps steps' lines fault le may borne same consumed later c =
+cut_by : (t : Talk) (cycle limit : ℕ) (bytes : List ℕ) (way : Way) (left left' : Option (List ℕ)) (lost lost' : ℕ) (old new : Option (List ℕ)) (before now steps steps' : ℕ) (lines : List (List ℕ)) (fault : SinkFault) → length bytes ≤ limit → MayEnd limit (closes t.last bytes) (length bytes) way → BearsOut left' lost lost' 7 way → lines_heard t.last way bytes ≡ until t.last lines → Consumes left left' bytes → lost' ≡ lost → CutOff t cycle lines old new before now steps steps' → Hears t cycle limit left left' lost lost' old new before now steps steps' (Err fault)
+cut_by t cycle limit bytes way left left' lost lost' old new before now steps steps' lines fault le may borne same consumed kept c =
     let s = cut_sends {T = Way} t cycle lines old new before now steps steps' fault c in
     record {
       bytes = bytes;
       way = way;
       within = le;
       may = may;
-      taken = record { taken = consumed; forward = later; borne = borne };
+      taken = record { taken = consumed; forward = omega (arith, kept); borne = borne };
       is = tt;
       sends = subst (λ (l : List (List ℕ)). Sends {T = Way} old new before now (text_from t cycle l) (Err fault)) (sym same) s.0;
+      steady = tt;
       forward = c.forward;
       most = subst (λ (l : List (List ℕ)). steps' ≤ steps + cost_from t cycle l) (sym same) s.1;
     }
 
 -- the taking counts as ended after the bytes taken
-cut_way : (t : Talk) (cycle limit : ℕ) (bytes : List ℕ) (left left' : Option (List ℕ)) (lost lost' : ℕ) (old new : Option (List ℕ)) (before now steps steps' : ℕ) (fault : SinkFault) (closed short : Bool) → closes t.last bytes ≡ closed → nat_lt (length bytes) limit ≡ short → length bytes ≤ limit → Consumes left left' bytes → lost ≤ lost' → CutOff t cycle (complete_lines bytes) old new before now steps steps' → Hears t cycle limit left left' lost lost' old new before now steps steps' (Err fault)
-cut_way t cycle limit bytes left left' lost lost' old new before now steps steps' fault true short is lt le consumed later c =
-    cut_by t cycle limit bytes Closed left left' lost lost' old new before now steps steps' (complete_lines bytes) fault le is tt refl consumed later c
-cut_way t cycle limit bytes left left' lost lost' old new before now steps steps' fault false true is lt le consumed later c =
-    cut_by t cycle limit bytes Ended left left' lost lost' old new before now steps steps' (all_lines bytes) fault le (is, grind (arith, lt)) (inl refl) refl consumed later (cut_more t cycle (complete_lines bytes) (unless_empty (take line_limit (open_line bytes))) old new before now steps steps' c)
-cut_way t cycle limit bytes left left' lost lost' old new before now steps steps' fault false false is lt le consumed later c =
-    let same : length bytes ≡ limit = grind (arith, lt, le) in
-    cut_by t cycle limit bytes Full left left' lost lost' old new before now steps steps' (complete_lines bytes) fault le (is, same) tt refl consumed later c
+cut_way : (t : Talk) (cycle limit : ℕ) (bytes : List ℕ) (left left' : Option (List ℕ)) (lost lost' : ℕ) (old new : Option (List ℕ)) (before now steps steps' : ℕ) (fault : SinkFault) (closed short : Bool) → closes t.last bytes ≡ closed → nat_lt (length bytes) limit ≡ short → length bytes ≤ limit → Consumes left left' bytes → lost' ≡ lost → CutOff t cycle (complete_lines bytes) old new before now steps steps' → Hears t cycle limit left left' lost lost' old new before now steps steps' (Err fault)
+cut_way t cycle limit bytes left left' lost lost' old new before now steps steps' fault true short is lt le consumed same c =
+    cut_by t cycle limit bytes Closed left left' lost lost' old new before now steps steps' (complete_lines bytes) fault le is same refl consumed same c
+cut_way t cycle limit bytes left left' lost lost' old new before now steps steps' fault false true is lt le consumed same c =
+    cut_by t cycle limit bytes Ended left left' lost lost' old new before now steps steps' (all_lines bytes) fault le (is, grind (arith, lt)) (same, inl refl) refl consumed same (cut_more t cycle (complete_lines bytes) (unless_empty (take line_limit (open_line bytes))) old new before now steps steps' c)
+cut_way t cycle limit bytes left left' lost lost' old new before now steps steps' fault false false is lt le consumed same c =
+    let full : length bytes ≡ limit = grind (arith, lt, le) in
+    cut_by t cycle limit bytes Full left left' lost lost' old new before now steps steps' (complete_lines bytes) fault le (is, full) same refl consumed same c
 
-pub hears_cut : (t : Talk) (cycle limit : ℕ) (bytes : List ℕ) (left left' : Option (List ℕ)) (lost lost' : ℕ) (old new : Option (List ℕ)) (before now steps steps' : ℕ) (fault : SinkFault) → length bytes ≤ limit → Consumes left left' bytes → lost ≤ lost' → CutOff t cycle (complete_lines bytes) old new before now steps steps' → Hears t cycle limit left left' lost lost' old new before now steps steps' (Err fault)
-hears_cut t cycle limit bytes left left' lost lost' old new before now steps steps' fault le consumed later c =
-    cut_way t cycle limit bytes left left' lost lost' old new before now steps steps' fault (closes t.last bytes) (nat_lt (length bytes) limit) refl refl le consumed later c
+pub hears_cut : (t : Talk) (cycle limit : ℕ) (bytes : List ℕ) (left left' : Option (List ℕ)) (lost lost' : ℕ) (old new : Option (List ℕ)) (before now steps steps' : ℕ) (fault : SinkFault) → length bytes ≤ limit → Consumes left left' bytes → lost' ≡ lost → CutOff t cycle (complete_lines bytes) old new before now steps steps' → Hears t cycle limit left left' lost lost' old new before now steps steps' (Err fault)
+hears_cut t cycle limit bytes left left' lost lost' old new before now steps steps' fault le consumed same c =
+    cut_way t cycle limit bytes left left' lost lost' old new before now steps steps' fault (closes t.last bytes) (nat_lt (length bytes) limit) refl refl le consumed same c
 
-pub hears_end_cut : (t : Talk) (cycle limit : ℕ) (bytes : List ℕ) (left left' : Option (List ℕ)) (lost lost' : ℕ) (old new : Option (List ℕ)) (before now steps steps' : ℕ) (fault : SinkFault) → length bytes < limit → closes t.last bytes ≡ false → Consumes left left' bytes → lost ≤ lost' → CutOff t cycle (all_lines bytes) old new before now steps steps' → Hears t cycle limit left left' lost lost' old new before now steps steps' (Err fault)
-hears_end_cut t cycle limit bytes left left' lost lost' old new before now steps steps' fault lt none consumed later c =
-    cut_by t cycle limit bytes Ended left left' lost lost' old new before now steps steps' (all_lines bytes) fault (omega (arith, lt)) (none, lt) (inl refl) refl consumed later c
+pub hears_end_cut : (t : Talk) (cycle limit : ℕ) (bytes : List ℕ) (left left' : Option (List ℕ)) (lost lost' : ℕ) (old new : Option (List ℕ)) (before now steps steps' : ℕ) (fault : SinkFault) → length bytes < limit → closes t.last bytes ≡ false → Consumes left left' bytes → lost' ≡ lost → CutOff t cycle (all_lines bytes) old new before now steps steps' → Hears t cycle limit left left' lost lost' old new before now steps steps' (Err fault)
+hears_end_cut t cycle limit bytes left left' lost lost' old new before now steps steps' fault lt none consumed same c =
+    cut_by t cycle limit bytes Ended left left' lost lost' old new before now steps steps' (all_lines bytes) fault (omega (arith, lt)) (none, lt) (same, inl refl) refl consumed same c
 
 -- ---- one take after another
 
@@ -225,16 +230,16 @@ taking_first t cycle limit left lost old before steps kept none = record {
   long = refl;
   within = omega arith;
   consumed = consumes_none left;
-  later = omega arith;
+  steady = refl;
   along = subst (λ k. Along t cycle [] old old before before steps steps cycle k) (sym none) (along_first t cycle old before steps);
 }
 
 -- what was taken with one piece more
-more_consumed : (t : Talk) (cycle limit : ℕ) (left left' left'' : Option (List ℕ)) (lost lost' lost'' : ℕ) (old new : Option (List ℕ)) (before now steps steps' at : ℕ) (kept : List ℕ) (count n : ℕ) (buf : List ℕ) (k : Taking t cycle limit left left' lost lost' old new before now steps steps' at kept count) → Takes left' left'' buf (taken.Took n) → Counts lost' lost'' (taken.Took n) → count + length buf ≤ limit → Consumes left left'' (k.bytes ++ take n buf) × (lost ≤ lost'') × (length (k.bytes ++ take n buf) ≡ count + n) × (count + n ≤ limit)
+more_consumed : (t : Talk) (cycle limit : ℕ) (left left' left'' : Option (List ℕ)) (lost lost' lost'' : ℕ) (old new : Option (List ℕ)) (before now steps steps' at : ℕ) (kept : List ℕ) (count n : ℕ) (buf : List ℕ) (k : Taking t cycle limit left left' lost lost' old new before now steps steps' at kept count) → Takes left' left'' buf (taken.Took n) → Counts lost' lost'' (taken.Took n) → count + length buf ≤ limit → Consumes left left'' (k.bytes ++ take n buf) × (lost'' ≡ lost) × (length (k.bytes ++ take n buf) ≡ count + n) × (count + n ≤ limit)
 more_consumed t cycle limit left left' left'' lost lost' lost'' old new before now steps steps' at kept count n buf k takes counts room =
     let long : length (take n buf) ≡ n = length-take-le n buf takes.1 in (
       consumes_both left left' left'' k.bytes (take n buf) k.consumed takes.2,
-      omega (arith, k.later, counts),
+      counts ∙ k.steady,
       omega (arith, length-append k.bytes (take n buf), k.long, long),
       omega (arith, takes.1, room),
     )
@@ -243,7 +248,7 @@ pub took_more : (t : Talk) (cycle limit : ℕ) (left left' left'' : Option (List
 took_more t cycle limit left left' left'' lost lost' lost'' old new later before now last steps steps' more at at' kept kept' count n buf false goes k takes counts room feeds = absurd (cc goes)
 took_more t cycle limit left left' left'' lost lost' lost'' old new later before now last steps steps' more at at' kept kept' count n buf true goes k takes counts room feeds =
     let m = more_consumed t cycle limit left left' left'' lost lost' lost'' old new before now steps steps' at kept count n buf k takes counts room in
-    (takes.0, record { bytes = k.bytes ++ take n buf; long = m.2; within = m.3; consumed = m.0; later = m.1; along = feeds k.bytes k.along })
+    (takes.0, record { bytes = k.bytes ++ take n buf; long = m.2; within = m.3; consumed = m.0; steady = m.1; along = feeds k.bytes k.along })
 
 pub took_last : (t : Talk) (cycle limit : ℕ) (left left' left'' : Option (List ℕ)) (lost lost' lost'' : ℕ) (old new later : Option (List ℕ)) (before now last steps steps' more at at' : ℕ) (kept kept' : List ℕ) (count n : ℕ) (buf : List ℕ) (b : Bool) → b ≡ false → Taking t cycle limit left left' lost lost' old new before now steps steps' at kept count → Takes left' left'' buf (taken.Took n) → Counts lost' lost'' (taken.Took n) → count + length buf ≤ limit → ((seen : List ℕ) → Along t cycle seen old new before now steps steps' at kept → Feeds t cycle (seen ++ take n buf) old later before last steps more at' kept' (Ok b)) → Hears t cycle limit left left'' lost lost'' old later before last steps more (Ok Closed)
 took_last t cycle limit left left' left'' lost lost' lost'' old new later before now last steps steps' more at at' kept kept' count n buf true goes k takes counts room feeds = absurd (cc goes)
@@ -259,16 +264,16 @@ took_cut t cycle limit left left' left'' lost lost' lost'' old new later before 
 -- no byte was left
 pub took_none : (t : Talk) (cycle limit : ℕ) (left left' left'' : Option (List ℕ)) (lost lost' lost'' : ℕ) (old new later : Option (List ℕ)) (before now last steps steps' more at : ℕ) (kept : List ℕ) (count room : ℕ) (buf : List ℕ) (done : Unit {0}) → 0 < room → Taking t cycle limit left left' lost lost' old new before now steps steps' at kept count → Takes left' left'' buf taken.End → Counts lost' lost'' taken.End → count + room ≤ limit → ((seen : List ℕ) → Along t cycle seen old new before now steps steps' at kept → Finishes t cycle (all_lines seen) old later before last steps more (Ok done)) → Hears t cycle limit left left'' lost lost'' old later before last steps more (Ok Ended)
 took_none t cycle limit left left' left'' lost lost' lost'' old new later before now last steps steps' more at kept count room buf done some k takes counts within ends =
-    hears_ended t cycle limit k.bytes left left'' lost lost'' old later before last steps more (omega (arith, k.long, some, within)) k.along.none (subst (λ (x : Option (List ℕ)). Consumes left x k.bytes) (sym takes.0) k.consumed) (subst IsAtEnd (sym takes.0) takes.1) (omega (arith, k.later, counts)) (ends k.bytes k.along)
+    hears_ended t cycle limit k.bytes left left'' lost lost'' old later before last steps more (omega (arith, k.long, some, within)) k.along.none (subst (λ (x : Option (List ℕ)). Consumes left x k.bytes) (sym takes.0) k.consumed) (subst IsAtEnd (sym takes.0) takes.1) (counts ∙ k.steady) (ends k.bytes k.along)
 
 pub took_none_cut : (t : Talk) (cycle limit : ℕ) (left left' left'' : Option (List ℕ)) (lost lost' lost'' : ℕ) (old new later : Option (List ℕ)) (before now last steps steps' more at : ℕ) (kept : List ℕ) (count room : ℕ) (buf : List ℕ) (fault : SinkFault) → 0 < room → Taking t cycle limit left left' lost lost' old new before now steps steps' at kept count → Takes left' left'' buf taken.End → Counts lost' lost'' taken.End → count + room ≤ limit → ((seen : List ℕ) → Along t cycle seen old new before now steps steps' at kept → Finishes t cycle (all_lines seen) old later before last steps more (Err fault)) → Hears t cycle limit left left'' lost lost'' old later before last steps more (Err fault)
 took_none_cut t cycle limit left left' left'' lost lost' lost'' old new later before now last steps steps' more at kept count room buf fault some k takes counts within ends =
-    hears_end_cut t cycle limit k.bytes left left'' lost lost'' old later before last steps more fault (omega (arith, k.long, some, within)) k.along.none (subst (λ (x : Option (List ℕ)). Consumes left x k.bytes) (sym takes.0) k.consumed) (omega (arith, k.later, counts)) (ends k.bytes k.along)
+    hears_end_cut t cycle limit k.bytes left left'' lost lost'' old later before last steps more fault (omega (arith, k.long, some, within)) k.along.none (subst (λ (x : Option (List ℕ)). Consumes left x k.bytes) (sym takes.0) k.consumed) (counts ∙ k.steady) (ends k.bytes k.along)
 
 -- a take failed
 pub took_failed : (t : Talk) (cycle limit : ℕ) (left left' left'' : Option (List ℕ)) (lost lost' lost'' : ℕ) (old new : Option (List ℕ)) (before now steps steps' at : ℕ) (kept : List ℕ) (count room : ℕ) (buf : List ℕ) → 0 < room → Taking t cycle limit left left' lost lost' old new before now steps steps' at kept count → Takes left' left'' buf taken.Failed → Counts lost' lost'' taken.Failed → count + room ≤ limit → Hears t cycle limit left left'' lost lost'' old new before now steps steps' (Ok Broken)
 took_failed t cycle limit left left' left'' lost lost' lost'' old new before now steps steps' at kept count room buf some k takes counts within =
-    hears_broken t cycle limit k.bytes left left'' lost lost'' old new before now steps steps' at kept (omega (arith, k.long, some, within)) (subst (λ (x : Option (List ℕ)). Consumes left x k.bytes) (sym takes) k.consumed) (omega (arith, k.later, counts.0)) (rose_later lost lost' lost'' k.later counts.1) k.along
+    hears_broken t cycle limit k.bytes left left'' lost lost'' old new before now steps steps' at kept (omega (arith, k.long, some, within)) (subst (λ (x : Option (List ℕ)). Consumes left x k.bytes) (sym takes) k.consumed) (omega (arith, k.steady, counts.0)) (rose_later lost lost' lost'' (omega (arith, k.steady)) counts.1) k.along
 
 -- ---- a talk that is this one
 

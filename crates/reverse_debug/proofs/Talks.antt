@@ -1,5 +1,5 @@
 -- Talks: lines one after another, and what was sent of their replies.
-use Rattle.std.proofs.Common.{◌≡◌, ℕ, ◌+◌, ◌<◌, ◌≤◌, Bool, true, false, not, ◌==◌, List, [], ◌∷◌, ◌++◌, length, take, drop, get_or, add-one, Option, Some, None, Result, Ok, Err, IfOk, OnErr, refl, sym, ap, ◌∙◌, subst, arith, append_assoc}
+use Rattle.std.proofs.Common.{◌≡◌, ℕ, ◌+◌, ◌<◌, ◌≤◌, Bool, true, false, not, ◌==◌, List, [], ◌∷◌, ◌++◌, length, take, drop, get_or, add-one, Option, Some, None, Result, Ok, Err, IfOk, OnOk, OnErr, refl, sym, ap, ◌∙◌, subst, arith, append_assoc}
 use Rattle.std.proofs.lemmas.List.{append-nil, take-append-drop, take_all}
 use Rattle.std.proofs.Math.Seq.{take-suc}
 use Rattle.rp_ports.specs.Sink.{Appends}
@@ -63,7 +63,7 @@ appends_none (Some w) = ap Some (sym (append-nil w))
 
 pub along_first : (t : Talk) (cycle : ℕ) (old : Option (List ℕ)) (before steps : ℕ) → Along t cycle [] old old before before steps steps cycle []
 along_first t cycle old before steps = record {
-  answered = record { sent = appends_none old; count = omega arith; forward = omega arith; most = omega arith };
+  answered = record { sent = appends_none old; steady = refl; forward = omega arith; most = omega arith };
   none = refl;
   stands = refl;
   keeps = refl;
@@ -85,8 +85,8 @@ along_byte t cycle seen b old new before now steps steps' at kept kept' grows is
     }
 
 -- what came of the LF behind an open line, once it was answered
-pub along_line : (t : Talk) (cycle : ℕ) (seen : List ℕ) (old new later : Option (List ℕ)) (before now last steps steps' more : ℕ) (at at' : ℕ) (kept line : List ℕ) (result : Result Bool SinkFault) → Along t cycle seen old new before now steps steps' at kept → line ≡ line_of (open_line seen) → IfOk result (λ b. b ≡ not (t.last line)) → OnErr result (t.last line ≡ false) → Sends new later now last (said_to t at line) result → IfOk result (λ b. b ≡ true → at' ≡ t.next at line) → steps' ≤ more → more ≤ steps' + spent_on t at line → Feeds t cycle (seen ++ 10 ∷ []) old later before last steps more at' [] result
-along_line t cycle seen old new later before now last steps steps' more at at' kept line (Ok true) a is goes other sends moved forward most =
+pub along_line : (t : Talk) (cycle : ℕ) (seen : List ℕ) (old new later : Option (List ℕ)) (before now last steps steps' more : ℕ) (at at' : ℕ) (kept line : List ℕ) (result : Result Bool SinkFault) → Along t cycle seen old new before now steps steps' at kept → line ≡ line_of (open_line seen) → IfOk result (λ b. b ≡ not (t.last line)) → OnErr result (t.last line ≡ false) → Sends new later now last (said_to t at line) result → OnOk result (last ≡ now) → IfOk result (λ b. b ≡ true → at' ≡ t.next at line) → steps' ≤ more → more ≤ steps' + spent_on t at line → Feeds t cycle (seen ++ 10 ∷ []) old later before last steps more at' [] result
+along_line t cycle seen old new later before now last steps steps' more at at' kept line (Ok true) a is goes other sends steady moved forward most =
     let differs : t.last line ≡ false = not_true (t.last line) goes in
     let lines : complete_lines (seen ++ 10 ∷ []) ≡ complete_lines seen ++ line ∷ [] = complete_ends seen ∙ ap (λ l. complete_lines seen ++ l ∷ []) (sym is) in
     let here : cycle_after t cycle (complete_lines seen) ≡ at = sym a.stands in
@@ -95,7 +95,7 @@ along_line t cycle seen old new later before now last steps steps' more at at' k
     record {
       answered = answered_same t cycle _ _ old later before last steps more (sym lines) (record {
         sent = subst (λ x. Appends old later x) (sym (text_snoc t cycle (complete_lines seen) line)) (appends_both old new later _ _ a.answered.sent sent);
-        count = omega (arith, a.answered.count, sends.count);
+        steady = steady ∙ a.answered.steady;
         forward = omega (arith, a.answered.forward, forward);
         most = omega (arith, a.answered.most, cost, cost_snoc t cycle (complete_lines seen) line);
       });
@@ -103,7 +103,7 @@ along_line t cycle seen old new later before now last steps steps' more at at' k
       stands = moved refl ∙ ap (λ p. t.next p line) (sym here) ∙ sym (cycle_both t cycle (complete_lines seen) (line ∷ [])) ∙ ap (cycle_after t cycle) (sym lines);
       keeps = ap (take line_limit) (sym (open_ends seen));
     }
-along_line t cycle seen old new later before now last steps steps' more at at' kept line (Ok false) a is goes other sends moved forward most =
+along_line t cycle seen old new later before now last steps steps' more at at' kept line (Ok false) a is goes other sends steady moved forward most =
     let ends : t.last line ≡ true = not_false (t.last line) goes in
     let lines : complete_lines (seen ++ 10 ∷ []) ≡ complete_lines seen ++ line ∷ [] = complete_ends seen ∙ ap (λ l. complete_lines seen ++ l ∷ []) (sym is) in
     let cut : until t.last (complete_lines (seen ++ 10 ∷ [])) ≡ complete_lines seen = ap (until t.last) lines ∙ until_last t.last (complete_lines seen) [] line a.none ends in
@@ -112,12 +112,12 @@ along_line t cycle seen old new later before now last steps steps' more at at' k
       closed = ap (has_last t.last) lines ∙ last_closes t.last (complete_lines seen) [] line a.none ends;
       answered = answered_same t cycle _ _ old later before last steps more (sym cut) (record {
         sent = subst (λ x. Appends old later x) (append-nil (text_from t cycle (complete_lines seen))) (appends_both old new later _ [] a.answered.sent sent);
-        count = omega (arith, a.answered.count, sends.count);
+        steady = steady ∙ a.answered.steady;
         forward = omega (arith, a.answered.forward, forward);
         most = omega (arith, a.answered.most, most, last_cost t at line ends);
       });
     }
-along_line t cycle seen old new later before now last steps steps' more at at' kept line (Err fault) a is goes other sends moved forward most =
+along_line t cycle seen old new later before now last steps steps' more at at' kept line (Err fault) a is goes other sends steady moved forward most =
     let lines : complete_lines (seen ++ 10 ∷ []) ≡ complete_lines seen ++ line ∷ [] = complete_ends seen ∙ ap (λ l. complete_lines seen ++ l ∷ []) (sym is) in
     let here : cycle_after t cycle (complete_lines seen) ≡ at = sym a.stands in
     let part : AppendsPart new later (t.reply (cycle_after t cycle (complete_lines seen)) line) = subst (λ p. AppendsPart new later (t.reply p line)) (sym here) (subst (λ x. AppendsPart new later x) (other_text t at line other) sends.err) in
@@ -130,8 +130,8 @@ along_line t cycle seen old new later before now last steps steps' more at at' k
       none = a.none;
       other = other;
       sent = part_behind old new later _ _ a.answered.sent part;
-      cause = rose_later before now last a.answered.count sends.cause;
-      count = omega (arith, a.answered.count, sends.count);
+      cause = rose_later before now last (omega (arith, a.answered.steady)) sends.cause;
+      count = omega (arith, a.answered.steady, sends.count);
       forward = omega (arith, a.answered.forward, forward);
       most = omega (arith, a.answered.most, cost);
     }

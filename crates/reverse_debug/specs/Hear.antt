@@ -35,13 +35,13 @@ way_status Ended = 0
 way_status Broken = 8
 way_status Full = 10
 
--- What the source says of the way: at the end of the input it holds no byte, but where the sink failed before (status 7), and a
--- take failed only where its count of faults rose.
+-- What the source says of the way: where a take failed its count of faults rose, and on every other way no take failed; at the end of
+-- the input it holds no byte, but where the sink failed before (status 7).
 abbrev pub BearsOut : Option (List ℕ) → ℕ → ℕ → ℕ → Way → Type 0
-BearsOut left before now status Closed = Unit {0}
-BearsOut left before now status Ended = (status ≡ 7) ⊎ IsAtEnd left
+BearsOut left before now status Closed = now ≡ before
+BearsOut left before now status Ended = (now ≡ before) × ((status ≡ 7) ⊎ IsAtEnd left)
 BearsOut left before now status Broken = Rose before now
-BearsOut left before now status Full = Unit {0}
+BearsOut left before now status Full = now ≡ before
 
 -- the bytes taken are those that the source held before and no longer holds, and it bears out the way
 pub record IsTaken (old new : Option (List ℕ)) (before now status : ℕ) (bytes : List ℕ) (way : Way) : Type 0 where

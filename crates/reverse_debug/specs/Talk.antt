@@ -1,5 +1,5 @@
 -- A talk: lines, and the answer to each. The project's own.
-use Rattle.std.specs.Prelude.{◌≡◌, ℕ, ◌+◌, ◌≤◌, Bool, if◌then◌else◌, List, [], ◌∷◌, ◌++◌, length, Option, Result, IfOk}
+use Rattle.std.specs.Prelude.{◌≡◌, ℕ, ◌+◌, ◌≤◌, Bool, if◌then◌else◌, List, [], ◌∷◌, ◌++◌, length, Option, Result, IfOk, OnOk}
 use Rattle.trace_text.specs.Sent.{Sends}
 use Rattle.trace_text.specs.declared.writer.SinkFault.{SinkFault}
 use Rattle.reverse_debug.specs.declared.way.Way.{Way}
@@ -37,7 +37,8 @@ abbrev pub spent_on : Talk → ℕ → List ℕ → ℕ
 spent_on t cycle line = if t.last line then 0 else t.cost cycle line
 
 -- Lines of a source were heard and answered from a cycle on: some bytes were taken, at most so many, and the taking ended so; the
--- replies to the lines were sent, or a part of them. Where the sink failed the taking counts as ended after the bytes taken.
+-- replies to the lines were sent and no put failed, or the sink failed and a part of them was sent. Where the sink failed the taking
+-- counts as ended after the bytes taken.
 pub record Hears (t : Talk) (cycle limit : ℕ) (left left' : Option (List ℕ)) (lost lost' : ℕ) (old new : Option (List ℕ)) (before now : ℕ) (steps steps' : ℕ) (result : Result Way SinkFault) : Type 0 where
   pub bytes : List ℕ
   pub way : Way
@@ -46,5 +47,6 @@ pub record Hears (t : Talk) (cycle limit : ℕ) (left left' : Option (List ℕ))
   pub taken : IsTaken left left' lost lost' (status_by result) bytes way
   pub is : IfOk result (λ w. w ≡ way)
   pub sends : Sends old new before now (text_from t cycle (lines_heard t.last way bytes)) result
+  pub steady : OnOk result (now ≡ before)
   pub forward : steps ≤ steps'
   pub most : steps' ≤ steps + cost_from t cycle (lines_heard t.last way bytes)

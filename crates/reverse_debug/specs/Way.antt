@@ -10,10 +10,10 @@ use Rattle.reverse_debug.specs.Talk.{Talk, text_from, cycle_after, cost_from, He
 use Rattle.reverse_debug.specs.declared.hear.AfterTake.{AfterTake}
 use Rattle.reverse_debug.specs.declared.hear.AfterTake.TheVariants.{Took, Over}
 
--- the replies to these lines were sent
+-- the replies to these lines were sent, and no put failed
 pub record Answered (t : Talk) (cycle : ℕ) (lines : List (List ℕ)) (old new : Option (List ℕ)) (before now steps steps' : ℕ) : Type 0 where
   pub sent : Appends old new (text_from t cycle lines)
-  pub count : before ≤ now
+  pub steady : now ≡ before
   pub forward : steps ≤ steps'
   pub most : steps' ≤ steps + cost_from t cycle lines
 
@@ -56,13 +56,13 @@ Finishes t cycle lines old new before now steps steps' (Err fault) = CutOff t cy
 
 -- ---- what is taken
 
--- so many bytes were taken from a source, and the talk about them goes on
+-- so many bytes were taken from a source, no take failed, and the talk about them goes on
 pub record Taking (t : Talk) (cycle limit : ℕ) (left left' : Option (List ℕ)) (lost lost' : ℕ) (old new : Option (List ℕ)) (before now steps steps' : ℕ) (at : ℕ) (kept : List ℕ) (count : ℕ) : Type 0 where
   pub bytes : List ℕ
   pub long : length bytes ≡ count
   pub within : count ≤ limit
   pub consumed : Consumes left left' bytes
-  pub later : lost ≤ lost'
+  pub steady : lost' ≡ lost
   pub along : Along t cycle bytes old new before now steps steps' at kept
 
 -- what came of one take: so many bytes more, at least one, or the end of the hearing

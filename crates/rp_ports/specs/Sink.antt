@@ -15,7 +15,7 @@ abbrev pub Writes : Option (List ℕ) → Option (List ℕ) → List ℕ → Put
 Writes old new piece (Took n) = (n ≤ length piece) × (0 < length piece → 0 < n) × Appends old new (take n piece)
 Writes old new piece Failed = new ≡ old
 
--- what the answer says of the count of faults: it never falls, and Failed comes only where it rose
+-- what the answer says of the count of faults: it rises at Failed, and no other answer changes it
 abbrev pub Counts : ℕ → ℕ → Put → Type 0
-Counts before now (Took n) = before ≤ now
+Counts before now (Took n) = now ≡ before
 Counts before now Failed = (before ≤ now) × Rose before now

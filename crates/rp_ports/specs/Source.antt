@@ -20,8 +20,8 @@ Takes old new buf (Took n) = (0 < n) × (n ≤ length buf) × Consumes old new (
 Takes old new buf End = (new ≡ old) × IsAtEnd old
 Takes old new buf Failed = new ≡ old
 
--- what the answer says of the count of faults: it never falls, and Failed comes only where it rose
+-- what the answer says of the count of faults: it rises at Failed, and no other answer changes it
 abbrev pub Counts : ℕ → ℕ → Taken → Type 0
-Counts before now (Took n) = before ≤ now
-Counts before now End = before ≤ now
+Counts before now (Took n) = now ≡ before
+Counts before now End = now ≡ before
 Counts before now Failed = (before ≤ now) × Rose before now

@@ -17,7 +17,7 @@ pub trait Sink {
     /// The bytes that were written to it, where it tells them.
     ghost written: { Self → Option (List ℕ) };
 
-    /// How often a put failed. The count never falls.
+    /// How often a put failed: the count rises at `Failed`, and no other answer changes it.
     ghost faults: { Self → ℕ };
 
     /// Writes some of the first bytes of a piece, at least one of a piece that is not empty.

@@ -19,7 +19,7 @@ pub trait Source {
     /// The bytes that are left, where it tells them.
     ghost left: { Self → Option (List ℕ) };
 
-    /// How often a take failed. The count never falls.
+    /// How often a take failed: the count rises at `Failed`, and no other answer changes it.
     ghost faults: { Self → ℕ };
 
     /// Takes the next bytes, as many as there are at once, into a buffer that is not empty.

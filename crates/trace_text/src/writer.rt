@@ -1,6 +1,6 @@
 //! Whole lines into a sink.
 
-ghost use Rattle.std.specs.Prelude.{◌≡◌};
+ghost use Rattle.std.specs.Prelude.{◌≡◌, OnOk};
 ghost use Rattle.trace_text.specs.Sent.{Sends};
 
 use rp_ports::sink::{Put, Sink};
@@ -17,10 +17,11 @@ pub struct Writer<'a, O: Sink> {
 }
 
 impl<'a, O: Sink> Writer<'a, O> {
-    /// Puts one piece, and what is left of it again where fewer bytes were taken.
+    /// Puts one piece, and what is left of it again where fewer bytes were taken; ends at a put that failed.
     pub fn line(&mut self, bytes: &[u8]) -> Result<(), SinkFault>
         ensures sends { Sends (O.written self.old.out.now) (O.written self.new.out.now)
             (O.faults self.old.out.now) (O.faults self.new.out.now) bytes.now result }
+        ensures steady { OnOk result (O.faults self.new.out.now ≡ O.faults self.old.out.now) }
         ensures same_sink { self.new.out.ghost_name ≡ self.old.out.ghost_name }
     {
         let mut done = 0;

@@ -11,4 +11,4 @@ pub returns-clause-feeds : goal.returns-clause-feeds
 returns-clause-feeds g c cycle seen old before steps along =
     let h = c.answer-heard.ensures in
     let is = c.without_return.ensures ∙ ap strip_carriage_return (c.deref.ensures.0 ∙ along.keeps) in
-    rw (c.if-byte-ne10.false, c.clear.ensures) (along_line _ cycle seen old _ _ before _ _ steps _ _ _ _ _ c.without_return.result.now _ along is h.more h.other h.sends h.cycle h.forward h.within)
+    rw (c.if-byte-ne10.false, c.clear.ensures) (along_line _ cycle seen old _ _ before _ _ steps _ _ _ _ _ c.without_return.result.now _ along is h.more h.other h.sends h.steady h.cycle h.forward h.within)

@@ -8,7 +8,7 @@ returns-then-is_empty-clause-ends g c cycle seen old before steps along =
 pub returns-in-Ok-clause-ends : goal.returns-in-Ok-clause-ends
 returns-in-Ok-clause-ends g c cycle seen old before steps along =
     let h = c.in-Ok.ensures in
-    end_said _ cycle seen old _ _ before _ _ steps _ _ _ c.args.open.now c.in-Ok.field-0 tt (some_is c.args.open.now c.is_empty.result c.is_empty.ensures c.if-is_empty.false) along h.more h.sends h.forward h.within
+    end_said _ cycle seen old _ _ before _ _ steps _ _ _ c.args.open.now c.in-Ok.field-0 tt (some_is c.args.open.now c.is_empty.result c.is_empty.ensures c.if-is_empty.false) along h.more h.sends h.steady h.forward h.within
 
 pub returns-in-Err-clause-ends : goal.returns-in-Err-clause-ends
 returns-in-Err-clause-ends g c cycle seen old before steps along =

@@ -1,4 +1,4 @@
-use Rattle.std.proofs.Common.{arith, length, ◌≤◌, ◌+◌, length-drop}
+use Rattle.std.proofs.Common.{arith, ◌∙◌, length, ◌≤◌, ◌+◌, length-drop}
 use Rattle.std.proofs.lemmas.List.{take_rest}
 use Rattle.rp_ports.proofs.Pieces.{appends_on}
 use Rattle.trace_text.proofs.writer.Writer.line.Goals as goal
@@ -10,7 +10,7 @@ loop-done-preserved g c =
       record {
         within = room;
         appended = appends_on _ _ _ _ _ _ c.loop-done.invariant.0.appended took.content.2;
-        count = omega (arith, took.count, c.loop-done.invariant.0.count);
+        steady = took.count ∙ c.loop-done.invariant.0.steady;
       },
       c.loop-done.invariant.1,
     )

@@ -2,11 +2,11 @@ use Rattle.std.proofs.Common.{◌≡◌, length, take, ◌-◌, ◌≤◌}
 use Rattle.rp_ports.specs.Sink.{Appends}
 use Rattle.trace_text.proofs.writer.Writer.line.Given as goal
 
--- the bytes before this index were written, and the count has not fallen
+-- the bytes before this index were written, and no put failed
 pub record Sent {O : Type 0} (written : O → Rattle.std.specs.Prelude.Option (Rattle.std.specs.Prelude.List Rattle.std.specs.Prelude.ℕ)) (faults : O → Rattle.std.specs.Prelude.ℕ) (old new : O) (bytes : Rattle.std.specs.Prelude.List Rattle.std.specs.Prelude.ℕ) (done : Rattle.std.specs.Prelude.ℕ) : Type 0 where
   pub within : done ≤ length bytes
   pub appended : Appends (written old) (written new) (take done bytes)
-  pub count : faults old ≤ faults new
+  pub steady : faults new ≡ faults old
 
 abbrev pub invariant-loop-done : goal.invariant-loop-done
 invariant-loop-done g l =
