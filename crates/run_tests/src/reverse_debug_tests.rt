@@ -1,4 +1,4 @@
-//! Sessions over two small programs: one that stores a word and stands in a loop, and one in which the DMA engine copies.
+//! Sessions over small programs: one that stores a word and stands in a loop, one in which the DMA engine copies, and others.
 
 ghost use Rattle.std.specs.Prelude.{◌≡◌, ◌≤◌, ◌<◌, length};
 ghost use Rattle.outer_lane.specs.Setting.{setting};
@@ -19,7 +19,7 @@ use uf2_image::read_image;
 type Row = (&'static [u8], &'static [u8]);
 
 /// LDR of the address 20000100, a store to it, a branch to itself.
-const STORES_ONCE: [u32; 9] = [0x6000_4801, 0x0000_e7fe, 0x2000_0100, 0, 0, 0, 0, 0, 0];
+const STORES_ONCE: [u32; 12] = [0x6000_4801, 0x0000_e7fe, 0x2000_0100, 0, 0, 0, 0, 0, 0, 0, 0, 0];
 
 /// What is answered over 10000 cycles of it. The last line is not heard.
 const STORED: [Row; 32] = [
@@ -66,7 +66,7 @@ const STORED: [Row; 32] = [
 ];
 
 /// A copy of three words by the DMA engine, in which all reads and writes are on one bank.
-const COPIES: [u32; 9] = [
+const COPIES: [u32; 12] = [
     0x2050_a502,
     0xcd1e_0600,
     0xe7fe_c01e,
@@ -76,6 +76,9 @@ const COPIES: [u32; 9] = [
     0x001f_8039,
     0x1122_3344,
     0x5566_7788,
+    0,
+    0,
+    0,
 ];
 
 /// What is answered over 100 cycles of it.
@@ -160,7 +163,7 @@ const BEGUN: [Row; 40] = [
 ];
 
 /// MOVS, and a word that is no instruction: a fault, whose vector is outside of the machine.
-const FAULTS: [u32; 9] = [0xde00_2001, 0, 0, 0, 0, 0, 0, 0, 0];
+const FAULTS: [u32; 12] = [0xde00_2001, 0, 0, 0, 0, 0, 0, 0, 0, 0, 0, 0];
 
 /// What is answered over 100 cycles of it.
 const FAULTED: [Row; 6] = [
@@ -173,12 +176,15 @@ const FAULTED: [Row; 6] = [
 ];
 
 /// The vector table is set to 20000000, and SVC calls; its vector is 0, which is outside of the machine.
-const CALLS: [u32; 9] = [
+const CALLS: [u32; 12] = [
     0x4903_4802,
     0xdf00_6001,
     0x0000_e7fe,
     0xe000_ed08,
     0x2000_0000,
+    0,
+    0,
+    0,
     0,
     0,
     0,
@@ -193,15 +199,97 @@ const CALLED: [Row; 4] = [
     (b"peek e000ed08", b"peek e000ed08 20000000\n"),
 ];
 
+/// Core 0 sends six words, a turn of its loop each, of which the last is sent in cycle 36; so core 1 begins in cycle 38 at the branch to
+/// itself, 2000000E, at which core 0 comes in cycle 39. The branch takes two cycles.
+const BOTH: [u32; 12] = [
+    0xa105_4804,
+    0xc908_2206,
+    0x3a01_6543,
+    0xe7fe_d1fb,
+    0,
+    0xd000_0000,
+    0,
+    0,
+    1,
+    0x2000_0000,
+    0x2000_1000,
+    0x2000_000f,
+];
+
+/// What is answered of it over 100 cycles: core 1 begins the branch in even cycles, core 0 in odd ones.
+const IN_TURN: [Row; 24] = [
+    (b"until 2000000e 1", b"at 38\n"),
+    (b"lastat 2000000e 1", b"lastat 2000000e none\n"),
+    (b"lastat 2000000e", b"lastat 2000000e none\n"),
+    (b"until 2000000e", b"at 39\n"),
+    (b"lastat 2000000e 1", b"lastat 2000000e 38\n"),
+    (b"lastat 2000000e 0", b"lastat 2000000e none\n"),
+    (b"next 1 1", b"at 40\n"),
+    (b"lastat 2000000e", b"lastat 2000000e 39\n"),
+    (b"lastat 2000000e 1", b"lastat 2000000e 38\n"),
+    (b"prev 1 1", b"at 38\n"),
+    // Core 0 begins the conditional branch in cycle 38, and the subtraction in cycle 37.
+    (b"prev", b"at 37\n"),
+    (b"next 3", b"at 41\n"),
+    (b"next 2 1", b"at 44\n"),
+    (b"lastat 2000000e 1", b"lastat 2000000e 42\n"),
+    (b"lastat 2000000e", b"lastat 2000000e 43\n"),
+    (b"until 2000000e", b"at 45\n"),
+    (b"until 2000000e 1", b"at 46\n"),
+    (b"prev 3 1", b"at 40\n"),
+    (b"prev 2", b"at 38\n"),
+    (b"prev 1 1", b"at start\n"),
+    (b"next 2 1", b"at 40\n"),
+    (b"prev 2 1", b"at start\n"),
+    (b"goto 100", b"at 100\n"),
+    (b"prev 31 1", b"at 38\n"),
+];
+
+/// The same with a NOP before the branch, which is now at 20000010: core 0 comes to it in cycle 40.
+const ALIKE: [u32; 12] = [
+    0xa105_4804,
+    0xc908_2206,
+    0x3a01_6543,
+    0xbf00_d1fb,
+    0x0000_e7fe,
+    0xd000_0000,
+    0,
+    0,
+    1,
+    0x2000_0000,
+    0x2000_1000,
+    0x2000_0011,
+];
+
+/// What is answered of it over 100 cycles: from cycle 40 on both cores begin the branch in the same cycles.
+const AT_ONCE: [Row; 16] = [
+    (b"until 20000010", b"at 40\n"),
+    (b"lastat 20000010", b"lastat 20000010 none\n"),
+    (b"lastat 20000010 1", b"lastat 20000010 38\n"),
+    (b"until 20000010 1", b"at 42\n"),
+    (b"lastat 20000010", b"lastat 20000010 40\n"),
+    (b"lastat 20000010 1", b"lastat 20000010 40\n"),
+    (b"prev 1 1", b"at 40\n"),
+    (b"prev 1 1", b"at 38\n"),
+    (b"next 1", b"at 39\n"),
+    (b"next 1 1", b"at 40\n"),
+    (b"next 2", b"at 44\n"),
+    (b"prev 2", b"at 40\n"),
+    (b"prev", b"at 39\n"),
+    (b"lastat 20000010 1", b"lastat 20000010 38\n"),
+    (b"lastat 20000010", b"lastat 20000010 none\n"),
+    (b"until 20000010 0", b"at 40\n"),
+];
+
 /// The UF2 block of a program that is loaded at 20000000.
-fn block(code: &[u32; 9]) -> [u8; 512] {
+fn block(code: &[u32; 12]) -> [u8; 512] {
     let mut bytes = [0u8; 512];
     let words = [
         0x0a32_4655,
         0x9e5d_5157,
         0x2000,
         0x2000_0000,
-        36,
+        48,
         0,
         1,
         0xe48b_ff56u32,
@@ -240,7 +328,7 @@ fn end_of<X: Device, L: Ledger>(
 fn session_of<L: Ledger>(
     alloc: Global,
     blank: Blank,
-    code: &[u32; 9],
+    code: &[u32; 12],
     levels: &[u8],
     limit: u64,
     rows: &[Row],
@@ -311,5 +399,19 @@ fn an_instruction_that_faults_was_begun(rt: HostRuntime) -> Result<(), Fail> {
 fn an_exception_is_taken_in_place_of_an_instruction(rt: HostRuntime) -> Result<(), Fail> {
     let end = session_of::<Brand>(rt.alloc(), Blank::new(1), &CALLS, b"", 100, &CALLED)?;
     assert_eq!(rt; end, (4, true));
+    Ok(())
+}
+
+#[test]
+fn both_cores_are_at_one_address(rt: HostRuntime) -> Result<(), Fail> {
+    let end = session_of::<Brand>(rt.alloc(), Blank::new(1), &BOTH, b"", 100, &IN_TURN)?;
+    assert_eq!(rt; end, (24, true));
+    Ok(())
+}
+
+#[test]
+fn both_cores_begin_one_instruction_in_one_cycle(rt: HostRuntime) -> Result<(), Fail> {
+    let end = session_of::<Brand>(rt.alloc(), Blank::new(1), &ALIKE, b"", 100, &AT_ONCE)?;
+    assert_eq!(rt; end, (16, true));
     Ok(())
 }
