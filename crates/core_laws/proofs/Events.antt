@@ -1,7 +1,6 @@
 -- When WFE moves on, and where a return faults.
 use Rattle.std.proofs.Common.{◌≡◌, ℕ, ◌+◌, ◌^◌, ◌%◌, ◌==◌, ◌&&◌, ◌||◌, not, Bool, true, false, cond, List, length, refl, sym, ap, ap₂, subst, ◌∙◌, true≢false, Some, None}
 use Rattle.std.specs.Prelude.{slice_get, slice_index, nat_lt}
-use Rattle.rp_base.specs.declared.op.Op.{Op}
 use Rattle.rp_base.specs.declared.op.Op.TheVariants as op
 use Rattle.rp_base.specs.declared.Why.{Why}
 use Rattle.rp_base.specs.declared.Why.TheVariants as why

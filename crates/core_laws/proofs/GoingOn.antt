@@ -1,6 +1,6 @@
 -- An instruction none of whose beats the private bus refuses stops in none of its cycles, and so takes its beats.
-use Rattle.std.proofs.Common.{◌≡◌, ℕ, ◌+◌, ◌≤◌, ◌||◌, ◌==◌, not, ◌&&◌, Bool, true, false, cond, List, [], ◌∷◌, ◌++◌, length, refl, sym, ap, ap₂, subst, ◌∙◌, arith, append_assoc, length-append, true≢false}
-use Rattle.std.specs.Prelude.{Option, Some, None, is_some, option_to_list, slice_get, nat_lt}
+use Rattle.std.proofs.Common.{◌≡◌, ℕ, ◌+◌, ◌≤◌, ◌||◌, not, Bool, true, false, cond, List, [], ◌∷◌, ◌++◌, length, refl, sym, ap, ap₂, subst, ◌∙◌, arith, append_assoc, length-append, true≢false}
+use Rattle.std.specs.Prelude.{Option, Some, None, option_to_list, slice_get}
 use Rattle.std.specs.List.{list_any}
 use Rattle.rp_base.specs.declared.Request.{Request}
 use Rattle.rp_base.specs.declared.map.Spot.{Spot}
@@ -13,10 +13,8 @@ use Rattle.m0_beats.specs.declared.registers.Regs.{Regs}
 use Rattle.m0_beats.specs.declared.timing.Beat.{Beat}
 use Rattle.m0_beats.specs.declared.timing.Beat.TheVariants.{Inner, Access}
 use Rattle.m0_beats.specs.Beats.{beats_of}
-use Rattle.m0_nvic.specs.declared.systick.SysTick.{SysTick}
-use Rattle.m0_nvic.specs.Offsets.{SYST_CSR, SYST_RVR, SYST_CVR, SYST_CALIB, NVIC_ISER, NVIC_ICER, NVIC_ISPR, NVIC_ICPR, NVIC_IPR0, CPUID, ICSR, VTOR, SCR, SHPR2, SHPR3}
 use Rattle.m0_nvic.specs.State.{Exceptions}
-use Rattle.m0_nvic.specs.Words.{timer_word, interrupt_word, fixed_word, control_word, word_of, is_priority_offset, asks_reset, is_allowed}
+use Rattle.m0_nvic.specs.Words.{is_allowed}
 use Rattle.lane_look.specs.declared.lane.Want.TheVariants as want
 use Rattle.lane_look.specs.Asking.{answered}
 use Rattle.lane_look.specs.Asking.Asking.{Ready}
@@ -34,57 +32,9 @@ use Rattle.core_laws.proofs.Waits.{ComesServed, waited, landed, past, served_whe
 
 -- ---- what the private bus refuses is the same whatever the exceptions are
 
--- both are words, or neither is
-record AreAlike (x y : Option ℕ) : Type 0 where
-  alike : is_some x ≡ is_some y
-
-either_way : (b : Bool) (x y z w : Option ℕ) → AreAlike x z → AreAlike y w → AreAlike (cond b x y) (cond b z w)
-either_way true x y z w e f = e
-either_way false x y z w e f = f
-
-both_some : (x y : ℕ) → AreAlike (Some x) (Some y)
-both_some x y = record { alike = refl }
-
-itself : (x : Option ℕ) → AreAlike x x
-itself x = record { alike = refl }
-
-timer_told : (t u : SysTick) (offset : ℕ) → AreAlike (timer_word t offset) (timer_word u offset)
-timer_told t u offset =
-    either_way (offset == SYST_CSR) _ _ _ _ (both_some _ _)
-    (either_way (offset == SYST_RVR) _ _ _ _ (both_some _ _)
-    (either_way (offset == SYST_CVR) _ _ _ _ (both_some _ _)
-    (either_way (offset == SYST_CALIB) _ _ _ _ (both_some _ _)
-    (itself None))))
-
-interrupt_told : (e f : Exceptions) (offset : ℕ) → AreAlike (interrupt_word e offset) (interrupt_word f offset)
-interrupt_told e f offset =
-    either_way (offset == NVIC_ISER) _ _ _ _ (both_some _ _)
-    (either_way (offset == NVIC_ICER) _ _ _ _ (both_some _ _)
-    (either_way (offset == NVIC_ISPR) _ _ _ _ (both_some _ _)
-    (either_way (offset == NVIC_ICPR) _ _ _ _ (both_some _ _)
-    (itself None))))
-
-control_told : (e f : Exceptions) (offset : ℕ) → AreAlike (control_word e offset 0) (control_word f offset 0)
-control_told e f offset =
-    either_way (offset == ICSR) _ _ _ _ (both_some _ _)
-    (either_way (offset == VTOR) _ _ _ _ (both_some _ _)
-    (either_way (offset == SCR) _ _ _ _ (both_some _ _)
-    (either_way (offset == SHPR2) _ _ _ _ (both_some _ _)
-    (either_way (offset == SHPR3) _ _ _ _ (both_some _ _)
-    (itself (fixed_word offset))))))
-
-word_told : (e f : Exceptions) (offset : ℕ) → AreAlike (word_of e offset 0) (word_of f offset 0)
-word_told e f offset =
-    either_way (nat_lt offset NVIC_ISER) _ _ _ _ (timer_told e.systick f.systick offset)
-    (either_way (nat_lt offset NVIC_IPR0) _ _ _ _ (interrupt_told e f offset)
-    (either_way (nat_lt offset CPUID) _ _ _ _ (either_way (is_priority_offset offset) _ _ _ _ (both_some _ _) (itself None)) (control_told e f offset)))
-
-allowed_same : (e f : Exceptions) (offset : ℕ) (w : Option ℕ) → is_allowed e offset w ≡ is_allowed f offset w
-allowed_same e f offset w = ap (λ b. b && not (asks_reset offset w)) (word_told e f offset).alike
-
 refused_at_same : (e f : Exceptions) (request : Request) (p : Spot) → is_refused_at e request p ≡ is_refused_at f request p
 refused_at_same e f request (spot.Ram index bank) = refl
-refused_at_same e f request (spot.Ppb offset) = ap not (allowed_same e f offset (word_written request.size request.write))
+refused_at_same e f request (spot.Ppb offset) = refl
 refused_at_same e f request (spot.Sio offset) = refl
 refused_at_same e f request (spot.Reg block offset alias) = refl
 refused_at_same e f request spot.Outside = refl

@@ -1,13 +1,13 @@
 -- Numbers, and sets of exceptions as numbers.
-use Rattle.std.proofs.Common.{◌≡◌, ◌∙◌, ℕ, zero, suc, ◌-◌, ◌*◌, ◌^◌, ◌≤◌, ◌==◌, ◌&&◌, Bool, true, false, cond, refl, sym, ap, ap₂, arith, true≢false, nat_lt}
-use Rattle.std.specs.Prelude.{Option, Some, None, max, bit_or}
+use Rattle.std.proofs.Common.{◌≡◌, ◌∙◌, ℕ, zero, suc, ◌-◌, ◌*◌, ◌^◌, ◌≤◌, ◌==◌, ◌&&◌, Bool, true, false, cond, refl, sym, ap, ap₂, arith, true≢false}
+use Rattle.std.specs.Prelude.{Option, max, bit_or}
 use Rattle.std.specs.Int.{bit_at}
 use Rattle.std.proofs.lemmas.Bool.{ne_eqb}
 use Rattle.std.proofs.lemmas.Nat.Bits.{bit_at_and, bit_at_or, bit_at-lt}
 use Rattle.rp_base.specs.declared.op.Op.{Op}
 use Rattle.rp_base.specs.Word.{has_bit}
+use Rattle.rp_base.proofs.Rows.{Kept, keeps}
 use Rattle.m0_nvic.specs.Exceptions.{SVCALL}
-use Rattle.m0_nvic.specs.Offsets.{NVIC_ISER, NVIC_ICER, NVIC_ISPR, NVIC_ICPR, NVIC_IPR0, CPUID, ICSR, VTOR, SCR, SHPR2, SHPR3}
 use Rattle.m0_nvic.specs.State.{Exceptions}
 use Rattle.m0_nvic.specs.Numbers.{is_number, is_member, minus, of_interrupts}
 use Rattle.m0_nvic.specs.Changes.{with_pending, without_pending, pended}
@@ -85,13 +85,6 @@ none_minus set other h =
     let none : bit_at (minus set other) 0 ≡ 0 = omega (arith, bit_at_and set (2 ^ 64 - 1 - other) 0, clear_of set h) in
     ap (λ (x : ℕ). x == 1) none
 
-pub leaves_interrupts : (offset w : ℕ) (e : Exceptions) → Leaves e (words.interrupts_written offset w e)
-leaves_interrupts offset w e =
-    leaves_either (offset == NVIC_ISER) e _ _ (record { active = refl; numbered = none_or e.enabled w })
-    (leaves_either (offset == NVIC_ICER) e _ _ (record { active = refl; numbered = none_minus e.enabled (of_interrupts w) })
-    (leaves_either (offset == NVIC_ISPR) e _ _ (leaves_pending (of_interrupts w) e)
-    (leaves_either (offset == NVIC_ICPR) e _ _ (leaves_clear (of_interrupts w) e) (leaves_self e))))
-
 pub leaves_pended_if : (b : Bool) (n : ℕ) (e : Exceptions) → Leaves e (pended_if b n e)
 leaves_pended_if b n e = leaves_either b e _ _ (leaves_pended n e) (leaves_self e)
 
@@ -108,21 +101,26 @@ leaves_icsr w e =
     (leaves_then e c d (leaves_then e b c (leaves_then e a b (leaves_pended_if (has_bit w 31) 2 e) (leaves_pended_if (has_bit w 28) 14 a)) (leaves_pended_if (has_bit w 26) 15 b)) (leaves_cleared_if (has_bit w 27) 14 c))
     (leaves_cleared_if (has_bit w 25) 15 d)
 
-pub leaves_control : (offset w : ℕ) (e : Exceptions) → Leaves e (words.control_written offset w e)
-leaves_control offset w e =
-    leaves_either (offset == ICSR) e _ _ (leaves_icsr w e)
-    (leaves_either (offset == VTOR) e _ _ (record { active = refl; numbered = λ h. h })
-    (leaves_either (offset == SCR) e _ _ (record { active = refl; numbered = λ h. h })
-    (leaves_either (offset == SHPR2) e _ _ (record { active = refl; numbered = λ h. h })
-    (leaves_either (offset == SHPR3) e _ _ (record { active = refl; numbered = λ h. h }) (leaves_self e)))))
+-- the same as a pair
+abbrev Left : Exceptions → Exceptions → Type 0
+Left e f = (f.active ≡ e.active) × (is_member 0 e.enabled ≡ false → is_member 0 f.enabled ≡ false)
 
-pub leaves_access : (offset : ℕ) (w : Option ℕ) (e : Exceptions) → Leaves e (words.after_access offset w e)
-leaves_access offset None e = record { active = refl; numbered = λ h. h }
-leaves_access offset (Some w) e =
-    leaves_either (nat_lt offset NVIC_ISER) e _ _ (record { active = refl; numbered = λ h. h })
-    (leaves_either (nat_lt offset NVIC_IPR0) e _ _ (leaves_interrupts offset w e)
-    (leaves_either (nat_lt offset CPUID) e _ _ (leaves_either (words.is_priority_offset offset) e _ _ (record { active = refl; numbered = λ h. h }) (leaves_self e))
-    (leaves_control offset w e)))
+rows_leave : (e : Exceptions) → Kept (Left e) e words.bus_rows
+rows_leave e =
+    let k : (n : ℕ) → Left e e × (ℕ → Left e e) = λ n. ((refl, λ h. h), λ w. (refl, λ h. h)) in
+    let iser : (n : ℕ) → Left e e × ((w : ℕ) → Left e (record e { enabled = bit_or e.enabled (of_interrupts w) })) =
+    λ n. ((refl, λ h. h), λ w. (refl, none_or e.enabled w)) in
+    let icer : (n : ℕ) → Left e e × ((w : ℕ) → Left e (record e { enabled = minus e.enabled (of_interrupts w) })) =
+    λ n. ((refl, λ h. h), λ w. (refl, none_minus e.enabled (of_interrupts w))) in
+    let icsr : (n : ℕ) → Left e e × ((w : ℕ) → Left e (words.icsr_written w e)) =
+    λ n. ((refl, λ h. h), λ w. ((leaves_icsr w e).active, (leaves_icsr w e).numbered)) in
+    (k, (k, (k, (k, (iser, (icer, (k, (k, (k, (k, (icsr, (k, (k, (k, (k, (k, (k, tt)))))))))))))))))
+
+leaves_access : (offset : ℕ) (w : Option ℕ) (e : Exceptions) → Leaves e (words.after_access offset w e)
+unfolding words.after_access
+leaves_access offset w e =
+    let left = keeps (Left e) words.bus_rows offset w e (refl, λ h. h) (rows_leave e) in
+    record { active = left.0; numbered = left.1 }
 
 pub leaves_effect : (offset : ℕ) (w : Option ℕ) (e : Exceptions) → Leaves e (words.effect_of offset w e)
 leaves_effect offset w e = leaves_either (words.is_allowed e offset w) e _ _ (leaves_access offset w e) (leaves_self e)

@@ -1,8 +1,8 @@
 -- A core stays sound.
 use Rattle.std.proofs.Common.{◌≡◌, ◌∙◌, ℕ, zero, suc, ◌+◌, ◌-◌, ◌*◌, ◌/◌, ◌%◌, ◌^◌, ◌<◌, ◌≤◌, ◌==◌, ◌&&◌, ◌||◌, ◌⊎◌, not, Bool, true, false, cond, List, length, refl, sym, ap, ap₂, subst, inl, inr, arith, true≢false, lt-ltb, ltb-true, ltb-false, nat_lt}
-use Rattle.std.specs.Prelude.{Option, Some, None, max, bit_and, bit_or, slice_get, slice_index}
+use Rattle.std.specs.Prelude.{Option, Some, None, bit_and, bit_or, slice_get, slice_index}
 use Rattle.std.specs.Int.{bit_at}
-use Rattle.std.proofs.lemmas.Bool.{eqb-true, ne_eqb}
+use Rattle.std.proofs.lemmas.Bool.{eqb-true}
 use Rattle.std.proofs.lemmas.Nat.{and_le_l, or_mod, or_lt}
 use Rattle.std.proofs.lemmas.Nat.Bits.{bit_at_and, bit_at_or, bit_at-lt, bit_at-zero, bit_at-pow_same}
 use Rattle.std.proofs.Math.Pow.{pow-lt}
@@ -23,14 +23,12 @@ use Rattle.m0_beats.specs.declared.timing.Beat.TheVariants.{Inner, Access}
 use Rattle.m0_beats.specs.Registers.{is_thread}
 use Rattle.m0_beats.specs.Beats.{access, beats_of}
 use Rattle.m0_beats.specs.Effects.{effect_of, return_of}
-use Rattle.m0_nvic.specs.Exceptions.{HARDFAULT, SVCALL}
-use Rattle.m0_nvic.specs.Offsets.{NVIC_ISER, NVIC_ICER, NVIC_ISPR, NVIC_ICPR, NVIC_IPR0, CPUID, ICSR, VTOR, SCR, SHPR2, SHPR3}
+use Rattle.m0_nvic.specs.Exceptions.{HARDFAULT}
 use Rattle.m0_nvic.specs.State.{Exceptions}
-use Rattle.m0_nvic.specs.Numbers.{is_number, is_member, minus, of_interrupts}
-use Rattle.m0_nvic.specs.Changes.{with_pending, without_pending, pended, entered, left}
+use Rattle.m0_nvic.specs.Numbers.{is_number, is_member, minus}
+use Rattle.m0_nvic.specs.Changes.{pended, entered, left}
 use Rattle.m0_nvic.specs.Cycle as nvic
 use Rattle.m0_nvic.specs.Words as words
-use Rattle.m0_nvic.specs.Words.{pended_if, cleared_if}
 use Rattle.lane_look.specs.declared.lane.Ask.{Ask}
 use Rattle.lane_look.specs.declared.lane.Ask.TheVariants.{Lines, Half}
 use Rattle.lane_look.specs.declared.lane.Turn.{Turn}
@@ -41,7 +39,7 @@ use Rattle.m0_core.specs.declared.doing.Act.TheVariants as act
 use Rattle.m0_core.specs.declared.doing.Work.{Work}
 use Rattle.m0_core.specs.declared.doing.Work.TheVariants as works
 use Rattle.m0_core.specs.ExcReturn.{TO_HANDLER, TO_PROCESS}
-use Rattle.m0_core.specs.Kinds.{is_breakpoint, is_call}
+use Rattle.m0_core.specs.Kinds.{is_breakpoint}
 use Rattle.m0_core.specs.Entry.{entry_frame, stacked, vector_address, stacking, entry_beat, entry_ended, taken_first}
 use Rattle.m0_core.specs.Return.{is_to_handler, is_to_process, is_to_thread, is_alone, is_bad, is_misfit, stacked_number, return_frame, unstacking, return_beat, stack_after, with_frame, with_return, after_return, return_ended}
 use Rattle.m0_core.specs.Private.{private_value}
@@ -54,8 +52,7 @@ use Rattle.core_laws.specs.ExceptionLaws.{candidates}
 use Rattle.core_laws.proofs.Keeping.{Keeps, keeps_effect, quarters, halves, sp_set}
 use Rattle.core_laws.proofs.Sets.{positive_by, not_zero, both_right, Leaves, leaves_either, leaves_self, leaves_pended, leaves_called, leaves_cycle, clear_of, leaves_effect}
 use Rattle.core_laws.proofs.Taken.{what_is_taken_is_the_least}
-use Rattle.core_laws.proofs.GivenBack.{IsFresh, bit_clear, fresh_of, entered_active, left_active, taken_out, five_length}
-use Rattle.core_laws.proofs.Handlers.{active_cycle}
+use Rattle.core_laws.proofs.GivenBack.{IsFresh, fresh_of, entered_active, left_active, taken_out, five_length}
 
 -- ---- one exception
 

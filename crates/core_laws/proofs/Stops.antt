@@ -1,5 +1,5 @@
 -- A core stops at its causes, and where it stops there is one.
-use Rattle.std.proofs.Common.{◌≡◌, ℕ, ◌+◌, ◌-◌, ◌%◌, ◌^◌, ◌==◌, ◌&&◌, not, Bool, true, false, cond, refl, sym, ap, ap₂, subst, ◌∙◌, true≢false, Option, Some, None, arith}
+use Rattle.std.proofs.Common.{◌≡◌, ℕ, ◌+◌, ◌-◌, ◌%◌, ◌^◌, ◌==◌, ◌&&◌, Bool, true, false, cond, refl, sym, ap, ap₂, subst, ◌∙◌, true≢false, Option, Some, None, arith}
 use Rattle.std.specs.Prelude.{slice_index, nat_lt}
 use Rattle.std.proofs.lemmas.Bool.Decides.{nat_tests}
 use Rattle.rp_base.specs.declared.Request.{Request}
@@ -22,7 +22,6 @@ use Rattle.lane_look.specs.Asking.{Asking, answered}
 use Rattle.lane_look.specs.Asking.Asking.{Ready, Question}
 use Rattle.m0_core.specs.declared.doing.Act.{Act}
 use Rattle.m0_core.specs.declared.doing.Act.TheVariants as act
-use Rattle.m0_core.specs.declared.doing.Doing.{Doing}
 use Rattle.m0_core.specs.declared.doing.Work.{Work}
 use Rattle.m0_core.specs.declared.doing.Work.TheVariants as works
 use Rattle.m0_core.specs.Kinds.{is_breakpoint}
@@ -30,8 +29,8 @@ use Rattle.m0_core.specs.Fetch.{stopped, asks, asks_awake, asks_next, asks_bound
 use Rattle.m0_core.specs.Cycle.{signals, want_of, want_of_act}
 use Rattle.m0_core.specs.Return.{is_bad, is_misfit, return_beat, unstacking}
 use Rattle.m0_core.specs.State.{State}
-use Rattle.core_laws.specs.Laws.{Given, wanted_in, is_stop, half_at, IsEncoded, IsFetched}
-use Rattle.core_laws.specs.Stops.{IsBetween, IsDecoded, HasBeat, HasAccess, StopsBy, StopsAtCauses, ACoreStopsAtItsCauses}
+use Rattle.core_laws.specs.Laws.{Given, wanted_in, is_stop, half_at, IsEncoded}
+use Rattle.core_laws.specs.Stops.{IsBetween, IsDecoded, HasBeat, HasAccess, StopsBy, ACoreStopsAtItsCauses}
 use Rattle.core_laws.specs.Stops.HasBeat.{begins, enters, goes_on}
 use Rattle.core_laws.specs.Stops.StopsBy.{breakpoint, fault, bad_return, misfit_return, fetch, second_fetch, refused}
 use Rattle.core_laws.proofs.TakesBeats.{begun_awake, begins_first}

@@ -46,10 +46,11 @@ HasAccess answers s request = (work : Work) × HasBeat answers s work × (beat_o
 
 pub data StopsBy : (Ask → ℕ) → State → Why → Type 0 where
   -- a BKPT is decoded
-  breakpoint : {answers : Ask → ℕ} {s : State} (op : Op) → IsDecoded answers s op → is_breakpoint op ≡ true → StopsBy answers s (why.Bkpt s.number)
+  breakpoint : {answers : Ask → ℕ} {s : State} (op : Op) → IsDecoded answers s op → is_breakpoint op ≡ true
+      → StopsBy answers s (why.Bkpt s.number)
   -- an instruction faults where the execution priority is -1 or lower
-  fault : {answers : Ask → ℕ} {s : State} (op : Op) → IsDecoded answers s op → is_breakpoint op ≡ false → is_faulty op s ≡ true → is_locked s ≡ true
-      → StopsBy answers s (why.Lockup s.number)
+  fault : {answers : Ask → ℕ} {s : State} (op : Op) → IsDecoded answers s op → is_breakpoint op ≡ false → is_faulty op s ≡ true
+      → is_locked s ≡ true → StopsBy answers s (why.Lockup s.number)
   -- there a return begins with a bad value
   bad_return : {answers : Ask → ℕ} {s : State} (value : ℕ) → s.work ≡ Some (works.Return value) → s.beats_done ≡ 0 → is_bad value s ≡ true
       → is_locked s ≡ true → StopsBy answers s (why.Lockup s.number)
@@ -57,7 +58,8 @@ pub data StopsBy : (Ask → ℕ) → State → Why → Type 0 where
   misfit_return : {answers : Ask → ℕ} {s : State} (value : ℕ) → s.work ≡ Some (works.Return value) → s.beats_done ≡ 12
       → is_misfit value (slice_index s.read 7) ≡ true → is_locked s ≡ true → StopsBy answers s (why.Lockup s.number)
   -- the instruction at PC is not in SRAM
-  fetch : {answers : Ask → ℕ} {s : State} → IsBetween s → is_ram s.regs.pc ≡ false → StopsBy answers s (why.Outside (master_of s.number) s.regs.pc)
+  fetch : {answers : Ask → ℕ} {s : State} → IsBetween s → is_ram s.regs.pc ≡ false
+      → StopsBy answers s (why.Outside (master_of s.number) s.regs.pc)
   -- nor is the second halfword of a long one
   second_fetch : {answers : Ask → ℕ} {s : State} → IsBetween s → is_ram s.regs.pc ≡ true → begins_long (half_at answers s.regs.pc) ≡ true
       → is_ram ((s.regs.pc + 2) % 2 ^ 32) ≡ false → StopsBy answers s (why.Outside (master_of s.number) ((s.regs.pc + 2) % 2 ^ 32))
