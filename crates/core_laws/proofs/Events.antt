@@ -1,33 +1,30 @@
--- When WFE moves on, and where a core stops.
+-- When WFE moves on, and where a return faults.
 use Rattle.std.proofs.Common.{◌≡◌, ℕ, ◌+◌, ◌^◌, ◌%◌, ◌==◌, ◌&&◌, ◌||◌, not, Bool, true, false, cond, List, length, refl, sym, ap, ap₂, subst, ◌∙◌, true≢false, Some, None}
 use Rattle.std.specs.Prelude.{slice_get, slice_index, nat_lt}
-use Rattle.rp_base.specs.declared.op.Op.{Op}
 use Rattle.rp_base.specs.declared.op.Op.TheVariants as op
 use Rattle.rp_base.specs.declared.Why.{Why}
 use Rattle.rp_base.specs.declared.Why.TheVariants as why
-use Rattle.rp_base.specs.Access.{master_of}
 use Rattle.m0_beats.specs.declared.registers.Regs.{Regs}
 use Rattle.m0_beats.specs.declared.timing.Beat.TheVariants.{Inner}
 use Rattle.m0_beats.specs.Beats.{beats_of}
 use Rattle.m0_beats.specs.Effects.{return_of}
 use Rattle.m0_nvic.specs.Priority.{wakes_of}
 use Rattle.m0_nvic.specs.Cycle as nvic
-use Rattle.lane_look.specs.declared.lane.Ask.TheVariants.{Lines, Half}
+use Rattle.lane_look.specs.declared.lane.Ask.TheVariants.{Lines}
 use Rattle.lane_look.specs.declared.lane.Want.TheVariants as want
 use Rattle.lane_look.specs.Asking.{answered}
-use Rattle.lane_look.specs.Asking.Asking.{Ready, Question}
+use Rattle.lane_look.specs.Asking.Asking.{Ready}
 use Rattle.m0_core.specs.declared.doing.Act.TheVariants as act
 use Rattle.m0_core.specs.declared.doing.Work.{Work}
 use Rattle.m0_core.specs.declared.doing.Work.TheVariants as works
-use Rattle.m0_core.specs.Kinds.{is_breakpoint}
-use Rattle.m0_core.specs.Fetch.{stopped, asks_awake, asks_next, asks_boundary, asks_taken, asks_first, asks_second, asks_decoded, asks_fault, asks_beat, asks_return, locks_last, ends_with, is_ram, is_faulty, is_locked}
+use Rattle.m0_core.specs.Fetch.{stopped, asks_awake, asks_next, asks_fault, asks_beat, asks_return, locks_last, ends_with, is_locked}
 use Rattle.m0_core.specs.Cycle.{want_of, waiting, followed, ended, passed, passed_instruction, after_inner, closed, returning}
 use Rattle.core_laws.specs.ExceptionLaws.{OnlyPendsHardFault}
 use Rattle.m0_core.specs.Return.{is_bad, is_misfit}
 use Rattle.m0_core.specs.State.{State}
-use Rattle.core_laws.specs.Laws.{Given, lines_in, wanted_in, after_cycle, IsAtBoundary}
-use Rattle.core_laws.specs.EventLaws.{IsInWfe, StaysInWfe, LeavesWfe, AWfeMovesOnAtAnEvent, ACoreStopsAtItsCauses, AReturnFaults}
-use Rattle.core_laws.proofs.TakesBeats.{begins_on, begins_first, begun_awake, begun_beat, after_begun}
+use Rattle.core_laws.specs.Laws.{Given, lines_in, wanted_in, after_cycle}
+use Rattle.core_laws.specs.EventLaws.{IsInWfe, StaysInWfe, LeavesWfe, AWfeMovesOnAtAnEvent, AReturnFaults}
+use Rattle.core_laws.proofs.TakesBeats.{begins_on, begun_awake, begun_beat, after_begun}
 use Rattle.core_laws.proofs.Taken.{fault_leaves}
 
 -- ---- WFE
@@ -104,42 +101,6 @@ a_wfe_moves_on_at_an_event s cycle g in_wfe =
       λ none. subst (λ t. StaysInWfe cycle g s t)
           (sym (path ∙ ap (closed (lines_in g) cycle) (paused_by s false in_wfe none))) (stays g cycle s in_wfe (left_one s.event (wakes_of s.nvic) none)),
     )
-
--- ---- stops
-
-at_boundary : (g : Given) (s : State) → IsAtBoundary s → answered g.answers (asks_awake s) ≡ answered g.answers (asks_first s)
-unfolding asks_awake asks_boundary
-at_boundary g s at = ap (λ w. answered g.answers (asks_next w s)) at.between ∙ ap (λ t. answered g.answers (asks_taken t s)) at.untaken
-
-stops_by : (g : Given) (cycle : ℕ) (s : State) (cause : Why) → IsAtBoundary s → answered g.answers (asks_first s) ≡ act.Stopped cause
-    → wanted_in cycle g s ≡ want.Stopped cause
-stops_by g cycle s cause at first =
-    ap want_of (begun_awake g cycle s at.awake ∙ ap (ends_with (g.answers Lines % 2 ^ 32) cycle) (at_boundary g s at ∙ first))
-
-decoded_break : (op : Op) (g : Given) (s : State) → is_breakpoint op ≡ true → answered g.answers (asks_decoded op s) ≡ act.Stopped (why.Bkpt s.number)
-unfolding asks_decoded
-decoded_break op g s b =
-    ap (λ x. answered g.answers (cond x (stopped (why.Bkpt s.number)) (cond (is_faulty op s) (asks_fault s) (asks_beat (works.Instruction op) s)))) b
-
-decoded_locked : (op : Op) (g : Given) (s : State) → is_breakpoint op ≡ false → is_faulty op s ≡ true → is_locked s ≡ true
-    → answered g.answers (asks_decoded op s) ≡ act.Stopped (why.Lockup s.number)
-unfolding asks_decoded
-decoded_locked op g s b f l =
-    ap (λ x. answered g.answers (cond x (stopped (why.Bkpt s.number)) (cond (is_faulty op s) (asks_fault s) (asks_beat (works.Instruction op) s)))) b
-    ∙ ap (λ x. answered g.answers (cond x (asks_fault s) (asks_beat (works.Instruction op) s))) f
-    ∙ ap (λ x. answered g.answers (cond x (stopped (why.Lockup s.number)) (Ready act.Fault))) l
-
-fetched_outside : (g : Given) (s : State) → is_ram s.regs.pc ≡ false → answered g.answers (asks_first s) ≡ act.Stopped (why.Outside (master_of s.number) s.regs.pc)
-unfolding asks_first
-fetched_outside g s e =
-    ap (λ b. answered g.answers (cond b (Question (Half s.regs.pc) (λ half. asks_second (half % 2 ^ 16) s)) (stopped (why.Outside (master_of s.number) s.regs.pc)))) e
-
-pub a_core_stops_at_its_causes : ACoreStopsAtItsCauses
-a_core_stops_at_its_causes s cycle g at = record {
-  breakpoint = λ op fetched b. stops_by g cycle s (why.Bkpt s.number) at (begins_first op g s fetched ∙ decoded_break op g s b);
-  lockup = λ op fetched b f l. stops_by g cycle s (why.Lockup s.number) at (begins_first op g s fetched ∙ decoded_locked op g s b f l);
-  fetch = λ e. stops_by g cycle s (why.Outside (master_of s.number) s.regs.pc) at (fetched_outside g s e);
-}
 
 -- ---- a return that faults
 

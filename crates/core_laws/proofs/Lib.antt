@@ -7,6 +7,7 @@ mod Keeping
 mod ReadCount
 mod Sets
 mod Sound
+mod Stops
 mod Taken
 mod TakesBeats
 mod Waits

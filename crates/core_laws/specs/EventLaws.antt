@@ -1,21 +1,18 @@
--- WFE and what stops a core (ARMv6-M Architecture Reference Manual, A6.7.75, WFE, B1.5.18, the event register, A6.7, BKPT, and
--- B1.5.15, lockup).
+-- WFE, and returns that fault (ARMv6-M Architecture Reference Manual, A6.7.75, WFE, B1.5.18, the event register, B1.5.8, ExceptionReturn,
+-- and B1.5.15, lockup).
 use Rattle.std.specs.Prelude.{◌≡◌, ℕ, true, false, ◌||◌, [], Some, None, slice_index}
-use Rattle.rp_base.specs.declared.op.Op.{Op}
 use Rattle.rp_base.specs.declared.op.Op.TheVariants as op
 use Rattle.rp_base.specs.declared.Why.TheVariants as why
-use Rattle.rp_base.specs.Access.{master_of}
 use Rattle.lane_look.specs.declared.lane.Want.TheVariants as want
 use Rattle.m0_beats.specs.Effects.{effect_of}
 use Rattle.m0_nvic.specs.Priority.{wakes_of}
 use Rattle.m0_nvic.specs.Cycle as nvic
 use Rattle.m0_core.specs.declared.doing.Work.TheVariants as works
-use Rattle.m0_core.specs.Kinds.{is_breakpoint}
-use Rattle.m0_core.specs.Fetch.{is_ram, is_faulty, is_locked}
+use Rattle.m0_core.specs.Fetch.{is_locked}
 use Rattle.core_laws.specs.ExceptionLaws.{OnlyPendsHardFault}
 use Rattle.m0_core.specs.Return.{is_bad, is_misfit}
 use Rattle.m0_core.specs.State.{State}
-use Rattle.core_laws.specs.Laws.{Given, lines_in, wanted_in, after_cycle, IsAtBoundary, IsFetched}
+use Rattle.core_laws.specs.Laws.{Given, lines_in, wanted_in, after_cycle}
 
 -- ---- WFE
 
@@ -48,19 +45,6 @@ AWfeMovesOnAtAnEvent =
     (s : State) (cycle : ℕ) (g : Given) → IsInWfe s
     → ((s.event || wakes_of s.nvic) ≡ true → LeavesWfe cycle g s (after_cycle cycle g s))
     × ((s.event || wakes_of s.nvic) ≡ false → StaysInWfe cycle g s (after_cycle cycle g s))
-
--- ---- stops
-
--- at a boundary a core stops at a BKPT, at a fault where the execution priority is -1 or lower, and at a fetch outside SRAM
-pub record StopsAt (s : State) (cycle : ℕ) (g : Given) : Type 0 where
-  pub breakpoint : (op : Op) → IsFetched g.answers s.regs.pc op → is_breakpoint op ≡ true
-      → wanted_in cycle g s ≡ want.Stopped (why.Bkpt s.number)
-  pub lockup : (op : Op) → IsFetched g.answers s.regs.pc op → is_breakpoint op ≡ false → is_faulty op s ≡ true → is_locked s ≡ true
-      → wanted_in cycle g s ≡ want.Stopped (why.Lockup s.number)
-  pub fetch : is_ram s.regs.pc ≡ false → wanted_in cycle g s ≡ want.Stopped (why.Outside (master_of s.number) s.regs.pc)
-
-abbrev pub ACoreStopsAtItsCauses : Type 0
-ACoreStopsAtItsCauses = (s : State) (cycle : ℕ) (g : Given) → IsAtBoundary s → StopsAt s cycle g
 
 -- ---- a return that faults
 

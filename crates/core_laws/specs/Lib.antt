@@ -4,4 +4,5 @@ pub mod ExceptionLaws
 pub mod Handlers
 pub mod Laws
 pub mod Sound
+pub mod Stops
 pub mod Waiting

@@ -3,10 +3,11 @@
 
 ghost use Rattle.core_laws.specs.Laws.{AnInstructionTakesItsBeats, AnAccessLastsUntilItIsDone};
 ghost use Rattle.core_laws.specs.Begins.{WhatBeginsIsFetchedFirst};
-ghost use Rattle.core_laws.specs.EventLaws.{AWfeMovesOnAtAnEvent, ACoreStopsAtItsCauses, AReturnFaults};
+ghost use Rattle.core_laws.specs.EventLaws.{AWfeMovesOnAtAnEvent, AReturnFaults};
 ghost use Rattle.core_laws.specs.ExceptionLaws.{WhatIsTakenIsTheLeast, AFaultPendsHardFaultAlone, AWfiMovesOnWhereAnExceptionWakes};
 ghost use Rattle.core_laws.specs.Handlers.{AnEntryTakesItsBeats, AReturnTakesItsBeats, AReturnGivesBackWhatAnEntryFound};
 ghost use Rattle.core_laws.specs.Sound.{ACoreStaysSound};
+ghost use Rattle.core_laws.specs.Stops.{ACoreStopsAtItsCauses};
 ghost use Rattle.core_laws.specs.Waiting.{AnInstructionTakesItsBeatsAndWaits};
 ghost use Rattle.std.specs.Prelude.{◌<◌, ◌^◌};
 ghost use Rattle.m0_beats.specs.Registers.{sp_of};
@@ -71,7 +72,8 @@ pub fn a_wfe_moves_on_at_an_event()
     ensures { AWfeMovesOnAtAnEvent }
 {}
 
-/// At a boundary a core stops at a BKPT, at a fault where the execution priority is -1 or lower, and at a fetch outside SRAM.
+/// In any cycle an awake core stops at a BKPT, at a fault where the execution priority is -1 or lower, that of a return among them, at a
+/// fetch outside SRAM, and at an access of any beat that the private bus refuses, with its address; and at nothing else.
 pub fn a_core_stops_at_its_causes()
     ensures { ACoreStopsAtItsCauses }
 {}

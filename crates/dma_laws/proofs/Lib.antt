@@ -1,0 +1,4 @@
+mod Bytes
+mod Copying
+mod Ending
+mod Views
