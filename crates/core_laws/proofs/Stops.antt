@@ -97,6 +97,7 @@ decoded_by f s c op is h = go (is_breakpoint op) refl h
     faulty : (b : Bool) → is_breakpoint op ≡ false → is_faulty op s ≡ b → wants f (cond b (asks_fault s) (asks_beat (works.Instruction op) s)) ≡ want.Stopped c → StopsBy f s c
     faulty true n e h = fault_by f s c (λ locked. fault op is n e locked) h
     faulty false n e h = work_by f s c (works.Instruction op) (begins op is n e) h
+
     go : (b : Bool) → is_breakpoint op ≡ b → wants f (cond b (stopped (why.Bkpt s.number)) (cond (is_faulty op s) (asks_fault s) (asks_beat (works.Instruction op) s))) ≡ want.Stopped c → StopsBy f s c
     go true e h = is_by f s _ c h (breakpoint op is e)
     go false e h = faulty (is_faulty op s) e refl h
@@ -104,7 +105,7 @@ decoded_by f s c op is h = go (is_breakpoint op) refl h
 long_by : (f : Ask → ℕ) (s : State) (c : Why) (b : Bool) → IsBetween s → is_ram s.regs.pc ≡ true → begins_long (half_at f s.regs.pc) ≡ true
     → is_ram ((s.regs.pc + 2) % 2 ^ 32) ≡ b
     → wants f (cond b (Question (Half ((s.regs.pc + 2) % 2 ^ 32)) (λ half. asks_decoded (operation_of (half_at f s.regs.pc) (half % 2 ^ 16)) s))
-      (stopped (why.Outside (master_of s.number) ((s.regs.pc + 2) % 2 ^ 32)))) ≡ want.Stopped c → StopsBy f s c
+    (stopped (why.Outside (master_of s.number) ((s.regs.pc + 2) % 2 ^ 32)))) ≡ want.Stopped c → StopsBy f s c
 long_by f s c true between ram long e h =
     decoded_by f s c (operation_of (half_at f s.regs.pc) (half_at f ((s.regs.pc + 2) % 2 ^ 32)))
     (between, (ram, subst (λ b. IsEncoded b f s.regs.pc (operation_of (half_at f s.regs.pc) (half_at f ((s.regs.pc + 2) % 2 ^ 32)))) (sym long) (e, refl))) h
@@ -116,7 +117,7 @@ second_by f s c between ram h = go (begins_long (half_at f s.regs.pc)) refl h
   where
     go : (b : Bool) → begins_long (half_at f s.regs.pc) ≡ b
         → wants f (cond b (asks_half ((s.regs.pc + 2) % 2 ^ 32) s (λ second. asks_decoded (operation_of (half_at f s.regs.pc) second) s))
-          (asks_decoded (operation_of (half_at f s.regs.pc) 0) s)) ≡ want.Stopped c → StopsBy f s c
+        (asks_decoded (operation_of (half_at f s.regs.pc) 0) s)) ≡ want.Stopped c → StopsBy f s c
     go true e h = long_by f s c (is_ram ((s.regs.pc + 2) % 2 ^ 32)) between ram e refl h
     go false e h =
         decoded_by f s c (operation_of (half_at f s.regs.pc) 0)
@@ -159,6 +160,7 @@ return_by f s c value e h = go (s.beats_done == 0 && is_bad value s) refl h
         (first_of (is_misfit value (slice_index s.read 7)) (is_locked s) (second_of (s.beats_done == 12) _ l))
         (second_of (is_misfit value (slice_index s.read 7)) (is_locked s) (second_of (s.beats_done == 12) _ l)))
     last false l h = work_by f s c (works.Return value) (goes_on (works.Return value) e) h
+
     go : (b : Bool) → (s.beats_done == 0 && is_bad value s) ≡ b
         → wants f (cond b (asks_fault s) (cond (locks_last value s) (stopped (why.Lockup s.number)) (asks_beat (works.Return value) s))) ≡ want.Stopped c
         → StopsBy f s c

@@ -148,9 +148,11 @@ next_is e q h = room (nat_lt (length e.waiting) 2) refl h
     number : (n : ℕ) (b : Bool) → nat_lt (length e.waiting) 2 ≡ true → e.chosen ≡ Some n → nat_lt n 12 ≡ b → cond b (Some (read_of (channel_at n e))) None ≡ Some q → NextIs e q
     number n true r c l h = record { n = n; chosen = c; room = r; number = l; is = sym (same_some (read_of (channel_at n e)) q h) }
     number n false r c l h = none_some q h
+
     chosen : (o : Option ℕ) → nat_lt (length e.waiting) 2 ≡ true → e.chosen ≡ o → read_for o e ≡ Some q → NextIs e q
     chosen None r c h = none_some q h
     chosen (Some n) r c h = number n (nat_lt n 12) r c refl h
+
     room : (b : Bool) → nat_lt (length e.waiting) 2 ≡ b → cond b (read_for e.chosen e) None ≡ Some q → NextIs e q
     room true r h = chosen e.chosen r refl h
     room false r h = none_some q h
@@ -199,6 +201,7 @@ eq_other n k apart = go (n == k) refl
   where
     is_number : (n == k) ≡ true → n ≡ k
     is_number h = grind (arith, nat_tests, h)
+
     go : (b : Bool) → (n == k) ≡ b → (n == k) ≡ false
     go true e = absurd (apart (sym (is_number e)))
     go false e = e
@@ -751,9 +754,11 @@ none_over count hand waits false e h =
   where
     is_none : (n : ℕ) → (n == 0) ≡ true → n ≡ 0
     is_none n h = grind (arith, nat_tests, h)
+
     zero_of : (c w : Bool) → (count == 0) ≡ c → (c && w) ≡ true → count ≡ 0
     zero_of true w e h = is_none count e
     zero_of false w e h = absurd (true≢false (sym h))
+
     other_of : (c w : Bool) → (waits == 0) ≡ w → (c && w) ≡ true → waits ≡ 0
     other_of true w e h = is_none waits (e ∙ h)
     other_of false w e h = absurd (true≢false (sym h))

@@ -25,6 +25,7 @@ read_raised (Some word) x = go (nat_lt (length x.waiting) 2) x.chosen
     number : (n : ℕ) (b : Bool) → (cond b (with_data word n (channel_at n x) x) x).raised ≡ x.raised
     number n true = refl
     number n false = refl
+
     go : (b : Bool) (o : Option ℕ) → (cond b (with_read_by word o x) x).raised ≡ x.raised
     go true None = refl
     go true (Some n) = number n (nat_lt n 12)
@@ -77,6 +78,7 @@ bits_before test (suc n) k e less = go (test n) (bits_before test n k e (omega (
   where
     apart : k ≢ n
     apart is = absurd (omega (arith, is, less))
+
     go : (b : Bool) → has_bit (in_turn test with_end n e).raised k ≡ has_bit e.raised k
         → has_bit (cond b (with_end n (in_turn test with_end n e)) (in_turn test with_end n e)).raised k ≡ has_bit e.raised k
     go true before = bit_other n k (in_turn test with_end n e) apart ∙ before
@@ -97,6 +99,7 @@ bits_at test k e low long busy = go (test k) refl
   where
     x : Engine
     x = in_turn test with_end k e
+
     go : (b : Bool) → test k ≡ b → has_bit (cond b (with_end k x) x).raised k ≡ (has_bit e.raised k || (b && reports (channel_at k e)))
     go true h =
         bit_same k x
@@ -197,9 +200,9 @@ data_idles k n word x low long = elim (equal_or_not n k) [
         long = length-set x.channels k (moved (channel_at k x));
       })
   | inr apart ↦ record {
-      busy = ap (λ (c : Channel). c.busy) (get_or-set_other x.channels n k (moved (channel_at n x)) idle_channel (λ is. apart (sym is)));
-      long = length-set x.channels n (moved (channel_at n x));
-    }
+    busy = ap (λ (c : Channel). c.busy) (get_or-set_other x.channels n k (moved (channel_at n x)) idle_channel (λ is. apart (sym is)));
+    long = length-set x.channels n (moved (channel_at n x));
+  }
 ]
 
 read_idles : (k : ℕ) (w : Option ℕ) (x : Engine) → k < 12 → length x.channels ≡ 12 → Idles k x (after_read w x)
@@ -210,6 +213,7 @@ read_idles k (Some word) x low long = go (nat_lt (length x.waiting) 2) x.chosen
     number : (n : ℕ) (b : Bool) → Idles k x (cond b (with_data word n (channel_at n x) x) x)
     number n true = data_idles k n word x low long
     number n false = idles k x
+
     go : (b : Bool) (o : Option ℕ) → Idles k x (cond b (with_read_by word o x) x)
     go true None = idles k x
     go true (Some n) = number n (nat_lt n 12)

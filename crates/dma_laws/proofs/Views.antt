@@ -211,6 +211,7 @@ bit_other n k e apart = go (channel_at n e).aborted (channel_at n e) ∙ ap (λ 
     reported : (b : Bool) (i : Engine) → has_bit (cond b i (with_raised n i)).raised k ≡ has_bit i.raised k
     reported true i = refl
     reported false i = raised_other n k i apart
+
     go : (b : Bool) (c : Channel) → has_bit (cond b (changed idle n e) (with_chain n c (with_report n c (changed idle n e)))).raised k ≡ has_bit (changed idle n e).raised k
     go true c = refl
     go false c = ap (λ r. has_bit r k) (chain_raised n c (with_report n c (changed idle n e))) ∙ reported (is_quiet c) (changed idle n e)
@@ -224,8 +225,10 @@ bit_same k e =
   where
     i : Engine
     i = changed idle k e
+
     c : Channel
     c = channel_at k e
+
     go : (a q : Bool) → c.aborted ≡ a → is_quiet c ≡ q
         → has_bit (cond c.aborted i (with_chain k c (with_report k c i))).raised k ≡ (has_bit i.raised k || (not c.aborted && not (is_quiet c)))
     go true q a_is q_is =
@@ -256,11 +259,14 @@ end_idle k e low long = ap (λ (d : Channel). d.busy) (go c.aborted ∙ changed_
   where
     i : Engine
     i = changed idle k e
+
     c : Channel
     c = channel_at k e
+
     reported : (b : Bool) → channel_at k (cond b i (with_raised k i)) ≡ channel_at k i
     reported true = refl
     reported false = refl
+
     go : (b : Bool) → channel_at k (cond b i (with_chain k c (with_report k c i))) ≡ channel_at k i
     go true = refl
     go false = chain_idle k c (with_report k c i) (chain_of c == k) refl ∙ reported (is_quiet c)

@@ -19,7 +19,20 @@ use uf2_image::read_image;
 type Row = (&'static [u8], &'static [u8]);
 
 /// LDR of the address 20000100, a store to it, a branch to itself.
-const STORES_ONCE: [u32; 12] = [0x6000_4801, 0x0000_e7fe, 0x2000_0100, 0, 0, 0, 0, 0, 0, 0, 0, 0];
+const STORES_ONCE: [u32; 12] = [
+    0x6000_4801,
+    0x0000_e7fe,
+    0x2000_0100,
+    0,
+    0,
+    0,
+    0,
+    0,
+    0,
+    0,
+    0,
+    0,
+];
 
 /// What is answered over 10000 cycles of it. The last line is not heard.
 const STORED: [Row; 32] = [
