@@ -1,14 +1,12 @@
 -- The transfers of a channel that copies are those of its bytes.
-use Rattle.std.proofs.Common.{◌≡◌, ℕ, zero, suc, ◌+◌, ◌-◌, ◌*◌, ◌/◌, ◌%◌, ◌^◌, ◌<◌, ◌≤◌, ◌==◌, Bool, true, false, cond, List, [], ◌∷◌, refl, sym, ap, ap₂, subst, ◌∙◌, arith, Some, None}
-use Rattle.std.proofs.lemmas.Bool.Decides.{nat_tests}
+use Rattle.std.proofs.Common.{◌≡◌, ℕ, zero, suc, ◌+◌, ◌*◌, ◌/◌, ◌%◌, ◌^◌, ◌<◌, ◌≤◌, ◌==◌, Bool, true, false, cond, [], ◌∷◌, refl, sym, ap, ap₂, subst, ◌∙◌, arith, Some, None}
 use Rattle.rp_base.specs.declared.Size.{Size}
 use Rattle.rp_base.specs.declared.Size.TheVariants as sizes
-use Rattle.rp_base.specs.declared.Request.{Request}
 use Rattle.rp_base.specs.Access.{lanes_of}
 use Rattle.dma_engine.specs.declared.channel.Channel.{Channel}
 use Rattle.dma_engine.specs.Control.{size_by, size_of, increments_read, increments_write, ring_of, rings_write, swaps}
-use Rattle.dma_engine.specs.Transfer.{bytes_of, rounded, advanced, ring_of_read, ring_of_write, next_read, next_write, moved, swapped, data_by, data_of, read_of, write_after, request_of}
-use Rattle.dma_laws.specs.Bytes.{width, code, copying, AreFields, bytes_at, word_around, reads_of, writes_of, words_of, Fit, CopyBytes, TransfersCopyBytes}
+use Rattle.dma_engine.specs.Transfer.{bytes_of, rounded, advanced, ring_of_read, ring_of_write, moved, data_by, data_of, read_of, write_after, request_of}
+use Rattle.dma_laws.specs.Bytes.{width, copying, AreFields, bytes_at, word_around, reads_of, writes_of, words_of, Fit, TransfersCopyBytes}
 use Rattle.dma_laws.specs.Copies.{reads_from, writes_from}
 
 -- ---- the control word

@@ -1,11 +1,10 @@
 -- A channel's sequence, cycle by cycle.
-use Rattle.std.proofs.Common.{◌≡◌, ◌≢◌, ℕ, zero, suc, ◌+◌, ◌-◌, ◌/◌, ◌%◌, ◌^◌, ◌<◌, ◌≤◌, ◌==◌, ◌&&◌, ◌||◌, ◌⊎◌, inl, inr, not, Bool, true, false, cond, List, [], ◌∷◌, ◌++◌, map, drop, length, refl, sym, ap, ap₂, subst, ◌∙◌, arith, true≢false, lt-ltb, append_assoc, append-nil, length-append, Option, Some, None, option_to_list}
-use Rattle.std.specs.Prelude.{nat_lt, slice_get, slice_set}
-use Rattle.std.specs.List.{filter, flat_map, list_any}
+use Rattle.std.proofs.Common.{◌≡◌, ◌≢◌, ℕ, zero, suc, ◌+◌, ◌-◌, ◌/◌, ◌%◌, ◌^◌, ◌<◌, ◌==◌, ◌&&◌, ◌||◌, ◌⊎◌, inl, inr, not, Bool, true, false, cond, List, [], ◌∷◌, ◌++◌, map, drop, length, refl, sym, ap, ap₂, subst, ◌∙◌, arith, true≢false, append_assoc, append-nil, length-append, Option, Some, None, option_to_list}
+use Rattle.std.specs.Prelude.{nat_lt, slice_get}
+use Rattle.std.specs.List.{filter, list_any}
 use Rattle.std.proofs.lemmas.Bool.Decides.{nat_tests}
 use Rattle.std.proofs.lemmas.List.{length-set, get_or-set_same, get_or-set_other}
 use Rattle.rp_base.specs.declared.Request.{Request}
-use Rattle.rp_base.specs.declared.Master.{Master}
 use Rattle.rp_base.specs.declared.Master.TheVariants.{DmaRead, DmaWrite}
 use Rattle.rp_base.specs.declared.map.Spot.{Spot}
 use Rattle.rp_base.specs.declared.map.Spot.TheVariants as spot
@@ -13,7 +12,6 @@ use Rattle.rp_base.specs.Map.{place_of}
 use Rattle.rp_base.specs.Word.{bit_number}
 use Rattle.lane_look.specs.declared.lane.Ask.{Ask}
 use Rattle.lane_look.specs.declared.lane.Ask.TheVariants.{Pacing}
-use Rattle.lane_look.specs.declared.lane.Want.{Want}
 use Rattle.lane_look.specs.Asking.{answered}
 use Rattle.lane_look.specs.Asking.Asking.{Ready, Question}
 use Rattle.dma_engine.specs.declared.channel.Channel.{Channel}
@@ -22,18 +20,18 @@ use Rattle.dma_engine.specs.declared.begun.Access.{Access}
 use Rattle.dma_engine.specs.declared.begun.Access.TheVariants as access
 use Rattle.dma_engine.specs.declared.begun.BegunTransfer.{BegunTransfer}
 use Rattle.dma_engine.specs.Asks.{may_be_device, outside, elsewhere, first_write, write_at, write_for, write_begun, read_for, next_request, asks_at, asks_for, asks_read, waits_for_counts, idle_begun, asks}
-use Rattle.dma_engine.specs.Channel.{with_channels, changed, in_turn, with_end}
-use Rattle.dma_engine.specs.Choice.{is_ready, is_candidate, choice_of}
+use Rattle.dma_engine.specs.Channel.{changed, in_turn}
+use Rattle.dma_engine.specs.Choice.{is_ready, choice_of}
 use Rattle.dma_engine.specs.Control.{is_high}
-use Rattle.dma_engine.specs.Cycle.{want_of, is_chosen, has_write, is_in_flight, is_through, is_over, after_ends, word_of, word_read, with_data, with_read_by, with_read, after_read, is_written, after_write, counted, with_chosen, with_choice, choice_where_none, after_choice, after_read_of, after_write_of, after_transfers, next}
+use Rattle.dma_engine.specs.Cycle.{want_of, is_chosen, has_write, is_in_flight, is_over, after_ends, word_of, word_read, with_data, with_read_by, with_read, after_read, is_written, after_write, counted, with_chosen, choice_where_none, after_choice, after_read_of, after_write_of, after_transfers, next}
 use Rattle.dma_engine.specs.Laws.{IsFirst, IsChoice}
 use Rattle.dma_engine.specs.State.{Engine, idle_channel, channel_at}
 use Rattle.dma_engine.specs.Timer.{gets_credit, credited, with_credit, with_stepped_timers, after_timers}
 use Rattle.dma_engine.specs.Transfer.{rounded, moved, data_of, read_of, write_after, request_of}
 use Rattle.dma_engine.specs.Control.{size_by}
 use Rattle.dma_engine.proofs.First.{choice_comes_first}
-use Rattle.dma_laws.specs.Copies.{Cycle, begun_in, after, access_of, granted, word_by, read_by, is_first, written_by, waiting_of, reads_from, writes_from, Leaves, AreCycles, end_of, words_over, reads_over, written_over, HasBegun, in_hand, IsCopied, ACopyIsExactOnAnyChannel}
-use Rattle.dma_laws.proofs.Views.{equal_or_not, changed_same, changed_other, changed_beside, Beside, Same, turns_same}
+use Rattle.dma_laws.specs.Copies.{Cycle, begun_in, after, granted, word_by, read_by, is_first, written_by, waiting_of, reads_from, writes_from, AreCycles, end_of, words_over, reads_over, written_over, in_hand, ACopyIsExactOnAnyChannel}
+use Rattle.dma_laws.proofs.Views.{equal_or_not, changed_same, changed_other, changed_beside, Beside, turns_same}
 
 -- ---- what is begun
 

@@ -1,19 +1,18 @@
 -- In which cycle a channel raises its interrupt, and that it is idle then.
-use Rattle.std.proofs.Common.{◌≡◌, ◌≢◌, ℕ, zero, suc, ◌+◌, ◌<◌, ◌≤◌, ◌==◌, ◌&&◌, ◌||◌, ◌⊎◌, inl, inr, not, Bool, true, false, cond, length, refl, sym, ap, ap₂, subst, ◌∙◌, arith, true≢false, Option, Some, None}
+use Rattle.std.proofs.Common.{◌≡◌, ◌≢◌, ℕ, zero, suc, ◌<◌, ◌≤◌, ◌==◌, ◌&&◌, ◌||◌, ◌⊎◌, inl, inr, not, Bool, true, false, cond, length, refl, sym, ap, ap₂, subst, ◌∙◌, arith, true≢false, Option, Some, None}
 use Rattle.std.specs.Prelude.{nat_lt, slice_get}
 use Rattle.std.proofs.lemmas.List.{length-set, get_or-set_same, get_or-set_other}
 use Rattle.rp_base.specs.Word.{has_bit}
 use Rattle.dma_engine.specs.declared.channel.Channel.{Channel}
 use Rattle.dma_engine.specs.Channel.{changed, in_turn, with_end}
 use Rattle.dma_engine.specs.Choice.{choice_of}
-use Rattle.dma_engine.specs.Control.{is_quiet}
 use Rattle.dma_engine.specs.Cycle.{is_in_flight, is_over, after_ends, word_of, word_read, with_data, with_read_by, with_read, after_read, is_written, after_write, counted, choice_where_none, after_choice, after_read_of, after_write_of, after_transfers, next}
 use Rattle.dma_engine.specs.State.{Engine, idle_channel, channel_at}
 use Rattle.dma_engine.specs.Timer.{gets_credit, credited, with_credit, with_stepped_timers, after_timers}
 use Rattle.dma_engine.specs.Transfer.{moved}
 use Rattle.dma_engine.proofs.InTurn.{in_turn-all_failing}
-use Rattle.dma_laws.specs.Copies.{Cycle, begun_in, after, Ends, AnEndIsRaisedOnce}
-use Rattle.dma_laws.proofs.Views.{equal_or_not, changed_beside, changed_same, changed_other, Moving, turns_moving, turns_same, bit_other, bit_same, end_idle}
+use Rattle.dma_laws.specs.Copies.{Cycle, begun_in, after, reports, AnEndIsRaisedOnce}
+use Rattle.dma_laws.proofs.Views.{equal_or_not, changed_beside, changed_same, changed_other, turns_moving, turns_same, bit_other, bit_same, end_idle}
 
 -- ---- what leaves INTR as it is
 
@@ -83,10 +82,6 @@ bits_before test (suc n) k e less = go (test n) (bits_before test n k e (omega (
         → has_bit (cond b (with_end n (in_turn test with_end n e)) (in_turn test with_end n e)).raised k ≡ has_bit e.raised k
     go true before = bit_other n k (in_turn test with_end n e) apart ∙ before
     go false before = before
-
--- an end that is neither that of an abort nor quiet
-abbrev reports : Channel → Bool
-reports c = not c.aborted && not (is_quiet c)
 
 or_none : (b : Bool) → b ≡ (b || false)
 or_none true = refl

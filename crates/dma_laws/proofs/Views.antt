@@ -1,5 +1,5 @@
 -- A channel in the engine, where channels change one after another.
-use Rattle.std.proofs.Common.{◌≡◌, ◌≢◌, ℕ, zero, suc, ◌+◌, ◌^◌, ◌<◌, ◌==◌, ◌&&◌, ◌||◌, ◌⊎◌, inl, inr, max, eqb, not, Bool, true, false, cond, List, length, refl, sym, ap, ap₂, subst, ◌∙◌, arith, true≢false, lt-ltb}
+use Rattle.std.proofs.Common.{◌≡◌, ◌≢◌, ℕ, zero, suc, ◌^◌, ◌<◌, ◌==◌, ◌&&◌, ◌||◌, ◌⊎◌, inl, inr, max, eqb, not, Bool, true, false, cond, length, refl, sym, ap, ap₂, subst, ◌∙◌, arith, true≢false, lt-ltb}
 use Rattle.std.specs.Prelude.{nat_lt, slice_set, bit_or}
 use Rattle.std.specs.Int.{bit_at}
 use Rattle.std.proofs.lemmas.Bool.Decides.{nat_tests}

@@ -1,6 +1,6 @@
 -- What the transfers of a copy are in bytes (RP2040 Datasheet, 2.5.1.1, addresses, 2.5.7, CH0_CTRL_TRIG, and 2.1.4; ARMv6-M Architecture
 -- Reference Manual, A3.3, little-endian memory).
-use Rattle.std.specs.Prelude.{◌≡◌, ℕ, zero, suc, ◌+◌, ◌*◌, ◌%◌, ◌/◌, ◌^◌, ◌<◌, ◌≤◌, false, true, List, [], ◌∷◌, Some, None}
+use Rattle.std.specs.Prelude.{◌≡◌, ℕ, zero, suc, ◌+◌, ◌*◌, ◌/◌, ◌%◌, ◌^◌, ◌<◌, ◌≤◌, List, [], ◌∷◌, Some, None}
 use Rattle.rp_base.specs.declared.Size.{Size}
 use Rattle.rp_base.specs.declared.Size.TheVariants as sizes
 use Rattle.rp_base.specs.declared.Request.{Request}
@@ -68,5 +68,5 @@ pub record CopyBytes (k : ℕ) (memory : ℕ → ℕ) (size : Size) (n : ℕ) (c
 
 abbrev pub TransfersCopyBytes : Type 0
 TransfersCopyBytes =
-    (k : ℕ) (memory : ℕ → ℕ) (size : Size) (n chain treq quiet : ℕ) (c : Channel) → ((a : ℕ) → memory a < 2 ^ 8) → AreFields chain treq quiet
-    → c.ctrl ≡ copying size chain treq quiet → Fit size n c.read → Fit size n c.write → CopyBytes k memory size n c
+    (k : ℕ) (memory : ℕ → ℕ) (size : Size) (n chain treq quiet : ℕ) (c : Channel) → ((a : ℕ) → memory a < 2 ^ 8)
+    → AreFields chain treq quiet → c.ctrl ≡ copying size chain treq quiet → Fit size n c.read → Fit size n c.write → CopyBytes k memory size n c

@@ -136,13 +136,16 @@ ACopyIsExactOnAnyChannel = (k : ℕ) (s : Engine) (ts : List Cycle) → HasBegun
 
 -- ---- the law of its end
 
+-- the end of its sequence is neither that of an abort nor quiet
+abbrev pub reports : Channel → Bool
+reports c = not c.aborted && not (is_quiet c)
+
 -- in a cycle a channel's bit of INTR is set where its sequence is over, but for an abort and IRQ_QUIET, and else stays; and there it is
 -- idle after it, where no other sequence ends in the same cycle, which might trigger it again
 pub record Ends (k : ℕ) (t : Cycle) : Type 0 where
-  pub raised :
-      has_bit (after t).raised k
-      ≡ (has_bit t.engine.raised k || (is_over t.engine k && (not (channel_at k t.engine).aborted && not (is_quiet (channel_at k t.engine)))))
-  pub idle : is_over t.engine k ≡ true → ((j : ℕ) → j < 12 → is_over t.engine j ≡ true → j ≡ k) → (channel_at k (after t)).busy ≡ false
+  pub raised : has_bit (after t).raised k ≡ (has_bit t.engine.raised k || (is_over t.engine k && reports (channel_at k t.engine)))
+  pub idle : is_over t.engine k ≡ true → ((j : ℕ) → j < 12 → is_over t.engine j ≡ true → j ≡ k)
+      → (channel_at k (after t)).busy ≡ false
 
 abbrev pub AnEndIsRaisedOnce : Type 0
 AnEndIsRaisedOnce = (k : ℕ) (t : Cycle) → k < 12 → length t.engine.channels ≡ 12 → t.engine.held ≡ false → Ends k t
