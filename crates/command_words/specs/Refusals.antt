@@ -48,9 +48,6 @@ fault_words (Missing number) = codes "11 Missing" ++ then_number number
 fault_words Nothing = codes "12 Nothing"
 fault_words Memory = codes "13 Memory"
 
-abbrev pub image_line : ImageFault → List ℕ
-image_line fault = codes "error image " ++ fault_words fault ++ codes "\n"
-
 -- a script's fault: its number, its name and its line
 unfoldable pub script_fault_words : ScriptFault → List ℕ
 script_fault_words (script.Form line) = codes "1 Form" ++ then_number line
@@ -62,9 +59,6 @@ script_fault_words script.Memory = codes "6 Memory"
 script_fault_words (script.Version line) = codes "7 Version" ++ then_number line
 script_fault_words (script.Divisor line) = codes "8 Divisor" ++ then_number line
 script_fault_words (script.Bytes line) = codes "9 Bytes" ++ then_number line
-
-abbrev pub script_line : ScriptFault → List ℕ
-script_line fault = codes "error script " ++ script_fault_words fault ++ codes "\n"
 
 -- a PIO fault: its number, its name, then its line and column, or its line
 unfoldable pub pio_fault_words : PioFault → List ℕ
@@ -81,9 +75,6 @@ pio_fault_words (pio.Wrap line) = codes "10 Wrap" ++ then_number line
 pio_fault_words (pio.Origin line) = codes "11 Origin" ++ then_number line
 pio_fault_words (pio.NoRoom count) = codes "12 NoRoom" ++ then_number count
 
-abbrev pub pio_line : PioFault → List ℕ
-pio_line fault = codes "error pio " ++ pio_fault_words fault ++ codes "\n"
-
 -- a Thumb source's fault: its number, its name and its line, which is 0 for a source without bytes
 unfoldable pub thumb_fault_words : ThumbFault → List ℕ
 thumb_fault_words (thumb.Char line) = codes "1 Char" ++ then_number line
@@ -97,27 +88,21 @@ thumb_fault_words (thumb.Align line) = codes "8 Align" ++ then_number line
 thumb_fault_words (thumb.TooLong line) = codes "9 TooLong" ++ then_number line
 thumb_fault_words (thumb.Nothing line) = codes "10 Nothing" ++ then_number line
 
-abbrev pub thumb_line : ThumbFault → List ℕ
-thumb_line fault = codes "error thumb " ++ thumb_fault_words fault ++ codes "\n"
-
 -- why an image cannot be linked: its number, its name and the address
 unfoldable pub start_fault_words : StartFault → List ℕ
 start_fault_words (start.Taken address) = codes "1 Taken" ++ then_address address
 start_fault_words start.Memory = codes "2 Memory"
-
-abbrev pub start_line : StartFault → List ℕ
-start_line fault = codes "error start " ++ start_fault_words fault ++ codes "\n"
 
 -- the line of a refusal
 unfoldable pub line_of : Refusal → List ℕ
 line_of BadWords = codes "error words\n"
 line_of (Lost name) = codes "error file " ++ name ++ codes "\n"
 line_of (TooLarge name long) = codes "error large " ++ name ++ codes " " ++ decimal long ++ codes "\n"
-line_of (BadImage fault) = image_line fault
-line_of (BadScript fault) = script_line fault
-line_of (BadSource fault) = pio_line fault
-line_of (BadThumb fault) = thumb_line fault
-line_of (BadStart fault) = start_line fault
+line_of (BadImage fault) = codes "error image " ++ fault_words fault ++ codes "\n"
+line_of (BadScript fault) = codes "error script " ++ script_fault_words fault ++ codes "\n"
+line_of (BadSource fault) = codes "error pio " ++ pio_fault_words fault ++ codes "\n"
+line_of (BadThumb fault) = codes "error thumb " ++ thumb_fault_words fault ++ codes "\n"
+line_of (BadStart fault) = codes "error start " ++ start_fault_words fault ++ codes "\n"
 
 -- its status
 abbrev pub status_of : Refusal → ℕ

@@ -8,7 +8,7 @@ ghost use Rattle.std.specs.String.{string_bytes};
 ghost use Rattle.command_words.specs.Numbers.{begins_with};
 ghost use Rattle.command_words.specs.Table.{dashed};
 ghost use Rattle.command_words.specs.Rows.{way_in};
-ghost use Rattle.command_words.specs.Options.{is_command, is_alone, settings_of, is_given, value_for, fits, is_of, are_options, is_normal, number_for};
+ghost use Rattle.command_words.specs.Options.{is_command, is_alone, settings_of, setting_for, is_given, value_for, fits, is_of, are_options, is_normal, number_for};
 ghost use Rattle.command_words.specs.Read.{IsFirst};
 
 use crate::number::number_within;
@@ -69,33 +69,34 @@ fn first_setting<'a>(words: &'a [String]) -> Option<(&'a str, Option<&'a str>, &
     }
 }
 
-/// The value of the option of this name.
-pub fn value_for<'a>(name: &str, options: &'a [String]) -> Option<&'a str>
-    ensures { option_map (λ value. value.now) result
-        ≡ value_for name.now (settings_of (map string_bytes options.now)) }
+/// The option of this name, if it is among these: its name and its value.
+fn setting_for<'a>(name: &str, options: &'a [String]) -> Option<(&'a str, Option<&'a str>)>
+    ensures { option_map (λ found. (found.0.now, option_map (λ value. value.now) found.1)) result
+        ≡ setting_for name.now (settings_of (map string_bytes options.now)) }
 {
     let mut left = options;
     while let Some((other, value, rest)) = first_setting(left) {
         if other == name {
-            return value;
+            return Some((other, value));
         }
         left = rest;
     }
     None
 }
 
+/// The value of the option of this name.
+pub fn value_for<'a>(name: &str, options: &'a [String]) -> Option<&'a str>
+    ensures { option_map (λ value. value.now) result
+        ≡ value_for name.now (settings_of (map string_bytes options.now)) }
+{
+    setting_for(name, options)?.1
+}
+
 /// Whether the option of this name is among these.
 pub fn is_given(name: &str, options: &[String]) -> bool
     ensures { result ≡ is_given name.now (settings_of (map string_bytes options.now)) }
 {
-    let mut left = options;
-    while let Some((other, _, rest)) = first_setting(left) {
-        if other == name {
-            return true;
-        }
-        left = rest;
-    }
-    false
+    setting_for(name, options).is_some()
 }
 
 /// Whether this may follow an option: a value that does not begin with a dash, or nothing.

@@ -1,8 +1,8 @@
 //! What is refused: the causes, and the line and the status of each.
 
-ghost use Rattle.std.specs.Prelude.{◌≡◌, ◌+◌, ◌≤◌, ◌++◌, length, codes, decimal, IfOk};
-ghost use Rattle.arrayvec.specs.ArrayVec.{array_vec_len};
-ghost use Rattle.command_words.specs.Refusals.{fault_words, image_line, script_fault_words, script_line, pio_fault_words, pio_line, thumb_fault_words, thumb_line, start_fault_words, start_line, then_number, then_address, line_of, status_of};
+ghost use Rattle.std.specs.Prelude.{◌≡◌, ◌++◌, codes, decimal, IfOk};
+ghost use Rattle.command_words.specs.Refusals.{then_address, line_of, status_of};
+ghost use Rattle.command_words.specs.Refusals.Refusal.{BadImage, BadScript, BadSource, BadThumb, BadStart};
 ghost use Rattle.command_words.specs.Meant.{meant};
 
 use arrayvec::ArrayVec;
@@ -12,7 +12,7 @@ use pio_parse::PioFault;
 use startup_blocks::StartFault;
 use std::alloc::{AllocError, Global};
 use thumb_asm::ThumbFault;
-use trace_text::line::{push_number, push_text, push_word};
+use trace_text::line::push_word;
 use uf2_image::ImageFault;
 
 /// What is refused.
@@ -36,214 +36,125 @@ pub enum Refusal {
     Start(StartFault),
 }
 
-/// How many bytes the line of a fault has at most.
-const FAULT: usize = 96;
-
-/// Appends a number after a space.
-fn then_number(number: u64, out: &mut ArrayVec<u8, FAULT>)
-    requires { array_vec_len out.old + 21 ≤ FAULT }
-    ensures text { out.new.items ≡ out.old.items ++ then_number number }
-    ensures short { array_vec_len out.new ≤ array_vec_len out.old + 21 }
+/// The line of an error, by what is said of it.
+fn error(alloc: Global, words: &str) -> Result<Vec<u8>, AllocError>
+    ensures { IfOk result (λ line. line.items ≡ codes "error " ++ words.now ++ codes "\n") }
 {
-    push_text(b" ", out);
-    push_number(number, out);
+    Ok(format!(in alloc; "error {words}\n")?.into_bytes())
 }
 
-/// Appends a short text and a number.
-fn push_one(text: &[u8], number: u64, out: &mut ArrayVec<u8, FAULT>)
-    requires room { array_vec_len out.old + 43 ≤ FAULT }
-    requires small { length text.now ≤ 22 }
-    ensures text { out.new.items ≡ out.old.items ++ text.now ++ then_number number }
-    ensures short { array_vec_len out.new ≤ array_vec_len out.old + 43 }
+/// The line of an error at an address.
+fn error_at(alloc: Global, words: &str, address: u32) -> Result<Vec<u8>, AllocError>
+    ensures { IfOk result (λ line. line.items
+        ≡ codes "error " ++ (words.now ++ then_address address) ++ codes "\n") }
 {
-    push_text(text, out);
-    then_number(number, out);
-}
-
-/// Appends a short text and two numbers.
-fn push_two(text: &[u8], first: u64, second: u64, out: &mut ArrayVec<u8, FAULT>)
-    requires room { array_vec_len out.old + 64 ≤ FAULT }
-    requires small { length text.now ≤ 22 }
-    ensures text { out.new.items ≡ out.old.items ++ text.now ++ then_number first
-        ++ then_number second }
-    ensures short { array_vec_len out.new ≤ array_vec_len out.old + 64 }
-{
-    push_one(text, first, out);
-    then_number(second, out);
-}
-
-/// Appends a short text, a number and an address.
-fn push_at(text: &[u8], number: u32, address: u32, out: &mut ArrayVec<u8, FAULT>)
-    requires room { array_vec_len out.old + 52 ≤ FAULT }
-    requires small { length text.now ≤ 22 }
-    ensures text { out.new.items ≡ out.old.items ++ text.now ++ then_number number
-        ++ then_address address }
-    ensures short { array_vec_len out.new ≤ array_vec_len out.old + 52 }
-{
-    push_one(text, u64::from(number), out);
-    push_text(b" ", out);
-    push_word(address, out);
-}
-
-/// Appends an image fault's number, its name and its numbers.
-#[tactic(auto, unfolding(crate::specs::Refusals::fault_words))]
-fn push_fault(fault: &ImageFault, out: &mut ArrayVec<u8, FAULT>)
-    requires { array_vec_len out.old + 64 ≤ FAULT }
-    ensures text { out.new.items ≡ out.old.items ++ fault_words fault.now }
-    ensures short { array_vec_len out.new ≤ array_vec_len out.old + 64 }
-{
-    match *fault {
-        ImageFault::Empty => push_text(b"1 Empty", out),
-        ImageFault::Ragged(length) => push_one(b"2 Ragged", length, out),
-        ImageFault::Magic(block) => push_one(b"3 Magic", u64::from(block), out),
-        ImageFault::Payload(block, size) => {
-            push_two(b"4 Payload", u64::from(block), u64::from(size), out);
-        }
-        ImageFault::Count(block) => push_one(b"5 Count", u64::from(block), out),
-        ImageFault::Number(block) => push_one(b"6 Number", u64::from(block), out),
-        ImageFault::Repeat(block) => push_one(b"7 Repeat", u64::from(block), out),
-        ImageFault::Flash(block, target) => push_at(b"8 Flash", block, target, out),
-        ImageFault::Address(block, target) => push_at(b"9 Address", block, target, out),
-        ImageFault::Overlap(block) => push_one(b"10 Overlap", u64::from(block), out),
-        ImageFault::Missing(number) => push_one(b"11 Missing", u64::from(number), out),
-        ImageFault::Nothing => push_text(b"12 Nothing", out),
-        ImageFault::Memory => push_text(b"13 Memory", out),
-    }
-}
-
-/// Appends a script fault's number, its name and its line.
-#[tactic(auto, unfolding(crate::specs::Refusals::script_fault_words))]
-fn push_script_fault(fault: &ScriptFault, out: &mut ArrayVec<u8, FAULT>)
-    requires { array_vec_len out.old + 64 ≤ FAULT }
-    ensures text { out.new.items ≡ out.old.items ++ script_fault_words fault.now }
-    ensures short { array_vec_len out.new ≤ array_vec_len out.old + 64 }
-{
-    match *fault {
-        ScriptFault::Form(line) => push_one(b"1 Form", u64::from(line), out),
-        ScriptFault::Number(line) => push_one(b"2 Number", u64::from(line), out),
-        ScriptFault::Pin(line) => push_one(b"3 Pin", u64::from(line), out),
-        ScriptFault::Order(line) => push_one(b"4 Order", u64::from(line), out),
-        ScriptFault::TooMany(line) => push_one(b"5 TooMany", u64::from(line), out),
-        ScriptFault::Memory => push_text(b"6 Memory", out),
-        ScriptFault::Version(line) => push_one(b"7 Version", u64::from(line), out),
-        ScriptFault::Divisor(line) => push_one(b"8 Divisor", u64::from(line), out),
-        ScriptFault::Bytes(line) => push_one(b"9 Bytes", u64::from(line), out),
-    }
-}
-
-/// Appends a PIO fault's number and its name, then its line and column, or its line.
-#[tactic(auto, unfolding(crate::specs::Refusals::pio_fault_words))]
-fn push_pio_fault(fault: &PioFault, out: &mut ArrayVec<u8, FAULT>)
-    requires { array_vec_len out.old + 64 ≤ FAULT }
-    ensures text { out.new.items ≡ out.old.items ++ pio_fault_words fault.now }
-    ensures short { array_vec_len out.new ≤ array_vec_len out.old + 64 }
-{
-    match *fault {
-        PioFault::Char(line, column) => push_two(b"1 Char", line, column, out),
-        PioFault::Syntax(line, column) => push_two(b"2 Syntax", line, column, out),
-        PioFault::Memory => push_text(b"3 Memory", out),
-        PioFault::Unknown(line) => push_one(b"4 Unknown", line, out),
-        PioFault::Twice(line) => push_one(b"5 Twice", line, out),
-        PioFault::Range(line) => push_one(b"6 Range", line, out),
-        PioFault::Delay(line) => push_one(b"7 Delay", line, out),
-        PioFault::Side(line) => push_one(b"8 Side", line, out),
-        PioFault::TooLong(line) => push_one(b"9 TooLong", line, out),
-        PioFault::Wrap(line) => push_one(b"10 Wrap", line, out),
-        PioFault::Origin(line) => push_one(b"11 Origin", line, out),
-        PioFault::NoRoom(count) => push_one(b"12 NoRoom", count, out),
-    }
-}
-
-/// Appends a Thumb source's fault: its number, its name and its line.
-#[tactic(auto, unfolding(crate::specs::Refusals::thumb_fault_words))]
-fn push_thumb_fault(fault: &ThumbFault, out: &mut ArrayVec<u8, FAULT>)
-    requires { array_vec_len out.old + 64 ≤ FAULT }
-    ensures text { out.new.items ≡ out.old.items ++ thumb_fault_words fault.now }
-    ensures short { array_vec_len out.new ≤ array_vec_len out.old + 64 }
-{
-    match *fault {
-        ThumbFault::Char(line) => push_one(b"1 Char", u64::from(line), out),
-        ThumbFault::Syntax(line) => push_one(b"2 Syntax", u64::from(line), out),
-        ThumbFault::Memory => push_text(b"3 Memory", out),
-        ThumbFault::Unknown(line) => push_one(b"4 Unknown", u64::from(line), out),
-        ThumbFault::Twice(line) => push_one(b"5 Twice", u64::from(line), out),
-        ThumbFault::Range(line) => push_one(b"6 Range", u64::from(line), out),
-        ThumbFault::Register(line) => push_one(b"7 Register", u64::from(line), out),
-        ThumbFault::Align(line) => push_one(b"8 Align", u64::from(line), out),
-        ThumbFault::TooLong(line) => push_one(b"9 TooLong", u64::from(line), out),
-        ThumbFault::Nothing(line) => push_one(b"10 Nothing", u64::from(line), out),
-    }
-}
-
-/// Appends why an image cannot be linked: the number, the name and the address.
-#[tactic(auto, unfolding(crate::specs::Refusals::start_fault_words))]
-fn push_start_fault(fault: &StartFault, out: &mut ArrayVec<u8, FAULT>)
-    requires { array_vec_len out.old + 64 ≤ FAULT }
-    ensures text { out.new.items ≡ out.old.items ++ start_fault_words fault.now }
-    ensures short { array_vec_len out.new ≤ array_vec_len out.old + 64 }
-{
-    match *fault {
-        StartFault::Taken(address) => {
-            push_text(b"1 Taken ", out);
-            push_word(address, out);
-        }
-        StartFault::Memory => push_text(b"2 Memory", out),
-    }
-}
-
-/// The line of an error, by its kind and what is said of it.
-fn error_line(alloc: Global, kind: &[u8], words: &[u8]) -> Result<Vec<u8>, AllocError>
-    ensures { IfOk result (λ line. line.items ≡ kind.now ++ words.now ++ codes "\n") }
-{
-    let mut line = Vec::from_slice(alloc, kind)?;
-    line.extend_from_slice(words)?;
+    let mut digits = ArrayVec::<u8, 8>::new();
+    push_word(address, &mut digits);
+    let mut line = format!(in alloc; "error {words} ")?.into_bytes();
+    line.extend_from_slice(&digits)?;
     line.extend_from_slice(b"\n")?;
     Ok(line)
 }
 
 /// The line of an image's fault.
-fn image_fault_line(alloc: Global, fault: &ImageFault) -> Result<Vec<u8>, AllocError>
-    ensures { IfOk result (λ line. line.items ≡ image_line fault.now) }
+#[tactic(auto, unfolding(crate::specs::Refusals::line_of, crate::specs::Refusals::fault_words))]
+fn image_line(alloc: Global, fault: &ImageFault) -> Result<Vec<u8>, AllocError>
+    ensures { IfOk result (λ line. line.items ≡ line_of (BadImage fault.now)) }
 {
-    let mut words = ArrayVec::new();
-    push_fault(fault, &mut words);
-    error_line(alloc, b"error image ", &words)
+    match *fault {
+        ImageFault::Empty => error(alloc, "image 1 Empty"),
+        ImageFault::Ragged(length) => error(alloc, &format!(in alloc; "image 2 Ragged {length}")?),
+        ImageFault::Magic(block) => error(alloc, &format!(in alloc; "image 3 Magic {block}")?),
+        ImageFault::Payload(block, size) => {
+            error(alloc, &format!(in alloc; "image 4 Payload {block} {size}")?)
+        }
+        ImageFault::Count(block) => error(alloc, &format!(in alloc; "image 5 Count {block}")?),
+        ImageFault::Number(block) => error(alloc, &format!(in alloc; "image 6 Number {block}")?),
+        ImageFault::Repeat(block) => error(alloc, &format!(in alloc; "image 7 Repeat {block}")?),
+        ImageFault::Flash(block, target) => {
+            error_at(alloc, &format!(in alloc; "image 8 Flash {block}")?, target)
+        }
+        ImageFault::Address(block, target) => {
+            error_at(
+                alloc,
+                &format!(in alloc; "image 9 Address {block}")?,
+                target,
+            )
+        }
+        ImageFault::Overlap(block) => error(alloc, &format!(in alloc; "image 10 Overlap {block}")?),
+        ImageFault::Missing(block) => error(alloc, &format!(in alloc; "image 11 Missing {block}")?),
+        ImageFault::Nothing => error(alloc, "image 12 Nothing"),
+        ImageFault::Memory => error(alloc, "image 13 Memory"),
+    }
 }
 
 /// The line of a script's fault.
-fn script_fault_line(alloc: Global, fault: &ScriptFault) -> Result<Vec<u8>, AllocError>
-    ensures { IfOk result (λ line. line.items ≡ script_line fault.now) }
+#[tactic(auto, unfolding(crate::specs::Refusals::line_of, crate::specs::Refusals::script_fault_words))]
+fn script_line(alloc: Global, fault: &ScriptFault) -> Result<Vec<u8>, AllocError>
+    ensures { IfOk result (λ line. line.items ≡ line_of (BadScript fault.now)) }
 {
-    let mut words = ArrayVec::new();
-    push_script_fault(fault, &mut words);
-    error_line(alloc, b"error script ", &words)
+    match *fault {
+        ScriptFault::Form(line) => error(alloc, &format!(in alloc; "script 1 Form {line}")?),
+        ScriptFault::Number(line) => error(alloc, &format!(in alloc; "script 2 Number {line}")?),
+        ScriptFault::Pin(line) => error(alloc, &format!(in alloc; "script 3 Pin {line}")?),
+        ScriptFault::Order(line) => error(alloc, &format!(in alloc; "script 4 Order {line}")?),
+        ScriptFault::TooMany(line) => error(alloc, &format!(in alloc; "script 5 TooMany {line}")?),
+        ScriptFault::Memory => error(alloc, "script 6 Memory"),
+        ScriptFault::Version(line) => error(alloc, &format!(in alloc; "script 7 Version {line}")?),
+        ScriptFault::Divisor(line) => error(alloc, &format!(in alloc; "script 8 Divisor {line}")?),
+        ScriptFault::Bytes(line) => error(alloc, &format!(in alloc; "script 9 Bytes {line}")?),
+    }
 }
 
 /// The line of a PIO fault.
-fn pio_fault_line(alloc: Global, fault: &PioFault) -> Result<Vec<u8>, AllocError>
-    ensures { IfOk result (λ line. line.items ≡ pio_line fault.now) }
+#[tactic(auto, unfolding(crate::specs::Refusals::line_of, crate::specs::Refusals::pio_fault_words))]
+fn pio_line(alloc: Global, fault: &PioFault) -> Result<Vec<u8>, AllocError>
+    ensures { IfOk result (λ line. line.items ≡ line_of (BadSource fault.now)) }
 {
-    let mut words = ArrayVec::new();
-    push_pio_fault(fault, &mut words);
-    error_line(alloc, b"error pio ", &words)
+    match *fault {
+        PioFault::Char(line, at) => error(alloc, &format!(in alloc; "pio 1 Char {line} {at}")?),
+        PioFault::Syntax(line, at) => error(alloc, &format!(in alloc; "pio 2 Syntax {line} {at}")?),
+        PioFault::Memory => error(alloc, "pio 3 Memory"),
+        PioFault::Unknown(line) => error(alloc, &format!(in alloc; "pio 4 Unknown {line}")?),
+        PioFault::Twice(line) => error(alloc, &format!(in alloc; "pio 5 Twice {line}")?),
+        PioFault::Range(line) => error(alloc, &format!(in alloc; "pio 6 Range {line}")?),
+        PioFault::Delay(line) => error(alloc, &format!(in alloc; "pio 7 Delay {line}")?),
+        PioFault::Side(line) => error(alloc, &format!(in alloc; "pio 8 Side {line}")?),
+        PioFault::TooLong(line) => error(alloc, &format!(in alloc; "pio 9 TooLong {line}")?),
+        PioFault::Wrap(line) => error(alloc, &format!(in alloc; "pio 10 Wrap {line}")?),
+        PioFault::Origin(line) => error(alloc, &format!(in alloc; "pio 11 Origin {line}")?),
+        PioFault::NoRoom(count) => error(alloc, &format!(in alloc; "pio 12 NoRoom {count}")?),
+    }
 }
 
 /// The line of a Thumb source's fault.
-fn thumb_fault_line(alloc: Global, fault: &ThumbFault) -> Result<Vec<u8>, AllocError>
-    ensures { IfOk result (λ line. line.items ≡ thumb_line fault.now) }
+#[tactic(auto, unfolding(crate::specs::Refusals::line_of, crate::specs::Refusals::thumb_fault_words))]
+fn thumb_line(alloc: Global, fault: &ThumbFault) -> Result<Vec<u8>, AllocError>
+    ensures { IfOk result (λ line. line.items ≡ line_of (BadThumb fault.now)) }
 {
-    let mut words = ArrayVec::new();
-    push_thumb_fault(fault, &mut words);
-    error_line(alloc, b"error thumb ", &words)
+    match *fault {
+        ThumbFault::Char(line) => error(alloc, &format!(in alloc; "thumb 1 Char {line}")?),
+        ThumbFault::Syntax(line) => error(alloc, &format!(in alloc; "thumb 2 Syntax {line}")?),
+        ThumbFault::Memory => error(alloc, "thumb 3 Memory"),
+        ThumbFault::Unknown(line) => error(alloc, &format!(in alloc; "thumb 4 Unknown {line}")?),
+        ThumbFault::Twice(line) => error(alloc, &format!(in alloc; "thumb 5 Twice {line}")?),
+        ThumbFault::Range(line) => error(alloc, &format!(in alloc; "thumb 6 Range {line}")?),
+        ThumbFault::Register(line) => error(alloc, &format!(in alloc; "thumb 7 Register {line}")?),
+        ThumbFault::Align(line) => error(alloc, &format!(in alloc; "thumb 8 Align {line}")?),
+        ThumbFault::TooLong(line) => error(alloc, &format!(in alloc; "thumb 9 TooLong {line}")?),
+        ThumbFault::Nothing(line) => error(alloc, &format!(in alloc; "thumb 10 Nothing {line}")?),
+    }
 }
 
 /// The line of an image that cannot be linked.
-fn start_fault_line(alloc: Global, fault: &StartFault) -> Result<Vec<u8>, AllocError>
-    ensures { IfOk result (λ line. line.items ≡ start_line fault.now) }
+#[tactic(auto, unfolding(crate::specs::Refusals::line_of, crate::specs::Refusals::start_fault_words))]
+fn start_line(alloc: Global, fault: &StartFault) -> Result<Vec<u8>, AllocError>
+    ensures { IfOk result (λ line. line.items ≡ line_of (BadStart fault.now)) }
 {
-    let mut words = ArrayVec::new();
-    push_start_fault(fault, &mut words);
-    error_line(alloc, b"error start ", &words)
+    match *fault {
+        StartFault::Taken(address) => error_at(alloc, "start 1 Taken", address),
+        StartFault::Memory => error(alloc, "start 2 Memory"),
+    }
 }
 
 /// The line of a file that is longer than its limit.
@@ -265,14 +176,14 @@ pub fn refusal_line(alloc: Global, refusal: &Refusal) -> Result<Vec<u8>, AllocEr
     ensures { IfOk result (λ line. line.items ≡ line_of (meant refusal.now)) }
 {
     match refusal {
-        Refusal::Words => Vec::from_slice(alloc, b"error words\n"),
-        Refusal::File(name) => error_line(alloc, b"error file ", name.as_bytes()),
+        Refusal::Words => error(alloc, "words"),
+        Refusal::File(name) => error(alloc, &format!(in alloc; "file {name}")?),
         Refusal::Large(name, length) => large_line(alloc, name.as_str(), *length),
-        Refusal::Image(fault) => image_fault_line(alloc, fault),
-        Refusal::Script(fault) => script_fault_line(alloc, fault),
-        Refusal::Source(fault) => pio_fault_line(alloc, fault),
-        Refusal::Thumb(fault) => thumb_fault_line(alloc, fault),
-        Refusal::Start(fault) => start_fault_line(alloc, fault),
+        Refusal::Image(fault) => image_line(alloc, fault),
+        Refusal::Script(fault) => script_line(alloc, fault),
+        Refusal::Source(fault) => pio_line(alloc, fault),
+        Refusal::Thumb(fault) => thumb_line(alloc, fault),
+        Refusal::Start(fault) => start_line(alloc, fault),
     }
 }
 
