@@ -20,11 +20,7 @@ fn passable(at: u64, to: u64, limit: u64) -> u64
     ensures before { result ≤ to - 1 }
     ensures limit { result ≤ limit }
 {
-    if to - at < FEW {
-        0
-    } else {
-        limit.min(to - 1)
-    }
+    if to - at < FEW { 0 } else { limit.min(to - 1) }
 }
 
 /// Steps a machine up to a cycle. None where it stands there, also where it would stop there; else the cause of the stop below

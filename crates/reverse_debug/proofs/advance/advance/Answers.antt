@@ -49,7 +49,7 @@ pub returns-clause-steps : goal.returns-clause-steps
 returns-clause-steps g c = c.cycles.invariant.count
 
 pub cycle-requires : goal.cycle-requires
-cycle-requires g c κs bounds =
+cycle-requires g c =
     let w = setting_of c.args.world.now.script.now (g.X.Device.meaning c.args.world.now.device.now) c.args.world.now.limit in
     let q = c.pass_quiet.ensures in
     let near : c.passable-most.result ≤ c.args.to = omega (arith, c.passable-most.ensures.before) in
