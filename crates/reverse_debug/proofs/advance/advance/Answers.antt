@@ -53,4 +53,4 @@ cycle-requires g c =
     let w = setting_of c.args.world.now.script.now (g.X.Device.meaning c.args.world.now.device.now) c.args.world.now.limit in
     let q = c.pass_quiet.ensures in
     let near : c.passable-most.result ≤ c.args.to = omega (arith, c.passable-most.ensures.before) in
-    (way_passed w _ c.cycles.machine c.pass_quiet.new.machine c.args.to _ _ _ _ _ c.cycles.invariant q.state q.quiet q.within near c.passable-most.ensures.limit q.steps).low
+    (c.type_bounds.sync-X, (way_passed w _ c.cycles.machine c.pass_quiet.new.machine c.args.to _ _ _ _ _ c.cycles.invariant q.state q.quiet q.within near c.passable-most.ensures.limit q.steps).low)

@@ -10,7 +10,7 @@ pub lines-init : goal.lines-init
 lines-init g c = (c.requires.stood, refl, refl, taking_first _ _ _ _ _ _ _ _ c.new-reader.result c.new-reader.ensures)
 
 pub hear_next-requires-clause-within : goal.hear_next-requires-clause-within
-hear_next-requires-clause-within g c = c.lines.invariant.3.within
+hear_next-requires-clause-within g c κs bounds = c.lines.invariant.3.within
 
 pub lines-smaller : goal.lines-smaller
 lines-smaller g c =
