@@ -10,6 +10,7 @@ pub mod Sessions
 pub mod Stretches
 pub mod Befores
 pub mod LineLists
+pub mod NextLines
 pub mod TalkSessions
 pub mod Takings
 pub mod Talks

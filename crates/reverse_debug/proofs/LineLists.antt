@@ -1,7 +1,8 @@
 -- Lines of texts that stand one behind another.
-use Rattle.std.proofs.Common.{◌≡◌, ℕ, zero, suc, ◌<◌, ◌≤◌, Bool, true, false, ◌==◌, ◌||◌, if◌then◌else◌, List, [], ◌∷◌, ◌++◌, length, take, refl, sym, ap, ◌∙◌, arith, length-append}
-use Rattle.std.proofs.lemmas.List.{append-nil, take_at, take_all}
-use Rattle.reverse_debug.specs.Lines.{line_of, complete_from, open_from, complete_lines, open_line, has_last, closes, until}
+use Rattle.std.proofs.Common.{◌≡◌, ℕ, Bool, true, false, ◌==◌, ◌||◌, if◌then◌else◌, List, [], ◌∷◌, ◌++◌, refl, sym, ap, ◌∙◌, append_assoc}
+use Rattle.std.proofs.lemmas.List.{append-nil}
+use Rattle.reverse_debug.specs.Lines.{line_of, complete_from, open_from, complete_lines, open_line, unless_empty, all_lines, has_last, closes, until}
+use Rattle.reverse_debug.specs.NextLine.{HasNoEnd}
 
 -- the complete lines of two texts are those of the first, and those of the second behind the line that the first leaves open
 pub complete_append : (held xs ys : List ℕ) → complete_from held (xs ++ ys) ≡ complete_from held xs ++ complete_from (open_from held xs) ys
@@ -21,19 +22,55 @@ open_append held (b ∷ bs) ys =
       | false ↦ open_append (held ++ b ∷ []) bs ys
     ]
 
--- one byte more, which ends no line
-pub complete_grows : (xs : List ℕ) (b : ℕ) → (b == 10) ≡ false → complete_lines (xs ++ b ∷ []) ≡ complete_lines xs
-complete_grows xs b other = complete_append [] xs (b ∷ []) ∙ ap (λ l. complete_lines xs ++ l) (rw other refl) ∙ append-nil (complete_lines xs)
+-- ---- the bytes of one line more
 
-pub open_grows : (xs : List ℕ) (b : ℕ) → (b == 10) ≡ false → open_line (xs ++ b ∷ []) ≡ open_line xs ++ b ∷ []
-open_grows xs b other = open_append [] xs (b ∷ []) ∙ rw other refl
+-- up to its LF
+pub complete_line : (held line rest : List ℕ) → HasNoEnd line → complete_from held (line ++ 10 ∷ rest) ≡ line_of (held ++ line) ∷ complete_from [] rest
+complete_line held [] rest none = ap (λ l. line_of l ∷ complete_from [] rest) (sym (append-nil held))
+complete_line held (b ∷ bs) rest none = elim (b == 10) as (λ t. t ≡ false → (if t then line_of held ∷ complete_from [] (bs ++ 10 ∷ rest) else complete_from (held ++ b ∷ []) (bs ++ 10 ∷ rest)) ≡ line_of (held ++ b ∷ bs) ∷ complete_from [] rest) [
+  | true ↦ λ e. absurd (cc e)
+  | false ↦ λ e. complete_line (held ++ b ∷ []) bs rest none.1 ∙ ap (λ l. line_of l ∷ complete_from [] rest) (append_assoc held (b ∷ []) bs)
+] none.0
 
--- an LF more
-pub complete_ends : (xs : List ℕ) → complete_lines (xs ++ 10 ∷ []) ≡ complete_lines xs ++ line_of (open_line xs) ∷ []
-complete_ends xs = complete_append [] xs (10 ∷ [])
+open_behind : (held line rest : List ℕ) → HasNoEnd line → open_from held (line ++ 10 ∷ rest) ≡ open_from [] rest
+open_behind held [] rest none = refl
+open_behind held (b ∷ bs) rest none = elim (b == 10) as (λ t. t ≡ false → (if t then open_from [] (bs ++ 10 ∷ rest) else open_from (held ++ b ∷ []) (bs ++ 10 ∷ rest)) ≡ open_from [] rest) [
+  | true ↦ λ e. absurd (cc e)
+  | false ↦ λ e. open_behind (held ++ b ∷ []) bs rest none.1
+] none.0
 
-pub open_ends : (xs : List ℕ) → open_line (xs ++ 10 ∷ []) ≡ []
-open_ends xs = open_append [] xs (10 ∷ [])
+-- without an LF
+complete_none : (held line : List ℕ) → HasNoEnd line → complete_from held line ≡ []
+complete_none held [] none = refl
+complete_none held (b ∷ bs) none = elim (b == 10) as (λ t. t ≡ false → (if t then line_of held ∷ complete_from [] bs else complete_from (held ++ b ∷ []) bs) ≡ []) [
+  | true ↦ λ e. absurd (cc e)
+  | false ↦ λ e. complete_none (held ++ b ∷ []) bs none.1
+] none.0
+
+open_none : (held line : List ℕ) → HasNoEnd line → open_from held line ≡ held ++ line
+open_none held [] none = sym (append-nil held)
+open_none held (b ∷ bs) none = elim (b == 10) as (λ t. t ≡ false → (if t then open_from [] bs else open_from (held ++ b ∷ []) bs) ≡ held ++ b ∷ bs) [
+  | true ↦ λ e. absurd (cc e)
+  | false ↦ λ e. open_none (held ++ b ∷ []) bs none.1 ∙ append_assoc held (b ∷ []) bs
+] none.0
+
+-- behind whole lines
+pub lines_more : (seen line : List ℕ) → open_line seen ≡ [] → HasNoEnd line → complete_lines (seen ++ (line ++ 10 ∷ [])) ≡ complete_lines seen ++ line_of line ∷ []
+lines_more seen line whole none =
+    complete_append [] seen (line ++ 10 ∷ []) ∙ ap (λ h. complete_lines seen ++ complete_from h (line ++ 10 ∷ [])) whole ∙ ap (λ l. complete_lines seen ++ l) (complete_line [] line [] none)
+
+pub open_more : (seen line : List ℕ) → HasNoEnd line → open_line (seen ++ (line ++ 10 ∷ [])) ≡ []
+open_more seen line none = open_append [] seen (line ++ 10 ∷ []) ∙ open_behind (open_line seen) line [] none
+
+pub lines_open : (seen line : List ℕ) → HasNoEnd line → complete_lines (seen ++ line) ≡ complete_lines seen
+lines_open seen line none = complete_append [] seen line ∙ ap (λ l. complete_lines seen ++ l) (complete_none (open_line seen) line none) ∙ append-nil (complete_lines seen)
+
+open_open : (seen line : List ℕ) → open_line seen ≡ [] → HasNoEnd line → open_line (seen ++ line) ≡ line
+open_open seen line whole none = open_append [] seen line ∙ open_none (open_line seen) line none ∙ ap (λ h. h ++ line) whole
+
+pub all_open : (seen line : List ℕ) → open_line seen ≡ [] → HasNoEnd line → all_lines (seen ++ line) ≡ complete_lines seen ++ unless_empty line
+all_open seen line whole none =
+    ap (λ l. l ++ unless_empty (open_line (seen ++ line))) (lines_open seen line none) ∙ ap (λ o. complete_lines seen ++ unless_empty o) (open_open seen line whole none)
 
 -- ---- last lines
 
@@ -82,17 +119,3 @@ last_closes last xs more line none is = has_last_both last xs (line ∷ more) no
 
 pub until_other : (last : List ℕ → Bool) (xs more : List (List ℕ)) (line : List ℕ) → has_last last xs ≡ false → last line ≡ false → until last (xs ++ line ∷ more) ≡ xs ++ line ∷ until last more
 until_other last xs more line none is = until_both last xs (line ∷ more) none ∙ ap (λ l. xs ++ l) (rw is refl)
-
--- ---- the bytes of a line that count
-
-pub kept_more : (xs : List ℕ) (b n : ℕ) → length xs < n → xs ++ b ∷ [] ≡ take n (xs ++ b ∷ [])
-kept_more xs b n lt = sym (take_all n (xs ++ b ∷ []) (omega (arith, length-append xs (b ∷ []), lt)))
-
-pub kept_full : (xs : List ℕ) (b n : ℕ) → length xs ≤ n → n ≤ length xs → xs ≡ take n (xs ++ b ∷ [])
-kept_full xs b n le ge = sym (take_at xs (b ∷ []) n (omega (arith, le, ge)))
-
--- one byte more of a line of which the first bytes are kept
-pub kept_both : (n : ℕ) (xs : List ℕ) (b : ℕ) → take n (take n xs ++ b ∷ []) ≡ take n (xs ++ b ∷ [])
-kept_both zero xs b = refl
-kept_both (suc n) [] b = refl
-kept_both (suc n) (x ∷ xs) b = ap (λ l. x ∷ l) (kept_both n xs b)

@@ -4,6 +4,7 @@ use Rattle.rp_base.specs.declared.Why.{Why}
 use Rattle.outer_lane.specs.Setting.{Setting}
 use Rattle.rp_machine.specs.State.{State}
 use Rattle.rp_machine.specs.Cycle.{stop, next}
+use Rattle.rp_machine.specs.Quiet.{IsQuiet}
 use Rattle.rp_machine.specs.Run.{states, last_state, unless_stopped}
 use Rattle.rp_machine.proofs.Runs.{states_here, states_on, below_limit, next_cycle}
 use Rattle.rp_machine.proofs.Joining.{join}
@@ -158,4 +159,36 @@ pub way_counts : (w : Setting) (s t u : State) (to before now after : ℕ) → W
 way_counts w s t u to before now after k e same =
     let here : u.cycle ≡ t.cycle = same_cycle u t e in
     let so_far : now + s.cycle ≡ before + t.cycle = k.count in
+    omega arith
+
+-- ---- quiet times
+
+pub quiet_there : (w : Setting) (t u : State) (n : ℕ) → u ≡ states w t n → IsQuiet w t n → u.cycle ≡ t.cycle + n
+quiet_there w t u n e quiet = same_cycle u (states w t n) e ∙ quiet.cycle n (omega arith)
+
+within_by : (n at most to : ℕ) → (0 < n → at + n ≤ most) → most ≤ to → at ≤ to → at + n ≤ to
+within_by zero at most to within near here = omega (arith, here)
+within_by (suc n) at most to within near here = let le = within (omega arith) in omega (arith, le, near)
+
+-- so many cycles were passed at once, or none
+pub way_passed : (w : Setting) (s t u : State) (to before now after n most : ℕ) → Way w s t to before now → u ≡ states w t n → IsQuiet w t n → (0 < n → t.cycle + n ≤ most) → most ≤ to → most ≤ w.limit → after ≡ now + n → Way w s u to before after
+way_passed w s t u to before now after n most k e quiet within near low more =
+    let there : u.cycle ≡ t.cycle + n = quiet_there w t u n e quiet in
+    let far : n ≡ u.cycle - t.cycle = omega arith in
+    let a : t.cycle + n ≤ to = within_by n t.cycle most to within near k.within in
+    let b : t.cycle + n ≤ w.limit = within_by n t.cycle most w.limit within low k.low in
+    let so_far : now + s.cycle ≡ before + t.cycle = k.count in
+    record { path = path_join w s t u k.path (record { is = e ∙ ap (states w t) far; forward = omega arith }); low = omega arith; within = omega arith; count = omega arith }
+
+-- and the last cycle before the goal is not among them
+pub still_below : (w : Setting) (t u : State) (to n most : ℕ) → u ≡ states w t n → IsQuiet w t n → (0 < n → t.cycle + n ≤ most) → most ≤ to - 1 → t.cycle < to → u.cycle < to
+still_below w t u to n most e quiet within near lt =
+    let there : u.cycle ≡ t.cycle + n = quiet_there w t u n e quiet in
+    let a : t.cycle + n ≤ to - 1 = within_by n t.cycle most (to - 1) within near (omega arith) in
+    omega arith
+
+pub nearer_passed : (w : Setting) (t u v : State) (to n : ℕ) → u ≡ states w t n → IsQuiet w t n → v ≡ next w u → u.cycle < to → to - v.cycle < to - t.cycle
+nearer_passed w t u v to n e quiet nexts lt =
+    let there : u.cycle ≡ t.cycle + n = quiet_there w t u n e quiet in
+    let one : v.cycle ≡ u.cycle + 1 = next_at w u v nexts in
     omega arith

@@ -1,16 +1,22 @@
 -- What a session says to a line, as a talk says it.
-use Rattle.std.proofs.Common.{◌≡◌, ℕ, ◌+◌, ◌≤◌, nat_lt, Bool, false, not, if◌then◌else◌, List, refl, ap, subst, arith, ◌∙◌}
+use Rattle.std.proofs.Common.{◌≡◌, ◌==◌, ℕ, ◌+◌, ◌-◌, ◌<◌, ◌≤◌, nat_lt, nat_le, Bool, true, false, not, if◌then◌else◌, List, [], length, take, refl, ap, subst, arith, sym, ◌∙◌}
+use Rattle.std.specs.Prelude.{slice_index}
+use Rattle.std.specs.Str.Lines.{strip_carriage_return}
+use Rattle.std.proofs.lemmas.List.{length-take, take_all}
 use Rattle.std.proofs.lemmas.Bool.Decides.{nat_tests}
 use Rattle.outer_lane.specs.Setting.{Setting}
 use Rattle.rp_machine.specs.State.{State}
 use Rattle.snap_ring.specs.Ring.{spacing_of}
 use Rattle.reverse_debug.specs.Command.{Command, is_quit, command_of}
 use Rattle.reverse_debug.specs.Command.Command.{Step, Back, Goto, End, Regs, Mem, Pins, Pio, Peek, Until, Before, Last, Quit, Bad}
-use Rattle.reverse_debug.specs.Reply.{move_cost, command_cost, heard, cost}
+use Rattle.reverse_debug.specs.Reply.{move_cost, command_cost, answer, heard, cost}
 use Rattle.reverse_debug.specs.Session.{Standing, StandsFor}
 use Rattle.reverse_debug.proofs.Moves.{quits_exactly}
 use Rattle.reverse_debug.specs.Talk.{spent_on}
 use Rattle.reverse_debug.specs.Debugger.{quits, talk_of}
+use Rattle.reverse_debug.specs.Lines.{line_of}
+use Rattle.reverse_debug.specs.NextLine.{given_bytes}
+use Rattle.reverse_debug.proofs.Talks.{Alike}
 
 -- ---- the line that ends a session
 
@@ -53,3 +59,47 @@ spacing_is w session k = k.spacing ∙ ap spacing_of k.limit
 
 pub goes_on : (w : Setting) (f : State) (cycle : ℕ) (line : List ℕ) (more : Bool) → more ≡ not (heard w f cycle line).quits → more ≡ not (quits line)
 goes_on w f cycle line more e = e ∙ ap not (line_quits w f cycle line)
+
+-- ---- the first bytes of a line
+
+-- what asks for the same is said the same to
+alike : (w : Setting) (f : State) (one other : List ℕ) → command_of one ≡ command_of other → Alike (talk_of w f) one other
+unfolding heard cost
+alike w f one other e = record {
+  last = ap is_quit e;
+  said = λ at. ap (λ (q : Command). if is_quit q then [] else (answer w f at q).reply) e;
+  next = λ at. ap (λ (q : Command). (answer w f at q).cycle) e;
+  spent = λ at. ap (λ (q : Command). if is_quit q then 0 else command_cost w f (spacing_of w.limit) at q) e;
+}
+
+too_long : (line : List ℕ) → 255 < length line → command_of line ≡ Bad
+unfolding command_of
+too_long line lt = let no : nat_le (length line) 255 ≡ false = grind (arith, lt) in rw no refl
+
+-- without a CR a line is shorter by one byte at most
+less_by_one : (line : List ℕ) → length line ≤ length (strip_carriage_return line) + 1
+less_by_one line = elim (slice_index line (length line - 1) == 13) as (λ b. length line ≤ length (if b then take (length line - 1) line else line) + 1) [
+  | true ↦ omega (arith, length-take (length line - 1) line)
+  | false ↦ omega arith
+]
+
+-- the bytes that are given of a longer line are no command, as the line is none
+same_line : (whole : List ℕ) (b : Bool) → nat_le (length whole) given_bytes ≡ b → command_of (line_of (take given_bytes whole)) ≡ command_of (line_of whole)
+same_line whole true is = ap (λ x. command_of (line_of x)) (take_all given_bytes whole (grind (arith, is)))
+same_line whole false is =
+    let long : given_bytes < length whole = grind (arith, is) in
+    let first : length (take given_bytes whole) ≡ 257 = omega (arith, length-take given_bytes whole, long) in
+    too_long (line_of (take given_bytes whole)) (omega (arith, less_by_one (take given_bytes whole), first)) ∙ sym (too_long (line_of whole) (omega (arith, less_by_one whole, long)))
+
+same_open : (whole : List ℕ) (b : Bool) → nat_le (length whole) given_bytes ≡ b → command_of (take given_bytes whole) ≡ command_of whole
+same_open whole true is = ap command_of (take_all given_bytes whole (grind (arith, is)))
+same_open whole false is =
+    let long : given_bytes < length whole = grind (arith, is) in
+    let first : length (take given_bytes whole) ≡ 257 = omega (arith, length-take given_bytes whole, long) in
+    too_long (take given_bytes whole) (omega (arith, first)) ∙ sym (too_long whole (omega (arith, long)))
+
+pub line_alike : (w : Setting) (f : State) (whole : List ℕ) → Alike (talk_of w f) (line_of (take given_bytes whole)) (line_of whole)
+line_alike w f whole = alike w f _ _ (same_line whole (nat_le (length whole) given_bytes) refl)
+
+pub open_alike : (w : Setting) (f : State) (whole : List ℕ) → Alike (talk_of w f) (take given_bytes whole) whole
+open_alike w f whole = alike w f _ _ (same_open whole (nat_le (length whole) given_bytes) refl)

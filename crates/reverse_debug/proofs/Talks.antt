@@ -1,16 +1,16 @@
 -- Talks: lines one after another, and what was sent of their replies.
-use Rattle.std.proofs.Common.{◌≡◌, ℕ, ◌+◌, ◌<◌, ◌≤◌, Bool, true, false, not, ◌==◌, List, [], ◌∷◌, ◌++◌, length, take, drop, get_or, add-one, Option, Some, None, Result, Ok, Err, IfOk, OnOk, OnErr, refl, sym, ap, ◌∙◌, subst, arith, append_assoc}
-use Rattle.std.proofs.lemmas.List.{append-nil, take-append-drop, take_all}
-use Rattle.std.proofs.Math.Seq.{take-suc}
+use Rattle.std.proofs.Common.{◌≡◌, ℕ, ◌+◌, ◌≤◌, Bool, true, false, not, List, [], ◌∷◌, ◌++◌, Option, Some, None, Result, Ok, Err, IfOk, OnOk, OnErr, refl, sym, ap, ◌∙◌, subst, arith, append_assoc}
+use Rattle.std.proofs.lemmas.List.{append-nil}
 use Rattle.rp_ports.specs.Sink.{Appends}
 use Rattle.rp_ports.proofs.Pieces.{appends_both}
 use Rattle.trace_text.specs.Sent.{AppendsPart, Sends}
 use Rattle.trace_text.proofs.Sending.{part_behind, rose_later}
 use Rattle.trace_text.specs.declared.writer.SinkFault.{SinkFault}
-use Rattle.reverse_debug.specs.Lines.{line_limit, line_of, complete_from, complete_lines, open_line, has_last, until}
+use Rattle.reverse_debug.specs.Lines.{line_of, complete_from, complete_lines, open_line, has_last, until}
+use Rattle.reverse_debug.specs.NextLine.{HasNoEnd}
 use Rattle.reverse_debug.specs.Talk.{Talk, text_from, cycle_after, cost_from, said_to, spent_on}
 use Rattle.reverse_debug.specs.Way.{Answered, Along, CutOff, IsClosed, Feeds}
-use Rattle.reverse_debug.proofs.LineLists.{complete_append, complete_grows, open_grows, complete_ends, open_ends, closes_more, has_last_both, until_more, until_last, last_closes, kept_both}
+use Rattle.reverse_debug.proofs.LineLists.{complete_append, lines_more, open_more, closes_more, has_last_both, until_more, until_last, last_closes}
 
 -- ---- lines behind lines
 
@@ -55,84 +55,110 @@ pub not_false : (b : Bool) → false ≡ not b → b ≡ true
 not_false true e = refl
 not_false false e = absurd (cc e)
 
+-- a line was answered at a cycle, and who answers stands at another then
+pub record Answers (t : Talk) (at at' : ℕ) (line : List ℕ) (old new : Option (List ℕ)) (before now steps steps' : ℕ) (result : Result Bool SinkFault) : Type 0 where
+  pub more : IfOk result (λ m. m ≡ not (t.last line))
+  pub other : OnErr result (t.last line ≡ false)
+  pub sends : Sends old new before now (said_to t at line) result
+  pub steady : OnOk result (now ≡ before)
+  pub moved : IfOk result (λ m. m ≡ true → at' ≡ t.next at line)
+  pub forward : steps ≤ steps'
+  pub within : steps' ≤ steps + spent_on t at line
+
+-- the same is said to two lines
+pub record Alike (t : Talk) (one other : List ℕ) : Type 0 where
+  pub last : t.last one ≡ t.last other
+  pub said : (at : ℕ) → said_to t at one ≡ said_to t at other
+  pub next : (at : ℕ) → t.next at one ≡ t.next at other
+  pub spent : (at : ℕ) → spent_on t at one ≡ spent_on t at other
+
+-- what was answered to the one was answered to the other
+pub answers_alike : (t : Talk) (at at' : ℕ) (line one other : List ℕ) (old new : Option (List ℕ)) (before now steps steps' : ℕ) (result : Result Bool SinkFault) → line ≡ one → Alike t one other → IfOk result (λ m. m ≡ not (t.last line)) → OnErr result (t.last line ≡ false) → Sends old new before now (said_to t at line) result → OnOk result (now ≡ before) → IfOk result (λ m. m ≡ true → at' ≡ t.next at line) → steps ≤ steps' → steps' ≤ steps + spent_on t at line → Answers t at at' other old new before now steps steps' result
+answers_alike t at at' line one other old new before now steps steps' result is same more differs sends steady moved forward within =
+    let last : t.last line ≡ t.last other = ap t.last is ∙ same.last in
+    let said : said_to t at line ≡ said_to t at other = ap (said_to t at) is ∙ same.said at in
+    let next : t.next at line ≡ t.next at other = ap (t.next at) is ∙ same.next at in
+    let spent : spent_on t at line ≡ spent_on t at other = ap (spent_on t at) is ∙ same.spent at in
+    record {
+      more = subst (λ (b : Bool). IfOk result (λ m. m ≡ not b)) last more;
+      other = subst (λ (b : Bool). OnErr result (b ≡ false)) last differs;
+      sends = subst (λ (text : List ℕ). Sends old new before now text result) said sends;
+      steady = steady;
+      moved = subst (λ (n : ℕ). IfOk result (λ m. m ≡ true → at' ≡ n)) next moved;
+      forward = forward;
+      within = subst (λ (n : ℕ). steps' ≤ steps + n) spent within;
+    }
+
 -- ---- the talk goes on
 
 appends_none : (a : Option (List ℕ)) → Appends a a []
 appends_none None = refl
 appends_none (Some w) = ap Some (sym (append-nil w))
 
-pub along_first : (t : Talk) (cycle : ℕ) (old : Option (List ℕ)) (before steps : ℕ) → Along t cycle [] old old before before steps steps cycle []
+pub along_first : (t : Talk) (cycle : ℕ) (old : Option (List ℕ)) (before steps : ℕ) → Along t cycle [] old old before before steps steps cycle
 along_first t cycle old before steps = record {
   answered = record { sent = appends_none old; steady = refl; forward = omega arith; most = omega arith };
   none = refl;
   stands = refl;
-  keeps = refl;
+  whole = refl;
 }
 
 -- the answered lines are others that are the same
 pub answered_same : (t : Talk) (cycle : ℕ) (xs ys : List (List ℕ)) (old new : Option (List ℕ)) (before now steps steps' : ℕ) → xs ≡ ys → Answered t cycle xs old new before now steps steps' → Answered t cycle ys old new before now steps steps'
 answered_same t cycle xs ys old new before now steps steps' e a = subst (λ (l : List (List ℕ)). Answered t cycle l old new before now steps steps') e a
 
--- one byte more that ends no line
-pub along_byte : (t : Talk) (cycle : ℕ) (seen : List ℕ) (b : ℕ) (old new : Option (List ℕ)) (before now steps steps' at : ℕ) (kept kept' : List ℕ) → (b == 10) ≡ false → kept' ≡ take line_limit (kept ++ b ∷ []) → Along t cycle seen old new before now steps steps' at kept → Along t cycle (seen ++ b ∷ []) old new before now steps steps' at kept'
-along_byte t cycle seen b old new before now steps steps' at kept kept' grows is a =
-    let same = complete_grows seen b grows in
-    record {
-      answered = answered_same t cycle _ _ old new before now steps steps' (sym same) a.answered;
-      none = ap (has_last t.last) same ∙ a.none;
-      stands = a.stands ∙ ap (cycle_after t cycle) (sym same);
-      keeps = is ∙ ap (λ k. take line_limit (k ++ b ∷ [])) a.keeps ∙ kept_both line_limit (open_line seen) b ∙ ap (take line_limit) (sym (open_grows seen b grows));
-    }
-
--- what came of the LF behind an open line, once it was answered
-pub along_line : (t : Talk) (cycle : ℕ) (seen : List ℕ) (old new later : Option (List ℕ)) (before now last steps steps' more : ℕ) (at at' : ℕ) (kept line : List ℕ) (result : Result Bool SinkFault) → Along t cycle seen old new before now steps steps' at kept → line ≡ line_of (open_line seen) → IfOk result (λ b. b ≡ not (t.last line)) → OnErr result (t.last line ≡ false) → Sends new later now last (said_to t at line) result → OnOk result (last ≡ now) → IfOk result (λ b. b ≡ true → at' ≡ t.next at line) → steps' ≤ more → more ≤ steps' + spent_on t at line → Feeds t cycle (seen ++ 10 ∷ []) old later before last steps more at' [] result
-along_line t cycle seen old new later before now last steps steps' more at at' kept line (Ok true) a is goes other sends steady moved forward most =
-    let differs : t.last line ≡ false = not_true (t.last line) goes in
-    let lines : complete_lines (seen ++ 10 ∷ []) ≡ complete_lines seen ++ line ∷ [] = complete_ends seen ∙ ap (λ l. complete_lines seen ++ l ∷ []) (sym is) in
+-- what came of one line more
+pub along_line : (t : Talk) (cycle : ℕ) (seen whole : List ℕ) (old new later : Option (List ℕ)) (before now last steps steps' more : ℕ) (at at' : ℕ) (result : Result Bool SinkFault) → HasNoEnd whole → Along t cycle seen old new before now steps steps' at → Answers t at at' (line_of whole) new later now last steps' more result → Feeds t cycle (seen ++ (whole ++ 10 ∷ [])) old later before last steps more at' result
+along_line t cycle seen whole old new later before now last steps steps' more at at' (Ok true) none a h =
+    let line = line_of whole in
+    let differs : t.last line ≡ false = not_true (t.last line) h.more in
+    let lines : complete_lines (seen ++ (whole ++ 10 ∷ [])) ≡ complete_lines seen ++ line ∷ [] = lines_more seen whole a.whole none in
     let here : cycle_after t cycle (complete_lines seen) ≡ at = sym a.stands in
-    let sent : Appends new later (t.reply (cycle_after t cycle (complete_lines seen)) line) = subst (λ p. Appends new later (t.reply p line)) (sym here) (subst (λ x. Appends new later x) (other_text t at line differs) sends.ok) in
-    let cost : more ≤ steps' + t.cost (cycle_after t cycle (complete_lines seen)) line = subst (λ p. more ≤ steps' + t.cost p line) (sym here) (subst (λ n. more ≤ steps' + n) (other_cost t at line differs) most) in
+    let sent : Appends new later (t.reply (cycle_after t cycle (complete_lines seen)) line) = subst (λ p. Appends new later (t.reply p line)) (sym here) (subst (λ x. Appends new later x) (other_text t at line differs) h.sends.ok) in
+    let cost : more ≤ steps' + t.cost (cycle_after t cycle (complete_lines seen)) line = subst (λ p. more ≤ steps' + t.cost p line) (sym here) (subst (λ n. more ≤ steps' + n) (other_cost t at line differs) h.within) in
     record {
       answered = answered_same t cycle _ _ old later before last steps more (sym lines) (record {
         sent = subst (λ x. Appends old later x) (sym (text_snoc t cycle (complete_lines seen) line)) (appends_both old new later _ _ a.answered.sent sent);
-        steady = steady ∙ a.answered.steady;
-        forward = omega (arith, a.answered.forward, forward);
+        steady = h.steady ∙ a.answered.steady;
+        forward = omega (arith, a.answered.forward, h.forward);
         most = omega (arith, a.answered.most, cost, cost_snoc t cycle (complete_lines seen) line);
       });
       none = ap (has_last t.last) lines ∙ has_last_both t.last (complete_lines seen) (line ∷ []) a.none ∙ rw differs refl;
-      stands = moved refl ∙ ap (λ p. t.next p line) (sym here) ∙ sym (cycle_both t cycle (complete_lines seen) (line ∷ [])) ∙ ap (cycle_after t cycle) (sym lines);
-      keeps = ap (take line_limit) (sym (open_ends seen));
+      stands = h.moved refl ∙ ap (λ p. t.next p line) (sym here) ∙ sym (cycle_both t cycle (complete_lines seen) (line ∷ [])) ∙ ap (cycle_after t cycle) (sym lines);
+      whole = open_more seen whole none;
     }
-along_line t cycle seen old new later before now last steps steps' more at at' kept line (Ok false) a is goes other sends steady moved forward most =
-    let ends : t.last line ≡ true = not_false (t.last line) goes in
-    let lines : complete_lines (seen ++ 10 ∷ []) ≡ complete_lines seen ++ line ∷ [] = complete_ends seen ∙ ap (λ l. complete_lines seen ++ l ∷ []) (sym is) in
-    let cut : until t.last (complete_lines (seen ++ 10 ∷ [])) ≡ complete_lines seen = ap (until t.last) lines ∙ until_last t.last (complete_lines seen) [] line a.none ends in
-    let sent : Appends new later [] = subst (λ x. Appends new later x) (last_text t at line ends) sends.ok in
+along_line t cycle seen whole old new later before now last steps steps' more at at' (Ok false) none a h =
+    let line = line_of whole in
+    let ends : t.last line ≡ true = not_false (t.last line) h.more in
+    let lines : complete_lines (seen ++ (whole ++ 10 ∷ [])) ≡ complete_lines seen ++ line ∷ [] = lines_more seen whole a.whole none in
+    let cut : until t.last (complete_lines (seen ++ (whole ++ 10 ∷ []))) ≡ complete_lines seen = ap (until t.last) lines ∙ until_last t.last (complete_lines seen) [] line a.none ends in
+    let sent : Appends new later [] = subst (λ x. Appends new later x) (last_text t at line ends) h.sends.ok in
     record {
       closed = ap (has_last t.last) lines ∙ last_closes t.last (complete_lines seen) [] line a.none ends;
       answered = answered_same t cycle _ _ old later before last steps more (sym cut) (record {
         sent = subst (λ x. Appends old later x) (append-nil (text_from t cycle (complete_lines seen))) (appends_both old new later _ [] a.answered.sent sent);
-        steady = steady ∙ a.answered.steady;
-        forward = omega (arith, a.answered.forward, forward);
-        most = omega (arith, a.answered.most, most, last_cost t at line ends);
+        steady = h.steady ∙ a.answered.steady;
+        forward = omega (arith, a.answered.forward, h.forward);
+        most = omega (arith, a.answered.most, h.within, last_cost t at line ends);
       });
     }
-along_line t cycle seen old new later before now last steps steps' more at at' kept line (Err fault) a is goes other sends steady moved forward most =
-    let lines : complete_lines (seen ++ 10 ∷ []) ≡ complete_lines seen ++ line ∷ [] = complete_ends seen ∙ ap (λ l. complete_lines seen ++ l ∷ []) (sym is) in
+along_line t cycle seen whole old new later before now last steps steps' more at at' (Err fault) none a h =
+    let line = line_of whole in
+    let lines : complete_lines (seen ++ (whole ++ 10 ∷ [])) ≡ complete_lines seen ++ line ∷ [] = lines_more seen whole a.whole none in
     let here : cycle_after t cycle (complete_lines seen) ≡ at = sym a.stands in
-    let part : AppendsPart new later (t.reply (cycle_after t cycle (complete_lines seen)) line) = subst (λ p. AppendsPart new later (t.reply p line)) (sym here) (subst (λ x. AppendsPart new later x) (other_text t at line other) sends.err) in
-    let cost : more ≤ steps' + t.cost (cycle_after t cycle (complete_lines seen)) line = subst (λ p. more ≤ steps' + t.cost p line) (sym here) (subst (λ n. more ≤ steps' + n) (other_cost t at line other) most) in
+    let part : AppendsPart new later (t.reply (cycle_after t cycle (complete_lines seen)) line) = subst (λ p. AppendsPart new later (t.reply p line)) (sym here) (subst (λ x. AppendsPart new later x) (other_text t at line h.other) h.sends.err) in
+    let cost : more ≤ steps' + t.cost (cycle_after t cycle (complete_lines seen)) line = subst (λ p. more ≤ steps' + t.cost p line) (sym here) (subst (λ n. more ≤ steps' + n) (other_cost t at line h.other) h.within) in
     record {
       heads = complete_lines seen;
       line = line;
       more = [];
       whole = lines;
       none = a.none;
-      other = other;
+      other = h.other;
       sent = part_behind old new later _ _ a.answered.sent part;
-      cause = rose_later before now last (omega (arith, a.answered.steady)) sends.cause;
-      count = omega (arith, a.answered.steady, sends.count);
-      forward = omega (arith, a.answered.forward, forward);
+      cause = rose_later before now last (omega (arith, a.answered.steady)) h.sends.cause;
+      count = omega (arith, a.answered.steady, h.sends.count);
+      forward = omega (arith, a.answered.forward, h.forward);
       most = omega (arith, a.answered.most, cost);
     }
 
@@ -166,45 +192,3 @@ cut_more t cycle lines others old new before now steps steps' c = record {
 pub cut_behind : (t : Talk) (cycle : ℕ) (seen more : List ℕ) (old new : Option (List ℕ)) (before now steps steps' : ℕ) → CutOff t cycle (complete_lines seen) old new before now steps steps' → CutOff t cycle (complete_lines (seen ++ more)) old new before now steps steps'
 cut_behind t cycle seen more old new before now steps steps' c =
     subst (λ (l : List (List ℕ)). CutOff t cycle l old new before now steps steps') (sym (complete_append [] seen more)) (cut_more t cycle (complete_lines seen) (complete_from (open_line seen) more) old new before now steps steps' c)
-
--- ---- one byte after another
-
-next_byte : (bytes : List ℕ) (i : ℕ) → i < length bytes → take (i + 1) bytes ≡ take i bytes ++ get_or bytes i 0 ∷ []
-next_byte bytes i lt = rw add-one (take-suc bytes i 0 lt)
-
-one_more : (seen bytes : List ℕ) (i : ℕ) → i < length bytes → (seen ++ take i bytes) ++ get_or bytes i 0 ∷ [] ≡ seen ++ take (i + 1) bytes
-one_more seen bytes i lt = append_assoc seen (take i bytes) (get_or bytes i 0 ∷ []) ∙ ap (λ x. seen ++ x) (sym (next_byte bytes i lt))
-
--- the bytes up to one and those behind it
-with_rest : (seen bytes : List ℕ) (i : ℕ) → i < length bytes → ((seen ++ take i bytes) ++ get_or bytes i 0 ∷ []) ++ drop (i + 1) bytes ≡ seen ++ bytes
-with_rest seen bytes i lt =
-    ap (λ x. x ++ drop (i + 1) bytes) (one_more seen bytes i lt) ∙ append_assoc seen (take (i + 1) bytes) (drop (i + 1) bytes) ∙ ap (λ x. seen ++ x) (take-append-drop (i + 1) bytes)
-
--- the bytes seen are others that are the same
-pub along_same : (t : Talk) (cycle : ℕ) (xs ys : List ℕ) (old new : Option (List ℕ)) (before now steps steps' at : ℕ) (kept : List ℕ) → xs ≡ ys → Along t cycle xs old new before now steps steps' at kept → Along t cycle ys old new before now steps steps' at kept
-along_same t cycle xs ys old new before now steps steps' at kept e a = subst (λ (l : List ℕ). Along t cycle l old new before now steps steps' at kept) e a
-
--- the loop over some bytes, at one of them (t: the talk before the loop, u: the same now)
-pub loop_along : (t u : Talk) (cycle i : ℕ) (seen bytes : List ℕ) (old new later : Option (List ℕ)) (before now last steps steps' more at at' : ℕ) (kept kept' : List ℕ) (b : Bool) → b ≡ true → u ≡ t → i < length bytes → Along t cycle (seen ++ take i bytes) old new before now steps steps' at kept → (Along u cycle (seen ++ take i bytes) old new before now steps steps' at kept → Feeds u cycle ((seen ++ take i bytes) ++ get_or bytes i 0 ∷ []) old later before last steps more at' kept' (Ok b)) → Along t cycle (seen ++ take (i + 1) bytes) old later before last steps more at' kept'
-loop_along t u cycle i seen bytes old new later before now last steps steps' more at at' kept kept' false goes same lt a fed = absurd (cc goes)
-loop_along t u cycle i seen bytes old new later before now last steps steps' more at at' kept kept' true goes same lt a fed =
-    let here = subst (λ (x : Talk). Along x cycle (seen ++ take i bytes) old new before now steps steps' at kept) (sym same) a in
-    let there = subst (λ (x : Talk). Along x cycle ((seen ++ take i bytes) ++ get_or bytes i 0 ∷ []) old later before last steps more at' kept') same (fed here) in
-    along_same t cycle _ _ old later before last steps more at' kept' (one_more seen bytes i lt) there
-
-pub loop_closed : (t u : Talk) (cycle i : ℕ) (seen bytes : List ℕ) (old new later : Option (List ℕ)) (before now last steps steps' more at at' : ℕ) (kept kept' : List ℕ) (b : Bool) → b ≡ false → u ≡ t → i < length bytes → Along t cycle (seen ++ take i bytes) old new before now steps steps' at kept → (Along u cycle (seen ++ take i bytes) old new before now steps steps' at kept → Feeds u cycle ((seen ++ take i bytes) ++ get_or bytes i 0 ∷ []) old later before last steps more at' kept' (Ok b)) → IsClosed t cycle (seen ++ bytes) old later before last steps more
-loop_closed t u cycle i seen bytes old new later before now last steps steps' more at at' kept kept' true goes same lt a fed = absurd (cc goes)
-loop_closed t u cycle i seen bytes old new later before now last steps steps' more at at' kept kept' false goes same lt a fed =
-    let here = subst (λ (x : Talk). Along x cycle (seen ++ take i bytes) old new before now steps steps' at kept) (sym same) a in
-    let there = subst (λ (x : Talk). IsClosed x cycle ((seen ++ take i bytes) ++ get_or bytes i 0 ∷ []) old later before last steps more) same (fed here) in
-    subst (λ (l : List ℕ). IsClosed t cycle l old later before last steps more) (with_rest seen bytes i lt) (closed_more t cycle _ (drop (i + 1) bytes) old later before last steps more there)
-
-pub loop_cut : (t u : Talk) (cycle i : ℕ) (seen bytes : List ℕ) (old new later : Option (List ℕ)) (before now last steps steps' more at : ℕ) (kept : List ℕ) → u ≡ t → i < length bytes → Along t cycle (seen ++ take i bytes) old new before now steps steps' at kept → (Along u cycle (seen ++ take i bytes) old new before now steps steps' at kept → CutOff u cycle (complete_lines ((seen ++ take i bytes) ++ get_or bytes i 0 ∷ [])) old later before last steps more) → CutOff t cycle (complete_lines (seen ++ bytes)) old later before last steps more
-loop_cut t u cycle i seen bytes old new later before now last steps steps' more at kept same lt a fed =
-    let here = subst (λ (x : Talk). Along x cycle (seen ++ take i bytes) old new before now steps steps' at kept) (sym same) a in
-    let there = subst (λ (x : Talk). CutOff x cycle (complete_lines ((seen ++ take i bytes) ++ get_or bytes i 0 ∷ [])) old later before last steps more) same (fed here) in
-    subst (λ (l : List ℕ). CutOff t cycle (complete_lines l) old later before last steps more) (with_rest seen bytes i lt) (cut_behind t cycle ((seen ++ take i bytes) ++ get_or bytes i 0 ∷ []) (drop (i + 1) bytes) old later before last steps more there)
-
-pub along_whole : (t : Talk) (cycle i : ℕ) (seen bytes : List ℕ) (old new : Option (List ℕ)) (before now steps steps' at : ℕ) (kept : List ℕ) → length bytes ≤ i → Along t cycle (seen ++ take i bytes) old new before now steps steps' at kept → Along t cycle (seen ++ bytes) old new before now steps steps' at kept
-along_whole t cycle i seen bytes old new before now steps steps' at kept le a =
-    along_same t cycle _ _ old new before now steps steps' at kept (ap (λ x. seen ++ x) (take_all i bytes le)) a

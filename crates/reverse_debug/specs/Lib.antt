@@ -7,5 +7,6 @@ pub mod Session
 pub mod Debugger
 pub mod Hear
 pub mod Lines
+pub mod NextLine
 pub mod Talk
 pub mod Way

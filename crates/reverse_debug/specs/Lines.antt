@@ -1,15 +1,10 @@
 -- The lines among the bytes that were taken from an input: the project's own. A line ends with LF, before which one CR is dropped.
--- Of a line the first 257 bytes count: with a CR at their end these are 256 bytes at least, as those of a longer line.
-use Rattle.std.specs.Prelude.{ℕ, Bool, false, ◌==◌, ◌||◌, if◌then◌else◌, List, [], ◌∷◌, ◌++◌, take}
+use Rattle.std.specs.Prelude.{ℕ, Bool, false, ◌==◌, ◌||◌, if◌then◌else◌, List, [], ◌∷◌, ◌++◌}
 use Rattle.std.specs.Str.Lines.{strip_carriage_return}
-
--- how many bytes of a line count
-abbrev pub line_limit : ℕ
-line_limit = 257
 
 -- the line of the bytes before an LF
 abbrev pub line_of : List ℕ → List ℕ
-line_of bytes = strip_carriage_return (take line_limit bytes)
+line_of bytes = strip_carriage_return bytes
 
 -- the complete lines of a text that goes on with an open line
 abbrev pub complete_from : List ℕ → List ℕ → List (List ℕ)
@@ -33,7 +28,7 @@ unless_empty [] = []
 unless_empty (b ∷ bs) = (b ∷ bs) ∷ []
 
 abbrev pub all_lines : List ℕ → List (List ℕ)
-all_lines bytes = complete_lines bytes ++ unless_empty (take line_limit (open_line bytes))
+all_lines bytes = complete_lines bytes ++ unless_empty (open_line bytes)
 
 -- the lines before the first that is a last one
 abbrev pub until : (List ℕ → Bool) → List (List ℕ) → List (List ℕ)

@@ -1,43 +1,29 @@
 //! Lines from a source for the debugger: each is answered before more is taken.
 
-ghost use Rattle.std.specs.Prelude.{◌≡◌, ◌<◌, ◌≤◌, ◌+◌, ◌++◌, ◌∷◌, [], ℕ, List, Option, true, false, not, length, take, if◌then◌else◌, IfOk, OnOk, OnErr};
+ghost use Rattle.std.specs.Prelude.{◌≡◌, ◌≤◌, ◌+◌, ◌++◌, ◌∷◌, [], ℕ, List, Option, true, false, not, take, IfOk, OnOk, OnErr};
 ghost use Rattle.std.specs.Str.Lines.{strip_carriage_return};
-ghost use Rattle.arrayvec.specs.ArrayVec.{array_vec_len};
 ghost use Rattle.trace_text.specs.Sent.{Sends};
 ghost use Rattle.outer_lane.specs.Setting.{setting};
 ghost use Rattle.reverse_debug.specs.Session.{first_of, StandsFor};
 ghost use Rattle.reverse_debug.specs.Debugger.{talk_with};
 ghost use Rattle.reverse_debug.specs.Lines.{all_lines};
+ghost use Rattle.reverse_debug.specs.NextLine.{behind, given_bytes, HasNoEnd};
 ghost use Rattle.reverse_debug.specs.Talk.{Talk, said_to, spent_on, Hears};
-ghost use Rattle.reverse_debug.specs.Way.{Along, Feeds, Finishes, Taking, IsAfterTake};
+ghost use Rattle.reverse_debug.specs.Way.{Along, Feeds, Finishes, Taking, IsAfterLine};
 
 use crate::Session;
+use crate::reader::{LINE, LineReader, Next};
 use crate::way::Way;
 use arrayvec::ArrayVec;
 use lane_look::Device;
 use rp_machine::{Steps, World};
 use rp_ports::sink::Sink;
-use rp_ports::source::{Source, Taken};
+use rp_ports::source::Source;
 use std::sync::ledger::Ledger;
 use trace_text::writer::{SinkFault, Writer};
 
 /// The bytes of a reply are at most so many.
 const REPLY: usize = 1024;
-
-/// Of a line so many bytes count.
-pub const LINE: usize = 257;
-
-/// So many bytes are taken at once, at most.
-const PIECE: usize = 256;
-
-/// What came of one take.
-#[derive(Clone, Copy)]
-pub enum AfterTake {
-    /// So many bytes were taken, and there may be more.
-    Took(usize),
-    /// The taking ended so.
-    Over(Way),
-}
 
 /// A line without the CR at its end.
 fn without_return(line: &[u8]) -> &[u8]
@@ -47,15 +33,6 @@ fn without_return(line: &[u8]) -> &[u8]
         &line[..line.len() - 1]
     } else {
         line
-    }
-}
-
-/// Keeps a byte of an open line, where there is room for it.
-fn keep(byte: u8, open: &mut ArrayVec<u8, LINE>)
-    ensures { open.new.items ≡ take LINE (open.old.items ++ byte ∷ []) }
-{
-    if open.len() < LINE {
-        open.push(byte);
     }
 }
 
@@ -119,12 +96,11 @@ fn answer<X: Device, O: Sink, L: Ledger>(
     }
 }
 
-/// Takes one byte into the open line, or answers the line that it ends; false where that is a last one.
-fn hear_byte<X: Device, O: Sink, L: Ledger>(
+/// Answers a line of which the first bytes are given; false where it is a last one.
+fn hear_line<X: Device, O: Sink, L: Ledger>(
     session: &mut Session,
     world: &World<'_, X>,
-    byte: u8,
-    open: &mut ArrayVec<u8, LINE>,
+    given: &[u8],
     writer: &mut Writer<'_, O>,
     steps: &mut Steps<L>,
 ) -> Result<bool, SinkFault>
@@ -133,56 +109,20 @@ fn hear_byte<X: Device, O: Sink, L: Ledger>(
     ensures first { first_of session.new ≡ first_of session.old }
     ensures same_sink { writer.new.out.ghost_name ≡ writer.old.out.ghost_name }
     ensures feeds { let t = talk_with (setting X.meaning world.now) session.old in (cycle : ℕ) (seen
-        : List ℕ) (old : Option (List ℕ)) (before base : ℕ) → Along t cycle seen old (O.written
-        writer.old.out.now) before (O.faults writer.old.out.now) base steps.old
-        session.old.now.cycle open.old.items → Feeds t cycle (seen ++ byte ∷ []) old (O.written
-        writer.new.out.now) before (O.faults writer.new.out.now) base steps.new
-        session.new.now.cycle open.new.items result }
+        whole : List ℕ) (old : Option (List ℕ)) (before base : ℕ) → HasNoEnd whole → given.now ≡
+        take given_bytes whole → Along t cycle seen old (O.written writer.old.out.now) before
+        (O.faults writer.old.out.now) base steps.old session.old.now.cycle → Feeds t cycle (seen ++
+        (whole ++ 10 ∷ [])) old (O.written writer.new.out.now) before (O.faults writer.new.out.now)
+        base steps.new session.new.now.cycle result }
 {
-    if byte != b'\n' {
-        keep(byte, open);
-        return Ok(true);
-    }
-    let heard = answer(session, world, without_return(open), writer, steps);
-    open.clear();
-    heard
+    answer(session, world, without_return(given), writer, steps)
 }
 
-/// Takes some bytes, and answers each line that is complete with them; false where one of these is a last one.
-fn hear_bytes<X: Device, O: Sink, L: Ledger>(
-    session: &mut Session,
-    world: &World<'_, X>,
-    bytes: &[u8],
-    open: &mut ArrayVec<u8, LINE>,
-    writer: &mut Writer<'_, O>,
-    steps: &mut Steps<L>,
-) -> Result<bool, SinkFault>
-    requires stood { StandsFor (setting X.meaning world.now) session.old }
-    ensures stands { StandsFor (setting X.meaning world.now) session.new }
-    ensures first { first_of session.new ≡ first_of session.old }
-    ensures same_sink { writer.new.out.ghost_name ≡ writer.old.out.ghost_name }
-    ensures feeds { let t = talk_with (setting X.meaning world.now) session.old in (cycle : ℕ) (seen
-        : List ℕ) (old : Option (List ℕ)) (before base : ℕ) → Along t cycle seen old (O.written
-        writer.old.out.now) before (O.faults writer.old.out.now) base steps.old
-        session.old.now.cycle open.old.items → Feeds t cycle (seen ++ bytes.now) old (O.written
-        writer.new.out.now) before (O.faults writer.new.out.now) base steps.new
-        session.new.now.cycle open.new.items result }
-{
-    for byte in bytes {
-        match hear_byte(session, world, *byte, open, writer, steps) {
-            Ok(true) => {}
-            Ok(false) => return Ok(false),
-            Err(fault) => return Err(fault),
-        }
-    }
-    Ok(true)
-}
-
-/// Answers the open line at the end of an input, unless it is empty.
+/// Answers the open line at the end of an input, of which the first bytes are given, unless it is empty.
 fn hear_end<X: Device, O: Sink, L: Ledger>(
     session: &mut Session,
     world: &World<'_, X>,
-    open: &[u8],
+    given: &[u8],
     writer: &mut Writer<'_, O>,
     steps: &mut Steps<L>,
 ) -> Result<(), SinkFault>
@@ -191,62 +131,57 @@ fn hear_end<X: Device, O: Sink, L: Ledger>(
     ensures first { first_of session.new ≡ first_of session.old }
     ensures same_sink { writer.new.out.ghost_name ≡ writer.old.out.ghost_name }
     ensures ends { let t = talk_with (setting X.meaning world.now) session.old in (cycle : ℕ) (seen
-        : List ℕ) (old : Option (List ℕ)) (before base : ℕ) → Along t cycle seen old (O.written
-        writer.old.out.now) before (O.faults writer.old.out.now) base steps.old
-        session.old.now.cycle open.now → Finishes t cycle (all_lines seen) old (O.written
-        writer.new.out.now) before (O.faults writer.new.out.now) base steps.new result }
+        whole : List ℕ) (old : Option (List ℕ)) (before base : ℕ) → HasNoEnd whole → given.now ≡
+        take given_bytes whole → Along t cycle seen old (O.written writer.old.out.now) before
+        (O.faults writer.old.out.now) base steps.old session.old.now.cycle → Finishes t cycle
+        (all_lines (seen ++ whole)) old (O.written writer.new.out.now) before (O.faults
+        writer.new.out.now) base steps.new result }
 {
-    if open.is_empty() {
+    if given.is_empty() {
         return Ok(());
     }
-    match answer(session, world, open, writer, steps) {
+    match answer(session, world, given, writer, steps) {
         Ok(_) => Ok(()),
         Err(fault) => Err(fault),
     }
 }
 
-/// Takes at most as many bytes as a piece has, and answers the lines that are complete with them.
-fn take_piece<X: Device, I: Source, O: Sink, L: Ledger>(
+/// Reads the next line of a source and answers it; none where the session goes on.
+fn hear_next<X: Device, I: Source, O: Sink, L: Ledger>(
     session: &mut Session,
     world: &World<'_, X>,
+    reader: &mut LineReader,
     input: &mut I,
-    piece: &mut [u8],
-    open: &mut ArrayVec<u8, LINE>,
+    limit: usize,
     writer: &mut Writer<'_, O>,
     steps: &mut Steps<L>,
-) -> Result<AfterTake, SinkFault>
+) -> Result<Option<Way>, SinkFault>
     requires stood { StandsFor (setting X.meaning world.now) session.old }
-    requires room { 0 < length piece.old }
+    requires within { reader.old.taken ≤ limit }
     ensures stands { StandsFor (setting X.meaning world.now) session.new }
     ensures first { first_of session.new ≡ first_of session.old }
     ensures same_sink { writer.new.out.ghost_name ≡ writer.old.out.ghost_name }
-    ensures came { let t = talk_with (setting X.meaning world.now) session.old in (cycle limit count
-        : ℕ) (left : Option (List ℕ)) (lost : ℕ) (old : Option (List ℕ)) (before base : ℕ) → count +
-        length piece.old ≤ limit → Taking t cycle limit left (I.left input.old) lost (I.faults
-        input.old) old (O.written writer.old.out.now) before (O.faults writer.old.out.now) base
-        steps.old session.old.now.cycle open.old.items count → IsAfterTake t cycle limit left
-        (I.left input.new) lost (I.faults input.new) old (O.written writer.new.out.now) before
-        (O.faults writer.new.out.now) base steps.new session.new.now.cycle open.new.items count
-        result }
+    ensures came { let t = talk_with (setting X.meaning world.now) session.old in (cycle : ℕ) (left :
+        Option (List ℕ)) (lost : ℕ) (old : Option (List ℕ)) (before base : ℕ) → Taking t cycle limit
+        left (I.left input.old) lost (I.faults input.old) old (O.written writer.old.out.now) before
+        (O.faults writer.old.out.now) base steps.old session.old.now.cycle reader.old → IsAfterLine
+        t cycle limit left (I.left input.new) lost (I.faults input.new) old (O.written
+        writer.new.out.now) before (O.faults writer.new.out.now) base steps.new
+        session.new.now.cycle reader.new (behind limit reader.old) result }
 {
-    match input.take(piece) {
-        Taken::Took(count) => match hear_bytes(
-            session,
-            world,
-            &piece[..count],
-            open,
-            writer,
-            steps,
-        ) {
-            Ok(true) => Ok(AfterTake::Took(count)),
-            Ok(false) => Ok(AfterTake::Over(Way::Closed)),
+    let mut line = ArrayVec::<u8, LINE>::new();
+    match reader.next(input, limit, &mut line) {
+        Next::Line => match hear_line(session, world, &line, writer, steps) {
+            Ok(true) => Ok(None),
+            Ok(false) => Ok(Some(Way::Closed)),
             Err(fault) => Err(fault),
         },
-        Taken::End => match hear_end(session, world, open, writer, steps) {
-            Ok(()) => Ok(AfterTake::Over(Way::Ended)),
+        Next::Last => match hear_end(session, world, &line, writer, steps) {
+            Ok(()) => Ok(Some(Way::Ended)),
             Err(fault) => Err(fault),
         },
-        Taken::Failed => Ok(AfterTake::Over(Way::Broken)),
+        Next::Failed => Ok(Some(Way::Broken)),
+        Next::Full => Ok(Some(Way::Full)),
     }
 }
 
@@ -274,24 +209,12 @@ pub fn hear<X: Device, I: Source, O: Sink, L: Ledger>(
     ensures first { first_of session.new ≡ first_of session.old }
     ensures same_sink { writer.new.out.ghost_name ≡ writer.old.out.ghost_name }
 {
-    let mut open = ArrayVec::<u8, LINE>::new();
-    let mut piece = [0u8; PIECE];
-    let mut taken = 0;
-    while taken < limit {
-        let room = PIECE.min(limit - taken);
-        match take_piece(
-            session,
-            world,
-            input,
-            &mut piece[..room],
-            &mut open,
-            writer,
-            steps,
-        ) {
-            Ok(AfterTake::Took(count)) => taken += count,
-            Ok(AfterTake::Over(way)) => return Ok(way),
+    let mut reader = LineReader::new();
+    'lines: loop {
+        match hear_next(session, world, &mut reader, input, limit, writer, steps) {
+            Ok(None) => continue 'lines,
+            Ok(Some(way)) => return Ok(way),
             Err(fault) => return Err(fault),
         }
     }
-    Ok(Way::Full)
 }

@@ -5,6 +5,7 @@
 mod advance;
 mod command;
 pub mod hear;
+mod reader;
 mod reply;
 pub mod search;
 pub mod session;

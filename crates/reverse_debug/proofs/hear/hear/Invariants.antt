@@ -1,16 +1,17 @@
-use Rattle.std.proofs.Common.{◌≡◌, ◌-◌}
+use Rattle.std.proofs.Common.{◌≡◌}
 use Rattle.outer_lane.specs.Setting.{setting_of}
+use Rattle.reverse_debug.specs.NextLine.{behind}
 use Rattle.reverse_debug.specs.Session.{first_of, StandsFor}
 use Rattle.reverse_debug.specs.Debugger.{talk_of}
 use Rattle.reverse_debug.specs.Way.{Taking}
 use Rattle.reverse_debug.proofs.hear.hear.Given as goal
 
--- so many bytes were taken, and the talk goes on
-abbrev pub invariant-loop-taken : goal.invariant-loop-taken
-invariant-loop-taken g l =
+-- the lines so far were answered, and the talk goes on
+abbrev pub invariant-lines : goal.invariant-lines
+invariant-lines g l =
     StandsFor (setting_of l.world.script.now (g.X.Device.meaning l.world.device.now) l.world.limit) l.session × (first_of l.session ≡ first_of l.initial.session) × (l.writer.out.ghost_name ≡ l.initial.writer.out.ghost_name)
     × Taking (talk_of (setting_of l.world.script.now (g.X.Device.meaning l.world.device.now) l.world.limit) (first_of l.session)) l.initial.session.now.cycle l.limit (g.I.Source.left l.initial.input) (g.I.Source.left l.input) (g.I.Source.faults l.initial.input) (g.I.Source.faults l.input)
-    (g.O.Sink.written l.initial.writer.out.now) (g.O.Sink.written l.writer.out.now) (g.O.Sink.faults l.initial.writer.out.now) (g.O.Sink.faults l.writer.out.now) l.initial.steps l.steps l.session.now.cycle l.open.items l.taken
+    (g.O.Sink.written l.initial.writer.out.now) (g.O.Sink.written l.writer.out.now) (g.O.Sink.faults l.initial.writer.out.now) (g.O.Sink.faults l.writer.out.now) l.initial.steps l.steps l.session.now.cycle l.reader
 
-abbrev pub decreases-loop-taken : goal.decreases-loop-taken
-decreases-loop-taken g l = l.limit - l.taken
+abbrev pub decreases-lines : goal.decreases-lines
+decreases-lines g l = behind l.limit l.reader
