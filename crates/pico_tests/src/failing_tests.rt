@@ -371,7 +371,7 @@ struct Dripped {
 }
 
 /// What a call gives where its input comes by single bytes, and one take fails.
-fn dripped<R: Threads + Wait + Sync>(
+fn drip<R: Threads + Wait + Sync>(
     rt: &R,
     alloc: Global,
     case: &Case,
@@ -415,7 +415,7 @@ fn breaks_at<R: Threads + Wait + Sync>(
     let lines = before.iter().filter(|byte| **byte == b'\n').count();
     let mut wanted = Vec::from_slice(alloc, first_lines(SHORT.text, lines))?;
     wanted.extend_from_slice(b"error source\n")?;
-    let given = dripped(rt, alloc, &SHORT, take)?;
+    let given = drip(rt, alloc, &SHORT, take)?;
     let once = given.takes == take.saturating_add(1) && given.faults == 1;
     Ok(given.status == 8 && given.text.as_slice() == wanted.as_slice() && once)
 }
@@ -424,7 +424,7 @@ fn breaks_at<R: Threads + Wait + Sync>(
 fn an_input_comes_byte_by_byte(rt: HostRuntime) -> Result<(), Fail> {
     let alloc = rt.alloc();
     for case in [SHORT, STORES_ONCE] {
-        let given = dripped(&rt, alloc, &case, usize::MAX)?;
+        let given = drip(&rt, alloc, &case, usize::MAX)?;
         let wanted = in_full(alloc, case.text)?;
         assert!(rt; given.status == 0 && given.text.as_slice() == wanted.as_slice());
         assert_eq!(rt; given.faults, 0);
