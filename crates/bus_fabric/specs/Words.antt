@@ -11,8 +11,8 @@ busctrl_rows =
     ∷ []
 
 -- what a word reads as, that there is one, and what an access does
-abbrev pub word_of : Crossbar → ℕ → Option ℕ
-word_of fabric offset = word_at busctrl_rows tt offset fabric
+abbrev pub word_of : ℕ → Crossbar → Option ℕ
+word_of offset fabric = word_at busctrl_rows tt offset fabric
 
 abbrev pub is_word : ℕ → Bool
 is_word offset = has_row busctrl_rows offset

@@ -8,9 +8,9 @@ use crate::registers::{BUS_PRIORITY, BUS_PRIORITY_ACK};
 use rp_base::Registers;
 
 impl Registers<()> for Fabric {
-    ghost word = { λ _. word_of };
+    ghost word = { λ offset _. word_of offset };
 
-    ghost allowed = { λ s offset _. is_word offset };
+    ghost allowed = { λ offset _ _. is_word offset };
 
     ghost accessed = { effect_of };
 

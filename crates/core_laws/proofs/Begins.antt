@@ -41,7 +41,7 @@ ram_none f work request (Some value) lines cycle = refl
 
 spot_none : (f : Ask → ℕ) (work : Work) (request : Request) (s : State) (p : Spot) → NoHalf f (at_spot work request s p)
 spot_none f work request s (spot.Ram index bank) = ram_none f work request request.write
-spot_none f work request s (spot.Ppb offset) = either_none f (is_allowed s.nvic offset (word_written request.size request.write)) _ _ (ready_none f _) (ready_none f _)
+spot_none f work request s (spot.Ppb offset) = either_none f (is_allowed offset (word_written request.size request.write)) _ _ (ready_none f _) (ready_none f _)
 spot_none f work request s (spot.Sio offset) = ready_none f _
 spot_none f work request s (spot.Reg block offset alias) = ready_none f _
 spot_none f work request s spot.Outside = ready_none f _

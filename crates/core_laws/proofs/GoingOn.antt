@@ -58,7 +58,7 @@ spot_goes : (op : Op) (g : Given) (s : State) (request : Request) (p : Spot) →
 spot_goes op g s request (spot.Ram index bank) e = ram_goes op g request request.write
 spot_goes op g s request (spot.Ppb offset) e =
     ap (λ b. is_stop (want_of_act (answered g.answers (cond b (Ready (act.Private (works.Instruction op) request offset)) (stopped (why.Outside (master_of s.number) request.address))))))
-    (not_refused (is_allowed s.nvic offset (word_written request.size request.write)) e)
+    (not_refused (is_allowed offset (word_written request.size request.write)) e)
 spot_goes op g s request (spot.Sio offset) e = refl
 spot_goes op g s request (spot.Reg block offset alias) e = refl
 spot_goes op g s request spot.Outside e = refl

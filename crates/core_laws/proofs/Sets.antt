@@ -123,4 +123,4 @@ leaves_access offset w e =
     record { active = left.0; numbered = left.1 }
 
 pub leaves_effect : (offset : ℕ) (w : Option ℕ) (e : Exceptions) → Leaves e (words.effect_of offset w e)
-leaves_effect offset w e = leaves_either (words.is_allowed e offset w) e _ _ (leaves_access offset w e) (leaves_self e)
+leaves_effect offset w e = leaves_either (words.is_allowed offset w) e _ _ (leaves_access offset w e) (leaves_self e)

@@ -248,7 +248,7 @@ legal_ram f w request (Some value) s h = h
 legal_spot : (f : Ask → ℕ) (w : Work) (request : Request) (s : State) (p : Spot) → IsGoing w s → Legal (answered f (at_spot w request s p)) s
 legal_spot f w request s (spot.Ram index bank) h = legal_ram f w request request.write s h
 legal_spot f w request s (spot.Ppb offset) h =
-    legal_either f s (words.is_allowed s.nvic offset (word_written request.size request.write)) (Ready (act.Private w request offset)) (stopped (why.Outside (master_of s.number) request.address)) h tt
+    legal_either f s (words.is_allowed offset (word_written request.size request.write)) (Ready (act.Private w request offset)) (stopped (why.Outside (master_of s.number) request.address)) h tt
 legal_spot f w request s (spot.Sio offset) h = h
 legal_spot f w request s (spot.Reg block offset alias) h = h
 legal_spot f w request s spot.Outside h = h

@@ -60,9 +60,9 @@ spot_by f s c work request (spot.Ram index bank) has at h = go request.write h
     go : (w : Option ℕ) → wants f (in_ram work request w) ≡ want.Stopped c → StopsBy f s c
     go None h = otherwise _ c refl h
     go (Some v) h = otherwise _ c refl h
-spot_by f s c work request (spot.Ppb offset) has at h = go (is_allowed s.nvic offset (word_written request.size request.write)) refl h
+spot_by f s c work request (spot.Ppb offset) has at h = go (is_allowed offset (word_written request.size request.write)) refl h
   where
-    go : (b : Bool) → is_allowed s.nvic offset (word_written request.size request.write) ≡ b
+    go : (b : Bool) → is_allowed offset (word_written request.size request.write) ≡ b
         → wants f (cond b (Ready (act.Private work request offset)) (stopped (why.Outside (master_of s.number) request.address))) ≡ want.Stopped c → StopsBy f s c
     go true e h = otherwise _ c refl h
     go false e h = is_by f s _ c h (refused request offset has at e)

@@ -154,7 +154,7 @@ lands_at : (op : Op) (g : Given) (s : State) (lines cycle : ℕ) (request : Requ
     → is_stop (want_of_act (answered g.answers (at_spot (works.Instruction op) request s spot))) ≡ false
     → Lands op s.regs s.beats_done (with_value s.read (read_at spot request request.write g s)) (step_by lines cycle g.word s (answered g.answers (at_spot (works.Instruction op) request s spot)))
 lands_at op g s lines cycle request (spot.Ram index bank) awake goes = lands_ram op g s lines cycle index bank request request.write awake
-lands_at op g s lines cycle request (spot.Ppb offset) awake goes = private_allowed op g s lines cycle offset request (is_allowed s.nvic offset (word_written request.size request.write)) awake goes
+lands_at op g s lines cycle request (spot.Ppb offset) awake goes = private_allowed op g s lines cycle offset request (is_allowed offset (word_written request.size request.write)) awake goes
 lands_at op g s lines cycle request (spot.Sio offset) awake goes = lands_outward op s lines cycle g.word request _ awake (sio_read offset request request.write g s)
 lands_at op g s lines cycle request (spot.Reg block offset alias) awake goes = lands_outward op s lines cycle g.word request _ awake (go request.write)
   where
@@ -294,7 +294,7 @@ wants_place : (op : Op) (g : Given) (s : State) (request : Request) (spot : Spot
     → is_stop (want_of_act (answered g.answers (at_spot (works.Instruction op) request s spot))) ≡ false
     → want_of_act (answered g.answers (at_spot (works.Instruction op) request s spot)) ≡ want_at spot request
 wants_place op g s request (spot.Ram index bank) goes = wants_ram op g request request.write
-wants_place op g s request (spot.Ppb offset) goes = wants_private op g s offset request (is_allowed s.nvic offset (word_written request.size request.write)) goes
+wants_place op g s request (spot.Ppb offset) goes = wants_private op g s offset request (is_allowed offset (word_written request.size request.write)) goes
 wants_place op g s request (spot.Sio offset) goes = refl
 wants_place op g s request (spot.Reg block offset alias) goes = refl
 wants_place op g s request spot.Outside goes = refl
@@ -373,7 +373,7 @@ changes_at : (op : Op) (g : Given) (s : State) (lines cycle : ℕ) (request : Re
     → ChangesBy op (touched_at spot request) lines cycle s (step_by lines cycle g.word s (answered g.answers (at_spot (works.Instruction op) request s spot)))
 changes_at op g s lines cycle request (spot.Ram index bank) e goes = changes_ram op g s lines cycle request request.write e
 changes_at op g s lines cycle request (spot.Ppb offset) e goes =
-    changes_private op g s lines cycle offset request (is_allowed s.nvic offset (word_written request.size request.write)) e goes
+    changes_private op g s lines cycle offset request (is_allowed offset (word_written request.size request.write)) e goes
 changes_at op g s lines cycle request (spot.Sio offset) e goes = changes_closed op _ s lines cycle e
 changes_at op g s lines cycle request (spot.Reg block offset alias) e goes = changes_closed op _ s lines cycle e
 changes_at op g s lines cycle request spot.Outside e goes = changes_closed op _ s lines cycle e

@@ -217,7 +217,7 @@ pub record TakesItsBeats (op : Op) (cycle : ℕ) (gs : List Given) (s : State) :
 
 -- an access that the core's private bus refuses: there is no such word, or it is a write that asks for a reset of the system
 abbrev pub is_refused_at : Exceptions → Request → Spot → Bool
-is_refused_at e request (spot.Ppb offset) = not (words.is_allowed e offset (word_written request.size request.write))
+is_refused_at e request (spot.Ppb offset) = not (words.is_allowed offset (word_written request.size request.write))
 is_refused_at e request place = false
 
 abbrev pub is_refused : Exceptions → Beat → Bool

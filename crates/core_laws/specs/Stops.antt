@@ -65,7 +65,7 @@ pub data StopsBy : (Ask → ℕ) → State → Why → Type 0 where
       → is_ram ((s.regs.pc + 2) % 2 ^ 32) ≡ false → StopsBy answers s (why.Outside (master_of s.number) ((s.regs.pc + 2) % 2 ^ 32))
   -- an access of any beat is to a word that the private bus does not have, or that it refuses
   refused : {answers : Ask → ℕ} {s : State} (request : Request) (offset : ℕ) → HasAccess answers s request
-      → place_of request.address ≡ spot.Ppb offset → is_allowed s.nvic offset (word_written request.size request.write) ≡ false
+      → place_of request.address ≡ spot.Ppb offset → is_allowed offset (word_written request.size request.write) ≡ false
       → StopsBy answers s (why.Outside (master_of s.number) request.address)
 
 -- ---- the law

@@ -23,11 +23,11 @@ high none found at h =
     ∙ ap (λ b. cond b (at_row none found channel_rows at) (at_row none found block_rows at)) is
 
 pub low_word : (s : Engine) (at : ℕ) → at < 0x300
-    → listed_word s at ≡ in_stride 0 None (λ row. Some (row.reads (at / 64) tt s)) (channel_rows {V = ⊤}) (at % 64)
+    → listed_word at s ≡ in_stride 0 None (λ row. Some (row.reads (at / 64) tt s)) (channel_rows {V = ⊤}) (at % 64)
 unfolding listed_word
 low_word s at h = low None (λ row n. Some (row.reads n tt s)) at h
 
-pub high_word : (s : Engine) (at : ℕ) → 0x300 ≤ at → listed_word s at ≡ word_at (block_rows {V = ⊤}) tt at s
+pub high_word : (s : Engine) (at : ℕ) → 0x300 ≤ at → listed_word at s ≡ word_at (block_rows {V = ⊤}) tt at s
 unfolding listed_word
 high_word s at h = high None (λ row n. Some (row.reads n tt s)) at h
 
@@ -45,6 +45,6 @@ pub reads : (at : ℕ) (s : Engine) → after_any at None s ≡ s
 unfolding after_any
 reads at s = still dma_rows at s (search rules)
 
-pub there : (s : Engine) (at : ℕ) → is_some (listed_word s at) ≡ is_word at
+pub there : (s : Engine) (at : ℕ) → is_some (listed_word at s) ≡ is_word at
 unfolding listed_word is_word
 there s at = sym ((listed dma_rows refl).is_word at tt s)

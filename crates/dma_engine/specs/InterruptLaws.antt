@@ -5,12 +5,12 @@ use Rattle.dma_engine.specs.Words.{listed_word, lines_of}
 
 -- what a word reads as where the engine is not held
 abbrev pub read : ℕ → Engine → ℕ
-read offset s = unwrap_or (listed_word s offset) 0
+read offset s = unwrap_or (listed_word offset s) 0
 
 -- INTS is INTR (0x400) where INTE enables it, and INTF whatever is enabled; a line is high where some bit of its INTS is set
 pub record IsShown (s : Engine) : Type 0 where
-  pub line_0 : listed_word s 0x40c ≡ Some (bit_or (bit_and (read 0x400 s) (read 0x404 s)) (read 0x408 s))
-  pub line_1 : listed_word s 0x41c ≡ Some (bit_or (bit_and (read 0x400 s) (read 0x414 s)) (read 0x418 s))
+  pub line_0 : listed_word 0x40c s ≡ Some (bit_or (bit_and (read 0x400 s) (read 0x404 s)) (read 0x408 s))
+  pub line_1 : listed_word 0x41c s ≡ Some (bit_or (bit_and (read 0x400 s) (read 0x414 s)) (read 0x418 s))
   pub lines : lines_of s ≡ not (read 0x40c s == 0) ∷ not (read 0x41c s == 0) ∷ []
 
 abbrev pub WhatIsEnabledOrForcedIsShown : Type 0

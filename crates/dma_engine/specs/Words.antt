@@ -112,11 +112,11 @@ abbrev pub dma_rows : List (Row ⊤ Engine)
 dma_rows = channel_rows ++ block_rows
 
 -- what a word reads as where the engine is not held; None where there is no such word
-unfoldable pub listed_word : Engine → ℕ → Option ℕ
-listed_word s offset = word_at dma_rows tt offset s
+unfoldable pub listed_word : ℕ → Engine → Option ℕ
+listed_word offset s = word_at dma_rows tt offset s
 
-abbrev pub word_of : Engine → ℕ → Option ℕ
-word_of s offset = unless_held s.held (listed_word s offset)
+abbrev pub word_of : ℕ → Engine → Option ℕ
+word_of offset s = unless_held s.held (listed_word offset s)
 
 unfoldable pub is_word : ℕ → Bool
 is_word offset = has_row dma_rows offset

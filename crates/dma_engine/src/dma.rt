@@ -72,7 +72,7 @@ impl Dma {
     /// The word at an offset of the plain view (RP2040 Datasheet, 2.5.7); 0 where the engine is held. None exactly where
     /// there is no such word.
     pub fn read(&self, offset: u16) -> Option<u32>
-        ensures { result ≡ word_of self.now offset }
+        ensures { result ≡ word_of offset self.now }
     {
         self.engine.read(offset)
     }
@@ -183,9 +183,9 @@ impl Dma {
 }
 
 impl Registers<()> for Dma {
-    ghost word = { λ _ s offset. word_of s offset };
+    ghost word = { λ offset _. word_of offset };
 
-    ghost allowed = { λ s offset _. is_word offset };
+    ghost allowed = { λ offset _ _. is_word offset };
 
     ghost accessed = { effect_of };
 

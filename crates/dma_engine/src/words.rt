@@ -43,7 +43,7 @@ impl PacingTimer {
 impl Engine {
     /// The word at an offset, where the engine is not held.
     fn listed(&self, offset: u16) -> Option<u32>
-        ensures { result ≡ listed_word self.now offset }
+        ensures { result ≡ listed_word offset self.now }
     {
         if offset < CHANNELS_END {
             self.channel_word(offset / 0x40, offset % 0x40)
@@ -54,7 +54,7 @@ impl Engine {
 
     /// The word at an offset.
     pub(crate) fn read(&self, offset: u16) -> Option<u32>
-        ensures { result ≡ word_of self.now offset }
+        ensures { result ≡ word_of offset self.now }
     {
         unless_held(self.held, self.listed(offset))
     }

@@ -67,19 +67,19 @@ abbrev pub is_word : ℕ → Bool
 is_word offset = has_row bank_rows offset
 
 -- the block of a word is held in reset
-abbrev pub is_held : Bank → ℕ → Bool
-is_held s offset = if nat_lt offset 0x1000 then s.bank_held else s.pads_held
+abbrev pub is_held : ℕ → Bank → Bool
+is_held offset s = if nat_lt offset 0x1000 then s.bank_held else s.pads_held
 
 -- what a word reads as; None where there is none
-abbrev pub word_of : Bank → Outs → ℕ → Option ℕ
-word_of s outs offset = unless_held (is_held s offset) (rows.word_at bank_rows outs offset s)
+abbrev pub word_of : ℕ → Outs → Bank → Option ℕ
+word_of offset outs s = unless_held (is_held offset s) (rows.word_at bank_rows outs offset s)
 
 abbrev pub after_any : ℕ → Option ℕ → Bank → Bank
 after_any offset write s = effect_at bank_rows offset write s
 
 -- what a read or a write does
 abbrev pub effect_of : ℕ → Option ℕ → Bank → Bank
-effect_of offset write s = after_access (is_word offset) (is_held s offset) s (after_any offset write s)
+effect_of offset write s = after_access (is_word offset) (is_held offset s) s (after_any offset write s)
 
 -- each register is what stands at its offset, and nothing stands at any other
 abbrev pub EachRegisterIsAtItsOffset : Type 0

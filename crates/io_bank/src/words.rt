@@ -20,7 +20,7 @@ impl IoBank {
     /// The word at an offset, where the parts put out `outs` at the start of the cycle; a held block reads 0. None exactly
     /// where there is no such word.
     pub fn read(&self, offset: u16, outs: &Outs) -> Option<u32>
-        ensures { result ≡ word_of self.now outs.now offset }
+        ensures { result ≡ word_of offset outs.now self.now }
     {
         unless_held(self.is_held(offset), self.listed(offset, outs))
     }
@@ -49,7 +49,7 @@ impl IoBank {
 
     /// The block of a word is held in reset.
     fn is_held(&self, offset: u16) -> bool
-        ensures { result ≡ is_held self.now offset }
+        ensures { result ≡ is_held offset self.now }
     {
         if offset < PADS_BANK0 {
             self.bank_held
@@ -203,9 +203,9 @@ impl IoBank {
 }
 
 impl Registers<Outs> for IoBank {
-    ghost word = { λ outs s offset. word_of s outs offset };
+    ghost word = { word_of };
 
-    ghost allowed = { λ s offset _. is_word offset };
+    ghost allowed = { λ offset _ _. is_word offset };
 
     ghost accessed = { effect_of };
 

@@ -81,7 +81,7 @@ in_ram work request (Some value) = Ready (act.Write work request)
 -- the private bus has words that can be accessed; a write that asks for a reset of the system is none of them
 abbrev pub in_private : Work → Request → ℕ → State → Asking Act
 in_private work request offset s =
-    if is_allowed s.nvic offset (word_written request.size request.write)
+    if is_allowed offset (word_written request.size request.write)
     then Ready (act.Private work request offset)
     else stopped (why.Outside (master_of s.number) request.address)
 

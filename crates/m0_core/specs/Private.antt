@@ -8,7 +8,7 @@ use Rattle.m0_core.specs.State.{State}
 
 -- the word at an offset
 abbrev pub private_word : ℕ → State → ℕ
-private_word offset s = unwrap_or (word_of s.nvic offset s.regs.ipsr) 0
+private_word offset s = unwrap_or (word_of offset s.regs.ipsr s.nvic) 0
 
 -- a read has its lanes of the word, and a write has no value
 abbrev pub private_value : Request → Option ℕ → ℕ → State → Option ℕ

@@ -11,7 +11,7 @@ use rp_base::access::{lanes, word_written};
 impl Core {
     /// The word that a read of the private bus at an offset from 0xe000_e000 would give now. None exactly where there is no such word.
     pub fn private_at(&self, offset: u16) -> Option<u32>
-        ensures { result ≡ word_of self.now.nvic offset self.now.regs.ipsr }
+        ensures { result ≡ word_of offset self.now.regs.ipsr self.now.nvic }
     {
         self.nvic.read(offset, self.regs.ipsr)
     }

@@ -24,20 +24,20 @@ below at bound h = grind (arith, nat_tests, common_steps)
 above : (at bound : ℕ) → bound ≤ at → nat_lt at bound ≡ false
 above at bound h = grind (arith, nat_tests, common_steps)
 
-pub timer_word : (s : Exceptions) (at ipsr : ℕ) → at < 0x100 → word_of s at ipsr ≡ word_at (timer_rows {V = ⊤}) tt at s
+pub timer_word : (s : Exceptions) (at ipsr : ℕ) → at < 0x100 → word_of at ipsr s ≡ word_at (timer_rows {V = ⊤}) tt at s
 unfolding word_of
 timer_word s at ipsr h = parts None (λ row n. Some (row.reads n ipsr s)) at ∙ rw (below at 0x100 h) refl
 
-pub interrupt_word : (s : Exceptions) (at ipsr : ℕ) → 0x100 ≤ at → at < 0x400 → word_of s at ipsr ≡ word_at (interrupt_rows {V = ⊤}) tt at s
+pub interrupt_word : (s : Exceptions) (at ipsr : ℕ) → 0x100 ≤ at → at < 0x400 → word_of at ipsr s ≡ word_at (interrupt_rows {V = ⊤}) tt at s
 unfolding word_of
 interrupt_word s at ipsr g h = parts None (λ row n. Some (row.reads n ipsr s)) at ∙ rw (above at 0x100 g, below at 0x400 h) refl
 
-pub priority_word : (s : Exceptions) (at ipsr : ℕ) → 0x400 ≤ at → at < 0xd00 → word_of s at ipsr ≡ word_at (priority_rows {V = ⊤}) tt at s
+pub priority_word : (s : Exceptions) (at ipsr : ℕ) → 0x400 ≤ at → at < 0xd00 → word_of at ipsr s ≡ word_at (priority_rows {V = ⊤}) tt at s
 unfolding word_of
 priority_word s at ipsr g h =
     parts None (λ row n. Some (row.reads n ipsr s)) at ∙ rw (above at 0x100 (omega (arith, g)), above at 0x400 g, below at 0xd00 h) refl
 
-pub control_word : (s : Exceptions) (at ipsr : ℕ) → 0xd00 ≤ at → word_of s at ipsr ≡ word_at control_rows ipsr at s
+pub control_word : (s : Exceptions) (at ipsr : ℕ) → 0xd00 ≤ at → word_of at ipsr s ≡ word_at control_rows ipsr at s
 unfolding word_of
 control_word s at ipsr g =
     parts None (λ row n. Some (row.reads n ipsr s)) at
@@ -69,6 +69,6 @@ pub reads : (at : ℕ) (s : Exceptions) → after_access at None s ≡ (if at ==
 unfolding after_access
 reads at s = ap (λ x. if at == 0x010 then of_timer (λ t. record t { counted = false }) s else x) (still (drop 1 bus_rows) at s (search rules))
 
-pub there : (s : Exceptions) (at ipsr : ℕ) → is_some (word_of s at ipsr) ≡ is_word at
+pub there : (s : Exceptions) (at ipsr : ℕ) → is_some (word_of at ipsr s) ≡ is_word at
 unfolding word_of is_word
 there s at ipsr = sym ((listed bus_rows refl).is_word at ipsr s)

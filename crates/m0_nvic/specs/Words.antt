@@ -121,8 +121,8 @@ abbrev pub bus_rows : List (Row ℕ Exceptions)
 bus_rows = timer_rows ++ interrupt_rows ++ priority_rows ++ control_rows
 
 -- what a word reads as; None where there is none
-unfoldable pub word_of : Exceptions → ℕ → ℕ → Option ℕ
-word_of s offset ipsr = word_at bus_rows ipsr offset s
+unfoldable pub word_of : ℕ → ℕ → Exceptions → Option ℕ
+word_of offset ipsr s = word_at bus_rows ipsr offset s
 
 unfoldable pub is_word : ℕ → Bool
 is_word offset = has_row bus_rows offset
@@ -132,15 +132,15 @@ abbrev pub asks_reset : ℕ → Option ℕ → Bool
 asks_reset offset None = false
 asks_reset offset (Some w) = offset == offset_in bus_rows "AIRCR" && (w / 2 ^ 16 == 0x05FA && has_bit w 2)
 
-abbrev pub is_allowed : Exceptions → ℕ → Option ℕ → Bool
-is_allowed s offset write = is_word offset && not (asks_reset offset write)
+abbrev pub is_allowed : ℕ → Option ℕ → Bool
+is_allowed offset write = is_word offset && not (asks_reset offset write)
 
 unfoldable pub after_access : ℕ → Option ℕ → Exceptions → Exceptions
 after_access offset write s = effect_at bus_rows offset write s
 
 -- what a read or a write does; nothing where it is not allowed
 abbrev pub effect_of : ℕ → Option ℕ → Exceptions → Exceptions
-effect_of offset write s = if is_allowed s offset write then after_access offset write s else s
+effect_of offset write s = if is_allowed offset write then after_access offset write s else s
 
 -- each register is what stands at its offset, and nothing stands at any other
 abbrev pub EachRegisterIsAtItsOffset : Type 0

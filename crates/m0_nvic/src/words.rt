@@ -18,7 +18,7 @@ impl Nvic {
     /// where there is no such word.
     #[tactic(auto, using(crate::proofs::Rows::timer_word, crate::proofs::Rows::interrupt_word, crate::proofs::Rows::priority_word, crate::proofs::Rows::control_word))]
     pub fn read(&self, offset: u16, ipsr: u8) -> Option<u32>
-        ensures { result ≡ word_of self.now offset ipsr }
+        ensures { result ≡ word_of offset ipsr self.now }
     {
         if offset < NVIC_ISER {
             self.timer_word(offset)
@@ -34,7 +34,7 @@ impl Nvic {
     /// A read, or a write of this word, is allowed: there is such a word, and it is no request of a system reset.
     #[tactic(auto, using(crate::proofs::Rows::there))]
     pub fn allows(&self, offset: u16, write: Option<u32>) -> bool
-        ensures { result ≡ is_allowed self.now offset write }
+        ensures { result ≡ is_allowed offset write }
     {
         self.read(offset, 0).is_some() && !asks_reset(offset, write)
     }
@@ -44,7 +44,7 @@ impl Nvic {
     #[tactic(auto, using(crate::proofs::Rows::reads))]
     pub fn effect(&mut self, offset: u16, write: Option<u32>) -> bool
         ensures after { self.new ≡ effect_of offset write self.old }
-        ensures allowed { result ≡ is_allowed self.old offset write }
+        ensures allowed { result ≡ is_allowed offset write }
     {
         if !self.allows(offset, write) {
             return false;

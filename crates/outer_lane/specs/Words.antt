@@ -24,30 +24,30 @@ abbrev pub outs_now : Setting → SeenOutputs → OuterState → Outs
 outs_now w seen s = outs_of (wires_of w.device seen.cycle s) seen s
 
 -- what the words of IO_BANK0, and from there on of PADS_BANK0, read as
-unfoldable pub pads_word : Setting → SeenOutputs → ℕ → OuterState → Option ℕ
-pads_word w seen offset s = bank.word_of s.pads (outs_now w seen s) offset
+unfoldable pub pads_word : ℕ → Setting → SeenOutputs → OuterState → Option ℕ
+pads_word offset w seen s = bank.word_of offset (outs_now w seen s) s.pads
 
 -- the offsets of IO_BANK0 end below those of PADS_BANK0
-abbrev pub bank_word : Setting → SeenOutputs → ℕ → OuterState → Option ℕ
-bank_word w seen offset s = if nat_lt offset PADS_BANK0 then pads_word w seen offset s else None
+abbrev pub bank_word : ℕ → Setting → SeenOutputs → OuterState → Option ℕ
+bank_word offset w seen s = if nat_lt offset PADS_BANK0 then pads_word offset w seen s else None
 
 -- what a word reads as; None where the block has no such word, or is no peripheral
-unfoldable pub outer_word : Setting → SeenOutputs → Block → ℕ → OuterState → Option ℕ
-outer_word w seen block.IoBank0 offset s = bank_word w seen offset s
-outer_word w seen block.PadsBank0 offset s = pads_word w seen (PADS_BANK0 + offset) s
-outer_word w seen block.Uart0 offset s = unless_held s.uart0.held (uart.word_of s.uart0.block offset)
-outer_word w seen block.Uart1 offset s = unless_held s.uart1.held (uart.word_of s.uart1.block offset)
-outer_word w seen block.Timer offset s = unless_held s.timer.held (timer.word_of offset s.timer.block)
-outer_word w seen _ offset s = None
+unfoldable pub outer_word : Block → ℕ → Setting → SeenOutputs → OuterState → Option ℕ
+outer_word block.IoBank0 offset w seen s = bank_word offset w seen s
+outer_word block.PadsBank0 offset w seen s = pads_word (PADS_BANK0 + offset) w seen s
+outer_word block.Uart0 offset w seen s = unless_held s.uart0.held (uart.word_of offset s.uart0.block)
+outer_word block.Uart1 offset w seen s = unless_held s.uart1.held (uart.word_of offset s.uart1.block)
+outer_word block.Timer offset w seen s = unless_held s.timer.held (timer.word_of offset s.timer.block)
+outer_word _ offset w seen s = None
 
 -- whether a block has a word; whether it is held does not matter
-unfoldable pub outer_allowed : Block → ℕ → OuterState → Bool
-outer_allowed block.IoBank0 offset s = nat_lt offset PADS_BANK0 && bank.is_word offset
-outer_allowed block.PadsBank0 offset s = bank.is_word (PADS_BANK0 + offset)
-outer_allowed block.Uart0 offset s = uart.is_allowed s.uart0.block offset
-outer_allowed block.Uart1 offset s = uart.is_allowed s.uart1.block offset
-outer_allowed block.Timer offset s = timer.is_word offset s.timer.block
-outer_allowed _ offset s = false
+unfoldable pub outer_allowed : Block → ℕ → Bool
+outer_allowed block.IoBank0 offset = nat_lt offset PADS_BANK0 && bank.is_word offset
+outer_allowed block.PadsBank0 offset = bank.is_word (PADS_BANK0 + offset)
+outer_allowed block.Uart0 offset = uart.is_word offset
+outer_allowed block.Uart1 offset = uart.is_word offset
+outer_allowed block.Timer offset = timer.is_word offset
+outer_allowed _ offset = false
 
 abbrev pub uart_accessed : ℕ → Option ℕ → Resettable SerialPort → Resettable SerialPort
 uart_accessed offset write u = unless_held_becomes u (uart.effect_of offset write u.block)

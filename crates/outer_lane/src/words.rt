@@ -39,7 +39,7 @@ impl Outer {
         block: Block,
         offset: u16,
     ) -> Option<u32>
-        ensures { result ≡ outer_word (setting X.meaning world.now) seen.now block offset self.now }
+        ensures { result ≡ outer_word block offset (setting X.meaning world.now) seen.now self.now }
     {
         match block {
             Block::IoBank0 => self.read_bank(world, seen, offset),
@@ -58,7 +58,7 @@ impl Outer {
         seen: &SeenOutputs,
         offset: u16,
     ) -> Option<u32>
-        ensures { result ≡ bank_word (setting X.meaning world.now) seen.now offset self.now }
+        ensures { result ≡ bank_word offset (setting X.meaning world.now) seen.now self.now }
     {
         if offset >= PADS_BANK0 {
             return None;
@@ -74,7 +74,7 @@ impl Outer {
         seen: &SeenOutputs,
         offset: u16,
     ) -> Option<u32>
-        ensures { result ≡ pads_word (setting X.meaning world.now) seen.now offset self.now }
+        ensures { result ≡ pads_word offset (setting X.meaning world.now) seen.now self.now }
     {
         let outs = self.outs_now(world, seen);
         self.pads.read(offset, &outs)
@@ -88,8 +88,7 @@ impl Outer {
         seen: &SeenOutputs,
         offset: u16,
     ) -> Option<u32>
-        ensures { result ≡ pads_word (setting X.meaning world.now) seen.now (PADS_BANK0 + offset)
-            self.now }
+        ensures { result ≡ pads_word (PADS_BANK0 + offset) (setting X.meaning world.now) seen.now self.now }
     {
         if offset > LAST_PAD {
             return None;
@@ -119,7 +118,7 @@ impl Outer {
     /// is held.
     #[tactic(auto, unfolding(crate::specs::Words::outer_allowed), using(crate::proofs::PadWords::no_pad_word))]
     pub fn allows(&self, block: Block, offset: u16, write: Option<u32>) -> bool
-        ensures { result ≡ outer_allowed block offset self.now }
+        ensures { result ≡ outer_allowed block offset }
     {
         match block {
             Block::IoBank0 => offset < PADS_BANK0 && self.pads.allows(offset, write),
@@ -210,7 +209,7 @@ fn access<B: Registers<()>>(block: &mut Resettable<B>, offset: u16, write: Optio
 
 /// A word of such a block.
 fn word<B: Registers<()>>(block: &Resettable<B>, offset: u16) -> Option<u32>
-    ensures { result ≡ unless_held block.now.held (B.word tt block.now.block offset) }
+    ensures { result ≡ unless_held block.now.held (B.word offset tt block.now.block) }
 {
     block.read(&(), offset)
 }

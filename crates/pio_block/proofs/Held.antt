@@ -21,7 +21,7 @@ no_access : (offset : ℕ) (write : Option ℕ) → effect_of offset write held_
 unfolding effect_of
 no_access offset write = either_way (is_allowed offset write) held_block
 
-reads_nothing : (offset : ℕ) → word_of held_block offset ≡ (if is_word offset then Some 0 else None)
+reads_nothing : (offset : ℕ) → word_of offset held_block ≡ (if is_word offset then Some 0 else None)
 unfolding word_of listed_word is_word
 reads_nothing offset = (held pio_rows).reads offset tt held_block
 

@@ -140,29 +140,29 @@ at_interrupt none found at g =
 
 -- ---- reads and writes
 
-pub control_word : (s : Block) (at : ℕ) → at < 0x010 → listed_word s at ≡ word_at (control_rows {V = ⊤}) tt at s
+pub control_word : (s : Block) (at : ℕ) → at < 0x010 → listed_word at s ≡ word_at (control_rows {V = ⊤}) tt at s
 unfolding listed_word
 control_word s at h = at_control None (λ row n. Some (row.reads n tt s)) at h
 
-pub fifo_word : (s : Block) (at : ℕ) → 0x010 ≤ at → at < 0x030 → listed_word s at ≡ word_at (fifo_rows {V = ⊤}) tt at s
+pub fifo_word : (s : Block) (at : ℕ) → 0x010 ≤ at → at < 0x030 → listed_word at s ≡ word_at (fifo_rows {V = ⊤}) tt at s
 unfolding listed_word
 fifo_word s at g h = at_fifo None (λ row n. Some (row.reads n tt s)) at g h
 
-pub pin_word : (s : Block) (at : ℕ) → 0x030 ≤ at → at < 0x048 → listed_word s at ≡ word_at (pin_rows {V = ⊤}) tt at s
+pub pin_word : (s : Block) (at : ℕ) → 0x030 ≤ at → at < 0x048 → listed_word at s ≡ word_at (pin_rows {V = ⊤}) tt at s
 unfolding listed_word
 pin_word s at g h = at_pin None (λ row n. Some (row.reads n tt s)) at g h
 
-pub memory_word : (s : Block) (at : ℕ) → 0x048 ≤ at → at < 0x0c8 → listed_word s at ≡ word_at (memory_rows {V = ⊤}) tt at s
+pub memory_word : (s : Block) (at : ℕ) → 0x048 ≤ at → at < 0x0c8 → listed_word at s ≡ word_at (memory_rows {V = ⊤}) tt at s
 unfolding listed_word
 memory_word s at g h = at_memory None (λ row n. Some (row.reads n tt s)) at g h
 
 pub machine_word : (s : Block) (at : ℕ) → 0x0c8 ≤ at → at < 0x128
-    → listed_word s at ≡ register_of ((at - 0x0c8) % 24) s.memory (machine_of ((at - 0x0c8) / 24) s.machines)
+    → listed_word at s ≡ register_of ((at - 0x0c8) % 24) s.memory (machine_of ((at - 0x0c8) / 24) s.machines)
 unfolding listed_word register_of
 machine_word s at g h =
     at_machine None (λ row n. Some (row.reads n tt s)) at g h ∙ word-of_machine machine_rows ((at - 0x0c8) % 24) ((at - 0x0c8) / 24) s refl
 
-pub interrupt_word : (s : Block) (at : ℕ) → 0x128 ≤ at → listed_word s at ≡ word_at (interrupt_rows {V = ⊤}) tt at s
+pub interrupt_word : (s : Block) (at : ℕ) → 0x128 ≤ at → listed_word at s ≡ word_at (interrupt_rows {V = ⊤}) tt at s
 unfolding listed_word
 interrupt_word s at g = at_interrupt None (λ row n. Some (row.reads n tt s)) at g
 

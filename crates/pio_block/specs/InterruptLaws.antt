@@ -5,12 +5,12 @@ use Rattle.pio_block.specs.Words.{listed_word, lines_of}
 
 -- what a word reads as where the block is not held
 abbrev pub read : ℕ → Block → ℕ
-read offset s = unwrap_or (listed_word s offset) 0
+read offset s = unwrap_or (listed_word offset s) 0
 
 -- INTS is INTR (0x128) where INTE enables it, and INTF whatever is enabled; a line is high where some bit of its INTS is set
 pub record IsShown (s : Block) : Type 0 where
-  pub line_0 : listed_word s 0x134 ≡ Some (bit_or (bit_and (read 0x128 s) (read 0x12c s)) (read 0x130 s))
-  pub line_1 : listed_word s 0x140 ≡ Some (bit_or (bit_and (read 0x128 s) (read 0x138 s)) (read 0x13c s))
+  pub line_0 : listed_word 0x134 s ≡ Some (bit_or (bit_and (read 0x128 s) (read 0x12c s)) (read 0x130 s))
+  pub line_1 : listed_word 0x140 s ≡ Some (bit_or (bit_and (read 0x128 s) (read 0x138 s)) (read 0x13c s))
   pub lines : lines_of s ≡ not (read 0x134 s == 0) ∷ not (read 0x140 s == 0) ∷ []
 
 abbrev pub WhatIsEnabledOrForcedIsShown : Type 0

@@ -43,7 +43,7 @@ TheHighestMachineDecides =
 pub record StaysHeld (s : Block) : Type 0 where
   pub rests : Rests s
   pub accesses : (offset : ℕ) (write : Option ℕ) → effect_of offset write s ≡ s
-  pub reads : (offset : ℕ) → word_of s offset ≡ (if is_word offset then Some 0 else None)
+  pub reads : (offset : ℕ) → word_of offset s ≡ (if is_word offset then Some 0 else None)
 
 abbrev pub AHeldBlockStays : Type 0
 AHeldBlockStays = (s : Block) → StaysHeld (with_held true s)

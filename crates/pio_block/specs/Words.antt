@@ -88,11 +88,11 @@ unfoldable pub is_word : ℕ → Bool
 is_word offset = has_row pio_rows offset
 
 -- what a word reads as where the block is not held; None where there is no such word
-unfoldable pub listed_word : Block → ℕ → Option ℕ
-listed_word s offset = word_at pio_rows tt offset s
+unfoldable pub listed_word : ℕ → Block → Option ℕ
+listed_word offset s = word_at pio_rows tt offset s
 
-unfoldable pub word_of : Block → ℕ → Option ℕ
-word_of s offset = unless_held s.held (listed_word s offset)
+unfoldable pub word_of : ℕ → Block → Option ℕ
+word_of offset s = unless_held s.held (listed_word offset s)
 
 -- OUT_STICKY and INLINE_OUT_EN of EXECCTRL are left out: a write that sets one of them is not allowed
 abbrev pub sets_left_out : ℕ → Option ℕ → Bool

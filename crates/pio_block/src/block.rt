@@ -49,7 +49,7 @@ impl PioBlock {
 
     /// The word at an offset, 0 while the block is held. None exactly where there is no such word.
     pub fn read(&self, offset: u16) -> Option<u32>
-        ensures { result ≡ word_of self.now offset }
+        ensures { result ≡ word_of offset self.now }
     {
         self.state.read(offset)
     }
@@ -178,9 +178,9 @@ impl PioBlock {
 }
 
 impl Registers<()> for PioBlock {
-    ghost word = { λ _. word_of };
+    ghost word = { λ offset _. word_of offset };
 
-    ghost allowed = { λ _. is_allowed };
+    ghost allowed = { λ offset write _. is_allowed offset write };
 
     ghost accessed = { effect_of };
 

@@ -264,7 +264,7 @@ impl State {
     /// The word at an offset, where the block is not held.
     #[tactic(auto, using(crate::proofs::Rows::control_word, crate::proofs::Rows::fifo_word, crate::proofs::Rows::pin_word, crate::proofs::Rows::memory_word, crate::proofs::Rows::machine_word, crate::proofs::Rows::interrupt_word))]
     fn listed(&self, offset: u16) -> Option<u32>
-        ensures { result ≡ listed_word self.now offset }
+        ensures { result ≡ listed_word offset self.now }
     {
         if offset < TXF0 {
             self.control_word(offset)
@@ -285,7 +285,7 @@ impl State {
     /// The word at an offset.
     #[tactic(auto, unfolding(crate::specs::Words::word_of))]
     pub(crate) fn read(&self, offset: u16) -> Option<u32>
-        ensures { result ≡ word_of self.now offset }
+        ensures { result ≡ word_of offset self.now }
     {
         unless_held(self.held, self.listed(offset))
     }

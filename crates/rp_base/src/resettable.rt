@@ -56,9 +56,9 @@ impl<B: Reset> Resettable<B> {
 }
 
 impl<V, B: Registers<V>> Registers<V> for Resettable<B> {
-    ghost word = { λ seen s offset. unless_held s.held (B.word seen s.block offset) };
+    ghost word = { λ offset seen s. unless_held s.held (B.word offset seen s.block) };
 
-    ghost allowed = { λ s offset write. B.allowed s.block offset write };
+    ghost allowed = { λ offset write s. B.allowed offset write s.block };
 
     ghost accessed = { λ offset write s. unless_held_becomes s (B.accessed offset write s.block) };
 

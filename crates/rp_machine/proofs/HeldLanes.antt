@@ -96,7 +96,7 @@ any_same offset write b = keeps (SameBank b) bank.bank_rows offset write b (same
 effect_same : (offset : ℕ) (write : Option ℕ) (b : Bank) → SameBank b (bank.effect_of offset write b)
 effect_same offset write b =
     bank_way b (bank.is_word offset) _ b
-    (bank_way b (bank.is_held b offset) b _ (same_bank b) (any_same offset write b)) (same_bank b)
+    (bank_way b (bank.is_held offset b) b _ (same_bank b) (any_same offset write b)) (same_bank b)
 
 accessed_same : (offset : ℕ) (write : Option ℕ) (b : Bank) → SameBank b (bank_accessed offset write b)
 accessed_same offset write b = bank_way b _ _ _ (effect_same offset write b) (same_bank b)

@@ -58,9 +58,9 @@ open_by r offset b None e =
     let none = ap (λ (c : Bool). c && not (sets_left_out offset (word_written r.size r.write))) e in
     (none, none)
 
-pub plainly_open : (r : Request) (offset : ℕ) (b : Block) → Opens r offset b (word_of b offset)
+pub plainly_open : (r : Request) (offset : ℕ) (b : Block) → Opens r offset b (word_of offset b)
 unfolding word_of listed_word is_word
-plainly_open r offset b = open_by r offset b (word_of b offset) (some-read pio_rows b.held offset tt b)
+plainly_open r offset b = open_by r offset b (word_of offset b) (some-read pio_rows b.held offset tt b)
 
 -- ---- the peripherals
 
@@ -68,14 +68,14 @@ some-below : (b c : Bool) (word : Option ℕ) → c ≡ is_some word → (b && c
 some-below true c word e = e
 some-below false c word e = refl
 
-pads_open : (w : Setting) (seen : SeenOutputs) (offset : ℕ) (o : OuterState) → bank.is_word offset ≡ is_some (pads_word w seen offset o)
+pads_open : (w : Setting) (seen : SeenOutputs) (offset : ℕ) (o : OuterState) → bank.is_word offset ≡ is_some (pads_word offset w seen o)
 unfolding pads_word
-pads_open w seen offset o = some-read bank.bank_rows (bank.is_held o.pads offset) offset (outs_now w seen o) o.pads
+pads_open w seen offset o = some-read bank.bank_rows (bank.is_held offset o.pads) offset (outs_now w seen o) o.pads
 
 outer_open : (w : Setting) (seen : SeenOutputs) (b : Place) (offset : ℕ) (o : OuterState)
-    → outer_allowed b offset o ≡ is_some (outer_word w seen b offset o)
+    → outer_allowed b offset ≡ is_some (outer_word b offset w seen o)
 unfolding outer_allowed outer_word
-outer_open w seen block.IoBank0 offset o = some-below (nat_lt offset PADS_BANK0) _ (pads_word w seen offset o) (pads_open w seen offset o)
+outer_open w seen block.IoBank0 offset o = some-below (nat_lt offset PADS_BANK0) _ (pads_word offset w seen o) (pads_open w seen offset o)
 outer_open w seen block.PadsBank0 offset o = pads_open w seen (PADS_BANK0 + offset) o
 outer_open w seen block.Uart0 offset o = some-read uart_rows o.uart0.held offset tt o.uart0.block
 outer_open w seen block.Uart1 offset o = some-read uart_rows o.uart1.held offset tt o.uart1.block
@@ -93,7 +93,7 @@ opens-some r b offset alias (Some word) h = sym (h (plain_write r r.write alias 
 
 -- an access to the peripherals is open exactly where they have the word
 pub opens_outer : (w : Setting) (seen : SeenOutputs) (r : Request) (b : Place) (offset alias : ℕ) (s : State) → is_outer b ≡ true
-    → outer_allowed b offset s.outer ≡ is_open r (spot.Reg b offset alias) (block_word w seen b offset s)
+    → outer_allowed b offset ≡ is_open r (spot.Reg b offset alias) (block_word b offset w seen s)
 unfolding block_word
 opens_outer w seen r block.IoBank0 offset alias s e = outer_open w seen block.IoBank0 offset s.outer ∙ opens-some r block.IoBank0 offset alias _ (λ write. refl)
 opens_outer w seen r block.PadsBank0 offset alias s e = outer_open w seen block.PadsBank0 offset s.outer ∙ opens-some r block.PadsBank0 offset alias _ (λ write. refl)

@@ -42,7 +42,7 @@ sio_word _ offset s = None
 -- the word at a spot that is not in SRAM, as it reads for a master at the start of the cycle; None where there is none. An
 -- address that is outside of the chip may be the device's
 unfoldable pub word_for : Setting → SeenOutputs → Master → ℕ → Spot → State → Option ℕ
-word_for w seen m address (spot.Reg block offset alias) s = block_word w seen block offset s
+word_for w seen m address (spot.Reg block offset alias) s = block_word block offset w seen s
 word_for w seen m address (spot.Sio offset) s = sio_word m offset s
 word_for w seen m address spot.Outside s = owned_word w address s.outer
 word_for w seen m address _ s = None
@@ -157,7 +157,7 @@ stored_at request _ _ = deed.Nothing
 -- an access to a word of a register block, of SIO or of the device; the device has its address unchanged
 abbrev pub accessed_at : Setting → SeenOutputs → Request → Spot → State → Deed
 accessed_at w seen request (spot.Reg block offset alias) s =
-    deed.Register block offset (plain_write request request.write alias (unwrap_or (block_word w seen block offset s) 0))
+    deed.Register block offset (plain_write request request.write alias (unwrap_or (block_word block offset w seen s) 0))
 accessed_at w seen request (spot.Sio offset) s = deed.SingleCycle offset (word_written request.size request.write)
 accessed_at w seen request spot.Outside s = deed.Device request.address (word_written request.size request.write)
 accessed_at w seen request _ s = deed.Nothing

@@ -18,7 +18,7 @@ begins_of core s = if core == 0 then begins s.core0 else begins s.core1
 -- The word that a read of core 0 would have in the cycle that is next, of a register block, of SIO, of the private bus or of the
 -- device; None where there is no such word, and in SRAM.
 abbrev pub peeked_at : Setting → ℕ → Spot → State → Option ℕ
-peeked_at w address (spot.Ppb offset) s = word_of s.core0.nvic offset s.core0.regs.ipsr
+peeked_at w address (spot.Ppb offset) s = word_of offset s.core0.regs.ipsr s.core0.nvic
 peeked_at w address other s = word_for w (begun s).outer Core0 address other s
 
 unfoldable pub peeked : Setting → ℕ → State → Option ℕ

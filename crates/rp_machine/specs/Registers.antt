@@ -43,13 +43,13 @@ resets_rows =
 -- ---- all blocks
 
 -- what a word reads as at the start of a cycle, in which the peripherals have seen this; None where the block has no such word
-unfoldable pub block_word : Setting → SeenOutputs → Block → ℕ → State → Option ℕ
-block_word w seen block.Resets offset s = word_at resets_rows tt offset s
-block_word w seen block.Busctrl offset s = busctrl.word_of s.fabric offset
-block_word w seen block.Dma offset s = dma.word_of s.dma offset
-block_word w seen block.Pio0 offset s = pio.word_of s.pio0 offset
-block_word w seen block.Pio1 offset s = pio.word_of s.pio1 offset
-block_word w seen other offset s = outer_word w seen other offset s.outer
+unfoldable pub block_word : Block → ℕ → Setting → SeenOutputs → State → Option ℕ
+block_word block.Resets offset w seen s = word_at resets_rows tt offset s
+block_word block.Busctrl offset w seen s = busctrl.word_of offset s.fabric
+block_word block.Dma offset w seen s = dma.word_of offset s.dma
+block_word block.Pio0 offset w seen s = pio.word_of offset s.pio0
+block_word block.Pio1 offset w seen s = pio.word_of offset s.pio1
+block_word other offset w seen s = outer_word other offset w seen s.outer
 
 -- whether a read, or a write of this word, is allowed where the block has the word: what OUT_STICKY and INLINE_OUT_EN of a PIO
 -- block do is left out

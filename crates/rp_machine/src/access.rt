@@ -232,8 +232,7 @@ impl Machine {
         offset: u16,
         alias: u8,
     ) -> bool
-        ensures { result ≡ is_open request.now (spot.Reg block offset alias) (block_word (setting
-            X.meaning world.now) seen.now block offset self.now) }
+        ensures { result ≡ is_open request.now (spot.Reg block offset alias) (block_word block offset (setting X.meaning world.now) seen.now self.now) }
     {
         match block {
             Block::Pio0 if alias == 0 => self.pio0.allows(offset, word_written(request)),
@@ -256,8 +255,7 @@ impl Machine {
         offset: u16,
         alias: u8,
     ) -> bool
-        ensures { result ≡ is_open request.now (spot.Reg block offset alias) (block_word (setting
-            X.meaning world.now) seen.now block offset self.now) }
+        ensures { result ≡ is_open request.now (spot.Reg block offset alias) (block_word block offset (setting X.meaning world.now) seen.now self.now) }
     {
         if is_outer(block) {
             return self.outer.allows(block, offset, None);

@@ -37,7 +37,7 @@ pub(crate) fn plain_write(request: &Request, alias: u8, word: u32) -> Option<u32
 
 /// A word of a block that sees nothing but itself.
 fn word<B: Registers<()>>(block: &B, offset: u16) -> Option<u32>
-    ensures { result ≡ B.word tt block.now offset }
+    ensures { result ≡ B.word offset tt block.now }
 {
     block.read(&(), offset)
 }
@@ -77,7 +77,7 @@ impl Machine {
         block: Block,
         offset: u16,
     ) -> Option<u32>
-        ensures { result ≡ block_word (setting X.meaning world.now) seen.now block offset self.now }
+        ensures { result ≡ block_word block offset (setting X.meaning world.now) seen.now self.now }
     {
         match block {
             Block::Resets => self.resets_word(offset),

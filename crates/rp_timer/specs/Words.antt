@@ -33,8 +33,8 @@ timer_rows =
 abbrev pub word_of : ℕ → TimerState → Option ℕ
 word_of offset s = word_at timer_rows tt offset s
 
-abbrev pub is_word : ℕ → TimerState → Bool
-is_word offset s = has_row timer_rows offset
+abbrev pub is_word : ℕ → Bool
+is_word offset = has_row timer_rows offset
 
 abbrev pub effect_of : ℕ → Option ℕ → TimerState → TimerState
 effect_of offset write s = effect_at timer_rows offset write s

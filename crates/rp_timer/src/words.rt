@@ -37,7 +37,7 @@ impl Timer {
 
     /// There is a word at this offset, which any read and any write may reach.
     pub fn allows(&self, offset: u16, write: Option<u32>) -> bool
-        ensures { result ≡ is_word offset self.now }
+        ensures { result ≡ is_word offset }
     {
         let _ = write;
         self.read(offset).is_some()
@@ -47,7 +47,7 @@ impl Timer {
     /// no such word.
     pub fn effect(&mut self, offset: u16, write: Option<u32>) -> bool
         ensures after { self.new ≡ effect_of offset write self.old }
-        ensures allowed { result ≡ is_word offset self.old }
+        ensures allowed { result ≡ is_word offset }
     {
         let allowed = self.allows(offset, write);
         match write {
@@ -98,9 +98,9 @@ impl Timer {
 }
 
 impl Registers<()> for Timer {
-    ghost word = { λ _ s offset. word_of offset s };
+    ghost word = { λ offset _. word_of offset };
 
-    ghost allowed = { λ s offset _. is_word offset s };
+    ghost allowed = { λ offset _ _. is_word offset };
 
     ghost accessed = { effect_of };
 

@@ -137,18 +137,18 @@ uart_rows =
     ∷ []
 
 -- what a word reads as; None where there is none
-abbrev pub word_of : SerialPort → ℕ → Option ℕ
-word_of s offset = word_at uart_rows tt offset s
+abbrev pub word_of : ℕ → SerialPort → Option ℕ
+word_of offset s = word_at uart_rows tt offset s
 
-abbrev pub is_allowed : SerialPort → ℕ → Bool
-is_allowed s offset = has_row uart_rows offset
+abbrev pub is_word : ℕ → Bool
+is_word offset = has_row uart_rows offset
 
 abbrev pub after_access : ℕ → Option ℕ → SerialPort → SerialPort
 after_access offset write s = effect_at uart_rows offset write s
 
 -- what a read or a write does; nothing where there is no such word
 unfoldable pub effect_of : ℕ → Option ℕ → SerialPort → SerialPort
-effect_of offset write s = if is_allowed s offset then settled (after_access offset write s) else s
+effect_of offset write s = if is_word offset then settled (after_access offset write s) else s
 
 -- each register is what stands at its offset, and nothing stands at any other
 abbrev pub EachRegisterIsAtItsOffset : Type 0

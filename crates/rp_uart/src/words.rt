@@ -15,7 +15,7 @@ use rp_base::bits::{bit_number, has_bit};
 impl Uart {
     /// The word at an offset. None exactly where there is no such word.
     pub fn read(&self, offset: u16) -> Option<u32>
-        ensures { result ≡ word_of self.now offset }
+        ensures { result ≡ word_of offset self.now }
     {
         match offset {
             DR => Some(self.first_word()),
@@ -37,7 +37,7 @@ impl Uart {
 
     /// There is a word at this offset, which can be read and written.
     pub fn allows(&self, offset: u16, _write: Option<u32>) -> bool
-        ensures { result ≡ is_allowed self.now offset }
+        ensures { result ≡ is_word offset }
     {
         self.read(offset).is_some()
     }
@@ -47,7 +47,7 @@ impl Uart {
     #[tactic(auto, unfolding(crate::specs::Words::effect_of))]
     pub fn effect(&mut self, offset: u16, write: Option<u32>) -> bool
         ensures after { self.new ≡ effect_of offset write self.old }
-        ensures allowed { result ≡ is_allowed self.old offset }
+        ensures allowed { result ≡ is_word offset }
     {
         if !self.allows(offset, write) {
             return false;
@@ -162,9 +162,9 @@ impl Uart {
 }
 
 impl Registers<()> for Uart {
-    ghost word = { λ _ s offset. word_of s offset };
+    ghost word = { λ offset _. word_of offset };
 
-    ghost allowed = { λ s offset _. is_allowed s offset };
+    ghost allowed = { λ offset _ _. is_word offset };
 
     ghost accessed = { effect_of };
 
