@@ -1,6 +1,3 @@
-mod Coded
-mod Memcpy
-mod Memset
 pub mod Clocks
 pub mod Linked
 pub mod Ready

@@ -1,5 +1,4 @@
 pub mod Words
 pub mod Device
 pub mod Laws
-pub mod Routines
 pub mod Table

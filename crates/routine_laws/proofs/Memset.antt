@@ -9,8 +9,8 @@ use Rattle.core_runs.specs.Runs.{Steps}
 use Rattle.core_runs.specs.Programs.{AHalfwordSteps, IsInside, place, counted_out}
 use Rattle.core_runs.proofs.Instructions.{steps_chain}
 use Rattle.startup_blocks.specs.Table.{table_bytes}
-use Rattle.startup_blocks.specs.Routines.{set, IsFree, AreFree, MemsetSets}
-use Rattle.startup_blocks.proofs.Coded.{HasTable, code_at, still_coded}
+use Rattle.routine_laws.specs.Routines.{set, IsFree, AreFree, MemsetSets}
+use Rattle.routine_laws.proofs.Coded.{HasTable, code_at, still_coded}
 use Rattle.core_runs.proofs.Puts.{put_none, put_both, replicate_more, replicate_length}
 use Rattle.core_runs.proofs.Opcodes.{standing, signed, subs_on, subs_off, bcc_on, bcc_off, b_step, bx_step, strb_step}
 

@@ -10,8 +10,8 @@ use Rattle.core_runs.specs.Programs.{AHalfwordSteps, IsInside, place, counted_ou
 use Rattle.core_runs.proofs.Bytes.{put_below, put_above}
 use Rattle.core_runs.proofs.Instructions.{steps_chain}
 use Rattle.startup_blocks.specs.Table.{table_bytes}
-use Rattle.startup_blocks.specs.Routines.{copy, IsFree, AreFree, AreInside, byte_after, MemcpyCopies}
-use Rattle.startup_blocks.proofs.Coded.{HasTable, code_at, still_coded}
+use Rattle.routine_laws.specs.Routines.{copy, IsFree, AreFree, AreInside, byte_after, MemcpyCopies}
+use Rattle.routine_laws.proofs.Coded.{HasTable, code_at, still_coded}
 use Rattle.core_runs.proofs.Puts.{put_none, put_both}
 use Rattle.core_runs.proofs.Opcodes.{standing, signed, subs_on, subs_off, bcc_on, bcc_off, b_step, bx_step, ldrb_step, strb_step}
 

@@ -5,7 +5,7 @@ use Rattle.core_runs.specs.Bytes.{put, Holds, IsSram}
 use Rattle.core_runs.specs.Programs.{IsInside, place}
 use Rattle.core_runs.proofs.Bytes.{inside_ram, code_is_fetched, a_put_elsewhere_keeps_code}
 use Rattle.startup_blocks.specs.Table.{table_bytes}
-use Rattle.startup_blocks.specs.Routines.{IsFree}
+use Rattle.routine_laws.specs.Routines.{IsFree}
 use Rattle.core_runs.proofs.Opcodes.{IsCode}
 
 pub record HasTable (m : List ℕ) : Type 0 where

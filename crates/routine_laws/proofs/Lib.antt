@@ -1,0 +1,3 @@
+mod Coded
+mod Memcpy
+mod Memset
