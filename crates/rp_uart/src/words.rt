@@ -1,7 +1,7 @@
 //! The registers, by their offsets.
 
 ghost use Rattle.std.specs.Prelude.{◌≡◌, ◌≤◌, Some, None, slice_get};
-ghost use Rattle.rp_uart.specs.Words.{received_word, status_of, after_taking, after_giving, without_errors, is_busy, flags_of, code_of, width_of_code, line_control_of, line_control_from, control_of, control_from, dma_control_of, dma_control_from, word_of, is_allowed, after_access, effect_of};
+ghost use Rattle.rp_uart.specs.Words.{received_word, status_of, after_taking, after_giving, without_errors, is_busy, flags_of, code_of, width_of_code, line_control_of, line_control_from, control_of, control_from, dma_control_of, dma_control_from, word_of, is_word, after_access, effect_of};
 
 use crate::control::{Control, DmaControl};
 use crate::frame::{LineControl, WordLength};
