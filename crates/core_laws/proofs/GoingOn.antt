@@ -13,7 +13,6 @@ use Rattle.m0_beats.specs.declared.registers.Regs.{Regs}
 use Rattle.m0_beats.specs.declared.timing.Beat.{Beat}
 use Rattle.m0_beats.specs.declared.timing.Beat.TheVariants.{Inner, Access}
 use Rattle.m0_beats.specs.Beats.{beats_of}
-use Rattle.m0_nvic.specs.State.{Exceptions}
 use Rattle.m0_nvic.specs.Words.{is_allowed}
 use Rattle.lane_look.specs.declared.lane.Want.TheVariants as want
 use Rattle.lane_look.specs.Asking.{answered}
@@ -30,19 +29,6 @@ use Rattle.core_laws.proofs.ReadCount.{reading, reading-le}
 use Rattle.core_laws.proofs.TakesBeats.{Stands, Begins, Comes, begins_on, begins_boundary, begun_beat, lands_standing, value_kept, reads_beat, at_index, long_as, comes_where_it_goes}
 use Rattle.core_laws.proofs.Waits.{ComesServed, waited, landed, past, served_where_it_goes}
 
--- ---- what the private bus refuses is the same whatever the exceptions are
-
-refused_at_same : (e f : Exceptions) (request : Request) (p : Spot) → is_refused_at e request p ≡ is_refused_at f request p
-refused_at_same e f request (spot.Ram index bank) = refl
-refused_at_same e f request (spot.Ppb offset) = refl
-refused_at_same e f request (spot.Sio offset) = refl
-refused_at_same e f request (spot.Reg block offset alias) = refl
-refused_at_same e f request spot.Outside = refl
-
-refused_same : (e f : Exceptions) (b : Beat) → is_refused e b ≡ is_refused f b
-refused_same e f Inner = refl
-refused_same e f (Access request) = refused_at_same e f request (place_of request.address)
-
 -- ---- one cycle
 
 ram_goes : (op : Op) (g : Given) (request : Request) (w : Option ℕ) → is_stop (want_of_act (answered g.answers (in_ram (works.Instruction op) request w))) ≡ false
@@ -53,7 +39,7 @@ not_refused : (b : Bool) → not b ≡ false → b ≡ true
 not_refused true e = refl
 not_refused false e = absurd (true≢false e)
 
-spot_goes : (op : Op) (g : Given) (s : State) (request : Request) (p : Spot) → is_refused_at s.nvic request p ≡ false
+spot_goes : (op : Op) (g : Given) (s : State) (request : Request) (p : Spot) → is_refused_at request p ≡ false
     → is_stop (want_of_act (answered g.answers (at_spot (works.Instruction op) request s p))) ≡ false
 spot_goes op g s request (spot.Ram index bank) e = ram_goes op g request request.write
 spot_goes op g s request (spot.Ppb offset) e =
@@ -67,7 +53,7 @@ signal_goes : (b : Bool) → is_stop (cond b want.Signal want.Nothing) ≡ false
 signal_goes true = refl
 signal_goes false = refl
 
-beat_goes : (op : Op) (g : Given) (s : State) (b : Beat) → is_refused s.nvic b ≡ false → is_stop (want_of_act (answered g.answers (in_beat (works.Instruction op) s b))) ≡ false
+beat_goes : (op : Op) (g : Given) (s : State) (b : Beat) → is_refused b ≡ false → is_stop (want_of_act (answered g.answers (in_beat (works.Instruction op) s b))) ≡ false
 beat_goes op g s Inner e = signal_goes (is_signal op)
 beat_goes op g s (Access request) e = spot_goes op g s request (place_of request.address) e
 
@@ -79,41 +65,41 @@ tail_of : (a b : Bool) → (a || b) ≡ false → b ≡ false
 tail_of true b h = absurd (true≢false h)
 tail_of false b h = h
 
-standing_goes : (op : Op) (regs : Regs) (index : ℕ) (read : List ℕ) (e : Exceptions) (g : Given) (cycle : ℕ) (s : State) (b : Beat) → Stands regs index read s → Begins op g s
-    → slice_get (beats_of op regs) index ≡ Some b → is_refused e b ≡ false → is_stop (wanted_in cycle g s) ≡ false
-standing_goes op regs index read e g cycle s b stands begins at granted =
+standing_goes : (op : Op) (regs : Regs) (index : ℕ) (read : List ℕ) (g : Given) (cycle : ℕ) (s : State) (b : Beat) → Stands regs index read s → Begins op g s
+    → slice_get (beats_of op regs) index ≡ Some b → is_refused b ≡ false → is_stop (wanted_in cycle g s) ≡ false
+standing_goes op regs index read g cycle s b stands begins at granted =
     let here : slice_get (beats_of op s.regs) s.beats_done ≡ Some b = ap₂ (λ (r : Regs) (k : ℕ). slice_get (beats_of op r) k) stands.kept stands.so_far ∙ at in
-    ap (λ d. is_stop (want_of d)) (begun_beat op g cycle s b stands.awake begins here) ∙ beat_goes op g s b (refused_same s.nvic e b ∙ granted)
+    ap (λ d. is_stop (want_of d)) (begun_beat op g cycle s b stands.awake begins here) ∙ beat_goes op g s b granted
 
 -- ---- all cycles, where each access is done at once
 
-goes : (op : Op) (regs : Regs) (e : Exceptions) → awaits_event op ≡ false → awaits_interrupt op ≡ false
+goes : (op : Op) (regs : Regs) → awaits_event op ≡ false → awaits_interrupt op ≡ false
     → (rest : List Beat) (g : Given) (gs : List Given) (done : List Beat) (read : List ℕ) (cycle : ℕ) (s : State)
     → beats_of op regs ≡ done ++ rest → Stands regs (length done) read s → length read + reading rest ≤ 16 → Begins op g s
-    → list_any (is_refused e) rest ≡ false → length (g ∷ gs) ≤ length rest → GoesOn cycle (g ∷ gs) s
-goes op regs e n i [] g gs done read cycle s split stands count begins granted few = absurd (omega (arith, few))
-goes op regs e n i (b ∷ rest) g [] done read cycle s split stands count begins granted few =
+    → list_any is_refused rest ≡ false → length (g ∷ gs) ≤ length rest → GoesOn cycle (g ∷ gs) s
+goes op regs n i [] g gs done read cycle s split stands count begins granted few = absurd (omega (arith, few))
+goes op regs n i (b ∷ rest) g [] done read cycle s split stands count begins granted few =
     let at : slice_get (beats_of op regs) (length done) ≡ Some b = ap (λ bs. slice_get bs (length done)) split ∙ at_index done b rest in
-    (standing_goes op regs (length done) read e g cycle s b stands begins at (head_of (is_refused e b) _ granted), tt)
-goes op regs e n i (b ∷ []) g (g' ∷ gs) done read cycle s split stands count begins granted few = absurd (omega (arith, few))
-goes op regs e n i (b ∷ c ∷ rest) g (g' ∷ gs) done read cycle s split stands count begins granted few =
+    (standing_goes op regs (length done) read g cycle s b stands begins at (head_of (is_refused b) _ granted), tt)
+goes op regs n i (b ∷ []) g (g' ∷ gs) done read cycle s split stands count begins granted few = absurd (omega (arith, few))
+goes op regs n i (b ∷ c ∷ rest) g (g' ∷ gs) done read cycle s split stands count begins granted few =
     let v = read_in b g s in
     let u = after_cycle cycle g s in
     let reads : with_value read v ≡ read ++ option_to_list v = value_kept read v (omega (arith, reads_beat b g s)) in
     let at : slice_get (beats_of op regs) (length done) ≡ Some b = ap (λ bs. slice_get bs (length done)) split ∙ at_index done b (c ∷ rest) in
-    let here = standing_goes op regs (length done) read e g cycle s b stands begins at (head_of (is_refused e b) _ granted) in
+    let here = standing_goes op regs (length done) read g cycle s b stands begins at (head_of (is_refused b) _ granted) in
     let lands = lands_standing op regs (length done) read (read ++ option_to_list v) g cycle s b stands n i begins at here reads in
     let more = lands.goes_on (omega (arith, long_as (beats_of op regs) done (b ∷ c ∷ rest) split)) in
     let stands' : Stands regs (length (done ++ b ∷ [])) (read ++ option_to_list v) u = subst (λ k. Stands regs k (read ++ option_to_list v) u) (sym (length-append done (b ∷ []))) more.0 in
     let split' : beats_of op regs ≡ (done ++ b ∷ []) ++ c ∷ rest = split ∙ sym (append_assoc done (b ∷ []) (c ∷ rest)) in
     let count' : length (read ++ option_to_list v) + reading (c ∷ rest) ≤ 16 = omega (arith, length-append read (option_to_list v), reads_beat b g s, count) in
-    (here, goes op regs e n i (c ∷ rest) g' gs (done ++ b ∷ []) (read ++ option_to_list v) (cycle + 1) u split' stands' count' (begins_on op g' u more.1) (tail_of (is_refused e b) _ granted) (omega (arith, few)))
+    (here, goes op regs n i (c ∷ rest) g' gs (done ++ b ∷ []) (read ++ option_to_list v) (cycle + 1) u split' stands' count' (begins_on op g' u more.1) (tail_of (is_refused b) _ granted) (omega (arith, few)))
 
 goes_all : (op : Op) (s : State) (cycle : ℕ) (g : Given) (gs : List Given) → IsAtBoundary s → IsFetched g.answers s.regs.pc op → IsPlain op s → IsGranted op s
     → length (g ∷ gs) ≤ length (beats_of op s.regs) → GoesOn cycle (g ∷ gs) s
 goes_all op s cycle g gs at fetched plain granted few =
     let stands : Stands s.regs 0 [] s = record { awake = at.awake; kept = refl; so_far = at.first; values = at.fresh } in
-    goes op s.regs s.nvic plain.no_event plain.no_interrupt (beats_of op s.regs) g gs [] [] cycle s refl stands (omega (arith, reading-le op s.regs)) (begins_boundary op g s at fetched plain) granted few
+    goes op s.regs plain.no_event plain.no_interrupt (beats_of op s.regs) g gs [] [] cycle s refl stands (omega (arith, reading-le op s.regs)) (begins_boundary op g s at fetched plain) granted few
 
 pub an_instruction_takes_its_beats : AnInstructionTakesItsBeats
 an_instruction_takes_its_beats op s cycle g gs at fetched plain granted =
@@ -134,27 +120,27 @@ by_over : {A : Type 0} (b : Bool) (l m : Option (List Beat)) (bs : List Beat) �
 by_over true l m bs f g h = f refl h
 by_over false l m bs f g h = g refl h
 
-goes_served : (op : Op) (regs : Regs) (e : Exceptions) → awaits_event op ≡ false → awaits_interrupt op ≡ false
+goes_served : (op : Op) (regs : Regs) → awaits_event op ≡ false → awaits_interrupt op ≡ false
     → (b : Beat) (rest : List Beat) (x : Served) (xs : List Served) (done : List Beat) (read : List ℕ) (cycle : ℕ) (s : State)
     → beats_of op regs ≡ done ++ b ∷ rest → Stands regs (length done) read s → length read + reading (b ∷ rest) ≤ 16 → Begins op x.given s
-    → list_any (is_refused e) (b ∷ rest) ≡ false → (bs : List Beat) → left_after op (b ∷ rest) (x ∷ xs) ≡ Some bs → GoesOnServed cycle (x ∷ xs) s
-goes_served op regs e n i b rest x [] done read cycle s split stands count begins granted bs left =
+    → list_any is_refused (b ∷ rest) ≡ false → (bs : List Beat) → left_after op (b ∷ rest) (x ∷ xs) ≡ Some bs → GoesOnServed cycle (x ∷ xs) s
+goes_served op regs n i b rest x [] done read cycle s split stands count begins granted bs left =
     let at : slice_get (beats_of op regs) (length done) ≡ Some b = ap (λ ys. slice_get ys (length done)) split ∙ at_index done b rest in
-    (standing_goes op regs (length done) read e x.given cycle s b stands begins at (head_of (is_refused e b) _ granted), tt)
-goes_served op regs e n i b [] x (x' ∷ xs) done read cycle s split stands count begins granted bs left =
+    (standing_goes op regs (length done) read x.given cycle s b stands begins at (head_of (is_refused b) _ granted), tt)
+goes_served op regs n i b [] x (x' ∷ xs) done read cycle s split stands count begins granted bs left =
     let at : slice_get (beats_of op regs) (length done) ≡ Some b = ap (λ ys. slice_get ys (length done)) split ∙ at_index done b [] in
-    let here = standing_goes op regs (length done) read e x.given cycle s b stands begins at (head_of (is_refused e b) _ granted) in
+    let here = standing_goes op regs (length done) read x.given cycle s b stands begins at (head_of (is_refused b) _ granted) in
     let u = after_served cycle x s in (
       here,
       by_over (is_over op b x) None (left_after op (b ∷ []) (x' ∷ xs)) bs (λ over h. past bs h)
           (λ over h. let w = waited op regs (length done) read cycle x s b stands begins at here over in
-          goes_served op regs e n i b [] x' xs done read (cycle + 1) u split w.0 count (begins_on op x'.given u w.1) granted bs h)
+          goes_served op regs n i b [] x' xs done read (cycle + 1) u split w.0 count (begins_on op x'.given u w.1) granted bs h)
           left,
     )
-goes_served op regs e n i b (c ∷ rest) x (x' ∷ xs) done read cycle s split stands count begins granted bs left =
+goes_served op regs n i b (c ∷ rest) x (x' ∷ xs) done read cycle s split stands count begins granted bs left =
     let v = read_in b x.given s in
     let at : slice_get (beats_of op regs) (length done) ≡ Some b = ap (λ ys. slice_get ys (length done)) split ∙ at_index done b (c ∷ rest) in
-    let here = standing_goes op regs (length done) read e x.given cycle s b stands begins at (head_of (is_refused e b) _ granted) in
+    let here = standing_goes op regs (length done) read x.given cycle s b stands begins at (head_of (is_refused b) _ granted) in
     let u = after_served cycle x s in (
       here,
       by_over (is_over op b x) (left_after op (c ∷ rest) (x' ∷ xs)) (left_after op (b ∷ c ∷ rest) (x' ∷ xs)) bs
@@ -163,24 +149,24 @@ goes_served op regs e n i b (c ∷ rest) x (x' ∷ xs) done read cycle s split s
           let stands' : Stands regs (length (done ++ b ∷ [])) (read ++ option_to_list v) u = subst (λ k. Stands regs k (read ++ option_to_list v) u) (sym (length-append done (b ∷ []))) more.0 in
           let split' : beats_of op regs ≡ (done ++ b ∷ []) ++ c ∷ rest = split ∙ sym (append_assoc done (b ∷ []) (c ∷ rest)) in
           let count' : length (read ++ option_to_list v) + reading (c ∷ rest) ≤ 16 = omega (arith, length-append read (option_to_list v), reads_beat b x.given s, count) in
-          goes_served op regs e n i c rest x' xs (done ++ b ∷ []) (read ++ option_to_list v) (cycle + 1) u split' stands' count' (begins_on op x'.given u more.1) (tail_of (is_refused e b) _ granted) bs h)
+          goes_served op regs n i c rest x' xs (done ++ b ∷ []) (read ++ option_to_list v) (cycle + 1) u split' stands' count' (begins_on op x'.given u more.1) (tail_of (is_refused b) _ granted) bs h)
           (λ over h. let w = waited op regs (length done) read cycle x s b stands begins at here over in
-          goes_served op regs e n i b (c ∷ rest) x' xs done read (cycle + 1) u split w.0 count (begins_on op x'.given u w.1) granted bs h)
+          goes_served op regs n i b (c ∷ rest) x' xs done read (cycle + 1) u split w.0 count (begins_on op x'.given u w.1) granted bs h)
           left,
     )
 
-goes_all_served : (op : Op) (regs : Regs) (e : Exceptions) (beats : List Beat) → beats_of op regs ≡ beats → awaits_event op ≡ false → awaits_interrupt op ≡ false
-    → (x : Served) (xs : List Served) (cycle : ℕ) (s : State) → Stands regs 0 [] s → reading beats ≤ 16 → Begins op x.given s → list_any (is_refused e) beats ≡ false
+goes_all_served : (op : Op) (regs : Regs) (beats : List Beat) → beats_of op regs ≡ beats → awaits_event op ≡ false → awaits_interrupt op ≡ false
+    → (x : Served) (xs : List Served) (cycle : ℕ) (s : State) → Stands regs 0 [] s → reading beats ≤ 16 → Begins op x.given s → list_any is_refused beats ≡ false
     → (bs : List Beat) → left_after op beats (x ∷ xs) ≡ Some bs → GoesOnServed cycle (x ∷ xs) s
-goes_all_served op regs e [] split n i x xs cycle s stands count begins granted bs left = past bs left
-goes_all_served op regs e (b ∷ rest) split n i x xs cycle s stands count begins granted bs left =
-    goes_served op regs e n i b rest x xs [] [] cycle s split stands (omega (arith, count)) begins granted bs left
+goes_all_served op regs [] split n i x xs cycle s stands count begins granted bs left = past bs left
+goes_all_served op regs (b ∷ rest) split n i x xs cycle s stands count begins granted bs left =
+    goes_served op regs n i b rest x xs [] [] cycle s split stands (omega (arith, count)) begins granted bs left
 
 pub an_instruction_takes_its_beats_and_waits : AnInstructionTakesItsBeatsAndWaits
 an_instruction_takes_its_beats_and_waits op s cycle x xs at fetched plain granted =
     let stands : Stands s.regs 0 [] s = record { awake = at.awake; kept = refl; so_far = at.first; values = at.fresh } in
     let unstopped : (bs : List Beat) → left_after op (beats_of op s.regs) (x ∷ xs) ≡ Some bs → GoesOnServed cycle (x ∷ xs) s =
-    goes_all_served op s.regs s.nvic (beats_of op s.regs) refl plain.no_event plain.no_interrupt x xs cycle s stands (reading-le op s.regs) (begins_boundary op x.given s at fetched plain) granted in
+    goes_all_served op s.regs (beats_of op s.regs) refl plain.no_event plain.no_interrupt x xs cycle s stands (reading-le op s.regs) (begins_boundary op x.given s at fetched plain) granted in
     let all : (bs : List Beat) → left_after op (beats_of op s.regs) (x ∷ xs) ≡ Some bs → ComesServed op s.regs (beats_of op s.regs) (x ∷ xs) [] cycle s = λ bs h. served_where_it_goes op s cycle x xs at fetched plain (unstopped bs h) in
     record {
       goes_on = unstopped;

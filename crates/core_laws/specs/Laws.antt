@@ -216,17 +216,17 @@ pub record TakesItsBeats (op : Op) (cycle : ℕ) (gs : List Given) (s : State) :
   pub over : length gs ≡ length (beats_of op s.regs) → IsOver op (reads_in cycle (beats_of op s.regs) gs s) s (after_cycles cycle gs s)
 
 -- an access that the core's private bus refuses: there is no such word, or it is a write that asks for a reset of the system
-abbrev pub is_refused_at : Exceptions → Request → Spot → Bool
-is_refused_at e request (spot.Ppb offset) = not (words.is_allowed offset (word_written request.size request.write))
-is_refused_at e request place = false
+abbrev pub is_refused_at : Request → Spot → Bool
+is_refused_at request (spot.Ppb offset) = not (words.is_allowed offset (word_written request.size request.write))
+is_refused_at request place = false
 
-abbrev pub is_refused : Exceptions → Beat → Bool
-is_refused e Inner = false
-is_refused e (Access request) = is_refused_at e request (place_of request.address)
+abbrev pub is_refused : Beat → Bool
+is_refused Inner = false
+is_refused (Access request) = is_refused_at request (place_of request.address)
 
--- no beat is one that the private bus refuses, by the exceptions as the instruction finds them
+-- no beat is one that the private bus refuses
 abbrev pub IsGranted : Op → State → Type 0
-IsGranted op s = list_any (is_refused s.nvic) (beats_of op s.regs) ≡ false
+IsGranted op s = list_any is_refused (beats_of op s.regs) ≡ false
 
 -- an instruction that a core begins at a boundary takes its beats, one a cycle where each access is done in the cycle in which
 -- it is asked for. This holds whatever the interrupt lines and the system timer do

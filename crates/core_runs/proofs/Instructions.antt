@@ -79,20 +79,20 @@ ordinary_parts op e =
 
 -- ---- beats over SRAM
 
-granted_spot : (e : Exceptions) (request : Request) (p : Spot) → not (is_ram_spot p) ≡ false → is_refused_at e request p ≡ false
-granted_spot e request (spot.Ram index bank) h = refl
-granted_spot e request (spot.Ppb offset) h = absurd (true≢false h)
-granted_spot e request (spot.Sio offset) h = refl
-granted_spot e request (spot.Reg block offset alias) h = refl
-granted_spot e request spot.Outside h = refl
+granted_spot : (request : Request) (p : Spot) → not (is_ram_spot p) ≡ false → is_refused_at request p ≡ false
+granted_spot request (spot.Ram index bank) h = refl
+granted_spot request (spot.Ppb offset) h = absurd (true≢false h)
+granted_spot request (spot.Sio offset) h = refl
+granted_spot request (spot.Reg block offset alias) h = refl
+granted_spot request spot.Outside h = refl
 
-granted_beat : (e : Exceptions) (b : Beat) → is_elsewhere b ≡ false → is_refused e b ≡ false
-granted_beat e Inner h = refl
-granted_beat e (Access request) h = granted_spot e request (place_of request.address) h
+granted_beat : (b : Beat) → is_elsewhere b ≡ false → is_refused b ≡ false
+granted_beat Inner h = refl
+granted_beat (Access request) h = granted_spot request (place_of request.address) h
 
-all_granted : (e : Exceptions) (bs : List Beat) → list_any is_elsewhere bs ≡ false → list_any (is_refused e) bs ≡ false
-all_granted e [] h = refl
-all_granted e (b ∷ bs) h = let parts = or_parts _ _ h in ap₂ (λ x y. x || y) (granted_beat e b parts.0) (all_granted e bs parts.1)
+all_granted : (bs : List Beat) → list_any is_elsewhere bs ≡ false → list_any is_refused bs ≡ false
+all_granted [] h = refl
+all_granted (b ∷ bs) h = let parts = or_parts _ _ h in ap₂ (λ x y. x || y) (granted_beat b parts.0) (all_granted bs parts.1)
 
 ends_at_spot : (request : Request) (p : Spot) → not (is_ram_spot p) ≡ false → ends_want (want_at p request) ≡ false
 ends_at_spot request (spot.Ram index bank) e = refl
@@ -217,7 +217,7 @@ takes law op s m cycle (suc n) ready can e =
     let gs = givens (cycle + 1) n u m1 in
     let at = at_boundary s ready in
     let easy = plain op s m can in
-    law op s cycle (given_by m) gs at can.fetched easy (all_granted s.nvic (beats_of op s.regs) can.inside)
+    law op s cycle (given_by m) gs at can.fetched easy (all_granted (beats_of op s.regs) can.inside)
 
 one : AnInstructionTakesItsBeats → (op : Op) (s : State) (m : List ℕ) (cycle : ℕ) → IsReady s → IsRunnable op s.regs m
     → Leads cycle (length (beats_of op s.regs)) s m (effect_of op s.regs (values_of (beats_of op s.regs) m)) (after_beats (beats_of op s.regs) m)
