@@ -34,7 +34,7 @@ mask_of pattern = binary mask_bit 0 (codes pattern)
 abbrev pub value_of : String → ℕ
 value_of pattern = binary value_bit 0 (codes pattern)
 
--- A run of one letter is an operand. Of each run, in order: how many bits it has, and how many stand behind it.
+-- A run of one letter is an operand. Of each, in order: how many bits it has, and how many stand behind it.
 abbrev pub begins_with : ℕ → List ℕ → Bool
 begins_with c [] = false
 begins_with c (d ∷ ds) = c == d
@@ -208,18 +208,18 @@ pub record Row : Type 0 where
   pub operation : ℕ → ℕ → Op
 
 abbrev pub operation_by_runs : (List ℕ → Op) → List (ℕ × ℕ) → List (ℕ × ℕ) → ℕ → ℕ → Op
-operation_by_runs make runs others first second = make (operands_in runs first ++ operands_in others second)
+operation_by_runs op runs others first second = op (operands_in runs first ++ operands_in others second)
 
--- the row of an encoding, and the operation of what stands in its runs
+-- the row of an encoding, with the operation of the operands that stand in its runs
 abbrev pub row_of : (List ℕ → Op) → Option Encoding → List Row
-row_of make None = []
-row_of make (Some e) = record {
+row_of op None = []
+row_of op (Some e) = record {
   first = e.first.test;
   second = option_map (λ h. h.test) e.second;
-  operation = operation_by_runs make e.first.runs (option_map_or (λ h. h.runs) e.second []);
+  operation = operation_by_runs op e.first.runs (option_map_or (λ h. h.runs) e.second []);
 } ∷ []
 
--- the rows of operations with so many operands
+-- the row of an operation with so many operands
 abbrev pub none : Op → List Row
 none op = row_of (λ xs. op) (encoding_of op)
 
@@ -232,42 +232,38 @@ two op = row_of (λ xs. op (slice_index xs 0) (slice_index xs 1)) (encoding_of (
 abbrev pub three : (ℕ → ℕ → ℕ → Op) → List Row
 three op = row_of (λ xs. op (slice_index xs 0) (slice_index xs 1) (slice_index xs 2)) (encoding_of (op 0 0 0))
 
--- bit 3 of a register stands alone
+-- of one where bit 3 of a register stands alone
 abbrev pub high : (ℕ → ℕ → Op) → List Row
 high op = row_of (λ xs. op (8 * slice_index xs 0 + slice_index xs 2) (slice_index xs 1)) (encoding_of (op 0 0))
 
--- a list of registers, and one more
+-- of one with a list of registers, and one more
 abbrev pub stack : (Bool → ℕ → Op) → List Row
 stack op = row_of (λ xs. op (slice_index xs 0 == 1) (slice_index xs 1)) (encoding_of (op false 0))
 
+-- of BL
 abbrev pub link : List Row
 link =
     row_of
     (λ xs. Bl (slice_index xs 0 == 1) (slice_index xs 1 * 2 ^ 11 + slice_index xs 4)
     (2 * slice_index xs 2 + slice_index xs 3)) (encoding_of (Bl false 0 0))
 
+-- each operation once, in the order of the manual
 unfoldable pub rows : List Row
 rows =
     flat_map three (LslImm ∷ LsrImm ∷ AsrImm ∷ AddReg ∷ SubReg ∷ AddImm3 ∷ SubImm3 ∷ [])
-    ++ flat_map two (MovImm ∷ CmpImm ∷ AddImm8 ∷ SubImm8 ∷ And ∷ Eor ∷ LslReg ∷ LsrReg ∷ AsrReg ∷ Adc ∷ Sbc ∷ Ror ∷ Tst ∷ Rsb ∷ Cmp ∷ Cmn ∷ Orr ∷ Mul ∷ Bic ∷ Mvn ∷ [])
-    ++ flat_map high (AddHigh ∷ CmpHigh ∷ MovHigh ∷ [])
-    ++ flat_map one (Bx ∷ Blx ∷ [])
+    ++ flat_map two (MovImm ∷ CmpImm ∷ AddImm8 ∷ SubImm8 ∷ [])
+    ++ flat_map two (And ∷ Eor ∷ LslReg ∷ LsrReg ∷ AsrReg ∷ Adc ∷ Sbc ∷ Ror ∷ [])
+    ++ flat_map two (Tst ∷ Rsb ∷ Cmp ∷ Cmn ∷ Orr ∷ Mul ∷ Bic ∷ Mvn ∷ [])
+    ++ flat_map high (AddHigh ∷ CmpHigh ∷ MovHigh ∷ []) ++ flat_map one (Bx ∷ Blx ∷ [])
     ++ two LdrLit
-    ++ flat_map three (StrReg ∷ StrhReg ∷ StrbReg ∷ LdrsbReg ∷ LdrReg ∷ LdrhReg ∷ LdrbReg ∷ LdrshReg ∷ StrImm ∷ LdrImm ∷ StrbImm ∷ LdrbImm ∷ StrhImm ∷ LdrhImm ∷ [])
+    ++ flat_map three (StrReg ∷ StrhReg ∷ StrbReg ∷ LdrsbReg ∷ LdrReg ∷ LdrhReg ∷ LdrbReg ∷ LdrshReg ∷ [])
+    ++ flat_map three (StrImm ∷ LdrImm ∷ StrbImm ∷ LdrbImm ∷ StrhImm ∷ LdrhImm ∷ [])
     ++ flat_map two (StrSp ∷ LdrSp ∷ Adr ∷ AddSp ∷ [])
-    ++ flat_map one (AddSpImm ∷ SubSpImm ∷ [])
-    ++ flat_map two (Sxth ∷ Sxtb ∷ Uxth ∷ Uxtb ∷ [])
-    ++ stack Push
-    ++ flat_map none (Cpsie ∷ Cpsid ∷ [])
-    ++ flat_map two (Rev ∷ Rev16 ∷ Revsh ∷ [])
-    ++ stack Pop
-    ++ one Bkpt
-    ++ flat_map none (Nop ∷ Yield ∷ Wfe ∷ Wfi ∷ Sev ∷ [])
-    ++ flat_map two (Stm ∷ Ldm ∷ BCond ∷ [])
-    ++ flat_map one (Udf ∷ Svc ∷ B ∷ [])
-    ++ link
-    ++ flat_map two (Msr ∷ Mrs ∷ [])
-    ++ flat_map none (Dsb ∷ Dmb ∷ Isb ∷ [])
+    ++ flat_map one (AddSpImm ∷ SubSpImm ∷ []) ++ flat_map two (Sxth ∷ Sxtb ∷ Uxth ∷ Uxtb ∷ [])
+    ++ stack Push ++ none Cpsie ++ none Cpsid ++ flat_map two (Rev ∷ Rev16 ∷ Revsh ∷ []) ++ stack Pop
+    ++ one Bkpt ++ flat_map none (Nop ∷ Yield ∷ Wfe ∷ Wfi ∷ Sev ∷ [])
+    ++ flat_map two (Stm ∷ Ldm ∷ BCond ∷ []) ++ flat_map one (Udf ∷ Svc ∷ B ∷ [])
+    ++ link ++ two Msr ++ two Mrs ++ none Dsb ++ none Dmb ++ none Isb
 
 abbrev pub second_fits : Option Half → ℕ → Bool
 second_fits None w = true

@@ -1,7 +1,7 @@
 -- The forms of the encodings: what the fields of a word are, whose operands fit.
 use Rattle.std.proofs.Common.{◌≡◌, ◌≢◌, ℕ, zero, suc, ◌+◌, ◌^◌, ◌*◌, ◌/◌, ◌%◌, ◌<◌, Bool, true, false, not, ◌&&◌, ◌||◌, Option, Some, None, refl, sym, ap, ◌∙◌, subst, arith, ltb, eqb, true≢false}
 use Rattle.std.specs.Prelude.{bit_and}
-use Rattle.std.proofs.lemmas.Bool.{eq-eqb, ne_eqb, ltb-true, eqb-false}
+use Rattle.std.proofs.lemmas.Bool.{eq-eqb, ne_eqb, ltb-true}
 use Rattle.std.proofs.lemmas.Nat.{and_block, and_le_r}
 use Rattle.rp_base.specs.declared.op.Op.{Op}
 use Rattle.rp_base.specs.declared.op.Op.TheVariants.{BCond, Bl, Msr, Mrs}

@@ -3,7 +3,7 @@
 use Rattle.std.specs.Prelude.{ℕ, ◌+◌, ◌*◌, ◌^◌, ◌≡◌, ◌&&◌, nat_lt, not, Bool, true, false, if◌then◌else◌, List, [], ◌∷◌, Option, Some, None, is_some}
 use Rattle.std.specs.Option.{option_map_or}
 use Rattle.rp_base.specs.declared.op.Op.{Op}
-use Rattle.thumb_rows.specs.Rows.{Halfword, Encoding, begins_long, encoding_of, is_left_out, operation_of}
+use Rattle.thumb_rows.specs.Rows.{Halfword, begins_long, encoding_of, is_left_out, operation_of}
 use Rattle.thumb_words.specs.declared.halfwords.Code.{Code}
 
 -- each operand fits the count of its letters, there is one for each run, and one more test passes
