@@ -224,7 +224,7 @@ law_Msr n s test =
     let a : n < 16 = below n 16 _ here in
     let b : s < 256 = below s 256 _ (and_right (ltb n 16 && not (eqb (bit_and w 0xFFFF) 0xF38D || (eqb (bit_and w 0xFFFF) 0xF38F || false))) _ test) in
     let sp : bit_and w 0xFFFF ≢ 0xF38D = missed _ 0xF38D _ (rest n 16 _ here) in
-    let pc : bit_and w 0xFFFF ≢ 0xF38F = missed _ 0xF38F _ (more_missed _ _ (rest n 16 _ here)) in
+    let pc : bit_and w 0xFFFF ≢ 0xF38F = missed (bit_and w 0xFFFF) 0xF38F false (more_missed (eqb (bit_and w 0xFFFF) 0xF38D) _ (rest n 16 _ here)) in
     long_is w v (Msr n s) (omega arith)
     (row_Msr w v (omega arith) (omega arith) (omega arith) (λ e. sp (ap (λ x. bit_and x 0xFFFF) e)) (λ e. pc (ap (λ x. bit_and x 0xFFFF) e)) (omega arith)
     ∙ two (λ x y. Msr x y) (w / 1 % 16) (v / 1 % 256) n s (omega arith) (omega arith))
