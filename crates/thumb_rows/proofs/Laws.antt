@@ -41,12 +41,16 @@ unfolding operation_of
 long_law k h g operation first second is fits also = operation_by-at rows k
     (record { first = h; second = Some g; operation = operation }) first second rows_apart is (and_both _ _ fits also)
 
+-- what the halfwords are whose bits 15 to shift are those of a number
+abbrev pub Begins : ℕ → ℕ → (ℕ → Op) → Type 0
+Begins shift number op = (first second : ℕ) → first < 65536 → first / 2 ^ shift ≡ number → operation_of first second ≡ op first
+
 -- a row whose fixed bits are the leading ones
-pub leading_law : (k shift number : ℕ) (operation : ℕ → ℕ → Op) (first second : ℕ) → row_at rows k ≡ Some
-    (record { first = leading shift number; second = None; operation = operation }) → shift ≤ 16 → first < 65536 →
-    first / 2 ^ shift ≡ number → operation_of first second ≡ operation first second
-leading_law k shift number operation first second is within small starts = short_law k
-    (leading shift number) operation first second is (leading_fits shift number first within small starts)
+pub leading_law : (k shift number : ℕ) (op : ℕ → Op) → row_at rows k ≡ Some
+    (record { first = leading shift number; second = None; operation = λ first second. op first }) → shift ≤ 16 →
+    Begins shift number op
+leading_law k shift number op is within first second small starts = short_law k
+    (leading shift number) (λ first second. op first) first second is (leading_fits shift number first within small starts)
 
 -- no row fits a halfword that fits a test which is apart from each row's
 missed_by : (b : Bool) (r : Row) (h : Half) (first second : ℕ) → half_fits h first ≡ true →

@@ -2,7 +2,7 @@
 use Rattle.std.proofs.Common.{◌≡◌, ◌≢◌, ℕ, ◌+◌, ◌-◌, ◌*◌, ◌/◌, ◌%◌, ◌^◌, ◌<◌, Bool, true, false, [], ◌∷◌, refl, rules, arith}
 use Rattle.std.specs.Prelude.{bit_and, ◌==◌}
 use Rattle.std.proofs.lemmas.Nat.{and_mask}
-use Rattle.thumb_rows.specs.Rows.{half_fits, rows, operation_of, field, is_set}
+use Rattle.thumb_rows.specs.Rows.{half_fits, rows, operation_of, field}
 use Rattle.thumb_rows.proofs.Apart.{or_false, and_both, eqb_of, eq_of, not_of_false}
 use Rattle.thumb_rows.proofs.Laws.{short_law, long_law, leading, leading_fits, leading_but, leading_but_fits, leading_undefined, undefined_law, pair_undefined, any_but, any_but_fits, otherwise, list_bits, hint_bits}
 use Rattle.thumb_rows.proofs.RowLaws.{row_Bkpt, row_Cpsie, row_Cpsid, row_Rev, row_Rev16, row_Revsh, row_Yield, row_Wfe, row_Wfi, row_Sev, row_Udf, row_Svc}
@@ -28,7 +28,7 @@ is_word word w small same =
     and_both _ true (eqb_of _ _ (omega (arith, whole))) refl
 
 pub row_Push : (first second : ℕ) → first < 65536 → first / 512 ≡ 90 → first ≢ 0xB400 →
-    operation_of first second ≡ Push (is_set first 8) (field first 7 0)
+    operation_of first second ≡ Push (field first 8 8 == 1) (field first 7 0)
 unfolding rows
 row_Push first second small starts some = short_law 57 (leading_but 9 90 ((0xFFFF, 0xB400) ∷ [])) _ first second refl
     (leading_but_fits 9 90 ((0xFFFF, 0xB400) ∷ []) first (search rules) small starts
@@ -40,7 +40,7 @@ undefined_Push first second same = undefined_law
     (record { mask = 0xFFFF; value = 0xB400; left_out = [] }) first second refl (is_word 0xB400 first (omega arith) same)
 
 pub row_Pop : (first second : ℕ) → first < 65536 → first / 512 ≡ 94 → first ≢ 0xBC00 → operation_of first second ≡ Pop
-    (is_set first 8) (field first 7 0)
+    (field first 8 8 == 1) (field first 7 0)
 unfolding rows
 row_Pop first second small starts some = short_law 63 (leading_but 9 94 ((0xFFFF, 0xBC00) ∷ [])) _ first second refl
     (leading_but_fits 9 94 ((0xFFFF, 0xBC00) ∷ []) first (search rules) small starts
@@ -167,7 +167,7 @@ unfolding rows
 undefined_F8 first second small starts = leading_undefined 11 31 first second refl (search rules) small starts
 
 pub row_Bl : (first second : ℕ) → first < 65536 → first / 2048 ≡ 30 → bit_and second 0xD000 ≡ 0xD000 →
-    operation_of first second ≡ Bl (is_set first 10) (field first 9 0 * 2 ^ 11 + field second 10 0)
+    operation_of first second ≡ Bl (field first 10 10 == 1) (field first 9 0 * 2 ^ 11 + field second 10 0)
     (2 * field second 13 13 + field second 11 11)
 unfolding rows
 row_Bl first second small starts link = long_law 76 (leading 11 30)

@@ -1,350 +1,288 @@
 -- The table's rows, each for the first halfwords that begin as its pattern does.
-use Rattle.std.proofs.Common.{◌≡◌, ℕ, ◌+◌, ◌*◌, ◌/◌, ◌<◌, refl, rules}
-use Rattle.thumb_rows.specs.Rows.{rows, operation_of, field}
-use Rattle.thumb_rows.proofs.Laws.{leading_law}
+use Rattle.std.proofs.Common.{◌+◌, ◌*◌, refl, rules}
+use Rattle.thumb_rows.specs.Rows.{rows, field}
+use Rattle.thumb_rows.proofs.Laws.{Begins, leading_law}
 use Rattle.rp_base.specs.declared.op.Op.TheVariants.{LslImm, LsrImm, AsrImm, AddReg, SubReg, AddImm3, SubImm3, MovImm, CmpImm, AddImm8, SubImm8, And, Eor, LslReg, LsrReg, AsrReg, Adc, Sbc, Ror, Tst, Rsb, Cmp, Cmn, Orr, Mul, Bic, Mvn, AddHigh, CmpHigh, MovHigh, Bx, Blx, LdrLit, StrReg, StrhReg, StrbReg, LdrsbReg, LdrReg, LdrhReg, LdrbReg, LdrshReg, StrImm, LdrImm, StrbImm, LdrbImm, StrhImm, LdrhImm, StrSp, LdrSp, Adr, AddSp, AddSpImm, SubSpImm, Sxth, Sxtb, Uxth, Uxtb, Cpsie, Cpsid, Rev, Rev16, Revsh, Bkpt, Yield, Wfe, Wfi, Sev, Udf, Svc, B}
 
-pub row_LslImm : (first second : ℕ) → first < 65536 → first / 2048 ≡ 0 → operation_of first second ≡ LslImm
-    (field first 10 6) (field first 5 3) (field first 2 0)
+pub row_LslImm : Begins 11 0 (λ w. LslImm (field w 10 6) (field w 5 3) (field w 2 0))
 unfolding rows
-row_LslImm first second small starts = leading_law 0 11 0 _ first second refl (search rules) small starts
+row_LslImm = leading_law 0 11 0 _ refl (search rules)
 
-pub row_LsrImm : (first second : ℕ) → first < 65536 → first / 2048 ≡ 1 → operation_of first second ≡ LsrImm
-    (field first 10 6) (field first 5 3) (field first 2 0)
+pub row_LsrImm : Begins 11 1 (λ w. LsrImm (field w 10 6) (field w 5 3) (field w 2 0))
 unfolding rows
-row_LsrImm first second small starts = leading_law 1 11 1 _ first second refl (search rules) small starts
+row_LsrImm = leading_law 1 11 1 _ refl (search rules)
 
-pub row_AsrImm : (first second : ℕ) → first < 65536 → first / 2048 ≡ 2 → operation_of first second ≡ AsrImm
-    (field first 10 6) (field first 5 3) (field first 2 0)
+pub row_AsrImm : Begins 11 2 (λ w. AsrImm (field w 10 6) (field w 5 3) (field w 2 0))
 unfolding rows
-row_AsrImm first second small starts = leading_law 2 11 2 _ first second refl (search rules) small starts
+row_AsrImm = leading_law 2 11 2 _ refl (search rules)
 
-pub row_AddReg : (first second : ℕ) → first < 65536 → first / 512 ≡ 12 → operation_of first second ≡ AddReg
-    (field first 8 6) (field first 5 3) (field first 2 0)
+pub row_AddReg : Begins 9 12 (λ w. AddReg (field w 8 6) (field w 5 3) (field w 2 0))
 unfolding rows
-row_AddReg first second small starts = leading_law 3 9 12 _ first second refl (search rules) small starts
+row_AddReg = leading_law 3 9 12 _ refl (search rules)
 
-pub row_SubReg : (first second : ℕ) → first < 65536 → first / 512 ≡ 13 → operation_of first second ≡ SubReg
-    (field first 8 6) (field first 5 3) (field first 2 0)
+pub row_SubReg : Begins 9 13 (λ w. SubReg (field w 8 6) (field w 5 3) (field w 2 0))
 unfolding rows
-row_SubReg first second small starts = leading_law 4 9 13 _ first second refl (search rules) small starts
+row_SubReg = leading_law 4 9 13 _ refl (search rules)
 
-pub row_AddImm3 : (first second : ℕ) → first < 65536 → first / 512 ≡ 14 → operation_of first second ≡ AddImm3
-    (field first 8 6) (field first 5 3) (field first 2 0)
+pub row_AddImm3 : Begins 9 14 (λ w. AddImm3 (field w 8 6) (field w 5 3) (field w 2 0))
 unfolding rows
-row_AddImm3 first second small starts = leading_law 5 9 14 _ first second refl (search rules) small starts
+row_AddImm3 = leading_law 5 9 14 _ refl (search rules)
 
-pub row_SubImm3 : (first second : ℕ) → first < 65536 → first / 512 ≡ 15 → operation_of first second ≡ SubImm3
-    (field first 8 6) (field first 5 3) (field first 2 0)
+pub row_SubImm3 : Begins 9 15 (λ w. SubImm3 (field w 8 6) (field w 5 3) (field w 2 0))
 unfolding rows
-row_SubImm3 first second small starts = leading_law 6 9 15 _ first second refl (search rules) small starts
+row_SubImm3 = leading_law 6 9 15 _ refl (search rules)
 
-pub row_MovImm : (first second : ℕ) → first < 65536 → first / 2048 ≡ 4 → operation_of first second ≡ MovImm
-    (field first 10 8) (field first 7 0)
+pub row_MovImm : Begins 11 4 (λ w. MovImm (field w 10 8) (field w 7 0))
 unfolding rows
-row_MovImm first second small starts = leading_law 7 11 4 _ first second refl (search rules) small starts
+row_MovImm = leading_law 7 11 4 _ refl (search rules)
 
-pub row_CmpImm : (first second : ℕ) → first < 65536 → first / 2048 ≡ 5 → operation_of first second ≡ CmpImm
-    (field first 10 8) (field first 7 0)
+pub row_CmpImm : Begins 11 5 (λ w. CmpImm (field w 10 8) (field w 7 0))
 unfolding rows
-row_CmpImm first second small starts = leading_law 8 11 5 _ first second refl (search rules) small starts
+row_CmpImm = leading_law 8 11 5 _ refl (search rules)
 
-pub row_AddImm8 : (first second : ℕ) → first < 65536 → first / 2048 ≡ 6 → operation_of first second ≡ AddImm8
-    (field first 10 8) (field first 7 0)
+pub row_AddImm8 : Begins 11 6 (λ w. AddImm8 (field w 10 8) (field w 7 0))
 unfolding rows
-row_AddImm8 first second small starts = leading_law 9 11 6 _ first second refl (search rules) small starts
+row_AddImm8 = leading_law 9 11 6 _ refl (search rules)
 
-pub row_SubImm8 : (first second : ℕ) → first < 65536 → first / 2048 ≡ 7 → operation_of first second ≡ SubImm8
-    (field first 10 8) (field first 7 0)
+pub row_SubImm8 : Begins 11 7 (λ w. SubImm8 (field w 10 8) (field w 7 0))
 unfolding rows
-row_SubImm8 first second small starts = leading_law 10 11 7 _ first second refl (search rules) small starts
+row_SubImm8 = leading_law 10 11 7 _ refl (search rules)
 
-pub row_And : (first second : ℕ) → first < 65536 → first / 64 ≡ 256 → operation_of first second ≡ And
-    (field first 5 3) (field first 2 0)
+pub row_And : Begins 6 256 (λ w. And (field w 5 3) (field w 2 0))
 unfolding rows
-row_And first second small starts = leading_law 11 6 256 _ first second refl (search rules) small starts
+row_And = leading_law 11 6 256 _ refl (search rules)
 
-pub row_Eor : (first second : ℕ) → first < 65536 → first / 64 ≡ 257 → operation_of first second ≡ Eor
-    (field first 5 3) (field first 2 0)
+pub row_Eor : Begins 6 257 (λ w. Eor (field w 5 3) (field w 2 0))
 unfolding rows
-row_Eor first second small starts = leading_law 12 6 257 _ first second refl (search rules) small starts
+row_Eor = leading_law 12 6 257 _ refl (search rules)
 
-pub row_LslReg : (first second : ℕ) → first < 65536 → first / 64 ≡ 258 → operation_of first second ≡ LslReg
-    (field first 5 3) (field first 2 0)
+pub row_LslReg : Begins 6 258 (λ w. LslReg (field w 5 3) (field w 2 0))
 unfolding rows
-row_LslReg first second small starts = leading_law 13 6 258 _ first second refl (search rules) small starts
+row_LslReg = leading_law 13 6 258 _ refl (search rules)
 
-pub row_LsrReg : (first second : ℕ) → first < 65536 → first / 64 ≡ 259 → operation_of first second ≡ LsrReg
-    (field first 5 3) (field first 2 0)
+pub row_LsrReg : Begins 6 259 (λ w. LsrReg (field w 5 3) (field w 2 0))
 unfolding rows
-row_LsrReg first second small starts = leading_law 14 6 259 _ first second refl (search rules) small starts
+row_LsrReg = leading_law 14 6 259 _ refl (search rules)
 
-pub row_AsrReg : (first second : ℕ) → first < 65536 → first / 64 ≡ 260 → operation_of first second ≡ AsrReg
-    (field first 5 3) (field first 2 0)
+pub row_AsrReg : Begins 6 260 (λ w. AsrReg (field w 5 3) (field w 2 0))
 unfolding rows
-row_AsrReg first second small starts = leading_law 15 6 260 _ first second refl (search rules) small starts
+row_AsrReg = leading_law 15 6 260 _ refl (search rules)
 
-pub row_Adc : (first second : ℕ) → first < 65536 → first / 64 ≡ 261 → operation_of first second ≡ Adc
-    (field first 5 3) (field first 2 0)
+pub row_Adc : Begins 6 261 (λ w. Adc (field w 5 3) (field w 2 0))
 unfolding rows
-row_Adc first second small starts = leading_law 16 6 261 _ first second refl (search rules) small starts
+row_Adc = leading_law 16 6 261 _ refl (search rules)
 
-pub row_Sbc : (first second : ℕ) → first < 65536 → first / 64 ≡ 262 → operation_of first second ≡ Sbc
-    (field first 5 3) (field first 2 0)
+pub row_Sbc : Begins 6 262 (λ w. Sbc (field w 5 3) (field w 2 0))
 unfolding rows
-row_Sbc first second small starts = leading_law 17 6 262 _ first second refl (search rules) small starts
+row_Sbc = leading_law 17 6 262 _ refl (search rules)
 
-pub row_Ror : (first second : ℕ) → first < 65536 → first / 64 ≡ 263 → operation_of first second ≡ Ror
-    (field first 5 3) (field first 2 0)
+pub row_Ror : Begins 6 263 (λ w. Ror (field w 5 3) (field w 2 0))
 unfolding rows
-row_Ror first second small starts = leading_law 18 6 263 _ first second refl (search rules) small starts
+row_Ror = leading_law 18 6 263 _ refl (search rules)
 
-pub row_Tst : (first second : ℕ) → first < 65536 → first / 64 ≡ 264 → operation_of first second ≡ Tst
-    (field first 5 3) (field first 2 0)
+pub row_Tst : Begins 6 264 (λ w. Tst (field w 5 3) (field w 2 0))
 unfolding rows
-row_Tst first second small starts = leading_law 19 6 264 _ first second refl (search rules) small starts
+row_Tst = leading_law 19 6 264 _ refl (search rules)
 
-pub row_Rsb : (first second : ℕ) → first < 65536 → first / 64 ≡ 265 → operation_of first second ≡ Rsb
-    (field first 5 3) (field first 2 0)
+pub row_Rsb : Begins 6 265 (λ w. Rsb (field w 5 3) (field w 2 0))
 unfolding rows
-row_Rsb first second small starts = leading_law 20 6 265 _ first second refl (search rules) small starts
+row_Rsb = leading_law 20 6 265 _ refl (search rules)
 
-pub row_Cmp : (first second : ℕ) → first < 65536 → first / 64 ≡ 266 → operation_of first second ≡ Cmp
-    (field first 5 3) (field first 2 0)
+pub row_Cmp : Begins 6 266 (λ w. Cmp (field w 5 3) (field w 2 0))
 unfolding rows
-row_Cmp first second small starts = leading_law 21 6 266 _ first second refl (search rules) small starts
+row_Cmp = leading_law 21 6 266 _ refl (search rules)
 
-pub row_Cmn : (first second : ℕ) → first < 65536 → first / 64 ≡ 267 → operation_of first second ≡ Cmn
-    (field first 5 3) (field first 2 0)
+pub row_Cmn : Begins 6 267 (λ w. Cmn (field w 5 3) (field w 2 0))
 unfolding rows
-row_Cmn first second small starts = leading_law 22 6 267 _ first second refl (search rules) small starts
+row_Cmn = leading_law 22 6 267 _ refl (search rules)
 
-pub row_Orr : (first second : ℕ) → first < 65536 → first / 64 ≡ 268 → operation_of first second ≡ Orr
-    (field first 5 3) (field first 2 0)
+pub row_Orr : Begins 6 268 (λ w. Orr (field w 5 3) (field w 2 0))
 unfolding rows
-row_Orr first second small starts = leading_law 23 6 268 _ first second refl (search rules) small starts
+row_Orr = leading_law 23 6 268 _ refl (search rules)
 
-pub row_Mul : (first second : ℕ) → first < 65536 → first / 64 ≡ 269 → operation_of first second ≡ Mul
-    (field first 5 3) (field first 2 0)
+pub row_Mul : Begins 6 269 (λ w. Mul (field w 5 3) (field w 2 0))
 unfolding rows
-row_Mul first second small starts = leading_law 24 6 269 _ first second refl (search rules) small starts
+row_Mul = leading_law 24 6 269 _ refl (search rules)
 
-pub row_Bic : (first second : ℕ) → first < 65536 → first / 64 ≡ 270 → operation_of first second ≡ Bic
-    (field first 5 3) (field first 2 0)
+pub row_Bic : Begins 6 270 (λ w. Bic (field w 5 3) (field w 2 0))
 unfolding rows
-row_Bic first second small starts = leading_law 25 6 270 _ first second refl (search rules) small starts
+row_Bic = leading_law 25 6 270 _ refl (search rules)
 
-pub row_Mvn : (first second : ℕ) → first < 65536 → first / 64 ≡ 271 → operation_of first second ≡ Mvn
-    (field first 5 3) (field first 2 0)
+pub row_Mvn : Begins 6 271 (λ w. Mvn (field w 5 3) (field w 2 0))
 unfolding rows
-row_Mvn first second small starts = leading_law 26 6 271 _ first second refl (search rules) small starts
+row_Mvn = leading_law 26 6 271 _ refl (search rules)
 
-pub row_AddHigh : (first second : ℕ) → first < 65536 → first / 256 ≡ 68 → operation_of first second ≡ AddHigh
-    (8 * field first 7 7 + field first 2 0) (field first 6 3)
+pub row_AddHigh : Begins 8 68 (λ w. AddHigh (8 * field w 7 7 + field w 2 0) (field w 6 3))
 unfolding rows
-row_AddHigh first second small starts = leading_law 27 8 68 _ first second refl (search rules) small starts
+row_AddHigh = leading_law 27 8 68 _ refl (search rules)
 
-pub row_CmpHigh : (first second : ℕ) → first < 65536 → first / 256 ≡ 69 → operation_of first second ≡ CmpHigh
-    (8 * field first 7 7 + field first 2 0) (field first 6 3)
+pub row_CmpHigh : Begins 8 69 (λ w. CmpHigh (8 * field w 7 7 + field w 2 0) (field w 6 3))
 unfolding rows
-row_CmpHigh first second small starts = leading_law 28 8 69 _ first second refl (search rules) small starts
+row_CmpHigh = leading_law 28 8 69 _ refl (search rules)
 
-pub row_MovHigh : (first second : ℕ) → first < 65536 → first / 256 ≡ 70 → operation_of first second ≡ MovHigh
-    (8 * field first 7 7 + field first 2 0) (field first 6 3)
+pub row_MovHigh : Begins 8 70 (λ w. MovHigh (8 * field w 7 7 + field w 2 0) (field w 6 3))
 unfolding rows
-row_MovHigh first second small starts = leading_law 29 8 70 _ first second refl (search rules) small starts
+row_MovHigh = leading_law 29 8 70 _ refl (search rules)
 
-pub row_Bx : (first second : ℕ) → first < 65536 → first / 128 ≡ 142 → operation_of first second ≡ Bx (field first 6 3)
+pub row_Bx : Begins 7 142 (λ w. Bx (field w 6 3))
 unfolding rows
-row_Bx first second small starts = leading_law 30 7 142 _ first second refl (search rules) small starts
+row_Bx = leading_law 30 7 142 _ refl (search rules)
 
-pub row_Blx : (first second : ℕ) → first < 65536 → first / 128 ≡ 143 → operation_of first second ≡ Blx
-    (field first 6 3)
+pub row_Blx : Begins 7 143 (λ w. Blx (field w 6 3))
 unfolding rows
-row_Blx first second small starts = leading_law 31 7 143 _ first second refl (search rules) small starts
+row_Blx = leading_law 31 7 143 _ refl (search rules)
 
-pub row_LdrLit : (first second : ℕ) → first < 65536 → first / 2048 ≡ 9 → operation_of first second ≡ LdrLit
-    (field first 10 8) (field first 7 0)
+pub row_LdrLit : Begins 11 9 (λ w. LdrLit (field w 10 8) (field w 7 0))
 unfolding rows
-row_LdrLit first second small starts = leading_law 32 11 9 _ first second refl (search rules) small starts
+row_LdrLit = leading_law 32 11 9 _ refl (search rules)
 
-pub row_StrReg : (first second : ℕ) → first < 65536 → first / 512 ≡ 40 → operation_of first second ≡ StrReg
-    (field first 8 6) (field first 5 3) (field first 2 0)
+pub row_StrReg : Begins 9 40 (λ w. StrReg (field w 8 6) (field w 5 3) (field w 2 0))
 unfolding rows
-row_StrReg first second small starts = leading_law 33 9 40 _ first second refl (search rules) small starts
+row_StrReg = leading_law 33 9 40 _ refl (search rules)
 
-pub row_StrhReg : (first second : ℕ) → first < 65536 → first / 512 ≡ 41 → operation_of first second ≡ StrhReg
-    (field first 8 6) (field first 5 3) (field first 2 0)
+pub row_StrhReg : Begins 9 41 (λ w. StrhReg (field w 8 6) (field w 5 3) (field w 2 0))
 unfolding rows
-row_StrhReg first second small starts = leading_law 34 9 41 _ first second refl (search rules) small starts
+row_StrhReg = leading_law 34 9 41 _ refl (search rules)
 
-pub row_StrbReg : (first second : ℕ) → first < 65536 → first / 512 ≡ 42 → operation_of first second ≡ StrbReg
-    (field first 8 6) (field first 5 3) (field first 2 0)
+pub row_StrbReg : Begins 9 42 (λ w. StrbReg (field w 8 6) (field w 5 3) (field w 2 0))
 unfolding rows
-row_StrbReg first second small starts = leading_law 35 9 42 _ first second refl (search rules) small starts
+row_StrbReg = leading_law 35 9 42 _ refl (search rules)
 
-pub row_LdrsbReg : (first second : ℕ) → first < 65536 → first / 512 ≡ 43 → operation_of first second ≡ LdrsbReg
-    (field first 8 6) (field first 5 3) (field first 2 0)
+pub row_LdrsbReg : Begins 9 43 (λ w. LdrsbReg (field w 8 6) (field w 5 3) (field w 2 0))
 unfolding rows
-row_LdrsbReg first second small starts = leading_law 36 9 43 _ first second refl (search rules) small starts
+row_LdrsbReg = leading_law 36 9 43 _ refl (search rules)
 
-pub row_LdrReg : (first second : ℕ) → first < 65536 → first / 512 ≡ 44 → operation_of first second ≡ LdrReg
-    (field first 8 6) (field first 5 3) (field first 2 0)
+pub row_LdrReg : Begins 9 44 (λ w. LdrReg (field w 8 6) (field w 5 3) (field w 2 0))
 unfolding rows
-row_LdrReg first second small starts = leading_law 37 9 44 _ first second refl (search rules) small starts
+row_LdrReg = leading_law 37 9 44 _ refl (search rules)
 
-pub row_LdrhReg : (first second : ℕ) → first < 65536 → first / 512 ≡ 45 → operation_of first second ≡ LdrhReg
-    (field first 8 6) (field first 5 3) (field first 2 0)
+pub row_LdrhReg : Begins 9 45 (λ w. LdrhReg (field w 8 6) (field w 5 3) (field w 2 0))
 unfolding rows
-row_LdrhReg first second small starts = leading_law 38 9 45 _ first second refl (search rules) small starts
+row_LdrhReg = leading_law 38 9 45 _ refl (search rules)
 
-pub row_LdrbReg : (first second : ℕ) → first < 65536 → first / 512 ≡ 46 → operation_of first second ≡ LdrbReg
-    (field first 8 6) (field first 5 3) (field first 2 0)
+pub row_LdrbReg : Begins 9 46 (λ w. LdrbReg (field w 8 6) (field w 5 3) (field w 2 0))
 unfolding rows
-row_LdrbReg first second small starts = leading_law 39 9 46 _ first second refl (search rules) small starts
+row_LdrbReg = leading_law 39 9 46 _ refl (search rules)
 
-pub row_LdrshReg : (first second : ℕ) → first < 65536 → first / 512 ≡ 47 → operation_of first second ≡ LdrshReg
-    (field first 8 6) (field first 5 3) (field first 2 0)
+pub row_LdrshReg : Begins 9 47 (λ w. LdrshReg (field w 8 6) (field w 5 3) (field w 2 0))
 unfolding rows
-row_LdrshReg first second small starts = leading_law 40 9 47 _ first second refl (search rules) small starts
+row_LdrshReg = leading_law 40 9 47 _ refl (search rules)
 
-pub row_StrImm : (first second : ℕ) → first < 65536 → first / 2048 ≡ 12 → operation_of first second ≡ StrImm
-    (field first 10 6) (field first 5 3) (field first 2 0)
+pub row_StrImm : Begins 11 12 (λ w. StrImm (field w 10 6) (field w 5 3) (field w 2 0))
 unfolding rows
-row_StrImm first second small starts = leading_law 41 11 12 _ first second refl (search rules) small starts
+row_StrImm = leading_law 41 11 12 _ refl (search rules)
 
-pub row_LdrImm : (first second : ℕ) → first < 65536 → first / 2048 ≡ 13 → operation_of first second ≡ LdrImm
-    (field first 10 6) (field first 5 3) (field first 2 0)
+pub row_LdrImm : Begins 11 13 (λ w. LdrImm (field w 10 6) (field w 5 3) (field w 2 0))
 unfolding rows
-row_LdrImm first second small starts = leading_law 42 11 13 _ first second refl (search rules) small starts
+row_LdrImm = leading_law 42 11 13 _ refl (search rules)
 
-pub row_StrbImm : (first second : ℕ) → first < 65536 → first / 2048 ≡ 14 → operation_of first second ≡ StrbImm
-    (field first 10 6) (field first 5 3) (field first 2 0)
+pub row_StrbImm : Begins 11 14 (λ w. StrbImm (field w 10 6) (field w 5 3) (field w 2 0))
 unfolding rows
-row_StrbImm first second small starts = leading_law 43 11 14 _ first second refl (search rules) small starts
+row_StrbImm = leading_law 43 11 14 _ refl (search rules)
 
-pub row_LdrbImm : (first second : ℕ) → first < 65536 → first / 2048 ≡ 15 → operation_of first second ≡ LdrbImm
-    (field first 10 6) (field first 5 3) (field first 2 0)
+pub row_LdrbImm : Begins 11 15 (λ w. LdrbImm (field w 10 6) (field w 5 3) (field w 2 0))
 unfolding rows
-row_LdrbImm first second small starts = leading_law 44 11 15 _ first second refl (search rules) small starts
+row_LdrbImm = leading_law 44 11 15 _ refl (search rules)
 
-pub row_StrhImm : (first second : ℕ) → first < 65536 → first / 2048 ≡ 16 → operation_of first second ≡ StrhImm
-    (field first 10 6) (field first 5 3) (field first 2 0)
+pub row_StrhImm : Begins 11 16 (λ w. StrhImm (field w 10 6) (field w 5 3) (field w 2 0))
 unfolding rows
-row_StrhImm first second small starts = leading_law 45 11 16 _ first second refl (search rules) small starts
+row_StrhImm = leading_law 45 11 16 _ refl (search rules)
 
-pub row_LdrhImm : (first second : ℕ) → first < 65536 → first / 2048 ≡ 17 → operation_of first second ≡ LdrhImm
-    (field first 10 6) (field first 5 3) (field first 2 0)
+pub row_LdrhImm : Begins 11 17 (λ w. LdrhImm (field w 10 6) (field w 5 3) (field w 2 0))
 unfolding rows
-row_LdrhImm first second small starts = leading_law 46 11 17 _ first second refl (search rules) small starts
+row_LdrhImm = leading_law 46 11 17 _ refl (search rules)
 
-pub row_StrSp : (first second : ℕ) → first < 65536 → first / 2048 ≡ 18 → operation_of first second ≡ StrSp
-    (field first 10 8) (field first 7 0)
+pub row_StrSp : Begins 11 18 (λ w. StrSp (field w 10 8) (field w 7 0))
 unfolding rows
-row_StrSp first second small starts = leading_law 47 11 18 _ first second refl (search rules) small starts
+row_StrSp = leading_law 47 11 18 _ refl (search rules)
 
-pub row_LdrSp : (first second : ℕ) → first < 65536 → first / 2048 ≡ 19 → operation_of first second ≡ LdrSp
-    (field first 10 8) (field first 7 0)
+pub row_LdrSp : Begins 11 19 (λ w. LdrSp (field w 10 8) (field w 7 0))
 unfolding rows
-row_LdrSp first second small starts = leading_law 48 11 19 _ first second refl (search rules) small starts
+row_LdrSp = leading_law 48 11 19 _ refl (search rules)
 
-pub row_Adr : (first second : ℕ) → first < 65536 → first / 2048 ≡ 20 → operation_of first second ≡ Adr
-    (field first 10 8) (field first 7 0)
+pub row_Adr : Begins 11 20 (λ w. Adr (field w 10 8) (field w 7 0))
 unfolding rows
-row_Adr first second small starts = leading_law 49 11 20 _ first second refl (search rules) small starts
+row_Adr = leading_law 49 11 20 _ refl (search rules)
 
-pub row_AddSp : (first second : ℕ) → first < 65536 → first / 2048 ≡ 21 → operation_of first second ≡ AddSp
-    (field first 10 8) (field first 7 0)
+pub row_AddSp : Begins 11 21 (λ w. AddSp (field w 10 8) (field w 7 0))
 unfolding rows
-row_AddSp first second small starts = leading_law 50 11 21 _ first second refl (search rules) small starts
+row_AddSp = leading_law 50 11 21 _ refl (search rules)
 
-pub row_AddSpImm : (first second : ℕ) → first < 65536 → first / 128 ≡ 352 → operation_of first second ≡ AddSpImm
-    (field first 6 0)
+pub row_AddSpImm : Begins 7 352 (λ w. AddSpImm (field w 6 0))
 unfolding rows
-row_AddSpImm first second small starts = leading_law 51 7 352 _ first second refl (search rules) small starts
+row_AddSpImm = leading_law 51 7 352 _ refl (search rules)
 
-pub row_SubSpImm : (first second : ℕ) → first < 65536 → first / 128 ≡ 353 → operation_of first second ≡ SubSpImm
-    (field first 6 0)
+pub row_SubSpImm : Begins 7 353 (λ w. SubSpImm (field w 6 0))
 unfolding rows
-row_SubSpImm first second small starts = leading_law 52 7 353 _ first second refl (search rules) small starts
+row_SubSpImm = leading_law 52 7 353 _ refl (search rules)
 
-pub row_Sxth : (first second : ℕ) → first < 65536 → first / 64 ≡ 712 → operation_of first second ≡ Sxth
-    (field first 5 3) (field first 2 0)
+pub row_Sxth : Begins 6 712 (λ w. Sxth (field w 5 3) (field w 2 0))
 unfolding rows
-row_Sxth first second small starts = leading_law 53 6 712 _ first second refl (search rules) small starts
+row_Sxth = leading_law 53 6 712 _ refl (search rules)
 
-pub row_Sxtb : (first second : ℕ) → first < 65536 → first / 64 ≡ 713 → operation_of first second ≡ Sxtb
-    (field first 5 3) (field first 2 0)
+pub row_Sxtb : Begins 6 713 (λ w. Sxtb (field w 5 3) (field w 2 0))
 unfolding rows
-row_Sxtb first second small starts = leading_law 54 6 713 _ first second refl (search rules) small starts
+row_Sxtb = leading_law 54 6 713 _ refl (search rules)
 
-pub row_Uxth : (first second : ℕ) → first < 65536 → first / 64 ≡ 714 → operation_of first second ≡ Uxth
-    (field first 5 3) (field first 2 0)
+pub row_Uxth : Begins 6 714 (λ w. Uxth (field w 5 3) (field w 2 0))
 unfolding rows
-row_Uxth first second small starts = leading_law 55 6 714 _ first second refl (search rules) small starts
+row_Uxth = leading_law 55 6 714 _ refl (search rules)
 
-pub row_Uxtb : (first second : ℕ) → first < 65536 → first / 64 ≡ 715 → operation_of first second ≡ Uxtb
-    (field first 5 3) (field first 2 0)
+pub row_Uxtb : Begins 6 715 (λ w. Uxtb (field w 5 3) (field w 2 0))
 unfolding rows
-row_Uxtb first second small starts = leading_law 56 6 715 _ first second refl (search rules) small starts
+row_Uxtb = leading_law 56 6 715 _ refl (search rules)
 
-pub row_Cpsie : (first second : ℕ) → first < 65536 → first / 1 ≡ 0xB662 → operation_of first second ≡ Cpsie
+pub row_Cpsie : Begins 0 0xB662 (λ w. Cpsie)
 unfolding rows
-row_Cpsie first second small starts = leading_law 58 0 0xB662 _ first second refl (search rules) small starts
+row_Cpsie = leading_law 58 0 0xB662 _ refl (search rules)
 
-pub row_Cpsid : (first second : ℕ) → first < 65536 → first / 1 ≡ 0xB672 → operation_of first second ≡ Cpsid
+pub row_Cpsid : Begins 0 0xB672 (λ w. Cpsid)
 unfolding rows
-row_Cpsid first second small starts = leading_law 59 0 0xB672 _ first second refl (search rules) small starts
+row_Cpsid = leading_law 59 0 0xB672 _ refl (search rules)
 
-pub row_Rev : (first second : ℕ) → first < 65536 → first / 64 ≡ 744 → operation_of first second ≡ Rev
-    (field first 5 3) (field first 2 0)
+pub row_Rev : Begins 6 744 (λ w. Rev (field w 5 3) (field w 2 0))
 unfolding rows
-row_Rev first second small starts = leading_law 60 6 744 _ first second refl (search rules) small starts
+row_Rev = leading_law 60 6 744 _ refl (search rules)
 
-pub row_Rev16 : (first second : ℕ) → first < 65536 → first / 64 ≡ 745 → operation_of first second ≡ Rev16
-    (field first 5 3) (field first 2 0)
+pub row_Rev16 : Begins 6 745 (λ w. Rev16 (field w 5 3) (field w 2 0))
 unfolding rows
-row_Rev16 first second small starts = leading_law 61 6 745 _ first second refl (search rules) small starts
+row_Rev16 = leading_law 61 6 745 _ refl (search rules)
 
-pub row_Revsh : (first second : ℕ) → first < 65536 → first / 64 ≡ 747 → operation_of first second ≡ Revsh
-    (field first 5 3) (field first 2 0)
+pub row_Revsh : Begins 6 747 (λ w. Revsh (field w 5 3) (field w 2 0))
 unfolding rows
-row_Revsh first second small starts = leading_law 62 6 747 _ first second refl (search rules) small starts
+row_Revsh = leading_law 62 6 747 _ refl (search rules)
 
-pub row_Bkpt : (first second : ℕ) → first < 65536 → first / 256 ≡ 190 → operation_of first second ≡ Bkpt
-    (field first 7 0)
+pub row_Bkpt : Begins 8 190 (λ w. Bkpt (field w 7 0))
 unfolding rows
-row_Bkpt first second small starts = leading_law 64 8 190 _ first second refl (search rules) small starts
+row_Bkpt = leading_law 64 8 190 _ refl (search rules)
 
-pub row_Yield : (first second : ℕ) → first < 65536 → first / 1 ≡ 0xBF10 → operation_of first second ≡ Yield
+pub row_Yield : Begins 0 0xBF10 (λ w. Yield)
 unfolding rows
-row_Yield first second small starts = leading_law 66 0 0xBF10 _ first second refl (search rules) small starts
+row_Yield = leading_law 66 0 0xBF10 _ refl (search rules)
 
-pub row_Wfe : (first second : ℕ) → first < 65536 → first / 1 ≡ 0xBF20 → operation_of first second ≡ Wfe
+pub row_Wfe : Begins 0 0xBF20 (λ w. Wfe)
 unfolding rows
-row_Wfe first second small starts = leading_law 67 0 0xBF20 _ first second refl (search rules) small starts
+row_Wfe = leading_law 67 0 0xBF20 _ refl (search rules)
 
-pub row_Wfi : (first second : ℕ) → first < 65536 → first / 1 ≡ 0xBF30 → operation_of first second ≡ Wfi
+pub row_Wfi : Begins 0 0xBF30 (λ w. Wfi)
 unfolding rows
-row_Wfi first second small starts = leading_law 68 0 0xBF30 _ first second refl (search rules) small starts
+row_Wfi = leading_law 68 0 0xBF30 _ refl (search rules)
 
-pub row_Sev : (first second : ℕ) → first < 65536 → first / 1 ≡ 0xBF40 → operation_of first second ≡ Sev
+pub row_Sev : Begins 0 0xBF40 (λ w. Sev)
 unfolding rows
-row_Sev first second small starts = leading_law 69 0 0xBF40 _ first second refl (search rules) small starts
+row_Sev = leading_law 69 0 0xBF40 _ refl (search rules)
 
-pub row_Udf : (first second : ℕ) → first < 65536 → first / 256 ≡ 222 → operation_of first second ≡ Udf
-    (field first 7 0)
+pub row_Udf : Begins 8 222 (λ w. Udf (field w 7 0))
 unfolding rows
-row_Udf first second small starts = leading_law 73 8 222 _ first second refl (search rules) small starts
+row_Udf = leading_law 73 8 222 _ refl (search rules)
 
-pub row_Svc : (first second : ℕ) → first < 65536 → first / 256 ≡ 223 → operation_of first second ≡ Svc
-    (field first 7 0)
+pub row_Svc : Begins 8 223 (λ w. Svc (field w 7 0))
 unfolding rows
-row_Svc first second small starts = leading_law 74 8 223 _ first second refl (search rules) small starts
+row_Svc = leading_law 74 8 223 _ refl (search rules)
 
-pub row_B : (first second : ℕ) → first < 65536 → first / 2048 ≡ 28 → operation_of first second ≡ B (field first 10 0)
+pub row_B : Begins 11 28 (λ w. B (field w 10 0))
 unfolding rows
-row_B first second small starts = leading_law 75 11 28 _ first second refl (search rules) small starts
+row_B = leading_law 75 11 28 _ refl (search rules)
 
 pub ruleset move_or_add_rows = (row_LslImm, row_LsrImm, row_AsrImm, row_AddReg, row_SubReg, row_AddImm3, row_SubImm3, row_MovImm, row_CmpImm, row_AddImm8, row_SubImm8)
 

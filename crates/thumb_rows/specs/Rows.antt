@@ -1,17 +1,19 @@
 -- The instruction encodings of ARMv6-M as one table, in the order of the manual (ARMv6-M Architecture Reference
--- Manual, A5.2 "16-bit Thumb instruction encoding" and A5.3 "32-bit Thumb instruction encoding").
-use Rattle.std.specs.Prelude.{ℕ, Bool, true, List, [], ◌∷◌, Option, Some, None, ◌≡◌, ◌+◌, ◌-◌, ◌*◌, ◌/◌, ◌%◌, ◌^◌, ◌<◌, ◌==◌, ◌&&◌, ◌||◌, not, if◌then◌else◌, bit_and, codes, filter, length, map}
+-- Manual, A5.2 "16-bit Thumb instruction encoding" and A5.3 "32-bit Thumb instruction encoding"): by it halfwords are
+-- decoded, and operations are encoded.
+use Rattle.std.specs.Prelude.{ℕ, Bool, true, false, List, [], ◌∷◌, ◌++◌, Option, Some, None, ◌≡◌, ◌+◌, ◌-◌, ◌*◌, ◌/◌, ◌%◌, ◌^◌, ◌<◌, ◌==◌, ◌&&◌, ◌||◌, not, if◌then◌else◌, bit_and, codes, filter, flat_map, length, map, slice_index}
 use Prim.Native.String.{String}
 use Rattle.std.specs.List.{list_any}
+use Rattle.std.specs.Option.{option_map, option_map_or}
+use Rattle.rp_base.specs.Word.{bit_number}
 use Rattle.rp_base.specs.declared.op.Op.{Op}
 use Rattle.rp_base.specs.declared.op.Op.TheVariants.{LslImm, LsrImm, AsrImm, AddReg, SubReg, AddImm3, SubImm3, MovImm, CmpImm, AddImm8, SubImm8, And, Eor, LslReg, LsrReg, AsrReg, Adc, Sbc, Ror, Tst, Rsb, Cmp, Cmn, Orr, Mul, Bic, Mvn, AddHigh, CmpHigh, MovHigh, Bx, Blx, LdrLit, StrReg, StrhReg, StrbReg, LdrsbReg, LdrReg, LdrhReg, LdrbReg, LdrshReg, StrImm, LdrImm, StrbImm, LdrbImm, StrhImm, LdrhImm, StrSp, LdrSp, Adr, AddSp, AddSpImm, SubSpImm, Sxth, Sxtb, Uxth, Uxtb, Push, Cpsie, Cpsid, Rev, Rev16, Revsh, Pop, Bkpt, Nop, Yield, Wfe, Wfi, Sev, Stm, Ldm, BCond, Udf, Svc, B, Bl, Msr, Mrs, Dsb, Dmb, Isb, Undefined}
+
+-- ---- patterns
 
 -- bits high to low of a halfword, as a number
 abbrev pub field : ℕ → ℕ → ℕ → ℕ
 field w high low = w / 2 ^ low % 2 ^ (high + 1 - low)
-
-abbrev pub is_set : ℕ → ℕ → Bool
-is_set w bit = field w bit bit == 1
 
 -- A pattern is written as in the manual, from bit 15 down to bit 0: a digit is a bit that is fixed, and a letter is a
 -- bit of the operand of that letter. The mask has a 1 at each fixed bit, and the value has the fixed bits. The codes of
@@ -32,41 +34,236 @@ mask_of pattern = binary mask_bit 0 (codes pattern)
 abbrev pub value_of : String → ℕ
 value_of pattern = binary value_bit 0 (codes pattern)
 
+-- A run of one letter is an operand. Of each, in order: how many bits it has, and how many stand behind it.
+abbrev pub begins_with : ℕ → List ℕ → Bool
+begins_with c [] = false
+begins_with c (d ∷ ds) = c == d
+
+abbrev pub one_longer : List (ℕ × ℕ) → List (ℕ × ℕ)
+one_longer [] = []
+one_longer ((count, behind) ∷ runs) = (count + 1, behind) ∷ runs
+
+abbrev pub runs_of : List ℕ → List (ℕ × ℕ)
+runs_of [] = []
+runs_of (c ∷ cs) =
+    if mask_bit c == 1 then runs_of cs
+    else if begins_with c cs then one_longer (runs_of cs)
+    else (1, length cs) ∷ runs_of cs
+
+-- the operands that a halfword has in its runs
+abbrev pub operands_in : List (ℕ × ℕ) → ℕ → List ℕ
+operands_in [] w = []
+operands_in ((count, behind) ∷ runs) w = w / 2 ^ behind % 2 ^ count ∷ operands_in runs w
+
 -- The test of one halfword: a pattern fits, and none of the patterns that are left out does.
 pub record Half : Type 0 where
   pub mask : ℕ
   pub value : ℕ
   pub left_out : List (ℕ × ℕ)
 
-abbrev pub bits : String → Half
-bits pattern = record { mask = mask_of pattern; value = value_of pattern; left_out = [] }
-
-abbrev pub bits_but : List String → String → Half
-bits_but others pattern = record {
-  mask = mask_of pattern;
-  value = value_of pattern;
-  left_out = map
-      (λ o. (mask_of o, value_of o)) others;
-}
+abbrev pub is_left_out : Half → ℕ → Bool
+is_left_out h w = list_any (λ o. bit_and w o.0 == o.1) h.left_out
 
 abbrev pub half_fits : Half → ℕ → Bool
-half_fits h w = (bit_and w h.mask == h.value) && not (list_any (λ o. bit_and w o.0 == o.1) h.left_out)
+half_fits h w = (bit_and w h.mask == h.value) && not (is_left_out h w)
 
--- A row: the tests of the first and of the second halfword, and the operation with its operands. A 16-bit instruction
--- has no second halfword.
+-- ---- encodings
+
+-- A halfword of an operation: its test, its runs, and the operands for them.
+pub record Halfword : Type 0 where
+  pub test : Half
+  pub runs : List (ℕ × ℕ)
+  pub operands : List ℕ
+
+abbrev pub bits_but : List String → String → List ℕ → Halfword
+bits_but others pattern operands = record {
+  test = record { mask = mask_of pattern; value = value_of pattern; left_out = map (λ o. (mask_of o, value_of o)) others };
+  runs = runs_of (codes pattern);
+  operands = operands;
+}
+
+abbrev pub bits : String → List ℕ → Halfword
+bits pattern operands = bits_but [] pattern operands
+
+-- the halfwords of an operation: a 16-bit instruction has no second one
+pub record Encoding : Type 0 where
+  pub first : Halfword
+  pub second : Option Halfword
+
+abbrev pub short_but : List String → String → List ℕ → Option Encoding
+short_but others pattern operands = Some (record { first = bits_but others pattern operands; second = None })
+
+abbrev pub short : String → List ℕ → Option Encoding
+short pattern operands = short_but [] pattern operands
+
+abbrev pub long : Halfword → Halfword → Option Encoding
+long first second = Some (record { first = first; second = Some second })
+
+-- the patterns of an operation, with its operands in order of their letters
+abbrev pub encoding_of : Op → Option Encoding
+-- shift, add, subtract, move and compare (A5.2.1)
+encoding_of (LslImm i m d) = short "00000iiiiimmmddd" (i ∷ m ∷ d ∷ [])
+encoding_of (LsrImm i m d) = short "00001iiiiimmmddd" (i ∷ m ∷ d ∷ [])
+encoding_of (AsrImm i m d) = short "00010iiiiimmmddd" (i ∷ m ∷ d ∷ [])
+encoding_of (AddReg m n d) = short "0001100mmmnnnddd" (m ∷ n ∷ d ∷ [])
+encoding_of (SubReg m n d) = short "0001101mmmnnnddd" (m ∷ n ∷ d ∷ [])
+encoding_of (AddImm3 i n d) = short "0001110iiinnnddd" (i ∷ n ∷ d ∷ [])
+encoding_of (SubImm3 i n d) = short "0001111iiinnnddd" (i ∷ n ∷ d ∷ [])
+encoding_of (MovImm d i) = short "00100dddiiiiiiii" (d ∷ i ∷ [])
+encoding_of (CmpImm d i) = short "00101dddiiiiiiii" (d ∷ i ∷ [])
+encoding_of (AddImm8 d i) = short "00110dddiiiiiiii" (d ∷ i ∷ [])
+encoding_of (SubImm8 d i) = short "00111dddiiiiiiii" (d ∷ i ∷ [])
+-- data processing (A5.2.2)
+encoding_of (And m d) = short "0100000000mmmddd" (m ∷ d ∷ [])
+encoding_of (Eor m d) = short "0100000001mmmddd" (m ∷ d ∷ [])
+encoding_of (LslReg m d) = short "0100000010mmmddd" (m ∷ d ∷ [])
+encoding_of (LsrReg m d) = short "0100000011mmmddd" (m ∷ d ∷ [])
+encoding_of (AsrReg m d) = short "0100000100mmmddd" (m ∷ d ∷ [])
+encoding_of (Adc m d) = short "0100000101mmmddd" (m ∷ d ∷ [])
+encoding_of (Sbc m d) = short "0100000110mmmddd" (m ∷ d ∷ [])
+encoding_of (Ror m d) = short "0100000111mmmddd" (m ∷ d ∷ [])
+encoding_of (Tst m d) = short "0100001000mmmddd" (m ∷ d ∷ [])
+encoding_of (Rsb m d) = short "0100001001mmmddd" (m ∷ d ∷ [])
+encoding_of (Cmp m d) = short "0100001010mmmddd" (m ∷ d ∷ [])
+encoding_of (Cmn m d) = short "0100001011mmmddd" (m ∷ d ∷ [])
+encoding_of (Orr m d) = short "0100001100mmmddd" (m ∷ d ∷ [])
+encoding_of (Mul m d) = short "0100001101mmmddd" (m ∷ d ∷ [])
+encoding_of (Bic m d) = short "0100001110mmmddd" (m ∷ d ∷ [])
+encoding_of (Mvn m d) = short "0100001111mmmddd" (m ∷ d ∷ [])
+-- special data instructions, and branch and exchange (A5.2.3): bit 3 of a register stands alone; xxx is 000
+encoding_of (AddHigh d m) = short "01000100Dmmmmddd" (d / 8 ∷ m ∷ d % 8 ∷ [])
+encoding_of (CmpHigh d m) = short "01000101Dmmmmddd" (d / 8 ∷ m ∷ d % 8 ∷ [])
+encoding_of (MovHigh d m) = short "01000110Dmmmmddd" (d / 8 ∷ m ∷ d % 8 ∷ [])
+encoding_of (Bx m) = short "010001110mmmmxxx" (m ∷ 0 ∷ [])
+encoding_of (Blx m) = short "010001111mmmmxxx" (m ∷ 0 ∷ [])
+-- load from literal pool (A5.2)
+encoding_of (LdrLit t i) = short "01001tttiiiiiiii" (t ∷ i ∷ [])
+-- load and store single data item (A5.2.4)
+encoding_of (StrReg m n t) = short "0101000mmmnnnttt" (m ∷ n ∷ t ∷ [])
+encoding_of (StrhReg m n t) = short "0101001mmmnnnttt" (m ∷ n ∷ t ∷ [])
+encoding_of (StrbReg m n t) = short "0101010mmmnnnttt" (m ∷ n ∷ t ∷ [])
+encoding_of (LdrsbReg m n t) = short "0101011mmmnnnttt" (m ∷ n ∷ t ∷ [])
+encoding_of (LdrReg m n t) = short "0101100mmmnnnttt" (m ∷ n ∷ t ∷ [])
+encoding_of (LdrhReg m n t) = short "0101101mmmnnnttt" (m ∷ n ∷ t ∷ [])
+encoding_of (LdrbReg m n t) = short "0101110mmmnnnttt" (m ∷ n ∷ t ∷ [])
+encoding_of (LdrshReg m n t) = short "0101111mmmnnnttt" (m ∷ n ∷ t ∷ [])
+encoding_of (StrImm i n t) = short "01100iiiiinnnttt" (i ∷ n ∷ t ∷ [])
+encoding_of (LdrImm i n t) = short "01101iiiiinnnttt" (i ∷ n ∷ t ∷ [])
+encoding_of (StrbImm i n t) = short "01110iiiiinnnttt" (i ∷ n ∷ t ∷ [])
+encoding_of (LdrbImm i n t) = short "01111iiiiinnnttt" (i ∷ n ∷ t ∷ [])
+encoding_of (StrhImm i n t) = short "10000iiiiinnnttt" (i ∷ n ∷ t ∷ [])
+encoding_of (LdrhImm i n t) = short "10001iiiiinnnttt" (i ∷ n ∷ t ∷ [])
+encoding_of (StrSp t i) = short "10010tttiiiiiiii" (t ∷ i ∷ [])
+encoding_of (LdrSp t i) = short "10011tttiiiiiiii" (t ∷ i ∷ [])
+-- addresses from PC and from SP (A5.2)
+encoding_of (Adr d i) = short "10100dddiiiiiiii" (d ∷ i ∷ [])
+encoding_of (AddSp d i) = short "10101dddiiiiiiii" (d ∷ i ∷ [])
+-- miscellaneous (A5.2.5); NOP is BF00
+encoding_of (AddSpImm i) = short "101100000iiiiiii" (i ∷ [])
+encoding_of (SubSpImm i) = short "101100001iiiiiii" (i ∷ [])
+encoding_of (Sxth m d) = short "1011001000mmmddd" (m ∷ d ∷ [])
+encoding_of (Sxtb m d) = short "1011001001mmmddd" (m ∷ d ∷ [])
+encoding_of (Uxth m d) = short "1011001010mmmddd" (m ∷ d ∷ [])
+encoding_of (Uxtb m d) = short "1011001011mmmddd" (m ∷ d ∷ [])
+encoding_of (Push r l) = short_but ("1011010000000000" ∷ []) "1011010rllllllll" (bit_number r ∷ l ∷ [])
+encoding_of (Pop r l) = short_but ("1011110000000000" ∷ []) "1011110rllllllll" (bit_number r ∷ l ∷ [])
+encoding_of Cpsie = short "1011011001100010" []
+encoding_of Cpsid = short "1011011001110010" []
+encoding_of (Rev m d) = short "1011101000mmmddd" (m ∷ d ∷ [])
+encoding_of (Rev16 m d) = short "1011101001mmmddd" (m ∷ d ∷ [])
+encoding_of (Revsh m d) = short "1011101011mmmddd" (m ∷ d ∷ [])
+encoding_of (Bkpt i) = short "10111110iiiiiiii" (i ∷ [])
+encoding_of Nop =
+    short_but ("1011111100010000" ∷ "1011111100100000" ∷ "1011111100110000" ∷ "1011111101000000" ∷ []) "10111111hhhh0000" (0 ∷ [])
+encoding_of Yield = short "1011111100010000" []
+encoding_of Wfe = short "1011111100100000" []
+encoding_of Wfi = short "1011111100110000" []
+encoding_of Sev = short "1011111101000000" []
+-- store and load multiple (A5.2)
+encoding_of (Stm n l) = short_but ("11000xxx00000000" ∷ []) "11000nnnllllllll" (n ∷ l ∷ [])
+encoding_of (Ldm n l) = short_but ("11001xxx00000000" ∷ []) "11001nnnllllllll" (n ∷ l ∷ [])
+-- conditional branch and supervisor call (A5.2.6), branch (A5.2)
+encoding_of (BCond c i) = short_but ("11011110xxxxxxxx" ∷ "11011111xxxxxxxx" ∷ []) "1101cccciiiiiiii" (c ∷ i ∷ [])
+encoding_of (Udf i) = short "11011110iiiiiiii" (i ∷ [])
+encoding_of (Svc i) = short "11011111iiiiiiii" (i ∷ [])
+encoding_of (B i) = short "11100iiiiiiiiiii" (i ∷ [])
+-- branch with link, and miscellaneous control (A5.3.1): 13 and 15 are no operands of MSR and MRS; xxxx is 1111
+encoding_of (Bl s i j) =
+    long (bits "11110Siiiiiiiiii" (bit_number s ∷ i / 2 ^ 11 ∷ [])) (bits "11J1Jiiiiiiiiiii" (j / 2 ∷ j % 2 ∷ i % 2 ^ 11 ∷ []))
+encoding_of (Msr n s) =
+    long (bits_but ("1111001110001101" ∷ "1111001110001111" ∷ []) "111100111000nnnn" (n ∷ [])) (bits "10001000ssssssss" (s ∷ []))
+encoding_of (Mrs d s) =
+    long (bits "1111001111101111" []) (bits_but ("10001101xxxxxxxx" ∷ "10001111xxxxxxxx" ∷ []) "1000ddddssssssss" (d ∷ s ∷ []))
+encoding_of Dsb = long (bits "1111001110111111" []) (bits "100011110100xxxx" (15 ∷ []))
+encoding_of Dmb = long (bits "1111001110111111" []) (bits "100011110101xxxx" (15 ∷ []))
+encoding_of Isb = long (bits "1111001110111111" []) (bits "100011110110xxxx" (15 ∷ []))
+encoding_of Undefined = None
+
+-- ---- the rows
+
+-- A row: the tests of the first and of the second halfword, and the operation with its operands.
 pub record Row : Type 0 where
   pub first : Half
   pub second : Option Half
   pub operation : ℕ → ℕ → Op
 
-abbrev pub short : String → (ℕ → Op) → Row
-short pattern operation = record { first = bits pattern; second = None; operation = λ first second. operation first }
+abbrev pub operation_by_runs : (List ℕ → Op) → List (ℕ × ℕ) → List (ℕ × ℕ) → ℕ → ℕ → Op
+operation_by_runs op runs others first second = op (operands_in runs first ++ operands_in others second)
 
-abbrev pub short_but : List String → String → (ℕ → Op) → Row
-short_but others pattern operation = record { first = bits_but others pattern; second = None; operation = λ first second. operation first }
+-- the row of an encoding, with the operation of the operands that stand in its runs
+abbrev pub row_of : (List ℕ → Op) → Option Encoding → List Row
+row_of op None = []
+row_of op (Some e) = record {
+  first = e.first.test;
+  second = option_map (λ h. h.test) e.second;
+  operation = operation_by_runs op e.first.runs (option_map_or (λ h. h.runs) e.second []);
+} ∷ []
 
-abbrev pub long : Half → Half → (ℕ → ℕ → Op) → Row
-long first second operation = record { first = first; second = Some second; operation = operation }
+-- the row of an operation with so many operands
+abbrev pub none : Op → List Row
+none op = row_of (λ xs. op) (encoding_of op)
+
+abbrev pub one : (ℕ → Op) → List Row
+one op = row_of (λ xs. op (slice_index xs 0)) (encoding_of (op 0))
+
+abbrev pub two : (ℕ → ℕ → Op) → List Row
+two op = row_of (λ xs. op (slice_index xs 0) (slice_index xs 1)) (encoding_of (op 0 0))
+
+abbrev pub three : (ℕ → ℕ → ℕ → Op) → List Row
+three op = row_of (λ xs. op (slice_index xs 0) (slice_index xs 1) (slice_index xs 2)) (encoding_of (op 0 0 0))
+
+-- of one where bit 3 of a register stands alone
+abbrev pub high : (ℕ → ℕ → Op) → List Row
+high op = row_of (λ xs. op (8 * slice_index xs 0 + slice_index xs 2) (slice_index xs 1)) (encoding_of (op 0 0))
+
+-- of one with a list of registers, and one more
+abbrev pub stack : (Bool → ℕ → Op) → List Row
+stack op = row_of (λ xs. op (slice_index xs 0 == 1) (slice_index xs 1)) (encoding_of (op false 0))
+
+-- of BL
+abbrev pub link : List Row
+link =
+    row_of
+    (λ xs. Bl (slice_index xs 0 == 1) (slice_index xs 1 * 2 ^ 11 + slice_index xs 4)
+    (2 * slice_index xs 2 + slice_index xs 3)) (encoding_of (Bl false 0 0))
+
+-- each operation once, in the order of the manual
+unfoldable pub rows : List Row
+rows =
+    flat_map three (LslImm ∷ LsrImm ∷ AsrImm ∷ AddReg ∷ SubReg ∷ AddImm3 ∷ SubImm3 ∷ [])
+    ++ flat_map two (MovImm ∷ CmpImm ∷ AddImm8 ∷ SubImm8 ∷ [])
+    ++ flat_map two (And ∷ Eor ∷ LslReg ∷ LsrReg ∷ AsrReg ∷ Adc ∷ Sbc ∷ Ror ∷ [])
+    ++ flat_map two (Tst ∷ Rsb ∷ Cmp ∷ Cmn ∷ Orr ∷ Mul ∷ Bic ∷ Mvn ∷ [])
+    ++ flat_map high (AddHigh ∷ CmpHigh ∷ MovHigh ∷ []) ++ flat_map one (Bx ∷ Blx ∷ [])
+    ++ two LdrLit
+    ++ flat_map three (StrReg ∷ StrhReg ∷ StrbReg ∷ LdrsbReg ∷ LdrReg ∷ LdrhReg ∷ LdrbReg ∷ LdrshReg ∷ [])
+    ++ flat_map three (StrImm ∷ LdrImm ∷ StrbImm ∷ LdrbImm ∷ StrhImm ∷ LdrhImm ∷ [])
+    ++ flat_map two (StrSp ∷ LdrSp ∷ Adr ∷ AddSp ∷ [])
+    ++ flat_map one (AddSpImm ∷ SubSpImm ∷ []) ++ flat_map two (Sxth ∷ Sxtb ∷ Uxth ∷ Uxtb ∷ [])
+    ++ stack Push ++ none Cpsie ++ none Cpsid ++ flat_map two (Rev ∷ Rev16 ∷ Revsh ∷ []) ++ stack Pop
+    ++ one Bkpt ++ flat_map none (Nop ∷ Yield ∷ Wfe ∷ Wfi ∷ Sev ∷ [])
+    ++ flat_map two (Stm ∷ Ldm ∷ BCond ∷ []) ++ flat_map one (Udf ∷ Svc ∷ B ∷ [])
+    ++ link ++ two Msr ++ two Mrs ++ none Dsb ++ none Dmb ++ none Isb
 
 abbrev pub second_fits : Option Half → ℕ → Bool
 second_fits None w = true
@@ -74,109 +271,6 @@ second_fits (Some h) w = half_fits h w
 
 abbrev pub row_fits : Row → ℕ → ℕ → Bool
 row_fits r first second = half_fits r.first first && second_fits r.second second
-
-unfoldable pub rows : List Row
-rows =
-    -- shift, add, subtract, move and compare (A5.2.1)
-    short "00000iiiiimmmddd" (λ w. LslImm (field w 10 6) (field w 5 3) (field w 2 0))
-    ∷ short "00001iiiiimmmddd" (λ w. LsrImm (field w 10 6) (field w 5 3) (field w 2 0))
-    ∷ short "00010iiiiimmmddd" (λ w. AsrImm (field w 10 6) (field w 5 3) (field w 2 0))
-    ∷ short "0001100mmmnnnddd" (λ w. AddReg (field w 8 6) (field w 5 3) (field w 2 0))
-    ∷ short "0001101mmmnnnddd" (λ w. SubReg (field w 8 6) (field w 5 3) (field w 2 0))
-    ∷ short "0001110iiinnnddd" (λ w. AddImm3 (field w 8 6) (field w 5 3) (field w 2 0))
-    ∷ short "0001111iiinnnddd" (λ w. SubImm3 (field w 8 6) (field w 5 3) (field w 2 0))
-    ∷ short "00100dddiiiiiiii" (λ w. MovImm (field w 10 8) (field w 7 0))
-    ∷ short "00101dddiiiiiiii" (λ w. CmpImm (field w 10 8) (field w 7 0))
-    ∷ short "00110dddiiiiiiii" (λ w. AddImm8 (field w 10 8) (field w 7 0))
-    ∷ short "00111dddiiiiiiii" (λ w. SubImm8 (field w 10 8) (field w 7 0))
-    -- data processing (A5.2.2)
-    ∷ short "0100000000mmmddd" (λ w. And (field w 5 3) (field w 2 0))
-    ∷ short "0100000001mmmddd" (λ w. Eor (field w 5 3) (field w 2 0))
-    ∷ short "0100000010mmmddd" (λ w. LslReg (field w 5 3) (field w 2 0))
-    ∷ short "0100000011mmmddd" (λ w. LsrReg (field w 5 3) (field w 2 0))
-    ∷ short "0100000100mmmddd" (λ w. AsrReg (field w 5 3) (field w 2 0))
-    ∷ short "0100000101mmmddd" (λ w. Adc (field w 5 3) (field w 2 0))
-    ∷ short "0100000110mmmddd" (λ w. Sbc (field w 5 3) (field w 2 0))
-    ∷ short "0100000111mmmddd" (λ w. Ror (field w 5 3) (field w 2 0))
-    ∷ short "0100001000mmmddd" (λ w. Tst (field w 5 3) (field w 2 0))
-    ∷ short "0100001001mmmddd" (λ w. Rsb (field w 5 3) (field w 2 0))
-    ∷ short "0100001010mmmddd" (λ w. Cmp (field w 5 3) (field w 2 0))
-    ∷ short "0100001011mmmddd" (λ w. Cmn (field w 5 3) (field w 2 0))
-    ∷ short "0100001100mmmddd" (λ w. Orr (field w 5 3) (field w 2 0))
-    ∷ short "0100001101mmmddd" (λ w. Mul (field w 5 3) (field w 2 0))
-    ∷ short "0100001110mmmddd" (λ w. Bic (field w 5 3) (field w 2 0))
-    ∷ short "0100001111mmmddd" (λ w. Mvn (field w 5 3) (field w 2 0))
-    -- special data instructions, and branch and exchange (A5.2.3)
-    ∷ short "01000100Dmmmmddd" (λ w. AddHigh (8 * field w 7 7 + field w 2 0) (field w 6 3))
-    ∷ short "01000101Dmmmmddd" (λ w. CmpHigh (8 * field w 7 7 + field w 2 0) (field w 6 3))
-    ∷ short "01000110Dmmmmddd" (λ w. MovHigh (8 * field w 7 7 + field w 2 0) (field w 6 3))
-    ∷ short "010001110mmmmxxx" (λ w. Bx (field w 6 3))
-    ∷ short "010001111mmmmxxx" (λ w. Blx (field w 6 3))
-    -- load from literal pool (A5.2)
-    ∷ short "01001tttiiiiiiii" (λ w. LdrLit (field w 10 8) (field w 7 0))
-    -- load and store single data item (A5.2.4)
-    ∷ short "0101000mmmnnnttt" (λ w. StrReg (field w 8 6) (field w 5 3) (field w 2 0))
-    ∷ short "0101001mmmnnnttt" (λ w. StrhReg (field w 8 6) (field w 5 3) (field w 2 0))
-    ∷ short "0101010mmmnnnttt" (λ w. StrbReg (field w 8 6) (field w 5 3) (field w 2 0))
-    ∷ short "0101011mmmnnnttt" (λ w. LdrsbReg (field w 8 6) (field w 5 3) (field w 2 0))
-    ∷ short "0101100mmmnnnttt" (λ w. LdrReg (field w 8 6) (field w 5 3) (field w 2 0))
-    ∷ short "0101101mmmnnnttt" (λ w. LdrhReg (field w 8 6) (field w 5 3) (field w 2 0))
-    ∷ short "0101110mmmnnnttt" (λ w. LdrbReg (field w 8 6) (field w 5 3) (field w 2 0))
-    ∷ short "0101111mmmnnnttt" (λ w. LdrshReg (field w 8 6) (field w 5 3) (field w 2 0))
-    ∷ short "01100iiiiinnnttt" (λ w. StrImm (field w 10 6) (field w 5 3) (field w 2 0))
-    ∷ short "01101iiiiinnnttt" (λ w. LdrImm (field w 10 6) (field w 5 3) (field w 2 0))
-    ∷ short "01110iiiiinnnttt" (λ w. StrbImm (field w 10 6) (field w 5 3) (field w 2 0))
-    ∷ short "01111iiiiinnnttt" (λ w. LdrbImm (field w 10 6) (field w 5 3) (field w 2 0))
-    ∷ short "10000iiiiinnnttt" (λ w. StrhImm (field w 10 6) (field w 5 3) (field w 2 0))
-    ∷ short "10001iiiiinnnttt" (λ w. LdrhImm (field w 10 6) (field w 5 3) (field w 2 0))
-    ∷ short "10010tttiiiiiiii" (λ w. StrSp (field w 10 8) (field w 7 0))
-    ∷ short "10011tttiiiiiiii" (λ w. LdrSp (field w 10 8) (field w 7 0))
-    -- addresses from PC and from SP (A5.2)
-    ∷ short "10100dddiiiiiiii" (λ w. Adr (field w 10 8) (field w 7 0))
-    ∷ short "10101dddiiiiiiii" (λ w. AddSp (field w 10 8) (field w 7 0))
-    -- miscellaneous (A5.2.5)
-    ∷ short "101100000iiiiiii" (λ w. AddSpImm (field w 6 0))
-    ∷ short "101100001iiiiiii" (λ w. SubSpImm (field w 6 0))
-    ∷ short "1011001000mmmddd" (λ w. Sxth (field w 5 3) (field w 2 0))
-    ∷ short "1011001001mmmddd" (λ w. Sxtb (field w 5 3) (field w 2 0))
-    ∷ short "1011001010mmmddd" (λ w. Uxth (field w 5 3) (field w 2 0))
-    ∷ short "1011001011mmmddd" (λ w. Uxtb (field w 5 3) (field w 2 0))
-    ∷ short_but ("1011010000000000" ∷ []) "1011010rllllllll" (λ w. Push (is_set w 8) (field w 7 0))
-    ∷ short "1011011001100010" (λ w. Cpsie)
-    ∷ short "1011011001110010" (λ w. Cpsid)
-    ∷ short "1011101000mmmddd" (λ w. Rev (field w 5 3) (field w 2 0))
-    ∷ short "1011101001mmmddd" (λ w. Rev16 (field w 5 3) (field w 2 0))
-    ∷ short "1011101011mmmddd" (λ w. Revsh (field w 5 3) (field w 2 0))
-    ∷ short_but ("1011110000000000" ∷ []) "1011110rllllllll" (λ w. Pop (is_set w 8) (field w 7 0))
-    ∷ short "10111110iiiiiiii" (λ w. Bkpt (field w 7 0))
-    ∷ short_but
-    ("1011111100010000" ∷ "1011111100100000" ∷ "1011111100110000" ∷ "1011111101000000" ∷ []) "10111111hhhh0000"
-    (λ w. Nop)
-    ∷ short "1011111100010000" (λ w. Yield)
-    ∷ short "1011111100100000" (λ w. Wfe)
-    ∷ short "1011111100110000" (λ w. Wfi)
-    ∷ short "1011111101000000" (λ w. Sev)
-    -- store and load multiple (A5.2)
-    ∷ short_but ("11000xxx00000000" ∷ []) "11000nnnllllllll" (λ w. Stm (field w 10 8) (field w 7 0))
-    ∷ short_but ("11001xxx00000000" ∷ []) "11001nnnllllllll" (λ w. Ldm (field w 10 8) (field w 7 0))
-    -- conditional branch and supervisor call (A5.2.6), branch (A5.2)
-    ∷ short_but ("11011110xxxxxxxx" ∷ "11011111xxxxxxxx" ∷ []) "1101cccciiiiiiii"
-    (λ w. BCond (field w 11 8) (field w 7 0))
-    ∷ short "11011110iiiiiiii" (λ w. Udf (field w 7 0))
-    ∷ short "11011111iiiiiiii" (λ w. Svc (field w 7 0))
-    ∷ short "11100iiiiiiiiiii" (λ w. B (field w 10 0))
-    -- branch with link, and miscellaneous control (A5.3.1)
-    ∷ long (bits "11110Siiiiiiiiii") (bits "11J1Jiiiiiiiiiii")
-    (λ first second. Bl (is_set first 10) (field first 9 0 * 2 ^ 11 + field second 10 0)
-    (2 * field second 13 13 + field second 11 11))
-    ∷ long (bits_but ("1111001110001101" ∷ "1111001110001111" ∷ []) "111100111000nnnn") (bits "10001000ssssssss")
-    (λ first second. Msr (field first 3 0) (field second 7 0))
-    ∷ long (bits "1111001111101111") (bits_but ("10001101xxxxxxxx" ∷ "10001111xxxxxxxx" ∷ []) "1000ddddssssssss")
-    (λ first second. Mrs (field second 11 8) (field second 7 0))
-    ∷ long (bits "1111001110111111") (bits "100011110100xxxx") (λ first second. Dsb)
-    ∷ long (bits "1111001110111111") (bits "100011110101xxxx") (λ first second. Dmb)
-    ∷ long (bits "1111001110111111") (bits "100011110110xxxx") (λ first second. Isb)
-    ∷ []
 
 -- the operation of the row of a list that fits a pair; Undefined is the row of all the rest
 abbrev pub operation_by : List Row → ℕ → ℕ → Op

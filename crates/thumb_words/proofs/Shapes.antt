@@ -1,12 +1,13 @@
 -- The forms of the encodings: what the fields of a word are, whose operands fit.
-use Rattle.std.proofs.Common.{◌≡◌, ◌≢◌, ℕ, zero, suc, ◌+◌, ◌^◌, ◌*◌, ◌/◌, ◌%◌, ◌<◌, Bool, true, false, not, ◌&&◌, ◌||◌, Option, Some, None, refl, sym, ap, ◌∙◌, subst, arith, ltb, eqb}
+use Rattle.std.proofs.Common.{◌≡◌, ◌≢◌, ℕ, zero, suc, ◌+◌, ◌^◌, ◌*◌, ◌/◌, ◌%◌, ◌<◌, Bool, true, false, not, ◌&&◌, ◌||◌, Option, Some, None, refl, sym, ap, ◌∙◌, subst, arith, ltb, eqb, true≢false}
 use Rattle.std.specs.Prelude.{bit_and}
-use Rattle.std.proofs.lemmas.Bool.{eq-eqb, ne_eqb, ltb-true, eqb-false}
+use Rattle.std.proofs.lemmas.Bool.{eq-eqb, ne_eqb, ltb-true}
 use Rattle.std.proofs.lemmas.Nat.{and_block, and_le_r}
 use Rattle.rp_base.specs.declared.op.Op.{Op}
 use Rattle.rp_base.specs.declared.op.Op.TheVariants.{BCond, Bl, Msr, Mrs}
 use Rattle.rp_base.specs.Word.{bit_number}
 use Rattle.thumb_rows.specs.Rows.{operation_of}
+use Rattle.thumb_rows.proofs.Laws.{leading_pattern, list_bits}
 use Rattle.thumb_rows.proofs.LeftOut.{row_BCond, row_Bl, row_Msr, row_Mrs}
 use Rattle.thumb_words.specs.declared.halfwords.Code.{Code}
 use Rattle.thumb_words.specs.Codes.{coded, IsCodeOf}
@@ -150,99 +151,95 @@ fixed word op small row test = short_is word op small row
 
 -- ## Rows that leave something out
 
-not_true : (b : Bool) → not b ≡ true → b ≡ false
-not_true true h = sym h
-not_true false h = refl
+is_bit : (s : Bool) (x : ℕ) → x ≡ bit_number s → eqb x 1 ≡ s
+is_bit true x h = eq-eqb x 1 h
+is_bit false x h = ne_eqb x 1 (λ e. absurd (omega (arith, e, h)))
 
-pub stack : (base n : ℕ) (r : Bool) (l : ℕ) (make : Bool → ℕ → Op) → base ≡ n * 512 → n < 116
+bit_below : (s : Bool) → bit_number s < 2
+bit_below true = omega arith
+bit_below false = omega arith
+
+-- a pattern that is left out does not fit
+missed : (x value : ℕ) (more : Bool) → not (eqb x value || more) ≡ true → x ≢ value
+missed x value more h e = true≢false (sym h ∙ ap (λ b. not (b || more)) (eq-eqb x value e))
+
+more_missed : (b more : Bool) → not (b || more) ≡ true → not more ≡ true
+more_missed true more h = cc
+more_missed false more h = h
+
+pub stack : (base n : ℕ) (r : Bool) (l : ℕ) (make : Bool → ℕ → Op) → base ≡ n * 512 → n < 116 → bit_and base 0xFFFF ≡ base
     → ((first second : ℕ) → first < 65536 → first / 512 ≡ n → first ≢ base → operation_of first second ≡ make (eqb (first / 256 % 2) 1) (first / 1 % 256))
-    → (not (not r && eqb l 0) && (ltb (bit_number r) 2 && (ltb l 256 && true))) ≡ true
+    → (ltb (bit_number r) 2 && (ltb l 256 && not (eqb (bit_and (base + (bit_number r * 256 + (l * 1 + 0))) 0xFFFF) base || false))) ≡ true
     → IsCodeOf (make r l) (record { first = base + (bit_number r * 256 + (l * 1 + 0)); second = None })
-stack base n true l make is small row test =
-    let b : l < 256 = below l 256 _ test in
-    let w : ℕ = base + (1 * 256 + (l * 1 + 0)) in
-    let bit : eqb (w / 256 % 2) 1 ≡ true = eq-eqb (w / 256 % 2) 1 (omega arith) in
+stack base n r l make is small whole row test =
+    let bit : ℕ = bit_number r in
+    let a : bit < 2 = bit_below r in
+    let b : l < 256 = below l 256 _ (rest bit 2 _ test) in
+    let w : ℕ = base + (bit * 256 + (l * 1 + 0)) in
+    let out = missed (bit_and w 0xFFFF) base _ (rest l 256 _ (rest bit 2 _ test)) in
+    let flag : eqb (w / 256 % 2) 1 ≡ r = is_bit r (w / 256 % 2) (omega arith) in
     let low : w / 1 % 256 ≡ l = omega arith in
-    short_is w (make true l) (omega arith)
-    (λ second. row w second (omega arith) (omega arith) (λ e. absurd (omega (arith, e))) ∙ ap (λ t. make t (w / 1 % 256)) bit ∙ ap (make true) low)
-stack base n false l make is small row test =
-    let some : eqb l 0 ≡ false = not_true (eqb l 0) (and_left (not (eqb l 0)) _ test) in
-    let b : l < 256 = below l 256 _ (and_right (not (eqb l 0)) _ test) in
-    let w : ℕ = base + (0 * 256 + (l * 1 + 0)) in
-    let other : l ≢ 0 = eqb-false l 0 some in
-    let bit : eqb (w / 256 % 2) 1 ≡ false = ne_eqb (w / 256 % 2) 1 (λ e. absurd (omega (arith, e))) in
-    let low : w / 1 % 256 ≡ l = omega arith in
-    short_is w (make false l) (omega arith)
-    (λ second. row w second (omega arith) (omega arith) (λ e. absurd (omega (arith, e, other))) ∙ ap (λ t. make t (w / 1 % 256)) bit ∙ ap (make false) low)
+    short_is w (make r l) (omega arith)
+    (λ second. row w second (omega arith) (omega arith) (λ e. absurd (out (ap (λ x. bit_and x 0xFFFF) e ∙ whole)))
+    ∙ ap (λ t. make t (w / 1 % 256)) flag ∙ ap (make r) low)
 
 pub several : (base n r l : ℕ) (make : ℕ → ℕ → Op) → base ≡ n * 2048 → n < 29
     → ((first second : ℕ) → first < 65536 → first / 2048 ≡ n → first % 256 ≢ 0 → operation_of first second ≡ make (first / 256 % 8) (first / 1 % 256))
-    → (not (eqb l 0) && (ltb r 8 && (ltb l 256 && true))) ≡ true
+    → (ltb r 8 && (ltb l 256 && not (eqb (bit_and (base + (r * 256 + (l * 1 + 0))) 0xF8FF) base || false))) ≡ true
     → IsCodeOf (make r l) (record { first = base + (r * 256 + (l * 1 + 0)); second = None })
 several base n r l make is small row test =
-    let some : eqb l 0 ≡ false = not_true (eqb l 0) (and_left (not (eqb l 0)) _ test) in
-    let other : l ≢ 0 = eqb-false l 0 some in
-    let also = and_right (not (eqb l 0)) _ test in
-    let a : r < 8 = below r 8 _ also in
-    let b : l < 256 = below l 256 _ (rest r 8 _ also) in
+    let a : r < 8 = below r 8 _ test in
+    let b : l < 256 = below l 256 _ (rest r 8 _ test) in
     let w : ℕ = base + (r * 256 + (l * 1 + 0)) in
+    let out : bit_and w 0xF8FF ≢ base = missed (bit_and w 0xF8FF) base _ (rest l 256 _ (rest r 8 _ test)) in
+    let listed : bit_and w 0xF8FF ≡ w / 2048 * 2048 + w % 256 = list_bits w (omega arith) in
     short_is w (make r l) (omega arith)
-    (λ second. row w second (omega arith) (omega arith) (λ e. absurd (omega (arith, e, other))) ∙ two make (w / 256 % 8) (w / 1 % 256) r l (omega arith) (omega arith))
+    (λ second. row w second (omega arith) (omega arith) (λ e. absurd (out (omega (arith, listed, e)))) ∙ two make (w / 256 % 8) (w / 1 % 256) r l (omega arith) (omega arith))
 
-or_left : (a b : Bool) → (a || b) ≡ false → a ≡ false
-or_left true b h = h
-or_left false b h = refl
+-- a page that is left out
+other_page : (w page : ℕ) (more : Bool) → w < 65536 → not (eqb (bit_and w 0xFF00) (page * 256) || more) ≡ true → w / 256 ≢ page
+other_page w page more small h e = missed (bit_and w 0xFF00) (page * 256) more h (leading_pattern 8 page w (omega arith) small e)
 
-or_right : (a b : Bool) → (a || b) ≡ false → b ≡ false
-or_right true b h = cc
-or_right false b h = h
-
-neither : (x a b : ℕ) (t : Bool) → (not (eqb x a || eqb x b) && t) ≡ true → (x ≢ a) × (x ≢ b)
-neither x a b t h =
-    let none = not_true (eqb x a || eqb x b) (and_left (not (eqb x a || eqb x b)) t h) in
-    (eqb-false x a (or_left (eqb x a) (eqb x b) none), eqb-false x b (or_right (eqb x a) (eqb x b) none))
-
-pub law_BCond : (c i : ℕ) → (not (eqb c 14 || eqb c 15) && (ltb c 16 && (ltb i 256 && true))) ≡ true → IsCodeOf (BCond c i) (record { first = 0xD000 + (c * 256 + (i * 1 + 0)); second = None })
+pub law_BCond : (c i : ℕ)
+    → (ltb c 16 && (ltb i 256 && not (eqb (bit_and (0xD000 + (c * 256 + (i * 1 + 0))) 0xFF00) 0xDE00 || (eqb (bit_and (0xD000 + (c * 256 + (i * 1 + 0))) 0xFF00) 0xDF00 || false)))) ≡ true
+    → IsCodeOf (BCond c i) (record { first = 0xD000 + (c * 256 + (i * 1 + 0)); second = None })
 law_BCond c i test =
-    let others = neither c 14 15 _ test in
-    let udf : c ≢ 14 = others.0 in
-    let svc : c ≢ 15 = others.1 in
-    let also = and_right (not (eqb c 14 || eqb c 15)) _ test in
-    let a : c < 16 = below c 16 _ also in
-    let b : i < 256 = below i 256 _ (rest c 16 _ also) in
+    let a : c < 16 = below c 16 _ test in
+    let b : i < 256 = below i 256 _ (rest c 16 _ test) in
     let w : ℕ = 0xD000 + (c * 256 + (i * 1 + 0)) in
+    let out = rest i 256 _ (rest c 16 _ test) in
     short_is w (BCond c i) (omega arith)
-    (λ second. row_BCond w second (omega arith) (omega arith) (λ e. absurd (omega (arith, e, udf))) (λ e. absurd (omega (arith, e, svc))) ∙ two (λ x y. BCond x y) (w / 256 % 16) (w / 1 % 256) c i (omega arith) (omega arith))
+    (λ second. row_BCond w second (omega arith) (omega arith) (other_page w 222 _ (omega arith) out) (other_page w 223 _ (omega arith) (more_missed _ _ out))
+    ∙ two (λ x y. BCond x y) (w / 256 % 16) (w / 1 % 256) c i (omega arith) (omega arith))
 
 -- ## 32-bit instructions
 
-pub law_Msr : (n s : ℕ) → (not (eqb n 13 || eqb n 15) && ((ltb n 16 && true) && (ltb s 256 && true))) ≡ true
+pub law_Msr : (n s : ℕ)
+    → ((ltb n 16 && not (eqb (bit_and (0xF380 + (n * 1 + 0)) 0xFFFF) 0xF38D || (eqb (bit_and (0xF380 + (n * 1 + 0)) 0xFFFF) 0xF38F || false))) && (ltb s 256 && true)) ≡ true
     → IsCodeOf (Msr n s) (record { first = 0xF380 + (n * 1 + 0); second = Some (0x8800 + (s * 1 + 0)) })
 law_Msr n s test =
-    let others = neither n 13 15 _ test in
-    let sp : n ≢ 13 = others.0 in
-    let pc : n ≢ 15 = others.1 in
-    let also = and_right (not (eqb n 13 || eqb n 15)) _ test in
-    let a : n < 16 = below n 16 _ (and_left (ltb n 16 && true) _ also) in
-    let b : s < 256 = below s 256 _ (and_right (ltb n 16 && true) _ also) in
     let w : ℕ = 0xF380 + (n * 1 + 0) in
     let v : ℕ = 0x8800 + (s * 1 + 0) in
+    let here = and_left (ltb n 16 && not (eqb (bit_and w 0xFFFF) 0xF38D || (eqb (bit_and w 0xFFFF) 0xF38F || false))) _ test in
+    let a : n < 16 = below n 16 _ here in
+    let b : s < 256 = below s 256 _ (and_right (ltb n 16 && not (eqb (bit_and w 0xFFFF) 0xF38D || (eqb (bit_and w 0xFFFF) 0xF38F || false))) _ test) in
+    let sp : bit_and w 0xFFFF ≢ 0xF38D = missed _ 0xF38D _ (rest n 16 _ here) in
+    let pc : bit_and w 0xFFFF ≢ 0xF38F = missed (bit_and w 0xFFFF) 0xF38F false (more_missed (eqb (bit_and w 0xFFFF) 0xF38D) _ (rest n 16 _ here)) in
     long_is w v (Msr n s) (omega arith)
-    (row_Msr w v (omega arith) (omega arith) (omega arith) (λ e. absurd (omega (arith, e, sp))) (λ e. absurd (omega (arith, e, pc))) (omega arith)
+    (row_Msr w v (omega arith) (omega arith) (omega arith) (λ e. sp (ap (λ x. bit_and x 0xFFFF) e)) (λ e. pc (ap (λ x. bit_and x 0xFFFF) e)) (omega arith)
     ∙ two (λ x y. Msr x y) (w / 1 % 16) (v / 1 % 256) n s (omega arith) (omega arith))
 
-pub law_Mrs : (d s : ℕ) → (not (eqb d 13 || eqb d 15) && (ltb d 16 && (ltb s 256 && true))) ≡ true
+pub law_Mrs : (d s : ℕ)
+    → (ltb d 16 && (ltb s 256 && not (eqb (bit_and (0x8000 + (d * 256 + (s * 1 + 0))) 0xFF00) 0x8D00 || (eqb (bit_and (0x8000 + (d * 256 + (s * 1 + 0))) 0xFF00) 0x8F00 || false)))) ≡ true
     → IsCodeOf (Mrs d s) (record { first = 0xF3EF; second = Some (0x8000 + (d * 256 + (s * 1 + 0))) })
 law_Mrs d s test =
-    let others = neither d 13 15 _ test in
-    let sp : d ≢ 13 = others.0 in
-    let pc : d ≢ 15 = others.1 in
-    let also = and_right (not (eqb d 13 || eqb d 15)) _ test in
-    let a : d < 16 = below d 16 _ also in
-    let b : s < 256 = below s 256 _ (rest d 16 _ also) in
+    let a : d < 16 = below d 16 _ test in
+    let b : s < 256 = below s 256 _ (rest d 16 _ test) in
     let v : ℕ = 0x8000 + (d * 256 + (s * 1 + 0)) in
+    let out = rest s 256 _ (rest d 16 _ test) in
     long_is 0xF3EF v (Mrs d s) refl
-    (row_Mrs v (omega arith) (omega arith) (λ e. absurd (omega (arith, e, sp))) (λ e. absurd (omega (arith, e, pc))) ∙ two (λ x y. Mrs x y) (v / 256 % 16) (v / 1 % 256) d s (omega arith) (omega arith))
+    (row_Mrs v (omega arith) (omega arith) (other_page v 141 _ (omega arith) out) (other_page v 143 _ (omega arith) (more_missed _ _ out))
+    ∙ two (λ x y. Mrs x y) (v / 256 % 16) (v / 1 % 256) d s (omega arith) (omega arith))
 
 link : (j lo : ℕ) → j < 2 → lo < 2 ^ 12 → bit_and ((13 + 2 * j) * 2 ^ 12 + lo) 0xD000 ≡ 0xD000
 link zero lo lt small =
@@ -252,14 +249,6 @@ link (suc zero) lo lt small =
     let none : bit_and lo 0 ≡ 0 = (let le = and_le_r lo 0 in omega (arith, le)) in
     and_block 12 15 13 lo 0 small (omega arith) ∙ ap (λ t. 0xD000 + t) none
 link (suc (suc j)) lo lt small = absurd (omega arith)
-
-is_bit : (s : Bool) (x : ℕ) → x ≡ bit_number s → eqb x 1 ≡ s
-is_bit true x h = eq-eqb x 1 h
-is_bit false x h = ne_eqb x 1 (λ e. absurd (omega (arith, e, h)))
-
-bit_below : (s : Bool) → bit_number s < 2
-bit_below true = omega arith
-bit_below false = omega arith
 
 pub law_Bl : (s : Bool) (i j : ℕ)
     → ((ltb (bit_number s) 2 && (ltb (i / 2048) 1024 && true)) && (ltb (j / 2) 2 && (ltb (j % 2) 2 && (ltb (i % 2048) 2048 && true)))) ≡ true

@@ -1,6 +1,6 @@
 //! The forms of the encodings: operands of so many bits, each in its place.
 
-ghost use Rattle.std.specs.Prelude.{◌≡◌, ◌≤◌, ◌==◌, ◌&&◌, ◌||◌, ◌+◌, ◌*◌, ◌/◌, ◌%◌, nat_lt, not, true, Some, None};
+ghost use Rattle.std.specs.Prelude.{◌≡◌, ◌≤◌, ◌==◌, ◌&&◌, ◌||◌, ◌+◌, ◌*◌, ◌/◌, ◌%◌, ◌<◌, bit_and, nat_lt, not, true, false, Some, None};
 ghost use Rattle.rp_base.specs.Word.{bit_number};
 ghost use Rattle.thumb_words.specs.Codes.{coded};
 
@@ -125,41 +125,71 @@ pub fn eleven_bits(base: u16, i: u16) -> Option<Code>
     if i < 2048 { fixed(base + i) } else { None }
 }
 
+/// Whether a pattern with these bits fits a halfword.
+fn pattern_fits(halfword: u16, mask: u16, value: u16) -> bool
+    ensures { result ≡ (bit_and halfword mask == value) }
+{
+    halfword & mask == value
+}
+
+/// A number, and eight bits.
+fn above_byte(base: u16, n: u16, low: u8) -> u16
+    requires { base + n * 256 < 0xFF00 }
+    ensures { result ≡ base + (n * 256 + (low * 1 + 0)) }
+{
+    base + (n << 8) + u16::from(low)
+}
+
 /// A list of registers on the stack that is not empty.
 pub fn stack_list(base: u16, r: bool, l: u8) -> Option<Code>
     requires { base ≤ 0xBC00 }
-    ensures { result ≡ coded (not (not r && l == 0) && (nat_lt (bit_number r) 2 && (nat_lt l 256 && true)))
+    ensures { result ≡ coded
+        (nat_lt (bit_number r) 2 && (nat_lt l 256
+        && not (bit_and (base + (bit_number r * 256 + (l * 1 + 0))) 0xFFFF == base || false)))
         (record { first = base + (bit_number r * 256 + (l * 1 + 0)); second = None }) }
 {
-    if r || l != 0 {
-        fixed(base + (u16::from(r) << 8) + u16::from(l))
-    } else {
+    let first = above_byte(base, u16::from(r), l);
+    if pattern_fits(first, 0xFFFF, base) {
         None
+    } else {
+        fixed(first)
     }
 }
 
 /// Three bits, and a list of registers that is not empty.
 pub fn register_and_list(base: u16, n: u8, l: u8) -> Option<Code>
     requires { base ≤ 0xC800 }
-    ensures { result ≡ coded (not (l == 0) && (nat_lt n 8 && (nat_lt l 256 && true)))
+    ensures { result ≡ coded
+        (nat_lt n 8 && (nat_lt l 256 && not (bit_and (base + (n * 256 + (l * 1 + 0))) 0xF8FF == base || false)))
         (record { first = base + (n * 256 + (l * 1 + 0)); second = None }) }
 {
-    if l != 0 && n < 8 {
-        fixed(base + (u16::from(n) << 8) + u16::from(l))
-    } else {
+    if n >= 8 {
+        return None;
+    }
+    let first = above_byte(base, u16::from(n), l);
+    if pattern_fits(first, 0xF8FF, base) {
         None
+    } else {
+        fixed(first)
     }
 }
 
 /// A condition below 14, and eight bits.
 pub fn condition(c: u8, i: u8) -> Option<Code>
-    ensures { result ≡ coded (not (c == 14 || c == 15) && (nat_lt c 16 && (nat_lt i 256 && true)))
+    ensures { result ≡ coded
+        (nat_lt c 16 && (nat_lt i 256
+        && not (bit_and (0xD000 + (c * 256 + (i * 1 + 0))) 0xFF00 == 0xDE00
+        || (bit_and (0xD000 + (c * 256 + (i * 1 + 0))) 0xFF00 == 0xDF00 || false))))
         (record { first = 0xD000 + (c * 256 + (i * 1 + 0)); second = None }) }
 {
-    if c < 14 {
-        fixed(0xD000 + (u16::from(c) << 8) + u16::from(i))
-    } else {
+    if c >= 16 {
+        return None;
+    }
+    let first = above_byte(0xD000, u16::from(c), i);
+    if pattern_fits(first, 0xFF00, 0xDE00) || pattern_fits(first, 0xFF00, 0xDF00) {
         None
+    } else {
+        fixed(first)
     }
 }
 
@@ -198,26 +228,34 @@ pub fn branch_with_link(s: bool, i: u32, j: u8) -> Option<Code>
 /// MSR, which has no encoding from SP and from PC.
 pub fn write_special(n: u8, s: u8) -> Option<Code>
     ensures { result ≡ coded
-        (not (n == 13 || n == 15) && ((nat_lt n 16 && true) && (nat_lt s 256 && true)))
+        ((nat_lt n 16 && not (bit_and (0xF380 + (n * 1 + 0)) 0xFFFF == 0xF38D
+        || (bit_and (0xF380 + (n * 1 + 0)) 0xFFFF == 0xF38F || false))) && (nat_lt s 256 && true))
         (record { first = 0xF380 + (n * 1 + 0); second = Some (0x8800 + (s * 1 + 0)) }) }
 {
-    if n < 16 && n != 13 && n != 15 {
-        long(0xF380 + u16::from(n), 0x8800 + u16::from(s))
-    } else {
+    let first = 0xF380 + u16::from(n);
+    if n >= 16 || pattern_fits(first, 0xFFFF, 0xF38D) || pattern_fits(first, 0xFFFF, 0xF38F) {
         None
+    } else {
+        long(first, 0x8800 + u16::from(s))
     }
 }
 
 /// MRS, which has no encoding to SP and to PC.
 pub fn read_special(d: u8, s: u8) -> Option<Code>
     ensures { result ≡ coded
-        (not (d == 13 || d == 15) && (true && (nat_lt d 16 && (nat_lt s 256 && true))))
-        (record { first = 0xF3EF + 0; second = Some (0x8000 + (d * 256 + (s * 1 + 0))) }) }
+        (nat_lt d 16 && (nat_lt s 256
+        && not (bit_and (0x8000 + (d * 256 + (s * 1 + 0))) 0xFF00 == 0x8D00
+        || (bit_and (0x8000 + (d * 256 + (s * 1 + 0))) 0xFF00 == 0x8F00 || false))))
+        (record { first = 0xF3EF; second = Some (0x8000 + (d * 256 + (s * 1 + 0))) }) }
 {
-    if d < 16 && d != 13 && d != 15 {
-        long(0xF3EF, 0x8000 + (u16::from(d) << 8) + u16::from(s))
-    } else {
+    if d >= 16 {
+        return None;
+    }
+    let second = above_byte(0x8000, u16::from(d), s);
+    if pattern_fits(second, 0xFF00, 0x8D00) || pattern_fits(second, 0xFF00, 0x8F00) {
         None
+    } else {
+        long(0xF3EF, second)
     }
 }
 
