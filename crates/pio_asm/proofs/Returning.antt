@@ -19,7 +19,7 @@ use Rattle.pio_parse.specs.descent.Parsed.{parsed}
 use Rattle.pio_parse.proofs.Files.{parses_grammar}
 use Rattle.pio_parse.proofs.Pieces.{AreApart, Piece, is_open, joined}
 use Rattle.pio_parse.proofs.Pieces.Piece.{End}
-use Rattle.pio_parse.proofs.Runs.{both}
+use Rattle.pio_parse.proofs.Tests.{both}
 use Rattle.pio_parse.proofs.PieceLines.{AreLines, all_lines, header, program_parses, source_of_lines, stays}
 use Rattle.pio_disasm.specs.Text.{is_written, source_text}
 use Rattle.pio_asm.specs.declared.plan.Member.{Member}

@@ -45,10 +45,7 @@ onwards text tokens token reading step = and_then
 
 ended_all : (operator : Operator) → nat_le 0 (level_of operator) ≡ true
 ended_all Add = refl
-ended_all Subtract = refl
-ended_all Multiply = refl
-ended_all NegateOperator = refl
-ended_all ReverseOperator = refl
+ended_all operator = refl
 
 -- a test in a step that ends or refuses: with either answer what goes on is the same
 ended : (text : List ℕ) (operator : Operator) (stack : List Pending) (output : List Term) (depth : ℕ) (token : Token) (rest : List Token) (test : Bool)
