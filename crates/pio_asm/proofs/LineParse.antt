@@ -24,7 +24,7 @@ use Rattle.pio_words.specs.declared.side.SideConfig.{SideConfig}
 use Rattle.pio_words.specs.declared.side.SideDelay.{SideDelay}
 use Rattle.pio_words.specs.Operation.{bit}
 use Rattle.pio_parse.specs.declared.token.Token.{Token}
-use Rattle.pio_parse.specs.declared.token.TokenKind.TheVariants.{LineEnd}
+use Rattle.pio_parse.specs.declared.token.TokenKind.TheVariants.{Keyword as KeywordToken, LineEnd}
 use Rattle.pio_parse.specs.declared.expression.Term.{Term}
 use Rattle.pio_parse.specs.declared.expression.Term.TheVariants.{Number as NumberTerm}
 use Rattle.pio_parse.specs.declared.syntax.Operation.{Operation}
@@ -36,7 +36,7 @@ use Rattle.pio_parse.specs.declared.syntax.Line.{Line}
 use Rattle.source_text.specs.Outcome.{and_then, map_ok}
 use Rattle.pio_parse.specs.descent.Cursor.{Outcome, after_head}
 use Rattle.pio_parse.specs.Tokens.{head_kind}
-use Rattle.pio_parse.specs.Registers.{mov_destination_of_word, mov_source_of_word}
+use Rattle.pio_parse.specs.Registers.{mov_destination_of, mov_source_of}
 use Rattle.pio_parse.specs.descent.Instruction.{is_rel, modified_at}
 use Rattle.pio_parse.specs.descent.Statement.{end_at, line_at}
 use Rattle.pio_parse.proofs.Pieces.{Piece, token_at, tokens_of}
@@ -127,11 +127,11 @@ set_parses : (text : List ℕ) (number : ℕ) (d : SetDestination) (n : ℕ) (re
 set_parses text number SetPins n rest = (_, refl)
 set_parses text number d n rest = (_, refl)
 
-from_named : (s : MovSource) → mov_source_of_word (from_key s) ≡ Some s
+from_named : (s : MovSource) → mov_source_of (KeywordToken (from_key s)) ≡ Some s
 from_named FromPins = refl
 from_named s = refl
 
-to_named : (d : MovDestination) → mov_destination_of_word (to_key d) ≡ Some d
+to_named : (d : MovDestination) → mov_destination_of (KeywordToken (to_key d)) ≡ Some d
 to_named ToPins = refl
 to_named d = refl
 

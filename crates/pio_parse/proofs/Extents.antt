@@ -6,7 +6,9 @@ use Rattle.source_text.specs.declared.position.SourcePosition.{SourcePosition}
 use Rattle.pio_parse.specs.declared.token.Token.{Token}
 use Rattle.pio_parse.specs.declared.token.TokenKind.{TokenKind}
 use Rattle.pio_parse.specs.declared.token.TokenKind.TheVariants.{Name, Number, DoubleColon, OpenParenthesis, CloseParenthesis, Plus, Minus, Star, LineEnd, FileEnd}
-use Rattle.pio_parse.specs.descent.Expression.{Pending, Reading, after_newest, expression_at, expression_from, nothing_read, operand_step, operator_step, reduced, token_step}
+use Rattle.pio_parse.specs.declared.expression.Pending.{Pending}
+use Rattle.pio_parse.specs.declared.expression.Reading.{Reading}
+use Rattle.pio_parse.specs.descent.Expression.{after_newest, expression_at, expression_from, nothing_read, operand_step, operator_step, reduced, token_step}
 use Rattle.pio_parse.specs.declared.expression.Term.{Term}
 use Rattle.pio_parse.specs.declared.expression.Term.TheVariants.{Number as NumberTerm}
 use Rattle.source_text.specs.Outcome.{map_ok}

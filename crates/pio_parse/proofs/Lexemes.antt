@@ -8,8 +8,10 @@ use Rattle.pio_parse.specs.declared.token.Token.{Token}
 use Rattle.pio_parse.specs.declared.token.Directive.TheVariants.{LangOpt}
 use Rattle.pio_parse.specs.declared.token.TokenKind.{TokenKind}
 use Rattle.pio_parse.specs.declared.token.TokenKind.TheVariants.{Directive as DirectiveToken, Colon as ColonToken, Bang as BangToken, FileEnd}
-use Rattle.pio_parse.specs.descent.Scan.{Mode, Step, begins, ends, finishes, without_token, scanned, scanned_from, sign_of, single_token, steps, word_ends, word_token_ends}
-use Rattle.pio_parse.specs.descent.Scan.Mode.{Between, Word, Colon, Bang, Slash, LineComment, BlockComment, Header, Code}
+use Rattle.pio_parse.specs.declared.scan.Mode.{Mode}
+use Rattle.pio_parse.specs.declared.scan.Mode.TheVariants.{Between, Word, Colon, Bang, Slash, LineComment, BlockComment, Header, Code}
+use Rattle.pio_parse.specs.declared.scan.Step.{Step}
+use Rattle.pio_parse.specs.descent.Scan.{begins, ends, finishes, without_token, scanned, scanned_from, sign_of, single_token, steps, word_ends, word_token_ends}
 use Rattle.source_text.specs.Outcome.{and_then, map_ok}
 use Rattle.source_text.specs.Characters.{is_word_char}
 use Rattle.pio_parse.specs.Words.{word_kind}

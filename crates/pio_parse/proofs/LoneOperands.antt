@@ -6,7 +6,8 @@ use Rattle.pio_parse.specs.declared.token.Token.{Token}
 use Rattle.pio_parse.specs.declared.token.TokenKind.{TokenKind}
 use Rattle.pio_parse.specs.declared.token.TokenKind.TheVariants.{Name as NameToken, Number as NumberToken, DoubleColon, OpenParenthesis, CloseParenthesis, Plus, Minus, Star}
 use Rattle.pio_parse.specs.declared.expression.Term.{Term}
-use Rattle.pio_parse.specs.descent.Expression.{Reading, expression_at, is_close_parenthesis, nothing_read, operand_at, operand_of_kind, operand_step}
+use Rattle.pio_parse.specs.declared.expression.Reading.{Reading}
+use Rattle.pio_parse.specs.descent.Expression.{expression_at, is_close_parenthesis, nothing_read, operand_at, operand_of_kind, operand_step}
 use Rattle.source_text.specs.Outcome.{and_then, map_ok}
 use Rattle.pio_parse.specs.descent.Cursor.{Outcome, expected, misfit}
 use Rattle.pio_parse.specs.Tokens.{head_kind, name_at}
