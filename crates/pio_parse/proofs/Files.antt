@@ -8,10 +8,10 @@ use Rattle.pio_parse.specs.declared.syntax.Source.{Source}
 use Rattle.source_text.specs.Outcome.{and_then, map_ok}
 use Rattle.pio_parse.specs.descent.Cursor.{Outcome}
 use Rattle.pio_parse.specs.descent.Scan.{scanned}
-use Rattle.pio_parse.specs.Files.{EarlyFault, AreLines, FaultsAt, IsSource, IsSyntaxFaultAt}
+use Rattle.pio_parse.specs.Files.{AreLines, FaultsAt, IsSource, IsSyntaxFaultAt}
 use Rattle.pio_parse.specs.Programs.{gathered, token_lines, with_first}
 use Rattle.pio_parse.specs.descent.Parsed.{lines_at, parsed, parsed_tokens, with_syntax}
-use Rattle.pio_parse.specs.Files.EarlyFault.{CharAt, SyntaxAt}
+use Rattle.pio_parse.specs.Files.EarlyFault.{SyntaxAt}
 use Rattle.pio_parse.specs.Tokens.{is_end, is_program}
 use Rattle.pio_parse.specs.descent.Statement.{line_at}
 use Rattle.pio_parse.proofs.Tests.{both, err_is, ok_is, refused, same_value}

@@ -3,7 +3,6 @@ use Rattle.std.proofs.Common.{◌≡◌, not, Bool, true, false, ℕ, List, [], 
 use Rattle.source_text.specs.declared.position.SourcePosition.{SourcePosition}
 use Rattle.pio_parse.specs.declared.token.Token.{Token}
 use Rattle.pio_parse.specs.declared.token.TokenKind.TheVariants.{LineEnd}
-use Rattle.pio_parse.specs.declared.syntax.Line.{Line}
 use Rattle.source_text.specs.Outcome.{map_ok}
 use Rattle.pio_parse.specs.descent.Cursor.{Outcome}
 use Rattle.pio_parse.specs.Tokens.{is_end}
@@ -73,8 +72,8 @@ pub faults_at_first : FaultsAtFirst
 faults_at_first text tokens position line = (
   expression_fault text tokens position line,
   there_by (BeginsExpression text) (λ xs ys (further, tree, rest, is). (ys ++ further, tree, rest, subst (λ tokens. IsExpression text tokens tree rest) (append_assoc xs ys further) is)) tokens (expression_at text tokens)
-  (λ x e. let found = finds_tree text tokens x.0 x.1 e in ([], found.0, x.1, subst (λ tokens. IsExpression text tokens found.0 x.1) (sym (append-nil tokens)) found.1))
-  (λ p e. expression_fault text tokens p line e) position,
+      (λ x e. let found = finds_tree text tokens x.0 x.1 e in ([], found.0, x.1, subst (λ tokens. IsExpression text tokens found.0 x.1) (sym (append-nil tokens)) found.1))
+      (λ p e. expression_fault text tokens p line e) position,
 )
 
 -- where tokens are refused, and how they could have gone on

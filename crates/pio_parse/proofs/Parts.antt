@@ -37,7 +37,7 @@ use Rattle.pio_parse.specs.descent.Instruction.{block_at, block_of, conditional_
 use Rattle.pio_parse.specs.descent.Statement.{begins_label, define_at, is_colon, is_end_after, is_opt, is_pindirs, is_public, is_zero, label_at, name_of_kind, name_token_at, past_public, side_set_at, statement_at, statement_of_kind, version_at}
 use Rattle.pio_parse.proofs.Tests.{both, err_is, ok_is, refused, same_left}
 use Rattle.pio_parse.specs.GrammarLaws.{is_line}
-use Rattle.pio_parse.specs.Lines.{IsBlock, IsCondition, IsDecrement, IsDelay, IsIrqMode, IsJmpCondition, IsLabel, IsLastValue, IsModifiers, IsMovOperation, IsOperation, IsPolarity, IsProgram, IsSetting, IsSide, IsStatement, IsValue, MayStand}
+use Rattle.pio_parse.specs.Lines.{IsBlock, IsCondition, IsDecrement, IsDelay, IsIrqMode, IsJmpCondition, IsLabel, IsLastValue, IsModifiers, IsMovOperation, IsOperation, IsPolarity, IsProgram, IsSetting, IsSide, IsStatement, MayStand}
 use Rattle.pio_parse.specs.Lines.IsLastValue.{last_value}
 use Rattle.pio_parse.specs.Lines.IsCondition.{x_zero, x_decrement, y_zero, y_decrement, x_not_y, pin, osr_not_empty}
 use Rattle.pio_parse.specs.Lines.IsJmpCondition.{always, condition}

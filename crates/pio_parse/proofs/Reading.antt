@@ -10,7 +10,7 @@ use Rattle.source_text.specs.Outcome.{and_then, map_ok}
 use Rattle.pio_parse.specs.descent.Cursor.{Outcome, after_head, expected, misfit}
 use Rattle.pio_parse.specs.Tokens.{head_kind, head_position, is_end}
 use Rattle.pio_parse.specs.descent.Instruction.{flag_at, named_at}
-use Rattle.pio_parse.proofs.Tests.{both, err_is, not_true, refused}
+use Rattle.pio_parse.proofs.Tests.{both, err_is, refused}
 use Rattle.pio_parse.proofs.Extents.{ends_sum}
 use Rattle.pio_parse.specs.Lines.{MayStand}
 use Rattle.pio_parse.specs.Lines.MayStand.{stands, missing}

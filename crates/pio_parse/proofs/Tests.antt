@@ -1,5 +1,5 @@
 -- What the answers of tests and of readings say.
-use Rattle.std.proofs.Common.{◌≡◌, ◌==◌, ◌&&◌, ◌||◌, not, ℕ, Bool, true, false, List, Result, Ok, Err, inl, inr, refl, sym, ap, subst}
+use Rattle.std.proofs.Common.{◌≡◌, ◌==◌, ◌&&◌, ◌||◌, not, ℕ, Bool, true, false, Result, Ok, Err, inl, inr, refl, sym, ap, subst}
 use Rattle.std.proofs.lemmas.Bool.Decides.{eqb_tells}
 
 pub both : (a b : Bool) → (a && b) ≡ true → (a ≡ true) × (b ≡ true)
