@@ -115,7 +115,7 @@ chars_move (c ∷ cs) line column h =
 
 -- what a word does not begin by
 begins_apart : (c k : ℕ) (cs : List ℕ) → is_word (c ∷ cs) ≡ true → (is_word_char k || k == 46) ≡ false → (c == k) ≡ false
-begins_apart c k cs h no = apart (λ c. is_word_char c || c == 46) c k (both (is_word_char c || c == 46) (are_word_chars cs) h).0 no
+begins_apart c k cs h unlike = apart (λ c. is_word_char c || c == 46) c k (both (is_word_char c || c == 46) (are_word_chars cs) h).0 unlike
 
 word_moves : (w : List ℕ) (line column : ℕ) → is_word w ≡ true → moved w (position_at line column) ≡ position_at line (column + length w)
 word_moves [] line column h = absurd (false≢true h)
