@@ -204,7 +204,7 @@ module _ (text : List ℕ) where
       let inner = later next terms rest (rw is at q) in
       record {
         consumed = token ∷ inner.consumed;
-        whole = ap (λ xs. token ∷ xs) inner.whole;
+        whole = ap (λ xs. token ∷ xs) {y = inner.consumed ++ rest} inner.whole;
         inside = rw (no_end token reading next is (is_end token.kind) refl) inner.inside;
         again = λ first further h. rw is (inner.again first further h);
       }
@@ -262,7 +262,7 @@ module _ (text : List ℕ) where
         before = token ∷ inner.before;
         token = inner.token;
         after = inner.after;
-        whole = ap (λ xs. token ∷ xs) inner.whole;
+        whole = ap (λ xs. token ∷ xs) {y = inner.before ++ inner.token ∷ inner.after} inner.whole;
         at = inner.at;
         ends = inner.ends;
         inside = inner.inside;
