@@ -1,30 +1,25 @@
-use Rattle.std.proofs.Common.{◌≡◌, ℕ, suc, ℤ, ◌+◌, ◌-◌, ◌≤◌, List, [], ◌∷◌, ◌++◌, length, Bool, true, false, cond, Option, None, Some, refl, sym, ap, subst, ◌∙◌, ◌||◌, arith, inl, inr}
-use Rattle.std.specs.Prelude.{Result, Ok, Err, if◌then◌else◌, is_some, is_none, nat_le, nat_lt, unwrap_or, ◌==◌, ◌⊎◌}
+use Rattle.std.proofs.Common.{◌≡◌, ℕ, suc, ℤ, ◌+◌, ◌≤◌, List, [], ◌∷◌, ◌++◌, length, Bool, true, false, cond, Option, None, Some, refl, sym, ap, subst, ◌∙◌, arith, inl, inr}
+use Rattle.std.specs.Prelude.{Ok, Err, if◌then◌else◌, is_some, is_none, nat_le}
 use Rattle.std.specs.declared.cmp.Ordering.{Ordering}
 use Rattle.std.specs.declared.cmp.Ordering.TheVariants.{Less, Equal, Greater}
 use Rattle.std.specs.Ordering.{match_ordering, nat_cmp}
 use Rattle.std.specs.Cmp.Lexicographic.{slice_cmp}
 use Rattle.std.proofs.lemmas.Bool.Decides.{nat_tests}
-use Rattle.pio_words.specs.Operation.{bit}
-use Rattle.pio_parse.specs.declared.fault.PioFault.{PioFault}
-use Rattle.pio_parse.specs.declared.fault.PioFault.TheVariants.{Unknown, Twice, Range, Delay, Side, TooLong}
 use Rattle.pio_parse.specs.declared.syntax.Statement.{Statement}
-use Rattle.pio_parse.specs.declared.syntax.Statement.TheVariants.{Program, Define, Origin, SideSet, WrapTarget, Wrap, Word, Instruction as InstructionStatement}
+use Rattle.pio_parse.specs.declared.syntax.Statement.TheVariants.{Define, Word, Instruction as InstructionStatement}
 use Rattle.pio_parse.specs.declared.syntax.Line.{Line}
 use Rattle.pio_asm.specs.declared.value.Evaluated.{Evaluated}
 use Rattle.pio_asm.specs.declared.plan.Member.{Member}
-use Rattle.pio_asm.specs.declared.plan.Judged.{Judged}
 use Rattle.pio_asm.specs.declared.building.Building.{Building}
-use Rattle.pio_asm.specs.declared.building.Verdict.{Verdict}
 use Rattle.source_text.specs.Symbols.{put}
 use Rattle.pio_asm.specs.Symbols.{Names}
 use Rattle.pio_asm.specs.Kept.{AllValued, AreKept, is_kept}
 use Rattle.pio_asm.specs.Value.{evaluated}
 use Rattle.pio_asm.specs.Operand.{number_within}
 use Rattle.pio_asm.specs.Plan.{instruction_in}
-use Rattle.pio_asm.specs.Verdict.{no_fault, verdict_result}
-use Rattle.pio_asm.specs.Step.{checked, definition_value, fitting, instruction_verdict, is_member, is_origin_fault, is_seen, label_value, line_step, misfits, names_of, statement_step, with_definition, with_label, with_name, word_member}
+use Rattle.pio_asm.specs.Step.{definition_value, fitting, is_label_twice, is_member, is_seen, label_value, line_step, misfits, names_of, with_definition, with_label, with_name, word_member}
 use Rattle.pio_asm.specs.Assembly.{lines_from, lines_of, nothing_built}
+use Rattle.pio_asm.proofs.Accepted.{IsSound, accepted, faults, made, result_cases, same_ok}
 use Rattle.pio_asm.proofs.Valued.{IsValued, evaluated-valued}
 use Rattle.pio_asm.proofs.Planning.{instruction-kept, or-parts}
 
@@ -63,40 +58,6 @@ with_label-valued globals count (Some label) seen le h = with_name-valued global
 definition-some : (e : Evaluated) → IsValued e → e.unknown ≡ false → e.outside ≡ false → is_some (definition_value e) ≡ true
 definition-some e h u o = let v : definition_value e ≡ e.value = rw (u, o) refl in ap is_some v ∙ h u o
 
--- three of a line's faults
-flags : (u t r d s l : Bool) (line : ℕ) (rest : Result (Unit {0}) PioFault) (x : Unit {0}) → (if u then Err (Unknown line) else if t then Err (Twice line) else if r then Err (Range line) else if d then Err (Delay line) else if s then Err (Side line) else if l then Err (TooLong line) else rest) ≡ Ok x → (u ≡ false) × (r ≡ false) × (l ≡ false)
-flags true t r d s l line rest x h = cc
-flags false true r d s l line rest x h = cc
-flags false false true d s l line rest x h = cc
-flags false false false true s l line rest x h = cc
-flags false false false false true l line rest x h = cc
-flags false false false false false true line rest x h = cc
-flags false false false false false false line rest x h = (refl, refl, refl)
-
-result_cases : {X E : Type 0} (r : Result X E) → ((x : X) × (r ≡ Ok x)) ⊎ ((e : E) × (r ≡ Err e))
-result_cases (Ok x) = inl (x, refl)
-result_cases (Err e) = inr (e, refl)
-
-ok-same : {X E : Type 0} (x y : X) (r : Result X E) → r ≡ Ok x → r ≡ Ok y → y ≡ x
-ok-same x y (Ok z) h k = cc
-ok-same x y (Err e) h k = cc
-
--- a line that is accepted has none of its faults
-record Passed (verdict : Verdict) (next got : Building) : Type 0 where
-  unknown : verdict.unknown ≡ false
-  range : verdict.range ≡ false
-  too_long : verdict.too_long ≡ false
-  same : got ≡ next
-
-passed : (number : ℕ) (verdict : Verdict) (next got : Building) → checked number verdict next ≡ Ok got → Passed verdict next got
-passed number verdict next got h = elim (result_cases (verdict_result number verdict)) [
-  | inl ok ↦
-      let f = flags verdict.unknown verdict.twice verdict.range verdict.delay verdict.side verdict.too_long number _ ok.0 ok.1 in
-      let g : checked number verdict next ≡ Ok next = rw ok.1 refl in
-      record { unknown = f.0; range = f.1; too_long = f.2; same = ok-same next got (checked number verdict next) g h }
-  | inr bad ↦ let g : checked number verdict next ≡ Err bad.0 = rw bad.1 refl in let i : Err bad.0 ≡ Ok got = sym g ∙ h in cc
-]
-
 -- what an accepted line leaves
 record Stepped (whole globals : Names) (statement : Option Statement) (b next : Building) : Type 0 where
   seen : next.seen ≡ with_definition globals statement b.seen
@@ -104,9 +65,6 @@ record Stepped (whole globals : Names) (statement : Option Statement) (b next : 
   short : length b.code ≤ 32 → length next.code ≤ 32
   valued : AllValued globals → AllValued b.seen → AllValued next.seen
   kept : AllValued whole → AllValued globals → AllValued b.seen → AreKept b.code → AreKept next.code
-
-abbrev carry : {whole globals : Names} {statement : Option Statement} {b n next : Building} → next ≡ n → Stepped whole globals statement b n → Stepped whole globals statement b next
-carry {whole} {globals} {statement} {b} {n} {next} e s = subst (λ x. Stepped whole globals statement b x) (sym e) s
 
 same_names : (whole globals : Names) (statement : Option Statement) (b n : Building) → n.seen ≡ with_definition globals statement b.seen → n.seen ≡ b.seen → n.code ≡ b.code → is_member statement ≡ false → Stepped whole globals statement b n
 same_names whole globals statement b n d s c m = record {
@@ -137,61 +95,30 @@ pushed whole globals statement b m d i l k = record {
   kept = λ w g h c. kept-push b.code m c (k w g h);
 }
 
-stepped : (whole globals : Names) (total number : ℕ) (twice : Bool) (statement : Option Statement) (b next : Building) → statement_step whole globals total number twice statement b ≡ Ok next → Stepped whole globals statement b next
-stepped whole globals total number twice None b next h =
-    carry (passed number (record no_fault { twice = twice }) b next h).same (same_names whole globals None b b refl refl refl refl)
-stepped whole globals total number twice (Some (Program name)) b next h =
-    carry (passed number (record no_fault { twice = twice }) b next h).same (same_names whole globals (Some (Program name)) b b refl refl refl refl)
-stepped whole globals total number twice (Some (Define name value)) b next h =
-    let e : Evaluated = evaluated b.seen globals value in
-    let verdict : Verdict = record no_fault { unknown = e.unknown; twice = twice || is_seen b.seen globals name; range = e.outside } in
-    let n : Building = record b { seen = with_name globals b.seen name (definition_value e) } in
-    let p = passed number verdict n next h in
-    let s : Stepped whole globals (Some (Define name value)) b n = record {
-      seen = refl;
-      count = refl;
-      short = λ le. le;
-      valued = λ g s. with_name-valued globals b.seen name (definition_value e) s (definition-some e (evaluated-valued b.seen globals value s g) p.unknown p.range);
-      kept = λ w g s k. k;
-    } in
-    carry p.same s
-stepped whole globals total number twice (Some (Origin value)) b next h =
-    let e : Evaluated = evaluated b.seen globals value in
-    let verdict : Verdict = record no_fault { unknown = e.unknown; twice = twice; range = e.outside; origin = is_origin_fault total e.value b } in
-    let n : Building = record b { origin = fitting 0 31 e.value } in
-    carry (passed number verdict n next h).same (same_names whole globals (Some (Origin value)) b n refl refl refl refl)
-stepped whole globals total number twice (Some (SideSet count opt pindirs)) b next h =
-    let e : Evaluated = evaluated b.seen globals count in
-    let verdict : Verdict = record no_fault { unknown = e.unknown; twice = twice; range = e.outside; side = is_some b.side || nat_lt 0 (length b.code) || misfits 0 (5 - bit opt) e.value } in
-    let n : Building = record b { side = Some (record { count = unwrap_or (fitting 0 (5 - bit opt) e.value) 0; opt = opt; pindirs = pindirs }) } in
-    carry (passed number verdict n next h).same (same_names whole globals (Some (SideSet count opt pindirs)) b n refl refl refl refl)
-stepped whole globals total number twice (Some WrapTarget) b next h =
-    let verdict : Verdict = record no_fault { twice = twice; wrap = is_some b.target || nat_le total (length b.code) } in
-    let n : Building = record b { target = Some (length b.code) } in
-    carry (passed number verdict n next h).same (same_names whole globals (Some WrapTarget) b n refl refl refl refl)
-stepped whole globals total number twice (Some Wrap) b next h =
-    let verdict : Verdict = record no_fault { twice = twice; wrap = is_some b.wrap || length b.code == 0 } in
-    let n : Building = record b { wrap = Some (length b.code - 1) } in
-    carry (passed number verdict n next h).same (same_names whole globals (Some Wrap) b n refl refl refl refl)
-stepped whole globals total number twice (Some (Word value)) b next h =
-    let e : Evaluated = evaluated b.seen globals value in
-    let m : Member = word_member (fitting 0 65535 e.value) in
-    let verdict : Verdict = record no_fault { unknown = e.unknown; twice = twice; range = e.outside || misfits 0 65535 e.value; too_long = nat_le 32 (length b.code) } in
-    let n : Building = record b { code = b.code ++ m ∷ [] } in
-    let p = passed number verdict n next h in
-    let r = or-parts e.outside (misfits 0 65535 e.value) p.range in
-    carry p.same (pushed whole globals (Some (Word value)) b m refl refl p.too_long (λ w g s. word-kept e.value (evaluated-valued b.seen globals value s g p.unknown r.0) r.1))
-stepped whole globals total number twice (Some (InstructionStatement instruction)) b next h =
-    let j : Judged = instruction_in whole globals b.side instruction in
-    let n : Building = record b { code = b.code ++ j.member ∷ [] } in
-    let p = passed number (instruction_verdict twice (nat_le 32 (length b.code)) j) n next h in
-    carry p.same (pushed whole globals (Some (InstructionStatement instruction)) b j.member refl refl p.too_long (λ w g s. instruction-kept whole globals b.side instruction w g p.unknown p.range))
+stepped : (whole globals : Names) (total : ℕ) (twice : Bool) (statement : Option Statement) (b : Building) → IsSound (faults whole globals total twice statement b) → Stepped whole globals statement b (made whole globals statement b)
+stepped whole globals total twice (Some (Define name value)) b sound = record {
+  seen = refl;
+  count = refl;
+  short = λ le. le;
+  valued = λ g s. with_name-valued globals b.seen name (definition_value (evaluated b.seen globals value)) s (definition-some (evaluated b.seen globals value) (evaluated-valued b.seen globals value s g) sound.unknown sound.range);
+  kept = λ w g s k. k;
+}
+stepped whole globals total twice (Some (Word value)) b sound =
+    let r = or-parts (evaluated b.seen globals value).outside (misfits 0 65535 (evaluated b.seen globals value).value) sound.range in
+    pushed whole globals (Some (Word value)) b (word_member (fitting 0 65535 (evaluated b.seen globals value).value)) refl refl sound.too_long
+    (λ w g s. word-kept (evaluated b.seen globals value).value (evaluated-valued b.seen globals value s g sound.unknown r.0) r.1)
+stepped whole globals total twice (Some (InstructionStatement instruction)) b sound =
+    pushed whole globals (Some (InstructionStatement instruction)) b (instruction_in whole globals b.side instruction).member refl refl sound.too_long
+    (λ w g s. instruction-kept whole globals b.side instruction w g sound.unknown sound.range)
+stepped whole globals total twice statement b sound = same_names whole globals statement b (made whole globals statement b) refl refl refl refl
 
 abbrev labelled : Names → Line → Building → Building
 labelled globals line b = record b { seen = with_label globals (length b.code) line.label b.seen }
 
 line_stepped : (whole globals : Names) (total : ℕ) (line : Line) (b next : Building) → line_step whole globals total line b ≡ Ok next → Stepped whole globals line.statement (labelled globals line b) next
-line_stepped whole globals total line b next h = stepped whole globals total line.number _ line.statement (labelled globals line b) next h
+line_stepped whole globals total line b next h =
+    let is = accepted whole globals total line.number (is_label_twice globals line.label b.seen) line.statement (labelled globals line b) next h in
+    subst (λ (next : Building). Stepped whole globals line.statement (labelled globals line b) next) (sym is.1) (stepped whole globals total (is_label_twice globals line.label b.seen) line.statement (labelled globals line b) is.0)
 
 -- what accepted lines leave: the names of the whole, each with a value, and no member that uses a name without one
 pub record Built (whole globals : Names) (lines : List Line) (b final : Building) : Type 0 where
@@ -212,7 +139,7 @@ after_line whole globals line lines b next final s r =
 
 built : (whole globals : Names) (total : ℕ) (lines : List Line) (b final : Building) → lines_from whole globals total lines b ≡ Ok final → Built whole globals lines b final
 built whole globals total [] b final h =
-    let e : final ≡ b = ok-same b final (lines_from whole globals total [] b) refl h in
+    let e : final ≡ b = same_ok b final (lines_from whole globals total [] b) refl h in
     record { names = ap (λ x. x.seen) (sym e); valued = λ g s le. rw e s; kept = λ w g s le k. rw e k }
 built whole globals total (line ∷ lines) b final h = elim (result_cases (line_step whole globals total line b)) [
   | inl ok ↦

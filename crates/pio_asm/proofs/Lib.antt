@@ -15,6 +15,7 @@ pub mod Returning
 pub mod TreeValues
 pub mod Valued
 pub mod Planning
+pub mod Accepted
 pub mod Keeping
 pub mod Wholeness
 pub mod First

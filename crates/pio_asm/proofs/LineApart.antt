@@ -112,13 +112,7 @@ side_set_apart side rest lt a = (side_set_run, refl, flags_apart side.opt side.p
 -- no line ends within a line
 condition_open : (c : JmpCondition) (n : ℕ) (ps : List Piece) → is_open ((condition_pieces c ++ num n ∷ []) ++ ps) ≡ is_open ps
 condition_open Always n ps = refl
-condition_open XZero n ps = refl
-condition_open XDecrement n ps = refl
-condition_open YZero n ps = refl
-condition_open YDecrement n ps = refl
-condition_open XNotY n ps = refl
-condition_open PinHigh n ps = refl
-condition_open OsrNotEmpty n ps = refl
+condition_open c n ps = refl
 
 rel_open : (r : Bool) (ps : List Piece) → is_open (rel_pieces r ++ ps) ≡ is_open ps
 rel_open true ps = refl
@@ -132,8 +126,7 @@ wait_open (Flag i) ps = rel_open i.relative ps
 mov_open : (b : Bool) (d : MovDestination) (o : MovOperation) (s : MovSource) (ps : List Piece) → is_open (mov_pieces b d o s ++ ps) ≡ is_open ps
 mov_open true d o s ps = refl
 mov_open false d Plain s ps = refl
-mov_open false d Invert s ps = refl
-mov_open false d Reverse s ps = refl
+mov_open false d o s ps = refl
 
 operation_open : (op : PioOp) (ps : List Piece) → is_open (operation_pieces op ++ ps) ≡ is_open ps
 operation_open (Jmp c n) ps = condition_open c n ps

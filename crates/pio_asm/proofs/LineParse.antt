@@ -3,17 +3,17 @@ use Rattle.std.proofs.Common.{◌≡◌, ◌==◌, ◌&&◌, not, ℕ, ◌+◌, 
 use Rattle.std.proofs.lemmas.Bool.{eq-eqb}
 use Rattle.pio_words.specs.declared.op.IrqIndex.{IrqIndex}
 use Rattle.pio_words.specs.declared.op.JmpCondition.{JmpCondition}
-use Rattle.pio_words.specs.declared.op.JmpCondition.TheVariants.{Always, XZero, XDecrement, YZero, YDecrement, XNotY, Pin as PinHigh, OsrNotEmpty}
+use Rattle.pio_words.specs.declared.op.JmpCondition.TheVariants.{XDecrement, YDecrement}
 use Rattle.pio_words.specs.declared.op.InSource.{InSource}
-use Rattle.pio_words.specs.declared.op.InSource.TheVariants.{Pins as InPins, X as InX, Y as InY, Null as InNull, Isr as InIsr, Osr as InOsr}
+use Rattle.pio_words.specs.declared.op.InSource.TheVariants.{Pins as InPins}
 use Rattle.pio_words.specs.declared.op.OutDestination.{OutDestination}
-use Rattle.pio_words.specs.declared.op.OutDestination.TheVariants.{Pins as OutPins, X as OutX, Y as OutY, Null as OutNull, Pindirs as OutPindirs, Pc as OutPc, Isr as OutIsr, Exec as OutExec}
+use Rattle.pio_words.specs.declared.op.OutDestination.TheVariants.{Pins as OutPins}
 use Rattle.pio_words.specs.declared.op.MovDestination.{MovDestination}
-use Rattle.pio_words.specs.declared.op.MovDestination.TheVariants.{Pins as ToPins, X as ToX, Y as ToY, Exec as ToExec, Pc as ToPc, Isr as ToIsr, Osr as ToOsr}
+use Rattle.pio_words.specs.declared.op.MovDestination.TheVariants.{Pins as ToPins, Y as ToY}
 use Rattle.pio_words.specs.declared.op.MovSource.{MovSource}
-use Rattle.pio_words.specs.declared.op.MovSource.TheVariants.{Pins as FromPins, X as FromX, Y as FromY, Null as FromNull, Status as FromStatus, Isr as FromIsr, Osr as FromOsr}
+use Rattle.pio_words.specs.declared.op.MovSource.TheVariants.{Pins as FromPins, Y as FromY}
 use Rattle.pio_words.specs.declared.op.SetDestination.{SetDestination}
-use Rattle.pio_words.specs.declared.op.SetDestination.TheVariants.{Pins as SetPins, X as SetX, Y as SetY, Pindirs as SetPindirs}
+use Rattle.pio_words.specs.declared.op.SetDestination.TheVariants.{Pins as SetPins}
 use Rattle.pio_words.specs.declared.op.MovOperation.{MovOperation}
 use Rattle.pio_words.specs.declared.op.MovOperation.TheVariants.{Plain, Invert, Reverse}
 use Rattle.pio_words.specs.declared.op.WaitSource.{WaitSource}
@@ -24,7 +24,7 @@ use Rattle.pio_words.specs.declared.side.SideConfig.{SideConfig}
 use Rattle.pio_words.specs.declared.side.SideDelay.{SideDelay}
 use Rattle.pio_words.specs.Operation.{bit}
 use Rattle.pio_parse.specs.declared.token.Token.{Token}
-use Rattle.pio_parse.specs.declared.token.TokenKind.TheVariants.{LineEnd}
+use Rattle.pio_parse.specs.declared.token.TokenKind.TheVariants.{Keyword as KeywordToken, LineEnd}
 use Rattle.pio_parse.specs.declared.expression.Term.{Term}
 use Rattle.pio_parse.specs.declared.expression.Term.TheVariants.{Number as NumberTerm}
 use Rattle.pio_parse.specs.declared.syntax.Operation.{Operation}
@@ -36,7 +36,7 @@ use Rattle.pio_parse.specs.declared.syntax.Line.{Line}
 use Rattle.source_text.specs.Outcome.{and_then, map_ok}
 use Rattle.pio_parse.specs.descent.Cursor.{Outcome, after_head}
 use Rattle.pio_parse.specs.Tokens.{head_kind}
-use Rattle.pio_parse.specs.Registers.{mov_destination_of_word, mov_source_of_word}
+use Rattle.pio_parse.specs.Registers.{mov_destination_of, mov_source_of}
 use Rattle.pio_parse.specs.descent.Instruction.{is_rel, modified_at}
 use Rattle.pio_parse.specs.descent.Statement.{end_at, line_at}
 use Rattle.pio_parse.proofs.Pieces.{Piece, token_at, tokens_of}
@@ -44,7 +44,7 @@ use Rattle.pio_parse.proofs.Pieces.Piece.{End}
 use Rattle.pio_parse.specs.Words.{keyword_name}
 use Rattle.std.specs.Fmt.{decimal, digits}
 use Rattle.pio_disasm.specs.Text.{is_from_y, is_plain, is_to_y, is_written}
-use Rattle.pio_parse.proofs.Runs.{both}
+use Rattle.pio_parse.proofs.Tests.{both}
 use Rattle.pio_asm.proofs.LinePieces.{delay_if, from_key, instruction_if, instruction_pieces, is_nop, mov_pieces, operation_pieces, rel_pieces, side_pieces, side_set_pieces, tail_pieces, to_key, word_pieces}
 
 abbrev pub number_terms : ℕ → List Term
@@ -82,14 +82,9 @@ same_line : (number : ℕ) → (number == number) ≡ true
 same_line number = eq-eqb number number refl
 
 jmp_parses : (text : List ℕ) (number : ℕ) (c : JmpCondition) (n : ℕ) (rest : List Piece) → Parses text number (operation_pieces (Jmp c n)) (JmpSyntax c (number_terms n)) rest
-jmp_parses text number Always n rest = (_, refl)
-jmp_parses text number XZero n rest = (_, refl)
 jmp_parses text number XDecrement n rest = (9 + length (decimal n), rw (same_line number) refl)
-jmp_parses text number YZero n rest = (_, refl)
 jmp_parses text number YDecrement n rest = (9 + length (decimal n), rw (same_line number) refl)
-jmp_parses text number XNotY n rest = (_, refl)
-jmp_parses text number PinHigh n rest = (_, refl)
-jmp_parses text number OsrNotEmpty n rest = (_, refl)
+jmp_parses text number c n rest = (_, refl)
 
 -- `rel` does not stand here
 abbrev IsNoRel : ℕ → List Piece → Type 0
@@ -122,45 +117,23 @@ irq_parses text number false false i rest h none = let rel = reads_rel number (1
 
 in_parses : (text : List ℕ) (number : ℕ) (s : InSource) (n : ℕ) (rest : List Piece) → Parses text number (operation_pieces (In s n)) (InSyntax s (number_terms n)) rest
 in_parses text number InPins n rest = (_, refl)
-in_parses text number InX n rest = (_, refl)
-in_parses text number InY n rest = (_, refl)
-in_parses text number InNull n rest = (_, refl)
-in_parses text number InIsr n rest = (_, refl)
-in_parses text number InOsr n rest = (_, refl)
+in_parses text number s n rest = (_, refl)
 
 out_parses : (text : List ℕ) (number : ℕ) (d : OutDestination) (n : ℕ) (rest : List Piece) → Parses text number (operation_pieces (Out d n)) (OutSyntax d (number_terms n)) rest
 out_parses text number OutPins n rest = (_, refl)
-out_parses text number OutX n rest = (_, refl)
-out_parses text number OutY n rest = (_, refl)
-out_parses text number OutNull n rest = (_, refl)
-out_parses text number OutPindirs n rest = (_, refl)
-out_parses text number OutPc n rest = (_, refl)
-out_parses text number OutIsr n rest = (_, refl)
-out_parses text number OutExec n rest = (_, refl)
+out_parses text number d n rest = (_, refl)
 
 set_parses : (text : List ℕ) (number : ℕ) (d : SetDestination) (n : ℕ) (rest : List Piece) → Parses text number (operation_pieces (Set d n)) (SetSyntax d (number_terms n)) rest
 set_parses text number SetPins n rest = (_, refl)
-set_parses text number SetX n rest = (_, refl)
-set_parses text number SetY n rest = (_, refl)
-set_parses text number SetPindirs n rest = (_, refl)
+set_parses text number d n rest = (_, refl)
 
-from_named : (s : MovSource) → mov_source_of_word (from_key s) ≡ Some s
+from_named : (s : MovSource) → mov_source_of (KeywordToken (from_key s)) ≡ Some s
 from_named FromPins = refl
-from_named FromX = refl
-from_named FromY = refl
-from_named FromNull = refl
-from_named FromStatus = refl
-from_named FromIsr = refl
-from_named FromOsr = refl
+from_named s = refl
 
-to_named : (d : MovDestination) → mov_destination_of_word (to_key d) ≡ Some d
+to_named : (d : MovDestination) → mov_destination_of (KeywordToken (to_key d)) ≡ Some d
 to_named ToPins = refl
-to_named ToX = refl
-to_named ToY = refl
-to_named ToExec = refl
-to_named ToPc = refl
-to_named ToIsr = refl
-to_named ToOsr = refl
+to_named d = refl
 
 is_y_to : (d : MovDestination) → is_to_y d ≡ true → d ≡ ToY
 is_y_to ToY h = refl

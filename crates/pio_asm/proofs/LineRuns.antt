@@ -3,13 +3,14 @@ use Rattle.std.proofs.Common.{◌≡◌, ◌==◌, ◌&&◌, ℕ, suc, zero, ◌
 use Rattle.std.proofs.lemmas.Bool.Decides.{eqb_tells, nat_tests}
 use Rattle.pio_parse.specs.declared.token.Span.{Span}
 use Rattle.pio_parse.specs.declared.token.Keyword.{Keyword}
-use Rattle.pio_parse.specs.declared.token.Keyword.TheVariants.{Public, Opt, Pindirs, Jmp, Wait, In, Out, Push, Pull, Mov, Irq, Set, Nop, Side, Gpio, Pin, Rel, Pins, X, Y, Null, Isr, Osr, Pc, Exec, Status, IfFull, IfEmpty, Block, NoBlock, NoWait, Clear, Osre}
+use Rattle.pio_parse.specs.declared.token.Keyword.TheVariants.{Public}
 use Rattle.pio_parse.specs.declared.token.TokenKind.TheVariants.{Keyword as KeywordToken, Number}
 use Rattle.source_text.specs.Characters.{digit_of, is_digit, is_word_char}
 use Rattle.source_text.specs.Numbers.{digits_value}
 use Rattle.pio_parse.specs.Words.{keyword_name, number_of, word_kind}
-use Rattle.pio_parse.proofs.Pieces.{IsRun, is_run}
-use Rattle.pio_parse.proofs.Runs.{both}
+use Rattle.pio_parse.specs.Lexical.{is_word}
+use Rattle.pio_parse.proofs.Pieces.{IsRun}
+use Rattle.pio_parse.proofs.Tests.{both}
 use Rattle.std.specs.Fmt.{decimal, digits}
 use Rattle.std.specs.Char.{digit_char}
 use Rattle.std.specs.Option.{option_map}
@@ -17,38 +18,7 @@ use Rattle.pio_disasm.specs.Text.{hex_half}
 
 pub key_run : (keyword : Keyword) → IsRun (keyword_name keyword) (KeywordToken keyword)
 key_run Public = record { run = refl; plain = refl; names = λ span. refl }
-key_run Opt = record { run = refl; plain = refl; names = λ span. refl }
-key_run Pindirs = record { run = refl; plain = refl; names = λ span. refl }
-key_run Jmp = record { run = refl; plain = refl; names = λ span. refl }
-key_run Wait = record { run = refl; plain = refl; names = λ span. refl }
-key_run In = record { run = refl; plain = refl; names = λ span. refl }
-key_run Out = record { run = refl; plain = refl; names = λ span. refl }
-key_run Push = record { run = refl; plain = refl; names = λ span. refl }
-key_run Pull = record { run = refl; plain = refl; names = λ span. refl }
-key_run Mov = record { run = refl; plain = refl; names = λ span. refl }
-key_run Irq = record { run = refl; plain = refl; names = λ span. refl }
-key_run Set = record { run = refl; plain = refl; names = λ span. refl }
-key_run Nop = record { run = refl; plain = refl; names = λ span. refl }
-key_run Side = record { run = refl; plain = refl; names = λ span. refl }
-key_run Gpio = record { run = refl; plain = refl; names = λ span. refl }
-key_run Pin = record { run = refl; plain = refl; names = λ span. refl }
-key_run Rel = record { run = refl; plain = refl; names = λ span. refl }
-key_run Pins = record { run = refl; plain = refl; names = λ span. refl }
-key_run X = record { run = refl; plain = refl; names = λ span. refl }
-key_run Y = record { run = refl; plain = refl; names = λ span. refl }
-key_run Null = record { run = refl; plain = refl; names = λ span. refl }
-key_run Isr = record { run = refl; plain = refl; names = λ span. refl }
-key_run Osr = record { run = refl; plain = refl; names = λ span. refl }
-key_run Pc = record { run = refl; plain = refl; names = λ span. refl }
-key_run Exec = record { run = refl; plain = refl; names = λ span. refl }
-key_run Status = record { run = refl; plain = refl; names = λ span. refl }
-key_run IfFull = record { run = refl; plain = refl; names = λ span. refl }
-key_run IfEmpty = record { run = refl; plain = refl; names = λ span. refl }
-key_run Block = record { run = refl; plain = refl; names = λ span. refl }
-key_run NoBlock = record { run = refl; plain = refl; names = λ span. refl }
-key_run NoWait = record { run = refl; plain = refl; names = λ span. refl }
-key_run Clear = record { run = refl; plain = refl; names = λ span. refl }
-key_run Osre = record { run = refl; plain = refl; names = λ span. refl }
+key_run keyword = record { run = refl; plain = refl; names = λ span. refl }
 
 -- what is tested of each number below n
 abbrev all_below : (ℕ → Bool) → ℕ → Bool
@@ -91,11 +61,11 @@ digits_kind [] n span h e = cc
 digits_kind (c ∷ cs) n span h e = let parts = both (is_digit c) (not_point c) h in rw (no_point c parts.1, parts.0, e) refl
 
 abbrev is_number : List ℕ → ℕ → Bool
-is_number w n = is_run w && (begins_digit w && is_that (number_of w) n)
+is_number w n = is_word w && (begins_digit w && is_that (number_of w) n)
 
 number_run : (w : List ℕ) (n : ℕ) → is_number w n ≡ true → IsRun w (Number n)
 number_run w n h =
-    let a = both (is_run w) (begins_digit w && is_that (number_of w) n) h in
+    let a = both (is_word w) (begins_digit w && is_that (number_of w) n) h in
     let b = both (begins_digit w) (is_that (number_of w) n) a.1 in
     record { run = a.0; plain = refl; names = λ span. digits_kind w n span b.0 (that_is (number_of w) n b.1) }
 
@@ -141,7 +111,7 @@ digit_lt n = omega arith
 half_value : (n : ℕ) → n < 65536 → min 4294967296 ((((0 * 16 + n / 4096 % 16) * 16 + n / 256 % 16) * 16 + n / 16 % 16) * 16 + n % 16) ≡ n
 half_value n lt = omega arith
 
-half_run : (a b c d : ℕ) → is_word_char a ≡ true → is_word_char b ≡ true → is_word_char c ≡ true → is_word_char d ≡ true → is_run (48 ∷ 120 ∷ a ∷ b ∷ c ∷ d ∷ []) ≡ true
+half_run : (a b c d : ℕ) → is_word_char a ≡ true → is_word_char b ≡ true → is_word_char c ≡ true → is_word_char d ≡ true → is_word (48 ∷ 120 ∷ a ∷ b ∷ c ∷ d ∷ []) ≡ true
 half_run a b c d ha hb hc hd = rw (ha, hb, hc, hd) refl
 
 pub hex_run : (n : ℕ) → n < 65536 → IsRun (48 ∷ 120 ∷ hex_half n) (Number n)

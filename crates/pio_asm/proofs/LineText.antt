@@ -4,15 +4,15 @@ use Rattle.pio_words.specs.declared.op.IrqIndex.{IrqIndex}
 use Rattle.pio_words.specs.declared.op.JmpCondition.{JmpCondition}
 use Rattle.pio_words.specs.declared.op.JmpCondition.TheVariants.{Always, XZero, XDecrement, YZero, YDecrement, XNotY, Pin as PinHigh, OsrNotEmpty}
 use Rattle.pio_words.specs.declared.op.InSource.{InSource}
-use Rattle.pio_words.specs.declared.op.InSource.TheVariants.{Pins as InPins, X as InX, Y as InY, Null as InNull, Isr as InIsr, Osr as InOsr}
+use Rattle.pio_words.specs.declared.op.InSource.TheVariants.{Pins as InPins}
 use Rattle.pio_words.specs.declared.op.OutDestination.{OutDestination}
-use Rattle.pio_words.specs.declared.op.OutDestination.TheVariants.{Pins as OutPins, X as OutX, Y as OutY, Null as OutNull, Pindirs as OutPindirs, Pc as OutPc, Isr as OutIsr, Exec as OutExec}
+use Rattle.pio_words.specs.declared.op.OutDestination.TheVariants.{Pins as OutPins}
 use Rattle.pio_words.specs.declared.op.MovDestination.{MovDestination}
 use Rattle.pio_words.specs.declared.op.MovDestination.TheVariants.{Pins as ToPins, X as ToX, Y as ToY, Exec as ToExec, Pc as ToPc, Isr as ToIsr, Osr as ToOsr}
 use Rattle.pio_words.specs.declared.op.MovSource.{MovSource}
-use Rattle.pio_words.specs.declared.op.MovSource.TheVariants.{Pins as FromPins, X as FromX, Y as FromY, Null as FromNull, Status as FromStatus, Isr as FromIsr, Osr as FromOsr}
+use Rattle.pio_words.specs.declared.op.MovSource.TheVariants.{Pins as FromPins}
 use Rattle.pio_words.specs.declared.op.SetDestination.{SetDestination}
-use Rattle.pio_words.specs.declared.op.SetDestination.TheVariants.{Pins as SetPins, X as SetX, Y as SetY, Pindirs as SetPindirs}
+use Rattle.pio_words.specs.declared.op.SetDestination.TheVariants.{Pins as SetPins}
 use Rattle.pio_words.specs.declared.op.MovOperation.{MovOperation}
 use Rattle.pio_words.specs.declared.op.MovOperation.TheVariants.{Plain, Invert, Reverse}
 use Rattle.pio_words.specs.declared.op.WaitSource.{WaitSource}
@@ -51,45 +51,23 @@ wait_is (Flag i) = ap (λ xs. codes "irq " ++ xs) (index_is i)
 
 in_is : (s : InSource) → keyword_name (in_key s) ≡ in_source_name s
 in_is InPins = refl
-in_is InX = refl
-in_is InY = refl
-in_is InNull = refl
-in_is InIsr = refl
-in_is InOsr = refl
+in_is s = refl
 
 out_is : (d : OutDestination) → keyword_name (out_key d) ≡ out_destination_name d
 out_is OutPins = refl
-out_is OutX = refl
-out_is OutY = refl
-out_is OutNull = refl
-out_is OutPindirs = refl
-out_is OutPc = refl
-out_is OutIsr = refl
-out_is OutExec = refl
+out_is d = refl
 
 to_is : (d : MovDestination) → keyword_name (to_key d) ≡ mov_destination_name d
 to_is ToPins = refl
-to_is ToX = refl
-to_is ToY = refl
-to_is ToExec = refl
-to_is ToPc = refl
-to_is ToIsr = refl
-to_is ToOsr = refl
+to_is d = refl
 
 from_is : (s : MovSource) → keyword_name (from_key s) ≡ mov_source_name s
 from_is FromPins = refl
-from_is FromX = refl
-from_is FromY = refl
-from_is FromNull = refl
-from_is FromStatus = refl
-from_is FromIsr = refl
-from_is FromOsr = refl
+from_is s = refl
 
 set_is : (d : SetDestination) → keyword_name (set_key d) ≡ set_destination_name d
 set_is SetPins = refl
-set_is SetX = refl
-set_is SetY = refl
-set_is SetPindirs = refl
+set_is d = refl
 
 -- a first word, a register and a number
 counted_is : (first register : List ℕ) (n : ℕ) → first ++ (register ++ (44 ∷ 32 ∷ (decimal n ++ []))) ≡ ((first ++ register) ++ codes ", ") ++ decimal n

@@ -13,13 +13,13 @@ use Rattle.pio_words.proofs.Unique.{word-unique}
 use Rattle.pio_parse.specs.declared.fault.PioFault.{PioFault}
 use Rattle.source_text.specs.Outcome.{and_then}
 use Rattle.pio_parse.specs.declared.syntax.Statement.{Statement}
-use Rattle.pio_parse.specs.declared.syntax.Statement.TheVariants.{SideSet as SideSetStatement}
+use Rattle.pio_parse.specs.declared.syntax.Statement.TheVariants.{SideSet as SideSetStatement, Word as WordStatement}
 use Rattle.pio_parse.specs.declared.syntax.Line.{Line}
 use Rattle.pio_parse.specs.descent.Parsed.{parsed}
 use Rattle.pio_parse.proofs.Files.{parses_grammar}
 use Rattle.pio_parse.proofs.Pieces.{AreApart, Piece, is_open, joined}
 use Rattle.pio_parse.proofs.Pieces.Piece.{End}
-use Rattle.pio_parse.proofs.Runs.{both}
+use Rattle.pio_parse.proofs.Tests.{both, not_true}
 use Rattle.pio_parse.proofs.PieceLines.{AreLines, all_lines, header, program_parses, source_of_lines, stays}
 use Rattle.pio_disasm.specs.Text.{is_written, source_text}
 use Rattle.pio_asm.specs.declared.plan.Member.{Member}
@@ -32,7 +32,7 @@ use Rattle.pio_asm.specs.Code.{AreWordsOf}
 use Rattle.pio_asm.specs.Assembly.{assembled, lines_from, plan_of}
 use Rattle.pio_asm.specs.Returns.{ReadsBack, SourcesReturn, named_side}
 use Rattle.pio_asm.proofs.Decoded.{has_operation, has_side, small_side}
-use Rattle.pio_asm.proofs.LinePieces.{instruction_if, instruction_pieces, line_pieces, program_lines, side_set_lines}
+use Rattle.pio_asm.proofs.LinePieces.{instruction_if, instruction_pieces, line_pieces, program_lines, side_set_lines, word_pieces}
 use Rattle.pio_asm.proofs.LineText.{source_is}
 use Rattle.pio_asm.proofs.LineApart.{instruction_apart, instruction_open, side_set_apart, side_set_open, word_apart}
 use Rattle.pio_asm.proofs.LineParse.{line_parses, line_with, number_terms, side_set_parses, statement_if, statement_of}
@@ -61,6 +61,17 @@ record IsLineOf (set : Option SideConfig) (word : ℕ) (pieces : List Piece) (st
   stands : StandsFor member word
 
 module _ (side : SideConfig) (set : Option SideConfig) (same : IsSameSide side set) (bits : HasBits set) where
+  word_line : (word : ℕ) → word < 65536 → IsLineOf set word (word_pieces word) (WordStatement (number_terms word)) (WordMember word)
+  word_line word lt = record {
+    apart = λ rest a. word_apart word rest lt a;
+    opened = refl;
+    kept = refl;
+    counted = refl;
+    nameless = λ globals seen. refl;
+    assembles = λ whole globals total number code room. word_assembles whole globals total number set word code lt room;
+    stands = refl;
+  }
+
   written : (word : ℕ) (s : SideDelay) (b : Bool) → word < 65536 → side_at side (word / 256 % 32) ≡ Some s → is_written (operation_of word) ≡ b → IsLineOf set word (instruction_if b (operation_of word) s word) (statement_if b (operation_of word) s word) (member_if b set (operation_of word) s word)
   written word s true lt e h =
       let has = has_operation word h in
@@ -76,26 +87,10 @@ module _ (side : SideConfig) (set : Option SideConfig) (same : IsSameSide side s
         assembles = λ whole globals total number code room. instruction_assembles whole globals total number set (operation_of word) s (word / 8192) (word / 32 % 8) (word % 32) (word / 256 % 32) code has bits there small.0 small.1 room;
         stands = record { is_half = lt; has_operation = has; has_side = there };
       }
-  written word s false lt e h = record {
-    apart = λ rest a. word_apart word rest lt a;
-    opened = refl;
-    kept = refl;
-    counted = refl;
-    nameless = λ globals seen. refl;
-    assembles = λ whole globals total number code room. word_assembles whole globals total number set word code lt room;
-    stands = refl;
-  }
+  written word s false lt e h = word_line word lt
 
   line_of : (word : ℕ) (o : Option SideDelay) → word < 65536 → side_at side (word / 256 % 32) ≡ o → IsLineOf set word (instruction_pieces (operation_of word) o word) (statement_of (operation_of word) o word) (member_of set (operation_of word) o word)
-  line_of word None lt e = record {
-    apart = λ rest a. word_apart word rest lt a;
-    opened = refl;
-    kept = refl;
-    counted = refl;
-    nameless = λ globals seen. refl;
-    assembles = λ whole globals total number code room. word_assembles whole globals total number set word code lt room;
-    stands = refl;
-  }
+  line_of word None lt e = word_line word lt
   line_of word (Some s) lt e = written word s (is_written (operation_of word)) lt e refl
 
 abbrev word_statement : SideConfig → ℕ → Statement
@@ -167,10 +162,6 @@ module _ (side : SideConfig) where
       let none : side.count ≡ 0 = zero_is side.count parts.0 in
       let g = rw (opt, none) at field in g
     where
-      not_true : (b : Bool) → not b ≡ true → b ≡ false
-      not_true true h = cc
-      not_true false h = refl
-
       zero_is : (n : ℕ) → (n == 0) ≡ true → n ≡ 0
       zero_is n h = grind (arith, nat_tests)
 

@@ -2,7 +2,7 @@
 use Rattle.std.proofs.Common.{◌≡◌, List, ℕ, Ok, Err, ap}
 use Rattle.pio_parse.specs.declared.syntax.Source.{Source}
 use Rattle.pio_parse.specs.declared.fault.PioFault.{PioFault}
-use Rattle.pio_parse.specs.declared.fault.PioFault.TheVariants.{Char, Syntax, Memory, Unknown, Twice, Range, Delay, Side, TooLong, Wrap, Origin, NoRoom}
+use Rattle.pio_parse.specs.declared.fault.PioFault.TheVariants.{Char, Syntax, Memory}
 use Rattle.pio_parse.specs.Files.{IsFault, IsSource}
 use Rattle.pio_parse.specs.Files.EarlyFault.{CharAt, SyntaxAt}
 use Rattle.pio_parse.proofs.Readers.{one_answer, reader}
@@ -15,15 +15,7 @@ unfolding plans_of
 early_fault_of bytes (Char line column) h = ap plans_in (one_answer bytes (reader.read bytes) (Err (CharAt (record { line = line; column = column }))) (reader.reads bytes) h)
 early_fault_of bytes (Syntax line column) h = ap plans_in (one_answer bytes (reader.read bytes) (Err (SyntaxAt (record { line = line; column = column }))) (reader.reads bytes) h)
 early_fault_of bytes Memory h = tt
-early_fault_of bytes (Unknown line) h = absurd h
-early_fault_of bytes (Twice line) h = absurd h
-early_fault_of bytes (Range line) h = absurd h
-early_fault_of bytes (Delay line) h = absurd h
-early_fault_of bytes (Side line) h = absurd h
-early_fault_of bytes (TooLong line) h = absurd h
-early_fault_of bytes (Wrap line) h = absurd h
-early_fault_of bytes (Origin line) h = absurd h
-early_fault_of bytes (NoRoom line) h = absurd h
+early_fault_of bytes fault h = absurd h
 
 -- the programs of a source that is read are the file's
 pub plans_of_source : (bytes : List ℕ) (source : Source) → IsSource bytes source → plans_of bytes ≡ assembled source

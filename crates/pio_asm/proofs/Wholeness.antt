@@ -1,62 +1,29 @@
 -- Every program of a source is whole: by the lines that make it, one after another.
-use Rattle.std.proofs.Common.{◌≡◌, ◌⊎◌, ℕ, suc, ◌+◌, ◌-◌, ◌<◌, ◌≤◌, List, [], ◌∷◌, ◌++◌, length, Bool, true, false, Option, None, Some, refl, sym, ap, subst, ◌∙◌, ◌||◌, arith, inl, inr, length-append}
-use Rattle.std.specs.Prelude.{Result, Ok, Err, if◌then◌else◌, is_some, nat_le, nat_lt, unwrap_or, ◌==◌, ◌&&◌, ℤ, pos, negsuc}
+use Rattle.std.proofs.Common.{◌≡◌, ℕ, suc, ◌+◌, ◌-◌, ◌<◌, ◌≤◌, List, [], ◌∷◌, ◌++◌, length, Bool, true, false, Option, None, Some, refl, sym, ap, subst, ◌∙◌, ◌||◌, arith, inl, inr, length-append}
+use Rattle.std.specs.Prelude.{Result, Ok, Err, if◌then◌else◌, is_some, nat_le, unwrap_or, ◌==◌, ◌&&◌, ℤ, pos, negsuc}
 use Rattle.std.proofs.lemmas.Bool.Decides.{nat_tests}
 use Rattle.rp_base.specs.Word.{bit_number}
 use Rattle.pio_words.specs.Operation.{bit}
 use Rattle.pio_words.specs.declared.side.SideConfig.{SideConfig}
 use Rattle.pio_parse.specs.declared.fault.PioFault.{PioFault}
-use Rattle.pio_parse.specs.declared.fault.PioFault.TheVariants.{Unknown, Twice, Range, Delay, Side, TooLong, Wrap as WrapFault, Origin as OriginFault}
 use Rattle.pio_parse.specs.declared.syntax.Statement.{Statement}
-use Rattle.pio_parse.specs.declared.syntax.Statement.TheVariants.{Program, Define, Origin, SideSet, WrapTarget, Wrap, Word, Instruction as InstructionStatement}
+use Rattle.pio_parse.specs.declared.syntax.Statement.TheVariants.{SideSet, WrapTarget, Wrap, Word, Instruction as InstructionStatement}
 use Rattle.pio_parse.specs.declared.syntax.Line.{Line}
 use Rattle.pio_parse.specs.declared.syntax.Source.{Source}
 use Rattle.pio_parse.specs.declared.syntax.SourceProgram.{SourceProgram}
 use Rattle.source_text.specs.Outcome.{map_ok}
-use Rattle.pio_asm.specs.declared.value.Evaluated.{Evaluated}
 use Rattle.pio_asm.specs.declared.plan.Member.{Member}
-use Rattle.pio_asm.specs.declared.plan.Judged.{Judged}
 use Rattle.pio_asm.specs.declared.building.Building.{Building}
-use Rattle.pio_asm.specs.declared.building.Verdict.{Verdict}
 use Rattle.source_text.specs.Symbols.{found, put}
 use Rattle.pio_asm.specs.Symbols.{Names}
 use Rattle.pio_asm.specs.Value.{evaluated}
 use Rattle.pio_asm.specs.Operand.{number_within}
 use Rattle.pio_asm.specs.Plan.{config_of, instruction_in}
-use Rattle.pio_asm.specs.Verdict.{no_fault, verdict_result}
-use Rattle.pio_asm.specs.Step.{checked, definition_value, fitting, instruction_verdict, is_label_twice, is_member, is_origin_fault, is_seen, line_step, misfits, names_of, statement_step, with_label, with_line_names, with_name, word_member}
+use Rattle.pio_asm.specs.Step.{fitting, is_label_twice, is_member, line_step, names_of, with_label, with_line_names, word_member}
 use Rattle.pio_asm.specs.Assembly.{Plan, lines_from, lines_of, nothing_built, plan_of, program_lines, program_plan, programs_from, assembled}
 use Rattle.pio_asm.specs.Code.{AreWordsOf}
 use Rattle.pio_asm.specs.Whole.{IsWhole, AreWhole}
-
--- ---- outcomes
-
-result_cases : {X E : Type 0} (r : Result X E) → ((x : X) × (r ≡ Ok x)) ⊎ ((e : E) × (r ≡ Err e))
-result_cases (Ok x) = inl (x, refl)
-result_cases (Err e) = inr (e, refl)
-
-same_ok : {X E : Type 0} (x y : X) (r : Result X E) → r ≡ Ok x → r ≡ Ok y → y ≡ x
-same_ok x y (Ok z) h k = cc
-same_ok x y (Err e) h k = cc
-
--- a verdict without a fault has no fault of the wrap
-no_wrap : (u t r d s l w o : Bool) (line : ℕ) (x : Unit {0}) → (if u then Err (Unknown line) else if t then Err (Twice line) else if r then Err (Range line) else if d then Err (Delay line) else if s then Err (Side line) else if l then Err (TooLong line) else if w then Err (WrapFault line) else if o then Err (OriginFault line) else Ok tt) ≡ Ok x → w ≡ false
-no_wrap true t r d s l w o line x h = cc
-no_wrap false true r d s l w o line x h = cc
-no_wrap false false true d s l w o line x h = cc
-no_wrap false false false true s l w o line x h = cc
-no_wrap false false false false true l w o line x h = cc
-no_wrap false false false false false true w o line x h = cc
-no_wrap false false false false false false true o line x h = cc
-no_wrap false false false false false false false o line x h = refl
-
-passes : (number : ℕ) (verdict : Verdict) (next got : Building) → checked number verdict next ≡ Ok got → (got ≡ next) × (verdict.wrap ≡ false)
-passes number verdict next got h = elim (result_cases (verdict_result number verdict)) [
-  | inl ok ↦
-      let g : checked number verdict next ≡ Ok next = rw ok.1 refl in
-      (same_ok next got (checked number verdict next) g h, no_wrap verdict.unknown verdict.twice verdict.range verdict.delay verdict.side verdict.too_long verdict.wrap verdict.origin number ok.0 ok.1)
-  | inr bad ↦ let g : checked number verdict next ≡ Err bad.0 = rw bad.1 refl in let i : Err bad.0 ≡ Ok got = sym g ∙ h in cc
-]
+use Rattle.pio_asm.proofs.Accepted.{IsSound, accepted, faults, made, result_cases, same_ok}
 
 -- ---- a program that is built
 
@@ -139,81 +106,26 @@ below_total total n h = grind (arith, nat_tests, h)
 not_zero : (n : ℕ) → (n == 0) ≡ false → n - 1 < n
 not_zero n h = grind (arith, nat_tests, h)
 
-step_keeps : (whole globals : Names) (total number : ℕ) (twice : Bool) (statement : Option Statement) (b next : Building) → statement_step whole globals total number twice statement b ≡ Ok next → Keeps total statement b next
-step_keeps whole globals total number twice None b next h =
-    let e = (passes number (record no_fault { twice = twice }) b next h).0 in
-    rests total None b next refl (ap (λ (x : Building). x.target) e) (ap (λ (x : Building). x.wrap) e) (ap (λ (x : Building). x.code) e) (ap (λ (x : Building). x.side) e)
-step_keeps whole globals total number twice (Some (Program name)) b next h =
-    let e = (passes number (record no_fault { twice = twice }) b next h).0 in
-    rests total (Some (Program name)) b next refl (ap (λ (x : Building). x.target) e) (ap (λ (x : Building). x.wrap) e) (ap (λ (x : Building). x.code) e) (ap (λ (x : Building). x.side) e)
-step_keeps whole globals total number twice (Some (Define name value)) b next h =
-    let v : Evaluated = evaluated b.seen globals value in
-    let verdict : Verdict = record no_fault { unknown = v.unknown; twice = twice || is_seen b.seen globals name; range = v.outside } in
-    let n : Building = record b { seen = with_name globals b.seen name (definition_value v) } in
-    let e = (passes number verdict n next h).0 in
-    rests total (Some (Define name value)) b next refl (ap (λ (x : Building). x.target) e) (ap (λ (x : Building). x.wrap) e) (ap (λ (x : Building). x.code) e) (ap (λ (x : Building). x.side) e)
-step_keeps whole globals total number twice (Some (Origin value)) b next h =
-    let v : Evaluated = evaluated b.seen globals value in
-    let verdict : Verdict = record no_fault { unknown = v.unknown; twice = twice; range = v.outside; origin = is_origin_fault total v.value b } in
-    let n : Building = record b { origin = fitting 0 31 v.value } in
-    let e = (passes number verdict n next h).0 in
-    rests total (Some (Origin value)) b next refl (ap (λ (x : Building). x.target) e) (ap (λ (x : Building). x.wrap) e) (ap (λ (x : Building). x.code) e) (ap (λ (x : Building). x.side) e)
-step_keeps whole globals total number twice (Some (SideSet count opt pindirs)) b next h =
-    let v : Evaluated = evaluated b.seen globals count in
-    let verdict : Verdict = record no_fault { unknown = v.unknown; twice = twice; range = v.outside; side = is_some b.side || nat_lt 0 (length b.code) || misfits 0 (5 - bit opt) v.value } in
-    let n : Building = record b { side = Some (record { count = unwrap_or (fitting 0 (5 - bit opt) v.value) 0; opt = opt; pindirs = pindirs }) } in
-    let e = (passes number verdict n next h).0 in
-    let long : length next.code ≡ length b.code = ap (λ (x : Building). length x.code) e in
+keeps : (whole globals : Names) (total : ℕ) (twice : Bool) (statement : Option Statement) (b : Building) → IsSound (faults whole globals total twice statement b) → Keeps total statement b (made whole globals statement b)
+keeps whole globals total twice (Some (SideSet count opt pindirs)) b sound = record {
+  bounded = λ k. record { target = k.target; wrap = k.wrap; side = λ c is. side_fits opt pindirs (evaluated b.seen globals count).value c is };
+  count = refl;
+}
+keeps whole globals total twice (Some WrapTarget) b sound =
+    let low : length b.code < total = below_total total (length b.code) (or_false (is_some b.target) (nat_le total (length b.code)) sound.wrap) in
     record {
-      bounded = λ k. record {
-        target = λ x is. k.target x (sym (ap (λ (y : Building). y.target) e) ∙ is);
-        wrap = λ x is. let le : x < length b.code = k.wrap x (sym (ap (λ (y : Building). y.wrap) e) ∙ is) in omega (arith, le, long);
-        side = λ c is. side_fits opt pindirs v.value c (sym (ap (λ (y : Building). y.side) e) ∙ is);
-      };
-      count = long;
+      bounded = λ k. record { target = λ x is. let same : x ≡ length b.code = some_is (length b.code) x is in omega (arith, same, low); wrap = k.wrap; side = k.side };
+      count = refl;
     }
-step_keeps whole globals total number twice (Some WrapTarget) b next h =
-    let verdict : Verdict = record no_fault { twice = twice; wrap = is_some b.target || nat_le total (length b.code) } in
-    let n : Building = record b { target = Some (length b.code) } in
-    let p = passes number verdict n next h in
-    let e = p.0 in
-    let long : length next.code ≡ length b.code = ap (λ (x : Building). length x.code) e in
-    let low : length b.code < total = below_total total (length b.code) (or_false (is_some b.target) (nat_le total (length b.code)) p.1) in
+keeps whole globals total twice (Some Wrap) b sound =
+    let low : length b.code - 1 < length b.code = not_zero (length b.code) (or_false (is_some b.wrap) (length b.code == 0) sound.wrap) in
     record {
-      bounded = λ k. record {
-        target = λ x is. let same : x ≡ length b.code = some_is (length b.code) x (sym (ap (λ (y : Building). y.target) e) ∙ is) in omega (arith, same, low);
-        wrap = λ x is. let le : x < length b.code = k.wrap x (sym (ap (λ (y : Building). y.wrap) e) ∙ is) in omega (arith, le, long);
-        side = λ x is. k.side x (sym (ap (λ (y : Building). y.side) e) ∙ is);
-      };
-      count = long;
+      bounded = λ k. record { target = k.target; wrap = λ x is. let same : x ≡ length b.code - 1 = some_is (length b.code - 1) x is in omega (arith, same, low); side = k.side };
+      count = refl;
     }
-step_keeps whole globals total number twice (Some Wrap) b next h =
-    let verdict : Verdict = record no_fault { twice = twice; wrap = is_some b.wrap || length b.code == 0 } in
-    let n : Building = record b { wrap = Some (length b.code - 1) } in
-    let p = passes number verdict n next h in
-    let e = p.0 in
-    let long : length next.code ≡ length b.code = ap (λ (x : Building). length x.code) e in
-    let low : length b.code - 1 < length b.code = not_zero (length b.code) (or_false (is_some b.wrap) (length b.code == 0) p.1) in
-    record {
-      bounded = λ k. record {
-        target = λ x is. k.target x (sym (ap (λ (y : Building). y.target) e) ∙ is);
-        wrap = λ x is. let same : x ≡ length b.code - 1 = some_is (length b.code - 1) x (sym (ap (λ (y : Building). y.wrap) e) ∙ is) in omega (arith, same, low, long);
-        side = λ x is. k.side x (sym (ap (λ (y : Building). y.side) e) ∙ is);
-      };
-      count = long;
-    }
-step_keeps whole globals total number twice (Some (Word value)) b next h =
-    let v : Evaluated = evaluated b.seen globals value in
-    let m : Member = word_member (fitting 0 65535 v.value) in
-    let verdict : Verdict = record no_fault { unknown = v.unknown; twice = twice; range = v.outside || misfits 0 65535 v.value; too_long = nat_le 32 (length b.code) } in
-    let n : Building = record b { code = b.code ++ m ∷ [] } in
-    let e = (passes number verdict n next h).0 in
-    adds total (Some (Word value)) b next m refl (ap (λ (x : Building). x.target) e) (ap (λ (x : Building). x.wrap) e) (ap (λ (x : Building). x.code) e) (ap (λ (x : Building). x.side) e)
-step_keeps whole globals total number twice (Some (InstructionStatement instruction)) b next h =
-    let j : Judged = instruction_in whole globals b.side instruction in
-    let n : Building = record b { code = b.code ++ j.member ∷ [] } in
-    let e = (passes number (instruction_verdict twice (nat_le 32 (length b.code)) j) n next h).0 in
-    adds total (Some (InstructionStatement instruction)) b next j.member refl (ap (λ (x : Building). x.target) e) (ap (λ (x : Building). x.wrap) e) (ap (λ (x : Building). x.code) e) (ap (λ (x : Building). x.side) e)
+keeps whole globals total twice (Some (Word value)) b sound = adds total (Some (Word value)) b _ (word_member (fitting 0 65535 (evaluated b.seen globals value).value)) refl refl refl refl refl
+keeps whole globals total twice (Some (InstructionStatement instruction)) b sound = adds total (Some (InstructionStatement instruction)) b _ (instruction_in whole globals b.side instruction).member refl refl refl refl refl
+keeps whole globals total twice statement b sound = rests total statement b (made whole globals statement b) refl refl refl refl refl
 
 -- a label changes neither code nor wrap nor side-set
 abbrev labelled : Names → Line → Building → Building
@@ -242,7 +154,8 @@ built whole globals total [] b final h =
 built whole globals total (line ∷ lines) b final h = elim (result_cases (line_step whole globals total line b)) [
   | inl ok ↦
       let g : lines_from whole globals total (line ∷ lines) b ≡ lines_from whole globals total lines ok.0 = rw ok.1 refl in
-      let here = step_keeps whole globals total line.number (is_label_twice globals line.label b.seen) line.statement (labelled globals line b) ok.0 ok.1 in
+      let line_is = accepted whole globals total line.number (is_label_twice globals line.label b.seen) line.statement (labelled globals line b) ok.0 ok.1 in
+      let here = subst (λ (next : Building). Keeps total line.statement (labelled globals line b) next) (sym line_is.1) (keeps whole globals total (is_label_twice globals line.label b.seen) line.statement (labelled globals line b) line_is.0) in
       let rest = built whole globals total lines ok.0 final (sym g ∙ h) in
       record {
         bounded = λ k. rest.bounded (here.bounded (labelled_bounded globals total line b k));

@@ -1,7 +1,6 @@
 -- At the front of characters stands a lexeme, or none: so each file has its tokens or its first fault, and no other.
 use Rattle.std.proofs.Common.{◌≡◌, ◌==◌, ◌&&◌, ◌||◌, ℕ, zero, suc, ◌+◌, ◌<◌, ◌≤◌, Bool, true, false, List, [], ◌∷◌, ◌++◌, length, Option, None, Some, Result, Ok, Err, append_assoc, length-append, ◌⊎◌, inl, inr, arith, refl, sym, ap, ◌∙◌, subst}
 use Rattle.std.proofs.lemmas.Bool.{cases_Bool}
-use Rattle.std.proofs.lemmas.Bool.Decides.{eqb_tells}
 use Rattle.source_text.specs.declared.position.SourcePosition.{SourcePosition}
 use Rattle.pio_parse.specs.declared.token.Token.{Token}
 use Rattle.pio_parse.specs.declared.token.TokenKind.{TokenKind}
@@ -9,15 +8,14 @@ use Rattle.pio_parse.specs.declared.token.TokenKind.TheVariants.{Comma, Colon, D
 use Rattle.source_text.specs.Characters.{is_word_char}
 use Rattle.pio_parse.specs.descent.Scan.{scanned}
 use Rattle.pio_parse.specs.Lexical.{AreLexemes, IsCharFaultAt, IsLexed, IsLexeme, IsMisplaced, StopsAt, are_word_chars, begins_by, ends_line, ends_word, has_name, is_option, is_word, lacks, lacks_pair, tokens_at, word_at}
-use Rattle.source_text.specs.Position.{moved, past}
+use Rattle.source_text.specs.Position.{first_position, moved, past}
 use Rattle.pio_parse.specs.Lexical.IsLexeme.{space, tab, carriage_return, line_end, comma, open_bracket, close_bracket, open_parenthesis, close_parenthesis, plus, minus, star, tilde, colon, double_colon, bang, not_equal, word, option, semicolon, slashes, comment, code_block}
 use Rattle.pio_parse.specs.Lexical.AreLexemes.{nothing, lexeme}
 use Rattle.pio_parse.specs.Lexical.IsMisplaced.{other, slash, open_comment, percent, open_block}
 use Rattle.pio_parse.specs.Lexical.StopsAt.{none_here, after_lexeme}
 use Rattle.pio_parse.specs.Laws.{CharFaultsAtFirst, LexesExactly}
-use Rattle.pio_parse.proofs.Runs.{both}
-use Rattle.pio_parse.proofs.Lexemes.{reads_lexemes}
-use Rattle.pio_parse.proofs.Misplaced.{neither, reads_stop}
+use Rattle.pio_parse.proofs.Tests.{both, first_of, is_or, neither}
+use Rattle.pio_parse.proofs.Lexemes.{reads_lexemes, reads_stop}
 
 -- a lexeme at the front of characters
 record Split (index : ℕ) (all : List ℕ) : Type 0 where
@@ -81,13 +79,8 @@ pair_here : (a b c : ℕ) (cs : List ℕ) → ((c == a) && begins_by b cs) ≡ t
 pair_here a b c [] h = let q : false ≡ true = sym (and_false (c == a)) ∙ h in absurd cc
 pair_here a b c (d ∷ ds) h =
     let parts = both (c == a) (d == b) h in
-    elim (eqb_tells c a) [
-      | inl e ↦ elim (eqb_tells d b) [
-        | inl f ↦ record { body = []; rest = ds; whole = ap (λ x. x ∷ b ∷ ds) (sym e.1) ∙ ap (λ x. c ∷ x ∷ ds) (sym f.1); lack = rw (and_false (a == a)) refl }
-        | inr f ↦ let no = f.0 in let yes = parts.1 in absurd cc
-      ]
-      | inr e ↦ let no = e.0 in let yes = parts.0 in absurd cc
-    ]
+    let here : PairSpan a b (a ∷ b ∷ ds) = record { body = []; rest = ds; whole = refl; lack = rw (and_false (a == a)) refl } in
+    is_or (λ c. PairSpan a b (c ∷ d ∷ ds)) c a (is_or (λ d. PairSpan a b (a ∷ d ∷ ds)) d b here (λ no. let yes = parts.1 in absurd cc)) (λ no. let yes = parts.0 in absurd cc)
 
 begins_same : (b a : ℕ) (body rest : List ℕ) → begins_by b ((body ++ a ∷ b ∷ []) ++ rest) ≡ begins_by b (body ++ a ∷ [])
 begins_same b a [] rest = refl
@@ -132,10 +125,6 @@ name_span (c ∷ cs) = name_more c cs ((c == 37 || c == 10) || c == 123) refl (n
 abbrev Front : ℕ → List ℕ → Type 0
 Front index all = Split index all ⊎ IsMisplaced all
 
-first_of : (a b : Bool) → b ≡ false → (a || b) ≡ true → a ≡ true
-first_of true b h k = refl
-first_of false b h k = let q : false ≡ true = sym h ∙ k in absurd cc
-
 block_front : (index : ℕ) (name rest : List ℕ) → lacks 37 name ≡ true → lacks 10 name ≡ true → lacks 123 name ≡ true → has_name name ≡ true
     → PairSpan 37 125 rest ⊎ (lacks_pair 37 125 rest ≡ true) → Front index (37 ∷ (name ++ 123 ∷ rest))
 block_front index name rest a b d h (inl s) =
@@ -145,29 +134,20 @@ block_front index name rest a b d h (inr l) = inr (open_block name rest a b d h 
 
 percent_front : (index : ℕ) (name rest : List ℕ) → lacks 37 name ≡ true → lacks 10 name ≡ true → lacks 123 name ≡ true → stops rest ≡ true → Front index (37 ∷ (name ++ rest))
 percent_front index name [] a b d h = inr (percent name [] a b d refl)
-percent_front index name (c ∷ cs) a b d h = elim (eqb_tells c 123) [
-  | inl e ↦ subst (λ (c : ℕ). Front index (37 ∷ (name ++ c ∷ cs))) (sym e.1) (elim (cases_Bool (has_name name)) [
-    | inl named ↦ block_front index name cs a b d named (pair_span 37 125 cs)
-    | inr unnamed ↦ inr (percent name (123 ∷ cs) a b d (rw unnamed refl))
-  ])
-  | inr e ↦
-      let bad = first_of (c == 37 || c == 10) (c == 123) e.0 h in
-      inr (percent name (c ∷ cs) a b d (rw bad refl))
-]
+percent_front index name (c ∷ cs) a b d h = is_or (λ c. Front index (37 ∷ (name ++ c ∷ cs))) c 123
+    (elim (cases_Bool (has_name name)) [
+      | inl named ↦ block_front index name cs a b d named (pair_span 37 125 cs)
+      | inr unnamed ↦ inr (percent name (123 ∷ cs) a b d (rw unnamed refl))
+    ])
+    (λ no. let bad = first_of (c == 37 || c == 10) (c == 123) no h in inr (percent name (c ∷ cs) a b d (rw bad refl)))
 
 colon_front : (index : ℕ) (cs : List ℕ) → Split index (58 ∷ cs)
 colon_front index [] = one index 58 [] (Some Colon) (colon refl)
-colon_front index (d ∷ ds) = elim (eqb_tells d 58) [
-  | inl e ↦ subst (λ (d : ℕ). Split index (58 ∷ d ∷ ds)) (sym e.1) (split index (58 ∷ 58 ∷ []) ds (Some DoubleColon) (58 ∷ 58 ∷ ds) double_colon refl (omega arith))
-  | inr e ↦ one index 58 (d ∷ ds) (Some Colon) (colon (e.0))
-]
+colon_front index (d ∷ ds) = is_or (λ d. Split index (58 ∷ d ∷ ds)) d 58 (split index (58 ∷ 58 ∷ []) ds (Some DoubleColon) (58 ∷ 58 ∷ ds) double_colon refl (omega arith)) (λ no. one index 58 (d ∷ ds) (Some Colon) (colon no))
 
 bang_front : (index : ℕ) (cs : List ℕ) → Split index (33 ∷ cs)
 bang_front index [] = one index 33 [] (Some Bang) (bang refl)
-bang_front index (d ∷ ds) = elim (eqb_tells d 61) [
-  | inl e ↦ subst (λ (d : ℕ). Split index (33 ∷ d ∷ ds)) (sym e.1) (split index (33 ∷ 61 ∷ []) ds (Some NotEqual) (33 ∷ 61 ∷ ds) not_equal refl (omega arith))
-  | inr e ↦ one index 33 (d ∷ ds) (Some Bang) (bang (e.0))
-]
+bang_front index (d ∷ ds) = is_or (λ d. Split index (33 ∷ d ∷ ds)) d 61 (split index (33 ∷ 61 ∷ []) ds (Some NotEqual) (33 ∷ 61 ∷ ds) not_equal refl (omega arith)) (λ no. one index 33 (d ∷ ds) (Some Bang) (bang no))
 
 slashes_front : (index : ℕ) (cs : List ℕ) → LineSpan cs → Split index (47 ∷ 47 ∷ cs)
 slashes_front index cs s = split index (47 ∷ 47 ∷ s.line) s.rest None (47 ∷ 47 ∷ cs) (slashes s.lack s.ends) (ap (λ xs. 47 ∷ 47 ∷ xs) s.whole) (omega arith)
@@ -178,13 +158,8 @@ comment_front index cs (inr l) = inr (open_comment l)
 
 slash_front : (index : ℕ) (cs : List ℕ) → Front index (47 ∷ cs)
 slash_front index [] = inr (slash refl refl)
-slash_front index (d ∷ ds) = elim (eqb_tells d 47) [
-  | inl e ↦ subst (λ (d : ℕ). Front index (47 ∷ d ∷ ds)) (sym e.1) (inl (slashes_front index ds (line_span ds)))
-  | inr n ↦ elim (eqb_tells d 42) [
-    | inl e ↦ subst (λ (d : ℕ). Front index (47 ∷ d ∷ ds)) (sym e.1) (comment_front index ds (pair_span 42 47 ds))
-    | inr m ↦ inr (slash (n.0) (m.0))
-  ]
-]
+slash_front index (d ∷ ds) = is_or (λ d. Front index (47 ∷ d ∷ ds)) d 47 (inl (slashes_front index ds (line_span ds)))
+    (λ no. is_or (λ d. Front index (47 ∷ d ∷ ds)) d 42 (comment_front index ds (pair_span 42 47 ds)) (λ none. inr (slash no none)))
 
 semicolon_front : (index : ℕ) (cs : List ℕ) → LineSpan cs → Split index (59 ∷ cs)
 semicolon_front index cs s = split index (59 ∷ s.line) s.rest None (59 ∷ cs) (semicolon s.lack s.ends) (ap (λ xs. 59 ∷ xs) s.whole) (omega arith)
@@ -209,83 +184,30 @@ word_front index c cs h s =
 -- a lexeme stands at the front, or none
 front : (index c : ℕ) (cs : List ℕ) → Front index (c ∷ cs)
 front index c cs =
-    elim (eqb_tells c 32) [
-      | inl e ↦ subst (λ (c : ℕ). Front index (c ∷ cs)) (sym e.1) (inl (one index 32 cs None space))
-      | inr n32 ↦
-          elim (eqb_tells c 9) [
-            | inl e ↦ subst (λ (c : ℕ). Front index (c ∷ cs)) (sym e.1) (inl (one index 9 cs None tab))
-            | inr n9 ↦
-                elim (eqb_tells c 13) [
-                  | inl e ↦ subst (λ (c : ℕ). Front index (c ∷ cs)) (sym e.1) (inl (one index 13 cs None carriage_return))
-                  | inr n13 ↦
-                      elim (eqb_tells c 10) [
-                        | inl e ↦ subst (λ (c : ℕ). Front index (c ∷ cs)) (sym e.1) (inl (one index 10 cs (Some LineEnd) line_end))
-                        | inr n10 ↦
-                            elim (eqb_tells c 44) [
-                              | inl e ↦ subst (λ (c : ℕ). Front index (c ∷ cs)) (sym e.1) (inl (one index 44 cs (Some Comma) comma))
-                              | inr n44 ↦
-                                  elim (eqb_tells c 91) [
-                                    | inl e ↦ subst (λ (c : ℕ). Front index (c ∷ cs)) (sym e.1) (inl (one index 91 cs (Some OpenBracket) open_bracket))
-                                    | inr n91 ↦
-                                        elim (eqb_tells c 93) [
-                                          | inl e ↦ subst (λ (c : ℕ). Front index (c ∷ cs)) (sym e.1) (inl (one index 93 cs (Some CloseBracket) close_bracket))
-                                          | inr n93 ↦
-                                              elim (eqb_tells c 40) [
-                                                | inl e ↦ subst (λ (c : ℕ). Front index (c ∷ cs)) (sym e.1) (inl (one index 40 cs (Some OpenParenthesis) open_parenthesis))
-                                                | inr n40 ↦
-                                                    elim (eqb_tells c 41) [
-                                                      | inl e ↦ subst (λ (c : ℕ). Front index (c ∷ cs)) (sym e.1) (inl (one index 41 cs (Some CloseParenthesis) close_parenthesis))
-                                                      | inr n41 ↦
-                                                          elim (eqb_tells c 43) [
-                                                            | inl e ↦ subst (λ (c : ℕ). Front index (c ∷ cs)) (sym e.1) (inl (one index 43 cs (Some Plus) plus))
-                                                            | inr n43 ↦
-                                                                elim (eqb_tells c 45) [
-                                                                  | inl e ↦ subst (λ (c : ℕ). Front index (c ∷ cs)) (sym e.1) (inl (one index 45 cs (Some Minus) minus))
-                                                                  | inr n45 ↦
-                                                                      elim (eqb_tells c 42) [
-                                                                        | inl e ↦ subst (λ (c : ℕ). Front index (c ∷ cs)) (sym e.1) (inl (one index 42 cs (Some Star) star))
-                                                                        | inr n42 ↦
-                                                                            elim (eqb_tells c 126) [
-                                                                              | inl e ↦ subst (λ (c : ℕ). Front index (c ∷ cs)) (sym e.1) (inl (one index 126 cs (Some Tilde) tilde))
-                                                                              | inr n126 ↦
-                                                                                  elim (eqb_tells c 58) [
-                                                                                    | inl e ↦ subst (λ (c : ℕ). Front index (c ∷ cs)) (sym e.1) (inl (colon_front index cs))
-                                                                                    | inr n58 ↦
-                                                                                        elim (eqb_tells c 33) [
-                                                                                          | inl e ↦ subst (λ (c : ℕ). Front index (c ∷ cs)) (sym e.1) (inl (bang_front index cs))
-                                                                                          | inr n33 ↦
-                                                                                              elim (eqb_tells c 47) [
-                                                                                                | inl e ↦ subst (λ (c : ℕ). Front index (c ∷ cs)) (sym e.1) (slash_front index cs)
-                                                                                                | inr n47 ↦
-                                                                                                    elim (eqb_tells c 59) [
-                                                                                                      | inl e ↦ subst (λ (c : ℕ). Front index (c ∷ cs)) (sym e.1) (inl (semicolon_front index cs (line_span cs)))
-                                                                                                      | inr n59 ↦
-                                                                                                          elim (eqb_tells c 37) [
-                                                                                                            | inl e ↦ subst (λ (c : ℕ). Front index (c ∷ cs)) (sym e.1) (block_or_not index cs (name_span cs))
-                                                                                                            | inr n37 ↦
-                                                                                                                elim (cases_Bool (is_word_char c || c == 46)) [
-                                                                                                                  | inl w ↦ inl (word_front index c cs w (word_span cs))
-                                                                                                                  | inr w ↦
-                                                                                                                      let none = neither (is_word_char c) (c == 46) w in
-                                                                                                                      inr (other (none.0) (rw (n32.0, n9.0, n13.0, n10.0, n58.0, n33.0, n47.0, n59.0, n37.0, none.1, n44.0, n91.0, n93.0, n40.0, n41.0, n43.0, n45.0, n42.0, n126.0) refl))
-                                                                                                                ]
-                                                                                                          ]
-                                                                                                    ]
-                                                                                              ]
-                                                                                        ]
-                                                                                  ]
-                                                                            ]
-                                                                      ]
-                                                                ]
-                                                          ]
-                                                    ]
-                                              ]
-                                        ]
-                                  ]
-                            ]
-                      ]
-                ]
-          ]
+    let here = λ (k : ℕ) (found : Front index (k ∷ cs)) (no : (c == k) ≡ false → Front index (c ∷ cs)). is_or (λ c. Front index (c ∷ cs)) c k found no in
+    here 32 (inl (one index 32 cs None space)) λ n32.
+    here 9 (inl (one index 9 cs None tab)) λ n9.
+    here 13 (inl (one index 13 cs None carriage_return)) λ n13.
+    here 10 (inl (one index 10 cs (Some LineEnd) line_end)) λ n10.
+    here 44 (inl (one index 44 cs (Some Comma) comma)) λ n44.
+    here 91 (inl (one index 91 cs (Some OpenBracket) open_bracket)) λ n91.
+    here 93 (inl (one index 93 cs (Some CloseBracket) close_bracket)) λ n93.
+    here 40 (inl (one index 40 cs (Some OpenParenthesis) open_parenthesis)) λ n40.
+    here 41 (inl (one index 41 cs (Some CloseParenthesis) close_parenthesis)) λ n41.
+    here 43 (inl (one index 43 cs (Some Plus) plus)) λ n43.
+    here 45 (inl (one index 45 cs (Some Minus) minus)) λ n45.
+    here 42 (inl (one index 42 cs (Some Star) star)) λ n42.
+    here 126 (inl (one index 126 cs (Some Tilde) tilde)) λ n126.
+    here 58 (inl (colon_front index cs)) λ n58.
+    here 33 (inl (bang_front index cs)) λ n33.
+    here 47 (slash_front index cs) λ n47.
+    here 59 (inl (semicolon_front index cs (line_span cs))) λ n59.
+    here 37 (block_or_not index cs (name_span cs)) λ n37.
+    elim (cases_Bool (is_word_char c || c == 46)) [
+      | inl w ↦ inl (word_front index c cs w (word_span cs))
+      | inr w ↦
+          let none = neither (is_word_char c) (c == 46) w in
+          inr (other none.0 (rw (n32, n9, n13, n10, n58, n33, n47, n59, n37, none.1, n44, n91, n93, n40, n41, n43, n45, n42, n126) refl))
     ]
 
 -- characters are lexemes to their end, or up to a position where none stands
@@ -309,7 +231,7 @@ whole zero index position (c ∷ cs) le = absurd (omega arith)
 whole (suc n) index position (c ∷ cs) le = whole_by n index position (c ∷ cs) le (λ index position chars le. whole n index position chars le) (front index c cs)
 
 abbrev all_of : List ℕ → List Token → List Token
-all_of text tokens = tokens ++ record { kind = FileEnd; position = past (record { line = 1; column = 1 }) (record { line = 1; column = 1 }) text } ∷ []
+all_of text tokens = tokens ++ record { kind = FileEnd; position = past first_position first_position text } ∷ []
 
 same_tokens : (outcome : Result (List Token) SourcePosition) (xs ys : List Token) → outcome ≡ Ok xs → outcome ≡ Ok ys → xs ≡ ys
 same_tokens (Ok zs) xs ys h k = cc
@@ -323,17 +245,17 @@ not_both : (outcome : Result (List Token) SourcePosition) (xs : List Token) (p :
 not_both (Ok zs) xs p h k = cc
 not_both (Err position) xs p h k = cc
 
-lexed_of : (text : List ℕ) (tokens : List Token) → scanned text ≡ Ok tokens → Whole 0 (record { line = 1; column = 1 }) text → IsLexed text tokens
+lexed_of : (text : List ℕ) (tokens : List Token) → scanned text ≡ Ok tokens → Whole 0 first_position text → IsLexed text tokens
 lexed_of text tokens h (inl w) = (w.0, w.1, same_tokens (scanned text) tokens (all_of text w.0) h (reads_lexemes text (all_of text w.0) (w.0, w.1, refl)))
 lexed_of text tokens h (inr w) = absurd (not_both (scanned text) tokens w.0 h (reads_stop text w.0 w.1))
 
-fault_of : (text : List ℕ) (position : SourcePosition) → scanned text ≡ Err position → Whole 0 (record { line = 1; column = 1 }) text → IsCharFaultAt text position
+fault_of : (text : List ℕ) (position : SourcePosition) → scanned text ≡ Err position → Whole 0 first_position text → IsCharFaultAt text position
 fault_of text position h (inl w) = absurd (not_both (scanned text) (all_of text w.0) position (reads_lexemes text (all_of text w.0) (w.0, w.1, refl)) h)
 fault_of text position h (inr w) =
     subst (λ (p : SourcePosition). IsCharFaultAt text p) (same_position (scanned text) w.0 position (reads_stop text w.0 w.1) h) w.1
 
 pub lexes_exactly : LexesExactly
-lexes_exactly text tokens = (λ h. lexed_of text tokens h (whole (length text) 0 (record { line = 1; column = 1 }) text (omega arith)), λ is. reads_lexemes text tokens is)
+lexes_exactly text tokens = (λ h. lexed_of text tokens h (whole (length text) 0 first_position text (omega arith)), λ is. reads_lexemes text tokens is)
 
 pub char_faults_at_first : CharFaultsAtFirst
-char_faults_at_first text position = (λ h. fault_of text position h (whole (length text) 0 (record { line = 1; column = 1 }) text (omega arith)), λ is. reads_stop text position is)
+char_faults_at_first text position = (λ h. fault_of text position h (whole (length text) 0 first_position text (omega arith)), λ is. reads_stop text position is)

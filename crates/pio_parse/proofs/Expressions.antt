@@ -16,15 +16,15 @@ use Rattle.pio_parse.specs.Grammar.IsSum.{product}
 use Rattle.pio_parse.specs.Grammar.IsProduct.{operand}
 use Rattle.pio_parse.specs.Grammar.IsOperand.{number as number_operand}
 use Rattle.pio_parse.specs.Laws.{ends_line}
-use Rattle.pio_parse.proofs.Runs.{both}
-use Rattle.pio_parse.proofs.Finds.{finds_tree, is_none_left, reads, refused}
+use Rattle.pio_parse.proofs.Tests.{both, err_is, not_true, refused}
+use Rattle.pio_parse.proofs.Finds.{finds_tree, is_none_left, reads}
 use Rattle.pio_parse.proofs.Extents.{Refusal, extent, ends_sum, none_ends, refusal}
 use Rattle.pio_parse.specs.GrammarLaws.{is_line}
 use Rattle.pio_parse.specs.Lines.{IsValue}
 use Rattle.pio_parse.specs.Lines.IsValue.{number, name, parentheses}
-use Rattle.pio_parse.proofs.Reading.{Answer, Can, Good, IsOne, Move, Reads, Refused, Rest, Then, bind, can_after, good, good_to, line_inside, not_true, one_reads, reads_map, reads_then, reads_to, refused_same, token_of}
+use Rattle.pio_parse.proofs.Reading.{Answer, Can, Good, IsOne, Reads, Refused, Rest, Step, Then, bind, can_after, choose, line_inside, one_reads, reads_map, reads_then, reads_to, refused_same, token_of}
 use Rattle.pio_parse.proofs.Reading.IsOne.{one}
-use Rattle.pio_parse.proofs.Reading.Move.{misfits, shifts}
+use Rattle.pio_parse.proofs.Reading.Step.{misfit_here, shift, take}
 
 -- a sum with these terms
 pub data IsTerms (text : List ℕ) : List Token → List Term → List Token → Type 0 where
@@ -102,15 +102,8 @@ module _ (text : List ℕ) (k : List Term → Rest) (S : List Term → List Toke
   inside_refused tokens position r = subst (λ tokens. Refused all position tokens) (sym r.whole) (refused_after all position r.before (r.token ∷ r.after)
       (inl (r.at, can_on (λ xs. all (r.before ++ xs)) r.ends r.terms r.inside (λ first further h. ap (bind k) (r.goes first further h)), λ further. ap (bind k) (r.stays further))))
 
-  position_of : {p position : SourcePosition} → Path (Outcome Answer) (Err p) (Err position) → p ≡ position
-  position_of {position = position} q = ap part q
-    where
-      part : Outcome Answer → SourcePosition
-      part (Ok x) = position
-      part (Err p) = p
-
   refuses_by : (tokens : List Token) (position : SourcePosition) → is_line tokens ≡ true → (outcome : Outcome (List Term)) → expression_at text tokens ≡ outcome → bind k outcome ≡ Err position → Refused all position tokens
-  refuses_by tokens position line (Err p) is q = inside_refused tokens position (refusal text tokens position (ends_of_line tokens line) (is ∙ ap Err (position_of q)))
+  refuses_by tokens position line (Err p) is q = inside_refused tokens position (refusal text tokens position (ends_of_line tokens line) (is ∙ ap Err (err_is q)))
   refuses_by tokens position line (Ok (found, rest)) is q =
       let e = extent text tokens found rest is in
       let over = (finds_tree text tokens found rest is).1.1 in
@@ -162,21 +155,14 @@ module _ (text : List ℕ) where
 
   inner_reads : Reads true inner IsInner
   inner_reads = reads_to IsInner (reads_then (λ x tokens. map_ok (λ close. (x, close.1)) (expected (is_close_parenthesis (head_kind tokens)) tokens)) (expression_reads text)
-      (λ x. reads_map (λ u. x) (one_reads is_close_parenthesis refl refl true CloseParenthesis refl (λ yes. refl)))) inner_is
+      (λ x. reads_map (λ u. x) (one_reads is_close_parenthesis refl refl CloseParenthesis refl (λ yes. refl)))) inner_is
 
-  module _ (k : List Term → Rest) (S : List Term → List Token → Answer → List Token → Type 0) (goods : (x : List Term) → Good true (k x) (S x)) where
-    value_move : (kind : TokenKind) (position : SourcePosition) → Move kind position (λ tokens. bind k (operand_of_kind text kind tokens)) (Then (IsValue text) S)
-    value_move (Number n) position = shifts (k (NumberTerm n ∷ [])) (good_to _ (goods _) (λ tokens answer rest s token is at. (_, tokens, number is, s))) refl (λ tokens. refl)
-    value_move (Name span) position = shifts (k (NameTerm (name_at text span) ∷ [])) (good_to _ (goods _) (λ tokens answer rest s token is at. (_, tokens, name is, s))) refl (λ tokens. refl)
-    value_move OpenParenthesis position = shifts (λ tokens. bind k (inner tokens)) (good_to _ (inner_reads.good k S goods) turn) refl (λ tokens. refl)
-      where
-        turn : (tokens : List Token) (answer : Answer) (rest : List Token) → Then IsInner S tokens answer rest → (token : Token) → token.kind ≡ OpenParenthesis → token.position ≡ position → Then (IsValue text) S (token ∷ tokens) answer rest
-        turn tokens answer rest (x, middle, is_inner, s) token is at = (x, middle, is_inner token is, s)
-    value_move kind position = misfits (λ tokens. refl)
+  abbrev value_step : (kind : TokenKind) (position : SourcePosition) → Step kind position (operand_of_kind text kind) (IsValue text)
+  value_step (Number n) position = take (NumberTerm n ∷ []) (λ token rest is. number is) refl (λ tokens. refl)
+  value_step (Name span) position = take (NameTerm (name_at text span) ∷ []) (λ token rest is. name is) refl (λ tokens. refl)
+  value_step OpenParenthesis position = shift (reads_to _ inner_reads (λ tokens value rest is token k at. is token k)) refl (λ tokens. refl)
+  value_step kind position = misfit_here (λ tokens. refl)
 
   -- value
   pub value_reads : Reads true (operand_at text) (IsValue text)
-  value_reads = record {
-    good = λ k S goods. good true (λ kind position tokens. bind k (operand_of_kind text kind tokens)) (Then (IsValue text) S)
-        (value_move k S goods) (can_after _ (k (NumberTerm 0 ∷ [])) (token_of (Number 0)) (λ tokens. refl) refl (goods (NumberTerm 0 ∷ [])).can) (λ yes. refl);
-  }
+  value_reads = choose (λ kind position. operand_of_kind text kind) _ value_step (token_of (Number 0)) refl (λ yes. refl)

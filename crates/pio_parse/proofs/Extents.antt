@@ -1,11 +1,14 @@
 -- How far an expression goes: before whatever ends it, it is the same, and where it is refused it could have come to an end.
-use Rattle.std.proofs.Common.{◌≡◌, ◌==◌, ◌&&◌, not, Bool, true, false, if◌then◌else◌, ℕ, zero, suc, List, [], ◌∷◌, ◌++◌, Option, Some, None, Result, Ok, Err, refl, sym, ap, ◌∙◌, subst}
+use Rattle.std.proofs.Common.{◌≡◌, ◌==◌, ◌&&◌, not, Bool, true, false, if◌then◌else◌, ℕ, zero, suc, ◌-◌, List, [], ◌∷◌, ◌++◌, Option, Some, None, Result, Ok, Err, arith, refl, sym, ap, ◌∙◌, subst}
 use mathlib.Core.Bool.{false≢true}
+use Rattle.std.specs.Prelude.{⊤}
 use Rattle.source_text.specs.declared.position.SourcePosition.{SourcePosition}
 use Rattle.pio_parse.specs.declared.token.Token.{Token}
 use Rattle.pio_parse.specs.declared.token.TokenKind.{TokenKind}
-use Rattle.pio_parse.specs.declared.token.TokenKind.TheVariants.{Number, CloseParenthesis, Plus, Minus, Star}
-use Rattle.pio_parse.specs.descent.Expression.{Pending, Reading, after_newest, expression_at, expression_from, nothing_read, operand_step, operator_step, reduced, token_step}
+use Rattle.pio_parse.specs.declared.token.TokenKind.TheVariants.{Name, Number, DoubleColon, OpenParenthesis, CloseParenthesis, Plus, Minus, Star, LineEnd, FileEnd}
+use Rattle.pio_parse.specs.declared.expression.Pending.{Pending}
+use Rattle.pio_parse.specs.declared.expression.Reading.{Reading}
+use Rattle.pio_parse.specs.descent.Expression.{after_newest, expression_at, expression_from, nothing_read, operand_step, operator_step, reduced, token_step}
 use Rattle.pio_parse.specs.declared.expression.Term.{Term}
 use Rattle.pio_parse.specs.declared.expression.Term.TheVariants.{Number as NumberTerm}
 use Rattle.source_text.specs.Outcome.{map_ok}
@@ -13,8 +16,77 @@ use Rattle.pio_parse.specs.descent.Cursor.{Outcome}
 use Rattle.pio_parse.specs.Tokens.{is_end}
 use Rattle.pio_parse.specs.Laws.{ends_line}
 use Rattle.pio_parse.proofs.Follows.{after_operand}
-use Rattle.pio_parse.proofs.Finds.{refused}
-use Rattle.pio_parse.proofs.Faults.{FaultIs, StopsHere, end_stops, position_in, suc-back, suc-tested, goes_on, token_fault, token_of}
+use Rattle.pio_parse.proofs.Tests.{err_is, refused, same_left, same_value}
+
+-- a fault of a token is at its position
+abbrev FaultIs : {X : Type 0} → SourcePosition → Result X SourcePosition → Type 0
+FaultIs position (Ok x) = ⊤
+FaultIs position (Err p) = p ≡ position
+
+operand_fault : (text : List ℕ) (kind : TokenKind) (position : SourcePosition) (reading : Reading) → FaultIs position (operand_step text kind position reading)
+operand_fault text (Number n) position reading = tt
+operand_fault text (Name span) position reading = tt
+operand_fault text Minus position reading = tt
+operand_fault text DoubleColon position reading = tt
+operand_fault text OpenParenthesis position reading = tt
+operand_fault text kind position reading = refl
+
+tested_fault : {X : Type 0} (position : SourcePosition) (test : Bool) (x : X) → FaultIs position (if test then Ok x else Err position)
+tested_fault position true x = tt
+tested_fault position false x = refl
+
+tested_close : {X : Type 0} (position : SourcePosition) (test : Bool) (x y : X) → FaultIs position (if test then Ok x else Ok y)
+tested_close position true x y = tt
+tested_close position false x y = tt
+
+operator_fault : (kind : TokenKind) (position : SourcePosition) (reading : Reading) → FaultIs position (operator_step kind position reading)
+operator_fault Star position reading = tt
+operator_fault Plus position reading = tt
+operator_fault Minus position reading = tt
+operator_fault CloseParenthesis position reading = tested_close position (reading.depth == 0) _ _
+operator_fault kind position reading = tested_fault position (reading.depth == 0) _
+
+mapped_fault : {X Y : Type 0} (f : X → Y) (position : SourcePosition) (result : Result X SourcePosition) → FaultIs position result → FaultIs position (map_ok f result)
+mapped_fault f position (Ok x) h = tt
+mapped_fault f position (Err p) h = h
+
+token_fault : (text : List ℕ) (kind : TokenKind) (position : SourcePosition) (stack : List Pending) (output : List Term) (awaited : Bool) (depth : ℕ)
+    → FaultIs position (token_step text kind position (record { stack = stack; output = output; awaited = awaited; depth = depth }))
+token_fault text kind position stack output true depth = mapped_fault _ position (operand_step text kind position _) (operand_fault text kind position _)
+token_fault text kind position stack output false depth = operator_fault kind position _
+
+-- an expression does not go on at the end of a line
+abbrev StopsHere : Result (Option Reading) SourcePosition → Type 0
+StopsHere (Ok (Some next)) = ⊥
+StopsHere (Ok None) = ⊤
+StopsHere (Err position) = ⊤
+
+tested_stop : (position : SourcePosition) (test : Bool) → StopsHere (if test then Ok None else Err position)
+tested_stop position true = tt
+tested_stop position false = tt
+
+end_stops : (text : List ℕ) (kind : TokenKind) (position : SourcePosition) (stack : List Pending) (output : List Term) (awaited : Bool) (depth : ℕ) → is_end kind ≡ true
+    → StopsHere (token_step text kind position (record { stack = stack; output = output; awaited = awaited; depth = depth }))
+end_stops text LineEnd position stack output true depth h = tt
+end_stops text LineEnd position stack output false depth h = tested_stop position (depth == 0)
+end_stops text FileEnd position stack output true depth h = tt
+end_stops text FileEnd position stack output false depth h = tested_stop position (depth == 0)
+end_stops text kind position stack output awaited depth h = absurd (false≢true h)
+
+abbrev token_of : TokenKind → Token
+token_of kind = record { kind = kind; position = record { line = 0; column = 0 } }
+
+suc-tested : (depth : ℕ) → (suc depth == 0) ≡ false
+suc-tested depth = grind arith
+
+suc-back : (depth : ℕ) → suc depth - 1 ≡ depth
+suc-back depth = omega arith
+
+-- a token after which an expression goes on is followed by another, up to the end of the line
+goes_on : (token : Token) (tokens : List Token) (text : List ℕ) (reading next : Reading) → token_step text token.kind token.position reading ≡ Ok (Some next)
+    → ends_line (token ∷ tokens) ≡ true → ends_line tokens ≡ true
+goes_on token [] text reading next is h = absurd (subst StopsHere is (end_stops text token.kind token.position reading.stack reading.output reading.awaited reading.depth h))
+goes_on token (other ∷ tokens) text reading next is h = h
 
 -- no expression goes on with this
 abbrev pub ends_sum : TokenKind → Bool
@@ -108,20 +180,6 @@ pub record Refusal (f : List Token → Outcome (List Term)) (tokens : List Token
   pub goes : (first : Token) (further : List Token) → ends_sum first.kind ≡ true → f (before ++ (ends ++ first ∷ further)) ≡ Ok (terms, first ∷ further)
   pub stays : (further : List Token) → f (before ++ token ∷ further) ≡ Err position
 
-terms_of : {terms other : List Term} {rest rest' : List Token} → Path (Outcome (List Term)) (Ok (terms, rest)) (Ok (other, rest')) → terms ≡ other
-terms_of {terms = terms} q = ap part q
-  where
-    part : Outcome (List Term) → List Term
-    part (Ok x) = x.0
-    part (Err p) = terms
-
-rest_of : {terms other : List Term} {rest rest' : List Token} → Path (Outcome (List Term)) (Ok (terms, rest)) (Ok (other, rest')) → rest ≡ rest'
-rest_of {rest = rest} q = ap part q
-  where
-    part : Outcome (List Term) → List Token
-    part (Ok x) = x.1
-    part (Err p) = rest
-
 module _ (text : List ℕ) where
   -- a token after which an expression goes on ends no line
   no_end : (token : Token) (reading next : Reading) → token_step text token.kind token.position reading ≡ Ok (Some next) → (b : Bool) → is_end token.kind ≡ b → b ≡ false
@@ -138,15 +196,15 @@ module _ (text : List ℕ) where
       let read = rw is at q in
       record {
         consumed = [];
-        whole = rest_of read;
+        whole = same_left read;
         inside = refl;
-        again = λ first further h. rw (over_any text token.kind first.kind token.position first.position reading.stack reading.output reading.awaited reading.depth h is) (ap (λ terms. Ok (terms, first ∷ further)) (terms_of read));
+        again = λ first further h. rw (over_any text token.kind first.kind token.position first.position reading.stack reading.output reading.awaited reading.depth h is) (ap (λ terms. Ok (terms, first ∷ further)) (same_value read));
       }
   extent_by token tokens later reading terms rest q (Ok (Some next)) is =
       let inner = later next terms rest (rw is at q) in
       record {
         consumed = token ∷ inner.consumed;
-        whole = ap (λ xs. token ∷ xs) inner.whole;
+        whole = ap (λ xs. token ∷ xs) {y = inner.consumed ++ rest} inner.whole;
         inside = rw (no_end token reading next is (is_end token.kind) refl) inner.inside;
         again = λ first further h. rw is (inner.again first further h);
       }
@@ -183,7 +241,7 @@ module _ (text : List ℕ) where
   refusal_by : (token : Token) (tokens : List Token) → RefusalOf tokens → (reading : Reading) (position : SourcePosition) → ends_line (token ∷ tokens) ≡ true → expression_from text reading (token ∷ tokens) ≡ Err position
       → (step : Result (Option Reading) SourcePosition) → token_step text token.kind token.position reading ≡ step → Refusal (expression_from text reading) (token ∷ tokens) position
   refusal_by token tokens later reading position line q (Err p) is =
-      let same : p ≡ position = ap (position_in position) (rw is at q) in
+      let same : p ≡ position = err_is (rw is at q) in
       let fault : p ≡ token.position = subst (FaultIs token.position) is (token_fault text token.kind token.position reading.stack reading.output reading.awaited reading.depth) in
       record {
         before = [];
@@ -204,7 +262,7 @@ module _ (text : List ℕ) where
         before = token ∷ inner.before;
         token = inner.token;
         after = inner.after;
-        whole = ap (λ xs. token ∷ xs) inner.whole;
+        whole = ap (λ xs. token ∷ xs) {y = inner.before ++ inner.token ∷ inner.after} inner.whole;
         at = inner.at;
         ends = inner.ends;
         inside = inner.inside;

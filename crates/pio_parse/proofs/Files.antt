@@ -8,14 +8,13 @@ use Rattle.pio_parse.specs.declared.syntax.Source.{Source}
 use Rattle.source_text.specs.Outcome.{and_then, map_ok}
 use Rattle.pio_parse.specs.descent.Cursor.{Outcome}
 use Rattle.pio_parse.specs.descent.Scan.{scanned}
-use Rattle.pio_parse.specs.Files.{EarlyFault, AreLines, FaultsAt, IsSource, IsSyntaxFaultAt}
+use Rattle.pio_parse.specs.Files.{AreLines, FaultsAt, IsSource, IsSyntaxFaultAt}
 use Rattle.pio_parse.specs.Programs.{gathered, token_lines, with_first}
 use Rattle.pio_parse.specs.descent.Parsed.{lines_at, parsed, parsed_tokens, with_syntax}
-use Rattle.pio_parse.specs.Files.EarlyFault.{CharAt, SyntaxAt}
+use Rattle.pio_parse.specs.Files.EarlyFault.{SyntaxAt}
 use Rattle.pio_parse.specs.Tokens.{is_end, is_program}
 use Rattle.pio_parse.specs.descent.Statement.{line_at}
-use Rattle.pio_parse.proofs.Runs.{both}
-use Rattle.pio_parse.proofs.Finds.{refused}
+use Rattle.pio_parse.proofs.Tests.{both, err_is, ok_is, refused, same_value}
 use Rattle.pio_parse.proofs.Decide.{lexes_exactly}
 use Rattle.pio_parse.specs.GrammarLaws.{OneMeaning, ParsesGrammar, SyntaxFaultsAtFirst, is_line}
 use Rattle.pio_parse.specs.Lines.{IsLine}
@@ -53,11 +52,7 @@ module _ (text : List ℕ) where
       → ((read : List Line) → lines_at text (started || is_program line.statement) others ≡ Ok read → AreLines text (started || is_program line.statement) others read)
       → (outcome : Result (List Line) SourcePosition) → lines_at text (started || is_program line.statement) others ≡ outcome → map_ok (λ lines. line ∷ lines) outcome ≡ Ok lines → AreLines text started (tokens ∷ others) lines
   rest_read started tokens line others lines is later (Err p) e q = absurd (refused q)
-  rest_read started tokens line others lines is later (Ok read) e q = subst (AreLines text started (tokens ∷ others)) (ap part q) (one_line is (later read e))
-    where
-      part : Result (List Line) SourcePosition → List Line
-      part (Ok x) = x
-      part (Err p) = lines
+  rest_read started tokens line others lines is later (Ok read) e q = subst (AreLines text started (tokens ∷ others)) (ok_is q) (one_line is (later read e))
 
   line_read : (tokens : List Token) (others : List (List Token)) → LinesRead others → (started : Bool) (lines : List Line) → is_line tokens ≡ true → are_lines others ≡ true
       → (outcome : Outcome Line) → line_at text started tokens ≡ outcome → and_then (λ line. onwards started line.0 others) outcome ≡ Ok lines → AreLines text started (tokens ∷ others) lines
@@ -67,11 +62,7 @@ module _ (text : List ℕ) where
       (lines_at text (started || is_program line.statement) others) refl q
 
   are_read : (tokens : List (List Token)) → LinesRead tokens
-  are_read [] started lines are q = subst (AreLines text started []) (ap part q) no_line
-    where
-      part : Result (List Line) SourcePosition → List Line
-      part (Ok x) = x
-      part (Err p) = lines
+  are_read [] started lines are q = subst (AreLines text started []) (ok_is q) no_line
   are_read (tokens ∷ others) started lines are q =
       let parts = both (is_line tokens) (are_lines others) are in
       line_read tokens others (are_read others) started lines parts.0 parts.1 (line_at text started tokens) refl q
@@ -91,14 +82,10 @@ module _ (text : List ℕ) where
   line_fault : (tokens : List Token) (others : List (List Token)) → LinesFault others → (started : Bool) (position : SourcePosition) → is_line tokens ≡ true → are_lines others ≡ true
       → (outcome : Outcome Line) → line_at text started tokens ≡ outcome → and_then (λ line. onwards started line.0 others) outcome ≡ Err position → FaultsAt text started (tokens ∷ others) position
   line_fault tokens others later started position is are (Err p) e q =
-      let same : p ≡ position = ap part q in
+      let same : p ≡ position = err_is q in
       let first = first_fault text started tokens position is (e ∙ ap Err same) in
       subst (λ (xs : List Token). FaultsAt text started (xs ∷ others) position) (sym first.3)
       (subst (λ (position : SourcePosition). FaultsAt text started ((first.0 ++ first.1 ∷ first.2) ∷ others) position) first.4 (fits_nothing first.0 first.1 first.2 first.5 first.6))
-    where
-      part : Result (List Line) SourcePosition → SourcePosition
-      part (Ok x) = position
-      part (Err p) = p
   line_fault tokens others later started position is are (Ok (line, rest)) e q =
       after_line (sound text started tokens rest line is e).0
       (later (started || is_program line.statement) position are (rest_fault line position (lines_at text (started || is_program line.statement) others) q))
@@ -119,11 +106,7 @@ module _ (text : List ℕ) where
   -- files
   gathered_is : (tokens : List Token) (source : Source) (outcome : Result (List Line) SourcePosition) → with_syntax (map_ok gathered outcome) ≡ Ok source → (lines : List Line) × (outcome ≡ Ok lines) × (gathered lines ≡ source)
   gathered_is tokens source (Err p) q = absurd (refused q)
-  gathered_is tokens source (Ok lines) q = (lines, refl, ap part q)
-    where
-      part : Result Source EarlyFault → Source
-      part (Ok x) = x
-      part (Err p) = source
+  gathered_is tokens source (Ok lines) q = (lines, refl, ok_is q)
 
   source_read : (source : Source) (outcome : Result (List Token) SourcePosition) → scanned text ≡ outcome → parsed_tokens text outcome ≡ Ok source → IsSource text source
   source_read source (Err p) e q = absurd (refused q)
@@ -134,22 +117,12 @@ module _ (text : List ℕ) where
   source_parsed : (source : Source) → IsSource text source → parsed text ≡ Ok source
   source_parsed source (tokens, lines, lexed, are, same) = rw ((lexes_exactly text tokens).1 lexed, lines_complete are) (ap Ok same)
 
-  abbrev position_in : SourcePosition → Result Source EarlyFault → SourcePosition
-  position_in position (Ok x) = position
-  position_in position (Err (SyntaxAt p)) = p
-  position_in position (Err (CharAt p)) = position
-
-  abbrev is_syntax : Result Source EarlyFault → Bool
-  is_syntax (Ok x) = false
-  is_syntax (Err (SyntaxAt p)) = true
-  is_syntax (Err (CharAt p)) = false
-
   fault_is : (position : SourcePosition) (outcome : Result (List Line) SourcePosition) → with_syntax (map_ok gathered outcome) ≡ Err (SyntaxAt position) → outcome ≡ Err position
   fault_is position (Ok lines) q = absurd (refused (sym q))
-  fault_is position (Err p) q = ap Err (ap (position_in position) q)
+  fault_is position (Err p) q = cc
 
   fault_read : (position : SourcePosition) (outcome : Result (List Token) SourcePosition) → scanned text ≡ outcome → parsed_tokens text outcome ≡ Err (SyntaxAt position) → IsSyntaxFaultAt text position
-  fault_read position (Err p) e q = absurd (false≢true (ap is_syntax q))
+  fault_read position (Err p) e q = absurd cc
   fault_read position (Ok tokens) e q =
       (tokens, (lexes_exactly text tokens).0 e, are_faults (token_lines tokens) false position (token_lines_are tokens) (fault_is position (lines_at text false (token_lines tokens)) q))
 
@@ -162,24 +135,8 @@ parses_grammar text source = (source_read text source (scanned text) refl, sourc
 pub syntax_faults_at_first : SyntaxFaultsAtFirst
 syntax_faults_at_first text position = (fault_read text position (scanned text) refl, fault_parsed text position)
 
-line_in : Line → Outcome Line → Line
-line_in line (Ok x) = x.0
-line_in line (Err p) = line
-
-source_in : Source → Result Source EarlyFault → Source
-source_in source (Ok x) = x
-source_in source (Err p) = source
-
-same_line : (line other : Line) → Path (Outcome Line) (Ok (line, [])) (Ok (other, [])) → line ≡ other
-unfolding line_in
-same_line line other q = ap (line_in line) q
-
-same_source : (source other : Source) → Path (Result Source EarlyFault) (Ok source) (Ok other) → source ≡ other
-unfolding source_in
-same_source source other q = ap (source_in source) q
-
 pub one_meaning : OneMeaning
 one_meaning = (
-  λ text started tokens line other is is'. same_line line other (sym (complete is) ∙ complete is'),
-  λ text source other is is'. same_source source other (sym (source_parsed text source is) ∙ source_parsed text other is'),
+  λ text started tokens line other is is'. same_value (sym (complete is) ∙ complete is'),
+  λ text source other is is'. ok_is (sym (source_parsed text source is) ∙ source_parsed text other is'),
 )

@@ -1,5 +1,5 @@
 -- Where the stack of waiting operators accepts tokens, the grammar has a tree for them.
-use Rattle.std.proofs.Common.{◌≡◌, ◌≢◌, ◌==◌, ◌⊎◌, inl, inr, ℕ, zero, suc, ◌+◌, ◌<◌, ◌≤◌, Bool, true, false, List, [], ◌∷◌, ◌++◌, length, None, Result, Ok, Err, arith, refl, sym, ap, ◌∙◌, subst}
+use Rattle.std.proofs.Common.{◌≡◌, ◌≢◌, ◌==◌, ◌⊎◌, inl, inr, ℕ, zero, suc, ◌+◌, ◌<◌, ◌≤◌, Bool, true, false, List, [], ◌∷◌, ◌++◌, length, None, Ok, Err, arith, refl, sym, ap, ◌∙◌, subst}
 use mathlib.Core.Bool.{false≢true}
 use Rattle.source_text.specs.declared.position.SourcePosition.{SourcePosition}
 use Rattle.pio_parse.specs.declared.token.Span.{Span}
@@ -9,23 +9,18 @@ use Rattle.pio_parse.specs.declared.token.TokenKind.TheVariants.{Name as NameTok
 use Rattle.pio_parse.specs.declared.expression.Operator.TheVariants.{Add, Subtract, Multiply, Negate as NegateOperator, Reverse as ReverseOperator}
 use Rattle.pio_parse.specs.declared.expression.Term.{Term}
 use Rattle.pio_parse.specs.declared.expression.Term.TheVariants.{Operator as OperatorTerm}
-use Rattle.pio_parse.specs.descent.Expression.{Pending, Reading, expression_at, operand_step, operator_step}
-use Rattle.pio_parse.specs.descent.Expression.Pending.{Parenthesis, OperatorPending}
-use Rattle.pio_parse.specs.descent.Cursor.{Outcome}
+use Rattle.pio_parse.specs.declared.expression.Pending.{Pending}
+use Rattle.pio_parse.specs.declared.expression.Reading.{Reading}
+use Rattle.pio_parse.specs.descent.Expression.{expression_at, operand_step, operator_step}
+use Rattle.pio_parse.specs.declared.expression.Pending.TheVariants.{Parenthesis, Operator as OperatorPending}
 use Rattle.pio_parse.specs.Tokens.{head_kind, name_at}
 use Rattle.pio_parse.specs.Grammar.{EndsProduct, EndsSum, Expr, IsExpression, IsOperand, IsProduct, IsSum, postfix}
 use Rattle.pio_parse.specs.Grammar.Expr.{Number, Name, Negate, Reverse, Sum, Difference, Product}
 use Rattle.pio_parse.specs.Grammar.IsSum.{product, plus, minus}
 use Rattle.pio_parse.specs.Grammar.IsProduct.{operand, times}
 use Rattle.pio_parse.specs.Grammar.IsOperand.{number, name, parentheses, negate, reverse}
+use Rattle.pio_parse.proofs.Tests.{refused, same_left, same_value}
 use Rattle.pio_parse.proofs.Follows.{after_operand, before_operand, binds_less, binds_less-two, follows_operand, follows_product, follows_sum, goes_in, goes_in_negate, goes_in_reverse, goes_on_minus, goes_on_plus, goes_on_times, is_star, level_for_operand, level_for_product, settled, suc-not_zero}
-
-abbrev is_accepted : {X E : Type 0} → Result X E → Bool
-is_accepted (Ok x) = true
-is_accepted (Err e) = false
-
-pub refused : {X E : Type 0} {e : E} {x : X} → Err e ≡ Ok x → ⊥
-refused q = false≢true (ap is_accepted q)
 
 abbrev pub is_none_left : List Token → Bool
 is_none_left [] = true
@@ -327,28 +322,12 @@ pub reads : (text : List ℕ) (tokens : List Token) (tree : Expr) (rest : List T
 reads text tokens tree [] is = absurd (is.2 refl)
 reads text tokens tree (token ∷ rest) is = follows_sum is.0 [] [] 0 refl is.1.0 ∙ over text (postfix tree) token rest is.1
 
-terms_of : Outcome (List Term) → List Term
-terms_of (Ok answer) = answer.0
-terms_of (Err position) = []
-
-rest_of : Outcome (List Term) → List Token
-rest_of (Ok answer) = answer.1
-rest_of (Err position) = []
-
-pub same_terms : {terms other : List Term} {rest rest' : List Token} → Path (Outcome (List Term)) (Ok (terms, rest)) (Ok (other, rest')) → terms ≡ other
-unfolding terms_of
-same_terms e = ap terms_of e
-
-pub same_rest : {terms other : List Term} {rest rest' : List Token} → Path (Outcome (List Term)) (Ok (terms, rest)) (Ok (other, rest')) → rest ≡ rest'
-unfolding rest_of
-same_rest e = ap rest_of e
-
 module _ (text : List ℕ) (tokens : List Token) (terms : List Term) (rest : List Token) (e : expression_at text tokens ≡ Ok (terms, rest)) where
   found_whole : (tree : Expr) (end : List Token) → IsSum text tokens tree end → EndsSum end → (tree : Expr) × IsExpression text tokens tree rest × (postfix tree ≡ terms)
   found_whole tree [] is ends = absurd (refused (sym (follows_sum is [] [] 0 refl ends.0) ∙ e))
   found_whole tree (token ∷ end) is ends =
       let same = sym (follows_sum is [] [] 0 refl ends.0 ∙ over text (postfix tree) token end ends) ∙ e in
-      (tree, subst (IsExpression text tokens tree) (same_rest same) (is, ends, not_none), same_terms same)
+      (tree, subst (IsExpression text tokens tree) (same_left same) (is, ends, not_none), same_value same)
     where
       not_none : token ∷ end ≢ []
       not_none q = false≢true (ap is_none_left q)
@@ -359,7 +338,7 @@ module _ (text : List ℕ) (tokens : List Token) (terms : List Term) (rest : Lis
   -- a sum that goes no further leaves what is left
   left_after : (tree : Expr) (end : List Token) → IsSum text tokens tree end → EndsSum end → end ≡ rest
   left_after tree [] is ends = absurd (refused (sym (follows_sum is [] [] 0 refl ends.0) ∙ e))
-  left_after tree (token ∷ end) is ends = same_rest (sym (follows_sum is [] [] 0 refl ends.0 ∙ over text (postfix tree) token end ends) ∙ e)
+  left_after tree (token ∷ end) is ends = same_left (sym (follows_sum is [] [] 0 refl ends.0 ∙ over text (postfix tree) token end ends) ∙ e)
 
   none_longer_by : (few : ℕ) → SumFound text (terms, rest) few tokens → length rest < few
   none_longer_by few (tree, end, is, ends, lt) = subst (λ (l : List Token). length l < few) (left_after tree end is ends) lt

@@ -10,8 +10,10 @@ use Rattle.pio_parse.specs.declared.expression.Operator.{Operator}
 use Rattle.pio_parse.specs.declared.expression.Operator.TheVariants.{Add, Subtract, Multiply, Negate as NegateOperator, Reverse as ReverseOperator}
 use Rattle.pio_parse.specs.declared.expression.Term.{Term}
 use Rattle.pio_parse.specs.declared.expression.Term.TheVariants.{Operator as OperatorTerm}
-use Rattle.pio_parse.specs.descent.Expression.{Pending, Reading, expression_from, level_of, operator_step, reduced, with_closed}
-use Rattle.pio_parse.specs.descent.Expression.Pending.{Parenthesis, OperatorPending}
+use Rattle.pio_parse.specs.declared.expression.Pending.{Pending}
+use Rattle.pio_parse.specs.declared.expression.Reading.{Reading}
+use Rattle.pio_parse.specs.descent.Expression.{expression_from, level_of, operator_step, reduced, with_closed}
+use Rattle.pio_parse.specs.declared.expression.Pending.TheVariants.{Parenthesis, Operator as OperatorPending}
 use Rattle.source_text.specs.Outcome.{and_then}
 use Rattle.pio_parse.specs.descent.Cursor.{Outcome}
 use Rattle.pio_parse.specs.Tokens.{head_kind}
@@ -45,10 +47,7 @@ onwards text tokens token reading step = and_then
 
 ended_all : (operator : Operator) → nat_le 0 (level_of operator) ≡ true
 ended_all Add = refl
-ended_all Subtract = refl
-ended_all Multiply = refl
-ended_all NegateOperator = refl
-ended_all ReverseOperator = refl
+ended_all operator = refl
 
 -- a test in a step that ends or refuses: with either answer what goes on is the same
 ended : (text : List ℕ) (operator : Operator) (stack : List Pending) (output : List Term) (depth : ℕ) (token : Token) (rest : List Token) (test : Bool)

@@ -6,7 +6,8 @@ use Rattle.pio_parse.specs.declared.token.Token.{Token}
 use Rattle.pio_parse.specs.declared.token.TokenKind.{TokenKind}
 use Rattle.pio_parse.specs.declared.token.TokenKind.TheVariants.{Name as NameToken, Number as NumberToken, DoubleColon, OpenParenthesis, CloseParenthesis, Plus, Minus, Star}
 use Rattle.pio_parse.specs.declared.expression.Term.{Term}
-use Rattle.pio_parse.specs.descent.Expression.{Reading, expression_at, is_close_parenthesis, nothing_read, operand_at, operand_of_kind, operand_step}
+use Rattle.pio_parse.specs.declared.expression.Reading.{Reading}
+use Rattle.pio_parse.specs.descent.Expression.{expression_at, is_close_parenthesis, nothing_read, operand_at, operand_of_kind, operand_step}
 use Rattle.source_text.specs.Outcome.{and_then, map_ok}
 use Rattle.pio_parse.specs.descent.Cursor.{Outcome, expected, misfit}
 use Rattle.pio_parse.specs.Tokens.{head_kind, name_at}
@@ -15,7 +16,8 @@ use Rattle.pio_parse.specs.Grammar.Expr.{Number, Name}
 use Rattle.pio_parse.specs.Grammar.IsOperand.{number, name, parentheses, negate, reverse}
 use Rattle.pio_parse.specs.Laws.{ReadsOperands}
 use Rattle.pio_parse.proofs.Follows.{is_star}
-use Rattle.pio_parse.proofs.Finds.{First, finds_tree, first_of_kind, first_colons, first_minus, first_name, first_number, first_open, first_other, is_minus, is_none_left, is_plus, reads, refused, same_rest, same_terms}
+use Rattle.pio_parse.proofs.Tests.{refused, same_left, same_value}
+use Rattle.pio_parse.proofs.Finds.{First, finds_tree, first_of_kind, first_colons, first_minus, first_name, first_number, first_open, first_other, is_minus, is_none_left, is_plus, reads}
 
 abbrev is_colons : TokenKind → Bool
 is_colons DoubleColon = true
@@ -58,9 +60,9 @@ module _ (text : List ℕ) (terms : List Term) (rest : List Token) where
   closed token tokens [] inside is e true at q = absurd (false≢true at)
   closed token tokens (close ∷ after) inside is e true at q =
       let found = finds_tree text tokens inside (close ∷ after) e in
-      let left : after ≡ rest = same_rest q in
+      let left : after ≡ rest = same_left q in
       let away = apart OpenParenthesis is refl refl in
-      (found.0, subst (IsOperand text (token ∷ tokens) found.0) left (parentheses is found.1.0 (close_of close.kind at)), away.0, away.1, found.2 ∙ same_terms q)
+      (found.0, subst (IsOperand text (token ∷ tokens) found.0) left (parentheses is found.1.0 (close_of close.kind at)), away.0, away.1, found.2 ∙ same_value q)
 
   opened : (token : Token) (tokens : List Token) → token.kind ≡ OpenParenthesis → (inner : Outcome (List Term)) → expression_at text tokens ≡ inner
       → in_parentheses inner ≡ Ok (terms, rest) → Found (token ∷ tokens)
@@ -70,10 +72,10 @@ module _ (text : List ℕ) (terms : List Term) (rest : List Token) where
   found_by : (token : Token) (tokens : List Token) → operand_of_kind text token.kind (token ∷ tokens) ≡ Ok (terms, rest) → First token.kind → Found (token ∷ tokens)
   found_by token tokens e (first_number n is) =
       let q = rw is at e in let away = apart (NumberToken n) is refl refl in
-      (Number n, subst (IsOperand text (token ∷ tokens) (Number n)) (same_rest q) (number is), away.0, away.1, same_terms q)
+      (Number n, subst (IsOperand text (token ∷ tokens) (Number n)) (same_left q) (number is), away.0, away.1, same_value q)
   found_by token tokens e (first_name span is) =
       let q = rw is at e in let away = apart (NameToken span) is refl refl in
-      (Name (name_at text span), subst (IsOperand text (token ∷ tokens) (Name (name_at text span))) (same_rest q) (name is), away.0, away.1, same_terms q)
+      (Name (name_at text span), subst (IsOperand text (token ∷ tokens) (Name (name_at text span))) (same_left q) (name is), away.0, away.1, same_value q)
   found_by token tokens e (first_open is) = opened token tokens is (expression_at text tokens) refl (rw is at e)
   found_by token tokens e (first_minus is) = absurd (refused (rw is at e))
   found_by token tokens e (first_colons is) = absurd (refused (rw is at e))

@@ -6,7 +6,7 @@ use Rattle.source_text.specs.declared.position.SourcePosition.{SourcePosition}
 use Rattle.pio_parse.specs.declared.token.Token.{Token}
 use Rattle.pio_parse.specs.declared.token.Directive.TheVariants.{Program as ProgramDirective}
 use Rattle.pio_parse.specs.declared.token.TokenKind.TheVariants.{Directive as DirectiveToken, Name, FileEnd, LineEnd}
-use Rattle.pio_parse.specs.descent.Scan.Mode.{Between}
+use Rattle.pio_parse.specs.declared.scan.Mode.TheVariants.{Between}
 use Rattle.pio_parse.specs.declared.syntax.Statement.{Statement}
 use Rattle.pio_parse.specs.declared.syntax.Statement.TheVariants.{Program}
 use Rattle.pio_parse.specs.declared.syntax.Line.{Line}
@@ -14,25 +14,22 @@ use Rattle.pio_parse.specs.declared.syntax.SourceProgram.{SourceProgram}
 use Rattle.pio_parse.specs.declared.syntax.Source.{Source}
 use Rattle.pio_parse.specs.declared.parser.Groups.{Groups}
 use Rattle.source_text.specs.Outcome.{and_then}
+use Rattle.source_text.specs.Position.{past}
 use Rattle.pio_parse.specs.descent.Scan.{scanned, scanned_from}
 use Rattle.pio_parse.specs.Tokens.{name_at, is_end}
 use Rattle.pio_parse.specs.descent.Statement.{line_at}
 use Rattle.pio_parse.specs.descent.Parsed.{parsed, parsed_tokens, with_syntax}
 use Rattle.pio_parse.specs.descent.Gathering.{grouped_by, line_step, no_groups, source_from}
 use Rattle.pio_parse.proofs.Gathered.{source_gathered}
-use Rattle.pio_parse.proofs.Pieces.{AreApart, Piece, chars_of, is_open, joined, kind_of, token_at, tokens_of}
+use Rattle.pio_parse.proofs.Tests.{both, not_true}
+use Rattle.pio_parse.proofs.Lexemes.{lexemes_read}
+use Rattle.pio_parse.proofs.Pieces.{AreApart, Piece, chars_of, is_open, joined, kind_of, pieces_are, position_at, token_at, tokens_of}
 use Rattle.pio_parse.proofs.Pieces.Piece.{Blank, End, Run}
-use Rattle.pio_parse.proofs.Runs.{both, position_at}
-use Rattle.pio_parse.proofs.PieceScan.{scan_pieces}
 
 -- lines as one list of pieces
 abbrev pub all_lines : List (List Piece) → List Piece
 all_lines [] = []
 all_lines (ps ∷ pss) = ps ++ End ∷ all_lines pss
-
-not_false : (b : Bool) → not b ≡ true → b ≡ false
-not_false true h = cc
-not_false false h = refl
 
 -- a line up to its end
 splits : (ps : List Piece) (others : List Piece) (text : List ℕ) (groups : Groups) (current rest : List Token) (line column : ℕ) → is_open ps ≡ true → source_from text groups current (tokens_of line column (ps ++ End ∷ others) ++ rest) ≡ and_then (λ next. source_from text next [] (tokens_of (line + 1) 1 others ++ rest)) (line_step text groups (current ++ tokens_of line column (ps ++ End ∷ [])))
@@ -41,7 +38,7 @@ splits (Blank ∷ ps) others text groups current rest line column h = splits ps 
 splits (End ∷ ps) others text groups current rest line column h = absurd (let g : false ≡ true = h in cc)
 splits (Run w kind ∷ ps) others text groups current rest line column h =
     let parts = both (not (is_end kind)) (is_open ps) h in
-    let goes = not_false (is_end kind) parts.0 in
+    let goes = not_true (is_end kind) parts.0 in
     rw goes (splits ps others text groups (current ++ token_at kind line column ∷ []) rest line (column + length w) parts.1 ∙ rw (append_assoc current (token_at kind line column ∷ []) (tokens_of line (column + length w) (ps ++ End ∷ []))) refl)
 splits (p ∷ ps) others text groups current rest line column h =
     splits ps others text groups (current ++ token_at (kind_of p) line column ∷ []) rest line (column + length (chars_of p)) h ∙ rw (append_assoc current (token_at (kind_of p) line column ∷ []) (tokens_of line (column + length (chars_of p)) (ps ++ End ∷ []))) refl
@@ -108,11 +105,12 @@ pub program_parses : (pss : List (List Piece)) (lines : List Line) → AreApart 
 program_parses pss lines apart are =
     let ps = all_lines pss in
     let text = header ++ joined (all_lines pss) in
-    let scan = scan_pieces (all_lines pss) (header ++ joined (all_lines pss)) header 14 2 1 (position_at 1 15) header_tokens apart refl refl in
-    let read = tokens_of 2 1 (all_lines pss) ++ record { kind = FileEnd; position = scan.last } ∷ [] in
+    let last = past (position_at 1 15) (position_at 2 1) (joined (all_lines pss)) in
+    let read = tokens_of 2 1 (all_lines pss) ++ record { kind = FileEnd; position = last } ∷ [] in
     let tokens : scanned (header ++ joined (all_lines pss)) ≡ Ok (header_tokens ++ read) =
-    header_scans (joined (all_lines pss)) ∙ scan.scans ∙ ap (λ (ts : List Token). Ok ts) (append_assoc header_tokens (tokens_of 2 1 (all_lines pss)) (record { kind = FileEnd; position = scan.last } ∷ [])) in
+    header_scans (joined (all_lines pss)) ∙ lexemes_read (pieces_are (all_lines pss) 14 2 1 apart) (header ++ joined (all_lines pss)) header (position_at 1 15) header_tokens refl refl
+    ∙ ap (λ (ts : List Token). Ok ts) (append_assoc header_tokens (tokens_of 2 1 (all_lines pss)) (record { kind = FileEnd; position = last } ∷ [])) in
     ap (λ outcome. parsed_tokens text outcome) tokens
     ∙ ap with_syntax (source_gathered text (header_tokens ++ read)
     ∙ header_reads (joined (all_lines pss)) read
-    ∙ lines_read pss lines (header ++ joined (all_lines pss)) 2 (record { name = codes "code"; number = 1; lines = [] }) scan.last are)
+    ∙ lines_read pss lines (header ++ joined (all_lines pss)) 2 (record { name = codes "code"; number = 1; lines = [] }) last are)

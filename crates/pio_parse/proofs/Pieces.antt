@@ -1,15 +1,20 @@
--- A source as the pieces that it is made of: words, signs, blanks and line ends.
-use Rattle.std.proofs.Common.{◌≡◌, ◌==◌, ◌&&◌, ◌||◌, not, ℕ, ◌+◌, Bool, true, false, List, [], ◌∷◌, ◌++◌, length}
+-- A source as the pieces that it is made of: words, signs, blanks and line ends. They are its lexemes.
+use Rattle.std.proofs.Common.{◌≡◌, ◌==◌, ◌&&◌, ◌||◌, not, ℕ, suc, ◌+◌, Bool, true, false, List, [], ◌∷◌, ◌++◌, length, arith, refl, sym, ap, ◌∙◌, subst}
+use mathlib.Core.Bool.{false≢true}
 use Rattle.std.specs.Prelude.{⊤}
+use Rattle.source_text.specs.declared.position.SourcePosition.{SourcePosition}
+use Rattle.source_text.specs.Characters.{is_word_char}
+use Rattle.source_text.specs.Position.{moved}
 use Rattle.pio_parse.specs.declared.token.Span.{Span}
 use Rattle.pio_parse.specs.declared.token.Token.{Token}
-use Rattle.pio_parse.specs.declared.token.Directive.{Directive}
-use Rattle.pio_parse.specs.declared.token.Directive.TheVariants.{LangOpt}
 use Rattle.pio_parse.specs.declared.token.TokenKind.{TokenKind}
-use Rattle.pio_parse.specs.declared.token.TokenKind.TheVariants.{Directive as DirectiveToken, Comma as CommaToken, Minus as MinusToken, OpenBracket, CloseBracket, Bang as BangToken, DoubleColon, NotEqual as NotEqualToken, LineEnd}
-use Rattle.source_text.specs.Characters.{is_word_char}
+use Rattle.pio_parse.specs.declared.token.TokenKind.TheVariants.{Comma as CommaToken, Minus as MinusToken, OpenBracket, CloseBracket, Bang as BangToken, DoubleColon, NotEqual as NotEqualToken, LineEnd}
 use Rattle.pio_parse.specs.Words.{word_kind}
 use Rattle.pio_parse.specs.Tokens.{is_end}
+use Rattle.pio_parse.specs.Lexical.{AreLexemes, are_word_chars, begins_by, ends_word as ends_any_word, is_option, is_word, word_at}
+use Rattle.pio_parse.specs.Lexical.AreLexemes.{nothing, lexeme}
+use Rattle.pio_parse.specs.Lexical.IsLexeme.{space, line_end, comma, minus, open_bracket, close_bracket, bang, double_colon, not_equal, word}
+use Rattle.pio_parse.proofs.Tests.{apart, both}
 
 pub data Piece : Type 0 where
   Blank : Piece
@@ -63,28 +68,10 @@ tokens_of line column (Blank ∷ ps) = tokens_of line (column + 1) ps
 tokens_of line column (End ∷ ps) = token_at LineEnd line column ∷ tokens_of (line + 1) 1 ps
 tokens_of line column (p ∷ ps) = token_at (kind_of p) line column ∷ tokens_of line (column + length (chars_of p)) ps
 
-abbrev pub all_word : List ℕ → Bool
-all_word [] = true
-all_word (c ∷ cs) = is_word_char c && all_word cs
-
--- letters, digits and underscores, at least one, perhaps with a point before them
-abbrev pub is_run : List ℕ → Bool
-is_run [] = false
-is_run (c ∷ cs) = (is_word_char c || c == 46) && all_word cs
-
-abbrev pub is_lang_opt : Directive → Bool
-is_lang_opt LangOpt = true
-is_lang_opt directive = false
-
--- after a token of this kind the line is read on
-abbrev pub skips_line : TokenKind → Bool
-skips_line (DirectiveToken directive) = is_lang_opt directive
-skips_line kind = false
-
 -- a run that is a token of this kind wherever it stands
 pub record IsRun (w : List ℕ) (kind : TokenKind) : Type 0 where
-  pub run : is_run w ≡ true
-  pub plain : skips_line kind ≡ false
+  pub run : is_word w ≡ true
+  pub plain : is_option kind ≡ false
   pub names : (span : Span) → word_kind w span ≡ kind
 
 -- a word ends before these pieces
@@ -114,3 +101,65 @@ is_open [] = true
 is_open (End ∷ ps) = false
 is_open (Run w kind ∷ ps) = not (is_end kind) && is_open ps
 is_open (p ∷ ps) = is_open ps
+
+abbrev pub position_at : ℕ → ℕ → SourcePosition
+position_at line column = record { line = line; column = column }
+
+-- a word stays on its line
+chars_move : (w : List ℕ) (line column : ℕ) → are_word_chars w ≡ true → moved w (position_at line column) ≡ position_at line (column + length w)
+chars_move [] line column h = let e : column + 0 ≡ column = omega arith in rw e refl
+chars_move (c ∷ cs) line column h =
+    let parts = both (is_word_char c) (are_word_chars cs) h in
+    let e : column + 1 + length cs ≡ column + suc (length cs) = omega arith in
+    rw (apart is_word_char c 10 parts.0 refl) (chars_move cs line (column + 1) parts.1 ∙ rw e refl)
+
+-- what a word does not begin by
+begins_apart : (c k : ℕ) (cs : List ℕ) → is_word (c ∷ cs) ≡ true → (is_word_char k || k == 46) ≡ false → (c == k) ≡ false
+begins_apart c k cs h unlike = apart (λ c. is_word_char c || c == 46) c k (both (is_word_char c || c == 46) (are_word_chars cs) h).0 unlike
+
+word_moves : (w : List ℕ) (line column : ℕ) → is_word w ≡ true → moved w (position_at line column) ≡ position_at line (column + length w)
+word_moves [] line column h = absurd (false≢true h)
+word_moves (c ∷ cs) line column h =
+    let e : column + 1 + length cs ≡ column + suc (length cs) = omega arith in
+    rw (begins_apart c 10 cs h refl) (chars_move cs line (column + 1) (both (is_word_char c || c == 46) (are_word_chars cs) h).1 ∙ rw e refl)
+
+no_equals : (w rest : List ℕ) → is_word w ≡ true → begins_by 61 (w ++ rest) ≡ false
+no_equals [] rest h = absurd (false≢true h)
+no_equals (c ∷ cs) rest h = begins_apart c 61 cs h refl
+
+before_run : (ps : List Piece) → begins_run ps ≡ true → AreApart ps → begins_by 61 (joined ps) ≡ false
+before_run (Run w kind ∷ ps) h a = no_equals w (joined ps) a.0.run
+before_run ps h a = absurd (false≢true h)
+
+over_before : (ps : List Piece) → ends_word ps ≡ true → ends_any_word (joined ps) ≡ true
+over_before (Blank ∷ ps) h = refl
+over_before (End ∷ ps) h = refl
+over_before (Comma ∷ ps) h = refl
+over_before (Minus ∷ ps) h = refl
+over_before (Close ∷ ps) h = refl
+over_before (NotEqual ∷ ps) h = refl
+over_before ps h = absurd (false≢true h)
+
+-- a sign of two characters
+two : (column : ℕ) → column + 2 ≡ column + 1 + 1
+two column = omega arith
+
+-- the pieces from a position on are lexemes, and their tokens are those of the pieces
+pub pieces_are : (ps : List Piece) (index line column : ℕ) → AreApart ps → AreLexemes index (position_at line column) (joined ps) (tokens_of line column ps)
+pieces_are [] index line column a = nothing
+pieces_are (Blank ∷ ps) index line column a = lexeme {chars = 32 ∷ []} space (pieces_are ps (index + 1) line (column + 1) a)
+pieces_are (End ∷ ps) index line column a = lexeme {chars = 10 ∷ []} line_end (pieces_are ps (index + 1) (line + 1) 1 a)
+pieces_are (Run w kind ∷ ps) index line column a =
+    let named : word_at index w ≡ kind = a.0.names (record { start = index; end = index + length w }) in
+    subst (λ kind. AreLexemes index (position_at line column) (w ++ joined ps) (token_at kind line column ∷ tokens_of line (column + length w) ps)) named
+    (lexeme {chars = w} (word a.0.run (over_before ps a.1) (ap is_option named ∙ a.0.plain))
+    (subst (λ (p : SourcePosition). AreLexemes (index + length w) p (joined ps) (tokens_of line (column + length w) ps)) (sym (word_moves w line column a.0.run)) (pieces_are ps (index + length w) line (column + length w) a.2)))
+pieces_are (Comma ∷ ps) index line column a = lexeme {chars = 44 ∷ []} comma (pieces_are ps (index + 1) line (column + 1) a)
+pieces_are (Minus ∷ ps) index line column a = lexeme {chars = 45 ∷ []} minus (pieces_are ps (index + 1) line (column + 1) a)
+pieces_are (Open ∷ ps) index line column a = lexeme {chars = 91 ∷ []} open_bracket (pieces_are ps (index + 1) line (column + 1) a)
+pieces_are (Close ∷ ps) index line column a = lexeme {chars = 93 ∷ []} close_bracket (pieces_are ps (index + 1) line (column + 1) a)
+pieces_are (Bang ∷ ps) index line column a = lexeme {chars = 33 ∷ []} (bang (before_run ps a.0 a.1)) (pieces_are ps (index + 1) line (column + 1) a.1)
+pieces_are (Colons ∷ ps) index line column a = lexeme {chars = 58 ∷ 58 ∷ []} double_colon
+    (subst (λ n. AreLexemes (index + 2) (position_at line n) (joined ps) (tokens_of line (column + 2) ps)) (two column) (pieces_are ps (index + 2) line (column + 2) a))
+pieces_are (NotEqual ∷ ps) index line column a = lexeme {chars = 33 ∷ 61 ∷ []} not_equal
+    (subst (λ n. AreLexemes (index + 2) (position_at line n) (joined ps) (tokens_of line (column + 2) ps)) (two column) (pieces_are ps (index + 2) line (column + 2) a))

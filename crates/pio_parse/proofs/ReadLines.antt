@@ -12,17 +12,16 @@ use Rattle.source_text.specs.Outcome.{and_then, map_ok}
 use Rattle.pio_parse.specs.descent.Cursor.{Outcome, after_head, misfit}
 use Rattle.pio_parse.specs.Tokens.{head_kind, head_position, is_end, is_program}
 use Rattle.pio_parse.specs.descent.Statement.{begins_label, end_at, is_end_after, is_first, label_at, line_at, statement_at, statement_of_kind}
-use Rattle.pio_parse.proofs.Runs.{both}
-use Rattle.pio_parse.proofs.Finds.{refused}
+use Rattle.pio_parse.proofs.Tests.{both, not_true, refused, same_left, same_value}
 use Rattle.pio_parse.specs.GrammarLaws.{ReadsLines, is_line}
 use Rattle.pio_parse.specs.Lines.{IsLabel, IsLine, IsProgram, IsSetting, IsStatement}
 use Rattle.pio_parse.specs.Lines.IsSetting.{define, lang_opt, pio_version}
 use Rattle.pio_parse.specs.Lines.IsProgram.{program as program_line}
 use Rattle.pio_parse.specs.Lines.IsLine.{line as a_line, blank_before, setting_before, first_program}
-use Rattle.pio_parse.proofs.Reading.{Answer, Good, Move, Rest, Then, bind, can_after, good, good_to, not_true, reads_to, shift, take, token_of}
-use Rattle.pio_parse.proofs.Reading.Move.{misfits, keeps}
-use Rattle.pio_parse.proofs.Statements.{IsEnded, define_reads, ended, ended_good, label_reads, program_reads, statement_reads, version_reads}
-use Rattle.pio_parse.proofs.Statements.IsEnded.{end_here}
+use Rattle.pio_parse.proofs.Reading.{Answer, Good, Rest, Step, Then, bind, choose, reads_to, token_of}
+use Rattle.pio_parse.proofs.Reading.Step.{misfit_here, shift, take, keep}
+use Rattle.pio_parse.proofs.Parts.{IsEnded, define_reads, ended, ended_good, label_reads, program_reads, statement_reads, version_reads}
+use Rattle.pio_parse.proofs.Parts.IsEnded.{end_here}
 use Rattle.pio_parse.proofs.Completes.{Ending, label_is, program_is, setting_is, statement_is, statement_word}
 use Rattle.pio_parse.proofs.Completes.Ending.{line_next, file_next}
 
@@ -42,27 +41,22 @@ module _ (text : List ℕ) where
       (λ mark. (statement_reads text).good (ended true mark) (IsEnded true mark) (ended_good true mark))
 
   -- a line before it
-  abbrev first_of : TokenKind → Rest
-  first_of kind tokens = if is_first kind then bind (ended false None) (statement_of_kind text kind tokens) else misfit tokens
+  abbrev first_of : TokenKind → SourcePosition → List Token → Outcome (Option Statement)
+  first_of kind position tokens = if is_first kind then statement_of_kind text kind tokens else misfit tokens
+
+  abbrev first_step : (kind : TokenKind) (position : SourcePosition) → Step kind position (first_of kind position) (IsFirst text)
+  first_step LineEnd position = keep None (λ rest is. first_blank is) (λ tokens. refl)
+  first_step (DirectiveToken Program) position = shift (reads_to _ (program_reads text position) (λ tokens x rest is token k at. first_is_program (is token k at))) refl (λ tokens. refl)
+  first_step (DirectiveToken Define) position = shift (reads_to _ (define_reads text position) (λ tokens x rest is token k at. first_setting (is token k at))) refl (λ tokens. refl)
+  first_step (DirectiveToken LangOpt) position = take None (λ token rest is. first_setting (lang_opt is)) refl (λ tokens. refl)
+  first_step (DirectiveToken PioVersion) position = shift (reads_to _ (version_reads text position) (λ tokens x rest is token k at. first_setting (is token k at))) refl (λ tokens. refl)
+  first_step kind position = misfit_here (λ tokens. refl)
 
   abbrev pub first_rest : Rest
-  first_rest tokens = if is_first (head_kind tokens) then bind (ended false None) (statement_at text tokens) else misfit tokens
-
-  first_move : (kind : TokenKind) (position : SourcePosition) → Move kind position (first_of kind) (Then (IsFirst text) (IsEnded false None))
-  first_move LineEnd position = keeps (ended false None None) (good_to _ (ended_good false None None) (λ tokens answer rest s is. (None, tokens, first_blank is, s))) (λ tokens. refl)
-  first_move (DirectiveToken Program) position =
-      shift (IsFirst text) (ended false None) (IsEnded false None) (ended_good false None) (DirectiveToken Program) position _ (reads_to _ (program_reads text position) (λ tokens x rest is token k at. first_is_program (is token k at))) refl (λ tokens. refl)
-  first_move (DirectiveToken Define) position =
-      shift (IsFirst text) (ended false None) (IsEnded false None) (ended_good false None) (DirectiveToken Define) position _ (reads_to _ (define_reads text position) (λ tokens x rest is token k at. first_setting (is token k at))) refl (λ tokens. refl)
-  first_move (DirectiveToken LangOpt) position =
-      take (IsFirst text) (ended false None) (IsEnded false None) (ended_good false None) (DirectiveToken LangOpt) position None _ (λ token rest is. first_setting (lang_opt is)) refl (λ tokens. refl)
-  first_move (DirectiveToken PioVersion) position =
-      shift (IsFirst text) (ended false None) (IsEnded false None) (ended_good false None) (DirectiveToken PioVersion) position _ (reads_to _ (version_reads text position) (λ tokens x rest is token k at. first_setting (is token k at))) refl (λ tokens. refl)
-  first_move kind position = misfits (λ tokens. refl)
+  first_rest tokens = bind (ended false None) (first_of (head_kind tokens) (head_position tokens) tokens)
 
   pub first_good : Good true first_rest (Then (IsFirst text) (IsEnded false None))
-  first_good = good true (λ kind position tokens. first_of kind tokens) (Then (IsFirst text) (IsEnded false None)) first_move
-      (can_after first_rest (ended false None None) (token_of (DirectiveToken LangOpt)) (λ tokens. refl) refl (ended_good false None None).can) (λ yes. refl)
+  first_good = (choose first_of _ first_step (token_of (DirectiveToken LangOpt)) refl (λ yes. refl)).good (ended false None) (IsEnded false None) (ended_good false None)
 
   -- a line is what is read up to its end, and the end
   abbrev pub finished : List Token → Answer × List Token → Line × List Token
@@ -190,19 +184,11 @@ module _ (text : List ℕ) where
   sound_by true tokens rest line is (Ok (answer, left)) e q =
       let read = (later_good text).reads tokens left answer is e in
       let found = later_line read.0 read.1 in
-      (subst (IsLine text true tokens) (ap (λ o. (part o).0) q) found.0, sym (ap (λ o. (part o).1) q) ∙ found.1)
-    where
-      part : Outcome Line → Line × List Token
-      part (Ok x) = x
-      part (Err p) = (line, rest)
+      (subst (IsLine text true tokens) (same_value q) found.0, sym (same_left q) ∙ found.1)
   sound_by false tokens rest line is (Ok (answer, left)) e q =
       let read = (first_good text).reads tokens left answer is e in
       let found = first_line read.0 read.1 in
-      (subst (IsLine text false tokens) (ap (λ o. (part o).0) q) found.0, sym (ap (λ o. (part o).1) q) ∙ found.1)
-    where
-      part : Outcome Line → Line × List Token
-      part (Ok x) = x
-      part (Err p) = (line, rest)
+      (subst (IsLine text false tokens) (same_value q) found.0, sym (same_left q) ∙ found.1)
 
   pub sound : (started : Bool) (tokens rest : List Token) (line : Line) → is_line tokens ≡ true → line_at text started tokens ≡ Ok (line, rest) → IsLine text started tokens line × (rest ≡ [])
   sound started tokens rest line is q = sound_by started tokens rest line is (line_rest text started tokens) refl (sym (line_is text started tokens) ∙ q)

@@ -5,7 +5,7 @@ use Rattle.source_text.specs.declared.position.SourcePosition.{SourcePosition}
 use Rattle.pio_parse.specs.declared.token.Token.{Token}
 use Rattle.pio_parse.specs.declared.syntax.Source.{Source}
 use Rattle.pio_parse.specs.declared.fault.PioFault.{PioFault}
-use Rattle.pio_parse.specs.declared.fault.PioFault.TheVariants.{Char, Syntax, Memory, Unknown, Twice, Range, Delay, Side, TooLong, Wrap, Origin, NoRoom}
+use Rattle.pio_parse.specs.declared.fault.PioFault.TheVariants.{Char, Syntax}
 use Rattle.pio_parse.specs.Files.{EarlyFault, IsAnswer, IsFault, IsSource, Reader}
 use Rattle.pio_parse.specs.Files.EarlyFault.{CharAt, SyntaxAt}
 use Rattle.pio_parse.specs.GrammarLaws.{OneAnswer}
@@ -48,16 +48,7 @@ source_read text (Err fault) h = h
 fault_is : (text : List ℕ) (fault : PioFault) → IsFaultOf (parsed text) fault → IsFault text fault
 fault_is text (Char line column) h = is_answer text (Err (CharAt (record { line = line; column = column }))) h
 fault_is text (Syntax line column) h = is_answer text (Err (SyntaxAt (record { line = line; column = column }))) h
-fault_is text Memory h = h
-fault_is text (Unknown line) h = h
-fault_is text (Twice line) h = h
-fault_is text (Range line) h = h
-fault_is text (Delay line) h = h
-fault_is text (Side line) h = h
-fault_is text (TooLong line) h = h
-fault_is text (Wrap line) h = h
-fault_is text (Origin line) h = h
-fault_is text (NoRoom line) h = h
+fault_is text fault h = h
 
 pub fault_read : (text : List ℕ) (result : Result Source PioFault) → IfErr result (IsFaultOf (parsed text)) → IfErr result (IsFault text)
 fault_read text (Ok source) h = h

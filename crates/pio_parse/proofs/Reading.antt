@@ -10,8 +10,7 @@ use Rattle.source_text.specs.Outcome.{and_then, map_ok}
 use Rattle.pio_parse.specs.descent.Cursor.{Outcome, after_head, expected, misfit}
 use Rattle.pio_parse.specs.Tokens.{head_kind, head_position, is_end}
 use Rattle.pio_parse.specs.descent.Instruction.{flag_at, named_at}
-use Rattle.pio_parse.proofs.Runs.{both}
-use Rattle.pio_parse.proofs.Finds.{refused}
+use Rattle.pio_parse.proofs.Tests.{both, err_is, refused}
 use Rattle.pio_parse.proofs.Extents.{ends_sum}
 use Rattle.pio_parse.specs.Lines.{MayStand}
 use Rattle.pio_parse.specs.Lines.MayStand.{stands, missing}
@@ -82,10 +81,6 @@ pub data Move (kind : TokenKind) (position : SourcePosition) (h : Rest) (S : Lis
       → Good starts g (λ tokens answer rest. head_kind tokens ≡ kind → S tokens answer rest)
       → ((tokens : List Token) → h tokens ≡ g tokens) → Move kind position h S
 
-pub not_true : (b : Bool) → not b ≡ true → b ≡ false
-not_true true h = sym h
-not_true false h = refl
-
 pub line_inside : (token : Token) (tokens : List Token) → is_line (token ∷ tokens) ≡ true → is_end token.kind ≡ false → is_line tokens ≡ true
 line_inside token [] line no_end = absurd (false≢true (sym no_end ∙ line))
 line_inside token (next ∷ tokens) line no_end = (both (not (is_end token.kind)) (is_line (next ∷ tokens)) line).1
@@ -107,15 +102,8 @@ module _ (S : List Token → Answer → List Token → Type 0) (h : Rest) (token
 
     refused_by : (position : SourcePosition) (tokens : List Token) → is_line (token ∷ tokens) ≡ true → h (token ∷ tokens) ≡ Err position → Move token.kind token.position h S → Refused f position (token ∷ tokens)
     refused_by position tokens line q (misfits e) =
-        let at : token.position ≡ position = err_position (sym (e (token ∷ tokens)) ∙ q) in
+        let at : token.position ≡ position = err_is (sym (e (token ∷ tokens)) ∙ q) in
         inl (at, can, λ further. sym (same further) ∙ e (token ∷ further) ∙ ap Err at)
-      where
-        position_in : Outcome Answer → SourcePosition
-        position_in (Ok x) = position
-        position_in (Err p) = p
-
-        err_position : {p : SourcePosition} → Path (Outcome Answer) (Err p) (Err position) → p ≡ position
-        err_position e = ap position_in e
     refused_by position tokens line q (shifts g good no_end e) =
         inr (refused_same g (λ xs. f (token ∷ xs)) (λ xs. sym (e (token ∷ xs)) ∙ same xs) position tokens
         (good.refuses tokens position (line_inside token tokens line no_end) (sym (e (token ∷ tokens)) ∙ q)))
@@ -187,22 +175,69 @@ module _ {X : Type 0} {starts : Bool} {p : List Token → Outcome X} {R : List T
 abbrev pub can_after : (g k : Rest) (token : Token) → ((tokens : List Token) → g (token ∷ tokens) ≡ k tokens) → is_end token.kind ≡ false → Can k → Can g
 can_after g k token e no_end can = record { first = token; further = can.first ∷ can.further; answer = can.answer; end = can.end; line = rw no_end can.line; goes = e (can.first ∷ can.further) ∙ can.goes }
 
+-- a relation after one token
+abbrev pub After : {X : Type 0} → TokenKind → SourcePosition → (List Token → X → List Token → Type 0) → List Token → X → List Token → Type 0
+After kind position R tokens x rest = (token : Token) → token.kind ≡ kind → token.position ≡ position → R (token ∷ tokens) x rest
+
+-- what a part of a line does with its next token: it is refused; it is read, and a part after it; it is read, and this is it; it is left, and
+-- this is it; or a part is read as if it had not been seen
+pub data Step {X : Type 0} (kind : TokenKind) (position : SourcePosition) (h : List Token → Outcome X) (R : List Token → X → List Token → Type 0) : Type 1 where
+  misfit_here : ((tokens : List Token) → h tokens ≡ misfit tokens) → Step kind position h R
+  shift : {starts : Bool} {p : List Token → Outcome X} → Reads starts p (After kind position R) → is_end kind ≡ false → ((tokens : List Token) → h tokens ≡ p (after_head tokens)) → Step kind position h R
+  take : (x : X) → ((token : Token) (rest : List Token) → token.kind ≡ kind → R (token ∷ rest) x rest) → is_end kind ≡ false → ((tokens : List Token) → h tokens ≡ Ok (x, after_head tokens)) → Step kind position h R
+  keep : (x : X) → ((rest : List Token) → head_kind rest ≡ kind → R rest x rest) → ((tokens : List Token) → h tokens ≡ Ok (x, tokens)) → Step kind position h R
+  pass : {starts : Bool} {p : List Token → Outcome X} → Reads starts p R → ((tokens : List Token) → h tokens ≡ p tokens) → Step kind position h R
+
+-- the part can begin by this token
+abbrev pub begins : {X : Type 0} {kind : TokenKind} {position : SourcePosition} {h : List Token → Outcome X} {R : List Token → X → List Token → Type 0} → Step kind position h R → Bool
+begins (shift read no_end e) = true
+begins (take x r no_end e) = true
+begins step = false
+
+module _ {X : Type 0} (h : TokenKind → SourcePosition → List Token → Outcome X) (R : List Token → X → List Token → Type 0) where
+  module _ (k : X → Rest) (S : X → List Token → Answer → List Token → Type 0) (goods : (x : X) → Good true (k x) (S x)) where
+    move : (kind : TokenKind) (position : SourcePosition) → Step kind position (h kind position) R → Move kind position (λ tokens. bind k (h kind position tokens)) (Then R S)
+    move kind position (misfit_here e) = misfits (λ tokens. ap (bind k) (e tokens))
+    move kind position (shift {p = p} read no_end e) = shifts (λ tokens. bind k (p tokens)) (good_to _ (read.good k S goods) turn) no_end (λ tokens. ap (bind k) (e tokens))
+      where
+        turn : (tokens : List Token) (answer : Answer) (rest : List Token) → Then (After kind position R) S tokens answer rest → (token : Token) → token.kind ≡ kind → token.position ≡ position → Then R S (token ∷ tokens) answer rest
+        turn tokens answer rest (x, middle, r, s) token is at = (x, middle, r token is at, s)
+    move kind position (take x r no_end e) = shifts (k x) (good_to _ (goods x) (λ tokens answer rest s token is at. (x, tokens, r token tokens is, s))) no_end (λ tokens. ap (bind k) (e tokens))
+    move kind position (keep x r e) = keeps (k x) (good_to _ (goods x) (λ tokens answer rest s is. (x, tokens, r tokens is, s))) (λ tokens. ap (bind k) (e tokens))
+    move kind position (pass {p = p} read e) = keeps (λ tokens. bind k (p tokens)) (good_to _ (read.good k S goods) (λ tokens answer rest s is. s)) (λ tokens. ap (bind k) (e tokens))
+
+    can_by : (token : Token) (step : Step token.kind token.position (h token.kind token.position) R) → begins step ≡ true
+        → (can : Can (λ tokens. bind k (h (head_kind tokens) (head_position tokens) tokens))) × (can.first.kind ≡ token.kind)
+    can_by token (shift {p = p} read no_end e) so = (can_after _ (λ tokens. bind k (p tokens)) token (λ tokens. ap (bind k) (e (token ∷ tokens))) no_end (read.good k S goods).can, refl)
+    can_by token (take x r no_end e) so = (can_after _ (k x) token (λ tokens. ap (bind k) (e (token ∷ tokens))) no_end (goods x).can, refl)
+    can_by token step so = absurd (false≢true so)
+
+  -- a part that goes by its next token, and can come to an end
+  pub chosen : {starts : Bool} → ((kind : TokenKind) (position : SourcePosition) → Step kind position (h kind position) R)
+      → ((k : X → Rest) (S : X → List Token → Answer → List Token → Type 0) → ((x : X) → Good true (k x) (S x)) → (can : Can (λ tokens. bind k (h (head_kind tokens) (head_position tokens) tokens))) × (starts ≡ true → ends_sum can.first.kind ≡ true))
+      → Reads starts (λ tokens. h (head_kind tokens) (head_position tokens) tokens) R
+  chosen {starts = starts} steps can = record {
+    good = λ k S goods. good starts (λ kind position tokens. bind k (h kind position tokens)) (Then R S) (λ kind position. move k S goods kind position (steps kind position)) (can k S goods).0 (can k S goods).1;
+  }
+
+  -- of the tokens by which it can begin one is given
+  pub choose : {starts : Bool} (steps : (kind : TokenKind) (position : SourcePosition) → Step kind position (h kind position) R) (token : Token) → begins (steps token.kind token.position) ≡ true → (starts ≡ true → ends_sum token.kind ≡ true)
+      → Reads starts (λ tokens. h (head_kind tokens) (head_position tokens) tokens) R
+  choose steps token so ends = chosen steps (λ k S goods. let can = can_by k S goods token (steps token.kind token.position) so in (can.0, λ s. ap ends_sum can.1 ∙ ends s))
+
 -- a token that may stand or be missing
 module _ (test : TokenKind → Bool) (kind : TokenKind) (fits : test kind ≡ true) (no_end : is_end kind ≡ false) (is_kind : (other : TokenKind) → test other ≡ true → other ≡ kind) where
-  module _ (k : Bool → Rest) (S : Bool → List Token → Answer → List Token → Type 0) (goods : (x : Bool) → Good true (k x) (S x)) where
-    flag_move : (other : TokenKind) (position : SourcePosition) (b : Bool) → (b ≡ true → other ≡ kind) → Move other position (λ tokens. bind k (flag_at b tokens)) (Then (MayStand kind) S)
-    flag_move other position true same =
-        shifts (k true) (good_to _ (goods true) (λ tokens answer rest s token is at. (true, tokens, stands (is ∙ same refl), s))) (ap is_end (same refl) ∙ no_end) (λ tokens. refl)
-    flag_move other position false same = keeps (k false) (good_to _ (goods false) (λ tokens answer rest s is. (false, tokens, missing, s))) (λ tokens. refl)
+  flag_step : (other : TokenKind) (position : SourcePosition) (b : Bool) → test other ≡ b → Step other position (λ tokens. flag_at b tokens) (MayStand kind)
+  flag_step other position true h = take true (λ token rest is. stands (is ∙ is_kind other h)) (ap is_end (is_kind other h) ∙ no_end) (λ tokens. refl)
+  flag_step other position false h = keep false (λ rest is. missing) (λ tokens. refl)
 
-    abbrev flag_can : Can (λ tokens. bind k (flag_at (test (head_kind tokens)) tokens))
-    flag_can = can_after _ (k true) (token_of kind) (λ tokens. rw fits refl) no_end (goods true).can
+  flag_begins : (b : Bool) (h : test kind ≡ b) → b ≡ true → begins (flag_step kind (token_of kind).position b h) ≡ true
+  unfolding flag_step
+  flag_begins true h so = refl
+  flag_begins false h so = absurd (false≢true so)
 
   pub flag_reads : ends_sum kind ≡ true → Reads true (λ tokens. flag_at (test (head_kind tokens)) tokens) (MayStand kind)
-  flag_reads ends = record {
-    good = λ k S goods. good true (λ other position tokens. bind k (flag_at (test other) tokens)) (Then (MayStand kind) S)
-        (λ other position. flag_move k S goods other position (test other) (is_kind other)) (flag_can k S goods) (λ yes. ends);
-  }
+  flag_reads ends = choose (λ kind position. flag_at (test kind)) _ (λ other position. flag_step other position (test other) refl) (token_of kind) (flag_begins (test kind) refl fits) (λ yes. ends)
 
 -- one token that has to stand
 pub data IsOne (test : TokenKind → Bool) : List Token → Unit {0} → List Token → Type 0 where
@@ -214,75 +249,36 @@ not_end test line file FileEnd h = absurd (false≢true (sym file ∙ h))
 not_end test line file kind h = refl
 
 module _ (test : TokenKind → Bool) (line : test LineEnd ≡ false) (file : test FileEnd ≡ false) where
-  module _ (k : Unit {0} → Rest) (S : Unit {0} → List Token → Answer → List Token → Type 0) (goods : (x : Unit {0}) → Good true (k x) (S x)) where
-    one_move : (kind : TokenKind) (position : SourcePosition) (b : Bool) → test kind ≡ b → Move kind position (λ tokens. bind k (expected b tokens)) (Then (IsOne test) S)
-    one_move kind position true fits =
-        shifts (k tt) (good_to _ (goods tt) (λ tokens answer rest s token is at. (tt, tokens, one (ap test is ∙ fits), s))) (not_end test line file kind fits) (λ tokens. refl)
-    one_move kind position false fits = misfits (λ tokens. refl)
+  one_step : (kind : TokenKind) (position : SourcePosition) (b : Bool) → test kind ≡ b → Step kind position (λ tokens. expected b tokens) (IsOne test)
+  one_step kind position true h = take tt (λ token rest is. one (ap test is ∙ h)) (not_end test line file kind h) (λ tokens. refl)
+  one_step kind position false h = misfit_here (λ tokens. refl)
 
-  pub one_reads : (starts : Bool) (kind : TokenKind) → test kind ≡ true → (starts ≡ true → ends_sum kind ≡ true) → Reads starts (λ tokens. expected (test (head_kind tokens)) tokens) (IsOne test)
-  one_reads starts kind fits ends = record {
-    good = λ k S goods. good starts (λ kind position tokens. bind k (expected (test kind) tokens)) (Then (IsOne test) S)
-        (λ kind position. one_move k S goods kind position (test kind) refl) (can_after _ (k tt) (token_of kind) (λ tokens. rw fits refl) (not_end test line file kind fits) (goods tt).can) ends;
-  }
+  one_begins : (kind : TokenKind) (b : Bool) (h : test kind ≡ b) → b ≡ true → begins (one_step kind (token_of kind).position b h) ≡ true
+  unfolding one_step
+  one_begins kind true h so = refl
+  one_begins kind false h so = absurd (false≢true so)
+
+  pub one_reads : {starts : Bool} (kind : TokenKind) → test kind ≡ true → (starts ≡ true → ends_sum kind ≡ true) → Reads starts (λ tokens. expected (test (head_kind tokens)) tokens) (IsOne test)
+  one_reads kind fits ends = choose (λ kind position. expected (test kind)) _ (λ kind position. one_step kind position (test kind) refl) (token_of kind) (one_begins kind (test kind) refl fits) ends
 
 -- a token that names something by a table
 pub data IsNamed {X : Type 0} (table : TokenKind → Option X) : List Token → X → List Token → Type 0 where
   named : {rest : List Token} {token : Token} {x : X} → table token.kind ≡ Some x → IsNamed table (token ∷ rest) x rest
 
-none-not-some : {X : Type 0} {x : X} → None ≡ Some x → ⊥
-none-not-some {X = X} q = false≢true (ap is_there q)
-  where
-    is_there : Option X → Bool
-    is_there None = false
-    is_there (Some x) = true
-
 named_not_end : {X : Type 0} (table : TokenKind → Option X) → table LineEnd ≡ None → table FileEnd ≡ None → (kind : TokenKind) (x : X) → table kind ≡ Some x → is_end kind ≡ false
-named_not_end table line file LineEnd x h = absurd (none-not-some (sym line ∙ h))
-named_not_end table line file FileEnd x h = absurd (none-not-some (sym file ∙ h))
+named_not_end table line file LineEnd x h = cc
+named_not_end table line file FileEnd x h = cc
 named_not_end table line file kind x h = refl
 
 module _ {X : Type 0} (table : TokenKind → Option X) (line : table LineEnd ≡ None) (file : table FileEnd ≡ None) where
-  module _ (k : X → Rest) (S : X → List Token → Answer → List Token → Type 0) (goods : (x : X) → Good true (k x) (S x)) where
-    named_move : (kind : TokenKind) (position : SourcePosition) (o : Option X) → table kind ≡ o → Move kind position (λ tokens. bind k (named_at o tokens)) (Then (IsNamed table) S)
-    named_move kind position (Some x) fits =
-        shifts (k x) (good_to _ (goods x) (λ tokens answer rest s token is at. (x, tokens, named (ap table is ∙ fits), s))) (named_not_end table line file kind x fits) (λ tokens. refl)
-    named_move kind position None fits = misfits (λ tokens. refl)
+  named_step : (kind : TokenKind) (position : SourcePosition) (o : Option X) → table kind ≡ o → Step kind position (λ tokens. named_at o tokens) (IsNamed table)
+  named_step kind position (Some x) h = take x (λ token rest is. named (ap table is ∙ h)) (named_not_end table line file kind x h) (λ tokens. refl)
+  named_step kind position None h = misfit_here (λ tokens. refl)
+
+  named_begins : (kind : TokenKind) (x : X) (o : Option X) (h : table kind ≡ o) → o ≡ Some x → begins (named_step kind (token_of kind).position o h) ≡ true
+  unfolding named_step
+  named_begins kind x (Some y) h is = refl
+  named_begins kind x None h is = cc
 
   pub named_reads : (kind : TokenKind) (x : X) → table kind ≡ Some x → ends_sum kind ≡ true → Reads true (λ tokens. named_at (table (head_kind tokens)) tokens) (IsNamed table)
-  named_reads kind x fits ends = record {
-    good = λ k S goods. good true (λ kind position tokens. bind k (named_at (table kind) tokens)) (Then (IsNamed table) S)
-        (λ kind position. named_move k S goods kind position (table kind) refl) (can_after _ (k x) (token_of kind) (λ tokens. rw fits refl) (named_not_end table line file kind x fits) (goods x).can) (λ yes. ends);
-  }
-
--- a relation after one token
-abbrev pub After : {X : Type 0} → TokenKind → SourcePosition → (List Token → X → List Token → Type 0) → List Token → X → List Token → Type 0
-After kind position R tokens x rest = (token : Token) → token.kind ≡ kind → token.position ≡ position → R (token ∷ tokens) x rest
-
--- the ways in which a part goes by its next token
-module _ {X : Type 0} (R : List Token → X → List Token → Type 0) (k : X → Rest) (S : X → List Token → Answer → List Token → Type 0) (goods : (x : X) → Good true (k x) (S x)) (kind : TokenKind) (position : SourcePosition) where
-  -- the token is read, and a part after it
-  pub shift : {starts : Bool} {p : List Token → Outcome X} (h : Rest) → Reads starts p (After kind position R) → is_end kind ≡ false → ((tokens : List Token) → h tokens ≡ bind k (p (after_head tokens)))
-      → Move kind position h (Then R S)
-  shift {p = p} h read no_end e = shifts (λ tokens. bind k (p tokens)) (good_to _ (read.good k S goods) turn) no_end e
-    where
-      turn : (tokens : List Token) (answer : Answer) (rest : List Token) → Then (After kind position R) S tokens answer rest → (token : Token) → token.kind ≡ kind → token.position ≡ position → Then R S (token ∷ tokens) answer rest
-      turn tokens answer rest (x, middle, r, s) token is at = (x, middle, r token is at, s)
-
-  -- the token is read, and this is it
-  pub take : (x : X) (h : Rest) → ((token : Token) (rest : List Token) → token.kind ≡ kind → R (token ∷ rest) x rest) → is_end kind ≡ false → ((tokens : List Token) → h tokens ≡ k x (after_head tokens))
-      → Move kind position h (Then R S)
-  take x h r no_end e = shifts (k x) (good_to _ (goods x) (λ tokens answer rest s token is at. (x, tokens, r token tokens is, s))) no_end e
-
-  -- nothing is read
-  pub keep : (x : X) (h : Rest) → ((rest : List Token) → R rest x rest) → ((tokens : List Token) → h tokens ≡ k x tokens) → Move kind position h (Then R S)
-  keep x h r e = keeps (k x) (good_to _ (goods x) (λ tokens answer rest s is. (x, tokens, r tokens, s))) e
-
-  -- a part is read, as if no token had been seen
-  pub pass : {starts : Bool} {p : List Token → Outcome X} (h : Rest) → Reads starts p R → ((tokens : List Token) → h tokens ≡ bind k (p tokens)) → Move kind position h (Then R S)
-  pass {p = p} h read e = keeps (λ tokens. bind k (p tokens)) (good_to _ (read.good k S goods) (λ tokens answer rest s is. s)) e
-
--- a part that begins by this token can come to an end
-abbrev pub can_shift : {X : Type 0} {starts : Bool} {p : List Token → Outcome X} {R : List Token → X → List Token → Type 0} (g : Rest) (k : X → Rest) (S : X → List Token → Answer → List Token → Type 0)
-    → ((x : X) → Good true (k x) (S x)) → (token : Token) → Reads starts p R → ((tokens : List Token) → g (token ∷ tokens) ≡ bind k (p tokens)) → is_end token.kind ≡ false → Can g
-can_shift {p = p} g k S goods token read e no_end = can_after g (λ tokens. bind k (p tokens)) token e no_end (read.good k S goods).can
+  named_reads kind x fits ends = choose (λ kind position. named_at (table kind)) _ (λ kind position. named_step kind position (table kind) refl) (token_of kind) (named_begins kind x (table kind) refl fits) (λ yes. ends)

@@ -8,7 +8,8 @@ use Rattle.pio_parse.specs.declared.expression.Term.TheVariants.{Number as Numbe
 use Rattle.pio_parse.specs.descent.Expression.{expression_at}
 use Rattle.pio_parse.specs.Grammar.{Expr, IsExpression, postfix}
 use Rattle.pio_parse.specs.Grammar.Expr.{Number, Name, Negate, Reverse, Sum, Difference, Product}
-use Rattle.pio_parse.proofs.Finds.{finds_tree, reads, same_rest, same_terms}
+use Rattle.pio_parse.proofs.Tests.{same_left, same_value}
+use Rattle.pio_parse.proofs.Finds.{finds_tree, reads}
 
 abbrev top : List Expr → Expr
 top [] = Number 0
@@ -70,7 +71,7 @@ same_tree tree other e = sym (tree_of_postfix tree) ∙ ap tree_of e ∙ tree_of
 pub one_expression : (text : List ℕ) (tokens : List Token) (tree other : Expr) (rest rest' : List Token)
     → IsExpression text tokens tree rest → IsExpression text tokens other rest' → (tree ≡ other) × (rest ≡ rest')
 one_expression text tokens tree other rest rest' is is' =
-    let same = sym (reads text tokens tree rest is) ∙ reads text tokens other rest' is' in (same_tree tree other (same_terms same), same_rest same)
+    let same = sym (reads text tokens tree rest is) ∙ reads text tokens other rest' is' in (same_tree tree other (same_value same), same_left same)
 
 -- tokens that are read as the terms of a tree have it
 pub has_tree : (text : List ℕ) (tokens : List Token) (tree : Expr) (rest : List Token) → expression_at text tokens ≡ Ok (postfix tree, rest) → IsExpression text tokens tree rest

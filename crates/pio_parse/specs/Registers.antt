@@ -16,73 +16,53 @@ use Rattle.pio_words.specs.declared.op.SetDestination.{SetDestination}
 use Rattle.pio_words.specs.declared.op.SetDestination.TheVariants.{Pins as SetDestinationPins, X as SetDestinationX, Y as SetDestinationY, Pindirs as SetDestinationPindirs}
 
 -- the sources of `in`
-abbrev pub in_source_of_word : Keyword → Option InSource
-in_source_of_word Pins = Some InSourcePins
-in_source_of_word X = Some InSourceX
-in_source_of_word Y = Some InSourceY
-in_source_of_word Null = Some InSourceNull
-in_source_of_word Isr = Some InSourceIsr
-in_source_of_word Osr = Some InSourceOsr
-in_source_of_word keyword = None
-
 abbrev pub in_source_of : TokenKind → Option InSource
-in_source_of (KeywordToken keyword) = in_source_of_word keyword
+in_source_of (KeywordToken Pins) = Some InSourcePins
+in_source_of (KeywordToken X) = Some InSourceX
+in_source_of (KeywordToken Y) = Some InSourceY
+in_source_of (KeywordToken Null) = Some InSourceNull
+in_source_of (KeywordToken Isr) = Some InSourceIsr
+in_source_of (KeywordToken Osr) = Some InSourceOsr
 in_source_of kind = None
 
 -- the destinations of `out`
-abbrev pub out_destination_of_word : Keyword → Option OutDestination
-out_destination_of_word Pins = Some OutDestinationPins
-out_destination_of_word X = Some OutDestinationX
-out_destination_of_word Y = Some OutDestinationY
-out_destination_of_word Null = Some OutDestinationNull
-out_destination_of_word Pindirs = Some OutDestinationPindirs
-out_destination_of_word Pc = Some OutDestinationPc
-out_destination_of_word Isr = Some OutDestinationIsr
-out_destination_of_word Exec = Some OutDestinationExec
-out_destination_of_word keyword = None
-
 abbrev pub out_destination_of : TokenKind → Option OutDestination
-out_destination_of (KeywordToken keyword) = out_destination_of_word keyword
+out_destination_of (KeywordToken Pins) = Some OutDestinationPins
+out_destination_of (KeywordToken X) = Some OutDestinationX
+out_destination_of (KeywordToken Y) = Some OutDestinationY
+out_destination_of (KeywordToken Null) = Some OutDestinationNull
+out_destination_of (KeywordToken Pindirs) = Some OutDestinationPindirs
+out_destination_of (KeywordToken Pc) = Some OutDestinationPc
+out_destination_of (KeywordToken Isr) = Some OutDestinationIsr
+out_destination_of (KeywordToken Exec) = Some OutDestinationExec
 out_destination_of kind = None
 
 -- the destinations of `mov`
-abbrev pub mov_destination_of_word : Keyword → Option MovDestination
-mov_destination_of_word Pins = Some MovDestinationPins
-mov_destination_of_word X = Some MovDestinationX
-mov_destination_of_word Y = Some MovDestinationY
-mov_destination_of_word Exec = Some MovDestinationExec
-mov_destination_of_word Pc = Some MovDestinationPc
-mov_destination_of_word Isr = Some MovDestinationIsr
-mov_destination_of_word Osr = Some MovDestinationOsr
-mov_destination_of_word keyword = None
-
 abbrev pub mov_destination_of : TokenKind → Option MovDestination
-mov_destination_of (KeywordToken keyword) = mov_destination_of_word keyword
+mov_destination_of (KeywordToken Pins) = Some MovDestinationPins
+mov_destination_of (KeywordToken X) = Some MovDestinationX
+mov_destination_of (KeywordToken Y) = Some MovDestinationY
+mov_destination_of (KeywordToken Exec) = Some MovDestinationExec
+mov_destination_of (KeywordToken Pc) = Some MovDestinationPc
+mov_destination_of (KeywordToken Isr) = Some MovDestinationIsr
+mov_destination_of (KeywordToken Osr) = Some MovDestinationOsr
 mov_destination_of kind = None
 
 -- the sources of `mov`
-abbrev pub mov_source_of_word : Keyword → Option MovSource
-mov_source_of_word Pins = Some MovSourcePins
-mov_source_of_word X = Some MovSourceX
-mov_source_of_word Y = Some MovSourceY
-mov_source_of_word Null = Some MovSourceNull
-mov_source_of_word Status = Some MovSourceStatus
-mov_source_of_word Isr = Some MovSourceIsr
-mov_source_of_word Osr = Some MovSourceOsr
-mov_source_of_word keyword = None
-
 abbrev pub mov_source_of : TokenKind → Option MovSource
-mov_source_of (KeywordToken keyword) = mov_source_of_word keyword
+mov_source_of (KeywordToken Pins) = Some MovSourcePins
+mov_source_of (KeywordToken X) = Some MovSourceX
+mov_source_of (KeywordToken Y) = Some MovSourceY
+mov_source_of (KeywordToken Null) = Some MovSourceNull
+mov_source_of (KeywordToken Status) = Some MovSourceStatus
+mov_source_of (KeywordToken Isr) = Some MovSourceIsr
+mov_source_of (KeywordToken Osr) = Some MovSourceOsr
 mov_source_of kind = None
 
 -- the destinations of `set`
-abbrev pub set_destination_of_word : Keyword → Option SetDestination
-set_destination_of_word Pins = Some SetDestinationPins
-set_destination_of_word X = Some SetDestinationX
-set_destination_of_word Y = Some SetDestinationY
-set_destination_of_word Pindirs = Some SetDestinationPindirs
-set_destination_of_word keyword = None
-
 abbrev pub set_destination_of : TokenKind → Option SetDestination
-set_destination_of (KeywordToken keyword) = set_destination_of_word keyword
+set_destination_of (KeywordToken Pins) = Some SetDestinationPins
+set_destination_of (KeywordToken X) = Some SetDestinationX
+set_destination_of (KeywordToken Y) = Some SetDestinationY
+set_destination_of (KeywordToken Pindirs) = Some SetDestinationPindirs
 set_destination_of kind = None

@@ -1,7 +1,7 @@
 //! Expressions, read into postfix order.
 
 ghost use Rattle.std.specs.Prelude.{◌≡◌, ◌++◌, ◌∷◌, [], List, ℕ, ◌<◌, ◌≤◌, ◌+◌, ◌^◌, length, IfOk, OnOk, OnSome, IfSome, IfErr};
-ghost use Rattle.pio_parse.specs.descent.Calls.{HasPopped, Reads, ReadsOperand, ReadsOperator, newest, reading_of, stack_of};
+ghost use Rattle.pio_parse.specs.descent.Calls.{HasPopped, Reads, ReadsOperand, ReadsOperator, newest};
 ghost use Rattle.pio_parse.specs.descent.Expression.{expression_at, level_of, operand_at, operand_step, operator_step, reduced, token_step, with_binary, with_closed};
 ghost use Rattle.pio_parse.specs.Tokens.{name_at};
 
@@ -177,8 +177,8 @@ fn level(operator: Operator) -> u8
 /// The operators that wait since the last open parenthesis, and bind at least so tightly, have their
 /// last operand.
 fn reduce(least: u8, stack: &mut Stack, output: &mut Terms) -> Result<(), AllocError>
-    ensures { OnOk result ((stack_of stack.new, output.new)
-        ≡ reduced least (stack_of stack.old) output.old) }
+    ensures { OnOk result ((stack.new, output.new)
+        ≡ reduced least stack.old output.old) }
 {
     while let Some(Pending::Operator(operator)) = stack.top() {
         if level(operator) < least {
@@ -225,8 +225,8 @@ impl File<'_> {
 /// A token where an operand comes next.
 fn take_operand(file: &File, token: Token, reading: &mut Reading) -> Result<(), Stop>
     requires { reading.old.depth < 2 ^ 63 }
-    ensures { ReadsOperand result (reading_of reading.new)
-        (operand_step file.now.text.now token.kind token.position (reading_of reading.old)) }
+    ensures { ReadsOperand result reading.new
+        (operand_step file.now.text.now token.kind token.position reading.old) }
 {
     match token.kind {
         TokenKind::Number(number) => {
@@ -250,7 +250,7 @@ fn take_operand(file: &File, token: Token, reading: &mut Reading) -> Result<(), 
 }
 
 fn take_binary(operator: Operator, reading: &mut Reading) -> Result<(), AllocError>
-    ensures { OnOk result (reading_of reading.new ≡ with_binary operator (reading_of reading.old)) }
+    ensures { OnOk result (reading.new ≡ with_binary operator reading.old) }
 {
     reduce(level(operator), &mut reading.stack, &mut reading.output)?;
     reading.stack.push(Pending::Operator(operator))?;
@@ -260,7 +260,7 @@ fn take_binary(operator: Operator, reading: &mut Reading) -> Result<(), AllocErr
 
 fn take_close(reading: &mut Reading) -> Result<(), AllocError>
     requires { 0 < reading.old.depth }
-    ensures { OnOk result (reading_of reading.new ≡ with_closed (reading_of reading.old)) }
+    ensures { OnOk result (reading.new ≡ with_closed reading.old) }
 {
     reduce(0, &mut reading.stack, &mut reading.output)?;
     let _ = reading.stack.pop();
@@ -270,8 +270,8 @@ fn take_close(reading: &mut Reading) -> Result<(), AllocError>
 
 /// A token after an operand: whether the expression goes on.
 fn take_operator(token: Token, reading: &mut Reading) -> Result<bool, Stop>
-    ensures { ReadsOperator result (reading_of reading.old) (reading_of reading.new)
-        (operator_step token.kind token.position (reading_of reading.old)) }
+    ensures { ReadsOperator result reading.old reading.new
+        (operator_step token.kind token.position reading.old) }
 {
     match token.kind {
         TokenKind::Star => take_binary(Operator::Multiply, reading)?,
@@ -296,8 +296,8 @@ fn take_operator(token: Token, reading: &mut Reading) -> Result<bool, Stop>
 /// A token of an expression: whether it goes on.
 fn take(file: &File, token: Token, reading: &mut Reading) -> Result<bool, Stop>
     requires { reading.old.depth < 2 ^ 63 }
-    ensures { ReadsOperator result (reading_of reading.old) (reading_of reading.new)
-        (token_step file.now.text.now token.kind token.position (reading_of reading.old)) }
+    ensures { ReadsOperator result reading.old reading.new
+        (token_step file.now.text.now token.kind token.position reading.old) }
 {
     if reading.awaited {
         take_operand(file, token, reading)?;
@@ -309,7 +309,7 @@ fn take(file: &File, token: Token, reading: &mut Reading) -> Result<bool, Stop>
 
 fn finish(alloc: Global, mut reading: Reading) -> Result<Expression, AllocError>
     ensures { IfOk result (λ expression. expression
-        ≡ (reduced 0 (reading_of reading).stack (reading_of reading).output).1) }
+        ≡ (reduced 0 reading.stack reading.output).1) }
 {
     reduce(0, &mut reading.stack, &mut reading.output)?;
     let Reading {

@@ -1,9 +1,7 @@
 //! From characters to tokens.
 
 ghost use Rattle.std.specs.Prelude.{◌≡◌, ◌≤◌, ◌<◌, ◌+◌, ◌-◌, ◌^◌, ◌++◌, length, IfOk, IfErr, OnOk, Ok, option_to_list};
-ghost use Rattle.source_text.specs.Outcome.{map_ok};
-ghost use Rattle.pio_parse.specs.descent.Scan.{begins, ends, finishes, IsCharFault, without_token, scanned, sign_of, single_token, skips, steps, word_ends};
-ghost use Rattle.pio_parse.specs.descent.Scanning.{IsStarted, mode_of, step_of};
+ghost use Rattle.pio_parse.specs.descent.Scan.{begins, ends, finishes, IsCharFault, IsStarted, without_token, scanned, sign_of, single_token, skips, steps, word_ends};
 
 use crate::fault::PioFault;
 use crate::token::{Directive, Token, TokenKind, span_of};
@@ -43,7 +41,7 @@ pub(crate) struct Step {
 }
 
 fn no_token(mode: Mode) -> Result<Step, SourcePosition>
-    ensures { map_ok step_of result ≡ Ok (without_token (mode_of mode)) }
+    ensures { result ≡ Ok (without_token mode) }
 {
     Ok(Step {
         mode,
@@ -53,7 +51,7 @@ fn no_token(mode: Mode) -> Result<Step, SourcePosition>
 }
 
 fn single(kind: TokenKind, position: SourcePosition) -> Result<Step, SourcePosition>
-    ensures { map_ok step_of result ≡ Ok (single_token kind position) }
+    ensures { result ≡ Ok (single_token kind position) }
 {
     Ok(Step {
         mode: Mode::Between,
@@ -64,8 +62,8 @@ fn single(kind: TokenKind, position: SourcePosition) -> Result<Step, SourcePosit
 
 /// A character that stands between tokens.
 fn begin(index: usize, byte: u8, position: SourcePosition) -> Result<Step, SourcePosition>
-    ensures value { map_ok step_of result ≡ begins index byte position }
-    ensures started { IfOk result (λ s. IsStarted (mode_of s.mode) (index + 1)) }
+    ensures value { result ≡ begins index byte position }
+    ensures started { IfOk result (λ s. IsStarted s.mode (index + 1)) }
 {
     match byte {
         b' ' | b'\t' | b'\r' => no_token(Mode::Between),
@@ -113,8 +111,8 @@ fn end(
     byte: u8,
     position: SourcePosition,
 ) -> Result<Step, SourcePosition>
-    ensures value { map_ok step_of result ≡ ends token index byte position }
-    ensures started { IfOk result (λ s. IsStarted (mode_of s.mode) (index + 1)) }
+    ensures value { result ≡ ends token index byte position }
+    ensures started { IfOk result (λ s. IsStarted s.mode (index + 1)) }
 {
     let step = begin(index, byte, position)?;
     Ok(Step {
@@ -135,8 +133,8 @@ fn end_word(
 ) -> Result<Step, SourcePosition>
     requires begun { start ≤ index }
     requires short { index < 2 ^ 32 }
-    ensures value { map_ok step_of result ≡ word_ends word.now start begun byte index position }
-    ensures started { IfOk result (λ s. IsStarted (mode_of s.mode) (index + 1)) }
+    ensures value { result ≡ word_ends word.now start begun byte index position }
+    ensures started { IfOk result (λ s. IsStarted s.mode (index + 1)) }
 {
     let kind = classify(word, span_of(start, index));
     let token = Token {
@@ -169,9 +167,9 @@ fn advance(
 ) -> Result<Step, SourcePosition>
     requires inside { index ≤ length text.now }
     requires short { length text.now < 2 ^ 32 }
-    requires started { IsStarted (mode_of mode) index }
-    ensures value { map_ok step_of result ≡ steps text.now index (mode_of mode) byte position }
-    ensures started { IfOk result (λ s. IsStarted (mode_of s.mode) (index + 1)) }
+    requires started { IsStarted mode index }
+    ensures value { result ≡ steps text.now index mode byte position }
+    ensures started { IfOk result (λ s. IsStarted s.mode (index + 1)) }
 {
     match mode {
         Mode::Between => begin(index, byte, position),
@@ -223,8 +221,8 @@ fn skip(
     byte: u8,
     position: SourcePosition,
 ) -> Result<Step, SourcePosition>
-    ensures value { map_ok step_of result ≡ skips (mode_of mode) byte position }
-    ensures started { IfOk result (λ s. IsStarted (mode_of s.mode) (index + 1)) }
+    ensures value { result ≡ skips mode byte position }
+    ensures started { IfOk result (λ s. IsStarted s.mode (index + 1)) }
 {
     match mode {
         Mode::Slash(begun) => match byte {
@@ -268,8 +266,8 @@ fn skip(
 /// What the end of the file does: the last token, if one ends there.
 fn finish(text: &[u8], mode: Mode) -> Result<Option<Token>, SourcePosition>
     requires short { length text.now < 2 ^ 32 }
-    requires started { IsStarted (mode_of mode) (length text.now) }
-    ensures { result ≡ finishes text.now (mode_of mode) }
+    requires started { IsStarted mode (length text.now) }
+    ensures { result ≡ finishes text.now mode }
 {
     match mode {
         Mode::Between | Mode::LineComment => Ok(None),

@@ -4,12 +4,9 @@ use Rattle.source_text.specs.declared.position.SourcePosition.{SourcePosition}
 use Rattle.pio_parse.specs.declared.token.Token.{Token}
 use Rattle.pio_parse.specs.declared.cursor.Stop.{Stop}
 use Rattle.pio_parse.specs.declared.cursor.Stop.TheVariants.{Syntax, Memory}
-use Rattle.pio_parse.specs.declared.expression.Pending.{Pending as CodePending}
-use Rattle.pio_parse.specs.declared.expression.Pending.TheVariants.{Parenthesis as CodeParenthesis, Operator as CodeOperator}
-use Rattle.pio_parse.specs.declared.expression.Reading.{Reading as CodeReading}
+use Rattle.pio_parse.specs.declared.expression.Pending.{Pending}
+use Rattle.pio_parse.specs.declared.expression.Reading.{Reading}
 use Rattle.pio_parse.specs.descent.Cursor.{Outcome}
-use Rattle.pio_parse.specs.descent.Expression.{Pending, Reading}
-use Rattle.pio_parse.specs.descent.Expression.Pending.{Parenthesis, OperatorPending}
 
 -- a call read this; memory may run out at any time
 abbrev pub Reads : {X : Type 0} → Result X Stop → List Token → Outcome X → Type 0
@@ -23,24 +20,13 @@ IsStopOf outcome (Syntax position) = outcome ≡ Err position
 IsStopOf outcome Memory = ⊤
 
 -- the newest of what waits was taken off, if anything waited
-abbrev pub HasPopped : Option CodePending → List CodePending → List CodePending → Type 0
+abbrev pub HasPopped : Option Pending → List Pending → List Pending → Type 0
 HasPopped None old new = (old ≡ []) × (new ≡ [])
 HasPopped (Some pending) old new = old ≡ pending ∷ new
 
-abbrev pub newest : List CodePending → Option CodePending
+abbrev pub newest : List Pending → Option Pending
 newest [] = None
 newest (pending ∷ stack) = Some pending
-
-abbrev pub pending_of : CodePending → Pending
-pending_of CodeParenthesis = Parenthesis
-pending_of (CodeOperator operator) = OperatorPending operator
-
-abbrev pub stack_of : List CodePending → List Pending
-stack_of [] = []
-stack_of (pending ∷ stack) = pending_of pending ∷ stack_of stack
-
-abbrev pub reading_of : CodeReading → Reading
-reading_of reading = record { stack = stack_of reading.stack; output = reading.output; awaited = reading.awaited; depth = reading.depth }
 
 -- what a call made of one token
 abbrev pub ReadsOperand : Result (Unit {0}) Stop → Reading → Result Reading SourcePosition → Type 0

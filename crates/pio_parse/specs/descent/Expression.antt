@@ -7,24 +7,15 @@ use Rattle.pio_parse.specs.declared.token.TokenKind.{TokenKind}
 use Rattle.pio_parse.specs.declared.token.TokenKind.TheVariants.{Name, Number, DoubleColon, OpenParenthesis, CloseParenthesis, Plus, Minus, Star}
 use Rattle.pio_parse.specs.declared.expression.Operator.{Operator}
 use Rattle.pio_parse.specs.declared.expression.Operator.TheVariants.{Add, Subtract, Multiply, Negate, Reverse}
+use Rattle.pio_parse.specs.declared.expression.Pending.{Pending}
+use Rattle.pio_parse.specs.declared.expression.Pending.TheVariants.{Parenthesis, Operator as OperatorPending}
+use Rattle.pio_parse.specs.declared.expression.Reading.{Reading}
 use Rattle.pio_parse.specs.declared.expression.Term.{Term}
 use Rattle.pio_parse.specs.declared.expression.Term.TheVariants.{Number as NumberTerm, Name as NameTerm, Operator as OperatorTerm}
 use Rattle.source_text.specs.declared.position.SourcePosition.{SourcePosition}
 use Rattle.source_text.specs.Outcome.{and_then, map_ok}
 use Rattle.pio_parse.specs.descent.Cursor.{Outcome, after_head, expected, misfit}
 use Rattle.pio_parse.specs.Tokens.{head_kind, name_at}
-
--- what waits for the end of its last operand: an open parenthesis or an operator
-pub data Pending : Type 0 where
-  Parenthesis : Pending
-  OperatorPending : (operator : Operator) → Pending
-
--- an expression that is being read: what waits, the newest first, the terms so far, whether an operand comes next, and how many parentheses are open
-pub record Reading : Type 0 where
-  pub stack : List Pending
-  pub output : List Term
-  pub awaited : Bool
-  pub depth : ℕ
 
 -- how tightly an operator binds: `*` before `+` and `-`. A minus before its operand takes the product to its right, and `::` the sum
 abbrev pub level_of : Operator → ℕ

@@ -43,36 +43,20 @@ abbrev pub is_close_bracket : TokenKind → Bool
 is_close_bracket CloseBracket = true
 is_close_bracket kind = false
 
-abbrev pub is_y_word : Keyword → Bool
-is_y_word Y = true
-is_y_word keyword = false
-
 abbrev pub is_y : TokenKind → Bool
-is_y (KeywordToken keyword) = is_y_word keyword
+is_y (KeywordToken Y) = true
 is_y kind = false
 
-abbrev pub is_rel_word : Keyword → Bool
-is_rel_word Rel = true
-is_rel_word keyword = false
-
 abbrev pub is_rel : TokenKind → Bool
-is_rel (KeywordToken keyword) = is_rel_word keyword
+is_rel (KeywordToken Rel) = true
 is_rel kind = false
 
-abbrev pub is_if_full_word : Keyword → Bool
-is_if_full_word IfFull = true
-is_if_full_word keyword = false
-
 abbrev pub is_if_full : TokenKind → Bool
-is_if_full (KeywordToken keyword) = is_if_full_word keyword
+is_if_full (KeywordToken IfFull) = true
 is_if_full kind = false
 
-abbrev pub is_if_empty_word : Keyword → Bool
-is_if_empty_word IfEmpty = true
-is_if_empty_word keyword = false
-
 abbrev pub is_if_empty : TokenKind → Bool
-is_if_empty (KeywordToken keyword) = is_if_empty_word keyword
+is_if_empty (KeywordToken IfEmpty) = true
 is_if_empty kind = false
 
 -- a condition, after which a comma may stand
@@ -94,28 +78,20 @@ x_condition_at tokens =
     else decrement_at XDecrement tokens
 
 -- `x`, `y` or `osre` after `!`
-abbrev pub not_condition_of_word : Keyword → List Token → Outcome JmpCondition
-not_condition_of_word X tokens = conditional_at XZero (after_head tokens)
-not_condition_of_word Y tokens = conditional_at YZero (after_head tokens)
-not_condition_of_word Osre tokens = conditional_at OsrNotEmpty (after_head tokens)
-not_condition_of_word keyword tokens = misfit tokens
-
 abbrev pub not_condition_of : TokenKind → List Token → Outcome JmpCondition
-not_condition_of (KeywordToken keyword) tokens = not_condition_of_word keyword tokens
+not_condition_of (KeywordToken X) tokens = conditional_at XZero (after_head tokens)
+not_condition_of (KeywordToken Y) tokens = conditional_at YZero (after_head tokens)
+not_condition_of (KeywordToken Osre) tokens = conditional_at OsrNotEmpty (after_head tokens)
 not_condition_of kind tokens = misfit tokens
 
 abbrev pub not_condition_at : List Token → Outcome JmpCondition
 not_condition_at tokens = not_condition_of (head_kind tokens) tokens
 
-abbrev pub jmp_condition_of_word : Keyword → List Token → Outcome JmpCondition
-jmp_condition_of_word X tokens = x_condition_at (after_head tokens)
-jmp_condition_of_word Y tokens = decrement_at YDecrement (after_head tokens)
-jmp_condition_of_word Pin tokens = conditional_at PinHigh (after_head tokens)
-jmp_condition_of_word keyword tokens = Ok (Always, tokens)
-
 abbrev pub jmp_condition_of : TokenKind → List Token → Outcome JmpCondition
 jmp_condition_of Bang tokens = not_condition_at (after_head tokens)
-jmp_condition_of (KeywordToken keyword) tokens = jmp_condition_of_word keyword tokens
+jmp_condition_of (KeywordToken X) tokens = x_condition_at (after_head tokens)
+jmp_condition_of (KeywordToken Y) tokens = decrement_at YDecrement (after_head tokens)
+jmp_condition_of (KeywordToken Pin) tokens = conditional_at PinHigh (after_head tokens)
 jmp_condition_of kind tokens = Ok (Always, tokens)
 
 -- the condition of `jmp`, if one is written
@@ -142,16 +118,12 @@ polarity_at text tokens = polarity_of text (head_kind tokens) tokens
 abbrev pub last_operand_at : List ℕ → List Token → Outcome (List Term)
 last_operand_at text tokens = operand_at text (past_comma tokens)
 
-abbrev pub wait_for_word : List ℕ → Option (List Term) → Keyword → List Token → Outcome Operation
-wait_for_word text polarity Gpio tokens = map_ok (λ number. (WaitGpio polarity number.0, number.1)) (last_operand_at text (after_head tokens))
-wait_for_word text polarity Pin tokens = map_ok (λ number. (WaitPin polarity number.0, number.1)) (last_operand_at text (after_head tokens))
-wait_for_word text polarity Irq tokens = and_then
+abbrev pub wait_for : List ℕ → Option (List Term) → TokenKind → List Token → Outcome Operation
+wait_for text polarity (KeywordToken Gpio) tokens = map_ok (λ number. (WaitGpio polarity number.0, number.1)) (last_operand_at text (after_head tokens))
+wait_for text polarity (KeywordToken Pin) tokens = map_ok (λ number. (WaitPin polarity number.0, number.1)) (last_operand_at text (after_head tokens))
+wait_for text polarity (KeywordToken Irq) tokens = and_then
     (λ number. map_ok (λ relative. (WaitIrq polarity number.0 relative.0, relative.1)) (flag_at (is_rel (head_kind number.1)) number.1))
     (last_operand_at text (after_head tokens))
-wait_for_word text polarity keyword tokens = misfit tokens
-
-abbrev pub wait_for : List ℕ → Option (List Term) → TokenKind → List Token → Outcome Operation
-wait_for text polarity (KeywordToken keyword) tokens = wait_for_word text polarity keyword tokens
 wait_for text polarity kind tokens = misfit tokens
 
 -- wait [polarity] gpio|pin number, wait [polarity] irq number [rel]
@@ -174,13 +146,9 @@ out_at text tokens = and_then (λ destination. map_ok (λ count. (OutOperation d
 abbrev pub set_at : List ℕ → List Token → Outcome Operation
 set_at text tokens = and_then (λ destination. map_ok (λ value. (SetOperation destination.0 value.0, value.1)) (last_operand_at text destination.1)) (named_at (set_destination_of (head_kind tokens)) tokens)
 
-abbrev pub block_of_word : Keyword → List Token → Outcome Bool
-block_of_word Block tokens = Ok (true, after_head tokens)
-block_of_word NoBlock tokens = Ok (false, after_head tokens)
-block_of_word keyword tokens = Ok (true, tokens)
-
 abbrev pub block_of : TokenKind → List Token → Outcome Bool
-block_of (KeywordToken keyword) tokens = block_of_word keyword tokens
+block_of (KeywordToken Block) tokens = Ok (true, after_head tokens)
+block_of (KeywordToken NoBlock) tokens = Ok (false, after_head tokens)
 block_of kind tokens = Ok (true, tokens)
 
 -- [block|noblock], where none is block
@@ -213,15 +181,11 @@ mov_at tokens = and_then
     (mov_operation_at (past_comma destination.1)))
     (named_at (mov_destination_of (head_kind tokens)) tokens)
 
-abbrev pub irq_mode_of_word : Keyword → List Token → Outcome (Bool × Bool)
-irq_mode_of_word Set tokens = Ok ((false, false), after_head tokens)
-irq_mode_of_word NoWait tokens = Ok ((false, false), after_head tokens)
-irq_mode_of_word Wait tokens = Ok ((false, true), after_head tokens)
-irq_mode_of_word Clear tokens = Ok ((true, false), after_head tokens)
-irq_mode_of_word keyword tokens = Ok ((false, false), tokens)
-
 abbrev pub irq_mode_of : TokenKind → List Token → Outcome (Bool × Bool)
-irq_mode_of (KeywordToken keyword) tokens = irq_mode_of_word keyword tokens
+irq_mode_of (KeywordToken Set) tokens = Ok ((false, false), after_head tokens)
+irq_mode_of (KeywordToken NoWait) tokens = Ok ((false, false), after_head tokens)
+irq_mode_of (KeywordToken Wait) tokens = Ok ((false, true), after_head tokens)
+irq_mode_of (KeywordToken Clear) tokens = Ok ((true, false), after_head tokens)
 irq_mode_of kind tokens = Ok ((false, false), tokens)
 
 -- [set|nowait|wait|clear]: whether the flag is cleared, and whether the instruction waits
@@ -263,12 +227,8 @@ is_instruction Set = true
 is_instruction Nop = true
 is_instruction keyword = false
 
-abbrev pub is_side_word : Keyword → Bool
-is_side_word Side = true
-is_side_word keyword = false
-
 abbrev pub is_side : TokenKind → Bool
-is_side (KeywordToken keyword) = is_side_word keyword
+is_side (KeywordToken Side) = true
 is_side kind = false
 
 -- [side value]

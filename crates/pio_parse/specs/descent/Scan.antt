@@ -1,9 +1,12 @@
 -- The characters and tokens of a source (RP2040 Datasheet, 3.3, Comments; code blocks: Raspberry Pi Pico C/C++ SDK, pioasm, Output
 -- pass through). Which characters are faults, and where, is the project's own.
-use Rattle.std.specs.Prelude.{◌==◌, ◌≡◌, ◌||◌, ◌&&◌, not, ℕ, ◌+◌, Bool, false, if◌then◌else◌, List, [], ◌∷◌, ◌++◌, Option, None, Some, Result, Ok, Err, length, slice_range, drop, option_to_list, ⊤}
+use Rattle.std.specs.Prelude.{◌==◌, ◌≡◌, ◌||◌, ◌&&◌, not, ℕ, ◌+◌, ◌≤◌, Bool, false, if◌then◌else◌, List, [], ◌∷◌, ◌++◌, Option, None, Some, Result, Ok, Err, length, slice_range, drop, option_to_list, ⊤}
 use Rattle.std.specs.Option.{option_map_or}
 use Rattle.source_text.specs.Position.{first_position, position_behind}
 use Rattle.source_text.specs.Outcome.{and_then, map_ok}
+use Rattle.pio_parse.specs.declared.scan.Mode.{Mode}
+use Rattle.pio_parse.specs.declared.scan.Mode.TheVariants.{Between, Word, Colon, Bang, Slash, LineComment, BlockComment, Header, Code}
+use Rattle.pio_parse.specs.declared.scan.Step.{Step}
 use Rattle.pio_parse.specs.declared.fault.PioFault.{PioFault}
 use Rattle.pio_parse.specs.declared.fault.PioFault.TheVariants.{Char, Memory}
 use Rattle.source_text.specs.declared.position.SourcePosition.{SourcePosition}
@@ -13,33 +16,6 @@ use Rattle.pio_parse.specs.declared.token.TokenKind.{TokenKind}
 use Rattle.pio_parse.specs.declared.token.TokenKind.TheVariants.{Directive, Comma, Colon as ColonToken, DoubleColon, OpenBracket, CloseBracket, OpenParenthesis, CloseParenthesis, Plus, Minus, Star, Bang as BangToken, NotEqual, Tilde, LineEnd, FileEnd}
 use Rattle.source_text.specs.Characters.{is_word_char}
 use Rattle.pio_parse.specs.Words.{word_kind}
-
--- what the characters so far have begun
-pub data Mode : Type 0 where
-  -- nothing
-  Between : Mode
-  -- a word that started at this byte and position
-  Word : (start : ℕ) → (begun : SourcePosition) → Mode
-  -- a colon, which may be the first of two
-  Colon : (begun : SourcePosition) → Mode
-  -- a `!`, which `=` may follow
-  Bang : (begun : SourcePosition) → Mode
-  -- a `/`, which must begin a comment
-  Slash : (begun : SourcePosition) → Mode
-  -- the rest of a line that is not read
-  LineComment : Mode
-  -- a `/*` comment, and whether its last character is a `*`
-  BlockComment : (begun : SourcePosition) → (star : Bool) → Mode
-  -- the first line of a code block, and whether it has a word
-  Header : (begun : SourcePosition) → (is_named : Bool) → Mode
-  -- a code block, and whether its last character is a `%`
-  Code : (begun : SourcePosition) → (percent : Bool) → Mode
-
--- what a character does: a mode, after at most two tokens that it ends
-pub record Step : Type 0 where
-  pub mode : Mode
-  pub first : Option Token
-  pub second : Option Token
 
 -- a character goes on with a mode, and ends no token
 abbrev pub without_token : Mode → Step
@@ -140,3 +116,8 @@ abbrev pub IsCharFault : Result (List Token) SourcePosition → PioFault → Typ
 IsCharFault result (Char line column) = result ≡ Err (record { line = line; column = column })
 IsCharFault result Memory = ⊤
 IsCharFault result fault = ⊥
+
+-- a word that has begun did so before this character
+abbrev pub IsStarted : Mode → ℕ → Type 0
+IsStarted (Word start begun) index = start ≤ index
+IsStarted mode index = ⊤

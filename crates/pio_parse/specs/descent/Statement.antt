@@ -24,28 +24,16 @@ name_of_kind text kind tokens = misfit tokens
 abbrev pub name_token_at : List ℕ → List Token → Outcome (List ℕ)
 name_token_at text tokens = name_of_kind text (head_kind tokens) tokens
 
-abbrev pub is_public_word : Keyword → Bool
-is_public_word Public = true
-is_public_word keyword = false
-
 abbrev pub is_public : TokenKind → Bool
-is_public (KeywordToken keyword) = is_public_word keyword
+is_public (KeywordToken Public) = true
 is_public kind = false
 
-abbrev pub is_opt_word : Keyword → Bool
-is_opt_word Opt = true
-is_opt_word keyword = false
-
 abbrev pub is_opt : TokenKind → Bool
-is_opt (KeywordToken keyword) = is_opt_word keyword
+is_opt (KeywordToken Opt) = true
 is_opt kind = false
 
-abbrev pub is_pindirs_word : Keyword → Bool
-is_pindirs_word Pindirs = true
-is_pindirs_word keyword = false
-
 abbrev pub is_pindirs : TokenKind → Bool
-is_pindirs (KeywordToken keyword) = is_pindirs_word keyword
+is_pindirs (KeywordToken Pindirs) = true
 is_pindirs kind = false
 
 abbrev pub past_public : List Token → List Token

@@ -1,7 +1,7 @@
 use Rattle.std.proofs.Common.{◌≡◌, ◌≤◌, List, ℕ, drop}
 use Rattle.pio_parse.specs.declared.token.Token.{Token}
-use Rattle.pio_parse.specs.descent.Expression.{Reading, expression_at, expression_from}
-use Rattle.pio_parse.specs.descent.Calls.{reading_of}
+use Rattle.pio_parse.specs.declared.expression.Reading.{Reading}
+use Rattle.pio_parse.specs.descent.Expression.{expression_at, expression_from}
 use Rattle.pio_parse.proofs.expression.read_expression.Given as goal
 
 -- the reading of the whole goes on from here
@@ -11,4 +11,4 @@ pub record IsReading (text : List ℕ) (tokens : List Token) (index : ℕ) (read
   pub whole : expression_at text tokens ≡ expression_from text reading (drop index tokens)
 
 abbrev pub invariant-loop-token : goal.invariant-loop-token
-invariant-loop-token l = IsReading l.file.text.now l.fn.cursor.rest.now l.token-index (reading_of l.reading) l.cursor.rest.now
+invariant-loop-token l = IsReading l.file.text.now l.fn.cursor.rest.now l.token-index l.reading l.cursor.rest.now

@@ -1,4 +1,4 @@
-use Rattle.pio_parse.proofs.Faults.{faults_at_first}
+use Rattle.pio_parse.proofs.FirstFaults.{faults_at_first}
 use Rattle.pio_parse.proofs.laws.faults_at_first.Goals as goal
 
 pub returns : goal.returns

@@ -3,9 +3,10 @@ use Rattle.std.proofs.lemmas.List.{drop_all}
 use Rattle.source_text.specs.declared.position.SourcePosition.{SourcePosition}
 use Rattle.pio_parse.specs.declared.token.Token.{Token}
 use Rattle.pio_parse.specs.declared.token.TokenKind.TheVariants.{FileEnd}
-use Rattle.pio_parse.specs.descent.Scan.{Mode, Step, finishes, scanned_from, steps}
+use Rattle.pio_parse.specs.declared.scan.Mode.{Mode}
+use Rattle.pio_parse.specs.declared.scan.Step.{Step}
+use Rattle.pio_parse.specs.descent.Scan.{finishes, scanned_from, steps}
 use Rattle.source_text.specs.Position.{position_behind, IsPositionBelow}
-use Rattle.pio_parse.specs.descent.Scanning.{mode_of, step_of}
 use Rattle.pio_parse.proofs.scan.scan.Goals as goal
 
 below_next : (c index : ℕ) (here : SourcePosition) (b : Bool) → (c == 10) ≡ b → here.line < index + 2 → here.column < index + 2 → IsPositionBelow (position_behind c here) (index + 1 + 2)
@@ -31,8 +32,8 @@ loop-index-preserved c =
     record {
       started = c.in-Ok.ensures.started;
       inside = rw c.position_after-here.ensures (below_next byte c.loop-index.index here (byte == 10) refl loop.inside.0 loop.inside.1);
-      scan = loop.scan ∙ scan_next c.args.text.now c.loop-index.index (mode_of c.loop-index.mode) here c.position_after-here.result c.loop-index.after
-          c.loop-index.tokens.items c.add.new.tokens.items c.add-in-loop-index.new.tokens.items (step_of c.in-Ok.done)
+      scan = loop.scan ∙ scan_next c.args.text.now c.loop-index.index c.loop-index.mode here c.position_after-here.result c.loop-index.after
+          c.loop-index.tokens.items c.add.new.tokens.items c.add-in-loop-index.new.tokens.items c.in-Ok.done
           c.loop-index-test.true (sym c.in-Ok.ensures.value) c.position_after-here.ensures c.in_ok-add.ensures.ok c.in_ok-add-2.ensures.ok;
     }
 
@@ -55,17 +56,17 @@ pub returns-in-Err-clause-err : goal.returns-in-Err-clause-err
 returns-in-Err-clause-err c =
     let loop = c.loop-index in
     rw c.char_fault.ensures (loop.invariant.scan
-    ∙ scan_stops c.args.text.now loop.index (mode_of loop.mode) loop.here loop.after c.in-Err.position loop.tokens.items c.loop-index-test.true (sym c.in-Err.ensures.value))
+    ∙ scan_stops c.args.text.now loop.index loop.mode loop.here loop.after c.in-Err.position loop.tokens.items c.loop-index-test.true (sym c.in-Err.ensures.value))
 
 pub returns-in-Err-finish-clause-err : goal.returns-in-Err-finish-clause-err
 returns-in-Err-finish-clause-err c =
     let loop = c.loop-index in
     rw c.char_fault-in-Err-finish.ensures (loop.invariant.scan
-    ∙ scan_ends_badly c.args.text.now loop.index (mode_of loop.mode) loop.here loop.after c.in-Err-finish.position loop.tokens.items c.loop-index-test.false (sym c.in-Err-finish.ensures))
+    ∙ scan_ends_badly c.args.text.now loop.index loop.mode loop.here loop.after c.in-Err-finish.position loop.tokens.items c.loop-index-test.false (sym c.in-Err-finish.ensures))
 
 pub returns-clause-ok : goal.returns-clause-ok
 returns-clause-ok c =
     let loop = c.loop-index in
     loop.invariant.scan
-    ∙ scan_ends c.args.text.now loop.index (mode_of loop.mode) loop.here loop.after loop.tokens.items c.add-in-Ok-finish.new.tokens.items c.add-2.new.tokens.items c.in-Ok-finish.last
+    ∙ scan_ends c.args.text.now loop.index loop.mode loop.here loop.after loop.tokens.items c.add-in-Ok-finish.new.tokens.items c.add-2.new.tokens.items c.in-Ok-finish.last
     c.loop-index-test.false (sym c.in-Ok-finish.ensures) c.in_ok-add-in-Ok-finish.ensures.ok c.in_ok-add-3.ensures.ok
