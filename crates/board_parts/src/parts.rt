@@ -108,7 +108,11 @@ impl<P: Part + Sync> Device for Row<P> {
 
     #[inline(always)]
     fn step(&self, state: &mut [u32], cycle: u64, pads: u32) -> Wires {
-        step_all(&self.list, state, cycle, pads)
+        match self.list.as_slice() {
+            [] => Wires::default(),
+            [only] => join(only.step(state, cycle, pads), Wires::default()),
+            list => step_all(list, state, cycle, pads),
+        }
     }
 
     fn quiet(&self, state: &[u32], cycle: u64, pads: u32) -> u64 {
@@ -145,7 +149,7 @@ fn join(first: Drive, rest: Wires) -> Wires
 }
 
 /// A cycle of parts, each over its own words.
-#[inline(always)]
+#[inline(never)]
 fn step_all<P: Part>(list: &[P], state: &mut [u32], cycle: u64, pads: u32) -> Wires
     requires state { length state.old ≡ words_of (map (λ p. placed_at (P.attached p) (P.meaning p)) list.now) }
     requires placed { all_placed (map (λ p. placed_at (P.attached p) (P.meaning p)) list.now) ≡ true }
@@ -156,28 +160,10 @@ fn step_all<P: Part>(list: &[P], state: &mut [u32], cycle: u64, pads: u32) -> Wi
 {
     match list {
         [] => Wires::default(),
-        [last] => join(last.step(state, cycle, pads), Wires::default()),
-        _ => step_many(list, state, cycle, pads),
-    }
-}
-
-/// The same, of several parts.
-#[inline(never)]
-fn step_many<P: Part>(list: &[P], state: &mut [u32], cycle: u64, pads: u32) -> Wires
-    requires state { length state.old ≡ words_of (map (λ p. placed_at (P.attached p) (P.meaning p)) list.now) }
-    requires placed { all_placed (map (λ p. placed_at (P.attached p) (P.meaning p)) list.now) ≡ true }
-    ensures wires { result ≡ wires_of (map (λ p. placed_at (P.attached p) (P.meaning p)) list.now)
-        state.old cycle pads }
-    ensures state { state.new ≡ states_after (map (λ p. placed_at (P.attached p) (P.meaning p)) list.now)
-        state.old cycle pads }
-{
-    match list {
-        [] => Wires::default(),
-        [last] => join(last.step(state, cycle, pads), Wires::default()),
         [first, rest @ ..] => {
             let (words, others) = state.split_at_mut(first.words());
             let drive = first.step(words, cycle, pads);
-            join(drive, step_many(rest, others, cycle, pads))
+            join(drive, step_all(rest, others, cycle, pads))
         }
     }
 }

@@ -17,3 +17,4 @@ pub mod Rows
 pub mod Search
 pub mod StaysChosen
 pub mod TimersAtRest
+pub mod Unmoved

@@ -13,4 +13,5 @@ pub mod State
 pub mod Timer
 pub mod TransferLaws
 pub mod Transfer
+pub mod Unmoved
 pub mod Words

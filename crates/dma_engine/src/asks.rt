@@ -45,22 +45,18 @@ fn write_for(request: Request) -> Access
 }
 
 /// A read, by the part of the machine that it goes to; one of SRAM asks for its word.
-fn begin_read<K: Look>(counts: u128, write: Access, request: Request, look: &mut K) -> BegunTransfer
-    ensures { Runs K.answers look.old (asks_for counts write (Some request)) result look.new }
+fn begin_read<K: Look>(request: Request, look: &mut K, begun: &mut BegunTransfer)
+    ensures { Runs K.answers look.old (asks_for begun.old.counts begun.old.write (Some request))
+        begun.new look.new }
 {
     let spot = place(request.address);
-    let read = match spot {
+    begun.read = match spot {
         Spot::Ram { .. } => {
             let answer = look.ask(Ask::Word(request.address));
             Access::Read(request, word_of(answer))
         }
         _ => elsewhere(Master::DmaRead, request, spot),
     };
-    BegunTransfer {
-        read,
-        write,
-        counts,
-    }
 }
 
 impl Channel {
@@ -132,56 +128,48 @@ impl Engine {
     }
 
     /// The read and the write, where these are the counts and some access is begun.
+    #[inline(never)]
     #[tactic(auto, unfolding(crate::specs::Asks::asks_read))]
-    fn begin_access<K: Look>(&self, counts: u128, look: &mut K) -> BegunTransfer
-        ensures { Runs K.answers look.old (asks_read counts self.now) result look.new }
+    fn begin_access<K: Look>(&self, look: &mut K, begun: &mut BegunTransfer)
+        ensures { Runs K.answers look.old (asks_read begun.old.counts self.now) begun.new look.new }
     {
-        let write = self.begin_write();
+        begun.write = self.begin_write();
         match self.next_request() {
-            Some(request) => begin_read(counts, write, request, look),
-            None => BegunTransfer {
-                read: Access::Nothing,
-                write,
-                counts,
-            },
+            Some(request) => begin_read(request, look, begun),
+            None => begun.read = Access::Nothing,
         }
     }
 
-    /// The read and the write, where these are the counts.
+    /// The read and the write, where the counts are found.
     #[inline(always)]
-    fn begin<K: Look>(&self, counts: u128, look: &mut K) -> BegunTransfer
-        ensures { Runs K.answers look.old (asks_read counts self.now) result look.new }
+    fn begin<K: Look>(&self, look: &mut K, begun: &mut BegunTransfer)
+        ensures { Runs K.answers look.old (asks_read begun.old.counts self.now) begun.new look.new }
     {
-        if self.begins_nothing(counts) {
-            return BegunTransfer {
-                read: Access::Nothing,
-                write: Access::Nothing,
-                counts,
-            };
+        if self.begins_nothing(begun.counts) {
+            begun.read = Access::Nothing;
+            begun.write = Access::Nothing;
+        } else {
+            self.begin_access(look, begun);
         }
-        self.begin_access(counts, look)
     }
 }
 
 impl Engine {
-    /// What the engine asks in a cycle, and what it has begun then.
+    /// What the engine asks in a cycle, and what it has begun then, in the place of what was begun before.
     #[inline(never)]
     #[tactic(auto, unfolding(crate::specs::Asks::asks))]
-    pub(crate) fn ask<K: Look>(&self, look: &mut K) -> BegunTransfer
-        ensures { Runs K.answers look.old (asks self.now) result look.new }
+    pub(crate) fn ask<K: Look>(&self, look: &mut K, begun: &mut BegunTransfer)
+        ensures { Runs K.answers look.old (asks self.now) begun.new look.new }
     {
         if self.held {
-            return BegunTransfer {
-                read: Access::Nothing,
-                write: Access::Nothing,
-                counts: 0,
-            };
+            *begun = BegunTransfer::nothing();
+            return;
         }
-        let counts = if self.waits_for_counts() {
+        begun.counts = if self.waits_for_counts() {
             look.ask(Ask::Pacing)
         } else {
             0
         };
-        self.begin(counts, look)
+        self.begin(look, begun);
     }
 }

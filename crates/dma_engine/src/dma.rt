@@ -5,6 +5,7 @@ ghost use Rattle.dma_engine.specs.Words.{word_of, is_word, effect_of};
 
 use crate::begun::BegunTransfer;
 use crate::engine::Engine;
+use crate::finish::is_nothing;
 use lane_look::Turn;
 use rp_base::Registers;
 use std::marker::Model;
@@ -21,11 +22,14 @@ pub struct Dma {
     pub(crate) counts: bool,
     /// `is_silent` of the engine: no interrupt is raised or forced.
     pub(crate) silent: bool,
+    /// The counts with which a cycle in which nothing is begun changes nothing, where they were found.
+    pub(crate) unmoved_by: Option<u128>,
 }
 
 impl Model for Dma {
-    ghost use Rattle.std.specs.Prelude.{◌≡◌, false};
+    ghost use Rattle.std.specs.Prelude.{◌≡◌, false, IfSome};
     ghost use Rattle.dma_engine.specs.State.{Engine as State};
+    ghost use Rattle.dma_engine.specs.Unmoved.{StaysBy};
     ghost use Rattle.dma_engine.specs.Rest.{is_still};
     ghost use Rattle.dma_engine.specs.Paused.{is_paused};
     ghost use Rattle.dma_engine.specs.Asks.{may_ask_counts};
@@ -36,7 +40,8 @@ impl Model for Dma {
     ghost view = { λ d. d.engine };
 
     ghost invariant = { λ d. (d.at_rest ≡ is_still d.engine) × (d.paused ≡ is_paused d.engine)
-        × (d.counts ≡ false → may_ask_counts d.engine ≡ false) × (d.silent ≡ is_silent d.engine) };
+        × (d.counts ≡ false → may_ask_counts d.engine ≡ false) × (d.silent ≡ is_silent d.engine)
+        × IfSome d.unmoved_by (λ counts. StaysBy counts d.engine) };
 }
 
 impl Dma {
@@ -66,6 +71,7 @@ impl Dma {
             paused,
             counts,
             silent,
+            unmoved_by: None,
         }
     }
 
@@ -88,6 +94,7 @@ impl Dma {
         self.paused = self.engine.is_paused();
         self.counts = self.engine.may_ask_counts();
         self.silent = self.engine.is_silent();
+        self.unmoved_by = None;
         allowed
     }
 
@@ -107,6 +114,7 @@ impl Dma {
         self.paused = self.engine.is_paused();
         self.counts = self.engine.may_ask_counts();
         self.silent = self.engine.is_silent();
+        self.unmoved_by = None;
     }
 
     /// The engine is at rest: no channel is busy or chosen, no write waits, no timer runs, and no interrupt is raised or forced.
@@ -144,6 +152,20 @@ impl Dma {
         self.at_rest | self.paused
     }
 
+    /// Nothing was begun, and the counts are those with which that changes nothing: a channel that waits for a FIFO goes on to wait.
+    #[inline(always)]
+    #[tactic(auto, using(crate::proofs::Unmoved::unmoved))]
+    pub(crate) fn is_unmoved_by(&self, begun: &BegunTransfer) -> bool
+        ensures { result ≡ true → (turns : List Turn) → next self.now begun.now turns ≡ self.now }
+    {
+        match self.unmoved_by {
+            Some(counts) if counts == begun.counts => {
+                is_nothing(&begun.read) && is_nothing(&begun.write)
+            }
+            _ => false,
+        }
+    }
+
     /// The cycle, where this was begun and these turns were given. Whether the engine rests or is paused is found again where
     /// something moved, and whether it is silent; where only timers stepped all three are as before.
     #[inline(never)]
@@ -155,6 +177,11 @@ impl Dma {
             self.at_rest = self.engine.is_still();
             self.paused = self.engine.is_paused();
             self.silent = self.engine.is_silent();
+            self.unmoved_by = None;
+        } else if self.engine.stays_by(begun.counts) {
+            self.unmoved_by = Some(begun.counts);
+        } else {
+            self.unmoved_by = None;
         }
     }
 

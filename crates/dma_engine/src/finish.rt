@@ -11,6 +11,7 @@ ghost use Rattle.dma_engine.specs.State.{channel_at};
 ghost use Rattle.dma_engine.specs.Timer.{gives, stepped, given_by, is_given, gets_credit, credited, with_credit, with_stepped_timers, after_timers};
 ghost use Rattle.dma_engine.specs.Rest.{is_idle_channel, is_idle_timer, is_at_rest, is_still};
 ghost use Rattle.dma_engine.specs.Paused.{is_paused};
+ghost use Rattle.dma_engine.specs.Unmoved.{StaysBy};
 ghost use Rattle.dma_engine.specs.Words.{is_silent};
 ghost use Rattle.dma_engine.specs.Cycle.{want_of, word_of, word_read, with_data, with_read, after_read, is_written, after_write, credits_left, counted, after_choice, is_over, after_transfers, next};
 ghost use Rattle.dma_engine.specs.Channel.{in_turn};
@@ -266,6 +267,17 @@ impl Engine {
             }
         }
         false
+    }
+
+    /// No pacing timer runs, and with these counts no channel can be chosen or is over, so that a cycle in which nothing is begun changes
+    /// nothing.
+    pub(crate) fn stays_by(&self, counts: u128) -> bool
+        ensures { result ≡ true → StaysBy counts self.now }
+    {
+        if !are_idle_timers(&self.timers) {
+            return false;
+        }
+        !self.has_work(counts)
     }
 
     /// A channel takes a credit.

@@ -21,7 +21,7 @@ impl Dma {
             begun.write = Access::Nothing;
             begun.counts = 0;
         } else {
-            *begun = self.engine.ask(look);
+            self.engine.ask(look, begun);
         }
     }
 }
@@ -58,7 +58,11 @@ impl Lane<()> for Dma {
     #[inline(always)]
     #[tactic(auto, using(crate::proofs::AtRest::at_rest, crate::proofs::Paused::paused, crate::proofs::Counts::counts))]
     fn finish(&mut self, _env: &(), begun: &BegunTransfer, turns: [Turn; 2], _marks: &mut Marks) {
-        if self.at_rest || (self.paused && self.engine.pass(begun, &turns)) {
+        if self.at_rest || self.is_unmoved_by(begun) {
+            return;
+        }
+        if self.paused && self.engine.pass(begun, &turns) {
+            self.unmoved_by = None;
             return;
         }
         self.move_on(begun, &turns);
@@ -70,6 +74,7 @@ impl Lane<()> for Dma {
         self.paused = other.paused;
         self.counts = other.counts;
         self.silent = other.silent;
+        self.unmoved_by = other.unmoved_by;
     }
 
     ghost few = { Prim.search rules };

@@ -240,6 +240,14 @@ branch_begins op.Dmb s h = absurd (cc)
 branch_begins op.Isb s h = absurd (cc)
 branch_begins op.Undefined s h = absurd (cc)
 
+-- so is each beat of WFI and WFE
+pub pause_begins : (o : Op) (s : State) → (awaits_interrupt o || awaits_event o) ≡ true
+    → asks_beat (works.Instruction o) s ≡ Ready (act.Inner (works.Instruction o))
+unfolding beats_of
+pause_begins op.Wfi s h = begins op.Wfi s (inner_beat op.Wfi s 2 refl)
+pause_begins op.Wfe s h = begins op.Wfe s (inner_beat op.Wfe s 2 refl)
+pause_begins _ s h = absurd (cc h)
+
 -- ---- the end
 
 inner_only : (o : Op) → is_plain o ≡ true →

@@ -14,7 +14,7 @@ ghost use Rattle.m0_core.specs.Fetch.{is_ram, is_locked, asks_fault, is_callable
 
 use crate::doing::{Act, Doing, Work};
 use crate::exceptions::RETURN_BEATS;
-use crate::kinds::{is_branch, is_breakpoint, is_call, is_plain, is_undefined};
+use crate::kinds::{is_branch, is_breakpoint, is_call, is_pause, is_plain, is_undefined};
 use crate::placed::Placed;
 use crate::processor::Core;
 use crate::returns::{is_misfit, value_at};
@@ -345,7 +345,7 @@ impl Core {
         }
     }
 
-    /// The next beat of what is in progress. All beats of a branch by an offset are inside the core.
+    /// The next beat of what is in progress. All beats of a branch by an offset, of WFI and of WFE are inside the core.
     #[inline(always)]
     fn begin_work<K: Look>(&self, work: &Work, look: &mut K, act: &mut Act)
         requires { self.now.work ≡ Some work.now }
@@ -353,6 +353,7 @@ impl Core {
     {
         match work {
             Work::Instruction(op) if is_branch(op) => *act = Act::Inner(*work),
+            Work::Instruction(op) if is_pause(op) => *act = Act::Inner(*work),
             Work::Instruction(_) if self.is_held => self.begin_placed(work, &self.held, look, act),
             Work::Instruction(_) | Work::Entry(_) => self.begin_beat(work, look, act),
             Work::Return(value) => self.begin_return(*value, look, act),

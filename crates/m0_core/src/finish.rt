@@ -8,7 +8,7 @@ ghost use Rattle.m0_core.specs.Cycle.{signals, want_of, waiting, followed, with_
 use crate::doing::{Act, Doing, Work};
 use crate::exceptions::{ENTRY_BEATS, RETURN_BEATS};
 use crate::kinds::{
-    awaits_event, awaits_interrupt, is_branch, is_call, is_plain, is_signal, is_single,
+    awaits_event, awaits_interrupt, is_branch, is_call, is_pause, is_plain, is_signal, is_single,
 };
 use crate::placed::Placed;
 use crate::processor::Core;
@@ -63,6 +63,7 @@ impl Doing {
 }
 
 /// Nothing happens to the core.
+#[inline(always)]
 pub(crate) fn is_idle(act: &Act) -> bool
     ensures { result ≡ is_idle act.now }
 {
@@ -181,8 +182,17 @@ impl Core {
         self.read.clear();
     }
 
-    /// An inner beat of a plain instruction, or of a load or a store of one register, is over, as most are; false where the work
-    /// is other, and then nothing changes.
+    /// WFI or WFE lasts on, so that the beat changes nothing.
+    #[inline(always)]
+    #[tactic(auto, unfolding(crate::specs::Cycle::after_inner), using(crate::proofs::Kept::at_work))]
+    fn lasts(&self, work: &Work) -> bool
+        ensures { result ≡ true → after_inner work.now self.now ≡ self.now }
+    {
+        self.is_at(work) && self.is_paused(work)
+    }
+
+    /// An inner beat of a plain instruction, or of a load or a store of one register, is over, as most are, or WFI or WFE lasts on; false
+    /// where it is other, and then nothing changes.
     #[inline(always)]
     #[tactic(auto, using(crate::proofs::Plain::single_after, crate::proofs::Plain::single_plain, crate::proofs::Plain::branch_plain, crate::proofs::Plain::plainly_after))]
     pub(crate) fn pass_plain(&mut self, work: &Work) -> bool
@@ -201,6 +211,7 @@ impl Core {
                 self.pass_access(op);
                 true
             }
+            Work::Instruction(op) if is_pause(op) => self.lasts(work),
             _ => false,
         }
     }

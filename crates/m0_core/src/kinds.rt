@@ -1,6 +1,6 @@
 //! The instructions that a core treats by themselves.
 
-ghost use Rattle.std.specs.Prelude.{◌≡◌};
+ghost use Rattle.std.specs.Prelude.{◌≡◌, ◌||◌};
 ghost use Rattle.m0_core.specs.Kinds.{is_breakpoint, is_signal, awaits_event, awaits_interrupt, is_call, is_undefined, is_plain, is_branch, is_single};
 
 use rp_base::op::Op;
@@ -35,6 +35,14 @@ pub(crate) fn awaits_interrupt(op: &Op) -> bool
     ensures { result ≡ awaits_interrupt op.now }
 {
     matches!(op, Op::Wfi)
+}
+
+/// WFI or WFE.
+#[inline(always)]
+pub(crate) fn is_pause(op: &Op) -> bool
+    ensures { result ≡ (awaits_interrupt op.now || awaits_event op.now) }
+{
+    matches!(op, Op::Wfi | Op::Wfe)
 }
 
 /// SVC.

@@ -7,7 +7,7 @@ ghost use Rattle.m0_core.specs.Cycle.{wanted, next};
 ghost use Rattle.m0_core.specs.Bounds.{four_at_most, reads_none};
 
 use crate::doing::{Act, Doing};
-use crate::finish::want;
+use crate::finish::{is_idle, want};
 use crate::processor::Core;
 use lane_look::{Lane, Look, Marks, Turn, Want};
 
@@ -52,7 +52,9 @@ impl Lane<()> for Core {
             self.close(begun.lines, begun.cycle);
             return;
         }
-        self.finish_any(begun, &turns);
+        if !is_idle(&begun.act) {
+            self.finish_any(begun, &turns);
+        }
     }
 
     fn copy_from(&mut self, other: &Core) {

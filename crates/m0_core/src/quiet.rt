@@ -5,7 +5,7 @@ ghost use Rattle.lane_look.specs.Times.{times};
 ghost use Rattle.m0_core.specs.Quiet.{rested, IsQuiet, is_wait, is_waiting, is_lasting};
 
 use crate::doing::{Doing, Work};
-use crate::kinds::{awaits_event, awaits_interrupt};
+use crate::kinds::is_pause;
 use crate::processor::Core;
 use lane_look::{Ask, Look, Turn};
 
@@ -31,7 +31,7 @@ fn is_wait(work: &Option<Work>) -> bool
     ensures { result ≡ is_wait work.now }
 {
     match work {
-        Some(Work::Instruction(op)) => awaits_interrupt(op) || awaits_event(op),
+        Some(Work::Instruction(op)) => is_pause(op),
         _ => false,
     }
 }

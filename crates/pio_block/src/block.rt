@@ -133,6 +133,7 @@ impl PioBlock {
     }
 
     /// A cycle in which the block steps.
+    #[inline(never)]
     pub(crate) fn step(&mut self, inputs: Inputs)
         ensures { self.new ≡ after_cycle inputs.now inputs.second self.old }
     {

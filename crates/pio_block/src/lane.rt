@@ -48,6 +48,7 @@ impl Lane<()> for PioBlock {
         [Want::Nothing, Want::Nothing]
     }
 
+    #[inline(always)]
     #[tactic(auto, unfolding(crate::specs::Cycle::next))]
     fn finish(&mut self, _env: &(), begun: &Option<Inputs>, _turns: [Turn; 2], _marks: &mut Marks) {
         if let Some(inputs) = *begun {

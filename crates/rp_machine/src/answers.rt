@@ -2,9 +2,13 @@
 
 ghost use Rattle.std.specs.Prelude.{◌≡◌, ◌+◌, ◌*◌, ◌^◌, ◌≤◌, ◌<◌};
 ghost use Rattle.dma_engine.specs.Pace.{packed_counts};
+ghost use Rattle.dma_engine.specs.Words as dma;
+ghost use Rattle.pio_block.specs.Words as pio;
 ghost use Rattle.rp_machine.specs.Answers.{pair_number, packed_pair, sio_lines};
 
 use crate::machine::Machine;
+use dma_engine::Dma;
+use pio_block::PioBlock;
 use sio_block::Sio;
 
 /// Two lines, the first one lowest.
@@ -14,6 +18,32 @@ fn pair_number(lines: [bool; 2]) -> u32
 {
     let [first, second] = lines;
     u32::from(first) + u32::from(second) * 2
+}
+
+/// The lines of a PIO block. Most often none of them can be high, which costs a test.
+#[inline(always)]
+fn pio_lines(block: &PioBlock) -> u32
+    ensures value { result ≡ pair_number (pio.lines_of block.now) }
+    ensures small { result ≤ 3 }
+{
+    if block.is_silent() {
+        0
+    } else {
+        pair_number(block.lines())
+    }
+}
+
+/// The lines of the DMA engine, likewise.
+#[inline(always)]
+fn dma_lines(engine: &Dma) -> u32
+    ensures value { result ≡ pair_number (dma.lines_of engine.now) }
+    ensures small { result ≤ 3 }
+{
+    if engine.is_silent() {
+        0
+    } else {
+        pair_number(engine.lines())
+    }
 }
 
 /// The line of SIO to a core.
@@ -38,28 +68,30 @@ fn packed_pair(words: [u32; 2]) -> u128
 }
 
 /// Eight counts of six bits each, the first one lowest.
-fn packed_eight(counts: [u8; 8]) -> u128
+#[inline(always)]
+fn packed_eight(counts: [u8; 8]) -> u64
     ensures value { result ≡ packed_counts counts }
     ensures small { result < 2 ^ 51 }
 {
     let [c0, c1, c2, c3, c4, c5, c6, c7] = counts;
-    u128::from(c0)
-        + u128::from(c1) * 0x40
-        + u128::from(c2) * 0x1000
-        + u128::from(c3) * 0x4_0000
-        + u128::from(c4) * 0x100_0000
-        + u128::from(c5) * 0x4000_0000
-        + u128::from(c6) * 0x10_0000_0000
-        + u128::from(c7) * 0x400_0000_0000
+    u64::from(c0)
+        + u64::from(c1) * 0x40
+        + u64::from(c2) * 0x1000
+        + u64::from(c3) * 0x4_0000
+        + u64::from(c4) * 0x100_0000
+        + u64::from(c5) * 0x4000_0000
+        + u64::from(c6) * 0x10_0000_0000
+        + u64::from(c7) * 0x400_0000_0000
 }
 
 /// Four counts of six bits each, the first one lowest.
-fn packed_four(counts: [u8; 4]) -> u128
+#[inline(always)]
+fn packed_four(counts: [u8; 4]) -> u64
     ensures value { result ≡ packed_counts counts }
     ensures small { result < 2 ^ 27 }
 {
     let [c0, c1, c2, c3] = counts;
-    u128::from(c0) + u128::from(c1) * 0x40 + u128::from(c2) * 0x1000 + u128::from(c3) * 0x4_0000
+    u64::from(c0) + u64::from(c1) * 0x40 + u64::from(c2) * 0x1000 + u64::from(c3) * 0x4_0000
 }
 
 /// The counts that pace DMA channels (RP2040 Datasheet, 2.5.3.1).
@@ -82,9 +114,9 @@ impl Counts {
     pub fn packed(&self) -> u128
         ensures { result ≡ packed self.now }
     {
-        packed_eight(self.pio0)
-            + packed_eight(self.pio1) * 0x1_0000_0000_0000
-            + packed_four(self.uarts) * 0x1_0000_0000_0000_0000_0000_0000
+        u128::from(packed_eight(self.pio0))
+            + u128::from(packed_eight(self.pio1)) * 0x1_0000_0000_0000
+            + u128::from(packed_four(self.uarts)) * 0x1_0000_0000_0000_0000_0000_0000
     }
 }
 
@@ -92,44 +124,32 @@ impl Machine {
     ghost use Rattle.std.specs.Prelude.{◌≡◌, ◌<◌, ◌^◌, ◌∷◌, []};
     ghost use Rattle.rp_machine.specs.Answers.{shared_lines, lines_of, counts_of, pacing_of, inputs_of, outs_of};
 
-    /// The interrupt lines that come from PIO and the DMA engine, the same to both cores. Most often none of them can be high,
-    /// which costs a few tests.
+    /// The interrupt lines that come from PIO and the DMA engine, the same to both cores.
     #[inline(always)]
-    fn shared_lines(&self) -> u32
+    pub(crate) fn shared_lines(&self) -> u32
         ensures value { result ≡ shared_lines self.now }
         ensures small { result < 2 ^ 13 }
     {
-        if self.pio0.is_at_rest() && self.pio1.is_at_rest() && self.dma.is_at_rest() {
-            return 0;
-        }
-        if self.pio0.is_silent() && self.pio1.is_silent() && self.dma.is_silent() {
-            return 0;
-        }
-        pair_number(self.pio0.lines()) * 0x80
-            + pair_number(self.pio1.lines()) * 0x200
-            + pair_number(self.dma.lines()) * 0x800
+        pio_lines(&self.pio0) * 0x80 + pio_lines(&self.pio1) * 0x200 + dma_lines(&self.dma) * 0x800
     }
 
     /// The interrupt lines of core 0 or 1, line 0 in bit 0 (RP2040 Datasheet, 2.3.2, Interrupts).
     #[inline(always)]
-    #[tactic(auto, unfolding(crate::specs::Answers::lines_of, crate::specs::Answers::block_lines))]
     pub fn lines(&self, core: u8) -> u32
         ensures { result ≡ lines_of core self.now }
     {
-        self.outer.lines(core) | (self.shared_lines() + sio_lines(&self.sio, core))
+        self.lines_beside(self.shared_lines(), core)
     }
 
-    /// The interrupt lines of core 0, and of core 1: what they share is found once.
+    /// The same, where these are the lines that both cores share.
     #[inline(always)]
     #[tactic(auto, unfolding(crate::specs::Answers::lines_of, crate::specs::Answers::block_lines))]
-    pub(crate) fn both_lines(&self) -> [u32; 2]
-        ensures { result ≡ lines_of 0 self.now ∷ lines_of 1 self.now ∷ [] }
+    pub(crate) fn lines_beside(&self, shared: u32, core: u8) -> u32
+        requires shared { shared ≡ shared_lines self.now }
+        requires small { shared < 2 ^ 13 }
+        ensures { result ≡ lines_of core self.now }
     {
-        let shared = self.shared_lines();
-        [
-            self.outer.lines(0) | (shared + sio_lines(&self.sio, 0)),
-            self.outer.lines(1) | (shared + sio_lines(&self.sio, 1)),
-        ]
+        self.outer.lines(core) | (shared + sio_lines(&self.sio, core))
     }
 
     /// The counts that pace DMA channels.

@@ -10,7 +10,7 @@ use crate::look::MachineLook;
 use crate::machine::Machine;
 use dma_engine::BegunTransfer;
 use lane_look::{Device, Lane};
-use m0_core::{Core, Doing};
+use m0_core::{Act, Core, Doing};
 use outer_lane::{SeenOutputs, World};
 use pio_block::Inputs;
 
@@ -105,7 +105,8 @@ impl Begun {
 }
 
 impl Machine {
-    ghost use Rattle.std.specs.Prelude.{◌≡◌};
+    ghost use Rattle.std.specs.Prelude.{◌≡◌, ◌^◌, ◌<◌};
+    ghost use Rattle.rp_machine.specs.Answers.{shared_lines};
     ghost use Rattle.rp_machine.specs.Cycle.{begun};
 
     /// What the lanes begin, by the state at the start of the cycle, in the place of what they began before.
@@ -118,9 +119,28 @@ impl Machine {
         lanes.pio0 = begin_lane(self, 3, &self.pio0, &());
         lanes.pio1 = begin_lane(self, 4, &self.pio1, &());
         lanes.outer = begin_lane(self, 5, &self.outer, world);
-        let [lines0, lines1] = self.both_lines();
-        begin_core(self, 0, lines0, &self.core0, &mut lanes.core0);
-        begin_core(self, 1, lines1, &self.core1, &mut lanes.core1);
+        let shared = self.shared_lines();
+        let lines = self.lines_beside(shared, 0);
+        begin_core(self, 0, lines, &self.core0, &mut lanes.core0);
+        self.begin_core1(shared, &mut lanes.core1);
+    }
+
+    /// What core 1 begins, in the place of what it began before, where these are the lines that both cores share. While it sleeps its own
+    /// lines are not found.
+    #[inline(always)]
+    #[tactic(auto, unfolding(crate::specs::Cycle::begun, m0_core::specs::Fetch::asks))]
+    fn begin_core1(&self, shared: u32, core1: &mut Doing)
+        requires shared { shared ≡ shared_lines self.now }
+        requires small { shared < 2 ^ 13 }
+        ensures { core1.new ≡ (begun self.now).core1 }
+    {
+        if self.core1.is_asleep() {
+            core1.act = Act::Asleep;
+            core1.lines = 0;
+            core1.cycle = self.at;
+        } else {
+            begin_core(self, 1, self.lines_beside(shared, 1), &self.core1, core1);
+        }
     }
 
     /// What the lanes begin, by the state at the start of the cycle.

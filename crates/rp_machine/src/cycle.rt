@@ -85,7 +85,7 @@ impl Machine {
     ghost use Rattle.rp_base.specs.Map.{IsWithin};
     ghost use Rattle.rp_machine.specs.Deeds.{spot_of, StoresInSram};
     ghost use Rattle.rp_machine.specs.BusRest.{core1_at_rest, rest_next};
-    ghost use Rattle.rp_machine.specs.Alone.{first_next};
+    ghost use Rattle.rp_machine.specs.Alone.{first_next, is_first_alone};
     ghost use Rattle.rp_machine.specs.Cycle.{begun, wanted_by, wanted, cause_in, stop, turns, deeds, with_turns, signalled, pins_of, with_sio, found_by, sio_accessed, after_deed, after_launcher, after_core1, stored, ended, after_deeds, next_by, next, mark};
 
     /// The first cause of a master to stop before a cycle in which this was begun, whoever wants anything.
@@ -109,6 +109,16 @@ impl Machine {
         self.cause_of(world, seen, write)
     }
 
+    /// The same, where no master behind core 0 wants anything.
+    #[inline(always)]
+    fn cause_first<X: Device>(&self, world: &World<'_, X>, begun: &Begun) -> Option<Why>
+        requires { is_first_alone (wanted begun.now) ≡ true }
+        ensures { result ≡ cause_in (setting X.meaning world.now) begun.now (wanted begun.now)
+            self.now }
+    {
+        self.cause_of_core0(world, &begun.outer, &begun.core0)
+    }
+
     /// The first cause of a master to stop before a cycle in which this was begun. In most, core 0 alone wants anything.
     #[inline(always)]
     fn cause<X: Device>(&self, world: &World<'_, X>, begun: &Begun) -> Option<Why>
@@ -116,7 +126,7 @@ impl Machine {
             self.now }
     {
         if is_core0_first(begun) {
-            self.cause_of_core0(world, &begun.outer, &begun.core0)
+            self.cause_first(world, begun)
         } else {
             self.cause_in(world, begun)
         }
@@ -403,8 +413,25 @@ impl Machine {
         self.at = at + 1;
     }
 
-    /// One cycle in which this was begun. Its mark goes to the end of the marks. In most, no master behind core 0 wants anything, and in
-    /// many core 0 does not either, which costs a few tests.
+    /// One cycle in which this was begun, and no master behind core 0 wants anything. In many core 0 does not either.
+    #[inline(always)]
+    fn step_first<X: Device>(&mut self, world: &World<'_, X>, begun: &Begun, marks: &mut Marks)
+        requires number { self.old.cycle < 2 ^ 64 - 1 }
+        requires marks { length marks.old < 256 }
+        requires first { is_first_alone (wanted begun.now) ≡ true }
+        ensures state { self.new ≡ next_by (setting X.meaning world.now) begun.now (wanted
+            begun.now) self.old }
+        ensures marks { marks.new ≡ marks.old ++ marked (setting X.meaning world.now) self.old.outer
+            begun.now.outer ∷ [] }
+    {
+        if self.is_bus_free(&begun.core0) {
+            self.step_at_rest(world, begun, marks);
+            return;
+        }
+        self.step_for_core0(world, begun, marks);
+    }
+
+    /// One cycle in which this was begun. Its mark goes to the end of the marks.
     pub fn step<X: Device>(&mut self, world: &World<'_, X>, begun: &Begun, marks: &mut Marks)
         requires number { self.old.cycle < 2 ^ 64 - 1 }
         requires marks { length marks.old < 256 }
@@ -413,43 +440,28 @@ impl Machine {
         ensures marks { marks.new ≡ marks.old ++ marked (setting X.meaning world.now) self.old.outer
             begun.now.outer ∷ [] }
     {
-        if !is_core0_first(begun) {
+        if is_core0_first(begun) {
+            self.step_first(world, begun, marks);
+        } else {
             self.step_for_all(world, begun, marks);
-            return;
         }
-        if self.is_bus_free(&begun.core0) {
-            self.step_at_rest(world, begun, marks);
-            return;
-        }
-        self.step_for_core0(world, begun, marks);
     }
 
-    /// One cycle below the limit, in which the lanes have begun this.
-    #[tactic(auto, unfolding(crate::specs::Cycle::next, crate::specs::Cycle::mark))]
-    fn cycle_from<X: Device, L: Ledger>(
-        &mut self,
-        world: &World<'_, X>,
-        lanes: &Begun,
-        marks: &mut Marks,
-        steps: &mut Steps<L>,
-    ) -> Option<Why>
-        requires number { self.old.cycle < 2 ^ 64 - 1 }
-        requires begun { lanes.now ≡ begun self.old }
-        ensures cause { result ≡ cause_in (setting X.meaning world.now) (begun self.old) (wanted
-            (begun self.old)) self.old }
-        ensures state { self.new ≡ (if is_some result then self.old else next (setting X.meaning
-            world.now) self.old) }
-        ensures marks { marks.new ≡ (if is_some result then marks.old else mark (setting X.meaning
-            world.now) self.old ∷ []) }
-        ensures steps { steps.new ≡ (if is_some result then steps.old else steps.old + 1) }
+    /// Nobody wants anything in a cycle in which this was begun, and no access lasts: nothing stops then, and the cycle is one at rest.
+    #[inline(always)]
+    fn rests<X: Device>(&self, _world: &World<'_, X>, begun: &Begun) -> bool
+        ensures cause { result ≡ true → cause_in (setting X.meaning _world.now) begun.now (wanted
+            begun.now) self.now ≡ None }
+        ensures state { result ≡ true → rest_next (setting X.meaning _world.now) begun.now self.now
+            ≡ next_by (setting X.meaning _world.now) begun.now (wanted begun.now) self.now }
     {
-        if let Some(why) = self.cause(world, lanes) {
-            return Some(why);
+        if !is_core0_first(begun) {
+            return false;
         }
-        marks.clear();
-        steps.tick();
-        self.step(world, lanes, marks);
-        None
+        if !self.is_bus_free(&begun.core0) {
+            return false;
+        }
+        true
     }
 
     /// The cause for which the next cycle does not happen, if there is one, where this is what the lanes begin.
@@ -466,7 +478,8 @@ impl Machine {
 
     /// Does one cycle of which this is what the lanes begin, counts it and leaves its mark alone in the marks; or changes nothing
     /// and names the stop.
-    #[tactic(auto, unfolding(crate::specs::Cycle::stop))]
+    #[inline(always)]
+    #[tactic(auto, unfolding(crate::specs::Cycle::stop, crate::specs::Cycle::next, crate::specs::Cycle::mark))]
     pub fn cycle_of<X: Device, L: Ledger>(
         &mut self,
         world: &World<'_, X>,
@@ -486,7 +499,28 @@ impl Machine {
         if self.at == world.limit {
             return Some(Why::Limit);
         }
-        self.cycle_from(world, lanes, marks, steps)
+        if self.rests(world, lanes) {
+            marks.clear();
+            steps.tick();
+            self.step_at_rest(world, lanes, marks);
+            return None;
+        }
+        if is_core0_first(lanes) {
+            if let Some(why) = self.cause_first(world, lanes) {
+                return Some(why);
+            }
+            marks.clear();
+            steps.tick();
+            self.step_first(world, lanes, marks);
+        } else {
+            if let Some(why) = self.cause_in(world, lanes) {
+                return Some(why);
+            }
+            marks.clear();
+            steps.tick();
+            self.step_for_all(world, lanes, marks);
+        }
+        None
     }
 
     /// Does one cycle of which this is what the lanes begin, where nothing stops before it, counts it and leaves its mark alone in the
@@ -512,8 +546,8 @@ impl Machine {
         self.step(world, lanes, marks);
     }
 
-    /// Does one cycle, counts it and leaves its mark alone in the marks; or changes nothing and names the stop.
-    #[tactic(auto, unfolding(crate::specs::Cycle::stop, crate::specs::Cycle::next, crate::specs::Cycle::mark))]
+    /// Does one cycle, counts it and leaves its mark alone in the marks; or changes nothing and names the stop. A run keeps room for what
+    /// the lanes begin, and goes on by `begin_into` and `cycle_of`.
     pub fn cycle<X: Device, L: Ledger>(
         &mut self,
         world: &World<'_, X>,
@@ -528,11 +562,8 @@ impl Machine {
             world.now) self.old ∷ []) }
         ensures steps { steps.new ≡ (if is_some result then steps.old else steps.old + 1) }
     {
-        if self.at == world.limit {
-            return Some(Why::Limit);
-        }
         let mut begun = Begun::nothing();
         self.begin_into(world, &mut begun);
-        self.cycle_from(world, &begun, marks, steps)
+        self.cycle_of(world, &begun, marks, steps)
     }
 }

@@ -85,7 +85,7 @@ impl Machine {
     /// One cycle of a machine in which core 0 is alone, whose interrupt lines are these, but for the peripherals, which stay as they
     /// are. False where core 0 reaches for more than SRAM, and then nothing changes.
     #[inline(always)]
-    pub(crate) fn cycle_onward(&mut self, lines: u32, marks: &mut Marks) -> bool
+    pub(crate) fn cycle_onward(&mut self, lines: u32, core0: &mut Doing, marks: &mut Marks) -> bool
         requires number { self.old.cycle < 2 ^ 64 - 1 }
         requires lines { lines ≡ lines_of 0 self.old }
         ensures inward { result ≡ true → is_inward (core0_want self.old) ≡ true }
@@ -93,13 +93,12 @@ impl Machine {
         ensures stays { result ≡ false → self.new ≡ self.old }
         ensures marks { marks.new ≡ marks.old }
     {
-        let mut core0 = Doing::nothing();
-        self.begin_core0(lines, &mut core0);
-        if self.is_bus_free(&core0) {
-            self.rest_onward(&core0, marks);
+        self.begin_core0(lines, core0);
+        if self.is_bus_free(core0) {
+            self.rest_onward(core0, marks);
             return true;
         }
-        self.reach_onward(&core0, marks)
+        self.reach_onward(core0, marks)
     }
 
     /// Core 0 goes on alone for at most so many cycles, up to the first in which it reaches for more than SRAM, and the peripherals stay
@@ -118,8 +117,12 @@ impl Machine {
         ensures steps { steps.new ≡ steps.old + result }
     {
         let lines = self.lines(0);
+        let mut core0 = Doing::nothing();
         let mut done = 0;
-        while done < most && !self.core0.is_waiting() && self.cycle_onward(lines, marks) {
+        while done < most
+            && !self.core0.is_waiting()
+            && self.cycle_onward(lines, &mut core0, marks)
+        {
             steps.tick();
             done += 1;
         }

@@ -15,6 +15,7 @@ use lane_look::{Device, Marks};
 use outer_lane::World;
 use quiet_run::{Pace, pass_quiet};
 use rp_base::Why;
+use rp_machine::begun::Begun;
 use rp_machine::{Machine, Steps, is_bounded};
 use std::sync::ledger::Ledger;
 use trace_text::tape::Tape;
@@ -24,6 +25,7 @@ use trace_text::writer::SinkFault;
 fn cycle_told<X: Device, T: Tape, L: Ledger>(
     machine: &mut Machine,
     world: &World<'_, X>,
+    begun: &mut Begun,
     marks: &mut Marks,
     tape: &mut T,
     steps: &mut Steps<L>,
@@ -40,7 +42,8 @@ fn cycle_told<X: Device, T: Tape, L: Ledger>(
     is_bounded(world);
     let cycle = machine.number();
     let before = machine.pads();
-    match machine.cycle(world, marks, steps) {
+    machine.begin_into(world, begun);
+    match machine.cycle_of(world, begun, marks, steps) {
         Some(why) => Ok(Some(why)),
         None => tell_step(cycle, before, marks, tape),
     }
@@ -69,11 +72,12 @@ pub fn run_cycles<X: Device, T: Tape, L: Ledger>(
     ensures on_run { IsOnRun (setting X.meaning world.now) machine.old machine.new }
     ensures steps { steps.new + machine.old.cycle ≡ steps.old + machine.new.cycle }
 {
+    let mut begun = Begun::nothing();
     let mut marks = Marks::new();
     let mut pace = Pace::default();
     'cycles: loop {
         pass_quiet(machine, world, world.limit, &mut pace, &mut marks, steps);
-        match cycle_told(machine, world, &mut marks, tape, steps) {
+        match cycle_told(machine, world, &mut begun, &mut marks, tape, steps) {
             Ok(None) => continue 'cycles,
             Ok(Some(why)) => return Ok(why),
             Err(fault) => return Err(fault),

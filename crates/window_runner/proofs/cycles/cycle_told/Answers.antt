@@ -19,7 +19,7 @@ returns-in-Some-clause-told g c = tells_none _ _ _ _ _ _ g.met.T.Tape.takes_none
 pub returns-in-None-clause-state : goal.returns-in-None-clause-state
 returns-in-None-clause-state g c =
     goes_one (setting_of c.args.world.now.script.now (g.X.Device.meaning c.args.world.now.device.now) c.args.world.now.limit)
-    c.args.machine.now c.cycle.new.self _ c.tell_step.ensures.none c.in-None.ensures.state
+    c.args.machine.now c.cycle_of.new.self _ c.tell_step.ensures.none c.in-None.ensures.state
 
 pub returns-in-None-clause-told : goal.returns-in-None-clause-told
 returns-in-None-clause-told g c =
@@ -31,4 +31,4 @@ pub returns-in-None-clause-steps : goal.returns-in-None-clause-steps
 returns-in-None-clause-steps g c =
     let h = c.in-None.ensures in
     cycle_counts (setting_of c.args.world.now.script.now (g.X.Device.meaning c.args.world.now.device.now) c.args.world.now.limit)
-    c.args.machine.now c.cycle.new.self _ _ h.state h.steps
+    c.args.machine.now c.cycle_of.new.self _ _ h.state h.steps

@@ -1,7 +1,7 @@
 use Rattle.std.proofs.Common.{sym, refl, subst, ◌∙◌}
 use Rattle.lane_look.specs.Asking.{Runs}
 use Rattle.m0_core.proofs.Kept.{kept_in}
-use Rattle.m0_core.proofs.Plain.{branch_begins}
+use Rattle.m0_core.proofs.Plain.{branch_begins, pause_begins}
 use Rattle.m0_core.proofs.processor.Core.begin_work.Goals as goal
 
 pub returns-in-Instruction : goal.returns-in-Instruction
@@ -10,5 +10,9 @@ returns-in-Instruction g c =
 
 pub returns-in-Instruction-2 : goal.returns-in-Instruction-2
 returns-in-Instruction-2 g c =
-    let asked = kept_in c.self.inside.is_held c.self.inside.held c.args.work.now c.in-Instruction-2.field-0 c.self.view_is c.requires c.in-Instruction-2.is c.if-self.true c.self.invariant in
+    rw (c.in-Instruction-2.is, pause_begins c.in-Instruction-2.op c.args.self.now (sym c.is_pause.ensures ∙ c.if-is_pause.true)) (refl, refl)
+
+pub returns-in-Instruction-3 : goal.returns-in-Instruction-3
+returns-in-Instruction-3 g c =
+    let asked = kept_in c.self.inside.is_held c.self.inside.held c.args.work.now c.in-Instruction-3.field-0 c.self.view_is c.requires c.in-Instruction-3.is c.if-self.true c.self.invariant in
     subst (λ tree. Runs g.K.Look.answers c.args.look.now tree c.begin_placed.new.act c.begin_placed.new.look) (sym asked) c.begin_placed.ensures
