@@ -1,5 +1,6 @@
 -- Moves forward that do not end on the way.
 use Rattle.std.proofs.Common.{◌≡◌, ℕ, List, zero, if◌then◌else◌, suc, ◌+◌, ◌-◌, ◌==◌, ◌<◌, ◌≤◌, nat_lt, ◌&&◌, Bool, true, false, not, Option, Some, None, inl, inr, refl, sym, ap, subst, arith, ◌∙◌, add-one}
+use Rattle.std.proofs.lemmas.Bool.Decides.{nat_tests}
 use Rattle.std.proofs.lemmas.Bool.{cases_Bool, cases_lt, eqb-true, eq-eqb, lt-ltb}
 use Rattle.rp_base.specs.Alias.{or_zero}
 use Rattle.rp_base.specs.Map.{place_of}
@@ -41,14 +42,21 @@ sees_here watched b s e x = ap (λ n. ends_by watched n x) e
 same_level : (x y : ℕ) → x ≡ y → not (x == y) ≡ false
 same_level x y e = ap not (eq-eqb x y e)
 
+neither_by : (first : Bool) (t : State) → begins t.core0 ≡ None → begins t.core1 ≡ None → (if first then begins t.core0 else begins t.core1) ≡ None
+neither_by true t h k = h
+neither_by false t h k = k
+
 begins_neither : (core : ℕ) (t : State) → begins t.core0 ≡ None → begins t.core1 ≡ None → begins_of core t ≡ None
-begins_neither zero t h k = h
-begins_neither (suc n) t h k = k
+begins_neither core t h k = neither_by (core == 0) t h k
 
 -- a move forward does not end where the pads stay
 pub pin_stays : (pin b : ℕ) (s t : State) → SeesAs (Pin pin) b s → t.outer.pads ≡ s.outer.pads → ends_by (Pin pin) b (seen (Pin pin) t) ≡ false
 pin_stays pin b s t same pads =
     same (seen (Pin pin) t) ∙ same_level (seen (Pin pin) t) (seen (Pin pin) s) (ap (λ (p : Bank). if has_bit p.current pin then 1 else 0) pads)
+
+pub pin_unended : (what : Watched) (pin b : ℕ) (s t : State) → what ≡ Pin pin → SeesAs what b s → t.outer.pads ≡ s.outer.pads → ends_by what b (seen what t) ≡ false
+pin_unended what pin b s t e same pads =
+    subst (λ (x : Watched). ends_by x b (seen x t) ≡ false) (sym e) (pin_stays pin b s t (subst (λ (x : Watched). SeesAs x b s) e same) pads)
 
 -- nor while the cores wait
 pub idle_stays : (watched : Watched) (b : ℕ) (s t : State) → SeesAs watched b s → IsIdle s t → t.outer.pads ≡ s.outer.pads → ends_by watched b (seen watched t) ≡ false
@@ -132,9 +140,20 @@ pub record Unended (w : Setting) (watched : Watched) (s t : State) (to before no
 pub unended_none : (w : Setting) (watched : Watched) (s : State) (to steps : ℕ) → Way w s s to steps steps → Unended w watched s s to steps steps
 unended_none w watched s to steps way = record { way = way; none = λ k lt. absurd (omega arith) }
 
-both : (a b : Bool) → (a && b) ≡ true → b ≡ true
-both true b h = h
-both false b h = absurd (cc h)
+some_passed : (n : ℕ) (b : Bool) → (nat_lt 0 n && b) ≡ true → 0 < n
+some_passed n b h = elim (cases_lt 0 n) [
+  | inl lt ↦ lt
+  | inr le ↦
+      let none : nat_lt 0 n ≡ false = grind (arith, nat_tests) in
+      absurd (let bad : false ≡ true = sym (ap (λ t. t && b) none) ∙ h in cc bad)
+]
+
+-- it has come behind an end, or to the cycle
+pub record Found (w : Setting) (watched : Watched) (s u : State) (to before now : ℕ) : Type 0 where
+  pub way : Advances w s to u None
+  pub none : EndsAtLast w watched s u None
+  pub ahead : s.cycle < u.cycle
+  pub count : CountsMove s u before now
 
 -- cycles that were passed at once, where the last of them is no end
 pub unended_passed : (w : Setting) (watched : Watched) (s t u : State) (to before now after b n most : ℕ) → Unended w watched s t to before now → SeesAs watched b t
@@ -161,15 +180,20 @@ unended_passed w watched s t u to before now after b n most h same e quiet withi
 -- and where it is one
 pub unended_found : (w : Setting) (watched : Watched) (s t u : State) (to before now after b n most : ℕ) → Unended w watched s t to before now → SeesAs watched b t
     → u ≡ states w t n → IsQuiet w t n → (0 < n → t.cycle + n ≤ most) → most ≤ to → most ≤ w.limit → after ≡ now + n
-    → ((k : ℕ) → k + 1 < n → ends_by watched b (seen watched (states w t (k + 1))) ≡ false)
-    → (Advances w s to u None) × (EndsAtLast w watched s u None)
-unended_found w watched s t u to before now after b n most h same e quiet within near low count none =
+    → ((k : ℕ) → k + 1 < n → ends_by watched b (seen watched (states w t (k + 1))) ≡ false) → (nat_lt 0 n && ends_by watched b (seen watched u)) ≡ true
+    → Found w watched s u to before after
+unended_found w watched s t u to before now after b n most h same e quiet within near low count none is =
+    let some = some_passed n (ends_by watched b (seen watched u)) is in
     let way = way_passed w s t u to before now after n most h.way e quiet within near low count in
     let cycle : u.cycle ≡ t.cycle + n = quiet_there w t u n e quiet in
     let from : s.cycle ≤ t.cycle = h.way.path.forward in
-    (way_there w s u to before after way,
-     λ k lt. none_join w s t watched (t.cycle - s.cycle) (n - 1) h.way.path.is h.none
-         (none_by w t watched b (n - 1) same (λ i below. quiet.goes i (omega arith)) (λ i below. none i (omega arith))) k (omega arith))
+    record {
+      way = way_there w s u to before after way;
+      none = λ k lt. none_join w s t watched (t.cycle - s.cycle) (n - 1) h.way.path.is h.none
+          (none_by w t watched b (n - 1) same (λ i below. quiet.goes i (omega arith)) (λ i below. none i (omega arith))) k (omega arith);
+      ahead = omega (arith, some);
+      count = way.count;
+    }
 
 -- one cycle more
 next_none : (w : Setting) (watched : Watched) (t u : State) (b : ℕ) → SeesAs watched b t → stop w t ≡ None → u ≡ next w t → ends_by watched b (seen watched u) ≡ false → NoneEnds w watched t 1
@@ -179,7 +203,7 @@ next_none w watched t u b same none e last =
     none_by w t watched b 1 same
     (λ k lt. let first : k ≡ 0 = omega arith in ap (λ i. stop w (states w t i)) first ∙ none0)
     (λ k lt. let first : k ≡ 0 = omega arith in
-      ap (λ i. ends_by watched b (seen watched (states w t (i + 1)))) first ∙ ap (λ (x : State). ends_by watched b (seen watched x)) there ∙ last)
+    ap (λ i. ends_by watched b (seen watched (states w t (i + 1)))) first ∙ ap (λ (x : State). ends_by watched b (seen watched x)) there ∙ last)
 
 pub unended_cycle : (w : Setting) (watched : Watched) (s t u : State) (to before now after b : ℕ) → Unended w watched s t to before now → SeesAs watched b t
     → stop w t ≡ None → u ≡ next w t → t.cycle < to → after ≡ now + 1 → ends_by watched b (seen watched u) ≡ false → Unended w watched s u to before after
@@ -193,21 +217,20 @@ unended_cycle w watched s t u to before now after b h same none e lt count last 
     }
 
 pub unended_ended : (w : Setting) (watched : Watched) (s t u : State) (to before now after : ℕ) → Unended w watched s t to before now
-    → stop w t ≡ None → u ≡ next w t → t.cycle < to → after ≡ now + 1 → (Advances w s to u None) × (EndsAtLast w watched s u None)
+    → stop w t ≡ None → u ≡ next w t → t.cycle < to → after ≡ now + 1 → Found w watched s u to before after
 unended_ended w watched s t u to before now after h none e lt count =
     let one : u.cycle ≡ t.cycle + 1 = next_at w t u e in
     let from : s.cycle ≤ t.cycle = h.way.path.forward in
     let way = way_on w s t u to before now after h.way none e lt count in
-    (way_there w s u to before after way,
-     λ k below. h.none k (omega arith))
+    record { way = way_there w s u to before after way; none = λ k below. h.none k (omega arith); ahead = omega arith; count = way.count }
 
 pub unended_at_stop : (w : Setting) (watched : Watched) (s t u : State) (to before now : ℕ) (why : Why) → Unended w watched s t to before now → stop w t ≡ Some why → t.cycle < to → u ≡ t
     → (Advances w s to u (Some why)) × (EndsAtLast w watched s u (Some why))
-unended_at_stop w watched s t u to before now why h stops lt e =
-    (way_stopped w s t u to before now why h.way stops lt e,
-     subst (λ (x : State). NoneEnds w watched s (x.cycle - s.cycle)) (sym e) h.none)
+unended_at_stop w watched s t u to before now why h stops lt e = (
+  way_stopped w s t u to before now why h.way stops lt e,
+  subst (λ (x : State). NoneEnds w watched s (x.cycle - s.cycle)) (sym e) h.none,
+)
 
-pub unended_there : (w : Setting) (watched : Watched) (s t : State) (to before now : ℕ) → Unended w watched s t to before now → (Advances w s to t None) × (EndsAtLast w watched s t None)
-unended_there w watched s t to before now h =
-    (way_there w s t to before now h.way,
-     λ k lt. h.none k (omega arith))
+pub unended_there : (w : Setting) (watched : Watched) (s t : State) (to before now : ℕ) → Unended w watched s t to before now → s.cycle < to → to ≤ t.cycle → Found w watched s t to before now
+unended_there w watched s t to before now h lt le =
+    record { way = way_there w s t to before now h.way; none = λ k below. h.none k (omega arith); ahead = omega arith; count = h.way.count }

@@ -32,7 +32,7 @@ path_here w s =
 pub joined : (w : Setting) (s : State) (m n k : ℕ) → m + n ≡ k → states w s k ≡ states w (states w s m) n
 joined w s m n k e = sym (ap (states w s) e) ∙ (join w s m n).state
 
-one_on : (w : Setting) (s : State) (n : ℕ) → stop w (states w s n) ≡ None → states w s (n + 1) ≡ next w (states w s n)
+pub one_on : (w : Setting) (s : State) (n : ℕ) → stop w (states w s n) ≡ None → states w s (n + 1) ≡ next w (states w s n)
 one_on w s n none = joined w s n 1 (n + 1) refl ∙ states_on w (states w s n) zero none ∙ none_first w (next w (states w s n))
 
 pub next_at : (w : Setting) (t u : State) → u ≡ next w t → u.cycle ≡ t.cycle + 1

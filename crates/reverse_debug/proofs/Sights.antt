@@ -1,35 +1,31 @@
 -- What is watched, while core 0 is at work by itself.
 use Rattle.std.proofs.Common.{◌≡◌, ℕ, zero, suc, ◌+◌, ◌==◌, ◌<◌, ◌≤◌, ◌^◌, Bool, true, false, not, if◌then◌else◌, Option, inl, inr, refl, sym, ap, subst, arith, ◌∙◌, add-one}
 use Rattle.std.proofs.lemmas.Bool.{cases_lt}
-use Rattle.lane_look.specs.declared.marks.Mark.{Mark}
-use Rattle.outer_lane.specs.State.{OuterState}
+use Rattle.m0_core.specs.Begins.{begins}
 use Rattle.rp_machine.specs.State.{State}
-use Rattle.rp_machine.specs.Cycle.{ended}
-use Rattle.rp_machine.specs.Inward.{with_outer, inward_next, inward_after, StaysInward}
-use Rattle.rp_machine.specs.Reads.{begins_of}
+use Rattle.rp_machine.specs.Inward.{inward_next, inward_after, StaysInward}
+use Rattle.reverse_debug.specs.declared.watch.Watched.{Watched}
 use Rattle.reverse_debug.specs.declared.watch.Watched.TheVariants as watched
 use Rattle.reverse_debug.specs.declared.sight.Sight.{Sight}
 use Rattle.reverse_debug.specs.declared.sight.Sight.TheVariants.{Word, Begun}
 use Rattle.reverse_debug.specs.Reply.{seen, is_begun, ends_by}
 use Rattle.reverse_debug.specs.Sight.{stops_at}
 
-pub stops_inward : (sight : Sight) (o : OuterState) (s : State) → stops_at sight (with_outer o s) ≡ stops_at sight s
-stops_inward (Word address before) o s = refl
-stops_inward (Begun false address) o s = refl
-stops_inward (Begun true address) o s = refl
-
 -- ---- it stops where a move forward ends
-
-pub word_ends : (address before : ℕ) (s : State) → stops_at (Word address before) s ≡ ends_by (watched.Word address) before (seen (watched.Word address) s)
-word_ends address before s = refl
 
 flag : (b : Bool) → b ≡ ((if b then 1 else 0) == 1)
 flag true = refl
 flag false = refl
 
-pub begun_ends : (core before : ℕ) (address : Option ℕ) (s : State) → stops_at (Begun (not (core == 0)) address) s ≡ ends_by (watched.Begun core address) before (seen (watched.Begun core address) s)
-begun_ends zero before address s = flag (is_begun address (begins_of 0 s))
-begun_ends (suc n) before address s = flag (is_begun address (begins_of 1 s))
+by_core : (first : Bool) (address : Option ℕ) (s : State) → stops_at (Begun (not first) address) s ≡ ((if is_begun address (if first then begins s.core0 else begins s.core1) then 1 else 0) == 1)
+by_core true address s = flag (is_begun address (begins s.core0))
+by_core false address s = flag (is_begun address (begins s.core1))
+
+pub word_unended : (what : Watched) (address before : ℕ) (s : State) → what ≡ watched.Word address → stops_at (Word address before) s ≡ false → ends_by what before (seen what s) ≡ false
+word_unended what address before s e none = subst (λ (x : Watched). ends_by x before (seen x s) ≡ false) (sym e) none
+
+pub begun_unended : (what : Watched) (core before : ℕ) (address : Option ℕ) (s : State) → what ≡ watched.Begun core address → stops_at (Begun (not (core == 0)) address) s ≡ false → ends_by what before (seen what s) ≡ false
+begun_unended what core before address s e none = subst (λ (x : Watched). ends_by x before (seen x s) ≡ false) (sym e) (sym (by_core (core == 0) address s) ∙ none)
 
 -- ---- core 0 goes on cycle by cycle
 

@@ -1,6 +1,6 @@
 //! How a machine goes forward.
 
-ghost use Rattle.std.specs.Prelude.{◌≡◌, ℕ, ◌≤◌, ◌<◌, ◌+◌, ◌-◌, IfNone, false};
+ghost use Rattle.std.specs.Prelude.{◌≡◌, ℕ, ◌≤◌, ◌<◌, ◌+◌, ◌-◌, ◌&&◌, nat_lt, IfNone, false};
 ghost use Rattle.outer_lane.specs.Setting.{setting};
 ghost use Rattle.rp_machine.specs.Quiet.{IsQuiet};
 ghost use Rattle.rp_machine.specs.Run.{states};
@@ -56,6 +56,14 @@ pub(crate) fn advance<X: Device, L: Ledger>(
     None
 }
 
+/// So many cycles were passed, and a move forward ends behind the last of them.
+fn has_ended(passed: u64, watched: Watched, before: u32, machine: &Machine) -> bool
+    requires { IsThere watched }
+    ensures { result ≡ (nat_lt 0 passed && ends_by watched before (seen watched machine.now)) }
+{
+    0 < passed && ends_by(watched, before, seen(machine, watched))
+}
+
 /// Goes over cycles behind which a move forward does not end, but maybe behind the last one, at most up to a cycle: quiet times, and those
 /// in which core 0 alone is at work. How many they were, 0 also where none is passed at once.
 fn pass_seeking<X: Device, L: Ledger>(
@@ -100,6 +108,7 @@ pub(crate) fn seek<X: Device, L: Ledger>(
     world: &World<'_, X>,
     watched: Watched,
     to: u64,
+    pace: &mut Pace,
     marks: &mut Marks,
     steps: &mut Steps<L>,
 ) -> Option<Why>
@@ -113,16 +122,15 @@ pub(crate) fn seek<X: Device, L: Ledger>(
 {
     let before = seen(machine, watched);
     let most = passable(machine.number(), to, world.limit);
-    let mut pace = Pace::default();
     'cycles: while machine.number() < to {
-        let passed = pass_seeking(machine, world, watched, before, most, &mut pace, marks, steps);
-        if 0 < passed && ends_by(watched, before, seen(machine, watched)) {
+        let passed = pass_seeking(machine, world, watched, before, most, pace, marks, steps);
+        if has_ended(passed, watched, before, machine) {
             return None;
         }
         match machine.cycle(world, marks, steps) {
             Some(why) => return Some(why),
             None => {
-                if ends_by(watched, before, seen(machine, watched)) {
+                if has_ended(1, watched, before, machine) {
                     return None;
                 }
                 continue 'cycles;

@@ -12,6 +12,7 @@ use crate::search::nth_before;
 use crate::watch::{Watched, ends_by, seen};
 use arrayvec::ArrayVec;
 use lane_look::{Device, Marks};
+use quiet_run::Pace;
 use rp_base::Why;
 use rp_machine::{Machine, Steps, World};
 use snap_ring::Ring;
@@ -169,6 +170,7 @@ impl Session {
         &mut self,
         world: &World<'_, X>,
         watched: Watched,
+        pace: &mut Pace,
         marks: &mut Marks,
         steps: &mut Steps<L>,
     ) -> Option<Why>
@@ -182,7 +184,7 @@ impl Session {
         let at = self.machine.number();
         let spacing = self.ring.spacing();
         let until = next_stop(at, spacing, at + spacing);
-        let why = seek(&mut self.machine, world, watched, until, marks, steps);
+        let why = seek(&mut self.machine, world, watched, until, pace, marks, steps);
         self.reached = greater(self.reached, self.machine.number());
         self.ring.keep(&self.machine);
         why
@@ -273,10 +275,11 @@ impl Session {
         ensures { ComesTo (setting X.meaning world.now) watched count self.old self.new result steps.old steps.new }
     {
         let mut left = count;
+        let mut pace = Pace::default();
         let mut marks = Marks::new();
         'cycles: while 0 < left {
             let before = seen(&self.machine, watched);
-            match self.seek(world, watched, &mut marks, steps) {
+            match self.seek(world, watched, &mut pace, &mut marks, steps) {
                 Some(why) => return Some(why),
                 None => {
                     let ended = ends_by(watched, before, seen(&self.machine, watched));

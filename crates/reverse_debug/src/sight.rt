@@ -33,8 +33,7 @@ impl Sight {
 }
 
 impl Watch for Sight {
-    ghost use Rattle.reverse_debug.specs.Sight.{stops_at};
-    ghost use Rattle.reverse_debug.proofs.Sights.{stops_inward};
+    ghost use Rattle.reverse_debug.specs.Sight.{stops_at, stops_inward};
 
     ghost stops = { stops_at };
 

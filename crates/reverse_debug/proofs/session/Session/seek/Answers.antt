@@ -1,6 +1,11 @@
-use Rattle.std.proofs.Common.{max, ap, ◌∙◌}
-use Rattle.reverse_debug.proofs.Sessions.{part_low, part_stretched, part_sum, part_spacing, part_reach}
+use Rattle.std.proofs.Common.{◌+◌, ◌^◌, ◌<◌, max, ap, arith, ◌∙◌}
+use Rattle.reverse_debug.proofs.Sessions.{part_low, part_stretched, part_sum, part_reach}
 use Rattle.reverse_debug.proofs.session.Session.seek.Goals as goal
+
+pub overflow_add-at : goal.overflow_add-at
+overflow_add-at g c =
+    let low : c.number-at.result + c.spacing-spacing.result < 2 ^ 64 = part_sum _ _ _ _ _ c.self.view_is c.requires.stands c.number-at.ensures c.spacing-spacing.ensures in
+    omega arith
 
 pub next_stop-until-requires-clause-small : goal.next_stop-until-requires-clause-small
 next_stop-until-requires-clause-small g c = part_sum _ _ _ _ _ c.self.view_is c.requires.stands c.number-at.ensures c.spacing-spacing.ensures
