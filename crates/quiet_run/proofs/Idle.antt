@@ -76,10 +76,10 @@ begins_none : (lines first n k : ℕ) (s : Core) → IsQuiet lines s first n →
 begins_none lines first n k s q lt =
     let u = times (rested lines) first k s in
     begins_by _ _ _ _ u refl refl refl refl (λ awake none untaken ram.
-        let stops = stops_first u (first + k) lines awake none untaken ram in
-        let same = ap want_of (q.begins k lt (breaks lines) refl) ∙ q.wants k lt in
-        let bad : want.Stopped (why.Bkpt u.number) ≡ want.Nothing = sym stops ∙ same in
-        cc bad)
+    let stops = stops_first u (first + k) lines awake none untaken ram in
+    let same = ap want_of (q.begins k lt (breaks lines) refl) ∙ q.wants k lt in
+    let bad : want.Stopped (why.Bkpt u.number) ≡ want.Nothing = sym stops ∙ same in
+    cc bad)
 
 pub idle_cycles : (w : Setting) (s : State) (n : ℕ) → CopiesAgree s → ArePartsQuiet w s n → (k : ℕ) → k < n → IsIdle s (states w s k)
 idle_cycles w s n agree q k lt =
