@@ -62,6 +62,14 @@ goes_onward w s seen most done h le inward =
     core0_goes_on_alone w s done h.goes h.known
     (fewer w (begun s).outer s.outer most done (subst (λ (x : SeenOutputs). outer.IsQuiet w x s.outer most) h.same h.quiet) le) inward (omega arith)
 
+-- a test that does not look at the peripherals is false in each state of the run, where it is for core 0 by itself
+pub goes_unstopped : (w : Setting) (s : State) (seen : SeenOutputs) (most done : ℕ) → HasBegun w s seen most → done ≤ most → StaysInward s done
+    → (stops : State → Bool) → ((o : OuterState) (t : State) → stops (with_outer o t) ≡ stops t)
+    → ((k : ℕ) → k + 1 < done → stops (inward_after (k + 1) s) ≡ false) → (k : ℕ) → k + 1 < done → stops (states w s (k + 1)) ≡ false
+goes_unstopped w s seen most done h le inward stops same none k lt =
+    let on = goes_onward w s seen most (k + 1) h (omega arith) (λ i below. inward i (omega arith)) in
+    ap stops on.state ∙ same (outer_after w (begun s).outer (k + 1) s.outer) (inward_after (k + 1) s) ∙ none k lt
+
 -- the peripherals may be brought up
 pub number_fits : (w : Setting) (s : State) (seen : SeenOutputs) (most done to bound : ℕ) → HasBegun w s seen most → done ≤ most → s.cycle + most ≤ to → to < bound → seen.cycle + done < bound
 number_fits w s seen most done to bound h le room fits =

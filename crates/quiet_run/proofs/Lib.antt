@@ -1,2 +1,3 @@
 mod GoneOn
+mod Idle
 mod Passing

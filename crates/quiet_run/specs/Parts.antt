@@ -1,6 +1,7 @@
 -- Where each part of the machine is quiet for so many cycles, and where each has gone then.
-use Rattle.std.specs.Prelude.{◌≡◌, ℕ, ◌+◌, ◌≤◌, false}
+use Rattle.std.specs.Prelude.{◌≡◌, ℕ, ◌+◌, ◌≤◌, false, None}
 use Rattle.lane_look.specs.Times.{times}
+use Rattle.m0_core.specs.Begins.{begins}
 use Rattle.m0_core.specs.Quiet as core
 use Rattle.dma_engine.specs.Rest.{StaysAtRest}
 use Rattle.pio_block.specs.Cycle.{Rests}
@@ -47,6 +48,12 @@ passed w s n = record s {
   core1 = times (core.rested (lines_of 1 s)) s.cycle n s.core1;
   outer = outer.outer_after w (begun s).outer n s.outer;
 }
+
+-- SRAM is as it was, and no core begins an instruction
+pub record IsIdle (old new : State) : Type 0 where
+  pub sram : new.sram ≡ old.sram
+  pub core0 : begins new.core0 ≡ None
+  pub core1 : begins new.core1 ≡ None
 
 -- where the parts are quiet for so many cycles, each goes them on its own, and the rest stays
 pub record GoTheirOwnWay (w : Setting) (s : State) (n : ℕ) : Type 0 where

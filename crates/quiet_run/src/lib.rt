@@ -10,4 +10,6 @@ mod onward;
 pub mod pace;
 mod pass;
 
-pub use pace::{Pace, pass_quiet};
+pub use onward::Watch;
+pub use pace::{Pace, pass_quiet, pass_watched};
+pub use pass::pass_waiting;

@@ -1,6 +1,6 @@
 //! Core 0 at work by itself, beside peripherals that are quiet.
 
-ghost use Rattle.std.specs.Prelude.{◌≡◌, ◌+◌, ◌<◌, ◌≤◌};
+ghost use Rattle.std.specs.Prelude.{◌≡◌, ℕ, ◌+◌, ◌<◌, ◌≤◌, false};
 ghost use Rattle.outer_lane.specs.Setting.{setting};
 ghost use Rattle.rp_machine.specs.Quiet.{IsQuiet};
 ghost use Rattle.rp_machine.specs.Run.{states};
@@ -9,13 +9,70 @@ use lane_look::{Device, Marks};
 use rp_machine::{Machine, Steps, World};
 use std::sync::ledger::Ledger;
 
-/// Goes on as far as core 0 alone is at work and reaches for nothing but SRAM, and the peripherals are quiet, at most up to a cycle; and
-/// counts the cycles. Each of them happens, has no events, and leaves the pads as they are. How many they were.
+/// What may stop core 0 at work, by the state behind a cycle; the peripherals are not looked at.
+pub trait Watch {
+    ghost use Rattle.std.specs.Prelude.{◌≡◌, ℕ, ◌+◌, ◌^◌, ◌<◌, ◌≤◌, Bool, false};
+    ghost use Rattle.outer_lane.specs.State.{OuterState};
+    ghost use Rattle.rp_machine.specs.State.{State};
+    ghost use Rattle.rp_machine.specs.Inward.{with_outer, inward_after, StaysInward};
+
+    /// It stops core 0 behind the cycle that left this state.
+    ghost stops: { Self → State → Bool };
+
+    /// Core 0 goes on alone as by `Machine::go_onward`, at most up to the first cycle behind which this stops it. How many cycles that
+    /// were.
+    fn go_onward<L: Ledger>(
+        &self,
+        machine: &mut Machine,
+        most: u64,
+        marks: &mut Marks,
+        steps: &mut Steps<L>,
+    ) -> u64
+        requires number { machine.old.cycle + most < 2 ^ 64 }
+        ensures most { result ≤ most }
+        ensures state { machine.new ≡ inward_after result machine.old }
+        ensures inward { StaysInward machine.old result }
+        ensures unstopped { (k : ℕ) → k + 1 < result → stops self.now (inward_after (k + 1) machine.old) ≡ false }
+        ensures marks { marks.new ≡ marks.old }
+        ensures steps { steps.new ≡ steps.old + result };
+
+    /// It is the same beside other peripherals.
+    ghost looks_inward: { (watch : Self) (o : OuterState) (s : State) → stops watch (with_outer o s)
+        ≡ stops watch s };
+}
+
+/// Nothing stops core 0.
+#[derive(Clone, Copy, Debug)]
+pub struct Unwatched;
+
+impl Watch for Unwatched {
+    ghost use Rattle.std.specs.Prelude.{false};
+    ghost use Rattle.std.proofs.Common.{refl};
+
+    ghost stops = { λ watch s. false };
+
+    #[inline(always)]
+    fn go_onward<L: Ledger>(
+        &self,
+        machine: &mut Machine,
+        most: u64,
+        marks: &mut Marks,
+        steps: &mut Steps<L>,
+    ) -> u64 {
+        machine.go_onward(most, marks, steps)
+    }
+
+    ghost looks_inward = { λ watch o s. refl };
+}
+
+/// Goes on as far as core 0 alone is at work and reaches for nothing but SRAM, the peripherals are quiet and nothing stops it, at most up
+/// to a cycle; and counts the cycles. Each of them happens, has no events, and leaves the pads as they are. How many they were.
 #[inline(never)]
-pub(crate) fn pass_onward<X: Device, L: Ledger>(
+pub(crate) fn pass_onward<X: Device, W: Watch, L: Ledger>(
     machine: &mut Machine,
     world: &World<'_, X>,
     to: u64,
+    watch: &W,
     marks: &mut Marks,
     steps: &mut Steps<L>,
 ) -> u64
@@ -23,6 +80,7 @@ pub(crate) fn pass_onward<X: Device, L: Ledger>(
     ensures state { machine.new ≡ states (setting X.meaning world.now) machine.old result }
     ensures quiet { IsQuiet (setting X.meaning world.now) machine.old result }
     ensures within { 0 < result → machine.old.cycle + result ≤ to }
+    ensures unstopped { (k : ℕ) → k + 1 < result → W.stops watch.now (states (setting X.meaning world.now) machine.old (k + 1)) ≡ false }
     ensures marks { marks.new ≡ marks.old }
     ensures steps { steps.new ≡ steps.old + result }
 {
@@ -32,7 +90,7 @@ pub(crate) fn pass_onward<X: Device, L: Ledger>(
     }
     let seen = machine.begin_outer(world);
     let most = machine.outer.quiet(world, &seen).min(to - at);
-    let done = machine.go_onward(most, marks, steps);
+    let done = watch.go_onward(machine, most, marks, steps);
     machine.outer.pass(world, &seen, done);
     done
 }

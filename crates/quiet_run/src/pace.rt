@@ -1,11 +1,11 @@
 //! When it is worth while to try to go over many cycles.
 
-ghost use Rattle.std.specs.Prelude.{◌≡◌, ◌+◌, ◌<◌, ◌≤◌};
+ghost use Rattle.std.specs.Prelude.{◌≡◌, ℕ, ◌+◌, ◌<◌, ◌≤◌, false};
 ghost use Rattle.outer_lane.specs.Setting.{setting};
 ghost use Rattle.rp_machine.specs.Quiet.{IsQuiet};
 ghost use Rattle.rp_machine.specs.Run.{states};
 
-use crate::onward::pass_onward;
+use crate::onward::{Unwatched, Watch, pass_onward};
 use crate::pass::pass_waiting;
 use lane_look::{Device, Marks};
 use rp_machine::{Machine, Steps, World};
@@ -21,6 +21,38 @@ const APART: u64 = 64;
 #[derive(Clone, Copy, Debug, Default)]
 pub struct Pace {
     next: u64,
+}
+
+/// Goes over cycles in which core 0 alone is at work in SRAM beside quiet peripherals and nothing stops it, at most up to a cycle, and counts
+/// them. Gives how many there are, 0 also where it is not worth while to look. Each of them happens, has no events, and leaves the pads as
+/// they are.
+#[inline(always)]
+pub fn pass_watched<X: Device, W: Watch, L: Ledger>(
+    machine: &mut Machine,
+    world: &World<'_, X>,
+    to: u64,
+    watch: &W,
+    pace: &mut Pace,
+    marks: &mut Marks,
+    steps: &mut Steps<L>,
+) -> u64
+    requires { to ≤ world.now.limit }
+    ensures state { machine.new ≡ states (setting X.meaning world.now) machine.old result }
+    ensures quiet { IsQuiet (setting X.meaning world.now) machine.old result }
+    ensures within { 0 < result → machine.old.cycle + result ≤ to }
+    ensures unstopped { (k : ℕ) → k + 1 < result → W.stops watch.now (states (setting X.meaning world.now) machine.old (k + 1)) ≡ false }
+    ensures marks { marks.new ≡ marks.old }
+    ensures steps { steps.new ≡ steps.old + result }
+{
+    let at = machine.number();
+    if at < pace.next {
+        return 0;
+    }
+    let done = pass_onward(machine, world, to, watch, marks, steps);
+    if done < FEW {
+        pace.next = at.saturating_add(APART);
+    }
+    done
 }
 
 /// Goes over cycles of which nothing is told, at most up to a cycle, and counts them: those in which nobody has anything to do, or in
@@ -44,13 +76,5 @@ pub fn pass_quiet<X: Device, L: Ledger>(
     if machine.core0.is_waiting() {
         return pass_waiting(machine, world, to, steps);
     }
-    let at = machine.number();
-    if at < pace.next {
-        return 0;
-    }
-    let done = pass_onward(machine, world, to, marks, steps);
-    if done < FEW {
-        pace.next = at.saturating_add(APART);
-    }
-    done
+    pass_watched(machine, world, to, &Unwatched, pace, marks, steps)
 }

@@ -1,11 +1,11 @@
 //! Cycles in which nobody has anything to do.
 
-ghost use Rattle.std.specs.Prelude.{◌≡◌, ◌+◌, ◌^◌, ◌<◌, ◌≤◌, true};
+ghost use Rattle.std.specs.Prelude.{◌≡◌, ℕ, ◌+◌, ◌^◌, ◌<◌, ◌≤◌, true};
 ghost use Rattle.outer_lane.specs.Setting.{setting};
 ghost use Rattle.rp_machine.specs.Cycle.{begun};
 ghost use Rattle.rp_machine.specs.Quiet.{IsQuiet};
 ghost use Rattle.rp_machine.specs.Run.{states};
-ghost use Rattle.quiet_run.specs.Parts.{ArePartsQuiet, ArePartsAtRest};
+ghost use Rattle.quiet_run.specs.Parts.{ArePartsQuiet, ArePartsAtRest, IsIdle};
 
 use lane_look::Device;
 use outer_lane::SeenOutputs;
@@ -92,7 +92,7 @@ fn pass<X: Device>(machine: &mut Machine, world: &World<'_, X>, n: u64)
 /// where somebody has work, which costs a few tests while core 0 is awake. Each of them happens, has no events, and leaves the
 /// pads as they are.
 #[inline(never)]
-pub(crate) fn pass_waiting<X: Device, L: Ledger>(
+pub fn pass_waiting<X: Device, L: Ledger>(
     machine: &mut Machine,
     world: &World<'_, X>,
     to: u64,
@@ -102,6 +102,7 @@ pub(crate) fn pass_waiting<X: Device, L: Ledger>(
     ensures state { machine.new ≡ states (setting X.meaning world.now) machine.old result }
     ensures quiet { IsQuiet (setting X.meaning world.now) machine.old result }
     ensures within { 0 < result → machine.old.cycle + result ≤ to }
+    ensures idle { (k : ℕ) → k < result → IsIdle machine.old (states (setting X.meaning world.now) machine.old k) }
     ensures steps { steps.new ≡ steps.old + result }
 {
     if !machine.core0.is_waiting() {

@@ -1,5 +1,6 @@
 pub mod Tallies
 pub mod Digits
+pub mod Ends
 pub mod Listing
 pub mod Moves
 pub mod Paths
@@ -7,6 +8,7 @@ pub mod Reading
 pub mod Rings
 pub mod Seeking
 pub mod Sessions
+pub mod Sights
 pub mod Stretches
 pub mod Befores
 pub mod LineLists

@@ -32,7 +32,7 @@ path_here w s =
 pub joined : (w : Setting) (s : State) (m n k : ℕ) → m + n ≡ k → states w s k ≡ states w (states w s m) n
 joined w s m n k e = sym (ap (states w s) e) ∙ (join w s m n).state
 
-one_on : (w : Setting) (s : State) (n : ℕ) → stop w (states w s n) ≡ None → states w s (n + 1) ≡ next w (states w s n)
+pub one_on : (w : Setting) (s : State) (n : ℕ) → stop w (states w s n) ≡ None → states w s (n + 1) ≡ next w (states w s n)
 one_on w s n none = joined w s n 1 (n + 1) refl ∙ states_on w (states w s n) zero none ∙ none_first w (next w (states w s n))
 
 pub next_at : (w : Setting) (t u : State) → u ≡ next w t → u.cycle ≡ t.cycle + 1
@@ -93,7 +93,7 @@ states_forward w s zero = omega arith
 states_forward w s (suc n) =
     forward_unless (stop w s) s (states w (next w s) n) (let on = states_forward w (next w s) n in omega (arith, on, next_cycle w s))
 
-states_within : (w : Setting) (s : State) (n : ℕ) → (states w s n).cycle ≤ s.cycle + n
+pub states_within : (w : Setting) (s : State) (n : ℕ) → (states w s n).cycle ≤ s.cycle + n
 unfolding states
 states_within w s zero = omega arith
 states_within w s (suc n) =
@@ -142,12 +142,10 @@ way_on w s t u to before now after k none e lt more =
 pub way_stopped : (w : Setting) (s t u : State) (to before now : ℕ) (why : Why) → Way w s t to before now → stop w t ≡ Some why → t.cycle < to → u ≡ t → Advances w s to u (Some why)
 way_stopped w s t u to before now why k stops lt e =
     subst (λ (x : State). Advances w s to x (Some why)) (sym e)
-    (record { state = k.path.is; forward = k.path.forward; low = k.low; within = k.within; there = tt; stopped = (stops, lt) })
+    (record { state = k.path.is; forward = k.path.forward; low = k.low; within = k.within; stopped = (stops, lt) })
 
-pub way_there : (w : Setting) (s t : State) (to before now : ℕ) → Way w s t to before now → to ≤ t.cycle → Advances w s to t None
-way_there w s t to before now k le =
-    let within : t.cycle ≤ to = k.within in
-    record { state = k.path.is; forward = k.path.forward; low = k.low; within = k.within; there = omega arith; stopped = tt }
+pub way_there : (w : Setting) (s t : State) (to before now : ℕ) → Way w s t to before now → Advances w s to t None
+way_there w s t to before now k = record { state = k.path.is; forward = k.path.forward; low = k.low; within = k.within; stopped = tt }
 
 pub nearer_by_one : (t u : State) (n to : ℕ) → n ≡ t.cycle → u.cycle ≡ n + 1 → t.cycle < to → to - u.cycle < to - t.cycle
 nearer_by_one t u n to e one lt = omega arith

@@ -8,18 +8,12 @@ use Rattle.rp_machine.specs.Cycle.{stop, next}
 use Rattle.rp_machine.specs.Run.{states, last_state}
 use Rattle.reverse_debug.specs.declared.watch.Watched.{Watched}
 use Rattle.reverse_debug.specs.Reply.{Said, said, last_cycle, seen, ends, ends_by, fewer, behind_nth, behind_next, at_or_last, at_reply, move_cost}
-use Rattle.reverse_debug.specs.Advance.{CountsMove}
+use Rattle.reverse_debug.specs.Advance.{CountsMove, NoneEnds, EndsAtLast}
 use Rattle.reverse_debug.specs.Session.{Standing, first_of, StandsFor, StaysFor, GoesOn, Seeks, Misses, Does}
-use Rattle.reverse_debug.proofs.Paths.{joined, path_last}
-use Rattle.reverse_debug.proofs.Tallies.{by_cause}
+use Rattle.reverse_debug.proofs.Paths.{Path, joined, path_last}
+use Rattle.reverse_debug.proofs.Ends.{ends_on, ends_later, sees_over}
 use Rattle.reverse_debug.proofs.Moves.{moved_beyond, moved_to_end, move_within}
 use Rattle.reverse_debug.proofs.Sessions.{now_in_last, now_low, path_of, stays_here, stays_on}
-
-ends_next : (w : Setting) (f a b : State) (watched : Watched) (ended : Bool) → a ≡ states w f a.cycle → b ≡ next w a → ends_by watched (seen watched a) (seen watched b) ≡ ended → ends w f watched a.cycle ≡ ended
-unfolding ends
-ends_next w f a b watched ended here nexts is =
-    ap (λ (s : State). ends_by watched (seen watched s) (seen watched (next w s))) (sym here)
-    ∙ ap (λ (s : State). ends_by watched (seen watched a) (seen watched s)) (sym nexts) ∙ is
 
 fewer_of : (ended : Bool) (n : ℕ) → cond ended n (suc n) ≡ fewer ended (suc n)
 fewer_of true n = omega arith
@@ -33,6 +27,14 @@ behind_on w f watched (suc n) c ended some is lt =
     let e : last_cycle w f - c ≡ suc (last_cycle w f - (c + 1)) = omega arith in
     ap (behind_nth w f watched (suc n) c) e ∙ ap (λ b. behind_nth w f watched (cond b n (suc n)) (c + 1) (last_cycle w f - (c + 1))) is
     ∙ ap (λ m. behind_nth w f watched m (c + 1) (last_cycle w f - (c + 1))) (fewer_of ended n)
+
+behind_over : (w : Setting) (f : State) (watched : Watched) (left c m : ℕ) → 0 < left → ((k : ℕ) → k < m → ends w f watched (c + k) ≡ false) → c + m ≤ last_cycle w f →
+    behind_next w f watched left c ≡ behind_next w f watched left (c + m)
+behind_over w f watched left c zero some none le = ap (behind_next w f watched left) (omega arith)
+behind_over w f watched left c (suc m) some none le =
+    behind_over w f watched left c m some (λ k lt. none k (omega arith)) (omega arith)
+    ∙ behind_on w f watched left (c + m) false some (none m (omega arith)) (omega arith)
+    ∙ ap (behind_next w f watched left) (omega arith)
 
 behind_last : (w : Setting) (f : State) (watched : Watched) (left c : ℕ) → 0 < left → last_cycle w f ≡ c → behind_next w f watched left c ≡ None
 unfolding behind_nth
@@ -50,76 +52,89 @@ behind_none w f watched c more = refl
 pub seeking_here : (w : Setting) (s : Standing) (watched : Watched) (count steps : ℕ) → StandsFor w s → Seeks w watched count s s count steps steps
 seeking_here w s watched count steps k = record { stays = stays_here w s k; forward = omega arith; next = refl; count = refl }
 
--- what a step asks for
-pub small_next : (w : Setting) (s : Standing) (cycle : ℕ) → StandsFor w s → cycle ≡ s.now.cycle → cycle + 1 < 2 ^ 64
-small_next w s cycle k e =
-    let low : s.now.cycle ≤ w.limit = now_low w (first_of s) s k in
-    let same : s.limit ≡ w.limit = k.limit in
-    let small : s.limit ≤ 1000000000 = k.small in
-    omega arith
-
-one_more : (w : Setting) (a b : Standing) → StandsFor w a → StaysFor w a b → b.now.cycle ≡ a.now.cycle + 1 → b.now ≡ next w a.now
-one_more w a b k stays one =
+path_between : (w : Setting) (a b : Standing) → StandsFor w a → StaysFor w a b → a.now.cycle ≤ b.now.cycle → Path w a.now b.now
+path_between w a b k stays le =
     let there : b.now ≡ states w (first_of b) b.now.cycle = stays.stands.now in
-    by_cause w a.now b.now (stop w a.now) refl
-    (there ∙ ap (λ (x : State). states w x b.now.cycle) stays.first ∙ joined w (first_of a) a.now.cycle 1 b.now.cycle (sym one) ∙ ap (λ (x : State). states w x 1) (sym k.now))
-    one
+    let far : a.now.cycle + (b.now.cycle - a.now.cycle) ≡ b.now.cycle = omega arith in
+    record {
+      is =
+          there ∙ ap (λ (x : State). states w x b.now.cycle) stays.first ∙ joined w (first_of a) a.now.cycle (b.now.cycle - a.now.cycle) b.now.cycle far
+          ∙ ap (λ (x : State). states w x (b.now.cycle - a.now.cycle)) (sym k.now);
+      forward = le;
+    }
 
-seeking_one : (w : Setting) (old a b : Standing) (watched : Watched) (count left cycle : ℕ) (ended : Bool) (before now after : ℕ) → Seeks w watched count old a left before now → 0 < left → cycle ≡ a.now.cycle →
-    GoesOn w a (cycle + 1) b None → a.now.cycle < b.now.cycle → CountsMove a.now b.now now after → ends_by watched (seen watched a.now) (seen watched b.now) ≡ ended → Seeks w watched count old b (fewer ended left) before after
-seeking_one w old a b watched n left cycle ended before now after k some e go ahead count is =
-    let within : b.now.cycle ≤ cycle + 1 = go.within in
-    let one : b.now.cycle ≡ a.now.cycle + 1 = omega arith in
+-- the last cycle of a stretch ends or not as what was seen before it and behind it says
+ends_last : (w : Setting) (s t : State) (watched : Watched) (m : ℕ) (ended : Bool) → Path w s t → t.cycle ≡ s.cycle + (m + 1) → NoneEnds w watched s m
+    → ends_by watched (seen watched s) (seen watched t) ≡ ended → ends w s watched m ≡ ended
+ends_last w s t watched m ended p far none is =
+    let there : states w s (m + 1) ≡ t = sym (p.is ∙ ap (states w s) (omega arith)) in
+    ends_on w s t watched m p (omega arith) ∙ sym (sees_over w s t watched m p (omega arith) none (seen watched (states w s (m + 1))))
+    ∙ ap (λ (x : State). ends_by watched (seen watched s) (seen watched x)) there ∙ is
+
+seeking_far : (w : Setting) (old a b : Standing) (watched : Watched) (count left to : ℕ) (ended : Bool) (before now after : ℕ) → Seeks w watched count old a left before now → 0 < left →
+    GoesOn w a to b None → a.now.cycle < b.now.cycle → NoneEnds w watched a.now (b.now.cycle - a.now.cycle - 1) → CountsMove a.now b.now now after
+    → ends_by watched (seen watched a.now) (seen watched b.now) ≡ ended → Seeks w watched count old b (fewer ended left) before after
+seeking_far w old a b watched n left to ended before now after k some go ahead none count is =
+    let m = b.now.cycle - a.now.cycle - 1 in
     let so_far : now + old.now.cycle ≡ before + a.now.cycle = k.count in
     let counted : after + a.now.cycle ≡ now + b.now.cycle = count in
     let from : old.now.cycle ≤ a.now.cycle = k.forward in
-    let nexts : b.now ≡ next w a.now = one_more w a b k.stays.stands go.stays one in
+    let far : b.now.cycle ≡ a.now.cycle + (b.now.cycle - a.now.cycle - 1 + 1) = omega arith in
     let here : a.now ≡ states w (first_of old) a.now.cycle = k.stays.stands.now ∙ ap (λ (f : State). states w f a.now.cycle) k.stays.first in
-    let same : ends w (first_of old) watched a.now.cycle ≡ ended = ends_next w (first_of old) a.now b.now watched ended here nexts is in
     let last_b : b.now.cycle ≤ last_cycle w (first_of b) = now_in_last w (first_of b) b go.stays.stands in
     let first : first_of b ≡ first_of old = go.stays.first ∙ k.stays.first in
     let last : b.now.cycle ≤ last_cycle w (first_of old) = subst (λ (f : State). b.now.cycle ≤ last_cycle w f) first last_b in
+    let path = path_between w a b k.stays.stands go.stays (omega arith) in
+    let end : ends w (first_of old) watched (a.now.cycle + m) ≡ ended =
+    ends_later w (first_of old) a.now watched a.now.cycle m here ∙ ends_last w a.now b.now watched m ended path far none is in
     record {
       stays = stays_on w old a b go.forward k.stays go.stays;
       forward = omega arith;
       next =
-          k.next ∙ behind_on w (first_of old) watched left a.now.cycle ended some same (omega arith)
-          ∙ ap (behind_next w (first_of old) watched (fewer ended left)) (sym one);
+          k.next ∙ behind_over w (first_of old) watched left a.now.cycle m some
+          (λ i lt. ends_later w (first_of old) a.now watched a.now.cycle i here ∙ none i lt) (omega arith)
+          ∙ behind_on w (first_of old) watched left (a.now.cycle + m) ended some end (omega arith)
+          ∙ ap (behind_next w (first_of old) watched (fewer ended left)) (omega arith);
       count = omega arith;
     }
 
--- v and u are what the parts of the session stand for, before and after the step
-pub seeking_on : (w : Setting) (old a b v u : Standing) (watched : Watched) (count left cycle x y : ℕ) (ended : Bool) (before now after left' : ℕ) → Seeks w watched count old a left before now → 0 < left → v ≡ a → cycle ≡ a.now.cycle →
-    GoesOn w a (cycle + 1) b None → a.now.cycle < b.now.cycle → CountsMove a.now b.now now after → u ≡ b → x ≡ seen watched u.now → y ≡ seen watched v.now → ended ≡ ends_by watched y x → left' ≡ fewer ended left →
-    Seeks w watched count old b left' before after
-seeking_on w old a b v u watched n left cycle x y ended before now after left' k some va e go ahead count ub ex ey is less =
+-- v and u are what the parts of the session stand for, before and after the stretch
+pub seeking_on : (w : Setting) (old a b v u : Standing) (watched : Watched) (count left to x y : ℕ) (ended : Bool) (before now after left' : ℕ) → Seeks w watched count old a left before now → 0 < left → v ≡ a →
+    GoesOn w a to b None → a.now.cycle < b.now.cycle → NoneEnds w watched a.now (b.now.cycle - a.now.cycle - 1) → CountsMove a.now b.now now after → u ≡ b
+    → x ≡ seen watched u.now → y ≡ seen watched v.now → ended ≡ ends_by watched y x → left' ≡ fewer ended left → Seeks w watched count old b left' before after
+seeking_on w old a b v u watched n left to x y ended before now after left' k some va go ahead none count ub ex ey is less =
     let ys : y ≡ seen watched a.now = ey ∙ ap (λ (s : Standing). seen watched s.now) va in
     let xs : x ≡ seen watched b.now = ex ∙ ap (λ (s : Standing). seen watched s.now) ub in
     subst (λ m. Seeks w watched n old b m before after) (sym less)
-    (seeking_one w old a b watched n left cycle ended before now after k some e go ahead count
+    (seeking_far w old a b watched n left to ended before now after k some go ahead none count
     (ap (λ m. ends_by watched m (seen watched b.now)) (sym ys) ∙ ap (λ m. ends_by watched y m) (sym xs) ∙ sym is))
 
-pub seeking_nearer : (w : Setting) (a b : Standing) (cycle : ℕ) → GoesOn w a (cycle + 1) b None → a.now.cycle < b.now.cycle → w.limit - b.now.cycle < w.limit - a.now.cycle
-seeking_nearer w a b cycle go ahead =
+pub seeking_nearer : (w : Setting) (a b : Standing) (to : ℕ) → GoesOn w a to b None → a.now.cycle < b.now.cycle → w.limit - b.now.cycle < w.limit - a.now.cycle
+seeking_nearer w a b to go ahead =
     let low : b.now.cycle ≤ w.limit = now_low w (first_of b) b go.stays.stands in
     omega arith
 
-pub seeking_stopped : (w : Setting) (old a b : Standing) (watched : Watched) (count left cycle : ℕ) (why : Why) (before now after : ℕ) → Seeks w watched count old a left before now → 0 < left → cycle ≡ a.now.cycle →
-    GoesOn w a (cycle + 1) b (Some why) → CountsMove a.now b.now now after → Misses w watched count old b why before after
-seeking_stopped w old a b watched n left cycle why before now after k some e go count =
+pub seeking_stopped : (w : Setting) (old a b : Standing) (watched : Watched) (count left to : ℕ) (why : Why) (before now after : ℕ) → Seeks w watched count old a left before now → 0 < left →
+    GoesOn w a to b (Some why) → NoneEnds w watched a.now (b.now.cycle - a.now.cycle) → CountsMove a.now b.now now after → Misses w watched count old b why before after
+seeking_stopped w old a b watched n left to why before now after k some go none count =
     let on : a.now.cycle ≤ b.now.cycle = go.forward in
-    let below : b.now.cycle < cycle + 1 = go.stopped.1 in
-    let same : a.now.cycle ≡ b.now.cycle = omega arith in
     let so_far : now + old.now.cycle ≡ before + a.now.cycle = k.count in
     let counted : after + a.now.cycle ≡ now + b.now.cycle = count in
     let from : old.now.cycle ≤ a.now.cycle = k.forward in
+    let here : a.now ≡ states w (first_of old) a.now.cycle = k.stays.stands.now ∙ ap (λ (f : State). states w f a.now.cycle) k.stays.first in
+    let last_b : b.now.cycle ≤ last_cycle w (first_of b) = now_in_last w (first_of b) b go.stays.stands in
+    let first : first_of b ≡ first_of old = go.stays.first ∙ k.stays.first in
+    let last : b.now.cycle ≤ last_cycle w (first_of old) = subst (λ (f : State). b.now.cycle ≤ last_cycle w f) first last_b in
     record {
       left = left;
       some = some;
       seeks = record {
         stays = stays_on w old a b go.forward k.stays go.stays;
         forward = omega arith;
-        next = k.next ∙ ap (behind_next w (first_of old) watched left) same;
+        next =
+            k.next ∙ behind_over w (first_of old) watched left a.now.cycle (b.now.cycle - a.now.cycle) some
+            (λ i lt. ends_later w (first_of old) a.now watched a.now.cycle i here ∙ none i lt) (omega arith)
+            ∙ ap (behind_next w (first_of old) watched left) (omega arith);
         count = omega arith;
       };
       stopped = go.stopped.0;

@@ -268,6 +268,10 @@ part_sum w v old at spacing e k ea es =
     let small : v.now.cycle + v.ring.spacing < 2 ^ 64 = part_small w v old e k in
     omega arith
 
+pub part_reach : (v old : Standing) (at spacing until : ℕ) → v ≡ old → at ≡ v.now.cycle → spacing ≡ v.ring.spacing → until ≤ at + spacing → until ≤ old.now.cycle + old.ring.spacing
+part_reach v old at spacing until e ea es le =
+    subst (λ (x : Standing). until ≤ x.now.cycle + x.ring.spacing) e (subst (λ n. until ≤ v.now.cycle + n) es (subst (λ n. until ≤ n + spacing) ea le))
+
 part_ahead : (v old : Standing) (to : ℕ) → v ≡ old → old.now.cycle < to → v.now.cycle < to
 part_ahead v old to e lt = subst (λ (x : Standing). x.now.cycle < to) (sym e) lt
 

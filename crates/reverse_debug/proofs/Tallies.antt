@@ -42,9 +42,8 @@ by_cause w t u (Some why) h is one =
     absurd (omega arith)
 by_cause w t u None h is one = is ∙ states_on w t zero h ∙ none_first w (next w t)
 
-one_next : (w : Setting) (t u : State) → Advances w t (t.cycle + 1) u None → u ≡ next w t
-one_next w t u a =
-    let one : u.cycle ≡ t.cycle + 1 = a.there in
+one_next : (w : Setting) (t u : State) → Advances w t (t.cycle + 1) u None → u.cycle ≡ t.cycle + 1 → u ≡ next w t
+one_next w t u a one =
     let far : u.cycle - t.cycle ≡ 1 = omega arith in
     by_cause w t u (stop w t) refl (a.state ∙ ap (states w t) far) one
 
@@ -59,14 +58,13 @@ happens_next w f a b watched n here nexts =
     ∙ ap (λ (s : State). happens_by watched (seen watched a) (seen watched s)) (sym nexts)
 
 counting_to : (w : Setting) (f t u : State) (watched : Watched) (most to : ℕ) (so_far more : Tally) (before now after : ℕ) → Counting w f t watched most to so_far before now → Advances w t (t.cycle + 1) u None →
-    t.cycle < to → more ≡ noted most (happens_by watched (seen watched t) (seen watched u)) t.cycle so_far → CountsMove t u now after → Counting w f u watched most to more before after
-counting_to w f t u watched most to so_far more before now after k a lt one_more count =
-    let one : u.cycle ≡ t.cycle + 1 = a.there in
+    u.cycle ≡ t.cycle + 1 → t.cycle < to → more ≡ noted most (happens_by watched (seen watched t) (seen watched u)) t.cycle so_far → CountsMove t u now after → Counting w f u watched most to more before after
+counting_to w f t u watched most to so_far more before now after k a one lt one_more count =
     let stepped : now + f.cycle ≡ before + t.cycle = k.count in
     let counted : after + t.cycle ≡ now + u.cycle = count in
     let on : f.cycle ≤ t.cycle = k.path.forward in
     let here : t ≡ states w f (t.cycle - f.cycle) = k.path.is in
-    let nexts : u ≡ next w t = one_next w t u a in
+    let nexts : u ≡ next w t = one_next w t u a one in
     let same = happens_next w f t u watched (t.cycle - f.cycle) here nexts in
     let at : t.cycle ≡ f.cycle + (t.cycle - f.cycle) = omega arith in
     let far : u.cycle - f.cycle ≡ (t.cycle - f.cycle) + 1 = omega arith in
@@ -83,12 +81,12 @@ counting_to w f t u watched most to so_far more before now after k a lt one_more
     }
 
 pub counting_on : (w : Setting) (f t u : State) (watched : Watched) (most to : ℕ) (so_far more : Tally) (before now after n x y : ℕ) (was : Bool) → Counting w f t watched most to so_far before now → n ≡ t.cycle → Advances w t (n + 1) u None →
-    t.cycle < to → x ≡ seen watched u → y ≡ seen watched t → was ≡ happens_by watched y x → more ≡ noted most was n so_far → CountsMove t u now after → Counting w f u watched most to more before after
-counting_on w f t u watched most to so_far more before now after n x y was k en a lt ex ey is one_more count =
+    u.cycle ≡ n + 1 → t.cycle < to → x ≡ seen watched u → y ≡ seen watched t → was ≡ happens_by watched y x → more ≡ noted most was n so_far → CountsMove t u now after → Counting w f u watched most to more before after
+counting_on w f t u watched most to so_far more before now after n x y was k en a one lt ex ey is one_more count =
     let same : was ≡ happens_by watched (seen watched t) (seen watched u) =
     is ∙ ap (λ m. happens_by watched m x) ey ∙ ap (happens_by watched (seen watched t)) ex
     in
-    counting_to w f t u watched most to so_far more before now after k (subst (λ m. Advances w t (m + 1) u None) en a) lt
+    counting_to w f t u watched most to so_far more before now after k (subst (λ m. Advances w t (m + 1) u None) en a) (subst (λ m. u.cycle ≡ m + 1) en one) lt
     (one_more ∙ ap (λ b. noted most b n so_far) same
     ∙ ap (λ m. noted most (happens_by watched (seen watched t) (seen watched u)) m so_far) en)
     count

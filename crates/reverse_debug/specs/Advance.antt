@@ -1,20 +1,34 @@
 -- How a machine goes forward (the project's own).
-use Rattle.std.specs.Prelude.{◌≡◌, ◌≤◌, ◌<◌, ℕ, ◌+◌, ◌-◌, Option, IfNone, IfSome, Some}
+use Rattle.std.specs.Prelude.{◌≡◌, ◌≤◌, ◌<◌, ℕ, ◌+◌, ◌-◌, false, Option, IfSome, Some, None}
 use Rattle.rp_base.specs.declared.Why.{Why}
 use Rattle.outer_lane.specs.Setting.{Setting}
 use Rattle.rp_machine.specs.State.{State}
 use Rattle.rp_machine.specs.Cycle.{stop}
 use Rattle.rp_machine.specs.Run.{states}
+use Rattle.reverse_debug.specs.declared.watch.Watched.{Watched}
+use Rattle.reverse_debug.specs.Reply.{seen, ends, ends_by}
 
--- From one state to another, at most to a cycle: to that cycle, or to the first stop below it.
+-- from one state to another, at most to a cycle; with a cause only where that is the first stop below it
 pub record Advances (w : Setting) (old : State) (to : ℕ) (new : State) (result : Option Why) : Type 0 where
   pub state : new ≡ states w old (new.cycle - old.cycle)
   pub forward : old.cycle ≤ new.cycle
   pub low : new.cycle ≤ w.limit
   pub within : new.cycle ≤ to
-  pub there : IfNone result (new.cycle ≡ to)
   pub stopped : IfSome result (λ why. (stop w new ≡ Some why) × (new.cycle < to))
 
 -- so many cycles were stepped as the state moved
 abbrev pub CountsMove : State → State → ℕ → ℕ → Type 0
 CountsMove old new before after = after + old.cycle ≡ before + new.cycle
+
+-- a move forward ends behind none of so many cycles from a state on
+abbrev pub NoneEnds : Setting → Watched → State → ℕ → Type 0
+NoneEnds w watched s n = (k : ℕ) → k < n → ends w s watched k ≡ false
+
+-- on the way from one state to another it ends behind no cycle, but for the last one where it has come to no stop
+abbrev pub EndsAtLast : Setting → Watched → State → State → Option Why → Type 0
+EndsAtLast w watched old new None = NoneEnds w watched old (new.cycle - old.cycle - 1)
+EndsAtLast w watched old new (Some why) = NoneEnds w watched old (new.cycle - old.cycle)
+
+-- what was seen before is as good as what is seen of a state
+abbrev pub SeesAs : Watched → ℕ → State → Type 0
+SeesAs watched before s = (after : ℕ) → ends_by watched before after ≡ ends_by watched (seen watched s) after

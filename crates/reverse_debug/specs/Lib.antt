@@ -4,6 +4,7 @@ pub mod Reading
 pub mod Reply
 pub mod Search
 pub mod Session
+pub mod Sight
 pub mod Debugger
 pub mod Hear
 pub mod Lines

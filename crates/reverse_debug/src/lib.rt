@@ -9,6 +9,7 @@ mod reader;
 mod reply;
 pub mod search;
 pub mod session;
+mod sight;
 pub mod watch;
 pub mod way;
 mod words;

@@ -3,7 +3,7 @@
 ghost use Rattle.std.specs.Prelude.{◌≡◌, ◌≤◌, ◌<◌, ◌+◌, ◌-◌, ◌%◌, ◌^◌, ◌||◌, nat_lt, max};
 ghost use Rattle.reverse_debug.specs.Reply.{fewer};
 
-use crate::advance::advance;
+use crate::advance::{advance, seek};
 use crate::command::{Command, command_of, goes_on};
 use crate::reply::{
     Reply, put_cycle, put_last, put_peek, put_pins, put_pio, put_registers, put_words,
@@ -12,6 +12,7 @@ use crate::search::nth_before;
 use crate::watch::{Watched, ends_by, seen};
 use arrayvec::ArrayVec;
 use lane_look::{Device, Marks};
+use quiet_run::Pace;
 use rp_base::Why;
 use rp_machine::{Machine, Steps, World};
 use snap_ring::Ring;
@@ -92,7 +93,7 @@ impl Session {
     ghost use Rattle.reverse_debug.specs.Command.{are_words};
     ghost use Rattle.reverse_debug.specs.Reading.{meant, Fits, IsThere};
     ghost use Rattle.reverse_debug.specs.Reply.{heard, answer, cost, command_cost, moved_to, moved_back, move_cost, passes, search_cost, before_nth, behind_next, at_or_last, at_or_start};
-    ghost use Rattle.reverse_debug.specs.Advance.{CountsMove};
+    ghost use Rattle.reverse_debug.specs.Advance.{EndsAtLast, CountsMove};
     ghost use Rattle.reverse_debug.specs.Session.{first_of, StandsFor, OpensAt, StaysFor, GoesOn, Lands, ComesTo, Does};
 
     /// A session at the state of a machine before its first cycle, for runs up to a limit of at most 1,000,000,000 cycles. It takes
@@ -158,6 +159,32 @@ impl Session {
         let spacing = self.ring.spacing();
         let until = next_stop(at, spacing, to);
         let why = advance(&mut self.machine, world, until, marks, steps);
+        self.reached = greater(self.reached, self.machine.number());
+        self.ring.keep(&self.machine);
+        why
+    }
+
+    /// Goes forward up to the next cycle whose state is to be kept, or up to the first behind which a move forward ends by what is
+    /// watched, and keeps the state there.
+    fn seek<X: Device, L: Ledger>(
+        &mut self,
+        world: &World<'_, X>,
+        watched: Watched,
+        pace: &mut Pace,
+        marks: &mut Marks,
+        steps: &mut Steps<L>,
+    ) -> Option<Why>
+        requires stands { StandsFor (setting X.meaning world.now) self.old }
+        requires watched { IsThere watched }
+        ensures way { GoesOn (setting X.meaning world.now) self.old (self.old.now.cycle + self.old.ring.spacing) self.new result }
+        ensures ahead { IfNone result (self.old.now.cycle < self.new.now.cycle) }
+        ensures none { EndsAtLast (setting X.meaning world.now) watched self.old.now self.new.now result }
+        ensures steps { CountsMove self.old.now self.new.now steps.old steps.new }
+    {
+        let at = self.machine.number();
+        let spacing = self.ring.spacing();
+        let until = next_stop(at, spacing, at + spacing);
+        let why = seek(&mut self.machine, world, watched, until, pace, marks, steps);
         self.reached = greater(self.reached, self.machine.number());
         self.ring.keep(&self.machine);
         why
@@ -248,11 +275,11 @@ impl Session {
         ensures { ComesTo (setting X.meaning world.now) watched count self.old self.new result steps.old steps.new }
     {
         let mut left = count;
+        let mut pace = Pace::default();
         let mut marks = Marks::new();
         'cycles: while 0 < left {
-            let cycle = self.cycle();
             let before = seen(&self.machine, watched);
-            match self.stretch(world, cycle + 1, &mut marks, steps) {
+            match self.seek(world, watched, &mut pace, &mut marks, steps) {
                 Some(why) => return Some(why),
                 None => {
                     let ended = ends_by(watched, before, seen(&self.machine, watched));

@@ -29,7 +29,8 @@ pub(crate) fn word_at(machine: &Machine, address: u32) -> u32
 }
 
 /// An instruction is begun, and it is the one at an address, where one is given.
-fn is_begun(address: Option<u32>, begun: Option<u32>) -> bool
+#[inline(always)]
+pub(crate) fn is_begun(address: Option<u32>, begun: Option<u32>) -> bool
     ensures { result ≡ is_begun address begun }
 {
     match (address, begun) {

@@ -2,7 +2,7 @@ use Rattle.std.proofs.Common.{refl, sym, arith}
 use Rattle.outer_lane.specs.Setting.{setting}
 use Rattle.rp_machine.specs.contracts.machine.Machine.{the_view}
 use Rattle.quiet_run.proofs.Passing.{no_states, quiet_none}
-use Rattle.quiet_run.proofs.GoneOn.{HasBegun, has_begun, goes_onward, number_fits, still_quiet, brought_up, agrees}
+use Rattle.quiet_run.proofs.GoneOn.{HasBegun, has_begun, goes_onward, goes_unstopped, number_fits, still_quiet, brought_up, agrees}
 use Rattle.quiet_run.proofs.onward.pass_onward.Goals as goal
 
 pub returns-then-to-at-clause-state : goal.returns-then-to-at-clause-state
@@ -31,7 +31,7 @@ pass-requires-clause-quiet g c κs within =
     let begun = has_begun w (the_view c.machine.inside) c.args.machine.now c.begin_outer-seen.result c.offers.result c.quiet.result c.min-most.result c.number-at.result c.args.to
     c.machine.view_is c.machine.invariant (c.is_core0_alone.ensures.alone c.if-not-is_core0_alone.false) c.offers.ensures c.if-offers.false c.begin_outer-seen.ensures c.quiet.ensures
     (omega arith) c.number-at.ensures (omega arith) c.requires in
-    still_quiet w c.args.machine.now c.go_onward-done.new.self (the_view c.machine-2.inside) c.begin_outer-seen.result c.min-most.result c.go_onward-done.result begun c.go_onward-done.ensures.most c.go_onward-done.ensures.state c.machine-2.view_is
+    still_quiet w c.args.machine.now c.go_onward-done.new.machine (the_view c.machine-2.inside) c.begin_outer-seen.result c.min-most.result c.go_onward-done.result begun c.go_onward-done.ensures.most c.go_onward-done.ensures.state c.machine-2.view_is
 
 pub invariant_of-machine : goal.invariant_of-machine
 invariant_of-machine g c =
@@ -42,7 +42,7 @@ invariant_of-machine g c =
     let begun = has_begun w (the_view c.machine.inside) c.args.machine.now c.begin_outer-seen.result c.offers.result c.quiet.result c.min-most.result c.number-at.result c.args.to
     c.machine.view_is c.machine.invariant (c.is_core0_alone.ensures.alone c.if-not-is_core0_alone.false) c.offers.ensures c.if-offers.false c.begin_outer-seen.ensures c.quiet.ensures
     (omega arith) c.number-at.ensures (omega arith) c.requires in
-    let quiet = still_quiet w c.args.machine.now c.go_onward-done.new.self (the_view c.machine-2.inside) c.begin_outer-seen.result c.min-most.result c.go_onward-done.result begun c.go_onward-done.ensures.most c.go_onward-done.ensures.state c.machine-2.view_is in
+    let quiet = still_quiet w c.args.machine.now c.go_onward-done.new.machine (the_view c.machine-2.inside) c.begin_outer-seen.result c.min-most.result c.go_onward-done.result begun c.go_onward-done.ensures.most c.go_onward-done.ensures.state c.machine-2.view_is in
     agrees w (the_view c.machine-2.inside) c.pass.new.self c.begin_outer-seen.result c.go_onward-done.result quiet c.pass.ensures c.machine-2.invariant
 
 pub returns-clause-state : goal.returns-clause-state
@@ -54,7 +54,7 @@ returns-clause-state g c =
     let begun = has_begun w (the_view c.machine.inside) c.args.machine.now c.begin_outer-seen.result c.offers.result c.quiet.result c.min-most.result c.number-at.result c.args.to
     c.machine.view_is c.machine.invariant (c.is_core0_alone.ensures.alone c.if-not-is_core0_alone.false) c.offers.ensures c.if-offers.false c.begin_outer-seen.ensures c.quiet.ensures
     (omega arith) c.number-at.ensures (omega arith) c.requires in
-    brought_up w c.args.machine.now c.go_onward-done.new.self (the_view c.machine-2.inside) c.pass.new.self c.begin_outer-seen.result c.min-most.result c.go_onward-done.result begun c.go_onward-done.ensures.most c.go_onward-done.ensures.inward c.go_onward-done.ensures.state c.machine-2.view_is c.pass.ensures
+    brought_up w c.args.machine.now c.go_onward-done.new.machine (the_view c.machine-2.inside) c.pass.new.self c.begin_outer-seen.result c.min-most.result c.go_onward-done.result begun c.go_onward-done.ensures.most c.go_onward-done.ensures.inward c.go_onward-done.ensures.state c.machine-2.view_is c.pass.ensures
 
 pub returns-clause-quiet : goal.returns-clause-quiet
 returns-clause-quiet g c =
@@ -66,3 +66,15 @@ returns-clause-quiet g c =
     c.machine.view_is c.machine.invariant (c.is_core0_alone.ensures.alone c.if-not-is_core0_alone.false) c.offers.ensures c.if-offers.false c.begin_outer-seen.ensures c.quiet.ensures
     (omega arith) c.number-at.ensures (omega arith) c.requires in
     (goes_onward w c.args.machine.now c.begin_outer-seen.result c.min-most.result c.go_onward-done.result begun c.go_onward-done.ensures.most c.go_onward-done.ensures.inward).quiet
+
+pub returns-clause-unstopped : goal.returns-clause-unstopped
+returns-clause-unstopped g c k lt =
+    let w = setting g.X.Device.meaning c.args.world.now in
+    let min = c.min-most.ensures in
+    let at = c.number-at.ensures in
+    let ahead = c.if-to-at.false in
+    let begun = has_begun w (the_view c.machine.inside) c.args.machine.now c.begin_outer-seen.result c.offers.result c.quiet.result c.min-most.result c.number-at.result c.args.to
+    c.machine.view_is c.machine.invariant (c.is_core0_alone.ensures.alone c.if-not-is_core0_alone.false) c.offers.ensures c.if-offers.false c.begin_outer-seen.ensures c.quiet.ensures
+    (omega arith) c.number-at.ensures (omega arith) c.requires in
+    goes_unstopped w c.args.machine.now c.begin_outer-seen.result c.min-most.result c.go_onward-done.result begun c.go_onward-done.ensures.most c.go_onward-done.ensures.inward
+    (g.W.Watch.stops c.args.watch.now) (g.met.W.Watch.looks_inward c.args.watch.now) c.go_onward-done.ensures.unstopped k lt

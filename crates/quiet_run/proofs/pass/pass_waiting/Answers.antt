@@ -1,6 +1,7 @@
 use Rattle.std.proofs.Common.{◌<◌, refl, sym, subst, arith}
 use Rattle.outer_lane.specs.Setting.{setting}
 use Rattle.rp_machine.specs.Copies.{CopiesAgree}
+use Rattle.quiet_run.proofs.Idle.{idle_cycles}
 use Rattle.quiet_run.proofs.Passing.{no_states, quiet_none, quiet_cycles}
 use Rattle.quiet_run.proofs.pass.pass_waiting.Goals as goal
 
@@ -20,4 +21,10 @@ pub returns-clause-quiet : goal.returns-clause-quiet
 returns-clause-quiet g c =
     let some : 0 < c.quiet-n.result = let no = c.if-n-eq0.false in omega (arith, no) in
     quiet_cycles (setting g.X.Device.meaning c.args.world.now) c.args.machine.now c.quiet-n.result
+    (subst CopiesAgree c.machine.view_is c.machine.invariant) (c.quiet-n.ensures.parts some)
+
+pub returns-clause-idle : goal.returns-clause-idle
+returns-clause-idle g c =
+    let some : 0 < c.quiet-n.result = let no = c.if-n-eq0.false in omega (arith, no) in
+    idle_cycles (setting g.X.Device.meaning c.args.world.now) c.args.machine.now c.quiet-n.result
     (subst CopiesAgree c.machine.view_is c.machine.invariant) (c.quiet-n.ensures.parts some)

@@ -43,7 +43,10 @@ returns-in-Some-clause-steps g c =
     way_counts w _ c.pass_quiet.new.machine _ c.args.to _ _ _ on c.in-Some.ensures.state c.in-Some.ensures.steps
 
 pub returns-clause-way : goal.returns-clause-way
-returns-clause-way g c = way_there _ _ _ _ _ _ c.cycles.invariant (omega arith)
+returns-clause-way g c = way_there _ _ _ _ _ _ c.cycles.invariant
+
+pub returns-clause-there : goal.returns-clause-there
+returns-clause-there g c = let within : c.cycles.machine.cycle ≤ c.args.to = c.cycles.invariant.within in omega arith
 
 pub returns-clause-steps : goal.returns-clause-steps
 returns-clause-steps g c = c.cycles.invariant.count

@@ -9,12 +9,12 @@ cycles-init g c = counting_here _ _ _ _ _ _ c.requires.low c.requires.ahead
 pub cycles-smaller : goal.cycles-smaller
 cycles-smaller g c =
     let lt : c.cycles.machine.cycle < c.args.to = omega arith in
-    nearer_by_one c.cycles.machine c.advance.new.machine c.number-cycle.result c.args.to c.number-cycle.ensures c.in-None.ensures.way.there lt
+    nearer_by_one c.cycles.machine c.advance.new.machine c.number-cycle.result c.args.to c.number-cycle.ensures c.in-None.ensures.there lt
 
 pub cycles-preserved : goal.cycles-preserved
 cycles-preserved g c =
     let lt : c.cycles.machine.cycle < c.args.to = omega arith in
-    counting_on _ _ _ _ _ _ _ _ _ _ _ _ _ _ _ _ c.cycles.invariant c.number-cycle.ensures c.in-None.ensures.way lt c.seen.ensures
+    counting_on _ _ _ _ _ _ _ _ _ _ _ _ _ _ _ _ c.cycles.invariant c.number-cycle.ensures c.in-None.ensures.way c.in-None.ensures.there lt c.seen.ensures
     c.seen-before.ensures c.happens_by-happened.ensures c.noted-tally.ensures c.in-None.ensures.steps
 
 pub noted-tally-requires : goal.noted-tally-requires
