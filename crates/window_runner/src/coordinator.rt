@@ -208,6 +208,8 @@ fn window<'w, X: Device, G: Gate, H: Wait, L: Ledger>(
         lead.after_short = length < SHORT;
         return length;
     }
+    // a value that only one way uses up is ten times as dear to check
+    drop(found);
     let Sets { notes, begun, .. } = &mut *lead.sets;
     let length = window_here(machine, desk.world, notes, begun, marks, steps);
     lead.after_short = length < SHORT;
