@@ -3,7 +3,7 @@
 -- `dis <hex> [--side S] [--opt T]`, `asm <file>`, `thumb <file>` or `gen <number> --cycles N [--workers K] [--stats]`. Where probes
 -- are spoken of as a number, it is how many are handed in; where parts are spoken of as a list of numbers, it is how many pins each
 -- part has that is handed in. The project's own.
-use Rattle.std.specs.Prelude.{◌≡◌, ℕ, Bool, ◌≤◌, ◌-◌, ◌^◌, if◌then◌else◌, List, [], ◌∷◌, Option, Some, None, codes}
+use Rattle.std.specs.Prelude.{◌≡◌, ℕ, Bool, ◌-◌, ◌^◌, if◌then◌else◌, List, [], ◌∷◌, Option, Some, None, codes}
 use Rattle.std.specs.Str.{bytes_eq}
 use Rattle.pio_words.specs.declared.side.SideConfig.{SideConfig}
 use Rattle.board_parts.specs.declared.target.Target.{Target}
@@ -108,15 +108,6 @@ written probes parts (command ∷ argument ∷ options) =
 -- `clap` reads them.
 unfoldable pub reading : ℕ → List ℕ → List (List ℕ) → Option Command
 reading probes parts words = if is_normal words then written probes parts words else given (line_in words) (written probes parts)
-
--- a run that is asked for has at most 1,000,000,000 cycles and 8 workers
-abbrev pub IsLimited : Command → Type 0
-IsLimited (RunImage run) = (run.cycles ≤ 1000000000) × (run.workers ≤ 8)
-IsLimited (DebugImage run) = (run.cycles ≤ 1000000000) × (run.workers ≤ 8)
-IsLimited (Disassemble words side) = Unit {0}
-IsLimited (Assemble source) = Unit {0}
-IsLimited (AssembleThumb source) = Unit {0}
-IsLimited (Generate number cycles workers stats) = (cycles ≤ 1000000000) × (workers ≤ 8)
 
 -- how many workers run the lanes of what is asked for; a command without such a number has none
 abbrev pub workers_of : Command → ℕ
