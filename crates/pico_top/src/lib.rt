@@ -13,16 +13,14 @@ mod teller;
 
 ghost use Rattle.std.specs.Prelude.{◌≡◌, ◌+◌, ◌≤◌, Some, length, map, true, IfOk};
 ghost use Rattle.std.specs.String.{string_bytes};
-ghost use Rattle.board_parts.specs.Hearing.{aim_of, seen};
 ghost use Rattle.board_parts.specs.Wiring.{all_fit, all_words, counts_of, wired_in};
-ghost use Rattle.command_words.specs.Words.{parts_in, workers_of, IsLimited, IsRead};
+ghost use Rattle.command_words.specs.Words.{parts_in, workers_of, IsRead};
 ghost use Rattle.command_words.specs.Read.{command_in};
 ghost use Rattle.pico_top.specs.Answer.{Converses, ConversesFor};
 ghost use Rattle.pico_top.specs.Call.{asked_by, board, outside, Board};
 ghost use Rattle.pico_top.specs.Causes.{HasCause, IsComplete};
-ghost use Rattle.pico_top.specs.Dialogue.{aims_in, device_in, targets_in};
+ghost use Rattle.pico_top.specs.Dialogue.{device_in, targets_in};
 
-use board_parts::aimed::Aimed;
 use board_parts::aiming::aim_all;
 use board_parts::attaching::attach_all;
 use board_parts::part::Part;
@@ -32,7 +30,7 @@ use board_parts::wiring::Wiring;
 use command_words::refusal::Refusal;
 pub use command_words::{Reading, WordsFault, read_words};
 use lane_look::{Device, Pair};
-use open::{Unopened, open_reading};
+use open::{Opened, Unopened, open_reading};
 use rp_machine::Steps;
 use rp_ports::gate::Gate;
 use rp_ports::shelf::Shelf;
@@ -43,7 +41,7 @@ use std::alloc::{AllocError, Global};
 use std::sync::Wait;
 use std::sync::ledger::Ledger;
 use std::thread::Threads;
-use tell::{refuse, tell_into, tell_into_by};
+use tell::{refuse, run_into, run_into_by, talk_into, text_into};
 
 /// The probes that a reading aims.
 fn targets(reading: &Reading) -> &[Target]
@@ -71,7 +69,8 @@ fn wirings(reading: &Reading) -> &[Wiring]
 
 /// How many workers a reading asks for; none where its command has no such number.
 fn count_of(reading: &Reading) -> u8
-    ensures { result ≡ workers_of (command_in reading.now) }
+    ensures count { result ≡ workers_of (command_in reading.now) }
+    ensures within { result ≤ 8 }
 {
     match reading {
         Reading::Run(run) => run.workers,
@@ -91,71 +90,6 @@ fn pins_of<P: Part>(alloc: Global, parts: &[P]) -> Result<Vec<usize>, AllocError
     Ok(pins)
 }
 
-/// Loads the files of a reading, and writes the text, where these probes hear a run on this device.
-fn serve_aimed<F: Shelf, I: Source, O: Sink, X: Device, L: Ledger>(
-    alloc: Global,
-    reading: &Reading,
-    files: &mut F,
-    input: &mut I,
-    out: &mut O,
-    aimed: &mut [Aimed],
-    device: &X,
-    steps: &mut Steps<L>,
-) -> u8
-    requires { IsLimited (command_in reading.now) }
-    ensures { (b : Board) → X.meaning device.now ≡ device_in b (command_in reading.now)
-        → seen aimed.old (λ a. aim_of a.index a.pin
-        (⟦<dyn Probe as Probe>⟧ a.probe.vtable) a.probe.value)
-        ≡ aims_in b.probes (command_in reading.now)
-        → ConversesFor b (Some (command_in reading.now))
-        (outside ⟦<F as Shelf>⟧ ⟦<I as Source>⟧ ⟦<O as Sink>⟧ files.old input.old out.old steps.old)
-        (outside ⟦<F as Shelf>⟧ ⟦<I as Source>⟧ ⟦<O as Sink>⟧ files.new input.new out.new steps.new)
-        result }
-{
-    match open_reading(alloc, reading, files, device) {
-        Ok(opened) => tell_into(alloc, opened, aimed, device, input, out, steps),
-        Err(unopened) => refuse(alloc, &unopened, out),
-    }
-}
-
-/// The same, where workers run the lanes of a run.
-fn serve_aimed_by<F, I, O, G, X, L, R>(
-    rt: &R,
-    alloc: Global,
-    workers: &Workers<'_, G>,
-    reading: &Reading,
-    files: &mut F,
-    input: &mut I,
-    out: &mut O,
-    aimed: &mut [Aimed],
-    device: &X,
-    steps: &mut Steps<L>,
-) -> u8
-where
-    F: Shelf,
-    I: Source,
-    O: Sink,
-    G: Gate,
-    X: Device,
-    L: Ledger,
-    R: Threads + Wait + Sync,
-    requires workers { workers.now.count ≤ 8 }
-    requires limited { IsLimited (command_in reading.now) }
-    ensures { (b : Board) → X.meaning device.now ≡ device_in b (command_in reading.now)
-        → seen aimed.old (λ a. aim_of a.index a.pin
-        (⟦<dyn Probe as Probe>⟧ a.probe.vtable) a.probe.value)
-        ≡ aims_in b.probes (command_in reading.now)
-        → ConversesFor b (Some (command_in reading.now))
-        (outside ⟦<F as Shelf>⟧ ⟦<I as Source>⟧ ⟦<O as Sink>⟧ files.old input.old out.old steps.old)
-        (outside ⟦<F as Shelf>⟧ ⟦<I as Source>⟧ ⟦<O as Sink>⟧ files.new input.new out.new steps.new)
-        result }
-{
-    match open_reading(alloc, reading, files, device) {
-        Ok(opened) => tell_into_by(rt, alloc, workers, opened, aimed, device, input, out, steps),
-        Err(unopened) => refuse(alloc, &unopened, out),
-    }
-}
-
 /// Aims the probes that a reading names, loads its files, and writes the text, where a run has this device.
 fn serve_with<F: Shelf, I: Source, O: Sink, X: Device, L: Ledger>(
     alloc: Global,
@@ -167,7 +101,6 @@ fn serve_with<F: Shelf, I: Source, O: Sink, X: Device, L: Ledger>(
     device: &X,
     steps: &mut Steps<L>,
 ) -> u8
-    requires { IsLimited (command_in reading.now) }
     ensures { (b : Board) → X.meaning device.now ≡ device_in b (command_in reading.now)
         → map (λ p. (Probe-box p).meaning p.value) probes.items ≡ b.probes
         → ConversesFor b (Some (command_in reading.now))
@@ -175,17 +108,23 @@ fn serve_with<F: Shelf, I: Source, O: Sink, X: Device, L: Ledger>(
         (outside ⟦<F as Shelf>⟧ ⟦<I as Source>⟧ ⟦<O as Sink>⟧ files.new input.new out.new steps.new)
         result }
 {
-    match aim_all(alloc, probes, targets(reading)) {
-        Ok(mut aimed) => serve_aimed(alloc, reading, files, input, out, &mut aimed, device, steps),
-        Err(_) => refuse(alloc, &Unopened::Memory, out),
+    let Ok(mut aimed) = aim_all(alloc, probes, targets(reading)) else {
+        return refuse(alloc, &Unopened::Memory, out);
+    };
+    match open_reading(alloc, reading, files, device) {
+        Ok(opened) => match opened {
+            Opened::Machine(started) => run_into(alloc, started, &mut aimed, device, out, steps),
+            Opened::Session(debugging) => talk_into(debugging, device, input, out, steps),
+            Opened::Text(text, pieces) => text_into(&text, pieces, out),
+        },
+        Err(unopened) => refuse(alloc, &unopened, out),
     }
 }
 
 /// The same, where workers run the lanes of a run.
 fn serve_with_by<F, I, O, G, X, L, R>(
-    rt: &R,
     alloc: Global,
-    workers: &Workers<'_, G>,
+    workers: &Workers<'_, G, R>,
     reading: &Reading,
     files: &mut F,
     input: &mut I,
@@ -202,8 +141,6 @@ where
     X: Device,
     L: Ledger,
     R: Threads + Wait + Sync,
-    requires workers { workers.now.count ≤ 8 }
-    requires limited { IsLimited (command_in reading.now) }
     ensures { (b : Board) → X.meaning device.now ≡ device_in b (command_in reading.now)
         → map (λ p. (Probe-box p).meaning p.value) probes.items ≡ b.probes
         → ConversesFor b (Some (command_in reading.now))
@@ -211,16 +148,23 @@ where
         (outside ⟦<F as Shelf>⟧ ⟦<I as Source>⟧ ⟦<O as Sink>⟧ files.new input.new out.new steps.new)
         result }
 {
-    match aim_all(alloc, probes, targets(reading)) {
-        Ok(mut aimed) => serve_aimed_by(
-            rt, alloc, workers, reading, files, input, out, &mut aimed, device, steps,
-        ),
-        Err(_) => refuse(alloc, &Unopened::Memory, out),
+    let Ok(mut aimed) = aim_all(alloc, probes, targets(reading)) else {
+        return refuse(alloc, &Unopened::Memory, out);
+    };
+    match open_reading(alloc, reading, files, device) {
+        Ok(opened) => match opened {
+            Opened::Machine(started) => {
+                run_into_by(alloc, workers, started, &mut aimed, device, out, steps)
+            }
+            Opened::Session(debugging) => talk_into(debugging, device, input, out, steps),
+            Opened::Text(text, pieces) => text_into(&text, pieces, out),
+        },
+        Err(unopened) => refuse(alloc, &unopened, out),
     }
 }
 
 /// Aims the probes and attaches the parts that a reading names, loads its files, and writes the text.
-fn serve<F, I, O, P, X, L>(
+fn serve<F: Shelf, I: Source, O: Sink, P: Part + Sync, X: Device, L: Ledger>(
     alloc: Global,
     reading: &Reading,
     files: &mut F,
@@ -231,14 +175,6 @@ fn serve<F, I, O, P, X, L>(
     device: X,
     steps: &mut Steps<L>,
 ) -> u8
-where
-    F: Shelf,
-    I: Source,
-    O: Sink,
-    P: Part + Sync,
-    X: Device,
-    L: Ledger,
-    requires limited { IsLimited (command_in reading.now) }
     requires fit { all_fit (counts_of (map P.meaning parts.items))
         (parts_in (command_in reading.now)) ≡ true }
     requires room { all_words (map P.meaning parts.items) + (X.meaning device).count ≤ 128 }
@@ -267,9 +203,8 @@ where
 
 /// The same, where workers run the lanes of a run.
 fn serve_by<F, I, O, G, P, X, L, R>(
-    rt: &R,
     alloc: Global,
-    workers: &Workers<'_, G>,
+    workers: &Workers<'_, G, R>,
     reading: &Reading,
     files: &mut F,
     input: &mut I,
@@ -288,8 +223,6 @@ where
     X: Device,
     L: Ledger,
     R: Threads + Wait + Sync,
-    requires workers { workers.now.count ≤ 8 }
-    requires limited { IsLimited (command_in reading.now) }
     requires fit { all_fit (counts_of (map P.meaning parts.items))
         (parts_in (command_in reading.now)) ≡ true }
     requires room { all_words (map P.meaning parts.items) + (X.meaning device).count ≤ 128 }
@@ -303,7 +236,7 @@ where
 {
     match wirings(reading) {
         [] => serve_with_by(
-            rt, alloc, workers, reading, files, input, out, probes, &device, steps,
+            alloc, workers, reading, files, input, out, probes, &device, steps,
         ),
         wirings => match attach_all(alloc, parts, wirings) {
             Ok(first) => {
@@ -312,7 +245,7 @@ where
                     second: device,
                 };
                 serve_with_by(
-                    rt, alloc, workers, reading, files, input, out, probes, &device, steps,
+                    alloc, workers, reading, files, input, out, probes, &device, steps,
                 )
             }
             Err(_) => refuse(alloc, &Unopened::Memory, out),
@@ -379,52 +312,6 @@ pub fn pico_alone<F: Shelf, I: Source, O: Sink, X: Device, L: Ledger>(
     )
 }
 
-/// Does what a reading says, with as many workers as it names.
-fn serve_read<F, I, O, G, P, X, L, R>(
-    rt: &R,
-    alloc: Global,
-    reading: &Reading,
-    files: &mut F,
-    input: &mut I,
-    out: &mut O,
-    gate: &G,
-    probes: Vec<Box<dyn Probe>>,
-    parts: Vec<P>,
-    device: X,
-    steps: &mut Steps<L>,
-) -> u8
-where
-    F: Shelf,
-    I: Source,
-    O: Sink,
-    G: Gate,
-    P: Part + Sync,
-    X: Device,
-    L: Ledger,
-    R: Threads + Wait + Sync,
-    requires read { IsRead (length probes.items) (counts_of (map P.meaning parts.items))
-        (command_in reading.now) }
-    requires room { all_words (map P.meaning parts.items) + (X.meaning device).count ≤ 128 }
-    ensures { ConversesFor (board (X.meaning device)
-        (map (λ p. (Probe-box p).meaning p.value) probes.items)
-        (map P.meaning parts.items))
-        (Some (command_in reading.now))
-        (outside ⟦<F as Shelf>⟧ ⟦<I as Source>⟧ ⟦<O as Sink>⟧ files.old input.old out.old steps.old)
-        (outside ⟦<F as Shelf>⟧ ⟦<I as Source>⟧ ⟦<O as Sink>⟧ files.new input.new out.new steps.new)
-        result }
-{
-    let count = count_of(reading);
-    if count == 0 {
-        return serve(
-            alloc, reading, files, input, out, probes, parts, device, steps,
-        );
-    }
-    let workers = Workers { gate, count };
-    serve_by(
-        rt, alloc, &workers, reading, files, input, out, probes, parts, device, steps,
-    )
-}
-
 /// Reads the words, and does what they say.
 fn converse<F, I, O, G, P, X, L, R>(
     rt: &R,
@@ -461,9 +348,18 @@ where
         return refuse(alloc, &Unopened::Memory, out);
     };
     match read_words(alloc, words, probes.len(), &pins) {
-        Ok(reading) => serve_read(
-            rt, alloc, &reading, files, input, out, gate, probes, parts, device, steps,
-        ),
+        Ok(reading) => {
+            let count = count_of(&reading);
+            if count == 0 {
+                return serve(
+                    alloc, &reading, files, input, out, probes, parts, device, steps,
+                );
+            }
+            let workers = Workers { rt, gate, count };
+            serve_by(
+                alloc, &workers, &reading, files, input, out, probes, parts, device, steps,
+            )
+        }
         Err(WordsFault::Words) => refuse(alloc, &Unopened::Refusing(Refusal::Words), out),
         Err(WordsFault::Memory) => refuse(alloc, &Unopened::Memory, out),
     }

@@ -33,10 +33,7 @@ pub fn send_probes<O: Sink>(probes: &[Aimed], writer: &mut Writer<'_, O>) -> Res
     ensures same_sink { writer.new.out.ghost_name ≡ writer.old.out.ghost_name }
 {
     for probe in probes {
-        match send_probe(probe, writer) {
-            Ok(()) => {}
-            Err(fault) => return Err(fault),
-        }
+        send_probe(probe, writer)?;
     }
     Ok(())
 }

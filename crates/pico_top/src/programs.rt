@@ -123,10 +123,8 @@ fn open_program<F: Shelf>(
         (entry_in entry.now) before
         loads.new.items result }
 {
-    match load(alloc, entry.file.as_str(), SOURCE_LIMIT, files) {
-        Ok(bytes) => add_first(alloc, entry, &bytes, loads),
-        Err(unopened) => Err(unopened),
-    }
+    let bytes = load(alloc, entry.file.as_str(), SOURCE_LIMIT, files)?;
+    add_first(alloc, entry, &bytes, loads)
 }
 
 /// Loads the programs of all entries, each behind those before it.
@@ -141,10 +139,7 @@ pub fn open_programs<F: Shelf>(
 {
     let mut loads = Vec::new(alloc);
     for entry in entries {
-        match open_program(alloc, entry, &mut loads, files) {
-            Ok(()) => {}
-            Err(unopened) => return Err(unopened),
-        }
+        open_program(alloc, entry, &mut loads, files)?;
     }
     Ok(loads)
 }
