@@ -9,13 +9,10 @@ use Rattle.std.proofs.lemmas.Bool.{and_from, and_parts, or_parts, not_from_false
 use Rattle.std.proofs.lemmas.List.Folds.{list_all-append}
 use Rattle.board_parts.specs.Part.{are_pins, all_different}
 use Rattle.board_parts.specs.Wiring.{Wired, all_fit}
-use Rattle.command_words.specs.Lists.{cut, items_from, pieces}
+use Rattle.command_words.specs.Lists.{cut, items_from, pieces, is_same_pin, pins_of, wiring_of, share_part, wirings_of, entries_of, targets_of}
 use Rattle.command_words.specs.Numbers.{below, within, number_below, number_within, number_of}
-use Rattle.command_words.specs.Wirings.{is_same_pin, pins_of, wiring_of, share_part, wirings_of}
 use Rattle.command_words.specs.Line.{line_in}
 use Rattle.command_words.specs.Options.{Setting, settings_of, is_normal, value_for}
-use Rattle.command_words.specs.Entries.{entries_of}
-use Rattle.command_words.specs.Targets.{targets_of}
 use Rattle.command_words.specs.Dis.{words_of, side_of}
 use Rattle.command_words.specs.Words.{Run, Command, IsRead, parts_in, cycles_in, workers_in, list_in, run_reading, dis_reading, gen_reading, written, reading}
 use Rattle.command_words.proofs.Given.{given_all, of_some}

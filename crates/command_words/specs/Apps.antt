@@ -6,7 +6,9 @@ use Rattle.std.specs.Str.{bytes_eq}
 use Rattle.clap.specs.Walk.{Rule, Text}
 use Rattle.clap.specs.declared.builder.action.ArgAction.TheVariants.{SetTrue}
 use Rattle.clap.specs.Simple.{App, new_app, new_rule, on_top, with_rule, with_subcommand}
-use Rattle.command_words.specs.Table.{Way, Needed, Valued, Alone, Row, commands, options}
+use Rattle.command_words.specs.declared.rows.Way.{Way}
+use Rattle.command_words.specs.declared.rows.Way.TheVariants.{Needed, Valued, Alone}
+use Rattle.command_words.specs.Table.{Row, commands, options}
 
 -- the argument of a command, which must be given
 abbrev pub argument : Rule

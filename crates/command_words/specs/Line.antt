@@ -7,15 +7,16 @@ use Rattle.clap.specs.Walk.{Row as Found, Text, first_of}
 use Rattle.clap.specs.Simple.{subcommand_of}
 use Rattle.clap.specs.Kinds.{Kinds}
 use Rattle.clap.specs.Faults.{fault_of}
-use Rattle.command_words.specs.Table.{Way, Needed, Valued, Alone, Row, options, dashed}
+use Rattle.command_words.specs.declared.rows.Way.{Way}
+use Rattle.command_words.specs.declared.rows.Way.TheVariants.{Needed, Valued, Alone}
+use Rattle.command_words.specs.Table.{Row, options, dashed}
 use Rattle.command_words.specs.Apps.{table}
 
 -- an option, where it was given: its name and its value, or its name alone, where `clap` has the text `true` for it
 abbrev pub option_words : Way → Text → Option Text → List Text
 option_words way name None = []
-option_words Needed name (Some value) = dashed name ∷ value ∷ []
-option_words Valued name (Some value) = dashed name ∷ value ∷ []
 option_words Alone name (Some text) = if bytes_eq text (codes "true") then dashed name ∷ [] else []
+option_words _ name (Some value) = dashed name ∷ value ∷ []
 
 -- the words of a row, where it is one of the command
 abbrev pub row_words : Text → (Text → Option Text) → Row → List Text

@@ -3,10 +3,8 @@
 ghost use Rattle.std.specs.Prelude.{◌≡◌, ◌≤◌, map, codes, IfOk, IfSome};
 ghost use Rattle.std.specs.Option.{option_map};
 ghost use Rattle.std.specs.String.{string_bytes};
-ghost use Rattle.command_words.specs.Entries.{entries_of};
+ghost use Rattle.command_words.specs.Lists.{entries_of, targets_of, wirings_of};
 ghost use Rattle.board_parts.specs.Wiring.{wired_in};
-ghost use Rattle.command_words.specs.Targets.{targets_of};
-ghost use Rattle.command_words.specs.Wirings.{wirings_of};
 ghost use Rattle.command_words.specs.Options.{settings_of, value_for};
 ghost use Rattle.command_words.specs.Words.{cycles_in, workers_in, list_in, run_reading, dis_reading, gen_reading, written, reading};
 ghost use Rattle.command_words.specs.Read.{Reads, entry_in, run_in, command_in};

@@ -15,10 +15,10 @@ use Rattle.pin_script.specs.declared.entry.Entry.{Entry as ScriptEntry}
 use Rattle.pio_asm.specs.Assembly.{Plan, ArePrograms, IsProgram}
 use Rattle.pio_asm.specs.declared.program.Program.{Program}
 use Rattle.pio_asm.specs.Listing.{plans_of}
-use Rattle.command_words.specs.Entries.{Entry}
+use Rattle.command_words.specs.Lists.{Entry}
 use Rattle.command_words.specs.Words.{Command, Run}
 use Rattle.command_words.specs.Words.Command.{RunImage, DebugImage, Disassemble, Assemble, AssembleThumb, Generate}
-use Rattle.command_words.specs.Refusals.{Refusal, line_of, status_of}
+use Rattle.command_words.specs.Refusals.{Refusal, line_of, status_of, meant}
 use Rattle.command_words.specs.Refusals.Refusal.{BadWords, Lost, TooLarge, BadImage, BadScript, BadSource, BadThumb, BadStart}
 use Rattle.pico_top.specs.declared.open.Unopened.TheVariants.{Memory, Refusing}
 use Rattle.reverse_debug.specs.Lines.{closes}
@@ -40,7 +40,6 @@ use Rattle.rp_machine.specs.State.{State, first_state}
 use Rattle.rp_machine.specs.Boot.{start, with_loads, with_load, block_loaded, IsLoad, AreLoads}
 use Rattle.rp_machine.specs.declared.load.PioLoad.{PioLoad}
 use Rattle.command_words.specs.declared.refusal.Refusal.{Refusal as Written}
-use Rattle.command_words.specs.Meant.{meant}
 use Rattle.pico_top.specs.declared.open.Opened.{Opened}
 use Rattle.pico_top.specs.declared.open.Opened.TheVariants.{Machine, Session, Text}
 use Rattle.pico_top.specs.declared.open.Purpose.{Purpose}

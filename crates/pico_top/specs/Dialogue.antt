@@ -24,7 +24,7 @@ use Rattle.pio_asm.specs.Listing.{plans_of, listing}
 use Rattle.outer_lane.specs.Setting.{Setting, setting_of}
 use Rattle.rp_machine.specs.State.{State}
 use Rattle.rp_machine.specs.Boot.{start}
-use Rattle.command_words.specs.Entries.{Entry}
+use Rattle.command_words.specs.Lists.{Entry}
 use Rattle.command_words.specs.Refusals.{Refusal}
 use Rattle.command_words.specs.Refusals.Refusal.{BadWords, BadImage, BadScript, BadSource, BadThumb, BadStart}
 use Rattle.command_words.specs.Words.{Run, Command, parts_in}

@@ -1,8 +1,7 @@
 //! What was opened, or why nothing was, into the sink.
 
 ghost use Rattle.std.specs.Prelude.{◌≡◌, ◌≤◌, ◌++◌, ℕ, List, Option};
-ghost use Rattle.command_words.specs.Refusals.{line_of, status_of};
-ghost use Rattle.command_words.specs.Meant.{meant};
+ghost use Rattle.command_words.specs.Refusals.{line_of, status_of, meant};
 ghost use Rattle.board_parts.specs.Hearing.{Aim, aim_of, seen};
 ghost use Rattle.outer_lane.specs.Setting.{Setting};
 ghost use Rattle.rp_machine.specs.State.{State};
