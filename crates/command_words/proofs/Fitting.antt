@@ -1,5 +1,5 @@
 -- The parts that a command's words name fit those that are handed in.
-use Rattle.std.proofs.Common.{◌≡◌, ℕ, ◌==◌, nat_le, nat_lt, Bool, true, false, not, ◌&&◌, List, [], ◌∷◌, ◌++◌, length, Option, Some, None, IfSome, refl, sym, ap, ◌∙◌}
+use Rattle.std.proofs.Common.{◌≡◌, ℕ, ◌==◌, nat_le, nat_lt, Bool, true, false, not, ◌&&◌, List, [], ◌∷◌, ◌++◌, length, Option, Some, None, IfSome, refl, sym, ap, subst, ◌∙◌}
 use Rattle.std.specs.Prelude.{slice_index, if◌then◌else◌, ◌-◌, ◌^◌, codes}
 use Rattle.std.specs.Str.{bytes_eq}
 use Rattle.std.specs.List.{list_all, list_any}
@@ -9,13 +9,22 @@ use Rattle.std.proofs.lemmas.Bool.{and_from, and_parts, or_parts, not_from_false
 use Rattle.std.proofs.lemmas.List.Folds.{list_all-append}
 use Rattle.board_parts.specs.Part.{are_pins, all_different}
 use Rattle.board_parts.specs.Wiring.{Wired, all_fit}
-use Rattle.command_words.specs.Lists.{cut, items_from, pieces, is_same_pin, pins_of, wiring_of, share_part, wirings_of, entries_of, targets_of}
+use Rattle.command_words.specs.Lists.{given, cut, items_from, pieces, is_same_pin, pins_of, wiring_of, share_part, wirings_of, entries_of, targets_of}
 use Rattle.command_words.specs.Numbers.{below, within, number_below, number_within, number_of}
 use Rattle.command_words.specs.Line.{line_in}
 use Rattle.command_words.specs.Options.{Setting, settings_of, is_normal, value_for}
 use Rattle.command_words.specs.Dis.{words_of, side_of}
 use Rattle.command_words.specs.Words.{Run, Command, IsRead, parts_in, cycles_in, workers_in, list_in, run_reading, dis_reading, gen_reading, written, reading}
-use Rattle.command_words.proofs.Given.{given_all, of_some}
+
+-- what holds of each value that the next step gives holds of what both give
+given_all : {X Y : Type 0} (P : Y → Type 0) (o : Option X) (next : X → Option Y) → ((x : X) → o ≡ Some x → IfSome (next x) P)
+    → IfSome (given o next) P
+given_all P None next h = tt
+given_all P (Some x) next h = h x refl
+
+-- what holds of a value that is there
+of_some : {X : Type 0} (P : X → Type 0) (o : Option X) (x : X) → IfSome o P → o ≡ Some x → P x
+of_some {X} P o x h e = subst (λ (o : Option X). IfSome o P) e h
 
 -- what holds of a value that is given under a condition
 where_it : {X : Type 0} (P : X → Type 0) (b : Bool) (x : Option X) → (b ≡ true → IfSome x P) → IfSome (if b then x else None) P

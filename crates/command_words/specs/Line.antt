@@ -8,7 +8,7 @@ use Rattle.clap.specs.Simple.{subcommand_of}
 use Rattle.clap.specs.Kinds.{Kinds}
 use Rattle.clap.specs.Faults.{fault_of}
 use Rattle.command_words.specs.declared.rows.Way.{Way}
-use Rattle.command_words.specs.declared.rows.Way.TheVariants.{Needed, Valued, Alone}
+use Rattle.command_words.specs.declared.rows.Way.TheVariants.{Alone}
 use Rattle.command_words.specs.Table.{Row, options, dashed}
 use Rattle.command_words.specs.Apps.{table}
 

@@ -25,21 +25,21 @@ use Rattle.rp_ports.proofs.Pieces.{appends_both}
 use Rattle.trace_text.specs.Sent.{Sends, AppendsPart}
 use Rattle.trace_text.proofs.Sending.{sends_then, sends_part, part_of_longer, part_behind}
 use Rattle.outer_lane.specs.Setting.{Setting}
-use Rattle.trace_text.specs.Line.{stop_text, event_text, register_text}
+use Rattle.trace_text.specs.Line.{event_text}
 use Rattle.trace_text.specs.Tape.{FailsAmong, Tells}
 use Rattle.trace_text.specs.declared.event.Event.{Event}
 use Rattle.rp_machine.specs.State.{State}
 use Rattle.rp_machine.specs.Cycle.{stop}
-use Rattle.rp_machine.specs.Readers.{registers_of}
+use Rattle.rp_base.specs.declared.Why.{Why}
 use Rattle.rp_machine.specs.Run.{last_state}
 use Rattle.window_runner.specs.Told.{run_shown}
 use Rattle.window_runner.specs.declared.alone.Ran.{Ran}
 use Rattle.window_runner.specs.declared.windows.RunFault.{RunFault}
 use Rattle.window_runner.specs.declared.windows.RunFault.TheVariants.{Sink, Memory as Exhausted}
 use Rattle.window_runner.specs.Alone.{IsRan}
-use Rattle.pico_top.specs.Running.{IsRanFor, last_text, RunsTo}
+use Rattle.pico_top.specs.Running.{IsRanFor, RunsTo}
 use Rattle.window_runner.specs.Windows.{answered, OnMemory}
-use Rattle.pico_top.specs.RunText.{event_lines, after_events, probe_lines, counts_text, stats_text, run_text, run_cycles, end_text, core_lines}
+use Rattle.pico_top.specs.RunText.{event_lines, after_events, counts_text, stats_text, run_text, run_cycles, end_text}
 use Rattle.pico_top.specs.Teller.{HasTold, lines_both, one_line}
 use Rattle.trace_text.specs.declared.writer.SinkFault.{SinkFault}
 
@@ -184,14 +184,6 @@ pub record SentBefore (old new : Option (List ℕ)) (before now : ℕ) (text res
   pub count : before ≤ now
   pub whole : text ≡ part ++ rest
 
-appends_none : (a : Option (List ℕ)) → Appends a a []
-appends_none None = refl
-appends_none (Some w) = ap Some (sym (append-nil w))
-
--- nothing was sent yet
-pub sent_nothing : (a : Option (List ℕ)) (f : ℕ) (text : List ℕ) → SentBefore a a f f text text
-sent_nothing a f text = record { part = []; appended = appends_none a; count = omega arith; whole = refl }
-
 -- one piece more was sent
 pub sent_piece : (a b c : Option (List ℕ)) (f g h : ℕ) (text piece rest : List ℕ) → SentBefore a b f g text (piece ++ rest) → Appends b c piece → g ≤ h → SentBefore a c f h text rest
 sent_piece a b c f g h text piece rest s p le = record {
@@ -219,9 +211,6 @@ sent_part {T} {U} {E} a b c f g h text piece rest x s cut =
 pub sent_all : {T E : Type 0} (a b : Option (List ℕ)) (f g : ℕ) (text : List ℕ) (x : T) → SentBefore a b f g text [] → Sends {E = E} a b f g text (Ok x)
 sent_all a b f g text x s = record { ok = rw (s.whole ∙ append-nil s.part) s.appended; err = tt; cause = tt; count = s.count }
 
-pub sends_none : {T E : Type 0} (a : Option (List ℕ)) (f : ℕ) (text : List ℕ) (x : T) → text ≡ [] → Sends {E = E} a a f f text (Ok x)
-sends_none a f text x e = record { ok = rw e (appends_none a); err = tt; cause = tt; count = omega arith }
-
 -- a first text was sent in part, or whole and then a second one as it was
 pub sends_first : {T U E : Type 0} (a b : Option (List ℕ)) (f g : ℕ) (xs ys text : List ℕ) (x : E) → xs ++ ys ≡ text → Sends {T = T} a b f g xs (Err x) → Sends {T = U} a b f g text (Err x)
 sends_first {T} {U} a b f g xs ys text x e s =
@@ -234,21 +223,16 @@ sends_second a b c f g h xs ys text first r e s t = rw (sym e) (sends_then a b c
 -- ---- the text and the cycles of a run
 
 -- a run begins with its events
-pub run_begins : (stats : Bool) (w : Setting) (aims : List Aim) (s : State) → event_lines (run_shown w s) ++ (end_text w (last_state w s) ++ (probe_lines (after_events (run_shown w s) aims) ++ stats_text stats w s)) ≡ run_text stats w aims s
+pub run_begins : (stats : Bool) (w : Setting) (aims : List Aim) (s : State) → event_lines (run_shown w s) ++ end_text (stop w (last_state w s)) (last_state w s) (after_events (run_shown w s) aims) (stats_text stats w s) ≡ run_text stats w aims s
 unfolding run_text
 run_begins stats w aims s = refl
 
 -- and ends with the lines of the last state, those of the probes and that of the counts
-pub text_of_run : (stats : Bool) (w : Setting) (aims heard : List Aim) (s t : State) (ran : Ran) → t ≡ last_state w s → IsRanFor stats w s ran → heard ≡ after_events (run_shown w s) aims → event_lines (run_shown w s) ++ last_text stats ran t heard ≡ run_text stats w aims s
+pub text_of_run : (stats : Bool) (w : Setting) (aims heard : List Aim) (s t : State) (ran : Ran) → t ≡ last_state w s → IsRanFor stats w s ran → heard ≡ after_events (run_shown w s) aims → event_lines (run_shown w s) ++ end_text (Some ran.why) t heard (counts_text stats ran.windows ran.cycles) ≡ run_text stats w aims s
 text_of_run stats w aims heard s t ran e is h =
-    let stops : stop w t ≡ Some ran.why = ap (stop w) e ∙ is.why in
-    let here : stop_text ran.why t.cycle ++ core_lines t ≡ end_text w (last_state w s) = subst (λ (x : State). stop_text ran.why t.cycle ++ core_lines t ≡ end_text w x) e (rw stops refl) in
-    let rest : List ℕ = probe_lines heard ++ counts_text stats ran.windows ran.cycles in
-    let nested : last_text stats ran t heard ≡ (stop_text ran.why t.cycle ++ core_lines t) ++ rest =
-    append_assoc ((stop_text ran.why t.cycle ++ register_text 0 (registers_of 0 t)) ++ register_text 1 (registers_of 1 t)) (probe_lines heard) (counts_text stats ran.windows ran.cycles)
-    ∙ ap (λ x. x ++ rest) (append_assoc (stop_text ran.why t.cycle) (register_text 0 (registers_of 0 t)) (register_text 1 (registers_of 1 t))) in
-    ap (λ x. event_lines (run_shown w s) ++ x) nested
-    ∙ ap₂ (λ (r a : List ℕ). event_lines (run_shown w s) ++ (r ++ a)) here (ap₂ (λ (a : List Aim) (n : List ℕ). probe_lines a ++ n) h is.counts) ∙ run_begins stats w aims s
+    ap (λ x. event_lines (run_shown w s) ++ x)
+    (ap₂ (λ (why : Option Why) (x : State). end_text why x heard (counts_text stats ran.windows ran.cycles)) (sym is.why) e
+    ∙ ap₂ (λ (a : List Aim) (n : List ℕ). end_text (stop w (last_state w s)) (last_state w s) a n) h is.counts) ∙ run_begins stats w aims s
 
 -- a run by windows found the counts, whether they are asked for or not
 pub ran_for : (stats : Bool) (w : Setting) (s : State) (ran : Ran) → IsRan w s ran → IsRanFor stats w s ran
@@ -341,7 +325,7 @@ counted_forward s t before now le count = omega (arith, le, count)
 -- the run went to its stop, and its last lines were put
 pub run_ended : (stats : Bool) (w : Setting) (s t : State) (before after : List Aim) (old mid new : Option (List ℕ)) (lost between now steps steps' status : ℕ) (ran : Ran) (came : Result Ran RunFault) (left : Option (List ℕ)) (faults : ℕ)
     → came ≡ Ok ran → RunsTo stats w s t before after old mid lost between steps steps' came
-    → Puts mid new between now status 0 (last_text stats ran t after)
+    → Puts mid new between now status 0 (end_text (Some ran.why) t after (counts_text stats ran.windows ran.cycles))
     → Concludes (say (run_reply stats before w s)) left left faults faults old new lost now steps steps' status
 run_ended stats w s t before after old mid new lost between now steps steps' status ran came left faults is h₀ last =
     let h = subst (λ (r : Result Ran RunFault). RunsTo stats w s t before after old mid lost between steps steps' r) is h₀ in

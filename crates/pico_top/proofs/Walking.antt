@@ -416,19 +416,6 @@ pub source_adds : (entry : Entry) (before : List Placed) (new : List PioLoad) (b
 source_adds entry before new bytes found program result is first adds =
     back entry before new bytes result (first_adds entry before new (plans_of bytes) program result (subst (λ (x : Option Program). IsFirst x (plans_of bytes)) is first) adds)
 
-none_leads : (entry : Entry) (before : List Placed) (verdict : Result (List Plan) PioFault) (files : Option Files) (next : List Placed → Dialogue) (e : Ending) → IsFirst None verdict → Walks files (next before) e → Walks files (judge verdict BadSource (with_first entry before next)) e
-none_leads entry before (Ok []) files next e first w = w
-none_leads entry before (Ok (plan ∷ plans)) files next e first w = absurd first
-none_leads entry before (Err fault) files next e first w = absurd first
-
-pub source_none : (entry : Entry) (before : List Placed) (loads : List PioLoad) (bytes : List ℕ) (found : Option Program) (done : Unit {0}) → ArePlaced before loads → AreLoads loads → found ≡ None → IsFirst found (plans_of bytes) → AddsBehind entry before bytes loads (Ok done)
-source_none entry before loads bytes found done h all is first files =
-    (all, (before, h, λ next e w. none_leads entry before (plans_of bytes) files next e (subst (λ (x : Option Program). IsFirst x (plans_of bytes)) is first) w))
-
-pub source_bad : (entry : Entry) (before : List Placed) (new : List PioLoad) (bytes : List ℕ) (fault : PioFault) → plans_of bytes ≡ Err fault → AddsBehind entry before bytes new (Err (Refusing (Source fault)))
-source_bad entry before new bytes fault is files failed next =
-    (Refused (BadSource fault), subst (λ (v : Result (List Plan) PioFault). Walks files (judge v BadSource (with_first entry before next)) (Refused (BadSource fault))) (sym is) (inl refl), refl, refl)
-
 pub source_out : (entry : Entry) (before : List Placed) (new : List PioLoad) (bytes : List ℕ) → AddsBehind entry before bytes new (Err Memory)
 source_out entry before new bytes files failed next = runs_out files failed (source_part entry before bytes next)
 
@@ -459,9 +446,6 @@ pub record Along (files now : Option Files) (failed failed' : List (List ℕ)) (
   pub placed : ArePlaced ps loads
   pub leads : (next : List Placed → Dialogue) (e : Ending) → Walks files (with_programs rest ps next) e → Walks files (with_programs all [] next) e
 
-pub along_none : (files : Option Files) (failed : List (List ℕ)) (all : List Entry) → Along files files failed failed all all []
-along_none files failed all = record { kept = refl; names = refl; fit = tt; ps = []; placed = tt; leads = λ next e w. w }
-
 pub along_added : (files now later : Option Files) (failed middle last : List (List ℕ)) (all left rest : List Entry) (entry : Entry) (loads new : List PioLoad) (done : Unit {0}) → Along files now failed middle all left loads → left ≡ entry ∷ rest → later ≡ now → ((before : List Placed) → ArePlaced before loads → AddsAs now middle last entry before new (Ok done)) → Along files later failed last all rest new
 along_added files now later failed middle last all left rest entry loads new done a is same adds =
     let here = subst (λ (f : Option Files). AddsAs f middle last entry a.ps new (Ok done)) a.kept (adds a.ps a.placed) in
@@ -479,7 +463,3 @@ along_ends files now failed middle last all left rest entry loads new unopened a
     let here = subst (λ (f : Option Files). AddsAs f middle last entry a.ps new (Err unopened)) a.kept (adds a.ps a.placed) in
     let s = here (λ more. with_programs rest more next) in
     (s.0, a.leads next s.0 (subst (λ (l : List Entry). Walks files (with_programs l a.ps next) s.0) (sym is) s.1), s.2 ∙ ap (λ f. failed_names f s.0) a.names, s.3)
-
-pub along_all : (files now : Option Files) (failed failed' : List (List ℕ)) (all left : List Entry) (loads : Vec PioLoad Global) → Along files now failed failed' all left loads.items → left ≡ [] → LoadsAll files failed failed' all (Ok loads)
-along_all files now failed failed' all left loads a is =
-    (a.names, a.fit, (a.ps, a.placed, λ next e w. a.leads next e (subst (λ (l : List Entry). Walks files (with_programs l a.ps next) e) (sym is) w)))

@@ -164,11 +164,7 @@ with_run use_run device run = with_image run.image (with_linked run.table (behin
 -- which probes a command aims at which pins: a run those that its words name, and no other command any
 abbrev pub targets_in : Command → List Target
 targets_in (RunImage run) = run.probes
-targets_in (DebugImage run) = []
-targets_in (Disassemble words side) = []
-targets_in (Assemble name) = []
-targets_in (AssembleThumb name) = []
-targets_in (Generate number cycles workers stats) = []
+targets_in _ = []
 
 -- the probes that are aimed, of those that are handed in
 abbrev pub aims_in : List ProbeMeaning → Command → List Aim

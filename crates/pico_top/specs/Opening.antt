@@ -101,13 +101,10 @@ Judges {A} {F} verdict refused (Err Memory) = Unit {0}
 abbrev pub Boots : Purpose → State → List ScriptEntry → ℕ → Result Opened Unopened → Type 0
 Boots (ForRun stats) first script limit (Ok (Machine started)) =
     (started.machine ≡ first) × (started.script ≡ script) × (started.limit ≡ limit) × (started.stats ≡ stats)
-Boots (ForRun stats) first script limit (Ok (Session debugging)) = ⊥
 Boots ForDebug first script limit (Ok (Session debugging)) =
     OpensAt first limit debugging.session × (debugging.script ≡ script) × (debugging.limit ≡ limit)
-Boots ForDebug first script limit (Ok (Machine started)) = ⊥
-Boots purpose first script limit (Ok (Text text pieces)) = ⊥
-Boots purpose first script limit (Err (Refusing refusal)) = ⊥
-Boots purpose first script limit (Err Memory) = Unit {0}
+Boots _ first script limit (Err Memory) = Unit {0}
+Boots _ first script limit _ = ⊥
 
 -- what is done with a run for a purpose
 abbrev pub use_for : List Aim → Purpose → Use

@@ -1,11 +1,9 @@
 -- What the run of a machine to its stop came to, whoever ran its lanes. The project's own.
-use Rattle.std.specs.Prelude.{◌≡◌, ℕ, ◌+◌, ◌++◌, Bool, List, Option, Some, Result, IfOk, IfSome}
+use Rattle.std.specs.Prelude.{◌≡◌, ℕ, ◌+◌, Bool, List, Option, Some, Result, IfOk, IfSome}
 use Rattle.outer_lane.specs.Setting.{Setting}
-use Rattle.trace_text.specs.Line.{stop_text, register_text}
 use Rattle.trace_text.specs.Sent.{Sends}
 use Rattle.rp_machine.specs.State.{State}
 use Rattle.rp_machine.specs.Cycle.{stop}
-use Rattle.rp_machine.specs.Readers.{registers_of}
 use Rattle.rp_machine.specs.Run.{last_state}
 use Rattle.window_runner.specs.declared.alone.Ran.{Ran}
 use Rattle.window_runner.specs.declared.windows.RunFault.{RunFault}
@@ -13,18 +11,12 @@ use Rattle.window_runner.specs.Told.{run_shown}
 use Rattle.window_runner.specs.Alone.{IsOnRun}
 use Rattle.window_runner.specs.Windows.{answered, OnMemory}
 use Rattle.board_parts.specs.Hearing.{Aim}
-use Rattle.pico_top.specs.RunText.{event_lines, after_events, probe_lines, counts_text, stats_text}
+use Rattle.pico_top.specs.RunText.{event_lines, after_events, counts_text, stats_text}
 
 -- a run answers the cause of the stop at its end, and where the counts are asked for, those of its windows
 pub record IsRanFor (stats : Bool) (w : Setting) (s : State) (ran : Ran) : Type 0 where
   pub why : stop w (last_state w s) ≡ Some ran.why
   pub counts : counts_text stats ran.windows ran.cycles ≡ stats_text stats w s
-
--- the lines of a state at which a run stopped that found these counts, those of the probes that heard it, and that of the counts
-abbrev pub last_text : Bool → Ran → State → List Aim → List ℕ
-last_text stats ran s aims =
-    stop_text ran.why s.cycle ++ register_text 0 (registers_of 0 s) ++ register_text 1 (registers_of 1 s)
-    ++ probe_lines aims ++ counts_text stats ran.windows ran.cycles
 
 -- The machine ran from s to t. The lines of all events were sent and the probes heard them, it stopped as the run does, and where
 -- the counts are asked for, those of its windows were found; or the sink failed at one of the lines, somewhere on the run; or memory

@@ -86,6 +86,3 @@ told_one a b x y event h k = record { written = rw (sym (one_line event)) h; hea
 
 pub byte_heard : (event : Event) (cycle number byte : ℕ) (aims : List Aim) → event ≡ Uart cycle number byte → aims ≡ after_events (event ∷ []) aims
 byte_heard event cycle number byte aims is = rw is (sym (after_byte cycle number byte aims))
-
-pub change_heard : (event : Event) (cycle pin : ℕ) (level : Bool) (aims heard : List Aim) → event ≡ Pin cycle pin level → heard ≡ map (after_hearing (record { cycle = cycle; pin = pin; level = level } ∷ [])) aims → heard ≡ after_events (event ∷ []) aims
-change_heard event cycle pin level aims heard is h = rw is (h ∙ sym (after_change cycle pin level aims))

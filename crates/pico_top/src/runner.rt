@@ -1,12 +1,11 @@
 //! A run up to the first state that has a stop: cycle by cycle, or by windows where these are counted or have workers.
 
-ghost use Rattle.std.specs.Prelude.{◌≡◌, ◌+◌, ◌≤◌, IfOk, IfSome, Some};
+ghost use Rattle.std.specs.Prelude.{◌≡◌, ◌+◌, ◌≤◌, IfOk, IfSome};
 ghost use Rattle.outer_lane.specs.Setting.{setting};
 ghost use Rattle.trace_text.specs.Tape.{Tells};
-ghost use Rattle.rp_machine.specs.Cycle.{stop};
 ghost use Rattle.rp_machine.specs.Run.{last_state};
 ghost use Rattle.window_runner.specs.Told.{run_shown};
-ghost use Rattle.window_runner.specs.Alone.{IsRan, IsOnRun};
+ghost use Rattle.window_runner.specs.Alone.{IsOnRun};
 ghost use Rattle.window_runner.specs.Windows.{answered, OnMemory};
 ghost use Rattle.board_parts.specs.Hearing.{aim_of, seen};
 ghost use Rattle.pico_top.specs.Running.{IsRanFor, RunsTo};

@@ -1,12 +1,11 @@
 //! The text of a run and of a refusal, line by line into the sink.
 
-ghost use Rattle.std.specs.Prelude.{◌≡◌, ◌<◌, ◌≤◌, length, ◌++◌, true};
+ghost use Rattle.std.specs.Prelude.{◌≡◌, ◌<◌, ◌≤◌, length, ◌++◌, true, Some};
 ghost use Rattle.arrayvec.specs.ArrayVec.{array_vec_len};
 ghost use Rattle.trace_text.specs.Line.{stop_text, register_text};
 ghost use Rattle.trace_text.specs.Sent.{Sends};
 ghost use Rattle.board_parts.specs.Hearing.{aim_of, seen};
-ghost use Rattle.pico_top.specs.RunText.{counts_text};
-ghost use Rattle.pico_top.specs.Running.{last_text};
+ghost use Rattle.pico_top.specs.RunText.{counts_text, end_text};
 
 use crate::open::Pieces;
 use crate::probes::send_probes;
@@ -90,8 +89,9 @@ pub fn send_last<O: Sink>(
 ) -> Result<(), SinkFault>
     ensures sends { Sends (O.written writer.old.out.now) (O.written writer.new.out.now)
         (O.faults writer.old.out.now) (O.faults writer.new.out.now)
-        (last_text stats ran.now machine.now (seen probes.now (λ a. aim_of a.index a.pin
-        (⟦<dyn Probe as Probe>⟧ a.probe.vtable) a.probe.value))) result }
+        (end_text (Some ran.now.why) machine.now (seen probes.now (λ a. aim_of a.index a.pin
+        (⟦<dyn Probe as Probe>⟧ a.probe.vtable) a.probe.value))
+        (counts_text stats ran.now.windows ran.now.cycles)) result }
     ensures same_sink { writer.new.out.ghost_name ≡ writer.old.out.ghost_name }
 {
     send_stop(&ran.why, machine.number(), writer)?;

@@ -1,17 +1,17 @@
 //! What was opened, or why nothing was, into the sink.
 
-ghost use Rattle.std.specs.Prelude.{◌≡◌, ◌≤◌, ◌++◌, ℕ, List, Option};
-ghost use Rattle.command_words.specs.Refusals.{line_of, status_of, meant};
+ghost use Rattle.std.specs.Prelude.{◌≡◌, ◌≤◌, ℕ, List, Option, Some};
 ghost use Rattle.board_parts.specs.Hearing.{Aim, aim_of, seen};
 ghost use Rattle.outer_lane.specs.Setting.{Setting};
 ghost use Rattle.rp_machine.specs.State.{State};
 ghost use Rattle.pico_top.specs.Answer.{Puts, RunsOut};
-ghost use Rattle.pico_top.specs.Running.{last_text, RunsTo};
+ghost use Rattle.pico_top.specs.RunText.{counts_text, end_text};
+ghost use Rattle.pico_top.specs.Running.{RunsTo};
 ghost use Rattle.reverse_debug.specs.Debugger.{quits};
 ghost use Rattle.reverse_debug.specs.Hear.{way_line, way_status};
 ghost use Rattle.reverse_debug.specs.Session.{first_of, OpensAt};
 ghost use Rattle.pico_top.specs.Dialogue.{hear, input_limit, run_reply, say, session_reply};
-ghost use Rattle.pico_top.specs.Opening.{setting_in, setting_by, opened_dialogue, IsReady, PutsRefusal, Concludes};
+ghost use Rattle.pico_top.specs.Opening.{setting_in, setting_by, PutsRefusal, Concludes};
 
 use crate::open::{Debugging, Opened, Pieces, Started, Unopened};
 use crate::runner::{Workers, run_to_stop, run_to_stop_by};
@@ -40,8 +40,9 @@ const INPUT_LIMIT: usize = 1_048_576;
 /// Puts the last lines of a run into a sink, and answers 0, or 7 where the sink fails.
 fn end_into<O: Sink>(stats: bool, ran: &Ran, machine: &Machine, probes: &[Aimed], out: &mut O) -> u8
     ensures { Puts (O.written out.old) (O.written out.new) (O.faults out.old) (O.faults out.new)
-        result 0 (last_text stats ran.now machine.now (seen probes.now (λ a. aim_of a.index a.pin
-        (⟦<dyn Probe as Probe>⟧ a.probe.vtable) a.probe.value))) }
+        result 0 (end_text (Some ran.now.why) machine.now (seen probes.now (λ a. aim_of a.index a.pin
+        (⟦<dyn Probe as Probe>⟧ a.probe.vtable) a.probe.value))
+        (counts_text stats ran.now.windows ran.now.cycles)) }
 {
     let mut writer = Writer { out };
     match send_last(stats, ran, machine, probes, &mut writer) {

@@ -1,6 +1,5 @@
 use Rattle.command_words.proofs.Fitting.{read_parts_fit}
-use Rattle.pico_top.proofs.Causing.{causes}
-use Rattle.pico_top.proofs.Completing.{completes}
+use Rattle.pico_top.proofs.Causing.{causes, completes}
 use Rattle.pico_top.proofs.pico_alone.Goals as goal
 
 pub serve-requires-clause-fit : goal.serve-requires-clause-fit
