@@ -21,8 +21,7 @@ use Rattle.clap.specs.declared.parser.matches.SubCommand.{SubCommand}
 use Rattle.clap.specs.declared.parser.matches.ArgMatches.TheViews.{out-SubCommand}
 use Rattle.clap.proofs.OnLiterals.{clap_on_literals}
 use Rattle.command_words.specs.Table.{Row as OptionRow, commands, options}
-use Rattle.command_words.specs.Apps.{argument, rule_for, with_row, app_for, with_command, table}
-use Rattle.command_words.specs.Line.{line_in, normal_line, line_found, without_fault}
+use Rattle.command_words.specs.Line.{argument, rule_for, with_row, app_for, with_command, table, line_in, normal_line, line_found, without_fault}
 
 pub table_is_simple : is_simple table ≡ true
 unfolding table commands options clap_on_literals

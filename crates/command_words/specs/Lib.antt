@@ -5,6 +5,5 @@ pub mod Read
 pub mod Words
 pub mod Line
 pub mod Table
-pub mod Apps
 pub mod Lists
 pub mod Refusals

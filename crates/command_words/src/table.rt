@@ -3,7 +3,7 @@
 ghost use Rattle.std.specs.Prelude.{◌≡◌, false, IfOk};
 ghost use Rattle.clap.specs.Words.{app_of};
 ghost use Rattle.clap.specs.Walk.{rule_of};
-ghost use Rattle.command_words.specs.Apps.{argument, rule_for, app_for, table};
+ghost use Rattle.command_words.specs.Line.{argument, rule_for, app_for, table};
 
 use crate::rows::{Way, commands, options};
 use clap::{Arg, ArgAction, Command};

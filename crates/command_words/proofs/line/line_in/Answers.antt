@@ -8,8 +8,7 @@ use Rattle.clap.specs.Simple.{App, app_of, subcommand_rows_of}
 use Rattle.clap.specs.Faults.{fault_of, is_simple_and_free}
 use Rattle.clap.specs.Kinds.{IsAmong}
 use Rattle.clap.specs.Words.{kind_of}
-use Rattle.command_words.specs.Line.{line_in, line_found, normal_line}
-use Rattle.command_words.specs.Apps.{table}
+use Rattle.command_words.specs.Line.{line_in, line_found, normal_line, table}
 use Rattle.command_words.proofs.Parsed.{at_ok, at_err, none_met, one_met, same_line, table_is_free}
 use Rattle.command_words.proofs.line.line_in.Goals as goal
 
