@@ -26,12 +26,12 @@ use Rattle.reverse_debug.proofs.LineLists.{closes_more}
 
 -- ---- the status of a text
 
--- the status is the text's own, or 7 where the sink's count of faults rose
-sent_is : (old new : Option (List ℕ)) (before now status wanted : ℕ) (text : List ℕ) (sent : Result (Unit {0}) SinkFault) → Sends old new before now text sent → status ≡ sent_status sent wanted → (status ≡ wanted) ⊎ ((status ≡ 7) × Rose before now)
-sent_is old new before now status wanted text (Ok done) sends e = inl e
+-- the text was written and the status is its own, or it is 7 and the sink's count of faults rose
+sent_is : (old new : Option (List ℕ)) (before now status wanted : ℕ) (text : List ℕ) (sent : Result (Unit {0}) SinkFault) → Sends old new before now text sent → status ≡ sent_status sent wanted → ((status ≡ wanted) × Appends old new text) ⊎ ((status ≡ 7) × Rose before now)
+sent_is old new before now status wanted text (Ok done) sends e = inl (e, sends.ok)
 sent_is old new before now status wanted text (Err fault) sends e = inr (e, sends.cause)
 
-pub puts_is : (old new : Option (List ℕ)) (before now status wanted : ℕ) (text : List ℕ) → Puts old new before now status wanted text → (status ≡ wanted) ⊎ ((status ≡ 7) × Rose before now)
+puts_is : (old new : Option (List ℕ)) (before now status wanted : ℕ) (text : List ℕ) → Puts old new before now status wanted text → ((status ≡ wanted) × Appends old new text) ⊎ ((status ≡ 7) × Rose before now)
 puts_is old new before now status wanted text h = sent_is old new before now status wanted text h.0 h.1 h.2
 
 -- ---- the status of an ending
@@ -47,10 +47,10 @@ abbrev pub ComesOf : ℕ → ℕ → ℕ → ℕ → Type 0
 ComesOf before now status own = (status ≡ own) ⊎ (((status ≡ 7) × Rose before now) ⊎ (status ≡ 9))
 
 told_comes : (old new : Option (List ℕ)) (before now status own : ℕ) (text : List ℕ) → Puts old new before now status own text → ComesOf before now status own
-told_comes old new before now status own text h = elim (puts_is old new before now status own text h) [ inl e ↦ inl e | inr e ↦ inr (inl e) ]
+told_comes old new before now status own text h = elim (puts_is old new before now status own text h) [ inl e ↦ inl e.0 | inr e ↦ inr (inl e) ]
 
 out_comes : (old new : Option (List ℕ)) (before now status own : ℕ) → RunsOut old new before now status → ComesOf before now status own
-out_comes old new before now status own h = elim (puts_is old new before now status 9 memory_line h) [ inl e ↦ inr (inr e) | inr e ↦ inr (inl e) ]
+out_comes old new before now status own h = elim (puts_is old new before now status 9 memory_line h) [ inl e ↦ inr (inr e.0) | inr e ↦ inr (inl e) ]
 
 pub ends_comes : (old new : Option (List ℕ)) (before now status : ℕ) (e : Ending) → Ends old new before now status e → ComesOf before now status (ending_status e)
 ends_comes old new before now status (Said reply) h = told_comes old new before now status 0 reply.text h
@@ -103,15 +103,12 @@ abbrev EndedIn : Board → Option Command → Outside → Outside → ℕ → En
 EndedIn b asked before after status e =
     Walks before.files (dialogue_from b asked) e × (after.failed ≡ failed_names before.failed e) × Takes before.left after.left before.source_faults after.source_faults status e
 
+no_words : (way : Way) → way_status way ≡ 2 → ⊥
+no_words way e = grind (arith, e)
+
 words_cause : (b : Board) (asked : Option Command) (before after : Outside) (status : ℕ) (e : Ending) → ending_status e ≡ 2 → EndedIn b asked before after status e → asked ≡ None
 words_cause b asked before after status (Said reply) e h = absurd (omega (arith, e))
-words_cause b asked before after status (Heard bytes way reply) e h = absurd (no_way way e)
-  where
-    no_way : (way : Way) → way_status way ≡ 2 → ⊥
-    no_way Closed e = omega (arith, e)
-    no_way Ended e = omega (arith, e)
-    no_way Broken e = omega (arith, e)
-    no_way Full e = omega (arith, e)
+words_cause b asked before after status (Heard bytes way reply) e h = absurd (no_words way e)
 words_cause b asked before after status (Refused refusal) e h =
     words_refused before.files b asked (subst (λ (r : Refusal). Walks before.files (dialogue_from b asked) (Refused r)) (only_words refusal e) h.0)
 words_cause b asked before after status NoMemory e h = absurd (omega (arith, e))
@@ -122,33 +119,21 @@ refused_cause b asked before after status (Heard bytes way reply) is own h = abs
 refused_cause b asked before after status (Refused refusal) is own h = record { refusal = refusal; walked = h.0; failed = h.1; own = is }
 refused_cause b asked before after status NoMemory is own h = absurd (own.memory refl)
 
-source_cause : (b : Board) (asked : Option Command) (before after : Outside) (status : ℕ) (e : Ending) → ending_status e ≡ 8 → EndedIn b asked before after status e → HasHeard b asked before after status Broken
-source_cause b asked before after status (Said reply) e h = absurd (omega (arith, e))
-source_cause b asked before after status (Heard bytes Closed reply) e h = absurd (omega (arith, e))
-source_cause b asked before after status (Heard bytes Ended reply) e h = absurd (omega (arith, e))
-source_cause b asked before after status (Heard bytes Broken reply) e h = record { bytes = bytes; reply = reply; walked = h.0; taken = h.2 }
-source_cause b asked before after status (Heard bytes Full reply) e h = absurd (omega (arith, e))
-source_cause b asked before after status (Refused refusal) e h = absurd ((apart refusal).source e)
-source_cause b asked before after status NoMemory e h = absurd (omega (arith, e))
+-- a hearing with this status ended in this way
+same_way : (way own : Way) → way_status way ≡ way_status own → (way_status own ≡ 0 → ⊥) → way ≡ own
+same_way way own e other = grind (arith, e, other)
 
-full_cause : (b : Board) (asked : Option Command) (before after : Outside) (status : ℕ) (e : Ending) → ending_status e ≡ 10 → EndedIn b asked before after status e → HasHeard b asked before after status Full
-full_cause b asked before after status (Said reply) e h = absurd (omega (arith, e))
-full_cause b asked before after status (Heard bytes Closed reply) e h = absurd (omega (arith, e))
-full_cause b asked before after status (Heard bytes Ended reply) e h = absurd (omega (arith, e))
-full_cause b asked before after status (Heard bytes Broken reply) e h = absurd (omega (arith, e))
-full_cause b asked before after status (Heard bytes Full reply) e h = record { bytes = bytes; reply = reply; walked = h.0; taken = h.2 }
-full_cause b asked before after status (Refused refusal) e h = absurd ((apart refusal).full e)
-full_cause b asked before after status NoMemory e h = absurd (omega (arith, e))
+-- the status of a way that is none of a text, of memory or of a refusal comes of a hearing that ended in it
+heard_cause : (b : Board) (asked : Option Command) (before after : Outside) (status : ℕ) (own : Way) (e : Ending) → (way_status own ≡ 0 → ⊥) → (way_status own ≡ 9 → ⊥) → ((r : Refusal) → status_of r ≡ way_status own → ⊥) → ending_status e ≡ way_status own → EndedIn b asked before after status e → HasHeard b asked before after status own
+heard_cause b asked before after status own (Said reply) text memory refusal e h = absurd (text (sym e))
+heard_cause b asked before after status own (Heard bytes way reply) text memory refusal e h =
+    subst (λ (x : Way). HasHeard b asked before after status x) (same_way way own e text) (record { bytes = bytes; reply = reply; walked = h.0; taken = h.2 })
+heard_cause b asked before after status own (Refused r) text memory refusal e h = absurd (refusal r e)
+heard_cause b asked before after status own NoMemory text memory refusal e h = absurd (memory (sym e))
 
 -- no text has the status 7
 no_seven : (e : Ending) → ending_status e ≡ 7 → ⊥
-no_seven (Said reply) e = omega (arith, e)
-no_seven (Heard bytes Closed reply) e = omega (arith, e)
-no_seven (Heard bytes Ended reply) e = omega (arith, e)
-no_seven (Heard bytes Broken reply) e = omega (arith, e)
-no_seven (Heard bytes Full reply) e = omega (arith, e)
-no_seven (Refused refusal) e = (apart refusal).sink e
-no_seven NoMemory e = omega (arith, e)
+no_seven e h = grind (arith, h)
 
 sink_cause : (before now status own : ℕ) → (own ≡ 7 → ⊥) → ComesOf before now status own → status ≡ 7 → Rose before now
 sink_cause before now status own other h seven = elim h [
@@ -173,8 +158,8 @@ causes b asked before after status h =
       refused = λ is. let same = of_refusal before.sink_faults after.sink_faults status (ending_status h.ending) comes is in
           refused_cause b asked before after status h.ending same (subst IsOfRefusal same is) ended;
       sink = λ e. sink_cause before.sink_faults after.sink_faults status (ending_status h.ending) (no_seven h.ending) comes e;
-      source = λ e. source_cause b asked before after status h.ending (own 8 e (λ x. omega (arith, x)) (λ x. omega (arith, x))) ended;
-      full = λ e. full_cause b asked before after status h.ending (own 10 e (λ x. omega (arith, x)) (λ x. omega (arith, x))) ended;
+      source = λ e. heard_cause b asked before after status Broken h.ending (λ x. omega (arith, x)) (λ x. omega (arith, x)) (λ r. (apart r).source) (own 8 e (λ x. omega (arith, x)) (λ x. omega (arith, x))) ended;
+      full = λ e. heard_cause b asked before after status Full h.ending (λ x. omega (arith, x)) (λ x. omega (arith, x)) (λ r. (apart r).full) (own 10 e (λ x. omega (arith, x)) (λ x. omega (arith, x))) ended;
     }
 
 -- ---- the status over bytes
@@ -274,12 +259,8 @@ completes b asked before after status h =
 
 -- ---- the whole text
 
-sent_whole : (old new : Option (List ℕ)) (before now status wanted : ℕ) (text : List ℕ) (sent : Result (Unit {0}) SinkFault) → Sends old new before now text sent → status ≡ sent_status sent wanted → (Rose before now → ⊥) → (status ≡ wanted) × Appends old new text
-sent_whole old new before now status wanted text (Ok done) sends e rose = (e, sends.ok)
-sent_whole old new before now status wanted text (Err fault) sends e rose = absurd (rose sends.cause)
-
 puts_whole : (old new : Option (List ℕ)) (before now status wanted : ℕ) (text : List ℕ) → Puts old new before now status wanted text → (Rose before now → ⊥) → (status ≡ wanted) × Appends old new text
-puts_whole old new before now status wanted text h rose = sent_whole old new before now status wanted text h.0 h.1 h.2 rose
+puts_whole old new before now status wanted text h rose = elim (puts_is old new before now status wanted text h) [ inl e ↦ e | inr e ↦ absurd (rose e.1) ]
 
 -- where the outside does not fail, the walk ends as the verdict says, or memory ran out
 whole : (b : Board) (asked : Option Command) (before after : Outside) (status : ℕ) (files : Files) (v : Verdict) (h : ConversesFor b asked before after status) → DoesNotFail files before after → verdict files (dialogue_from b asked) ≡ v → IsOf v h.ending ⊎ HasRunOut before after status

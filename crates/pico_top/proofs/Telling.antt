@@ -93,24 +93,12 @@ opened_converses b command before after device aims opened status same is opens 
       counted = tells.counted;
     }
 
--- where memory ran out nothing was said or heard
-out_ends : (old new : Option (List ℕ)) (before now status : ℕ) (e : Ending) → IsShort e → RunsOut old new before now status → Ends old new before now status e
-out_ends old new before now status (Said reply) short runs = absurd short
-out_ends old new before now status (Heard bytes way reply) short runs = absurd short
-out_ends old new before now status (Refused refusal) short runs = inr runs
-out_ends old new before now status NoMemory short runs = runs
-
-short_counts : (e : Ending) (status steps steps' : ℕ) → IsShort e → steps' ≡ steps → Counts e status steps steps'
-short_counts (Said reply) status steps steps' short same = absurd short
-short_counts (Heard bytes way reply) status steps steps' short same = absurd short
-short_counts (Refused refusal) status steps steps' short same = same
-short_counts NoMemory status steps steps' short same = same
-
-short_takes : (e : Ending) (left left' : Option (List ℕ)) (lost lost' status : ℕ) → IsShort e → left' ≡ left → lost' ≡ lost → Takes left left' lost lost' status e
-short_takes (Said reply) left left' lost lost' status short a b = absurd short
-short_takes (Heard bytes way reply) left left' lost lost' status short a b = absurd short
-short_takes (Refused refusal) left left' lost lost' status short a b = (a, b)
-short_takes NoMemory left left' lost lost' status short a b = (a, b)
+-- where memory ran out nothing was said, heard or counted
+short_ends : (left left' old new : Option (List ℕ)) (lost lost' before now steps steps' status : ℕ) (e : Ending) → IsShort e → left' ≡ left → lost' ≡ lost → RunsOut old new before now status → steps' ≡ steps → Takes left left' lost lost' status e × (Ends old new before now status e × Counts e status steps steps')
+short_ends left left' old new lost lost' before now steps steps' status (Said reply) short a b runs same = absurd short
+short_ends left left' old new lost lost' before now steps steps' status (Heard bytes way reply) short a b runs same = absurd short
+short_ends left left' old new lost lost' before now steps steps' status (Refused refusal) short a b runs same = ((a, b), (inr runs, same))
+short_ends left left' old new lost lost' before now steps steps' status NoMemory short a b runs same = ((a, b), (runs, same))
 
 -- the walk of what is asked for ended so that nothing was opened
 abbrev pub EndsFrom : Board → Option Command → Outside → Outside → Unopened → Type 0
@@ -128,15 +116,9 @@ unopened_converses b asked before after (Refusing refusal) status opens kept lef
   ends = subst (λ (e : Ending). Ends before.written after.written before.sink_faults after.sink_faults status e) (sym opens.3) refuses;
   counted = subst (λ (e : Ending). Counts e status before.steps after.steps) (sym opens.3) same;
 }
-unopened_converses b asked before after Memory status opens kept left lost refuses same = record {
-  ending = opens.0;
-  walked = opens.1;
-  failed = opens.2;
-  kept = kept;
-  takes = short_takes opens.0 before.left after.left before.source_faults after.source_faults status opens.3 left lost;
-  ends = out_ends before.written after.written before.sink_faults after.sink_faults status opens.0 opens.3 refuses;
-  counted = short_counts opens.0 status before.steps after.steps opens.3 same;
-}
+unopened_converses b asked before after Memory status opens kept left lost refuses same =
+    let ends = short_ends before.left after.left before.written after.written before.source_faults after.source_faults before.sink_faults after.sink_faults before.steps after.steps status opens.0 opens.3 left lost refuses same in
+    record { ending = opens.0; walked = opens.1; failed = opens.2; kept = kept; takes = ends.0; ends = ends.1; counted = ends.2 }
 
 -- the call where nothing was opened for a command
 pub closed_converses : (b : Board) (command : Command) (before after : Outside) (device : DeviceMeaning) (unopened : Unopened) (status : ℕ) → device ≡ device_in b command → OpensFor before.files before.failed after.failed device command (Err unopened) → after.files ≡ before.files → after.left ≡ before.left → after.source_faults ≡ before.source_faults → PutsRefusal before.written after.written before.sink_faults after.sink_faults status unopened → after.steps ≡ before.steps → ConversesFor b (Some command) before after status
