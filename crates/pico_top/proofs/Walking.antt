@@ -26,12 +26,12 @@ use Rattle.reverse_debug.specs.declared.way.Way.{Way}
 use Rattle.reverse_debug.specs.Hear.{MayEnd}
 use Rattle.pico_top.specs.Call.{Board}
 use Rattle.pico_top.specs.Loads.{Placed, offset_of, loads_of, plans_in, placed_as, taken_from}
-use Rattle.pico_top.specs.Dialogue.{Reply, Dialogue, Use, judge, say, hear, aims_in, device_in, dialogue_of, dialogue_from, with_first, with_programs, with_script, with_linked, with_run, say_run, hear_run, run_reply, behind_script, input_limit, session_reply, source_limit}
+use Rattle.pico_top.specs.Dialogue.{Reply, Dialogue, Use, judge, say, hear, aims_in, device_in, dialogue_of, dialogue_from, with_first, with_program, with_programs, with_script, with_linked, with_run, say_run, hear_run, run_reply, behind_script, input_limit, session_reply, source_limit}
 use Rattle.pico_top.specs.Dialogue.Dialogue.{Load, Refuse, Say, Hear}
 use Rattle.pico_top.specs.Walk.{Ending, IsHeard, AfterLoad, Walks, Verdict, heard_as, on_held, verdict, failed_names}
 use Rattle.pico_top.specs.Walk.Verdict.{Refuses, Says, Hears}
 use Rattle.pico_top.specs.Walk.Ending.{Said, Heard, Refused, NoMemory}
-use Rattle.pico_top.specs.Opening.{EndsUnopened, EndsAs, Opens, OpensFor, LoadsAs, Passes, PutsRefusal, Judges, Boots, use_for, setting_in, setting_by, IsPlaced, ArePlaced, LoadsAll, LeadsOn, offset_part, AddsAt, source_part, AddsBehind, AddsAs, taken_by}
+use Rattle.pico_top.specs.Opening.{EndsUnopened, EndsAs, Opens, OpensFor, LoadsAs, Passes, PutsRefusal, Judges, Boots, use_for, setting_in, setting_by, IsPlaced, ArePlaced, LoadsAll, offset_part, source_part, Adds, AddsBehind, taken_by}
 use Rattle.std.specs.List.{AllByRecursion}
 use Rattle.uf2_image.specs.declared.parts.Part.{Part}
 use Rattle.uf2_image.specs.Writing.{IsSized}
@@ -359,8 +359,8 @@ offset_same entry ps loads plan program h is =
 -- ---- one program
 
 -- a program is placed, and its load was added
-pub load_added : (entry : Entry) (before : List Placed) (loads : List PioLoad) (plan : Plan) (program : Program) (load : PioLoad) (done : Unit {0}) → ArePlaced before loads → IsProgram plan program → AreLoads loads → IsLoad load → load ≡ record { block = entry.block; machine = entry.machine; offset = load.offset; program = program } → placed (taken_by 0 entry.block loads) program.origin (length program.words.items) ≡ Ok load.offset → AddsAt entry before plan (loads ++ load ∷ []) (Ok done)
-load_added entry before loads plan program load done h is all fits parts at files =
+pub load_added : (entry : Entry) (before : List Placed) (loads : List PioLoad) (plan : Plan) (program : Program) (load : PioLoad) (done : Unit {0}) → ArePlaced before loads → IsProgram plan program → AreLoads loads → IsLoad load → load ≡ record { block = entry.block; machine = entry.machine; offset = load.offset; program = program } → placed (taken_by 0 entry.block loads) program.origin (length program.words.items) ≡ Ok load.offset → AddsBehind (offset_part entry before plan) (loads ++ load ∷ []) (Ok done)
+load_added entry before loads plan program load done h is all fits parts at files failed =
     let p : Placed = placed_as entry plan load.offset in
     let verdict : offset_of entry before plan ≡ Ok load.offset = offset_same entry before loads plan program h is ∙ at in
     let there : IsPlaced p load = record {
@@ -369,6 +369,7 @@ load_added entry before loads plan program load done h is all fits parts at file
       offset = refl;
       program = subst (λ (x : Program). IsProgram plan x) (sym (ap (λ (l : PioLoad). l.program) parts)) is;
     } in (
+      refl,
       loads_push loads load all fits,
       (
         before ++ p ∷ [],
@@ -379,54 +380,45 @@ load_added entry before loads plan program load done h is all fits parts at file
     )
 
 -- it has no room
-pub load_refused : (entry : Entry) (before : List Placed) (loads new : List PioLoad) (plan : Plan) (program : Program) (fault : PioFault) → ArePlaced before loads → IsProgram plan program → placed (taken_by 0 entry.block loads) program.origin (length program.words.items) ≡ Err fault → AddsAt entry before plan new (Err (Refusing (Source fault)))
+pub load_refused : (entry : Entry) (before : List Placed) (loads new : List PioLoad) (plan : Plan) (program : Program) (fault : PioFault) → ArePlaced before loads → IsProgram plan program → placed (taken_by 0 entry.block loads) program.origin (length program.words.items) ≡ Err fault → AddsBehind (offset_part entry before plan) new (Err (Refusing (Source fault)))
 load_refused entry before loads new plan program fault h is at files failed next =
     let verdict : offset_of entry before plan ≡ Err fault = offset_same entry before loads plan program h is ∙ at in
     (Refused (BadSource fault), subst (λ (v : Result ℕ PioFault). Walks files (judge v BadSource (λ offset. next (before ++ placed_as entry plan offset ∷ []))) (Refused (BadSource fault))) (sym verdict) (inl refl), refl, refl)
 
 -- memory ran out
-pub load_out : (entry : Entry) (before : List Placed) (new : List PioLoad) (plan : Plan) → AddsAt entry before plan new (Err Memory)
+pub load_out : (entry : Entry) (before : List Placed) (new : List PioLoad) (plan : Plan) → AddsBehind (offset_part entry before plan) new (Err Memory)
 load_out entry before new plan files failed next = runs_out files failed (offset_part entry before plan next)
 
 -- the load was added, or memory ran out
-pub load_tried : (entry : Entry) (before : List Placed) (loads new : List PioLoad) (plan : Plan) (program : Program) (load : PioLoad) (result : Result (Unit {0}) Unopened) → IfOk result (λ done. new ≡ loads ++ load ∷ []) → IfErr result (λ unopened. unopened ≡ Memory) → ArePlaced before loads → IsProgram plan program → AreLoads loads → IsLoad load → load ≡ record { block = entry.block; machine = entry.machine; offset = load.offset; program = program } → placed (taken_by 0 entry.block loads) program.origin (length program.words.items) ≡ Ok load.offset → AddsAt entry before plan new result
+pub load_tried : (entry : Entry) (before : List Placed) (loads new : List PioLoad) (plan : Plan) (program : Program) (load : PioLoad) (result : Result (Unit {0}) Unopened) → IfOk result (λ done. new ≡ loads ++ load ∷ []) → IfErr result (λ unopened. unopened ≡ Memory) → ArePlaced before loads → IsProgram plan program → AreLoads loads → IsLoad load → load ≡ record { block = entry.block; machine = entry.machine; offset = load.offset; program = program } → placed (taken_by 0 entry.block loads) program.origin (length program.words.items) ≡ Ok load.offset → AddsBehind (offset_part entry before plan) new result
 load_tried entry before loads new plan program load (Ok done) ok err h is all fits parts at =
-    subst (λ (ls : List PioLoad). AddsAt entry before plan ls (Ok done)) (sym ok) (load_added entry before loads plan program load done h is all fits parts at)
+    subst (λ (ls : List PioLoad). AddsBehind (offset_part entry before plan) ls (Ok done)) (sym ok) (load_added entry before loads plan program load done h is all fits parts at)
 load_tried entry before loads new plan program load (Err unopened) ok err h is all fits parts at =
-    subst (λ (s : Unopened). AddsAt entry before plan new (Err s)) (sym err) (load_out entry before new plan)
+    subst (λ (s : Unopened). AddsBehind (offset_part entry before plan) new (Err s)) (sym err) (load_out entry before new plan)
 
 -- ---- one source
 
--- what comes of a source by its verdict
-abbrev FirstAs : Entry → List Placed → List PioLoad → Result (List Plan) PioFault → Result (Unit {0}) Unopened → Type 0
-FirstAs entry before new verdict (Ok done) = (files : Option Files) → LeadsOn files new (λ next. judge verdict BadSource (with_first entry before next))
-FirstAs entry before new verdict (Err unopened) = (files : Option Files) (failed : List (List ℕ)) (next : List Placed → Dialogue) → EndsUnopened files failed failed (judge verdict BadSource (with_first entry before next)) unopened
-
-first_adds : (entry : Entry) (before : List Placed) (new : List PioLoad) (verdict : Result (List Plan) PioFault) (program : Program) (result : Result (Unit {0}) Unopened) → IsFirst (Some program) verdict → ((plan : Plan) → IsProgram plan program → AddsAt entry before plan new result) → FirstAs entry before new verdict result
+first_adds : (entry : Entry) (before : List Placed) (new : List PioLoad) (verdict : Result (List Plan) PioFault) (program : Program) (result : Result (Unit {0}) Unopened) → IsFirst (Some program) verdict → ((plan : Plan) → IsProgram plan program → AddsBehind (offset_part entry before plan) new result) → AddsBehind (λ next. judge verdict BadSource (with_first entry before next)) new result
 first_adds entry before new (Ok []) program result first adds = absurd (cc first)
-first_adds entry before new (Ok (plan ∷ plans)) program (Ok done) first adds = λ files. let l = adds plan first.0 files in (l.0, (l.1.0, l.1.1, λ next e w. l.1.2 next e w))
+first_adds entry before new (Ok (plan ∷ plans)) program (Ok done) first adds = λ files failed. let l = adds plan first.0 files failed in (l.0, l.1, (l.2.0, l.2.1, λ next e w. l.2.2 next e w))
 first_adds entry before new (Ok (plan ∷ plans)) program (Err unopened) first adds = λ files failed next. let s = adds plan first.0 files failed next in (s.0, s.1, s.2, s.3)
 first_adds entry before new (Err fault) program result first adds = absurd first
 
-back : (entry : Entry) (before : List Placed) (new : List PioLoad) (bytes : List ℕ) (result : Result (Unit {0}) Unopened) → FirstAs entry before new (plans_of bytes) result → AddsBehind entry before bytes new result
-back entry before new bytes (Ok done) h = h
-back entry before new bytes (Err unopened) h = h
-
-pub source_adds : (entry : Entry) (before : List Placed) (new : List PioLoad) (bytes : List ℕ) (found : Option Program) (program : Program) (result : Result (Unit {0}) Unopened) → found ≡ Some program → IsFirst found (plans_of bytes) → ((plan : Plan) → IsProgram plan program → AddsAt entry before plan new result) → AddsBehind entry before bytes new result
+pub source_adds : (entry : Entry) (before : List Placed) (new : List PioLoad) (bytes : List ℕ) (found : Option Program) (program : Program) (result : Result (Unit {0}) Unopened) → found ≡ Some program → IsFirst found (plans_of bytes) → ((plan : Plan) → IsProgram plan program → AddsBehind (offset_part entry before plan) new result) → AddsBehind (source_part entry before bytes) new result
 source_adds entry before new bytes found program result is first adds =
-    back entry before new bytes result (first_adds entry before new (plans_of bytes) program result (subst (λ (x : Option Program). IsFirst x (plans_of bytes)) is first) adds)
+    first_adds entry before new (plans_of bytes) program result (subst (λ (x : Option Program). IsFirst x (plans_of bytes)) is first) adds
 
-pub source_out : (entry : Entry) (before : List Placed) (new : List PioLoad) (bytes : List ℕ) → AddsBehind entry before bytes new (Err Memory)
+pub source_out : (entry : Entry) (before : List Placed) (new : List PioLoad) (bytes : List ℕ) → AddsBehind (source_part entry before bytes) new (Err Memory)
 source_out entry before new bytes files failed next = runs_out files failed (source_part entry before bytes next)
 
 -- ---- one entry
 
-pub entry_adds : (files : Option Files) (failed failed' : List (List ℕ)) (entry : Entry) (before : List Placed) (new : List PioLoad) (bytes : List ℕ) (result : Result (Unit {0}) Unopened) → Answers files entry.file source_limit Done bytes → failed' ≡ failed → AddsBehind entry before bytes new result → AddsAs files failed failed' entry before new result
+pub entry_adds : (files : Option Files) (failed failed' : List (List ℕ)) (entry : Entry) (before : List Placed) (new : List PioLoad) (bytes : List ℕ) (result : Result (Unit {0}) Unopened) → Answers files entry.file source_limit Done bytes → failed' ≡ failed → AddsBehind (source_part entry before bytes) new result → Adds files failed failed' (with_program entry before) new result
 entry_adds files failed failed' entry before new bytes (Ok done) answers same h =
-    let l = h files in (same, (l.0, (l.1.0, l.1.1, λ next e w. (Done, bytes, answers, l.1.2 next e w))))
+    let l = h files failed in (same, l.1, (l.2.0, l.2.1, λ next e w. (Done, bytes, answers, l.2.2 next e w)))
 entry_adds files failed failed' entry before new bytes (Err unopened) answers same h = λ next. let s = h files failed next in (s.0, (Done, bytes, answers, s.1), same ∙ s.2, s.3)
 
-pub entry_lost : (files : Option Files) (failed failed' : List (List ℕ)) (entry : Entry) (before : List Placed) (new : List PioLoad) (unopened : Unopened) → LoadsAs files failed failed' entry.file source_limit (Err unopened) → AddsAs files failed failed' entry before new (Err unopened)
+pub entry_lost : (files : Option Files) (failed failed' : List (List ℕ)) (entry : Entry) (before : List Placed) (new : List PioLoad) (unopened : Unopened) → LoadsAs files failed failed' entry.file source_limit (Err unopened) → Adds {A = Unit {0}} files failed failed' (with_program entry before) new (Err unopened)
 entry_lost files failed failed' entry before new unopened h next = h (λ bytes. source_part entry before bytes next)
 
 -- ---- all entries
@@ -446,20 +438,20 @@ pub record Along (files now : Option Files) (failed failed' : List (List ℕ)) (
   pub placed : ArePlaced ps loads
   pub leads : (next : List Placed → Dialogue) (e : Ending) → Walks files (with_programs rest ps next) e → Walks files (with_programs all [] next) e
 
-pub along_added : (files now later : Option Files) (failed middle last : List (List ℕ)) (all left rest : List Entry) (entry : Entry) (loads new : List PioLoad) (done : Unit {0}) → Along files now failed middle all left loads → left ≡ entry ∷ rest → later ≡ now → ((before : List Placed) → ArePlaced before loads → AddsAs now middle last entry before new (Ok done)) → Along files later failed last all rest new
+pub along_added : (files now later : Option Files) (failed middle last : List (List ℕ)) (all left rest : List Entry) (entry : Entry) (loads new : List PioLoad) (done : Unit {0}) → Along files now failed middle all left loads → left ≡ entry ∷ rest → later ≡ now → ((before : List Placed) → ArePlaced before loads → Adds now middle last (with_program entry before) new (Ok done)) → Along files later failed last all rest new
 along_added files now later failed middle last all left rest entry loads new done a is same adds =
-    let here = subst (λ (f : Option Files). AddsAs f middle last entry a.ps new (Ok done)) a.kept (adds a.ps a.placed) in
+    let here = subst (λ (f : Option Files). Adds f middle last (with_program entry a.ps) new (Ok done)) a.kept (adds a.ps a.placed) in
     record {
       kept = same ∙ a.kept;
       names = here.0 ∙ a.names;
-      fit = here.1.0;
-      ps = here.1.1.0;
-      placed = here.1.1.1;
-      leads = λ next e w. a.leads next e (subst (λ (l : List Entry). Walks files (with_programs l a.ps next) e) (sym is) (here.1.1.2 (λ more. with_programs rest more next) e w));
+      fit = here.1;
+      ps = here.2.0;
+      placed = here.2.1;
+      leads = λ next e w. a.leads next e (subst (λ (l : List Entry). Walks files (with_programs l a.ps next) e) (sym is) (here.2.2 (λ more. with_programs rest more next) e w));
     }
 
-pub along_ends : (files now : Option Files) (failed middle last : List (List ℕ)) (all left rest : List Entry) (entry : Entry) (loads new : List PioLoad) (unopened : Unopened) → Along files now failed middle all left loads → left ≡ entry ∷ rest → ((before : List Placed) → ArePlaced before loads → AddsAs now middle last entry before new (Err unopened)) → LoadsAll files failed last all (Err unopened)
+pub along_ends : (files now : Option Files) (failed middle last : List (List ℕ)) (all left rest : List Entry) (entry : Entry) (loads new : List PioLoad) (unopened : Unopened) → Along files now failed middle all left loads → left ≡ entry ∷ rest → ((before : List Placed) → ArePlaced before loads → Adds {A = Unit {0}} now middle last (with_program entry before) new (Err unopened)) → LoadsAll files failed last all (Err unopened)
 along_ends files now failed middle last all left rest entry loads new unopened a is adds next =
-    let here = subst (λ (f : Option Files). AddsAs f middle last entry a.ps new (Err unopened)) a.kept (adds a.ps a.placed) in
+    let here = subst (λ (f : Option Files). Adds {A = Unit {0}} f middle last (with_program entry a.ps) new (Err unopened)) a.kept (adds a.ps a.placed) in
     let s = here (λ more. with_programs rest more next) in
     (s.0, a.leads next s.0 (subst (λ (l : List Entry). Walks files (with_programs l a.ps next) s.0) (sym is) s.1), s.2 ∙ ap (λ f. failed_names f s.0) a.names, s.3)

@@ -4,7 +4,7 @@ use Rattle.command_words.specs.Read.{entry_in}
 use Rattle.rp_ports.specs.Shelf.{Answers}
 use Rattle.rp_ports.specs.declared.shelf.Loaded.TheVariants.{Done}
 use Rattle.pico_top.specs.Dialogue.{source_limit}
-use Rattle.pico_top.specs.Opening.{AddsBehind, LoadsAs}
+use Rattle.pico_top.specs.Opening.{AddsBehind, LoadsAs, source_part}
 use Rattle.pico_top.proofs.Walking.{entry_adds, entry_lost}
 use Rattle.pico_top.proofs.programs.open_program.Goals as goal
 
@@ -12,7 +12,7 @@ pub returns-clause-answer : goal.returns-clause-answer
 returns-clause-answer g c before h =
     let bytes : Answers (g.F.Shelf.files c.args.files.now) (entry_in c.args.entry.now).file source_limit Done c.in_ok-bytes.bytes.items =
     subst (λ (n : List ℕ). Answers (g.F.Shelf.files c.args.files.now) n source_limit Done c.in_ok-bytes.bytes.items) c.as_str.ensures.value c.in_ok-bytes.ensures.answer.0 in
-    let adds = subst (λ (bs : List ℕ). AddsBehind (entry_in c.args.entry.now) before bs c.add_first.new.loads.items c.add_first.result) c.deref.ensures.value (c.add_first.ensures before h) in
+    let adds = subst (λ (bs : List ℕ). AddsBehind (source_part (entry_in c.args.entry.now) before bs) c.add_first.new.loads.items c.add_first.result) c.deref.ensures.value (c.add_first.ensures before h) in
     entry_adds (g.F.Shelf.files c.args.files.now) (g.F.Shelf.failed c.args.files.now) _ (entry_in c.args.entry.now) before c.add_first.new.loads.items c.in_ok-bytes.bytes.items c.add_first.result bytes c.in_ok-bytes.ensures.answer.1 adds
 
 pub returns-in_err-bytes-clause-answer : goal.returns-in_err-bytes-clause-answer
