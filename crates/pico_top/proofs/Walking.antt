@@ -1,5 +1,5 @@
 -- Walks of dialogues, what was opened and where its walk ended, and the programs of a run, one behind another.
-use Rattle.std.proofs.Common.{◌≡◌, ℕ, ◌<◌, ◌≤◌, List, [], ◌∷◌, length, Bool, true, false, nat_le, Option, Some, None, Result, Ok, Err, refl, sym, ap, subst, inl, inr, ◌⊎◌, arith, IsSomeAnd, map, ◌∙◌, ◌==◌, if◌then◌else◌, Vec, Global, drop-cons, add-one, zero, suc, ◌+◌, ◌++◌, drop, get_or, IfOk, IfErr}
+use Rattle.std.proofs.Common.{◌≡◌, ℕ, ◌<◌, ◌≤◌, List, [], ◌∷◌, length, Bool, true, false, nat_le, Option, Some, None, Result, Ok, Err, refl, sym, ap, subst, inl, inr, ◌⊎◌, arith, IsSomeAnd, map, ◌∙◌, ◌==◌, if◌then◌else◌, Vec, Global, zero, suc, ◌+◌, ◌++◌, drop, get_or, IfOk, IfErr}
 use Rattle.lane_look.specs.Device.{DeviceMeaning}
 use Rattle.rp_ports.specs.Shelf.{Files, Answers, failed_after}
 use Rattle.rp_ports.specs.declared.shelf.Loaded.{Loaded}
@@ -33,6 +33,7 @@ use Rattle.pico_top.specs.Walk.Verdict.{Refuses, Says, Hears}
 use Rattle.pico_top.specs.Walk.Ending.{Said, Heard, Refused, NoMemory}
 use Rattle.pico_top.specs.Opening.{EndsUnopened, EndsAs, Opens, OpensFor, LoadsAs, Passes, PutsRefusal, Judges, Boots, use_for, setting_in, setting_by, IsPlaced, ArePlaced, LoadsAll, offset_part, source_part, Adds, AddsBehind, taken_by}
 use Rattle.std.specs.List.{AllByRecursion}
+use Rattle.std.proofs.lemmas.List.{at_drop_more}
 use Rattle.uf2_image.specs.declared.parts.Part.{Part}
 use Rattle.uf2_image.specs.Writing.{IsSized}
 use Rattle.uf2_image.proofs.Writable.{what_is_read_can_be_written}
@@ -426,8 +427,7 @@ entry_lost files failed failed' entry before new unopened h next = h (λ bytes. 
 -- the entries from one on are this one and the others
 pub entry_next : (entries : List PioEntry) (k : ℕ) (entry : PioEntry) → k < length entries → entry ≡ get_or entries k entry → map entry_in (drop k entries) ≡ entry_in entry ∷ map entry_in (drop (k + 1) entries)
 entry_next entries k entry lt is =
-    let here : drop k entries ≡ get_or entries k entry ∷ drop (k + 1) entries = rw add-one (drop-cons entries k entry lt) in
-    ap (map entry_in) here ∙ ap (λ x. entry_in x ∷ map entry_in (drop (k + 1) entries)) (sym is)
+    at_drop_more (map entry_in) entries k entry lt ∙ ap (λ x. entry_in x ∷ map entry_in (drop (k + 1) entries)) (sym is)
 
 -- some entries gave these loads, and the others are left
 pub record Along (files now : Option Files) (failed failed' : List (List ℕ)) (all rest : List Entry) (loads : List PioLoad) : Type 0 where
