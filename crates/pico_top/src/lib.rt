@@ -257,7 +257,7 @@ where
 /// to the sink. It waits for nobody, and returns. The reading names no workers, and was made for the `probes` and the `parts` that are
 /// handed in. All words of the parts and of the device are at most 128 together.
 ///
-/// The answer is the status, as that of `pico`; it is not 2.
+/// The answer is the status, as that of `pico`; it is not 2. The clauses are those of `pico`, of what the reading stands for.
 pub fn pico_alone<F: Shelf, I: Source, O: Sink, X: Device, L: Ledger>(
     alloc: Global,
     reading: &Reading,
@@ -275,10 +275,6 @@ pub fn pico_alone<F: Shelf, I: Source, O: Sink, X: Device, L: Ledger>(
         (command_in reading.now) }
     requires room { all_words (map (λ p. (Part-box p).meaning p.value) parts.items)
         + (X.meaning device).count ≤ 128 }
-
-    // A walk of the reading's dialogue over the shelf ended, and its text was written whole with its status; or a part of it,
-    // and the sink failed; or memory ran out, and the line that says so was written alone. The bytes that were heard were
-    // taken from the source. So many steps were counted as that text costs.
     ensures text { ConversesFor (board (X.meaning device)
         (map (λ p. (Probe-box p).meaning p.value) probes.items)
         (map (λ p. (Part-box p).meaning p.value) parts.items))
@@ -286,9 +282,6 @@ pub fn pico_alone<F: Shelf, I: Source, O: Sink, X: Device, L: Ledger>(
         (outside ⟦<F as Shelf>⟧ ⟦<I as Source>⟧ ⟦<O as Sink>⟧ files.old input.old out.old steps.old)
         (outside ⟦<F as Shelf>⟧ ⟦<I as Source>⟧ ⟦<O as Sink>⟧ files.new input.new out.new steps.new)
         result }
-
-    // Each status but 0 and 9 has its cause: the words, the file or the input that was refused, the sink or the source that failed,
-    // or the input that is too long.
     ensures cause { HasCause (board (X.meaning device)
         (map (λ p. (Probe-box p).meaning p.value) probes.items)
         (map (λ p. (Part-box p).meaning p.value) parts.items))
@@ -296,9 +289,6 @@ pub fn pico_alone<F: Shelf, I: Source, O: Sink, X: Device, L: Ledger>(
         (outside ⟦<F as Shelf>⟧ ⟦<I as Source>⟧ ⟦<O as Sink>⟧ files.old input.old out.old steps.old)
         (outside ⟦<F as Shelf>⟧ ⟦<I as Source>⟧ ⟦<O as Sink>⟧ files.new input.new out.new steps.new)
         result }
-
-    // Refused words have status 2. Where the shelf tells its files and no load failed, the status is that of the dialogue over these
-    // files, and where it hears an input, over the bytes of the source, unless the sink failed or memory ran out.
     ensures complete { IsComplete (board (X.meaning device)
         (map (λ p. (Probe-box p).meaning p.value) probes.items)
         (map (λ p. (Part-box p).meaning p.value) parts.items))
