@@ -49,11 +49,7 @@ fn targets(reading: &Reading) -> &[Target]
 {
     match reading {
         Reading::Run(run) => &run.probes,
-        Reading::Debug(_)
-        | Reading::Dis(_)
-        | Reading::Asm(_)
-        | Reading::Thumb(_)
-        | Reading::Gen(_) => &[],
+        _ => &[],
     }
 }
 
@@ -63,7 +59,7 @@ fn wirings(reading: &Reading) -> &[Wiring]
 {
     match reading {
         Reading::Run(run) | Reading::Debug(run) => &run.parts,
-        Reading::Dis(_) | Reading::Asm(_) | Reading::Thumb(_) | Reading::Gen(_) => &[],
+        _ => &[],
     }
 }
 
@@ -75,7 +71,7 @@ fn count_of(reading: &Reading) -> u8
     match reading {
         Reading::Run(run) => run.workers,
         Reading::Gen(run) => run.workers,
-        Reading::Debug(_) | Reading::Dis(_) | Reading::Asm(_) | Reading::Thumb(_) => 0,
+        _ => 0,
     }
 }
 
@@ -83,11 +79,7 @@ fn count_of(reading: &Reading) -> u8
 fn pins_of<P: Part>(alloc: Global, parts: &[P]) -> Result<Vec<usize>, AllocError>
     ensures { IfOk result (λ pins. pins.items ≡ counts_of (map P.meaning parts.now)) }
 {
-    let mut pins = Vec::new(alloc);
-    for part in parts {
-        pins.push(part.pins())?;
-    }
-    Ok(pins)
+    parts.iter().map(|part| part.pins()).collect(alloc)
 }
 
 /// Aims the probes that a reading names, loads its files, and writes the text, where a run has this device.
