@@ -14,10 +14,10 @@ use Rattle.pico_top.specs.declared.open.Unopened.{Unopened}
 use Rattle.pico_top.specs.declared.open.Unopened.TheVariants.{Refusing, Memory}
 use Rattle.pico_top.specs.Call.{Board, Outside}
 use Rattle.pico_top.specs.Dialogue.{Reply, say, plain, aims_in, beside, device_in, dialogue_from, run_reply}
-use Rattle.pico_top.specs.Walk.{Ending, Walks, failed_names}
+use Rattle.pico_top.specs.Walk.{Ending, failed_names}
 use Rattle.pico_top.specs.Walk.Ending.{Said, Heard, Refused, NoMemory}
 use Rattle.pico_top.specs.Answer.{Puts, RunsOut, Takes, Ends, Counts, Ticks, most, ConversesFor, Converses}
-use Rattle.pico_top.specs.Opening.{opened_dialogue, IsShort, EndsAs, OpensFor, PutsRefusal, RefusesNothing, Concludes}
+use Rattle.pico_top.specs.Opening.{opened_dialogue, IsShort, EndsUnopened, OpensFor, PutsRefusal, RefusesNothing, Concludes}
 use Rattle.pico_top.proofs.Walking.{runs_out}
 use Rattle.std.proofs.lemmas.List.{append-nil}
 use Rattle.rp_ports.specs.Sink.{Appends}
@@ -100,13 +100,8 @@ short_ends left left' old new lost lost' before now steps steps' status (Heard b
 short_ends left left' old new lost lost' before now steps steps' status (Refused refusal) short a b runs same = ((a, b), (inr runs, same))
 short_ends left left' old new lost lost' before now steps steps' status NoMemory short a b runs same = ((a, b), (runs, same))
 
--- the walk of what is asked for ended so that nothing was opened
-abbrev pub EndsFrom : Board → Option Command → Outside → Outside → Unopened → Type 0
-EndsFrom b asked before after unopened =
-    (e : Ending) × Walks before.files (dialogue_from b asked) e × (after.failed ≡ failed_names before.failed e) × EndsAs unopened e
-
 -- the call where nothing was opened
-pub unopened_converses : (b : Board) (asked : Option Command) (before after : Outside) (unopened : Unopened) (status : ℕ) → EndsFrom b asked before after unopened → after.files ≡ before.files → after.left ≡ before.left → after.source_faults ≡ before.source_faults → PutsRefusal before.written after.written before.sink_faults after.sink_faults status unopened → after.steps ≡ before.steps → ConversesFor b asked before after status
+pub unopened_converses : (b : Board) (asked : Option Command) (before after : Outside) (unopened : Unopened) (status : ℕ) → EndsUnopened before.files before.failed after.failed (dialogue_from b asked) unopened → after.files ≡ before.files → after.left ≡ before.left → after.source_faults ≡ before.source_faults → PutsRefusal before.written after.written before.sink_faults after.sink_faults status unopened → after.steps ≡ before.steps → ConversesFor b asked before after status
 unopened_converses b asked before after (Refusing refusal) status opens kept left lost refuses same = record {
   ending = opens.0;
   walked = opens.1;
@@ -127,12 +122,12 @@ closed_converses b command before after device unopened status same opens kept l
     unopened_converses b (Some command) before after unopened status (own (aims_in b.probes command)) kept left lost refuses still
 
 -- nothing is opened for words that are refused
-pub refused_words : (b : Board) (asked : Option Command) (before after : Outside) → asked ≡ None → after.failed ≡ before.failed → EndsFrom b asked before after (Refusing Words)
+pub refused_words : (b : Board) (asked : Option Command) (before after : Outside) → asked ≡ None → after.failed ≡ before.failed → EndsUnopened before.files before.failed after.failed (dialogue_from b asked) (Refusing Words)
 refused_words b asked before after none same =
-    subst (λ (a : Option Command). EndsFrom b a before after (Refusing Words)) (sym none) (Refused BadWords, inl refl, same, refl)
+    subst (λ (a : Option Command). EndsUnopened before.files before.failed after.failed (dialogue_from b a) (Refusing Words)) (sym none) (Refused BadWords, inl refl, same, refl)
 
 -- nor where memory ran out
-pub no_memory_from : (b : Board) (asked : Option Command) (before after : Outside) → after.failed ≡ before.failed → EndsFrom b asked before after Memory
+pub no_memory_from : (b : Board) (asked : Option Command) (before after : Outside) → after.failed ≡ before.failed → EndsUnopened before.files before.failed after.failed (dialogue_from b asked) Memory
 no_memory_from b asked before after same =
     let out = runs_out before.files before.failed (dialogue_from b asked) in (out.0, out.1, same ∙ out.2, out.3)
 
