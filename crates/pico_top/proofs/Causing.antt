@@ -282,10 +282,7 @@ says_all b asked before after status files h fine is = elim (whole b asked befor
 
 -- the way in which a hearing ended whose status is 0
 heard_way : (status : ℕ) (way : Way) → status ≡ way_status way → IsStatus status 0 → ((way ≡ Closed) ⊎ (way ≡ Ended)) × (status ≡ 0)
-heard_way status Closed e is = (inl refl, e)
-heard_way status Ended e is = (inr refl, e)
-heard_way status Broken e is = absurd (elim is [ inl z ↦ omega (arith, e, z) | inr w ↦ elim w [ inl z ↦ omega (arith, e, z) | inr z ↦ omega (arith, e, z) ] ])
-heard_way status Full e is = absurd (elim is [ inl z ↦ omega (arith, e, z) | inr w ↦ elim w [ inl z ↦ omega (arith, e, z) | inr z ↦ omega (arith, e, z) ] ])
+heard_way status way e is = (grind (arith, e, is), grind (arith, e, is))
 
 pub answers_all : AnswersAll
 answers_all b asked before after status files limit last bytes h fine is told rose zero = elim (whole b asked before after status files (Hears limit last) h fine is) [

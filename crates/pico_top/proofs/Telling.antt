@@ -113,7 +113,7 @@ unopened_converses b asked before after (Refusing refusal) status opens kept lef
 }
 unopened_converses b asked before after Memory status opens kept left lost refuses same =
     let ends = short_ends before.left after.left before.written after.written before.source_faults after.source_faults before.sink_faults after.sink_faults before.steps after.steps status opens.0 opens.3 left lost refuses same in
-    record { ending = opens.0; walked = opens.1; failed = opens.2; kept = kept; takes = ends.0; ends = ends.1; counted = ends.2 }
+    record { ending = opens.0; walked = opens.1; failed = opens.2; kept = kept; takes = ends.0; ends = ends.1.0; counted = ends.1.1 }
 
 -- the call where nothing was opened for a command
 pub closed_converses : (b : Board) (command : Command) (before after : Outside) (device : DeviceMeaning) (unopened : Unopened) (status : ℕ) → device ≡ device_in b command → OpensFor before.files before.failed after.failed device command (Err unopened) → after.files ≡ before.files → after.left ≡ before.left → after.source_faults ≡ before.source_faults → PutsRefusal before.written after.written before.sink_faults after.sink_faults status unopened → after.steps ≡ before.steps → ConversesFor b (Some command) before after status

@@ -4,7 +4,6 @@
 
 pub mod laws;
 mod open;
-mod probes;
 mod programs;
 mod runner;
 mod send;

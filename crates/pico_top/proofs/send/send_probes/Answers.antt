@@ -4,7 +4,7 @@ use Rattle.std.proofs.lemmas.Result.{err_from_is_err_and}
 use Rattle.board_parts.specs.Hearing.{Aim, aim_text, seen}
 use Rattle.pico_top.specs.RunText.{probe_lines}
 use Rattle.pico_top.proofs.Telling.{sent_same, sent_piece, sent_part, sent_all}
-use Rattle.pico_top.proofs.probes.send_probes.Goals as goal
+use Rattle.pico_top.proofs.send.send_probes.Goals as goal
 
 -- the lines from one probe on are its line and those of the others
 lines_next : {P : Type 0} (view : P → Aim) (probes : List P) (k : ℕ) (p : P) → k < length probes → p ≡ get_or probes k p → probe_lines (seen (drop k probes) view) ≡ aim_text (view p) ++ probe_lines (seen (drop (k + 1) probes) view)
