@@ -18,5 +18,5 @@ returns-clause-answer g c before h =
 pub returns-in_err-bytes-clause-answer : goal.returns-in_err-bytes-clause-answer
 returns-in_err-bytes-clause-answer g c before h =
     let p = err_from_is_err_and c.from_residual.result c.from_residual.ensures.1 in
-    let lost = subst (λ (n : List ℕ). LoadsAs (g.F.Shelf.files c.args.files.now) (g.F.Shelf.failed c.args.files.now) _ n source_limit (Err c.in_err-bytes.field-0.0)) c.as_str.ensures.value c.in_err-bytes.ensures.answer in
+    let lost = subst (λ (n : List ℕ). LoadsAs (g.F.Shelf.files c.args.files.now) (g.F.Shelf.failed c.args.files.now) (g.F.Shelf.failed c.load.new.files) n source_limit (Err c.in_err-bytes.field-0.0)) c.as_str.ensures.value c.in_err-bytes.ensures.answer in
     rw (p.1, p.2) (entry_lost (g.F.Shelf.files c.args.files.now) (g.F.Shelf.failed c.args.files.now) _ (entry_in c.args.entry.now) before c.args.loads.now.items c.in_err-bytes.field-0.0 lost)
