@@ -1,6 +1,7 @@
--- The parts that a list names fit those that are handed in.
-use Rattle.std.proofs.Common.{◌≡◌, ℕ, ◌==◌, nat_le, nat_lt, Bool, true, false, not, ◌&&◌, List, [], ◌∷◌, ◌++◌, length, Option, Some, None, IfSome, refl, sym, ap, ◌∙◌}
-use Rattle.std.specs.Prelude.{slice_index, if◌then◌else◌}
+-- The parts that a command's words name fit those that are handed in.
+use Rattle.std.proofs.Common.{◌≡◌, ℕ, ◌==◌, nat_le, nat_lt, Bool, true, false, not, ◌&&◌, List, [], ◌∷◌, ◌++◌, length, Option, Some, None, IfSome, refl, sym, ap, subst, ◌∙◌}
+use Rattle.std.specs.Prelude.{slice_index, if◌then◌else◌, ◌-◌, ◌^◌, codes}
+use Rattle.std.specs.Str.{bytes_eq}
 use Rattle.std.specs.List.{list_all, list_any}
 use Rattle.std.specs.Option.{option_and_then}
 use Rattle.std.proofs.lemmas.Option.{none-some, same_Some, cond_some}
@@ -8,11 +9,22 @@ use Rattle.std.proofs.lemmas.Bool.{and_from, and_parts, or_parts, not_from_false
 use Rattle.std.proofs.lemmas.List.Folds.{list_all-append}
 use Rattle.board_parts.specs.Part.{are_pins, all_different}
 use Rattle.board_parts.specs.Wiring.{Wired, all_fit}
-use Rattle.command_words.specs.Lists.{cut, items_from, pieces}
+use Rattle.command_words.specs.Lists.{given, cut, items_from, pieces, is_same_pin, pins_of, wiring_of, share_part, wirings_of, entries_of, targets_of}
 use Rattle.command_words.specs.Numbers.{below, within, number_below, number_within, number_of}
-use Rattle.command_words.specs.Wirings.{is_same_pin, pins_of, wiring_of, share_part, wirings_of}
-use Rattle.command_words.specs.Words.{list_in}
-use Rattle.command_words.proofs.Given.{given_all, of_some}
+use Rattle.command_words.specs.Line.{line_in}
+use Rattle.command_words.specs.Options.{Setting, settings_of, is_normal, value_for}
+use Rattle.command_words.specs.Dis.{words_of, side_of}
+use Rattle.command_words.specs.Words.{Run, Command, IsRead, parts_in, cycles_in, workers_in, list_in, run_reading, dis_reading, gen_reading, written, reading}
+
+-- what holds of each value that the next step gives holds of what both give
+given_all : {X Y : Type 0} (P : Y → Type 0) (o : Option X) (next : X → Option Y) → ((x : X) → o ≡ Some x → IfSome (next x) P)
+    → IfSome (given o next) P
+given_all P None next h = tt
+given_all P (Some x) next h = h x refl
+
+-- what holds of a value that is there
+of_some : {X : Type 0} (P : X → Type 0) (o : Option X) (x : X) → IfSome o P → o ≡ Some x → P x
+of_some {X} P o x h e = subst (λ (o : Option X). IfSome o P) e h
 
 -- what holds of a value that is given under a condition
 where_it : {X : Type 0} (P : X → Type 0) (b : Bool) (x : Option X) → (b ≡ true → IfSome x P) → IfSome (if b then x else None) P
@@ -108,3 +120,53 @@ pub list_fits : (parts : List ℕ) (value : Option (List ℕ)) (wirings : List W
     → all_fit parts wirings ≡ true
 list_fits parts None wirings e = ap (all_fit parts) (sym (same_Some [] wirings e))
 list_fits parts (Some list) wirings e = of_some (AllFit parts) (wirings_of parts list) wirings (wirings_fit parts list) e
+
+-- ---- the words
+
+-- the parts of a command fit those with so many pins
+abbrev IsFitting : List ℕ → Command → Type 0
+IsFitting parts command = all_fit parts (parts_in command) ≡ true
+
+run_fits : (probes : ℕ) (parts image : List ℕ) (settings : List Setting) → IfSome (run_reading probes parts image settings) (λ run. all_fit parts run.parts ≡ true)
+unfolding run_reading
+run_fits probes parts image settings =
+    let P : Run → Type 0 = λ run. all_fit parts run.parts ≡ true in
+    given_all P (cycles_in settings) _ (λ n _. given_all P (list_in entries_of (value_for (codes "--pio") settings)) _ (λ pio _.
+    given_all P (list_in (targets_of probes) (value_for (codes "--probe") settings)) _ (λ targets _.
+    given_all P (list_in (wirings_of parts) (value_for (codes "--part") settings)) _ (λ wirings listed.
+    given_all P (workers_in settings) _ (λ k _. list_fits parts (value_for (codes "--part") settings) wirings listed)))))
+
+dis_fits : (parts hex : List ℕ) (settings : List Setting) → IfSome (dis_reading hex settings) (IsFitting parts)
+unfolding dis_reading
+dis_fits parts hex settings = given_all (IsFitting parts) (words_of hex) _ (λ words _. given_all (IsFitting parts) (side_of settings) _ (λ side _. refl))
+
+gen_fits : (parts number : List ℕ) (settings : List Setting) → IfSome (gen_reading number settings) (IsFitting parts)
+unfolding gen_reading
+gen_fits parts number settings =
+    given_all (IsFitting parts) (number_within 0 (2 ^ 64 - 1) number) _ (λ m _. given_all (IsFitting parts) (cycles_in settings) _ (λ n _.
+    given_all (IsFitting parts) (workers_in settings) _ (λ k _. refl)))
+
+either : (P : Command → Type 0) (b : Bool) (x y : Option Command) → IfSome x P → IfSome y P → IfSome (if b then x else y) P
+either P true x y h k = h
+either P false x y h k = k
+
+written_fits : (probes : ℕ) (parts : List ℕ) (words : List (List ℕ)) → IfSome (written probes parts words) (IsFitting parts)
+unfolding written
+written_fits probes parts [] = tt
+written_fits probes parts (command ∷ []) = tt
+written_fits probes parts (command ∷ argument ∷ options) =
+    let s = settings_of options in
+    let P = IsFitting parts in
+    let of_run = λ (run : Run). λ (e : run_reading probes parts argument s ≡ Some run). of_some (λ r. all_fit parts r.parts ≡ true) _ run (run_fits probes parts argument s) e in
+    either P (bytes_eq command (codes "run")) _ _ (given_all P (run_reading probes parts argument s) _ of_run)
+    (either P (bytes_eq command (codes "debug")) _ _ (given_all P (run_reading probes parts argument s) _ of_run)
+    (either P (bytes_eq command (codes "dis")) _ _ (dis_fits parts argument s)
+    (either P (bytes_eq command (codes "asm")) _ _ refl
+    (either P (bytes_eq command (codes "thumb")) _ _ refl
+    (either P (bytes_eq command (codes "gen")) _ _ (gen_fits parts argument s) tt)))))
+
+-- the parts of the command that is read fit those that are handed in
+pub read_parts_fit : (probes : ℕ) (parts : List ℕ) (command : Command) → IsRead probes parts command → all_fit parts (parts_in command) ≡ true
+unfolding reading
+read_parts_fit probes parts command h = of_some (IsFitting parts) (reading probes parts h.0) command
+    (either (IsFitting parts) (is_normal h.0) _ _ (written_fits probes parts h.0) (given_all (IsFitting parts) (line_in h.0) _ (λ line _. written_fits probes parts line))) h.1

@@ -21,8 +21,7 @@ use Rattle.clap.specs.declared.parser.matches.SubCommand.{SubCommand}
 use Rattle.clap.specs.declared.parser.matches.ArgMatches.TheViews.{out-SubCommand}
 use Rattle.clap.proofs.OnLiterals.{clap_on_literals}
 use Rattle.command_words.specs.Table.{Row as OptionRow, commands, options}
-use Rattle.command_words.specs.Apps.{argument, rule_for, with_row, app_for, with_command, table}
-use Rattle.command_words.specs.Line.{line_in, normal_line, line_found, without_fault}
+use Rattle.command_words.specs.Line.{argument, rule_for, with_row, app_for, with_command, table, line_in, normal_line, line_found, without_fault}
 
 pub table_is_simple : is_simple table ≡ true
 unfolding table commands options clap_on_literals
@@ -32,10 +31,13 @@ pub table_is_free : is_simple_and_free table ≡ true
 unfolding table commands options clap_on_literals
 table_is_free = refl
 
-pub at_ok : (words : List Text) (found : Option (Text × List Row)) → fault_of table words ≡ [] → subcommand_of table words ≡ found
-    → line_in words ≡ option_and_then line_found found
+-- the line where the parse by a command that is the table has no fault
+pub at_ok : (words : List Text) (app : App) (found : Option (Text × List Row)) → app ≡ table → (is_simple_and_free app ≡ true → fault_of app words ≡ [])
+    → (is_simple app ≡ true → found ≡ subcommand_of app words) → line_in words ≡ option_and_then line_found found
 unfolding line_in
-at_ok words found faultless is = ap₂ without_fault faultless is
+at_ok words app found is faultless met =
+    ap₂ without_fault (sym (ap (λ (a : App). fault_of a words) is) ∙ faultless (ap is_simple_and_free is ∙ table_is_free))
+    (sym (met (ap is_simple is ∙ table_is_simple) ∙ ap (λ (a : App). subcommand_of a words) is))
 
 pub at_fault : (kinds : Kinds) (kind : ErrorKind) (found : Option (Text × List Row)) → IsAmong kind kinds → without_fault kinds found ≡ None
 at_fault [] kind found among = absurd among

@@ -1,15 +1,9 @@
 pub mod Dis
-pub mod Entries
 pub mod Numbers
 pub mod Options
 pub mod Read
-pub mod Targets
-pub mod Wirings
 pub mod Words
 pub mod Line
 pub mod Table
-pub mod Apps
 pub mod Lists
-pub mod Rows
-pub mod Meant
 pub mod Refusals

@@ -5,7 +5,9 @@ use Rattle.std.specs.Option.{option_and_then}
 use Rattle.std.specs.List.{list_any}
 use Rattle.std.specs.Str.{bytes_eq}
 use Rattle.command_words.specs.Numbers.{begins_with, number_within}
-use Rattle.command_words.specs.Table.{Way, Needed, Valued, Alone, Row, commands, options, dashed, stands_alone}
+use Rattle.command_words.specs.declared.rows.Way.{Way}
+use Rattle.command_words.specs.declared.rows.Way.TheVariants.{Alone}
+use Rattle.command_words.specs.Table.{Row, commands, options, dashed, stands_alone}
 
 abbrev pub is_command : List ℕ → Bool
 is_command word = list_any (bytes_eq word) commands
@@ -43,12 +45,10 @@ value_for name settings = option_and_then (λ s. s.1) (setting_for name settings
 
 -- what may follow an option: a value that does not begin with a dash, or nothing
 abbrev pub fits : Way → Option (List ℕ) → Bool
-fits Needed None = false
-fits Valued None = false
 fits Alone None = true
-fits Needed (Some value) = not (begins_with 45 value)
-fits Valued (Some value) = not (begins_with 45 value)
 fits Alone (Some value) = false
+fits _ None = false
+fits _ (Some value) = not (begins_with 45 value)
 
 -- the option is that of a row
 abbrev pub suits : List ℕ → Setting → Row → Bool

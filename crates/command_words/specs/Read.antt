@@ -11,7 +11,7 @@ use Rattle.command_words.specs.declared.reading.Reading.TheVariants as readings
 use Rattle.command_words.specs.declared.reading.WordsFault.{WordsFault}
 use Rattle.command_words.specs.declared.reading.WordsFault.TheVariants.{Words, Memory}
 use Rattle.command_words.specs.Options.{settings_of}
-use Rattle.command_words.specs.Entries.{Entry}
+use Rattle.command_words.specs.Lists.{Entry}
 use Rattle.command_words.specs.Words.{Run, Command}
 use Rattle.command_words.specs.Words.Command.{RunImage, DebugImage, Disassemble, Assemble, AssembleThumb, Generate}
 

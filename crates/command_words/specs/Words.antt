@@ -3,18 +3,15 @@
 -- `dis <hex> [--side S] [--opt T]`, `asm <file>`, `thumb <file>` or `gen <number> --cycles N [--workers K] [--stats]`. Where probes
 -- are spoken of as a number, it is how many are handed in; where parts are spoken of as a list of numbers, it is how many pins each
 -- part has that is handed in. The project's own.
-use Rattle.std.specs.Prelude.{◌≡◌, ℕ, Bool, ◌≤◌, ◌-◌, ◌^◌, if◌then◌else◌, List, [], ◌∷◌, Option, Some, None, codes}
+use Rattle.std.specs.Prelude.{◌≡◌, ℕ, Bool, ◌-◌, ◌^◌, if◌then◌else◌, List, [], ◌∷◌, Option, Some, None, codes}
 use Rattle.std.specs.Str.{bytes_eq}
 use Rattle.pio_words.specs.declared.side.SideConfig.{SideConfig}
 use Rattle.board_parts.specs.declared.target.Target.{Target}
 use Rattle.board_parts.specs.Wiring.{Wired}
 use Rattle.command_words.specs.Line.{line_in}
-use Rattle.command_words.specs.Lists.{given}
+use Rattle.command_words.specs.Lists.{given, Entry, entries_of, targets_of, wirings_of}
 use Rattle.command_words.specs.Numbers.{number_within}
 use Rattle.command_words.specs.Options.{Setting, settings_of, is_given, value_for, is_normal, number_for}
-use Rattle.command_words.specs.Entries.{Entry, entries_of}
-use Rattle.command_words.specs.Targets.{targets_of}
-use Rattle.command_words.specs.Wirings.{wirings_of}
 use Rattle.command_words.specs.Dis.{words_of, side_of}
 
 -- a run: the image's name, how many cycles it may have, the script's name, the programs for machines, the probes that are aimed, the
@@ -50,14 +47,6 @@ cycles_in settings = given (value_for (codes "--cycles") settings) (number_withi
 abbrev pub workers_in : List Setting → Option ℕ
 workers_in settings = number_for (codes "--workers") 8 settings
 
--- the line of a run's windows is asked for
-abbrev pub stats_in : List Setting → Bool
-stats_in settings = is_given (codes "--stats") settings
-
--- the image is to be linked with the table of routines
-abbrev pub table_in : List Setting → Bool
-table_in settings = is_given (codes "--table") settings
-
 -- a list that an option gives, and the empty list where it is not given
 abbrev pub list_in : {X : Type 0} → (List ℕ → Option (List X)) → Option (List ℕ) → Option (List X)
 list_in read None = Some []
@@ -77,8 +66,8 @@ run_reading probes parts image settings =
       probes = targets;
       parts = wirings;
       workers = workers;
-      stats = stats_in settings;
-      table = table_in settings;
+      stats = is_given (codes "--stats") settings;
+      table = is_given (codes "--table") settings;
     }))))))
 
 -- `dis <hex> [--side S] [--opt T]`
@@ -89,7 +78,7 @@ dis_reading hex settings = given (words_of hex) (λ words. given (side_of settin
 unfoldable pub gen_reading : List ℕ → List Setting → Option Command
 gen_reading number settings =
     given (number_within 0 (2 ^ 64 - 1) number) (λ number. given (cycles_in settings) (λ cycles.
-    given (workers_in settings) (λ workers. Some (Generate number cycles workers (stats_in settings)))))
+    given (workers_in settings) (λ workers. Some (Generate number cycles workers (is_given (codes "--stats") settings)))))
 
 -- what a command, its argument and its options ask for
 unfoldable pub written : ℕ → List ℕ → List (List ℕ) → Option Command
@@ -109,32 +98,17 @@ written probes parts (command ∷ argument ∷ options) =
 unfoldable pub reading : ℕ → List ℕ → List (List ℕ) → Option Command
 reading probes parts words = if is_normal words then written probes parts words else given (line_in words) (written probes parts)
 
--- a run that is asked for has at most 1,000,000,000 cycles and 8 workers
-abbrev pub IsLimited : Command → Type 0
-IsLimited (RunImage run) = (run.cycles ≤ 1000000000) × (run.workers ≤ 8)
-IsLimited (DebugImage run) = (run.cycles ≤ 1000000000) × (run.workers ≤ 8)
-IsLimited (Disassemble words side) = Unit {0}
-IsLimited (Assemble source) = Unit {0}
-IsLimited (AssembleThumb source) = Unit {0}
-IsLimited (Generate number cycles workers stats) = (cycles ≤ 1000000000) × (workers ≤ 8)
-
 -- how many workers run the lanes of what is asked for; a command without such a number has none
 abbrev pub workers_of : Command → ℕ
 workers_of (RunImage run) = run.workers
-workers_of (DebugImage run) = 0
-workers_of (Disassemble words side) = 0
-workers_of (Assemble source) = 0
-workers_of (AssembleThumb source) = 0
 workers_of (Generate number cycles workers stats) = workers
+workers_of _ = 0
 
 -- the parts that are attached for what is asked for
 abbrev pub parts_in : Command → List Wired
 parts_in (RunImage run) = run.parts
 parts_in (DebugImage run) = run.parts
-parts_in (Disassemble words side) = []
-parts_in (Assemble source) = []
-parts_in (AssembleThumb source) = []
-parts_in (Generate number cycles workers stats) = []
+parts_in _ = []
 
 -- what was asked for was read from some words, where so many probes were handed in, and parts with so many pins
 abbrev pub IsRead : ℕ → List ℕ → Command → Type 0

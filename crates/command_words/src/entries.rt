@@ -2,7 +2,7 @@
 
 ghost use Rattle.std.specs.Prelude.{◌≡◌, map};
 ghost use Rattle.std.specs.List.{list_any};
-ghost use Rattle.command_words.specs.Entries.{entry_of, share_machine, entries_of};
+ghost use Rattle.command_words.specs.Lists.{entry_of, share_machine, entries_of};
 ghost use Rattle.command_words.specs.Read.{Reads, entry_in};
 
 use crate::entry::PioEntry;
@@ -12,7 +12,7 @@ use crate::reading::WordsFault;
 use std::alloc::Global;
 
 /// Reads `B:M:FILE`.
-#[tactic(auto, unfolding(crate::specs::Entries::entry_of))]
+#[tactic(auto, unfolding(crate::specs::Lists::entry_of))]
 fn entry(alloc: Global, text: &str) -> Result<PioEntry, WordsFault>
     ensures { Reads entry_in (entry_of text.now) result }
 {
@@ -40,7 +40,7 @@ fn is_taken(entry: &PioEntry, entries: &[PioEntry]) -> bool
 }
 
 /// The entries of a list, no machine twice.
-#[tactic(auto, unfolding(crate::specs::Entries::entries_of))]
+#[tactic(auto, unfolding(crate::specs::Lists::entries_of))]
 pub fn entries_in(alloc: Global, list: &str) -> Result<Vec<PioEntry>, WordsFault>
     ensures { Reads (λ found. map entry_in found.items) (entries_of list.now) result }
 {

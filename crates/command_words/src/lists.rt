@@ -19,12 +19,5 @@ pub fn pieces(alloc: Global, mark: char, text: &str) -> Result<Vec<&str>, AllocE
     requires { mark < 128 }
     ensures { IfOk result (λ found. map (λ piece. piece.now) found.items ≡ pieces mark text.now) }
 {
-    let mut found = Vec::new(alloc);
-    let mut left = text;
-    while let Some((piece, rest)) = left.split_once(mark) {
-        found.push(piece)?;
-        left = rest;
-    }
-    found.push(left)?;
-    Ok(found)
+    text.split(mark).collect(alloc)
 }

@@ -1,6 +1,6 @@
 //! What the words ask for.
 
-ghost use Rattle.std.specs.Prelude.{◌≡◌};
+ghost use Rattle.std.specs.Prelude.{◌≡◌, ◌≤◌};
 ghost use Rattle.command_words.specs.declared.reading.WordsFault.TheVariants.{Memory};
 
 use crate::entry::PioEntry;
@@ -30,10 +30,12 @@ pub struct RunWords {
     pub stats: bool,
     /// Whether the image is linked with the table of routines.
     pub table: bool,
+    pub ghost cycles_within: { cycles ≤ 1000000000 },
+    pub ghost workers_within: { workers ≤ 8 },
 }
 
 /// The words of a run of a generated image.
-#[derive(Clone, Copy, Debug, PartialEq, Eq)]
+#[derive(Drop)]
 pub struct GenWords {
     /// The number that the image is generated from.
     pub number: u64,
@@ -43,6 +45,8 @@ pub struct GenWords {
     pub workers: u8,
     /// Whether the text ends with the line of the run's windows.
     pub stats: bool,
+    pub ghost cycles_within: { cycles ≤ 1000000000 },
+    pub ghost workers_within: { workers ≤ 8 },
 }
 
 /// What `dis` is asked for.

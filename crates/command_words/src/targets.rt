@@ -2,7 +2,7 @@
 
 ghost use Rattle.std.specs.Prelude.{◌≡◌};
 ghost use Rattle.std.specs.List.{list_any};
-ghost use Rattle.command_words.specs.Targets.{target_of, share_probe, targets_of};
+ghost use Rattle.command_words.specs.Lists.{target_of, share_probe, targets_of};
 ghost use Rattle.command_words.specs.Read.{Reads};
 
 use crate::lists::{cut, pieces};
@@ -12,7 +12,7 @@ use board_parts::target::Target;
 use std::alloc::Global;
 
 /// Reads `I=PIN`, where so many probes are handed in.
-#[tactic(auto, unfolding(crate::specs::Targets::target_of))]
+#[tactic(auto, unfolding(crate::specs::Lists::target_of))]
 fn target(probes: usize, text: &str) -> Option<Target>
     ensures { result ≡ target_of probes text.now }
 {
@@ -33,7 +33,7 @@ fn is_aimed(target: &Target, targets: &[Target]) -> bool
 }
 
 /// The targets of a list, no probe twice, where so many probes are handed in.
-#[tactic(auto, unfolding(crate::specs::Targets::targets_of))]
+#[tactic(auto, unfolding(crate::specs::Lists::targets_of))]
 pub fn targets_in(alloc: Global, probes: usize, list: &str) -> Result<Vec<Target>, WordsFault>
     ensures { Reads (λ found. found.items) (targets_of probes list.now) result }
 {

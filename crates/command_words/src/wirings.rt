@@ -3,7 +3,7 @@
 ghost use Rattle.std.specs.Prelude.{◌≡◌, map};
 ghost use Rattle.std.specs.List.{list_any};
 ghost use Rattle.board_parts.specs.Wiring.{wired_in};
-ghost use Rattle.command_words.specs.Wirings.{is_same_pin, pins_of, wiring_of, share_part, wirings_of};
+ghost use Rattle.command_words.specs.Lists.{is_same_pin, pins_of, wiring_of, share_part, wirings_of};
 ghost use Rattle.command_words.specs.Read.{Reads};
 
 use crate::lists::{cut, pieces};
@@ -20,7 +20,7 @@ fn is_named(pin: u8, pins: &[u8]) -> bool
 }
 
 /// The pins of an entry, each 0 to 29, no pin twice.
-#[tactic(auto, unfolding(crate::specs::Wirings::pins_of))]
+#[tactic(auto, unfolding(crate::specs::Lists::pins_of))]
 fn pins_in(alloc: Global, text: &str) -> Result<Vec<u8>, WordsFault>
     ensures { Reads (λ found. found.items) (pins_of text.now) result }
 {
@@ -36,7 +36,7 @@ fn pins_in(alloc: Global, text: &str) -> Result<Vec<u8>, WordsFault>
 }
 
 /// Reads `I=PINS`, where `parts` has the number of pins of each part that is handed in.
-#[tactic(auto, unfolding(crate::specs::Wirings::wiring_of))]
+#[tactic(auto, unfolding(crate::specs::Lists::wiring_of))]
 fn wiring(alloc: Global, parts: &[usize], text: &str) -> Result<Wiring, WordsFault>
     ensures { Reads wired_in (wiring_of parts.now text.now) result }
 {
@@ -62,7 +62,7 @@ fn is_wired(wiring: &Wiring, wirings: &[Wiring]) -> bool
 }
 
 /// The entries of a list, no part twice, where `parts` has the number of pins of each part that is handed in.
-#[tactic(auto, unfolding(crate::specs::Wirings::wirings_of))]
+#[tactic(auto, unfolding(crate::specs::Lists::wirings_of))]
 pub fn wirings_in(alloc: Global, parts: &[usize], list: &str) -> Result<Vec<Wiring>, WordsFault>
     ensures { Reads (λ found. map wired_in found.items) (wirings_of parts.now list.now) result }
 {

@@ -1,12 +1,10 @@
 //! From the words to what they ask for.
 
-ghost use Rattle.std.specs.Prelude.{◌≡◌, map, codes, IfOk};
+ghost use Rattle.std.specs.Prelude.{◌≡◌, ◌≤◌, map, codes, IfOk, IfSome};
 ghost use Rattle.std.specs.Option.{option_map};
 ghost use Rattle.std.specs.String.{string_bytes};
-ghost use Rattle.command_words.specs.Entries.{entries_of};
+ghost use Rattle.command_words.specs.Lists.{entries_of, targets_of, wirings_of};
 ghost use Rattle.board_parts.specs.Wiring.{wired_in};
-ghost use Rattle.command_words.specs.Targets.{targets_of};
-ghost use Rattle.command_words.specs.Wirings.{wirings_of};
 ghost use Rattle.command_words.specs.Options.{settings_of, value_for};
 ghost use Rattle.command_words.specs.Words.{cycles_in, workers_in, list_in, run_reading, dis_reading, gen_reading, written, reading};
 ghost use Rattle.command_words.specs.Read.{Reads, entry_in, run_in, command_in};
@@ -26,14 +24,16 @@ use std::alloc::{AllocError, Global};
 
 /// The limit of cycles among the options of a run.
 fn cycles_in(options: &[String]) -> Option<u64>
-    ensures { result ≡ cycles_in (settings_of (map string_bytes options.now)) }
+    ensures value { result ≡ cycles_in (settings_of (map string_bytes options.now)) }
+    ensures within { IfSome result (λ cycles. cycles ≤ 1000000000) }
 {
     number_within(1, 1_000_000_000, value_for("--cycles", options)?)
 }
 
 /// The number of workers among the options of a run, 0 where it is not given.
 fn workers_in(options: &[String]) -> Option<u8>
-    ensures { result ≡ workers_in (settings_of (map string_bytes options.now)) }
+    ensures value { result ≡ workers_in (settings_of (map string_bytes options.now)) }
+    ensures within { IfSome result (λ workers. workers ≤ 8) }
 {
     let workers = number_for("--workers", 8, options)?;
     Some(workers as u8)

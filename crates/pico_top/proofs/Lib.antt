@@ -1,11 +1,4 @@
 pub mod Causing
-pub mod Completing
-pub mod Cycles
-pub mod Finishing
-pub mod Opens
-pub mod Pieces
-pub mod ProbeLines
-pub mod ProgramWalks
 pub mod Talking
 pub mod Telling
 pub mod Walking

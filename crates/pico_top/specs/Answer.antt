@@ -59,17 +59,14 @@ pub record IsCounted (cost : Cost) (status wanted before after : ℕ) : Type 0 w
 abbrev pub Counts : Ending → ℕ → ℕ → ℕ → Type 0
 Counts (Said reply) status before after = IsCounted reply.cost status 0 before after
 Counts (Heard bytes way reply) status before after = IsCounted reply.cost status (way_status way) before after
-Counts (Refused refusal) status before after = after ≡ before
-Counts NoMemory status before after = after ≡ before
+Counts _ status before after = after ≡ before
 
 -- ---- the source
 
 -- what was heard was taken, and nothing else
 abbrev pub Takes : Option (List ℕ) → Option (List ℕ) → ℕ → ℕ → ℕ → Ending → Type 0
-Takes old new before now status (Said reply) = (new ≡ old) × (now ≡ before)
 Takes old new before now status (Heard bytes way reply) = IsTaken old new before now status bytes way
-Takes old new before now status (Refused refusal) = (new ≡ old) × (now ≡ before)
-Takes old new before now status NoMemory = (new ≡ old) × (now ≡ before)
+Takes old new before now status _ = (new ≡ old) × (now ≡ before)
 
 -- ---- the call
 

@@ -24,7 +24,7 @@ use Rattle.pio_asm.specs.Listing.{plans_of, listing}
 use Rattle.outer_lane.specs.Setting.{Setting, setting_of}
 use Rattle.rp_machine.specs.State.{State}
 use Rattle.rp_machine.specs.Boot.{start}
-use Rattle.command_words.specs.Entries.{Entry}
+use Rattle.command_words.specs.Lists.{Entry}
 use Rattle.command_words.specs.Refusals.{Refusal}
 use Rattle.command_words.specs.Refusals.Refusal.{BadWords, BadImage, BadScript, BadSource, BadThumb, BadStart}
 use Rattle.command_words.specs.Words.{Run, Command, parts_in}
@@ -164,11 +164,7 @@ with_run use_run device run = with_image run.image (with_linked run.table (behin
 -- which probes a command aims at which pins: a run those that its words name, and no other command any
 abbrev pub targets_in : Command → List Target
 targets_in (RunImage run) = run.probes
-targets_in (DebugImage run) = []
-targets_in (Disassemble words side) = []
-targets_in (Assemble name) = []
-targets_in (AssembleThumb name) = []
-targets_in (Generate number cycles workers stats) = []
+targets_in _ = []
 
 -- the probes that are aimed, of those that are handed in
 abbrev pub aims_in : List ProbeMeaning → Command → List Aim

@@ -5,7 +5,7 @@ use Rattle.pio_asm.specs.Assembly.{Plan}
 use Rattle.pio_asm.specs.declared.program.Program.{Program}
 use Rattle.pio_asm.specs.Placing.{placed, with_addresses}
 use Rattle.rp_machine.specs.declared.load.PioLoad.{PioLoad}
-use Rattle.command_words.specs.Entries.{Entry}
+use Rattle.command_words.specs.Lists.{Entry}
 
 -- a placed program: the block, the machine that runs it, the offset, and the program
 pub record Placed : Type 0 where

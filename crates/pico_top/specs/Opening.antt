@@ -4,8 +4,7 @@ use Rattle.std.specs.Global.{Global}
 use Rattle.rp_ports.specs.Shelf.{Files, Answers}
 use Rattle.rp_ports.specs.declared.shelf.Loaded.TheVariants.{Done}
 use Rattle.command_words.specs.Words.{Command}
-use Rattle.command_words.specs.Meant.{meant}
-use Rattle.command_words.specs.Refusals.{Refusal, line_of, status_of}
+use Rattle.command_words.specs.Refusals.{meant, Refusal, line_of, status_of}
 use Rattle.command_words.specs.Refusals.Refusal.{BadSource}
 use Rattle.pico_top.specs.Answer.{Puts, RunsOut, Takes, Ends, Counts}
 use Rattle.lane_look.specs.Device.{DeviceMeaning}
@@ -15,7 +14,7 @@ use Rattle.rp_machine.specs.declared.load.PioLoad.{PioLoad}
 use Rattle.pio_asm.specs.Placing.{with_addresses}
 use Rattle.pin_script.specs.declared.entry.Entry.{Entry as ScriptEntry}
 use Rattle.rp_machine.specs.Boot.{AreLoads}
-use Rattle.command_words.specs.Entries.{Entry}
+use Rattle.command_words.specs.Lists.{Entry}
 use Rattle.reverse_debug.specs.Session.{first_of, OpensAt}
 use Rattle.rp_machine.specs.State.{State}
 use Rattle.pico_top.specs.declared.open.Started.{Started}
@@ -30,7 +29,7 @@ use Rattle.pio_asm.specs.Assembly.{Plan, IsProgram}
 use Rattle.pio_asm.specs.Listing.{plans_of}
 use Rattle.reverse_debug.specs.Debugger.{quits}
 use Rattle.pico_top.specs.Loads.{Placed, placed_as, offset_of}
-use Rattle.pico_top.specs.Dialogue.{Use, Dialogue, judge, say, hear, plain, dialogue_of, run_reply, say_run, hear_run, input_limit, session_reply, with_first, with_program, with_programs}
+use Rattle.pico_top.specs.Dialogue.{Use, Dialogue, judge, say, hear, plain, dialogue_of, run_reply, say_run, hear_run, input_limit, session_reply, with_first, with_programs}
 use Rattle.pico_top.specs.Dialogue.Dialogue.{Load}
 use Rattle.pico_top.specs.Walk.{Ending, Walks, failed_names}
 use Rattle.pico_top.specs.Walk.Ending.{Said, Heard, Refused}
@@ -102,13 +101,10 @@ Judges {A} {F} verdict refused (Err Memory) = Unit {0}
 abbrev pub Boots : Purpose → State → List ScriptEntry → ℕ → Result Opened Unopened → Type 0
 Boots (ForRun stats) first script limit (Ok (Machine started)) =
     (started.machine ≡ first) × (started.script ≡ script) × (started.limit ≡ limit) × (started.stats ≡ stats)
-Boots (ForRun stats) first script limit (Ok (Session debugging)) = ⊥
 Boots ForDebug first script limit (Ok (Session debugging)) =
     OpensAt first limit debugging.session × (debugging.script ≡ script) × (debugging.limit ≡ limit)
-Boots ForDebug first script limit (Ok (Machine started)) = ⊥
-Boots purpose first script limit (Ok (Text text pieces)) = ⊥
-Boots purpose first script limit (Err (Refusing refusal)) = ⊥
-Boots purpose first script limit (Err Memory) = Unit {0}
+Boots _ first script limit (Err Memory) = Unit {0}
+Boots _ first script limit _ = ⊥
 
 -- what is done with a run for a purpose
 abbrev pub use_for : List Aim → Purpose → Use
@@ -136,42 +132,28 @@ ArePlaced (p ∷ ps) [] = ⊥
 ArePlaced (p ∷ ps) (load ∷ loads) = IsPlaced p load × ArePlaced ps loads
 
 -- Some programs stand before, and with one more, or the same, these are the loads: from them every walk of what comes behind
--- is a walk of this part.
-abbrev pub LeadsOn : Option Files → List PioLoad → ((List Placed → Dialogue) → Dialogue) → Type 0
-LeadsOn files loads part =
-    AreLoads loads × ((after : List Placed) × ArePlaced after loads
+-- is a walk of this part; or the walk ended in it.
+abbrev pub Adds : {A : Type 0} → Option Files → List (List ℕ) → List (List ℕ) → ((List Placed → Dialogue) → Dialogue) → List PioLoad → Result A Unopened → Type 0
+Adds files failed failed' part loads (Ok done) =
+    (failed' ≡ failed) × AreLoads loads × ((after : List Placed) × ArePlaced after loads
     × ((next : List Placed → Dialogue) (e : Ending) → Walks files (next after) e → Walks files (part next) e))
+Adds files failed failed' part loads (Err unopened) = (next : List Placed → Dialogue) → EndsUnopened files failed failed' (part next) unopened
+
+-- the same, whatever the files, where none is loaded
+abbrev pub AddsBehind : ((List Placed → Dialogue) → Dialogue) → List PioLoad → Result (Unit {0}) Unopened → Type 0
+AddsBehind part loads result = (files : Option Files) (failed : List (List ℕ)) → Adds files failed failed part loads result
 
 -- the placing of a plan behind others
 abbrev pub offset_part : Entry → List Placed → Plan → (List Placed → Dialogue) → Dialogue
 offset_part entry before plan next = judge (offset_of entry before plan) BadSource (λ offset. next (before ++ placed_as entry plan offset ∷ []))
 
-abbrev pub AddsAt : Entry → List Placed → Plan → List PioLoad → Result (Unit {0}) Unopened → Type 0
-AddsAt entry before plan loads (Ok done) = (files : Option Files) → LeadsOn files loads (offset_part entry before plan)
-AddsAt entry before plan loads (Err unopened) =
-    (files : Option Files) (failed : List (List ℕ)) (next : List Placed → Dialogue) → EndsUnopened files failed failed (offset_part entry before plan next) unopened
-
 -- the judging of a source, and the placing of its first program
 abbrev pub source_part : Entry → List Placed → List ℕ → (List Placed → Dialogue) → Dialogue
 source_part entry before bytes next = judge (plans_of bytes) BadSource (with_first entry before next)
 
-abbrev pub AddsBehind : Entry → List Placed → List ℕ → List PioLoad → Result (Unit {0}) Unopened → Type 0
-AddsBehind entry before bytes loads (Ok done) = (files : Option Files) → LeadsOn files loads (source_part entry before bytes)
-AddsBehind entry before bytes loads (Err unopened) =
-    (files : Option Files) (failed : List (List ℕ)) (next : List Placed → Dialogue) → EndsUnopened files failed failed (source_part entry before bytes next) unopened
-
--- the program of an entry, with its load
-abbrev pub AddsAs : Option Files → List (List ℕ) → List (List ℕ) → Entry → List Placed → List PioLoad → Result (Unit {0}) Unopened → Type 0
-AddsAs files failed failed' entry before loads (Ok done) = (failed' ≡ failed) × LeadsOn files loads (with_program entry before)
-AddsAs files failed failed' entry before loads (Err unopened) =
-    (next : List Placed → Dialogue) → EndsUnopened files failed failed' (with_program entry before next) unopened
-
--- the programs of all entries are placed so, or the walk ended in one of them
+-- the programs of all entries are placed so
 abbrev pub LoadsAll : Option Files → List (List ℕ) → List (List ℕ) → List Entry → Result (Vec PioLoad Global) Unopened → Type 0
-LoadsAll files failed failed' entries (Ok loads) =
-    (failed' ≡ failed) × AreLoads loads.items
-    × ((ps : List Placed) × ArePlaced ps loads.items
-    × ((next : List Placed → Dialogue) (e : Ending) → Walks files (next ps) e → Walks files (with_programs entries [] next) e))
+LoadsAll files failed failed' entries (Ok loads) = Adds files failed failed' (with_programs entries []) loads.items (Ok loads)
 LoadsAll files failed failed' entries (Err unopened) =
     (next : List Placed → Dialogue) → EndsUnopened files failed failed' (with_programs entries [] next) unopened
 

@@ -23,14 +23,6 @@ abbrev pub stop_lines : Option Why → ℕ → List ℕ
 stop_lines None cycle = []
 stop_lines (Some why) cycle = stop_text why cycle
 
--- the lines of both cores
-abbrev pub core_lines : State → List ℕ
-core_lines s = register_text 0 (registers_of 0 s) ++ register_text 1 (registers_of 1 s)
-
--- the lines of a state at which a run ended
-abbrev pub end_text : Setting → State → List ℕ
-end_text w s = stop_lines (stop w s) s.cycle ++ core_lines s
-
 -- ---- the probes
 
 -- the change that an event is, if it is one of a pin
@@ -59,12 +51,17 @@ stats_text stats w s = counts_text stats (last_position w s).windows (last_posit
 
 -- ---- the run
 
+-- the lines of a state at which a run ends for this cause, those of the probes that heard it, and that of the counts
+abbrev pub end_text : Option Why → State → List Aim → List ℕ → List ℕ
+end_text why s aims counts =
+    stop_lines why s.cycle ++ register_text 0 (registers_of 0 s) ++ register_text 1 (registers_of 1 s) ++ probe_lines aims ++ counts
+
 -- the text of the run from a state: the lines of the events of all cycles, those of the first state with a stop, those of the
 -- probes that are aimed, which have heard these events, and that of the counts, where it is asked for
 unfoldable pub run_text : Bool → Setting → List Aim → State → List ℕ
 run_text stats w aims s =
-    event_lines (run_shown w s) ++ (end_text w (last_state w s)
-    ++ (probe_lines (after_events (run_shown w s) aims) ++ stats_text stats w s))
+    event_lines (run_shown w s)
+    ++ end_text (stop w (last_state w s)) (last_state w s) (after_events (run_shown w s) aims) (stats_text stats w s)
 
 -- how many cycles the run has: the number of the cycle that its last state would do next, from the one that its first would do
 unfoldable pub run_cycles : Setting → State → ℕ

@@ -1,7 +1,8 @@
 -- What the events of a run leave in a sink, and with the probes that hear its pins. The project's own.
 use Rattle.std.specs.Prelude.{◌≡◌, ℕ, Bool, List, [], ◌∷◌, ◌++◌, Option, None, Some, flat_map, map}
-use Rattle.std.proofs.Common.{refl, sym, ap, ap₂, ◌∙◌, append_assoc}
+use Rattle.std.proofs.Common.{refl, sym, ap, ap₂, ◌∙◌}
 use Rattle.std.proofs.lemmas.List.{append-nil}
+use Rattle.std.proofs.lemmas.List.Concat.{flat_map-append}
 use Rattle.rp_ports.specs.Sink.{Appends}
 use Rattle.rp_ports.proofs.Pieces.{appends_both}
 use Rattle.trace_text.specs.declared.event.Event.{Event}
@@ -25,17 +26,12 @@ no_lines = refl
 
 pub lines_both : (xs ys : List Event) → event_lines (xs ++ ys) ≡ event_lines xs ++ event_lines ys
 unfolding event_lines
-lines_both [] ys = refl
-lines_both (x ∷ xs) ys = ap (λ r. event_text x ++ r) (lines_both xs ys) ∙ sym (append_assoc (event_text x) (event_lines xs) (event_lines ys))
+lines_both xs ys = flat_map-append event_text xs ys
 
 -- the line of one event
 pub one_line : (e : Event) → event_text e ≡ event_lines (e ∷ [])
 unfolding event_lines
 one_line e = sym (append-nil (event_text e))
-
-changes_both : (xs ys : List Event) → flat_map change_in (xs ++ ys) ≡ flat_map change_in xs ++ flat_map change_in ys
-changes_both [] ys = refl
-changes_both (x ∷ xs) ys = ap (λ r. change_in x ++ r) (changes_both xs ys) ∙ sym (append_assoc (change_in x) (flat_map change_in xs) (flat_map change_in ys))
 
 heard_both : (first second : List PinChange) (aims : List Aim) → map (after_hearing (first ++ second)) aims ≡ map (after_hearing second) (map (after_hearing first) aims)
 heard_both first second [] = refl
@@ -43,7 +39,7 @@ heard_both first second (a ∷ aims) = ap₂ (λ (x : Aim) (xs : List Aim). x �
 
 pub after_both : (xs ys : List Event) (aims : List Aim) → after_events (xs ++ ys) aims ≡ after_events ys (after_events xs aims)
 unfolding after_events
-after_both xs ys aims = ap (λ c. map (after_hearing c) aims) (changes_both xs ys) ∙ heard_both (flat_map change_in xs) (flat_map change_in ys) aims
+after_both xs ys aims = ap (λ c. map (after_hearing c) aims) (flat_map-append change_in xs ys) ∙ heard_both (flat_map change_in xs) (flat_map change_in ys) aims
 
 nothing_heard : (a : Aim) → after_hearing [] a ≡ a
 unfolding after_hearing
@@ -86,6 +82,3 @@ told_one a b x y event h k = record { written = rw (sym (one_line event)) h; hea
 
 pub byte_heard : (event : Event) (cycle number byte : ℕ) (aims : List Aim) → event ≡ Uart cycle number byte → aims ≡ after_events (event ∷ []) aims
 byte_heard event cycle number byte aims is = rw is (sym (after_byte cycle number byte aims))
-
-pub change_heard : (event : Event) (cycle pin : ℕ) (level : Bool) (aims heard : List Aim) → event ≡ Pin cycle pin level → heard ≡ map (after_hearing (record { cycle = cycle; pin = pin; level = level } ∷ [])) aims → heard ≡ after_events (event ∷ []) aims
-change_heard event cycle pin level aims heard is h = rw is (h ∙ sym (after_change cycle pin level aims))

@@ -4,7 +4,6 @@
 
 pub mod laws;
 mod open;
-mod probes;
 mod programs;
 mod runner;
 mod send;
@@ -13,16 +12,14 @@ mod teller;
 
 ghost use Rattle.std.specs.Prelude.{◌≡◌, ◌+◌, ◌≤◌, Some, length, map, true, IfOk};
 ghost use Rattle.std.specs.String.{string_bytes};
-ghost use Rattle.board_parts.specs.Hearing.{aim_of, seen};
 ghost use Rattle.board_parts.specs.Wiring.{all_fit, all_words, counts_of, wired_in};
-ghost use Rattle.command_words.specs.Words.{parts_in, workers_of, IsLimited, IsRead};
+ghost use Rattle.command_words.specs.Words.{parts_in, workers_of, IsRead};
 ghost use Rattle.command_words.specs.Read.{command_in};
 ghost use Rattle.pico_top.specs.Answer.{Converses, ConversesFor};
 ghost use Rattle.pico_top.specs.Call.{asked_by, board, outside, Board};
 ghost use Rattle.pico_top.specs.Causes.{HasCause, IsComplete};
-ghost use Rattle.pico_top.specs.Dialogue.{aims_in, device_in, targets_in};
+ghost use Rattle.pico_top.specs.Dialogue.{device_in, targets_in};
 
-use board_parts::aimed::Aimed;
 use board_parts::aiming::aim_all;
 use board_parts::attaching::attach_all;
 use board_parts::part::Part;
@@ -32,7 +29,7 @@ use board_parts::wiring::Wiring;
 use command_words::refusal::Refusal;
 pub use command_words::{Reading, WordsFault, read_words};
 use lane_look::{Device, Pair};
-use open::{Unopened, open_reading};
+use open::{Opened, Unopened, open_reading};
 use rp_machine::Steps;
 use rp_ports::gate::Gate;
 use rp_ports::shelf::Shelf;
@@ -43,7 +40,7 @@ use std::alloc::{AllocError, Global};
 use std::sync::Wait;
 use std::sync::ledger::Ledger;
 use std::thread::Threads;
-use tell::{refuse, tell_into, tell_into_by};
+use tell::{refuse, run_into, run_into_by, talk_into, text_into};
 
 /// The probes that a reading aims.
 fn targets(reading: &Reading) -> &[Target]
@@ -51,11 +48,7 @@ fn targets(reading: &Reading) -> &[Target]
 {
     match reading {
         Reading::Run(run) => &run.probes,
-        Reading::Debug(_)
-        | Reading::Dis(_)
-        | Reading::Asm(_)
-        | Reading::Thumb(_)
-        | Reading::Gen(_) => &[],
+        _ => &[],
     }
 }
 
@@ -65,18 +58,19 @@ fn wirings(reading: &Reading) -> &[Wiring]
 {
     match reading {
         Reading::Run(run) | Reading::Debug(run) => &run.parts,
-        Reading::Dis(_) | Reading::Asm(_) | Reading::Thumb(_) | Reading::Gen(_) => &[],
+        _ => &[],
     }
 }
 
 /// How many workers a reading asks for; none where its command has no such number.
 fn count_of(reading: &Reading) -> u8
-    ensures { result ≡ workers_of (command_in reading.now) }
+    ensures count { result ≡ workers_of (command_in reading.now) }
+    ensures within { result ≤ 8 }
 {
     match reading {
         Reading::Run(run) => run.workers,
         Reading::Gen(run) => run.workers,
-        Reading::Debug(_) | Reading::Dis(_) | Reading::Asm(_) | Reading::Thumb(_) => 0,
+        _ => 0,
     }
 }
 
@@ -84,76 +78,7 @@ fn count_of(reading: &Reading) -> u8
 fn pins_of<P: Part>(alloc: Global, parts: &[P]) -> Result<Vec<usize>, AllocError>
     ensures { IfOk result (λ pins. pins.items ≡ counts_of (map P.meaning parts.now)) }
 {
-    let mut pins = Vec::new(alloc);
-    for part in parts {
-        pins.push(part.pins())?;
-    }
-    Ok(pins)
-}
-
-/// Loads the files of a reading, and writes the text, where these probes hear a run on this device.
-fn serve_aimed<F: Shelf, I: Source, O: Sink, X: Device, L: Ledger>(
-    alloc: Global,
-    reading: &Reading,
-    files: &mut F,
-    input: &mut I,
-    out: &mut O,
-    aimed: &mut [Aimed],
-    device: &X,
-    steps: &mut Steps<L>,
-) -> u8
-    requires { IsLimited (command_in reading.now) }
-    ensures { (b : Board) → X.meaning device.now ≡ device_in b (command_in reading.now)
-        → seen aimed.old (λ a. aim_of a.index a.pin
-        (⟦<dyn Probe as Probe>⟧ a.probe.vtable) a.probe.value)
-        ≡ aims_in b.probes (command_in reading.now)
-        → ConversesFor b (Some (command_in reading.now))
-        (outside ⟦<F as Shelf>⟧ ⟦<I as Source>⟧ ⟦<O as Sink>⟧ files.old input.old out.old steps.old)
-        (outside ⟦<F as Shelf>⟧ ⟦<I as Source>⟧ ⟦<O as Sink>⟧ files.new input.new out.new steps.new)
-        result }
-{
-    match open_reading(alloc, reading, files, device) {
-        Ok(opened) => tell_into(alloc, opened, aimed, device, input, out, steps),
-        Err(unopened) => refuse(alloc, &unopened, out),
-    }
-}
-
-/// The same, where workers run the lanes of a run.
-fn serve_aimed_by<F, I, O, G, X, L, R>(
-    rt: &R,
-    alloc: Global,
-    workers: &Workers<'_, G>,
-    reading: &Reading,
-    files: &mut F,
-    input: &mut I,
-    out: &mut O,
-    aimed: &mut [Aimed],
-    device: &X,
-    steps: &mut Steps<L>,
-) -> u8
-where
-    F: Shelf,
-    I: Source,
-    O: Sink,
-    G: Gate,
-    X: Device,
-    L: Ledger,
-    R: Threads + Wait + Sync,
-    requires workers { workers.now.count ≤ 8 }
-    requires limited { IsLimited (command_in reading.now) }
-    ensures { (b : Board) → X.meaning device.now ≡ device_in b (command_in reading.now)
-        → seen aimed.old (λ a. aim_of a.index a.pin
-        (⟦<dyn Probe as Probe>⟧ a.probe.vtable) a.probe.value)
-        ≡ aims_in b.probes (command_in reading.now)
-        → ConversesFor b (Some (command_in reading.now))
-        (outside ⟦<F as Shelf>⟧ ⟦<I as Source>⟧ ⟦<O as Sink>⟧ files.old input.old out.old steps.old)
-        (outside ⟦<F as Shelf>⟧ ⟦<I as Source>⟧ ⟦<O as Sink>⟧ files.new input.new out.new steps.new)
-        result }
-{
-    match open_reading(alloc, reading, files, device) {
-        Ok(opened) => tell_into_by(rt, alloc, workers, opened, aimed, device, input, out, steps),
-        Err(unopened) => refuse(alloc, &unopened, out),
-    }
+    parts.iter().map(|part| part.pins()).collect(alloc)
 }
 
 /// Aims the probes that a reading names, loads its files, and writes the text, where a run has this device.
@@ -167,7 +92,6 @@ fn serve_with<F: Shelf, I: Source, O: Sink, X: Device, L: Ledger>(
     device: &X,
     steps: &mut Steps<L>,
 ) -> u8
-    requires { IsLimited (command_in reading.now) }
     ensures { (b : Board) → X.meaning device.now ≡ device_in b (command_in reading.now)
         → map (λ p. (Probe-box p).meaning p.value) probes.items ≡ b.probes
         → ConversesFor b (Some (command_in reading.now))
@@ -175,17 +99,23 @@ fn serve_with<F: Shelf, I: Source, O: Sink, X: Device, L: Ledger>(
         (outside ⟦<F as Shelf>⟧ ⟦<I as Source>⟧ ⟦<O as Sink>⟧ files.new input.new out.new steps.new)
         result }
 {
-    match aim_all(alloc, probes, targets(reading)) {
-        Ok(mut aimed) => serve_aimed(alloc, reading, files, input, out, &mut aimed, device, steps),
-        Err(_) => refuse(alloc, &Unopened::Memory, out),
+    let Ok(mut aimed) = aim_all(alloc, probes, targets(reading)) else {
+        return refuse(alloc, &Unopened::Memory, out);
+    };
+    match open_reading(alloc, reading, files, device) {
+        Ok(opened) => match opened {
+            Opened::Machine(started) => run_into(alloc, started, &mut aimed, device, out, steps),
+            Opened::Session(debugging) => talk_into(debugging, device, input, out, steps),
+            Opened::Text(text, pieces) => text_into(&text, pieces, out),
+        },
+        Err(unopened) => refuse(alloc, &unopened, out),
     }
 }
 
 /// The same, where workers run the lanes of a run.
 fn serve_with_by<F, I, O, G, X, L, R>(
-    rt: &R,
     alloc: Global,
-    workers: &Workers<'_, G>,
+    workers: &Workers<'_, G, R>,
     reading: &Reading,
     files: &mut F,
     input: &mut I,
@@ -202,8 +132,6 @@ where
     X: Device,
     L: Ledger,
     R: Threads + Wait + Sync,
-    requires workers { workers.now.count ≤ 8 }
-    requires limited { IsLimited (command_in reading.now) }
     ensures { (b : Board) → X.meaning device.now ≡ device_in b (command_in reading.now)
         → map (λ p. (Probe-box p).meaning p.value) probes.items ≡ b.probes
         → ConversesFor b (Some (command_in reading.now))
@@ -211,16 +139,23 @@ where
         (outside ⟦<F as Shelf>⟧ ⟦<I as Source>⟧ ⟦<O as Sink>⟧ files.new input.new out.new steps.new)
         result }
 {
-    match aim_all(alloc, probes, targets(reading)) {
-        Ok(mut aimed) => serve_aimed_by(
-            rt, alloc, workers, reading, files, input, out, &mut aimed, device, steps,
-        ),
-        Err(_) => refuse(alloc, &Unopened::Memory, out),
+    let Ok(mut aimed) = aim_all(alloc, probes, targets(reading)) else {
+        return refuse(alloc, &Unopened::Memory, out);
+    };
+    match open_reading(alloc, reading, files, device) {
+        Ok(opened) => match opened {
+            Opened::Machine(started) => {
+                run_into_by(alloc, workers, started, &mut aimed, device, out, steps)
+            }
+            Opened::Session(debugging) => talk_into(debugging, device, input, out, steps),
+            Opened::Text(text, pieces) => text_into(&text, pieces, out),
+        },
+        Err(unopened) => refuse(alloc, &unopened, out),
     }
 }
 
 /// Aims the probes and attaches the parts that a reading names, loads its files, and writes the text.
-fn serve<F, I, O, P, X, L>(
+fn serve<F: Shelf, I: Source, O: Sink, P: Part + Sync, X: Device, L: Ledger>(
     alloc: Global,
     reading: &Reading,
     files: &mut F,
@@ -231,14 +166,6 @@ fn serve<F, I, O, P, X, L>(
     device: X,
     steps: &mut Steps<L>,
 ) -> u8
-where
-    F: Shelf,
-    I: Source,
-    O: Sink,
-    P: Part + Sync,
-    X: Device,
-    L: Ledger,
-    requires limited { IsLimited (command_in reading.now) }
     requires fit { all_fit (counts_of (map P.meaning parts.items))
         (parts_in (command_in reading.now)) ≡ true }
     requires room { all_words (map P.meaning parts.items) + (X.meaning device).count ≤ 128 }
@@ -267,9 +194,8 @@ where
 
 /// The same, where workers run the lanes of a run.
 fn serve_by<F, I, O, G, P, X, L, R>(
-    rt: &R,
     alloc: Global,
-    workers: &Workers<'_, G>,
+    workers: &Workers<'_, G, R>,
     reading: &Reading,
     files: &mut F,
     input: &mut I,
@@ -288,8 +214,6 @@ where
     X: Device,
     L: Ledger,
     R: Threads + Wait + Sync,
-    requires workers { workers.now.count ≤ 8 }
-    requires limited { IsLimited (command_in reading.now) }
     requires fit { all_fit (counts_of (map P.meaning parts.items))
         (parts_in (command_in reading.now)) ≡ true }
     requires room { all_words (map P.meaning parts.items) + (X.meaning device).count ≤ 128 }
@@ -303,7 +227,7 @@ where
 {
     match wirings(reading) {
         [] => serve_with_by(
-            rt, alloc, workers, reading, files, input, out, probes, &device, steps,
+            alloc, workers, reading, files, input, out, probes, &device, steps,
         ),
         wirings => match attach_all(alloc, parts, wirings) {
             Ok(first) => {
@@ -312,7 +236,7 @@ where
                     second: device,
                 };
                 serve_with_by(
-                    rt, alloc, workers, reading, files, input, out, probes, &device, steps,
+                    alloc, workers, reading, files, input, out, probes, &device, steps,
                 )
             }
             Err(_) => refuse(alloc, &Unopened::Memory, out),
@@ -324,7 +248,7 @@ where
 /// to the sink. It waits for nobody, and returns. The reading names no workers, and was made for the `probes` and the `parts` that are
 /// handed in. All words of the parts and of the device are at most 128 together.
 ///
-/// The answer is the status, as that of `pico`; it is not 2.
+/// The answer is the status, as that of `pico`; it is not 2. The clauses are those of `pico`, of what the reading stands for.
 pub fn pico_alone<F: Shelf, I: Source, O: Sink, X: Device, L: Ledger>(
     alloc: Global,
     reading: &Reading,
@@ -342,10 +266,6 @@ pub fn pico_alone<F: Shelf, I: Source, O: Sink, X: Device, L: Ledger>(
         (command_in reading.now) }
     requires room { all_words (map (λ p. (Part-box p).meaning p.value) parts.items)
         + (X.meaning device).count ≤ 128 }
-
-    // A walk of the reading's dialogue over the shelf ended, and its text was written whole with its status; or a part of it,
-    // and the sink failed; or memory ran out, and the line that says so was written alone. The bytes that were heard were
-    // taken from the source. So many steps were counted as that text costs.
     ensures text { ConversesFor (board (X.meaning device)
         (map (λ p. (Probe-box p).meaning p.value) probes.items)
         (map (λ p. (Part-box p).meaning p.value) parts.items))
@@ -353,9 +273,6 @@ pub fn pico_alone<F: Shelf, I: Source, O: Sink, X: Device, L: Ledger>(
         (outside ⟦<F as Shelf>⟧ ⟦<I as Source>⟧ ⟦<O as Sink>⟧ files.old input.old out.old steps.old)
         (outside ⟦<F as Shelf>⟧ ⟦<I as Source>⟧ ⟦<O as Sink>⟧ files.new input.new out.new steps.new)
         result }
-
-    // Each status but 0 and 9 has its cause: the words, the file or the input that was refused, the sink or the source that failed,
-    // or the input that is too long.
     ensures cause { HasCause (board (X.meaning device)
         (map (λ p. (Probe-box p).meaning p.value) probes.items)
         (map (λ p. (Part-box p).meaning p.value) parts.items))
@@ -363,9 +280,6 @@ pub fn pico_alone<F: Shelf, I: Source, O: Sink, X: Device, L: Ledger>(
         (outside ⟦<F as Shelf>⟧ ⟦<I as Source>⟧ ⟦<O as Sink>⟧ files.old input.old out.old steps.old)
         (outside ⟦<F as Shelf>⟧ ⟦<I as Source>⟧ ⟦<O as Sink>⟧ files.new input.new out.new steps.new)
         result }
-
-    // Refused words have status 2. Where the shelf tells its files and no load failed, the status is that of the dialogue over these
-    // files, and where it hears an input, over the bytes of the source, unless the sink failed or memory ran out.
     ensures complete { IsComplete (board (X.meaning device)
         (map (λ p. (Probe-box p).meaning p.value) probes.items)
         (map (λ p. (Part-box p).meaning p.value) parts.items))
@@ -376,52 +290,6 @@ pub fn pico_alone<F: Shelf, I: Source, O: Sink, X: Device, L: Ledger>(
 {
     serve(
         alloc, reading, files, input, out, probes, parts, device, steps,
-    )
-}
-
-/// Does what a reading says, with as many workers as it names.
-fn serve_read<F, I, O, G, P, X, L, R>(
-    rt: &R,
-    alloc: Global,
-    reading: &Reading,
-    files: &mut F,
-    input: &mut I,
-    out: &mut O,
-    gate: &G,
-    probes: Vec<Box<dyn Probe>>,
-    parts: Vec<P>,
-    device: X,
-    steps: &mut Steps<L>,
-) -> u8
-where
-    F: Shelf,
-    I: Source,
-    O: Sink,
-    G: Gate,
-    P: Part + Sync,
-    X: Device,
-    L: Ledger,
-    R: Threads + Wait + Sync,
-    requires read { IsRead (length probes.items) (counts_of (map P.meaning parts.items))
-        (command_in reading.now) }
-    requires room { all_words (map P.meaning parts.items) + (X.meaning device).count ≤ 128 }
-    ensures { ConversesFor (board (X.meaning device)
-        (map (λ p. (Probe-box p).meaning p.value) probes.items)
-        (map P.meaning parts.items))
-        (Some (command_in reading.now))
-        (outside ⟦<F as Shelf>⟧ ⟦<I as Source>⟧ ⟦<O as Sink>⟧ files.old input.old out.old steps.old)
-        (outside ⟦<F as Shelf>⟧ ⟦<I as Source>⟧ ⟦<O as Sink>⟧ files.new input.new out.new steps.new)
-        result }
-{
-    let count = count_of(reading);
-    if count == 0 {
-        return serve(
-            alloc, reading, files, input, out, probes, parts, device, steps,
-        );
-    }
-    let workers = Workers { gate, count };
-    serve_by(
-        rt, alloc, &workers, reading, files, input, out, probes, parts, device, steps,
     )
 }
 
@@ -461,9 +329,18 @@ where
         return refuse(alloc, &Unopened::Memory, out);
     };
     match read_words(alloc, words, probes.len(), &pins) {
-        Ok(reading) => serve_read(
-            rt, alloc, &reading, files, input, out, gate, probes, parts, device, steps,
-        ),
+        Ok(reading) => {
+            let count = count_of(&reading);
+            if count == 0 {
+                return serve(
+                    alloc, &reading, files, input, out, probes, parts, device, steps,
+                );
+            }
+            let workers = Workers { rt, gate, count };
+            serve_by(
+                alloc, &workers, &reading, files, input, out, probes, parts, device, steps,
+            )
+        }
         Err(WordsFault::Words) => refuse(alloc, &Unopened::Refusing(Refusal::Words), out),
         Err(WordsFault::Memory) => refuse(alloc, &Unopened::Memory, out),
     }

@@ -1,6 +1,6 @@
 //! From the words to a machine that can run, or to what is refused.
 
-ghost use Rattle.std.specs.Prelude.{◌≡◌, ◌≤◌, ℕ, List, Option, Some, length, map, IfOk};
+ghost use Rattle.std.specs.Prelude.{◌≡◌, ◌≤◌, ℕ, List, Option, Some, length, IfOk};
 ghost use Rattle.std.specs.Option.{option_map};
 ghost use Rattle.std.specs.String.{string_bytes};
 ghost use Rattle.lane_look.specs.Device.{DeviceMeaning};
@@ -11,10 +11,10 @@ ghost use Rattle.startup_blocks.specs.Table.{HaveBytes};
 ghost use Rattle.rp_machine.specs.Boot.{AreLoads, start};
 ghost use Rattle.board_parts.specs.Hearing.{Aim};
 ghost use Rattle.command_words.specs.Refusals.Refusal.{BadImage, BadScript};
-ghost use Rattle.command_words.specs.Words.{IsLimited};
 ghost use Rattle.command_words.specs.Words.Command.{Assemble, AssembleThumb, Disassemble, Generate};
 ghost use Rattle.command_words.specs.Read.{run_in, command_in};
-ghost use Rattle.pico_top.specs.Dialogue.{behind_image, behind_script, with_image, with_linked, with_run, with_script};
+ghost use Rattle.pico_top.specs.Dialogue.{with_image, with_linked, with_run, with_script};
+ghost use Rattle.pico_top.specs.declared.open.Unopened.TheVariants.{Memory};
 ghost use Rattle.pico_top.specs.Opening.{Opens, OpensFor, LoadsAs, Passes, Judges, Boots, use_for};
 
 use crate::programs::open_programs;
@@ -29,7 +29,7 @@ use reverse_debug::Session;
 use rp_machine::{Machine, PioLoad, World};
 use rp_ports::shelf::{Loaded, Shelf};
 use startup_blocks::{StartFault, link};
-use std::alloc::Global;
+use std::alloc::{AllocError, Global};
 use thumb_asm::{ThumbFault, assemble_thumb};
 use uf2_image::numbered::generated;
 use uf2_image::{Image, ImageFault, read_image, write_image};
@@ -50,6 +50,14 @@ pub enum Unopened {
     Refusing(Refusal),
     /// There was no memory left.
     Memory,
+}
+
+impl From<AllocError> for Unopened {
+    ghost from_gives = { λ _ unopened. unopened ≡ Memory };
+
+    fn from(_error: AllocError) -> Unopened {
+        Unopened::Memory
+    }
 }
 
 /// A machine that can run, with its script and its limit of cycles.
@@ -156,10 +164,8 @@ fn open_image<F: Shelf>(alloc: Global, name: &str, files: &mut F) -> Result<Imag
     ensures fits { IfOk result FitsSram }
     ensures have { IfOk result (λ image. HaveBytes image.parts) }
 {
-    match load(alloc, name, IMAGE_LIMIT, files) {
-        Ok(bytes) => image_in(alloc, &bytes),
-        Err(unopened) => Err(unopened),
-    }
+    let bytes = load(alloc, name, IMAGE_LIMIT, files)?;
+    image_in(alloc, &bytes)
 }
 
 /// An image as a run boots it: linked with the table of routines, where that is asked for.
@@ -200,40 +206,10 @@ fn open_script<F: Shelf>(alloc: Global, run: &RunWords, files: &mut F) -> Result
 {
     match &run.script {
         None => script_in(alloc, &[]),
-        Some(name) => match load(alloc, name.as_str(), SCRIPT_LIMIT, files) {
-            Ok(bytes) => script_in(alloc, &bytes),
-            Err(unopened) => Err(unopened),
-        },
-    }
-}
-
-/// What a machine before its first cycle was booted for.
-fn begin(
-    alloc: Global,
-    purpose: Purpose,
-    machine: Machine,
-    script: Script,
-    limit: u64,
-) -> Result<Opened, Unopened>
-    requires start { machine.cycle ≡ 0 }
-    requires limit { limit ≤ 1000000000 }
-    ensures { Boots purpose machine script limit result }
-{
-    match purpose {
-        Purpose::Run { stats } => Ok(Opened::Machine(Started {
-            machine,
-            script,
-            limit,
-            stats,
-        })),
-        Purpose::Debug => match Session::open(alloc, &machine, limit) {
-            Ok(session) => Ok(Opened::Session(Debugging {
-                session,
-                script,
-                limit,
-            })),
-            Err(_) => Err(Unopened::Memory),
-        },
+        Some(name) => {
+            let bytes = load(alloc, name.as_str(), SCRIPT_LIMIT, files)?;
+            script_in(alloc, &bytes)
+        }
     }
 }
 
@@ -257,88 +233,23 @@ fn boot<X: Device>(
         device,
         limit,
     };
-    match Machine::boot(alloc, image, loads, &world) {
-        Ok(machine) => begin(alloc, purpose, machine, script, limit),
-        Err(_) => Err(Unopened::Memory),
+    let machine = Machine::boot(alloc, image, loads, &world)?;
+    match purpose {
+        Purpose::Run { stats } => Ok(Opened::Machine(Started {
+            machine,
+            script,
+            limit,
+            stats,
+        })),
+        Purpose::Debug => Ok(Opened::Session(Debugging {
+            session: Session::open(alloc, &machine, limit)?,
+            script,
+            limit,
+        })),
     }
 }
 
-/// Loads the programs of a run behind its image and its script, and boots the machine.
-fn open_behind_script<F: Shelf, X: Device>(
-    alloc: Global,
-    purpose: Purpose,
-    run: &RunWords,
-    image: &Image,
-    script: Script,
-    files: &mut F,
-    device: &X,
-) -> Result<Opened, Unopened>
-    requires image { FitsSram image.now }
-    requires limit { run.now.cycles ≤ 1000000000 }
-    ensures kept { F.files files.new ≡ F.files files.old }
-    ensures answer { (aims : List Aim)
-        → Opens (F.files files.old) (F.failed files.old) (F.failed files.new)
-        (X.meaning device.now) aims
-        (behind_script (use_for aims purpose) (X.meaning device.now)
-        (run_in run.now) image.now script) result }
-{
-    match open_programs(alloc, &run.pio, files) {
-        Ok(loads) => boot(alloc, purpose, image, script, &loads, run.cycles, device),
-        Err(unopened) => Err(unopened),
-    }
-}
-
-/// Loads the script of a run behind its image, and then what comes behind it.
-fn open_behind_image<F: Shelf, X: Device>(
-    alloc: Global,
-    purpose: Purpose,
-    run: &RunWords,
-    image: &Image,
-    files: &mut F,
-    device: &X,
-) -> Result<Opened, Unopened>
-    requires image { FitsSram image.now }
-    requires limit { run.now.cycles ≤ 1000000000 }
-    ensures kept { F.files files.new ≡ F.files files.old }
-    ensures answer { (aims : List Aim)
-        → Opens (F.files files.old) (F.failed files.old) (F.failed files.new)
-        (X.meaning device.now) aims
-        (behind_image (use_for aims purpose) (X.meaning device.now) (run_in run.now) image.now)
-        result }
-{
-    match open_script(alloc, run, files) {
-        Ok(script) => open_behind_script(alloc, purpose, run, image, script, files, device),
-        Err(unopened) => Err(unopened),
-    }
-}
-
-/// Links the image of a run where that is asked for, and then does what comes behind it.
-fn open_linked<F: Shelf, X: Device>(
-    alloc: Global,
-    purpose: Purpose,
-    run: &RunWords,
-    image: Image,
-    files: &mut F,
-    device: &X,
-) -> Result<Opened, Unopened>
-    requires fits { FitsSram image }
-    requires have { HaveBytes image.parts }
-    requires limit { run.now.cycles ≤ 1000000000 }
-    ensures kept { F.files files.new ≡ F.files files.old }
-    ensures answer { (aims : List Aim)
-        → Opens (F.files files.old) (F.failed files.old) (F.failed files.new)
-        (X.meaning device.now) aims
-        (with_linked (run_in run.now).table
-        (behind_image (use_for aims purpose) (X.meaning device.now) (run_in run.now)) image)
-        result }
-{
-    match linked_image(alloc, run.table, image) {
-        Ok(image) => open_behind_image(alloc, purpose, run, &image, files, device),
-        Err(unopened) => Err(unopened),
-    }
-}
-
-/// Loads the image of a run, and then what comes behind it.
+/// Loads the image of a run, which is linked where that is asked for, its script and its programs, and boots the machine.
 fn open_run<F: Shelf, X: Device>(
     alloc: Global,
     purpose: Purpose,
@@ -346,17 +257,17 @@ fn open_run<F: Shelf, X: Device>(
     files: &mut F,
     device: &X,
 ) -> Result<Opened, Unopened>
-    requires limit { run.now.cycles ≤ 1000000000 }
     ensures kept { F.files files.new ≡ F.files files.old }
     ensures answer { (aims : List Aim)
         → Opens (F.files files.old) (F.failed files.old) (F.failed files.new)
         (X.meaning device.now) aims
         (with_run (use_for aims purpose) (X.meaning device.now) (run_in run.now)) result }
 {
-    match open_image(alloc, run.image.as_str(), files) {
-        Ok(image) => open_linked(alloc, purpose, run, image, files, device),
-        Err(unopened) => Err(unopened),
-    }
+    let image = open_image(alloc, run.image.as_str(), files)?;
+    let image = linked_image(alloc, run.table, image)?;
+    let script = open_script(alloc, run, files)?;
+    let loads = open_programs(alloc, &run.pio, files)?;
+    boot(alloc, purpose, &image, script, &loads, run.cycles, device)
 }
 
 /// Loads a source and lists its programs.
@@ -371,16 +282,11 @@ fn open_source<F: Shelf, X: Device>(
         (X.meaning device.now)
         (Assemble name.now) result }
 {
-    match load(alloc, name, SOURCE_LIMIT, files) {
-        Ok(bytes) => match programs_in(alloc, &bytes) {
-            Ok(programs) => match listing(alloc, &programs) {
-                Ok(text) => Ok(Opened::Text(text, Pieces::Lines)),
-                Err(_) => Err(Unopened::Memory),
-            },
-            Err(PioFault::Memory) => Err(Unopened::Memory),
-            Err(fault) => Err(Unopened::Refusing(Refusal::Source(fault))),
-        },
-        Err(unopened) => Err(unopened),
+    let bytes = load(alloc, name, SOURCE_LIMIT, files)?;
+    match programs_in(alloc, &bytes) {
+        Ok(programs) => Ok(Opened::Text(listing(alloc, &programs)?, Pieces::Lines)),
+        Err(PioFault::Memory) => Err(Unopened::Memory),
+        Err(fault) => Err(Unopened::Refusing(Refusal::Source(fault))),
     }
 }
 
@@ -395,16 +301,11 @@ fn open_thumb<F: Shelf, X: Device>(
     ensures answer { OpensFor (F.files files.old) (F.failed files.old) (F.failed files.new)
         (X.meaning device.now) (AssembleThumb name.now) result }
 {
-    match load(alloc, name, SOURCE_LIMIT, files) {
-        Ok(bytes) => match assemble_thumb(alloc, &bytes) {
-            Ok(image) => match write_image(alloc, &image) {
-                Ok(file) => Ok(Opened::Text(file, Pieces::Blocks)),
-                Err(_) => Err(Unopened::Memory),
-            },
-            Err(ThumbFault::Memory) => Err(Unopened::Memory),
-            Err(fault) => Err(Unopened::Refusing(Refusal::Thumb(fault))),
-        },
-        Err(unopened) => Err(unopened),
+    let bytes = load(alloc, name, SOURCE_LIMIT, files)?;
+    match assemble_thumb(alloc, &bytes) {
+        Ok(image) => Ok(Opened::Text(write_image(alloc, &image)?, Pieces::Blocks)),
+        Err(ThumbFault::Memory) => Err(Unopened::Memory),
+        Err(fault) => Err(Unopened::Refusing(Refusal::Thumb(fault))),
     }
 }
 
@@ -414,10 +315,8 @@ fn open_text(alloc: Global, asked: &DisWords) -> Result<Opened, Unopened>
         → OpensFor files failed failed device (Disassemble asked.now.words.items asked.now.side)
         result }
 {
-    match write_source(alloc, &asked.words, &asked.side) {
-        Ok(text) => Ok(Opened::Text(text, Pieces::Lines)),
-        Err(_) => Err(Unopened::Memory),
-    }
+    let text = write_source(alloc, &asked.words, &asked.side)?;
+    Ok(Opened::Text(text, Pieces::Lines))
 }
 
 /// Generates the image of a number, and boots the machine of its run.
@@ -426,26 +325,14 @@ fn open_generated<X: Device>(
     asked: &GenWords,
     device: &X,
 ) -> Result<Opened, Unopened>
-    requires limit { asked.now.cycles ≤ 1000000000 }
     ensures { (files : Option Files) (failed : List (List ℕ))
         → OpensFor files failed failed (X.meaning device.now)
         (Generate asked.now.number asked.now.cycles asked.now.workers asked.now.stats) result }
 {
-    match generated(alloc, asked.number) {
-        Ok(image) => {
-            let script = Script::new(alloc);
-            boot(
-                alloc,
-                Purpose::Run { stats: asked.stats },
-                &image,
-                script,
-                &[],
-                asked.cycles,
-                device,
-            )
-        }
-        Err(_) => Err(Unopened::Memory),
-    }
+    let image = generated(alloc, asked.number)?;
+    let script = Script::new(alloc);
+    let purpose = Purpose::Run { stats: asked.stats };
+    boot(alloc, purpose, &image, script, &[], asked.cycles, device)
 }
 
 /// Loads the files that a reading names, and boots the machine or makes the text.
@@ -455,7 +342,6 @@ pub fn open_reading<F: Shelf, X: Device>(
     files: &mut F,
     device: &X,
 ) -> Result<Opened, Unopened>
-    requires { IsLimited (command_in reading.now) }
     ensures kept { F.files files.new ≡ F.files files.old }
     ensures answer { OpensFor (F.files files.old) (F.failed files.old) (F.failed files.new)
         (X.meaning device.now)

@@ -8,7 +8,8 @@ ghost use Rattle.command_words.specs.Read.{entry_in};
 ghost use Rattle.pico_top.specs.declared.open.Unopened.TheVariants.{Memory};
 ghost use Rattle.pico_top.specs.Loads.{Placed};
 ghost use Rattle.pio_asm.specs.Assembly.{Plan, IsProgram};
-ghost use Rattle.pico_top.specs.Opening.{taken_by, ArePlaced, AddsAt, AddsBehind, AddsAs, LoadsAll};
+ghost use Rattle.pico_top.specs.Opening.{taken_by, ArePlaced, Adds, AddsBehind, LoadsAll, offset_part, source_part};
+ghost use Rattle.pico_top.specs.Dialogue.{with_program};
 
 use crate::open::{SOURCE_LIMIT, Unopened, load};
 use command_words::PioEntry;
@@ -80,7 +81,7 @@ fn add_load(entry: &PioEntry, program: Program, loads: &mut Vec<PioLoad>) -> Res
     requires runs { IsRunnable program }
     ensures { (before : List Placed) (plan : Plan) → ArePlaced before loads.old.items
         → IsProgram plan program
-        → AddsAt (entry_in entry.now) before plan loads.new.items result }
+        → AddsBehind (offset_part (entry_in entry.now) before plan) loads.new.items result }
 {
     match load_of(entry, program, loads) {
         Ok(load) => add(load, loads),
@@ -97,7 +98,7 @@ fn add_first(
 ) -> Result<(), Unopened>
     requires { AreLoads loads.old.items }
     ensures { (before : List Placed) → ArePlaced before loads.old.items
-        → AddsBehind (entry_in entry.now) before bytes.now loads.new.items result }
+        → AddsBehind (source_part (entry_in entry.now) before bytes.now) loads.new.items result }
 {
     match first_program(alloc, bytes) {
         Ok(found) => match found {
@@ -119,14 +120,11 @@ fn open_program<F: Shelf>(
     requires { AreLoads loads.old.items }
     ensures kept { F.files files.new ≡ F.files files.old }
     ensures answer { (before : List Placed) → ArePlaced before loads.old.items
-        → AddsAs (F.files files.old) (F.failed files.old) (F.failed files.new)
-        (entry_in entry.now) before
-        loads.new.items result }
+        → Adds (F.files files.old) (F.failed files.old) (F.failed files.new)
+        (with_program (entry_in entry.now) before) loads.new.items result }
 {
-    match load(alloc, entry.file.as_str(), SOURCE_LIMIT, files) {
-        Ok(bytes) => add_first(alloc, entry, &bytes, loads),
-        Err(unopened) => Err(unopened),
-    }
+    let bytes = load(alloc, entry.file.as_str(), SOURCE_LIMIT, files)?;
+    add_first(alloc, entry, &bytes, loads)
 }
 
 /// Loads the programs of all entries, each behind those before it.
@@ -141,10 +139,7 @@ pub fn open_programs<F: Shelf>(
 {
     let mut loads = Vec::new(alloc);
     for entry in entries {
-        match open_program(alloc, entry, &mut loads, files) {
-            Ok(()) => {}
-            Err(unopened) => return Err(unopened),
-        }
+        open_program(alloc, entry, &mut loads, files)?;
     }
     Ok(loads)
 }

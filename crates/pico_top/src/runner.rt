@@ -1,12 +1,11 @@
 //! A run up to the first state that has a stop: cycle by cycle, or by windows where these are counted or have workers.
 
-ghost use Rattle.std.specs.Prelude.{◌≡◌, ◌+◌, ◌≤◌, IfOk, IfSome, Some};
+ghost use Rattle.std.specs.Prelude.{◌≡◌, ◌+◌, ◌≤◌, IfOk, IfSome};
 ghost use Rattle.outer_lane.specs.Setting.{setting};
 ghost use Rattle.trace_text.specs.Tape.{Tells};
-ghost use Rattle.rp_machine.specs.Cycle.{stop};
 ghost use Rattle.rp_machine.specs.Run.{last_state};
 ghost use Rattle.window_runner.specs.Told.{run_shown};
-ghost use Rattle.window_runner.specs.Alone.{IsRan, IsOnRun};
+ghost use Rattle.window_runner.specs.Alone.{IsOnRun};
 ghost use Rattle.window_runner.specs.Windows.{answered, OnMemory};
 ghost use Rattle.board_parts.specs.Hearing.{aim_of, seen};
 ghost use Rattle.pico_top.specs.Running.{IsRanFor, RunsTo};
@@ -30,79 +29,17 @@ use window_runner::alone::{Ran, run_alone};
 use window_runner::cycles::run_cycles;
 use window_runner::windows::{RunFault, run_windows};
 
-/// How many threads run the lanes of a run's windows beside the calling one, and what is entered and left round each piece.
+/// How many threads run the lanes of a run's windows beside the calling one, what starts them, and what is entered and left round each
+/// piece.
 #[derive(Drop)]
-pub struct Workers<'a, G: Gate> {
+pub struct Workers<'a, G: Gate, R: Threads + Wait + Sync> {
+    /// Starts them, and waits for them.
+    pub rt: &'a R,
     /// The gate.
     pub gate: &'a G,
     /// How many, at most 8.
     pub count: u8,
-}
-
-/// Makes the jobs of a run, and runs a machine by windows up to its first stop on the calling thread alone. Each cycle counts as a
-/// step.
-///
-/// # Errors
-///
-/// `Sink`: the tape failed at an event. `Memory`: there was none for the jobs; nothing has changed.
-fn run_counted<X: Device, T: Tape, L: Ledger>(
-    alloc: Global,
-    machine: &mut Machine,
-    world: &World<'_, X>,
-    tape: &mut T,
-    steps: &mut Steps<L>,
-) -> Result<Ran, RunFault>
-    requires number { machine.old.cycle ≤ world.now.limit }
-    ensures told { IfSome (answered result) (Tells T.took T.missed tape.old tape.new (T.faults
-        tape.old) (T.faults tape.new) (run_shown (setting X.meaning world.now) machine.old)) }
-    ensures ran { IfOk result (IsRan (setting X.meaning world.now) machine.old) }
-    ensures state { IfOk result (λ ran. machine.new ≡ last_state (setting X.meaning world.now)
-        machine.old) }
-    ensures on_run { IsOnRun (setting X.meaning world.now) machine.old machine.new }
-    ensures steps { steps.new + machine.old.cycle ≡ steps.old + machine.new.cycle }
-    ensures memory { OnMemory result ((machine.new ≡ machine.old) × (tape.new ≡ tape.old)) }
-{
-    let Ok(mut crew) = Crew::new(alloc) else {
-        return Err(RunFault::Memory);
-    };
-    match run_alone(machine, world, &mut crew, tape, steps) {
-        Ok(ran) => Ok(ran),
-        Err(_) => Err(RunFault::Sink),
-    }
-}
-
-/// Runs a machine cycle by cycle up to its first stop on the calling thread alone, which tries no window and takes no memory. Each
-/// cycle counts as a step.
-///
-/// # Errors
-///
-/// `Sink`: the tape failed at an event.
-fn run_uncounted<X: Device, T: Tape, L: Ledger>(
-    machine: &mut Machine,
-    world: &World<'_, X>,
-    tape: &mut T,
-    steps: &mut Steps<L>,
-) -> Result<Ran, RunFault>
-    requires number { machine.old.cycle ≤ world.now.limit }
-    ensures told { IfSome (answered result) (Tells T.took T.missed tape.old tape.new
-        (T.faults tape.old) (T.faults tape.new) (run_shown (setting X.meaning world.now)
-        machine.old)) }
-    ensures why { IfOk result (λ ran. stop (setting X.meaning world.now) (last_state (setting
-        X.meaning world.now) machine.old) ≡ Some ran.why) }
-    ensures state { IfOk result (λ ran. machine.new ≡ last_state (setting X.meaning world.now)
-        machine.old) }
-    ensures on_run { IsOnRun (setting X.meaning world.now) machine.old machine.new }
-    ensures steps { steps.new + machine.old.cycle ≡ steps.old + machine.new.cycle }
-    ensures memory { OnMemory result ((machine.new ≡ machine.old) × (tape.new ≡ tape.old)) }
-{
-    match run_cycles(machine, world, tape, steps) {
-        Ok(why) => Ok(Ran {
-            why,
-            windows: 0,
-            cycles: 0,
-        }),
-        Err(_) => Err(RunFault::Sink),
-    }
+    pub ghost within: { count ≤ 8 },
 }
 
 /// Runs a machine up to its first stop on the calling thread alone: by windows where these are to be counted, and else cycle by
@@ -131,9 +68,22 @@ fn run_by_one<X: Device, T: Tape, L: Ledger>(
     ensures memory { OnMemory result ((machine.new ≡ machine.old) × (tape.new ≡ tape.old)) }
 {
     if stats {
-        run_counted(alloc, machine, world, tape, steps)
+        let Ok(mut crew) = Crew::new(alloc) else {
+            return Err(RunFault::Memory);
+        };
+        match run_alone(machine, world, &mut crew, tape, steps) {
+            Ok(ran) => Ok(ran),
+            Err(_) => Err(RunFault::Sink),
+        }
     } else {
-        run_uncounted(machine, world, tape, steps)
+        match run_cycles(machine, world, tape, steps) {
+            Ok(why) => Ok(Ran {
+                why,
+                windows: 0,
+                cycles: 0,
+            }),
+            Err(_) => Err(RunFault::Sink),
+        }
     }
 }
 
@@ -160,16 +110,14 @@ fn run_told<X: Device, O: Sink, L: Ledger>(
 
 /// Runs a machine up to its first stop with workers and tells its events. Each cycle counts as a step.
 fn run_told_by<X: Device, O: Sink, G: Gate, L: Ledger, R: Threads + Wait + Sync>(
-    rt: &R,
     stats: bool,
     alloc: Global,
-    workers: &Workers<'_, G>,
+    workers: &Workers<'_, G, R>,
     machine: &mut Machine,
     world: &World<'_, X>,
     teller: &mut Teller<'_, O>,
     steps: &mut Steps<L>,
 ) -> Result<Ran, RunFault>
-    requires workers { workers.now.count ≤ 8 }
     requires number { machine.old.cycle ≤ world.now.limit }
     ensures told { RunsTo stats (setting X.meaning world.now) machine.old machine.new (seen
         teller.old.probes.now (λ a. aim_of a.index a.pin (⟦<dyn Probe as Probe>⟧ a.probe.vtable)
@@ -181,7 +129,7 @@ fn run_told_by<X: Device, O: Sink, G: Gate, L: Ledger, R: Threads + Wait + Sync>
 {
     let count = usize::from(workers.count);
     run_windows(
-        rt,
+        workers.rt,
         alloc,
         machine,
         world,
@@ -218,19 +166,17 @@ pub fn run_to_stop<X: Device, O: Sink, L: Ledger>(
     run_told(stats, alloc, machine, world, &mut teller, steps)
 }
 
-/// The same with workers, where there are any.
+/// The same with workers.
 pub fn run_to_stop_by<X: Device, O: Sink, G: Gate, L: Ledger, R: Threads + Wait + Sync>(
-    rt: &R,
     stats: bool,
     alloc: Global,
-    workers: &Workers<'_, G>,
+    workers: &Workers<'_, G, R>,
     machine: &mut Machine,
     world: &World<'_, X>,
     probes: &mut [Aimed],
     out: &mut O,
     steps: &mut Steps<L>,
 ) -> Result<Ran, RunFault>
-    requires workers { workers.now.count ≤ 8 }
     requires number { machine.old.cycle ≤ world.now.limit }
     ensures { RunsTo stats (setting X.meaning world.now) machine.old machine.new (seen probes.old (λ
         a. aim_of a.index a.pin (⟦<dyn Probe as Probe>⟧ a.probe.vtable) a.probe.value)) (seen
@@ -238,22 +184,10 @@ pub fn run_to_stop_by<X: Device, O: Sink, G: Gate, L: Ledger, R: Threads + Wait 
         a.probe.value)) (O.written out.old) (O.written out.new) (O.faults out.old) (O.faults
         out.new) steps.old steps.new result }
 {
-    if workers.count == 0 {
-        return run_to_stop(stats, alloc, machine, world, probes, out, steps);
-    }
     let mut teller = Teller {
         writer: Writer { out },
         probes,
         boxed: PhantomData,
     };
-    run_told_by(
-        rt,
-        stats,
-        alloc,
-        workers,
-        machine,
-        world,
-        &mut teller,
-        steps,
-    )
+    run_told_by(stats, alloc, workers, machine, world, &mut teller, steps)
 }

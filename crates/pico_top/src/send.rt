@@ -1,14 +1,13 @@
 //! The text of a run and of a refusal, line by line into the sink.
 
-ghost use Rattle.std.specs.Prelude.{◌≡◌, ◌<◌, ◌≤◌, length, ◌++◌, true};
+ghost use Rattle.std.specs.Prelude.{◌≡◌, ◌<◌, ◌≤◌, length, ◌++◌, true, Some};
 ghost use Rattle.arrayvec.specs.ArrayVec.{array_vec_len};
 ghost use Rattle.trace_text.specs.Line.{stop_text, register_text};
 ghost use Rattle.trace_text.specs.Sent.{Sends};
-ghost use Rattle.board_parts.specs.Hearing.{aim_of, seen};
-ghost use Rattle.pico_top.specs.RunText.{core_lines, counts_text, probe_lines};
+ghost use Rattle.board_parts.specs.Hearing.{aim_of, aim_text, seen};
+ghost use Rattle.pico_top.specs.RunText.{counts_text, end_text, probe_lines};
 
 use crate::open::Pieces;
-use crate::probes::send_probes;
 use arrayvec::ArrayVec;
 use board_parts::aimed::Aimed;
 use board_parts::probe::Probe;
@@ -50,30 +49,31 @@ fn send_registers<O: Sink>(
     writer.line(&line)
 }
 
-/// Puts the lines of both cores.
-fn send_cores<O: Sink>(machine: &Machine, writer: &mut Writer<'_, O>) -> Result<(), SinkFault>
+/// Puts the line of a probe.
+fn send_probe<O: Sink>(probe: &Aimed, writer: &mut Writer<'_, O>) -> Result<(), SinkFault>
     ensures sends { Sends (O.written writer.old.out.now) (O.written writer.new.out.now)
         (O.faults writer.old.out.now) (O.faults writer.new.out.now)
-        (core_lines machine.now) result }
+        (aim_text (aim_of probe.now.index probe.now.pin
+        (⟦<dyn Probe as Probe>⟧ probe.now.probe.vtable) probe.now.probe.value)) result }
     ensures same_sink { writer.new.out.ghost_name ≡ writer.old.out.ghost_name }
 {
-    send_registers(0, machine.registers(0), writer)?;
-    send_registers(1, machine.registers(1), writer)
+    let mut line = ArrayVec::<u8, 192>::new();
+    probe.line(&mut line);
+    writer.line(&line)
 }
 
-/// Puts the lines of a machine at which a run ended.
-fn send_end<O: Sink>(
-    why: &Why,
-    machine: &Machine,
-    writer: &mut Writer<'_, O>,
-) -> Result<(), SinkFault>
+/// Puts the lines of probes, in their order.
+fn send_probes<O: Sink>(probes: &[Aimed], writer: &mut Writer<'_, O>) -> Result<(), SinkFault>
     ensures sends { Sends (O.written writer.old.out.now) (O.written writer.new.out.now)
         (O.faults writer.old.out.now) (O.faults writer.new.out.now)
-        (stop_text why.now machine.now.cycle ++ core_lines machine.now) result }
+        (probe_lines (seen probes.now (λ a. aim_of a.index a.pin
+        (⟦<dyn Probe as Probe>⟧ a.probe.vtable) a.probe.value))) result }
     ensures same_sink { writer.new.out.ghost_name ≡ writer.old.out.ghost_name }
 {
-    send_stop(why, machine.number(), writer)?;
-    send_cores(machine, writer)
+    for probe in probes {
+        send_probe(probe, writer)?;
+    }
+    Ok(())
 }
 
 /// Leaves the line of the counts in `out`.
@@ -104,24 +104,6 @@ fn send_counts<O: Sink>(stats: bool, ran: &Ran, writer: &mut Writer<'_, O>) -> R
     writer.line(&line)
 }
 
-/// Puts the lines of probes that heard a run, and that of its counts, where it is asked for.
-fn send_heard<O: Sink>(
-    stats: bool,
-    ran: &Ran,
-    probes: &[Aimed],
-    writer: &mut Writer<'_, O>,
-) -> Result<(), SinkFault>
-    ensures sends { Sends (O.written writer.old.out.now) (O.written writer.new.out.now)
-        (O.faults writer.old.out.now) (O.faults writer.new.out.now)
-        (probe_lines (seen probes.now (λ a. aim_of a.index a.pin
-        (⟦<dyn Probe as Probe>⟧ a.probe.vtable) a.probe.value))
-        ++ counts_text stats ran.now.windows ran.now.cycles) result }
-    ensures same_sink { writer.new.out.ghost_name ≡ writer.old.out.ghost_name }
-{
-    send_probes(probes, writer)?;
-    send_counts(stats, ran, writer)
-}
-
 /// Puts the lines of a machine at which a run ended, those of the probes that heard it, and that of its counts, where it is asked
 /// for.
 pub fn send_last<O: Sink>(
@@ -133,14 +115,16 @@ pub fn send_last<O: Sink>(
 ) -> Result<(), SinkFault>
     ensures sends { Sends (O.written writer.old.out.now) (O.written writer.new.out.now)
         (O.faults writer.old.out.now) (O.faults writer.new.out.now)
-        ((stop_text ran.now.why machine.now.cycle ++ core_lines machine.now)
-        ++ (probe_lines (seen probes.now (λ a. aim_of a.index a.pin
+        (end_text (Some ran.now.why) machine.now (seen probes.now (λ a. aim_of a.index a.pin
         (⟦<dyn Probe as Probe>⟧ a.probe.vtable) a.probe.value))
-        ++ counts_text stats ran.now.windows ran.now.cycles)) result }
+        (counts_text stats ran.now.windows ran.now.cycles)) result }
     ensures same_sink { writer.new.out.ghost_name ≡ writer.old.out.ghost_name }
 {
-    send_end(&ran.why, machine, writer)?;
-    send_heard(stats, ran, probes, writer)
+    send_stop(&ran.why, machine.number(), writer)?;
+    send_registers(0, machine.registers(0), writer)?;
+    send_registers(1, machine.registers(1), writer)?;
+    send_probes(probes, writer)?;
+    send_counts(stats, ran, writer)
 }
 
 /// The index behind the first line that begins at an index.
@@ -182,10 +166,8 @@ pub fn send_text<O: Sink>(
     let mut done = 0;
     while done < text.len() {
         let end = piece_end(text, pieces, done);
-        match writer.line(&text[done..end]) {
-            Ok(()) => done = end,
-            Err(fault) => return Err(fault),
-        }
+        writer.line(&text[done..end])?;
+        done = end;
     }
     Ok(())
 }

@@ -1,20 +1,17 @@
 //! What was opened, or why nothing was, into the sink.
 
-ghost use Rattle.std.specs.Prelude.{◌≡◌, ◌≤◌, ◌++◌, ℕ, List, Option};
-ghost use Rattle.trace_text.specs.Line.{stop_text};
-ghost use Rattle.command_words.specs.Refusals.{line_of, status_of};
-ghost use Rattle.command_words.specs.Meant.{meant};
+ghost use Rattle.std.specs.Prelude.{◌≡◌, ◌≤◌, ℕ, List, Option, Some};
 ghost use Rattle.board_parts.specs.Hearing.{Aim, aim_of, seen};
 ghost use Rattle.outer_lane.specs.Setting.{Setting};
 ghost use Rattle.rp_machine.specs.State.{State};
-ghost use Rattle.pico_top.specs.RunText.{core_lines, counts_text, probe_lines};
 ghost use Rattle.pico_top.specs.Answer.{Puts, RunsOut};
+ghost use Rattle.pico_top.specs.RunText.{counts_text, end_text};
 ghost use Rattle.pico_top.specs.Running.{RunsTo};
 ghost use Rattle.reverse_debug.specs.Debugger.{quits};
 ghost use Rattle.reverse_debug.specs.Hear.{way_line, way_status};
 ghost use Rattle.reverse_debug.specs.Session.{first_of, OpensAt};
 ghost use Rattle.pico_top.specs.Dialogue.{hear, input_limit, run_reply, say, session_reply};
-ghost use Rattle.pico_top.specs.Opening.{setting_in, setting_by, opened_dialogue, IsReady, PutsRefusal, Concludes};
+ghost use Rattle.pico_top.specs.Opening.{setting_in, setting_by, PutsRefusal, Concludes};
 
 use crate::open::{Debugging, Opened, Pieces, Started, Unopened};
 use crate::runner::{Workers, run_to_stop, run_to_stop_by};
@@ -43,10 +40,9 @@ const INPUT_LIMIT: usize = 1_048_576;
 /// Puts the last lines of a run into a sink, and answers 0, or 7 where the sink fails.
 fn end_into<O: Sink>(stats: bool, ran: &Ran, machine: &Machine, probes: &[Aimed], out: &mut O) -> u8
     ensures { Puts (O.written out.old) (O.written out.new) (O.faults out.old) (O.faults out.new)
-        result 0 ((stop_text ran.now.why machine.now.cycle ++ core_lines machine.now)
-        ++ (probe_lines (seen probes.now (λ a. aim_of a.index a.pin
+        result 0 (end_text (Some ran.now.why) machine.now (seen probes.now (λ a. aim_of a.index a.pin
         (⟦<dyn Probe as Probe>⟧ a.probe.vtable) a.probe.value))
-        ++ counts_text stats ran.now.windows ran.now.cycles)) }
+        (counts_text stats ran.now.windows ran.now.cycles)) }
 {
     let mut writer = Writer { out };
     match send_last(stats, ran, machine, probes, &mut writer) {
@@ -83,7 +79,7 @@ fn finish<O: Sink>(
 
 /// Runs a machine that probes hear into a sink, on the calling thread alone, and answers 0, or 7 where the sink fails; or puts the
 /// line that says that memory ran out before.
-fn run_into<X: Device, O: Sink, L: Ledger>(
+pub fn run_into<X: Device, O: Sink, L: Ledger>(
     alloc: Global,
     started: Started,
     probes: &mut [Aimed],
@@ -115,17 +111,15 @@ fn run_into<X: Device, O: Sink, L: Ledger>(
 }
 
 /// The same with workers.
-fn run_into_by<X: Device, O: Sink, G: Gate, L: Ledger, R: Threads + Wait + Sync>(
-    rt: &R,
+pub fn run_into_by<X: Device, O: Sink, G: Gate, L: Ledger, R: Threads + Wait + Sync>(
     alloc: Global,
-    workers: &Workers<'_, G>,
+    workers: &Workers<'_, G, R>,
     started: Started,
     probes: &mut [Aimed],
     device: &X,
     out: &mut O,
     steps: &mut Steps<L>,
 ) -> u8
-    requires workers { workers.now.count ≤ 8 }
     requires number { started.machine.cycle ≤ started.limit }
     ensures { (left : Option (List ℕ)) (lost : ℕ)
         → Concludes (say (run_reply started.stats (seen probes.old (λ a. aim_of a.index a.pin
@@ -146,7 +140,6 @@ fn run_into_by<X: Device, O: Sink, G: Gate, L: Ledger, R: Threads + Wait + Sync>
         limit,
     };
     let came = run_to_stop_by(
-        rt,
         stats,
         alloc,
         workers,
@@ -160,7 +153,7 @@ fn run_into_by<X: Device, O: Sink, G: Gate, L: Ledger, R: Threads + Wait + Sync>
 }
 
 /// Puts a text into a sink, piece by piece, and answers 0, or 7 where the sink fails.
-fn text_into<O: Sink>(text: &[u8], pieces: Pieces, out: &mut O) -> u8
+pub fn text_into<O: Sink>(text: &[u8], pieces: Pieces, out: &mut O) -> u8
     ensures { Puts (O.written out.old) (O.written out.new) (O.faults out.old)
         (O.faults out.new) result 0 text.now }
 {
@@ -233,14 +226,14 @@ fn talk<I: Source, X: Device, O: Sink, L: Ledger>(
 }
 
 /// Hears the lines of a source into a sink.
-fn talk_into<I: Source, X: Device, O: Sink, L: Ledger>(
+pub fn talk_into<I: Source, X: Device, O: Sink, L: Ledger>(
     debugging: Debugging,
     device: &X,
     input: &mut I,
     out: &mut O,
     steps: &mut Steps<L>,
 ) -> u8
-    requires { OpensAt (first_of debugging.session) debugging.limit debugging.session }
+    requires opened { OpensAt (first_of debugging.session) debugging.limit debugging.session }
     ensures { Concludes (hear input_limit quits
         (session_reply (setting_by (X.meaning device.now) debugging) (first_of debugging.session)))
         (I.left input.old) (I.left input.new) (I.faults input.old) (I.faults input.new)
@@ -249,69 +242,6 @@ fn talk_into<I: Source, X: Device, O: Sink, L: Ledger>(
 {
     let mut writer = Writer { out };
     talk(debugging, device, input, &mut writer, steps)
-}
-
-/// Puts the text of what was opened into a sink, where a run is heard by the probes, or what is told of the lines of the source;
-/// answers the status, 7 where the sink fails. Where a run finds no memory before it begins, it puts the line that says so.
-pub fn tell_into<I: Source, X: Device, O: Sink, L: Ledger>(
-    alloc: Global,
-    opened: Opened,
-    probes: &mut [Aimed],
-    device: &X,
-    input: &mut I,
-    out: &mut O,
-    steps: &mut Steps<L>,
-) -> u8
-    requires { IsReady opened }
-    ensures { Concludes (opened_dialogue (X.meaning device.now)
-        (seen probes.old (λ a. aim_of a.index a.pin
-        (⟦<dyn Probe as Probe>⟧ a.probe.vtable) a.probe.value)) opened)
-        (I.left input.old) (I.left input.new) (I.faults input.old) (I.faults input.new)
-        (O.written out.old) (O.written out.new) (O.faults out.old)
-        (O.faults out.new) steps.old steps.new result }
-{
-    match opened {
-        Opened::Machine(started) => run_into(alloc, started, probes, device, out, steps),
-        Opened::Session(debugging) => talk_into(debugging, device, input, out, steps),
-        Opened::Text(text, pieces) => text_into(&text, pieces, out),
-    }
-}
-
-/// The same, where workers run the lanes of a run.
-pub fn tell_into_by<I, X, O, G, L, R>(
-    rt: &R,
-    alloc: Global,
-    workers: &Workers<'_, G>,
-    opened: Opened,
-    probes: &mut [Aimed],
-    device: &X,
-    input: &mut I,
-    out: &mut O,
-    steps: &mut Steps<L>,
-) -> u8
-where
-    I: Source,
-    X: Device,
-    O: Sink,
-    G: Gate,
-    L: Ledger,
-    R: Threads + Wait + Sync,
-    requires workers { workers.now.count ≤ 8 }
-    requires is_ready { IsReady opened }
-    ensures { Concludes (opened_dialogue (X.meaning device.now)
-        (seen probes.old (λ a. aim_of a.index a.pin
-        (⟦<dyn Probe as Probe>⟧ a.probe.vtable) a.probe.value)) opened)
-        (I.left input.old) (I.left input.new) (I.faults input.old) (I.faults input.new)
-        (O.written out.old) (O.written out.new) (O.faults out.old)
-        (O.faults out.new) steps.old steps.new result }
-{
-    match opened {
-        Opened::Machine(started) => {
-            run_into_by(rt, alloc, workers, started, probes, device, out, steps)
-        }
-        Opened::Session(debugging) => talk_into(debugging, device, input, out, steps),
-        Opened::Text(text, pieces) => text_into(&text, pieces, out),
-    }
 }
 
 /// Puts one line into a sink, and answers the status that it goes with, or 7 where the sink fails.

@@ -1,26 +1,36 @@
-use Rattle.std.proofs.Common.{rules, ◌≡◌, map, None, length, refl, ap, sym, ◌∙◌}
+use Rattle.std.proofs.Common.{rules, ◌≡◌, map, None, refl, ap, sym, ◌∙◌}
 use Rattle.std.specs.String.{string_bytes}
 use Rattle.board_parts.specs.Wiring.{counts_of}
 use Rattle.command_words.specs.Words.{reading}
+use Rattle.command_words.proofs.Fitting.{read_parts_fit}
 use Rattle.std.proofs.lemmas.List.{length-map}
 use Rattle.pico_top.proofs.Telling.{out_converses, read_converses, refused_converses}
 use Rattle.pico_top.proofs.converse.Goals as goal
 
+pub serve-requires-clause-fit : goal.serve-requires-clause-fit
+serve-requires-clause-fit g c κs within =
+    let pinned = c.deref-2.ensures.value ∙ (c.in-Ok.ensures ∙ ap (λ ps. counts_of (map g.P.Part.meaning ps)) c.deref.ensures.value) in
+    read_parts_fit c.len.result _ _ (map string_bytes c.args.words.now, sym (ap (λ ps. reading c.len.result ps (map string_bytes c.args.words.now)) pinned) ∙ c.in-Ok-read_words.ensures)
+
+pub serve_by-requires-clause-fit : goal.serve_by-requires-clause-fit
+serve_by-requires-clause-fit g c κs within =
+    let pinned = c.deref-2.ensures.value ∙ (c.in-Ok.ensures ∙ ap (λ ps. counts_of (map g.P.Part.meaning ps)) c.deref.ensures.value) in
+    read_parts_fit c.len.result _ _ (map string_bytes c.args.words.now, sym (ap (λ ps. reading c.len.result ps (map string_bytes c.args.words.now)) pinned) ∙ c.in-Ok-read_words.ensures)
+
 pub returns-in_default : goal.returns-in_default
 returns-in_default g c = out_converses _ _ _ _ _ refl refl refl refl c.refuse.ensures refl
 
-pub serve_read-requires-clause-read : goal.serve_read-requires-clause-read
-serve_read-requires-clause-read g c κs within =
-    let words = map string_bytes c.args.words.now in
-    let pinned = c.deref-2.ensures.value ∙ (c.in-Ok.ensures ∙ ap (λ ps. counts_of (map g.P.Part.meaning ps)) c.deref.ensures.value) in
-    let long = c.len.ensures ∙ c.args.probes.ok.0 in
-    (words, sym (ap (λ n. reading n c.deref-2.result.now words) long ∙ ap (λ ps. reading (length c.args.probes.items) ps words) pinned) ∙ c.in-Ok-read_words.ensures)
-
-pub returns-in-Ok-read_words : goal.returns-in-Ok-read_words
-returns-in-Ok-read_words g c =
+pub returns-then-count-eq0 : goal.returns-then-count-eq0
+returns-then-count-eq0 g c =
     let pinned = c.deref-2.ensures.value ∙ (c.in-Ok.ensures ∙ ap (λ ps. counts_of (map g.P.Part.meaning ps)) c.deref.ensures.value) in
     let long = c.len.ensures ∙ (c.args.probes.ok.0 ∙ sym (length-map c.args.probes.items _)) in
-    read_converses _ _ _ _ _ _ _ _ long pinned c.in-Ok-read_words.ensures c.serve_read.ensures
+    read_converses _ _ _ _ _ _ _ _ long pinned c.in-Ok-read_words.ensures c.serve.ensures
+
+pub returns-else-count-eq0 : goal.returns-else-count-eq0
+returns-else-count-eq0 g c =
+    let pinned = c.deref-2.ensures.value ∙ (c.in-Ok.ensures ∙ ap (λ ps. counts_of (map g.P.Part.meaning ps)) c.deref.ensures.value) in
+    let long = c.len.ensures ∙ (c.args.probes.ok.0 ∙ sym (length-map c.args.probes.items _)) in
+    read_converses _ _ _ _ _ _ _ _ long pinned c.in-Ok-read_words.ensures c.serve_by.ensures
 
 pub returns-in-Err-Words : goal.returns-in-Err-Words
 returns-in-Err-Words g c =

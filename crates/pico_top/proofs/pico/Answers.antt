@@ -1,5 +1,4 @@
-use Rattle.pico_top.proofs.Causing.{causes}
-use Rattle.pico_top.proofs.Completing.{completes}
+use Rattle.pico_top.proofs.Causing.{causes, completes}
 use Rattle.pico_top.proofs.pico.Goals as goal
 
 pub returns-clause-cause : goal.returns-clause-cause

@@ -1,10 +1,6 @@
-use Rattle.command_words.proofs.Limits.{read_command_limited, read_parts_fit}
-use Rattle.pico_top.proofs.Causing.{causes}
-use Rattle.pico_top.proofs.Completing.{completes}
+use Rattle.command_words.proofs.Fitting.{read_parts_fit}
+use Rattle.pico_top.proofs.Causing.{causes, completes}
 use Rattle.pico_top.proofs.pico_alone.Goals as goal
-
-pub serve-requires-clause-limited : goal.serve-requires-clause-limited
-serve-requires-clause-limited g c κs within = read_command_limited _ _ _ c.requires.read
 
 pub serve-requires-clause-fit : goal.serve-requires-clause-fit
 serve-requires-clause-fit g c κs within = read_parts_fit _ _ _ c.requires.read

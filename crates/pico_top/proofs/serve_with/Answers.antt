@@ -1,12 +1,31 @@
-use Rattle.std.proofs.Common.{refl, ap, ◌∙◌}
+use Rattle.std.proofs.Common.{[], refl, ap, ◌∙◌}
 use Rattle.board_parts.specs.Aiming.{aims_of}
-use Rattle.pico_top.proofs.Telling.{out_converses}
+use Rattle.pico_top.proofs.Telling.{out_converses, opened_converses, closed_converses, tells_text}
 use Rattle.pico_top.proofs.serve_with.Goals as goal
 
-pub returns-in-Ok : goal.returns-in-Ok
-returns-in-Ok g c b same probes =
-    c.serve_aimed.ensures b same
-    (rw c.deref_mut.ensures.value (c.in-Ok.ensures ∙ ap (λ ps. aims_of ps c.targets.result.now) probes ∙ ap (aims_of b.probes) c.targets.ensures))
+pub run_into-requires-clause-number : goal.run_into-requires-clause-number
+run_into-requires-clause-number g c κs within = rw c.in-Machine.is at (c.in-Ok-open_reading.ensures.answer []).1
 
-pub returns-in-Err : goal.returns-in-Err
-returns-in-Err g c b same probes = out_converses _ _ _ _ _ refl refl refl refl c.refuse.ensures refl
+pub talk_into-requires-clause-opened : goal.talk_into-requires-clause-opened
+talk_into-requires-clause-opened g c κs within = rw c.in-Session.is at (c.in-Ok-open_reading.ensures.answer []).1
+
+pub returns-in_default : goal.returns-in_default
+returns-in_default g c b same probes = out_converses _ _ _ _ _ refl refl refl refl c.refuse.ensures refl
+
+pub returns-in-Machine : goal.returns-in-Machine
+returns-in-Machine g c b same probes =
+    let aims = rw c.deref_mut.ensures.value (c.in-Ok.ensures ∙ ap (λ ps. aims_of ps c.targets.result.now) probes ∙ ap (aims_of b.probes) c.targets.ensures) in
+    opened_converses b _ _ _ _ _ _ _ same aims c.in-Ok-open_reading.ensures.answer c.in-Ok-open_reading.ensures.kept (rw c.in-Machine.is (c.run_into.ensures _ _))
+
+pub returns-in-Session : goal.returns-in-Session
+returns-in-Session g c b same probes =
+    let aims = rw c.deref_mut.ensures.value (c.in-Ok.ensures ∙ ap (λ ps. aims_of ps c.targets.result.now) probes ∙ ap (aims_of b.probes) c.targets.ensures) in
+    opened_converses b _ _ _ _ _ _ _ same aims c.in-Ok-open_reading.ensures.answer c.in-Ok-open_reading.ensures.kept (rw c.in-Session.is c.talk_into.ensures)
+
+pub returns-in-Text : goal.returns-in-Text
+returns-in-Text g c b same probes =
+    let aims = rw c.deref_mut.ensures.value (c.in-Ok.ensures ∙ ap (λ ps. aims_of ps c.targets.result.now) probes ∙ ap (aims_of b.probes) c.targets.ensures) in
+    opened_converses b _ _ _ _ _ _ _ same aims c.in-Ok-open_reading.ensures.answer c.in-Ok-open_reading.ensures.kept (rw c.in-Text.is (tells_text _ _ _ _ _ _ _ _ _ (rw c.deref.ensures.value at c.text_into.ensures)))
+
+pub returns : goal.returns
+returns g c b same probes = closed_converses b _ _ _ _ _ _ same c.in-Err.ensures.answer c.in-Err.ensures.kept refl refl c.refuse-in-Err.ensures refl

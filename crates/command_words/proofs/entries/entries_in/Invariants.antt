@@ -1,6 +1,5 @@
 use Rattle.std.proofs.Common.{◌≡◌, map, drop, Bor, List, ℕ}
-use Rattle.command_words.specs.Lists.{items_from}
-use Rattle.command_words.specs.Entries.{entry_of, share_machine, entries_of}
+use Rattle.command_words.specs.Lists.{items_from, entry_of, share_machine, entries_of}
 use Rattle.command_words.specs.Read.{entry_in}
 use Rattle.command_words.proofs.entries.entries_in.Given as goal
 

@@ -1,6 +1,6 @@
 use Rattle.std.proofs.Common.{◌≡◌, map, drop}
 use Rattle.std.specs.List.{list_any}
-use Rattle.command_words.specs.Entries.{share_machine}
+use Rattle.command_words.specs.Lists.{share_machine}
 use Rattle.command_words.specs.Read.{entry_in}
 use Rattle.command_words.proofs.entries.is_taken.Given as goal
 

@@ -1,40 +1,30 @@
-use Rattle.std.proofs.Common.{◌≡◌, map, [], Some, None, ap, sym, subst, inl, inr, ◌∙◌}
+use Rattle.std.proofs.Common.{◌≡◌, map, Some, ap, sym, subst, inl, inr, ◌∙◌}
 use Rattle.std.proofs.lemmas.Result.{IfOk-weaker}
+use Rattle.std.specs.Option.{option_and_then}
 use Rattle.std.specs.String.{string_bytes}
 use Rattle.clap.specs.Matches.{first_value, found_of}
 use Rattle.clap.specs.Walk.{rows_of}
-use Rattle.clap.specs.Simple.{App, app_of, is_simple, subcommand_of, subcommand_rows_of}
+use Rattle.clap.specs.Simple.{App, app_of, subcommand_rows_of}
 use Rattle.clap.specs.Faults.{fault_of, is_simple_and_free}
 use Rattle.clap.specs.Kinds.{IsAmong}
 use Rattle.clap.specs.Words.{kind_of}
-use Rattle.command_words.specs.Line.{line_in, normal_line}
-use Rattle.command_words.specs.Apps.{table}
-use Rattle.command_words.proofs.Parsed.{at_ok, at_err, none_met, one_met, same_line, table_is_free, table_is_simple}
+use Rattle.command_words.specs.Line.{line_in, line_found, normal_line, table}
+use Rattle.command_words.proofs.Parsed.{at_ok, at_err, none_met, one_met, same_line, table_is_free}
 use Rattle.command_words.proofs.line.line_in.Goals as goal
 
 pub returns-in-None : goal.returns-in-None
 returns-in-None c =
-    let words = map string_bytes c.args.words.now in
-    let is : app_of c.in_ok-command.command ≡ table = c.in_ok-command.ensures in
-    let faultless : fault_of table words ≡ [] =
-    sym (ap (λ (a : App). fault_of a words) is) ∙ c.in-Ok.ensures.kinds (ap is_simple_and_free is ∙ table_is_free) in
-    let found : subcommand_rows_of c.in-Ok.matches ≡ subcommand_of table words =
-    (c.in-Ok.ensures.matches (ap is_simple is ∙ table_is_simple)).1 ∙ ap (λ (a : App). subcommand_of a words) is in
-    sym (at_ok words None faultless (sym found ∙ none_met (subcommand_rows_of c.in-Ok.matches) c.in-None.ensures.rows))
+    sym (at_ok (map string_bytes c.args.words.now) (app_of c.in_ok-command.command) _ c.in_ok-command.ensures c.in-Ok.ensures.kinds (λ s. (c.in-Ok.ensures.matches s).1)
+    ∙ ap (option_and_then line_found) (none_met (subcommand_rows_of c.in-Ok.matches) c.in-None.ensures.rows))
 
 pub returns-in-Ok : goal.returns-in-Ok
 returns-in-Ok c =
     let words = map string_bytes c.args.words.now in
-    let is : app_of c.in_ok-command.command ≡ table = c.in_ok-command.ensures in
-    let faultless : fault_of table words ≡ [] =
-    sym (ap (λ (a : App). fault_of a words) is) ∙ c.in-Ok.ensures.kinds (ap is_simple_and_free is ∙ table_is_free) in
-    let found : subcommand_rows_of c.in-Ok.matches ≡ subcommand_of table words =
-    (c.in-Ok.ensures.matches (ap is_simple is ∙ table_is_simple)).1 ∙ ap (λ (a : App). subcommand_of a words) is in
-    let named : subcommand_rows_of c.in-Ok.matches ≡ Some (c.in-Some.name.now, rows_of (found_of c.in-Some.found.now)) =
-    one_met _ _ _ _ c.in-Some.ensures.name c.in-Some.ensures.rows in
-    let line : line_in words ≡ normal_line c.in-Some.name.now (first_value (found_of c.in-Some.found.now)) =
-    at_ok words (Some (c.in-Some.name.now, rows_of (found_of c.in-Some.found.now))) faultless (sym found ∙ named)
-    ∙ sym (same_line (found_of c.in-Some.found.now) c.in-Some.name.now) in
+    let found = found_of c.in-Some.found.now in
+    let named : subcommand_rows_of c.in-Ok.matches ≡ Some (c.in-Some.name.now, rows_of found) = one_met _ _ _ _ c.in-Some.ensures.name c.in-Some.ensures.rows in
+    let line : line_in words ≡ normal_line c.in-Some.name.now (first_value found) =
+    at_ok words (app_of c.in_ok-command.command) _ c.in_ok-command.ensures c.in-Ok.ensures.kinds (λ s. (c.in-Ok.ensures.matches s).1)
+    ∙ ap (option_and_then line_found) named ∙ sym (same_line found c.in-Some.name.now) in
     IfOk-weaker c.written.result _ _ (λ r h. h ∙ sym line) c.written.ensures
 
 pub returns : goal.returns

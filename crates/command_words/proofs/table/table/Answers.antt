@@ -2,7 +2,7 @@ use Rattle.std.proofs.Common.{◌≡◌, ◌+◌, [], drop, true, ap, ap₂, sym
 use Rattle.std.specs.List.{fold}
 use Rattle.clap.specs.Walk.{Text}
 use Rattle.clap.specs.Simple.{app_of, app_of_fields, on_top}
-use Rattle.command_words.specs.Apps.{table, top, with_command}
+use Rattle.command_words.specs.Line.{table, top, with_command}
 use Rattle.command_words.proofs.Parsed.{command_added, next_word, texts_of}
 use Rattle.command_words.proofs.table.table.Goals as goal
 

@@ -1,6 +1,5 @@
 use Rattle.std.proofs.Common.{◌≡◌, map, drop, Bor, List, ℕ}
-use Rattle.command_words.specs.Lists.{items_from}
-use Rattle.command_words.specs.Targets.{target_of, share_probe, targets_of}
+use Rattle.command_words.specs.Lists.{items_from, target_of, share_probe, targets_of}
 use Rattle.command_words.proofs.targets.targets_in.Given as goal
 
 -- what is left of the list, behind the targets so far, gives what the whole list gives

@@ -1,7 +1,6 @@
 use Rattle.std.proofs.Common.{◌≡◌, map, drop, Bor, List, ℕ}
 use Rattle.board_parts.specs.Wiring.{wired_in}
-use Rattle.command_words.specs.Lists.{items_from}
-use Rattle.command_words.specs.Wirings.{wiring_of, share_part, wirings_of}
+use Rattle.command_words.specs.Lists.{items_from, wiring_of, share_part, wirings_of}
 use Rattle.command_words.proofs.wirings.wirings_in.Given as goal
 
 -- what is left of the list, behind the entries so far, gives what the whole list gives

@@ -1,6 +1,6 @@
 use Rattle.std.proofs.Common.{ap, ◌∙◌, arith}
 use Rattle.rp_machine.specs.State.{State}
-use Rattle.pico_top.proofs.Opens.{start_cycle}
+use Rattle.pico_top.proofs.Walking.{start_cycle}
 use Rattle.pico_tests.proofs.worker_tests.watched.Goals as goal
 
 pub run_windows-ran-requires-clause-number : goal.run_windows-ran-requires-clause-number

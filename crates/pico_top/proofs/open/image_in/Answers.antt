@@ -1,4 +1,4 @@
-use Rattle.pico_top.proofs.Opens.{read_has_bytes}
+use Rattle.pico_top.proofs.Walking.{read_has_bytes}
 use Rattle.pico_top.proofs.open.image_in.Goals as goal
 
 pub returns-in-Ok-clause-have : goal.returns-in-Ok-clause-have

@@ -1,5 +1,5 @@
 use Rattle.pico_top.specs.declared.open.Unopened.TheVariants.{Memory}
-use Rattle.pico_top.proofs.Opens.{load_lost}
+use Rattle.pico_top.proofs.Walking.{load_lost}
 use Rattle.pico_top.proofs.open.load.Goals as goal
 
 pub returns-in-Failed-clause-answer : goal.returns-in-Failed-clause-answer

@@ -1,7 +1,7 @@
-use Rattle.pico_top.proofs.Opens.{generated_opens}
+use Rattle.pico_top.proofs.Walking.{generated_opens}
 use Rattle.pico_top.proofs.open.open_generated.Goals as goal
 
-pub returns-in-Ok : goal.returns-in-Ok
-returns-in-Ok g c files failed =
-    generated_opens files failed (g.X.Device.meaning c.args.device.now) c.args.asked.now.number c.args.asked.now.cycles c.args.asked.now.workers c.args.asked.now.stats c.in-Ok.image
-    _ c.boot.result c.in-Ok.ensures.image c.new-script.ensures c.boot.ensures
+pub returns : goal.returns
+returns g c files failed =
+    generated_opens files failed (g.X.Device.meaning c.args.device.now) c.args.asked.now.number c.args.asked.now.cycles c.args.asked.now.workers c.args.asked.now.stats c.in_ok-image.image
+    _ c.boot.result c.in_ok-image.ensures.image c.new-script.ensures c.boot.ensures

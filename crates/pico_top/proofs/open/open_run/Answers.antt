@@ -1,21 +1,66 @@
-use Rattle.std.proofs.Common.{List, ℕ, Ok, Err, subst}
+use Rattle.std.proofs.Common.{List, ℕ, map, Ok, Err, refl, subst}
+use Rattle.std.proofs.lemmas.Result.{err_from_is_err_and}
 use Rattle.uf2_image.specs.declared.parts.Image.{Image}
-use Rattle.command_words.specs.Read.{run_in}
-use Rattle.pico_top.specs.Dialogue.{with_image, with_linked, behind_image}
-use Rattle.pico_top.specs.Opening.{Passes, use_for}
-use Rattle.pico_top.proofs.Opens.{opens_behind}
+use Rattle.outer_lane.specs.Setting.{setting_of}
+use Rattle.rp_machine.specs.Boot.{start}
+use Rattle.rp_machine.specs.declared.load.PioLoad.{PioLoad}
+use Rattle.command_words.specs.declared.entry.PioEntry.{PioEntry}
+use Rattle.command_words.specs.Read.{run_in, entry_in}
+use Rattle.pico_top.specs.Dialogue.{with_image, with_linked, with_script, behind_image, behind_script}
+use Rattle.pico_top.specs.Opening.{Passes, LoadsAll, Boots, use_for}
+use Rattle.pico_top.proofs.Walking.{opens_behind, programs_open}
 use Rattle.pico_top.proofs.open.open_run.Goals as goal
 
-pub returns-in-Ok-clause-answer : goal.returns-in-Ok-clause-answer
-returns-in-Ok-clause-answer g c aims =
-    let family = λ (n : List ℕ). Passes (g.F.Shelf.files c.args.files.now) (g.F.Shelf.failed c.args.files.now) (g.F.Shelf.failed c.open_image.new.files) (with_image n) (Ok c.in-Ok.image) in
+pub returns-in_err-image-clause-answer : goal.returns-in_err-image-clause-answer
+returns-in_err-image-clause-answer g c aims =
+    let p = err_from_is_err_and c.from_residual.result c.from_residual.ensures.1 in
     let run = run_in c.args.run.now in
-    let next = with_linked run.table (behind_image (use_for aims c.args.purpose) (g.X.Device.meaning c.args.device.now) run) in
-    opens_behind _ _ _ _ _ _ aims (with_image run.image) c.in-Ok.image next _ (subst family c.as_str.ensures.value c.in-Ok.ensures.answer) c.in-Ok.ensures.kept (c.open_linked.ensures.answer aims)
+    let device = g.X.Device.meaning c.args.device.now in
+    let use_run = use_for aims c.args.purpose in
+    let linked = behind_image use_run device run in
+    rw (p.1, p.2) (subst (λ (n : List ℕ). Passes {X = Image} (g.F.Shelf.files c.args.files.now) (g.F.Shelf.failed c.args.files.now) (g.F.Shelf.failed c.open_image.new.files) (with_image n) (Err c.in_err-image.field-0.0)) c.as_str.ensures.value c.in_err-image.ensures.answer (with_linked run.table linked))
 
-pub returns-in-Err-clause-answer : goal.returns-in-Err-clause-answer
-returns-in-Err-clause-answer g c aims =
-    let family = λ (n : List ℕ). Passes {X = Image} (g.F.Shelf.files c.args.files.now) (g.F.Shelf.failed c.args.files.now) (g.F.Shelf.failed c.open_image.new.files) (with_image n) (Err c.in-Err.unopened) in
+pub returns-in_err-image-2-clause-answer : goal.returns-in_err-image-2-clause-answer
+returns-in_err-image-2-clause-answer g c aims =
+    let p = err_from_is_err_and c.from_residual-in_err-image-2.result c.from_residual-in_err-image-2.ensures.1 in
     let run = run_in c.args.run.now in
-    subst family c.as_str.ensures.value c.in-Err.ensures.answer
-    (with_linked run.table (behind_image (use_for aims c.args.purpose) (g.X.Device.meaning c.args.device.now) run))
+    let device = g.X.Device.meaning c.args.device.now in
+    let use_run = use_for aims c.args.purpose in
+    let linked = behind_image use_run device run in
+    rw (p.1, p.2) (opens_behind (g.F.Shelf.files c.args.files.now) (g.F.Shelf.files c.open_image.new.files) (g.F.Shelf.failed c.args.files.now) (g.F.Shelf.failed c.open_image.new.files) (g.F.Shelf.failed c.open_image.new.files) device aims (with_image run.image) c.in_ok-image.image (with_linked run.table linked) (Err c.in_err-image-2.field-0.0) (subst (λ (n : List ℕ). Passes {X = Image} (g.F.Shelf.files c.args.files.now) (g.F.Shelf.failed c.args.files.now) (g.F.Shelf.failed c.open_image.new.files) (with_image n) (Ok c.in_ok-image.image)) c.as_str.ensures.value c.in_ok-image.ensures.answer) c.in_ok-image.ensures.kept
+    (c.in_err-image-2.ensures.answer (g.F.Shelf.files c.open_image.new.files) (g.F.Shelf.failed c.open_image.new.files) linked))
+
+pub returns-in_err-script-clause-answer : goal.returns-in_err-script-clause-answer
+returns-in_err-script-clause-answer g c aims =
+    let p = err_from_is_err_and c.from_residual-in_err-script.result c.from_residual-in_err-script.ensures.1 in
+    let run = run_in c.args.run.now in
+    let device = g.X.Device.meaning c.args.device.now in
+    let use_run = use_for aims c.args.purpose in
+    let linked = behind_image use_run device run in
+    rw (p.1, p.2) (opens_behind (g.F.Shelf.files c.args.files.now) (g.F.Shelf.files c.open_image.new.files) (g.F.Shelf.failed c.args.files.now) (g.F.Shelf.failed c.open_image.new.files) (g.F.Shelf.failed c.open_script.new.files) device aims (with_image run.image) c.in_ok-image.image (with_linked run.table linked) (Err c.in_err-script.field-0.0) (subst (λ (n : List ℕ). Passes {X = Image} (g.F.Shelf.files c.args.files.now) (g.F.Shelf.failed c.args.files.now) (g.F.Shelf.failed c.open_image.new.files) (with_image n) (Ok c.in_ok-image.image)) c.as_str.ensures.value c.in_ok-image.ensures.answer) c.in_ok-image.ensures.kept
+    (opens_behind (g.F.Shelf.files c.open_image.new.files) (g.F.Shelf.files c.open_image.new.files) (g.F.Shelf.failed c.open_image.new.files) (g.F.Shelf.failed c.open_image.new.files) (g.F.Shelf.failed c.open_script.new.files) device aims (λ on. with_linked run.table on c.in_ok-image.image) c.in_ok-image-2.image linked (Err c.in_err-script.field-0.0) (c.in_ok-image-2.ensures.answer (g.F.Shelf.files c.open_image.new.files) (g.F.Shelf.failed c.open_image.new.files)) refl
+    (c.in_err-script.ensures.answer (behind_script use_run device run c.in_ok-image-2.image))))
+
+pub returns-in_err-loads-clause-answer : goal.returns-in_err-loads-clause-answer
+returns-in_err-loads-clause-answer g c aims =
+    let p = err_from_is_err_and c.from_residual-in_err-loads.result c.from_residual-in_err-loads.ensures.1 in
+    let run = run_in c.args.run.now in
+    let device = g.X.Device.meaning c.args.device.now in
+    let use_run = use_for aims c.args.purpose in
+    let linked = behind_image use_run device run in
+    rw (p.1, p.2) (opens_behind (g.F.Shelf.files c.args.files.now) (g.F.Shelf.files c.open_image.new.files) (g.F.Shelf.failed c.args.files.now) (g.F.Shelf.failed c.open_image.new.files) (g.F.Shelf.failed c.open_programs.new.files) device aims (with_image run.image) c.in_ok-image.image (with_linked run.table linked) (Err c.in_err-loads.field-0.0) (subst (λ (n : List ℕ). Passes {X = Image} (g.F.Shelf.files c.args.files.now) (g.F.Shelf.failed c.args.files.now) (g.F.Shelf.failed c.open_image.new.files) (with_image n) (Ok c.in_ok-image.image)) c.as_str.ensures.value c.in_ok-image.ensures.answer) c.in_ok-image.ensures.kept
+    (opens_behind (g.F.Shelf.files c.open_image.new.files) (g.F.Shelf.files c.open_image.new.files) (g.F.Shelf.failed c.open_image.new.files) (g.F.Shelf.failed c.open_image.new.files) (g.F.Shelf.failed c.open_programs.new.files) device aims (λ on. with_linked run.table on c.in_ok-image.image) c.in_ok-image-2.image linked (Err c.in_err-loads.field-0.0) (c.in_ok-image-2.ensures.answer (g.F.Shelf.files c.open_image.new.files) (g.F.Shelf.failed c.open_image.new.files)) refl
+    (opens_behind (g.F.Shelf.files c.open_image.new.files) (g.F.Shelf.files c.open_script.new.files) (g.F.Shelf.failed c.open_image.new.files) (g.F.Shelf.failed c.open_script.new.files) (g.F.Shelf.failed c.open_programs.new.files) device aims (with_script run.script) c.in_ok-script.script (behind_script use_run device run c.in_ok-image-2.image) (Err c.in_err-loads.field-0.0) c.in_ok-script.ensures.answer c.in_ok-script.ensures.kept
+    (subst (λ (es : List PioEntry). LoadsAll (g.F.Shelf.files c.open_script.new.files) (g.F.Shelf.failed c.open_script.new.files) (g.F.Shelf.failed c.open_programs.new.files) (map entry_in es) (Err c.in_err-loads.field-0.0)) c.deref.ensures.value c.in_err-loads.ensures.answer (use_run (setting_of c.in_ok-script.script device run.cycles) c.in_ok-image-2.image)))))
+
+pub returns-clause-answer : goal.returns-clause-answer
+returns-clause-answer g c aims =
+    let run = run_in c.args.run.now in
+    let device = g.X.Device.meaning c.args.device.now in
+    let use_run = use_for aims c.args.purpose in
+    let linked = behind_image use_run device run in
+    let booted = λ (ls : List PioLoad). Boots c.args.purpose (start device c.in_ok-image-2.image ls) c.in_ok-script.script run.cycles c.boot.result in
+    opens_behind (g.F.Shelf.files c.args.files.now) (g.F.Shelf.files c.open_image.new.files) (g.F.Shelf.failed c.args.files.now) (g.F.Shelf.failed c.open_image.new.files) (g.F.Shelf.failed c.open_programs.new.files) device aims (with_image run.image) c.in_ok-image.image (with_linked run.table linked) c.boot.result (subst (λ (n : List ℕ). Passes {X = Image} (g.F.Shelf.files c.args.files.now) (g.F.Shelf.failed c.args.files.now) (g.F.Shelf.failed c.open_image.new.files) (with_image n) (Ok c.in_ok-image.image)) c.as_str.ensures.value c.in_ok-image.ensures.answer) c.in_ok-image.ensures.kept
+    (opens_behind (g.F.Shelf.files c.open_image.new.files) (g.F.Shelf.files c.open_image.new.files) (g.F.Shelf.failed c.open_image.new.files) (g.F.Shelf.failed c.open_image.new.files) (g.F.Shelf.failed c.open_programs.new.files) device aims (λ on. with_linked run.table on c.in_ok-image.image) c.in_ok-image-2.image linked c.boot.result (c.in_ok-image-2.ensures.answer (g.F.Shelf.files c.open_image.new.files) (g.F.Shelf.failed c.open_image.new.files)) refl
+    (opens_behind (g.F.Shelf.files c.open_image.new.files) (g.F.Shelf.files c.open_script.new.files) (g.F.Shelf.failed c.open_image.new.files) (g.F.Shelf.failed c.open_script.new.files) (g.F.Shelf.failed c.open_programs.new.files) device aims (with_script run.script) c.in_ok-script.script (behind_script use_run device run c.in_ok-image-2.image) c.boot.result c.in_ok-script.ensures.answer c.in_ok-script.ensures.kept
+    (programs_open aims c.args.purpose (g.F.Shelf.files c.open_script.new.files) (g.F.Shelf.failed c.open_script.new.files) (g.F.Shelf.failed c.open_programs.new.files) device run c.in_ok-image-2.image c.in_ok-script.script c.in_ok-loads.loads c.boot.result (subst (λ (es : List PioEntry). LoadsAll (g.F.Shelf.files c.open_script.new.files) (g.F.Shelf.failed c.open_script.new.files) (g.F.Shelf.failed c.open_programs.new.files) (map entry_in es) (Ok c.in_ok-loads.loads)) c.deref.ensures.value c.in_ok-loads.ensures.answer) (subst booted c.deref-2.ensures.value c.boot.ensures))))

@@ -1,22 +1,23 @@
-use Rattle.std.proofs.Common.{List, ℕ, Ok, Err, refl, subst}
+use Rattle.std.proofs.Common.{List, ℕ, Err, refl, subst}
+use Rattle.std.proofs.lemmas.Result.{err_from_is_err_and}
 use Rattle.command_words.specs.Refusals.Refusal.{BadScript}
 use Rattle.pin_script.specs.Script.{script_of}
+use Rattle.rp_ports.specs.Shelf.{Answers}
+use Rattle.rp_ports.specs.declared.shelf.Loaded.TheVariants.{Done}
 use Rattle.pico_top.specs.Dialogue.{judge, script_limit}
 use Rattle.pico_top.specs.Opening.{LoadsAs, Judges}
-use Rattle.pico_top.proofs.Opens.{judge_passes, file_passes}
+use Rattle.pico_top.proofs.Walking.{judge_passes, file_passes}
 use Rattle.pico_top.proofs.open.open_script.Goals as goal
 
 pub returns-in-None-clause-answer : goal.returns-in-None-clause-answer
 returns-in-None-clause-answer g c = rw c.in-None.is (judge_passes _ _ _ BadScript _ (λ fault. refl) c.script_in.ensures)
 
-pub returns-in-Ok-clause-answer : goal.returns-in-Ok-clause-answer
-returns-in-Ok-clause-answer g c =
-    let named = λ (n : List ℕ). LoadsAs (g.F.Shelf.files c.args.files.now) (g.F.Shelf.failed c.args.files.now) (g.F.Shelf.failed c.load.new.files) n script_limit (Ok c.in-Ok.bytes) in
-    let loaded = subst named c.as_str.ensures.value c.in-Ok.ensures.answer in
-    let judged = subst (λ (bs : List ℕ). Judges (script_of bs) BadScript c.script_in-in-Ok.result) c.deref.ensures.value c.script_in-in-Ok.ensures in
-    rw c.in-Some.is (file_passes _ _ _ _ script_limit c.in-Ok.bytes.items script_of BadScript _ (λ fault. refl) loaded.0 loaded.1 judged)
+pub returns-in_err-bytes-in-Some-clause-answer : goal.returns-in_err-bytes-in-Some-clause-answer
+returns-in_err-bytes-in-Some-clause-answer g c =
+    let p = err_from_is_err_and c.from_residual.result c.from_residual.ensures.1 in
+    rw (p.1, p.2, c.in-Some.is) (λ next. subst (λ (n : List ℕ). LoadsAs (g.F.Shelf.files c.args.files.now) (g.F.Shelf.failed c.args.files.now) (g.F.Shelf.failed c.load.new.files) n script_limit (Err c.in_err-bytes-in-Some.field-0.0)) c.as_str.ensures.value c.in_err-bytes-in-Some.ensures.answer (λ bytes. judge (script_of bytes) BadScript next))
 
-pub returns-in-Err-clause-answer : goal.returns-in-Err-clause-answer
-returns-in-Err-clause-answer g c =
-    let named = λ (n : List ℕ). LoadsAs (g.F.Shelf.files c.args.files.now) (g.F.Shelf.failed c.args.files.now) (g.F.Shelf.failed c.load.new.files) n script_limit (Err c.in-Err.unopened) in
-    rw c.in-Some.is (λ next. subst named c.as_str.ensures.value c.in-Err.ensures.answer (λ bytes. judge (script_of bytes) BadScript next))
+pub returns-in_ok-bytes-in-Some-clause-answer : goal.returns-in_ok-bytes-in-Some-clause-answer
+returns-in_ok-bytes-in-Some-clause-answer g c =
+    let judged = subst (λ (bs : List ℕ). Judges (script_of bs) BadScript c.script_in-in-Some.result) c.deref.ensures.value c.script_in-in-Some.ensures in
+    rw c.in-Some.is (file_passes _ _ _ _ script_limit c.in_ok-bytes-in-Some.bytes.items script_of BadScript _ (λ fault. refl) (subst (λ (n : List ℕ). Answers (g.F.Shelf.files c.args.files.now) n script_limit Done c.in_ok-bytes-in-Some.bytes.items) c.as_str.ensures.value c.in_ok-bytes-in-Some.ensures.answer.0) c.in_ok-bytes-in-Some.ensures.answer.1 judged)

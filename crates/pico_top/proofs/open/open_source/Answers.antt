@@ -1,8 +1,11 @@
+use Rattle.std.proofs.lemmas.Result.{err_from_is_err_and}
 use Rattle.pio_asm.specs.Listing.{plans_of, listing}
 use Rattle.command_words.specs.Refusals.Refusal.{BadSource}
 use Rattle.pico_top.specs.Dialogue.{judge, plain}
 use Rattle.pico_top.specs.Dialogue.Dialogue.{Say}
 use Rattle.pico_top.proofs.open.open_source.Goals as goal
 
-pub returns-clause-answer : goal.returns-clause-answer
-returns-clause-answer g c aims = c.in-Err.ensures.answer (λ bytes. judge (plans_of bytes) BadSource (λ plans. Say plans (λ programs. plain (listing programs))))
+pub returns-in_err-bytes-clause-answer : goal.returns-in_err-bytes-clause-answer
+returns-in_err-bytes-clause-answer g c =
+    let p = err_from_is_err_and c.from_residual.result c.from_residual.ensures.1 in
+    rw (p.1, p.2) (λ aims. c.in_err-bytes.ensures.answer (λ bytes. judge (plans_of bytes) BadSource (λ plans. Say plans (λ programs. plain (listing programs)))))

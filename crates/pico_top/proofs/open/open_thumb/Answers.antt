@@ -1,8 +1,11 @@
+use Rattle.std.proofs.lemmas.Result.{err_from_is_err_and}
 use Rattle.thumb_asm.specs.Source.{image_of_source}
 use Rattle.uf2_image.specs.Writing.{file_of}
 use Rattle.command_words.specs.Refusals.Refusal.{BadThumb}
 use Rattle.pico_top.specs.Dialogue.{judge, plain, say}
 use Rattle.pico_top.proofs.open.open_thumb.Goals as goal
 
-pub returns-clause-answer : goal.returns-clause-answer
-returns-clause-answer g c aims = c.in-Err.ensures.answer (λ bytes. judge (image_of_source bytes) BadThumb (λ image. say (plain (file_of image))))
+pub returns-in_err-bytes-clause-answer : goal.returns-in_err-bytes-clause-answer
+returns-in_err-bytes-clause-answer g c =
+    let p = err_from_is_err_and c.from_residual.result c.from_residual.ensures.1 in
+    rw (p.1, p.2) (λ aims. c.in_err-bytes.ensures.answer (λ bytes. judge (image_of_source bytes) BadThumb (λ image. say (plain (file_of image)))))

@@ -1,5 +1,5 @@
 use Rattle.command_words.specs.Read.{entry_in}
-use Rattle.pico_top.proofs.ProgramWalks.{source_adds, source_out}
+use Rattle.pico_top.proofs.Walking.{source_adds, source_out}
 use Rattle.pico_top.proofs.programs.add_first.Goals as goal
 
 pub returns-in-Some : goal.returns-in-Some

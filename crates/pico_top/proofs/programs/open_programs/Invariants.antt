@@ -1,6 +1,6 @@
 use Rattle.std.proofs.Common.{map, drop}
 use Rattle.command_words.specs.Read.{entry_in}
-use Rattle.pico_top.proofs.ProgramWalks.{Along}
+use Rattle.pico_top.proofs.Walking.{Along}
 use Rattle.pico_top.proofs.programs.open_programs.Given as goal
 
 -- the entries so far have their programs, and no load has failed

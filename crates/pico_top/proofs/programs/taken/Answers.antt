@@ -1,4 +1,4 @@
-use Rattle.pico_top.proofs.ProgramWalks.{room_at}
+use Rattle.pico_top.proofs.Walking.{room_at}
 use Rattle.pico_top.proofs.programs.taken.Goals as goal
 
 pub with_addresses-used-requires : goal.with_addresses-used-requires

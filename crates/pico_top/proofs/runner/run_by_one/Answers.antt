@@ -1,8 +1,12 @@
-use Rattle.pico_top.proofs.Cycles.{counted_for, uncounted_for}
+use Rattle.window_runner.proofs.Reaching.{is_on_run, reached_first}
+use Rattle.pico_top.proofs.Telling.{ran_for, uncounted_for}
 use Rattle.pico_top.proofs.runner.run_by_one.Goals as goal
 
-pub returns-then-stats-clause-ran : goal.returns-then-stats-clause-ran
-returns-then-stats-clause-ran g c = counted_for _ _ _ _ c.run_counted.ensures.ran
+pub returns-in_default-clause-on_run : goal.returns-in_default-clause-on_run
+returns-in_default-clause-on_run g c = is_on_run _ _ _ (reached_first _ _ c.requires.number)
 
-pub returns-else-stats-clause-ran : goal.returns-else-stats-clause-ran
-returns-else-stats-clause-ran g c = uncounted_for _ _ _ _ c.if-stats.false c.run_uncounted.ensures.why
+pub returns-in-Ok-run_alone-clause-ran : goal.returns-in-Ok-run_alone-clause-ran
+returns-in-Ok-run_alone-clause-ran g c = ran_for _ _ _ c.in-Ok-run_alone.ran c.in-Ok-run_alone.ensures.ran
+
+pub returns-in-Ok-run_cycles-clause-ran : goal.returns-in-Ok-run_cycles-clause-ran
+returns-in-Ok-run_cycles-clause-ran g c = uncounted_for _ _ _ _ c.if-stats.false c.in-Ok-run_cycles.ensures.why

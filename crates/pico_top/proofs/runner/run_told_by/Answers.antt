@@ -1,5 +1,5 @@
 use Rattle.std.proofs.Common.{◌∙◌, ap}
-use Rattle.pico_top.proofs.Cycles.{part_told, sends_answered, heard_answered, same_answered, memory_answered, counted_for}
+use Rattle.pico_top.proofs.Telling.{part_told, sends_answered, heard_answered, same_answered, memory_answered, counted_for}
 use Rattle.pico_top.proofs.runner.run_told_by.Goals as goal
 
 pub returns-clause-told : goal.returns-clause-told

@@ -1,6 +1,6 @@
 use Rattle.std.proofs.Common.{rules, ◌≡◌, Err, refl}
 use Rattle.window_runner.specs.declared.windows.RunFault.TheVariants.{Sink, Memory}
-use Rattle.pico_top.proofs.Finishing.{run_ended, run_cut, run_none}
+use Rattle.pico_top.proofs.Telling.{run_ended, run_cut, run_none}
 use Rattle.pico_top.proofs.tell.finish.Goals as goal
 
 pub returns-in-Ok : goal.returns-in-Ok

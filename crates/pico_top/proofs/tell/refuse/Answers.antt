@@ -1,5 +1,5 @@
 use Rattle.std.proofs.Common.{◌∙◌}
-use Rattle.pico_top.proofs.Opens.{refuses_by}
+use Rattle.pico_top.proofs.Walking.{refuses_by}
 use Rattle.pico_top.proofs.tell.refuse.Goals as goal
 
 pub returns-in-Ok : goal.returns-in-Ok

@@ -1,8 +1,8 @@
 use Rattle.std.proofs.Common.{◌≡◌, drop}
 use Rattle.board_parts.specs.Hearing.{aim_of, seen}
 use Rattle.pico_top.specs.RunText.{probe_lines}
-use Rattle.pico_top.proofs.Pieces.{SentBefore}
-use Rattle.pico_top.proofs.probes.send_probes.Given as goal
+use Rattle.pico_top.proofs.Telling.{SentBefore}
+use Rattle.pico_top.proofs.send.send_probes.Given as goal
 
 -- the lines of the probes from this one on are left
 abbrev pub invariant-loop-probe : goal.invariant-loop-probe
