@@ -1,10 +1,11 @@
 //! What is refused: the causes, and the line and the status of each.
 
-ghost use Rattle.std.specs.Prelude.{◌≡◌, ◌++◌, codes, IfOk};
+ghost use Rattle.std.specs.Prelude.{◌≡◌, ◌++◌, codes, decimal, IfOk};
 ghost use Rattle.command_words.specs.Refusals.{then_address, line_of, status_of, meant};
 ghost use Rattle.command_words.specs.Refusals.Refusal.{BadImage, BadScript, BadSource, BadThumb, BadStart};
 
 use arrayvec::ArrayVec;
+use itoa::Buffer;
 use pin_script::ScriptFault;
 use pio_parse::PioFault;
 use startup_blocks::StartFault;
@@ -155,6 +156,19 @@ fn start_line(alloc: Global, fault: &StartFault) -> Result<Vec<u8>, AllocError>
     }
 }
 
+/// The line of a file that is longer than its limit.
+fn large_line(alloc: Global, name: &str, length: u64) -> Result<Vec<u8>, AllocError>
+    ensures { IfOk result (λ line. line.items
+        ≡ codes "error large " ++ name.now ++ codes " " ++ decimal length ++ codes "\n") }
+{
+    let mut line = Vec::from_slice(alloc, b"error large ")?;
+    line.extend_from_slice(name.as_bytes())?;
+    line.extend_from_slice(b" ")?;
+    line.extend_from_slice(Buffer::new().format(length).as_bytes())?;
+    line.extend_from_slice(b"\n")?;
+    Ok(line)
+}
+
 /// The line of a refusal.
 #[tactic(auto, unfolding(crate::specs::Refusals::line_of))]
 pub fn refusal_line(alloc: Global, refusal: &Refusal) -> Result<Vec<u8>, AllocError>
@@ -163,9 +177,7 @@ pub fn refusal_line(alloc: Global, refusal: &Refusal) -> Result<Vec<u8>, AllocEr
     match refusal {
         Refusal::Words => error(alloc, "words"),
         Refusal::File(name) => error(alloc, &format!(in alloc; "file {name}")?),
-        Refusal::Large(name, length) => {
-            error(alloc, &format!(in alloc; "large {name} {length}")?)
-        }
+        Refusal::Large(name, length) => large_line(alloc, name.as_str(), *length),
         Refusal::Image(fault) => image_line(alloc, fault),
         Refusal::Script(fault) => script_line(alloc, fault),
         Refusal::Source(fault) => pio_line(alloc, fault),

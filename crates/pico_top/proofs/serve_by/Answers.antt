@@ -1,6 +1,6 @@
 use Rattle.std.proofs.Common.{map, refl}
 use Rattle.pico_top.specs.Call.{board}
-use Rattle.pico_top.proofs.Telling.{beside_some}
+use Rattle.pico_top.proofs.Telling.{beside_some, out_converses}
 use Rattle.pico_top.proofs.serve_by.Goals as goal
 
 pub returns-in-Ok : goal.returns-in-Ok
@@ -10,3 +10,6 @@ returns-in-Ok g c =
     let own = g.X.Device.meaning c.args.device in
     c.serve_with_by-in-Ok.ensures (board own probes parts)
     (beside_some c.wirings.result.now _ parts _ own c.in_default.len_at_least c.wirings.ensures c.in-Ok.ensures.device) refl
+
+pub returns-in-Err : goal.returns-in-Err
+returns-in-Err g c = out_converses _ _ _ _ _ refl refl refl refl c.refuse.ensures refl

@@ -1,5 +1,8 @@
-use Rattle.std.proofs.Common.{[], refl, ap, ◌∙◌}
+use Rattle.std.proofs.Common.{◌≡◌, [], refl, ap, ◌∙◌}
 use Rattle.board_parts.specs.Aiming.{aims_of}
+use Rattle.board_parts.specs.Hearing.{aim_of, seen}
+use Rattle.command_words.specs.Read.{command_in}
+use Rattle.pico_top.specs.Dialogue.{aims_in}
 use Rattle.pico_top.proofs.Telling.{out_converses, opened_converses, closed_converses, tells_text}
 use Rattle.pico_top.proofs.serve_with.Goals as goal
 
@@ -14,17 +17,17 @@ returns-in_default g c b same probes = out_converses _ _ _ _ _ refl refl refl re
 
 pub returns-in-Machine : goal.returns-in-Machine
 returns-in-Machine g c b same probes =
-    let aims = rw c.deref_mut.ensures.value (c.in-Ok.ensures ∙ ap (λ ps. aims_of ps c.targets.result.now) probes ∙ ap (aims_of b.probes) c.targets.ensures) in
+    let aims : seen c.deref_mut.result.now (λ a. aim_of a.index a.pin (goal.Probe-dyn g (a.probe.vtable, a.probe.value)) a.probe.value) ≡ aims_in b.probes (command_in c.args.reading.now) = rw c.deref_mut.ensures.value (c.in-Ok.ensures ∙ ap (λ ps. aims_of ps c.targets.result.now) probes ∙ ap (aims_of b.probes) c.targets.ensures) in
     opened_converses b _ _ _ _ _ _ _ same aims c.in-Ok-open_reading.ensures.answer c.in-Ok-open_reading.ensures.kept (rw c.in-Machine.is (c.run_into.ensures _ _))
 
 pub returns-in-Session : goal.returns-in-Session
 returns-in-Session g c b same probes =
-    let aims = rw c.deref_mut.ensures.value (c.in-Ok.ensures ∙ ap (λ ps. aims_of ps c.targets.result.now) probes ∙ ap (aims_of b.probes) c.targets.ensures) in
+    let aims : seen c.deref_mut.result.now (λ a. aim_of a.index a.pin (goal.Probe-dyn g (a.probe.vtable, a.probe.value)) a.probe.value) ≡ aims_in b.probes (command_in c.args.reading.now) = rw c.deref_mut.ensures.value (c.in-Ok.ensures ∙ ap (λ ps. aims_of ps c.targets.result.now) probes ∙ ap (aims_of b.probes) c.targets.ensures) in
     opened_converses b _ _ _ _ _ _ _ same aims c.in-Ok-open_reading.ensures.answer c.in-Ok-open_reading.ensures.kept (rw c.in-Session.is c.talk_into.ensures)
 
-pub returns-in-Text : goal.returns-in-Text
-returns-in-Text g c b same probes =
-    let aims = rw c.deref_mut.ensures.value (c.in-Ok.ensures ∙ ap (λ ps. aims_of ps c.targets.result.now) probes ∙ ap (aims_of b.probes) c.targets.ensures) in
+pub returns-in-Ok-open_reading : goal.returns-in-Ok-open_reading
+returns-in-Ok-open_reading g c b same probes =
+    let aims : seen c.deref_mut.result.now (λ a. aim_of a.index a.pin (goal.Probe-dyn g (a.probe.vtable, a.probe.value)) a.probe.value) ≡ aims_in b.probes (command_in c.args.reading.now) = rw c.deref_mut.ensures.value (c.in-Ok.ensures ∙ ap (λ ps. aims_of ps c.targets.result.now) probes ∙ ap (aims_of b.probes) c.targets.ensures) in
     opened_converses b _ _ _ _ _ _ _ same aims c.in-Ok-open_reading.ensures.answer c.in-Ok-open_reading.ensures.kept (rw c.in-Text.is (tells_text _ _ _ _ _ _ _ _ _ (rw c.deref.ensures.value at c.text_into.ensures)))
 
 pub returns : goal.returns
