@@ -224,9 +224,9 @@ no_counts : (windows cycles : ℕ) (w : Setting) (s : State) → counts_text fal
 unfolding counts_text
 no_counts windows cycles w s = refl
 
-pub uncounted_for : (stats : Bool) (w : Setting) (s : State) (r : Result Ran RunFault) → stats ≡ false → IfOk r (λ ran. stop w (last_state w s) ≡ Some ran.why) → IfOk r (IsRanFor stats w s)
-uncounted_for stats w s (Ok ran) none stops = record { why = stops; counts = rw none (no_counts ran.windows ran.cycles w s) }
-uncounted_for stats w s (Err fault) none stops = tt
+pub uncounted_for : (stats : Bool) (w : Setting) (s : State) (why : Why) → stats ≡ false → stop w (last_state w s) ≡ Some why
+    → IsRanFor stats w s (record { why = why; windows = 0; cycles = 0 })
+uncounted_for stats w s why none stops = record { why = stops; counts = rw none (no_counts 0 0 w s) }
 
 -- the lines up to an event at which the sink failed are a part of all lines
 lines_cut : (first others : List Event) (event : Event) → (event_lines first ++ event_text event) ++ event_lines others ≡ event_lines (first ++ event ∷ others)

@@ -78,7 +78,11 @@ fn count_of(reading: &Reading) -> u8
 fn pins_of<P: Part>(alloc: Global, parts: &[P]) -> Result<Vec<usize>, AllocError>
     ensures { IfOk result (λ pins. pins.items ≡ counts_of (map P.meaning parts.now)) }
 {
-    parts.iter().map(|part| part.pins()).collect(alloc)
+    let mut pins = Vec::new(alloc);
+    for part in parts {
+        pins.push(part.pins())?;
+    }
+    Ok(pins)
 }
 
 /// Aims the probes that a reading names, loads its files, and writes the text, where a run has this device.

@@ -26,8 +26,8 @@ returns-then-count-eq0 g c =
     let long = c.len.ensures ∙ (c.args.probes.ok.0 ∙ sym (length-map c.args.probes.items _)) in
     read_converses _ _ _ _ _ _ _ _ long pinned c.in-Ok-read_words.ensures c.serve.ensures
 
-pub returns-else-count-eq0 : goal.returns-else-count-eq0
-returns-else-count-eq0 g c =
+pub returns-in-Ok-read_words : goal.returns-in-Ok-read_words
+returns-in-Ok-read_words g c =
     let pinned = c.deref-2.ensures.value ∙ (c.in-Ok.ensures ∙ ap (λ ps. counts_of (map g.P.Part.meaning ps)) c.deref.ensures.value) in
     let long = c.len.ensures ∙ (c.args.probes.ok.0 ∙ sym (length-map c.args.probes.items _)) in
     read_converses _ _ _ _ _ _ _ _ long pinned c.in-Ok-read_words.ensures c.serve_by.ensures

@@ -22,13 +22,11 @@ returns-in-Machine g c b same probes =
 
 pub returns-in-Session : goal.returns-in-Session
 returns-in-Session g c b same probes =
-    let aims : seen c.deref_mut.result.now (λ a. aim_of a.index a.pin (goal.Probe-dyn g (a.probe.vtable, a.probe.value)) a.probe.value) ≡ aims_in b.probes (command_in c.args.reading.now) = rw c.deref_mut.ensures.value (c.in-Ok.ensures ∙ ap (λ ps. aims_of ps c.targets.result.now) probes ∙ ap (aims_of b.probes) c.targets.ensures) in
-    opened_converses b _ _ _ _ _ _ _ same aims c.in-Ok-open_reading.ensures.answer c.in-Ok-open_reading.ensures.kept (rw c.in-Session.is c.talk_into.ensures)
+    opened_converses b _ _ _ _ _ _ _ same refl c.in-Ok-open_reading.ensures.answer c.in-Ok-open_reading.ensures.kept (rw c.in-Session.is c.talk_into.ensures)
 
 pub returns-in-Ok-open_reading : goal.returns-in-Ok-open_reading
 returns-in-Ok-open_reading g c b same probes =
-    let aims : seen c.deref_mut.result.now (λ a. aim_of a.index a.pin (goal.Probe-dyn g (a.probe.vtable, a.probe.value)) a.probe.value) ≡ aims_in b.probes (command_in c.args.reading.now) = rw c.deref_mut.ensures.value (c.in-Ok.ensures ∙ ap (λ ps. aims_of ps c.targets.result.now) probes ∙ ap (aims_of b.probes) c.targets.ensures) in
-    opened_converses b _ _ _ _ _ _ _ same aims c.in-Ok-open_reading.ensures.answer c.in-Ok-open_reading.ensures.kept (rw c.in-Text.is (tells_text _ _ _ _ _ _ _ _ _ (rw c.deref.ensures.value at c.text_into.ensures)))
+    opened_converses b _ _ _ _ _ _ _ same refl c.in-Ok-open_reading.ensures.answer c.in-Ok-open_reading.ensures.kept (rw c.in-Text.is (tells_text _ _ _ _ _ _ _ _ _ (rw c.deref.ensures.value at c.text_into.ensures)))
 
 pub returns : goal.returns
 returns g c b same probes = closed_converses b _ _ _ _ _ _ same c.in-Err.ensures.answer c.in-Err.ensures.kept refl refl c.refuse-in-Err.ensures refl

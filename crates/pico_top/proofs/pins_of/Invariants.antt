@@ -1,0 +1,7 @@
+use Rattle.std.proofs.Common.{◌≡◌, map, take}
+use Rattle.board_parts.specs.Wiring.{counts_of}
+use Rattle.pico_top.proofs.pins_of.Given as goal
+
+-- the numbers of the first parts
+abbrev pub invariant-loop-part : goal.invariant-loop-part
+invariant-loop-part g l = l.pins.items ≡ counts_of (map g.P.Part.meaning (take l.part-index l.parts))
