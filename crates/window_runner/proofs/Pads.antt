@@ -56,7 +56,7 @@ any_same offset write b = keeps (λ c. current c ≡ current b) bank.bank_rows o
 effect_same : (offset : ℕ) (write : Option ℕ) (b : Bank) → current (bank.effect_of offset write b) ≡ current b
 effect_same offset write b =
     either current (bank.is_word offset) _ _ b
-    (either current (bank.is_held b offset) b _ b refl (any_same offset write b)) refl
+    (either current (bank.is_held offset b) b _ b refl (any_same offset write b)) refl
 
 -- ---- the peripherals
 
