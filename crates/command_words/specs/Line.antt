@@ -7,9 +7,7 @@ use Rattle.std.specs.Str.{bytes_eq}
 use Rattle.clap.specs.Walk.{Rule, Text, Row as Found, first_of}
 use Rattle.clap.specs.declared.builder.action.ArgAction.TheVariants.{SetTrue}
 use Rattle.clap.specs.Simple.{App, new_app, new_rule, on_top, with_rule, with_subcommand, subcommand_of}
-use Rattle.command_words.specs.declared.rows.Way.{Way}
-use Rattle.command_words.specs.declared.rows.Way.TheVariants.{Needed, Valued, Alone}
-use Rattle.command_words.specs.Table.{Row, commands, options, dashed}
+use Rattle.command_words.specs.Table.{Way, Needed, Valued, Alone, Row, commands, options, dashed}
 use Rattle.std.specs.Option.{option_and_then, option_map}
 use Rattle.clap.specs.Kinds.{Kinds}
 use Rattle.clap.specs.Faults.{fault_of}

@@ -5,9 +5,7 @@ use Rattle.std.specs.Option.{option_and_then}
 use Rattle.std.specs.List.{list_any}
 use Rattle.std.specs.Str.{bytes_eq}
 use Rattle.command_words.specs.Numbers.{begins_with, number_within}
-use Rattle.command_words.specs.declared.rows.Way.{Way}
-use Rattle.command_words.specs.declared.rows.Way.TheVariants.{Alone}
-use Rattle.command_words.specs.Table.{Row, commands, options, dashed, stands_alone}
+use Rattle.command_words.specs.Table.{Way, Alone, Row, commands, options, dashed, stands_alone}
 
 abbrev pub is_command : List ℕ → Bool
 is_command word = list_any (bytes_eq word) commands

@@ -11,9 +11,6 @@ use Rattle.thumb_asm.specs.declared.fault.ThumbFault.{ThumbFault}
 use Rattle.thumb_asm.specs.declared.fault.ThumbFault.TheVariants as thumb
 use Rattle.startup_blocks.specs.declared.fault.StartFault.{StartFault}
 use Rattle.startup_blocks.specs.declared.fault.StartFault.TheVariants as start
-use Rattle.std.specs.String.{string_bytes}
-use Rattle.command_words.specs.declared.refusal.Refusal.{Refusal as Written}
-use Rattle.command_words.specs.declared.refusal.Refusal.TheVariants.{Words, File, Large, Image, Script, Source, Thumb, Start}
 
 -- what is refused: the words, a file that could not be loaded, a file of this length, which is above its limit, an image, a
 -- script, a PIO source and a Thumb source by their first fault (a program that finds no room is a fault of its source), and an image
@@ -27,17 +24,6 @@ pub data Refusal : Type 0 where
   BadSource : (fault : PioFault) → Refusal
   BadThumb : (fault : ThumbFault) → Refusal
   BadStart : (fault : StartFault) → Refusal
-
--- the refusal that a value of the code stands for
-abbrev pub meant : Written → Refusal
-meant Words = BadWords
-meant (File name) = Lost (string_bytes name)
-meant (Large name long) = TooLarge (string_bytes name) long
-meant (Image fault) = BadImage fault
-meant (Script fault) = BadScript fault
-meant (Source fault) = BadSource fault
-meant (Thumb fault) = BadThumb fault
-meant (Start fault) = BadStart fault
 
 -- a number after a space, and an address
 abbrev pub then_number : ℕ → List ℕ

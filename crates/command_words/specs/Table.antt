@@ -1,10 +1,13 @@
 -- The commands of a command line and their options, row by row: the project's own. The normal form, the commands that `clap` is given
 -- and the way back from what it finds are made of these rows.
 use Rattle.std.specs.Prelude.{ℕ, Bool, true, false, List, [], ◌∷◌, ◌++◌, codes}
-use Rattle.std.specs.Borrow.{Bor}
-use Rattle.command_words.specs.declared.rows.Way.{Way}
-use Rattle.command_words.specs.declared.rows.Way.TheVariants.{Needed, Valued, Alone}
 use Prim.Native.String.{String}
+
+-- how an option is written: with a value, where it must be given or may be, or alone
+pub data Way : Type 0 where
+  Needed : Way
+  Valued : Way
+  Alone : Way
 
 -- the word behind the option is not its value
 abbrev pub stands_alone : Way → Bool
@@ -19,10 +22,6 @@ pub record Row : Type 0 where
 
 abbrev pub row : String → String → Way → Row
 row command name way = record { command = codes command; name = codes name; way = way }
-
--- a row as the code has it
-abbrev pub row_in : Bor (List ℕ) × Bor (List ℕ) × Way → Row
-row_in r = record { command = r.0.now; name = r.1.now; way = r.2 }
 
 unfoldable pub commands : List (List ℕ)
 commands = codes "run" ∷ codes "debug" ∷ codes "asm" ∷ codes "thumb" ∷ codes "dis" ∷ codes "gen" ∷ []

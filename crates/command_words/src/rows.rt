@@ -1,7 +1,8 @@
 //! The commands and their options, row by row.
 
 ghost use Rattle.std.specs.Prelude.{◌≡◌, map};
-ghost use Rattle.command_words.specs.Table.{commands, options, row_in};
+ghost use Rattle.command_words.specs.Table.{commands, options};
+ghost use Rattle.command_words.specs.Rows.{row_in};
 
 /// How an option is written.
 #[derive(Clone, Copy, Debug, PartialEq, Eq)]

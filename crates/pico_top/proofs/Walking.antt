@@ -18,7 +18,8 @@ use Rattle.pio_asm.specs.Listing.{plans_of}
 use Rattle.command_words.specs.Lists.{Entry}
 use Rattle.command_words.specs.Words.{Command, Run}
 use Rattle.command_words.specs.Words.Command.{RunImage, DebugImage, Disassemble, Assemble, AssembleThumb, Generate}
-use Rattle.command_words.specs.Refusals.{Refusal, line_of, status_of, meant}
+use Rattle.command_words.specs.Refusals.{Refusal, line_of, status_of}
+use Rattle.command_words.specs.Meant.{meant}
 use Rattle.command_words.specs.Refusals.Refusal.{BadWords, Lost, TooLarge, BadImage, BadScript, BadSource, BadThumb, BadStart}
 use Rattle.pico_top.specs.declared.open.Unopened.TheVariants.{Memory, Refusing}
 use Rattle.reverse_debug.specs.Lines.{closes}
