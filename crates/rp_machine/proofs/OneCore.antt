@@ -156,11 +156,6 @@ cause_first w b s h =
     let none = behind b h in
     rw (none.core1, none.read, none.write) (sym (alone_first (cause_of w b.outer s (wanted_by master.Core0 (core.want_of b.core0)))))
 
-pub cause_at_rest : (w : Setting) (b : Begun) (s : State) → is_first_alone (wanted b) ≡ true → core.want_of b.core0 ≡ want.Nothing
-    → cause_in w b (wanted b) s ≡ None
-unfolding cause_of
-cause_at_rest w b s h e = sym (cause_first w b s h) ∙ ap (λ x. cause_of w b.outer s (wanted_by master.Core0 x)) e
-
 pub next_first : (w : Setting) (b : Begun) (s : State) → is_first_alone (wanted b) ≡ true
     → first_next w b (wanted_by master.Core0 (core.want_of b.core0)) s ≡ next_by w b (wanted b) s
 unfolding wanted

@@ -447,23 +447,6 @@ impl Machine {
         }
     }
 
-    /// Nobody wants anything in a cycle in which this was begun, and no access lasts: nothing stops then, and the cycle is one at rest.
-    #[inline(always)]
-    fn rests<X: Device>(&self, _world: &World<'_, X>, begun: &Begun) -> bool
-        ensures cause { result ≡ true → cause_in (setting X.meaning _world.now) begun.now (wanted
-            begun.now) self.now ≡ None }
-        ensures state { result ≡ true → rest_next (setting X.meaning _world.now) begun.now self.now
-            ≡ next_by (setting X.meaning _world.now) begun.now (wanted begun.now) self.now }
-    {
-        if !is_core0_first(begun) {
-            return false;
-        }
-        if !self.is_bus_free(&begun.core0) {
-            return false;
-        }
-        true
-    }
-
     /// The cause for which the next cycle does not happen, if there is one, where this is what the lanes begin.
     #[tactic(auto, unfolding(crate::specs::Cycle::stop))]
     pub fn stop_of<X: Device>(&self, world: &World<'_, X>, lanes: &Begun) -> Option<Why>
@@ -499,25 +482,20 @@ impl Machine {
         if self.at == world.limit {
             return Some(Why::Limit);
         }
-        if self.rests(world, lanes) {
-            marks.clear();
-            steps.tick();
-            self.step_at_rest(world, lanes, marks);
-            return None;
+        let first = is_core0_first(lanes);
+        let cause = if first {
+            self.cause_first(world, lanes)
+        } else {
+            self.cause_in(world, lanes)
+        };
+        if cause.is_some() {
+            return cause;
         }
-        if is_core0_first(lanes) {
-            if let Some(why) = self.cause_first(world, lanes) {
-                return Some(why);
-            }
-            marks.clear();
-            steps.tick();
+        marks.clear();
+        steps.tick();
+        if first {
             self.step_first(world, lanes, marks);
         } else {
-            if let Some(why) = self.cause_in(world, lanes) {
-                return Some(why);
-            }
-            marks.clear();
-            steps.tick();
             self.step_for_all(world, lanes, marks);
         }
         None
