@@ -40,12 +40,19 @@ def below(crate, uses, found):
     return list(found)
 
 
+def size(crate):
+    """The bytes of a crate's sources, by which its proof is reckoned."""
+    parts = (os.walk(f"{TOP}/crates/{crate}/{part}") for part in ("src", "specs", "proofs"))
+    files = (f"{folder}/{file}" for part in parts for folder, _, names in part for file in names)
+    return sum(os.path.getsize(file) for file in files if file.endswith((".rt", ".antt")))
+
+
 def heights(order, uses):
-    """For each crate, how many stand on each other above it at most: the tallest are begun first."""
-    tall = dict.fromkeys(order, 0)
+    """For each crate, how many bytes of sources stand on each other from it upwards at most: the tallest are begun first."""
+    tall = {crate: size(crate) for crate in order}
     for crate in reversed(order):
         for library in uses[crate]:
-            tall[library] = max(tall[library], tall[crate] + 1)
+            tall[library] = max(tall[library], size(library) + tall[crate])
     return tall
 
 
