@@ -13,7 +13,7 @@ use Rattle.thumb_asm.specs.Source.{image_of_source}
 use Rattle.pin_script.specs.Script.{script_of}
 use Rattle.pin_script.specs.declared.entry.Entry.{Entry as ScriptEntry}
 use Rattle.pio_asm.specs.Assembly.{Plan, ArePrograms, IsProgram}
-use Rattle.pio_asm.specs.declared.program.Program.{Program}
+use Rattle.pio_program.specs.declared.program.Program.{Program}
 use Rattle.pio_asm.specs.Listing.{plans_of}
 use Rattle.command_words.specs.Lists.{Entry}
 use Rattle.command_words.specs.Words.{Command, Run}

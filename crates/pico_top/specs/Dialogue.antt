@@ -18,7 +18,7 @@ use Rattle.thumb_asm.specs.Source.{image_of_source}
 use Rattle.pin_script.specs.Script.{script_of}
 use Rattle.pin_script.specs.declared.entry.Entry.{Entry as ScriptEntry}
 use Rattle.pio_asm.specs.Assembly.{Plan}
-use Rattle.pio_asm.specs.declared.program.Program.{Program}
+use Rattle.pio_program.specs.declared.program.Program.{Program}
 use Rattle.pio_disasm.specs.Text.{source_text}
 use Rattle.pio_asm.specs.Listing.{plans_of, listing}
 use Rattle.outer_lane.specs.Setting.{Setting, setting_of}

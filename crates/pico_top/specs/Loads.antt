@@ -2,7 +2,7 @@
 use Rattle.std.specs.Prelude.{ℕ, ◌==◌, if◌then◌else◌, List, [], ◌∷◌, length, map, Result}
 use Rattle.pio_parse.specs.declared.fault.PioFault.{PioFault}
 use Rattle.pio_asm.specs.Assembly.{Plan}
-use Rattle.pio_asm.specs.declared.program.Program.{Program}
+use Rattle.pio_program.specs.declared.program.Program.{Program}
 use Rattle.pio_asm.specs.Placing.{placed, with_addresses}
 use Rattle.rp_machine.specs.declared.load.PioLoad.{PioLoad}
 use Rattle.command_words.specs.Lists.{Entry}

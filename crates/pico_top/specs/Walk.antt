@@ -4,7 +4,7 @@ use Rattle.rp_ports.specs.Shelf.{Files, Answers, failed_after}
 use Rattle.rp_ports.specs.declared.shelf.Loaded.{Loaded}
 use Rattle.rp_ports.specs.declared.shelf.Loaded.TheVariants.{Done, Large, Failed, Memory}
 use Rattle.pio_asm.specs.Assembly.{ArePrograms}
-use Rattle.pio_asm.specs.declared.program.Program.{Program}
+use Rattle.pio_program.specs.declared.program.Program.{Program}
 use Rattle.command_words.specs.Refusals.{Refusal}
 use Rattle.command_words.specs.Refusals.Refusal.{Lost, TooLarge}
 use Rattle.reverse_debug.specs.Lines.{closes}

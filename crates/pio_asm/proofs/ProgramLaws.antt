@@ -2,7 +2,7 @@ use Rattle.std.proofs.Common.{◌≡◌, ℕ, ◌+◌, ◌<◌, List, [], ◌∷
 use Rattle.std.specs.Prelude.{Result, Ok, Err, IsOkAnd}
 use Rattle.pio_parse.specs.declared.fault.PioFault.{PioFault}
 use Rattle.pio_parse.specs.declared.syntax.SourceProgram.{SourceProgram}
-use Rattle.pio_asm.specs.declared.program.Program.{Program}
+use Rattle.pio_program.specs.declared.program.Program.{Program}
 use Rattle.source_text.specs.Symbols.{put}
 use Rattle.pio_asm.specs.Symbols.{Names}
 use Rattle.pio_asm.specs.Assembly.{ArePrograms, IsProgram, Plan, program_plan, programs_from}

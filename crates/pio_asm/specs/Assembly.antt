@@ -10,7 +10,7 @@ use Rattle.pio_parse.specs.declared.syntax.Source.{Source}
 use Rattle.source_text.specs.Outcome.{and_then, map_ok}
 use Rattle.pio_asm.specs.declared.plan.Member.{Member}
 use Rattle.pio_asm.specs.declared.building.Building.{Building}
-use Rattle.pio_asm.specs.declared.program.Program.{Program}
+use Rattle.pio_program.specs.declared.program.Program.{Program}
 use Rattle.source_text.specs.Symbols.{found, put}
 use Rattle.pio_asm.specs.Symbols.{Names}
 use Rattle.pio_asm.specs.Plan.{config_of}

@@ -8,7 +8,7 @@ use Rattle.pio_parse.specs.Files.{EarlyFault}
 use Rattle.pio_parse.proofs.Readers.{reader}
 use Rattle.pio_parse.specs.Files.EarlyFault.{CharAt, SyntaxAt}
 use Rattle.pio_asm.specs.Assembly.{Plan, assembled}
-use Rattle.pio_asm.specs.declared.program.Program.{Program}
+use Rattle.pio_program.specs.declared.program.Program.{Program}
 use Rattle.pio_disasm.specs.Text.{hex_half}
 
 -- ---- the programs of a file

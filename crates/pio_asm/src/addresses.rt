@@ -3,8 +3,8 @@
 ghost use Rattle.std.specs.Prelude.{◌≡◌, ◌<◌, ◌≤◌, ◌↔◌, IsTrue, ℕ, None, length, IfOk, IfErr, IfSome};
 ghost use Rattle.pio_asm.specs.Addresses.{AreFree, HasNoAddress, IsFree, IsAddressFor};
 
-use crate::program::Program;
 use pio_parse::PioFault;
+use pio_program::Program;
 
 /// Whether an instruction may go to an address: those above 31 are never free.
 fn is_free(used: u32, address: usize) -> bool

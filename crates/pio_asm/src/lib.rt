@@ -20,4 +20,5 @@ mod value;
 mod word;
 
 pub use addresses::place_program;
-pub use program::{Program, assemble};
+pub use pio_program::Program;
+pub use program::assemble;

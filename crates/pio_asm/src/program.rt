@@ -12,27 +12,9 @@ use crate::line::{Context, take_line};
 use crate::modifiers::config_or_none;
 use crate::names::{add_line_names, makes_member};
 use crate::symbols::Symbols;
-use arrayvec::ArrayVec;
-use pio_parse::{Line, Name, PioFault, Source, SourceProgram};
-use pio_words::SideConfig;
+use pio_parse::{Line, PioFault, Source, SourceProgram};
+use pio_program::{Name, Program};
 use std::alloc::{AllocError, Global};
-
-/// An assembled program.
-#[derive(Drop)]
-pub struct Program {
-    /// Its name.
-    pub name: Name,
-    /// Its 1 to 32 words.
-    pub words: ArrayVec<u16, 32>,
-    /// The address of its first word, 0 to 31, if the source says one.
-    pub origin: Option<u8>,
-    /// The instruction that follows the one at `wrap`.
-    pub target: u8,
-    /// The instruction after which the program goes on at `target`.
-    pub wrap: u8,
-    /// Its side-set configuration.
-    pub side: SideConfig,
-}
 
 /// The names of lines, and how many instructions they have.
 fn read_names<'a>(

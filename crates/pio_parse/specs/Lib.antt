@@ -1,4 +1,3 @@
-pub mod Name
 pub mod Words
 pub mod Tokens
 pub mod Registers

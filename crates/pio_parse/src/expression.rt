@@ -6,8 +6,8 @@ ghost use Rattle.pio_parse.specs.descent.Expression.{expression_at, level_of, op
 ghost use Rattle.pio_parse.specs.Tokens.{name_at};
 
 use crate::cursor::{Stop, TokenCursor};
-use crate::name::Name;
 use crate::token::{Span, Token, TokenKind};
+use pio_program::Name;
 use std::alloc::{AllocError, Global};
 use std::marker::Model;
 

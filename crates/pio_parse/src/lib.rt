@@ -9,7 +9,6 @@ pub mod grammar;
 mod instruction;
 mod jump;
 pub mod laws;
-mod name;
 mod operands;
 mod parser;
 mod registers;
@@ -23,8 +22,8 @@ mod words;
 
 pub use expression::{Expression, Operator, Term};
 pub use fault::PioFault;
-pub use name::Name;
 pub use parser::parse;
+pub use pio_program::Name;
 pub use syntax::{
     BoxedInstruction, Instruction, Line, Lines, Operation, Programs, Source, SourceProgram,
     Statement,

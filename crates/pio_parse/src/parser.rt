@@ -10,11 +10,11 @@ ghost use Rattle.pio_parse.specs.descent.Gathering.{grouped, line_step, source_o
 use crate::cursor::{Stop, TokenCursor};
 use crate::expression::File;
 use crate::fault::PioFault;
-use crate::name::Name;
 use crate::scan::scan;
 use crate::statement::read_line;
 use crate::syntax::{Line, Lines, Programs, Source, SourceProgram, Statement};
 use crate::token::{Token, TokenKind};
+use pio_program::Name;
 use std::alloc::{AllocError, Global};
 
 /// The lines so far: those before the first program, the programs that are over, and the present one.

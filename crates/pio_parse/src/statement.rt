@@ -8,9 +8,9 @@ ghost use Rattle.pio_parse.specs.Tokens.{is_program};
 use crate::cursor::{Stop, TokenCursor};
 use crate::expression::{File, read_expression};
 use crate::instruction::read_instruction;
-use crate::name::Name;
 use crate::syntax::{BoxedInstruction, Line, Statement};
 use crate::token::{Directive, Keyword, TokenKind};
+use pio_program::Name;
 
 fn read_name(file: &File, cursor: &mut TokenCursor) -> Result<Name, Stop>
     ensures { Reads result cursor.new.rest.now

@@ -3,7 +3,7 @@
 ghost use Rattle.std.specs.Prelude.{◌≡◌, ◌++◌, ◌∷◌, [], IfOk, OnOk};
 
 use crate::expression::Expression;
-use crate::name::Name;
+use pio_program::Name;
 use pio_words::{
     InSource, JmpCondition, MovDestination, MovOperation, MovSource, OutDestination, SetDestination,
 };

@@ -1,6 +1,6 @@
 //! A PIO program that is loaded before the first cycle.
 
-use pio_asm::Program;
+use pio_program::Program;
 
 /// Where a program is loaded, and for which machine.
 #[derive(Drop)]

@@ -24,7 +24,7 @@ pub struct Name {
 
 impl Model for Name {
     ghost use Rattle.std.specs.Prelude.{ℕ, List};
-    ghost use Rattle.pio_parse.specs.Name.{IsWithin, bytes_of};
+    ghost use Rattle.pio_program.specs.Name.{IsWithin, bytes_of};
 
     ghost Value = { List ℕ };
 
