@@ -1,6 +1,6 @@
 -- Which channel is chosen for the next transfer (RP2040 Datasheet, 2.5.1.1, channel arbitration, and 2.5.3, data
 -- requests).
-use Rattle.std.specs.Prelude.{ℕ, zero, suc, ◌+◌, ◌-◌, ◌/◌, ◌%◌, Bool, true, false, not, ◌&&◌, ◌||◌, ◌==◌, nat_lt, nat_le, if◌then◌else◌, Option, Some, None}
+use Rattle.std.specs.Prelude.{ℕ, zero, suc, ◌+◌, ◌%◌, Bool, true, false, not, ◌&&◌, ◌||◌, ◌==◌, nat_lt, if◌then◌else◌, Option, Some, None}
 use Rattle.std.specs.List.{count_by}
 use Rattle.rp_base.specs.Word.{bit_number}
 use Rattle.dma_engine.specs.declared.channel.Channel.{Channel}
