@@ -77,14 +77,14 @@ no_conflict m v n u w hm hn =
     ap (λ x. bit_and x n) (sym hm) ∙ and_assoc n w m ∙ ap (λ x. bit_and w x) (and_comm m n) ∙ sym (and_assoc m w n)
     ∙ ap (λ x. bit_and x m) hn
 
-fits_inside : (m v n u w : ℕ) → bit_and w m ≡ v → bit_and m n ≡ n → bit_and v n ≡ u → bit_and w n ≡ u
+pub fits_inside : (m v n u w : ℕ) → bit_and w m ≡ v → bit_and m n ≡ n → bit_and v n ≡ u → bit_and w n ≡ u
 fits_inside m v n u w hm hn hu =
     ap (λ x. bit_and w x) (sym hn) ∙ sym (and_assoc n w m) ∙ ap (λ x. bit_and x n) hm ∙ hu
 
 pub eqb_of : (a b : ℕ) → a ≡ b → (a == b) ≡ true
 eqb_of a b h = search rules
 
-half_pattern : (h : Half) (w : ℕ) → half_fits h w ≡ true → bit_and w h.mask ≡ h.value
+pub half_pattern : (h : Half) (w : ℕ) → half_fits h w ≡ true → bit_and w h.mask ≡ h.value
 half_pattern h w fits = eq_of _ _ (and_left (bit_and w h.mask == h.value) _ fits)
 
 half_left_out : (h : Half) (w : ℕ) → half_fits h w ≡ true → list_any (λ o. bit_and w o.0 == o.1) h.left_out ≡ false
