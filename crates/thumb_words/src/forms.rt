@@ -134,12 +134,9 @@ fn above_byte(base: u16, n: u16, low: u8) -> u16
 }
 
 /// A list of registers on the stack that is not empty.
-#[tactic(auto, using(crate::proofs::LeftOut::left_out))]
 pub fn stack_list(base: u16, r: bool, l: u8) -> Option<Code>
     requires { base ≤ 0xBC00 }
-    ensures { result ≡ coded
-        (nat_lt (bit_number r) 2 && (nat_lt l 256
-        && not (bit_and (base + (bit_number r * 256 + (l * 1 + 0))) 0xFFFF == base || false)))
+    ensures { result ≡ coded (r || not (l == 0))
         (record { first = base + (bit_number r * 256 + (l * 1 + 0)); second = None }) }
 {
     if r || l != 0 {
@@ -150,12 +147,9 @@ pub fn stack_list(base: u16, r: bool, l: u8) -> Option<Code>
 }
 
 /// Three bits, and a list of registers that is not empty.
-#[tactic(auto, using(crate::proofs::LeftOut::left_out))]
 pub fn register_and_list(base: u16, n: u8, l: u8) -> Option<Code>
-    requires below { base ≤ 0xC800 }
-    requires bits { base % 2048 ≡ 0 }
-    ensures { result ≡ coded
-        (nat_lt n 8 && (nat_lt l 256 && not (bit_and (base + (n * 256 + (l * 1 + 0))) 0xF8FF == base || false)))
+    requires { base ≤ 0xC800 }
+    ensures { result ≡ coded (nat_lt n 8 && not (l == 0))
         (record { first = base + (n * 256 + (l * 1 + 0)); second = None }) }
 {
     if n < 8 && l != 0 {
@@ -166,12 +160,8 @@ pub fn register_and_list(base: u16, n: u8, l: u8) -> Option<Code>
 }
 
 /// A condition below 14, and eight bits.
-#[tactic(auto, using(crate::proofs::LeftOut::left_out))]
 pub fn condition(c: u8, i: u8) -> Option<Code>
-    ensures { result ≡ coded
-        (nat_lt c 16 && (nat_lt i 256
-        && not (bit_and (0xD000 + (c * 256 + (i * 1 + 0))) 0xFF00 == 0xDE00
-        || (bit_and (0xD000 + (c * 256 + (i * 1 + 0))) 0xFF00 == 0xDF00 || false))))
+    ensures { result ≡ coded (nat_lt c 14)
         (record { first = 0xD000 + (c * 256 + (i * 1 + 0)); second = None }) }
 {
     if c < 14 {
@@ -215,17 +205,14 @@ pub fn branch_with_link(s: bool, i: u32, j: u8) -> Option<Code>
 
 /// Whether a register is none but R0 to R12 and LR.
 fn is_general(register: u8) -> bool
-    ensures { result ≡ (nat_lt register 16 && not (register == 13 || (register == 15 || false))) }
+    ensures { result ≡ (nat_lt register 16 && not (register == 13 || register == 15)) }
 {
     register < 16 && register != 13 && register != 15
 }
 
 /// MSR, which has no encoding from SP and from PC.
-#[tactic(auto, using(crate::proofs::LeftOut::left_out))]
 pub fn write_special(n: u8, s: u8) -> Option<Code>
-    ensures { result ≡ coded
-        ((nat_lt n 16 && not (bit_and (0xF380 + (n * 1 + 0)) 0xFFFF == 0xF38D
-        || (bit_and (0xF380 + (n * 1 + 0)) 0xFFFF == 0xF38F || false))) && (nat_lt s 256 && true))
+    ensures { result ≡ coded (nat_lt n 16 && not (n == 13 || n == 15))
         (record { first = 0xF380 + (n * 1 + 0); second = Some (0x8800 + (s * 1 + 0)) }) }
 {
     if is_general(n) {
@@ -236,12 +223,8 @@ pub fn write_special(n: u8, s: u8) -> Option<Code>
 }
 
 /// MRS, which has no encoding to SP and to PC.
-#[tactic(auto, using(crate::proofs::LeftOut::left_out))]
 pub fn read_special(d: u8, s: u8) -> Option<Code>
-    ensures { result ≡ coded
-        (nat_lt d 16 && (nat_lt s 256
-        && not (bit_and (0x8000 + (d * 256 + (s * 1 + 0))) 0xFF00 == 0x8D00
-        || (bit_and (0x8000 + (d * 256 + (s * 1 + 0))) 0xFF00 == 0x8F00 || false))))
+    ensures { result ≡ coded (nat_lt d 16 && not (d == 13 || d == 15))
         (record { first = 0xF3EF; second = Some (0x8000 + (d * 256 + (s * 1 + 0))) }) }
 {
     if is_general(d) {
