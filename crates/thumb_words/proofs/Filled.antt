@@ -5,7 +5,8 @@ use Rattle.std.specs.Prelude.{bit_and, nat_lt}
 use Rattle.std.proofs.lemmas.Nat.{and_block, and_le_r, field_of, mul-add-lt, pow_pos, shr_high}
 use native.Mathlib.Nat.{mul-add-mod_self_right}
 use Rattle.rp_base.specs.Word.{bit_number}
-use Rattle.thumb_rows.specs.Rows.{Halfword, Piece, Fixed, Operand, half_fits, is_left_out, mask_of, operands_in, runs_of, test_of, value_of, width_of}
+use Rattle.thumb_rows.specs.Rows.{Halfword, Piece, Fixed, Operand, is_left_out, mask_of, operands_in, runs_of, test_of, value_of, width_of}
+use Rattle.thumb_rows.proofs.Laws.{Fits}
 use Rattle.thumb_rows.proofs.Apart.{and_both, and_left, and_right, eqb_of}
 use Rattle.thumb_words.specs.Codes.{all_fit, can_hold, filled, placed}
 
@@ -95,7 +96,7 @@ passes (run ∷ runs) (x ∷ xs) test fit = passes runs xs test (and_right (nat_
 -- what holds of a halfword whose operands fit
 pub record Held (h : Halfword) : Type 0 where
   pub small : filled h < 2 ^ width_of h.pattern
-  pub fits : half_fits (test_of h) (filled h) ≡ true
+  pub fits : Fits (test_of h) (filled h)
   pub operands : operands_in (runs_of h.pattern) (filled h) ≡ h.operands
 
 pub held : (h : Halfword) → can_hold h ≡ true → Held h
@@ -104,6 +105,6 @@ held h can =
     let holds = law h.pattern h.operands test can in
     record {
       small = holds.small;
-      fits = and_both _ _ (eqb_of _ _ holds.pattern) (passes (runs_of h.pattern) h.operands test can);
+      fits = record { fits = and_both _ _ (eqb_of _ _ holds.pattern) (passes (runs_of h.pattern) h.operands test can) };
       operands = holds.operands;
     }
