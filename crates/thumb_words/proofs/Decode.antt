@@ -12,7 +12,7 @@ use Rattle.thumb_rows.proofs.Apart.{and_left, and_right, eq_of, fits_inside, hal
 use Rattle.thumb_rows.proofs.Laws.{begins, leading, listed, long_law, short_law}
 use Rattle.thumb_words.specs.declared.halfwords.Code.{Code}
 use Rattle.thumb_words.specs.Codes.{can_hold, code_by, code_of, coded, filled, IsCodeOf}
-use Rattle.thumb_words.proofs.Filled.{held}
+use Rattle.thumb_words.proofs.Filled.{fitted}
 
 -- ---- the entry of an operation
 
@@ -104,7 +104,7 @@ decoded : (op : Op) (made : List ℕ → Op) (first : Halfword) (second : Option
     → IsRowOf op made (record { first = first; second = second }) → code_by first second ≡ Some code → IsCodeOf op code
 decoded op made first None code r h =
     let g = given (can_hold first) (record { first = filled first; second = None }) code h in
-    let one = held first g.fits in
+    let one = fitted first g.fits in
     subst (λ c. IsCodeOf op c) g.is (record {
       operation = λ second.
           short_law (operation_by_runs made (runs_of first.pattern) []) second one.fits r.row
@@ -114,8 +114,8 @@ decoded op made first None code r h =
     })
 decoded op made first (Some second) code r h =
     let g = given (can_hold first && can_hold second) (record { first = filled first; second = Some (filled second) }) code h in
-    let one = held first (and_left (can_hold first) _ g.fits) in
-    let two = held second (and_right (can_hold first) _ g.fits) in
+    let one = fitted first (and_left (can_hold first) _ g.fits) in
+    let two = fitted second (and_right (can_hold first) _ g.fits) in
     subst (λ c. IsCodeOf op c) g.is (record {
       operation =
           long_law (operation_by_runs made (runs_of first.pattern) (runs_of second.pattern)) one.fits two.fits r.row

@@ -3,7 +3,7 @@ use Rattle.std.proofs.Common.{◌≡◌, ℕ, ◌*◌, ◌/◌, ◌<◌, refl}
 use Rattle.std.specs.Prelude.{bit_and}
 use Rattle.thumb_rows.proofs.Laws.{high_bits, list_bits, whole}
 
-pub page : (w : ℕ) → w < 65536 → bit_and w 0xFF00 ≡ w / 256 * 256
-page w small = high_bits 8 w refl small
+pub high_byte : (w : ℕ) → w < 65536 → bit_and w 0xFF00 ≡ w / 256 * 256
+high_byte w small = high_bits 8 w refl small
 
-pub ruleset left_out = (whole, page, list_bits)
+pub ruleset left_out = (whole, high_byte, list_bits)

@@ -1,6 +1,6 @@
 //! The forms of the encodings: operands of so many bits, each in its place.
 
-ghost use Rattle.std.specs.Prelude.{◌≡◌, ◌≤◌, ◌==◌, ◌&&◌, ◌||◌, ◌+◌, ◌*◌, ◌/◌, ◌%◌, ◌<◌, bit_and, nat_lt, not, true, false, Some, None};
+ghost use Rattle.std.specs.Prelude.{◌≡◌, ◌≤◌, ◌==◌, ◌&&◌, ◌||◌, ◌+◌, ◌*◌, ◌/◌, ◌%◌, ◌<◌, nat_lt, not, true, false, Some, None};
 ghost use Rattle.rp_base.specs.Word.{bit_number};
 ghost use Rattle.thumb_words.specs.Codes.{coded};
 
