@@ -3,8 +3,10 @@
 ghost use Rattle.std.specs.Prelude.{◌≡◌, ◌∷◌, [], true, false};
 ghost use Rattle.io_bank.specs.Interrupts.{line_of};
 ghost use Rattle.io_bank.specs.Step.{is_at_rest};
+ghost use Rattle.outer_lane.specs.BroughtUp.{blocks_outs};
 ghost use Rattle.outer_lane.specs.Step.{wires_by, words_by};
 
+use crate::behind::Behind;
 use crate::drivers::Drivers;
 use crate::outer::Outer;
 use crate::outside::outside;
@@ -18,14 +20,14 @@ use pin_script::{Drives, Script};
 const PINS: u32 = 0x3fff_ffff;
 
 /// The pads are at rest and interrupt neither core, and what the UARTs put out is among what they are stepped by.
-fn do_stay(pads: &IoBank, drivers: &Drivers, uarts: [u32; 2]) -> bool
+fn do_stay(pads: &IoBank, blocks: &Behind, drivers: &Drivers) -> bool
     ensures rests { result ≡ true → is_at_rest pads.now ≡ true }
     ensures core0 { result ≡ true → line_of pads.now pads.now.core0 ≡ false }
     ensures core1 { result ≡ true → line_of pads.now pads.now.core1 ≡ false }
-    ensures uarts { result ≡ true → uarts ≡ drivers.now.uart_levels ∷ drivers.now.uart_enables
-        ∷ [] }
+    ensures uarts { result ≡ true → blocks_outs blocks.now.blocks
+        ≡ drivers.now.uart_levels ∷ drivers.now.uart_enables ∷ [] }
 {
-    pads.is_at_rest() && pads.is_silent() && drivers.has_uarts(uarts)
+    pads.is_at_rest() && pads.is_silent() && drivers.has_uarts(blocks.outs())
 }
 
 /// The device steps, by the levels of the pads at the start. One that has another number of words does nothing.
@@ -115,8 +117,7 @@ impl Outer {
         let line0 = self.pads.receive_level(0);
         let line1 = self.pads.receive_level(1);
         self.blocks.tell(line0, line1);
-        let uarts = self.blocks.outs();
-        let stays = do_stay(&self.pads, &drivers, uarts);
+        let stays = do_stay(&self.pads, &self.blocks, &drivers);
         self.stays = stays;
         self.drivers = drivers;
     }
@@ -179,33 +180,6 @@ impl Outer {
         false
     }
 
-    /// A cycle by these, in which nothing changes but the timer, the time of bits and the lines of the device; whether it was one.
-    #[inline(always)]
-    fn step_still(
-        &mut self,
-        wires: &Wires,
-        seen: &SeenOutputs,
-        drives: Drives,
-        marks: &mut Marks,
-    ) -> bool
-        requires { length marks.old < 256 }
-        ensures state { result ≡ true → self.new ≡ next_driven wires.now seen.now drives self.old }
-        ensures marks { result ≡ true → marks.new
-            ≡ marks.old ++ marked_driven wires.now seen.now drives self.old ∷ [] }
-        ensures same { result ≡ false → self.new ≡ self.old }
-        ensures no_mark { result ≡ false → marks.new ≡ marks.old }
-    {
-        if self.stays_by(wires, seen, drives) && self.blocks.go_on(seen.cycle) {
-            self.irq = wires.irq;
-            marks.push(Mark {
-                uart: [None, None],
-                pads: self.pads.pads(),
-            });
-            return true;
-        }
-        false
-    }
-
     /// A cycle by these, whatever changes.
     #[inline(never)]
     #[tactic(auto, unfolding(crate::specs::Rest::pads_after))]
@@ -220,7 +194,7 @@ impl Outer {
         Mark { uart, pads }
     }
 
-    /// A cycle by these.
+    /// A cycle by these. In most of them nothing changes but the time of the timer and of bits, and the lines of the device.
     #[inline(always)]
     fn step_all(&mut self, wires: &Wires, seen: &SeenOutputs, drives: Drives, marks: &mut Marks)
         requires { length marks.old < 256 }
@@ -228,7 +202,12 @@ impl Outer {
         ensures marks { marks.new
             ≡ marks.old ++ marked_driven wires.now seen.now drives self.old ∷ [] }
     {
-        if self.step_still(wires, seen, drives, marks) {
+        if self.stays_by(wires, seen, drives) && self.blocks.go_on(seen.cycle) {
+            self.irq = wires.irq;
+            marks.push(Mark {
+                uart: [None, None],
+                pads: self.pads.pads(),
+            });
             return;
         }
         let mark = self.step_changing(*wires, seen, drives);

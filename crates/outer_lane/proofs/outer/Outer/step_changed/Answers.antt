@@ -1,4 +1,4 @@
-use Rattle.std.proofs.Common.{◌≡◌, ℕ, ap, sym, ◌∙◌}
+use Rattle.std.proofs.Common.{◌≡◌, ℕ, ap, ◌∙◌}
 use Rattle.io_bank.specs.State.{Bank}
 use Rattle.io_bank.specs.Edges.{edges_of}
 use Rattle.io_bank.specs.Step.{with_edges, with_levels}
@@ -20,7 +20,7 @@ invariant_of-self c =
       (
         ap (λ (t : Told). t.line1) c.tell.ensures ∙ c.receive_level-line1.ensures,
         λ h. stays_again i.sio c.args.drivers i.pads pads c.tell.new.self.blocks done (stay.rests h) (stay.core0 h) (stay.core1 h)
-            (sym c.outs-uarts.ensures ∙ stay.uarts h),
+            (stay.uarts h),
       ),
     )
 

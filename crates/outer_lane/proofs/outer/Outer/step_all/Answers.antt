@@ -1,6 +1,6 @@
 use Rattle.std.proofs.Common.{◌≡◌, Bool, true, ap, ◌∙◌}
 use Rattle.outer_lane.specs.BroughtUp.{Told}
-use Rattle.outer_lane.proofs.outer.Outer.step_still.Goals as goal
+use Rattle.outer_lane.proofs.outer.Outer.step_all.Goals as goal
 
 pub invariant_of-self : goal.invariant_of-self
 invariant_of-self c =
