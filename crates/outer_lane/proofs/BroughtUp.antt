@@ -1,5 +1,5 @@
 -- The timer and the UARTs that lie behind.
-use Rattle.std.proofs.Common.{◌≡◌, ℕ, ◌+◌, ◌<◌, ◌≤◌, Bool, refl, sym, ap, ◌∙◌, arith}
+use Rattle.std.proofs.Common.{◌≡◌, ℕ, ◌+◌, ◌≤◌, Bool, refl, sym, ap, ◌∙◌, arith}
 use Rattle.rp_base.specs.declared.resettable.Resettable.{Resettable}
 use Rattle.lane_look.specs.Times.{times}
 use Rattle.lane_look.proofs.Times.{times_none, times_more, times_add}
@@ -11,10 +11,6 @@ use Rattle.outer_lane.specs.declared.blocks.Blocks.{Blocks}
 use Rattle.outer_lane.specs.BroughtUp.{Told, blocks_step, blocks_after, AreBlocksQuiet}
 use Rattle.outer_lane.specs.Quiet.{uart_cycle, uart_word, IsTimerQuiet, IsUartQuiet}
 use Rattle.outer_lane.specs.Step.{timer_after, byte_of}
-
-pub after_none : (line0 line1 : Bool) (first : ℕ) (b : Blocks) → blocks_after line0 line1 first 0 b ≡ b
-unfolding times
-after_none line0 line1 first b = refl
 
 three : (a b : Resettable TimerState) (c d e f : Resettable SerialPort) → a ≡ b → c ≡ d → e ≡ f →
     ◌≡◌ {A = Blocks} (record { timer = a; uart0 = c; uart1 = e }) (record { timer = b; uart0 = d; uart1 = f })
@@ -46,13 +42,6 @@ next_one line0 line1 first n cycle b at =
 
 abbrev pub told_by : Bool → Bool → Blocks → Told
 told_by line0 line1 b = record { blocks = b; line0 = line0; line1 = line1 }
-
--- they are brought up, then something is done to them, and they are quiet anew
-pub brought : (f : Blocks → Blocks) (line0 line1 new0 new1 : Bool) (first n next : ℕ) (b passed changed : Blocks) →
-    passed ≡ blocks_after line0 line1 first n b → changed ≡ f passed →
-    told_by new0 new1 (blocks_after new0 new1 next 0 changed) ≡ told_by new0 new1 (f (blocks_after line0 line1 first n b))
-brought f line0 line1 new0 new1 first n next b passed changed up done =
-    ap (told_by new0 new1) (after_none new0 new1 next changed ∙ done ∙ ap f up)
 
 -- for no cycle
 timer_none : (t : Resettable TimerState) (first : ℕ) → IsTimerQuiet t first 0

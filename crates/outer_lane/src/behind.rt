@@ -46,17 +46,19 @@ impl Behind {
     ghost use Rattle.outer_lane.specs.Step.{byte_of};
 
     /// Before the first cycle: each is at reset and none is held, and the lines are high.
+    #[tactic(auto, unfolding(lane_look::specs::Times::times))]
     pub(crate) fn new() -> Behind
         ensures { result ≡ told_at_start }
     {
         let blocks = Blocks::new();
+        let quiet = blocks.quiet(true, true, 0);
         Behind {
             blocks,
             line0: true,
             line1: true,
             first: 0,
             count: 0,
-            quiet: 0,
+            quiet,
         }
     }
 
@@ -77,6 +79,7 @@ impl Behind {
     }
 
     /// One cycle, quiet or not; the bytes whose frames ended.
+    #[tactic(auto, unfolding(lane_look::specs::Times::times))]
     pub(crate) fn step(&mut self, cycle: u64) -> [Option<u8>; 2]
         ensures after { self.new ≡ told_step cycle self.old }
         ensures bytes { result ≡ byte_of self.old.blocks.uart0 ∷ byte_of self.old.blocks.uart1 ∷ [] }
@@ -91,6 +94,7 @@ impl Behind {
     }
 
     /// So many cycles from one on. Whether they were quiet in these.
+    #[tactic(auto, unfolding(lane_look::specs::Times::times))]
     pub(crate) fn pass(&mut self, cycle: u64, n: u64) -> bool
         requires { cycle + n < 2 ^ 64 }
         ensures after { self.new ≡ told_after cycle n self.old }
@@ -133,6 +137,7 @@ impl Behind {
 
     /// The same, where they are others.
     #[inline(never)]
+    #[tactic(auto, unfolding(lane_look::specs::Times::times))]
     fn tell_others(&mut self, line0: bool, line1: bool)
         ensures { self.new ≡ record self.old { line0 = line0; line1 = line1 } }
     {
@@ -146,6 +151,7 @@ impl Behind {
     }
 
     /// Does what a read, or a write of this word, does to one of them.
+    #[tactic(auto, unfolding(lane_look::specs::Times::times))]
     pub(crate) fn access(&mut self, block: Block, offset: u16, write: Option<u32>)
         ensures { self.new ≡ record self.old {
           blocks = blocks_accessed block offset write self.old.blocks;
@@ -160,6 +166,7 @@ impl Behind {
     }
 
     /// Takes the bits of RESETS.
+    #[tactic(auto, unfolding(lane_look::specs::Times::times))]
     pub(crate) fn reset(&mut self, bits: u32)
         ensures { self.new ≡ record self.old { blocks = blocks_reset bits self.old.blocks } }
     {

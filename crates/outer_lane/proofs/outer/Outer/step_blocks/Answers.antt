@@ -1,4 +1,4 @@
-use Rattle.std.proofs.Common.{◌≡◌, Bool, true, ap, ◌∙◌}
+use Rattle.std.proofs.Common.{ap, ◌∙◌}
 use Rattle.outer_lane.specs.BroughtUp.{Told}
 use Rattle.outer_lane.proofs.outer.Outer.step_blocks.Goals as goal
 

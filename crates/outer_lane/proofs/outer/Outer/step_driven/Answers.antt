@@ -1,4 +1,4 @@
-use Rattle.std.proofs.Common.{◌≡◌, sym, ap, ◌∙◌}
+use Rattle.std.proofs.Common.{sym, ap, ◌∙◌}
 use Rattle.io_bank.specs.State.{Bank}
 use Rattle.outer_lane.specs.contracts.outer.Outer.{the_view}
 use Rattle.outer_lane.proofs.Rest.{levels_left, same_levels}
