@@ -14,7 +14,6 @@ use Rattle.io_bank.specs.State.{Bank, no_edges}
 use Rattle.io_bank.specs.Levels.{peripheral, function_of, level_to, enable_to, level_outside, pad_level, levels_of, by_sets, level_sensed, input_of, inputs_of, by_list}
 use Rattle.io_bank.specs.Edges.{falling, rising, edges_of}
 use Rattle.io_bank.specs.Routes.{pins_with, override_of, routes_of, routed_override, routed_mix, routed_part, routed_driven, chosen, routed_levels, routed_inputs}
-use Rattle.io_bank.specs.Driven.{is_driven, driven_of}
 use Rattle.io_bank.proofs.Bits.{differ, has_and, has_or, has_xor, has_ones, bits_below-lt, bits_below-at, bits_below-is, bits_below-same}
 
 -- ---- laws of Bool
@@ -278,19 +277,6 @@ inputs-at s levels i h =
 
 with-lt : (words : List ℕ) (low count value : ℕ) → pins_with words low count value < 2 ^ 30
 with-lt words low count value = bits_below-lt (λ pin. eqb (field (slice_index words pin) low count) value) 30
-
-drives-lt : (controls pads : List ℕ) → (routes_of controls pads).drives < 2 ^ 30
-unfolding routes_of
-drives-lt controls pads = with-lt pads 7 1 0
-
-pub routed_driven-is : (s : Bank) (outs : Outs) → routed_driven (routes_of s.controls s.pads) outs ≡ driven_of outs s
-routed_driven-is s outs =
-    let r = routes_of s.controls s.pads in
-    let bound = and_le_r (routed_override r.enable (routed_part r outs 1)) r.drives in
-    let drives = drives-lt s.controls s.pads in
-    bits_below-is (λ pin. is_driven outs (slice_index s.controls pin) (slice_index s.pads pin) pin) 30 (routed_driven r outs)
-    (omega (arith, bound, drives))
-    (λ i h. driven-at s.controls s.pads outs i h)
 
 override-lt : (controls : List ℕ) (low x : ℕ) → routed_override (override_of controls low) x < 2 ^ 30
 override-lt controls low x =

@@ -1,6 +1,6 @@
 -- The levels of the pads, pin by pin, and what the parts of the chip see of them (RP2040 Datasheet, 1.4.3, GPIO
 -- functions, 2.19.2, Function Select, 2.19.4, Pads, and 2.19.6.1, GPIO0_STATUS and GPIO0_CTRL).
-use Rattle.std.specs.Prelude.{ℕ, ◌+◌, ◌*◌, ◌^◌, Bool, true, not, ◌&&◌, ◌==◌, if◌then◌else◌, List, [], ◌∷◌, Option, Some, None, slice_index, slice_index_or}
+use Rattle.std.specs.Prelude.{◌≡◌, ℕ, ◌+◌, ◌*◌, ◌^◌, Bool, true, not, ◌&&◌, ◌==◌, if◌then◌else◌, List, [], ◌∷◌, Option, Some, None, slice_index, slice_index_or}
 use Rattle.rp_base.specs.Word.{has_bit, bit_number}
 use Rattle.io_bank.specs.declared.outputs.Outs.{Outs}
 use Rattle.io_bank.specs.Pins.{pins_where, field, overridden}
@@ -140,3 +140,7 @@ level_at s (Some pin) = has_bit (inputs_of s s.second) pin
 
 abbrev pub receive_level : ℕ → Bank → Bool
 receive_level number s = level_at s (receive_pin number s)
+
+-- a signal to the pins, a bit each, is the same by two words at the pins of a set
+abbrev pub IsSameAt : ℕ → ℕ → ℕ → Type 0
+IsSameAt pins first second = (pin : ℕ) → has_bit pins pin ≡ true → has_bit first pin ≡ has_bit second pin

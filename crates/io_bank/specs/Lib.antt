@@ -1,4 +1,3 @@
-pub mod Driven
 pub mod Edges
 pub mod Interrupts
 pub mod Laws

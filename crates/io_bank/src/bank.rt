@@ -1,10 +1,9 @@
 //! The pads: their state, their cycle and their readers.
 
-ghost use Rattle.std.specs.Prelude.{◌≡◌, ◌<◌, ◌+◌, ◌*◌, ◌^◌, ◌∷◌, ◌&&◌, [], ℕ, true, Decides, IfSome, not, slice_index};
+ghost use Rattle.std.specs.Prelude.{◌≡◌, ◌<◌, ◌∷◌, ◌&&◌, [], ℕ, true, Decides, IfSome, not, slice_index};
 ghost use Rattle.io_bank.specs.declared.outputs.Outs.{Outs};
 ghost use Rattle.io_bank.specs.State.{at_reset, after_held, with_bank_held, with_pads_held};
-ghost use Rattle.io_bank.specs.Driven.{driven_of, shown_of, IsSameAt, AreSameIn};
-ghost use Rattle.io_bank.specs.Levels.{levels_of, by_list, by_sets, inputs_of, pins_of, is_used, first_in, receive_pin, receive_level};
+ghost use Rattle.io_bank.specs.Levels.{levels_of, by_list, by_sets, inputs_of, pins_of, is_used, first_in, receive_pin, receive_level, IsSameAt};
 ghost use Rattle.io_bank.specs.Edges.{edges_of};
 ghost use Rattle.io_bank.specs.Step.{after_step, is_at_rest, with_edges, with_levels};
 ghost use Rattle.io_bank.specs.Interrupts.{raw_of, line_of};
@@ -281,45 +280,6 @@ impl IoBank {
         }
     }
 
-    /// The pads that the chip drives.
-    fn driven(&self, outs: &Outs) -> u32
-        ensures { result ≡ driven_of outs.now self.now }
-    {
-        self.routes.driven(outs)
-    }
-
-    /// Where the pads show what the part with a function puts out: the pins of its levels, and those of its enables.
-    pub fn shown(&self, function: u8, outs: &Outs) -> [u32; 2]
-        ensures { result ≡ shown_of function outs.now self.now }
-    {
-        let pins = self.pins_of(function);
-        [pins & self.driven(outs), pins]
-    }
-
-    /// Of each PIO block two pairs of outputs, levels and enables, are the same at the pins of two sets. Where these are the sets
-    /// that `shown` gives, the pads have the same levels by the second pairs as by the first ones.
-    #[inline(always)]
-    pub fn is_seen_same(
-        &self,
-        shown0: [u32; 2],
-        shown1: [u32; 2],
-        pio0: [u32; 2],
-        pio1: [u32; 2],
-        next0: [u32; 2],
-        next1: [u32; 2],
-    ) -> bool
-        ensures value { Decides result ((AreSameIn shown0 pio0 next0)
-            × (AreSameIn shown1 pio1 next1)) }
-        ensures levels { result ≡ true → (outs : Outs) → (driven high : ℕ) →
-            shown0 ≡ shown_of 6 (record outs { pio0 = pio0; pio1 = pio1 }) self.now →
-            shown1 ≡ shown_of 7 (record outs { pio0 = pio0; pio1 = pio1 }) self.now →
-            levels_of (record outs { pio0 = pio0; pio1 = pio1 }) (by_sets driven high) self.now
-            ≡ levels_of (record outs { pio0 = next0; pio1 = next1 })
-            (by_sets driven high) self.now }
-    {
-        are_same_in(shown0, pio0, next0) && are_same_in(shown1, pio1, next1)
-    }
-
     /// The levels that PWM puts out are the same at the pins of its function. The pads then have the same levels by the second ones
     /// as by the first ones, whatever the other parts put out.
     #[inline(always)]
@@ -390,23 +350,6 @@ impl IoBank {
             self.routes = Routes::of(&self.controls, &self.pads);
         }
     }
-}
-
-/// Two pairs of outputs are the same at the pins of two sets.
-#[inline(always)]
-fn are_same_in(shown: [u32; 2], first: [u32; 2], second: [u32; 2]) -> bool
-    ensures { Decides result (AreSameIn shown first second) }
-{
-    joined(first[0] & shown[0], first[1] & shown[1])
-        == joined(second[0] & shown[0], second[1] & shown[1])
-}
-
-/// Two words as one number.
-#[inline(always)]
-fn joined(low: u32, high: u32) -> u64
-    ensures { result ≡ low + high * 2 ^ 32 }
-{
-    u64::from(low) | (u64::from(high) << 32)
 }
 
 /// The first of four pins that is in a set.

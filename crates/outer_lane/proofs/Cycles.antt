@@ -3,6 +3,7 @@ use Rattle.std.proofs.Common.{◌≡◌, ℕ, zero, suc, ◌+◌, ◌-◌, ◌^�
 use Rattle.std.proofs.lemmas.Bool.Decides.{nat_tests}
 use Rattle.std.specs.List.{filter}
 use Rattle.rp_base.specs.declared.resettable.Resettable.{Resettable}
+use Rattle.rp_base.specs.Held.{unless_held}
 use Rattle.rp_base.specs.Resettable.{unless_held_becomes}
 use Rattle.io_bank.specs.declared.outputs.Outs.{Outs}
 use Rattle.io_bank.specs.State.{Bank}
@@ -37,7 +38,9 @@ use Rattle.outer_lane.specs.Lines.{outer_lines, outer_pacing}
 use Rattle.outer_lane.specs.Setting.{Setting}
 use Rattle.outer_lane.specs.State.{OuterState}
 use Rattle.outer_lane.specs.Step.{either, outs_of, outside_of, levels_by, pads_by, next_by, next, marked_by, marked, timer_after, uart_after, byte_of, wires_by, words_by, wires_of, seen_of, pins_in, no_pins, asks_second, asks}
-use Rattle.outer_lane.specs.Quiet.{seen_in, outer_step, outer_after, held_blocks, quiet_mark, IsQuiet, uart_cycle, words_cycle, words_after, IsSettled, IsTimerQuiet, IsUartQuiet, AreWordsQuiet, IsScriptQuiet}
+use Rattle.outer_lane.specs.BroughtUp.{blocks_of, blocks_passed, AreBlocksQuiet}
+use Rattle.outer_lane.specs.Rest.{pads_driven}
+use Rattle.outer_lane.specs.Quiet.{seen_in, outer_step, outer_after, held_blocks, quiet_mark, IsQuiet, uart_cycle, uart_word, words_cycle, words_after, IsSettled, IsTimerQuiet, IsUartQuiet, AreWordsQuiet, IsScriptQuiet}
 use Rattle.outer_lane.proofs.Sets.{levels_same}
 
 -- ---- the timer
@@ -104,9 +107,6 @@ let_go_uart line u cycle k e = uart_cycles line u cycle k ∙ rw e refl
 pub runs_uart : (line : Bool) (u : Resettable SerialPort) (cycle k : ℕ) (block : SerialPort) → u.held ≡ false → block ≡ uart_quiet.after_cycles line k u.block → record { block = block; held = u.held } ≡ times (uart_cycle line) cycle k u
 runs_uart line u cycle k block e f = rw f (sym (let_go_uart line u cycle k e))
 
-pub uart_stays : (line : Bool) (u : Resettable SerialPort) (cycle n : ℕ) → uart_after line u ≡ u → times (uart_cycle line) cycle n u ≡ u
-uart_stays line u cycle n same = times_rest (uart_cycle line) cycle n u (λ c. same)
-
 byte_held : (u : Resettable SerialPort) → u.held ≡ true → byte_of u ≡ None
 byte_held u e = rw e refl
 
@@ -122,6 +122,7 @@ uart_held line u cycle n e =
       interrupt = λ k le. ap (λ (x : Resettable SerialPort). is_line_high x.block) (at k);
       pacing = λ k le. ap (λ (x : Resettable SerialPort). pacing_of x.block) (at k);
       held = λ k le. ap (λ (x : Resettable SerialPort). x.held) (at k);
+      words = λ k le offset. ap (uart_word offset) (at k);
     }
 
 pub uart_runs : (line : Bool) (u : Resettable SerialPort) (cycle n : ℕ) → u.held ≡ false → uart_quiet.IsQuiet line u.block n → IsUartQuiet line u cycle n
@@ -133,6 +134,7 @@ uart_runs line u cycle n e q =
       interrupt = λ k le. ap (λ (x : Resettable SerialPort). is_line_high x.block) (at k) ∙ q.lines k le;
       pacing = λ k le. ap (λ (x : Resettable SerialPort). pacing_of x.block) (at k) ∙ q.pacing k le;
       held = λ k le. ap (λ (x : Resettable SerialPort). x.held) (at k);
+      words = λ k le offset. ap (uart_word offset) (at k) ∙ ap (unless_held u.held) (q.words k le offset);
     }
 
 -- ---- the device
@@ -275,11 +277,11 @@ quiet_count w seen s n q k le =
     sym (ap (λ (x : OuterState). length x.device) (quiet_closed w seen s n q k le)) ∙ q.words k le
 
 -- what the parts leave, one after another
-pub passed_all : (w : Setting) (seen : SeenOutputs) (s a b c : OuterState) (n : ℕ) → IsQuiet w seen s n → a ≡ record s { uart0 = times (uart_cycle (receive_level 0 s.pads)) seen.cycle n s.uart0; uart1 = times (uart_cycle (receive_level 1 s.pads)) seen.cycle n s.uart1 } → b ≡ record a { timer = times timer_after seen.cycle n a.timer } → c ≡ record b { device = words_after w.device b.pads.current seen.cycle n b.device } → c ≡ outer_after w seen n s
-passed_all w seen s a b c n q ea eb ec =
-    ec
-    ∙ ap (λ (x : OuterState). record x { device = words_after w.device x.pads.current seen.cycle n x.device }) eb
-    ∙ ap (λ (x : OuterState). record x { timer = times timer_after seen.cycle n x.timer; device = words_after w.device x.pads.current seen.cycle n x.device }) ea
+pub passed_all : (w : Setting) (seen : SeenOutputs) (s a b : OuterState) (n : ℕ) → IsQuiet w seen s n → a ≡ blocks_passed seen.cycle n s →
+    b ≡ record a { device = words_after w.device a.pads.current seen.cycle n a.device } → b ≡ outer_after w seen n s
+passed_all w seen s a b n q ea eb =
+    eb
+    ∙ ap (λ (x : OuterState). record x { device = words_after w.device x.pads.current seen.cycle n x.device }) ea
     ∙ ap (λ (x : List ℕ). record (passed w seen n s) { device = x })
     (words_after_is w.device s.device seen.cycle s.pads.current n (quiet_count w seen s n q))
     ∙ sym (quiet_closed w seen s n q n (omega arith))
@@ -405,31 +407,35 @@ uart_less line u cycle n m q le = record {
   interrupt = λ k lt. q.interrupt k (omega arith);
   pacing = λ k lt. q.pacing k (omega arith);
   held = λ k lt. q.held k (omega arith);
+  words = λ k lt. q.words k (omega arith);
 }
 
--- by the number of cycles that each part is quiet for, where the fields are these
-pub least_quiet : (w : Setting) (seen : SeenOutputs) (i s : OuterState) (a b c d e n : ℕ) → i ≡ s → IsTimerQuiet i.timer seen.cycle a → IsUartQuiet (receive_level 0 i.pads) i.uart0 seen.cycle b → IsUartQuiet (receive_level 1 i.pads) i.uart1 seen.cycle c → IsScriptQuiet w.script seen.cycle d → AreWordsQuiet w.device i.device seen.cycle i.pads.current e → n ≤ a → n ≤ b → n ≤ c → n ≤ d → n ≤ e → IsSettled w seen s → IsQuiet w seen s n
-least_quiet w seen i s a b c d e n same t u v x y la lb lc ld le settled =
-    let here : IsSettled w seen i = subst (IsSettled w seen) (sym same) settled in
-    subst (λ (o : OuterState). IsQuiet w seen o n) same
-    (parts_quiet w seen i n (record {
-      timer_quiet = record { lines = λ k lt. t.lines k (omega arith); held = λ k lt. t.held k (omega arith) };
-      uart0_quiet = uart_less (receive_level 0 i.pads) i.uart0 seen.cycle b n u lb;
-      uart1_quiet = uart_less (receive_level 1 i.pads) i.uart1 seen.cycle c n v lc;
+-- by the number of cycles that each part is quiet for
+pub least_quiet : (w : Setting) (seen : SeenOutputs) (s : OuterState) (line0 line1 : Bool) (inside script words n : ℕ) →
+    line0 ≡ receive_level 0 s.pads → line1 ≡ receive_level 1 s.pads → AreBlocksQuiet line0 line1 (blocks_of s) seen.cycle inside →
+    IsScriptQuiet w.script seen.cycle script → AreWordsQuiet w.device s.device seen.cycle s.pads.current words →
+    n ≤ inside → n ≤ script → n ≤ words → IsSettled w seen s → IsQuiet w seen s n
+least_quiet w seen s line0 line1 inside script words n e0 e1 q x y li ls lw settled =
+    parts_quiet w seen s n (record {
+      timer_quiet = record { lines = λ k lt. q.timer.lines k (omega arith); held = λ k lt. q.timer.held k (omega arith) };
+      uart0_quiet = subst (λ (line : Bool). IsUartQuiet line s.uart0 seen.cycle n) e0 (uart_less line0 s.uart0 seen.cycle inside n q.uart0 li);
+      uart1_quiet = subst (λ (line : Bool). IsUartQuiet line s.uart1 seen.cycle n) e1 (uart_less line1 s.uart1 seen.cycle inside n q.uart1 li);
       words_quiet = record { drives = λ k lt. y.drives k (omega arith); count = λ k lt. y.count k (omega arith) };
       script_quiet = λ k lt. x k (omega arith);
-      settled = here.pads;
-      same_irq = here.irq;
-    }))
+      settled = settled.pads;
+      same_irq = settled.irq;
+    })
 
 -- by what was stepped on copies
-pub settled_by : (w : Setting) (seen : SeenOutputs) (s : OuterState) (wires : Wires) (drives : Drives) (outs : Outs) (pads : Bank) → wires ≡ wires_of w.device seen.cycle s → ((pin : ℕ) → pin < 30 → by_sets drives.driven drives.high pin ≡ outside_of w.script wires seen.cycle pin) → outs ≡ outs_of wires seen s → pads ≡ s.pads → after_step outs (by_sets drives.driven drives.high) pads ≡ pads → wires.irq ≡ s.irq → IsSettled w seen s
-settled_by w seen s wires drives outs pads e outside f g stays irq =
-    let here : after_step (outs_of wires seen s) (by_sets drives.driven drives.high) s.pads ≡ s.pads = rw (f, g) at stays in
+pub settled_by : (w : Setting) (seen : SeenOutputs) (s : OuterState) (wires : Wires) (drives : Drives) → wires ≡ wires_of w.device seen.cycle s →
+    ((pin : ℕ) → pin < 30 → by_sets drives.driven drives.high pin ≡ outside_of w.script wires seen.cycle pin) →
+    pads_driven wires seen drives s ≡ s.pads → wires.irq ≡ s.irq → IsSettled w seen s
+unfolding pads_driven
+settled_by w seen s wires drives e outside stays irq =
     let there : after_step (outs_of wires seen s) (outside_of w.script wires seen.cycle) s.pads ≡ s.pads =
     ap (λ (x : ℕ). with_levels x (with_edges (edges_of s.pads) s.pads))
     (sym (levels_same (outs_of wires seen s) (by_sets drives.driven drives.high) (outside_of w.script wires seen.cycle) s.pads outside))
-    ∙ here in
+    ∙ stays in
     record { pads = rw (← e) there; irq = rw (← e) irq }
 
 -- ---- what is seen in another cycle, where the pads are the same and the outputs of PIO too

@@ -3,5 +3,5 @@ mod Rest
 mod Sets
 mod Stepped
 mod Staying
-mod NoTick
+mod BroughtUp
 mod Cycles

@@ -1,3 +1,4 @@
+pub mod BroughtUp
 pub mod Bounds
 pub mod Device
 pub mod Lines

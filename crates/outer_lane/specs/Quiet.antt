@@ -1,7 +1,8 @@
 -- For how long the peripherals are quiet, and what they are after so many cycles.
-use Rattle.std.specs.Prelude.{◌≡◌, ℕ, ◌+◌, ◌<◌, ◌≤◌, Bool, if◌then◌else◌, List, [], ◌∷◌, length, None}
+use Rattle.std.specs.Prelude.{◌≡◌, ℕ, ◌+◌, ◌<◌, ◌≤◌, Bool, if◌then◌else◌, List, [], ◌∷◌, length, Option, None}
 use Rattle.std.specs.List.{filter}
 use Rattle.rp_base.specs.declared.resettable.Resettable.{Resettable}
+use Rattle.rp_base.specs.Held.{unless_held}
 use Rattle.lane_look.specs.declared.marks.Mark.{Mark}
 use Rattle.lane_look.specs.Device.{DeviceMeaning}
 use Rattle.lane_look.specs.Quiet.{device_after}
@@ -13,6 +14,7 @@ use Rattle.rp_timer.specs.State.{TimerState, lines_of}
 use Rattle.rp_uart.specs.State.{SerialPort}
 use Rattle.rp_uart.specs.Step.{output_of, pacing_of}
 use Rattle.rp_uart.specs.Interrupts.{is_line_high}
+use Rattle.rp_uart.specs.Words.{word_of}
 use Rattle.outer_lane.specs.declared.world.SeenOutputs.{SeenOutputs}
 use Rattle.outer_lane.specs.Setting.{Setting}
 use Rattle.outer_lane.specs.State.{OuterState}
@@ -63,6 +65,9 @@ pub record IsSettled (w : Setting) (seen : SeenOutputs) (s : OuterState) : Type 
 abbrev pub uart_cycle : Bool → ℕ → Resettable SerialPort → Resettable SerialPort
 uart_cycle line cycle u = uart_after line u
 
+abbrev pub uart_word : ℕ → Resettable SerialPort → Option ℕ
+uart_word offset u = unless_held u.held (word_of offset u.block)
+
 -- the words of the device, where the pads have these levels
 abbrev pub words_cycle : DeviceMeaning → ℕ → ℕ → List ℕ → List ℕ
 words_cycle d levels cycle words = words_by d words cycle levels
@@ -81,6 +86,7 @@ pub record IsUartQuiet (line : Bool) (u : Resettable SerialPort) (cycle n : ℕ)
   pub interrupt : (k : ℕ) → k ≤ n → is_line_high (times (uart_cycle line) cycle k u).block ≡ is_line_high u.block
   pub pacing : (k : ℕ) → k ≤ n → pacing_of (times (uart_cycle line) cycle k u).block ≡ pacing_of u.block
   pub held : (k : ℕ) → k ≤ n → (times (uart_cycle line) cycle k u).held ≡ u.held
+  pub words : (k : ℕ) → k ≤ n → (offset : ℕ) → uart_word offset (times (uart_cycle line) cycle k u) ≡ uart_word offset u
 
 pub record AreWordsQuiet (d : DeviceMeaning) (words : List ℕ) (cycle levels n : ℕ) : Type 0 where
   pub drives : (k : ℕ) → k < n → wires_by d (times (words_cycle d levels) cycle k words) (cycle + k) levels ≡ wires_by d words cycle levels

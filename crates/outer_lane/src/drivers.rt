@@ -1,7 +1,7 @@
 //! What the pads are stepped by in a cycle, in words.
 
 ghost use Rattle.std.specs.Prelude.{◌≡◌, ◌+◌, ◌*◌, ◌^◌, ◌∷◌, [], true};
-ghost use Rattle.outer_lane.specs.Rest.{is_same, outs_by};
+ghost use Rattle.outer_lane.specs.Rest.{outs_by};
 
 use crate::world::SeenOutputs;
 use io_bank::Outs;
@@ -38,22 +38,6 @@ impl Drivers {
         high: 0,
     };
 
-    /// Each word is that of the other one.
-    #[inline(always)]
-    pub(crate) fn is_same(&self, other: &Drivers) -> bool
-        ensures { result ≡ is_same self.now other.now }
-    {
-        self.pio0_levels == other.pio0_levels
-            && self.pio0_enables == other.pio0_enables
-            && self.pio1_levels == other.pio1_levels
-            && self.pio1_enables == other.pio1_enables
-            && self.pwm == other.pwm
-            && self.uart_levels == other.uart_levels
-            && self.uart_enables == other.uart_enables
-            && self.driven == other.driven
-            && self.high == other.high
-    }
-
     /// Each word but those of PWM and of the UARTs is what is seen and driven.
     #[inline(always)]
     pub(crate) fn is_driven_by(&self, seen: &SeenOutputs, drives: Drives) -> bool
@@ -70,13 +54,12 @@ impl Drivers {
             && self.high == drives.high
     }
 
-    /// Outside drives what is driven.
+    /// The UARTs put out what is put out.
     #[inline(always)]
-    pub(crate) fn is_else_driven_by(&self, drives: Drives) -> bool
-        ensures driven { result ≡ true → drives.driven ≡ self.now.driven }
-        ensures high { result ≡ true → drives.high ≡ self.now.high }
+    pub(crate) fn has_uarts(&self, outs: [u32; 2]) -> bool
+        ensures { result ≡ true → outs ≡ self.now.uart_levels ∷ self.now.uart_enables ∷ [] }
     {
-        self.driven == drives.driven && self.high == drives.high
+        are_same(outs, [self.uart_levels, self.uart_enables])
     }
 
     /// The outputs of all parts, where SIO puts these out.
@@ -92,16 +75,6 @@ impl Drivers {
             uart: [self.uart_levels, self.uart_enables],
         }
     }
-}
-
-/// The lane is at rest, and the words of the UARTs stay.
-#[inline(always)]
-pub(crate) fn stays_at_rest(at_rest: bool, kept: &Drivers, now: &Drivers) -> bool
-    ensures rest { result ≡ true → at_rest ≡ true }
-    ensures levels { result ≡ true → kept.now.uart_levels ≡ now.now.uart_levels }
-    ensures enables { result ≡ true → kept.now.uart_enables ≡ now.now.uart_enables }
-{
-    at_rest && kept.uart_levels == now.uart_levels && kept.uart_enables == now.uart_enables
 }
 
 /// Two pairs are the same. Each is compared as one number.

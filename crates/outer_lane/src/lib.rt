@@ -4,6 +4,8 @@
 //! cycle. What a cycle, an access and a reset do is defined in `specs/` on the states of the parts.
 #![tactic(auto)]
 
+pub mod behind;
+pub mod blocks;
 mod device;
 pub mod drivers;
 mod lane;
@@ -11,7 +13,6 @@ pub mod outer;
 mod outside;
 mod quiet;
 mod step;
-pub mod ticks;
 mod words;
 pub mod world;
 

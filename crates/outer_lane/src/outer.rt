@@ -1,30 +1,23 @@
 //! The peripherals: their state, how it starts, and its readers.
 
+use crate::behind::Behind;
 use crate::drivers::Drivers;
-use crate::ticks::Ticks;
 use arrayvec::ArrayVec;
 use io_bank::IoBank;
 use lane_look::Device;
 use pin_script::Cursor;
-use rp_base::Resettable;
 use rp_base::bits::has_bit;
-use rp_base::resets::{IO_BANK0, PADS_BANK0, TIMER, UART0, UART1};
-use rp_timer::Timer;
-use rp_uart::Uart;
+use rp_base::resets::{IO_BANK0, PADS_BANK0};
 use std::marker::Model;
 
 /// The timer, both UARTs, the pads and the words of the device, between two cycles (RP2040 Datasheet, 2.19, 4.2 and 4.6).
 ///
-/// The timer and the UARTs stand beside their bits of RESETS, as `reset` sets them. A block that is held does not step, reads 0
-/// and ignores accesses.
+/// The timer and the UARTs stand beside their bits of RESETS, as `reset` sets them, and lie behind. A block that is held does not
+/// step, reads 0 and ignores accesses.
 #[derive(Drop)]
 pub struct Outer {
-    /// The timer.
-    pub timer: Resettable<Timer>,
-    /// UART0.
-    pub uart0: Resettable<Uart>,
-    /// UART1.
-    pub uart1: Resettable<Uart>,
+    // the timer and the UARTs
+    pub(crate) blocks: Behind,
     /// The pads, IO_BANK0 and PADS_BANK0.
     pub pads: IoBank,
     /// The interrupt lines of the device, as it drove them in the last cycle.
@@ -33,44 +26,32 @@ pub struct Outer {
     pub(crate) sio: [u32; 2],
     // where what the script drives is looked for first
     pub(crate) cursor: Cursor,
-    // where the timer does not tick
-    pub(crate) ticks: Ticks,
-    // the pads are at rest while they are stepped by these, and interrupt neither core
-    pub(crate) pads_at_rest: bool,
-    // beside that both UARTs are at rest, and put out what is among these
-    pub(crate) at_rest: bool,
-    // the pads are at rest, the UARTs put out what is among these and hear high lines; of each PIO block the pads show these
-    pub(crate) calm: bool,
-    pub(crate) shown0: [u32; 2],
-    pub(crate) shown1: [u32; 2],
-    // where it is calm, in so many cycles no bit ends that UART 0 sends, and UART 1 is at rest
-    pub(crate) left: u32,
+    // a step by these leaves the pads as they are, which interrupt neither core; among these is what the UARTs put out
+    pub(crate) stays: bool,
     pub(crate) drivers: Drivers,
 }
 
 impl Model for Outer {
-    ghost use Rattle.std.specs.Prelude.{◌≡◌, ◌<◌, true};
+    ghost use Rattle.std.specs.Prelude.{◌≡◌, true};
+    ghost use Rattle.io_bank.specs.Levels.{receive_level};
     ghost use Rattle.outer_lane.specs.State.{OuterState};
-    ghost use Rattle.outer_lane.specs.Rest.{IsAtRest, IsLaneAtRest, IsCalm, SendsOn};
+    ghost use Rattle.outer_lane.specs.Rest.{Stays};
 
     ghost Value = { OuterState };
 
     ghost view = { λ o. record {
-      timer = o.timer;
-      uart0 = o.uart0;
-      uart1 = o.uart1;
+      timer = o.blocks.blocks.timer;
+      uart0 = o.blocks.blocks.uart0;
+      uart1 = o.blocks.blocks.uart1;
       pads = o.pads;
       irq = o.irq;
       device = o.device.items;
       sio = o.sio;
     } };
 
-    // a step of pads at rest changes nothing, and no line of them is high; the lane is at rest where the UARTs are too, and
-    // calm where they hear nothing and put out what they did
-    ghost invariant = { λ o. (o.pads_at_rest ≡ true → IsAtRest o.sio o.drivers o.pads)
-        × ((o.at_rest ≡ true → IsLaneAtRest o.sio o.drivers o.pads o.uart0 o.uart1)
-        × ((o.calm ≡ true → IsCalm o.sio o.drivers o.shown0 o.shown1 o.pads o.uart0 o.uart1)
-        × (o.calm ≡ true → 0 < o.left → SendsOn o.left o.uart0 o.uart1))) };
+    // the UARTs are told the levels of their lines
+    ghost invariant = { λ o. (o.blocks.line0 ≡ receive_level 0 o.pads) × ((o.blocks.line1 ≡ receive_level 1 o.pads)
+        × (o.stays ≡ true → Stays o.sio o.drivers o.pads o.blocks.blocks)) };
 }
 
 impl Outer {
@@ -83,22 +64,17 @@ impl Outer {
     pub fn new<X: Device>(device: &X) -> Outer
         ensures { result ≡ outer_at_start (first_words (X.meaning device.now)) }
     {
+        let pads = IoBank::new();
+        let mut blocks = Behind::new();
+        blocks.tell(pads.receive_level(0), pads.receive_level(1));
         Outer {
-            timer: Resettable::new(Timer::new()),
-            uart0: Resettable::new(Uart::new()),
-            uart1: Resettable::new(Uart::new()),
-            pads: IoBank::new(),
+            blocks,
+            pads,
             irq: 0,
             device: started(device),
             sio: [0, 0],
             cursor: Cursor::new(),
-            ticks: Ticks::new(),
-            pads_at_rest: false,
-            at_rest: false,
-            calm: false,
-            shown0: [0, 0],
-            shown1: [0, 0],
-            left: 0,
+            stays: false,
             drivers: Drivers::NONE,
         }
     }
@@ -108,14 +84,12 @@ impl Outer {
     pub fn reset(&mut self, bits: u32)
         ensures { self.new ≡ outer_reset bits self.old }
     {
-        self.pads_at_rest = false;
-        self.at_rest = false;
-        self.calm = false;
-        self.timer.set_held(has_bit(bits, TIMER));
-        self.uart0.set_held(has_bit(bits, UART0));
-        self.uart1.set_held(has_bit(bits, UART1));
+        self.stays = false;
+        self.blocks.reset(bits);
         self.pads
             .set_held(has_bit(bits, IO_BANK0), has_bit(bits, PADS_BANK0));
+        self.blocks
+            .tell(self.pads.receive_level(0), self.pads.receive_level(1));
     }
 
     /// Takes the levels and the enables that SIO puts out.
@@ -124,9 +98,7 @@ impl Outer {
         ensures { self.new ≡ record self.old { sio = outs } }
     {
         if self.sio != outs {
-            self.pads_at_rest = false;
-            self.at_rest = false;
-            self.calm = false;
+            self.stays = false;
             self.sio = outs;
         }
     }
@@ -138,9 +110,8 @@ impl Outer {
         ensures { result ≡ outer_lines core self.now }
     {
         let bank = self.bank_line(core);
-        self.irq
-            | (self.timer.block.lines()
-                | block_lines(bank, self.uart0.block.line(), self.uart1.block.line()))
+        let [uart0, uart1] = self.blocks.uart_lines();
+        self.irq | (self.blocks.timer_lines() | block_lines(bank, uart0, uart1))
     }
 
     /// The line of IO_BANK0 to a core.
@@ -148,7 +119,7 @@ impl Outer {
     fn bank_line(&self, core: u8) -> bool
         ensures { result ≡ bank_line core self.now.pads }
     {
-        if self.pads_at_rest {
+        if self.stays {
             return false;
         }
         let [bank0, bank1] = self.pads.lines();
@@ -175,9 +146,7 @@ impl Outer {
     pub fn pacing(&self) -> [u8; 4]
         ensures { result ≡ outer_pacing self.now }
     {
-        let [free0, words0] = self.uart0.block.pacing();
-        let [free1, words1] = self.uart1.block.pacing();
-        [free0, words0, free1, words1]
+        self.blocks.pacing()
     }
 
     /// The inputs that SIO reads, by pin: the second levels of the pads.
@@ -192,22 +161,11 @@ impl Outer {
     pub fn is_same(&self, other: &Outer) -> bool
         ensures { Decides result (self.now ≡ other.now) }
     {
-        let timer = self.timer.block.is_same(&other.timer.block);
-        let uart0 = self.uart0.block.is_same(&other.uart0.block);
-        let uart1 = self.uart1.block.is_same(&other.uart1.block);
+        let blocks = self.blocks.is_same(&other.blocks);
         let pads = self.pads.is_same(&other.pads);
         let device = self.device.as_slice() == other.device.as_slice();
         let sio = self.sio == other.sio;
-        timer
-            & (self.timer.held == other.timer.held)
-            & uart0
-            & (self.uart0.held == other.uart0.held)
-            & uart1
-            & (self.uart1.held == other.uart1.held)
-            & pads
-            & (self.irq == other.irq)
-            & device
-            & sio
+        blocks & pads & (self.irq == other.irq) & device & sio
     }
 
     /// Takes the state of another one.
@@ -221,25 +179,14 @@ impl Outer {
     pub(crate) fn take(&mut self, other: &Outer)
         ensures { self.new ≡ other.now }
     {
-        self.timer.block = other.timer.block;
-        self.timer.held = other.timer.held;
-        self.uart0.block.copy_from(&other.uart0.block);
-        self.uart0.held = other.uart0.held;
-        self.uart1.block.copy_from(&other.uart1.block);
-        self.uart1.held = other.uart1.held;
+        self.blocks.copy_from(&other.blocks);
         self.pads = other.pads;
         self.irq = other.irq;
         self.device.clear();
         let _ = self.device.try_extend_from_slice(other.device.as_slice());
         self.sio = other.sio;
         self.cursor = other.cursor;
-        self.ticks.copy_from(&other.ticks);
-        self.pads_at_rest = other.pads_at_rest;
-        self.at_rest = other.at_rest;
-        self.calm = other.calm;
-        self.shown0 = other.shown0;
-        self.shown1 = other.shown1;
-        self.left = other.left;
+        self.stays = other.stays;
         self.drivers = other.drivers;
     }
 }

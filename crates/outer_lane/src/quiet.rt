@@ -1,69 +1,16 @@
 //! For how long the peripherals are quiet, and many cycles at once.
 
 ghost use Rattle.std.specs.Prelude.{◌≡◌, ◌≤◌, ◌<◌, ◌+◌, ◌^◌, length, true};
-ghost use Rattle.io_bank.specs.Levels.{by_sets};
-ghost use Rattle.io_bank.specs.Step.{after_step};
-ghost use Rattle.lane_look.specs.Times.{times};
 ghost use Rattle.pin_script.specs.Reading.{cycle_at, IsDueBefore};
-ghost use Rattle.outer_lane.specs.Step.{timer_after};
-ghost use Rattle.outer_lane.specs.Quiet.{IsTimerQuiet, IsUartQuiet, AreWordsQuiet, IsScriptQuiet, uart_cycle, words_after};
+ghost use Rattle.outer_lane.specs.Quiet.{AreWordsQuiet, IsScriptQuiet, words_after};
 
 use crate::outer::Outer;
 use crate::outside::outside;
 use crate::step::step_device;
 use crate::world::{SeenOutputs, World};
 use arrayvec::ArrayVec;
-use io_bank::{IoBank, Outs};
 use lane_look::Device;
-use pin_script::{Drives, Entry, Script};
-use rp_base::Resettable;
-use rp_timer::Timer;
-use rp_uart::Uart;
-
-/// For so many cycles from this one on the lines of the timer stay.
-fn timer_quiet(timer: &Resettable<Timer>, cycle: u64) -> u64
-    ensures { IsTimerQuiet timer.now cycle result }
-{
-    if timer.held {
-        u64::MAX
-    } else {
-        timer.block.quiet(cycle)
-    }
-}
-
-/// So many cycles of the timer from this one on.
-fn pass_timer(timer: &mut Resettable<Timer>, cycle: u64, n: u64)
-    requires { cycle + n < 2 ^ 64 }
-    ensures { timer.new ≡ times timer_after cycle n timer.old }
-{
-    if timer.held {
-        return;
-    }
-    timer.block.pass(cycle, n);
-}
-
-/// For so many cycles with this line a UART ends no frame, and shows the same.
-fn uart_quiet(uart: &Resettable<Uart>, line: bool, cycle: u64) -> u64
-    ensures { IsUartQuiet line uart.now cycle result }
-{
-    let _first = cycle;
-    if uart.held {
-        u64::MAX
-    } else {
-        uart.block.quiet(line)
-    }
-}
-
-/// So many cycles of a UART with this line.
-fn pass_uart(uart: &mut Resettable<Uart>, line: bool, cycle: u64, n: u64)
-    ensures { uart.new ≡ times (uart_cycle line) cycle n uart.old }
-{
-    let _first = cycle;
-    if uart.held {
-        return;
-    }
-    uart.block.pass(line, n);
-}
+use pin_script::{Entry, Script};
 
 /// For so many cycles from this one on the device drives the same, where the pads have these levels. One that has another number of
 /// words does nothing.
@@ -134,22 +81,11 @@ fn script_quiet(script: &Script, cycle: u64) -> u64
     }
 }
 
-/// A cycle by these leaves the pads as they are.
-#[tactic(auto, using(io_bank::proofs::AtRest::rest_step))]
-fn settles(pads: &IoBank, outs: &Outs, drives: Drives) -> bool
-    ensures { result ≡ true → after_step outs.now (by_sets drives.driven drives.high) pads.now
-        ≡ pads.now }
-{
-    pads.is_at_rest() && pads.levels(outs, drives.driven, drives.high) == pads.pads()
-}
-
 impl Outer {
     ghost use Rattle.std.specs.Prelude.{◌≡◌, ◌+◌, ◌^◌, ◌<◌, true};
-    ghost use Rattle.io_bank.specs.Levels.{receive_level};
-    ghost use Rattle.lane_look.specs.Times.{times};
+    ghost use Rattle.outer_lane.specs.BroughtUp.{blocks_passed};
     ghost use Rattle.outer_lane.specs.Setting.{setting};
-    ghost use Rattle.outer_lane.specs.Step.{timer_after};
-    ghost use Rattle.outer_lane.specs.Quiet.{IsQuiet, IsSettled, outer_after, uart_cycle, words_after};
+    ghost use Rattle.outer_lane.specs.Quiet.{IsQuiet, IsSettled, outer_after, words_after};
 
     /// A cycle in which this is seen leaves the pads as they are, and the device's lines.
     fn is_settled<X: Device>(&self, world: &World<'_, X>, seen: &SeenOutputs) -> bool
@@ -163,8 +99,7 @@ impl Outer {
         }
         let mut cursor = self.cursor;
         let drives = outside(world.script, &mut cursor, &wires, seen.cycle);
-        let outs = self.outs(&wires, seen);
-        settles(&self.pads, &outs, drives)
+        self.stays_by(&wires, seen, drives)
     }
 
     /// For so many cycles from the one on in which this is seen the peripherals are quiet, as long as the outputs of PIO stay: no
@@ -172,16 +107,13 @@ impl Outer {
     pub fn quiet<X: Device>(&self, world: &World<'_, X>, seen: &SeenOutputs) -> u64
         ensures { IsQuiet (setting X.meaning world.now) seen.now self.now result }
     {
-        let line0 = self.pads.receive_level(0);
-        let line1 = self.pads.receive_level(1);
         let levels = self.pads.pads();
-        let timer = timer_quiet(&self.timer, seen.cycle);
-        let uart0 = uart_quiet(&self.uart0, line0, seen.cycle);
-        let uart1 = uart_quiet(&self.uart1, line1, seen.cycle);
+        let inside = self.blocks.quiet(seen.cycle);
+        if !self.stays || inside == 0 {
+            return 0;
+        }
         let script = script_quiet(world.script, seen.cycle);
         let words = words_quiet(world.device, &self.device, seen.cycle, levels);
-        let uarts = uart0.min(uart1);
-        let inside = timer.min(uarts);
         let beyond = script.min(words);
         let least = inside.min(beyond);
         if least == 0 {
@@ -194,32 +126,14 @@ impl Outer {
         }
     }
 
-    /// So many cycles of the UARTs from this one on, where the pads stay.
-    #[tactic(auto, using(crate::proofs::Cycles::uart_stays))]
-    fn pass_uarts(&mut self, cycle: u64, n: u64)
-        ensures { self.new ≡ record self.old {
-          uart0 = times (uart_cycle (receive_level 0 self.old.pads)) cycle n self.old.uart0;
-          uart1 = times (uart_cycle (receive_level 1 self.old.pads)) cycle n self.old.uart1;
-        } }
-    {
-        if self.at_rest {
-            return;
-        }
-        self.calm = false;
-        let line0 = self.pads.receive_level(0);
-        let line1 = self.pads.receive_level(1);
-        pass_uart(&mut self.uart0, line0, cycle, n);
-        pass_uart(&mut self.uart1, line1, cycle, n);
-    }
-
-    /// So many cycles of the timer from this one on.
-    fn pass_time(&mut self, cycle: u64, n: u64)
+    /// So many cycles of the timer and the UARTs from this one on, where the pads stay.
+    fn pass_blocks(&mut self, cycle: u64, n: u64)
         requires { cycle + n < 2 ^ 64 }
-        ensures { self.new ≡ record self.old {
-          timer = times timer_after cycle n self.old.timer;
-        } }
+        ensures { self.new ≡ blocks_passed cycle n self.old }
     {
-        pass_timer(&mut self.timer, cycle, n);
+        if !self.blocks.pass(cycle, n) {
+            self.stays = false;
+        }
     }
 
     /// So many cycles of the device from this one on, where the pads stay.
@@ -239,8 +153,7 @@ impl Outer {
         requires quiet { IsQuiet (setting X.meaning world.now) seen.now self.old n }
         ensures { self.new ≡ outer_after (setting X.meaning world.now) seen.now n self.old }
     {
-        self.pass_uarts(seen.cycle, n);
-        self.pass_time(seen.cycle, n);
+        self.pass_blocks(seen.cycle, n);
         self.pass_device(world.device, seen.cycle, n);
     }
 }

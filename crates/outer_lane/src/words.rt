@@ -1,12 +1,9 @@
 //! The words of the register blocks.
 
-ghost use Rattle.std.specs.Prelude.{◌≡◌, ◌+◌, true};
-ghost use Rattle.rp_base.specs.Held.{unless_held};
-ghost use Rattle.rp_base.specs.Resettable.{unless_held_becomes};
+ghost use Rattle.std.specs.Prelude.{◌≡◌, ◌+◌};
 ghost use Rattle.io_bank.specs.Offsets.{PADS_BANK0};
 ghost use Rattle.io_bank.specs.Words.{effect_of};
-ghost use Rattle.rp_uart.specs.Step.{output_of};
-ghost use Rattle.outer_lane.specs.Words.{bank_accessed, uart_accessed};
+ghost use Rattle.outer_lane.specs.Words.{bank_accessed};
 
 use crate::outer::Outer;
 use crate::step::step_device;
@@ -16,8 +13,6 @@ use io_bank::registers::{PAD_GPIO29, PADS_BANK0};
 use io_bank::{IoBank, Outs};
 use lane_look::Device;
 use rp_base::map::Block;
-use rp_base::{Registers, Resettable};
-use rp_uart::Uart;
 
 /// The last offset of PADS_BANK0.
 const LAST_PAD: u16 = PAD_GPIO29 - PADS_BANK0;
@@ -25,13 +20,14 @@ const LAST_PAD: u16 = PAD_GPIO29 - PADS_BANK0;
 impl Outer {
     ghost use Rattle.std.specs.Prelude.{◌≡◌, ◌+◌};
     ghost use Rattle.io_bank.specs.Offsets.{PADS_BANK0};
+    ghost use Rattle.outer_lane.specs.BroughtUp.{blocks_of, with_blocks, blocks_accessed};
     ghost use Rattle.outer_lane.specs.Setting.{setting};
     ghost use Rattle.outer_lane.specs.Step.{wires_of};
     ghost use Rattle.outer_lane.specs.Words.{outs_now, pads_word, bank_word, outer_word, outer_allowed, outer_accessed};
 
     /// The word at an offset in a register block as it reads in this cycle. None where the block has no such word, or is
     /// none of the peripherals.
-    #[tactic(auto, unfolding(crate::specs::Words::outer_word))]
+    #[tactic(auto, unfolding(crate::specs::Words::outer_word, crate::specs::BroughtUp::blocks_word))]
     pub fn read<X: Device>(
         &self,
         world: &World<'_, X>,
@@ -44,9 +40,9 @@ impl Outer {
         match block {
             Block::IoBank0 => self.read_bank(world, seen, offset),
             Block::PadsBank0 => self.read_pads(world, seen, offset),
-            Block::Uart0 => word(&self.uart0, offset),
-            Block::Uart1 => word(&self.uart1, offset),
-            Block::Timer => word(&self.timer, offset),
+            Block::Uart0 => self.blocks.read(Block::Uart0, offset),
+            Block::Uart1 => self.blocks.read(Block::Uart1, offset),
+            Block::Timer => self.blocks.read(Block::Timer, offset),
             _ => None,
         }
     }
@@ -123,61 +119,47 @@ impl Outer {
         match block {
             Block::IoBank0 => offset < PADS_BANK0 && self.pads.allows(offset, write),
             Block::PadsBank0 => offset <= LAST_PAD && self.pads.allows(PADS_BANK0 + offset, write),
-            Block::Uart0 => self.uart0.block.allows(offset, write),
-            Block::Uart1 => self.uart1.block.allows(offset, write),
-            Block::Timer => self.timer.block.allows(offset, write),
+            Block::Uart0 => self.blocks.blocks.uart0.block.allows(offset, write),
+            Block::Uart1 => self.blocks.blocks.uart1.block.allows(offset, write),
+            Block::Timer => self.blocks.blocks.timer.block.allows(offset, write),
             _ => false,
         }
     }
 
     /// Does what a read, or a write of this word, does to a register block. Nothing is changed where the block has no such
     /// word, or is none of the peripherals.
-    #[tactic(auto, unfolding(crate::specs::Words::outer_accessed))]
+    #[tactic(auto, unfolding(crate::specs::Words::outer_accessed, crate::specs::BroughtUp::blocks_accessed))]
     pub fn effect(&mut self, block: Block, offset: u16, write: Option<u32>)
         ensures { self.new ≡ outer_accessed block offset write self.old }
     {
         match block {
             Block::IoBank0 => {
-                self.pads_at_rest = false;
-                self.at_rest = false;
-                self.calm = false;
+                self.stays = false;
                 access_bank(&mut self.pads, offset, write);
+                self.blocks
+                    .tell(self.pads.receive_level(0), self.pads.receive_level(1));
             }
             Block::PadsBank0 => {
-                self.pads_at_rest = false;
-                self.at_rest = false;
-                self.calm = false;
+                self.stays = false;
                 access_pads(&mut self.pads, offset, write);
+                self.blocks
+                    .tell(self.pads.receive_level(0), self.pads.receive_level(1));
             }
-            Block::Uart0 => {
-                self.at_rest = false;
-                self.left = 0;
-                access_uart(&mut self.uart0, &mut self.calm, offset, write);
-                self.look_ahead();
-            }
-            Block::Uart1 => {
-                self.at_rest = false;
-                self.left = 0;
-                access_uart(&mut self.uart1, &mut self.calm, offset, write);
-                self.look_ahead();
-            }
-            Block::Timer => access(&mut self.timer, offset, write),
+            Block::Uart0 => self.access_blocks(Block::Uart0, offset, write),
+            Block::Uart1 => self.access_blocks(Block::Uart1, offset, write),
+            Block::Timer => self.access_blocks(Block::Timer, offset, write),
             _ => {}
         }
     }
-}
 
-/// An access to a UART. Where its output changes, `calm` is false from then on.
-#[tactic(auto, unfolding(crate::specs::Words::uart_accessed))]
-fn access_uart(uart: &mut Resettable<Uart>, calm: &mut bool, offset: u16, write: Option<u32>)
-    ensures after { uart.new ≡ uart_accessed offset write uart.old }
-    ensures was { calm.new ≡ true → calm.old ≡ true }
-    ensures output { calm.new ≡ true → output_of uart.new.block ≡ output_of uart.old.block }
-{
-    let before = uart.block.out();
-    access(uart, offset, write);
-    if uart.block.out() != before {
-        *calm = false;
+    /// Does what a read, or a write of this word, does to the timer or a UART.
+    fn access_blocks(&mut self, block: Block, offset: u16, write: Option<u32>)
+        ensures { self.new ≡ with_blocks (blocks_accessed block offset write (blocks_of self.old)) self.old }
+    {
+        self.blocks.access(block, offset, write);
+        let uarts = self.blocks.outs();
+        let same = self.drivers.has_uarts(uarts);
+        self.stays &= same;
     }
 }
 
@@ -198,18 +180,4 @@ fn access_pads(pads: &mut IoBank, offset: u16, write: Option<u32>)
     if offset <= LAST_PAD {
         let _ = pads.effect(PADS_BANK0 + offset, write);
     }
-}
-
-/// An access to a block that has its bit of RESETS beside it.
-fn access<B: Registers<()>>(block: &mut Resettable<B>, offset: u16, write: Option<u32>)
-    ensures { block.new ≡ unless_held_becomes block.old (B.accessed offset write block.old.block) }
-{
-    let _ = <Resettable<B> as Registers<()>>::effect(block, offset, write);
-}
-
-/// A word of such a block.
-fn word<B: Registers<()>>(block: &Resettable<B>, offset: u16) -> Option<u32>
-    ensures { result ≡ unless_held block.now.held (B.word offset tt block.now.block) }
-{
-    block.read(&(), offset)
 }

@@ -27,11 +27,11 @@ sending-idle : (s : SerialPort) → s.sender ≡ senders.Idle → s.to_send ≡ 
 unfolding after_sending
 sending-idle s e w = ap (λ (x : Sender). after_sender x s) e ∙ next-none 0 s w
 
-pub waiting-none : (s : SerialPort) → s.waited ≡ None → after_waiting s ≡ s
+waiting-none : (s : SerialPort) → s.waited ≡ None → after_waiting s ≡ s
 unfolding after_waiting
 waiting-none s e = ap (λ (w : Option ℕ). after_more_waiting w s) e
 
-pub receiving-idle : (s : SerialPort) → s.receiver ≡ receivers.Idle → after_receiving true s ≡ after_waiting s
+receiving-idle : (s : SerialPort) → s.receiver ≡ receivers.Idle → after_receiving true s ≡ after_waiting s
 unfolding after_receiving after_line is_byte_due
 receiving-idle s e =
     ap (λ (r : Receiver). cond (is_byte_due r s) (after_line r true s) (after_waiting (after_line r true s))) e

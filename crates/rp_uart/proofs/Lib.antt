@@ -1,7 +1,6 @@
 pub mod AtRest
 pub mod Comparisons
 pub mod Frames
-pub mod GoesOn
 pub mod Heard
 pub mod Kept
 pub mod Loopback

@@ -15,6 +15,7 @@ use Rattle.rp_uart.specs.Interrupts.{told, timeout_interrupt}
 use Rattle.rp_uart.specs.Sender.{bit_time, is_over, level_of, can_send, is_last_bit, with_sender, with_first, next_frame, after_bit, after_sender, after_sending, ended_byte}
 use Rattle.rp_uart.specs.State.{SerialPort}
 use Rattle.rp_uart.specs.Step.{is_running, output_of, heard_of, after_step, sent_byte, pacing_of}
+use Rattle.rp_uart.specs.Words.{word_of}
 use Rattle.rp_uart.proofs.AtRest.{cond-same, none-in, next-none}
 
 not-over : (elapsed : ℕ) (d : Divisor) → elapsed + 4 < bit_time d → is_over elapsed d ≡ false
@@ -160,6 +161,11 @@ no-end : (x : Sender) (b : Bool) (s : SerialPort) → SendsOn 1 x b s.divisor �
 no-end senders.Idle b s h = refl
 no-end (senders.Frame f) b s h = ap (λ (o : Bool). cond (o && is_last_bit f s) (Some f.byte) None) (not-over f.elapsed s.divisor h)
 
+word-stays : (time offset : ℕ) (x : Sender) (receiver : Receiver) (waited : Option ℕ) (s : SerialPort) →
+    word_of offset (record s { sender = sent_longer time x; receiver = receiver; waited = waited }) ≡ word_of offset (record s { sender = x })
+word-stays time offset senders.Idle receiver waited s = refl
+word-stays time offset (senders.Frame f) receiver waited s = refl
+
 pub goes-quiet : (line : Bool) (s : SerialPort) (n : ℕ) → GoesOn line s n → IsQuiet line s n
 goes-quiet line s n g = record {
   silent = λ k lt.
@@ -170,6 +176,7 @@ goes-quiet line s n g = record {
   output = λ k le. ap output_of (passes line s n g k le) ∙ level-stays (4 * k) s.sender s.line;
   lines = λ k le. ap is_line_high (passes line s n g k le);
   pacing = λ k le. ap pacing_of (passes line s n g k le);
+  words = λ k le offset. ap (word_of offset) (passes line s n g k le) ∙ word-stays (4 * k) offset s.sender (heard_longer (4 * k) s.receiver) (waited_longer (4 * k) s.waited) s;
 }
 
 quiet-none : (line : Bool) (s : SerialPort) → IsQuiet line s 0
@@ -178,6 +185,7 @@ quiet-none line s = record {
   output = λ k le. let e : k ≡ 0 = omega arith in rw e refl;
   lines = λ k le. let e : k ≡ 0 = omega arith in rw e refl;
   pacing = λ k le. let e : k ≡ 0 = omega arith in rw e refl;
+  words = λ k le offset. let e : k ≡ 0 = omega arith in rw e refl;
 }
 
 pub left-quiet : (line : Bool) (s : SerialPort) (n : ℕ) → (0 < n → GoesOn line s n) → IsQuiet line s n
@@ -198,6 +206,7 @@ stands-quiet line s n e = record {
   output = λ k le. ap output_of (stands line s k e);
   lines = λ k le. ap is_line_high (stands line s k e);
   pacing = λ k le. ap pacing_of (stands line s k e);
+  words = λ k le offset. ap (word_of offset) (stands line s k e);
 }
 
 pub not-false : (b : Bool) → true ≡ not b → b ≡ false

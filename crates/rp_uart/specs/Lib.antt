@@ -7,4 +7,3 @@ pub mod Sender
 pub mod State
 pub mod Step
 pub mod Words
-pub mod Lasting

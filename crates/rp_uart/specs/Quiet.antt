@@ -11,18 +11,20 @@ use Rattle.rp_uart.specs.Receiver.{can_receive}
 use Rattle.rp_uart.specs.Sender.{bit_time, can_send}
 use Rattle.rp_uart.specs.State.{SerialPort}
 use Rattle.rp_uart.specs.Step.{is_running, output_of, heard_of, after_step, sent_byte, pacing_of}
+use Rattle.rp_uart.specs.Words.{word_of}
 
 -- so many cycles, in which RX stays at a level
 abbrev pub after_cycles : Bool → ℕ → SerialPort → SerialPort
 after_cycles line zero s = s
 after_cycles line (suc n) s = after_step line (after_cycles line n s)
 
--- in so many cycles no frame ends, and TX, the interrupt line and what the DMA engine is told stay
+-- in so many cycles no frame ends, and TX, the interrupt line, what the DMA engine is told and what each word reads as stay
 pub record IsQuiet (line : Bool) (s : SerialPort) (n : ℕ) : Type 0 where
   pub silent : (k : ℕ) → k < n → sent_byte (after_cycles line k s) ≡ None
   pub output : (k : ℕ) → k ≤ n → output_of (after_cycles line k s) ≡ output_of s
   pub lines : (k : ℕ) → k ≤ n → is_line_high (after_cycles line k s) ≡ is_line_high s
   pub pacing : (k : ℕ) → k ≤ n → pacing_of (after_cycles line k s) ≡ pacing_of s
+  pub words : (k : ℕ) → k ≤ n → (offset : ℕ) → word_of offset (after_cycles line k s) ≡ word_of offset s
 
 -- ---- within bits
 

@@ -1,6 +1,6 @@
 -- One cycle of a UART (PrimeCell UART PL011 Technical Reference Manual, DDI 0183, 2.4.3, UART operation: system and diagnostic
 -- loopback testing, 2.7, DMA interface, and 3.3.14, UARTDMACR).
-use Rattle.std.specs.Prelude.{ℕ, ◌-◌, ◌==◌, ◌&&◌, ◌||◌, Bool, not, is_none, nat_lt, if◌then◌else◌, List, [], ◌∷◌, length, Option, None}
+use Rattle.std.specs.Prelude.{ℕ, ◌-◌, ◌==◌, ◌&&◌, ◌||◌, Bool, is_none, nat_lt, if◌then◌else◌, List, [], ◌∷◌, length, Option, None}
 use Rattle.rp_uart.specs.Interrupts.{depth_of}
 use Rattle.rp_uart.specs.Receiver.{after_receiving, is_free}
 use Rattle.rp_uart.specs.Sender.{level_of, is_idle, after_sending, ended_byte}
@@ -29,10 +29,6 @@ abbrev pub has_nothing_to_do : Bool → SerialPort → Bool
 has_nothing_to_do line s =
     is_idle s.sender
     && (is_free s.receiver && (is_none s.waited && ((length s.to_send == 0) && (line || s.control.loopback))))
-
--- a cycle with that level of the line changes nothing
-abbrev pub is_at_rest : Bool → SerialPort → Bool
-is_at_rest line s = not (is_running s) || has_nothing_to_do line s
 
 -- the free entries of the transmit FIFO and the words of the receive FIFO, each where the DMA engine is asked to move them
 abbrev pub pacing_of : SerialPort → List ℕ

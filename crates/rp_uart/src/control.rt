@@ -60,15 +60,6 @@ impl Divisor {
         }
     }
 
-    /// Where a bit lasts for so many cycles more, what has passed of it by then fits 32 bits. It costs nothing.
-    #[inline(always)]
-    pub(crate) fn fits(&self, elapsed: u32, left: u32)
-        requires { elapsed + 4 * left < bit_time self.now }
-        ensures { elapsed + 4 * left < 2 ^ 32 }
-    {
-        let _ = self.bit_time();
-    }
-
     /// One more cycle of a bit of which so many quarters of a cycle have passed: whether the bit is over, and how much of it,
     /// or of the next one, has passed then.
     pub(crate) fn pass(&self, elapsed: u32) -> (bool, u32)

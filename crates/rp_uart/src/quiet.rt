@@ -12,8 +12,8 @@ use crate::sender::Sender;
 use crate::uart::Uart;
 
 impl Uart {
-    /// In so many cycles, as long as RX stays at this level, no frame ends, and TX, the interrupt line and what the DMA engine is
-    /// told stay: up to the next end of a bit or the timeout, and `u64::MAX` where nothing is sent or received.
+    /// In so many cycles, as long as RX stays at this level, no frame ends, and TX, the interrupt line, what the DMA engine is told
+    /// and what each word reads as stay: up to the next end of a bit or the timeout, and `u64::MAX` where nothing is sent or received.
     pub fn quiet(&self, line: bool) -> u64
         ensures { IsQuiet line self.now result }
     {

@@ -1,8 +1,6 @@
 //! Sending.
 
-ghost use Rattle.std.specs.Prelude.{◌≡◌, ◌<◌, ◌≤◌, ◌-◌, ℕ, true, false, Some, None, if◌then◌else◌};
-ghost use Rattle.rp_uart.specs.Step.{output_of};
-ghost use Rattle.rp_uart.specs.Lasting.{BitLasts};
+ghost use Rattle.std.specs.Prelude.{◌≡◌, ◌<◌, Some, None, if◌then◌else◌};
 ghost use Rattle.rp_uart.specs.Sender.{next_frame, is_last_bit, after_bit, after_frame, after_sending, ended_byte, frame_byte};
 
 use crate::interrupts::TRANSMIT;
@@ -42,57 +40,6 @@ impl Uart {
                 None
             }
             Sender::Frame(frame) => self.send_frame(frame),
-        }
-    }
-
-    /// The sender's cycle, where a frame is sent and no bit of it ends; else nothing. Whether it was.
-    #[inline(always)]
-    #[tactic(auto, unfolding(crate::specs::Sender::after_sending))]
-    pub(crate) fn goes_on(&mut self) -> bool
-        requires { 0 < self.old.divisor.integer }
-        ensures on { result ≡ true → self.new ≡ after_sending self.old }
-        ensures off { result ≡ false → self.new ≡ self.old }
-        ensures byte { result ≡ true → ended_byte self.old.sender self.old ≡ None }
-        ensures output { result ≡ true → output_of self.new ≡ output_of self.old }
-    {
-        let Sender::Frame(frame) = &mut self.sender else {
-            return false;
-        };
-        let (over, elapsed) = self.divisor.pass(frame.elapsed);
-        if over {
-            return false;
-        }
-        frame.elapsed = elapsed;
-        true
-    }
-
-    /// The sender's cycle, where a frame is sent of which the bit lasts for so many cycles.
-    #[inline(always)]
-    #[tactic(auto, unfolding(crate::specs::Sender::after_sending))]
-    pub(crate) fn lengthen(&mut self, left: u32)
-        requires some { 0 < left }
-        requires lasts { BitLasts left self.old.sender self.old.divisor }
-        ensures after { self.new ≡ after_sending self.old }
-        ensures lasts { BitLasts (left - 1) self.new.sender self.new.divisor }
-        ensures byte { ended_byte self.old.sender self.old ≡ None }
-        ensures output { output_of self.new ≡ output_of self.old }
-    {
-        if let Sender::Frame(frame) = &mut self.sender {
-            self.divisor.fits(frame.elapsed, left);
-            frame.elapsed += 4;
-        }
-    }
-
-    /// For how many cycles no bit of a frame that is sent ends; 0 where none is sent.
-    #[inline(always)]
-    pub(crate) fn bit_left(&self) -> u32
-        requires { 0 < self.now.divisor.integer }
-        ensures lasts { 0 < result → BitLasts result self.now.sender self.now.divisor }
-        ensures most { (more : ℕ) → BitLasts more self.now.sender self.now.divisor → more ≤ result }
-    {
-        match self.sender {
-            Sender::Idle => 0,
-            Sender::Frame(frame) => self.divisor.left(frame.elapsed),
         }
     }
 

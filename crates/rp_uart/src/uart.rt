@@ -1,12 +1,9 @@
 //! A UART: its state, its cycle and its readers.
 
-ghost use Rattle.std.specs.Prelude.{◌≡◌, ◌<◌, ◌≤◌, ◌-◌, ℕ, true, false, not, None, Decides};
-ghost use Rattle.rp_uart.specs.declared.receiver.Receiver.TheVariants.{Idle};
+ghost use Rattle.std.specs.Prelude.{◌≡◌, true, not, None, Decides};
 ghost use Rattle.rp_uart.specs.State.{at_reset};
 ghost use Rattle.rp_uart.specs.Interrupts.{is_line_high};
-ghost use Rattle.rp_uart.specs.Sender.{is_idle};
-ghost use Rattle.rp_uart.specs.Lasting.{Lasts};
-ghost use Rattle.rp_uart.specs.Step.{is_running, is_at_rest, has_nothing_to_do, output_of, heard_of, after_step, sent_byte, pacing_of};
+ghost use Rattle.rp_uart.specs.Step.{is_running, has_nothing_to_do, output_of, heard_of, after_step, sent_byte, pacing_of};
 
 use crate::control::{Control, Divisor, DmaControl};
 use crate::frame::{LineControl, WordLength};
@@ -170,51 +167,10 @@ impl Uart {
         self.run(line)
     }
 
-    /// In so many cycles with a high line, and in no more, no bit of a frame that is sent ends and nothing is received; 0 where no
-    /// frame is sent, where its bit ends in the next cycle, and where something may be received or told.
-    #[inline(always)]
-    pub fn left(&self) -> u32
-        ensures lasts { 0 < result → Lasts result self.now }
-        ensures most { (more : ℕ) → Lasts more self.now → more ≤ result }
-    {
-        if self.is_stopped() || !self.hears_nothing(true) {
-            return 0;
-        }
-        self.bit_left()
-    }
-
-    /// The first of so many such cycles.
-    #[inline(always)]
-    #[tactic(auto, using(crate::proofs::GoesOn::goes_on))]
-    pub fn send_on(&mut self, left: u32)
-        requires some { 0 < left }
-        requires lasts { Lasts left self.old }
-        ensures after { self.new ≡ after_step true self.old }
-        ensures lasts { Lasts (left - 1) self.new }
-        ensures byte { sent_byte self.old ≡ None }
-        ensures output { output_of self.new ≡ output_of self.old }
-    {
-        self.lengthen(left);
-    }
-
     /// One cycle of a UART that has a divisor.
     #[inline(never)]
-    #[tactic(auto, using(crate::proofs::GoesOn::goes_on))]
-    fn run(&mut self, line: bool) -> Option<u8>
-        requires { is_running self.old ≡ true }
-        ensures after { self.new ≡ after_step line self.old }
-        ensures byte { result ≡ sent_byte self.old }
-    {
-        if self.hears_nothing(line) && self.goes_on() {
-            return None;
-        }
-        self.run_any(line)
-    }
-
-    /// The same, whatever is sent and received.
-    #[inline(never)]
     #[tactic(auto, using(crate::proofs::Kept::kept))]
-    fn run_any(&mut self, line: bool) -> Option<u8>
+    fn run(&mut self, line: bool) -> Option<u8>
         requires { is_running self.old ≡ true }
         ensures after { self.new ≡ after_step line self.old }
         ensures byte { result ≡ sent_byte self.old }
@@ -278,41 +234,12 @@ impl Uart {
             && (line || self.control.loopback)
     }
 
-    /// A cycle with this level changes nothing: the UART has no divisor, or nothing to do.
-    pub fn is_at_rest(&self, line: bool) -> bool
-        ensures value { result ≡ is_at_rest line self.now }
-        ensures same { result ≡ true → after_step line self.now ≡ self.now }
-        ensures silent { result ≡ true → sent_byte self.now ≡ None }
-    {
-        self.is_stopped() || self.has_nothing_to_do(line)
-    }
-
     /// The UART has no divisor, so that it does not run.
     #[inline(always)]
-    pub fn is_stopped(&self) -> bool
+    pub(crate) fn is_stopped(&self) -> bool
         ensures { result ≡ not (is_running self.now) }
     {
         self.divisor.integer == 0
-    }
-
-    /// No frame is sent.
-    #[inline(always)]
-    pub fn is_idle(&self) -> bool
-        ensures { result ≡ is_idle self.now.sender }
-    {
-        matches!(self.sender, Sender::Idle)
-    }
-
-    /// The line is high, the receiver hears it and waits for a low one, and no byte waits to be told.
-    #[inline(always)]
-    fn hears_nothing(&self, line: bool) -> bool
-        ensures { Decides result ((self.now.receiver ≡ Idle) × ((self.now.waited ≡ None)
-            × ((line ≡ true) × (self.now.control.loopback ≡ false)))) }
-    {
-        matches!(self.receiver, Receiver::Idle)
-            && self.waited.is_none()
-            && line
-            && !self.control.loopback
     }
 
     /// The level that the receiver hears.

@@ -1,7 +1,6 @@
 use Rattle.std.proofs.Common.{◌==◌, ap, sym, subst, ◌∙◌}
 use Rattle.std.specs.Prelude.{Decides, bit_and}
-use Rattle.io_bank.specs.Levels.{pins_of}
-use Rattle.io_bank.specs.Driven.{IsSameAt}
+use Rattle.io_bank.specs.Levels.{pins_of, IsSameAt}
 use Rattle.io_bank.proofs.Routed.{pwm-is}
 use Rattle.io_bank.proofs.Same.{same_at, pwm_levels-same}
 use Rattle.io_bank.proofs.bank.IoBank.is_pwm_same.Goals as goal

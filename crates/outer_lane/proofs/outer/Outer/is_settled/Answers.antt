@@ -14,5 +14,5 @@ returns g c t =
     c.step_device-wires.ensures.wires
     ∙ ap (λ (xs : List ℕ). wires_by d xs cycle c.pads-levels.result) c.words-words.ensures
     ∙ ap (λ (n : ℕ). wires_by d s.device cycle n) c.pads-levels.ensures in
-    settled_by (setting g.X.Device.meaning c.args.world.now) c.args.seen.now s c.step_device-wires.result c.outside-drives.result c.outs-outs.result _ e c.outside-drives.ensures c.outs-outs.ensures (ap (λ (x : OuterState). x.pads) c.self.view_is) (c.settles.ensures t)
-    (c.if-wires-self.false ∙ ap (λ (x : OuterState). x.irq) c.self.view_is)
+    settled_by (setting g.X.Device.meaning c.args.world.now) c.args.seen.now s c.step_device-wires.result c.outside-drives.result e
+    c.outside-drives.ensures (c.stays_by.ensures t) (c.if-wires-self.false ∙ ap (λ (x : OuterState). x.irq) c.self.view_is)

@@ -1,21 +1,21 @@
-use Rattle.std.proofs.Common.{ap, ◌∙◌}
-use Rattle.outer_lane.specs.contracts.outer.Outer.{the_view}
-use Rattle.outer_lane.proofs.Staying.{ended, any_next, any_marked}
+use Rattle.std.proofs.Common.{[], ◌∷◌, ◌++◌, ap, ◌∙◌}
+use Rattle.outer_lane.specs.State.{OuterState}
+use Rattle.outer_lane.proofs.Staying.{any_next, any_marked}
 use Rattle.outer_lane.proofs.outer.Outer.step_changing.Goals as goal
 
 pub returns-clause-state : goal.returns-clause-state
 returns-clause-state c =
     let d = c.drivers-drivers in
-    c.settle.ensures
-    ∙ ap (λ t. record (the_view c.self.inside) { timer = t; irq = c.args.wires.irq }) c.step_timer.ensures
-    ∙ ap (ended c.args.wires.irq c.args.seen.now.cycle) c.self.view_is
-    ∙ any_next c.args.wires c.args.seen.now c.args.drives c.args.self.now c.step_uarts-uart.new.self c.step_driven-pads.new.self d.result
-    d.ensures.outs d.ensures.driven d.ensures.high c.step_uarts-uart.ensures.after c.step_driven-pads.ensures.after
+    ap (λ (x : OuterState). record x { irq = c.args.wires.now.irq }) c.self.view_is
+    ∙ any_next c.args.wires.now c.args.seen.now c.args.drives c.args.self.now c.step_blocks-uart.new.self c.step_driven-pads.new.self d.result
+    d.ensures.outs d.ensures.driven d.ensures.high c.step_blocks-uart.ensures.after c.step_driven-pads.ensures.after
 
-pub returns-clause-mark : goal.returns-clause-mark
-returns-clause-mark c =
+pub returns-clause-marks : goal.returns-clause-marks
+returns-clause-marks c =
     let d = c.drivers-drivers in
-    any_marked c.args.wires c.args.seen.now c.args.drives c.args.self.now c.step_uarts-uart.new.self d.result
-    c.step_uarts-uart.result c.step_driven-pads.result
-    d.ensures.outs d.ensures.driven d.ensures.high c.step_uarts-uart.ensures.after c.step_uarts-uart.ensures.bytes
-    c.step_driven-pads.ensures.levels
+    c.push.ensures
+    ∙ ap (λ m. c.args.marks.now ++ m ∷ [])
+    (any_marked c.args.wires.now c.args.seen.now c.args.drives c.args.self.now c.step_blocks-uart.new.self d.result
+    c.step_blocks-uart.result c.step_driven-pads.result
+    d.ensures.outs d.ensures.driven d.ensures.high c.step_blocks-uart.ensures.after c.step_blocks-uart.ensures.bytes
+    c.step_driven-pads.ensures.levels)

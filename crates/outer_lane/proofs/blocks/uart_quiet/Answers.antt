@@ -1,5 +1,5 @@
 use Rattle.outer_lane.proofs.Cycles.{uart_held, uart_runs}
-use Rattle.outer_lane.proofs.quiet.uart_quiet.Goals as goal
+use Rattle.outer_lane.proofs.blocks.uart_quiet.Goals as goal
 
 pub returns-then-uart : goal.returns-then-uart
 returns-then-uart c = uart_held c.args.line c.args.uart.now c.args.cycle _ c.if-uart.true

@@ -1,5 +1,5 @@
 use Rattle.outer_lane.proofs.Cycles.{timer_held, timer_runs}
-use Rattle.outer_lane.proofs.quiet.timer_quiet.Goals as goal
+use Rattle.outer_lane.proofs.blocks.timer_quiet.Goals as goal
 
 pub returns-then-timer : goal.returns-then-timer
 returns-then-timer c = timer_held c.args.timer.now c.args.cycle _ c.if-timer.true

@@ -1,0 +1,102 @@
+-- The timer and the UARTs, which lie behind: what they are after so many cycles, in which of these they are quiet, and what an access does. Nothing of
+-- it is told outside.
+use Rattle.std.specs.Prelude.{ℕ, Bool, true, List, Option, None}
+use Rattle.rp_base.specs.declared.map.Block.{Block}
+use Rattle.rp_base.specs.declared.map.Block.TheVariants as block
+use Rattle.rp_base.specs.Held.{unless_held}
+use Rattle.rp_base.specs.Resettable.{let_go, with_held}
+use Rattle.rp_base.specs.ResetBits.{TIMER, UART0, UART1}
+use Rattle.rp_base.specs.Word.{has_bit}
+use Rattle.lane_look.specs.Times.{times}
+use Rattle.io_bank.specs.Levels.{receive_level, uart_outputs}
+use Rattle.rp_uart.specs.State as uart
+use Rattle.rp_uart.specs.Step.{output_of}
+use Rattle.rp_uart.specs.Words as uart_words
+use Rattle.rp_timer.specs.State as timer
+use Rattle.rp_timer.specs.Words as timer_words
+use Rattle.outer_lane.specs.declared.blocks.Blocks.{Blocks}
+use Rattle.outer_lane.specs.Quiet.{uart_cycle, IsTimerQuiet, IsUartQuiet}
+use Rattle.outer_lane.specs.State.{OuterState}
+use Rattle.outer_lane.specs.Step.{timer_after, uart_after}
+use Rattle.outer_lane.specs.Words.{uart_accessed, timer_accessed}
+
+-- the blocks, and what they are told: the levels of the lines that the UARTs hear
+pub record Told : Type 0 where
+  pub blocks : Blocks
+  pub line0 : Bool
+  pub line1 : Bool
+
+-- those of the peripherals, and the peripherals with others
+abbrev pub blocks_of : OuterState → Blocks
+blocks_of s = record { timer = s.timer; uart0 = s.uart0; uart1 = s.uart1 }
+
+abbrev pub with_blocks : Blocks → OuterState → OuterState
+with_blocks b s = record s { timer = b.timer; uart0 = b.uart0; uart1 = b.uart1 }
+
+-- each is out of reset, and no pin has the function of a UART
+abbrev pub blocks_at_start : Blocks
+blocks_at_start = record { timer = let_go timer.at_reset; uart0 = let_go uart.at_reset; uart1 = let_go uart.at_reset }
+
+abbrev pub told_at_start : Told
+told_at_start = record { blocks = blocks_at_start; line0 = true; line1 = true }
+
+-- a cycle in which the lines have these levels, and so many from a first one on
+abbrev pub blocks_step : Bool → Bool → ℕ → Blocks → Blocks
+blocks_step line0 line1 cycle b = record {
+  timer = timer_after cycle b.timer;
+  uart0 = uart_after line0 b.uart0;
+  uart1 = uart_after line1 b.uart1;
+}
+
+abbrev pub blocks_after : Bool → Bool → ℕ → ℕ → Blocks → Blocks
+blocks_after line0 line1 first n b = record {
+  timer = times timer_after first n b.timer;
+  uart0 = times (uart_cycle line0) first n b.uart0;
+  uart1 = times (uart_cycle line1) first n b.uart1;
+}
+
+-- the same of the blocks with what they are told
+abbrev pub told_step : ℕ → Told → Told
+told_step cycle t = record t { blocks = blocks_step t.line0 t.line1 cycle t.blocks }
+
+abbrev pub told_after : ℕ → ℕ → Told → Told
+told_after first n t = record t { blocks = blocks_after t.line0 t.line1 first n t.blocks }
+
+-- the same of the peripherals, as long as the pads stay
+abbrev pub blocks_stepped : ℕ → OuterState → OuterState
+blocks_stepped cycle s = with_blocks (blocks_step (receive_level 0 s.pads) (receive_level 1 s.pads) cycle (blocks_of s)) s
+
+abbrev pub blocks_passed : ℕ → ℕ → OuterState → OuterState
+blocks_passed first n s = with_blocks (blocks_after (receive_level 0 s.pads) (receive_level 1 s.pads) first n (blocks_of s)) s
+
+-- for so many cycles from a first one on each of them is quiet
+pub record AreBlocksQuiet (line0 line1 : Bool) (b : Blocks) (first n : ℕ) : Type 0 where
+  pub timer : IsTimerQuiet b.timer first n
+  pub uart0 : IsUartQuiet line0 b.uart0 first n
+  pub uart1 : IsUartQuiet line1 b.uart1 first n
+
+-- what the UARTs put out
+abbrev pub blocks_outs : Blocks → List ℕ
+blocks_outs b = uart_outputs (output_of b.uart0.block) (output_of b.uart1.block)
+
+-- what their words read as; None where there is no such word, or the block is none of them
+unfoldable pub blocks_word : Block → ℕ → Blocks → Option ℕ
+blocks_word block.Uart0 offset b = unless_held b.uart0.held (uart_words.word_of offset b.uart0.block)
+blocks_word block.Uart1 offset b = unless_held b.uart1.held (uart_words.word_of offset b.uart1.block)
+blocks_word block.Timer offset b = unless_held b.timer.held (timer_words.word_of offset b.timer.block)
+blocks_word _ offset b = None
+
+-- what a read or a write of one of their words does
+unfoldable pub blocks_accessed : Block → ℕ → Option ℕ → Blocks → Blocks
+blocks_accessed block.Uart0 offset write b = record b { uart0 = uart_accessed offset write b.uart0 }
+blocks_accessed block.Uart1 offset write b = record b { uart1 = uart_accessed offset write b.uart1 }
+blocks_accessed block.Timer offset write b = record b { timer = timer_accessed offset write b.timer }
+blocks_accessed _ offset write b = b
+
+-- what the bits of RESETS do
+abbrev pub blocks_reset : ℕ → Blocks → Blocks
+blocks_reset w b = record {
+  timer = with_held (has_bit w TIMER) timer.at_reset b.timer;
+  uart0 = with_held (has_bit w UART0) uart.at_reset b.uart0;
+  uart1 = with_held (has_bit w UART1) uart.at_reset b.uart1;
+}

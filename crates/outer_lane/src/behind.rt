@@ -1,0 +1,274 @@
+//! The timer and the UARTs lie behind: as long as they are quiet, a cycle of them is only counted.
+
+use crate::blocks::{Blocks, pass_timer, word};
+use io_bank::uart_outputs;
+use rp_base::Resettable;
+use rp_base::map::Block;
+use std::marker::Model;
+
+/// The timer and the UARTs as they were some cycles ago, and since then quiet. Contracts see them brought up to now.
+#[derive(Drop)]
+pub struct Behind {
+    pub(crate) blocks: Blocks,
+    // the levels that the UARTs hear
+    line0: bool,
+    line1: bool,
+    // the number of the first cycle that they lie behind, how many cycles these are, and for how many from the first one on they are quiet
+    first: u64,
+    count: u64,
+    quiet: u64,
+}
+
+impl Model for Behind {
+    ghost use Rattle.std.specs.Prelude.{◌≤◌, ◌<◌, ◌+◌, ◌^◌};
+    ghost use Rattle.outer_lane.specs.BroughtUp.{Told, blocks_after, AreBlocksQuiet};
+
+    ghost Value = { Told };
+
+    ghost view = { λ b. record {
+      blocks = blocks_after b.line0 b.line1 b.first b.count b.blocks;
+      line0 = b.line0;
+      line1 = b.line1;
+    } };
+
+    ghost invariant = { λ b. (b.count ≤ b.quiet) × ((b.first + b.quiet < 2 ^ 64)
+        × AreBlocksQuiet b.line0 b.line1 b.blocks b.first b.quiet) };
+}
+
+impl Behind {
+    ghost use Rattle.std.specs.Prelude.{◌≡◌, ◌+◌, ◌<◌, ◌^◌, ◌∷◌, ◌++◌, [], List, ℕ, true, false, None, Decides};
+    ghost use Rattle.rp_base.specs.Held.{unless_held};
+    ghost use Rattle.rp_timer.specs.State.{lines_of};
+    ghost use Rattle.rp_timer.specs.Words.{word_of};
+    ghost use Rattle.rp_uart.specs.Interrupts.{is_line_high};
+    ghost use Rattle.rp_uart.specs.Step.{pacing_of};
+    ghost use Rattle.outer_lane.specs.BroughtUp.{told_at_start, told_step, told_after, blocks_outs, blocks_word, blocks_accessed, blocks_reset, AreBlocksQuiet};
+    ghost use Rattle.outer_lane.specs.Step.{byte_of};
+
+    /// Before the first cycle: each is at reset and none is held, and the lines are high.
+    #[tactic(auto, unfolding(lane_look::specs::Times::times))]
+    pub(crate) fn new() -> Behind
+        ensures { result ≡ told_at_start }
+    {
+        let blocks = Blocks::new();
+        let quiet = blocks.quiet(true, true, 0);
+        Behind {
+            blocks,
+            line0: true,
+            line1: true,
+            first: 0,
+            count: 0,
+            quiet,
+        }
+    }
+
+    /// One cycle, where they are quiet in it; whether they were.
+    #[inline(always)]
+    pub(crate) fn go_on(&mut self, cycle: u64) -> bool
+        ensures after { result ≡ true → self.new ≡ told_step cycle self.old }
+        ensures byte0 { result ≡ true → byte_of self.old.blocks.uart0 ≡ None }
+        ensures byte1 { result ≡ true → byte_of self.old.blocks.uart1 ≡ None }
+        ensures outs { result ≡ true → blocks_outs self.new.blocks ≡ blocks_outs self.old.blocks }
+        ensures same { result ≡ false → self.new ≡ self.old }
+    {
+        if self.count < self.quiet && cycle == self.first + self.count {
+            self.count += 1;
+            return true;
+        }
+        false
+    }
+
+    /// One cycle, quiet or not; the bytes whose frames ended.
+    #[tactic(auto, unfolding(lane_look::specs::Times::times))]
+    pub(crate) fn step(&mut self, cycle: u64) -> [Option<u8>; 2]
+        ensures after { self.new ≡ told_step cycle self.old }
+        ensures bytes { result ≡ byte_of self.old.blocks.uart0 ∷ byte_of self.old.blocks.uart1 ∷ [] }
+    {
+        self.blocks
+            .pass(self.line0, self.line1, self.first, self.count);
+        let bytes = self.blocks.step(self.line0, self.line1, cycle);
+        self.first = cycle.saturating_add(1);
+        self.count = 0;
+        self.quiet = self.blocks.quiet(self.line0, self.line1, self.first);
+        bytes
+    }
+
+    /// So many cycles from one on. Whether they were quiet in these.
+    #[tactic(auto, unfolding(lane_look::specs::Times::times))]
+    pub(crate) fn pass(&mut self, cycle: u64, n: u64) -> bool
+        requires { cycle + n < 2 ^ 64 }
+        ensures after { self.new ≡ told_after cycle n self.old }
+        ensures outs { result ≡ true → blocks_outs self.new.blocks ≡ blocks_outs self.old.blocks }
+    {
+        if cycle == self.first + self.count && n <= self.quiet - self.count {
+            self.count += n;
+            return true;
+        }
+        self.blocks
+            .pass(self.line0, self.line1, self.first, self.count);
+        self.blocks.pass(self.line0, self.line1, cycle, n);
+        self.first = cycle + n;
+        self.count = 0;
+        self.quiet = self.blocks.quiet(self.line0, self.line1, self.first);
+        false
+    }
+
+    /// For so many cycles from this one on each of them is quiet.
+    #[inline(always)]
+    pub(crate) fn quiet(&self, cycle: u64) -> u64
+        ensures { AreBlocksQuiet self.now.line0 self.now.line1 self.now.blocks cycle result }
+    {
+        if cycle == self.first + self.count {
+            self.quiet - self.count
+        } else {
+            0
+        }
+    }
+
+    /// Takes the levels that the UARTs hear from now on.
+    #[inline(always)]
+    pub(crate) fn tell(&mut self, line0: bool, line1: bool)
+        ensures { self.new ≡ record self.old { line0 = line0; line1 = line1 } }
+    {
+        if line0 != self.line0 || line1 != self.line1 {
+            self.tell_others(line0, line1);
+        }
+    }
+
+    /// The same, where they are others.
+    #[inline(never)]
+    #[tactic(auto, unfolding(lane_look::specs::Times::times))]
+    fn tell_others(&mut self, line0: bool, line1: bool)
+        ensures { self.new ≡ record self.old { line0 = line0; line1 = line1 } }
+    {
+        self.blocks
+            .pass(self.line0, self.line1, self.first, self.count);
+        self.line0 = line0;
+        self.line1 = line1;
+        self.first += self.count;
+        self.count = 0;
+        self.quiet = self.blocks.quiet(line0, line1, self.first);
+    }
+
+    /// Does what a read, or a write of this word, does to one of them.
+    #[tactic(auto, unfolding(lane_look::specs::Times::times))]
+    pub(crate) fn access(&mut self, block: Block, offset: u16, write: Option<u32>)
+        ensures { self.new ≡ record self.old {
+          blocks = blocks_accessed block offset write self.old.blocks;
+        } }
+    {
+        self.blocks
+            .pass(self.line0, self.line1, self.first, self.count);
+        self.blocks.access(block, offset, write);
+        self.first += self.count;
+        self.count = 0;
+        self.quiet = self.blocks.quiet(self.line0, self.line1, self.first);
+    }
+
+    /// Takes the bits of RESETS.
+    #[tactic(auto, unfolding(lane_look::specs::Times::times))]
+    pub(crate) fn reset(&mut self, bits: u32)
+        ensures { self.new ≡ record self.old { blocks = blocks_reset bits self.old.blocks } }
+    {
+        self.blocks
+            .pass(self.line0, self.line1, self.first, self.count);
+        self.blocks.reset(bits);
+        self.first += self.count;
+        self.count = 0;
+        self.quiet = self.blocks.quiet(self.line0, self.line1, self.first);
+    }
+
+    /// What a word of one of them reads as. None where there is no such word, or the block is none of them.
+    #[tactic(auto, unfolding(crate::specs::BroughtUp::blocks_word))]
+    pub(crate) fn read(&self, block: Block, offset: u16) -> Option<u32>
+        ensures { result ≡ blocks_word block offset self.now.blocks }
+    {
+        match block {
+            Block::Uart0 => word(&self.blocks.uart0, offset),
+            Block::Uart1 => word(&self.blocks.uart1, offset),
+            Block::Timer => self.read_timer(offset),
+            _ => None,
+        }
+    }
+
+    /// A word of the timer, as a copy shows it that is brought up.
+    fn read_timer(&self, offset: u16) -> Option<u32>
+        ensures { result ≡ unless_held self.now.blocks.timer.held (word_of offset self.now.blocks.timer.block) }
+    {
+        let mut timer = Resettable {
+            block: self.blocks.timer.block,
+            held: self.blocks.timer.held,
+        };
+        pass_timer(&mut timer, self.first, self.count);
+        word(&timer, offset)
+    }
+
+    /// The interrupt lines of the timer.
+    #[inline(always)]
+    pub(crate) fn timer_lines(&self) -> u32
+        ensures { result ≡ lines_of self.now.blocks.timer.block }
+    {
+        self.blocks.timer.block.lines()
+    }
+
+    /// The interrupt lines of the UARTs.
+    #[inline(always)]
+    pub(crate) fn uart_lines(&self) -> [bool; 2]
+        ensures { result ≡ is_line_high self.now.blocks.uart0.block
+            ∷ is_line_high self.now.blocks.uart1.block ∷ [] }
+    {
+        [
+            self.blocks.uart0.block.line(),
+            self.blocks.uart1.block.line(),
+        ]
+    }
+
+    /// The counts that pace DMA channels, those of UART0 first.
+    #[inline(always)]
+    pub(crate) fn pacing(&self) -> [u8; 4]
+        ensures { result ≡ pacing_of self.now.blocks.uart0.block
+            ++ pacing_of self.now.blocks.uart1.block }
+    {
+        let [free0, words0] = self.blocks.uart0.block.pacing();
+        let [free1, words1] = self.blocks.uart1.block.pacing();
+        [free0, words0, free1, words1]
+    }
+
+    /// What the UARTs put out, by pin: levels and enables.
+    #[inline(always)]
+    pub(crate) fn outs(&self) -> [u32; 2]
+        ensures { result ≡ blocks_outs self.now.blocks }
+    {
+        uart_outputs(self.blocks.uart0.block.out(), self.blocks.uart1.block.out())
+    }
+
+    /// A copy of them that is brought up.
+    fn brought_up(&self) -> Blocks
+        ensures { result ≡ self.now.blocks }
+    {
+        let mut blocks = Blocks::new();
+        blocks.copy_from(&self.blocks);
+        blocks.pass(self.line0, self.line1, self.first, self.count);
+        blocks
+    }
+
+    /// Both are in the same state, whatever they are told.
+    pub(crate) fn is_same(&self, other: &Behind) -> bool
+        ensures { Decides result (self.now.blocks ≡ other.now.blocks) }
+    {
+        let blocks = self.brought_up();
+        blocks.is_same(&other.brought_up())
+    }
+
+    /// Takes the state of others.
+    pub(crate) fn copy_from(&mut self, other: &Behind)
+        ensures { self.new ≡ other.now }
+    {
+        self.blocks.copy_from(&other.blocks);
+        self.line0 = other.line0;
+        self.line1 = other.line1;
+        self.first = other.first;
+        self.count = other.count;
+        self.quiet = other.quiet;
+    }
+}
