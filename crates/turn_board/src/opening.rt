@@ -85,8 +85,11 @@ pub fn take_slots<J: Kept<W> + Drop, R: Kept<W> + Drop, W>(
         ≡ master_view master.old.me.0.made_for idle master.old.me.0.seats)
         × (master.old.me.1 ≡ []) }
     ensures table { master.new.table_id ≡ master.old.table_id }
-    ensures master { master.new.me ≡ (master_view master.old.me.0.made_for
-        (record idle { polls = 1 }) master.old.me.0.seats, numbered 0 vacant) }
+    ensures master { master.new.me ≡ (
+      master_view master.old.me.0.made_for
+          (record idle { polls = 1 }) master.old.me.0.seats,
+      numbered 0 vacant,
+    ) }
 {
     see_done(words, master);
     // a value that is let go by name is one call to check
