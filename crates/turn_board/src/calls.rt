@@ -10,12 +10,9 @@ use crate::answers::{Gather, See, Six};
 use crate::collect::{jobs_in, nothing, refill_all, results_in};
 use crate::hands::{Master, Seat, Ticket};
 use crate::kept::Kept;
-use crate::opening::{empty_slots, seat_workers};
-use crate::rule::Rule;
+use crate::opening::{Rows, new_rows, seat_workers, take_slots};
 use crate::slot::Slot;
 use crate::steps;
-use crate::view::View;
-use atomic_table::{Refused, Table};
 use std::alloc::{AllocError, Global};
 use std::marker::Model;
 use std::sync::Wait;
@@ -27,7 +24,7 @@ use std::time::Duration;
 /// that await takes a handle, none takes a lock, and none but `new` takes memory.
 #[derive(Drop)]
 pub struct Board<J: Kept<W>, R: Kept<W>, W> {
-    table: Table<Slot<J, R>, View<W>, W, Rule<J, R, W>, Global>,
+    table: Rows<J, R, W>,
 }
 
 impl<J: Kept<W>, R: Kept<W>, W> Model for Board<J, R, W> {
@@ -65,14 +62,9 @@ impl<J: Kept<W> + Drop, R: Kept<W> + Drop, W> Board<J, R, W> {
         ensures seats { IfOk result (λ made. made.2.items
             ≡ replicate seats (new_seat made.0 made_for)) }
     {
-        let slots = empty_slots(alloc)?;
-        let (table, mut post) = match Table::new(alloc, &[0, 0, 0], slots, &made_for) {
-            Ok(made) => made,
-            Err(Refused { slots: _ }) => return Err(AllocError),
-        };
+        let (table, mut post) = new_rows(alloc, &made_for)?;
         let workers = seat_workers(&table.shared, &mut post, alloc, seats)?;
-        steps::see_done(&table.shared, &mut post);
-        refill_all(&table.shared, &mut post, nothing());
+        take_slots(&table.shared, &mut post);
         Ok((Board { table }, Master { post, opened: 0 }, workers))
     }
 
@@ -191,7 +183,7 @@ impl<J: Kept<W> + Drop, R: Kept<W> + Drop, W> Board<J, R, W> {
             } }
         ensures event { IsOpen master.old.state master.new.state }
     {
-        refill_all(&self.table.shared, &mut master.post, jobs_in(jobs));
+        drop(refill_all(&self.table.shared, &mut master.post, jobs_in(jobs)));
         steps::open(&self.table.shared, &mut master.post);
         master.opened += 6;
         self.table.shared.wake_all(steps::OPEN);

@@ -1,7 +1,6 @@
 //! A report of a lane is compared with the lane's run alone from a machine's state.
 
 ghost use Rattle.std.specs.Prelude.{◌≡◌, ◌+◌, ◌^◌, ◌<◌, ◌≤◌, ◌&&◌, Decides, length, unwrap_or, is_none, is_ok, IfErr};
-ghost use Rattle.lane_look.specs.Replay.{meaning};
 ghost use Rattle.outer_lane.specs.Setting.{Setting};
 ghost use Rattle.window_merge.specs.Lanes.{core_lane, dma_lane, pio_lane, peripheral_lane};
 ghost use Rattle.window_merge.specs.Merging.{IsRunAlone};
@@ -44,31 +43,6 @@ fn verdict(outcome: Comparison) -> Result<(), Option<u16>>
     }
 }
 
-/// Compares a report with the run alone of a lane that stands in this state; `same` says whether the report begins in it.
-fn judge<S: Lane<()> + Drop>(
-    lane: S,
-    same: bool,
-    machine: &Machine,
-    number: u8,
-    report: &Report<S>,
-    at_most: u16,
-) -> Result<(), Option<u16>>
-    requires same { Decides same (report.now.before ≡ lane) }
-    requires start { report.now.start ≡ machine.now.cycle }
-    requires cycles { report.now.length ≤ 256 }
-    requires number { machine.now.cycle + report.now.length < 2 ^ 64 }
-    ensures { Judges
-        (IsRunAlone (meaning S.asks S.wanted S.next S.marked) number lane machine.now at_most
-        report.now) (IsUnlike (meaning S.asks S.wanted S.next S.marked) number lane machine.now
-        report.now) result }
-{
-    if !same {
-        return Err(None);
-    }
-    let outcome = compare_run(lane, machine, number, &report.log, report.length, at_most);
-    verdict(outcome)
-}
-
 /// Compares a report of a core. Core 1 has no cycle alone where its launcher has a word for it.
 fn judge_core(
     machine: &Machine,
@@ -89,15 +63,18 @@ fn judge_core(
     } else {
         &machine.core1
     };
-    let mut lane = Core::new(number);
-    Lane::<()>::copy_from(&mut lane, core);
-    let same = report.before.is_same(core);
+    if !report.before.is_same(core) {
+        return Err(None);
+    }
     let at_most = if number == 1 && core.is_asleep() && core.has_offer() {
         0
     } else {
         at_most
     };
-    judge(lane, same, machine, number, report, at_most)
+    let mut lane = Core::new(number);
+    Lane::<()>::copy_from(&mut lane, core);
+    let outcome = compare_run(lane, machine, number, &report.log, report.length, at_most);
+    verdict(outcome)
 }
 
 /// Compares a report of the DMA engine.
@@ -114,10 +91,13 @@ fn judge_dma(
         (IsRunAlone dma_lane number machine.now.dma machine.now at_most report.now)
         (IsUnlike dma_lane number machine.now.dma machine.now report.now) result }
 {
+    if !report.before.is_same(&machine.dma) {
+        return Err(None);
+    }
     let mut lane = Dma::new();
     Lane::<()>::copy_from(&mut lane, &machine.dma);
-    let same = report.before.is_same(&machine.dma);
-    judge(lane, same, machine, number, report, at_most)
+    let outcome = compare_run(lane, machine, number, &report.log, report.length, at_most);
+    verdict(outcome)
 }
 
 /// Compares a report of a PIO block.
@@ -139,10 +119,13 @@ fn judge_pio(
     } else {
         &machine.pio1
     };
+    if !report.before.is_same(block) {
+        return Err(None);
+    }
     let mut lane = PioBlock::new();
     Lane::<()>::copy_from(&mut lane, block);
-    let same = report.before.is_same(block);
-    judge(lane, same, machine, number, report, at_most)
+    let outcome = compare_run(lane, machine, number, &report.log, report.length, at_most);
+    verdict(outcome)
 }
 
 /// Compares a report of the peripherals: in their run alone they ask the same in each cycle, and it never ends early.

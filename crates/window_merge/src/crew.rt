@@ -53,8 +53,8 @@ fn job_of(alloc: Global, lane: u8) -> Result<LaneJob, AllocError>
     requires { lane ≤ 5 }
     ensures { IfOk result (λ job. job.lane ≡ lane) }
 {
-    let room = room_of(alloc, lane)?;
     let copies = Copies::new(alloc)?;
+    let room = room_of(alloc, lane)?;
     Ok(LaneJob {
         lane,
         start: 0,
@@ -72,7 +72,10 @@ fn two_jobs(alloc: Global, lane: u8) -> Result<[Option<LaneJob>; 2], AllocError>
     ensures { IfOk result (λ jobs. HasLanesFrom lane jobs) }
 {
     let first = job_of(alloc, lane)?;
-    let second = job_of(alloc, lane + 1)?;
+    let Ok(second) = job_of(alloc, lane + 1) else {
+        drop(first);
+        return Err(AllocError);
+    };
     Ok([Some(first), Some(second)])
 }
 

@@ -249,10 +249,8 @@ pub fn back(report: LaneReport) -> LaneJob
         run,
         set,
     } = report;
-    let LaneSet {
-        copies,
-        room: _room,
-    } = set;
+    let LaneSet { copies, room } = set;
+    drop(room);
     let start = start_of(&run);
     LaneJob {
         lane,

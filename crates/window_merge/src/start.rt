@@ -318,7 +318,15 @@ pub(crate) fn begin_outer<X: Device>(
     ensures begun { seen.new ≡ (begun machine.now).outer }
     ensures same { same.new ≡ (same.old && not (differs_outer start.now notes.now machine.now)) }
 {
-    *seen = begin_by(&machine.outer, world, 5, machine, start, notes, same);
+    let mut look = Matcher {
+        machine,
+        lane: 5,
+        start,
+        notes,
+        same: *same,
+    };
+    *seen = machine.outer.begin(world, machine.at, &mut look);
+    *same = look.same;
 }
 
 /// Begins the cycle of all lanes, in the place of what they began before, and compares each answer with that of the start: `same`

@@ -240,8 +240,9 @@ fn go<'w, X: Device, G: Gate, H: Wait, L: Ledger>(
             None => Moved::Cycle,
         };
     }
-    machine.begin_into(desk.world, &mut lead.sets.begun);
-    if let Some(why) = machine.stop_of(desk.world, &lead.sets.begun) {
+    let begun = &mut lead.sets.begun;
+    machine.begin_into(desk.world, begun);
+    if let Some(why) = machine.stop_of(desk.world, begun) {
         return Moved::Stopped(why);
     }
     Moved::Window(window(desk, lead, machine, marks, steps))

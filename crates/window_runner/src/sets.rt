@@ -158,12 +158,14 @@ fn settle<X: Device>(
         return run_spare(machine, world, spare, lane);
     };
     if report.lane != lane {
+        drop(report);
         return run_spare(machine, world, spare, lane);
     }
     if accept(machine, &report).is_ok() {
         return report;
     }
-    *first = Some(back(report));
+    // a value that is let go by name is one call to check
+    drop(first.replace(back(report)));
     run_spare(machine, world, spare, lane)
 }
 
@@ -200,9 +202,9 @@ fn give_back(report: LaneReport, first: &mut Option<LaneJob>, spare: &mut Option
 {
     let own = back(report);
     if spare.is_some() {
-        *first = Some(own);
+        drop(first.replace(own));
     } else {
-        *spare = Some(own);
+        drop(spare.replace(own));
     }
 }
 

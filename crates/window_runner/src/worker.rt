@@ -51,7 +51,8 @@ pub(crate) fn pass<'w, X: Device, G: Gate>(
     gate.enter(ticket.number());
     let piece = board.take(seat, &ticket);
     let found = found_of(piece, world);
-    board.put(seat, &ticket, found);
+    // a value that is let go by name is one call to check
+    drop(board.put(seat, &ticket, found));
     gate.leave(ticket.number());
     board.done(seat, ticket);
 }
