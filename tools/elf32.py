@@ -6,6 +6,7 @@ from runs import Refused
 
 MAGIC = b"\x7fELF"
 ARM, EXECUTABLE, OBJECT, LOAD, SYMBOLS, NO_BITS, ALLOCATED = 40, 2, 1, 1, 2, 8, 2
+OBJECTS, FUNCTIONS = 1, 2  # kinds of symbols
 
 
 @dataclass
@@ -79,8 +80,8 @@ class Elf:
                     break
             yield Section(self._text(self.names, name), address, 0 if kind == NO_BITS else size)
 
-    def functions(self):
-        """The functions in order: begin, size and name."""
+    def symbols(self, kinds):
+        """The symbols of these kinds in order: begin, size and name."""
         found = []
         for _, kind, _, _, offset, size, link, *_ in self.headers:
             if kind != SYMBOLS:
@@ -88,9 +89,12 @@ class Elf:
             for at in range(offset, offset + size, 16):
                 name, value, length, info, _, section = struct.unpack_from("<IIIBBH", self.data, at)
                 text = self._text(link, name) if name else ""
-                if info & 15 in (0, 2) and 0 < section < 0xFF00 and text and not text.startswith("$"):
-                    found.append((value & ~1, length, text))
+                if info & 15 in kinds and 0 < section < 0xFF00 and text and not text.startswith("$"):
+                    found.append((value if info & 15 == OBJECTS else value & ~1, length, text))
         return sorted(found)
+
+    def functions(self):
+        return self.symbols((0, FUNCTIONS))
 
     def function_of(self, address):
         """The function in which an address lies, with the distance from its begin; None outside all of them."""
@@ -99,3 +103,8 @@ class Elf:
             if begin <= address and (address < begin + length or length == 0):
                 best = (name, address - begin)
         return best
+
+    def object_of(self, address):
+        """The variable in which an address lies, with the distance from its begin; None outside all of them."""
+        found = [(name, address - begin) for begin, length, name in self.symbols((OBJECTS,)) if begin <= address < begin + length]
+        return found[-1] if found else None

@@ -12,7 +12,7 @@ import sys
 from xml.sax.saxutils import escape
 
 sys.path.insert(0, os.path.dirname(os.path.abspath(__file__)))
-from runs import CYCLE_NS, Refused, main, parser, read_run, read_text, tell_end, write  # noqa: E402
+from runs import CYCLE_NS, Refused, main, need_apart, parser, read_run, read_text, tell_end, write  # noqa: E402
 
 LEFT, ROW, HEIGHT, TOP = 76, 44, 24, 18
 
@@ -90,7 +90,10 @@ def tool():
     words.add_argument("--width", type=int, default=960, help=argparse.SUPPRESS)
     words.add_argument("-o", "--output", help="the file to write, whole or not at all; standard output where none is named")
     given = words.parse_args()
+    if (given.output or "").endswith((".png", ".jpg", ".pdf")):
+        raise Refused(f"{given.output}: the picture is an SVG, so its name ends with .svg", 2)
     run = read_run(read_text(given.run))
+    need_apart(given.run, given.output)
     pins = given.pins if given.pins is not None else sorted({pin for _, pin, _ in run.pins})
     uarts = sorted({uart for _, uart, _ in run.bytes}) if given.uarts else []
     last = max([cycle for cycle, *_ in run.pins + run.bytes] + [run.cycle or 0])
