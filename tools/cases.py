@@ -23,7 +23,7 @@ from dataclasses import dataclass
 from xml.sax.saxutils import escape, quoteattr
 
 sys.path.insert(0, os.path.dirname(os.path.abspath(__file__)))
-from runs import NOT_BUILT, TOP, Refused, is_built, main, parser, say, write  # noqa: E402
+from runs import NOT_BUILT, TOP, Refused, is_built, main, parser, ran, say, write  # noqa: E402
 
 SHOWN = 20  # lines of a difference
 
@@ -72,22 +72,22 @@ def tried(case, program, seconds, is_writing):
         return Done(case, f"{case.path}.status is no number", 0)
     status = int(number)
     try:
-        done = subprocess.run([program, *words], input=case.part(".stdin") or b"", capture_output=True, timeout=seconds, check=False)
+        got, out, told = ran([program, *words], seconds, case.part(".stdin") or b"", subprocess.PIPE)
     except subprocess.TimeoutExpired:
         wrong = f"it did not end within {seconds} seconds"
     else:
-        told = done.stderr.decode(errors="replace").strip()[-500:]
-        if done.returncode != status:
-            wrong = f"its status is {done.returncode}, not {status}" + (f"\n{told}" if told else "")
+        told = told.decode(errors="replace").strip()[-500:]
+        if got != status:
+            wrong = f"its status is {got}, not {status}" + (f"\n{told}" if told else "")
             if words and " " in words[0]:
                 wrong += f"\nin {case.path}.args each word has to stand on a line of its own"
         elif wanted is None and is_writing:
-            write(case.path + ".stdout", done.stdout)
+            write(case.path + ".stdout", out)
             is_written = True
         elif wanted is None:
             wrong = f"there is no {case.path}.stdout; --write makes it"
-        elif done.stdout != wanted:
-            wrong = f"it does not print {case.path}.stdout\n{difference(wanted, done.stdout)}"
+        elif out != wanted:
+            wrong = f"it does not print {case.path}.stdout\n{difference(wanted, out)}"
     return Done(case, wrong, time.monotonic() - begin, is_written)
 
 

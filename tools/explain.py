@@ -451,6 +451,7 @@ def main():
         print(__doc__, end="")
         return 0 if len(sys.argv) > 1 else 2
     page, program, words = Page(), sys.argv[1], sys.argv[2:]
+    sys.argv[0] = "pico"  # what the tools say is said in this name
     with tempfile.TemporaryDirectory(prefix="pico-") as folder:
         try:
             return run(page, program, words, packed(page, words, folder))

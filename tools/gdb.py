@@ -162,7 +162,7 @@ class Session:
             while source not in select.select([source, link.source], [], [])[0]:
                 link.look()
         except (EOFError, Interrupted) as ended:
-            self.debug.process.kill()
+            self.debug.process.terminate()
             if isinstance(ended, Interrupted):
                 self.begin()
             raise

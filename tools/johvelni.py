@@ -22,7 +22,7 @@ from dataclasses import dataclass
 sys.path.insert(0, os.path.dirname(os.path.abspath(__file__)))
 import runs  # noqa: E402
 from elf32 import FUNCTIONS, OBJECTS, Elf  # noqa: E402
-from runs import NAMES, NOT_BUILT, Run, is_built, moved, read_bytes, read_run  # noqa: E402
+from runs import NAMES, NOT_BUILT, Run, is_built, moved, ran, read_bytes, read_run  # noqa: E402
 
 TOP = os.path.dirname(os.path.dirname(os.path.abspath(__file__)))
 BAD = "bad command"
@@ -98,13 +98,13 @@ def result_of(status, text):
 
 
 def run(image, cycles, seconds=None, check=True, **more):
-    """Runs an image for at most so many cycles; seconds limits the time. A run that the program refuses raises Refused, or with check=False
-    is a result with its status and error alone. More are script, pio as {(block, machine): file}, probes as {probe: pin}, parts as {part:
-    [pin, ..]}, and table=True for the table of routines."""
+    """Runs an image for at most so many cycles. A run that takes more than so many seconds raises subprocess.TimeoutExpired, one that the
+    program refuses Refused; with check=False the latter is a result with its status and error alone. More are script, pio as {(block,
+    machine): file}, probes as {probe: pin}, parts as {part: [pin, ..]}, and table=True for the table of routines."""
     with tempfile.TemporaryDirectory() as folder:
         words = [program(), "run", os.fspath(image), "--cycles", str(cycles), *words_of(folder, **more)]
-        done = subprocess.run(words, stdin=subprocess.DEVNULL, stdout=subprocess.PIPE, timeout=seconds, check=False)
-    result = result_of(done.returncode, done.stdout.decode())
+        status, out, _ = ran(words, seconds)
+    result = result_of(status, out.decode())
     if check and result.status != 0:
         raise Refused(result.error or f"the run ended with status {result.status}")
     return result

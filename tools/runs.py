@@ -57,6 +57,18 @@ def is_built():
     return subprocess.run([f"{TOP}/.ci/program"], capture_output=True, check=False).returncode == 0
 
 
+def ran(words, seconds, given=b"", stderr=None):
+    """Runs a command: its status, its output and what it told. Where it takes longer, or this is interrupted, it is asked to end, which ./pico
+    hands on to the program."""
+    with subprocess.Popen(words, stdin=subprocess.PIPE, stdout=subprocess.PIPE, stderr=stderr) as process:
+        try:
+            out, told = process.communicate(given, seconds)
+        except BaseException:
+            process.terminate()
+            raise
+    return process.returncode, out, told
+
+
 def moved(line):
     """The cycle to which a reply of the debugger moves, and the line of the stop that was met, or None."""
     if found := STOP.fullmatch(line):
