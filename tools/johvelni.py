@@ -52,6 +52,12 @@ class Result:
         return levels[-1] if levels else 0
 
 
+def send(cycle, pin, data, baud):
+    """The line of a script by which a serial line sends bytes (at most 256) to a pin from a cycle on; the script's first line is `version 2`,
+    and before the first of these a line as (0, pin, 1) makes the pin high."""
+    return f"send {cycle} {pin} {round(500_000_000 / baud)} {bytes(data).hex()}"
+
+
 def symbols(path):
     """The addresses of the variables and functions of an ELF file by their names."""
     try:
