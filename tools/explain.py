@@ -223,11 +223,12 @@ def told_words(page, words):
 def told_file(words, name):
     """Why a file cannot be read, and which word names it."""
     why = "it is a folder" if os.path.isdir(name) else None
-    try:
-        with open(name, "rb"):
-            pass
-    except OSError as error:
-        why = why or error.strerror
+    if why is None and (os.path.isfile(name) or not os.path.exists(name)):
+        try:
+            with open(name, "rb"):
+                pass
+        except OSError as error:
+            why = error.strerror
     if not name:
         say("a word that has to name a file is empty, as behind --pio 0:0:")
         return
@@ -257,7 +258,7 @@ def told_image(page, words, number, name):
     said = page.fault("an image", f"{number} {name}")
     say(f"{path or 'the image'} is refused: " + (": ".join(said) or f"fault {number} {name}"))
     try:
-        data = read_bytes(path) if path else b""
+        data = read_bytes(path) if path and os.path.isfile(path) else b""
     except (OSError, Refused):
         return
     if data[:1] == b":":
@@ -273,8 +274,10 @@ def told_image(page, words, number, name):
 def line_in(path, number):
     """A line of a source; None where there is none."""
     try:
+        if number < 1 or not os.path.isfile(path):
+            return None
         with open(path, encoding="utf-8", errors="replace") as file:
-            return file.read().split("\n")[number - 1] if number > 0 else None
+            return file.read().split("\n")[number - 1]
     except (OSError, IndexError):
         return None
 
@@ -429,7 +432,8 @@ def handed_on(page, pipe, is_session):
 
 def run(page, program, given, words):
     """Runs the program with words, those given with an image in the place of an ELF file, and answers its status."""
-    process = subprocess.Popen([program, *words], stdout=subprocess.PIPE)
+    # a word may name an open pipe, as /dev/fd/63
+    process = subprocess.Popen([program, *words], stdout=subprocess.PIPE, close_fds=False)
     for number in (signal.SIGTERM, signal.SIGHUP, signal.SIGINT):
         signal.signal(number, lambda got, _: process.send_signal(got))
     last, error = handed_on(page, process.stdout, given[:1] == ["debug"])
