@@ -12,12 +12,12 @@ use Rattle.dma_engine.specs.declared.begun.BegunTransfer.{BegunTransfer}
 use Rattle.dma_engine.specs.declared.begun.Access.TheVariants as access
 use Rattle.dma_engine.specs.declared.waiting.WaitingWrite.{WaitingWrite}
 use Rattle.dma_engine.specs.declared.timer.PacingTimer.{PacingTimer}
-use Rattle.dma_engine.specs.declared.pace.Pace.{Pace}
-use Rattle.dma_engine.specs.declared.pace.Pace.TheVariants as pace
 use Rattle.dma_engine.specs.State.{Engine, idle_channel, channel_at}
 use Rattle.dma_engine.specs.Control.{treq_of}
 use Rattle.dma_engine.specs.Asks.{waits_for_counts, write_begun, next_request, asks_read, asks, begun_with, idle_begun}
-use Rattle.dma_engine.specs.Choice.{pace_of, is_ready_by, is_ready, is_candidate}
+use Rattle.dma_engine.specs.Choice.{is_ready_by, is_ready, is_candidate}
+use Rattle.dma_engine.specs.Requests.{Pace, pace_of}
+use Rattle.dma_engine.specs.Requests.Pace.{Sender, Receiver, Timer, Always, Never}
 use Rattle.dma_engine.specs.Timer.{gives, stepped, given_by, with_stepped_timers}
 use Rattle.dma_engine.specs.Cycle.{uses_credits, is_over, next}
 use Rattle.dma_engine.specs.Paused.{lacks_credit, is_paused_channel, is_paused}
@@ -68,11 +68,11 @@ none_left (suc n) h = absurd (grind (arith, nat_tests, common_steps))
 
 not_ready_by : (p : Pace) (treq counts : ℕ) (c : Channel) (s : Engine) → uses_credits p ≡ true → nat_eq c.credits 0 ≡ true →
     is_ready_by p treq counts c s ≡ false
-not_ready_by (pace.Timer k) treq counts c s h e = none_left c.credits e
-not_ready_by (pace.Sender index) treq counts c s h e = absurd (cc)
-not_ready_by (pace.Receiver index) treq counts c s h e = absurd (cc)
-not_ready_by pace.Always treq counts c s h e = absurd (cc)
-not_ready_by pace.Never treq counts c s h e = absurd (cc)
+not_ready_by (Timer k) treq counts c s h e = none_left c.credits e
+not_ready_by (Sender index) treq counts c s h e = absurd (cc)
+not_ready_by (Receiver index) treq counts c s h e = absurd (cc)
+not_ready_by Always treq counts c s h e = absurd (cc)
+not_ready_by Never treq counts c s h e = absurd (cc)
 
 not_ready : (c : Channel) (counts : ℕ) (s : Engine) → lacks_credit c ≡ true → is_ready counts c s ≡ false
 unfolding is_ready

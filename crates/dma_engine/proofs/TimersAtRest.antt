@@ -2,12 +2,11 @@
 use Rattle.std.proofs.Common.{◌≡◌, ℕ, zero, suc, Bool, true, false, not, ◌&&◌, cond, List, [], ◌∷◌, length, nat_eq, refl, ap, sym, ◌∙◌, get_or}
 use Rattle.std.specs.Prelude.{is_none, map}
 use Rattle.std.specs.List.{list_all, list_any}
-use Rattle.dma_engine.specs.declared.pace.Pace.{Pace}
-use Rattle.dma_engine.specs.declared.pace.Pace.TheVariants as pace
 use Rattle.dma_engine.specs.declared.timer.PacingTimer.{PacingTimer}
 use Rattle.dma_engine.specs.State.{Engine, channel_at}
 use Rattle.dma_engine.specs.Control.{treq_of}
-use Rattle.dma_engine.specs.Choice.{pace_of}
+use Rattle.dma_engine.specs.Requests.{Pace, pace_of}
+use Rattle.dma_engine.specs.Requests.Pace.{Sender, Receiver, Timer, Always, Never}
 use Rattle.dma_engine.specs.Timer.{runs, accumulated, gives, stepped, given_by, is_given, gets_credit, with_credit, with_stepped_timers, after_timers}
 use Rattle.dma_engine.specs.Rest.{is_idle_channel, is_idle_timer, is_at_rest, is_still}
 use Rattle.dma_engine.specs.Paused.{is_paused}
@@ -47,11 +46,11 @@ none_given (t ∷ ts) zero h = gives_none t (both_left (is_idle_timer t) _ h)
 none_given (t ∷ ts) (suc k) h = none_given ts k (both_right (is_idle_timer t) _ h)
 
 is_given-none : (given : List Bool) (p : Pace) → ((k : ℕ) → get_or given k false ≡ false) → is_given given p ≡ false
-is_given-none given (pace.Timer k) h = h k
-is_given-none given (pace.Sender index) h = refl
-is_given-none given (pace.Receiver index) h = refl
-is_given-none given pace.Always h = refl
-is_given-none given pace.Never h = refl
+is_given-none given (Timer k) h = h k
+is_given-none given (Sender index) h = refl
+is_given-none given (Receiver index) h = refl
+is_given-none given Always h = refl
+is_given-none given Never h = refl
 
 -- no channel gets a credit
 gets_no_credit : (s : Engine) → list_all is_idle_timer s.timers ≡ true → (n : ℕ) → gets_credit s n ≡ false

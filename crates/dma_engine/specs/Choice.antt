@@ -1,32 +1,15 @@
--- Which channel is chosen for the next transfer (RP2040 Datasheet, 2.5.1.1, channel arbitration, 2.5.3, data requests, and
--- 2.5.7, TREQ_SEL).
-use Rattle.std.specs.Prelude.{ℕ, zero, suc, ◌+◌, ◌-◌, ◌/◌, ◌%◌, Bool, true, false, not, ◌&&◌, ◌||◌, ◌==◌, nat_lt, nat_le, if◌then◌else◌, Option, Some, None}
+-- Which channel is chosen for the next transfer (RP2040 Datasheet, 2.5.1.1, channel arbitration, and 2.5.3, data
+-- requests).
+use Rattle.std.specs.Prelude.{ℕ, zero, suc, ◌+◌, ◌%◌, Bool, true, false, not, ◌&&◌, ◌||◌, ◌==◌, nat_lt, if◌then◌else◌, Option, Some, None}
 use Rattle.std.specs.List.{count_by}
 use Rattle.rp_base.specs.Word.{bit_number}
 use Rattle.dma_engine.specs.declared.channel.Channel.{Channel}
 use Rattle.dma_engine.specs.declared.waiting.WaitingWrite.{WaitingWrite}
-use Rattle.dma_engine.specs.declared.pace.Pace.{Pace}
-use Rattle.dma_engine.specs.declared.pace.Pace.TheVariants as pace
 use Rattle.dma_engine.specs.Control.{is_high, treq_of}
 use Rattle.dma_engine.specs.Pace.{count_at}
+use Rattle.dma_engine.specs.Requests.{Pace, pace_of}
+use Rattle.dma_engine.specs.Requests.Pace.{Sender, Receiver, Timer, Always, Never}
 use Rattle.dma_engine.specs.State.{Engine, channel_at}
-
--- ---- what paces a channel
-
--- the FIFOs of the PIO blocks: four transmitters and four receivers of each
-abbrev pub pio_pace : ℕ → Pace
-pio_pace treq = if treq / 4 % 2 == 0 then pace.Sender treq else pace.Receiver treq
-
--- those of the two UARTs: a transmitter and a receiver of each, whose counts stand behind the sixteen of the PIO blocks
-abbrev pub uart_pace : ℕ → Pace
-uart_pace treq = if treq % 2 == 0 then pace.Sender (treq - 4) else pace.Receiver (treq - 4)
-
-abbrev pub pace_of : ℕ → Pace
-pace_of treq =
-    if nat_lt treq 16 then pio_pace treq else
-    if nat_le 20 treq && nat_le treq 23 then uart_pace treq else
-    if nat_le 0x3B treq && nat_le treq 0x3E then pace.Timer (treq - 0x3B) else
-    if treq == 0x3F then pace.Always else pace.Never
 
 -- ---- transfers in flight
 
@@ -54,11 +37,11 @@ unwritten treq s = unread treq s + writes_of treq s
 -- a transmitter has room for one more transfer than are on their way to it, a receiver one more word than are on their way
 -- from it
 abbrev pub is_ready_by : Pace → ℕ → ℕ → Channel → Engine → Bool
-is_ready_by (pace.Sender index) treq counts c s = nat_lt (unwritten treq s) (count_at index counts)
-is_ready_by (pace.Receiver index) treq counts c s = nat_lt (unread treq s) (count_at index counts)
-is_ready_by (pace.Timer k) treq counts c s = nat_lt 0 c.credits
-is_ready_by pace.Always treq counts c s = true
-is_ready_by pace.Never treq counts c s = false
+is_ready_by (Sender index) treq counts c s = nat_lt (unwritten treq s) (count_at index counts)
+is_ready_by (Receiver index) treq counts c s = nat_lt (unread treq s) (count_at index counts)
+is_ready_by (Timer k) treq counts c s = nat_lt 0 c.credits
+is_ready_by Always treq counts c s = true
+is_ready_by Never treq counts c s = false
 
 unfoldable pub is_ready : ℕ → Channel → Engine → Bool
 is_ready counts c s = is_ready_by (pace_of (treq_of c)) (treq_of c) counts c s

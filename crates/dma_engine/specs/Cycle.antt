@@ -11,10 +11,10 @@ use Rattle.dma_engine.specs.declared.waiting.WaitingWrite.{WaitingWrite}
 use Rattle.dma_engine.specs.declared.begun.Access.{Access}
 use Rattle.dma_engine.specs.declared.begun.Access.TheVariants as access
 use Rattle.dma_engine.specs.declared.begun.BegunTransfer.{BegunTransfer}
-use Rattle.dma_engine.specs.declared.pace.Pace.{Pace}
-use Rattle.dma_engine.specs.declared.pace.Pace.TheVariants as pace
 use Rattle.dma_engine.specs.Control.{treq_of}
-use Rattle.dma_engine.specs.Choice.{pace_of, choice_of}
+use Rattle.dma_engine.specs.Choice.{choice_of}
+use Rattle.dma_engine.specs.Requests.{Pace, pace_of}
+use Rattle.dma_engine.specs.Requests.Pace.{Timer}
 use Rattle.dma_engine.specs.Channel.{in_turn, changed, with_end}
 use Rattle.dma_engine.specs.Transfer.{moved, write_after}
 use Rattle.dma_engine.specs.Timer.{gets_credit, after_timers}
@@ -103,7 +103,7 @@ after_write done e = if done then record e { waiting = drop 1 e.waiting } else e
 -- ---- the choice
 
 abbrev pub uses_credits : Pace → Bool
-uses_credits (pace.Timer k) = true
+uses_credits (Timer k) = true
 uses_credits _ = false
 
 abbrev pub credits_left : Channel → ℕ

@@ -7,7 +7,9 @@ pub mod Cycle
 pub mod InterruptLaws
 pub mod Laws
 pub mod Pace
+pub mod PaceMeant
 pub mod Paused
+pub mod Requests
 pub mod Rest
 pub mod State
 pub mod Timer

@@ -3,7 +3,7 @@ use Rattle.std.specs.Prelude.{Bool, not, ◌&&◌, ◌||◌, ◌==◌, nat_lt, l
 use Rattle.std.specs.List.{list_all}
 use Rattle.dma_engine.specs.declared.channel.Channel.{Channel}
 use Rattle.dma_engine.specs.Control.{treq_of}
-use Rattle.dma_engine.specs.Choice.{pace_of}
+use Rattle.dma_engine.specs.Requests.{pace_of}
 use Rattle.dma_engine.specs.Cycle.{uses_credits}
 use Rattle.dma_engine.specs.State.{Engine}
 

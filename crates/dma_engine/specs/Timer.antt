@@ -2,12 +2,11 @@
 -- TIMER0).
 use Rattle.std.specs.Prelude.{ℕ, ◌+◌, ◌-◌, Bool, false, not, ◌&&◌, ◌==◌, nat_lt, nat_le, min, if◌then◌else◌, List, map, slice_index_or}
 use Rattle.dma_engine.specs.declared.channel.Channel.{Channel}
-use Rattle.dma_engine.specs.declared.pace.Pace.{Pace}
-use Rattle.dma_engine.specs.declared.pace.Pace.TheVariants as pace
 use Rattle.dma_engine.specs.declared.timer.PacingTimer.{PacingTimer}
 use Rattle.dma_engine.specs.Control.{treq_of}
 use Rattle.dma_engine.specs.Channel.{changed, in_turn}
-use Rattle.dma_engine.specs.Choice.{pace_of}
+use Rattle.dma_engine.specs.Requests.{Pace, pace_of}
+use Rattle.dma_engine.specs.Requests.Pace.{Timer}
 use Rattle.dma_engine.specs.State.{Engine, channel_at}
 
 -- a timer with X or Y 0 stands still
@@ -36,7 +35,7 @@ abbrev pub given_by : List PacingTimer → List Bool
 given_by timers = map gives timers
 
 abbrev pub is_given : List Bool → Pace → Bool
-is_given given (pace.Timer k) = slice_index_or given k false
+is_given given (Timer k) = slice_index_or given k false
 is_given given _ = false
 
 -- the channels that were busy at the start of the cycle get the credit of their timer

@@ -1,8 +1,9 @@
 //! What paces a channel.
 
 ghost use Rattle.std.specs.Prelude.{◌≡◌};
-ghost use Rattle.dma_engine.specs.Choice.{pace_of};
 ghost use Rattle.dma_engine.specs.Cycle.{uses_credits};
+ghost use Rattle.dma_engine.specs.PaceMeant.{meant};
+ghost use Rattle.dma_engine.specs.Requests.{pace_of};
 
 /// What paces a channel, by its data request (RP2040 Datasheet, 2.5.3.1 and 2.5.7, TREQ_SEL).
 #[derive(Clone, Copy)]
@@ -21,13 +22,13 @@ pub enum Pace {
 
 /// What paces a channel of that data request.
 pub(crate) fn pace_of(treq: u8) -> Pace
-    ensures { result ≡ pace_of treq }
+    ensures { meant result ≡ pace_of treq }
 {
     match treq {
-        0..=15 if treq / 4 % 2 == 0 => Pace::Sender(treq),
-        0..=15 => Pace::Receiver(treq),
-        20..=23 if treq % 2 == 0 => Pace::Sender(treq - 4),
-        20..=23 => Pace::Receiver(treq - 4),
+        0..=3 | 8..=11 => Pace::Sender(treq),
+        4..=7 | 12..=15 => Pace::Receiver(treq),
+        20 | 22 => Pace::Sender(treq - 4),
+        21 | 23 => Pace::Receiver(treq - 4),
         0x3b..=0x3e => Pace::Timer(treq - 0x3b),
         0x3f => Pace::Always,
         _ => Pace::Never,
@@ -36,7 +37,7 @@ pub(crate) fn pace_of(treq: u8) -> Pace
 
 /// The channel spends a credit for each transfer.
 pub(crate) fn uses_credits(pace: Pace) -> bool
-    ensures { result ≡ uses_credits pace }
+    ensures { result ≡ uses_credits (meant pace) }
 {
     matches!(pace, Pace::Timer(_))
 }

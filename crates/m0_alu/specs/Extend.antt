@@ -1,5 +1,5 @@
--- Parts of a word as words, and its bytes in another order (ARMv6-M Architecture Reference Manual, A6.7.50 to A6.7.52,
--- A6.7.68 to A6.7.71).
+-- Parts of a word as words, and its bytes in another order (ARMv6-M Architecture Reference Manual, A6.7.51 to A6.7.53,
+-- A6.7.69, A6.7.70, A6.7.73 and A6.7.74).
 use Rattle.std.specs.Prelude.{ℕ, ◌+◌, ◌*◌, ◌%◌, ◌^◌}
 use Rattle.std.specs.Int.{w8, w16, cast_signed}
 use Rattle.rp_base.specs.Word.{word_of, byte_of, joined}

@@ -1,4 +1,4 @@
--- What an item is at an address: its size, its bytes and its faults (ARMv6-M Architecture Reference Manual, A6.7.2 ADR, A6.7.10 B,
+-- What an item is at an address: its size, its bytes and its faults (ARMv6-M Architecture Reference Manual, A6.7.6 ADR, A6.7.10 B,
 -- A6.7.13 BL, A6.7.27 LDR literal; the directives and the order of faults are the project's own). Where a name is not defined its
 -- address counts as 0, and the line has a fault.
 use Rattle.std.specs.Prelude.{ℕ, ◌+◌, ◌-◌, ◌*◌, ◌/◌, ◌%◌, Bool, true, false, not, ◌==◌, ◌&&◌, ◌||◌, nat_lt, nat_le, if◌then◌else◌, List, [], ◌∷◌, ◌++◌, length, replicate, Option, None, Some, is_none}

@@ -1,6 +1,6 @@
 -- No two rows of the table fit one pair: for every two of them the patterns show it.
 use Rattle.std.proofs.Common.{◌≡◌, ℕ, zero, suc, ◌+◌, ◌≤◌, Bool, true, false, cond, List, [], ◌∷◌, Option, Some, None, refl, sym, ap, subst, ◌∙◌, arith, rules}
-use Rattle.std.specs.Prelude.{◌==◌, ◌&&◌, ◌||◌, not, bit_and, filter, length, if◌then◌else◌}
+use Rattle.std.specs.Prelude.{◌==◌, ◌&&◌, ◌||◌, not, bit_and, filter, find, length, if◌then◌else◌}
 use Rattle.std.specs.List.{list_any, list_all}
 use Rattle.std.proofs.lemmas.Nat.{and_assoc, and_comm}
 use Rattle.thumb_rows.specs.Rows.{Half, Row, half_fits, second_fits, row_fits, rows, operation_by, fitting}
@@ -77,14 +77,14 @@ no_conflict m v n u w hm hn =
     ap (λ x. bit_and x n) (sym hm) ∙ and_assoc n w m ∙ ap (λ x. bit_and w x) (and_comm m n) ∙ sym (and_assoc m w n)
     ∙ ap (λ x. bit_and x m) hn
 
-fits_inside : (m v n u w : ℕ) → bit_and w m ≡ v → bit_and m n ≡ n → bit_and v n ≡ u → bit_and w n ≡ u
+pub fits_inside : (m v n u w : ℕ) → bit_and w m ≡ v → bit_and m n ≡ n → bit_and v n ≡ u → bit_and w n ≡ u
 fits_inside m v n u w hm hn hu =
     ap (λ x. bit_and w x) (sym hn) ∙ sym (and_assoc n w m) ∙ ap (λ x. bit_and x n) hm ∙ hu
 
 pub eqb_of : (a b : ℕ) → a ≡ b → (a == b) ≡ true
 eqb_of a b h = search rules
 
-half_pattern : (h : Half) (w : ℕ) → half_fits h w ≡ true → bit_and w h.mask ≡ h.value
+pub half_pattern : (h : Half) (w : ℕ) → half_fits h w ≡ true → bit_and w h.mask ≡ h.value
 half_pattern h w fits = eq_of _ _ (and_left (bit_and w h.mask == h.value) _ fits)
 
 half_left_out : (h : Half) (w : ℕ) → half_fits h w ≡ true → list_any (λ o. bit_and w o.0 == o.1) h.left_out ≡ false
@@ -138,17 +138,25 @@ misses_apart : (b : Bool) (r s : Row) (first second : ℕ) → row_apart r s ≡
 misses_apart false r s first second apart fits is = refl
 misses_apart true r s first second apart fits is = let never = row_apart-false r s first second fits is in cc
 
--- the rows of a list by their number
-abbrev pub row_at : List Row → ℕ → Option Row
-row_at [] k = None
-row_at (r ∷ rs) zero = Some r
-row_at (r ∷ rs) (suc k) = row_at rs k
+-- a row has the patterns of two tests, and whatever else it leaves out
+abbrev pub same_pattern : Half → Half → Bool
+same_pattern h k = (h.mask == k.mask) && (h.value == k.value)
 
-list_all-at : (p : Row → Bool) (rs : List Row) (k : ℕ) (r : Row) → list_all p rs ≡ true → row_at rs k ≡ Some r →
-    p r ≡ true
-list_all-at p [] k r all is = cc
-list_all-at p (q ∷ rs) zero r all is = let same : q ≡ r = cc in let here = and_left (p q) (list_all p rs) all in cc
-list_all-at p (q ∷ rs) (suc k) r all is = list_all-at p rs k r (and_right (p q) (list_all p rs) all) is
+abbrev pub same_second : Option Half → Option Half → Bool
+same_second None None = true
+same_second (Some h) (Some k) = same_pattern h k
+same_second h k = false
+
+abbrev pub has_patterns : Half → Option Half → Row → Bool
+has_patterns h g r = same_pattern h r.first && same_second g r.second
+
+list_all-found : (p t : Row → Bool) (rs : List Row) (r : Row) → list_all p rs ≡ true → find t rs ≡ Some r → p r ≡ true
+list_all-found p t [] r all is = cc
+list_all-found p t (q ∷ rs) r all is =
+    elim (t q) as (λ b. cond b (Some q) (find t rs) ≡ Some r → p r ≡ true) [
+      | true ↦ λ here. let same : q ≡ r = cc in let holds = and_left (p q) (list_all p rs) all in cc
+      | false ↦ λ there. list_all-found p t rs r (and_right (p q) (list_all p rs) all) there
+    ] is
 
 taken : (q r : Row) (rs : List Row) (first second : ℕ) → q ≡ r → row_fits r first second ≡ true → operation_by
     (q ∷ rs) first second ≡ r.operation first second
@@ -160,15 +168,19 @@ pub skipped : (q : Row) (rs : List Row) (first second : ℕ) → row_fits q firs
 skipped q rs first second misses = rw misses refl
 
 -- the row that fits is the one whose operation is taken
-pub operation_by-at : (rs : List Row) (k : ℕ) (r : Row) (first second : ℕ) → each_apart rs ≡ true →
-    row_at rs k ≡ Some r → row_fits r first second ≡ true → operation_by rs first second ≡ r.operation first second
-operation_by-at [] k r first second apart is fits = cc
-operation_by-at
-    (q ∷ rs) zero r first second apart is fits = let same : q ≡ r = cc in taken q r rs first second same fits
-operation_by-at (q ∷ rs) (suc k) r first second apart is fits =
-    let away : row_apart q r ≡ true = list_all-at (λ s. row_apart q s) rs k r (and_left _ (each_apart rs) apart) is in
-    skipped q rs first second (apart_misses _ q r first second away fits refl)
-    ∙ operation_by-at rs k r first second (and_right (list_all (λ s. row_apart q s) rs) _ apart) is fits
+pub operation_by-found : (t : Row → Bool) (rs : List Row) (r : Row) (first second : ℕ) → each_apart rs ≡ true →
+    find t rs ≡ Some r → row_fits r first second ≡ true → operation_by rs first second ≡ r.operation first second
+operation_by-found t [] r first second apart is fits = cc
+operation_by-found t (q ∷ rs) r first second apart is fits =
+    elim (t q) as
+    (λ b. cond b (Some q) (find t rs) ≡ Some r → operation_by (q ∷ rs) first second ≡ r.operation first second) [
+      | true ↦ λ here. let same : q ≡ r = cc in taken q r rs first second same fits
+      | false ↦ λ there.
+          let away : row_apart q r ≡ true =
+          list_all-found (λ s. row_apart q s) t rs r (and_left _ (each_apart rs) apart) there in
+          skipped q rs first second (apart_misses _ q r first second away fits refl)
+          ∙ operation_by-found t rs r first second (and_right (list_all (λ s. row_apart q s) rs) _ apart) there fits
+    ] is
 
 pub rows_apart : each_apart rows ≡ true
 unfolding rows

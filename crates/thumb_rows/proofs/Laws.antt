@@ -1,109 +1,86 @@
--- What follows from the table for a halfword with given leading bits.
-use Rattle.std.proofs.Common.{◌≡◌, ◌≢◌, ℕ, ◌+◌, ◌-◌, ◌*◌, ◌/◌, ◌%◌, ◌^◌, ◌<◌, ◌≤◌, Bool, true, false, List, [], ◌∷◌, Some, None, refl, sym, ap, ◌∙◌, arith}
-use Rattle.std.specs.Prelude.{◌==◌, ◌&&◌, ◌||◌, bit_and}
-use Rattle.std.specs.List.{list_any, list_all}
+-- What follows from the table for a halfword of which some bits are known.
+use Rattle.std.proofs.Common.{◌≡◌, ◌≢◌, ℕ, ◌+◌, ◌-◌, ◌*◌, ◌/◌, ◌%◌, ◌^◌, ◌<◌, ◌≤◌, Bool, true, false, List, [], ◌∷◌, Some, None, refl, sym, ap, ◌∙◌, arith, leb-true}
+use Rattle.std.specs.Prelude.{◌==◌, ◌||◌, bit_and, filter_map, find, nat_le}
+use Rattle.std.specs.List.{list_all}
+use Rattle.std.specs.Option.{option_map}
 use Rattle.std.proofs.lemmas.Nat.Bits.{and_high_mask}
 use Rattle.std.proofs.lemmas.Nat.{shl-shr, and_block, and_mask, and_le_r}
-use Rattle.thumb_rows.specs.Rows.{Half, Row, half_fits, row_fits, rows, operation_by, operation_of}
-use Rattle.thumb_rows.proofs.Apart.{operation_by-at, rows_apart, row_at, half_apart, half_apart-false, second_apart, second_apart-false, or_false, and_both, and_left, and_right, not_of_false, eq_of, eqb_of, skipped}
+use Rattle.thumb_rows.specs.Rows.{Half, Row, half_fits, row_fits, row_of, rows, table, operation_by, operation_of}
+use Rattle.thumb_rows.proofs.Apart.{operation_by-found, rows_apart, has_patterns, half_apart, half_apart-false, second_apart, second_apart-false, or_false, and_both, and_left, and_right, not_of_false, not_true, eq_of, eqb_of, skipped}
 use Rattle.rp_base.specs.declared.op.Op.{Op}
 use Rattle.rp_base.specs.declared.op.Op.TheVariants.{Undefined}
 
+-- the rows, as they compute
+abbrev pub listed : List Row
+listed = filter_map (λ entry. option_map (row_of entry.1) entry.0) table
+
+-- ---- what is known of a halfword
+
+-- a test fits it
+pub record Fits (h : Half) (w : ℕ) : Type 0 where
+  pub fits : half_fits h w ≡ true
+
+-- the test of one pattern
+abbrev pub only : ℕ → ℕ → Half
+only mask value = record { mask = mask; value = value; left_out = [] }
+
+-- a test that leaves one pattern more out
+abbrev pub but : ℕ → ℕ → Half → Half
+but mask value h = record { mask = h.mask; value = h.value; left_out = (mask, value) ∷ h.left_out }
+
 -- the test that bits 15 to shift are those of a number
 abbrev pub leading : ℕ → ℕ → Half
-leading shift number = record { mask = 2 ^ 16 - 2 ^ shift; value = number * 2 ^ shift; left_out = [] }
+leading shift number = only (2 ^ 16 - 2 ^ shift) (number * 2 ^ shift)
 
-abbrev pub same_pattern : Half → Half → Bool
-same_pattern h k = (h.mask == k.mask) && (h.value == k.value)
+pub has : (mask value : ℕ) {w : ℕ} → bit_and w mask ≡ value → Fits (only mask value) w
+has mask value is = record { fits = and_both _ true (eqb_of _ _ is) refl }
 
-pub leading_pattern : (shift number w : ℕ) → shift ≤ 16 → w < 65536 → w / 2 ^ shift ≡ number → bit_and w
-    (2 ^ 16 - 2 ^ shift) ≡ number * 2 ^ shift
-leading_pattern shift number w within small is = and_high_mask 16 shift within w small ∙ ap (λ x. x * 2 ^ shift) is
+unequal : (t : Bool) (a b : ℕ) → a ≢ b → (a == b) ≡ t → t ≡ false
+unequal false a b other is = refl
+unequal true a b other is = absurd (other (eq_of a b is))
 
-pub leading_fits : (shift number w : ℕ) → shift ≤ 16 → w < 65536 → w / 2 ^ shift ≡ number → half_fits
-    (leading shift number) w ≡ true
-leading_fits shift number w within small is = and_both _ true
-    (eqb_of _ _ (leading_pattern shift number w within small is)) refl
+pub lacks : (mask value : ℕ) {h : Half} {w : ℕ} → bit_and w mask ≢ value → Fits h w → Fits (but mask value h) w
+lacks mask value {h} {w} other f = record {
+  fits =
+      and_both _ _ (and_left (bit_and w h.mask == h.value) _ f.fits)
+      (not_of_false _
+      (or_false _ _ (unequal _ _ _ other refl) (not_true _ (and_right (bit_and w h.mask == h.value) _ f.fits))));
+}
 
--- a row over the first halfword alone
-pub short_law : (k : ℕ) (h : Half) (operation : ℕ → ℕ → Op) (first second : ℕ) → row_at rows k ≡ Some
-    (record { first = h; second = None; operation = operation }) → half_fits h first ≡ true →
-    operation_of first second ≡ operation first second
-unfolding operation_of
-short_law k h operation first second is fits = operation_by-at rows k
-    (record { first = h; second = None; operation = operation }) first second rows_apart is
-    (and_both _ true fits refl)
+any : (w : ℕ) → bit_and w 0 ≡ 0
+any w = let most : bit_and w 0 ≤ 0 = and_le_r w 0 in omega arith
 
-pub long_law : (k : ℕ) (h g : Half) (operation : ℕ → ℕ → Op) (first second : ℕ) → row_at rows k ≡ Some
-    (record { first = h; second = Some g; operation = operation }) → half_fits h first ≡ true →
-    half_fits g second ≡ true → operation_of first second ≡ operation first second
-unfolding operation_of
-long_law k h g operation first second is fits also = operation_by-at rows k
-    (record { first = h; second = Some g; operation = operation }) first second rows_apart is (and_both _ _ fits also)
+-- nothing is known
+pub anything : {w : ℕ} → Fits (only 0 0) w
+anything {w} = has 0 0 (any w)
 
--- what the halfwords are whose bits 15 to shift are those of a number
-abbrev pub Begins : ℕ → ℕ → (ℕ → Op) → Type 0
-Begins shift number op = (first second : ℕ) → first < 65536 → first / 2 ^ shift ≡ number → operation_of first second ≡ op first
+pub high_bits : (shift w : ℕ) → nat_le shift 16 ≡ true → w < 65536 → bit_and w (2 ^ 16 - 2 ^ shift) ≡ w / 2 ^ shift * 2 ^ shift
+high_bits shift w within small = and_high_mask 16 shift (leb-true shift 16 within) w small
 
--- a row whose fixed bits are the leading ones
-pub leading_law : (k shift number : ℕ) (op : ℕ → Op) → row_at rows k ≡ Some
-    (record { first = leading shift number; second = None; operation = λ first second. op first }) → shift ≤ 16 →
-    Begins shift number op
-leading_law k shift number op is within first second small starts = short_law k
-    (leading shift number) (λ first second. op first) first second is (leading_fits shift number first within small starts)
+-- how it begins
+pub begins : (shift number : ℕ) {w : ℕ} → nat_le shift 16 ≡ true → w < 65536 → w / 2 ^ shift ≡ number →
+    Fits (leading shift number) w
+begins shift number {w} within small is = has _ _ (high_bits shift w within small ∙ ap (λ x. x * 2 ^ shift) is)
 
--- no row fits a halfword that fits a test which is apart from each row's
-missed_by : (b : Bool) (r : Row) (h : Half) (first second : ℕ) → half_fits h first ≡ true →
-    half_apart h r.first ≡ true → row_fits r first second ≡ b → b ≡ false
-missed_by false r h first second fits apart is = refl
-missed_by true r h first second fits apart is = let never = half_apart-false h r.first first fits
-    (and_left (half_fits r.first first) _ is) in cc
-
-missed : (r : Row) (h : Half) (first second : ℕ) → half_fits h first ≡ true → half_apart h r.first ≡ true →
-    row_fits r first second ≡ false
-missed r h first second fits apart = missed_by _ r h first second fits apart refl
-
-none_of : (rs : List Row) (h : Half) (first second : ℕ) → half_fits h first ≡ true → list_all
-    (λ r. half_apart h r.first) rs ≡ true → operation_by rs first second ≡ Undefined
-none_of [] h first second fits apart = refl
-none_of (r ∷ rs) h first second fits apart =
-    skipped r rs first second (missed r h first second fits (and_left _ _ apart)) ∙ none_of rs h first second fits
-    (and_right (half_apart h r.first) _ apart)
-
-pub undefined_law : (h : Half) (first second : ℕ) → list_all (λ r. half_apart h r.first) rows ≡ true →
-    half_fits h first ≡ true → operation_of first second ≡ Undefined
-unfolding operation_of
-undefined_law h first second apart fits = none_of rows h first second fits apart
-
-pub leading_undefined : (shift number : ℕ) (first second : ℕ) → list_all
-    (λ r. half_apart (leading shift number) r.first) rows ≡ true → shift ≤ 16 → first < 65536 →
-    first / 2 ^ shift ≡ number → operation_of first second ≡ Undefined
-leading_undefined shift number first second apart within small starts = undefined_law
-    (leading shift number) first second apart (leading_fits shift number first within small starts)
-
--- a halfword that begins otherwise does not fit
 mul_cancel : (a b k : ℕ) → a * 2 ^ k ≡ b * 2 ^ k → a ≡ b
 mul_cancel a b k e = sym (shl-shr a k) ∙ ap (λ x. x / 2 ^ k) e ∙ shl-shr b k
 
-begins_otherwise : (t : Bool) (shift number w : ℕ) → shift ≤ 16 → w < 65536 → w / 2 ^ shift ≢ number →
-    (bit_and w (2 ^ 16 - 2 ^ shift) == number * 2 ^ shift) ≡ t → t ≡ false
-begins_otherwise false shift number w within small other is = refl
-begins_otherwise true shift number w within small other is =
-    absurd (other (mul_cancel _ _ shift (sym (and_high_mask 16 shift within w small) ∙ eq_of _ _ is)))
+-- how it does not begin
+pub without : (shift number : ℕ) {h : Half} {w : ℕ} → nat_le shift 16 ≡ true → w < 65536 → w / 2 ^ shift ≢ number →
+    Fits h w → Fits (but (2 ^ 16 - 2 ^ shift) (number * 2 ^ shift) h) w
+without shift number {h} {w} within small other f =
+    lacks _ _ (λ e. other (mul_cancel _ _ shift (sym (high_bits shift w within small) ∙ e))) f
 
-pub otherwise : (shift number w : ℕ) → shift ≤ 16 → w < 65536 → w / 2 ^ shift ≢ number →
-    (bit_and w (2 ^ 16 - 2 ^ shift) == number * 2 ^ shift) ≡ false
-otherwise shift number w within small other = begins_otherwise _ shift number w within small other refl
+pub whole : (w : ℕ) → w < 65536 → bit_and w 0xFFFF ≡ w
+whole w small =
+    let all : bit_and w (2 ^ 16 - 1) ≡ w % 2 ^ 16 = and_mask w 16 in omega (arith, all)
 
--- the test that bits 15 to shift are those of a number, and that none of the patterns that are left out fits
-abbrev pub leading_but : ℕ → ℕ → List (ℕ × ℕ) → Half
-leading_but shift number others = record { mask = 2 ^ 16 - 2 ^ shift; value = number * 2 ^ shift; left_out = others }
+-- which one it is, and is not
+pub word : (number : ℕ) {w : ℕ} → w < 65536 → w ≡ number → Fits (only 0xFFFF number) w
+word number {w} small is = has 0xFFFF number (whole w small ∙ is)
 
-pub leading_but_fits : (shift number : ℕ) (others : List (ℕ × ℕ)) (w : ℕ) → shift ≤ 16 → w < 65536 →
-    w / 2 ^ shift ≡ number → list_any (λ o. bit_and w o.0 == o.1) others ≡ false → half_fits
-    (leading_but shift number others) w ≡ true
-leading_but_fits shift number others w within small is misses =
-    and_both _ _ (eqb_of _ _ (leading_pattern shift number w within small is)) (not_of_false _ misses)
+pub no_word : (number : ℕ) {h : Half} {w : ℕ} → w < 65536 → w ≢ number → Fits h w → Fits (but 0xFFFF number h) w
+no_word number {h} {w} small other f = lacks 0xFFFF number (λ e. other (sym (whole w small) ∙ e)) f
 
 -- bits 15 to 11 and bits 7 to 0 of a halfword, which a list of registers is tested by
 pub list_bits : (w : ℕ) → w < 65536 → bit_and w 0xF8FF ≡ w / 2048 * 2048 + w % 256
@@ -137,14 +114,58 @@ hint_bits w small =
     let whole : bit_and w 0xFF0F ≡ bit_and (high * 2 ^ 8 + low) 0xFF0F = ap (λ x. bit_and x 0xFF0F) parts in
     omega (arith, whole, split, top, bottom)
 
--- the test that a pattern does not fit
-abbrev pub any_but : List (ℕ × ℕ) → Half
-any_but others = record { mask = 0; value = 0; left_out = others }
+-- ---- the row that fits
 
-pub any_but_fits : (others : List (ℕ × ℕ)) (w : ℕ) → list_any (λ o. bit_and w o.0 == o.1) others ≡ false → half_fits
-    (any_but others) w ≡ true
-any_but_fits others w misses =
-    let most : bit_and w 0 ≤ 0 = and_le_r w 0 in and_both _ _ (eqb_of _ _ (omega arith)) (not_of_false _ misses)
+-- a row over the first halfword alone
+pub short_law : (operation : ℕ → ℕ → Op) {h : Half} {first : ℕ} (second : ℕ) → Fits h first →
+    find (has_patterns h None) listed ≡ Some (record { first = h; second = None; operation = operation }) →
+    operation_of first second ≡ operation first second
+unfolding operation_of rows
+short_law operation {h} {first} second fits is = operation_by-found (has_patterns h None) rows
+    (record { first = h; second = None; operation = operation }) first second rows_apart is
+    (and_both _ true fits.fits refl)
+
+pub long_law : (operation : ℕ → ℕ → Op) {h g : Half} {first second : ℕ} → Fits h first → Fits g second →
+    find (has_patterns h (Some g)) listed ≡ Some (record { first = h; second = Some g; operation = operation }) →
+    operation_of first second ≡ operation first second
+unfolding operation_of rows
+long_law operation {h} {g} {first} {second} fits also is = operation_by-found (has_patterns h (Some g)) rows
+    (record { first = h; second = Some g; operation = operation }) first second rows_apart is
+    (and_both _ _ fits.fits also.fits)
+
+-- what the halfwords are whose bits 15 to shift are those of a number
+abbrev pub Begins : ℕ → ℕ → (ℕ → Op) → Type 0
+Begins shift number op = (first second : ℕ) → first < 65536 → first / 2 ^ shift ≡ number →
+    operation_of first second ≡ op first
+
+-- a row whose fixed bits are the leading ones
+pub leading_law : (shift number : ℕ) (op : ℕ → Op) → nat_le shift 16 ≡ true → find
+    (has_patterns (leading shift number) None) listed ≡ Some
+    (record { first = leading shift number; second = None; operation = λ first second. op first }) →
+    Begins shift number op
+leading_law shift number op within is first second small starts =
+    short_law (λ first second. op first) second (begins shift number within small starts) is
+
+-- ---- no row fits
+
+missed : (b : Bool) (r : Row) (h : Half) (first second : ℕ) → half_fits h first ≡ true → half_apart h r.first ≡ true →
+    row_fits r first second ≡ b → b ≡ false
+missed false r h first second fits apart is = refl
+missed true r h first second fits apart is = let never = half_apart-false h r.first first fits
+    (and_left (half_fits r.first first) _ is) in cc
+
+none_of : (rs : List Row) (h : Half) (first second : ℕ) → half_fits h first ≡ true → list_all
+    (λ r. half_apart h r.first) rs ≡ true → operation_by rs first second ≡ Undefined
+none_of [] h first second fits apart = refl
+none_of (r ∷ rs) h first second fits apart =
+    skipped r rs first second (missed _ r h first second fits (and_left _ _ apart) refl) ∙ none_of rs h first second fits
+    (and_right (half_apart h r.first) _ apart)
+
+-- a first halfword that fits a test which is apart from each row's
+pub undefined_law : {h : Half} {first : ℕ} (second : ℕ) → Fits h first → list_all (λ r. half_apart h r.first) listed ≡ true →
+    operation_of first second ≡ Undefined
+unfolding operation_of rows
+undefined_law {h} {first} second fits apart = none_of rows h first second fits.fits apart
 
 abbrev pub pair_apart : Half → Half → Row → Bool
 pair_apart h g r = half_apart h r.first || second_apart (Some g) r.second
@@ -169,7 +190,8 @@ none_of_pair (r ∷ rs) h g first second fits also apart =
     (and_left (pair_apart h g r) (list_all (pair_apart h g) rs) apart) refl)
     ∙ none_of_pair rs h g first second fits also (and_right (pair_apart h g r) (list_all (pair_apart h g) rs) apart)
 
-pub pair_undefined : (h g : Half) (first second : ℕ) → list_all (pair_apart h g) rows ≡ true →
-    half_fits h first ≡ true → half_fits g second ≡ true → operation_of first second ≡ Undefined
-unfolding operation_of
-pair_undefined h g first second apart fits also = none_of_pair rows h g first second fits also apart
+-- two halfwords that fit tests of which one is apart from each row's
+pub pair_undefined : {h g : Half} {first second : ℕ} → Fits h first → Fits g second →
+    list_all (pair_apart h g) listed ≡ true → operation_of first second ≡ Undefined
+unfolding operation_of rows
+pair_undefined {h} {g} {first} {second} fits also apart = none_of_pair rows h g first second fits.fits also.fits apart

@@ -1,288 +1,218 @@
 -- The table's rows, each for the first halfwords that begin as its pattern does.
-use Rattle.std.proofs.Common.{◌+◌, ◌*◌, refl, rules}
-use Rattle.thumb_rows.specs.Rows.{rows, field}
+use Rattle.std.proofs.Common.{◌+◌, ◌*◌, refl}
+use Rattle.thumb_rows.specs.Rows.{field}
 use Rattle.thumb_rows.proofs.Laws.{Begins, leading_law}
 use Rattle.rp_base.specs.declared.op.Op.TheVariants.{LslImm, LsrImm, AsrImm, AddReg, SubReg, AddImm3, SubImm3, MovImm, CmpImm, AddImm8, SubImm8, And, Eor, LslReg, LsrReg, AsrReg, Adc, Sbc, Ror, Tst, Rsb, Cmp, Cmn, Orr, Mul, Bic, Mvn, AddHigh, CmpHigh, MovHigh, Bx, Blx, LdrLit, StrReg, StrhReg, StrbReg, LdrsbReg, LdrReg, LdrhReg, LdrbReg, LdrshReg, StrImm, LdrImm, StrbImm, LdrbImm, StrhImm, LdrhImm, StrSp, LdrSp, Adr, AddSp, AddSpImm, SubSpImm, Sxth, Sxtb, Uxth, Uxtb, Cpsie, Cpsid, Rev, Rev16, Revsh, Bkpt, Yield, Wfe, Wfi, Sev, Udf, Svc, B}
 
 pub row_LslImm : Begins 11 0 (λ w. LslImm (field w 10 6) (field w 5 3) (field w 2 0))
-unfolding rows
-row_LslImm = leading_law 0 11 0 _ refl (search rules)
+row_LslImm = leading_law 11 0 _ refl refl
 
 pub row_LsrImm : Begins 11 1 (λ w. LsrImm (field w 10 6) (field w 5 3) (field w 2 0))
-unfolding rows
-row_LsrImm = leading_law 1 11 1 _ refl (search rules)
+row_LsrImm = leading_law 11 1 _ refl refl
 
 pub row_AsrImm : Begins 11 2 (λ w. AsrImm (field w 10 6) (field w 5 3) (field w 2 0))
-unfolding rows
-row_AsrImm = leading_law 2 11 2 _ refl (search rules)
+row_AsrImm = leading_law 11 2 _ refl refl
 
 pub row_AddReg : Begins 9 12 (λ w. AddReg (field w 8 6) (field w 5 3) (field w 2 0))
-unfolding rows
-row_AddReg = leading_law 3 9 12 _ refl (search rules)
+row_AddReg = leading_law 9 12 _ refl refl
 
 pub row_SubReg : Begins 9 13 (λ w. SubReg (field w 8 6) (field w 5 3) (field w 2 0))
-unfolding rows
-row_SubReg = leading_law 4 9 13 _ refl (search rules)
+row_SubReg = leading_law 9 13 _ refl refl
 
 pub row_AddImm3 : Begins 9 14 (λ w. AddImm3 (field w 8 6) (field w 5 3) (field w 2 0))
-unfolding rows
-row_AddImm3 = leading_law 5 9 14 _ refl (search rules)
+row_AddImm3 = leading_law 9 14 _ refl refl
 
 pub row_SubImm3 : Begins 9 15 (λ w. SubImm3 (field w 8 6) (field w 5 3) (field w 2 0))
-unfolding rows
-row_SubImm3 = leading_law 6 9 15 _ refl (search rules)
+row_SubImm3 = leading_law 9 15 _ refl refl
 
 pub row_MovImm : Begins 11 4 (λ w. MovImm (field w 10 8) (field w 7 0))
-unfolding rows
-row_MovImm = leading_law 7 11 4 _ refl (search rules)
+row_MovImm = leading_law 11 4 _ refl refl
 
 pub row_CmpImm : Begins 11 5 (λ w. CmpImm (field w 10 8) (field w 7 0))
-unfolding rows
-row_CmpImm = leading_law 8 11 5 _ refl (search rules)
+row_CmpImm = leading_law 11 5 _ refl refl
 
 pub row_AddImm8 : Begins 11 6 (λ w. AddImm8 (field w 10 8) (field w 7 0))
-unfolding rows
-row_AddImm8 = leading_law 9 11 6 _ refl (search rules)
+row_AddImm8 = leading_law 11 6 _ refl refl
 
 pub row_SubImm8 : Begins 11 7 (λ w. SubImm8 (field w 10 8) (field w 7 0))
-unfolding rows
-row_SubImm8 = leading_law 10 11 7 _ refl (search rules)
+row_SubImm8 = leading_law 11 7 _ refl refl
 
 pub row_And : Begins 6 256 (λ w. And (field w 5 3) (field w 2 0))
-unfolding rows
-row_And = leading_law 11 6 256 _ refl (search rules)
+row_And = leading_law 6 256 _ refl refl
 
 pub row_Eor : Begins 6 257 (λ w. Eor (field w 5 3) (field w 2 0))
-unfolding rows
-row_Eor = leading_law 12 6 257 _ refl (search rules)
+row_Eor = leading_law 6 257 _ refl refl
 
 pub row_LslReg : Begins 6 258 (λ w. LslReg (field w 5 3) (field w 2 0))
-unfolding rows
-row_LslReg = leading_law 13 6 258 _ refl (search rules)
+row_LslReg = leading_law 6 258 _ refl refl
 
 pub row_LsrReg : Begins 6 259 (λ w. LsrReg (field w 5 3) (field w 2 0))
-unfolding rows
-row_LsrReg = leading_law 14 6 259 _ refl (search rules)
+row_LsrReg = leading_law 6 259 _ refl refl
 
 pub row_AsrReg : Begins 6 260 (λ w. AsrReg (field w 5 3) (field w 2 0))
-unfolding rows
-row_AsrReg = leading_law 15 6 260 _ refl (search rules)
+row_AsrReg = leading_law 6 260 _ refl refl
 
 pub row_Adc : Begins 6 261 (λ w. Adc (field w 5 3) (field w 2 0))
-unfolding rows
-row_Adc = leading_law 16 6 261 _ refl (search rules)
+row_Adc = leading_law 6 261 _ refl refl
 
 pub row_Sbc : Begins 6 262 (λ w. Sbc (field w 5 3) (field w 2 0))
-unfolding rows
-row_Sbc = leading_law 17 6 262 _ refl (search rules)
+row_Sbc = leading_law 6 262 _ refl refl
 
 pub row_Ror : Begins 6 263 (λ w. Ror (field w 5 3) (field w 2 0))
-unfolding rows
-row_Ror = leading_law 18 6 263 _ refl (search rules)
+row_Ror = leading_law 6 263 _ refl refl
 
 pub row_Tst : Begins 6 264 (λ w. Tst (field w 5 3) (field w 2 0))
-unfolding rows
-row_Tst = leading_law 19 6 264 _ refl (search rules)
+row_Tst = leading_law 6 264 _ refl refl
 
 pub row_Rsb : Begins 6 265 (λ w. Rsb (field w 5 3) (field w 2 0))
-unfolding rows
-row_Rsb = leading_law 20 6 265 _ refl (search rules)
+row_Rsb = leading_law 6 265 _ refl refl
 
 pub row_Cmp : Begins 6 266 (λ w. Cmp (field w 5 3) (field w 2 0))
-unfolding rows
-row_Cmp = leading_law 21 6 266 _ refl (search rules)
+row_Cmp = leading_law 6 266 _ refl refl
 
 pub row_Cmn : Begins 6 267 (λ w. Cmn (field w 5 3) (field w 2 0))
-unfolding rows
-row_Cmn = leading_law 22 6 267 _ refl (search rules)
+row_Cmn = leading_law 6 267 _ refl refl
 
 pub row_Orr : Begins 6 268 (λ w. Orr (field w 5 3) (field w 2 0))
-unfolding rows
-row_Orr = leading_law 23 6 268 _ refl (search rules)
+row_Orr = leading_law 6 268 _ refl refl
 
 pub row_Mul : Begins 6 269 (λ w. Mul (field w 5 3) (field w 2 0))
-unfolding rows
-row_Mul = leading_law 24 6 269 _ refl (search rules)
+row_Mul = leading_law 6 269 _ refl refl
 
 pub row_Bic : Begins 6 270 (λ w. Bic (field w 5 3) (field w 2 0))
-unfolding rows
-row_Bic = leading_law 25 6 270 _ refl (search rules)
+row_Bic = leading_law 6 270 _ refl refl
 
 pub row_Mvn : Begins 6 271 (λ w. Mvn (field w 5 3) (field w 2 0))
-unfolding rows
-row_Mvn = leading_law 26 6 271 _ refl (search rules)
+row_Mvn = leading_law 6 271 _ refl refl
 
 pub row_AddHigh : Begins 8 68 (λ w. AddHigh (8 * field w 7 7 + field w 2 0) (field w 6 3))
-unfolding rows
-row_AddHigh = leading_law 27 8 68 _ refl (search rules)
+row_AddHigh = leading_law 8 68 _ refl refl
 
 pub row_CmpHigh : Begins 8 69 (λ w. CmpHigh (8 * field w 7 7 + field w 2 0) (field w 6 3))
-unfolding rows
-row_CmpHigh = leading_law 28 8 69 _ refl (search rules)
+row_CmpHigh = leading_law 8 69 _ refl refl
 
 pub row_MovHigh : Begins 8 70 (λ w. MovHigh (8 * field w 7 7 + field w 2 0) (field w 6 3))
-unfolding rows
-row_MovHigh = leading_law 29 8 70 _ refl (search rules)
+row_MovHigh = leading_law 8 70 _ refl refl
 
 pub row_Bx : Begins 7 142 (λ w. Bx (field w 6 3))
-unfolding rows
-row_Bx = leading_law 30 7 142 _ refl (search rules)
+row_Bx = leading_law 7 142 _ refl refl
 
 pub row_Blx : Begins 7 143 (λ w. Blx (field w 6 3))
-unfolding rows
-row_Blx = leading_law 31 7 143 _ refl (search rules)
+row_Blx = leading_law 7 143 _ refl refl
 
 pub row_LdrLit : Begins 11 9 (λ w. LdrLit (field w 10 8) (field w 7 0))
-unfolding rows
-row_LdrLit = leading_law 32 11 9 _ refl (search rules)
+row_LdrLit = leading_law 11 9 _ refl refl
 
 pub row_StrReg : Begins 9 40 (λ w. StrReg (field w 8 6) (field w 5 3) (field w 2 0))
-unfolding rows
-row_StrReg = leading_law 33 9 40 _ refl (search rules)
+row_StrReg = leading_law 9 40 _ refl refl
 
 pub row_StrhReg : Begins 9 41 (λ w. StrhReg (field w 8 6) (field w 5 3) (field w 2 0))
-unfolding rows
-row_StrhReg = leading_law 34 9 41 _ refl (search rules)
+row_StrhReg = leading_law 9 41 _ refl refl
 
 pub row_StrbReg : Begins 9 42 (λ w. StrbReg (field w 8 6) (field w 5 3) (field w 2 0))
-unfolding rows
-row_StrbReg = leading_law 35 9 42 _ refl (search rules)
+row_StrbReg = leading_law 9 42 _ refl refl
 
 pub row_LdrsbReg : Begins 9 43 (λ w. LdrsbReg (field w 8 6) (field w 5 3) (field w 2 0))
-unfolding rows
-row_LdrsbReg = leading_law 36 9 43 _ refl (search rules)
+row_LdrsbReg = leading_law 9 43 _ refl refl
 
 pub row_LdrReg : Begins 9 44 (λ w. LdrReg (field w 8 6) (field w 5 3) (field w 2 0))
-unfolding rows
-row_LdrReg = leading_law 37 9 44 _ refl (search rules)
+row_LdrReg = leading_law 9 44 _ refl refl
 
 pub row_LdrhReg : Begins 9 45 (λ w. LdrhReg (field w 8 6) (field w 5 3) (field w 2 0))
-unfolding rows
-row_LdrhReg = leading_law 38 9 45 _ refl (search rules)
+row_LdrhReg = leading_law 9 45 _ refl refl
 
 pub row_LdrbReg : Begins 9 46 (λ w. LdrbReg (field w 8 6) (field w 5 3) (field w 2 0))
-unfolding rows
-row_LdrbReg = leading_law 39 9 46 _ refl (search rules)
+row_LdrbReg = leading_law 9 46 _ refl refl
 
 pub row_LdrshReg : Begins 9 47 (λ w. LdrshReg (field w 8 6) (field w 5 3) (field w 2 0))
-unfolding rows
-row_LdrshReg = leading_law 40 9 47 _ refl (search rules)
+row_LdrshReg = leading_law 9 47 _ refl refl
 
 pub row_StrImm : Begins 11 12 (λ w. StrImm (field w 10 6) (field w 5 3) (field w 2 0))
-unfolding rows
-row_StrImm = leading_law 41 11 12 _ refl (search rules)
+row_StrImm = leading_law 11 12 _ refl refl
 
 pub row_LdrImm : Begins 11 13 (λ w. LdrImm (field w 10 6) (field w 5 3) (field w 2 0))
-unfolding rows
-row_LdrImm = leading_law 42 11 13 _ refl (search rules)
+row_LdrImm = leading_law 11 13 _ refl refl
 
 pub row_StrbImm : Begins 11 14 (λ w. StrbImm (field w 10 6) (field w 5 3) (field w 2 0))
-unfolding rows
-row_StrbImm = leading_law 43 11 14 _ refl (search rules)
+row_StrbImm = leading_law 11 14 _ refl refl
 
 pub row_LdrbImm : Begins 11 15 (λ w. LdrbImm (field w 10 6) (field w 5 3) (field w 2 0))
-unfolding rows
-row_LdrbImm = leading_law 44 11 15 _ refl (search rules)
+row_LdrbImm = leading_law 11 15 _ refl refl
 
 pub row_StrhImm : Begins 11 16 (λ w. StrhImm (field w 10 6) (field w 5 3) (field w 2 0))
-unfolding rows
-row_StrhImm = leading_law 45 11 16 _ refl (search rules)
+row_StrhImm = leading_law 11 16 _ refl refl
 
 pub row_LdrhImm : Begins 11 17 (λ w. LdrhImm (field w 10 6) (field w 5 3) (field w 2 0))
-unfolding rows
-row_LdrhImm = leading_law 46 11 17 _ refl (search rules)
+row_LdrhImm = leading_law 11 17 _ refl refl
 
 pub row_StrSp : Begins 11 18 (λ w. StrSp (field w 10 8) (field w 7 0))
-unfolding rows
-row_StrSp = leading_law 47 11 18 _ refl (search rules)
+row_StrSp = leading_law 11 18 _ refl refl
 
 pub row_LdrSp : Begins 11 19 (λ w. LdrSp (field w 10 8) (field w 7 0))
-unfolding rows
-row_LdrSp = leading_law 48 11 19 _ refl (search rules)
+row_LdrSp = leading_law 11 19 _ refl refl
 
 pub row_Adr : Begins 11 20 (λ w. Adr (field w 10 8) (field w 7 0))
-unfolding rows
-row_Adr = leading_law 49 11 20 _ refl (search rules)
+row_Adr = leading_law 11 20 _ refl refl
 
 pub row_AddSp : Begins 11 21 (λ w. AddSp (field w 10 8) (field w 7 0))
-unfolding rows
-row_AddSp = leading_law 50 11 21 _ refl (search rules)
+row_AddSp = leading_law 11 21 _ refl refl
 
 pub row_AddSpImm : Begins 7 352 (λ w. AddSpImm (field w 6 0))
-unfolding rows
-row_AddSpImm = leading_law 51 7 352 _ refl (search rules)
+row_AddSpImm = leading_law 7 352 _ refl refl
 
 pub row_SubSpImm : Begins 7 353 (λ w. SubSpImm (field w 6 0))
-unfolding rows
-row_SubSpImm = leading_law 52 7 353 _ refl (search rules)
+row_SubSpImm = leading_law 7 353 _ refl refl
 
 pub row_Sxth : Begins 6 712 (λ w. Sxth (field w 5 3) (field w 2 0))
-unfolding rows
-row_Sxth = leading_law 53 6 712 _ refl (search rules)
+row_Sxth = leading_law 6 712 _ refl refl
 
 pub row_Sxtb : Begins 6 713 (λ w. Sxtb (field w 5 3) (field w 2 0))
-unfolding rows
-row_Sxtb = leading_law 54 6 713 _ refl (search rules)
+row_Sxtb = leading_law 6 713 _ refl refl
 
 pub row_Uxth : Begins 6 714 (λ w. Uxth (field w 5 3) (field w 2 0))
-unfolding rows
-row_Uxth = leading_law 55 6 714 _ refl (search rules)
+row_Uxth = leading_law 6 714 _ refl refl
 
 pub row_Uxtb : Begins 6 715 (λ w. Uxtb (field w 5 3) (field w 2 0))
-unfolding rows
-row_Uxtb = leading_law 56 6 715 _ refl (search rules)
+row_Uxtb = leading_law 6 715 _ refl refl
 
 pub row_Cpsie : Begins 0 0xB662 (λ w. Cpsie)
-unfolding rows
-row_Cpsie = leading_law 58 0 0xB662 _ refl (search rules)
+row_Cpsie = leading_law 0 0xB662 _ refl refl
 
 pub row_Cpsid : Begins 0 0xB672 (λ w. Cpsid)
-unfolding rows
-row_Cpsid = leading_law 59 0 0xB672 _ refl (search rules)
+row_Cpsid = leading_law 0 0xB672 _ refl refl
 
 pub row_Rev : Begins 6 744 (λ w. Rev (field w 5 3) (field w 2 0))
-unfolding rows
-row_Rev = leading_law 60 6 744 _ refl (search rules)
+row_Rev = leading_law 6 744 _ refl refl
 
 pub row_Rev16 : Begins 6 745 (λ w. Rev16 (field w 5 3) (field w 2 0))
-unfolding rows
-row_Rev16 = leading_law 61 6 745 _ refl (search rules)
+row_Rev16 = leading_law 6 745 _ refl refl
 
 pub row_Revsh : Begins 6 747 (λ w. Revsh (field w 5 3) (field w 2 0))
-unfolding rows
-row_Revsh = leading_law 62 6 747 _ refl (search rules)
+row_Revsh = leading_law 6 747 _ refl refl
 
 pub row_Bkpt : Begins 8 190 (λ w. Bkpt (field w 7 0))
-unfolding rows
-row_Bkpt = leading_law 64 8 190 _ refl (search rules)
+row_Bkpt = leading_law 8 190 _ refl refl
 
 pub row_Yield : Begins 0 0xBF10 (λ w. Yield)
-unfolding rows
-row_Yield = leading_law 66 0 0xBF10 _ refl (search rules)
+row_Yield = leading_law 0 0xBF10 _ refl refl
 
 pub row_Wfe : Begins 0 0xBF20 (λ w. Wfe)
-unfolding rows
-row_Wfe = leading_law 67 0 0xBF20 _ refl (search rules)
+row_Wfe = leading_law 0 0xBF20 _ refl refl
 
 pub row_Wfi : Begins 0 0xBF30 (λ w. Wfi)
-unfolding rows
-row_Wfi = leading_law 68 0 0xBF30 _ refl (search rules)
+row_Wfi = leading_law 0 0xBF30 _ refl refl
 
 pub row_Sev : Begins 0 0xBF40 (λ w. Sev)
-unfolding rows
-row_Sev = leading_law 69 0 0xBF40 _ refl (search rules)
+row_Sev = leading_law 0 0xBF40 _ refl refl
 
 pub row_Udf : Begins 8 222 (λ w. Udf (field w 7 0))
-unfolding rows
-row_Udf = leading_law 73 8 222 _ refl (search rules)
+row_Udf = leading_law 8 222 _ refl refl
 
 pub row_Svc : Begins 8 223 (λ w. Svc (field w 7 0))
-unfolding rows
-row_Svc = leading_law 74 8 223 _ refl (search rules)
+row_Svc = leading_law 8 223 _ refl refl
 
 pub row_B : Begins 11 28 (λ w. B (field w 10 0))
-unfolding rows
-row_B = leading_law 75 11 28 _ refl (search rules)
+row_B = leading_law 11 28 _ refl refl
 
 pub ruleset move_or_add_rows = (row_LslImm, row_LsrImm, row_AsrImm, row_AddReg, row_SubReg, row_AddImm3, row_SubImm3, row_MovImm, row_CmpImm, row_AddImm8, row_SubImm8)
 

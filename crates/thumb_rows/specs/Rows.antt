@@ -1,7 +1,7 @@
 -- The instruction encodings of ARMv6-M as one table, in the order of the manual (ARMv6-M Architecture Reference
 -- Manual, A5.2 "16-bit Thumb instruction encoding" and A5.3 "32-bit Thumb instruction encoding"): by it halfwords are
 -- decoded, and operations are encoded.
-use Rattle.std.specs.Prelude.{ℕ, Bool, true, false, List, [], ◌∷◌, ◌++◌, Option, Some, None, ◌≡◌, ◌+◌, ◌-◌, ◌*◌, ◌/◌, ◌%◌, ◌^◌, ◌<◌, ◌==◌, ◌&&◌, ◌||◌, not, if◌then◌else◌, bit_and, codes, filter, flat_map, length, map, slice_index}
+use Rattle.std.specs.Prelude.{ℕ, Bool, true, false, List, [], ◌∷◌, ◌++◌, Option, Some, None, ◌≡◌, ◌+◌, ◌-◌, ◌*◌, ◌/◌, ◌%◌, ◌^◌, ◌<◌, ◌==◌, ◌&&◌, ◌||◌, not, if◌then◌else◌, bit_and, codes, filter, filter_map, length, map, slice_index}
 use Prim.Native.String.{String}
 use Rattle.std.specs.List.{list_any}
 use Rattle.std.specs.Option.{option_map, option_map_or}
@@ -15,40 +15,50 @@ use Rattle.rp_base.specs.declared.op.Op.TheVariants.{LslImm, LsrImm, AsrImm, Add
 abbrev pub field : ℕ → ℕ → ℕ → ℕ
 field w high low = w / 2 ^ low % 2 ^ (high + 1 - low)
 
--- A pattern is written as in the manual, from bit 15 down to bit 0: a digit is a bit that is fixed, and a letter is a
--- bit of the operand of that letter. The mask has a 1 at each fixed bit, and the value has the fixed bits. The codes of
--- 0 and 1 are 48 and 49.
-abbrev pub mask_bit : ℕ → ℕ
-mask_bit c = if c == 48 || c == 49 then 1 else 0
+-- A pattern is written as in the manual, from bit 15 down to bit 0: a digit is a bit that is fixed, and a run of one letter
+-- is an operand of so many bits. So it is a list of segments.
+pub data Segment : Type 0 where
+  Fixed : (bit : Bool) → Segment
+  Operand : (count : ℕ) → Segment
 
-abbrev pub value_bit : ℕ → ℕ
-value_bit c = if c == 49 then 1 else 0
-
-abbrev pub binary : (ℕ → ℕ) → ℕ → List ℕ → ℕ
-binary digit sum [] = sum
-binary digit sum (c ∷ cs) = binary digit (2 * sum + digit c) cs
-
-abbrev pub mask_of : String → ℕ
-mask_of pattern = binary mask_bit 0 (codes pattern)
-
-abbrev pub value_of : String → ℕ
-value_of pattern = binary value_bit 0 (codes pattern)
-
--- A run of one letter is an operand. Of each, in order: how many bits it has, and how many stand behind it.
 abbrev pub begins_with : ℕ → List ℕ → Bool
 begins_with c [] = false
 begins_with c (d ∷ ds) = c == d
 
-abbrev pub one_longer : List (ℕ × ℕ) → List (ℕ × ℕ)
+abbrev pub one_longer : List Segment → List Segment
 one_longer [] = []
-one_longer ((count, behind) ∷ runs) = (count + 1, behind) ∷ runs
+one_longer (Fixed bit ∷ segments) = Fixed bit ∷ segments
+one_longer (Operand count ∷ segments) = Operand (count + 1) ∷ segments
 
-abbrev pub runs_of : List ℕ → List (ℕ × ℕ)
+-- the codes of 0 and 1 are 48 and 49
+abbrev pub segments_of : List ℕ → List Segment
+segments_of [] = []
+segments_of (c ∷ cs) =
+    if c == 48 || c == 49 then Fixed (c == 49) ∷ segments_of cs
+    else if begins_with c cs then one_longer (segments_of cs)
+    else Operand 1 ∷ segments_of cs
+
+abbrev pub width_of : List Segment → ℕ
+width_of [] = 0
+width_of (Fixed bit ∷ segments) = 1 + width_of segments
+width_of (Operand count ∷ segments) = count + width_of segments
+
+-- the mask has a 1 at each fixed bit, and the value has the fixed bits
+abbrev pub mask_of : List Segment → ℕ
+mask_of [] = 0
+mask_of (Fixed bit ∷ segments) = 1 * 2 ^ width_of segments + mask_of segments
+mask_of (Operand count ∷ segments) = mask_of segments
+
+abbrev pub value_of : List Segment → ℕ
+value_of [] = 0
+value_of (Fixed bit ∷ segments) = bit_number bit * 2 ^ width_of segments + value_of segments
+value_of (Operand count ∷ segments) = value_of segments
+
+-- of each operand, in order: how many bits it has, and how many stand behind it
+abbrev pub runs_of : List Segment → List (ℕ × ℕ)
 runs_of [] = []
-runs_of (c ∷ cs) =
-    if mask_bit c == 1 then runs_of cs
-    else if begins_with c cs then one_longer (runs_of cs)
-    else (1, length cs) ∷ runs_of cs
+runs_of (Fixed bit ∷ segments) = runs_of segments
+runs_of (Operand count ∷ segments) = (count, width_of segments) ∷ runs_of segments
 
 -- the operands that a halfword has in its runs
 abbrev pub operands_in : List (ℕ × ℕ) → ℕ → List ℕ
@@ -69,18 +79,24 @@ half_fits h w = (bit_and w h.mask == h.value) && not (is_left_out h w)
 
 -- ---- encodings
 
--- A halfword of an operation: its test, its runs, and the operands for them.
+-- A halfword of an operation: its pattern, the patterns that are left out of it, and the operands for its runs.
 pub record Halfword : Type 0 where
-  pub test : Half
-  pub runs : List (ℕ × ℕ)
+  pub pattern : List Segment
+  pub left_out : List (List Segment)
   pub operands : List ℕ
 
-abbrev pub bits_but : List String → String → List ℕ → Halfword
-bits_but others pattern operands = record {
-  test = record { mask = mask_of pattern; value = value_of pattern; left_out = map (λ o. (mask_of o, value_of o)) others };
-  runs = runs_of (codes pattern);
-  operands = operands;
+abbrev pub test_of : Halfword → Half
+test_of h = record {
+  mask = mask_of h.pattern;
+  value = value_of h.pattern;
+  left_out = map (λ o. (mask_of o, value_of o)) h.left_out;
 }
+
+abbrev pub read : String → List Segment
+read pattern = segments_of (codes pattern)
+
+abbrev pub bits_but : List String → String → List ℕ → Halfword
+bits_but others pattern operands = record { pattern = read pattern; left_out = map read others; operands = operands }
 
 abbrev pub bits : String → List ℕ → Halfword
 bits pattern operands = bits_but [] pattern operands
@@ -211,59 +227,66 @@ abbrev pub operation_by_runs : (List ℕ → Op) → List (ℕ × ℕ) → List 
 operation_by_runs op runs others first second = op (operands_in runs first ++ operands_in others second)
 
 -- the row of an encoding, with the operation of the operands that stand in its runs
-abbrev pub row_of : (List ℕ → Op) → Option Encoding → List Row
-row_of op None = []
-row_of op (Some e) = record {
-  first = e.first.test;
-  second = option_map (λ h. h.test) e.second;
-  operation = operation_by_runs op e.first.runs (option_map_or (λ h. h.runs) e.second []);
-} ∷ []
+abbrev pub row_of : (List ℕ → Op) → Encoding → Row
+row_of op e = record {
+  first = test_of e.first;
+  second = option_map test_of e.second;
+  operation = operation_by_runs op (runs_of e.first.pattern) (option_map_or (λ h. runs_of h.pattern) e.second []);
+}
 
--- the row of an operation with so many operands
-abbrev pub none : Op → List Row
-none op = row_of (λ xs. op) (encoding_of op)
+-- an entry of the table: an encoding, whose own operands count for nothing, and the operation of any operands
+abbrev pub Entry : Type 0
+Entry = Option Encoding × (List ℕ → Op)
 
-abbrev pub one : (ℕ → Op) → List Row
-one op = row_of (λ xs. op (slice_index xs 0)) (encoding_of (op 0))
+-- the entry of an operation with so many operands
+abbrev pub none : Op → Entry
+none op = (encoding_of op, λ xs. op)
 
-abbrev pub two : (ℕ → ℕ → Op) → List Row
-two op = row_of (λ xs. op (slice_index xs 0) (slice_index xs 1)) (encoding_of (op 0 0))
+abbrev pub one : (ℕ → Op) → Entry
+one op = (encoding_of (op 0), λ xs. op (slice_index xs 0))
 
-abbrev pub three : (ℕ → ℕ → ℕ → Op) → List Row
-three op = row_of (λ xs. op (slice_index xs 0) (slice_index xs 1) (slice_index xs 2)) (encoding_of (op 0 0 0))
+abbrev pub two : (ℕ → ℕ → Op) → Entry
+two op = (encoding_of (op 0 0), λ xs. op (slice_index xs 0) (slice_index xs 1))
+
+abbrev pub three : (ℕ → ℕ → ℕ → Op) → Entry
+three op = (encoding_of (op 0 0 0), λ xs. op (slice_index xs 0) (slice_index xs 1) (slice_index xs 2))
 
 -- of one where bit 3 of a register stands alone
-abbrev pub high : (ℕ → ℕ → Op) → List Row
-high op = row_of (λ xs. op (8 * slice_index xs 0 + slice_index xs 2) (slice_index xs 1)) (encoding_of (op 0 0))
+abbrev pub high : (ℕ → ℕ → Op) → Entry
+high op = (encoding_of (op 0 0), λ xs. op (8 * slice_index xs 0 + slice_index xs 2) (slice_index xs 1))
 
 -- of one with a list of registers, and one more
-abbrev pub stack : (Bool → ℕ → Op) → List Row
-stack op = row_of (λ xs. op (slice_index xs 0 == 1) (slice_index xs 1)) (encoding_of (op false 0))
+abbrev pub stack : (Bool → ℕ → Op) → Entry
+stack op = (encoding_of (op false 0), λ xs. op (slice_index xs 0 == 1) (slice_index xs 1))
 
 -- of BL
-abbrev pub link : List Row
-link =
-    row_of
-    (λ xs. Bl (slice_index xs 0 == 1) (slice_index xs 1 * 2 ^ 11 + slice_index xs 4)
-    (2 * slice_index xs 2 + slice_index xs 3)) (encoding_of (Bl false 0 0))
+abbrev pub link : Entry
+link = (
+  encoding_of (Bl false 0 0),
+  λ xs. Bl (slice_index xs 0 == 1) (slice_index xs 1 * 2 ^ 11 + slice_index xs 4)
+      (2 * slice_index xs 2 + slice_index xs 3),
+)
 
 -- each operation once, in the order of the manual
+abbrev pub table : List Entry
+table =
+    map three (LslImm ∷ LsrImm ∷ AsrImm ∷ AddReg ∷ SubReg ∷ AddImm3 ∷ SubImm3 ∷ [])
+    ++ map two (MovImm ∷ CmpImm ∷ AddImm8 ∷ SubImm8 ∷ [])
+    ++ map two (And ∷ Eor ∷ LslReg ∷ LsrReg ∷ AsrReg ∷ Adc ∷ Sbc ∷ Ror ∷ [])
+    ++ map two (Tst ∷ Rsb ∷ Cmp ∷ Cmn ∷ Orr ∷ Mul ∷ Bic ∷ Mvn ∷ [])
+    ++ map high (AddHigh ∷ CmpHigh ∷ MovHigh ∷ []) ++ map one (Bx ∷ Blx ∷ [])
+    ++ map two (LdrLit ∷ [])
+    ++ map three (StrReg ∷ StrhReg ∷ StrbReg ∷ LdrsbReg ∷ LdrReg ∷ LdrhReg ∷ LdrbReg ∷ LdrshReg ∷ [])
+    ++ map three (StrImm ∷ LdrImm ∷ StrbImm ∷ LdrbImm ∷ StrhImm ∷ LdrhImm ∷ [])
+    ++ map two (StrSp ∷ LdrSp ∷ Adr ∷ AddSp ∷ [])
+    ++ map one (AddSpImm ∷ SubSpImm ∷ []) ++ map two (Sxth ∷ Sxtb ∷ Uxth ∷ Uxtb ∷ [])
+    ++ map stack (Push ∷ []) ++ map none (Cpsie ∷ Cpsid ∷ []) ++ map two (Rev ∷ Rev16 ∷ Revsh ∷ [])
+    ++ map stack (Pop ∷ []) ++ map one (Bkpt ∷ []) ++ map none (Nop ∷ Yield ∷ Wfe ∷ Wfi ∷ Sev ∷ [])
+    ++ map two (Stm ∷ Ldm ∷ BCond ∷ []) ++ map one (Udf ∷ Svc ∷ B ∷ [])
+    ++ link ∷ map two (Msr ∷ Mrs ∷ []) ++ map none (Dsb ∷ Dmb ∷ Isb ∷ [])
+
 unfoldable pub rows : List Row
-rows =
-    flat_map three (LslImm ∷ LsrImm ∷ AsrImm ∷ AddReg ∷ SubReg ∷ AddImm3 ∷ SubImm3 ∷ [])
-    ++ flat_map two (MovImm ∷ CmpImm ∷ AddImm8 ∷ SubImm8 ∷ [])
-    ++ flat_map two (And ∷ Eor ∷ LslReg ∷ LsrReg ∷ AsrReg ∷ Adc ∷ Sbc ∷ Ror ∷ [])
-    ++ flat_map two (Tst ∷ Rsb ∷ Cmp ∷ Cmn ∷ Orr ∷ Mul ∷ Bic ∷ Mvn ∷ [])
-    ++ flat_map high (AddHigh ∷ CmpHigh ∷ MovHigh ∷ []) ++ flat_map one (Bx ∷ Blx ∷ [])
-    ++ two LdrLit
-    ++ flat_map three (StrReg ∷ StrhReg ∷ StrbReg ∷ LdrsbReg ∷ LdrReg ∷ LdrhReg ∷ LdrbReg ∷ LdrshReg ∷ [])
-    ++ flat_map three (StrImm ∷ LdrImm ∷ StrbImm ∷ LdrbImm ∷ StrhImm ∷ LdrhImm ∷ [])
-    ++ flat_map two (StrSp ∷ LdrSp ∷ Adr ∷ AddSp ∷ [])
-    ++ flat_map one (AddSpImm ∷ SubSpImm ∷ []) ++ flat_map two (Sxth ∷ Sxtb ∷ Uxth ∷ Uxtb ∷ [])
-    ++ stack Push ++ none Cpsie ++ none Cpsid ++ flat_map two (Rev ∷ Rev16 ∷ Revsh ∷ []) ++ stack Pop
-    ++ one Bkpt ++ flat_map none (Nop ∷ Yield ∷ Wfe ∷ Wfi ∷ Sev ∷ [])
-    ++ flat_map two (Stm ∷ Ldm ∷ BCond ∷ []) ++ flat_map one (Udf ∷ Svc ∷ B ∷ [])
-    ++ link ++ two Msr ++ two Mrs ++ none Dsb ++ none Dmb ++ none Isb
+rows = filter_map (λ entry. option_map (row_of entry.1) entry.0) table
 
 abbrev pub second_fits : Option Half → ℕ → Bool
 second_fits None w = true

@@ -1,2 +1,3 @@
-pub mod Shapes
+pub mod Filled
+pub mod LeftOut
 pub mod Decode

@@ -3,7 +3,7 @@
 use Rattle.std.specs.Prelude.{ℕ, ◌+◌, ◌*◌, ◌^◌, ◌≡◌, ◌&&◌, nat_lt, not, Bool, false, if◌then◌else◌, List, [], ◌∷◌, Option, Some, None, is_some}
 use Rattle.std.specs.Option.{option_map_or}
 use Rattle.rp_base.specs.declared.op.Op.{Op}
-use Rattle.thumb_rows.specs.Rows.{Halfword, begins_long, encoding_of, is_left_out, operation_of}
+use Rattle.thumb_rows.specs.Rows.{Halfword, begins_long, encoding_of, is_left_out, operation_of, runs_of, test_of, value_of}
 use Rattle.thumb_words.specs.declared.halfwords.Code.{Code}
 
 -- each operand fits the count of its letters, there is one for each run, and one more test passes
@@ -20,11 +20,11 @@ placed (run ∷ runs) [] = 0
 placed ((count, behind) ∷ runs) (x ∷ xs) = x * 2 ^ behind + placed runs xs
 
 abbrev pub filled : Halfword → ℕ
-filled h = h.test.value + placed h.runs h.operands
+filled h = value_of h.pattern + placed (runs_of h.pattern) h.operands
 
 -- the operands fit, and the row does not leave out what they come to
 abbrev pub can_hold : Halfword → Bool
-can_hold h = all_fit h.runs h.operands (not (is_left_out h.test (filled h)))
+can_hold h = all_fit (runs_of h.pattern) h.operands (not (is_left_out (test_of h) (filled h)))
 
 abbrev pub coded : Bool → Code → Option Code
 coded fits code = if fits then Some code else None

@@ -1,6 +1,6 @@
 //! The forms of the encodings: operands of so many bits, each in its place.
 
-ghost use Rattle.std.specs.Prelude.{◌≡◌, ◌≤◌, ◌==◌, ◌&&◌, ◌||◌, ◌+◌, ◌*◌, ◌/◌, ◌%◌, ◌<◌, bit_and, nat_lt, not, true, false, Some, None};
+ghost use Rattle.std.specs.Prelude.{◌≡◌, ◌≤◌, ◌==◌, ◌&&◌, ◌||◌, ◌+◌, ◌*◌, ◌/◌, ◌%◌, ◌<◌, nat_lt, not, true, false, Some, None};
 ghost use Rattle.rp_base.specs.Word.{bit_number};
 ghost use Rattle.thumb_words.specs.Codes.{coded};
 
@@ -125,13 +125,6 @@ pub fn eleven_bits(base: u16, i: u16) -> Option<Code>
     if i < 2048 { fixed(base + i) } else { None }
 }
 
-/// Whether a pattern with these bits fits a halfword.
-fn pattern_fits(halfword: u16, mask: u16, value: u16) -> bool
-    ensures { result ≡ (bit_and halfword mask == value) }
-{
-    halfword & mask == value
-}
-
 /// A number, and eight bits.
 fn above_byte(base: u16, n: u16, low: u8) -> u16
     requires { base + n * 256 < 0xFF00 }
@@ -143,53 +136,38 @@ fn above_byte(base: u16, n: u16, low: u8) -> u16
 /// A list of registers on the stack that is not empty.
 pub fn stack_list(base: u16, r: bool, l: u8) -> Option<Code>
     requires { base ≤ 0xBC00 }
-    ensures { result ≡ coded
-        (nat_lt (bit_number r) 2 && (nat_lt l 256
-        && not (bit_and (base + (bit_number r * 256 + (l * 1 + 0))) 0xFFFF == base || false)))
+    ensures { result ≡ coded (r || not (l == 0))
         (record { first = base + (bit_number r * 256 + (l * 1 + 0)); second = None }) }
 {
-    let first = above_byte(base, u16::from(r), l);
-    if pattern_fits(first, 0xFFFF, base) {
-        None
+    if r || l != 0 {
+        fixed(above_byte(base, u16::from(r), l))
     } else {
-        fixed(first)
+        None
     }
 }
 
 /// Three bits, and a list of registers that is not empty.
 pub fn register_and_list(base: u16, n: u8, l: u8) -> Option<Code>
     requires { base ≤ 0xC800 }
-    ensures { result ≡ coded
-        (nat_lt n 8 && (nat_lt l 256 && not (bit_and (base + (n * 256 + (l * 1 + 0))) 0xF8FF == base || false)))
+    ensures { result ≡ coded (nat_lt n 8 && not (l == 0))
         (record { first = base + (n * 256 + (l * 1 + 0)); second = None }) }
 {
-    if n >= 8 {
-        return None;
-    }
-    let first = above_byte(base, u16::from(n), l);
-    if pattern_fits(first, 0xF8FF, base) {
-        None
+    if n < 8 && l != 0 {
+        fixed(above_byte(base, u16::from(n), l))
     } else {
-        fixed(first)
+        None
     }
 }
 
 /// A condition below 14, and eight bits.
 pub fn condition(c: u8, i: u8) -> Option<Code>
-    ensures { result ≡ coded
-        (nat_lt c 16 && (nat_lt i 256
-        && not (bit_and (0xD000 + (c * 256 + (i * 1 + 0))) 0xFF00 == 0xDE00
-        || (bit_and (0xD000 + (c * 256 + (i * 1 + 0))) 0xFF00 == 0xDF00 || false))))
+    ensures { result ≡ coded (nat_lt c 14)
         (record { first = 0xD000 + (c * 256 + (i * 1 + 0)); second = None }) }
 {
-    if c >= 16 {
-        return None;
-    }
-    let first = above_byte(0xD000, u16::from(c), i);
-    if pattern_fits(first, 0xFF00, 0xDE00) || pattern_fits(first, 0xFF00, 0xDF00) {
-        None
+    if c < 14 {
+        fixed(above_byte(0xD000, u16::from(c), i))
     } else {
-        fixed(first)
+        None
     }
 }
 
@@ -225,37 +203,34 @@ pub fn branch_with_link(s: bool, i: u32, j: u8) -> Option<Code>
     }
 }
 
+/// Whether a register is none but R0 to R12 and LR.
+fn is_general(register: u8) -> bool
+    ensures { result ≡ (nat_lt register 16 && not (register == 13 || register == 15)) }
+{
+    register < 16 && register != 13 && register != 15
+}
+
 /// MSR, which has no encoding from SP and from PC.
 pub fn write_special(n: u8, s: u8) -> Option<Code>
-    ensures { result ≡ coded
-        ((nat_lt n 16 && not (bit_and (0xF380 + (n * 1 + 0)) 0xFFFF == 0xF38D
-        || (bit_and (0xF380 + (n * 1 + 0)) 0xFFFF == 0xF38F || false))) && (nat_lt s 256 && true))
+    ensures { result ≡ coded (nat_lt n 16 && not (n == 13 || n == 15))
         (record { first = 0xF380 + (n * 1 + 0); second = Some (0x8800 + (s * 1 + 0)) }) }
 {
-    let first = 0xF380 + u16::from(n);
-    if n >= 16 || pattern_fits(first, 0xFFFF, 0xF38D) || pattern_fits(first, 0xFFFF, 0xF38F) {
-        None
+    if is_general(n) {
+        long(0xF380 + u16::from(n), 0x8800 + u16::from(s))
     } else {
-        long(first, 0x8800 + u16::from(s))
+        None
     }
 }
 
 /// MRS, which has no encoding to SP and to PC.
 pub fn read_special(d: u8, s: u8) -> Option<Code>
-    ensures { result ≡ coded
-        (nat_lt d 16 && (nat_lt s 256
-        && not (bit_and (0x8000 + (d * 256 + (s * 1 + 0))) 0xFF00 == 0x8D00
-        || (bit_and (0x8000 + (d * 256 + (s * 1 + 0))) 0xFF00 == 0x8F00 || false))))
+    ensures { result ≡ coded (nat_lt d 16 && not (d == 13 || d == 15))
         (record { first = 0xF3EF; second = Some (0x8000 + (d * 256 + (s * 1 + 0))) }) }
 {
-    if d >= 16 {
-        return None;
-    }
-    let second = above_byte(0x8000, u16::from(d), s);
-    if pattern_fits(second, 0xFF00, 0x8D00) || pattern_fits(second, 0xFF00, 0x8F00) {
-        None
+    if is_general(d) {
+        long(0xF3EF, above_byte(0x8000, u16::from(d), s))
     } else {
-        long(0xF3EF, second)
+        None
     }
 }
 

@@ -8,7 +8,7 @@ use crate::halfwords::Code;
 use rp_base::op::Op;
 
 /// The halfwords of an instruction, or None where it has none.
-#[tactic(auto, unfolding(crate::specs::Codes::code_of))]
+#[tactic(auto, unfolding(crate::specs::Codes::code_of), using(crate::proofs::LeftOut::left_out))]
 pub fn code_of(op: &Op) -> Option<Code>
     ensures { result ≡ code_of op.now }
 {
