@@ -3,7 +3,7 @@
 
 ./pico runs the program through this. What the program prints and its status are handed on as they are. Where the status is 2 to 12,
 standard error gets what docs/USAGE.md says of that line: for words the first that is not understood and the usage of the command; for
-a file why it cannot be read; for a fault in a source the line that has it. An ELF file in the place of an image is packed by
+a file why it cannot be read; for a fault in a source the line that has it. Of a run that stopped outside it gets what is there. An ELF file in the place of an image is packed by
 tools/uf2.py into an image for this run alone.
 """
 import difflib
@@ -16,8 +16,9 @@ import tempfile
 
 sys.path.insert(0, os.path.dirname(os.path.abspath(__file__)))
 from elf32 import MAGIC  # noqa: E402
-from runs import Refused, read_bytes, write  # noqa: E402
+from runs import STOP, Refused, read_bytes, write  # noqa: E402
 from uf2 import image, parts_of  # noqa: E402
+from where import area_of, vector_of  # noqa: E402
 
 TOP = os.path.dirname(os.path.dirname(os.path.abspath(__file__)))
 NUMBERS = {"--cycles": (1, 1_000_000_000), "--workers": (0, 8), "--side": (0, 5), "--opt": (0, 1)}
@@ -390,6 +391,13 @@ def explain(page, program, words, status, line):
         say(f"status {status}: docs/USAGE.md tells what it means")
 
 
+def told_outside(address):
+    """Says what is where a run stopped outside of the machine."""
+    area = area_of(int(address, 16))
+    say(f"{address} is {f'in {area}' if area else 'in no block'}{vector_of(int(address, 16))}; docs/FIRMWARE.md has what is left out, "
+        "and tools/where.py names the line of the program")
+
+
 def image_of(page, words):
     """The word that names the image of a run or a session."""
     if not words or words[0] not in ("run", "debug") or words[0] not in page.forms:
@@ -444,9 +452,14 @@ def run(page, program, given, words):
         return 7
     if status < 0:
         return 128 - status
+    lines = last.decode(errors="replace").splitlines()
     if 2 <= status <= 12:
-        lines = [line for line in last.decode(errors="replace").splitlines() if line.startswith("error ")]
-        explain(page, program, given, status, lines[-1] if lines else "")
+        errors = [line for line in lines if line.startswith("error ")]
+        explain(page, program, given, status, errors[-1] if errors else "")
+    elif given[:1] == ["run"]:
+        for found in filter(None, map(STOP.fullmatch, lines)):
+            if found[2]:
+                told_outside(found[2])
     return status
 
 
