@@ -3,8 +3,8 @@
 
 ./pico runs the program through this. What the program prints and its status are handed on as they are. Where the status is 2 to 12,
 standard error gets what docs/USAGE.md says of that line: for words the first that is not understood and the usage of the command; for
-a file why it cannot be read; for a fault in a source the line that has it. Of a run that stopped outside it gets what is there. An ELF file in the place of an image is packed by
-tools/uf2.py into an image for this run alone.
+a file why it cannot be read; for a fault in a source the line that has it. Of a run that stopped outside it gets what is there. An ELF
+file in the place of an image is packed by tools/uf2.py into an image for this run alone.
 """
 import difflib
 import os

@@ -4,8 +4,8 @@
     ./pico run firmware.uf2 --cycles 20000 | tools/wave.py --pins 0,25 --from 300 --to 2400 -o wave.svg
     ./pico run firmware.uf2 --cycles 20000 | tools/wave.py --text
 
-A character of the text is a level, or | where it changes within. Without --pins all pins are drawn that change; without --from and --to the whole run. Below a pin of a UART its bytes can be named by
---uarts. Statuses are those of tools/vcd.py.
+A character of the text is a level, or | where it changes within. Without --pins all pins are drawn that change; without --from and --to
+the whole run. Below a pin of a UART its bytes can be named by --uarts. Statuses are those of tools/vcd.py.
 """
 import argparse
 import os
